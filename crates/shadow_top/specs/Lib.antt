@@ -1,0 +1,4 @@
+pub mod CommandLine
+pub mod OutText
+pub mod ShdConfig
+pub mod Units
