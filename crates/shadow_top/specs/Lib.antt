@@ -1,4 +1,5 @@
 pub mod CommandLine
+pub mod ConfigError
 pub mod OutText
 pub mod ShdConfig
 pub mod Units

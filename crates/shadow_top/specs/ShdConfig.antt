@@ -3,6 +3,7 @@
 use Rattle.std.specs.Prelude.{◌≡◌, ◌≤◌, ℕ, ◌+◌, ◌-◌, ◌^◌, Bool, ◌&&◌, not, nat_le, nat_lt, nat_eq, if◌then◌else◌, List, [], ◌∷◌, ◌++◌, length, take, drop, Option, Some, None, codes, ◌==◌, IsTrue}
 use Rattle.std.specs.List.{starts_with, list_all, before_first, after_first, position_or_len}
 use Rattle.shadow_top.specs.Units.{time_of}
+use Rattle.std.specs.Str.Lossy.{utf8_valid_len}
 use Rattle.sim_base.specs.declared.time.Time.{Time}
 use Rattle.shadow_top.specs.declared.shd_config.Config.{Config}
 use Rattle.shadow_top.specs.declared.shd_config.Places.{Places}
@@ -25,8 +26,11 @@ written time host path = before_time ++ (time ++ (codes "\n" ++ (before_host ++ 
 abbrev pub is_lower_case : ℕ → Bool
 is_lower_case c = nat_le 97 c && nat_le c 122
 
+abbrev pub is_null : List ℕ → Bool
+is_null word = starts_with nat_eq word (codes "null") && length word == 4
+
 abbrev pub is_word : List ℕ → Bool
-is_word word = nat_le 1 (length word) && nat_le (length word) 63 && list_all is_lower_case word && not (starts_with nat_eq word (codes "null") && length word == 4)
+is_word word = nat_le 1 (length word) && nat_le (length word) 63 && list_all is_lower_case word && not (is_null word)
 
 -- 1 ns to 2^61 ns
 abbrev pub is_stop : Time → Bool
@@ -69,9 +73,26 @@ places text = do
   (path, rest) ← cut 10 from_path
   when (length rest == 0) (time, (host, path))
 
+-- the configuration with these values
+abbrev pub configured : Time → List ℕ → List ℕ → Config
+configured stop host path = record { stop = stop; host = host; path = path }
+
 -- the configuration of a text, if it is of this form
-unfoldable pub config : List ℕ → Option Config
+abbrev pub config : List ℕ → Option Config
 config text = do
   (time, (host, path)) ← places text
   stop ← time_of time
-  when (is_stop stop && is_word host && is_word path) (record { stop = stop; host = host; path = path })
+  when (is_stop stop && is_word host && is_word path) (configured stop host path)
+
+-- whether some bytes are text (UTF-8, RFC 3629)
+abbrev pub is_text : List ℕ → Bool
+is_text bytes = utf8_valid_len bytes == length bytes
+
+abbrev pub text_of : List ℕ → Option (List ℕ)
+text_of bytes = if is_text bytes then Some bytes else None
+
+-- the configuration of a file, if its bytes are text of this form
+unfoldable pub config_of_file : List ℕ → Option Config
+config_of_file bytes = do
+  text ← text_of bytes
+  config text

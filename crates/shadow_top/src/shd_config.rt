@@ -1,7 +1,9 @@
 //! The configuration file of the first profile.
 
 ghost use Rattle.std.specs.Prelude.{◌≡◌, Option, option_map, IsTrue, IfOk, MatchResult, None, Some};
-ghost use Rattle.shadow_top.specs.ShdConfig.{behind, cut, places, config, is_word, is_stop};
+ghost use Rattle.std.specs.List.{list_all};
+ghost use Rattle.shadow_top.specs.ConfigError.{RefusesConfig};
+ghost use Rattle.shadow_top.specs.ShdConfig.{behind, cut, places, configured, config, config_of_file, is_lower_case, is_null, is_word, is_stop, text_of};
 
 use crate::units::read_time;
 use sim_base::{Name, NoMemory, Time};
@@ -60,5 +62,102 @@ fn find_places(text: &str) -> Option<Places<'_>>
         Some(Places { time, host, path })
     } else {
         None
+    }
+}
+
+fn is_lower_case(word: &str) -> bool
+    ensures { result ≡ list_all is_lower_case word.now }
+{
+    word.as_bytes().iter().all(|c| 97 <= *c && *c <= 122)
+}
+
+fn is_null(word: &str) -> bool
+    ensures { result ≡ is_null word.now }
+{
+    word.starts_with("null") && word.len() == 4
+}
+
+fn is_word(word: &str) -> bool
+    ensures { result ≡ is_word word.now }
+{
+    1 <= word.len() && word.len() <= 63 && is_lower_case(word) && !is_null(word)
+}
+
+fn is_stop(stop: Time) -> bool
+    ensures { result ≡ is_stop stop }
+{
+    1 <= stop.nanos && stop.nanos <= 1 << 61
+}
+
+/// What a text asks for, in its own words.
+#[derive(Clone, Copy)]
+struct Settings<'a> {
+    stop: Time,
+    host: &'a str,
+    path: &'a str,
+}
+
+fn find_settings(text: &str) -> Option<Settings<'_>>
+    ensures { option_map (λ s. configured s.stop s.host.now s.path.now) result ≡ config text.now }
+{
+    let places = find_places(text)?;
+    let stop = read_time(places.time)?;
+    if is_stop(stop) && is_word(places.host) && is_word(places.path) {
+        Some(Settings {
+            stop,
+            host: places.host,
+            path: places.path,
+        })
+    } else {
+        None
+    }
+}
+
+/// Why a file gives no configuration.
+#[derive(Clone, Copy, Debug, PartialEq, Eq)]
+pub enum ConfigError {
+    /// It is not of the form that this profile reads.
+    Unsupported,
+    NoMemory,
+}
+
+fn own(alloc: Global, settings: &Settings<'_>) -> Result<Config, NoMemory>
+    ensures { IfOk result (λ c. c ≡ configured settings.now.stop settings.now.host.now settings.now.path.now) }
+{
+    Ok(Config {
+        stop: settings.stop,
+        host: Name::from_str(alloc, settings.host)?,
+        path: Name::from_str(alloc, settings.path)?,
+    })
+}
+
+/// The bytes as text, where they are text.
+fn as_text(bytes: &[u8]) -> Option<&str>
+    ensures { option_map (λ text. text.now) result ≡ text_of bytes.now }
+{
+    match str::from_utf8(bytes) {
+        Ok(text) => Some(text),
+        Err(_) => None,
+    }
+}
+
+#[tactic(auto, unfolding(crate::specs::ShdConfig::config_of_file))]
+fn file_settings(bytes: &[u8]) -> Option<Settings<'_>>
+    ensures { option_map (λ s. configured s.stop s.host.now s.path.now) result ≡ config_of_file bytes.now }
+{
+    let text = as_text(bytes)?;
+    find_settings(text)
+}
+
+/// The configuration of a file.
+pub fn config_of(alloc: Global, bytes: &[u8]) -> Result<Config, ConfigError>
+    ensures { MatchResult result (λ c. config_of_file bytes.now ≡ Some c) (RefusesConfig (config_of_file bytes.now)) }
+{
+    match file_settings(bytes) {
+        None => Err(ConfigError::Unsupported),
+        Some(settings) => match own(alloc, &settings) {
+            Ok(config) => Ok(config),
+            Err(NoMemory) => Err(ConfigError::NoMemory),
+        },
     }
 }
