@@ -1,0 +1,3 @@
+pub mod Word
+pub mod Arithmetic
+pub mod Encoding
