@@ -2,6 +2,7 @@
 //! as the RISC-V unprivileged manual describes them.
 #![tactic(auto)]
 
+mod arithmetic;
 mod encoding;
 mod instruction;
 mod word;
