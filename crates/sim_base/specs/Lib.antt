@@ -1,0 +1,4 @@
+pub mod Errno
+pub mod Key
+pub mod Packet
+pub mod Signal
