@@ -3,9 +3,15 @@
 #![tactic(auto)]
 
 mod arithmetic;
+mod cpu;
 mod encoding;
+mod execution;
 mod instruction;
+mod outcome;
 mod word;
 
+pub use cpu::Cpu;
 pub use encoding::decode;
+pub use execution::step;
 pub use instruction::{Branch, Insn, Load, Operation, Store};
+pub use outcome::{Outcome, TurnEnd};

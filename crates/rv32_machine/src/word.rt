@@ -3,7 +3,7 @@
 //! RISC-V unprivileged manual, 2.2 Base Instruction Formats and 2.3 Immediate Encoding Variants.
 
 ghost use Rattle.std.specs.Prelude.{◌≡◌, ◌<◌};
-ghost use Rattle.rv32_machine.specs.Word.{opcode, rd, funct3, rs1, rs2, funct7, i_immediate, s_immediate, b_immediate, u_immediate, j_immediate};
+ghost use Rattle.rv32_machine.specs.Word.{opcode, sign_extended, rd, funct3, rs1, rs2, funct7, i_immediate, s_immediate, b_immediate, u_immediate, j_immediate};
 
 pub fn opcode(word: u32) -> u32
     ensures value { result ≡ opcode word }
@@ -78,4 +78,18 @@ pub fn j_immediate(word: u32) -> u32
         + ((word >> 12 & 0xff) << 12u32)
         + ((word >> 20 & 0x1) << 11u32)
         + ((word >> 21 & 0x3ff) << 1u32)
+}
+
+/// A byte as a signed number, as a word.
+pub fn byte_extended(byte: u8) -> u32
+    ensures { result ≡ sign_extended 8 byte }
+{
+    i32::from(byte.cast_signed()).cast_unsigned()
+}
+
+/// A half word as a signed number, as a word.
+pub fn half_extended(half: u16) -> u32
+    ensures { result ≡ sign_extended 16 half }
+{
+    i32::from(half.cast_signed()).cast_unsigned()
 }
