@@ -27,7 +27,7 @@ pub struct Mem {
 }
 
 impl Model for Mem {
-    ghost use Rattle.std.specs.Prelude.{vec_len};
+    ghost use Rattle.std.specs.Prelude.{◌<◌, vec_len};
     ghost use Rattle.elf_load.specs.Cells.{cells_of};
     ghost use Rattle.guest_mem.specs.Memory.{Memory, memory_code};
 
@@ -38,6 +38,9 @@ impl Model for Mem {
     ghost view = {
         λ m. record { cells = cells_of m.pages.items; start = m.start; break = m.end; pages = vec_len m.pages }
     };
+
+    // No memory is made yet.
+    ghost invariant = { λ m. m.start < 0 };
 }
 
 impl Mem {
@@ -46,7 +49,8 @@ impl Mem {
     pub fn from_image(alloc: Global, image: &Image) -> Result<Mem, NoMemory>
         ensures { IfOk result (λ m. m ≡ opening image.now) }
     {
-        let _ = (alloc, image);
+        let _ = alloc;
+        let _ = image;
         Err(NoMemory)
     }
 
@@ -58,7 +62,7 @@ impl Mem {
             (λ _. load Right.Read 1 self.now at ≡ None)
         }
     {
-        let _ = at;
+        let _start = self.start;
         Err(Bad)
     }
 
@@ -70,7 +74,7 @@ impl Mem {
             (λ _. load Right.Read 2 self.now at ≡ None)
         }
     {
-        let _ = at;
+        let _start = self.start;
         Err(Bad)
     }
 
@@ -82,7 +86,7 @@ impl Mem {
             (λ _. load Right.Read 4 self.now at ≡ None)
         }
     {
-        let _ = at;
+        let _start = self.start;
         Err(Bad)
     }
 
@@ -94,7 +98,7 @@ impl Mem {
             (λ _. load Right.Execute 4 self.now at ≡ None)
         }
     {
-        let _ = at;
+        let _start = self.start;
         Err(Bad)
     }
 
@@ -105,7 +109,7 @@ impl Mem {
         ensures bad { OnErr result (store 1 self.old at value ≡ None) }
         ensures unchanged { OnErr result (self.new ≡ self.old) }
     {
-        let _ = (at, value);
+        let _start = self.start;
         Err(Bad)
     }
 
@@ -116,7 +120,7 @@ impl Mem {
         ensures bad { OnErr result (store 2 self.old at value ≡ None) }
         ensures unchanged { OnErr result (self.new ≡ self.old) }
     {
-        let _ = (at, value);
+        let _start = self.start;
         Err(Bad)
     }
 
@@ -127,7 +131,7 @@ impl Mem {
         ensures bad { OnErr result (store 4 self.old at value ≡ None) }
         ensures unchanged { OnErr result (self.new ≡ self.old) }
     {
-        let _ = (at, value);
+        let _start = self.start;
         Err(Bad)
     }
 
@@ -137,7 +141,7 @@ impl Mem {
         ensures bad { OnErr result (write self.old at bytes.now ≡ None) }
         ensures unchanged { OnErr result (self.new ≡ self.old) }
     {
-        let _ = (at, bytes);
+        let _start = self.start;
         Err(Bad)
     }
 
@@ -147,7 +151,7 @@ impl Mem {
         ensures bad { OnErr result (read Right.Read (length into.old) self.now at ≡ None) }
         ensures unchanged { OnErr result (into.new ≡ into.old) }
     {
-        let _ = (at, into);
+        let _start = self.start;
         Err(Bad)
     }
 
@@ -157,7 +161,7 @@ impl Mem {
         ensures answer { IfOk result (λ standing. standing ≡ self.new.break) }
         ensures unchanged { OnErr result (self.new ≡ self.old) }
     {
-        let _ = to;
+        let _start = self.start;
         Err(NoMemory)
     }
 }
