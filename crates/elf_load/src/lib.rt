@@ -1,0 +1,18 @@
+//! The program image of an ELF file: what a loader lays into a guest's memory, or the first fault of the file.
+//!
+//! Executables are static 32-bit RISC-V files (System V gABI, ELF32, little-endian).
+#![tactic(auto)]
+
+mod elf_header;
+mod fault;
+mod image;
+mod loader;
+mod page;
+mod program_header;
+mod rights;
+
+pub use fault::{ElfFault, LoadError};
+pub use image::Image;
+pub use loader::load;
+pub use page::{PAGE_SIZE, Page};
+pub use rights::Rights;

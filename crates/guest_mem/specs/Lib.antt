@@ -1,0 +1,3 @@
+pub mod Break
+pub mod Memory
+pub mod Opening

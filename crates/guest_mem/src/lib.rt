@@ -1,0 +1,10 @@
+//! The memory of a guest: a map from address to byte with rights, over pages.
+#![tactic(auto)]
+
+mod bad;
+mod mem;
+mod right;
+
+pub use bad::Bad;
+pub use mem::Mem;
+pub use right::Right;

@@ -1,0 +1,4 @@
+pub mod Word
+pub mod Arithmetic
+pub mod Encoding
+pub mod Table

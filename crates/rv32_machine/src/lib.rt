@@ -1,0 +1,17 @@
+//! A RISC-V machine of the base integer instruction set RV32I with the extensions M and Zifencei,
+//! as the RISC-V unprivileged manual describes them.
+#![tactic(auto)]
+
+mod arithmetic;
+mod cpu;
+mod encoding;
+mod execution;
+mod instruction;
+mod outcome;
+mod word;
+
+pub use cpu::Cpu;
+pub use encoding::decode;
+pub use execution::step;
+pub use instruction::{Branch, Insn, Load, Operation, Store};
+pub use outcome::{Outcome, TurnEnd};
