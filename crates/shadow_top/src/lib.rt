@@ -2,6 +2,8 @@
 #![tactic(auto)]
 
 mod command_line;
+mod guest;
+mod host_calls;
 mod out_text;
 mod shd_config;
 mod units;
