@@ -1,1 +1,2 @@
 pub mod TurnSteps
+pub mod TurnLaws

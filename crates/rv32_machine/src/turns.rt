@@ -17,6 +17,9 @@ pub fn turn<L: Ledger>(cpu: &mut Cpu, mem: &mut Mem, budget: u64, steps: &mut St
     ensures state { (turn budget (state cpu.old mem.old)).state ≡ state cpu.new mem.new }
     ensures end { (turn budget (state cpu.old mem.old)).end ≡ result }
     ensures ledger { steps.new ≡ steps.old + (turn budget (state cpu.old mem.old)).ran }
+    // the same, in the words of the relation
+    ensures least { IsTurn budget (state cpu.old mem.old)
+        (record { state = state cpu.new mem.new; end = result; ran = steps.new - steps.old }) }
     ensures within { steps.new ≤ steps.old + budget }
 {
     for _ in 0..budget {

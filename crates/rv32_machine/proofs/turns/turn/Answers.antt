@@ -4,6 +4,7 @@ use Rattle.rv32_machine.specs.Turn.{Turn, turn}
 use Rattle.rv32_machine.specs.declared.outcome.Outcome.TheVariants as outcome
 use Rattle.rv32_machine.specs.declared.outcome.TurnEnd.TheVariants as end
 use Rattle.rv32_machine.proofs.TurnSteps.{turn-next, turn-whole, turn-spent, ran_before}
+use Rattle.rv32_machine.proofs.TurnLaws.{turn_as}
 use Rattle.rv32_machine.proofs.turns.turn.Goals as goal
 
 pub returns-in-Call-clause-state : goal.returns-in-Call-clause-state
@@ -54,3 +55,18 @@ pub returns-clause-ledger : goal.returns-clause-ledger
 returns-clause-ledger g c =
     let whole = ap (λ (t : Turn). t.ran) (turn-spent _ _ _ _ _ (omega arith) c.loop.invariant.same) in
     omega (arith, whole)
+
+pub returns-in-Call-clause-least : goal.returns-in-Call-clause-least
+returns-in-Call-clause-least g c =
+    turn_as _ _ _ _
+    (turn-whole _ _ _ _ _ _ outcome.Call end.Call c.loop-test.true c.loop.invariant.same (c.step.ensures ∙ ap (after _ _) c.in-Call.is) refl)
+    (omega arith)
+
+pub returns-in-Trap-clause-least : goal.returns-in-Trap-clause-least
+returns-in-Trap-clause-least g c =
+    turn_as _ _ _ _
+    (turn-whole _ _ _ _ _ _ (outcome.Trap c.in-Trap.signal) (end.Trap c.in-Trap.signal) c.loop-test.true c.loop.invariant.same (c.step.ensures ∙ ap (after _ _) c.in-Trap.is) refl)
+    (omega arith)
+
+pub returns-clause-least : goal.returns-clause-least
+returns-clause-least g c = turn_as _ _ _ _ (turn-spent _ _ _ _ _ (omega arith) c.loop.invariant.same) (omega arith)
