@@ -2,3 +2,4 @@ pub mod Word
 pub mod Arithmetic
 pub mod Encoding
 pub mod Table
+pub mod Turn

@@ -8,6 +8,8 @@ mod encoding;
 mod execution;
 mod instruction;
 mod outcome;
+mod steps;
+mod turns;
 mod word;
 
 pub use cpu::Cpu;
@@ -15,3 +17,5 @@ pub use encoding::decode;
 pub use execution::step;
 pub use instruction::{Branch, Insn, Load, Operation, Store};
 pub use outcome::{Outcome, TurnEnd};
+pub use steps::Steps;
+pub use turns::turn;

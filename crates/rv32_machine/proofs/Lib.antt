@@ -1,0 +1,3 @@
+pub mod TurnSteps
+pub mod TurnLaws
+mod Values
