@@ -4,6 +4,7 @@
 mod command_line;
 mod guest;
 mod host_calls;
+mod host_state;
 mod out_text;
 mod shd_config;
 mod units;
