@@ -1,7 +1,7 @@
 -- A running guest: its machine, what it has written, and what it starts with.
 use Rattle.std.specs.Prelude.{◌≡◌, ℕ, ◌+◌, ◌-◌, ◌*◌, ◌/◌, List, [], ◌∷◌, ◌++◌, length, replicate, slice_set, slice_index, flat_map}
 use Rattle.elf_load.specs.ProgramImage.{ProgramImage}
-use Rattle.guest_mem.specs.Memory.{low_bytes, put_all}
+use Rattle.guest_mem.specs.Memory.{Memory, low_bytes, put_all}
 use Rattle.guest_mem.specs.Opening.{opening}
 use Rattle.shadow_top.specs.HostCalls.{Called}
 use Rattle.shadow_top.specs.declared.host_calls.Answer.{Answer}
@@ -38,12 +38,16 @@ stack_pointer arguments environment = rounded_down (texts_at (arguments ++ envir
 abbrev pub word_bytes : List ℕ → List ℕ
 word_bytes words = flat_map (low_bytes 4) words
 
+-- the memory with these bytes from an address on
+abbrev pub filled : Memory → ℕ → List ℕ → Memory
+filled m at bytes = record m { cells = put_all m.cells at bytes }
+
 -- pc is the entry, all registers are 0 but the stack pointer (x2), and the stack has texts and words
 unfoldable pub started : ProgramImage → List (List ℕ) → List (List ℕ) → Guest
 started image arguments environment = record {
   cpu = record { pc = image.entry; x = slice_set (replicate 32 0) 2 (stack_pointer arguments environment) };
-  memory = put_all
-      (put_all (opening image) (texts_at (arguments ++ environment)) (texts_bytes (arguments ++ environment)))
+  memory = filled
+      (filled (opening image) (texts_at (arguments ++ environment)) (texts_bytes (arguments ++ environment)))
       (stack_pointer arguments environment) (word_bytes (start_words arguments environment));
   stdout = [];
   stderr = [];

@@ -5,4 +5,5 @@ pub mod HostCalls
 pub mod HostState
 pub mod OutText
 pub mod ShdConfig
+pub mod Stack
 pub mod Units
