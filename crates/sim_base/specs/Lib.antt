@@ -3,6 +3,7 @@ pub mod Errno
 pub mod Faults
 pub mod Files
 pub mod Key
+pub mod KeyLaws
 pub mod MemSink
 pub mod MemSource
 pub mod Packet
