@@ -1,4 +1,12 @@
+pub mod Calls
 pub mod Errno
+pub mod Faults
+pub mod Files
 pub mod Key
+pub mod KeyLaws
+pub mod MemSink
+pub mod MemSource
 pub mod Packet
 pub mod Signal
+pub mod Sink
+pub mod Source

@@ -11,6 +11,7 @@ mod key;
 mod memory;
 mod name;
 mod object;
+mod outside;
 mod packet;
 mod signal;
 mod state;
@@ -26,6 +27,9 @@ pub use key::{Key, Kind};
 pub use memory::NoMemory;
 pub use name::Name;
 pub use object::ObjectId;
+pub use outside::{
+    MemSink, MemSource, Place, ReadError, Sink, Source, WriteError, put_all, read_all,
+};
 pub use packet::{Load, Packet};
 pub use signal::Signal;
 pub use state::State;
