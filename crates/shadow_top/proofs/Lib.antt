@@ -1,2 +1,3 @@
+pub mod SliceLemmas
 pub mod StackLemmas
 pub mod TextLemmas

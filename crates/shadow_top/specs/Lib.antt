@@ -1,5 +1,7 @@
 pub mod CommandLine
 pub mod ConfigError
+pub mod Engine
+pub mod EventOrder
 pub mod Guest
 pub mod HostCalls
 pub mod HostState
@@ -7,3 +9,4 @@ pub mod OutText
 pub mod ShdConfig
 pub mod Stack
 pub mod Units
+pub mod World

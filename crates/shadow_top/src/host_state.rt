@@ -3,7 +3,7 @@
 ghost use Rattle.std.specs.Prelude.{◌≡◌, ◌<◌, IfOk};
 ghost use Rattle.rv32_machine.specs.Table.{state};
 ghost use Rattle.rv32_machine.specs.Turn.{turn};
-ghost use Rattle.shadow_top.specs.HostState.{turned, ended, calls, after_call, slice, calls_in_a_slice};
+ghost use Rattle.shadow_top.specs.HostState.{turned, ended, calls, after_call, slice, calls_in_a_slice, runs, goes_on};
 ghost use Rattle.shadow_top.specs.declared.host_state.TheConstants.{BUDGET};
 
 use crate::guest::Guest;
@@ -116,4 +116,24 @@ fn run_slice(alloc: Global, guest: Guest) -> Result<Slice, NoMemory>
         }
     }
     Ok(Slice::Pauses(running))
+}
+
+/// The process after a slice of its guest, and whether it pauses.
+pub fn run_guest(alloc: Global, guest: Guest) -> Result<(Process, bool), NoMemory>
+    ensures { IfOk result (λ after. after ≡ runs BUDGET guest) }
+{
+    match run_slice(alloc, guest)? {
+        Slice::Pauses(guest) => Ok((Process::Running(guest), true)),
+        Slice::Ends(ended) => Ok((Process::Ended(ended), false)),
+    }
+}
+
+/// A paused process runs on; another one stays as it is.
+pub fn go_on(alloc: Global, process: Process) -> Result<(Process, bool), NoMemory>
+    ensures { IfOk result (λ after. after ≡ goes_on BUDGET process) }
+{
+    match process {
+        Process::Running(guest) => run_guest(alloc, guest),
+        other => Ok((other, false)),
+    }
 }

@@ -3,6 +3,7 @@
 
 mod command_line;
 mod guest;
+mod host;
 mod host_calls;
 mod host_state;
 mod out_text;
