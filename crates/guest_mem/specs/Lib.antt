@@ -1,3 +1,5 @@
 pub mod Break
 pub mod Memory
 pub mod Opening
+pub mod PageIndex
+pub mod Pages
