@@ -5,7 +5,9 @@
 
 mod elf_header;
 mod fault;
+mod fields;
 mod image;
+mod layout;
 mod loader;
 mod page;
 mod program_header;
