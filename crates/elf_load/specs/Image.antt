@@ -71,9 +71,13 @@ byte_at bytes ss address = fold (λ byte s. unwrap_or (file_byte bytes s address
 abbrev pub cell_at : List ℕ → List ProgramHeader → ℕ → Cell
 cell_at bytes ss address = record { byte = byte_at bytes ss address; rights = rights_at ss (address / 4096) }
 
--- the cell of each address of each touched page
+-- the addresses of a page, each with its cell
+abbrev pub cells_on : List ℕ → List ProgramHeader → ℕ → List (ℕ × Cell)
+cells_on bytes ss page = map (λ address. (address, cell_at bytes ss address)) (range_with_len (4096 * page) 4096)
+
+-- the cells of the touched pages
 unfoldable pub cells_of_segments : List ℕ → List ProgramHeader → Cells
-cells_of_segments bytes ss = from_entries (flat_map (λ page. map (λ address. (address, cell_at bytes ss address)) (range_with_len (4096 * page) 4096)) (items (touched_pages ss)))
+cells_of_segments bytes ss = from_entries (flat_map (cells_on bytes ss) (items (touched_pages ss)))
 
 -- what a file without a fault asks for
 abbrev pub image_of : List ℕ → ProgramImage

@@ -3,6 +3,7 @@
 //! Executables are static 32-bit RISC-V files (System V gABI, ELF32, little-endian).
 #![tactic(auto)]
 
+mod build;
 mod elf_header;
 mod fault;
 mod fields;
