@@ -2,7 +2,7 @@
 use Rattle.std.proofs.Common.{◌≡◌, ℕ, zero, suc, ◌+◌, ◌*◌, ◌/◌, ◌<◌, ◌≤◌, List, [], ◌∷◌, ◌++◌, length, map, take, get_or, refl, sym, ap, ◌∙◌, subst, arith}
 use Rattle.std.specs.Prelude.{flat_map}
 use Rattle.std.specs.List.{range_with_len}
-use Rattle.std.proofs.lemmas.List.{append-nil, take_more}
+use Rattle.std.proofs.lemmas.List.{append-nil, map-append, take_more}
 use Rattle.std.proofs.lemmas.List.Concat.{flat_map-append}
 use Rattle.elf_load.specs.declared.page.Page.{Page}
 use Rattle.elf_load.specs.declared.program_header.ProgramHeader.{ProgramHeader}
@@ -57,3 +57,15 @@ module _ (bytes : List ℕ) (ss : List ProgramHeader) where
       ∙ sym (flat_map-append (cells_on bytes ss) (take i numbers) (number ∷ []))
       ∙ ap (λ n. flat_map (cells_on bytes ss) (take i numbers ++ n ∷ [])) (sym number_is)
       ∙ ap (flat_map (cells_on bytes ss)) (sym (take_more numbers i 0 within))
+
+-- the numbers of one page more
+pub numbers_more : (pages more : List Page) (page : Page) (numbers : List ℕ) (i : ℕ)
+    → more ≡ pages ++ page ∷ [] → i < length numbers → page.number ≡ get_or numbers i 0
+    → map (λ p. p.number) pages ≡ take i numbers
+    → map (λ p. p.number) more ≡ take (i + 1) numbers
+numbers_more pages more page numbers i pushed within number_is before =
+    ap (map (λ p. p.number)) pushed
+    ∙ map-append (λ p. p.number) pages (page ∷ [])
+    ∙ ap (λ ns. ns ++ page.number ∷ []) before
+    ∙ ap (λ n. take i numbers ++ n ∷ []) number_is
+    ∙ sym (take_more numbers i 0 within)

@@ -14,10 +14,11 @@ abbrev pub IsFound : Option ElfFault → LoadError → Type 0
 IsFound found (Fault fault) = found ≡ Some fault
 IsFound found NoMemory = Unit {0}
 
--- the segment's bytes are in the file, and it ends below the room for the stack
+-- the segment's bytes are in the file, and it lies between the first page and the room for the stack
 pub record IsPlaced (bytes : List ℕ) (s : ProgramHeader) : Type 0 where
   pub in_file : s.offset + s.file_size ≤ length bytes
-  pub in_memory : end_of s ≤ 0xBF000000
+  pub above_first_page : 4096 ≤ s.address
+  pub below_stack : end_of s ≤ 0xBF000000
 
 -- the numbers of a list that may name one twice, each once
 pub record IsListOf (numbers all : List ℕ) : Type 0 where

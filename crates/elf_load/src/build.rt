@@ -1,14 +1,14 @@
 //! Makes the pages of an image.
 
-ghost use Rattle.std.specs.Prelude.{◌≡◌, ℕ, ◌+◌, ◌*◌, ◌^◌, ◌≤◌, ◌<◌, length, All, IfOk, slice_index, unwrap_or, flat_map};
+ghost use Rattle.std.specs.Prelude.{◌≡◌, ℕ, ◌+◌, ◌*◌, ◌^◌, ◌≤◌, ◌<◌, length, All, IfOk, slice_index, unwrap_or, flat_map, map};
 ghost use Rattle.elf_load.specs.Build.{IsPageOf};
 ghost use Rattle.elf_load.specs.Cells.{cells_of_page};
 ghost use Rattle.elf_load.specs.Image.{file_byte, cells_on};
 ghost use Rattle.elf_load.specs.Layout.{IsPlaced};
 
-use crate::layout::rights_at;
 use crate::page::{PAGE_SIZE, Page};
 use crate::program_header::ProgramHeader;
+use crate::segments::rights_at;
 use std::alloc::{AllocError, Global};
 
 /// Lays the bytes of the file that a segment has on a page, which begins at an address.
@@ -60,7 +60,8 @@ pub(crate) fn make_pages(
 ) -> Result<Vec<Page>, AllocError>
     requires placed { All (IsPlaced bytes.now) segments.now }
     requires in_range { All (λ number. number < 2 ^ 20) numbers.now }
-    ensures { IfOk result (λ pages. flat_map cells_of_page pages.items ≡ flat_map (cells_on bytes.now segments.now) numbers.now) }
+    ensures cells { IfOk result (λ pages. flat_map cells_of_page pages.items ≡ flat_map (cells_on bytes.now segments.now) numbers.now) }
+    ensures numbers { IfOk result (λ pages. map (λ page. page.number) pages.items ≡ numbers.now) }
 {
     let mut pages = Vec::with_capacity(alloc, numbers.len())?;
     for number in numbers {

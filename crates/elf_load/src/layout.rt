@@ -1,18 +1,17 @@
 //! The segments of a file and the pages that they touch, as the program headers are read.
 
 ghost use Rattle.std.specs.Prelude.{◌≡◌, ◌+◌, ◌*◌, ◌≤◌, ◌<◌, ◌++◌, [], ◌∷◌, ◌/◌, length, vec_len, IfOk, IfErr, OnOk, Some, None, if◌then◌else◌, nat_lt, All, fold};
-ghost use Rattle.std.specs.List.{list_any};
 ghost use Rattle.std.specs.Ordering.{nat_cmp};
 ghost use Rattle.std.specs.FinSet as set;
 ghost use Rattle.elf_load.specs.Elf.{elf_header, program_headers};
-ghost use Rattle.elf_load.specs.Image.{program_header_checks, all_program_header_checks, entry_checks, first_fault};
+ghost use Rattle.elf_load.specs.Image.{program_header_checks, all_program_header_checks, first_fault};
 ghost use Rattle.elf_load.specs.Layout.{IsFound, IsListOf, IsPlaced, IsSound};
 ghost use Rattle.elf_load.specs.Pages as spec;
 
 use crate::elf_header::ElfHeader;
 use crate::fault::{ElfFault, LoadError};
 use crate::program_header::ProgramHeader;
-use crate::rights::Rights;
+use crate::segments::shares_a_byte;
 use std::alloc::Global;
 
 /// The segments, in the order of the file, and each page that they touch, once.
@@ -47,39 +46,6 @@ fn touch(pages: &mut Vec<u32>, segment: &ProgramHeader) -> Result<(), LoadError>
             }
             pages.push(number)?;
         }
-    }
-    Ok(())
-}
-
-/// Whether a segment shares a byte with one of others.
-fn shares_a_byte(segment: &ProgramHeader, others: &[ProgramHeader]) -> bool
-    ensures { result ≡ list_any (spec.share_a_byte segment.now) others.now }
-{
-    others
-        .iter()
-        .any(|other| segment.shares_a_byte_with(other))
-}
-
-/// The rights to a page.
-pub(crate) fn rights_at(segments: &[ProgramHeader], page: u32) -> Rights
-    ensures { result ≡ spec.rights_at segments.now page }
-{
-    segments.iter().fold(Rights::none(), |rights, segment| {
-        if segment.touches(page) {
-            rights.union(segment.rights())
-        } else {
-            rights
-        }
-    })
-}
-
-/// Whether the entry is where instructions may be.
-pub(crate) fn check_entry(entry: u32, segments: &[ProgramHeader]) -> Result<(), ElfFault>
-    ensures sound { OnOk result (first_fault (entry_checks entry segments.now) ≡ None) }
-    ensures refused { IfErr result (λ fault. first_fault (entry_checks entry segments.now) ≡ Some fault) }
-{
-    if entry % 4 != 0 || !rights_at(segments, entry / 4096).execute {
-        return Err(ElfFault::Entry);
     }
     Ok(())
 }

@@ -13,6 +13,7 @@ mod loader;
 mod page;
 mod program_header;
 mod rights;
+mod segments;
 
 pub use fault::{ElfFault, LoadError};
 pub use image::Image;

@@ -41,7 +41,7 @@ returns-then-shares_a_byte-clause-refused c =
 
 pub returns-clause-sound : goal.returns-clause-sound
 returns-clause-sound c =
-    let placed : IsPlaced c.args.bytes.now c.args.header = record { in_file = omega arith; in_memory = omega arith } in
+    let placed : IsPlaced c.args.bytes.now c.args.header = record { in_file = omega arith; above_first_page = omega arith; below_stack = omega arith } in
     record {
       placed = rw c.in_ok-push.ensures.items (All-push (IsPlaced c.args.bytes.now) c.args.self.now.segments.items c.args.header c.requires.placed placed);
       pages = rw c.in_ok-push.ensures.items (listed_more c.args.self.now.pages.items c.touch.new.pages.items c.args.self.now.segments.items c.args.header c.requires.pages c.in_ok-touch.ensures.listed);
