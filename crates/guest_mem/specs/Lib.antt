@@ -1,5 +1,3 @@
 pub mod Break
 pub mod Memory
 pub mod Opening
-pub mod PageIndex
-pub mod Pages

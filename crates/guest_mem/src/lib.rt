@@ -2,10 +2,8 @@
 #![tactic(auto)]
 
 mod bad;
-mod index;
 mod mem;
 mod right;
-mod table;
 
 pub use bad::Bad;
 pub use mem::Mem;

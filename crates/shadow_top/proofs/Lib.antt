@@ -1,3 +1,5 @@
+pub mod PieceLemmas
 pub mod SliceLemmas
 pub mod StackLemmas
+pub mod StartLemmas
 pub mod TextLemmas

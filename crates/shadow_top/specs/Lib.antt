@@ -2,11 +2,14 @@ pub mod CommandLine
 pub mod ConfigError
 pub mod Engine
 pub mod EventOrder
+pub mod FirstFault
 pub mod Guest
 pub mod HostCalls
 pub mod HostState
 pub mod OutText
+pub mod Pieces
 pub mod ShdConfig
 pub mod Stack
+pub mod Stop
 pub mod Units
 pub mod World

@@ -36,8 +36,12 @@ process_text host program pid = host ++ (codes "/" ++ (program ++ (codes "." ++ 
 abbrev pub unmet_line : List ℕ → List ℕ → List ℕ → List ℕ
 unmet_line process state expected = codes "shadow: " ++ (process ++ (codes ": " ++ (state ++ (codes ", expected " ++ (expected ++ codes "\n")))))
 
+-- the line that tells what is wrong with a file
+abbrev pub file_line : List ℕ → List ℕ → List ℕ
+file_line file what = codes "shadow: " ++ (file ++ (codes ": " ++ (what ++ codes "\n")))
+
 -- the line that tells a fault of the input, or an expectation that wasn't met
 abbrev pub fault_line : FaultText → List ℕ
 fault_line Usage = codes "shadow: usage: shadow [options] CONFIG\n"
-fault_line (File file what) = codes "shadow: " ++ (file.now ++ (codes ": " ++ (what.now ++ codes "\n")))
+fault_line (File file what) = file_line file.now what.now
 fault_line (Unmet host program pid state expected) = unmet_line (process_text host.now program.now pid) (state_text state) (state_text expected)

@@ -95,6 +95,7 @@ fn call_guest(alloc: Global, mut guest: Guest) -> Result<AfterCall, NoMemory>
     }
 }
 
+#[tactic(auto, unfolding(crate::specs::HostState::after_call))]
 fn run_to_call(alloc: Global, mut guest: Guest) -> Result<AfterCall, NoMemory>
     ensures { IfOk result (λ after. after ≡ after_call BUDGET guest) }
 {

@@ -2,10 +2,13 @@
 #![tactic(auto)]
 
 mod command_line;
+mod fault;
 mod guest;
 mod host;
 mod host_calls;
 mod host_state;
 mod out_text;
+mod output;
+mod plan;
 mod shd_config;
 mod units;
