@@ -1,3 +1,5 @@
+pub mod EngineLemmas
+pub mod FireLemmas
 pub mod PieceLemmas
 pub mod SliceLemmas
 pub mod StackLemmas

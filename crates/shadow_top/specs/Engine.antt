@@ -1,15 +1,44 @@
 -- What the engine's values stand for.
-use Rattle.std.specs.Prelude.{◌≡◌, ℕ, List, [], ◌∷◌, Option, Some, None, option_to_list}
+use Rattle.std.specs.Prelude.{◌≡◌, ℕ, ◌+◌, List, [], ◌∷◌, Option, Some, None}
+use Rattle.std.specs.Option.{option_to_list}
 use Rattle.sim_base.specs.declared.event.Event.{Event}
-use Rattle.shadow_top.specs.HostState.{HostRecord, ProcessRecord, Fired}
+use Rattle.sim_base.specs.declared.event.What.{What}
+use Rattle.sim_base.specs.declared.event.What.TheVariants as what
+use Rattle.sim_base.specs.declared.key.Key.{Key}
+use Rattle.shadow_top.specs.HostState.{HostRecord, ProcessRecord, Fired, with_process}
+use Rattle.shadow_top.specs.World.{World, Net}
 use Rattle.shadow_top.specs.declared.host.Host.{Host}
+use Rattle.shadow_top.specs.declared.host_state.Process.{Process}
 
 -- a host with its one process
+abbrev pub process_record : Host → ProcessRecord
+process_record h = record { path = h.path; image = h.image; process = h.process }
+
 abbrev pub host_record : Host → HostRecord
-host_record h = record { name = h.name; processes = record { path = h.path; image = h.image; process = h.process } ∷ []; next = h.next }
+host_record h = record { name = h.name; processes = process_record h ∷ []; next = h.next }
+
+-- the one host and the one event that waits, or none
+abbrev pub world_of : Host → Option Event → World
+world_of h pending = record { hosts = host_record h ∷ []; events = option_to_list pending; log = [] }
 
 -- a firing leaves this host, and made this event or none
 pub record LeavesHost (f : Fired) (host : Host) (made : Option Event) : Type 0 where
   pub host_is : f.host ≡ host_record host
   pub made_is : f.made ≡ option_to_list made
   pub lines_is : f.lines ≡ []
+
+-- it is the start or the going on of the first process
+abbrev pub IsOfFirst : What → Type 0
+IsOfFirst (what.Start p) = p ≡ 0
+IsOfFirst (what.Go p) = p ≡ 0
+IsOfFirst _ = ⊥
+
+-- an event that the one host made for its one process
+pub record IsOwn (e : Event) : Type 0 where
+  pub source : e.key.source.index ≡ 0
+  pub first : IsOfFirst e.what
+
+-- an event that follows one that fired
+pub record Follows (now : Key) (e : Event) : Type 0 where
+  pub own : IsOwn e
+  pub later : e.key.due.nanos ≡ now.due.nanos + 100000

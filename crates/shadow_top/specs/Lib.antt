@@ -9,6 +9,7 @@ pub mod HostState
 pub mod OutText
 pub mod Pieces
 pub mod ShdConfig
+pub mod Shown
 pub mod Stack
 pub mod Stop
 pub mod Units

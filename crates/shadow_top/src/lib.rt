@@ -12,3 +12,4 @@ mod output;
 mod plan;
 mod shd_config;
 mod units;
+mod world;
