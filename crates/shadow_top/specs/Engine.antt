@@ -1,14 +1,19 @@
 -- What the engine's values stand for.
-use Rattle.std.specs.Prelude.{◌≡◌, ℕ, ◌+◌, List, [], ◌∷◌, Option, Some, None}
+use Rattle.std.specs.Prelude.{◌≡◌, ℕ, ◌+◌, List, [], ◌∷◌, map, Option, Some, None, if◌then◌else◌, codes}
 use Rattle.std.specs.Option.{option_to_list}
 use Rattle.sim_base.specs.declared.event.Event.{Event}
+use Rattle.sim_base.specs.declared.outside.sink.Place.TheVariants as place
+use Rattle.sim_base.specs.declared.state.State.TheVariants.{Exited}
 use Rattle.sim_base.specs.declared.event.What.{What}
 use Rattle.sim_base.specs.declared.event.What.TheVariants as what
 use Rattle.sim_base.specs.declared.key.Key.{Key}
-use Rattle.shadow_top.specs.HostState.{HostRecord, ProcessRecord, Fired, with_process}
-use Rattle.shadow_top.specs.World.{World, Net}
+use Rattle.shadow_top.specs.HostState.{HostRecord, ProcessRecord, Fired, process_state, process_stdout, process_stderr}
+use Rattle.shadow_top.specs.OutText.{file_name, state_text, unmet_line, process_text}
+use Rattle.shadow_top.specs.Pieces.{Put}
+use Rattle.shadow_top.specs.Shown.{first_id, meets}
+use Rattle.shadow_top.specs.declared.out_text.FileKind.TheVariants as kind
+use Rattle.shadow_top.specs.World.{World}
 use Rattle.shadow_top.specs.declared.host.Host.{Host}
-use Rattle.shadow_top.specs.declared.host_state.Process.{Process}
 
 -- a host with its one process
 abbrev pub process_record : Host → ProcessRecord
@@ -42,3 +47,17 @@ pub record IsOwn (e : Event) : Type 0 where
 pub record Follows (now : Key) (e : Event) : Type 0 where
   pub own : IsOwn e
   pub later : e.key.due.nanos ≡ now.due.nanos + 100000
+
+-- the pieces of a world with one host and one process: its three files, the empty packet log, and a line or none
+abbrev pub own_pieces : Host → List ℕ → Option (List ℕ) → List Put
+own_pieces h exit line =
+    (place.File (file_name h.name h.path first_id kind.Stdout), process_stdout h.process)
+    ∷ (place.File (file_name h.name h.path first_id kind.Stderr), process_stderr h.process)
+    ∷ (place.File (file_name h.name h.path first_id kind.Exit), exit)
+    ∷ (place.File (codes "packets.log"), [])
+    ∷ map (λ (text : List ℕ). (place.Err, text)) (option_to_list line)
+
+-- the line of the process, if its expectation isn't met
+abbrev pub own_unmet : Host → Option (List ℕ)
+own_unmet h = if meets (process_state h.process) then None
+    else Some (unmet_line (process_text h.name h.path first_id) (state_text (process_state h.process)) (state_text (Exited 0)))

@@ -10,6 +10,7 @@ mod host_state;
 mod out_text;
 mod output;
 mod plan;
+mod report;
 mod shd_config;
 mod units;
 mod world;

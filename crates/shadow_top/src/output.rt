@@ -7,6 +7,7 @@ ghost use Rattle.shadow_top.specs.Pieces.{put_of, with_pieces, PutsFront};
 use sim_base::{Place, Sink, WriteError, put_all};
 
 /// A place, and the bytes that are put there.
+#[derive(Drop)]
 pub struct Piece<'a> {
     pub place: Place,
     pub bytes: &'a [u8],
