@@ -1,6 +1,7 @@
 pub mod EngineLemmas
 pub mod FireLemmas
 pub mod PieceLemmas
+pub mod ReportLemmas
 pub mod SliceLemmas
 pub mod StackLemmas
 pub mod StartLemmas
