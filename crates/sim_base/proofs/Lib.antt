@@ -1,3 +1,4 @@
 pub mod FilesLemmas
 pub mod Putting
+pub mod QuantityLemmas
 pub mod Reading

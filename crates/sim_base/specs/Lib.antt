@@ -7,6 +7,7 @@ pub mod KeyLaws
 pub mod MemSink
 pub mod MemSource
 pub mod Packet
+pub mod Quantity
 pub mod Signal
 pub mod Sink
 pub mod Source

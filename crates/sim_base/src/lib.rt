@@ -13,6 +13,7 @@ mod name;
 mod object;
 mod outside;
 mod packet;
+mod quantity;
 mod signal;
 mod state;
 mod text;
@@ -31,6 +32,7 @@ pub use outside::{
     MemSink, MemSource, Place, ReadError, Sink, Source, WriteError, put_all, read_all,
 };
 pub use packet::{Load, Packet};
+pub use quantity::{read_rate, read_time};
 pub use signal::Signal;
 pub use state::State;
 pub use text::Text;
