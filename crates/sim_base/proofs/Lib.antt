@@ -1,3 +1,4 @@
+pub mod DrawsLemmas
 pub mod FilesLemmas
 pub mod Putting
 pub mod QuantityLemmas

@@ -1,4 +1,5 @@
 pub mod Calls
+pub mod Draws
 pub mod Errno
 pub mod Faults
 pub mod Files

@@ -4,6 +4,7 @@
 
 mod address;
 mod bytes;
+mod draws;
 mod errno;
 mod event;
 mod host;
@@ -21,6 +22,7 @@ mod time;
 
 pub use address::{Addr, Ip};
 pub use bytes::Bytes;
+pub use draws::Draws;
 pub use errno::Errno;
 pub use event::{Event, Parcel, What};
 pub use host::HostId;
