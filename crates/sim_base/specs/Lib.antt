@@ -1,4 +1,5 @@
 pub mod Calls
+pub mod Draws
 pub mod Errno
 pub mod Faults
 pub mod Files
@@ -7,6 +8,7 @@ pub mod KeyLaws
 pub mod MemSink
 pub mod MemSource
 pub mod Packet
+pub mod Quantity
 pub mod Signal
 pub mod Sink
 pub mod Source

@@ -4,6 +4,7 @@
 
 mod address;
 mod bytes;
+mod draws;
 mod errno;
 mod event;
 mod host;
@@ -13,6 +14,7 @@ mod name;
 mod object;
 mod outside;
 mod packet;
+mod quantity;
 mod signal;
 mod state;
 mod text;
@@ -20,6 +22,7 @@ mod time;
 
 pub use address::{Addr, Ip};
 pub use bytes::Bytes;
+pub use draws::Draws;
 pub use errno::Errno;
 pub use event::{Event, Parcel, What};
 pub use host::HostId;
@@ -31,6 +34,7 @@ pub use outside::{
     MemSink, MemSource, Place, ReadError, Sink, Source, WriteError, put_all, read_all,
 };
 pub use packet::{Load, Packet};
+pub use quantity::{read_rate, read_time};
 pub use signal::Signal;
 pub use state::State;
 pub use text::Text;
