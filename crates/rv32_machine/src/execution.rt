@@ -18,6 +18,7 @@ use sim_base::Signal;
 
 /// Runs the instruction at the program counter.
 #[tactic(auto, unfolding(crate::specs::Table::insn))]
+#[inline(always)]
 pub fn step(cpu: &mut Cpu, mem: &mut Mem) -> Outcome
     ensures { insn (state cpu.old mem.old) ≡ after cpu.new mem.new result }
 {
@@ -30,6 +31,7 @@ pub fn step(cpu: &mut Cpu, mem: &mut Mem) -> Outcome
     }
 }
 
+#[inline(always)]
 fn execute(insn: Insn, word: u32, cpu: &mut Cpu, mem: &mut Mem) -> Outcome
     ensures { effect insn word (state cpu.old mem.old) ≡ after cpu.new mem.new result }
 {
