@@ -127,3 +127,15 @@ turn_only budget s t it = elim (cases_lt t.ran (turn budget s).ran) [
 -- a turn as the relation describes it, from the turn that the function gives
 pub turn_as : (budget : ℕ) (s : State) (t : Turn) (n : ℕ) → turn budget s ≡ t → t.ran ≡ n → IsTurn budget s (record t { ran = n })
 turn_as budget s t n is ran = let P : Turn → Type 0 = λ u. IsTurn budget s u in subst P (is ∙ ap (λ (r : ℕ). record t { ran = r }) ran) (turn_is budget s)
+
+-- a budget that the turn's call is the last instruction of suffices
+pub call_in_time : (n : ℕ) (s : State) → 1 ≤ n → GoesOn (n - 1) s → outcome_of n s ≡ outcome.Call →
+    turn n s ≡ record { state = state_after n s; end = end.Call; ran = n }
+call_in_time n s counted before call =
+    sym (turn_only n s (record { state = state_after n s; end = end.Call; ran = n })
+    (record { state = refl; end = inl (omega arith, record { counted = counted; before = before; ends = ap end_of call }) }))
+
+-- a budget in which no instruction calls or traps is spent
+pub spent_without : (n : ℕ) (s : State) → GoesOn n s → turn n s ≡ record { state = state_after n s; end = end.Spent; ran = n }
+spent_without n s on =
+    sym (turn_only n s (record { state = state_after n s; end = end.Spent; ran = n }) (record { state = refl; end = inr (refl, on, refl) }))
