@@ -1,8 +1,8 @@
 //! One instruction.
 
-ghost use Rattle.std.specs.Prelude.{◌≡◌, ◌==◌, ◌%◌, Some, None, MatchResult, OnOk, OnErr};
+ghost use Rattle.std.specs.Prelude.{◌≡◌, Some, None, MatchResult, OnOk, OnErr};
 ghost use Rattle.guest_mem.specs.Memory.{Memory};
-ghost use Rattle.rv32_machine.specs.Table.{insn, effect, state, after, traps, advanced, jumps, sets, following, loaded, stored};
+ghost use Rattle.rv32_machine.specs.Table.{insn, effect, state, after, traps, advanced, is_aligned, jumps, sets, following, loaded, stored};
 
 use crate::arithmetic::{is_taken, value};
 use crate::cpu::Cpu;
@@ -119,7 +119,7 @@ fn compute(cpu: &mut Cpu, word: u32, n: u32)
 
 // This project's own profile: a target that isn't a multiple of 4 is refused at the jump.
 fn is_aligned(target: u32) -> bool
-    ensures { result ≡ (target % 4 == 0) }
+    ensures { result ≡ is_aligned target }
 {
     target % 4 == 0
 }
