@@ -1,7 +1,7 @@
 -- The cells that a list of pages stands for.
 use Rattle.std.proofs.Common.{◌≡◌, ℕ, zero, suc, ◌+◌, ◌-◌, ◌*◌, ◌/◌, ◌%◌, ◌^◌, ◌<◌, ◌≤◌, ◌≢◌, ◌⊎◌, inl, inr, Bool, true, false, cond, List, [], ◌∷◌, ◌++◌, length, get_or, set, take, drop, Option, Some, None, refl, sym, ap, subst, ◌∙◌, arith, ⊎_elim, eq-eqb, eqb, vec_len, Global}
 use Rattle.std.specs.declared.vec.Vec.{Vec}
-use Rattle.std.proofs.lemmas.List.{map-set, set-get_or, get_or-set_same, get_or-set_other, length-map, take-append-drop, length-take-le, length-drop, get_or-take, get_or-drop}
+use Rattle.std.proofs.lemmas.List.{map-set, set-get_or, get_or-set_same, get_or-set_other, length-map, take-append-drop, length-take-le, length-drop, get_or-take, get_or-drop, get_or-map}
 use Rattle.std.proofs.lemmas.Bool.{ne_eqb, cases_eq, cases_lt}
 use Rattle.std.specs.Option.{option_map}
 use Rattle.std.specs.List.{flat_map, range_with_len}
@@ -15,7 +15,7 @@ use Rattle.elf_load.specs.declared.rights.Rights.{Rights}
 use Rattle.elf_load.specs.declared.page.Page.{Page}
 use Rattle.guest_mem.specs.declared.right.Right.{Right}
 use Rattle.guest_mem.specs.Memory.{permits, permitted, byte_for, bytes_for, put_all}
-use Rattle.guest_mem.specs.Pages.{numbers, place_of, IsPageTable, IsOpen, IsClosed}
+use Rattle.guest_mem.specs.Pages.{numbers, place_of, Rewrites, IsPageTable}
 use Rattle.guest_mem.proofs.CellLemmas.{get-put_all_in, get-put_all_out, get-put_all_none, bytes_for-all, bytes_for-none}
 
 abbrev pub Entries : Type 0
@@ -169,13 +169,6 @@ by_page P at q = subst P (let e : 4096 * (q / 4096) + q % 4096 ≡ q = omega ari
 -- a page in the place of another with its number
 pub numbers-set : (ps : List Page) (i : ℕ) (p : Page) → p.number ≡ get_or (numbers ps) i 0 → numbers (set ps i p) ≡ numbers ps
 numbers-set ps i p same = map-set (λ (x : Page). x.number) ps i p ∙ ap (λ (x : ℕ). set (numbers ps) i x) same ∙ set-get_or (numbers ps) i 0
-
--- a page with other bytes from an offset on
-pub record Rewrites (old new : Page) (o : ℕ) (bytes : List ℕ) : Type 0 where
-  pub rights : new.rights ≡ old.rights
-  pub fits : o + length bytes ≤ 4096
-  pub inside : (k : ℕ) → k < length bytes → get_or new.bytes.items (o + k) 0 ≡ get_or bytes k 0
-  pub outside : (k : ℕ) → (k < o) ⊎ (o + length bytes ≤ k) → get_or new.bytes.items k 0 ≡ get_or old.bytes.items k 0
 
 same_cell : (b c : ℕ) (r s : Rights) → b ≡ c → r ≡ s → ◌≡◌ {A = Option Cell} (Some (record { byte = b; rights = r })) (Some (record { byte = c; rights = s }))
 same_cell b c r s e f = cc
@@ -350,3 +343,28 @@ pub within-none : (right : Right) (ps : List Page) (a k : ℕ) → 0 < k → pla
 within-none right ps a k some is =
     bytes_for-none right (cells_of ps) k a 0 some
     (subst (λ (x : ℕ). byte_for right (cells_of ps) x ≡ None) (let e : 4096 * (a / 4096) + a % 4096 ≡ a + 0 = omega arith in e) (byte_for-none right ps (a / 4096) (a % 4096) (omega arith) is))
+
+-- a write within the page that holds an address
+numbered : (ps : List Page) (n i : ℕ) (d : Page) → place_of (numbers ps) n ≡ Some i → (get_or ps i d).number ≡ n
+numbered ps n i d is =
+    let found : (i < length (numbers ps)) × (get_or (numbers ps) i 0 ≡ n) = place_of-in (numbers ps) n i is in
+    let below : i < length ps = omega (arith, found.0, length-map ps (λ (p : Page). p.number)) in
+    sym (get_or-map (λ (p : Page). p.number) ps i d 0 below) ∙ found.1
+
+pub numbers-put : (ps : List Page) (n i o : ℕ) (bytes : List ℕ) (new d : Page) → place_of (numbers ps) n ≡ Some i → Rewrites (get_or ps i d) new o bytes → numbers (set ps i new) ≡ numbers ps
+numbers-put ps n i o bytes new d is writes = numbers-set ps i new (writes.number ∙ numbered ps n i d is ∙ sym (place_of-in (numbers ps) n i is).1)
+
+pub cells_of-put : (ps : List Page) (a i : ℕ) (bytes : List ℕ) (new d : Page) → place_of (numbers ps) (a / 4096) ≡ Some i → Rewrites (get_or ps i d) new (a % 4096) bytes → cells_of (set ps i new) ≡ put_all (cells_of ps) a bytes
+cells_of-put ps a i bytes new d is writes =
+    subst (λ (x : ℕ). cells_of (set ps i new) ≡ put_all (cells_of ps) x bytes) (let e : 4096 * (a / 4096) + a % 4096 ≡ a = omega arith in e)
+    (cells_of-set ps i (a / 4096) (a % 4096) bytes new d is (writes.number ∙ numbered ps (a / 4096) i d is) writes)
+
+-- no page lies at or past 2^32
+numbers_below : (ps : List Page) (n : ℕ) → 2 ^ 20 ≤ n → place_of (numbers ps) n ≡ None
+numbers_below [] n l = refl
+numbers_below (p ∷ ps) n l = let low : p.number < 2 ^ 20 = p.in_range in place_of-nowhere p.number (numbers ps) n (λ same. omega arith) (numbers_below ps n l)
+
+pub byte_for-past : (right : Right) (ps : List Page) (a : ℕ) → 2 ^ 32 ≤ a → byte_for right (cells_of ps) a ≡ None
+byte_for-past right ps a l =
+    subst (λ (x : ℕ). byte_for right (cells_of ps) x ≡ None) (let e : 4096 * (a / 4096) + a % 4096 ≡ a = omega arith in e)
+    (byte_for-none right ps (a / 4096) (a % 4096) (omega arith) (numbers_below ps (a / 4096) (omega arith)))

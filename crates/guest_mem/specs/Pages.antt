@@ -1,11 +1,8 @@
 -- How a list of pages stands for cells, and what is found in it.
-use Rattle.std.specs.Prelude.{◌≡◌, ℕ, ◌+◌, ◌-◌, ◌*◌, ◌^◌, ◌<◌, ◌≤◌, List, [], ◌∷◌, map, length, take, drop, if◌then◌else◌, ◌==◌, slice_index, Some, None, Option}
+use Rattle.std.specs.Prelude.{◌≡◌, ℕ, ◌+◌, ◌-◌, ◌*◌, ◌^◌, ◌<◌, ◌≤◌, ◌⊎◌, List, [], ◌∷◌, map, length, take, drop, if◌then◌else◌, ◌==◌, slice_index, Some, None, Option}
 use Rattle.std.specs.Option.{option_map}
 use Rattle.std.specs.List.{range_with_len}
-use Rattle.elf_load.specs.Cells.{Cells}
 use Rattle.elf_load.specs.declared.page.Page.{Page}
-use Rattle.guest_mem.specs.declared.right.Right.{Right}
-use Rattle.guest_mem.specs.Memory.{byte_for}
 
 abbrev pub numbers : List Page → List ℕ
 numbers pages = map (λ p. p.number) pages
@@ -24,10 +21,10 @@ pub record IsPageTable (found : ℕ → Option ℕ) (ns : List ℕ) (fixed heap 
   pub apart : (n : ℕ) → heap ≤ n → n < 0xBF000 → place_of (take fixed ns) n ≡ None
   pub bounded : heap + (length ns - fixed) ≤ 0xBF000
 
--- each address of page n is mapped with the right, and these are its bytes
-abbrev pub IsOpen : Right → Cells → ℕ → List ℕ → Type 0
-IsOpen right cells n bytes = (o : ℕ) → o < 4096 → byte_for right cells (4096 * n + o) ≡ Some (slice_index bytes o)
-
--- no address of page n is mapped with the right
-abbrev pub IsClosed : Right → Cells → ℕ → Type 0
-IsClosed right cells n = (o : ℕ) → o < 4096 → byte_for right cells (4096 * n + o) ≡ None
+-- a page with other bytes from an offset on
+pub record Rewrites (old new : Page) (o : ℕ) (bytes : List ℕ) : Type 0 where
+  pub number : new.number ≡ old.number
+  pub rights : new.rights ≡ old.rights
+  pub fits : o + length bytes ≤ 4096
+  pub inside : (k : ℕ) → k < length bytes → slice_index new.bytes.items (o + k) ≡ slice_index bytes k
+  pub outside : (k : ℕ) → (k < o) ⊎ (o + length bytes ≤ k) → slice_index new.bytes.items k ≡ slice_index old.bytes.items k
