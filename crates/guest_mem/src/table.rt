@@ -1,10 +1,11 @@
 //! The pages of a guest.
 
-ghost use Rattle.std.specs.Prelude.{◌≡◌, ◌+◌, ◌-◌, ◌/◌, ◌%◌, ◌^◌, ◌<◌, ◌≤◌, Some, None, MatchOption, IfSome, IsSome, OnOk, OnErr, is_some, length, min, vec_len};
+ghost use Rattle.std.specs.Prelude.{◌≡◌, ◌+◌, ◌-◌, ◌/◌, ◌%◌, ◌^◌, ◌<◌, ◌≤◌, Some, None, MatchOption, MatchResult, IfSome, IsSome, OnOk, OnErr, is_some, length, min, vec_len};
 ghost use Rattle.std.specs.Bool.{OnTrue};
+ghost use Rattle.std.specs.Option.{option_map};
 ghost use Rattle.std.proofs.Props.{props};
 ghost use Rattle.elf_load.specs.Cells.{cells_of};
-ghost use Rattle.guest_mem.specs.Memory.{bytes_for, put_all};
+ghost use Rattle.guest_mem.specs.Memory.{bytes_for, number, put_all};
 ghost use Rattle.guest_mem.specs.PageIndex.{place_in};
 ghost use Rattle.guest_mem.specs.Pages.{IsPageTable, Rewrites, numbers, place_of};
 
@@ -175,6 +176,91 @@ impl PageTable {
             done += count;
         }
         Ok(())
+    }
+
+    /// The byte at `at`, where it is mapped with the right.
+    #[inline]
+    pub fn byte(&self, right: Right, at: u32) -> Result<u8, Bad>
+        ensures {
+            MatchResult result
+            (λ value. option_map number (bytes_for right 1 (cells_of self.now.pages.items) at) ≡ Some value)
+            (λ _. option_map number (bytes_for right 1 (cells_of self.now.pages.items) at) ≡ None)
+        }
+    {
+        match self.within(right, at, 1) {
+            Some(bytes) => Ok(bytes[0]),
+            None => Err(Bad),
+        }
+    }
+
+    /// The little-endian number in the 2 bytes from `at` on, where each is mapped with the right.
+    #[inline]
+    pub fn half(&self, right: Right, at: u32) -> Result<u16, Bad>
+        ensures {
+            MatchResult result
+            (λ value. option_map number (bytes_for right 2 (cells_of self.now.pages.items) at) ≡ Some value)
+            (λ _. option_map number (bytes_for right 2 (cells_of self.now.pages.items) at) ≡ None)
+        }
+    {
+        if at % PAGE_SIZE > PAGE_SIZE - 2 {
+            let mut bytes = [0; 2];
+            return match self.copy_out(right, at, &mut bytes) {
+                Ok(()) => Ok(u16::from_le_bytes(bytes)),
+                Err(Bad) => Err(Bad),
+            };
+        }
+        match self.within(right, at, 2) {
+            Some(bytes) => Ok(u16::from_le_bytes([bytes[0], bytes[1]])),
+            None => Err(Bad),
+        }
+    }
+
+    /// The little-endian number in the 4 bytes from `at` on, where each is mapped with the right.
+    #[inline]
+    pub fn word(&self, right: Right, at: u32) -> Result<u32, Bad>
+        ensures {
+            MatchResult result
+            (λ value. option_map number (bytes_for right 4 (cells_of self.now.pages.items) at) ≡ Some value)
+            (λ _. option_map number (bytes_for right 4 (cells_of self.now.pages.items) at) ≡ None)
+        }
+    {
+        if at % PAGE_SIZE > PAGE_SIZE - 4 {
+            let mut bytes = [0; 4];
+            return match self.copy_out(right, at, &mut bytes) {
+                Ok(()) => Ok(u32::from_le_bytes(bytes)),
+                Err(Bad) => Err(Bad),
+            };
+        }
+        match self.within(right, at, 4) {
+            Some(bytes) => Ok(u32::from_le_bytes([bytes[0], bytes[1], bytes[2], bytes[3]])),
+            None => Err(Bad),
+        }
+    }
+
+    /// Puts `bytes` at `at`, in one page or over several, where each address may be written.
+    #[inline]
+    pub fn put(&mut self, at: u32, bytes: &[u8]) -> Result<(), Bad>
+        requires some { 0 < length bytes.now }
+        ensures put {
+            OnOk result
+            (cells_of self.new.pages.items ≡ put_all (cells_of self.old.pages.items) at bytes.now)
+        }
+        ensures may {
+            OnOk result
+            (IsSome (bytes_for Right.Write (length bytes.now) (cells_of self.old.pages.items) at))
+        }
+        ensures bad {
+            OnErr result
+            (bytes_for Right.Write (length bytes.now) (cells_of self.old.pages.items) at ≡ None)
+        }
+        ensures unchanged { OnErr result (self.new ≡ self.old) }
+        ensures kept { IsSameShape self.old self.new }
+    {
+        if bytes.len() <= (PAGE_SIZE - at % PAGE_SIZE) as usize {
+            self.put_within(at, bytes)
+        } else {
+            self.copy_in(at, bytes)
+        }
     }
 }
 
