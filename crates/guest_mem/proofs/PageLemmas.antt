@@ -15,7 +15,7 @@ use Rattle.elf_load.specs.declared.rights.Rights.{Rights}
 use Rattle.elf_load.specs.declared.page.Page.{Page}
 use Rattle.guest_mem.specs.declared.right.Right.{Right}
 use Rattle.guest_mem.specs.Memory.{permits, permitted, byte_for, bytes_for, put_all}
-use Rattle.guest_mem.specs.Pages.{numbers, place_of, Rewrites, IsPageTable}
+use Rattle.guest_mem.specs.Pages.{cell_in, numbers, place_of, Rewrites, IsPageTable}
 use Rattle.guest_mem.proofs.CellLemmas.{get-put_all_in, get-put_all_out, get-put_all_none, bytes_for-all, bytes_for-none}
 
 abbrev pub Entries : Type 0
@@ -119,10 +119,6 @@ place_of-in (m ∷ ms) n i is =
 
 pub length-numbers : (pages : Vec Page Global) → length (numbers pages.items) ≡ vec_len pages
 length-numbers pages = omega (arith, length-map pages.items (λ (p : Page). p.number), pages.ok.0)
-
--- the cell of a page at an offset
-abbrev pub cell_in : Page → ℕ → Cell
-cell_in p o = record { byte = get_or p.bytes.items o 0; rights = p.rights }
 
 look-pages_some : (ps : List Page) (n i o : ℕ) (d : Page) → o < 4096 → place_of (numbers ps) n ≡ Some i → look (4096 * n + o) (flat_map cells_of_page ps) ≡ Some (cell_in (get_or ps i d) o)
 look-pages_some [] n i o d l is = cc
@@ -237,7 +233,7 @@ cells_of-set ps i n o bytes new d is numbered writes = same_map nat_cmp_total na
         (told (place_of (numbers ps) m))
 
 -- a list of page numbers behind another
-place_of-append_some : (ms ns : List ℕ) (n i : ℕ) → place_of ms n ≡ Some i → place_of (ms ++ ns) n ≡ Some i
+pub place_of-append_some : (ms ns : List ℕ) (n i : ℕ) → place_of ms n ≡ Some i → place_of (ms ++ ns) n ≡ Some i
 place_of-append_some [] ns n i is = cc
 place_of-append_some (m ∷ ms) ns n i is =
     elim (place_of-step m ms n) [
@@ -248,7 +244,7 @@ place_of-append_some (m ∷ ms) ns n i is =
       ]
     ]
 
-place_of-append_none : (ms ns : List ℕ) (n j : ℕ) → place_of ms n ≡ None → place_of ns n ≡ Some j → place_of (ms ++ ns) n ≡ Some (length ms + j)
+pub place_of-append_none : (ms ns : List ℕ) (n j : ℕ) → place_of ms n ≡ None → place_of ns n ≡ Some j → place_of (ms ++ ns) n ≡ Some (length ms + j)
 place_of-append_none [] ns n j none is = is ∙ ap (λ (x : ℕ). Some x) (let e : j ≡ 0 + j = omega arith in e)
 place_of-append_none (m ∷ ms) ns n j none is =
     elim (place_of-step m ms n) [
@@ -259,7 +255,7 @@ place_of-append_none (m ∷ ms) ns n j none is =
       ]
     ]
 
-place_of-append_nowhere : (ms ns : List ℕ) (n : ℕ) → place_of ms n ≡ None → place_of ns n ≡ None → place_of (ms ++ ns) n ≡ None
+pub place_of-append_nowhere : (ms ns : List ℕ) (n : ℕ) → place_of ms n ≡ None → place_of ns n ≡ None → place_of (ms ++ ns) n ≡ None
 place_of-append_nowhere [] ns n none is = is
 place_of-append_nowhere (m ∷ ms) ns n none is =
     elim (place_of-step m ms n) [
@@ -271,7 +267,7 @@ place_of-append_nowhere (m ∷ ms) ns n none is =
     ]
 
 -- numbers that rise
-place_of-range_in : (a count k : ℕ) → k < count → place_of (range_with_len a count) (a + k) ≡ Some k
+pub place_of-range_in : (a count k : ℕ) → k < count → place_of (range_with_len a count) (a + k) ≡ Some k
 place_of-range_in a zero k l = absurd (omega arith)
 place_of-range_in a (suc count) zero l = place_of-same a (range_with_len (a + 1) count) (a + 0) (omega arith)
 place_of-range_in a (suc count) (suc k) l =
@@ -279,7 +275,7 @@ place_of-range_in a (suc count) (suc k) l =
         subst (λ (x : ℕ). place_of (range_with_len (a + 1) count) x ≡ Some k) (let e : a + 1 + k ≡ a + suc k = omega arith in e) (place_of-range_in (a + 1) count k (omega arith)) in
     place_of-later a (range_with_len (a + 1) count) (a + suc k) k (λ same. omega arith) rest ∙ ap (λ (x : ℕ). Some x) (let e : k + 1 ≡ suc k = omega arith in e)
 
-place_of-range_out : (a count n : ℕ) → (n < a) ⊎ (a + count ≤ n) → place_of (range_with_len a count) n ≡ None
+pub place_of-range_out : (a count n : ℕ) → (n < a) ⊎ (a + count ≤ n) → place_of (range_with_len a count) n ≡ None
 place_of-range_out a zero n out = refl
 place_of-range_out a (suc count) n out =
     let apart : a ≢ n = ⊎_elim (λ l same. omega arith) (λ l same. omega arith) out in
