@@ -1,3 +1,6 @@
 pub mod Break
 pub mod Memory
 pub mod Opening
+pub mod PageIndex
+pub mod PageTable
+pub mod Pages

@@ -28,8 +28,8 @@ permitted right None = None
 permitted right (Some cell) = if permits right cell.rights then Some cell.byte else None
 
 -- the byte at an address that is mapped with the right
-abbrev pub byte_for : Right → Memory → ℕ → Option ℕ
-byte_for right m a = permitted right (map.get m.cells a)
+abbrev pub byte_for : Right → Cells → ℕ → Option ℕ
+byte_for right cells a = permitted right (map.get cells a)
 
 -- a byte before others, where all are there
 abbrev pub with_first : Option ℕ → Option (List ℕ) → Option (List ℕ)
@@ -38,9 +38,12 @@ with_first (Some byte) None = None
 with_first None bytes = None
 
 -- the bytes at the k addresses from a on, where each is mapped with the right
+abbrev pub bytes_for : Right → ℕ → Cells → ℕ → Option (List ℕ)
+bytes_for right zero cells a = Some []
+bytes_for right (suc k) cells a = with_first (byte_for right cells a) (bytes_for right k cells (a + 1))
+
 abbrev pub read : Right → ℕ → Memory → ℕ → Option (List ℕ)
-read right zero m a = Some []
-read right (suc k) m a = with_first (byte_for right m a) (read right k m (a + 1))
+read right k m a = bytes_for right k m.cells a
 
 -- the number that little-endian bytes stand for
 abbrev pub number : List ℕ → ℕ
@@ -56,16 +59,17 @@ abbrev pub with_byte : Cells → ℕ → ℕ → Option Cell → Cells
 with_byte cells a byte None = cells
 with_byte cells a byte (Some cell) = map.insert cells a (record cell { byte = byte })
 
-abbrev pub put : Memory → ℕ → ℕ → Memory
-put m a byte = record m { cells = with_byte m.cells a byte (map.get m.cells a) }
+abbrev pub put : Cells → ℕ → ℕ → Cells
+put cells a byte = with_byte cells a byte (map.get cells a)
 
-abbrev pub put_all : Memory → ℕ → List ℕ → Memory
-put_all m a [] = m
-put_all m a (byte ∷ bytes) = put_all (put m a byte) (a + 1) bytes
+-- the same with bytes from a on
+abbrev pub put_all : Cells → ℕ → List ℕ → Cells
+put_all cells a [] = cells
+put_all cells a (byte ∷ bytes) = put_all (put cells a byte) (a + 1) bytes
 
 -- the memory with these bytes from a on, where each address is mapped with the right to write
 abbrev pub write : Memory → ℕ → List ℕ → Option Memory
-write m a bytes = if is_some (read Write (length bytes) m a) then Some (put_all m a bytes) else None
+write m a bytes = if is_some (read Write (length bytes) m a) then Some (record m { cells = put_all m.cells a bytes }) else None
 
 -- the k low bytes of a number, the lowest first
 abbrev pub low_bytes : ℕ → ℕ → List ℕ

@@ -2,8 +2,10 @@
 #![tactic(auto)]
 
 mod bad;
+mod index;
 mod mem;
 mod right;
+mod table;
 
 pub use bad::Bad;
 pub use mem::Mem;

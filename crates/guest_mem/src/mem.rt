@@ -8,9 +8,10 @@ ghost use Rattle.guest_mem.specs.Opening.{opening};
 use std::alloc::Global;
 use std::marker::Model;
 
-use elf_load::{Image, Page};
+use elf_load::Image;
 use sim_base::NoMemory;
 
+use crate::table::PageTable;
 use crate::{Bad, Right};
 
 /// The memory of a guest.
@@ -20,14 +21,13 @@ use crate::{Bad, Right};
 /// An access of several bytes may stand at any address, and touches all of them or, where it is `Bad`, none.
 #[derive(Drop)]
 pub struct Mem {
-    pages: Vec<Page>,
-    alloc: Global,
+    table: PageTable,
     start: u32,
     end: u32,
 }
 
 impl Model for Mem {
-    ghost use Rattle.std.specs.Prelude.{◌<◌, vec_len};
+    ghost use Rattle.std.specs.Prelude.{vec_len};
     ghost use Rattle.elf_load.specs.Cells.{cells_of};
     ghost use Rattle.guest_mem.specs.Memory.{Memory, memory_code};
 
@@ -36,11 +36,8 @@ impl Model for Mem {
     ghost coded = { memory_code };
 
     ghost view = {
-        λ m. record { cells = cells_of m.pages.items; start = m.start; break = m.end; pages = vec_len m.pages }
+        λ m. record { cells = cells_of m.table.pages.items; start = m.start; break = m.end; pages = vec_len m.table.pages }
     };
-
-    // No memory is made yet.
-    ghost invariant = { λ m. m.start < 0 };
 }
 
 impl Mem {
@@ -62,8 +59,7 @@ impl Mem {
             (λ _. load Right.Read 1 self.now at ≡ None)
         }
     {
-        let _start = self.start;
-        Err(Bad)
+        self.table.byte(Right::Read, at)
     }
 
     /// The number in the 2 bytes from `at` on, low byte first, in pages that may be read.
@@ -74,8 +70,7 @@ impl Mem {
             (λ _. load Right.Read 2 self.now at ≡ None)
         }
     {
-        let _start = self.start;
-        Err(Bad)
+        self.table.half(Right::Read, at)
     }
 
     /// The number in the 4 bytes from `at` on, low byte first, in pages that may be read.
@@ -86,8 +81,7 @@ impl Mem {
             (λ _. load Right.Read 4 self.now at ≡ None)
         }
     {
-        let _start = self.start;
-        Err(Bad)
+        self.table.word(Right::Read, at)
     }
 
     /// The number in the 4 bytes from `at` on, low byte first, in pages that may be executed.
@@ -98,8 +92,7 @@ impl Mem {
             (λ _. load Right.Execute 4 self.now at ≡ None)
         }
     {
-        let _start = self.start;
-        Err(Bad)
+        self.table.word(Right::Execute, at)
     }
 
     /// Puts the 1 byte of `value` at `at`.
@@ -109,8 +102,7 @@ impl Mem {
         ensures bad { OnErr result (store 1 self.old at value ≡ None) }
         ensures unchanged { OnErr result (self.new ≡ self.old) }
     {
-        let _start = self.start;
-        Err(Bad)
+        self.table.put(at, &value.to_le_bytes())
     }
 
     /// Puts the 2 bytes of `value` at `at`, low byte first.
@@ -120,8 +112,7 @@ impl Mem {
         ensures bad { OnErr result (store 2 self.old at value ≡ None) }
         ensures unchanged { OnErr result (self.new ≡ self.old) }
     {
-        let _start = self.start;
-        Err(Bad)
+        self.table.put(at, &value.to_le_bytes())
     }
 
     /// Puts the 4 bytes of `value` at `at`, low byte first.
@@ -131,8 +122,7 @@ impl Mem {
         ensures bad { OnErr result (store 4 self.old at value ≡ None) }
         ensures unchanged { OnErr result (self.new ≡ self.old) }
     {
-        let _start = self.start;
-        Err(Bad)
+        self.table.put(at, &value.to_le_bytes())
     }
 
     /// Writes `bytes` into the guest's memory from `at` on. No bytes can be written anywhere.
@@ -141,8 +131,7 @@ impl Mem {
         ensures bad { OnErr result (write self.old at bytes.now ≡ None) }
         ensures unchanged { OnErr result (self.new ≡ self.old) }
     {
-        let _start = self.start;
-        Err(Bad)
+        self.table.copy_in(at, bytes)
     }
 
     /// Fills `into` from the guest's memory from `at` on. No bytes can be read anywhere.
@@ -151,8 +140,7 @@ impl Mem {
         ensures bad { OnErr result (read Right.Read (length into.old) self.now at ≡ None) }
         ensures unchanged { OnErr result (into.new ≡ into.old) }
     {
-        let _start = self.start;
-        Err(Bad)
+        self.table.copy_out(Right::Read, at, into)
     }
 
     /// Moves the break to `to`, where it may stand there, and answers where it then stands.
@@ -161,7 +149,7 @@ impl Mem {
         ensures answer { IfOk result (λ standing. standing ≡ self.new.break) }
         ensures unchanged { OnErr result (self.new ≡ self.old) }
     {
-        let _start = self.start;
+        let _ = to;
         Err(NoMemory)
     }
 }

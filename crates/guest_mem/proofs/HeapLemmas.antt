@@ -1,0 +1,144 @@
+-- Pages that are mapped and unmapped.
+use Rattle.std.proofs.Common.{◌≡◌, ℕ, zero, suc, ◌+◌, ◌-◌, ◌*◌, ◌/◌, ◌%◌, ◌^◌, ◌<◌, ◌≤◌, ◌≢◌, ◌⊎◌, inl, inr, Bool, true, false, cond, not, ◌&&◌, List, [], ◌∷◌, ◌++◌, length, get_or, take, drop, Option, Some, None, refl, sym, ap, subst, ◌∙◌, arith, ⊎_elim, ltb, leb, Equal}
+use Rattle.std.proofs.lemmas.Bool.{cases_lt, lt-ltb, le-ltb, le-leb}
+use Rattle.std.proofs.lemmas.Bool.Decides.{leb_tells}
+use Rattle.std.proofs.lemmas.List.{length-map, length-append, length-take-le, get_or_append_left, get_or-append-add, get_or-take, map-append, take-map, take-take, take-append-le, drop-append-le, take-append-drop, drop-take}
+use Rattle.std.proofs.lemmas.List.FromFn.{length-range_with_len}
+use Rattle.std.specs.List.{range_with_len}
+use Rattle.std.specs.FinMap as map
+use Rattle.std.specs.FinMap.{get-retain_keys, same_map, nat_cmp-IsAntisymmetric}
+use Rattle.std.specs.Cmp.{nat_cmp_total, ranked}
+use Rattle.std.specs.Ordering.{nat_cmp}
+use Rattle.elf_load.specs.Cells.{Cell, Cells, cells_of}
+use Rattle.elf_load.specs.declared.page.Page.{Page}
+use Rattle.guest_mem.specs.Break.{zero_cell, with_zeros, without}
+use Rattle.guest_mem.specs.Pages.{cell_in, numbers, place_of, AreZeroPages, IsPageTable}
+use Rattle.guest_mem.proofs.CellLemmas.{get-insert_same, get-insert_other}
+use Rattle.guest_mem.proofs.PageLemmas.{told, by_page, place_of-in, place_of-append_some, place_of-append_none, place_of-append_nowhere, place_of-range_in, place_of-range_out, get-cells_of_some, get-cells_of_none}
+
+-- the cells with zeros over a span
+pub get-with_zeros_in : (cells : Cells) (from n q : ℕ) → from ≤ q → q < from + n → map.get (with_zeros cells from n) q ≡ Some zero_cell
+unfolding with_zeros
+get-with_zeros_in cells from zero q above below = absurd (omega arith)
+get-with_zeros_in cells from (suc n) q above below =
+    ⊎_elim (λ (earlier : q < from + n). get-insert_other (with_zeros cells from n) (from + n) zero_cell q (λ same. omega arith) ∙ get-with_zeros_in cells from n q above earlier)
+    (λ (last : from + n ≤ q). subst (λ (x : ℕ). map.get (map.insert (with_zeros cells from n) (from + n) zero_cell) x ≡ Some zero_cell) (let e : from + n ≡ q = omega arith in e) (get-insert_same (with_zeros cells from n) (from + n) zero_cell))
+    (cases_lt q (from + n))
+
+pub get-with_zeros_out : (cells : Cells) (from n q : ℕ) → (q < from) ⊎ (from + n ≤ q) → map.get (with_zeros cells from n) q ≡ map.get cells q
+unfolding with_zeros
+get-with_zeros_out cells from zero q out = refl
+get-with_zeros_out cells from (suc n) q out =
+    get-insert_other (with_zeros cells from n) (from + n) zero_cell q (⊎_elim (λ (l : q < from) same. omega arith) (λ (l : from + suc n ≤ q) same. omega arith) out)
+    ∙ get-with_zeros_out cells from n q (⊎_elim (λ (l : q < from). inl l) (λ (l : from + suc n ≤ q). inr (omega arith)) out)
+
+pub with_zeros-none : (cells : Cells) (from : ℕ) → with_zeros cells from 0 ≡ cells
+unfolding with_zeros
+with_zeros-none cells from = refl
+
+-- the cells without a span
+get-without : (cells : Cells) (from to q : ℕ) → map.get (without cells from to) q ≡ cond (not (leb from q && ltb q to)) (map.get cells q) None
+get-without cells from to q = get-retain_keys cells (λ a. not (leb from a && ltb a to)) q (λ x tie. ap (λ (a : ℕ). not (leb from a && ltb a to)) (sym (ranked q x Equal (sym tie))))
+
+outside_test : (from to q : ℕ) → (q < from) ⊎ (to ≤ q) → not (leb from q && ltb q to) ≡ true
+outside_test from to q out =
+    ⊎_elim (λ (l : q < from). let no : leb from q ≡ false = elim (leb_tells from q) [ inl low ↦ absurd (omega (arith, low.1)) | inr high ↦ high.0 ] in rw no refl)
+    (λ (l : to ≤ q). rw (le-ltb q to l) (elim (leb from q) as (λ (b : Bool). not (b && false) ≡ true) [ true ↦ refl | false ↦ refl ])) out
+
+inside_test : (from to q : ℕ) → from ≤ q → q < to → not (leb from q && ltb q to) ≡ false
+inside_test from to q above below = rw (le-leb from q above, lt-ltb q to below) refl
+
+pub get-without_out : (cells : Cells) (from to q : ℕ) → (q < from) ⊎ (to ≤ q) → map.get (without cells from to) q ≡ map.get cells q
+get-without_out cells from to q out = get-without cells from to q ∙ ap (λ (b : Bool). cond b (map.get cells q) None) (outside_test from to q out)
+
+pub get-without_in : (cells : Cells) (from to q : ℕ) → from ≤ q → q < to → map.get (without cells from to) q ≡ None
+get-without_in cells from to q above below = get-without cells from to q ∙ ap (λ (b : Bool). cond b (map.get cells q) None) (inside_test from to q above below)
+
+pub without-none : (cells : Cells) (from to : ℕ) → to ≤ from → without cells from to ≡ cells
+without-none cells from to l = same_map nat_cmp_total nat_cmp-IsAntisymmetric _ _ (λ q. get-without_out cells from to q (⊎_elim (λ (below : q < from). inl below) (λ (above : from ≤ q). inr (omega arith)) (cases_lt q from)))
+
+-- pages of zeros behind others
+pub range-append : (a m n : ℕ) → range_with_len a m ++ range_with_len (a + m) n ≡ range_with_len a (m + n)
+range-append a zero n = let at : a + 0 ≡ a = omega arith in let all : 0 + n ≡ n = omega arith in rw (at, all) refl
+range-append a (suc m) n = let at : a + suc m ≡ a + 1 + m = omega arith in let all : suc m + n ≡ suc (m + n) = omega arith in rw (at, all) (ap (λ (xs : List ℕ). a ∷ xs) (range-append (a + 1) m n))
+
+pub take-range : (a m n : ℕ) → m ≤ n → take m (range_with_len a n) ≡ range_with_len a m
+take-range a zero n l = refl
+take-range a (suc m) zero l = absurd (omega arith)
+take-range a (suc m) (suc n) l = ap (λ (xs : List ℕ). a ∷ xs) (take-range (a + 1) m n (omega arith))
+
+numbers-append : (ps qs : List Page) → numbers (ps ++ qs) ≡ numbers ps ++ numbers qs
+numbers-append ps qs = map-append (λ (p : Page). p.number) ps qs
+
+pub cells_of-grown : (ps fresh : List Page) (first count : ℕ) (d : Page) → AreZeroPages fresh first count → ((n : ℕ) → first ≤ n → n < first + count → place_of (numbers ps) n ≡ None)
+  → cells_of (ps ++ fresh) ≡ with_zeros (cells_of ps) (4096 * first) (4096 * count)
+cells_of-grown ps fresh first count d zeros apart =
+    same_map nat_cmp_total nat_cmp-IsAntisymmetric _ _ (by_page (λ q. map.get (cells_of (ps ++ fresh)) q ≡ map.get (with_zeros (cells_of ps) (4096 * first) (4096 * count)) q) each)
+  where
+    all : numbers (ps ++ fresh) ≡ numbers ps ++ range_with_len first count
+    all = numbers-append ps fresh ∙ ap (λ (ns : List ℕ). numbers ps ++ ns) zeros.numbered
+    placed : (n : ℕ) (o : Option ℕ) → place_of (numbers ps ++ range_with_len first count) n ≡ o → place_of (numbers (ps ++ fresh)) n ≡ o
+    placed n o is = ap (λ (ns : List ℕ). place_of ns n) all ∙ is
+    new_page : (n o : ℕ) → o < 4096 → first ≤ n → n < first + count → map.get (cells_of (ps ++ fresh)) (4096 * n + o) ≡ map.get (with_zeros (cells_of ps) (4096 * first) (4096 * count)) (4096 * n + o)
+    new_page n o l above below =
+        let k : ℕ = n - first in
+        let at : first + k ≡ n = omega arith in
+        let found : place_of (range_with_len first count) n ≡ Some k = subst (λ (x : ℕ). place_of (range_with_len first count) x ≡ Some k) at (place_of-range_in first count k (omega arith)) in
+        let there : place_of (numbers (ps ++ fresh)) n ≡ Some (length (numbers ps) + k) = placed n _ (place_of-append_none (numbers ps) (range_with_len first count) n k (apart n above below) found) in
+        let page : get_or (ps ++ fresh) (length (numbers ps) + k) d ≡ get_or fresh k d = ap (λ (x : ℕ). get_or (ps ++ fresh) (x + k) d) (length-map ps (λ (p : Page). p.number)) ∙ get_or-append-add ps fresh k d in
+        get-cells_of_some (ps ++ fresh) n (length (numbers ps) + k) o d l there ∙ ap (λ (p : Page). Some (cell_in p o)) page ∙ ap (λ (c : Cell). Some c) (zeros.zero k o d (omega arith) l)
+        ∙ sym (get-with_zeros_in (cells_of ps) (4096 * first) (4096 * count) (4096 * n + o) (omega arith) (omega arith))
+    old_page : (n o : ℕ) → o < 4096 → (n < first) ⊎ (first + count ≤ n) → map.get (cells_of (ps ++ fresh)) (4096 * n + o) ≡ map.get (with_zeros (cells_of ps) (4096 * first) (4096 * count)) (4096 * n + o)
+    old_page n o l out =
+        let same : map.get (with_zeros (cells_of ps) (4096 * first) (4096 * count)) (4096 * n + o) ≡ map.get (cells_of ps) (4096 * n + o) =
+            get-with_zeros_out (cells_of ps) (4096 * first) (4096 * count) (4096 * n + o) (⊎_elim (λ (h : n < first). inl (omega arith)) (λ (h : first + count ≤ n). inr (omega arith)) out) in
+        ⊎_elim (λ (none : place_of (numbers ps) n ≡ None).
+            get-cells_of_none (ps ++ fresh) n o l (placed n None (place_of-append_nowhere (numbers ps) (range_with_len first count) n none (place_of-range_out first count n out)))
+            ∙ sym (same ∙ get-cells_of_none ps n o l none))
+        (λ (some : (j : ℕ) × (place_of (numbers ps) n ≡ Some j)).
+            let below : some.0 < length ps = omega (arith, (place_of-in (numbers ps) n some.0 some.1).0, length-map ps (λ (p : Page). p.number)) in
+            get-cells_of_some (ps ++ fresh) n some.0 o d l (placed n (Some some.0) (place_of-append_some (numbers ps) (range_with_len first count) n some.0 some.1))
+            ∙ ap (λ (p : Page). Some (cell_in p o)) (get_or_append_left ps fresh d some.0 below)
+            ∙ sym (same ∙ get-cells_of_some ps n some.0 o d l some.1))
+        (told (place_of (numbers ps) n))
+    each : (n o : ℕ) → o < 4096 → map.get (cells_of (ps ++ fresh)) (4096 * n + o) ≡ map.get (with_zeros (cells_of ps) (4096 * first) (4096 * count)) (4096 * n + o)
+    each n o l =
+        ⊎_elim (λ (below : n < first). old_page n o l (inl below))
+        (λ (above : first ≤ n). ⊎_elim (λ (within : n < first + count). new_page n o l above within) (λ (past : first + count ≤ n). old_page n o l (inr past)) (cases_lt n (first + count)))
+        (cases_lt n first)
+
+-- a table with pages more at its end
+module _ (found : ℕ → Option ℕ) (ns : List ℕ) (fixed heap : ℕ) (table : IsPageTable found ns fixed heap) where
+  pub place_of-above : (n : ℕ) → heap + (length ns - fixed) ≤ n → n < 0xBF000 → place_of ns n ≡ None
+  place_of-above n above below =
+      let behind : place_of (drop fixed ns) n ≡ None = ap (λ (ms : List ℕ). place_of ms n) table.rising ∙ place_of-range_out heap (length ns - fixed) n (inr above) in
+      subst (λ (ms : List ℕ). place_of ms n ≡ None) (take-append-drop fixed ns) (place_of-append_nowhere (take fixed ns) (drop fixed ns) n (table.apart n (omega arith) below) behind)
+
+  pub table-grown : (count : ℕ) → heap + (length ns - fixed) + count ≤ 0xBF000 → IsPageTable found (ns ++ range_with_len (heap + (length ns - fixed)) count) fixed heap
+  table-grown count bounded =
+      let more : List ℕ = range_with_len (heap + (length ns - fixed)) count in
+      let long : length (ns ++ more) ≡ length ns + count = length-append ns more ∙ ap (λ (x : ℕ). length ns + x) (length-range_with_len (heap + (length ns - fixed)) count) in
+      let fixed_in : fixed ≤ length ns = table.fixed_in in
+      let same : take fixed (ns ++ more) ≡ take fixed ns = take-append-le fixed ns more fixed_in in
+      let heap_len : length ns - fixed + count ≡ length (ns ++ more) - fixed = omega arith in
+      record {
+        fixed_in = omega arith;
+        indexed = λ n l. table.indexed n l ∙ ap (λ (ms : List ℕ). place_of ms n) (sym same);
+        rising = drop-append-le fixed ns more fixed_in ∙ ap (λ (ms : List ℕ). ms ++ more) table.rising ∙ range-append heap (length ns - fixed) count ∙ ap (range_with_len heap) heap_len;
+        apart = λ n above below. ap (λ (ms : List ℕ). place_of ms n) same ∙ table.apart n above below;
+        bounded = omega arith;
+      }
+
+  pub table-shrunk : (k : ℕ) → fixed ≤ k → k ≤ length ns → IsPageTable found (take k ns) fixed heap
+  table-shrunk k above below =
+      let long : length (take k ns) ≡ k = length-take-le k ns below in
+      let same : take fixed (take k ns) ≡ take fixed ns = take-take fixed k ns above in
+      let bounded : heap + (length ns - fixed) ≤ 0xBF000 = table.bounded in
+      record {
+        fixed_in = omega arith;
+        indexed = λ n l. table.indexed n l ∙ ap (λ (ms : List ℕ). place_of ms n) (sym same);
+        rising = rw long (subst (λ (x : ℕ). drop fixed (take x ns) ≡ range_with_len heap (k - fixed)) (let e : fixed + (k - fixed) ≡ k = omega arith in e)
+          (drop-take fixed (k - fixed) ns ∙ ap (take (k - fixed)) table.rising ∙ take-range heap (k - fixed) (length ns - fixed) (omega arith)));
+        apart = λ n above below. ap (λ (ms : List ℕ). place_of ms n) same ∙ table.apart n above below;
+        bounded = omega arith;
+      }
