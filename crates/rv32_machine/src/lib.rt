@@ -9,6 +9,8 @@ mod execution;
 mod instruction;
 mod outcome;
 mod steps;
+#[cfg(test)]
+mod tests;
 mod turns;
 mod word;
 
