@@ -6,6 +6,7 @@ mod index;
 mod mem;
 mod right;
 mod table;
+mod zero_pages;
 
 pub use bad::Bad;
 pub use mem::Mem;
