@@ -1,3 +1,4 @@
+pub mod BreakLemmas
 pub mod CellLemmas
 pub mod HeapLemmas
 pub mod IndexLemmas

@@ -2,6 +2,7 @@
 #![tactic(auto)]
 
 mod bad;
+mod copies;
 mod index;
 mod mem;
 mod right;

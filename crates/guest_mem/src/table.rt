@@ -1,6 +1,6 @@
 //! The pages of a guest.
 
-ghost use Rattle.std.specs.Prelude.{◌≡◌, ◌+◌, ◌-◌, ◌*◌, ◌/◌, ◌%◌, ◌^◌, ◌<◌, ◌≤◌, Some, None, MatchOption, MatchResult, IfSome, IsSome, OnOk, OnErr, is_some, length, min, vec_len};
+ghost use Rattle.std.specs.Prelude.{◌≡◌, ℕ, ◌+◌, ◌-◌, ◌*◌, ◌/◌, ◌%◌, ◌^◌, ◌<◌, ◌≤◌, Some, None, MatchOption, MatchResult, IfOk, IfSome, IsSome, OnOk, OnErr, is_some, length, min, vec_len};
 ghost use Rattle.std.specs.Bool.{OnTrue};
 ghost use Rattle.std.specs.Option.{option_map};
 ghost use Rattle.std.proofs.Props.{props};
@@ -34,6 +34,28 @@ pub(crate) struct PageTable {
 
 impl PageTable {
     ghost use Rattle.guest_mem.specs.PageTable.{IsSameShape};
+
+    /// A table of these pages, whose heap begins at page `heap` and is empty.
+    pub fn new(alloc: Global, pages: Vec<Page>, heap: u32) -> Result<PageTable, AllocError>
+        requires few { vec_len pages ≤ 4096 }
+        requires bounded { heap ≤ 0xBF000 }
+        requires apart {
+            (n : ℕ) → heap ≤ n → n < 0xBF000 → place_of (numbers pages.items) n ≡ None
+        }
+        ensures pages { IfOk result (λ table. table.pages.items ≡ pages.items) }
+        ensures fixed { IfOk result (λ table. table.fixed ≡ vec_len pages) }
+        ensures count { IfOk result (λ table. vec_len table.pages ≡ vec_len pages) }
+        ensures heap { IfOk result (λ table. table.heap ≡ heap) }
+    {
+        let index = PageIndex::of(alloc, &pages)?;
+        let fixed = pages.len();
+        Ok(PageTable {
+            pages,
+            fixed,
+            heap,
+            index,
+        })
+    }
 
     /// The place of the first page with this number.
     #[inline]
