@@ -1,7 +1,7 @@
 -- The cells that a list of pages stands for.
 use Rattle.std.proofs.Common.{◌≡◌, ℕ, zero, suc, ◌+◌, ◌-◌, ◌*◌, ◌/◌, ◌%◌, ◌^◌, ◌<◌, ◌≤◌, ◌≢◌, ◌⊎◌, inl, inr, Bool, true, false, cond, List, [], ◌∷◌, ◌++◌, length, get_or, set, take, drop, Option, Some, None, refl, sym, ap, subst, ◌∙◌, arith, ⊎_elim, eq-eqb, eqb, vec_len, Global}
 use Rattle.std.specs.declared.vec.Vec.{Vec}
-use Rattle.std.proofs.lemmas.List.{map-set, set-get_or, get_or-set_same, get_or-set_other, length-map, take-append-drop, length-take-le, length-drop, get_or-take, get_or-drop, get_or-map}
+use Rattle.std.proofs.lemmas.List.{map-set, set-get_or, get_or-set_same, get_or-set_other, length-map, take-append-drop, length-take-le, length-drop, get_or-take, get_or-drop, get_or-map, take_more, map-append}
 use Rattle.std.proofs.lemmas.Bool.{ne_eqb, cases_eq, cases_lt}
 use Rattle.std.specs.Option.{option_map}
 use Rattle.std.specs.List.{flat_map, range_with_len}
@@ -364,3 +364,36 @@ pub byte_for-past : (right : Right) (ps : List Page) (a : ℕ) → 2 ^ 32 ≤ a 
 byte_for-past right ps a l =
     subst (λ (x : ℕ). byte_for right (cells_of ps) x ≡ None) (let e : 4096 * (a / 4096) + a % 4096 ≡ a = omega arith in e)
     (byte_for-none right ps (a / 4096) (a % 4096) (omega arith) (numbers_below ps (a / 4096) (omega arith)))
+
+-- one page number behind others
+one_other : (m n : ℕ) → n ≢ m → place_of (m ∷ []) n ≡ None
+one_other m n ne = place_of-nowhere m [] n (λ same. ne (sym same)) refl
+
+pub pushed_known : (ms : List ℕ) (m j : ℕ) → place_of ms m ≡ Some j → (n : ℕ) → place_of (ms ++ m ∷ []) n ≡ place_of ms n
+pushed_known ms m j is n =
+    ⊎_elim (λ (none : place_of ms n ≡ None).
+        let ne : n ≢ m = λ (same : n ≡ m). (let at : place_of ms m ≡ None = subst (λ (x : ℕ). place_of ms x ≡ None) same none in cc) in
+        place_of-append_nowhere ms (m ∷ []) n none (one_other m n ne) ∙ sym none)
+    (λ (some : (k : ℕ) × (place_of ms n ≡ Some k)). place_of-append_some ms (m ∷ []) n some.0 some.1 ∙ sym some.1)
+    (told (place_of ms n))
+
+pub pushed_new : (ms : List ℕ) (m : ℕ) → place_of ms m ≡ None → (n : ℕ) → place_of (ms ++ m ∷ []) n ≡ cond (eqb n m) (Some (length ms)) (place_of ms n)
+pushed_new ms m none n =
+    ⊎_elim (λ (same : n ≡ m).
+        place_of-append_none ms (m ∷ []) n 0 (subst (λ (x : ℕ). place_of ms x ≡ None) (sym same) none) (place_of-same m [] n (sym same))
+        ∙ ap (λ (x : ℕ). Some x) (let e : length ms + 0 ≡ length ms = omega arith in e) ∙ sym (ap (λ (b : Bool). cond b (Some (length ms)) (place_of ms n)) (eq-eqb n m same)))
+    (λ (ne : n ≢ m). behind ne ∙ sym (ap (λ (b : Bool). cond b (Some (length ms)) (place_of ms n)) (ne_eqb n m ne)))
+    (cases_eq n m)
+  where
+    behind : n ≢ m → place_of (ms ++ m ∷ []) n ≡ place_of ms n
+    behind ne =
+        ⊎_elim (λ (nowhere : place_of ms n ≡ None). place_of-append_nowhere ms (m ∷ []) n nowhere (one_other m n ne) ∙ sym nowhere)
+        (λ (some : (k : ℕ) × (place_of ms n ≡ Some k)). place_of-append_some ms (m ∷ []) n some.0 some.1 ∙ sym some.1)
+        (told (place_of ms n))
+
+pub numbers-more : (ps : List Page) (i : ℕ) (p : Page) → i < length ps → p ≡ get_or ps i p → numbers (take (i + 1) ps) ≡ numbers (take i ps) ++ p.number ∷ []
+numbers-more ps i p l is =
+    ap numbers (take_more ps i p l) ∙ map-append (λ (q : Page). q.number) (take i ps) (get_or ps i p ∷ []) ∙ ap (λ (q : Page). numbers (take i ps) ++ q.number ∷ []) (sym is)
+
+pub length-numbers_so_far : (ps : List Page) (i : ℕ) → i ≤ length ps → length (numbers (take i ps)) ≡ i
+length-numbers_so_far ps i l = length-map (take i ps) (λ (p : Page). p.number) ∙ length-take-le i ps l

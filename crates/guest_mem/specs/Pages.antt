@@ -4,7 +4,7 @@ use Rattle.std.specs.Option.{option_map}
 use Rattle.std.specs.List.{range_with_len}
 use Rattle.elf_load.specs.Cells.{Cell}
 use Rattle.elf_load.specs.declared.page.Page.{Page}
-use Rattle.guest_mem.specs.Break.{zero_cell}
+use Rattle.guest_mem.specs.Break.{zero_cell, pages_to}
 
 abbrev pub numbers : List Page → List ℕ
 numbers pages = map (λ p. p.number) pages
@@ -39,3 +39,11 @@ pub record Rewrites (old new : Page) (o : ℕ) (bytes : List ℕ) : Type 0 where
   pub fits : o + length bytes ≤ 4096
   pub inside : (k : ℕ) → k < length bytes → slice_index new.bytes.items (o + k) ≡ slice_index bytes k
   pub outside : (k : ℕ) → (k < o) ⊎ (o + length bytes ≤ k) → slice_index new.bytes.items k ≡ slice_index old.bytes.items k
+
+-- how a table's pages are those that a memory counts: the heap's reach from its start to the break
+pub record IsLaidOut (count fixed heap start break : ℕ) : Type 0 where
+  pub begins : heap ≡ pages_to start
+  pub ordered : start ≤ break
+  pub counted : count ≡ fixed + (pages_to break - heap)
+  pub low : pages_to break ≤ 0xBF000
+  pub few : count ≤ 4096

@@ -2,10 +2,12 @@
 #![tactic(auto)]
 
 mod bad;
+mod copies;
 mod index;
 mod mem;
 mod right;
 mod table;
+mod zero_pages;
 
 pub use bad::Bad;
 pub use mem::Mem;

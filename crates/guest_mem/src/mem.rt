@@ -2,7 +2,7 @@
 
 ghost use Rattle.std.specs.Prelude.{◌≡◌, Some, None, MatchResult, IfOk, OnOk, OnErr, length};
 ghost use Rattle.guest_mem.specs.Memory.{read, load, write, store};
-ghost use Rattle.guest_mem.specs.Break.{grown};
+ghost use Rattle.guest_mem.specs.Break.{grown, pages_to};
 ghost use Rattle.guest_mem.specs.Opening.{opening};
 
 use std::alloc::Global;
@@ -11,8 +11,20 @@ use std::marker::Model;
 use elf_load::Image;
 use sim_base::NoMemory;
 
+use crate::copies::copies;
 use crate::table::PageTable;
+use crate::zero_pages::zero_pages;
 use crate::{Bad, Right};
+
+/// The number of the first page of the stack, which begins at 0xBFF00000, and how many it has.
+const STACK_FIRST: u32 = 0xBFF00;
+const STACK_PAGES: u32 = 256;
+
+/// The number of the page at 0xBF000000, where the heap ends at the latest.
+const HEAP_LIMIT: u32 = 0xBF000;
+
+/// How many pages may be mapped.
+const PAGE_LIMIT: usize = 4096;
 
 /// The memory of a guest.
 ///
@@ -22,6 +34,7 @@ use crate::{Bad, Right};
 #[derive(Drop)]
 pub struct Mem {
     table: PageTable,
+    alloc: Global,
     start: u32,
     end: u32,
 }
@@ -30,6 +43,7 @@ impl Model for Mem {
     ghost use Rattle.std.specs.Prelude.{vec_len};
     ghost use Rattle.elf_load.specs.Cells.{cells_of};
     ghost use Rattle.guest_mem.specs.Memory.{Memory, memory_code};
+    ghost use Rattle.guest_mem.specs.Pages.{IsLaidOut};
 
     ghost Value = { Memory };
 
@@ -37,6 +51,10 @@ impl Model for Mem {
 
     ghost view = {
         λ m. record { cells = cells_of m.table.pages.items; start = m.start; break = m.end; pages = vec_len m.table.pages }
+    };
+
+    ghost invariant = {
+        λ m. IsLaidOut (vec_len m.table.pages) m.table.fixed m.table.heap m.start m.end
     };
 }
 
@@ -46,9 +64,17 @@ impl Mem {
     pub fn from_image(alloc: Global, image: &Image) -> Result<Mem, NoMemory>
         ensures { IfOk result (λ m. m ≡ opening image.now) }
     {
-        let _ = alloc;
-        let _ = image;
-        Err(NoMemory)
+        let mut pages = copies(alloc, image.pages())?;
+        let mut stack = zero_pages(alloc, STACK_FIRST, STACK_PAGES)?;
+        pages.append(&mut stack)?;
+        let start = image.start();
+        let table = PageTable::new(alloc, pages, pages_to(start))?;
+        Ok(Mem {
+            table,
+            alloc,
+            start,
+            end: start,
+        })
     }
 
     /// The byte at `at`, in a page that may be read.
@@ -149,7 +175,28 @@ impl Mem {
         ensures answer { IfOk result (λ standing. standing ≡ self.new.break) }
         ensures unchanged { OnErr result (self.new ≡ self.old) }
     {
-        let _ = to;
-        Err(NoMemory)
+        let standing = pages_to(self.end);
+        let wanted = pages_to(to);
+        if to < self.start || wanted > HEAP_LIMIT {
+            return Ok(self.end);
+        }
+        if wanted <= standing {
+            self.table.shrink(standing - wanted);
+        } else {
+            let more = wanted - standing;
+            if self.table.pages.len() + more as usize > PAGE_LIMIT {
+                return Ok(self.end);
+            }
+            self.table.grow(self.alloc, more)?;
+        }
+        self.end = to;
+        Ok(to)
     }
+}
+
+/// How many pages lie below an address, the last one perhaps in part.
+fn pages_to(at: u32) -> u32
+    ensures { result ≡ pages_to at }
+{
+    ((u64::from(at) + 4095) / 4096) as u32
 }

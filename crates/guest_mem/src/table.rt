@@ -1,19 +1,23 @@
 //! The pages of a guest.
 
-ghost use Rattle.std.specs.Prelude.{◌≡◌, ◌+◌, ◌-◌, ◌/◌, ◌%◌, ◌^◌, ◌<◌, ◌≤◌, Some, None, MatchOption, MatchResult, IfSome, IsSome, OnOk, OnErr, is_some, length, min, vec_len};
+ghost use Rattle.std.specs.Prelude.{◌≡◌, ℕ, ◌+◌, ◌-◌, ◌*◌, ◌/◌, ◌%◌, ◌^◌, ◌<◌, ◌≤◌, Some, None, MatchOption, MatchResult, IfOk, IfSome, IsSome, OnOk, OnErr, is_some, length, min, vec_len};
 ghost use Rattle.std.specs.Bool.{OnTrue};
 ghost use Rattle.std.specs.Option.{option_map};
 ghost use Rattle.std.proofs.Props.{props};
 ghost use Rattle.elf_load.specs.Cells.{cells_of};
 ghost use Rattle.guest_mem.specs.Memory.{bytes_for, number, put_all};
+ghost use Rattle.guest_mem.specs.Break.{with_zeros, without};
 ghost use Rattle.guest_mem.specs.PageIndex.{place_in};
 ghost use Rattle.guest_mem.specs.Pages.{IsPageTable, Rewrites, numbers, place_of};
+
+use std::alloc::{AllocError, Global};
 
 use elf_load::Page;
 
 use crate::Bad;
 use crate::index::PageIndex;
 use crate::right::Right;
+use crate::zero_pages::zero_pages;
 
 const PAGE_SIZE: u32 = 4096;
 
@@ -30,6 +34,28 @@ pub(crate) struct PageTable {
 
 impl PageTable {
     ghost use Rattle.guest_mem.specs.PageTable.{IsSameShape};
+
+    /// A table of these pages, whose heap begins at page `heap` and is empty.
+    pub fn new(alloc: Global, pages: Vec<Page>, heap: u32) -> Result<PageTable, AllocError>
+        requires few { vec_len pages ≤ 4096 }
+        requires bounded { heap ≤ 0xBF000 }
+        requires apart {
+            (n : ℕ) → heap ≤ n → n < 0xBF000 → place_of (numbers pages.items) n ≡ None
+        }
+        ensures pages { IfOk result (λ table. table.pages.items ≡ pages.items) }
+        ensures fixed { IfOk result (λ table. table.fixed ≡ vec_len pages) }
+        ensures count { IfOk result (λ table. vec_len table.pages ≡ vec_len pages) }
+        ensures heap { IfOk result (λ table. table.heap ≡ heap) }
+    {
+        let index = PageIndex::of(alloc, &pages)?;
+        let fixed = pages.len();
+        Ok(PageTable {
+            pages,
+            fixed,
+            heap,
+            index,
+        })
+    }
 
     /// The place of the first page with this number.
     #[inline]
@@ -261,6 +287,41 @@ impl PageTable {
         } else {
             self.copy_in(at, bytes)
         }
+    }
+
+    /// Maps `count` pages of zeros behind those of the heap. Where memory is wanting, nothing changes.
+    pub fn grow(&mut self, alloc: Global, count: u32) -> Result<(), AllocError>
+        requires { self.old.heap + (vec_len self.old.pages - self.old.fixed) + count ≤ 0xBF000 }
+        ensures mapped {
+            let end = self.old.heap + (vec_len self.old.pages - self.old.fixed) in
+            OnOk result
+            (cells_of self.new.pages.items
+                ≡ with_zeros (cells_of self.old.pages.items) (4096 * end) (4096 * count))
+        }
+        ensures more { OnOk result (vec_len self.new.pages ≡ vec_len self.old.pages + count) }
+        ensures unchanged { OnErr result (self.new.pages.items ≡ self.old.pages.items) }
+        ensures same_heap { self.new.heap ≡ self.old.heap }
+        ensures same_fixed { self.new.fixed ≡ self.old.fixed }
+    {
+        let end = self.heap + (self.pages.len() - self.fixed) as u32;
+        let mut fresh = zero_pages(alloc, end, count)?;
+        self.pages.append(&mut fresh)?;
+        Ok(())
+    }
+
+    /// Unmaps the last `count` pages of the heap.
+    pub fn shrink(&mut self, count: u32)
+        requires { count ≤ vec_len self.old.pages - self.old.fixed }
+        ensures unmapped {
+            let end = self.old.heap + (vec_len self.old.pages - self.old.fixed) in
+            cells_of self.new.pages.items
+            ≡ without (cells_of self.old.pages.items) (4096 * (end - count)) (4096 * end)
+        }
+        ensures fewer { vec_len self.new.pages ≡ vec_len self.old.pages - count }
+        ensures same_heap { self.new.heap ≡ self.old.heap }
+        ensures same_fixed { self.new.fixed ≡ self.old.fixed }
+    {
+        self.pages.truncate(self.pages.len() - count as usize);
     }
 }
 
