@@ -107,10 +107,10 @@ first_fault-some ((false, g) ∷ cs) ds f some = first_fault-some cs ds f some
 
 pub IsSound_empty : (bytes : List ℕ) (layout : Layout) → layout.segments.items ≡ [] → layout.pages.items ≡ [] → vec_len layout.pages ≡ 0 → IsSound bytes layout
 IsSound_empty bytes layout no_segments no_pages size = record {
-    placed = rw no_segments (All-nil (IsPlaced bytes));
-    pages = rw (no_segments, no_pages) IsListOf_none;
-    few = omega arith
-  }
+  placed = rw no_segments (All-nil (IsPlaced bytes));
+  pages = rw (no_segments, no_pages) IsListOf_none;
+  few = omega arith;
+}
 
 -- the program headers of a file, one after another
 abbrev header_at : List ℕ → ℕ → ProgramHeader

@@ -63,22 +63,22 @@ laid_at page bytes ys s address begin end to k from n whole in_file begins ends 
     let size : length ys ≡ k = ap length ys_are ∙ length-take-le n (drop from bytes) (omega (arith, length-drop from bytes)) ∙ omega arith in
     elim (cases_lt offset to) [
       | inl below ↦ put_below page ys to k room size offset below ∙ sym (elim (cases_lt (address + offset) s.address) [
-          | inl before ↦ byte_before bytes s (address + offset) (get_or page offset 0) before
-          | inr not_before ↦ absurd (omega arith)
-        ])
+        | inl before ↦ byte_before bytes s (address + offset) (get_or page offset 0) before
+        | inr not_before ↦ absurd (omega arith)
+      ])
       | inr at ↦ elim (cases_lt offset (to + k)) [
-          | inl inside ↦
-              let place : from + (offset - to) ≡ s.offset + (address + offset - s.address) = omega arith in
-              put_within page ys to k room size offset at inside
-              ∙ ap (λ zs. get_or zs (offset - to) 0) ys_are
-              ∙ get_or-take n (drop from bytes) (offset - to) 0 (omega arith)
-              ∙ get_or-drop from bytes (offset - to) 0
-              ∙ ap (λ j. get_or bytes j 0) place
-              ∙ sym (byte_inside bytes s (address + offset) (get_or page offset 0) in_file (omega arith) (omega arith))
-          | inr above ↦
-              put_above page ys to k room size offset above
-              ∙ sym (byte_behind bytes s (address + offset) (get_or page offset 0) (omega arith) (omega arith))
-        ]
+        | inl inside ↦
+            let place : from + (offset - to) ≡ s.offset + (address + offset - s.address) = omega arith in
+            put_within page ys to k room size offset at inside
+            ∙ ap (λ zs. get_or zs (offset - to) 0) ys_are
+            ∙ get_or-take n (drop from bytes) (offset - to) 0 (omega arith)
+            ∙ get_or-drop from bytes (offset - to) 0
+            ∙ ap (λ j. get_or bytes j 0) place
+            ∙ sym (byte_inside bytes s (address + offset) (get_or page offset 0) in_file (omega arith) (omega arith))
+        | inr above ↦
+            put_above page ys to k room size offset above
+            ∙ sym (byte_behind bytes s (address + offset) (get_or page offset 0) (omega arith) (omega arith))
+      ]
     ]
 
 -- the bytes of a page after one segment more

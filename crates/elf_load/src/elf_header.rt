@@ -36,9 +36,13 @@ impl ElfHeader {
     pub const SIZE: usize = 52;
 
     const MAGIC: [u8; 4] = [0x7F, b'E', b'L', b'F'];
+
     const CLASS_32: u8 = 1;
+
     const LITTLE_ENDIAN: u8 = 1;
+
     const EXECUTABLE: u16 = 2;
+
     const RISC_V: u16 = 243;
 
     /// `EF_RISCV_RVC`, `EF_RISCV_FLOAT_ABI` and `EF_RISCV_RVE`

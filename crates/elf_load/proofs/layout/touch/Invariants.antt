@@ -6,6 +6,6 @@ use Rattle.elf_load.proofs.layout.touch.Given as goal
 
 abbrev pub invariant-loop-page : goal.invariant-loop-page
 invariant-loop-page l = record {
-    listed : IsListOf l.pages.items (l.initial.pages.items ++ range_with_len (first_page l.segment) (l.page - first_page l.segment));
-    few : vec_len l.pages ≤ 3840
-  }
+  listed : IsListOf l.pages.items (l.initial.pages.items ++ range_with_len (first_page l.segment) (l.page - first_page l.segment));
+  few : vec_len l.pages ≤ 3840;
+}
