@@ -3,7 +3,7 @@ use Rattle.std.proofs.Common.{◌≡◌, ◌⊎◌, ◌≢◌, ℕ, zero, suc, �
 use Rattle.std.specs.Prelude.{◌==◌, flat_map}
 use Rattle.std.specs.Ordering.{nat_cmp, eq_by_cmp}
 use Rattle.std.specs.List.{list_any, range_with_len}
-use Rattle.std.specs.FinMap.{from_entries, find, same_map, get-from_entries}
+use Rattle.std.specs.FinMap.{from_entries, get, find, same_map, get-from_entries}
 use Rattle.std.specs.FinSet.{items, contains, contains-items, nat_cmp-IsAntisymmetric}
 use Rattle.std.proofs.lemmas.Bool.{cases_lt, ne_eqb, eq-eqb}
 use Rattle.std.proofs.lemmas.Bool.Decides.{eqb_tells}
@@ -78,3 +78,11 @@ module _ (bytes : List ℕ) (ss : List ProgramHeader) where
       same_test : (q : ℕ) → list_any (λ n. n == q / 4096) numbers ≡ list_any (λ n. n == q / 4096) (items (touched_pages ss))
       same_test q =
           sym (contains-set_of numbers (q / 4096)) ∙ ap (λ s. contains s (q / 4096)) listed.same ∙ contains-items (touched_pages ss) (q / 4096) ∙ any_same (items (touched_pages ss)) (q / 4096)
+
+  -- the law of an image's cells: an address has one exactly where it lies on a touched page
+  pub get-cells_of_segments : (q : ℕ) → get (cells_of_segments bytes ss) q ≡ cond (contains (touched_pages ss) (q / 4096)) (Some (cell_at bytes ss q)) None
+  unfolding cells_of_segments
+  get-cells_of_segments q =
+      get-from_entries nat_cmp_total (flat_map (cells_on bytes ss) (items (touched_pages ss))) q
+      ∙ find-cells (items (touched_pages ss)) q
+      ∙ ap (λ b. cond b (Some (cell_at bytes ss q)) None) (sym (contains-items (touched_pages ss) (q / 4096) ∙ any_same (items (touched_pages ss)) (q / 4096)))
