@@ -1,5 +1,5 @@
 -- The image of a file, from what its parts were found to be.
-use Rattle.std.proofs.Common.{◌≡◌, ℕ, ◌+◌, ◌*◌, ◌≤◌, ◌^◌, ◌<◌, List, [], ◌++◌, length, map, get_or, Option, Some, None, Result, Ok, Err, refl, sym, ap, ◌∙◌, arith}
+use Rattle.std.proofs.Common.{◌≡◌, ℕ, ◌+◌, ◌*◌, ◌≤◌, ◌<◌, List, [], length, map, get_or, Some, None, Ok, Err, sym, ap, ◌∙◌, arith}
 use Rattle.std.specs.Prelude.{All, flat_map}
 use Rattle.std.specs.Ordering.{nat_cmp}
 use Rattle.std.specs.FinMap.{from_entries}
@@ -15,7 +15,6 @@ use Rattle.elf_load.specs.Elf.{elf_header, program_headers}
 use Rattle.elf_load.specs.Image.{header_checks, all_program_header_checks, entry_checks, first_fault, cells_on, cells_of_segments, image_of, unless, image, IsRefusal}
 use Rattle.elf_load.specs.Layout.{IsFound, IsListOf}
 use Rattle.elf_load.specs.Pages.{segments, pages_of, touched_pages, highest_end, rounded_up}
-use Rattle.elf_load.specs.ProgramImage.{ProgramImage}
 use Rattle.elf_load.proofs.Checks.{first_fault-none, first_fault-some}
 use Rattle.elf_load.proofs.Lookups.{cells-from_numbers}
 

@@ -1,7 +1,7 @@
 -- What an image has at an address: its cells are the same whether its pages come in the order of the file or of their numbers.
-use Rattle.std.proofs.Common.{◌≡◌, ◌⊎◌, ◌≢◌, ℕ, zero, suc, ◌+◌, ◌-◌, ◌*◌, ◌/◌, ◌<◌, ◌≤◌, Bool, true, false, cond, ◌||◌, List, [], ◌∷◌, ◌++◌, map, Option, Some, None, refl, sym, ap, ◌∙◌, arith, inl, inr}
+use Rattle.std.proofs.Common.{◌≡◌, ◌⊎◌, ◌≢◌, ℕ, zero, suc, ◌+◌, ◌*◌, ◌/◌, ◌<◌, ◌≤◌, cond, ◌||◌, List, [], ◌∷◌, ◌++◌, map, Some, None, refl, sym, ap, ◌∙◌, arith, inl, inr}
 use Rattle.std.specs.Prelude.{◌==◌, flat_map}
-use Rattle.std.specs.Ordering.{nat_cmp, eq_by_cmp}
+use Rattle.std.specs.Ordering.{nat_cmp}
 use Rattle.std.specs.List.{list_any, range_with_len}
 use Rattle.std.specs.FinMap.{from_entries, get, find, same_map, get-from_entries}
 use Rattle.std.specs.FinSet.{items, contains, contains-items, nat_cmp-IsAntisymmetric}
@@ -9,11 +9,11 @@ use Rattle.std.proofs.lemmas.Bool.{cases_lt, ne_eqb, eq-eqb}
 use Rattle.std.proofs.lemmas.Bool.Decides.{eqb_tells}
 use Rattle.std.proofs.lemmas.Cmp.{nat_cmp_total}
 use Rattle.elf_load.specs.declared.program_header.ProgramHeader.{ProgramHeader}
-use Rattle.elf_load.specs.Cells.{Cell, Cells}
+use Rattle.elf_load.specs.Cells.{Cell}
 use Rattle.elf_load.specs.Image.{cell_at, cells_on, cells_of_segments}
 use Rattle.elf_load.specs.Layout.{IsListOf}
 use Rattle.elf_load.specs.Pages.{pages_of, touched_pages}
-use Rattle.elf_load.proofs.Numbers.{set_of, eq_by_cmp-is, contains-set_of, any_same}
+use Rattle.elf_load.proofs.Numbers.{eq_by_cmp-is, contains-set_of, any_same}
 
 module _ (f : ℕ → Cell) (q : ℕ) (rest : List (ℕ × Cell)) where
   abbrev row : ℕ → ℕ → List (ℕ × Cell)

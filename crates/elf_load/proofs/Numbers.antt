@@ -4,7 +4,7 @@ use Rattle.std.specs.Prelude.{◌==◌}
 use Rattle.std.specs.Ordering.{nat_cmp, eq_by_cmp}
 use Rattle.std.specs.Cmp.{unsigned_tied}
 use Rattle.std.specs.List.{list_any}
-use Rattle.std.specs.FinSet.{FinSet, from_list, insert, contains, len, same_set, nat_cmp-IsAntisymmetric, contains-from_list, contains-insert, from_list_push, len-empty, len-insert}
+use Rattle.std.specs.FinSet.{FinSet, from_list, insert, contains, len, same_set, nat_cmp-IsAntisymmetric, contains-from_list, from_list_push, len-empty, len-insert}
 use Rattle.std.proofs.lemmas.Bool.{eqb-true}
 use Rattle.std.proofs.lemmas.Cmp.{nat_cmp_total, eq_by_cmp_equiv}
 use Rattle.std.proofs.lemmas.List.{append-nil}

@@ -1,4 +1,4 @@
-use Rattle.std.proofs.Common.{◌≡◌, ◌+◌, ◌-◌, ◌<◌, ◌∙◌, min, max, List, ℕ, get_or, arith, ap, take, drop, sym, refl}
+use Rattle.std.proofs.Common.{◌≡◌, ◌+◌, ◌-◌, ◌<◌, min, max, arith, refl}
 use Rattle.elf_load.proofs.Laying.{laid_at}
 use Rattle.elf_load.proofs.build.lay.Goals as goal
 

@@ -1,4 +1,4 @@
-use Rattle.std.proofs.Common.{◌≡◌, ◌≤◌, ◌++◌, ◌-◌, vec_len}
+use Rattle.std.proofs.Common.{◌≤◌, ◌++◌, ◌-◌, vec_len}
 use Rattle.std.specs.List.{range_with_len}
 use Rattle.elf_load.specs.Pages.{first_page}
 use Rattle.elf_load.specs.Layout.{IsListOf}
