@@ -16,15 +16,15 @@ same_memory c d s t b e p q h i j k = cc
 
 -- no page of an image and of the stack lies where the heap grows
 pub apart_at_start : (image copies stack now : List Page) (start first count n : ℕ) → now ≡ copies ++ stack → numbers copies ≡ numbers image → All (λ p. 4096 * p.number + 4096 ≤ start) image → AreZeroPages stack first count
-  → start ≤ 4096 * n → n < first → place_of (numbers now) n ≡ None
+    → start ≤ 4096 * n → n < first → place_of (numbers now) n ≡ None
 apart_at_start image copies stack now start first count n is same low zeros above below =
     ap (λ (ps : List Page). place_of (numbers ps) n) is ∙ ap (λ (ns : List ℕ). place_of ns n) (numbers-append copies stack)
     ∙ place_of-append_nowhere (numbers copies) (numbers stack) n
-      (ap (λ (ns : List ℕ). place_of ns n) same ∙ below_start image start n low above)
-      (ap (λ (ns : List ℕ). place_of ns n) zeros.numbered ∙ place_of-range_out first count n (inl below))
+    (ap (λ (ns : List ℕ). place_of ns n) same ∙ below_start image start n low above)
+    (ap (λ (ns : List ℕ). place_of ns n) zeros.numbered ∙ place_of-range_out first count n (inl below))
 
 pub cells_at_start : (image copies stack : List Page) (start first count : ℕ) → cells_of copies ≡ cells_of image → numbers copies ≡ numbers image → All (λ p. 4096 * p.number + 4096 ≤ start) image → AreZeroPages stack first count
-  → start ≤ 4096 * first → cells_of (copies ++ stack) ≡ with_zeros (cells_of image) (4096 * first) (4096 * count)
+    → start ≤ 4096 * first → cells_of (copies ++ stack) ≡ with_zeros (cells_of image) (4096 * first) (4096 * count)
 cells_at_start image copies stack start first count cells same low zeros above =
     cells_of-grown copies stack first count zeros (λ n past within. ap (λ (ns : List ℕ). place_of ns n) same ∙ below_start image start n low (omega arith))
     ∙ ap (λ (c : Cells). with_zeros c (4096 * first) (4096 * count)) cells
@@ -41,7 +41,7 @@ grown-moved m to is = ap (λ (b : Bool). cond b (moved m to) m) is
 
 -- the break falls, or stays in its page
 pub moved_down : (m : Memory) (to pages : ℕ) (cells : Cells) → m.start ≤ to → pages_to to ≤ 0xBF000 → pages_with m to ≤ 4096 → pages_to to ≤ pages_to m.break → cells ≡ without m.cells (4096 * pages_to to) (4096 * pages_to m.break) → pages ≡ pages_with m to
-  → record { cells = cells; start = m.start; break = to; pages = pages } ≡ grown m to
+    → record { cells = cells; start = m.start; break = to; pages = pages } ≡ grown m to
 moved_down m to pages cells above low few falls is counted =
     let none : pages_end to - pages_end m.break ≡ 0 = omega arith in
     let left : Cells = without m.cells (pages_end to) (pages_end m.break) in
@@ -49,7 +49,7 @@ moved_down m to pages cells above low few falls is counted =
 
 -- the break rises
 pub moved_up : (m : Memory) (to pages : ℕ) (cells : Cells) → m.start ≤ to → pages_to to ≤ 0xBF000 → pages_with m to ≤ 4096 → pages_to m.break ≤ pages_to to → cells ≡ with_zeros m.cells (4096 * pages_to m.break) (4096 * (pages_to to - pages_to m.break)) → pages ≡ pages_with m to
-  → record { cells = cells; start = m.start; break = to; pages = pages } ≡ grown m to
+    → record { cells = cells; start = m.start; break = to; pages = pages } ≡ grown m to
 moved_up m to pages cells above low few rises is counted =
     let long : 4096 * (pages_to to - pages_to m.break) ≡ pages_end to - pages_end m.break = omega arith in
     let kept : m.cells ≡ without m.cells (pages_end to) (pages_end m.break) = sym (without-none m.cells (pages_end to) (pages_end m.break) (omega arith)) in

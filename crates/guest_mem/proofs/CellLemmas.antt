@@ -20,7 +20,7 @@ bytes_for-all right cells [] a each = refl
 bytes_for-all right cells (b ∷ bs) a each =
     let first : byte_for right cells a ≡ Some b = subst (λ (x : ℕ). byte_for right cells x ≡ Some b) (let e : a + 0 ≡ a = omega arith in e) (each 0 (omega arith)) in
     let others : bytes_for right (length bs) cells (a + 1) ≡ Some bs =
-        bytes_for-all right cells bs (a + 1) (λ o l. subst (λ (x : ℕ). byte_for right cells x ≡ Some (get_or bs o 0)) (let e : a + suc o ≡ a + 1 + o = omega arith in e) (each (suc o) (omega arith))) in
+    bytes_for-all right cells bs (a + 1) (λ o l. subst (λ (x : ℕ). byte_for right cells x ≡ Some (get_or bs o 0)) (let e : a + suc o ≡ a + 1 + o = omega arith in e) (each (suc o) (omega arith))) in
     rw (first, others) refl
 
 -- one address without the right, and nothing is read
@@ -29,7 +29,7 @@ bytes_for-none right cells zero a i l none = absurd (omega arith)
 bytes_for-none right cells (suc k) a zero l none = rw (subst (λ (x : ℕ). byte_for right cells x ≡ None) (let e : a + 0 ≡ a = omega arith in e) none) refl
 bytes_for-none right cells (suc k) a (suc i) l none =
     let others : bytes_for right k cells (a + 1) ≡ None =
-        bytes_for-none right cells k (a + 1) i (omega arith) (subst (λ (x : ℕ). byte_for right cells x ≡ None) (let e : a + suc i ≡ a + 1 + i = omega arith in e) none) in
+    bytes_for-none right cells k (a + 1) i (omega arith) (subst (λ (x : ℕ). byte_for right cells x ≡ None) (let e : a + suc i ≡ a + 1 + i = omega arith in e) none) in
     rw others (elim (byte_for right cells a) as (λ b. with_first b None ≡ None) [ None ↦ refl | Some b ↦ refl ])
 
 -- one list after another, where both are there
@@ -86,9 +86,9 @@ get-put_same cells a byte cell is =
 pub get-put_none : (cells : Cells) (a byte q : ℕ) → map.get cells q ≡ None → map.get (put cells a byte) q ≡ None
 get-put_none cells a byte q none =
     ⊎_elim (λ (same : q ≡ a). let here : map.get cells a ≡ None = subst (λ (x : ℕ). map.get cells x ≡ None) same none in
-            ap (λ (was : Option Cell). map.get (with_byte cells a byte was) q) here ∙ none)
-        (λ apart. get-put_other cells a byte q apart ∙ none)
-        (cases_eq q a)
+    ap (λ (was : Option Cell). map.get (with_byte cells a byte was) q) here ∙ none)
+    (λ apart. get-put_other cells a byte q apart ∙ none)
+    (cases_eq q a)
 
 -- the cell at an address after a write of bytes
 pub get-put_all_out : (cells : Cells) (a : ℕ) (bytes : List ℕ) (q : ℕ) → (q < a) ⊎ (a + length bytes ≤ q) → map.get (put_all cells a bytes) q ≡ map.get cells q
@@ -104,14 +104,14 @@ get-put_all_in cells a (b ∷ bs) zero cell l is =
     let here : a + 0 ≡ a = omega arith in
     let was : map.get cells a ≡ Some cell = subst (λ (x : ℕ). map.get cells x ≡ Some cell) here is in
     let now : map.get (put_all (put cells a b) (a + 1) bs) a ≡ Some (record cell { byte = b }) =
-        get-put_all_out (put cells a b) (a + 1) bs a (inl (omega arith)) ∙ get-put_same cells a b cell was in
+    get-put_all_out (put cells a b) (a + 1) bs a (inl (omega arith)) ∙ get-put_same cells a b cell was in
     subst (λ (x : ℕ). map.get (put_all (put cells a b) (a + 1) bs) x ≡ Some (record cell { byte = b })) (sym here) now
 get-put_all_in cells a (b ∷ bs) (suc o) cell l is =
     let there : a + suc o ≡ a + 1 + o = omega arith in
     let was : map.get (put cells a b) (a + 1 + o) ≡ Some cell =
-        get-put_other cells a b (a + 1 + o) (λ same. omega arith) ∙ subst (λ (x : ℕ). map.get cells x ≡ Some cell) there is in
+    get-put_other cells a b (a + 1 + o) (λ same. omega arith) ∙ subst (λ (x : ℕ). map.get cells x ≡ Some cell) there is in
     let now : map.get (put_all (put cells a b) (a + 1) bs) (a + 1 + o) ≡ Some (record cell { byte = get_or bs o 0 }) =
-        get-put_all_in (put cells a b) (a + 1) bs o cell (omega arith) was in
+    get-put_all_in (put cells a b) (a + 1) bs o cell (omega arith) was in
     subst (λ (x : ℕ). map.get (put_all (put cells a b) (a + 1) bs) x ≡ Some (record cell { byte = get_or bs o 0 })) (sym there) now
 
 pub get-put_all_none : (cells : Cells) (a : ℕ) (bytes : List ℕ) (q : ℕ) → map.get cells q ≡ None → map.get (put_all cells a bytes) q ≡ None
@@ -144,22 +144,23 @@ put_all-right : (right : Right) (cells : Cells) (a : ℕ) (bytes : List ℕ) (q 
 put_all-right right cells a bytes q =
     ⊎_elim (λ (none : map.get cells q ≡ None). rw (get-put_all_none cells a bytes q none, none) refl)
     (λ (some : (cell : Cell) × (map.get cells q ≡ Some cell)).
-        ⊎_elim (λ (below : q < a). ap (λ (o : Option Cell). is_some (permitted right o)) (get-put_all_out cells a bytes q (inl below)))
-        (λ (above : a ≤ q).
-            ⊎_elim (λ (within : q < a + length bytes).
-                let o : ℕ = q - a in
-                let at : a + o ≡ q = omega arith in
-                let was : map.get cells (a + o) ≡ Some some.0 = subst (λ (x : ℕ). map.get cells x ≡ Some some.0) (sym at) some.1 in
-                let now : map.get (put_all cells a bytes) (a + o) ≡ Some (record some.0 { byte = get_or bytes o 0 }) = get-put_all_in cells a bytes o some.0 (omega arith) was in
-                subst (λ (x : ℕ). is_some (byte_for right (put_all cells a bytes) x) ≡ is_some (byte_for right cells x)) at
-                (ap (λ (c : Option Cell). is_some (permitted right c)) now ∙ same_right right some.0 (get_or bytes o 0) ∙ sym (ap (λ (c : Option Cell). is_some (permitted right c)) was)))
-            (λ (past : a + length bytes ≤ q). ap (λ (o : Option Cell). is_some (permitted right o)) (get-put_all_out cells a bytes q (inr past)))
-            (cases_lt q (a + length bytes)))
-        (cases_lt q a))
+    ⊎_elim (λ (below : q < a). ap (λ (o : Option Cell). is_some (permitted right o)) (get-put_all_out cells a bytes q (inl below)))
+    (λ (above : a ≤ q).
+    ⊎_elim (λ (within : q < a + length bytes).
+    let o : ℕ = q - a in
+    let at : a + o ≡ q = omega arith in
+    let was : map.get cells (a + o) ≡ Some some.0 = subst (λ (x : ℕ). map.get cells x ≡ Some some.0) (sym at) some.1 in
+    let now : map.get (put_all cells a bytes) (a + o) ≡ Some (record some.0 { byte = get_or bytes o 0 }) = get-put_all_in cells a bytes o some.0 (omega arith) was in
+    subst (λ (x : ℕ). is_some (byte_for right (put_all cells a bytes) x) ≡ is_some (byte_for right cells x)) at
+    (ap (λ (c : Option Cell). is_some (permitted right c)) now ∙ same_right right some.0 (get_or bytes o 0) ∙ sym (ap (λ (c : Option Cell). is_some (permitted right c)) was)))
+    (λ (past : a + length bytes ≤ q). ap (λ (o : Option Cell). is_some (permitted right o)) (get-put_all_out cells a bytes q (inr past)))
+    (cases_lt q (a + length bytes)))
+    (cases_lt q a))
     (told_cell (map.get cells q))
   where
     same_right : (right : Right) (cell : Cell) (byte : ℕ) → is_some (permitted right (Some (record cell { byte = byte }))) ≡ is_some (permitted right (Some cell))
     same_right right cell byte = elim (permits right cell.rights) as (λ (b : Bool). is_some (cond b (Some byte) None) ≡ is_some (cond b (Some cell.byte) None)) [ true ↦ refl | false ↦ refl ]
+
     told_cell : (o : Option Cell) → (o ≡ None) ⊎ ((cell : Cell) × (o ≡ Some cell))
     told_cell None = inl refl
     told_cell (Some cell) = inr (cell, refl)
@@ -190,7 +191,7 @@ part_open right cells a n j k whole l none =
 pub part_open_after : (right : Right) (cells now : Cells) (a n j k : ℕ) (xs : List ℕ) → true ≡ is_some (bytes_for right n cells a) → j + k ≤ n → now ≡ put_all cells a xs → bytes_for right k now (a + j) ≡ None → ⊥
 part_open_after right cells now a n j k xs whole l is none =
     let before : is_some (bytes_for right k cells (a + j)) ≡ false =
-        sym (put_all-open right cells a xs k (a + j)) ∙ ap (λ (c : Cells). is_some (bytes_for right k c (a + j))) (sym is) ∙ ap (λ (o : Option (List ℕ)). is_some o) none in
+    sym (put_all-open right cells a xs k (a + j)) ∙ ap (λ (c : Cells). is_some (bytes_for right k c (a + j))) (sym is) ∙ ap (λ (o : Option (List ℕ)). is_some o) none in
     part_open right cells a n j k whole l (none_from (bytes_for right k cells (a + j)) before)
 
 -- one part of a list written behind another

@@ -84,14 +84,16 @@ a_page [] l = absurd (omega arith)
 a_page (p ∷ ps) l = p
 
 pub cells_of-grown : (ps fresh : List Page) (first count : ℕ) → AreZeroPages fresh first count → ((n : ℕ) → first ≤ n → n < first + count → place_of (numbers ps) n ≡ None)
-  → cells_of (ps ++ fresh) ≡ with_zeros (cells_of ps) (4096 * first) (4096 * count)
+    → cells_of (ps ++ fresh) ≡ with_zeros (cells_of ps) (4096 * first) (4096 * count)
 cells_of-grown ps fresh first count zeros apart =
     same_map nat_cmp_total nat_cmp-IsAntisymmetric _ _ (by_page (λ q. map.get (cells_of (ps ++ fresh)) q ≡ map.get (with_zeros (cells_of ps) (4096 * first) (4096 * count)) q) each)
   where
     all : numbers (ps ++ fresh) ≡ numbers ps ++ range_with_len first count
     all = numbers-append ps fresh ∙ ap (λ (ns : List ℕ). numbers ps ++ ns) zeros.numbered
+
     placed : (n : ℕ) (o : Option ℕ) → place_of (numbers ps ++ range_with_len first count) n ≡ o → place_of (numbers (ps ++ fresh)) n ≡ o
     placed n o is = ap (λ (ns : List ℕ). place_of ns n) all ∙ is
+
     new_page : (n o : ℕ) → o < 4096 → first ≤ n → n < first + count → map.get (cells_of (ps ++ fresh)) (4096 * n + o) ≡ map.get (with_zeros (cells_of ps) (4096 * first) (4096 * count)) (4096 * n + o)
     new_page n o l above below =
         let k : ℕ = n - first in
@@ -102,20 +104,22 @@ cells_of-grown ps fresh first count zeros apart =
         let page : get_or (ps ++ fresh) (length (numbers ps) + k) d ≡ get_or fresh k d = ap (λ (x : ℕ). get_or (ps ++ fresh) (x + k) d) (length-map ps (λ (p : Page). p.number)) ∙ get_or-append-add ps fresh k d in
         get-cells_of_some (ps ++ fresh) n (length (numbers ps) + k) o d l there ∙ ap (λ (p : Page). Some (cell_in p o)) page ∙ ap (λ (c : Cell). Some c) (zeros.zero k o d (omega arith) l)
         ∙ sym (get-with_zeros_in (cells_of ps) (4096 * first) (4096 * count) (4096 * n + o) (omega arith) (omega arith))
+
     old_page : (n o : ℕ) → o < 4096 → (n < first) ⊎ (first + count ≤ n) → map.get (cells_of (ps ++ fresh)) (4096 * n + o) ≡ map.get (with_zeros (cells_of ps) (4096 * first) (4096 * count)) (4096 * n + o)
     old_page n o l out =
         let same : map.get (with_zeros (cells_of ps) (4096 * first) (4096 * count)) (4096 * n + o) ≡ map.get (cells_of ps) (4096 * n + o) =
-            get-with_zeros_out (cells_of ps) (4096 * first) (4096 * count) (4096 * n + o) (⊎_elim (λ (h : n < first). inl (omega arith)) (λ (h : first + count ≤ n). inr (omega arith)) out) in
+        get-with_zeros_out (cells_of ps) (4096 * first) (4096 * count) (4096 * n + o) (⊎_elim (λ (h : n < first). inl (omega arith)) (λ (h : first + count ≤ n). inr (omega arith)) out) in
         ⊎_elim (λ (none : place_of (numbers ps) n ≡ None).
-            get-cells_of_none (ps ++ fresh) n o l (placed n None (place_of-append_nowhere (numbers ps) (range_with_len first count) n none (place_of-range_out first count n out)))
-            ∙ sym (same ∙ get-cells_of_none ps n o l none))
+        get-cells_of_none (ps ++ fresh) n o l (placed n None (place_of-append_nowhere (numbers ps) (range_with_len first count) n none (place_of-range_out first count n out)))
+        ∙ sym (same ∙ get-cells_of_none ps n o l none))
         (λ (some : (j : ℕ) × (place_of (numbers ps) n ≡ Some j)).
-            let below : some.0 < length ps = omega (arith, (place_of-in (numbers ps) n some.0 some.1).0, length-map ps (λ (p : Page). p.number)) in
-            let d : Page = a_page ps (omega arith) in
-            get-cells_of_some (ps ++ fresh) n some.0 o d l (placed n (Some some.0) (place_of-append_some (numbers ps) (range_with_len first count) n some.0 some.1))
-            ∙ ap (λ (p : Page). Some (cell_in p o)) (get_or_append_left ps fresh d some.0 below)
-            ∙ sym (same ∙ get-cells_of_some ps n some.0 o d l some.1))
+        let below : some.0 < length ps = omega (arith, (place_of-in (numbers ps) n some.0 some.1).0, length-map ps (λ (p : Page). p.number)) in
+        let d : Page = a_page ps (omega arith) in
+        get-cells_of_some (ps ++ fresh) n some.0 o d l (placed n (Some some.0) (place_of-append_some (numbers ps) (range_with_len first count) n some.0 some.1))
+        ∙ ap (λ (p : Page). Some (cell_in p o)) (get_or_append_left ps fresh d some.0 below)
+        ∙ sym (same ∙ get-cells_of_some ps n some.0 o d l some.1))
         (told (place_of (numbers ps) n))
+
     each : (n o : ℕ) → o < 4096 → map.get (cells_of (ps ++ fresh)) (4096 * n + o) ≡ map.get (with_zeros (cells_of ps) (4096 * first) (4096 * count)) (4096 * n + o)
     each n o l =
         ⊎_elim (λ (below : n < first). old_page n o l (inl below))
@@ -153,18 +157,18 @@ module _ (found : ℕ → Option ℕ) (ns : List ℕ) (fixed heap : ℕ) (table 
         fixed_in = omega arith;
         indexed = λ n l. table.indexed n l ∙ ap (λ (ms : List ℕ). place_of ms n) (sym same);
         rising = rw long (subst (λ (x : ℕ). drop fixed (take x ns) ≡ range_with_len heap (k - fixed)) (let e : fixed + (k - fixed) ≡ k = omega arith in e)
-          (drop-take fixed (k - fixed) ns ∙ ap (take (k - fixed)) table.rising ∙ take-range heap (k - fixed) (length ns - fixed) (omega arith)));
+            (drop-take fixed (k - fixed) ns ∙ ap (take (k - fixed)) table.rising ∙ take-range heap (k - fixed) (length ns - fixed) (omega arith)));
         apart = λ n above below. ap (λ (ms : List ℕ). place_of ms n) same ∙ table.apart n above below;
         bounded = omega arith;
       }
 
 -- the table after an append that may have been refused
 pub table-after : (found : ℕ → Option ℕ) (ps fresh now : List Page) (fixed heap count : ℕ) (done : Bool) → now ≡ cond done (ps ++ fresh) ps → IsPageTable found (numbers ps) fixed heap
-  → AreZeroPages fresh (heap + (length (numbers ps) - fixed)) count → heap + (length (numbers ps) - fixed) + count ≤ 0xBF000 → IsPageTable found (numbers now) fixed heap
+    → AreZeroPages fresh (heap + (length (numbers ps) - fixed)) count → heap + (length (numbers ps) - fixed) + count ≤ 0xBF000 → IsPageTable found (numbers now) fixed heap
 table-after found ps fresh now fixed heap count false is table zeros bounded = subst (λ (xs : List Page). IsPageTable found (numbers xs) fixed heap) (sym is) table
 table-after found ps fresh now fixed heap count true is table zeros bounded =
     let all : numbers now ≡ numbers ps ++ range_with_len (heap + (length (numbers ps) - fixed)) count =
-        ap numbers is ∙ numbers-append ps fresh ∙ ap (λ (ns : List ℕ). numbers ps ++ ns) zeros.numbered in
+    ap numbers is ∙ numbers-append ps fresh ∙ ap (λ (ns : List ℕ). numbers ps ++ ns) zeros.numbered in
     subst (λ (ns : List ℕ). IsPageTable found ns fixed heap) (sym all) (table-grown found (numbers ps) fixed heap table count bounded)
 
 -- a page of zeros behind others
@@ -176,58 +180,68 @@ zero-pushed ps p first k m zeros long number bytes rights next =
     subst (λ (x : ℕ). AreZeroPages (ps ++ p ∷ []) first x) (sym next) record {
       numbered = numbers-append ps (p ∷ []) ∙ ap (λ (ns : List ℕ). ns ++ p.number ∷ []) zeros.numbered ∙ ap (λ (x : ℕ). range_with_len first k ++ x ∷ []) number ∙ range-append first k 1;
       zero = λ i o d l within.
-        ⊎_elim (λ (earlier : i < k). ap (λ (q : Page). cell_in q o) (get_or_append_left ps (p ∷ []) d i (omega arith)) ∙ zeros.zero i o d earlier within)
-        (λ (last : k ≤ i). ap (λ (q : Page). cell_in q o) (get_or_push ps p d i (omega arith)) ∙ zero_page p o (bytes o) rights)
-        (cases_lt i k);
+          ⊎_elim (λ (earlier : i < k). ap (λ (q : Page). cell_in q o) (get_or_append_left ps (p ∷ []) d i (omega arith)) ∙ zeros.zero i o d earlier within)
+          (λ (last : k ≤ i). ap (λ (q : Page). cell_in q o) (get_or_push ps p d i (omega arith)) ∙ zero_page p o (bytes o) rights)
+          (cases_lt i k);
     }
 
 -- the pages of a table but for its last
 pub cells_of-shrunk : (found : ℕ → Option ℕ) (ps : List Page) (fixed heap k : ℕ) → IsPageTable found (numbers ps) fixed heap → fixed ≤ k → k ≤ length ps
-  → cells_of (take k ps) ≡ without (cells_of ps) (4096 * (heap + (k - fixed))) (4096 * (heap + (length ps - fixed)))
+    → cells_of (take k ps) ≡ without (cells_of ps) (4096 * (heap + (k - fixed))) (4096 * (heap + (length ps - fixed)))
 cells_of-shrunk found ps fixed heap k table above below =
     same_map nat_cmp_total nat_cmp-IsAntisymmetric _ _ (by_page (λ q. map.get (cells_of (take k ps)) q ≡ map.get (without (cells_of ps) from to) q) each)
   where
     ns : List ℕ
     ns = numbers ps
+
     long : length ns ≡ length ps
     long = length-map ps (λ (p : Page). p.number)
+
     from : ℕ
     from = 4096 * (heap + (k - fixed))
+
     to : ℕ
     to = 4096 * (heap + (length ps - fixed))
+
     kept : numbers (take k ps) ≡ take k ns
     kept = sym (take-map (λ (p : Page). p.number) k ps)
+
     kept_long : length (take k ns) ≡ k
     kept_long = length-take-le k ns (omega (arith, long))
+
     smaller : IsPageTable found (take k ns) fixed heap
     smaller = table-shrunk found ns fixed heap table k above (omega (arith, long))
+
     left : drop k ns ≡ range_with_len (heap + (k - fixed)) (length ns - k)
     left =
         let at : fixed + (k - fixed) ≡ k = omega arith in
         let rest : length ns - fixed - (k - fixed) ≡ length ns - k = omega arith in
         ap (λ (x : ℕ). drop x ns) (sym at) ∙ sym (drop-drop (k - fixed) fixed ns) ∙ ap (drop (k - fixed)) table.rising ∙ drop-range heap (k - fixed) (length ns - fixed) ∙ ap (range_with_len (heap + (k - fixed))) rest
+
     unmapped : (n o : ℕ) → o < 4096 → heap + (k - fixed) ≤ n → n < heap + (length ps - fixed) → map.get (cells_of (take k ps)) (4096 * n + o) ≡ map.get (without (cells_of ps) from to) (4096 * n + o)
     unmapped n o l past within =
         let bounded : heap + (length ns - fixed) ≤ 0xBF000 = table.bounded in
         let nowhere : place_of (take k ns) n ≡ None = place_of-above found (take k ns) fixed heap smaller n (omega (arith, kept_long)) (omega (arith, long)) in
         get-cells_of_none (take k ps) n o l (ap (λ (ms : List ℕ). place_of ms n) kept ∙ nowhere) ∙ sym (get-without_in (cells_of ps) from to (4096 * n + o) (omega arith) (omega arith))
+
     stays : (n o : ℕ) → o < 4096 → (n < heap + (k - fixed)) ⊎ (heap + (length ps - fixed) ≤ n) → map.get (cells_of (take k ps)) (4096 * n + o) ≡ map.get (without (cells_of ps) from to) (4096 * n + o)
     stays n o l out =
         let same : map.get (without (cells_of ps) from to) (4096 * n + o) ≡ map.get (cells_of ps) (4096 * n + o) =
-            get-without_out (cells_of ps) from to (4096 * n + o) (⊎_elim (λ (h : n < heap + (k - fixed)). inl (omega arith)) (λ (h : heap + (length ps - fixed) ≤ n). inr (omega arith)) out) in
+        get-without_out (cells_of ps) from to (4096 * n + o) (⊎_elim (λ (h : n < heap + (k - fixed)). inl (omega arith)) (λ (h : heap + (length ps - fixed) ≤ n). inr (omega arith)) out) in
         let behind : place_of (drop k ns) n ≡ None =
-            ap (λ (ms : List ℕ). place_of ms n) left ∙ place_of-range_out (heap + (k - fixed)) (length ns - k) n (⊎_elim (λ (h : n < heap + (k - fixed)). inl h) (λ (h : heap + (length ps - fixed) ≤ n). inr (omega (arith, long))) out) in
+        ap (λ (ms : List ℕ). place_of ms n) left ∙ place_of-range_out (heap + (k - fixed)) (length ns - k) n (⊎_elim (λ (h : n < heap + (k - fixed)). inl h) (λ (h : heap + (length ps - fixed) ≤ n). inr (omega (arith, long))) out) in
         ⊎_elim (λ (none : place_of (take k ns) n ≡ None).
-            let nowhere : place_of ns n ≡ None = subst (λ (ms : List ℕ). place_of ms n ≡ None) (take-append-drop k ns) (place_of-append_nowhere (take k ns) (drop k ns) n none behind) in
-            get-cells_of_none (take k ps) n o l (ap (λ (ms : List ℕ). place_of ms n) kept ∙ none) ∙ sym (same ∙ get-cells_of_none ps n o l nowhere))
+        let nowhere : place_of ns n ≡ None = subst (λ (ms : List ℕ). place_of ms n ≡ None) (take-append-drop k ns) (place_of-append_nowhere (take k ns) (drop k ns) n none behind) in
+        get-cells_of_none (take k ps) n o l (ap (λ (ms : List ℕ). place_of ms n) kept ∙ none) ∙ sym (same ∙ get-cells_of_none ps n o l nowhere))
         (λ (some : (j : ℕ) × (place_of (take k ns) n ≡ Some j)).
-            let early : some.0 < k = omega (arith, (place_of-in (take k ns) n some.0 some.1).0, kept_long) in
-            let d : Page = a_page ps (omega arith) in
-            let there : place_of ns n ≡ Some some.0 = subst (λ (ms : List ℕ). place_of ms n ≡ Some some.0) (take-append-drop k ns) (place_of-append_some (take k ns) (drop k ns) n some.0 some.1) in
-            get-cells_of_some (take k ps) n some.0 o d l (ap (λ (ms : List ℕ). place_of ms n) kept ∙ some.1)
-            ∙ ap (λ (p : Page). Some (cell_in p o)) (get_or-take k ps some.0 d early)
-            ∙ sym (same ∙ get-cells_of_some ps n some.0 o d l there))
+        let early : some.0 < k = omega (arith, (place_of-in (take k ns) n some.0 some.1).0, kept_long) in
+        let d : Page = a_page ps (omega arith) in
+        let there : place_of ns n ≡ Some some.0 = subst (λ (ms : List ℕ). place_of ms n ≡ Some some.0) (take-append-drop k ns) (place_of-append_some (take k ns) (drop k ns) n some.0 some.1) in
+        get-cells_of_some (take k ps) n some.0 o d l (ap (λ (ms : List ℕ). place_of ms n) kept ∙ some.1)
+        ∙ ap (λ (p : Page). Some (cell_in p o)) (get_or-take k ps some.0 d early)
+        ∙ sym (same ∙ get-cells_of_some ps n some.0 o d l there))
         (told (place_of (take k ns) n))
+
     each : (n o : ℕ) → o < 4096 → map.get (cells_of (take k ps)) (4096 * n + o) ≡ map.get (without (cells_of ps) from to) (4096 * n + o)
     each n o l =
         ⊎_elim (λ (below : n < heap + (k - fixed)). stays n o l (inl below))
@@ -252,12 +266,12 @@ pub below_start : (ps : List Page) (start n : ℕ) → All (λ p. 4096 * p.numbe
 below_start ps start n low above =
     ⊎_elim (λ none. none)
     (λ (some : (i : ℕ) × (place_of (numbers ps) n ≡ Some i)).
-        let found : (some.0 < length (numbers ps)) × (get_or (numbers ps) some.0 0 ≡ n) = place_of-in (numbers ps) n some.0 some.1 in
-        let within : some.0 < length ps = omega (arith, found.0, length-map ps (λ (p : Page). p.number)) in
-        let d : Page = a_page ps (omega arith) in
-        let number : get_or (numbers ps) some.0 0 ≡ (get_or ps some.0 d).number = get_or-map (λ (p : Page). p.number) ps some.0 d 0 within in
-        let limit : 4096 * (get_or ps some.0 d).number + 4096 ≤ start = low some.0 d within in
-        absurd (omega (arith, found.1, number)))
+    let found : (some.0 < length (numbers ps)) × (get_or (numbers ps) some.0 0 ≡ n) = place_of-in (numbers ps) n some.0 some.1 in
+    let within : some.0 < length ps = omega (arith, found.0, length-map ps (λ (p : Page). p.number)) in
+    let d : Page = a_page ps (omega arith) in
+    let number : get_or (numbers ps) some.0 0 ≡ (get_or ps some.0 d).number = get_or-map (λ (p : Page). p.number) ps some.0 d 0 within in
+    let limit : 4096 * (get_or ps some.0 d).number + 4096 ≤ start = low some.0 d within in
+    absurd (omega (arith, found.1, number)))
     (told (place_of (numbers ps) n))
 
 -- one page copied behind others

@@ -4,9 +4,8 @@ ghost use Rattle.std.specs.Prelude.{◌≡◌, IfOk, length, vec_len};
 ghost use Rattle.elf_load.specs.Cells.{cells_of};
 ghost use Rattle.guest_mem.specs.Pages.{numbers};
 
-use std::alloc::{AllocError, Global};
-
 use elf_load::Page;
+use std::alloc::{AllocError, Global};
 
 /// A page for each of `pages`, with the same number, rights and bytes.
 pub(crate) fn copies(alloc: Global, pages: &[Page]) -> Result<Vec<Page>, AllocError>

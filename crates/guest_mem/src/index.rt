@@ -2,16 +2,16 @@
 
 ghost use Rattle.std.specs.Prelude.{◌≡◌, ℕ, ◌^◌, ◌<◌, None, Some, IfOk, OnOk, [], length, vec_len, if◌then◌else◌, ◌==◌};
 
+use elf_load::Page;
 use std::alloc::{AllocError, Global};
 use std::mem;
-
-use elf_load::Page;
 
 /// The entry of a page number that no page has.
 const NO_PAGE: u16 = u16::MAX;
 
 /// How many tables there are, and how many entries a table has that is made.
 const TABLES: usize = 1024;
+
 const TABLE_LEN: usize = 1024;
 
 /// The place of each page by its number, below 2^20, in up to 1,024 tables of 1,024 entries, made as needed.
@@ -54,11 +54,9 @@ impl PageIndex {
     fn set(&mut self, alloc: Global, number: u32, place: u16) -> Result<(), AllocError>
         requires in_range { number < 2 ^ 20 }
         requires is_place { place < 65535 }
-        ensures {
-            OnOk result
+        ensures { OnOk result
             ((n : ℕ) → n < 2 ^ 20
-                → place_in self.new n ≡ (if n == number then Some place else place_in self.old n))
-        }
+            → place_in self.new n ≡ (if n == number then Some place else place_in self.old n)) }
     {
         let at = number as usize / TABLE_LEN;
         let mut table = mem::replace(&mut self.tables[at], Vec::new(alloc));

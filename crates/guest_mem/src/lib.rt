@@ -7,6 +7,8 @@ mod index;
 mod mem;
 mod right;
 mod table;
+#[cfg(test)]
+mod tests;
 mod zero_pages;
 
 pub use bad::Bad;

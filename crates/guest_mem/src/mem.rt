@@ -5,19 +5,18 @@ ghost use Rattle.guest_mem.specs.Memory.{read, load, write, store};
 ghost use Rattle.guest_mem.specs.Break.{grown, pages_to};
 ghost use Rattle.guest_mem.specs.Opening.{opening};
 
-use std::alloc::Global;
-use std::marker::Model;
-
-use elf_load::Image;
-use sim_base::NoMemory;
-
 use crate::copies::copies;
 use crate::table::PageTable;
 use crate::zero_pages::zero_pages;
 use crate::{Bad, Right};
+use elf_load::Image;
+use sim_base::NoMemory;
+use std::alloc::Global;
+use std::marker::Model;
 
 /// The number of the first page of the stack, which begins at 0xBFF00000, and how many it has.
 const STACK_FIRST: u32 = 0xBFF00;
+
 const STACK_PAGES: u32 = 256;
 
 /// The number of the page at 0xBF000000, where the heap ends at the latest.
@@ -49,13 +48,9 @@ impl Model for Mem {
 
     ghost coded = { memory_code };
 
-    ghost view = {
-        λ m. record { cells = cells_of m.table.pages.items; start = m.start; break = m.end; pages = vec_len m.table.pages }
-    };
+    ghost view = { λ m. record { cells = cells_of m.table.pages.items; start = m.start; break = m.end; pages = vec_len m.table.pages } };
 
-    ghost invariant = {
-        λ m. IsLaidOut (vec_len m.table.pages) m.table.fixed m.table.heap m.start m.end
-    };
+    ghost invariant = { λ m. IsLaidOut (vec_len m.table.pages) m.table.fixed m.table.heap m.start m.end };
 }
 
 impl Mem {
@@ -80,10 +75,8 @@ impl Mem {
     /// The byte at `at`, in a page that may be read.
     #[inline]
     pub fn load8(&self, at: u32) -> Result<u8, Bad>
-        ensures {
-            MatchResult result (λ value. load Right.Read 1 self.now at ≡ Some value)
-            (λ _. load Right.Read 1 self.now at ≡ None)
-        }
+        ensures { MatchResult result (λ value. load Right.Read 1 self.now at ≡ Some value)
+            (λ _. load Right.Read 1 self.now at ≡ None) }
     {
         self.table.byte(Right::Read, at)
     }
@@ -91,10 +84,8 @@ impl Mem {
     /// The number in the 2 bytes from `at` on, low byte first, in pages that may be read.
     #[inline]
     pub fn load16(&self, at: u32) -> Result<u16, Bad>
-        ensures {
-            MatchResult result (λ value. load Right.Read 2 self.now at ≡ Some value)
-            (λ _. load Right.Read 2 self.now at ≡ None)
-        }
+        ensures { MatchResult result (λ value. load Right.Read 2 self.now at ≡ Some value)
+            (λ _. load Right.Read 2 self.now at ≡ None) }
     {
         self.table.half(Right::Read, at)
     }
@@ -102,10 +93,8 @@ impl Mem {
     /// The number in the 4 bytes from `at` on, low byte first, in pages that may be read.
     #[inline]
     pub fn load32(&self, at: u32) -> Result<u32, Bad>
-        ensures {
-            MatchResult result (λ value. load Right.Read 4 self.now at ≡ Some value)
-            (λ _. load Right.Read 4 self.now at ≡ None)
-        }
+        ensures { MatchResult result (λ value. load Right.Read 4 self.now at ≡ Some value)
+            (λ _. load Right.Read 4 self.now at ≡ None) }
     {
         self.table.word(Right::Read, at)
     }
@@ -113,10 +102,8 @@ impl Mem {
     /// The number in the 4 bytes from `at` on, low byte first, in pages that may be executed.
     #[inline]
     pub fn fetch(&self, at: u32) -> Result<u32, Bad>
-        ensures {
-            MatchResult result (λ value. load Right.Execute 4 self.now at ≡ Some value)
-            (λ _. load Right.Execute 4 self.now at ≡ None)
-        }
+        ensures { MatchResult result (λ value. load Right.Execute 4 self.now at ≡ Some value)
+            (λ _. load Right.Execute 4 self.now at ≡ None) }
     {
         self.table.word(Right::Execute, at)
     }

@@ -10,14 +10,12 @@ ghost use Rattle.guest_mem.specs.Break.{with_zeros, without};
 ghost use Rattle.guest_mem.specs.PageIndex.{place_in};
 ghost use Rattle.guest_mem.specs.Pages.{IsPageTable, Rewrites, numbers, place_of};
 
-use std::alloc::{AllocError, Global};
-
-use elf_load::Page;
-
 use crate::Bad;
 use crate::index::PageIndex;
 use crate::right::Right;
 use crate::zero_pages::zero_pages;
+use elf_load::Page;
+use std::alloc::{AllocError, Global};
 
 const PAGE_SIZE: u32 = 4096;
 
@@ -39,9 +37,7 @@ impl PageTable {
     pub fn new(alloc: Global, pages: Vec<Page>, heap: u32) -> Result<PageTable, AllocError>
         requires few { vec_len pages ≤ 4096 }
         requires bounded { heap ≤ 0xBF000 }
-        requires apart {
-            (n : ℕ) → heap ≤ n → n < 0xBF000 → place_of (numbers pages.items) n ≡ None
-        }
+        requires apart { (n : ℕ) → heap ≤ n → n < 0xBF000 → place_of (numbers pages.items) n ≡ None }
         ensures pages { IfOk result (λ table. table.pages.items ≡ pages.items) }
         ensures fixed { IfOk result (λ table. table.fixed ≡ vec_len pages) }
         ensures count { IfOk result (λ table. vec_len table.pages ≡ vec_len pages) }
@@ -76,10 +72,8 @@ impl PageTable {
     pub fn within(&self, right: Right, at: u32, len: usize) -> Option<&[u8]>
         requires some { 0 < len }
         requires in_page { at % 4096 + len ≤ 4096 }
-        ensures found {
-            MatchOption result (bytes_for right len (cells_of self.now.pages.items) at ≡ None)
-            (λ bytes. bytes_for right len (cells_of self.now.pages.items) at ≡ Some bytes.now)
-        }
+        ensures found { MatchOption result (bytes_for right len (cells_of self.now.pages.items) at ≡ None)
+            (λ bytes. bytes_for right len (cells_of self.now.pages.items) at ≡ Some bytes.now) }
         ensures whole { IfSome result (λ bytes. length bytes.now ≡ len) }
     {
         let place = self.place(at / PAGE_SIZE)?;
@@ -97,18 +91,12 @@ impl PageTable {
     pub fn put_within(&mut self, at: u32, bytes: &[u8]) -> Result<(), Bad>
         requires some { 0 < length bytes.now }
         requires in_page { at % 4096 + length bytes.now ≤ 4096 }
-        ensures put {
-            OnOk result
-            (cells_of self.new.pages.items ≡ put_all (cells_of self.old.pages.items) at bytes.now)
-        }
-        ensures may {
-            OnOk result
-            (IsSome (bytes_for Right.Write (length bytes.now) (cells_of self.old.pages.items) at))
-        }
-        ensures bad {
-            OnErr result
-            (bytes_for Right.Write (length bytes.now) (cells_of self.old.pages.items) at ≡ None)
-        }
+        ensures put { OnOk result
+            (cells_of self.new.pages.items ≡ put_all (cells_of self.old.pages.items) at bytes.now) }
+        ensures may { OnOk result
+            (IsSome (bytes_for Right.Write (length bytes.now) (cells_of self.old.pages.items) at)) }
+        ensures bad { OnErr result
+            (bytes_for Right.Write (length bytes.now) (cells_of self.old.pages.items) at ≡ None) }
         ensures unchanged { OnErr result (self.new ≡ self.old) }
         ensures kept { IsSameShape self.old self.new }
     {
@@ -144,14 +132,10 @@ impl PageTable {
 
     /// Fills `into` with the bytes from `at` on, where each is mapped with the right.
     pub fn copy_out(&self, right: Right, at: u32, into: &mut [u8]) -> Result<(), Bad>
-        ensures ok {
-            OnOk result
-            (bytes_for right (length into.old) (cells_of self.now.pages.items) at ≡ Some into.new)
-        }
-        ensures bad {
-            OnErr result
-            (bytes_for right (length into.old) (cells_of self.now.pages.items) at ≡ None)
-        }
+        ensures ok { OnOk result
+            (bytes_for right (length into.old) (cells_of self.now.pages.items) at ≡ Some into.new) }
+        ensures bad { OnErr result
+            (bytes_for right (length into.old) (cells_of self.now.pages.items) at ≡ None) }
         ensures unchanged { OnErr result (into.new ≡ into.old) }
     {
         let len = into.len();
@@ -173,18 +157,12 @@ impl PageTable {
 
     /// Puts `bytes` at `at`, where each address may be written.
     pub fn copy_in(&mut self, at: u32, bytes: &[u8]) -> Result<(), Bad>
-        ensures put {
-            OnOk result
-            (cells_of self.new.pages.items ≡ put_all (cells_of self.old.pages.items) at bytes.now)
-        }
-        ensures may {
-            OnOk result
-            (IsSome (bytes_for Right.Write (length bytes.now) (cells_of self.old.pages.items) at))
-        }
-        ensures bad {
-            OnErr result
-            (bytes_for Right.Write (length bytes.now) (cells_of self.old.pages.items) at ≡ None)
-        }
+        ensures put { OnOk result
+            (cells_of self.new.pages.items ≡ put_all (cells_of self.old.pages.items) at bytes.now) }
+        ensures may { OnOk result
+            (IsSome (bytes_for Right.Write (length bytes.now) (cells_of self.old.pages.items) at)) }
+        ensures bad { OnErr result
+            (bytes_for Right.Write (length bytes.now) (cells_of self.old.pages.items) at ≡ None) }
         ensures unchanged { OnErr result (self.new ≡ self.old) }
         ensures kept { IsSameShape self.old self.new }
     {
@@ -207,11 +185,9 @@ impl PageTable {
     /// The byte at `at`, where it is mapped with the right.
     #[inline]
     pub fn byte(&self, right: Right, at: u32) -> Result<u8, Bad>
-        ensures {
-            MatchResult result
+        ensures { MatchResult result
             (λ value. option_map number (bytes_for right 1 (cells_of self.now.pages.items) at) ≡ Some value)
-            (λ _. option_map number (bytes_for right 1 (cells_of self.now.pages.items) at) ≡ None)
-        }
+            (λ _. option_map number (bytes_for right 1 (cells_of self.now.pages.items) at) ≡ None) }
     {
         match self.within(right, at, 1) {
             Some(bytes) => Ok(bytes[0]),
@@ -222,11 +198,9 @@ impl PageTable {
     /// The little-endian number in the 2 bytes from `at` on, where each is mapped with the right.
     #[inline]
     pub fn half(&self, right: Right, at: u32) -> Result<u16, Bad>
-        ensures {
-            MatchResult result
+        ensures { MatchResult result
             (λ value. option_map number (bytes_for right 2 (cells_of self.now.pages.items) at) ≡ Some value)
-            (λ _. option_map number (bytes_for right 2 (cells_of self.now.pages.items) at) ≡ None)
-        }
+            (λ _. option_map number (bytes_for right 2 (cells_of self.now.pages.items) at) ≡ None) }
     {
         if at % PAGE_SIZE > PAGE_SIZE - 2 {
             let mut bytes = [0; 2];
@@ -244,11 +218,9 @@ impl PageTable {
     /// The little-endian number in the 4 bytes from `at` on, where each is mapped with the right.
     #[inline]
     pub fn word(&self, right: Right, at: u32) -> Result<u32, Bad>
-        ensures {
-            MatchResult result
+        ensures { MatchResult result
             (λ value. option_map number (bytes_for right 4 (cells_of self.now.pages.items) at) ≡ Some value)
-            (λ _. option_map number (bytes_for right 4 (cells_of self.now.pages.items) at) ≡ None)
-        }
+            (λ _. option_map number (bytes_for right 4 (cells_of self.now.pages.items) at) ≡ None) }
     {
         if at % PAGE_SIZE > PAGE_SIZE - 4 {
             let mut bytes = [0; 4];
@@ -267,18 +239,12 @@ impl PageTable {
     #[inline]
     pub fn put(&mut self, at: u32, bytes: &[u8]) -> Result<(), Bad>
         requires some { 0 < length bytes.now }
-        ensures put {
-            OnOk result
-            (cells_of self.new.pages.items ≡ put_all (cells_of self.old.pages.items) at bytes.now)
-        }
-        ensures may {
-            OnOk result
-            (IsSome (bytes_for Right.Write (length bytes.now) (cells_of self.old.pages.items) at))
-        }
-        ensures bad {
-            OnErr result
-            (bytes_for Right.Write (length bytes.now) (cells_of self.old.pages.items) at ≡ None)
-        }
+        ensures put { OnOk result
+            (cells_of self.new.pages.items ≡ put_all (cells_of self.old.pages.items) at bytes.now) }
+        ensures may { OnOk result
+            (IsSome (bytes_for Right.Write (length bytes.now) (cells_of self.old.pages.items) at)) }
+        ensures bad { OnErr result
+            (bytes_for Right.Write (length bytes.now) (cells_of self.old.pages.items) at ≡ None) }
         ensures unchanged { OnErr result (self.new ≡ self.old) }
         ensures kept { IsSameShape self.old self.new }
     {
@@ -292,12 +258,10 @@ impl PageTable {
     /// Maps `count` pages of zeros behind those of the heap. Where memory is wanting, nothing changes.
     pub fn grow(&mut self, alloc: Global, count: u32) -> Result<(), AllocError>
         requires { self.old.heap + (vec_len self.old.pages - self.old.fixed) + count ≤ 0xBF000 }
-        ensures mapped {
-            let end = self.old.heap + (vec_len self.old.pages - self.old.fixed) in
+        ensures mapped { let end = self.old.heap + (vec_len self.old.pages - self.old.fixed) in
             OnOk result
             (cells_of self.new.pages.items
-                ≡ with_zeros (cells_of self.old.pages.items) (4096 * end) (4096 * count))
-        }
+            ≡ with_zeros (cells_of self.old.pages.items) (4096 * end) (4096 * count)) }
         ensures more { OnOk result (vec_len self.new.pages ≡ vec_len self.old.pages + count) }
         ensures unchanged { OnErr result (self.new.pages.items ≡ self.old.pages.items) }
         ensures same_heap { self.new.heap ≡ self.old.heap }
@@ -312,11 +276,9 @@ impl PageTable {
     /// Unmaps the last `count` pages of the heap.
     pub fn shrink(&mut self, count: u32)
         requires { count ≤ vec_len self.old.pages - self.old.fixed }
-        ensures unmapped {
-            let end = self.old.heap + (vec_len self.old.pages - self.old.fixed) in
+        ensures unmapped { let end = self.old.heap + (vec_len self.old.pages - self.old.fixed) in
             cells_of self.new.pages.items
-            ≡ without (cells_of self.old.pages.items) (4096 * (end - count)) (4096 * end)
-        }
+            ≡ without (cells_of self.old.pages.items) (4096 * (end - count)) (4096 * end) }
         ensures fewer { vec_len self.new.pages ≡ vec_len self.old.pages - count }
         ensures same_heap { self.new.heap ≡ self.old.heap }
         ensures same_fixed { self.new.fixed ≡ self.old.fixed }

@@ -3,9 +3,8 @@
 ghost use Rattle.std.specs.Prelude.{◌≡◌, ℕ, ◌+◌, ◌^◌, ◌<◌, ◌≤◌, IfOk, length, slice_index, vec_len};
 ghost use Rattle.guest_mem.specs.Pages.{AreZeroPages};
 
-use std::alloc::{AllocError, Global};
-
 use elf_load::{Page, Rights};
+use std::alloc::{AllocError, Global};
 
 /// `count` pages of zeros with the rights to read and to write, whose numbers rise from `first` on.
 pub(crate) fn zero_pages(alloc: Global, first: u32, count: u32) -> Result<Vec<Page>, AllocError>

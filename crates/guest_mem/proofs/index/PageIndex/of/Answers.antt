@@ -28,18 +28,18 @@ loop-place-preserved c =
     let low : page.number < 2 ^ 20 = page.in_range in
     let was : place_of ns page.number ≡ c.find.result = sym (c.loop-place.invariant page.number low) ∙ sym c.find.ensures in
     let so_far : (index : PageIndex) → Finds index (ns ++ page.number ∷ []) → Finds index (numbers (take (place + 1) ps)) =
-        λ (index : PageIndex) finds. subst (λ (ms : List ℕ). Finds index ms) (sym all) finds in
+    λ (index : PageIndex) finds. subst (λ (ms : List ℕ). Finds index ms) (sym all) finds in
     elim c.if-is_none.branch [
       | then-is_none+in_ok-set w ↦
-        let none : place_of ns page.number ≡ None = was ∙ nothing c.find.result c.is_none.result c.is_none.ensures w.if-is_none.true in
-        subst (λ (index : PageIndex). Finds index (numbers (take (place + 1) ps))) (sym w.index-is)
-        (so_far w.set.new.self (λ n l.
+          let none : place_of ns page.number ≡ None = was ∙ nothing c.find.result c.is_none.result c.is_none.ensures w.if-is_none.true in
+          subst (λ (index : PageIndex). Finds index (numbers (take (place + 1) ps))) (sym w.index-is)
+          (so_far w.set.new.self (λ n l.
           w.in_ok-set.ensures n l
           ∙ ap (λ (o : Option ℕ). cond (eqb n page.number) (Some place) o) (c.loop-place.invariant n l)
           ∙ ap (λ (x : ℕ). cond (eqb n page.number) (Some x) (place_of ns n)) (sym long)
           ∙ sym (pushed_new ns page.number none n)))
       | else-is_none w ↦
-        let some : (j : ℕ) × (c.find.result ≡ Some j) = something c.find.result c.is_none.result c.is_none.ensures w.if-is_none.false in
-        subst (λ (index : PageIndex). Finds index (numbers (take (place + 1) ps))) (sym w.index-is)
-        (so_far c.loop-place.index (λ n l. c.loop-place.invariant n l ∙ sym (pushed_known ns page.number some.0 (was ∙ some.1) n)))
+          let some : (j : ℕ) × (c.find.result ≡ Some j) = something c.find.result c.is_none.result c.is_none.ensures w.if-is_none.false in
+          subst (λ (index : PageIndex). Finds index (numbers (take (place + 1) ps))) (sym w.index-is)
+          (so_far c.loop-place.index (λ n l. c.loop-place.invariant n l ∙ sym (pushed_known ns page.number some.0 (was ∙ some.1) n)))
     ]

@@ -19,9 +19,9 @@ returns c =
     let old_long : length old.items ≡ vec_len old = omega (arith, old.ok.0) in
     let whole : length tables ≡ 1024 = omega (arith, c.args.self.now.is_whole, c.args.self.now.tables.ok.0) in
     let wrote : (k : ℕ) → k < 1024 → place_kept (entry k table) ≡ cond (eqb k (c.args.number % 1024)) (Some c.args.place) (place_kept (entry k (get_or tables at d))) =
-        λ k l.
-          kept-set old.items filled.items (c.args.number % 1024) c.args.place k long (omega arith) c.requires.is_place l
-            (λ j e in_table in_old. c.in_ok-resize.ensures.by_index.0 j e in_table (omega arith))
-            (λ j e past in_table. c.in_ok-resize.ensures.by_index.1 j e refl (omega arith) in_table)
-          ∙ ap (λ (t : Vec ℕ Global). cond (eqb k (c.args.number % 1024)) (Some c.args.place) (place_kept (entry k t))) taken in
+    λ k l.
+    kept-set old.items filled.items (c.args.number % 1024) c.args.place k long (omega arith) c.requires.is_place l
+    (λ j e in_table in_old. c.in_ok-resize.ensures.by_index.0 j e in_table (omega arith))
+    (λ j e past in_table. c.in_ok-resize.ensures.by_index.1 j e refl (omega arith) in_table)
+    ∙ ap (λ (t : Vec ℕ Global). cond (eqb k (c.args.number % 1024)) (Some c.args.place) (place_kept (entry k t))) taken in
     λ n l. ap (λ (ts : List (Vec ℕ Global)). place_among ts n) (set-set tables at c.replace-table.new.dest table) ∙ place_among-set tables c.args.number c.args.place table d whole c.requires.in_range wrote n l

@@ -25,7 +25,7 @@ loop-done-preserved c =
       within = omega (arith, length-put_mid done count into part fits part_long);
       in_range = omega (arith, length-put_mid done count into part fits part_long, c.loop-done.invariant.in_range);
       read_so_far =
-        bytes_for-append c.args.right cells done count c.args.at (take done into) c.in-Some.bytes.now c.loop-done.invariant.read_so_far c.in-Some.ensures.found
-        ∙ ap (λ (xs : List ℕ). Some (take done into ++ xs)) (sym c.copy_from_slice.ensures.after)
-        ∙ ap (λ (xs : List ℕ). Some xs) (sym (take-put_mid done count into part (done + count) (omega arith) (omega arith)));
+          bytes_for-append c.args.right cells done count c.args.at (take done into) c.in-Some.bytes.now c.loop-done.invariant.read_so_far c.in-Some.ensures.found
+          ∙ ap (λ (xs : List ℕ). Some (take done into ++ xs)) (sym c.copy_from_slice.ensures.after)
+          ∙ ap (λ (xs : List ℕ). Some xs) (sym (take-put_mid done count into part (done + count) (omega arith) (omega arith)));
     }

@@ -10,14 +10,14 @@ returns-then-len-from-clause-value c =
     let a : ℕ = c.args.at in
     let past : 2 ^ 32 - a < c.args.len = omega arith in
     let none : bytes_for c.args.right c.args.len (cells_of c.args.self.now.pages.items) a ≡ None =
-        bytes_for-none c.args.right (cells_of c.args.self.now.pages.items) c.args.len a (2 ^ 32 - a) past (byte_for-past c.args.right c.args.self.now.pages.items (a + (2 ^ 32 - a)) (omega arith)) in
+    bytes_for-none c.args.right (cells_of c.args.self.now.pages.items) c.args.len a (2 ^ 32 - a) past (byte_for-past c.args.right c.args.self.now.pages.items (a + (2 ^ 32 - a)) (omega arith)) in
     rw none refl
 
 pub returns-in_default-clause-value : goal.returns-in_default-clause-value
 returns-in_default-clause-value c =
     let fits : c.loop-done.done + c.len_in_page-count.result ≤ c.args.len = omega arith in
     let none : bytes_for c.args.right c.args.len (cells_of c.args.self.now.pages.items) c.args.at ≡ None =
-        open_stops c.args.right (cells_of c.args.self.now.pages.items) c.loop-done.done c.len_in_page-count.result c.args.len c.args.at c.in_default.ensures.found fits in
+    open_stops c.args.right (cells_of c.args.self.now.pages.items) c.loop-done.done c.len_in_page-count.result c.args.len c.args.at c.in_default.ensures.found fits in
     rw none refl
 
 pub loop-done-preserved : goal.loop-done-preserved

@@ -42,7 +42,7 @@ invariant_of-self c =
     let new : Page = c.overwrite.new.page in
     let found : place_of (numbers ps) (c.args.at / 4096) ≡ Some c.in-Some.place = sym c.in-Some.ensures in
     let writes : Rewrites (get_or ps c.in-Some.place old) new (c.args.at % 4096) c.args.bytes.now =
-        subst (λ (p : Page). Rewrites p new (c.args.at % 4096) c.args.bytes.now) c.index_mut.ensures.value c.overwrite.ensures in
+    subst (λ (p : Page). Rewrites p new (c.args.at % 4096) c.args.bytes.now) c.index_mut.ensures.value c.overwrite.ensures in
     let same : numbers (set ps c.in-Some.place new) ≡ numbers ps = numbers-put ps (c.args.at / 4096) c.in-Some.place (c.args.at % 4096) c.args.bytes.now new old found writes in
     record { sound = subst (λ (ns : List ℕ). IsPageTable (place_in t.index) ns t.fixed t.heap) (sym same) t.sound }
 
@@ -53,7 +53,7 @@ returns-clause-put c =
     let new : Page = c.overwrite.new.page in
     let found : place_of (numbers ps) (c.args.at / 4096) ≡ Some c.in-Some.place = sym c.in-Some.ensures in
     let writes : Rewrites (get_or ps c.in-Some.place old) new (c.args.at % 4096) c.args.bytes.now =
-        subst (λ (p : Page). Rewrites p new (c.args.at % 4096) c.args.bytes.now) c.index_mut.ensures.value c.overwrite.ensures in
+    subst (λ (p : Page). Rewrites p new (c.args.at % 4096) c.args.bytes.now) c.index_mut.ensures.value c.overwrite.ensures in
     cells_of-put ps c.args.at c.in-Some.place c.args.bytes.now new old found writes
 
 pub returns-clause-may : goal.returns-clause-may

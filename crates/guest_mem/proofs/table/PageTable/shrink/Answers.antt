@@ -18,7 +18,7 @@ invariant_of-self c =
     let kept : numbers c.truncate.new.self.items ≡ take k (numbers ps) = ap numbers c.truncate.ensures.items ∙ sym (take-map (λ (p : Page). p.number) k ps) in
     record {
       sound = subst (λ (ns : List ℕ). IsPageTable (place_in t.index) ns t.fixed t.heap) (sym kept)
-        (table-shrunk (place_in t.index) (numbers ps) t.fixed t.heap t.sound k (omega (arith, c.requires, c.len.ensures, length-numbers t.pages)) (omega (arith, c.len.ensures, length-numbers t.pages)))
+          (table-shrunk (place_in t.index) (numbers ps) t.fixed t.heap t.sound k (omega (arith, c.requires, c.len.ensures, length-numbers t.pages)) (omega (arith, c.len.ensures, length-numbers t.pages)));
     }
 
 pub returns-clause-unmapped : goal.returns-clause-unmapped

@@ -28,7 +28,7 @@ returns-then-is_among-clause-found c =
     let long : c.args.at % 4096 + c.args.len - c.args.at % 4096 ≡ c.args.len = omega arith in
     rw (long, c.deref.ensures.value)
     (within-some c.args.right ps c.args.at c.in_ok-place.place c.args.len page c.requires.in_page found may
-     ∙ ap (λ (p : Page). Some (take c.args.len (drop (c.args.at % 4096) p.bytes.items))) (sym here))
+    ∙ ap (λ (p : Page). Some (take c.args.len (drop (c.args.at % 4096) p.bytes.items))) (sym here))
 
 pub returns-else-is_among-clause-found : goal.returns-else-is_among-clause-found
 returns-else-is_among-clause-found c =
