@@ -1,5 +1,5 @@
 -- The memory that a guest starts with, and the memory after the break moves.
-use Rattle.std.proofs.Common.{◌≡◌, ℕ, ◌+◌, ◌-◌, ◌*◌, ◌<◌, ◌≤◌, inl, Bool, true, cond, ◌&&◌, List, ◌++◌, All, Some, None, refl, sym, ap, subst, ◌∙◌, arith}
+use Rattle.std.proofs.Common.{◌≡◌, ℕ, ◌+◌, ◌-◌, ◌*◌, ◌<◌, ◌≤◌, inl, Bool, true, cond, List, ◌++◌, All, None, refl, sym, ap, ◌∙◌, arith}
 use Rattle.std.proofs.lemmas.Bool.{le-leb}
 use Rattle.elf_load.specs.Cells.{Cells, cells_of}
 use Rattle.elf_load.specs.ProgramImage.{ProgramImage}

@@ -1,5 +1,5 @@
 -- What is read of cells, and what they hold after a write.
-use Rattle.std.proofs.Common.{◌≡◌, ℕ, zero, suc, ◌+◌, ◌-◌, ◌*◌, ◌<◌, ◌≤◌, ◌≢◌, ◌⊎◌, inl, inr, Bool, true, false, cond, List, [], ◌∷◌, ◌++◌, length, get_or, take, drop, Option, Some, None, refl, sym, ap, subst, ◌∙◌, arith, is_some, ⊎_elim, eq-eqb}
+use Rattle.std.proofs.Common.{◌≡◌, ℕ, zero, suc, ◌+◌, ◌-◌, ◌<◌, ◌≤◌, ◌≢◌, ◌⊎◌, inl, inr, Bool, true, false, cond, List, [], ◌∷◌, ◌++◌, length, get_or, take, drop, Option, Some, None, refl, sym, ap, subst, ◌∙◌, arith, is_some, ⊎_elim, eq-eqb}
 use Rattle.std.proofs.lemmas.Bool.{ne_eqb, cases_eq, cases_lt}
 use Rattle.std.proofs.lemmas.List.{length-append, length-take-le, length-drop}
 use Rattle.std.proofs.Math.Seq.{take-add}
@@ -7,12 +7,9 @@ use borrow.Rule.Slice.PartMut.{put_mid}
 use Rattle.std.specs.FinMap as map
 use Rattle.std.specs.FinMap.{get-insert}
 use Rattle.std.specs.Cmp.{nat_cmp_total, unsigned_tied}
-use Rattle.std.specs.Ordering.{nat_cmp, eq_by_cmp}
-use Rattle.std.specs.Int.{w16, w32, from_le_bytes}
 use Rattle.elf_load.specs.Cells.{Cell, Cells}
-use Rattle.elf_load.specs.declared.rights.Rights.{Rights}
 use Rattle.guest_mem.specs.declared.right.Right.{Right}
-use Rattle.guest_mem.specs.Memory.{permits, permitted, byte_for, with_first, bytes_for, with_byte, put, put_all, number}
+use Rattle.guest_mem.specs.Memory.{permits, permitted, byte_for, with_first, bytes_for, with_byte, put, put_all}
 
 -- bytes that stand one after another are read together
 pub bytes_for-all : (right : Right) (cells : Cells) (bytes : List ℕ) (a : ℕ) → ((o : ℕ) → o < length bytes → byte_for right cells (a + o) ≡ Some (get_or bytes o 0)) → bytes_for right (length bytes) cells a ≡ Some bytes
@@ -206,18 +203,3 @@ put_more cells now next a j k bytes l front back =
 pub length-put_mid : (a k : ℕ) (xs ys : List ℕ) → a + k ≤ length xs → length ys ≡ k → length (put_mid a k xs ys) ≡ length xs
 length-put_mid a k xs ys l e =
     omega (arith, length-append (take a xs) (ys ++ drop k (drop a xs)), length-append ys (drop k (drop a xs)), length-take-le a xs (omega arith), length-drop k (drop a xs), length-drop a xs)
-
--- the number of bytes, as the standard library reads it
-pub number-2 : (bytes : List ℕ) → length bytes ≡ 2 → number bytes ≡ from_le_bytes w16 bytes
-number-2 [] e = absurd (omega arith)
-number-2 (a ∷ []) e = absurd (omega arith)
-number-2 (a ∷ b ∷ []) e = omega arith
-number-2 (a ∷ b ∷ c ∷ rest) e = absurd (omega arith)
-
-pub number-4 : (bytes : List ℕ) → length bytes ≡ 4 → number bytes ≡ from_le_bytes w32 bytes
-number-4 [] e = absurd (omega arith)
-number-4 (a ∷ []) e = absurd (omega arith)
-number-4 (a ∷ b ∷ []) e = absurd (omega arith)
-number-4 (a ∷ b ∷ c ∷ []) e = absurd (omega arith)
-number-4 (a ∷ b ∷ c ∷ d ∷ []) e = omega arith
-number-4 (a ∷ b ∷ c ∷ d ∷ f ∷ rest) e = absurd (omega arith)

@@ -1,16 +1,14 @@
 -- Pages that are mapped and unmapped.
-use Rattle.std.proofs.Common.{◌≡◌, ℕ, zero, suc, ◌+◌, ◌-◌, ◌*◌, ◌/◌, ◌%◌, ◌^◌, ◌<◌, ◌≤◌, ◌≢◌, ◌⊎◌, inl, inr, Bool, true, false, cond, not, ◌&&◌, List, [], ◌∷◌, ◌++◌, length, get_or, take, drop, Option, Some, None, refl, sym, ap, subst, ◌∙◌, arith, ⊎_elim, ltb, leb, Equal}
+use Rattle.std.proofs.Common.{◌≡◌, ℕ, zero, suc, ◌+◌, ◌-◌, ◌*◌, ◌<◌, ◌≤◌, ◌⊎◌, inl, inr, Bool, true, false, cond, not, ◌&&◌, List, [], ◌∷◌, ◌++◌, length, get_or, take, drop, Option, Some, None, refl, sym, ap, subst, ◌∙◌, arith, ⊎_elim, ltb, leb, Equal}
 use Rattle.std.proofs.lemmas.Bool.{cases_lt, lt-ltb, le-ltb, le-leb}
 use Rattle.std.proofs.lemmas.Bool.Decides.{leb_tells}
-use Rattle.std.proofs.lemmas.List.{length-map, length-append, length-take-le, get_or_append_left, get_or-append-add, get_or-take, map-append, take-map, take-take, take-append-le, drop-append-le, take-append-drop, drop-take, drop-drop, drop_all, take_all, get_or_push, get_or-map}
-use Rattle.std.proofs.lemmas.Grind.{flat_map-append}
+use Rattle.std.proofs.lemmas.List.{length-map, length-append, length-take-le, get_or_append_left, get_or-append-add, get_or-take, map-append, take-map, take-take, take-append-le, drop-append-le, take-append-drop, drop-take, drop-drop, get_or_push, get_or-map}
 use Rattle.std.proofs.lemmas.List.FromFn.{length-range_with_len}
 use Rattle.std.specs.List.{range_with_len, flat_map, All}
 use Rattle.std.specs.FinMap as map
 use Rattle.std.specs.FinMap.{from_entries, get-retain_keys, same_map, nat_cmp-IsAntisymmetric}
 use Rattle.std.specs.Cmp.{nat_cmp_total, ranked}
-use Rattle.std.specs.Ordering.{nat_cmp}
-use Rattle.elf_load.specs.Cells.{Cell, Cells, cells_from, cells_of_page, cells_of}
+use Rattle.elf_load.specs.Cells.{Cell, Cells, cells_of_page, cells_of}
 use Rattle.elf_load.specs.declared.page.Page.{Page}
 use Rattle.elf_load.specs.declared.rights.Rights.{Rights}
 use Rattle.std.specs.List.{slice_index}
@@ -248,19 +246,6 @@ cells_of-shrunk found ps fixed heap k table above below =
         (λ (above : heap + (k - fixed) ≤ n). ⊎_elim (λ (within : n < heap + (length ps - fixed)). unmapped n o l above within) (λ (past : heap + (length ps - fixed) ≤ n). stays n o l (inr past)) (cases_lt n (heap + (length ps - fixed))))
         (cases_lt n (heap + (k - fixed)))
 
--- a table whose heap is empty
-pub table-opened : (found : ℕ → Option ℕ) (ns : List ℕ) (fixed heap : ℕ) → length ns ≡ fixed → heap ≤ 0xBF000 → ((n : ℕ) → n < 2 ^ 20 → found n ≡ place_of ns n) → ((n : ℕ) → heap ≤ n → n < 0xBF000 → place_of ns n ≡ None) → IsPageTable found ns fixed heap
-table-opened found ns fixed heap long low finds apart =
-    let all : take fixed ns ≡ ns = take_all fixed ns (omega arith) in
-    let empty : length ns - fixed ≡ 0 = omega arith in
-    record {
-      fixed_in = omega arith;
-      indexed = λ n l. finds n l ∙ ap (λ (ms : List ℕ). place_of ms n) (sym all);
-      rising = drop_all fixed ns (omega arith) ∙ sym (ap (range_with_len heap) empty);
-      apart = λ n above below. ap (λ (ms : List ℕ). place_of ms n) all ∙ apart n above below;
-      bounded = omega arith;
-    }
-
 -- the pages of an image lie below its first break
 pub below_start : (ps : List Page) (start n : ℕ) → All (λ p. 4096 * p.number + 4096 ≤ start) ps → start ≤ 4096 * n → place_of (numbers ps) n ≡ None
 below_start ps start n low above =
@@ -274,18 +259,7 @@ below_start ps start n low above =
     absurd (omega (arith, found.1, number)))
     (told (place_of (numbers ps) n))
 
--- one page copied behind others
+-- lists of pages with the same entries
 pub cells_of-same : (ps qs : List Page) → flat_map cells_of_page ps ≡ flat_map cells_of_page qs → cells_of ps ≡ cells_of qs
 unfolding cells_of
 cells_of-same ps qs same = ap from_entries same
-
-pub cells-pushed : (ps qs : List Page) (p q : Page) → flat_map cells_of_page ps ≡ flat_map cells_of_page qs → p.number ≡ q.number → p.rights ≡ q.rights → p.bytes.items ≡ q.bytes.items → flat_map cells_of_page (ps ++ p ∷ []) ≡ flat_map cells_of_page (qs ++ q ∷ [])
-cells-pushed ps qs p q same number rights bytes =
-    flat_map-append cells_of_page ps (p ∷ [])
-    ∙ ap (λ es. es ++ (cells_of_page p ++ [])) same
-    ∙ ap (λ es. flat_map cells_of_page qs ++ (es ++ [])) (ap (λ (n : ℕ). cells_from p.rights (4096 * n) p.bytes.items) number ∙ ap (λ (r : Rights). cells_from r (4096 * q.number) p.bytes.items) rights ∙ ap (λ (xs : List ℕ). cells_from q.rights (4096 * q.number) xs) bytes)
-    ∙ sym (flat_map-append cells_of_page qs (q ∷ []))
-
-pub numbers-pushed : (ps qs : List Page) (p q : Page) → numbers ps ≡ numbers qs → p.number ≡ q.number → numbers (ps ++ p ∷ []) ≡ numbers (qs ++ q ∷ [])
-numbers-pushed ps qs p q same number =
-    numbers-append ps (p ∷ []) ∙ ap (λ (ns : List ℕ). ns ++ p.number ∷ []) same ∙ ap (λ (n : ℕ). numbers qs ++ n ∷ []) number ∙ sym (numbers-append qs (q ∷ []))

@@ -1,5 +1,5 @@
 -- What an index of pages says after a change.
-use Rattle.std.proofs.Common.{◌≡◌, ℕ, ◌+◌, ◌*◌, ◌/◌, ◌%◌, ◌^◌, ◌<◌, ◌≤◌, ◌≢◌, ◌⊎◌, inl, inr, Bool, true, false, cond, List, [], ◌∷◌, length, get_or, set, Option, Some, None, All, refl, sym, ap, subst, ◌∙◌, arith, ⊎_elim, eqb, eq-eqb, Global}
+use Rattle.std.proofs.Common.{◌≡◌, ℕ, ◌/◌, ◌%◌, ◌^◌, ◌<◌, ◌≤◌, ◌≢◌, Bool, false, cond, List, [], ◌∷◌, length, get_or, set, Option, Some, None, All, refl, sym, ap, subst, ◌∙◌, arith, ⊎_elim, eqb, eq-eqb, Global}
 use Rattle.std.proofs.lemmas.Bool.{ne_eqb, cases_eq, cases_lt}
 use Rattle.std.proofs.lemmas.List.{get_or-set_same, get_or-set_other, get_or_past, length-set}
 use Rattle.std.proofs.lemmas.Option.{slice_get-get_or, slice_get_past}
@@ -18,8 +18,8 @@ abbrev pub place_among : Tables → ℕ → Option ℕ
 place_among tables n = place_kept (option_and_then (entry (n % 1024)) (slice_get tables (n / 1024)))
 
 -- tables without entries say nothing
-none_in : (tables : Tables) (n : ℕ) → All (λ table. table.items ≡ []) tables → place_among tables n ≡ None
-none_in tables n empty =
+pub place_among-none : (tables : Tables) (n : ℕ) → All (λ table. table.items ≡ []) tables → place_among tables n ≡ None
+place_among-none tables n empty =
     ⊎_elim (λ (l : n / 1024 < length tables).
     let d : Vec ℕ Global = first tables (omega arith) in
     rw (slice_get-get_or tables (n / 1024) d l, empty (n / 1024) d l) refl)
@@ -29,9 +29,6 @@ none_in tables n empty =
     first : (ts : Tables) → 0 < length ts → Vec ℕ Global
     first [] l = absurd (omega arith)
     first (t ∷ ts) l = t
-
-pub place_among-none : (tables : Tables) (n : ℕ) → All (λ table. table.items ≡ []) tables → place_among tables n ≡ None
-place_among-none tables n empty = none_in tables n empty
 
 -- an entry, by the list with 65535 past its end
 abbrev place_meant : ℕ → Option ℕ

@@ -4,3 +4,4 @@ pub mod Opening
 pub mod PageIndex
 pub mod PageTable
 pub mod Pages
+pub mod Vectors

@@ -1,4 +1,4 @@
-use Rattle.std.proofs.Common.{◌≡◌, ℕ, List, take, vec_len}
+use Rattle.std.proofs.Common.{◌≡◌, List, take, vec_len}
 use Rattle.std.specs.List.{flat_map}
 use Rattle.elf_load.specs.Cells.{cells_of_page}
 use Rattle.elf_load.specs.declared.page.Page.{Page}

@@ -1,4 +1,4 @@
-use Rattle.std.proofs.Common.{◌≡◌, ◌+◌, ◌-◌, length, arith, refl, sym, ◌∙◌, vec_len}
+use Rattle.std.proofs.Common.{◌≡◌, ◌+◌, ◌-◌, length, arith, refl}
 use Rattle.guest_mem.proofs.HeapLemmas.{zero-pushed}
 use Rattle.guest_mem.proofs.zero_pages.zero_pages.Goals as goal
 

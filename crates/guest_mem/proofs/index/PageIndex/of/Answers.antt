@@ -1,6 +1,6 @@
 use Rattle.std.proofs.Common.{◌≡◌, ℕ, ◌+◌, ◌<◌, ◌^◌, Bool, true, false, not, cond, eqb, List, [], ◌∷◌, ◌++◌, length, take, Option, Some, None, refl, sym, ap, ◌∙◌, arith, is_some, subst}
 use Rattle.elf_load.specs.declared.page.Page.{Page}
-use Rattle.guest_mem.specs.PageIndex.{place_in, Finds}
+use Rattle.guest_mem.specs.PageIndex.{Finds}
 use Rattle.guest_mem.specs.Pages.{numbers, place_of}
 use Rattle.guest_mem.specs.declared.index.PageIndex.{PageIndex}
 use Rattle.guest_mem.proofs.PageLemmas.{pushed_known, pushed_new, numbers-more, length-numbers_so_far}

@@ -1,7 +1,7 @@
 use Rattle.std.proofs.Common.{◌≡◌, ℕ, ◌+◌, ◌-◌, ◌*◌, ◌≤◌, sym, ap, ◌∙◌, arith, vec_len, subst}
-use Rattle.elf_load.specs.Cells.{Cells, cells_of}
+use Rattle.elf_load.specs.Cells.{cells_of}
 use Rattle.guest_mem.specs.Memory.{Memory}
-use Rattle.guest_mem.specs.Break.{with_zeros, without, pages_to, pages_with, grown}
+use Rattle.guest_mem.specs.Break.{with_zeros, without, pages_to, grown}
 use Rattle.guest_mem.specs.declared.mem.Mem.TheInside.{Inside}
 use Rattle.guest_mem.proofs.BreakLemmas.{moved_down, moved_up}
 use Rattle.guest_mem.proofs.mem.Mem.grow_break.Goals as goal

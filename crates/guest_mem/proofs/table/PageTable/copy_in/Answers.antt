@@ -1,4 +1,4 @@
-use Rattle.std.proofs.Common.{◌≡◌, ℕ, ◌+◌, ◌-◌, ◌*◌, ◌%◌, ◌≤◌, List, length, take, drop, Some, None, min, refl, sym, ap, ◌∙◌, arith, subst}
+use Rattle.std.proofs.Common.{◌≡◌, ℕ, ◌+◌, ◌-◌, ◌≤◌, List, length, take, drop, None, ◌∙◌, arith, subst}
 use Rattle.std.proofs.lemmas.List.{length-take-le, length-drop}
 use Rattle.elf_load.specs.Cells.{Cells, cells_of}
 use Rattle.guest_mem.specs.declared.right.Right.TheVariants.{Write}

@@ -1,5 +1,5 @@
 use Rattle.std.proofs.Common.{◌≡◌, ◌+◌, ◌-◌, ◌^◌, ◌≤◌, ℕ, List, length, take}
-use Rattle.elf_load.specs.Cells.{Cells, cells_of}
+use Rattle.elf_load.specs.Cells.{cells_of}
 use Rattle.guest_mem.specs.Memory.{put_all}
 use Rattle.guest_mem.specs.PageTable.{IsSameShape}
 use Rattle.guest_mem.specs.declared.table.PageTable.{PageTable}

@@ -1,7 +1,6 @@
-use Rattle.std.proofs.Common.{◌≡◌, ℕ, ◌+◌, ◌-◌, ◌*◌, ◌%◌, ◌≤◌, ◌++◌, List, length, take, drop, Some, None, min, refl, sym, ap, ◌∙◌, arith}
+use Rattle.std.proofs.Common.{◌≡◌, ℕ, ◌+◌, ◌-◌, ◌≤◌, ◌++◌, List, length, take, Some, sym, ap, ◌∙◌, arith}
 use Rattle.std.proofs.lemmas.Slice.{take-put_mid}
 use Rattle.elf_load.specs.Cells.{Cells, cells_of}
-use Rattle.guest_mem.specs.Memory.{bytes_for}
 use Rattle.guest_mem.proofs.CellLemmas.{bytes_for-append, part_open, length-put_mid}
 use Rattle.guest_mem.proofs.table.PageTable.copy_out.Goals as goal
 

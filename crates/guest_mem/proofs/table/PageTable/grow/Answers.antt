@@ -1,7 +1,6 @@
-use Rattle.std.proofs.Common.{◌≡◌, ℕ, ◌+◌, ◌-◌, ◌*◌, ◌<◌, ◌≤◌, ◌++◌, List, length, sym, ap, ◌∙◌, arith, vec_len, is_ok, subst}
+use Rattle.std.proofs.Common.{◌≡◌, ℕ, ◌+◌, ◌-◌, List, length, sym, ap, ◌∙◌, arith, vec_len, is_ok, subst}
 use Rattle.elf_load.specs.Cells.{cells_of}
 use Rattle.elf_load.specs.declared.page.Page.{Page}
-use Rattle.guest_mem.specs.Break.{with_zeros}
 use Rattle.guest_mem.specs.PageIndex.{place_in}
 use Rattle.guest_mem.specs.Pages.{AreZeroPages, numbers}
 use Rattle.guest_mem.proofs.HeapLemmas.{table-after, place_of-above, cells_of-grown}

@@ -1,6 +1,6 @@
-use Rattle.std.proofs.Common.{◌≡◌, ℕ, ◌+◌, ◌-◌, ◌*◌, ◌%◌, ◌^◌, ◌<◌, ◌≤◌, false, List, Some, None, min, refl, arith, Bor, is_some}
-use Rattle.elf_load.specs.Cells.{Cells, cells_of}
-use Rattle.guest_mem.specs.Memory.{byte_for, bytes_for}
+use Rattle.std.proofs.Common.{◌≡◌, ℕ, ◌+◌, ◌-◌, ◌^◌, ◌<◌, ◌≤◌, None, refl, arith}
+use Rattle.elf_load.specs.Cells.{cells_of}
+use Rattle.guest_mem.specs.Memory.{bytes_for}
 use Rattle.guest_mem.proofs.CellLemmas.{bytes_for-none, open_more, open_stops}
 use Rattle.guest_mem.proofs.PageLemmas.{byte_for-past}
 use Rattle.guest_mem.proofs.table.PageTable.is_open.Goals as goal

@@ -1,8 +1,7 @@
-use Rattle.std.proofs.Common.{◌≡◌, ℕ, ◌+◌, ◌*◌, ◌/◌, ◌%◌, ◌<◌, Bool, true, false, List, length, get_or, set, Some, None, refl, sym, ap, ◌∙◌, arith, subst, Option, IsSome}
-use Rattle.elf_load.specs.Cells.{cells_of}
+use Rattle.std.proofs.Common.{◌≡◌, ℕ, ◌/◌, ◌%◌, true, false, List, length, get_or, set, Some, None, refl, sym, ap, ◌∙◌, arith, subst}
 use Rattle.elf_load.specs.declared.page.Page.{Page}
 use Rattle.guest_mem.specs.declared.right.Right.TheVariants.{Write}
-use Rattle.guest_mem.specs.Memory.{bytes_for, permits, put_all}
+use Rattle.guest_mem.specs.Memory.{permits}
 use Rattle.guest_mem.specs.PageIndex.{place_in}
 use Rattle.guest_mem.specs.Pages.{IsPageTable, Rewrites, numbers, place_of}
 use Rattle.guest_mem.proofs.PageLemmas.{place_of-in, length-numbers, within-some, within-denied, within-none, numbers-put, cells_of-put}

@@ -1,6 +1,6 @@
 use Rattle.std.proofs.Common.{◌≡◌, ℕ, ◌+◌, ◌-◌, ◌*◌, ◌≤◌, List, length, take, sym, ap, ◌∙◌, arith, vec_len, subst}
 use Rattle.std.proofs.lemmas.List.{take-map}
-use Rattle.elf_load.specs.Cells.{Cells, cells_of}
+use Rattle.elf_load.specs.Cells.{cells_of}
 use Rattle.elf_load.specs.declared.page.Page.{Page}
 use Rattle.guest_mem.specs.Break.{without}
 use Rattle.guest_mem.specs.PageIndex.{place_in}

@@ -1,7 +1,6 @@
-use Rattle.std.proofs.Common.{◌≡◌, ℕ, ◌+◌, ◌-◌, ◌*◌, ◌/◌, ◌%◌, ◌<◌, Bool, true, false, List, length, get_or, take, drop, Some, None, MatchOption, sym, ap, ◌∙◌, arith, subst, Option, Bor}
-use Rattle.elf_load.specs.Cells.{cells_of}
+use Rattle.std.proofs.Common.{◌≡◌, ◌+◌, ◌-◌, ◌/◌, ◌%◌, true, false, List, get_or, take, drop, Some, None, sym, ap, ◌∙◌, arith}
 use Rattle.elf_load.specs.declared.page.Page.{Page}
-use Rattle.guest_mem.specs.Memory.{bytes_for, permits}
+use Rattle.guest_mem.specs.Memory.{permits}
 use Rattle.guest_mem.specs.Pages.{numbers, place_of}
 use Rattle.guest_mem.proofs.PageLemmas.{place_of-in, length-numbers, within-some, within-denied, within-none}
 use Rattle.guest_mem.proofs.table.PageTable.within.Goals as goal
