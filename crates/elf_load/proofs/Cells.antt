@@ -1,8 +1,8 @@
 -- The cells of pages, one page after another.
-use Rattle.std.proofs.Common.{◌≡◌, ℕ, zero, suc, ◌+◌, ◌*◌, ◌/◌, ◌<◌, ◌≤◌, List, [], ◌∷◌, ◌++◌, length, map, take, get_or, refl, sym, ap, ◌∙◌, subst, arith}
+use Rattle.std.proofs.Common.{◌≡◌, ℕ, suc, ◌+◌, ◌*◌, ◌/◌, ◌<◌, List, [], ◌∷◌, ◌++◌, length, map, take, get_or, refl, sym, ap, ◌∙◌, arith}
 use Rattle.std.specs.Prelude.{flat_map}
 use Rattle.std.specs.List.{range_with_len}
-use Rattle.std.proofs.lemmas.List.{append-nil, map-append, take_more}
+use Rattle.std.proofs.lemmas.List.{map-append, take_more}
 use Rattle.std.proofs.lemmas.List.Concat.{flat_map-append}
 use Rattle.elf_load.specs.declared.page.Page.{Page}
 use Rattle.elf_load.specs.declared.program_header.ProgramHeader.{ProgramHeader}
@@ -31,17 +31,17 @@ module _ (bytes : List ℕ) (ss : List ProgramHeader) where
       let next : (i : ℕ) → at + suc i ≡ (at + 1) + i = λ i. omega arith in
       let first : ◌≡◌ {A = ℕ × Cell} (at, record { byte = b; rights = rights }) (entry at) = ap (λ c. (at, c)) (same_cell b _ rights _ byte_is rights_is) in
       let rest : cells_from rights (at + 1) bs ≡ map entry (range_with_len (at + 1) (length bs)) =
-            cells_from-is rights (at + 1) bs
-              (λ i within. bytes_are (suc i) (omega arith) ∙ ap (byte_at bytes ss) (next i))
-              (λ i within. rights_are (suc i) (omega arith) ∙ ap (λ a. rights_at ss (a / 4096)) (next i)) in
+      cells_from-is rights (at + 1) bs
+      (λ i within. bytes_are (suc i) (omega arith) ∙ ap (byte_at bytes ss) (next i))
+      (λ i within. rights_are (suc i) (omega arith) ∙ ap (λ a. rights_at ss (a / 4096)) (next i)) in
       ap (λ e. e ∷ cells_from rights (at + 1) bs) first ∙ ap (λ es. entry at ∷ es) rest
 
   pub cells_of_page-is : (number : ℕ) (page : Page) → length page.bytes.items ≡ 4096 → IsPageOf bytes ss number page → cells_of_page page ≡ cells_on bytes ss number
   cells_of_page-is number page whole is =
       ap (λ n. cells_from page.rights (4096 * n) page.bytes.items) is.number_is
       ∙ cells_from-is page.rights (4096 * number) page.bytes.items
-        (λ i within. is.bytes_are i (omega arith))
-        (λ i within. let same : number ≡ (4096 * number + i) / 4096 = omega arith in is.rights_are ∙ ap (rights_at ss) same)
+      (λ i within. is.bytes_are i (omega arith))
+      (λ i within. let same : number ≡ (4096 * number + i) / 4096 = omega arith in is.rights_are ∙ ap (rights_at ss) same)
       ∙ ap (λ n. map entry (range_with_len (4096 * number) n)) whole
 
   -- one page more

@@ -1,6 +1,6 @@
 -- The first fault of the checks of a program header.
-use Rattle.std.proofs.Common.{◌≡◌, ◌≢◌, ℕ, ◌+◌, ◌-◌, ◌*◌, get_or, vec_len, ◌<◌, ◌≤◌, Bool, true, false, cond, not, ◌&&◌, ◌||◌, List, [], ◌∷◌, ◌++◌, length, take, drop, map, Option, Some, None, option_map, refl, sym, ap, ◌∙◌, subst, arith, append_assoc, inl, inr}
-use Rattle.std.specs.Prelude.{◌==◌, nat_lt, if◌then◌else◌, find, flat_map, filter, All}
+use Rattle.std.proofs.Common.{◌≡◌, ◌≢◌, ℕ, ◌+◌, ◌*◌, get_or, vec_len, ◌<◌, ◌≤◌, Bool, true, false, ◌&&◌, ◌||◌, List, [], ◌∷◌, ◌++◌, length, take, drop, Option, Some, None, refl, sym, ap, ◌∙◌, subst, arith, inl, inr}
+use Rattle.std.specs.Prelude.{◌==◌, nat_lt, if◌then◌else◌, flat_map}
 use Rattle.std.specs.List.{list_any}
 use Rattle.std.specs.FinSet.{len}
 use Rattle.std.proofs.lemmas.Bool.{le-ltb}
@@ -107,10 +107,10 @@ first_fault-some ((false, g) ∷ cs) ds f some = first_fault-some cs ds f some
 
 pub IsSound_empty : (bytes : List ℕ) (layout : Layout) → layout.segments.items ≡ [] → layout.pages.items ≡ [] → vec_len layout.pages ≡ 0 → IsSound bytes layout
 IsSound_empty bytes layout no_segments no_pages size = record {
-    placed = rw no_segments (All-nil (IsPlaced bytes));
-    pages = rw (no_segments, no_pages) IsListOf_none;
-    few = omega arith
-  }
+  placed = rw no_segments (All-nil (IsPlaced bytes));
+  pages = rw (no_segments, no_pages) IsListOf_none;
+  few = omega arith;
+}
 
 -- the program headers of a file, one after another
 abbrev header_at : List ℕ → ℕ → ProgramHeader

@@ -1,7 +1,7 @@
 -- What stands on a page after bytes of a file were laid on a part of it.
-use Rattle.std.proofs.Common.{◌≡◌, ◌⊎◌, ℕ, ◌+◌, ◌-◌, ◌<◌, ◌≤◌, max, min, Bool, true, false, cond, ◌&&◌, List, ◌++◌, length, take, drop, get_or, Option, Some, None, refl, sym, ap, ◌∙◌, arith, inl, inr, length-drop}
+use Rattle.std.proofs.Common.{◌≡◌, ℕ, ◌+◌, ◌-◌, ◌<◌, ◌≤◌, max, min, true, false, List, ◌++◌, length, take, drop, get_or, refl, sym, ap, ◌∙◌, arith, inl, inr, length-drop}
 use borrow.Rule.Slice.PartMut.{put_mid, post_of}
-use Rattle.std.specs.Prelude.{nat_le, nat_lt, slice_get, unwrap_or}
+use Rattle.std.specs.Prelude.{nat_le, nat_lt, unwrap_or}
 use Rattle.std.proofs.lemmas.Bool.{le-leb, lt-leb, lt-ltb, le-ltb, cases_lt}
 use Rattle.std.proofs.lemmas.List.{get_or-take, get_or-drop, get_or_append_left, get_or-append_right, length-take-le}
 use Rattle.std.proofs.lemmas.List.Sums.{fold_more}
@@ -63,22 +63,22 @@ laid_at page bytes ys s address begin end to k from n whole in_file begins ends 
     let size : length ys ≡ k = ap length ys_are ∙ length-take-le n (drop from bytes) (omega (arith, length-drop from bytes)) ∙ omega arith in
     elim (cases_lt offset to) [
       | inl below ↦ put_below page ys to k room size offset below ∙ sym (elim (cases_lt (address + offset) s.address) [
-          | inl before ↦ byte_before bytes s (address + offset) (get_or page offset 0) before
-          | inr not_before ↦ absurd (omega arith)
-        ])
+        | inl before ↦ byte_before bytes s (address + offset) (get_or page offset 0) before
+        | inr not_before ↦ absurd (omega arith)
+      ])
       | inr at ↦ elim (cases_lt offset (to + k)) [
-          | inl inside ↦
-              let place : from + (offset - to) ≡ s.offset + (address + offset - s.address) = omega arith in
-              put_within page ys to k room size offset at inside
-              ∙ ap (λ zs. get_or zs (offset - to) 0) ys_are
-              ∙ get_or-take n (drop from bytes) (offset - to) 0 (omega arith)
-              ∙ get_or-drop from bytes (offset - to) 0
-              ∙ ap (λ j. get_or bytes j 0) place
-              ∙ sym (byte_inside bytes s (address + offset) (get_or page offset 0) in_file (omega arith) (omega arith))
-          | inr above ↦
-              put_above page ys to k room size offset above
-              ∙ sym (byte_behind bytes s (address + offset) (get_or page offset 0) (omega arith) (omega arith))
-        ]
+        | inl inside ↦
+            let place : from + (offset - to) ≡ s.offset + (address + offset - s.address) = omega arith in
+            put_within page ys to k room size offset at inside
+            ∙ ap (λ zs. get_or zs (offset - to) 0) ys_are
+            ∙ get_or-take n (drop from bytes) (offset - to) 0 (omega arith)
+            ∙ get_or-drop from bytes (offset - to) 0
+            ∙ ap (λ j. get_or bytes j 0) place
+            ∙ sym (byte_inside bytes s (address + offset) (get_or page offset 0) in_file (omega arith) (omega arith))
+        | inr above ↦
+            put_above page ys to k room size offset above
+            ∙ sym (byte_behind bytes s (address + offset) (get_or page offset 0) (omega arith) (omega arith))
+      ]
     ]
 
 -- the bytes of a page after one segment more

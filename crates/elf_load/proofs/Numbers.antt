@@ -4,7 +4,7 @@ use Rattle.std.specs.Prelude.{◌==◌}
 use Rattle.std.specs.Ordering.{nat_cmp, eq_by_cmp}
 use Rattle.std.specs.Cmp.{unsigned_tied}
 use Rattle.std.specs.List.{list_any}
-use Rattle.std.specs.FinSet.{FinSet, from_list, insert, contains, len, same_set, nat_cmp-IsAntisymmetric, contains-from_list, contains-insert, from_list_push, len-empty, len-insert}
+use Rattle.std.specs.FinSet.{FinSet, from_list, insert, contains, len, same_set, nat_cmp-IsAntisymmetric, contains-from_list, from_list_push, len-empty, len-insert}
 use Rattle.std.proofs.lemmas.Bool.{eqb-true}
 use Rattle.std.proofs.lemmas.Cmp.{nat_cmp_total, eq_by_cmp_equiv}
 use Rattle.std.proofs.lemmas.List.{append-nil}
@@ -17,7 +17,7 @@ set_of xs = from_list xs
 pub eq_by_cmp-is : (q x : ℕ) → eq_by_cmp nat_cmp q x ≡ (x == q)
 eq_by_cmp-is q x = (eq_by_cmp_equiv nat_cmp_total).symm q x ∙ unsigned_tied x q
 
-any_same : (xs : List ℕ) (q : ℕ) → list_any (eq_by_cmp nat_cmp q) xs ≡ list_any (λ y. y == q) xs
+pub any_same : (xs : List ℕ) (q : ℕ) → list_any (eq_by_cmp nat_cmp q) xs ≡ list_any (λ y. y == q) xs
 any_same [] q = refl
 any_same (x ∷ xs) q = ap (λ b. b || list_any (eq_by_cmp nat_cmp q) xs) (eq_by_cmp-is q x) ∙ ap (λ b. (x == q) || b) (any_same xs q)
 
@@ -71,7 +71,7 @@ pub IsListOf_old : (numbers all : List ℕ) (k : ℕ) → IsListOf numbers all �
 IsListOf_old numbers all k listed there =
     let there' : list_any (λ y. y == k) all ≡ true = sym (any_from_sets numbers all k listed.same) ∙ there in
     let same : set_of all ≡ set_of (all ++ k ∷ []) =
-        same_sets _ _ (λ q. sym (list_any-append (λ y. y == q) all (k ∷ []) ∙ or_there all k q there')) in
+    same_sets _ _ (λ q. sym (list_any-append (λ y. y == q) all (k ∷ []) ∙ or_there all k q there')) in
     record { same = listed.same ∙ same; once = listed.once ∙ ap len same }
 
 -- a new number
@@ -80,7 +80,7 @@ IsListOf_new numbers all k listed new =
     let fresh : list_any (λ y. y == k) all ≡ false = sym (any_from_sets numbers all k listed.same) ∙ new in
     record {
       same = set_of-append numbers all (k ∷ []) listed.same;
-      once = length-append numbers (k ∷ []) ∙ ap (λ n. n + 1) listed.once ∙ sym (len_push all k ∙ ap (λ b. cond b (len (set_of all)) (len (set_of all) + 1)) fresh)
+      once = length-append numbers (k ∷ []) ∙ ap (λ n. n + 1) listed.once ∙ sym (len_push all k ∙ ap (λ b. cond b (len (set_of all)) (len (set_of all) + 1)) fresh);
     }
 
 -- no room for a new number

@@ -1,5 +1,5 @@
 -- Numbers in a row, and the lists that name each of them once.
-use Rattle.std.proofs.Common.{◌≡◌, ℕ, zero, suc, ◌+◌, ◌-◌, ◌<◌, ◌≤◌, Bool, true, false, List, [], ◌∷◌, ◌++◌, length, refl, sym, ap, ◌∙◌, subst, arith, append_assoc, add-one}
+use Rattle.std.proofs.Common.{◌≡◌, ℕ, zero, suc, ◌+◌, ◌-◌, ◌<◌, ◌≤◌, true, false, List, [], ◌∷◌, ◌++◌, length, refl, sym, ap, ◌∙◌, subst, arith, append_assoc}
 use Rattle.std.specs.Prelude.{◌==◌}
 use Rattle.std.specs.List.{range_with_len, list_any}
 use Rattle.std.specs.FinSet.{len}
@@ -33,7 +33,7 @@ module _ (old numbers : List ℕ) (first page : ℕ) (from : first ≤ page) (li
   listed_too_many end before new =
       let rest : List ℕ = range_with_len (page + 1) (end - (page + 1)) in
       let split : old ++ range_with_len first (end - first) ≡ ((old ++ range_with_len first (page - first)) ++ page ∷ []) ++ rest =
-          ap (λ xs. old ++ xs) (range_with_len-append first (page + 1 - first) (end - (page + 1)) (page + 1) (end - first) (omega arith) (omega arith))
-          ∙ sym (append_assoc old (range_with_len first (page + 1 - first)) rest)
-          ∙ ap (λ xs. xs ++ rest) (seen_more old first page from) in
+      ap (λ xs. old ++ xs) (range_with_len-append first (page + 1 - first) (end - (page + 1)) (page + 1) (end - first) (omega arith) (omega arith))
+      ∙ sym (append_assoc old (range_with_len first (page + 1 - first)) rest)
+      ∙ ap (λ xs. xs ++ rest) (seen_more old first page from) in
       subst (λ xs. length numbers < len (set_of xs)) (sym split) (many_new numbers _ rest page listed new)

@@ -30,21 +30,21 @@ header_checks bytes = let h = elf_header bytes in
     ∷ (nat_lt (length bytes) (h.table + 32 * h.count), Truncated)
     ∷ []
 
--- a program header behind others: type 3 is PT_INTERP, type 2 PT_DYNAMIC;
--- a segment has its bytes in the file, lies between the first page and the stack's room, leaves room for others, and has its bytes to itself
+-- a program header behind the segments that stand before it: type 3 is PT_INTERP, type 2 PT_DYNAMIC;
+-- a segment has its bytes in the file, lies between the first page and the room for the stack, leaves enough pages, and has its bytes to itself
 unfoldable pub program_header_checks : List ℕ → List ProgramHeader → ProgramHeader → List Check
-program_header_checks bytes before h =
+program_header_checks bytes earlier h =
     (h.kind == 3, Interp)
     ∷ (h.kind == 2, Dynamic)
     ∷ (is_segment h && nat_lt (length bytes) (h.offset + h.file_size), Truncated)
-    ∷ (is_segment h && (nat_lt h.memory_size h.file_size || nat_lt h.address 4096 || nat_lt 0xBF000000 (end_of h) || nat_lt 3840 (len (touched_pages (segments (before ++ h ∷ []))))), Range)
-    ∷ (is_segment h && list_any (share_a_byte h) (segments before), Overlap)
+    ∷ (is_segment h && (nat_lt h.memory_size h.file_size || nat_lt h.address 4096 || nat_lt 0xBF000000 (end_of h) || nat_lt 3840 (len (touched_pages (earlier ++ h ∷ [])))), Range)
+    ∷ (is_segment h && list_any (share_a_byte h) earlier, Overlap)
     ∷ []
 
--- each program header in its turn
+-- each program header in its turn, behind the others
 abbrev pub all_program_header_checks : List ℕ → List ProgramHeader → List ProgramHeader → List Check
 all_program_header_checks bytes before [] = []
-all_program_header_checks bytes before (h ∷ rest) = program_header_checks bytes before h ++ all_program_header_checks bytes (before ++ h ∷ []) rest
+all_program_header_checks bytes before (h ∷ rest) = program_header_checks bytes (segments before) h ++ all_program_header_checks bytes (before ++ h ∷ []) rest
 
 -- the entry
 abbrev pub entry_checks : ℕ → List ProgramHeader → List Check
@@ -71,9 +71,13 @@ byte_at bytes ss address = fold (λ byte s. unwrap_or (file_byte bytes s address
 abbrev pub cell_at : List ℕ → List ProgramHeader → ℕ → Cell
 cell_at bytes ss address = record { byte = byte_at bytes ss address; rights = rights_at ss (address / 4096) }
 
--- the cell of each address of each touched page
+-- the addresses of a page, each with its cell
+abbrev pub cells_on : List ℕ → List ProgramHeader → ℕ → List (ℕ × Cell)
+cells_on bytes ss page = map (λ address. (address, cell_at bytes ss address)) (range_with_len (4096 * page) 4096)
+
+-- the cells of the touched pages
 unfoldable pub cells_of_segments : List ℕ → List ProgramHeader → Cells
-cells_of_segments bytes ss = from_entries (flat_map (λ page. map (λ address. (address, cell_at bytes ss address)) (range_with_len (4096 * page) 4096)) (items (touched_pages ss)))
+cells_of_segments bytes ss = from_entries (flat_map (cells_on bytes ss) (items (touched_pages ss)))
 
 -- what a file without a fault asks for
 abbrev pub image_of : List ℕ → ProgramImage

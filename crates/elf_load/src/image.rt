@@ -1,6 +1,6 @@
 //! The image that a load makes.
 
-ghost use Rattle.std.specs.Prelude.{◌≡◌, ◌+◌, ◌*◌, ◌≤◌, length, All};
+ghost use Rattle.std.specs.Prelude.{◌≡◌, ◌+◌, ◌*◌, ◌≤◌, length, vec_len, All};
 ghost use Rattle.elf_load.specs.Cells.{cells_of};
 
 use crate::page::Page;
@@ -32,6 +32,20 @@ impl Model for Image {
 }
 
 impl Image {
+    /// The image with these pages.
+    pub(crate) fn new(pages: Vec<Page>, entry: u32, start: u32) -> Image
+        requires few { vec_len pages ≤ 3840 }
+        requires in_range { start ≤ 0xBF000000 }
+        requires below_start { All (λ p. 4096 * p.number + 4096 ≤ start) pages.items }
+        ensures { result ≡ record { cells = cells_of pages.items; entry = entry; start = start; pages = vec_len pages } }
+    {
+        Image {
+            pages,
+            entry,
+            start,
+        }
+    }
+
     /// The touched pages, each once.
     pub fn pages(&self) -> &[Page]
         ensures cells { cells_of result.now ≡ self.now.cells }

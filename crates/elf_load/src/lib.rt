@@ -3,13 +3,17 @@
 //! Executables are static 32-bit RISC-V files (System V gABI, ELF32, little-endian).
 #![tactic(auto)]
 
+mod build;
 mod elf_header;
 mod fault;
+mod fields;
 mod image;
+mod layout;
 mod loader;
 mod page;
 mod program_header;
 mod rights;
+mod segments;
 
 pub use fault::{ElfFault, LoadError};
 pub use image::Image;

@@ -13,9 +13,7 @@ use crate::rights::Rights;
 pub(crate) fn shares_a_byte(segment: &ProgramHeader, others: &[ProgramHeader]) -> bool
     ensures { result ≡ list_any (spec.share_a_byte segment.now) others.now }
 {
-    others
-        .iter()
-        .any(|other| segment.shares_a_byte_with(other))
+    others.iter().any(|other| segment.shares_a_byte_with(other))
 }
 
 /// The rights to a page.

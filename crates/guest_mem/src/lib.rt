@@ -2,8 +2,14 @@
 #![tactic(auto)]
 
 mod bad;
+mod copies;
+mod index;
 mod mem;
 mod right;
+mod table;
+#[cfg(test)]
+mod tests;
+mod zero_pages;
 
 pub use bad::Bad;
 pub use mem::Mem;

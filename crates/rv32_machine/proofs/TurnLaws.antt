@@ -1,7 +1,9 @@
 -- The function `turn` gives the turn that the relation `IsTurn` describes, and no other turn is so.
 use Rattle.std.proofs.Common.{◌≡◌, ℕ, zero, suc, ◌+◌, ◌-◌, ◌<◌, ◌≤◌, ◌⊎◌, inl, inr, ap, subst, refl, ◌∙◌, sym, Option, Some, None, arith}
 use Rattle.std.proofs.lemmas.Bool.{cases_lt}
+use Rattle.sim_base.specs.declared.signal.Signal.{Signal}
 use Rattle.rv32_machine.specs.Table.{State, After, insn}
+use Rattle.rv32_machine.proofs.TableLaws.{insn-trap}
 use Rattle.rv32_machine.specs.Turn.{Turn, turn, turn_from, one_more, end_of, state_after, outcome_of, GoesOn, IsEndedBy, IsTurn}
 use Rattle.rv32_machine.specs.declared.outcome.Outcome.{Outcome}
 use Rattle.rv32_machine.specs.declared.outcome.Outcome.TheVariants as outcome
@@ -127,3 +129,35 @@ turn_only budget s t it = elim (cases_lt t.ran (turn budget s).ran) [
 -- a turn as the relation describes it, from the turn that the function gives
 pub turn_as : (budget : ℕ) (s : State) (t : Turn) (n : ℕ) → turn budget s ≡ t → t.ran ≡ n → IsTurn budget s (record t { ran = n })
 turn_as budget s t n is ran = let P : Turn → Type 0 = λ u. IsTurn budget s u in subst P (is ∙ ap (λ (r : ℕ). record t { ran = r }) ran) (turn_is budget s)
+
+-- a budget that the turn's call is the last instruction of suffices
+pub call_in_time : (n : ℕ) (s : State) → 1 ≤ n → GoesOn (n - 1) s → outcome_of n s ≡ outcome.Call →
+    turn n s ≡ record { state = state_after n s; end = end.Call; ran = n }
+call_in_time n s counted before call =
+    sym (turn_only n s (record { state = state_after n s; end = end.Call; ran = n })
+    (record { state = refl; end = inl (omega arith, record { counted = counted; before = before; ends = ap end_of call }) }))
+
+-- a budget in which no instruction calls or traps is spent
+pub spent_without : (n : ℕ) (s : State) → GoesOn n s → turn n s ≡ record { state = state_after n s; end = end.Spent; ran = n }
+spent_without n s on =
+    sym (turn_only n s (record { state = state_after n s; end = end.Spent; ran = n }) (record { state = refl; end = inr (refl, on, refl) }))
+
+trap_of : (o : Outcome) (g : Signal) → end_of o ≡ Some (end.Trap g) → o ≡ outcome.Trap g
+trap_of outcome.Next g is = cc
+trap_of outcome.Call g is = cc
+trap_of (outcome.Trap h) g is = cc
+
+last_traps : (n : ℕ) (s : State) (g : Signal) → 1 ≤ n → outcome_of n s ≡ outcome.Trap g → state_after n s ≡ state_after (n - 1) s
+unfolding state_after outcome_of
+last_traps n s g counted is =
+    let one : n ≡ suc (n - 1) = omega arith in
+    ap (λ (k : ℕ). state_after k s) one ∙ insn-trap (state_after (n - 1) s) g is
+
+-- a turn that a trap ends leaves the state as it was before the instruction that trapped
+pub turn-trap : (budget : ℕ) (s : State) (g : Signal) → (turn budget s).end ≡ end.Trap g →
+    (turn budget s).state ≡ state_after ((turn budget s).ran - 1) s
+turn-trap budget s g trap = elim (turn_is budget s).end [
+  | inl (within, ended) ↦
+      (turn_is budget s).state ∙ last_traps (turn budget s).ran s g ended.counted (trap_of _ g (ended.ends ∙ ap Some trap))
+  | inr (all, on, spent) ↦ let both : end.Spent ≡ end.Trap g = sym spent ∙ trap in cc
+]

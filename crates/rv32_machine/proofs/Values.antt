@@ -1,8 +1,19 @@
 -- Values from outside: the RISC-V unprivileged manual, and the programs of riscv-tests.
-use Rattle.std.proofs.Common.{◌≡◌, ℕ, Option, Some, None, refl}
+use Rattle.std.proofs.Common.{◌≡◌, ℕ, Option, Some, None, List, [], ◌∷◌, ap, refl, lit≤}
+use Rattle.std.specs.Option.{option_map}
+use Rattle.guest_mem.specs.Memory.{Memory, load}
+use Rattle.guest_mem.specs.declared.right.Right.TheVariants as right
 use Rattle.rv32_machine.specs.Word.{i_immediate, s_immediate, b_immediate, u_immediate, j_immediate, sign_extended}
 use Rattle.rv32_machine.specs.Arithmetic.{value, is_taken}
 use Rattle.rv32_machine.specs.Encoding.{decoded}
+use Rattle.rv32_machine.specs.Table.{State, After, state, effect, goes_on, at, traps, loaded}
+use Rattle.rv32_machine.specs.Turn.{Turn, turn, state_after, outcome_of, GoesOn}
+use Rattle.rv32_machine.proofs.TurnLaws.{call_in_time, spent_without}
+use Rattle.sim_base.specs.declared.signal.Signal.TheVariants.{SigBus}
+use Rattle.rv32_machine.specs.declared.cpu.Cpu.{Cpu}
+use Rattle.rv32_machine.specs.declared.instruction.Load.TheVariants.{Lb}
+use Rattle.rv32_machine.specs.declared.outcome.Outcome.TheVariants as outcome
+use Rattle.rv32_machine.specs.declared.outcome.TurnEnd.TheVariants as end
 use Rattle.rv32_machine.specs.declared.instruction.Insn.{Insn}
 use Rattle.rv32_machine.specs.declared.instruction.Insn.TheVariants as insn
 use Rattle.rv32_machine.specs.declared.instruction.Operation.TheVariants.{Add, Sub, Sll, Slt, Sltu, Xor, Srl, Sra, Or, And, Mul, Mulh, Mulhsu, Mulhu, Div, Divu, Rem, Remu}
@@ -173,3 +184,33 @@ zero_word = refl
 
 ones_word : decoded 0xffffffff ≡ None
 ones_word = refl
+
+-- ---- jumps: JALR x0, 0(x1), where only registers 0 and 1 are of interest
+
+with_x1 : ℕ → Memory → State
+with_x1 n m = state (record { pc = 0x10000; x = 0 ∷ n ∷ [] }) m
+
+-- bit 0 is cleared
+jalr_odd : (m : Memory) → effect insn.Jalr 0x00008067 (with_x1 0x12345 m) ≡ goes_on (at 0x12344 (with_x1 0x12345 m).cpu) (with_x1 0x12345 m)
+unfolding with_x1
+jalr_odd m = refl
+
+jalr_half : (m : Memory) → effect insn.Jalr 0x00008067 (with_x1 0x10002 m) ≡ traps SigBus (with_x1 0x10002 m)
+unfolding with_x1
+jalr_half m = refl
+
+-- LB of the byte 0x80
+lb : (m : Memory) (address : ℕ) → load right.Read 1 m address ≡ Some 0x80 → loaded Lb m address ≡ Some 0xffffff80
+lb m address is = ap (option_map (sign_extended 8)) is
+
+-- ---- turns of the usual budget
+
+-- the last instruction of the budget is the call
+call_at_the_end : (s : State) → GoesOn 9999999 s → outcome_of 10000000 s ≡ outcome.Call →
+    turn 10000000 s ≡ record { state = state_after 10000000 s; end = end.Call; ran = 10000000 }
+call_at_the_end s = call_in_time 10000000 s (lit≤ tt)
+
+-- there is one more instruction before the call
+one_too_many : (s : State) → GoesOn 10000000 s → outcome_of 10000001 s ≡ outcome.Call →
+    turn 10000000 s ≡ record { state = state_after 10000000 s; end = end.Spent; ran = 10000000 }
+one_too_many s on _ = spent_without 10000000 s on

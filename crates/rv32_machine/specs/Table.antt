@@ -1,7 +1,7 @@
 -- The table of instructions: what each makes of the registers and the memory. A row an instruction, in the
 -- order of the RISC-V unprivileged manual, 2.4 to 2.8; `value` and `is_taken` have the rows of the
 -- operations and the branches.
-use Rattle.std.specs.Prelude.{ℕ, ◌+◌, ◌-◌, ◌*◌, ◌/◌, ◌%◌, ◌^◌, ◌==◌, if◌then◌else◌, Option, None, Some, slice_index, slice_set}
+use Rattle.std.specs.Prelude.{ℕ, ◌+◌, ◌-◌, ◌*◌, ◌/◌, ◌%◌, ◌^◌, ◌==◌, Bool, if◌then◌else◌, Option, None, Some, slice_index, slice_set}
 use Rattle.std.specs.Option.{option_map}
 use Rattle.sim_base.specs.declared.signal.Signal.{Signal}
 use Rattle.sim_base.specs.declared.signal.Signal.TheVariants.{SigIll, SigTrap, SigBus, SigSegv}
@@ -75,9 +75,13 @@ sets word n cpu = with_register (rd word) n cpu
 abbrev pub computes : ℕ → ℕ → State → After
 computes word n s = goes_on (advanced (sets word n s.cpu)) s
 
--- 2.5: the target of a jump or a taken branch is a multiple of 4; for any other this project's own profile has SIGBUS
+-- 2.5: instructions stand at multiples of 4; for a jump or a taken branch to any other target this project's own
+-- profile has SIGBUS
+abbrev pub is_aligned : ℕ → Bool
+is_aligned target = target % 4 == 0
+
 abbrev pub jumps : ℕ → Cpu → State → After
-jumps target cpu s = if target % 4 == 0 then goes_on (at target cpu) s else traps SigBus s
+jumps target cpu s = if is_aligned target then goes_on (at target cpu) s else traps SigBus s
 
 -- ---- 2.6: loads and stores; this project's own profile has SIGSEGV for an address that isn't mapped with the right
 

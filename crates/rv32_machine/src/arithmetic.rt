@@ -9,6 +9,7 @@ ghost use Rattle.rv32_machine.specs.Arithmetic.{value, is_taken, signed, upper_w
 use crate::instruction::{Branch, Operation};
 
 /// What the operation puts into rd, of rs1 and the second operand.
+#[inline(always)]
 pub fn value(operation: Operation, a: u32, b: u32) -> u32
     ensures { result ≡ value operation a b }
 {

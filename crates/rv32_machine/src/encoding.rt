@@ -9,6 +9,8 @@ use crate::instruction::{Branch, Insn, Load, Operation, Store};
 use crate::word::{funct3, funct7, opcode};
 
 /// The instruction that the word is, or `None` where it is none of RV32I, M and Zifencei.
+// Inlined into the one loop that runs it, so that no `Insn` is made at run time.
+#[inline(always)]
 pub fn decode(word: u32) -> Option<Insn>
     ensures { result ≡ decoded word }
 {
@@ -20,11 +22,11 @@ pub fn decode(word: u32) -> Option<Insn>
             0 => Some(Insn::Jalr),
             _ => None,
         },
-        0x63 => branch_of(funct3(word)).map(Insn::Branch),
-        0x03 => load_of(funct3(word)).map(Insn::Load),
-        0x23 => store_of(funct3(word)).map(Insn::Store),
-        0x13 => immediate_of(funct3(word), funct7(word)).map(Insn::Immediate),
-        0x33 => register_of(funct3(word), funct7(word)).map(Insn::Register),
+        0x63 => Some(Insn::Branch(branch_of(funct3(word))?)),
+        0x03 => Some(Insn::Load(load_of(funct3(word))?)),
+        0x23 => Some(Insn::Store(store_of(funct3(word))?)),
+        0x13 => Some(Insn::Immediate(immediate_of(funct3(word), funct7(word))?)),
+        0x33 => Some(Insn::Register(register_of(funct3(word), funct7(word))?)),
         0x0f => fence_of(funct3(word)),
         0x73 => system_of(word),
         _ => None,

@@ -2,7 +2,7 @@
 
 ghost use Rattle.std.specs.Prelude.{◌≡◌, Some, None, MatchResult, OnOk, OnErr};
 ghost use Rattle.guest_mem.specs.Memory.{Memory};
-ghost use Rattle.rv32_machine.specs.Table.{insn, effect, state, after, traps, advanced, jumps, sets, following, loaded, stored};
+ghost use Rattle.rv32_machine.specs.Table.{insn, effect, state, after, traps, advanced, is_aligned, jumps, sets, following, loaded, stored};
 
 use crate::arithmetic::{is_taken, value};
 use crate::cpu::Cpu;
@@ -18,6 +18,7 @@ use sim_base::Signal;
 
 /// Runs the instruction at the program counter.
 #[tactic(auto, unfolding(crate::specs::Table::insn))]
+#[inline(always)]
 pub fn step(cpu: &mut Cpu, mem: &mut Mem) -> Outcome
     ensures { insn (state cpu.old mem.old) ≡ after cpu.new mem.new result }
 {
@@ -30,6 +31,7 @@ pub fn step(cpu: &mut Cpu, mem: &mut Mem) -> Outcome
     }
 }
 
+#[inline(always)]
 fn execute(insn: Insn, word: u32, cpu: &mut Cpu, mem: &mut Mem) -> Outcome
     ensures { effect insn word (state cpu.old mem.old) ≡ after cpu.new mem.new result }
 {
@@ -115,10 +117,17 @@ fn compute(cpu: &mut Cpu, word: u32, n: u32)
     go_on(cpu);
 }
 
+// This project's own profile: a target that isn't a multiple of 4 is refused at the jump.
+fn is_aligned(target: u32) -> bool
+    ensures { result ≡ is_aligned target }
+{
+    target % 4 == 0
+}
+
 fn jump(cpu: &mut Cpu, target: u32) -> Outcome
     ensures { (m : Memory) → jumps target cpu.old (state cpu.old m) ≡ after cpu.new m result }
 {
-    if target % 4 == 0 {
+    if is_aligned(target) {
         cpu.pc = target;
         Outcome::Next
     } else {
@@ -127,10 +136,9 @@ fn jump(cpu: &mut Cpu, target: u32) -> Outcome
 }
 
 fn link(cpu: &mut Cpu, word: u32, target: u32) -> Outcome
-    ensures { (m : Memory) → jumps target (sets word (following cpu.old) cpu.old) (state cpu.old m)
-        ≡ after cpu.new m result }
+    ensures { (m : Memory) → jumps target (sets word (following cpu.old) cpu.old) (state cpu.old m) ≡ after cpu.new m result }
 {
-    if target % 4 == 0 {
+    if is_aligned(target) {
         let back = cpu.pc.wrapping_add(4);
         cpu.set_register(rd(word), back);
         cpu.pc = target;

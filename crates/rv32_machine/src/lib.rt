@@ -1,5 +1,8 @@
-//! A RISC-V machine of the base integer instruction set RV32I with the extensions M and Zifencei,
-//! as the RISC-V unprivileged manual describes them.
+//! A RISC-V machine of the base integer instruction set RV32I with the extensions M and Zifencei.
+//!
+//! The manual that the comments cite is The RISC-V Instruction Set Manual, Volume I: Unprivileged ISA. Where it leaves
+//! a choice to the execution environment, this project's own profile decides: an access or a fetch that the memory
+//! doesn't allow is SIGSEGV, a jump to a target that isn't a multiple of 4 SIGBUS, any other word SIGILL.
 #![tactic(auto)]
 
 mod arithmetic;
@@ -9,6 +12,8 @@ mod execution;
 mod instruction;
 mod outcome;
 mod steps;
+#[cfg(test)]
+mod tests;
 mod turns;
 mod word;
 

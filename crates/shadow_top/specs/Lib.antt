@@ -1,5 +1,6 @@
 pub mod CommandLine
 pub mod ConfigError
+pub mod Contract
 pub mod Engine
 pub mod EventOrder
 pub mod FirstFault
@@ -8,6 +9,7 @@ pub mod HostCalls
 pub mod HostState
 pub mod OutText
 pub mod Pieces
+pub mod ShadowInput
 pub mod ShdConfig
 pub mod Shown
 pub mod Stack

@@ -11,6 +11,7 @@ mod out_text;
 mod output;
 mod plan;
 mod report;
+mod shadow;
 mod shd_config;
 mod units;
 mod world;

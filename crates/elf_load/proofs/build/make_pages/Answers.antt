@@ -8,7 +8,7 @@ loop-number-preserved c =
     let whole : length page.bytes.items ≡ 4096 = omega (arith, page.is_whole) in
     record {
       cells = cells_more c.args.bytes.now c.args.segments.now c.loop-number.pages.items c.push.new.self.items page c.args.numbers.now c.loop-number.number-index _
-        c.in_ok-push.ensures.items c.loop-number-test.true refl whole c.in_ok-make_page.ensures c.loop-number.invariant.cells;
+          c.in_ok-push.ensures.items c.loop-number-test.true refl whole c.in_ok-make_page.ensures c.loop-number.invariant.cells;
       numbers = numbers_more c.loop-number.pages.items c.push.new.self.items page c.args.numbers.now c.loop-number.number-index
-        c.in_ok-push.ensures.items c.loop-number-test.true c.in_ok-make_page.ensures.number_is c.loop-number.invariant.numbers
+          c.in_ok-push.ensures.items c.loop-number-test.true c.in_ok-make_page.ensures.number_is c.loop-number.invariant.numbers;
     }

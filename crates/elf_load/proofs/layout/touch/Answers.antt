@@ -1,4 +1,4 @@
-use Rattle.std.proofs.Common.{◌≡◌, ◌<◌, ◌≤◌, ◌++◌, ◌+◌, ◌-◌, ◌∷◌, [], ℕ, List, Bool, true, false, length, cond, Some, None, vec_len, arith, ap, sym, ◌∙◌, subst}
+use Rattle.std.proofs.Common.{◌≡◌, ◌<◌, ◌≤◌, ◌++◌, ◌+◌, ◌-◌, ◌∷◌, [], ℕ, List, true, false, length, cond, Some, None, arith, ap, sym, ◌∙◌, subst}
 use Rattle.std.specs.Prelude.{◌==◌}
 use Rattle.std.specs.List.{list_any, range_with_len}
 use Rattle.std.specs.FinSet.{len}
@@ -18,7 +18,7 @@ returns-then-len-eq-MAX_PAGES-clause-many c =
     let before : c.loop-page.page < last_page c.args.segment.now + 1 = omega arith in
     let new : list_any (λ y. y == c.loop-page.page) pages ≡ false = cc in
     let more : length pages < len (set_of (c.args.pages.now.items ++ pages_of c.args.segment.now)) =
-        listed_too_many c.args.pages.now.items pages (first_page c.args.segment.now) c.loop-page.page from c.loop-page.invariant.listed (last_page c.args.segment.now + 1) before new in
+    listed_too_many c.args.pages.now.items pages (first_page c.args.segment.now) c.loop-page.page from c.loop-page.invariant.listed (last_page c.args.segment.now + 1) before new in
     let many : 3840 < len (set_of (c.args.pages.now.items ++ pages_of c.args.segment.now)) = omega arith in
     ap (λ b. cond b (Some Range) None) (lt-ltb _ _ many)
 
@@ -32,12 +32,12 @@ loop-page-preserved c =
           let items : c.if-not-contains.pages.items ≡ c.loop-page.pages.items ++ c.loop-page.page ∷ [] = ap (λ v. v.items) w.pages-is ∙ w.in_ok-push.ensures.items in
           record {
             listed = subst (λ xs. IsListOf xs all) (sym items) (listed_now c.args.pages.now.items c.loop-page.pages.items (first_page c.args.segment.now) c.loop-page.page from c.loop-page.invariant.listed new);
-            few = rw w.pages-is (omega arith)
+            few = rw w.pages-is (omega arith);
           }
       | else-not-contains w ↦
           let there : list_any (λ y. y == c.loop-page.page) c.loop-page.pages.items ≡ true = cc in
           rw w.pages-is (record {
             listed = listed_already c.args.pages.now.items c.loop-page.pages.items (first_page c.args.segment.now) c.loop-page.page from c.loop-page.invariant.listed there;
-            few = c.loop-page.invariant.few
+            few = c.loop-page.invariant.few;
           })
     ]

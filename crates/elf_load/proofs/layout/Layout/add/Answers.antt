@@ -1,5 +1,4 @@
-use Rattle.std.proofs.Common.{◌≡◌, ◌≤◌, true, false, ℕ, List, ◌++◌, ◌∷◌, [], length, None, Some, cond, ap, ◌∙◌, sym, subst, arith, refl, rules}
-use Rattle.std.specs.Prelude.{All}
+use Rattle.std.proofs.Common.{◌≡◌, ◌≤◌, true, false, length, None, Some, cond, ap, ◌∙◌, arith}
 use Rattle.std.specs.List.{list_any}
 use Rattle.std.proofs.lemmas.Result.{err_from_is_err_and}
 use Rattle.std.proofs.lemmas.List.Elements.{All-push}
@@ -12,28 +11,28 @@ use Rattle.elf_load.proofs.layout.Layout.add.Goals as goal
 pub returns-in_err-touch-clause-refused : goal.returns-in_err-touch-clause-refused
 returns-in_err-touch-clause-refused c =
     let passes : Passes c.args.bytes.now c.args.header = record {
-          no_interpreter = c.if-header-eq-INTERP.false;
-          no_dynamic = c.if-header-eq-DYNAMIC.false;
-          segment = cc;
-          in_file = omega arith;
-          sizes = omega arith;
-          low = omega arith;
-          high = omega arith
-        } in
+      no_interpreter = c.if-header-eq-INTERP.false;
+      no_dynamic = c.if-header-eq-DYNAMIC.false;
+      segment = cc;
+      in_file = omega arith;
+      sizes = omega arith;
+      low = omega arith;
+      high = omega arith;
+    } in
     let p = err_from_is_err_and c.from_residual.result c.from_residual.ensures.1 in
     rw (p.1, p.2) (IsFound_along _ _ _ (fault_of_many c.args.bytes.now c.args.self.now.pages.items c.args.self.now.segments.items c.args.header passes c.requires.pages) c.in_err-touch.ensures.many)
 
 pub returns-then-shares_a_byte-clause-refused : goal.returns-then-shares_a_byte-clause-refused
 returns-then-shares_a_byte-clause-refused c =
     let passes : Passes c.args.bytes.now c.args.header = record {
-          no_interpreter = c.if-header-eq-INTERP.false;
-          no_dynamic = c.if-header-eq-DYNAMIC.false;
-          segment = cc;
-          in_file = omega arith;
-          sizes = omega arith;
-          low = omega arith;
-          high = omega arith
-        } in
+      no_interpreter = c.if-header-eq-INTERP.false;
+      no_dynamic = c.if-header-eq-DYNAMIC.false;
+      segment = cc;
+      in_file = omega arith;
+      sizes = omega arith;
+      low = omega arith;
+      high = omega arith;
+    } in
     let shared : list_any (share_a_byte c.args.header) c.args.self.now.segments.items ≡ true = cc in
     let few : length c.touch.new.pages.items ≤ 3840 = omega (arith, c.in_ok-touch.ensures.few) in
     fault_of_few c.args.bytes.now c.args.self.now.pages.items c.args.self.now.segments.items c.args.header passes c.requires.pages c.touch.new.pages.items c.in_ok-touch.ensures.listed few
@@ -45,20 +44,20 @@ returns-clause-sound c =
     record {
       placed = rw c.in_ok-push.ensures.items (All-push (IsPlaced c.args.bytes.now) c.args.self.now.segments.items c.args.header c.requires.placed placed);
       pages = rw c.in_ok-push.ensures.items (listed_more c.args.self.now.pages.items c.touch.new.pages.items c.args.self.now.segments.items c.args.header c.requires.pages c.in_ok-touch.ensures.listed);
-      few = c.in_ok-touch.ensures.few
+      few = c.in_ok-touch.ensures.few;
     }
 
 pub returns-clause-checked : goal.returns-clause-checked
 returns-clause-checked c =
     let passes : Passes c.args.bytes.now c.args.header = record {
-          no_interpreter = c.if-header-eq-INTERP.false;
-          no_dynamic = c.if-header-eq-DYNAMIC.false;
-          segment = cc;
-          in_file = omega arith;
-          sizes = omega arith;
-          low = omega arith;
-          high = omega arith
-        } in
+      no_interpreter = c.if-header-eq-INTERP.false;
+      no_dynamic = c.if-header-eq-DYNAMIC.false;
+      segment = cc;
+      in_file = omega arith;
+      sizes = omega arith;
+      low = omega arith;
+      high = omega arith;
+    } in
     let alone : list_any (share_a_byte c.args.header) c.args.self.now.segments.items ≡ false = cc in
     let few : length c.touch.new.pages.items ≤ 3840 = omega (arith, c.in_ok-touch.ensures.few) in
     fault_of_few c.args.bytes.now c.args.self.now.pages.items c.args.self.now.segments.items c.args.header passes c.requires.pages c.touch.new.pages.items c.in_ok-touch.ensures.listed few

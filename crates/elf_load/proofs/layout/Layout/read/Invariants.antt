@@ -7,8 +7,8 @@ use Rattle.elf_load.proofs.layout.Layout.read.Given as goal
 
 abbrev pub invariant-loop-index : goal.invariant-loop-index
 invariant-loop-index l = record {
-    sound : IsSound l.bytes l.layout;
-    segments : l.layout.segments.items ≡ segments (take l.index (program_headers l.bytes));
-    left : first_fault (all_program_header_checks l.bytes [] (program_headers l.bytes))
-        ≡ first_fault (all_program_header_checks l.bytes (take l.index (program_headers l.bytes)) (drop l.index (program_headers l.bytes)))
-  }
+  sound : IsSound l.bytes l.layout;
+  segments : l.layout.segments.items ≡ segments (take l.index (program_headers l.bytes));
+  left : first_fault (all_program_header_checks l.bytes [] (program_headers l.bytes))
+      ≡ first_fault (all_program_header_checks l.bytes (take l.index (program_headers l.bytes)) (drop l.index (program_headers l.bytes)));
+}

@@ -1,9 +1,7 @@
-use Rattle.std.proofs.Common.{◌≡◌, ℕ, ◌+◌, ◌-◌, ◌*◌, ◌%◌, ◌^◌, ◌<◌, ◌≤◌, List, length, sym, inl, inr, ◌⊎◌, ⊎_elim, ◌∙◌, arith, vec_len}
+use Rattle.std.proofs.Common.{◌≡◌, ℕ, ◌+◌, ◌-◌, ◌%◌, ◌^◌, ◌<◌, ◌≤◌, List, length, sym, inl, inr, ◌⊎◌, ⊎_elim, ◌∙◌, arith}
 use Rattle.std.proofs.lemmas.Bool.{cases_lt}
-use Rattle.std.proofs.lemmas.List.{length-map}
-use Rattle.elf_load.specs.declared.page.Page.{Page}
 use Rattle.guest_mem.specs.PageIndex.{place_in}
-use Rattle.guest_mem.specs.Pages.{IsPageTable, numbers, place_of}
+use Rattle.guest_mem.specs.Pages.{numbers}
 use Rattle.guest_mem.proofs.PageLemmas.{place_of-heap, place_of-fixed, length-numbers}
 use Rattle.guest_mem.proofs.table.PageTable.place.Goals as goal
 
