@@ -1,8 +1,10 @@
+pub mod ConfigLaws
 pub mod EngineLemmas
 pub mod FireLemmas
 pub mod PartLemmas
 pub mod PieceLemmas
 pub mod ReportLemmas
+pub mod ShadowLemmas
 pub mod SliceLemmas
 pub mod StackLemmas
 pub mod StartLemmas

@@ -6,10 +6,11 @@ use Rattle.std.specs.FinMap as map
 use Rattle.elf_load.specs.Cells.{Cell, Cells}
 use Rattle.elf_load.specs.ProgramImage.{ProgramImage}
 use Rattle.guest_mem.specs.Memory.{Memory, read, write, put_all, with_first, permitted}
-use Rattle.guest_mem.specs.Break.{with_zeros, zero_cell}
+use Rattle.guest_mem.specs.Break.{zero_cell}
 use Rattle.guest_mem.specs.Opening.{opening, stack_base, stack_pages}
 use Rattle.guest_mem.specs.declared.right.Right.TheVariants.{Write}
-use Rattle.guest_mem.proofs.CellLemmas.{get-insert_same, get-insert_other, get-put_all_in, get-put_all_out}
+use Rattle.guest_mem.proofs.CellLemmas.{get-put_all_in, get-put_all_out}
+use Rattle.guest_mem.proofs.HeapLemmas.{get-with_zeros_in}
 use Rattle.shadow_top.specs.Guest.{filled}
 use Rattle.shadow_top.specs.Stack.{IsWritable}
 
@@ -26,19 +27,9 @@ begins (Some found) cell (Some bytes) is may more =
     let same : found.rights.write ≡ true = ap (λ (c : Cell). c.rights.write) (let e : found ≡ cell = cc in e) ∙ may in
     ap (λ (b : Bool). is_some (with_first (if b then Some found.byte else None) (Some bytes))) same
 
-pub get-with_zeros : (cells : Cells) (from n q : ℕ) → from ≤ q → q < from + n → map.get (with_zeros cells from n) q ≡ Some zero_cell
-unfolding with_zeros
-get-with_zeros cells from zero q low high = absurd (omega arith)
-get-with_zeros cells from (suc n) q low high =
-    ⊎_elim
-    (λ (same : q ≡ from + n). subst (λ (x : ℕ). map.get (map.insert (with_zeros cells from n) (from + n) zero_cell) x ≡ Some zero_cell) (sym same)
-        (get-insert_same (with_zeros cells from n) (from + n) zero_cell))
-    (λ (apart : q ≢ from + n). get-insert_other (with_zeros cells from n) (from + n) zero_cell q apart ∙ get-with_zeros cells from n q low (omega arith))
-    (cases_eq q (from + n))
-
 pub IsWritable-opening : (image : ProgramImage) → IsWritable (opening image) stack_base 0xC0000000
 unfolding opening
-IsWritable-opening image q low high = (zero_cell, get-with_zeros image.cells stack_base (4096 * stack_pages) q low (omega arith), refl)
+IsWritable-opening image q low high = (zero_cell, get-with_zeros_in image.cells stack_base (4096 * stack_pages) q low (omega arith), refl)
 
 pub IsWritable-filled : (m : Memory) (from to at : ℕ) (bytes : List ℕ) → IsWritable m from to → IsWritable (filled m at bytes) from to
 IsWritable-filled m from to at bytes h q low high =

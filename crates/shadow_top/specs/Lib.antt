@@ -8,11 +8,11 @@ pub mod Guest
 pub mod HostCalls
 pub mod HostState
 pub mod OutText
+pub mod Outcome
 pub mod Pieces
 pub mod ShadowInput
 pub mod ShdConfig
 pub mod Shown
 pub mod Stack
 pub mod Stop
-pub mod Units
 pub mod World

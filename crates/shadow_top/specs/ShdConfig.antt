@@ -1,8 +1,8 @@
 -- The configuration file of the first profile: eleven lines, each with its line end, in which three places may differ.
 -- The whole of the format is that of Shadow's configuration files (YAML 1.2).
-use Rattle.std.specs.Prelude.{◌≡◌, ◌≤◌, ℕ, ◌+◌, ◌-◌, ◌^◌, Bool, ◌&&◌, not, nat_le, nat_lt, nat_eq, if◌then◌else◌, List, [], ◌∷◌, ◌++◌, length, take, drop, Option, Some, None, codes, ◌==◌, IsTrue}
+use Rattle.std.specs.Prelude.{◌≡◌, ◌≤◌, ◌<◌, ℕ, ◌+◌, ◌-◌, ◌^◌, Bool, ◌&&◌, not, nat_le, nat_lt, nat_eq, if◌then◌else◌, List, [], ◌∷◌, ◌++◌, length, take, drop, Option, Some, None, option_map, codes, ◌==◌, IsTrue}
 use Rattle.std.specs.List.{starts_with, list_all, before_first, after_first, position_or_len}
-use Rattle.shadow_top.specs.Units.{time_of}
+use Rattle.sim_base.specs.Quantity.{time_of_text}
 use Rattle.std.specs.Str.Lossy.{utf8_valid_len}
 use Rattle.sim_base.specs.declared.time.Time.{Time}
 use Rattle.shadow_top.specs.declared.shd_config.Config.{Config}
@@ -32,6 +32,10 @@ is_null word = starts_with nat_eq word (codes "null") && length word == 4
 abbrev pub is_word : List ℕ → Bool
 is_word word = nat_le 1 (length word) && nat_le (length word) 63 && list_all is_lower_case word && not (is_null word)
 
+-- the time that a text names
+abbrev pub stop_of : List ℕ → Option Time
+stop_of text = option_map (λ (n : ℕ). record { nanos = n }) (time_of_text text)
+
 -- 1 ns to 2^61 ns
 abbrev pub is_stop : Time → Bool
 is_stop t = nat_le 1 t.nanos && nat_le t.nanos (2 ^ 61)
@@ -40,7 +44,7 @@ is_stop t = nat_le 1 t.nanos && nat_le t.nanos (2 ^ 61)
 pub record IsWritten (text : List ℕ) (c : Config) : Type 0 where
   pub time : List ℕ
   pub same : text ≡ written time c.host c.path
-  pub stop : time_of time ≡ Some c.stop
+  pub stop : stop_of time ≡ Some c.stop
   pub within : IsTrue (is_stop c.stop)
   pub host : IsTrue (is_word c.host)
   pub path : IsTrue (is_word c.path)
@@ -81,7 +85,7 @@ configured stop host path = record { stop = stop; host = host; path = path }
 abbrev pub config : List ℕ → Option Config
 config text = do
   (time, (host, path)) ← places text
-  stop ← time_of time
+  stop ← stop_of time
   when (is_stop stop && is_word host && is_word path) (configured stop host path)
 
 -- whether some bytes are text (UTF-8, RFC 3629)
@@ -96,3 +100,8 @@ unfoldable pub config_of_file : List ℕ → Option Config
 config_of_file bytes = do
   text ← text_of bytes
   config text
+
+-- what the other parts of the program need of a configuration
+pub record IsShort (c : Config) : Type 0 where
+  pub path : length c.path < 65536
+  pub stop : c.stop.nanos ≤ 2 ^ 61

@@ -52,3 +52,19 @@ NeverRefuses (Refused fault) = ⊥
 NeverRefuses (ReadFailed name) = Unit {0}
 NeverRefuses WriteFailed = Unit {0}
 NeverRefuses NoMemory = Unit {0}
+
+-- no write failed
+abbrev pub NoWriteFailed : {A : Type 0} → Result A Stop → Type 0
+NoWriteFailed (Ok a) = Unit {0}
+NoWriteFailed (Err (Refused fault)) = Unit {0}
+NoWriteFailed (Err (ReadFailed name)) = Unit {0}
+NoWriteFailed (Err WriteFailed) = ⊥
+NoWriteFailed (Err NoMemory) = Unit {0}
+
+-- no read failed
+abbrev pub NoReadFailed : {A : Type 0} → Result A Stop → Type 0
+NoReadFailed (Ok a) = Unit {0}
+NoReadFailed (Err (Refused fault)) = Unit {0}
+NoReadFailed (Err (ReadFailed name)) = ⊥
+NoReadFailed (Err WriteFailed) = Unit {0}
+NoReadFailed (Err NoMemory) = Unit {0}

@@ -11,7 +11,10 @@ mod out_text;
 mod output;
 mod plan;
 mod report;
-mod shadow;
 mod shd_config;
-mod units;
+mod simulation;
+mod steal_workers;
 mod world;
+
+pub use simulation::shadow;
+pub use steal_workers::{Gate, OpenGate};

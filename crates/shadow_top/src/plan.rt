@@ -3,8 +3,8 @@
 ghost use Rattle.std.specs.Prelude.{◌≡◌, ◌≤◌, map, take, string_bytes, IfSome, IfOk, IfErr};
 ghost use Rattle.shadow_top.specs.CommandLine.{config_name};
 ghost use Rattle.shadow_top.specs.FirstFault.{size_of, file, or_fault, or_elf_fault, configured, program, plan, IsReached};
-ghost use Rattle.shadow_top.specs.ShdConfig.{config_of_file};
-ghost use Rattle.shadow_top.specs.Stop.{Meets, FailsReading, CountsSource, NoOutside, NeverRefuses};
+ghost use Rattle.shadow_top.specs.ShdConfig.{config_of_file, IsShort};
+ghost use Rattle.shadow_top.specs.Stop.{Meets, FailsReading, CountsSource, NoOutside, NoWriteFailed, NeverRefuses};
 ghost use Rattle.elf_load.specs.Image.{image};
 
 use crate::command_line::config_name;
@@ -32,6 +32,7 @@ fn size_of_file<S: Source>(source: &mut S, told: Name) -> Result<(u64, Name), St
     ensures small { IfOk result (λ size. size.0 ≤ 16777216) }
     ensures same { S.held source.new ≡ S.held source.old }
     ensures count { CountsSource result (S.faults source.old) (S.faults source.new) }
+    ensures writes { NoWriteFailed result }
     ensures failed { FailsReading (λ name. name ≡ told) result }
 {
     match source.size(told.as_str()) {
@@ -55,6 +56,7 @@ fn bytes_of_file<S: Source>(alloc: Global, source: &mut S, size: u64, told: Name
     ensures refused { IfErr result NeverRefuses }
     ensures same { S.held source.new ≡ S.held source.old }
     ensures count { CountsSource result (S.faults source.old) (S.faults source.new) }
+    ensures writes { NoWriteFailed result }
     ensures failed { FailsReading (λ name. name ≡ told) result }
 {
     match read_all(alloc, source, told.as_str(), size as usize) {
@@ -69,6 +71,7 @@ fn read_file<S: Source>(alloc: Global, source: &mut S, name: &str) -> Result<Vec
     ensures told { IfSome (S.held source.old) (λ held. Meets (λ bytes. bytes.items) (file held name.now) result) }
     ensures same { S.held source.new ≡ S.held source.old }
     ensures count { CountsSource result (S.faults source.old) (S.faults source.new) }
+    ensures writes { NoWriteFailed result }
     ensures failed { FailsReading (λ failed. failed ≡ name.now) result }
 {
     let told = Name::from_str(alloc, name)?;
@@ -79,6 +82,7 @@ fn read_file<S: Source>(alloc: Global, source: &mut S, name: &str) -> Result<Vec
 /// The configuration in some bytes of a file.
 fn parse_config(alloc: Global, name: &str, bytes: &[u8]) -> Result<Config, Stop>
     ensures told { Meets (λ c. c) (or_fault (Fault.Unsupported name.now) (config_of_file bytes.now)) result }
+    ensures short { IfOk result IsShort }
     ensures count { NoOutside result }
 {
     match config_of(alloc, bytes) {
@@ -111,8 +115,10 @@ fn parse_image(alloc: Global, path: &str, bytes: &[u8]) -> Result<Image, Stop>
 fn read_config<S: Source>(alloc: Global, words: &[String], source: &mut S) -> Result<Config, Stop>
     ensures told { IfSome (S.held source.old)
         (λ held. Meets (λ c. c) (configured (map string_bytes words.now) held) result) }
+    ensures short { IfOk result IsShort }
     ensures same { S.held source.new ≡ S.held source.old }
     ensures count { CountsSource result (S.faults source.old) (S.faults source.new) }
+    ensures writes { NoWriteFailed result }
     ensures failed { FailsReading (λ name. config_name (map string_bytes words.now) ≡ Some name) result }
 {
     let Some(name) = config_name(words) else {
@@ -128,6 +134,7 @@ fn read_image<S: Source>(alloc: Global, path: &str, source: &mut S) -> Result<Im
     ensures told { IfSome (S.held source.old) (λ held. Meets (λ i. i) (program held path.now) result) }
     ensures same { S.held source.new ≡ S.held source.old }
     ensures count { CountsSource result (S.faults source.old) (S.faults source.new) }
+    ensures writes { NoWriteFailed result }
     ensures failed { FailsReading (λ name. name ≡ path.now) result }
 {
     let bytes = read_file(alloc, source, path)?;
@@ -138,8 +145,10 @@ fn read_image<S: Source>(alloc: Global, path: &str, source: &mut S) -> Result<Im
 #[tactic(auto, unfolding(crate::specs::FirstFault::plan))]
 pub fn make_plan<S: Source>(alloc: Global, words: &[String], source: &mut S) -> Result<Plan, Stop>
     ensures told { IfSome (S.held source.old) (λ held. Meets (λ p. p) (plan (map string_bytes words.now) held) result) }
+    ensures short { IfOk result (λ p. IsShort p.config) }
     ensures same { S.held source.new ≡ S.held source.old }
     ensures count { CountsSource result (S.faults source.old) (S.faults source.new) }
+    ensures writes { NoWriteFailed result }
     ensures failed { IfSome (S.held source.old)
         (λ held. FailsReading (IsReached (map string_bytes words.now) held) result) }
 {

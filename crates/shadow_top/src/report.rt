@@ -7,7 +7,7 @@ ghost use Rattle.shadow_top.specs.HostState.{process_state, process_stdout, proc
 ghost use Rattle.shadow_top.specs.OutText.{file_name, state_line};
 ghost use Rattle.shadow_top.specs.Pieces.{put_of, with_pieces, PutsFront};
 ghost use Rattle.shadow_top.specs.Shown.{first_id, meets, pieces, status_of};
-ghost use Rattle.shadow_top.specs.Stop.{CountsSink, NeverRefuses};
+ghost use Rattle.shadow_top.specs.Stop.{CountsSink, NeverRefuses, NoReadFailed};
 
 use crate::fault::Stop;
 use crate::host::Host;
@@ -139,6 +139,7 @@ pub fn report<K: Sink>(alloc: Global, sink: &mut K, world: &World) -> Result<u8,
         OnErr result (PutsFront (pieces (world_of world.now.host world.now.pending)) (K.content sink.old) (K.content sink.new))
     }
     ensures stop { IfErr result NeverRefuses }
+    ensures reads { NoReadFailed result }
     ensures count { CountsSink result (K.faults sink.old) (K.faults sink.new) }
 {
     let host = &world.host;

@@ -3,10 +3,9 @@
 ghost use Rattle.std.specs.Prelude.{◌≡◌, Option, option_map, IsTrue, IfOk, MatchResult, None, Some};
 ghost use Rattle.std.specs.List.{list_all};
 ghost use Rattle.shadow_top.specs.ConfigError.{RefusesConfig};
-ghost use Rattle.shadow_top.specs.ShdConfig.{behind, cut, places, configured, config, config_of_file, is_lower_case, is_null, is_word, is_stop, text_of};
+ghost use Rattle.shadow_top.specs.ShdConfig.{behind, cut, places, configured, config, config_of_file, is_lower_case, is_null, is_word, stop_of, is_stop, text_of, IsShort};
 
-use crate::units::read_time;
-use sim_base::{Name, NoMemory, Time};
+use sim_base::{Name, NoMemory, Time, read_time};
 use std::alloc::Global;
 
 /// What an experiment asks for.
@@ -89,6 +88,12 @@ fn is_stop(stop: Time) -> bool
     1 <= stop.nanos && stop.nanos <= 1 << 61
 }
 
+fn read_stop(text: &str) -> Option<Time>
+    ensures { result ≡ stop_of text.now }
+{
+    read_time(text)
+}
+
 /// What a text asks for, in its own words.
 #[derive(Clone, Copy)]
 struct Settings<'a> {
@@ -101,7 +106,7 @@ fn find_settings(text: &str) -> Option<Settings<'_>>
     ensures { option_map (λ s. configured s.stop s.host.now s.path.now) result ≡ config text.now }
 {
     let places = find_places(text)?;
-    let stop = read_time(places.time)?;
+    let stop = read_stop(places.time)?;
     if is_stop(stop) && is_word(places.host) && is_word(places.path) {
         Some(Settings {
             stop,
@@ -151,7 +156,8 @@ fn file_settings(bytes: &[u8]) -> Option<Settings<'_>>
 
 /// The configuration of a file.
 pub fn config_of(alloc: Global, bytes: &[u8]) -> Result<Config, ConfigError>
-    ensures { MatchResult result (λ c. config_of_file bytes.now ≡ Some c) (RefusesConfig (config_of_file bytes.now)) }
+    ensures told { MatchResult result (λ c. config_of_file bytes.now ≡ Some c) (RefusesConfig (config_of_file bytes.now)) }
+    ensures short { IfOk result IsShort }
 {
     match file_settings(bytes) {
         None => Err(ConfigError::Unsupported),
