@@ -1,12 +1,12 @@
 -- A text that has a configuration is the one with its values in the three places.
-use Rattle.std.proofs.Common.{◌≡◌, ℕ, suc, ◌+◌, ◌<◌, ◌≤◌, ◌^◌, Bool, true, false, ◌&&◌, not, List, [], ◌∷◌, ◌++◌, length, drop, get_or, Option, Some, None, refl, sym, ap, subst, ◌∙◌, arith, rules, IsTrue, nat_le, codes}
+use Rattle.std.proofs.Common.{◌≡◌, ℕ, suc, ◌<◌, ◌≤◌, ◌^◌, Bool, true, false, ◌&&◌, not, List, [], ◌∷◌, ◌++◌, length, drop, get_or, Option, Some, None, refl, ap, subst, ◌∙◌, arith, rules, nat_le}
 use Rattle.std.specs.List.{starts_with, list_all, position_or_len, before_first, after_first}
-use Rattle.std.specs.Prelude.{nat_eq, nat_lt, ◌==◌, if◌then◌else◌}
+use Rattle.std.specs.Prelude.{nat_eq, nat_lt, ◌==◌}
 use Rattle.std.proofs.lemmas.Bool.Decides.{Decides-eqb}
 use Rattle.std.proofs.lemmas.Slice.Eq.{starts_is}
 use Rattle.std.proofs.lemmas.List.Sums.{split_at_first, passes_at_first}
 use Rattle.sim_base.specs.declared.time.Time.{Time}
-use Rattle.shadow_top.specs.ShdConfig.{behind, cut, is_lower_case, is_null, when, places, configured, config, config_of_file, text_of, is_text, is_word, is_stop, stop_of, written, before_time, before_host, before_path, IsWritten, IsShort, ◌>>=◌}
+use Rattle.shadow_top.specs.ShdConfig.{behind, cut, is_lower_case, is_null, when, places, configured, config, config_of_file, text_of, is_word, is_stop, stop_of, written, before_time, before_host, before_path, IsWritten, IsShort, ◌>>=◌}
 use Rattle.shadow_top.specs.declared.shd_config.Config.{Config}
 
 -- a step that gave something

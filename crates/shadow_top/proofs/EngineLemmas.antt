@@ -1,14 +1,14 @@
 -- The engine's turns are those of the world.
-use Rattle.std.proofs.Common.{◌≡◌, ℕ, ◌+◌, ◌-◌, ◌<◌, ◌≤◌, Bool, true, false, cond, List, [], ◌∷◌, ◌++◌, Option, Some, None, refl, sym, ap, subst, ◌∙◌, arith, rules, nat_lt, IfSome}
+use Rattle.std.proofs.Common.{◌≡◌, ℕ, ◌+◌, ◌-◌, ◌<◌, ◌≤◌, Bool, true, false, List, [], ◌∷◌, Option, Some, None, refl, ap, subst, ◌∙◌, arith, rules, nat_lt, IfSome}
 use Rattle.std.specs.Option.{option_to_list}
-use Rattle.std.specs.Prelude.{slice_get, slice_set, if◌then◌else◌}
+use Rattle.std.specs.Prelude.{slice_get, if◌then◌else◌}
 use Rattle.sim_base.specs.declared.event.Event.{Event}
 use Rattle.sim_base.specs.declared.key.Key.{Key}
 use Rattle.sim_base.specs.declared.time.Time.{Time}
 use Rattle.shadow_top.specs.Engine.{host_record, world_of, LeavesHost, IsOwn, Follows}
 use Rattle.shadow_top.specs.HostState.{HostRecord, Fired, fire}
 use Rattle.shadow_top.specs.Shown.{net_of}
-use Rattle.shadow_top.specs.World.{World, next, fires, fires_at, after_firing, by_least}
+use Rattle.shadow_top.specs.World.{World, next, fires, fires_at, after_firing}
 use Rattle.shadow_top.specs.declared.host.Host.{Host}
 
 -- how long it is from the event that waits to the stop

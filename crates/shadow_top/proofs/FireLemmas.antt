@@ -1,7 +1,6 @@
 -- The one host's events, as they fire.
-use Rattle.std.proofs.Common.{◌≡◌, ℕ, ◌+◌, Bool, List, [], ◌∷◌, Option, refl, ap, sym, ◌∙◌}
+use Rattle.std.proofs.Common.{◌≡◌, ℕ, Bool, [], ◌∷◌, ap, sym, ◌∙◌}
 use Rattle.sim_base.specs.declared.event.Event.{Event}
-use Rattle.sim_base.specs.declared.event.What.{What}
 use Rattle.sim_base.specs.declared.event.What.TheVariants as what
 use Rattle.shadow_top.specs.Engine.{host_record, process_record}
 use Rattle.shadow_top.specs.Guest.{started}

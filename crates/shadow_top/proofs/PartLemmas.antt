@@ -1,10 +1,9 @@
 -- What stands where, when only a part of the pieces was put.
-use Rattle.std.proofs.Common.{◌≡◌, ℕ, ◌≤◌, ◌⊎◌, inl, inr, ⊎_elim, Bool, true, false, List, [], ◌∷◌, ◌++◌, length, take, drop, Option, Some, None, option_map, refl, sym, ap, subst, ◌∙◌, append_assoc, append-nil}
+use Rattle.std.proofs.Common.{◌≡◌, ℕ, ◌≤◌, inl, inr, ⊎_elim, Bool, true, false, List, [], ◌∷◌, ◌++◌, length, take, drop, Option, Some, None, option_map, refl, sym, ap, ◌∙◌, append_assoc, append-nil}
 use Rattle.std.specs.Prelude.{if◌then◌else◌}
 use Rattle.std.specs.Option.{unwrap_or}
 use Rattle.std.specs.Str.{bytes_eq}
 use Rattle.std.proofs.lemmas.List.{take-append-drop}
-use Rattle.sim_base.specs.Files.{Held, add_to_file}
 use Rattle.sim_base.specs.Sink.{Content, add, begun, AddsFront}
 use Rattle.sim_base.specs.declared.outside.sink.Place.{Place}
 use Rattle.sim_base.specs.declared.outside.sink.Place.TheVariants as place

@@ -1,7 +1,7 @@
 -- Pieces that are put one after another.
-use Rattle.std.proofs.Common.{◌≡◌, ℕ, zero, suc, ◌+◌, ◌<◌, List, [], ◌∷◌, length, get_or, drop, map, Option, Some, None, option_map, refl, sym, ap, subst, ◌∙◌, arith, inl, inr, Result, Ok, Err, OnErr}
-use Rattle.sim_base.specs.Sink.{Content, add, AddsFront}
-use Rattle.shadow_top.specs.Pieces.{Put, put_of, with_pieces, PutsFront}
+use Rattle.std.proofs.Common.{◌≡◌, ℕ, zero, suc, ◌+◌, ◌<◌, List, [], ◌∷◌, length, get_or, drop, map, Option, Some, None, option_map, refl, sym, ap, ◌∙◌, arith, Result, Ok, Err, OnErr}
+use Rattle.sim_base.specs.Sink.{Content, add}
+use Rattle.shadow_top.specs.Pieces.{Put, put_of, with_pieces}
 use Rattle.shadow_top.specs.declared.output.Piece.{Piece}
 
 -- the pieces from one on are that one and those behind it

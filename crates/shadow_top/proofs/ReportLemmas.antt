@@ -4,7 +4,7 @@ use Rattle.std.specs.Option.{option_to_list}
 use Rattle.std.specs.Prelude.{if◌then◌else◌, flat_map}
 use Rattle.sim_base.specs.declared.event.Event.{Event}
 use Rattle.sim_base.specs.declared.outside.sink.Place.TheVariants as place
-use Rattle.shadow_top.specs.Engine.{world_of, process_record, own_pieces, own_unmet}
+use Rattle.shadow_top.specs.Engine.{world_of, own_pieces, own_unmet}
 use Rattle.shadow_top.specs.HostState.{HostRecord, process_state}
 use Rattle.shadow_top.specs.OutText.{state_line}
 use Rattle.shadow_top.specs.Pieces.{Put, put_of}

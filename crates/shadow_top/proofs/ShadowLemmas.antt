@@ -1,5 +1,5 @@
 -- What the steps of the program leave, put together.
-use Rattle.std.proofs.Common.{◌≡◌, ℕ, ◌+◌, ◌≤◌, ◌<◌, ◌⊎◌, inl, inr, ⊎_elim, Bool, true, false, List, [], ◌∷◌, ◌++◌, Option, Some, None, option_map, Result, Ok, Err, IfSome, IfOk, IfErr, OnOk, OnErr, refl, sym, ap, subst, ◌∙◌, arith}
+use Rattle.std.proofs.Common.{◌≡◌, ℕ, ◌≤◌, ◌⊎◌, inl, inr, ⊎_elim, Bool, true, false, List, [], ◌∷◌, Option, Some, None, option_map, Result, Ok, Err, IfSome, IfOk, IfErr, OnOk, OnErr, refl, sym, ap, subst, ◌∙◌, arith}
 use Rattle.std.specs.Prelude.{if◌then◌else◌}
 use Rattle.sim_base.specs.Faults.{Rose}
 use Rattle.sim_base.specs.Files.{Held}
@@ -8,9 +8,9 @@ use Rattle.sim_base.specs.declared.outside.sink.Place.TheVariants as place
 use Rattle.shadow_top.specs.Contract.{Shows, TellsReadFailed, ShowsPart, TellsPart, Runs, TellsLine, Tells, read_failed_line}
 use Rattle.shadow_top.specs.FirstFault.{Input, accepted, plan, data_directory, line_of, IsReached, ◌>>=◌}
 use Rattle.shadow_top.specs.Outcome.{Told, Outcome, showed, failed_reading, failed_writing, wanted_memory}
-use Rattle.shadow_top.specs.Pieces.{Put, with_pieces, PutsFront, IsPart}
+use Rattle.shadow_top.specs.Pieces.{Put, with_pieces, PutsFront}
 use Rattle.shadow_top.specs.ShadowInput.{input, directory_fault, RunsPlan}
-use Rattle.shadow_top.specs.Shown.{IsShown, ShowsBy, IsRun, opening_world, net_of, pieces, status_of}
+use Rattle.shadow_top.specs.Shown.{IsShown, ShowsBy, opening_world, net_of, pieces, status_of}
 use Rattle.shadow_top.specs.Stop.{Meets, FailsReading, CountsSource, CountsSink, NoReadFailed, NeverRefuses}
 use Rattle.shadow_top.specs.World.{World, IsResult}
 use Rattle.shadow_top.specs.declared.fault.Fault.{Fault}
@@ -18,7 +18,7 @@ use Rattle.shadow_top.specs.declared.fault.Fault.TheVariants.{Exists}
 use Rattle.shadow_top.specs.declared.fault.Stop.{Stop}
 use Rattle.shadow_top.specs.declared.fault.Stop.TheVariants.{Refused, ReadFailed, WriteFailed, NoMemory}
 use Rattle.shadow_top.specs.declared.plan.Plan.{Plan}
-use Rattle.shadow_top.proofs.PartLemmas.{Grows, Grows-refl, Grows-trans, Grows-with_pieces, IsPrefix, Between, between-puts, part-begun, part-same, part-line}
+use Rattle.shadow_top.proofs.PartLemmas.{Grows, Grows-refl, Grows-with_pieces, IsPrefix, between-puts, part-begun, part-same, part-line}
 use Rattle.shadow_top.proofs.WorldLaws.{IsResult-exists}
 
 -- ---- what is shown

@@ -1,5 +1,5 @@
 -- A slice, a call at a time.
-use Rattle.std.proofs.Common.{◌≡◌, ℕ, suc, zero, ◌∙◌, ap}
+use Rattle.std.proofs.Common.{◌≡◌, ℕ, suc, ◌∙◌, ap}
 use Rattle.shadow_top.specs.HostState.{slice, after_call, by_call}
 use Rattle.shadow_top.specs.declared.guest.Guest.{Guest}
 use Rattle.shadow_top.specs.declared.host_state.Ended.{Ended}

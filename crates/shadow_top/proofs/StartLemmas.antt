@@ -1,5 +1,5 @@
 -- A guest at its start, with one argument and no environment.
-use Rattle.std.proofs.Common.{◌≡◌, ℕ, ◌-◌, ◌*◌, List, [], ◌∷◌, ◌++◌, length, refl, ap, sym, ◌∙◌, append-nil, replicate, slice_set}
+use Rattle.std.proofs.Common.{◌≡◌, ℕ, ◌-◌, List, [], ◌∷◌, ◌++◌, length, ap, sym, ◌∙◌, append-nil, replicate, slice_set}
 use Rattle.elf_load.specs.ProgramImage.{ProgramImage}
 use Rattle.guest_mem.specs.Memory.{Memory}
 use Rattle.guest_mem.specs.Opening.{opening}

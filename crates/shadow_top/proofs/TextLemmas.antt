@@ -1,5 +1,5 @@
 -- Parts of a text.
-use Rattle.std.proofs.Common.{◌≡◌, ℕ, Bool, true, false, List, length, take, drop, Option, Some, None, MatchOption, refl, sym, ◌∙◌, ap, option_map, cond}
+use Rattle.std.proofs.Common.{◌≡◌, ℕ, true, false, List, length, drop, Option, Some, None, MatchOption, refl, sym, ◌∙◌, ap, option_map, cond}
 use Rattle.std.specs.Str.Pattern.{FindsTextPrefix, StripsPrefix}
 use Rattle.std.specs.List.{starts_with}
 use Rattle.std.specs.Prelude.{nat_eq}

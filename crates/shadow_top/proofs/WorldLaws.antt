@@ -1,13 +1,13 @@
 -- A run has exactly one result.
-use Rattle.std.proofs.Common.{◌≡◌, ◌≢◌, ℕ, zero, suc, ◌+◌, ◌-◌, ◌<◌, ◌≤◌, ◌⊎◌, inl, inr, ⊎_elim, Bool, true, false, List, [], ◌∷◌, ◌++◌, Option, Some, None, refl, sym, ap, subst, ◌∙◌, arith, rules, nat_lt}
+use Rattle.std.proofs.Common.{◌≡◌, ℕ, zero, suc, ◌+◌, ◌-◌, ◌<◌, ◌⊎◌, inl, inr, ⊎_elim, Bool, true, false, List, [], ◌∷◌, ◌++◌, Option, Some, None, refl, sym, subst, ◌∙◌, arith, rules, nat_lt}
 use Rattle.std.specs.Prelude.{slice_get, slice_set, if◌then◌else◌}
 use Rattle.sim_base.specs.declared.event.Event.{Event}
 use Rattle.sim_base.specs.declared.event.What.{What}
 use Rattle.sim_base.specs.declared.event.What.TheVariants as what
 use Rattle.sim_base.specs.declared.key.Key.{Key}
 use Rattle.shadow_top.specs.EventOrder.{take_least, taken_with, is_before}
-use Rattle.shadow_top.specs.HostState.{HostRecord, ProcessRecord, Fired, fire, by_what, acts_on, with_process, makes, go, nothing_happens, starts, goes_on}
-use Rattle.shadow_top.specs.World.{World, Net, next, by_least, fires, fires_at, after_firing, IsResult, is_over, goes_on as turn_on}
+use Rattle.shadow_top.specs.HostState.{HostRecord, ProcessRecord, fire, by_what, acts_on, with_process, go, nothing_happens, starts, goes_on}
+use Rattle.shadow_top.specs.World.{World, Net, next, by_least, fires, fires_at, IsResult, is_over, goes_on as turn_on}
 use Rattle.shadow_top.specs.declared.host_state.Process.{Process}
 
 -- ---- at most one

@@ -1,5 +1,5 @@
 -- What the program promises of its status and of what stands where after it.
-use Rattle.std.specs.Prelude.{◌≡◌, ℕ, ◌+◌, ◌<◌, ◌≤◌, ◌⊎◌, List, Option, Some, None, option_map, Result, Ok, Err, codes}
+use Rattle.std.specs.Prelude.{◌≡◌, ℕ, ◌⊎◌, List, Option, Some, option_map, Result, Ok, Err, codes}
 use Rattle.sim_base.specs.Faults.{Rose}
 use Rattle.sim_base.specs.Sink.{Content, add, AddsFront}
 use Rattle.sim_base.specs.declared.outside.sink.Place.TheVariants as place
@@ -7,7 +7,6 @@ use Rattle.shadow_top.specs.FirstFault.{Input, accepted, line_of, IsReached}
 use Rattle.shadow_top.specs.OutText.{file_line}
 use Rattle.shadow_top.specs.Pieces.{IsPart}
 use Rattle.shadow_top.specs.Shown.{IsShown}
-use Rattle.shadow_top.specs.declared.fault.Fault.{Fault}
 use Rattle.shadow_top.specs.declared.fault.Stop.{Stop}
 use Rattle.shadow_top.specs.declared.fault.Stop.TheVariants.{Refused, ReadFailed, WriteFailed, NoMemory}
 

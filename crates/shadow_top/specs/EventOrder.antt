@@ -1,5 +1,5 @@
 -- The event of least key in a list of events.
-use Rattle.std.specs.Prelude.{ℕ, Bool, List, [], ◌∷◌, Option, Some, None, if◌then◌else◌}
+use Rattle.std.specs.Prelude.{Bool, List, [], ◌∷◌, Option, Some, None, if◌then◌else◌}
 use Rattle.std.specs.Ordering.{is_lt}
 use Rattle.sim_base.specs.Key.{key_order}
 use Rattle.sim_base.specs.declared.event.Event.{Event}

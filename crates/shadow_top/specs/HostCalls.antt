@@ -1,5 +1,5 @@
 -- The system calls of the first profile, a row each. Numbers and errors are those of Linux for 32-bit RISC-V.
-use Rattle.std.specs.Prelude.{ℕ, ◌+◌, ◌-◌, ◌*◌, ◌%◌, ◌^◌, min, ◌||◌, ◌==◌, if◌then◌else◌, List, [], length, Option, Some, None, slice_index}
+use Rattle.std.specs.Prelude.{ℕ, ◌-◌, ◌%◌, ◌^◌, min, ◌||◌, ◌==◌, if◌then◌else◌, List, [], length, Option, Some, None, slice_index}
 use Rattle.sim_base.specs.Errno.{errno_number}
 use Rattle.sim_base.specs.declared.errno.Errno.{Errno}
 use Rattle.sim_base.specs.declared.errno.Errno.TheVariants.{Ebadf, Efault, Enosys}

@@ -1,11 +1,10 @@
 -- What one event does to one host.
-use Rattle.std.specs.Prelude.{◌≡◌, ℕ, zero, suc, ◌+◌, ◌-◌, ◌^◌, Bool, true, false, nat_lt, if◌then◌else◌, List, [], ◌∷◌, ◌++◌, Option, Some, None, slice_get, slice_set}
+use Rattle.std.specs.Prelude.{ℕ, zero, suc, ◌+◌, ◌-◌, ◌^◌, Bool, true, false, nat_lt, if◌then◌else◌, List, [], ◌∷◌, Option, Some, None, slice_get, slice_set}
 use Rattle.sim_base.specs.declared.event.Event.{Event}
 use Rattle.sim_base.specs.declared.event.What.{What}
 use Rattle.sim_base.specs.declared.event.What.TheVariants as what
 use Rattle.sim_base.specs.declared.key.Key.{Key}
 use Rattle.sim_base.specs.declared.key.Kind.TheVariants as kind
-use Rattle.sim_base.specs.declared.host.HostId.{HostId}
 use Rattle.sim_base.specs.declared.signal.Signal.TheVariants.{SigXcpu}
 use Rattle.sim_base.specs.declared.state.State.{State}
 use Rattle.sim_base.specs.declared.state.State.TheVariants as state_of
@@ -14,7 +13,7 @@ use Rattle.rv32_machine.specs.Table.{state}
 use Rattle.rv32_machine.specs.Turn.{Turn, turn}
 use Rattle.rv32_machine.specs.declared.outcome.TurnEnd.{TurnEnd}
 use Rattle.rv32_machine.specs.declared.outcome.TurnEnd.TheVariants as end
-use Rattle.shadow_top.specs.HostCalls.{Called, call}
+use Rattle.shadow_top.specs.HostCalls.{call}
 use Rattle.shadow_top.specs.Guest.{called, call_number, call_arguments, answered, started}
 use Rattle.shadow_top.specs.declared.guest.Guest.{Guest}
 use Rattle.shadow_top.specs.declared.host_calls.Answer.{Answer}

@@ -1,5 +1,5 @@
 -- The exact bytes of each line and file name that the simulator writes (this project's own profile).
-use Rattle.std.specs.Prelude.{ℕ, List, [], ◌++◌, codes}
+use Rattle.std.specs.Prelude.{ℕ, List, ◌++◌, codes}
 use Rattle.std.specs.Fmt.{decimal}
 use Rattle.sim_base.specs.Signal.{signal_name}
 use Rattle.sim_base.specs.declared.state.State.{State}

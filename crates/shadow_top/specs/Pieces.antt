@@ -1,6 +1,5 @@
 -- Pieces that are put in order, and what stands where when some of them were put.
 use Rattle.std.specs.Prelude.{◌≡◌, ℕ, List, [], ◌∷◌, ◌++◌, ◌⊎◌, Option, Some, None, option_map}
-use Rattle.sim_base.specs.Files.{Held}
 use Rattle.sim_base.specs.Sink.{Content, add, AddsFront}
 use Rattle.sim_base.specs.declared.outside.sink.Place.{Place}
 use Rattle.shadow_top.specs.declared.output.Piece.{Piece}

@@ -1,5 +1,5 @@
 -- The input of the top call, and what its steps leave.
-use Rattle.std.specs.Prelude.{◌≡◌, ℕ, List, Option, Some, None, Result, Ok, Err, if◌then◌else◌}
+use Rattle.std.specs.Prelude.{◌≡◌, ℕ, List, Option, Some, Result, Ok, Err, if◌then◌else◌}
 use Rattle.sim_base.specs.Files.{Held}
 use Rattle.sim_base.specs.Sink.{Content}
 use Rattle.shadow_top.specs.Engine.{world_of}

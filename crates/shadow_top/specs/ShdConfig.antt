@@ -1,12 +1,11 @@
 -- The configuration file of the first profile: eleven lines, each with its line end, in which three places may differ.
 -- The whole of the format is that of Shadow's configuration files (YAML 1.2).
-use Rattle.std.specs.Prelude.{◌≡◌, ◌≤◌, ◌<◌, ℕ, ◌+◌, ◌-◌, ◌^◌, Bool, ◌&&◌, not, nat_le, nat_lt, nat_eq, if◌then◌else◌, List, [], ◌∷◌, ◌++◌, length, take, drop, Option, Some, None, option_map, codes, ◌==◌, IsTrue}
+use Rattle.std.specs.Prelude.{◌≡◌, ◌≤◌, ◌<◌, ℕ, ◌^◌, Bool, ◌&&◌, not, nat_le, nat_lt, nat_eq, if◌then◌else◌, List, ◌++◌, length, drop, Option, Some, None, option_map, codes, ◌==◌, IsTrue}
 use Rattle.std.specs.List.{starts_with, list_all, before_first, after_first, position_or_len}
 use Rattle.sim_base.specs.Quantity.{time_of_text}
 use Rattle.std.specs.Str.Lossy.{utf8_valid_len}
 use Rattle.sim_base.specs.declared.time.Time.{Time}
 use Rattle.shadow_top.specs.declared.shd_config.Config.{Config}
-use Rattle.shadow_top.specs.declared.shd_config.Places.{Places}
 
 -- the lines before the stop time, the lines from it to the host's name, and those from the name to the program's path
 abbrev pub before_time : List ℕ

@@ -1,7 +1,6 @@
 -- What the program shows for an input.
-use Rattle.std.specs.Prelude.{◌≡◌, ℕ, ◌+◌, List, [], ◌∷◌, ◌++◌, Result, Ok, Err, Bool, true, false, not, if◌then◌else◌, flat_map, codes, ◌==◌}
+use Rattle.std.specs.Prelude.{◌≡◌, ℕ, ◌+◌, List, [], ◌∷◌, ◌++◌, Result, Ok, Err, Bool, true, false, if◌then◌else◌, flat_map, codes, ◌==◌}
 use Rattle.sim_base.specs.Sink.{Content, add, begun}
-use Rattle.sim_base.specs.declared.outside.sink.Place.{Place}
 use Rattle.sim_base.specs.declared.outside.sink.Place.TheVariants as place
 use Rattle.sim_base.specs.declared.state.State.{State}
 use Rattle.sim_base.specs.declared.state.State.TheVariants.{NotStarted, Running, Exited, Signaled}

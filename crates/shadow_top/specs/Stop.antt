@@ -1,5 +1,5 @@
 -- Why a call stops before its end.
-use Rattle.std.specs.Prelude.{◌≡◌, ℕ, List, Option, Result, Ok, Err}
+use Rattle.std.specs.Prelude.{◌≡◌, ℕ, List, Result, Ok, Err}
 use Rattle.sim_base.specs.Faults.{Rose}
 use Rattle.shadow_top.specs.declared.fault.Fault.{Fault}
 use Rattle.shadow_top.specs.declared.fault.Stop.{Stop}

@@ -1,4 +1,4 @@
-use Rattle.std.proofs.Common.{◌≡◌, ℕ, length, Bool, true, false, None, cond, Option, subst, sym, arith}
+use Rattle.std.proofs.Common.{◌≡◌, length, true, None, subst, sym, arith}
 use Rattle.guest_mem.specs.Memory.{Memory, write, read}
 use Rattle.guest_mem.specs.declared.right.Right.TheVariants.{Write}
 use Rattle.guest_mem.specs.Opening.{stack_base}

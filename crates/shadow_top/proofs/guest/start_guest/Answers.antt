@@ -1,6 +1,6 @@
 use Rattle.std.proofs.Common.{◌≡◌, ℕ, ◌-◌, List, [], ◌∷◌, ◌++◌, length, ap, sym, ◌∙◌, subst, rules}
 use Rattle.guest_mem.specs.Memory.{Memory}
-use Rattle.guest_mem.specs.Opening.{opening, stack_base}
+use Rattle.guest_mem.specs.Opening.{stack_base}
 use Rattle.shadow_top.specs.Stack.{IsWritable}
 use Rattle.shadow_top.proofs.StackLemmas.{IsWritable-opening}
 use Rattle.shadow_top.specs.Guest.{word_bytes, filled, rounded_down}

@@ -1,7 +1,7 @@
 use Rattle.std.proofs.Common.{◌≡◌, ◌+◌, ◌-◌, suc, sym, ◌∙◌, arith}
 use Rattle.shadow_top.specs.declared.host_state.TheConstants.{BUDGET}
 use Rattle.shadow_top.specs.declared.host_state.AfterCall.TheVariants as after
-use Rattle.shadow_top.specs.HostState.{after_call, slice, calls_in_a_slice}
+use Rattle.shadow_top.specs.HostState.{after_call, calls_in_a_slice}
 use Rattle.shadow_top.proofs.SliceLemmas.{slice_goes_on, slice_ends, slice_pauses}
 use Rattle.shadow_top.proofs.host_state.run_slice.Goals as goal
 

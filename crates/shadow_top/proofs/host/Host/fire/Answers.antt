@@ -1,11 +1,8 @@
-use Rattle.std.proofs.Common.{◌≡◌, [], ◌∷◌, sym, ap, subst, ◌∙◌}
+use Rattle.std.proofs.Common.{◌≡◌, [], ◌∷◌, ap, subst, ◌∙◌}
 use Rattle.shadow_top.specs.declared.host_state.TheConstants.{BUDGET}
-use Rattle.sim_base.specs.declared.event.What.{What}
 use Rattle.shadow_top.specs.Engine.{LeavesHost, IsOfFirst}
 use Rattle.shadow_top.specs.Guest.{started}
 use Rattle.shadow_top.specs.HostState.{Fired, runs, goes_on}
-use Rattle.shadow_top.specs.declared.guest.Guest.{Guest}
-use Rattle.shadow_top.specs.declared.host_state.Process.{Process}
 use Rattle.shadow_top.proofs.FireLemmas.{fire-start, fire-go}
 use Rattle.shadow_top.proofs.host.Host.fire.Goals as goal
 

@@ -1,0 +1,17 @@
+/* A guest lies from 0x10000 on: code, then data in pages of its own. */
+ENTRY(_start)
+PHDRS
+{
+    code PT_LOAD FLAGS(5);
+    data PT_LOAD FLAGS(6);
+}
+SECTIONS
+{
+    . = 0x10000;
+    .text : { *(.text .text.*) } :code
+    .rodata : { *(.rodata .rodata.* .srodata .srodata.*) } :code
+    . = ALIGN(4096);
+    .data : { *(.data .data.*) __global_pointer$ = . + 0x800; *(.sdata .sdata.*) } :data
+    .bss : { *(.sbss .sbss.* .bss .bss.* COMMON) } :data
+    /DISCARD/ : { *(.comment .riscv.attributes .note.* .eh_frame) }
+}
