@@ -1,0 +1,106 @@
+//! The console and a directory of the machine, as a sink.
+
+ghost use Rattle.std.specs.Prelude.{◌≡◌, ◌<◌, ◌≤◌, length, IfOk};
+
+use sim_base::{Place, Sink, WriteError};
+use std::alloc::Global;
+use std::fs;
+use std::fs::{Files, OpenOptions};
+use std::io::{self, ErrorKind, Write};
+
+/// Writes to two streams and to the files of a directory that it makes. It tells no bytes, and counts each failure but
+/// want of memory.
+#[derive(Drop)]
+pub struct DiskSink<'a, R, O, E> {
+    files: &'a R,
+    out: O,
+    err: E,
+    /// The directory that was begun, with a slash at its end.
+    directory: String,
+    faults: u64,
+}
+
+impl<'a, R: Files + AllocGlobal, O: Write, E: Write> DiskSink<'a, R, O, E> {
+    pub fn new(files: &'a R, out: O, err: E) -> DiskSink<'a, R, O, E> {
+        DiskSink {
+            files,
+            out,
+            err,
+            directory: String::new(files.alloc()),
+            faults: 0,
+        }
+    }
+
+    /// Adds bytes to a file of the directory, whose parents are made where they are not there.
+    fn put_file(&self, name: &str, piece: &[u8]) -> io::Result<usize>
+        ensures { IfOk result (λ n. n ≤ length piece.now) }
+    {
+        let alloc: Global = self.files.alloc();
+        let directory = self.directory.as_str();
+        let path = format!(in alloc; "{directory}{name}")?;
+        if let Some((parent, _)) = path.as_str().rsplit_once('/') {
+            fs::create_dir_all(self.files, parent)?;
+        }
+        let mut options = OpenOptions::new();
+        options.append(true).create(true);
+        let mut file = options.open(self.files, path.as_str())?;
+        file.write(piece)
+    }
+
+    fn put_some(&mut self, place: &Place, piece: &[u8]) -> io::Result<usize>
+        ensures fits { IfOk result (λ n. n ≤ length piece.now) }
+        ensures some { IfOk result (λ n. 0 < length piece.now → 0 < n) }
+        ensures faults { self.new.faults ≡ self.old.faults }
+    {
+        let taken = match place {
+            Place::Out => self.out.write(piece)?,
+            Place::Err => self.err.write(piece)?,
+            Place::File(name) => self.put_file(name.as_str(), piece)?,
+        };
+        if taken == 0 && !piece.is_empty() {
+            return Err(io::Error::from(ErrorKind::WriteZero));
+        }
+        Ok(taken)
+    }
+
+    fn make(&self, dir: &str) -> io::Result<String> {
+        let alloc: Global = self.files.alloc();
+        let directory = format!(in alloc; "{dir}/")?;
+        fs::create_dir(self.files, dir)?;
+        Ok(directory)
+    }
+}
+
+impl<'a, R: Files + AllocGlobal, O: Write, E: Write> Sink for DiskSink<'a, R, O, E> {
+    ghost use Rattle.std.specs.Prelude.{None};
+
+    ghost content = { λ _. None };
+
+    ghost faults = { λ s. s.faults };
+
+    fn begin(&mut self, dir: &str) -> Result<bool, WriteError> {
+        match self.make(dir) {
+            Ok(directory) => {
+                self.directory = directory;
+                Ok(true)
+            }
+            Err(error) if error.kind() == ErrorKind::AlreadyExists => Ok(false),
+            Err(error) if error.kind() == ErrorKind::OutOfMemory => Err(WriteError::NoMemory),
+            Err(_) => {
+                self.faults = self.faults.saturating_add(1);
+                Err(WriteError::Failed)
+            }
+        }
+    }
+
+    fn put(&mut self, place: &Place, piece: &[u8]) -> Result<usize, WriteError> {
+        match self.put_some(place, piece) {
+            Ok(taken) => Ok(taken),
+            Err(error) if error.kind() == ErrorKind::OutOfMemory => Err(WriteError::NoMemory),
+            Err(_) => {
+                self.faults = self.faults.saturating_add(1);
+                Err(WriteError::Failed)
+            }
+        }
+    }
+}
