@@ -96,21 +96,27 @@ fn a_source_gives_its_files_and_its_faults(rt: HostRuntime) -> Result<(), Fail> 
 #[test]
 fn a_sink_keeps_what_it_is_given(rt: HostRuntime) -> Result<(), Fail> {
     let mut sink = MemSink::new(rt.alloc());
-    sink.fail_at(5)?;
-    let file = Place::File(Name::from_str(rt.alloc(), "f")?);
     assert_eq!(rt; sink.begin("d")?, true);
     assert_eq!(rt; sink.begin("d")?, false);
+    put_all(&mut sink, &Place::Out, b"out")?;
+    put_all(&mut sink, &Place::Err, b"err")?;
+    assert_eq!(rt; sink.has_directory("d"), true);
+    assert_eq!(rt; sink.out(), b"out".as_slice());
+    assert_eq!(rt; sink.err(), b"err".as_slice());
+    Ok(())
+}
+
+#[test]
+fn a_failed_put_adds_nothing(rt: HostRuntime) -> Result<(), Fail> {
+    let mut sink = MemSink::new(rt.alloc());
+    sink.fail_at(3)?;
+    let file = Place::File(Name::from_str(rt.alloc(), "f")?);
     put_all(&mut sink, &file, b"")?;
     put_all(&mut sink, &file, b"one")?;
     assert_eq!(rt; put_all(&mut sink, &file, b"lost"), Err(WriteError::Failed));
     put_all(&mut sink, &file, b" two")?;
-    put_all(&mut sink, &Place::Out, b"out")?;
-    put_all(&mut sink, &Place::Err, b"err")?;
-    assert_eq!(rt; sink.has_directory("d"), true);
     assert_eq!(rt; sink.file("f"), Some(b"one two".as_slice()));
     assert_eq!(rt; sink.file_count(), 1);
-    assert_eq!(rt; sink.out(), b"out".as_slice());
-    assert_eq!(rt; sink.err(), b"err".as_slice());
     Ok(())
 }
 
