@@ -1,14 +1,15 @@
 //! The system calls of the first profile.
 
-ghost use Rattle.std.specs.Prelude.{◌≡◌, ◌≤◌, IfOk, IfSome, length, option_map};
+ghost use Rattle.std.specs.Prelude.{◌≡◌, ◌≤◌, IfOk, IfSome, length, option_map, ◌++◌, OnOk};
 ghost use Rattle.guest_mem.specs.Memory.{read};
 ghost use Rattle.shadow_top.specs.HostCalls.{call, write_call, counted, refusal, writes};
 ghost use Rattle.shadow_top.specs.Guest.{DoesCall};
 
 use crate::guest::Guest;
 use guest_mem::{Mem, Right};
-use sim_base::{Errno, NoMemory, State};
+use sim_base::{Bytes, Errno, NoMemory, State};
 use std::alloc::Global;
+use std::mem;
 
 /// What a call answers.
 #[derive(Clone, Copy, Debug, PartialEq, Eq)]
@@ -48,16 +49,26 @@ fn guest_bytes(alloc: Global, memory: &Mem, at: u32, size: u32) -> Result<Option
     }
 }
 
-fn write_bytes(guest: &mut Guest, fd: u32, bytes: &[u8]) -> Result<Answer, NoMemory>
+/// Adds bytes to the end of a stream. After an error the stream is empty.
+fn append(alloc: Global, stream: &mut Bytes, bytes: &[u8]) -> Result<(), NoMemory>
+    ensures { OnOk result (stream.new ≡ stream.old ++ bytes.now) }
+{
+    let mut items = mem::replace(stream, Bytes::new(alloc)).into_vec();
+    items.extend_from_slice(bytes)?;
+    *stream = Bytes::from(items);
+    Ok(())
+}
+
+fn write_bytes(alloc: Global, guest: &mut Guest, fd: u32, bytes: &[u8]) -> Result<Answer, NoMemory>
     requires { length bytes.now ≤ 65536 }
     ensures { IfOk result (λ answer. DoesCall (writes fd bytes.now) guest.old guest.new answer) }
 {
     let written = bytes.len() as u32;
     if fd == 1 {
-        guest.stdout.extend_from_slice(bytes)?;
+        append(alloc, &mut guest.stdout, bytes)?;
         return Ok(Answer::Value(written));
     }
-    guest.stderr.extend_from_slice(bytes)?;
+    append(alloc, &mut guest.stderr, bytes)?;
     Ok(Answer::Value(written))
 }
 
@@ -68,7 +79,7 @@ fn write_call(alloc: Global, guest: &mut Guest, fd: u32, at: u32, size: u32) -> 
         return Ok(Answer::Value(refusal(Errno::Ebadf)));
     }
     match guest_bytes(alloc, &guest.memory, at, count(size))? {
-        Some(bytes) => write_bytes(guest, fd, &bytes),
+        Some(bytes) => write_bytes(alloc, guest, fd, &bytes),
         None => Ok(Answer::Value(refusal(Errno::Efault))),
     }
 }
