@@ -16,5 +16,8 @@ mod simulation;
 mod steal_workers;
 mod world;
 
+#[cfg(test)]
+mod tests;
+
 pub use simulation::shadow;
 pub use steal_workers::{Gate, OpenGate};
