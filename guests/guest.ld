@@ -1,4 +1,5 @@
-/* A guest lies from 0x10000 on: code, then data in pages of its own. */
+/* A guest lies from 0x10000 on: code that may be read and executed (flags 5), then data in pages of its own that may be
+ * read and written (flags 6). A guest without data has an empty second segment, which the loader passes over. */
 ENTRY(_start)
 PHDRS
 {

@@ -1,5 +1,6 @@
 /* The system calls of shadow's guests: number in a7, arguments in a0 to a5, answer in a0.
- * A refusal is the negative error number of Linux for 32-bit RISC-V. */
+ * A refusal is the negative error number of Linux for 32-bit RISC-V: -9 EBADF, -14 EFAULT, -38 ENOSYS.
+ * There are write (64), exit (93) and exit_group (94); every other number answers -ENOSYS. */
 #ifndef SHADOW_H
 #define SHADOW_H
 
@@ -16,13 +17,14 @@ static inline long shadow_call(long number, long a, long b, long c)
     return a0;
 }
 
-/* Writes up to 65,536 bytes to descriptor 1 or 2 and gives how many these were. */
+/* Writes the first 65,536 bytes, or all where there are fewer, to descriptor 1 or 2 and gives how many these were.
+ * -EBADF for another descriptor, -EFAULT where a byte may not be read. */
 static inline ssize_t write(int fd, const void *bytes, size_t size)
 {
     return shadow_call(64, fd, (long)bytes, (long)size);
 }
 
-/* Ends the process. */
+/* Ends the process with the status modulo 256. */
 static inline void exit(int status)
 {
     shadow_call(93, status, 0, 0);

@@ -1,4 +1,5 @@
-# The start of a guest: sp points to argc, and argv follows it.
+# The start of a guest: sp points to argc, and argv follows it. All other registers are 0. What main returns is the
+# status of exit (93); it has no environment to look at.
     .globl _start
 _start:
     .option push
