@@ -53,16 +53,20 @@ const HEAD: [u32; 17] = [
     1, 0, 0x10000, 0x10000,
 ];
 
+fn count(length: usize) -> u32 {
+    u32::try_from(length).unwrap_or(0)
+}
+
 /// An ELF file of one segment at 0x10000, which is the file itself, with code at 0x10054 and bytes behind it.
 fn program(alloc: Global, code: &[u32], tail: &[u8]) -> Result<Vec<u8>, Fail> {
     let mut file = Vec::new(alloc);
     for word in &HEAD {
         file.extend_from_slice(&word.to_le_bytes())?;
     }
-    let size = (code.len() as u32)
+    let size = count(code.len())
         .wrapping_mul(4)
         .wrapping_add(84)
-        .wrapping_add(tail.len() as u32);
+        .wrapping_add(count(tail.len()));
     for word in [size, size, 5, 4096] {
         file.extend_from_slice(&word.to_le_bytes())?;
     }
@@ -92,214 +96,152 @@ fn source(alloc: Global, text: &str, file: Vec<u8>) -> Result<MemSource, Fail> {
     Ok(source)
 }
 
-/// One run, and what it must show.
-#[derive(Clone, Copy)]
-struct Row<'a> {
-    name: &'a str,
-    words: &'a [&'a str],
-    text: &'a str,
-    code: &'a [u32],
-    tail: &'a [u8],
-    status: u8,
-    err: &'a str,
-    /// The final state and the sizes of what was written to descriptors 1 and 2, where a run was made.
-    exit: Option<(&'a str, usize, usize)>,
-}
-
 const CONFIG: [&str; 2] = ["shadow", "t.yaml"];
 
-fn check(rt: &(impl Abort + Threads + AllocGlobal), row: &Row<'_>) -> Result<(), Fail> {
+const USAGE: &str = "shadow: usage: shadow [options] CONFIG\n";
+
+/// A run over a configuration and a program.
+fn ran(
+    rt: &(impl Abort + Threads + AllocGlobal),
+    line: &[&str],
+    text: &str,
+    file: Vec<u8>,
+) -> Result<(u8, MemSink), Fail> {
     let alloc = rt.alloc();
-    let file = if row.code.is_empty() {
-        Vec::from_slice(alloc, row.tail)?
-    } else {
-        program(alloc, row.code, row.tail)?
-    };
-    let mut source = source(alloc, row.text, file)?;
+    let line = words(alloc, line)?;
+    let mut source = source(alloc, text, file)?;
     let mut sink = MemSink::new(alloc);
-    let status = shadow(
-        rt,
-        &words(alloc, row.words)?,
-        1,
-        &mut source,
-        &mut sink,
-        &OpenGate,
-    );
-    let name = row.name;
-    assert_eq!(rt; status, row.status, "{name}");
-    assert_eq!(rt; sink.err(), row.err.as_bytes(), "{name}");
-    assert_eq!(rt; sink.out().len(), 0, "{name}");
+    let status = shadow(rt, &line, 1, &mut source, &mut sink, &OpenGate);
+    assert_eq!(rt; sink.out().len(), 0);
+    Ok((status, sink))
+}
+
+/// The input is refused with this line.
+fn refuses(
+    rt: &(impl Abort + Threads + AllocGlobal),
+    line: &[&str],
+    text: &str,
+    file: Vec<u8>,
+    err: &str,
+) -> Result<(), Fail> {
+    let (status, sink) = ran(rt, line, text, file)?;
+    assert_eq!(rt; sink.err(), err.as_bytes());
+    assert_eq!(rt; status, 2, "{err}");
+    assert!(rt; !sink.has_directory("shadow.data"), "{err}");
+    assert_eq!(rt; sink.file_count(), 0, "{err}");
+    Ok(())
+}
+
+/// The program ends in this state, having written so many bytes to descriptors 1 and 2.
+fn ends(
+    rt: &(impl Abort + Threads + AllocGlobal),
+    file: Vec<u8>,
+    exit: &str,
+    out: usize,
+    err: usize,
+) -> Result<(), Fail> {
+    let (status, sink) = ran(rt, &CONFIG, TEXT, file)?;
     assert_eq!(rt;
-        sink.has_directory("shadow.data"),
-        row.exit.is_some(),
-        "{name}"
+        sink.file("hosts/a/hi.1000.exit").unwrap_or(b"none"),
+        exit.as_bytes()
     );
-    if let Some((exit, out, err)) = row.exit {
-        assert_eq!(rt;
-            sink.file("hosts/a/hi.1000.exit").unwrap_or(b"none"),
-            exit.as_bytes(),
-            "{name}"
-        );
-        assert_eq!(rt;
-            sink.file("hosts/a/hi.1000.stdout").unwrap_or(b"none").len(),
-            out,
-            "{name}"
-        );
-        assert_eq!(rt;
-            sink.file("hosts/a/hi.1000.stderr").unwrap_or(b"none").len(),
-            err,
-            "{name}"
-        );
-        assert_eq!(rt;
-            sink.file("packets.log").unwrap_or(b"none").len(),
-            0,
-            "{name}"
-        );
-        assert_eq!(rt; sink.file_count(), 4, "{name}");
-    } else {
-        assert_eq!(rt; sink.file_count(), 0, "{name}");
-    }
+    assert_eq!(rt;
+        sink.file("hosts/a/hi.1000.stdout").unwrap_or(b"none").len(),
+        out,
+        "{exit}"
+    );
+    assert_eq!(rt;
+        sink.file("hosts/a/hi.1000.stderr").unwrap_or(b"none").len(),
+        err,
+        "{exit}"
+    );
+    assert_eq!(rt;
+        sink.file("packets.log").unwrap_or(b"none").len(),
+        0,
+        "{exit}"
+    );
+    assert_eq!(rt; sink.file_count(), 4, "{exit}");
+    let met = exit == "exited 0\n";
+    assert_eq!(rt; status, if met { 0 } else { 1 }, "{exit}");
+    assert_eq!(rt; sink.err().is_empty(), met, "{exit}");
     Ok(())
 }
 
 #[test]
-fn shows_what_each_input_asks(rt: HostRuntime) -> Result<(), Fail> {
-    let usage = "shadow: usage: shadow [options] CONFIG\n";
-    let rows = [
-        Row {
-            name: "hi",
-            words: &CONFIG,
-            text: TEXT,
-            code: &HI,
-            tail: b"hi\n",
-            status: 0,
-            err: "",
-            exit: Some(("exited 0\n", 3, 0)),
-        },
-        Row {
-            name: "seven",
-            words: &CONFIG,
-            text: TEXT,
-            code: &SEVEN,
-            tail: b"",
-            status: 1,
-            err: "shadow: a/hi.1000: exited 7, expected exited 0\n",
-            exit: Some(("exited 7\n", 0, 0)),
-        },
-        Row {
-            name: "busy",
-            words: &CONFIG,
-            text: TEXT,
-            code: &BUSY,
-            tail: b"",
-            status: 1,
-            err: "shadow: a/hi.1000: signaled SIGXCPU, expected exited 0\n",
-            exit: Some(("signaled SIGXCPU\n", 0, 0)),
-        },
-        Row {
-            name: "forever",
-            words: &CONFIG,
-            text: TEXT,
-            code: &FOREVER,
-            tail: b"",
-            status: 1,
-            err: "shadow: a/hi.1000: running, expected exited 0\n",
-            exit: Some(("running\n", 1_000_000, 0)),
-        },
-        Row {
-            name: "writer",
-            words: &CONFIG,
-            text: TEXT,
-            code: &WRITER,
-            tail: b"err",
-            status: 0,
-            err: "",
-            exit: Some(("exited 0\n", 65_536, 3)),
-        },
-        Row {
-            name: "gml",
-            words: &CONFIG,
-            text: GML,
-            code: &HI,
-            tail: b"hi\n",
-            status: 2,
-            err: "shadow: t.yaml: unsupported\n",
-            exit: None,
-        },
-        Row {
-            name: "alone",
-            words: &["shadow"],
-            text: TEXT,
-            code: &HI,
-            tail: b"",
-            status: 2,
-            err: usage,
-            exit: None,
-        },
-        Row {
-            name: "option",
-            words: &["shadow", "-x"],
-            text: TEXT,
-            code: &HI,
-            tail: b"",
-            status: 2,
-            err: usage,
-            exit: None,
-        },
-        Row {
-            name: "three",
-            words: &["shadow", "t.yaml", "t.yaml"],
-            text: TEXT,
-            code: &HI,
-            tail: b"",
-            status: 2,
-            err: usage,
-            exit: None,
-        },
-        Row {
-            name: "none",
-            words: &[],
-            text: TEXT,
-            code: &HI,
-            tail: b"",
-            status: 2,
-            err: usage,
-            exit: None,
-        },
-        Row {
-            name: "junk",
-            words: &CONFIG,
-            text: TEXT,
-            code: &[],
-            tail: b"abc",
-            status: 2,
-            err: "shadow: hi: ELF truncated\n",
-            exit: None,
-        },
-        Row {
-            name: "gone",
-            words: &CONFIG,
-            text: GONE,
-            code: &HI,
-            tail: b"",
-            status: 2,
-            err: "shadow: gone: not found\n",
-            exit: None,
-        },
-        Row {
-            name: "no configuration",
-            words: &["shadow", "other.yaml"],
-            text: TEXT,
-            code: &HI,
-            tail: b"",
-            status: 2,
-            err: "shadow: other.yaml: not found\n",
-            exit: None,
-        },
-    ];
-    for row in &rows {
-        check(&rt, row)?;
-    }
+fn shows_what_each_program_does(rt: HostRuntime) -> Result<(), Fail> {
+    let alloc = rt.alloc();
+    let (status, sink) = ran(&rt, &CONFIG, TEXT, program(alloc, &HI, b"hi\n")?)?;
+    assert_eq!(rt; status, 0);
+    assert_eq!(rt;
+        sink.file("hosts/a/hi.1000.stdout").unwrap_or(b"none"),
+        b"hi\n".as_slice()
+    );
+    let (_, sink) = ran(&rt, &CONFIG, TEXT, program(alloc, &SEVEN, b"")?)?;
+    assert_eq!(rt;
+        sink.err(),
+        b"shadow: a/hi.1000: exited 7, expected exited 0\n".as_slice()
+    );
+    ends(&rt, program(alloc, &HI, b"hi\n")?, "exited 0\n", 3, 0)?;
+    ends(&rt, program(alloc, &SEVEN, b"")?, "exited 7\n", 0, 0)?;
+    ends(&rt, program(alloc, &BUSY, b"")?, "signaled SIGXCPU\n", 0, 0)?;
+    ends(
+        &rt,
+        program(alloc, &FOREVER, b"")?,
+        "running\n",
+        1_000_000,
+        0,
+    )?;
+    ends(
+        &rt,
+        program(alloc, &WRITER, b"err")?,
+        "exited 0\n",
+        65_536,
+        3,
+    )?;
+    Ok(())
+}
+
+#[test]
+fn refuses_each_input_with_its_line(rt: HostRuntime) -> Result<(), Fail> {
+    let alloc = rt.alloc();
+    refuses(
+        &rt,
+        &CONFIG,
+        GML,
+        Vec::new(alloc),
+        "shadow: t.yaml: unsupported\n",
+    )?;
+    refuses(
+        &rt,
+        &CONFIG,
+        GONE,
+        Vec::new(alloc),
+        "shadow: gone: not found\n",
+    )?;
+    refuses(
+        &rt,
+        &CONFIG,
+        TEXT,
+        Vec::from_slice(alloc, b"abc")?,
+        "shadow: hi: ELF truncated\n",
+    )?;
+    refuses(
+        &rt,
+        &["shadow", "other.yaml"],
+        TEXT,
+        Vec::new(alloc),
+        "shadow: other.yaml: not found\n",
+    )?;
+    refuses(&rt, &["shadow"], TEXT, Vec::new(alloc), USAGE)?;
+    refuses(&rt, &["shadow", "-x"], TEXT, Vec::new(alloc), USAGE)?;
+    refuses(
+        &rt,
+        &["shadow", "t.yaml", "t.yaml"],
+        TEXT,
+        Vec::new(alloc),
+        USAGE,
+    )?;
+    refuses(&rt, &[], TEXT, Vec::new(alloc), USAGE)?;
     Ok(())
 }
 
