@@ -44,7 +44,7 @@ assembled : (text t1 t3 t5 time g host n path rest : List ℕ) → text ≡ befo
     → n ≡ before_path ++ t5 → t5 ≡ path ++ (10 ∷ rest) → rest ≡ [] → text ≡ written time host path
 assembled text t1 t3 t5 time g host n path rest e1 e2 e3 e4 e5 e6 e7 =
     e1 ∙ ap (λ (x : List ℕ). before_time ++ x) (e2 ∙ ap (λ (x : List ℕ). time ++ (10 ∷ x)) (e3 ∙ ap (λ (x : List ℕ). before_host ++ x)
-        (e4 ∙ ap (λ (x : List ℕ). host ++ (58 ∷ x)) (e5 ∙ ap (λ (x : List ℕ). before_path ++ x) (e6 ∙ ap (λ (x : List ℕ). path ++ (10 ∷ x)) e7)))))
+    (e4 ∙ ap (λ (x : List ℕ). host ++ (58 ∷ x)) (e5 ∙ ap (λ (x : List ℕ). before_path ++ x) (e6 ∙ ap (λ (x : List ℕ). path ++ (10 ∷ x)) e7)))))
 
 no_length : (xs : List ℕ) → (length xs == 0) ≡ true → xs ≡ []
 no_length [] is = refl
@@ -62,8 +62,8 @@ placed text p is =
     let (ends, same) = when_some (length p6.1 == 0) (p2.0, (p4.0, p6.0)) p then6 in
     subst (λ (q : List ℕ × (List ℕ × List ℕ)). text ≡ written q.0 q.1.0 q.1.1) same
     (assembled text t1 t3 t5 p2.0 p2.1 p4.0 p4.1 p6.0 p6.1
-        (behind_some before_time text t1 t1_is) (cut_some 10 t1 p2.0 p2.1 p2_is) (behind_some before_host p2.1 t3 t3_is)
-        (cut_some 58 t3 p4.0 p4.1 p4_is) (behind_some before_path p4.1 t5 t5_is) (cut_some 10 t5 p6.0 p6.1 p6_is) (no_length p6.1 ends))
+    (behind_some before_time text t1 t1_is) (cut_some 10 t1 p2.0 p2.1 p2_is) (behind_some before_host p2.1 t3 t3_is)
+    (cut_some 58 t3 p4.0 p4.1 p4_is) (behind_some before_path p4.1 t5 t5_is) (cut_some 10 t5 p6.0 p6.1 p6_is) (no_length p6.1 ends))
 
 and_true : (a b : Bool) → (a && b) ≡ true → (a ≡ true) × (b ≡ true)
 and_true true b is = (refl, is)

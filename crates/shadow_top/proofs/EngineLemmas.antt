@@ -31,9 +31,9 @@ next-fires stop h h' e made own due leaves =
     let w : World = record { hosts = host_record h ∷ []; events = []; log = [] } in
     let is_due : nat_lt e.key.due.nanos stop.nanos ≡ true = search rules in
     let fired : fires 10000000 e w ≡ world_of h' made =
-        ap (λ (n : ℕ). fires_at 10000000 e w (slice_get w.hosts n)) own
-        ∙ ap (λ (n : ℕ). after_firing n (fire 10000000 (host_record h) e) w) own
-        ∙ left_by h h' made (fire 10000000 (host_record h) e) leaves in
+    ap (λ (n : ℕ). fires_at 10000000 e w (slice_get w.hosts n)) own
+    ∙ ap (λ (n : ℕ). after_firing n (fire 10000000 (host_record h) e) w) own
+    ∙ left_by h h' made (fire 10000000 (host_record h) e) leaves in
     ap (λ (b : Bool). if b then Some (fires 10000000 e w) else None) is_due ∙ ap Some fired
 
 pub next-none : (stop : Time) (h : Host) → next (net_of stop) (world_of h None) ≡ None

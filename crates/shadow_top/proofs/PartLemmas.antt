@@ -92,7 +92,7 @@ between-front p piece c whole new on front =
     ⊎_elim
     (λ (same : new ≡ Some c). record { now = c; now_is = same; grown = Grows-refl c; rest = Grows-trans _ _ _ (Grows-add p piece c) on })
     (λ (some : (n : ℕ) × (n ≤ length piece) × (new ≡ option_map (add p (take n piece)) (Some c))).
-        record { now = add p (take some.0 piece) c; now_is = some.2; grown = Grows-add p (take some.0 piece) c; rest = Grows-trans _ _ _ (Grows-front p some.0 piece c) on })
+    record { now = add p (take some.0 piece) c; now_is = some.2; grown = Grows-add p (take some.0 piece) c; rest = Grows-trans _ _ _ (Grows-front p some.0 piece c) on })
     front
 
 pub between-puts : (puts : List Put) (c : Content) (new : Option Content) → PutsFront puts (Some c) new → Between c new (with_pieces puts c)
@@ -101,8 +101,8 @@ between-puts (put ∷ puts) c new some =
     ⊎_elim
     (λ (front : AddsFront put.0 put.1 (Some c) new). between-front put.0 put.1 c (with_pieces puts (add put.0 put.1 c)) new (Grows-with_pieces puts (add put.0 put.1 c)) front)
     (λ (later : PutsFront puts (Some (add put.0 put.1 c)) new).
-        let b = between-puts puts (add put.0 put.1 c) new later in
-        record { now = b.now; now_is = b.now_is; grown = Grows-trans _ _ _ (Grows-add put.0 put.1 c) b.grown; rest = b.rest })
+    let b = between-puts puts (add put.0 put.1 c) new later in
+    record { now = b.now; now_is = b.now_is; grown = Grows-trans _ _ _ (Grows-add put.0 put.1 c) b.grown; rest = b.rest })
     some
 
 is_between : (old new whole : List ℕ) → IsPrefix old new → IsPrefix new whole → IsBetween old new whole
@@ -130,10 +130,13 @@ pub part-line : (old : Content) (line : List ℕ) (new : Option Content) → Add
 part-line old line new front =
     ⊎_elim
     (λ (same : new ≡ Some old). (old, same, part-same old old (add place.Err line old) refl (prefix-refl old.out) (record { rest = line; whole = refl })))
-    (λ (some : (n : ℕ) × (n ≤ length line) × (new ≡ option_map (add place.Err (take n line)) (Some old))).
-        (add place.Err (take some.0 line) old, some.2, record {
-          out = is_between _ _ _ (prefix-refl old.out) (prefix-refl old.out);
-          err = is_between _ _ _ (record { rest = take some.0 line; whole = refl }) (prefix_of_added old.err some.0 line);
-          files = inl (refl, refl);
-        }))
+    (λ (some : (n : ℕ) × (n ≤ length line) × (new ≡ option_map (add place.Err (take n line)) (Some old))). (
+      add place.Err (take some.0 line) old,
+      some.2,
+      record {
+        out = is_between _ _ _ (prefix-refl old.out) (prefix-refl old.out);
+        err = is_between _ _ _ (record { rest = take some.0 line; whole = refl }) (prefix_of_added old.err some.0 line);
+        files = inl (refl, refl);
+      },
+    ))
     front

@@ -44,8 +44,12 @@ pub record Showing (i : Input) (old : Content) : Type 0 where
 
 showing_by : (i : Input) (old : Content) (r : Result Plan Fault) → accepted i ≡ r → Showing i old
 showing_by i old (Err fault) is = record {
-  whole = add place.Err (line_of fault) old; status = 2; shown = refused_shown i old fault is;
-  out = (Grows-refl old).out; err = record { rest = line_of fault; whole = refl } }
+  whole = add place.Err (line_of fault) old;
+  status = 2;
+  shown = refused_shown i old fault is;
+  out = (Grows-refl old).out;
+  err = record { rest = line_of fault; whole = refl };
+}
 showing_by i old (Ok p) is =
     let (w, result) = IsResult-exists (net_of p.config.stop) (opening_world p) in
     let grown : Grows (begun data_directory old) (with_pieces (pieces w) (begun data_directory old)) = Grows-with_pieces (pieces w) (begun data_directory old) in
@@ -69,8 +73,13 @@ pub part_of_pieces : (i : Input) (old : Content) (p : Plan) (w : World) (new : O
 part_of_pieces i old p w new is result front =
     let b = between-puts (pieces w) (begun data_directory old) new front in
     record {
-      now = b.now; whole = with_pieces (pieces w) (begun data_directory old); status = status_of w; new_is = b.now_is;
-      shown = ran_shown i old p w is result; part = part-begun data_directory old b.now _ b.grown b.rest }
+      now = b.now;
+      whole = with_pieces (pieces w) (begun data_directory old);
+      status = status_of w;
+      new_is = b.now_is;
+      shown = ran_shown i old p w is result;
+      part = part-begun data_directory old b.now _ b.grown b.rest;
+    }
 
 pub nothing_put : (ps : List Put) (c : Option Content) → PutsFront ps c c
 nothing_put [] c = refl
@@ -131,8 +140,11 @@ runs_not_begun words (Some h) (Some c) new p NoMemory same planned met never = p
 runs_by : (words : List (List ℕ)) (h : Held) (c : Content) (new : Option Content) (p : Plan) (r : Result ℕ Stop) → accepted (input words h c) ≡ Ok p
     → RunsPlan p (begun data_directory c) new r → Runs (input words h c) c new r
 runs_by words h c new p (Ok status) is (w, result, new_is, status_is) =
-    record { whole = with_pieces (pieces w) (begun data_directory c); new_is = new_is;
-        shown = subst (IsShown (input words h c) c (with_pieces (pieces w) (begun data_directory c))) (sym status_is) (ran_shown (input words h c) c p w is result) }
+    record {
+      whole = with_pieces (pieces w) (begun data_directory c);
+      new_is = new_is;
+      shown = subst (IsShown (input words h c) c (with_pieces (pieces w) (begun data_directory c))) (sym status_is) (ran_shown (input words h c) c p w is result);
+    }
 runs_by words h c new p (Err (Refused fault)) is ran = absurd ran
 runs_by words h c new p (Err (ReadFailed file)) is ran = absurd ran
 runs_by words h c new p (Err WriteFailed) is (w, result, front) = part_of_pieces (input words h c) c p w new is result front
@@ -182,21 +194,24 @@ refused_line : (words : List (List ℕ)) (held : Option Held) (old mid new : Opt
 refused_line words held old mid new r r' w m w' status fault ran reads writes told =
     ⊎_elim
     (λ (all : (status ≡ 2) × (new ≡ option_map (add place.Err (line_of fault)) mid) × (w' ≡ m)).
-        showed (omega arith) reads (all.2 ∙ writes)
-            (told_map {P = λ i c. (accepted i ≡ Err fault) × (mid ≡ Some c)} {Q = λ i c. Shows i c new status} words held old
-                (λ i c h. record { whole = add place.Err (line_of fault) c; new_is = all.1 ∙ ap (option_map (add place.Err (line_of fault))) h.1;
-                    shown = subst (IsShown i c (add place.Err (line_of fault) c)) (sym all.0) (refused_shown i c fault h.0) }) ran))
+    showed (omega arith) reads (all.2 ∙ writes)
+    (told_map {P = λ i c. (accepted i ≡ Err fault) × (mid ≡ Some c)} {Q = λ i c. Shows i c new status} words held old
+    (λ i c h. record {
+      whole = add place.Err (line_of fault) c;
+      new_is = all.1 ∙ ap (option_map (add place.Err (line_of fault))) h.1;
+      shown = subst (IsShown i c (add place.Err (line_of fault) c)) (sym all.0) (refused_shown i c fault h.0);
+    }) ran))
     (λ (rest : ((status ≡ 4) × AddsFront place.Err (line_of fault) mid new × Rose m w') ⊎ ((status ≡ 5) × AddsFront place.Err (line_of fault) mid new × (w' ≡ m))).
-        ⊎_elim
-        (λ (failed : (status ≡ 4) × AddsFront place.Err (line_of fault) mid new × Rose m w').
-            failed_writing failed.0 (subst (λ (x : ℕ). Rose x w') writes failed.2)
-                (told_map {P = λ i c. (accepted i ≡ Err fault) × (mid ≡ Some c)} {Q = λ i c. ShowsPart i c new ⊎ (Rose r r' × TellsPart i c new)} words held old
-                    (λ i c h. inl (part_of_line i c fault new h.0 (subst (λ (o : Option Content). AddsFront place.Err (line_of fault) o new) h.1 failed.1))) ran))
-        (λ (wanted : (status ≡ 5) × AddsFront place.Err (line_of fault) mid new × (w' ≡ m)).
-            wanted_memory wanted.0 (wanted.2 ∙ writes)
-                (told_map {P = λ i c. (accepted i ≡ Err fault) × (mid ≡ Some c)} {Q = λ i c. ShowsPart i c new ⊎ (Rose r r' × TellsPart i c new)} words held old
-                    (λ i c h. inl (part_of_line i c fault new h.0 (subst (λ (o : Option Content). AddsFront place.Err (line_of fault) o new) h.1 wanted.1))) ran))
-        rest)
+    ⊎_elim
+    (λ (failed : (status ≡ 4) × AddsFront place.Err (line_of fault) mid new × Rose m w').
+    failed_writing failed.0 (subst (λ (x : ℕ). Rose x w') writes failed.2)
+    (told_map {P = λ i c. (accepted i ≡ Err fault) × (mid ≡ Some c)} {Q = λ i c. ShowsPart i c new ⊎ (Rose r r' × TellsPart i c new)} words held old
+    (λ i c h. inl (part_of_line i c fault new h.0 (subst (λ (o : Option Content). AddsFront place.Err (line_of fault) o new) h.1 failed.1))) ran))
+    (λ (wanted : (status ≡ 5) × AddsFront place.Err (line_of fault) mid new × (w' ≡ m)).
+    wanted_memory wanted.0 (wanted.2 ∙ writes)
+    (told_map {P = λ i c. (accepted i ≡ Err fault) × (mid ≡ Some c)} {Q = λ i c. ShowsPart i c new ⊎ (Rose r r' × TellsPart i c new)} words held old
+    (λ i c h. inl (part_of_line i c fault new h.0 (subst (λ (o : Option Content). AddsFront place.Err (line_of fault) o new) h.1 wanted.1))) ran))
+    rest)
     told
 
 -- a line that was meant for a read that failed
@@ -211,20 +226,20 @@ failed_line : (words : List (List ℕ)) (held : Option Held) (old mid new : Opti
 failed_line words held old mid new r r' w m w' status file ran rose writes told =
     ⊎_elim
     (λ (all : (status ≡ 3) × (new ≡ option_map (add place.Err (read_failed_line file)) mid) × (w' ≡ m)).
-        failed_reading all.0 rose (all.2 ∙ writes)
-            (told_map {P = λ i c. IsReached i.words i.held file × (mid ≡ Some c)} {Q = λ i c. TellsReadFailed i c new} words held old
-                (λ i c h. record { file = file; reached = h.0; new_is = all.1 ∙ ap (option_map (add place.Err (read_failed_line file))) h.1 }) ran))
+    failed_reading all.0 rose (all.2 ∙ writes)
+    (told_map {P = λ i c. IsReached i.words i.held file × (mid ≡ Some c)} {Q = λ i c. TellsReadFailed i c new} words held old
+    (λ i c h. record { file = file; reached = h.0; new_is = all.1 ∙ ap (option_map (add place.Err (read_failed_line file))) h.1 }) ran))
     (λ (rest : ((status ≡ 4) × AddsFront place.Err (read_failed_line file) mid new × Rose m w') ⊎ ((status ≡ 5) × AddsFront place.Err (read_failed_line file) mid new × (w' ≡ m))).
-        ⊎_elim
-        (λ (failed : (status ≡ 4) × AddsFront place.Err (read_failed_line file) mid new × Rose m w').
-            failed_writing failed.0 (subst (λ (x : ℕ). Rose x w') writes failed.2)
-                (told_map {P = λ i c. IsReached i.words i.held file × (mid ≡ Some c)} {Q = λ i c. ShowsPart i c new ⊎ (Rose r r' × TellsPart i c new)} words held old
-                    (λ i c h. inr (rose, part_of_failure i c file new h.0 (subst (λ (o : Option Content). AddsFront place.Err (read_failed_line file) o new) h.1 failed.1))) ran))
-        (λ (wanted : (status ≡ 5) × AddsFront place.Err (read_failed_line file) mid new × (w' ≡ m)).
-            wanted_memory wanted.0 (wanted.2 ∙ writes)
-                (told_map {P = λ i c. IsReached i.words i.held file × (mid ≡ Some c)} {Q = λ i c. ShowsPart i c new ⊎ (Rose r r' × TellsPart i c new)} words held old
-                    (λ i c h. inr (rose, part_of_failure i c file new h.0 (subst (λ (o : Option Content). AddsFront place.Err (read_failed_line file) o new) h.1 wanted.1))) ran))
-        rest)
+    ⊎_elim
+    (λ (failed : (status ≡ 4) × AddsFront place.Err (read_failed_line file) mid new × Rose m w').
+    failed_writing failed.0 (subst (λ (x : ℕ). Rose x w') writes failed.2)
+    (told_map {P = λ i c. IsReached i.words i.held file × (mid ≡ Some c)} {Q = λ i c. ShowsPart i c new ⊎ (Rose r r' × TellsPart i c new)} words held old
+    (λ i c h. inr (rose, part_of_failure i c file new h.0 (subst (λ (o : Option Content). AddsFront place.Err (read_failed_line file) o new) h.1 failed.1))) ran))
+    (λ (wanted : (status ≡ 5) × AddsFront place.Err (read_failed_line file) mid new × (w' ≡ m)).
+    wanted_memory wanted.0 (wanted.2 ∙ writes)
+    (told_map {P = λ i c. IsReached i.words i.held file × (mid ≡ Some c)} {Q = λ i c. ShowsPart i c new ⊎ (Rose r r' × TellsPart i c new)} words held old
+    (λ i c h. inr (rose, part_of_failure i c file new h.0 (subst (λ (o : Option Content). AddsFront place.Err (read_failed_line file) o new) h.1 wanted.1))) ran))
+    rest)
     told
 
 pub outcome_stopped : (words : List (List ℕ)) (held : Option Held) (old mid new : Option Content) (r r' w m w' status : ℕ) (stop : Stop)

@@ -37,11 +37,13 @@ IsWritable-filled m from to at bytes h q low high =
     ⊎_elim
     (λ (out : (q < at) ⊎ (at + length bytes ≤ q)). (cell, get-put_all_out m.cells at bytes q out ∙ is, may))
     (λ (within : (at ≤ q) × (q < at + length bytes)).
-        let there : at + (q - at) ≡ q = omega arith in
-        let was : map.get m.cells (at + (q - at)) ≡ Some cell = subst (λ (x : ℕ). map.get m.cells x ≡ Some cell) (sym there) is in
-        (record cell { byte = get_or bytes (q - at) 0 },
-            subst (λ (x : ℕ). map.get (put_all m.cells at bytes) x ≡ Some (record cell { byte = get_or bytes (q - at) 0 })) there
-                (get-put_all_in m.cells at bytes (q - at) cell (omega arith) was), may))
+    let there : at + (q - at) ≡ q = omega arith in
+    let was : map.get m.cells (at + (q - at)) ≡ Some cell = subst (λ (x : ℕ). map.get m.cells x ≡ Some cell) (sym there) is in (
+      record cell { byte = get_or bytes (q - at) 0 },
+      subst (λ (x : ℕ). map.get (put_all m.cells at bytes) x ≡ Some (record cell { byte = get_or bytes (q - at) 0 })) there
+          (get-put_all_in m.cells at bytes (q - at) cell (omega arith) was),
+      may,
+    ))
     (in_or_out q at (length bytes))
 
 pub read-writable : (m : Memory) (from to : ℕ) → IsWritable m from to → (n at : ℕ) → from ≤ at → at + n ≤ to → is_some (read Write n m at) ≡ true

@@ -41,13 +41,13 @@ with_text-made image path text words out err entry at sp m0 m1 m2 text_is entry_
     let words_now : words ≡ word_bytes (words_of (text_at text)) = words_is ∙ ap (λ (a : ℕ). word_bytes (words_of a)) at_is in
     let m1_now : m1 ≡ filled (opening image) (text_at text) text = m1_is ∙ ap (λ (m : Memory). filled m at text) m0_is ∙ ap (λ (a : ℕ). filled (opening image) a text) at_is in
     let m2_now : m2 ≡ filled (filled (opening image) (text_at text) text) (words_at (text_at text)) (word_bytes (words_of (text_at text))) =
-        m2_is ∙ ap (λ (m : Memory). filled m sp words) m1_now
-        ∙ ap (λ (a : ℕ). filled (filled (opening image) (text_at text) text) a words) sp_now
-        ∙ ap (λ (w : List ℕ). filled (filled (opening image) (text_at text) text) (words_at (text_at text)) w) words_now in
+    m2_is ∙ ap (λ (m : Memory). filled m sp words) m1_now
+    ∙ ap (λ (a : ℕ). filled (filled (opening image) (text_at text) text) a words) sp_now
+    ∙ ap (λ (w : List ℕ). filled (filled (opening image) (text_at text) text) (words_at (text_at text)) w) words_now in
     let whole : guest_with entry sp m2 out err ≡ with_text image text =
-        ap (λ (e : ℕ). guest_with e sp m2 out err) entry_is
-        ∙ ap (λ (s : ℕ). guest_with image.entry s m2 out err) sp_now
-        ∙ ap (λ (m : Memory). guest_with image.entry (words_at (text_at text)) m out err) m2_now
-        ∙ ap (λ (o : List ℕ). guest_with image.entry (words_at (text_at text)) (with_text image text).memory o err) out_is
-        ∙ ap (λ (o : List ℕ). guest_with image.entry (words_at (text_at text)) (with_text image text).memory [] o) err_is in
+    ap (λ (e : ℕ). guest_with e sp m2 out err) entry_is
+    ∙ ap (λ (s : ℕ). guest_with image.entry s m2 out err) sp_now
+    ∙ ap (λ (m : Memory). guest_with image.entry (words_at (text_at text)) m out err) m2_now
+    ∙ ap (λ (o : List ℕ). guest_with image.entry (words_at (text_at text)) (with_text image text).memory o err) out_is
+    ∙ ap (λ (o : List ℕ). guest_with image.entry (words_at (text_at text)) (with_text image text).memory [] o) err_is in
     whole ∙ ap (with_text image) text_is ∙ sym (started-one image path)

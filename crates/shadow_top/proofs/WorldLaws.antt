@@ -97,7 +97,7 @@ left_at stop budget e w None due = omega arith
 left_at stop budget e w (Some host) due =
     let made : total (time_left stop) (fire budget host e).made < stop - e.key.due.nanos = made_fired stop budget host e due in
     let both : total (time_left stop) (w.events ++ (fire budget host e).made) ≡ total (time_left stop) w.events + total (time_left stop) (fire budget host e).made =
-        total-append (time_left stop) w.events (fire budget host e).made in
+    total-append (time_left stop) w.events (fire budget host e).made in
     omega arith
 
 left_by : (net : Net) (w v : World) (taken : Option (Event × List Event)) → ((p : Event × List Event) → taken ≡ Some p → all_left net.stop w ≡ time_left net.stop p.0 + total (time_left net.stop) p.1)
@@ -106,13 +106,14 @@ left_by net w v None h is = absurd (cc)
 left_by net w v (Some (e, rest)) h is =
     let was : all_left net.stop w ≡ time_left net.stop e + total (time_left net.stop) rest = h (e, rest) refl in
     let all : (b : Bool) → (b ≡ true → e.key.due.nanos < net.stop) → (if b then Some (fires net.budget e (record w { events = rest })) else None) ≡ Some v → all_left net.stop v < all_left net.stop w =
-        elim [
-          true ↦ λ due same.
-              let fired : fires net.budget e (record w { events = rest }) ≡ v = cc in
-              let less : all_left net.stop (fires net.budget e (record w { events = rest })) < (net.stop - e.key.due.nanos) + total (time_left net.stop) rest =
-                  left_at net.stop net.budget e (record w { events = rest }) (slice_get w.hosts e.key.source.index) (due refl) in
-              subst (λ (u : World). all_left net.stop u < all_left net.stop w) fired (omega arith)
-        | false ↦ λ due same. absurd (cc) ] in
+    elim [
+      | true ↦ λ due same.
+          let fired : fires net.budget e (record w { events = rest }) ≡ v = cc in
+          let less : all_left net.stop (fires net.budget e (record w { events = rest })) < (net.stop - e.key.due.nanos) + total (time_left net.stop) rest =
+          left_at net.stop net.budget e (record w { events = rest }) (slice_get w.hosts e.key.source.index) (due refl) in
+          subst (λ (u : World). all_left net.stop u < all_left net.stop w) fired (omega arith)
+      | false ↦ λ due same. absurd (cc)
+    ] in
     all (nat_lt e.key.due.nanos net.stop) (λ t. search rules) is
 
 left-next : (net : Net) (w v : World) → next net w ≡ Some v → all_left net.stop v < all_left net.stop w
@@ -129,10 +130,10 @@ result_within net (suc n) w within =
     ⊎_elim
     (λ (over : next net w ≡ None). (w, is_over w over refl))
     (λ (goes : (v : World) × (next net w ≡ Some v)).
-        let (v, is) = goes in
-        let less : all_left net.stop v < all_left net.stop w = left-next net w v is in
-        let (r, rest) = result_within net n v (omega arith) in
-        (r, turn_on w v is rest))
+    let (v, is) = goes in
+    let less : all_left net.stop v < all_left net.stop w = left-next net w v is in
+    let (r, rest) = result_within net n v (omega arith) in
+    (r, turn_on w v is rest))
     (next_or_none (next net w))
 
 pub IsResult-exists : (net : Net) (w : World) → (r : World) × IsResult net r w

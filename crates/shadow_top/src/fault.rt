@@ -58,7 +58,14 @@ fn tell_file(alloc: Global, into: &mut Text, file: &Name, what: &str) -> Result<
     ensures ok { OnOk result (into.new ≡ into.old ++ file_line file.now what.now) }
     ensures err { OnErr result (into.new ≡ into.old) }
 {
-    out_text::fault_line(alloc, into, &FaultText::File { file: file.as_str(), what })
+    out_text::fault_line(
+        alloc,
+        into,
+        &FaultText::File {
+            file: file.as_str(),
+            what,
+        },
+    )
 }
 
 /// Adds the line of a fault, or leaves the text as it was.

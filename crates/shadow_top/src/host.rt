@@ -57,9 +57,7 @@ impl Host {
     fn settle(&mut self, now: Key, process: Process, pauses: bool) -> Option<Event>
         requires source { now.source.index ≡ 0 }
         requires later { now.due.nanos + 100000 < 2 ^ 64 }
-        ensures leaves {
-            LeavesHost (with_process (host_record self.old) now 0 (process_record self.old) (process, pauses)) self.new result
-        }
+        ensures leaves { LeavesHost (with_process (host_record self.old) now 0 (process_record self.old) (process, pauses)) self.new result }
         ensures follows { IfSome result (Follows now) }
     {
         self.process = process;

@@ -21,7 +21,9 @@ pub enum Answer {
 }
 
 const WRITE: u32 = 64;
+
 const EXIT: u32 = 93;
+
 const EXIT_GROUP: u32 = 94;
 
 /// The negative error number, modulo 2^32.
@@ -72,7 +74,13 @@ fn write_bytes(alloc: Global, guest: &mut Guest, fd: u32, bytes: &[u8]) -> Resul
     Ok(Answer::Value(written))
 }
 
-fn write_call(alloc: Global, guest: &mut Guest, fd: u32, at: u32, size: u32) -> Result<Answer, NoMemory>
+fn write_call(
+    alloc: Global,
+    guest: &mut Guest,
+    fd: u32,
+    at: u32,
+    size: u32,
+) -> Result<Answer, NoMemory>
     ensures { IfOk result (λ answer. DoesCall (write_call guest.old.memory fd at size) guest.old guest.new answer) }
 {
     if fd != 1 && fd != 2 {
@@ -85,7 +93,12 @@ fn write_call(alloc: Global, guest: &mut Guest, fd: u32, at: u32, size: u32) -> 
 }
 
 /// Does the call of this number with these arguments: what it writes stands in the guest afterwards.
-pub fn do_call(alloc: Global, guest: &mut Guest, number: u32, arguments: [u32; 6]) -> Result<Answer, NoMemory>
+pub fn do_call(
+    alloc: Global,
+    guest: &mut Guest,
+    number: u32,
+    arguments: [u32; 6],
+) -> Result<Answer, NoMemory>
     ensures { IfOk result (λ answer. DoesCall (call guest.old.memory number arguments) guest.old guest.new answer) }
 {
     match number {

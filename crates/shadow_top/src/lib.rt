@@ -14,10 +14,9 @@ mod report;
 mod shd_config;
 mod simulation;
 mod steal_workers;
-mod world;
-
 #[cfg(test)]
 mod tests;
+mod world;
 
 pub use simulation::shadow;
 pub use steal_workers::{Gate, OpenGate};

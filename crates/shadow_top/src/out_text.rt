@@ -23,7 +23,10 @@ pub enum FaultText<'a> {
     /// The command line is not of its form.
     Usage,
     /// Something is wrong with a file or a directory.
-    File { file: &'a str, what: &'a str },
+    File {
+        file: &'a str,
+        what: &'a str,
+    },
     /// A process did not end as it was expected to.
     Unmet {
         host: &'a str,
@@ -69,7 +72,14 @@ pub fn state_line(alloc: Global, into: &mut Text, state: State) -> Result<(), No
 }
 
 /// Adds the name of a file of a process, below the data directory, or leaves the text as it was.
-pub fn file_name(alloc: Global, into: &mut Text, host: &str, program: &str, pid: u32, kind: FileKind) -> Result<(), NoMemory>
+pub fn file_name(
+    alloc: Global,
+    into: &mut Text,
+    host: &str,
+    program: &str,
+    pid: u32,
+    kind: FileKind,
+) -> Result<(), NoMemory>
     ensures ok { OnOk result (into.new ≡ into.old ++ file_name host.now program.now pid kind) }
     ensures err { OnErr result (into.new ≡ into.old) }
 {
@@ -78,13 +88,23 @@ pub fn file_name(alloc: Global, into: &mut Text, host: &str, program: &str, pid:
     into.push_str(name.as_str())
 }
 
-fn unmet_text(alloc: Global, process: &str, state: &str, expected: &str) -> Result<String, AllocError>
+fn unmet_text(
+    alloc: Global,
+    process: &str,
+    state: &str,
+    expected: &str,
+) -> Result<String, AllocError>
     ensures { IfOk result (λ text. string_bytes text ≡ unmet_line process.now state.now expected.now) }
 {
     format!(in alloc; "shadow: {process}: {state}, expected {expected}\n")
 }
 
-fn unmet_string(alloc: Global, process: &str, state: State, expected: State) -> Result<String, AllocError>
+fn unmet_string(
+    alloc: Global,
+    process: &str,
+    state: State,
+    expected: State,
+) -> Result<String, AllocError>
     ensures { IfOk result (λ text. string_bytes text ≡ unmet_line process.now (state_text state) (state_text expected)) }
 {
     let state = state_string(alloc, state)?;

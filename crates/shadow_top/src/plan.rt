@@ -49,7 +49,12 @@ fn size_of_file<S: Source>(source: &mut S, told: Name) -> Result<(u64, Name), St
 }
 
 /// The bytes of a file of this length. `told` is its name.
-fn bytes_of_file<S: Source>(alloc: Global, source: &mut S, size: u64, told: Name) -> Result<Vec<u8>, Stop>
+fn bytes_of_file<S: Source>(
+    alloc: Global,
+    source: &mut S,
+    size: u64,
+    told: Name,
+) -> Result<Vec<u8>, Stop>
     requires small { size ≤ 16777216 }
     ensures told { IfSome (S.held source.old)
         (λ held. IfOk result (λ read. IfSome (held told) (λ bytes. read.items ≡ take size bytes))) }

@@ -92,11 +92,23 @@ fn exit_line(alloc: Global, state: State) -> Result<Text, NoMemory>
 }
 
 /// A file of the host's process.
-fn file<'a>(alloc: Global, host: &Host, kind: FileKind, bytes: &'a [u8]) -> Result<Piece<'a>, NoMemory>
+fn file<'a>(
+    alloc: Global,
+    host: &Host,
+    kind: FileKind,
+    bytes: &'a [u8],
+) -> Result<Piece<'a>, NoMemory>
     ensures { IfOk result (λ p. put_of p ≡ (place.File (file_name host.now.name host.now.path first_id kind), bytes.now)) }
 {
     let mut name = Text::new(alloc);
-    out_text::file_name(alloc, &mut name, host.name.as_str(), host.path.as_str(), FIRST_ID, kind)?;
+    out_text::file_name(
+        alloc,
+        &mut name,
+        host.name.as_str(),
+        host.path.as_str(),
+        FIRST_ID,
+        kind,
+    )?;
     Ok(Piece {
         place: Place::File(Name::from(name.into_string())),
         bytes,
@@ -132,12 +144,8 @@ fn list_pieces<'a>(
 /// Writes the files of a world and the line of an unmet expectation, and gives the status.
 pub fn report<K: Sink>(alloc: Global, sink: &mut K, world: &World) -> Result<u8, Stop>
     ensures status { IfOk result (λ s. s ≡ status_of (world_of world.now.host world.now.pending)) }
-    ensures ok {
-        OnOk result (K.content sink.new ≡ option_map (with_pieces (pieces (world_of world.now.host world.now.pending))) (K.content sink.old))
-    }
-    ensures err {
-        OnErr result (PutsFront (pieces (world_of world.now.host world.now.pending)) (K.content sink.old) (K.content sink.new))
-    }
+    ensures ok { OnOk result (K.content sink.new ≡ option_map (with_pieces (pieces (world_of world.now.host world.now.pending))) (K.content sink.old)) }
+    ensures err { OnErr result (PutsFront (pieces (world_of world.now.host world.now.pending)) (K.content sink.old) (K.content sink.new)) }
     ensures stop { IfErr result NeverRefuses }
     ensures reads { NoReadFailed result }
     ensures count { CountsSink result (K.faults sink.old) (K.faults sink.new) }

@@ -53,9 +53,15 @@ fn find_places(text: &str) -> Option<Places<'_>>
 {
     let from_time = after(text, "general:\n  stop_time: ")?;
     let (time, from_graph) = line(from_time)?;
-    let from_host = after(from_graph, "network:\n  graph:\n    type: 1_gbit_switch\nhosts:\n  ")?;
+    let from_host = after(
+        from_graph,
+        "network:\n  graph:\n    type: 1_gbit_switch\nhosts:\n  ",
+    )?;
     let (host, from_node) = key(from_host)?;
-    let from_path = after(from_node, "\n    network_node_id: 0\n    processes:\n    - path: ")?;
+    let from_path = after(
+        from_node,
+        "\n    network_node_id: 0\n    processes:\n    - path: ",
+    )?;
     let (path, rest) = line(from_path)?;
     if rest.is_empty() {
         Some(Places { time, host, path })

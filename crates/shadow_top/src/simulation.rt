@@ -20,8 +20,7 @@ use crate::report::report;
 use crate::steal_workers::Gate;
 use crate::world;
 use sim_base::{Name, NoMemory, Place, Sink, Source, Text, WriteError, put_all};
-use std::alloc::Global;
-use std::alloc::AllocGlobal;
+use std::alloc::{AllocGlobal, Global};
 use std::thread::Threads;
 
 /// Makes the data directory, or refuses the input where it is there.
@@ -122,7 +121,12 @@ fn run_plan<K: Sink>(alloc: Global, plan: Plan, sink: &mut K) -> Result<u8, Stop
 }
 
 /// Reads what is asked, runs it, and writes what it shows.
-fn run<S: Source, K: Sink>(alloc: Global, words: &[String], source: &mut S, sink: &mut K) -> Result<u8, Stop>
+fn run<S: Source, K: Sink>(
+    alloc: Global,
+    words: &[String],
+    source: &mut S,
+    sink: &mut K,
+) -> Result<u8, Stop>
     ensures told { IfSome (S.held source.old) (λ held. IfSome (K.content sink.old)
         (λ c. Runs (input (map string_bytes words.now) held c) c (K.content sink.new) result)) }
     ensures status { IfOk result (λ status. status ≤ 1) }
@@ -139,7 +143,12 @@ fn run<S: Source, K: Sink>(alloc: Global, words: &[String], source: &mut S, sink
 }
 
 /// The same, and tells why it stopped before its end.
-fn run_and_tell<S: Source, K: Sink>(alloc: Global, words: &[String], source: &mut S, sink: &mut K) -> u8
+fn run_and_tell<S: Source, K: Sink>(
+    alloc: Global,
+    words: &[String],
+    source: &mut S,
+    sink: &mut K,
+) -> u8
     ensures { Outcome (map string_bytes words.now) (S.held source.old) (K.content sink.old) (K.content sink.new)
         (S.faults source.old) (S.faults source.new) (K.faults sink.old) (K.faults sink.new) result }
 {
@@ -165,7 +174,7 @@ pub fn shadow<S: Source, K: Sink, G: Gate + Sync, R: Threads + AllocGlobal>(
     // Where no call of source and sink failed and memory sufficed, what stands there is what the input shows.
     ensures headline { IfSome (S.held source.old) (λ held. IfSome (K.content sink.old)
         (λ c. ¬ (Rose (S.faults source.old) (S.faults source.new)) → ¬ (Rose (K.faults sink.old) (K.faults sink.new)) → result ≢ 5
-            → Shows (input (map string_bytes words.now) held c) c (K.content sink.new) result)) }
+        → Shows (input (map string_bytes words.now) held c) c (K.content sink.new) result)) }
 
     // Then the status is one of those that tell what was shown, or 5.
     ensures known { ¬ (Rose (S.faults source.old) (S.faults source.new)) → ¬ (Rose (K.faults sink.old) (K.faults sink.new))
@@ -186,7 +195,7 @@ pub fn shadow<S: Source, K: Sink, G: Gate + Sync, R: Threads + AllocGlobal>(
     // After 4 and 5 each place holds a front of what it would.
     ensures part { IfSome (S.held source.old) (λ held. IfSome (K.content sink.old)
         (λ c. 4 ≤ result → ShowsPart (input (map string_bytes words.now) held c) c (K.content sink.new)
-            ⊎ (Rose (S.faults source.old) (S.faults source.new) × TellsPart (input (map string_bytes words.now) held c) c (K.content sink.new)))) }
+        ⊎ (Rose (S.faults source.old) (S.faults source.new) × TellsPart (input (map string_bytes words.now) held c) c (K.content sink.new)))) }
 
     // A call that failed is never hidden.
     ensures after_read { S.faults source.old < S.faults source.new → 3 ≤ result }

@@ -1,24 +1,28 @@
 //! Whole runs over a source and a sink in memory.
 
 use crate::{OpenGate, shadow};
-use sim_base::{MemSink, MemSource, NoMemory, Sink};
-use std::alloc::{AllocError, Global};
+use sim_base::{MemSink, MemSource};
+use std::alloc::Global;
 use std::process::Abort;
 use std::test::Fail;
 use std::thread::Threads;
 
 /// The configuration file of the first run.
-const TEXT: &str = "general:\n  stop_time: 1s\nnetwork:\n  graph:\n    type: 1_gbit_switch\nhosts:\n  a:\n    network_node_id: 0\n    processes:\n    - path: hi\n";
+const TEXT: &str =
+    "general:\n  stop_time: 1s\nnetwork:\n  graph:\n    type: 1_gbit_switch\nhosts:\n  a:\n    network_node_id: 0\n    processes:\n    - path: hi\n";
 
 /// The same with another graph.
-const GML: &str = "general:\n  stop_time: 1s\nnetwork:\n  graph:\n    type: gml\nhosts:\n  a:\n    network_node_id: 0\n    processes:\n    - path: hi\n";
+const GML: &str =
+    "general:\n  stop_time: 1s\nnetwork:\n  graph:\n    type: gml\nhosts:\n  a:\n    network_node_id: 0\n    processes:\n    - path: hi\n";
 
 /// The same with a program that is not there.
-const GONE: &str = "general:\n  stop_time: 1s\nnetwork:\n  graph:\n    type: 1_gbit_switch\nhosts:\n  a:\n    network_node_id: 0\n    processes:\n    - path: gone\n";
+const GONE: &str =
+    "general:\n  stop_time: 1s\nnetwork:\n  graph:\n    type: 1_gbit_switch\nhosts:\n  a:\n    network_node_id: 0\n    processes:\n    - path: gone\n";
 
 /// write(1, "hi\n", 3); exit(0)
 const HI: [u32; 9] = [
-    0x04000893, 0x00100513, 0x000105b7, 0x07858593, 0x00300613, 0x00000073, 0x05d00893, 0x00000513, 0x00000073,
+    0x04000893, 0x00100513, 0x000105b7, 0x07858593, 0x00300613, 0x00000073, 0x05d00893, 0x00000513,
+    0x00000073,
 ];
 
 /// exit(7)
@@ -28,22 +32,30 @@ const SEVEN: [u32; 3] = [0x05d00893, 0x00700513, 0x00000073];
 const BUSY: [u32; 1] = [0x0000006f];
 
 /// Writes its first byte for ever.
-const FOREVER: [u32; 6] = [0x04000893, 0x000105b7, 0x00100613, 0x00100513, 0x00000073, 0xff9ff06f];
+const FOREVER: [u32; 6] = [
+    0x04000893, 0x000105b7, 0x00100613, 0x00100513, 0x00000073, 0xff9ff06f,
+];
 
 /// Writes "err" to 2 and 70,000 bytes to 1, and exits with 0 where the answers of these and of the refused calls are
 /// 65,536, -9 for descriptor 5, -14 for address 0 and -38 for call 1000.
 const WRITER: [u32; 41] = [
-    0x04000893, 0x00200513, 0x000105b7, 0x05458593, 0x0a458593, 0x00300613, 0x00000073, 0x00100513, 0xbff005b7,
-    0x00011637, 0x17060613, 0x00000073, 0x000102b7, 0x04551863, 0x00500513, 0x000105b7, 0x00100613, 0x00000073,
-    0xff700293, 0x02551c63, 0x00100513, 0x00000593, 0x00100613, 0x00000073, 0xff200293, 0x02551063, 0x3e800893,
-    0x00000073, 0xfda00293, 0x00551863, 0x05d00893, 0x00000513, 0x00000073, 0x05d00893, 0x00100513, 0x00000073,
-    0x00000013, 0x00000013, 0x00000013, 0x00000013, 0x00000013,
+    0x04000893, 0x00200513, 0x000105b7, 0x05458593, 0x0a458593, 0x00300613, 0x00000073, 0x00100513,
+    0xbff005b7, 0x00011637, 0x17060613, 0x00000073, 0x000102b7, 0x04551863, 0x00500513, 0x000105b7,
+    0x00100613, 0x00000073, 0xff700293, 0x02551c63, 0x00100513, 0x00000593, 0x00100613, 0x00000073,
+    0xff200293, 0x02551063, 0x3e800893, 0x00000073, 0xfda00293, 0x00551863, 0x05d00893, 0x00000513,
+    0x00000073, 0x05d00893, 0x00100513, 0x00000073, 0x00000013, 0x00000013, 0x00000013, 0x00000013,
+    0x00000013,
 ];
 
 /// The ELF header of a file with one program header, and that header up to its sizes.
 const HEAD: [u32; 17] = [
-    0x464c457f, 0x00010101, 0, 0, 0x00f30002, 1, 0x00010054, 52, 0, 0, 0x00200034, 0x00000001, 0, 1, 0, 0x10000, 0x10000,
+    0x464c457f, 0x00010101, 0, 0, 0x00f30002, 1, 0x00010054, 52, 0, 0, 0x00200034, 0x00000001, 0,
+    1, 0, 0x10000, 0x10000,
 ];
+
+fn count(length: usize) -> u32 {
+    u32::try_from(length).unwrap_or(0)
+}
 
 /// An ELF file of one segment at 0x10000, which is the file itself, with code at 0x10054 and bytes behind it.
 fn program(alloc: Global, code: &[u32], tail: &[u8]) -> Result<Vec<u8>, Fail> {
@@ -51,7 +63,10 @@ fn program(alloc: Global, code: &[u32], tail: &[u8]) -> Result<Vec<u8>, Fail> {
     for word in &HEAD {
         file.extend_from_slice(&word.to_le_bytes())?;
     }
-    let size = (code.len() as u32).wrapping_mul(4).wrapping_add(84).wrapping_add(tail.len() as u32);
+    let size = count(code.len())
+        .wrapping_mul(4)
+        .wrapping_add(84)
+        .wrapping_add(count(tail.len()));
     for word in [size, size, 5, 4096] {
         file.extend_from_slice(&word.to_le_bytes())?;
     }
@@ -73,73 +88,239 @@ fn words(alloc: Global, words: &[&str]) -> Result<Vec<String>, Fail> {
 /// A source with the configuration and the program.
 fn source(alloc: Global, text: &str, file: Vec<u8>) -> Result<MemSource, Fail> {
     let mut source = MemSource::new(alloc);
-    source.add(String::from_str(alloc, "t.yaml")?, Vec::from_slice(alloc, text.as_bytes())?)?;
+    source.add(
+        String::from_str(alloc, "t.yaml")?,
+        Vec::from_slice(alloc, text.as_bytes())?,
+    )?;
     source.add(String::from_str(alloc, "hi")?, file)?;
     Ok(source)
 }
 
-/// One run, and what it must show.
-struct Row<'a> {
-    name: &'a str,
-    words: &'a [&'a str],
-    text: &'a str,
-    code: &'a [u32],
-    tail: &'a [u8],
-    status: u8,
-    err: &'a str,
-    /// The final state and the sizes of what was written to descriptors 1 and 2, where a run was made.
-    exit: Option<(&'a str, usize, usize)>,
-}
-
 const CONFIG: [&str; 2] = ["shadow", "t.yaml"];
 
-fn check(rt: &(impl Abort + Threads + AllocGlobal), row: &Row<'_>) -> Result<(), Fail> {
+const USAGE: &str = "shadow: usage: shadow [options] CONFIG\n";
+
+/// A run over a configuration and a program.
+fn ran(
+    rt: &(impl Abort + Threads + AllocGlobal),
+    line: &[&str],
+    text: &str,
+    file: Vec<u8>,
+) -> Result<(u8, MemSink), Fail> {
     let alloc = rt.alloc();
-    let file = if row.code.is_empty() {
-        Vec::from_slice(alloc, row.tail)?
-    } else {
-        program(alloc, row.code, row.tail)?
-    };
-    let mut source = source(alloc, row.text, file)?;
+    let line = words(alloc, line)?;
+    let mut source = source(alloc, text, file)?;
     let mut sink = MemSink::new(alloc);
-    let status = shadow(rt, &words(alloc, row.words)?, 1, &mut source, &mut sink, &OpenGate);
-    let name = row.name;
-    assert_eq!(rt; status, row.status, "{name}");
-    assert_eq!(rt; sink.err(), row.err.as_bytes(), "{name}");
-    assert_eq!(rt; sink.out().len(), 0, "{name}");
-    assert_eq!(rt; sink.has_directory("shadow.data"), row.exit.is_some(), "{name}");
-    if let Some((exit, out, err)) = row.exit {
-        assert_eq!(rt; sink.file("hosts/a/hi.1000.exit").unwrap_or(b"none"), exit.as_bytes(), "{name}");
-        assert_eq!(rt; sink.file("hosts/a/hi.1000.stdout").unwrap_or(b"none").len(), out, "{name}");
-        assert_eq!(rt; sink.file("hosts/a/hi.1000.stderr").unwrap_or(b"none").len(), err, "{name}");
-        assert_eq!(rt; sink.file("packets.log").unwrap_or(b"none").len(), 0, "{name}");
-        assert_eq!(rt; sink.file_count(), 4, "{name}");
-    } else {
-        assert_eq!(rt; sink.file_count(), 0, "{name}");
-    }
+    let status = shadow(rt, &line, 1, &mut source, &mut sink, &OpenGate);
+    assert_eq!(rt; sink.out().len(), 0);
+    Ok((status, sink))
+}
+
+/// The input is refused with this line.
+fn refuses(
+    rt: &(impl Abort + Threads + AllocGlobal),
+    line: &[&str],
+    text: &str,
+    file: Vec<u8>,
+    err: &str,
+) -> Result<(), Fail> {
+    let (status, sink) = ran(rt, line, text, file)?;
+    assert_eq!(rt; sink.err(), err.as_bytes());
+    assert_eq!(rt; status, 2, "{err}");
+    assert!(rt; !sink.has_directory("shadow.data"), "{err}");
+    assert_eq!(rt; sink.file_count(), 0, "{err}");
+    Ok(())
+}
+
+/// The program ends in this state, having written so many bytes to descriptors 1 and 2.
+fn ends(
+    rt: &(impl Abort + Threads + AllocGlobal),
+    file: Vec<u8>,
+    exit: &str,
+    out: usize,
+    err: usize,
+) -> Result<(), Fail> {
+    let (status, sink) = ran(rt, &CONFIG, TEXT, file)?;
+    assert_eq!(rt;
+        sink.file("hosts/a/hi.1000.exit").unwrap_or(b"none"),
+        exit.as_bytes()
+    );
+    assert_eq!(rt;
+        sink.file("hosts/a/hi.1000.stdout").unwrap_or(b"none").len(),
+        out,
+        "{exit}"
+    );
+    assert_eq!(rt;
+        sink.file("hosts/a/hi.1000.stderr").unwrap_or(b"none").len(),
+        err,
+        "{exit}"
+    );
+    assert_eq!(rt;
+        sink.file("packets.log").unwrap_or(b"none").len(),
+        0,
+        "{exit}"
+    );
+    assert_eq!(rt; sink.file_count(), 4, "{exit}");
+    let met = exit == "exited 0\n";
+    assert_eq!(rt; status, if met { 0 } else { 1 }, "{exit}");
+    assert_eq!(rt; sink.err().is_empty(), met, "{exit}");
     Ok(())
 }
 
 #[test]
-fn shows_what_each_input_asks(rt: HostRuntime) -> Result<(), Fail> {
-    let usage = "shadow: usage: shadow [options] CONFIG\n";
-    let rows = [
-        Row { name: "hi", words: &CONFIG, text: TEXT, code: &HI, tail: b"hi\n", status: 0, err: "", exit: Some(("exited 0\n", 3, 0)) },
-        Row { name: "seven", words: &CONFIG, text: TEXT, code: &SEVEN, tail: b"", status: 1, err: "shadow: a/hi.1000: exited 7, expected exited 0\n", exit: Some(("exited 7\n", 0, 0)) },
-        Row { name: "busy", words: &CONFIG, text: TEXT, code: &BUSY, tail: b"", status: 1, err: "shadow: a/hi.1000: signaled SIGXCPU, expected exited 0\n", exit: Some(("signaled SIGXCPU\n", 0, 0)) },
-        Row { name: "forever", words: &CONFIG, text: TEXT, code: &FOREVER, tail: b"", status: 1, err: "shadow: a/hi.1000: running, expected exited 0\n", exit: Some(("running\n", 1_000_000, 0)) },
-        Row { name: "writer", words: &CONFIG, text: TEXT, code: &WRITER, tail: b"err", status: 0, err: "", exit: Some(("exited 0\n", 65_536, 3)) },
-        Row { name: "gml", words: &CONFIG, text: GML, code: &HI, tail: b"hi\n", status: 2, err: "shadow: t.yaml: unsupported\n", exit: None },
-        Row { name: "alone", words: &["shadow"], text: TEXT, code: &HI, tail: b"", status: 2, err: usage, exit: None },
-        Row { name: "option", words: &["shadow", "-x"], text: TEXT, code: &HI, tail: b"", status: 2, err: usage, exit: None },
-        Row { name: "three", words: &["shadow", "t.yaml", "t.yaml"], text: TEXT, code: &HI, tail: b"", status: 2, err: usage, exit: None },
-        Row { name: "none", words: &[], text: TEXT, code: &HI, tail: b"", status: 2, err: usage, exit: None },
-        Row { name: "junk", words: &CONFIG, text: TEXT, code: &[], tail: b"abc", status: 2, err: "shadow: hi: ELF truncated\n", exit: None },
-        Row { name: "gone", words: &CONFIG, text: GONE, code: &HI, tail: b"", status: 2, err: "shadow: gone: not found\n", exit: None },
-        Row { name: "no configuration", words: &["shadow", "other.yaml"], text: TEXT, code: &HI, tail: b"", status: 2, err: "shadow: other.yaml: not found\n", exit: None },
-    ];
-    for row in &rows {
-        check(&rt, row)?;
+fn shows_what_each_program_does(rt: HostRuntime) -> Result<(), Fail> {
+    let alloc = rt.alloc();
+    let (status, sink) = ran(&rt, &CONFIG, TEXT, program(alloc, &HI, b"hi\n")?)?;
+    assert_eq!(rt; status, 0);
+    assert_eq!(rt;
+        sink.file("hosts/a/hi.1000.stdout").unwrap_or(b"none"),
+        b"hi\n".as_slice()
+    );
+    let (_, sink) = ran(&rt, &CONFIG, TEXT, program(alloc, &SEVEN, b"")?)?;
+    assert_eq!(rt;
+        sink.err(),
+        b"shadow: a/hi.1000: exited 7, expected exited 0\n".as_slice()
+    );
+    ends(&rt, program(alloc, &HI, b"hi\n")?, "exited 0\n", 3, 0)?;
+    ends(&rt, program(alloc, &SEVEN, b"")?, "exited 7\n", 0, 0)?;
+    ends(&rt, program(alloc, &BUSY, b"")?, "signaled SIGXCPU\n", 0, 0)?;
+    ends(
+        &rt,
+        program(alloc, &FOREVER, b"")?,
+        "running\n",
+        1_000_000,
+        0,
+    )?;
+    ends(
+        &rt,
+        program(alloc, &WRITER, b"err")?,
+        "exited 0\n",
+        65_536,
+        3,
+    )?;
+    Ok(())
+}
+
+#[test]
+fn refuses_each_input_with_its_line(rt: HostRuntime) -> Result<(), Fail> {
+    let alloc = rt.alloc();
+    refuses(
+        &rt,
+        &CONFIG,
+        GML,
+        Vec::new(alloc),
+        "shadow: t.yaml: unsupported\n",
+    )?;
+    refuses(
+        &rt,
+        &CONFIG,
+        GONE,
+        Vec::new(alloc),
+        "shadow: gone: not found\n",
+    )?;
+    refuses(
+        &rt,
+        &CONFIG,
+        TEXT,
+        Vec::from_slice(alloc, b"abc")?,
+        "shadow: hi: ELF truncated\n",
+    )?;
+    refuses(
+        &rt,
+        &["shadow", "other.yaml"],
+        TEXT,
+        Vec::new(alloc),
+        "shadow: other.yaml: not found\n",
+    )?;
+    refuses(&rt, &["shadow"], TEXT, Vec::new(alloc), USAGE)?;
+    refuses(&rt, &["shadow", "-x"], TEXT, Vec::new(alloc), USAGE)?;
+    refuses(
+        &rt,
+        &["shadow", "t.yaml", "t.yaml"],
+        TEXT,
+        Vec::new(alloc),
+        USAGE,
+    )?;
+    refuses(&rt, &[], TEXT, Vec::new(alloc), USAGE)?;
+    Ok(())
+}
+
+/// The first run, with a call of the source or of the sink that fails, on an empty sink or over its own directory.
+fn faulty(
+    rt: &(impl Abort + Threads + AllocGlobal),
+    read: u64,
+    write: u64,
+    again: bool,
+) -> Result<(u8, MemSink), Fail> {
+    let alloc = rt.alloc();
+    let words = words(alloc, &CONFIG)?;
+    let mut sink = MemSink::new(alloc);
+    let mut write = write;
+    if again {
+        let mut first = source(alloc, TEXT, program(alloc, &HI, b"hi\n")?)?;
+        assert_eq!(rt; shadow(rt, &words, 1, &mut first, &mut sink, &OpenGate), 0);
+        // The first run made five calls: its directory and four files.
+        write = write.saturating_add(5);
+    }
+    sink.fail_at(write)?;
+    let mut source = source(alloc, TEXT, program(alloc, &HI, b"hi\n")?)?;
+    source.fail_at(read)?;
+    let status = shadow(rt, &words, 1, &mut source, &mut sink, &OpenGate);
+    Ok((status, sink))
+}
+
+#[test]
+fn tells_a_directory_that_is_there_and_each_read_that_fails(rt: HostRuntime) -> Result<(), Fail> {
+    let (status, sink) = faulty(&rt, 99, 99, true)?;
+    assert_eq!(rt; status, 2);
+    assert_eq!(rt; sink.err(), b"shadow: shadow.data: exists\n".as_slice());
+    // The calls are the size and the bytes of the configuration, and those of the program.
+    for (read, file) in [(1, "t.yaml"), (2, "t.yaml"), (3, "hi"), (4, "hi")] {
+        let (status, sink) = faulty(&rt, read, 99, false)?;
+        let line = format!(in rt.alloc(); "shadow: {file}: read failed\n")?;
+        assert_eq!(rt; status, 3, "read {read}");
+        assert_eq!(rt; sink.err(), line.as_bytes());
+        assert!(rt; !sink.has_directory("shadow.data"));
+        let (status, sink) = faulty(&rt, read, 1, false)?;
+        assert_eq!(rt; status, 4, "read {read} and the line");
+        assert_eq!(rt; sink.err().len(), 0);
+    }
+    let (status, _) = faulty(&rt, 5, 99, false)?;
+    assert_eq!(rt; status, 0);
+    Ok(())
+}
+
+#[test]
+fn leaves_a_part_where_a_write_fails(rt: HostRuntime) -> Result<(), Fail> {
+    // The calls are the directory and the four files in order.
+    for write in 1..6 {
+        let (status, sink) = faulty(&rt, 99, write, false)?;
+        assert_eq!(rt; status, 4, "write {write}");
+        assert_eq!(rt;
+            sink.has_directory("shadow.data"),
+            write > 1,
+            "write {write}"
+        );
+        assert_eq!(rt;
+            sink.file_count() as u64,
+            write.saturating_sub(2),
+            "write {write}"
+        );
+        assert_eq!(rt; sink.err().len(), 0);
+        assert_eq!(rt;
+            sink.file("hosts/a/hi.1000.stdout").is_some(),
+            write > 2,
+            "write {write}"
+        );
+    }
+    let (status, _) = faulty(&rt, 99, 6, false)?;
+    assert_eq!(rt; status, 0);
+    // Over its own directory: the directory, and the line that tells it.
+    for write in 1..3 {
+        let (status, sink) = faulty(&rt, 99, write, true)?;
+        assert_eq!(rt; status, 4, "write {write} again");
+        assert_eq!(rt; sink.err().len(), 0);
+        assert_eq!(rt; sink.file_count(), 4);
     }
     Ok(())
 }

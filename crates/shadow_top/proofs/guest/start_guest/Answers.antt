@@ -18,7 +18,7 @@ returns c =
     let sp_is : c.round_down-stack_pointer.result ≡ words_at c.round_down-text_at.result = c.round_down-stack_pointer.ensures in
     let words_is : c.in_ok-words.words.items ≡ word_bytes (words_of c.round_down-text_at.result) = c.in_ok-words.ensures in
     let m1_is : c.fill.new.memory ≡ filled c.in_ok-memory.memory c.round_down-text_at.result c.in_ok-text.text.items =
-        c.fill.ensures.filled ∙ ap (λ (b : List ℕ). filled c.in_ok-memory.memory c.round_down-text_at.result b) c.deref.ensures.value in
+    c.fill.ensures.filled ∙ ap (λ (b : List ℕ). filled c.in_ok-memory.memory c.round_down-text_at.result b) c.deref.ensures.value in
     let m2_is : c.fill-2.new.memory ≡ filled c.fill.new.memory c.round_down-stack_pointer.result c.in_ok-words.words.items =
-        c.fill-2.ensures.filled ∙ ap (λ (b : List ℕ). filled c.fill.new.memory c.round_down-stack_pointer.result b) c.deref-2.ensures.value in
+    c.fill-2.ensures.filled ∙ ap (λ (b : List ℕ). filled c.fill.new.memory c.round_down-stack_pointer.result b) c.deref-2.ensures.value in
     with_text-made c.args.image.now c.args.path.now _ _ _ _ _ _ _ _ _ _ text_is c.entry.ensures at_is sp_is words_is c.in_ok-memory.ensures m1_is m2_is c.new.ensures c.new-2.ensures

@@ -10,7 +10,7 @@ returns-in_err-put_all-clause-err g c =
     let old = g.K.Sink.content c.loop-piece.sink in
     let new = g.K.Sink.content c.put_all.new.sink in
     let next : drop c.loop-piece.piece-index puts ≡ put_of c.piece-item.result ∷ drop (c.loop-piece.piece-index + 1) puts =
-        drop_puts_next _ _ _ c.loop-piece-test.true c.piece-item.is in
+    drop_puts_next _ _ _ c.loop-piece-test.true c.piece-item.is in
     on_err c.from_residual.result (c.loop-piece.invariant.part new (subst (λ (ps : List Put). PutsFront ps old new) (sym next) (inl c.in_err-put_all.ensures.err)))
 
 pub loop-piece-preserved : goal.loop-piece-preserved

@@ -10,8 +10,8 @@ pub turns-preserved : goal.turns-preserved
 turns-preserved c =
     let (was, due) = c.in-Some.ensures.some in
     let turned : next (net_of c.args.stop) (world_of c.turns.host c.turns.pending) ≡ Some (world_of c.fire.new.self c.in_ok-pending-in-Some.pending) =
-        ap (λ (o : Option Event). next (net_of c.args.stop) (world_of c.turns.host o)) was
-        ∙ next-fires c.args.stop c.turns.host c.fire.new.self c.in-Some.event c.in_ok-pending-in-Some.pending (c.turns.invariant.own _ was).source due c.in_ok-pending-in-Some.ensures.leaves in
+    ap (λ (o : Option Event). next (net_of c.args.stop) (world_of c.turns.host o)) was
+    ∙ next-fires c.args.stop c.turns.host c.fire.new.self c.in-Some.event c.in_ok-pending-in-Some.pending (c.turns.invariant.own _ was).source due c.in_ok-pending-in-Some.ensures.leaves in
     record {
       own = own_of c.in-Some.event.key c.in_ok-pending-in-Some.pending c.in_ok-pending-in-Some.ensures.follows;
       reached = λ result h. c.turns.invariant.reached result (goes_on _ _ turned h);
