@@ -9,4 +9,5 @@ pub mod SliceLemmas
 pub mod StackLemmas
 pub mod StartLemmas
 pub mod TextLemmas
+mod Values
 pub mod WorldLaws

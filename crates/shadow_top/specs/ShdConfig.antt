@@ -1,4 +1,4 @@
--- The configuration file of the first profile: eleven lines, each with its line end, in which three places may differ.
+-- The configuration file of the first profile: ten lines, each with its line end, in which three places may differ.
 -- The whole of the format is that of Shadow's configuration files (YAML 1.2).
 use Rattle.std.specs.Prelude.{◌≡◌, ◌≤◌, ◌<◌, ℕ, ◌^◌, Bool, ◌&&◌, not, nat_le, nat_lt, nat_eq, if◌then◌else◌, List, ◌++◌, length, drop, Option, Some, None, option_map, codes, ◌==◌, IsTrue}
 use Rattle.std.specs.List.{starts_with, list_all, before_first, after_first, position_or_len}
