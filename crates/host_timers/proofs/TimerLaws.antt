@@ -54,18 +54,19 @@ expired_counts t now k is =
     elim (cases_lt now t.first) [
       | inl before ↦ let none : expired t now ≡ 0 = expired_before t now is.0 before in (λ below. absurd (omega arith), λ at. absurd (omega arith))
       | inr past ↦ elim (eqb_tells t.interval 0) [
-          | inl once ↦
-              let one : expired t now ≡ 1 = expired_once t now is.0 past once.1 in
-              let only : k ≡ 0 = is.1 once.1 in
-              let product : k * t.interval ≡ 0 = ap (λ j. j * t.interval) only ∙ omega arith in
-              (λ below. omega arith, λ at. omega arith)
-          | inr often ↦
-              let many : expired t now ≡ (now - t.first) / t.interval + 1 = expired_often t now is.0 past often.1 in
-              let some : 0 < t.interval = let differ : t.interval ≢ 0 = often.1 in omega arith in
-              let fits : (k ≤ (now - t.first) / t.interval) ↔ (k * t.interval ≤ now - t.first) = le-div_iff_mul-le some in
-              ( λ below. let within : k * t.interval ≤ now - t.first = fits.0 (omega arith) in omega arith,
-                λ at. let within : k ≤ (now - t.first) / t.interval = fits.1 (omega arith) in omega arith )
-        ]
+        | inl once ↦
+            let one : expired t now ≡ 1 = expired_once t now is.0 past once.1 in
+            let only : k ≡ 0 = is.1 once.1 in
+            let product : k * t.interval ≡ 0 = ap (λ j. j * t.interval) only ∙ omega arith in
+            (λ below. omega arith, λ at. omega arith)
+        | inr often ↦
+            let many : expired t now ≡ (now - t.first) / t.interval + 1 = expired_often t now is.0 past often.1 in
+            let some : 0 < t.interval = let differ : t.interval ≢ 0 = often.1 in omega arith in
+            let fits : (k ≤ (now - t.first) / t.interval) ↔ (k * t.interval ≤ now - t.first) = le-div_iff_mul-le some in (
+              λ below. let within : k * t.interval ≤ now - t.first = fits.0 (omega arith) in omega arith,
+              λ at. let within : k ≤ (now - t.first) / t.interval = fits.1 (omega arith) in omega arith,
+            )
+      ]
     ]
 
 -- a moment at which a timer expires, after another one and before every other such moment
@@ -85,32 +86,32 @@ next_due_is_first t now =
           let none : next_due t now ≡ None = ap (λ b. if b then None else (if nat_lt now t.first then Some t.first else (if t.interval == 0 then None else Some (expiry t (expired t now))))) off.0 in
           subst (Answers t now) (sym none) (λ k is. absurd (is.0 off.1))
       | inr on ↦ elim (cases_lt now t.first) [
-          | inl before ↦ subst (Answers t now) (sym (next_before t now on.1 before)) (record {
-              later = before;
-              expires = (0, ((on.1, λ _. refl), omega arith));
-              first = λ k is later. omega arith
-            })
-          | inr past ↦ elim (eqb_tells t.interval 0) [
-              | inl once ↦ subst (Answers t now) (sym (next_once t now on.1 past once.1)) (λ k is.
-                  let only : k ≡ 0 = is.1 once.1 in
-                  let product : k * t.interval ≡ 0 = ap (λ j. j * t.interval) only ∙ omega arith in
-                  omega arith)
-              | inr often ↦
-                  let n : ℕ = (now - t.first) / t.interval + 1 in
-                  let many : expired t now ≡ n = expired_often t now on.1 past often.1 in
-                  let has : Expires t n = (on.1, λ none. absurd (often.1 none)) in
-                  subst (Answers t now) (sym (next_often t now on.1 past often.1)) (record {
-                    later = elim (cases_lt now (expiry t n)) [
-                      | inl later ↦ later
-                      | inr not_later ↦ let below : n < expired t now = (expired_counts t now n has).1 not_later in absurd (omega arith)
+        | inl before ↦ subst (Answers t now) (sym (next_before t now on.1 before)) (record {
+          later = before;
+          expires = (0, ((on.1, λ _. refl), omega arith));
+          first = λ k is later. omega arith;
+        })
+        | inr past ↦ elim (eqb_tells t.interval 0) [
+          | inl once ↦ subst (Answers t now) (sym (next_once t now on.1 past once.1)) (λ k is.
+              let only : k ≡ 0 = is.1 once.1 in
+              let product : k * t.interval ≡ 0 = ap (λ j. j * t.interval) only ∙ omega arith in
+              omega arith)
+          | inr often ↦
+              let n : ℕ = (now - t.first) / t.interval + 1 in
+              let many : expired t now ≡ n = expired_often t now on.1 past often.1 in
+              let has : Expires t n = (on.1, λ none. absurd (often.1 none)) in
+              subst (Answers t now) (sym (next_often t now on.1 past often.1)) (record {
+                later = elim (cases_lt now (expiry t n)) [
+                  | inl later ↦ later
+                  | inr not_later ↦ let below : n < expired t now = (expired_counts t now n has).1 not_later in absurd (omega arith)
+                ];
+                expires = (n, (has, refl));
+                first = λ k is later.
+                    elim (cases_lt k n) [
+                      | inl below ↦ let passed : expiry t k ≤ now = (expired_counts t now k is).0 (omega arith) in absurd (omega arith)
+                      | inr at ↦ omega (arith, mul-le-mul_right t.interval at)
                     ];
-                    expires = (n, (has, refl));
-                    first = λ k is later.
-                      elim (cases_lt k n) [
-                        | inl below ↦ let passed : expiry t k ≤ now = (expired_counts t now k is).0 (omega arith) in absurd (omega arith)
-                        | inr at ↦ omega (arith, mul-le-mul_right t.interval at)
-                      ]
-                  })
-            ]
+              })
         ]
+      ]
     ]
