@@ -1,0 +1,81 @@
+//! Clocks.
+
+ghost use Rattle.std.specs.Prelude.{◌≡◌};
+ghost use Rattle.host_timers.specs.Clock.{clock_at};
+
+use sim_base::Time;
+
+/// What a clock tells: whole seconds, and nanoseconds of a second.
+#[derive(Clone, Copy, Debug, PartialEq, Eq)]
+pub struct Moment {
+    pub seconds: u64,
+    pub nanos: u32,
+}
+
+/// The clocks that a guest can read (`clock_gettime(2)`).
+#[derive(Clone, Copy, Debug, PartialEq, Eq)]
+pub struct Clock;
+
+const NANOS_IN_A_SECOND: u64 = 1_000_000_000;
+
+/// 2000-01-01 00:00:00 UTC, when the simulation begins, in Unix time.
+const UNIX_START: u64 = 946_684_800;
+
+const CLOCK_REALTIME: u32 = 0;
+
+const CLOCK_MONOTONIC: u32 = 1;
+
+impl Clock {
+    /// What a clock tells: 0 Unix time, 1 the time since the simulation began. There are no others.
+    pub fn at(clock: u32, now: Time) -> Option<Moment>
+        ensures { result ≡ clock_at clock now.nanos }
+    {
+        let seconds = now.nanos / NANOS_IN_A_SECOND;
+        let nanos = (now.nanos % NANOS_IN_A_SECOND) as u32;
+        match clock {
+            CLOCK_REALTIME => Some(Moment {
+                seconds: UNIX_START + seconds,
+                nanos,
+            }),
+            CLOCK_MONOTONIC => Some(Moment { seconds, nanos }),
+            _ => None,
+        }
+    }
+}
+
+#[cfg(test)]
+mod tests {
+    use super::*;
+
+    #[test]
+    fn tells_two_times(rt: HostRuntime) {
+        let now = Time { nanos: 4_000_001 };
+        assert_eq!(rt;
+            Clock::at(0, now),
+            Some(Moment {
+                seconds: 946_684_800,
+                nanos: 4_000_001
+            })
+        );
+        assert_eq!(rt;
+            Clock::at(1, now),
+            Some(Moment {
+                seconds: 0,
+                nanos: 4_000_001
+            })
+        );
+        assert_eq!(rt;
+            Clock::at(
+                1,
+                Time {
+                    nanos: 3_000_000_000
+                }
+            ),
+            Some(Moment {
+                seconds: 3,
+                nanos: 0
+            })
+        );
+        assert_eq!(rt; Clock::at(2, now), None);
+    }
+}

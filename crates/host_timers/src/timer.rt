@@ -1,0 +1,169 @@
+//! Timers.
+
+ghost use Rattle.std.specs.Prelude.{◌≡◌, ◌^◌, ◌≤◌, option_map};
+ghost use Rattle.host_timers.specs.Timer as spec;
+
+use sim_base::Time;
+use std::marker::Model;
+
+/// A timer (`timerfd_create(2)`), by simulated time.
+///
+/// Contracts see it as its first expiry (0: off), the interval between later ones (0: none), and how many of its
+/// expiries were read.
+#[derive(Drop)]
+pub struct Timer {
+    first: u64,
+    interval: u64,
+    taken: u64,
+}
+
+impl Model for Timer {
+    ghost use Rattle.std.specs.Prelude.{◌^◌, ◌≤◌};
+    ghost use Rattle.host_timers.specs.Timer.{TimerState, timer_code};
+
+    ghost Value = { TimerState };
+
+    ghost coded = { timer_code };
+
+    ghost view = { λ t. record { first = t.first; interval = t.interval; taken = t.taken } };
+
+    ghost invariant = { λ t. (t.first ≤ 2 ^ 62) × (t.interval ≤ 2 ^ 62) };
+}
+
+impl Timer {
+    /// A timer that is off.
+    pub fn new() -> Timer
+        ensures { result ≡ spec.off }
+    {
+        Timer {
+            first: 0,
+            interval: 0,
+            taken: 0,
+        }
+    }
+
+    /// Sets the first expiry, 0 for off, and the interval. A first expiry that has passed counts as the next
+    /// nanosecond. Nothing of the new expiries was read.
+    pub fn set(&mut self, now: Time, first: Time, interval: Time)
+        requires now { now.nanos ≤ 2 ^ 61 }
+        requires first { first.nanos ≤ 2 ^ 62 }
+        requires interval { interval.nanos ≤ 2 ^ 62 }
+        ensures { self.new ≡ spec.set now.nanos first.nanos interval.nanos }
+    {
+        self.first = if first.nanos == 0 {
+            0
+        } else {
+            first.nanos.max(now.nanos + 1)
+        };
+        self.interval = interval.nanos;
+        self.taken = 0;
+    }
+
+    /// The interval as it was set, also where the timer is off.
+    pub fn interval(&self) -> Time
+        ensures { result.nanos ≡ self.now.interval }
+    {
+        Time {
+            nanos: self.interval,
+        }
+    }
+
+    /// The number of expiries at or before `now` that no read has taken.
+    pub fn count(&self, now: Time) -> u64
+        requires { now.nanos ≤ 2 ^ 61 }
+        ensures { result ≡ spec.count self.now now.nanos }
+    {
+        self.expired(now.nanos).saturating_sub(self.taken)
+    }
+
+    /// Takes the expiries at or before `now` that no read has taken, and answers how many they are.
+    pub fn read(&mut self, now: Time) -> u64
+        requires { now.nanos ≤ 2 ^ 61 }
+        ensures count { result ≡ spec.count self.old now.nanos }
+        ensures taken { self.new ≡ spec.read self.old now.nanos }
+    {
+        let expired = self.expired(now.nanos);
+        let count = expired.saturating_sub(self.taken);
+        self.taken = self.taken.max(expired);
+        count
+    }
+
+    /// The first expiry after `now`.
+    pub fn next_due(&self, now: Time) -> Option<Time>
+        requires { now.nanos ≤ 2 ^ 61 }
+        ensures { option_map (λ due. due.nanos) result ≡ spec.next_due self.now now.nanos }
+    {
+        if self.first == 0 {
+            return None;
+        }
+        if now.nanos < self.first {
+            return Some(Time { nanos: self.first });
+        }
+        if self.interval == 0 {
+            return None;
+        }
+        let number = self.expired(now.nanos);
+        Some(Time {
+            nanos: self.first + number * self.interval,
+        })
+    }
+
+    /// The number of expiries at or before a moment.
+    fn expired(&self, now: u64) -> u64
+        requires { now ≤ 2 ^ 61 }
+        ensures { result ≡ spec.expired self.now now }
+    {
+        if self.first == 0 || now < self.first {
+            0
+        } else if self.interval == 0 {
+            1
+        } else {
+            (now - self.first) / self.interval + 1
+        }
+    }
+}
+
+#[cfg(test)]
+mod tests {
+    use super::*;
+
+    fn at(nanos: u64) -> Time
+        ensures { result.nanos ≡ nanos }
+    {
+        Time { nanos }
+    }
+
+    #[test]
+    fn counts_its_expiries(rt: HostRuntime) {
+        let mut timer = Timer::new();
+        assert_eq!(rt; (timer.read(at(5)), timer.next_due(at(5))), (0, None));
+        timer.set(at(0), at(1_000_000), at(1_000_000));
+        assert_eq!(rt; timer.next_due(at(0)), Some(at(1_000_000)));
+        assert_eq!(rt; timer.next_due(at(1_000_000)), Some(at(2_000_000)));
+        assert_eq!(rt;
+            (timer.count(at(999_999)), timer.count(at(1_000_000))),
+            (0, 1)
+        );
+        assert_eq!(rt; timer.read(at(3_000_000)), 3);
+        assert_eq!(rt; timer.read(at(3_000_000)), 0);
+        assert_eq!(rt; timer.read(at(4_000_001)), 1);
+        assert_eq!(rt; timer.interval(), at(1_000_000));
+        timer.set(at(7), at(3), at(0));
+        assert_eq!(rt;
+            (timer.count(at(7)), timer.next_due(at(7))),
+            (0, Some(at(8)))
+        );
+        assert_eq!(rt;
+            (
+                timer.read(at(8)),
+                timer.read(at(1000)),
+                timer.next_due(at(8))
+            ),
+            (1, 0, None)
+        );
+        timer.set(at(0), at(1 << 62), at(1 << 62));
+        assert_eq!(rt; timer.next_due(at(1 << 61)), Some(at(1 << 62)));
+        timer.set(at(0), at(1), at(1 << 62));
+        assert_eq!(rt; timer.next_due(at(1 << 61)), Some(at((1 << 62) + 1)));
+    }
+}
