@@ -1,5 +1,6 @@
 pub mod ConfigLaws
 pub mod EngineLemmas
+pub mod EventLaws
 pub mod FireLemmas
 pub mod PartLemmas
 pub mod PieceLemmas

@@ -32,16 +32,16 @@ file held name = do
   bytes ← or_fault (NotFound name) (held name)
   at_most_16_mib name bytes
 
--- the image of a program's file
-abbrev pub or_elf_fault : List ℕ → Result ProgramImage ElfFault → Result ProgramImage Fault
-or_elf_fault path (Ok i) = Ok i
-or_elf_fault path (Err fault) = Err (Elf path fault)
-
--- the same of its length alone
+-- its length alone
 abbrev pub size_of : Held → List ℕ → Result ℕ Fault
 size_of held name = do
   bytes ← file held name
   Ok (length bytes)
+
+-- the image of a program's file
+abbrev pub or_elf_fault : List ℕ → Result ProgramImage ElfFault → Result ProgramImage Fault
+or_elf_fault path (Ok i) = Ok i
+or_elf_fault path (Err fault) = Err (Elf path fault)
 
 -- the configuration in the file that the command line names
 unfoldable pub configured : List (List ℕ) → Held → Result Config Fault
