@@ -1,0 +1,9 @@
+//! The graph of a network, read from a GML text.
+#![tactic(auto)]
+
+mod fault;
+mod graph;
+mod number;
+
+pub use fault::{GmlError, GmlFault, GmlKind};
+pub use graph::{Edge, Edges, Graph, Node, Nodes};
