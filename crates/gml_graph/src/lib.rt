@@ -4,6 +4,7 @@
 mod fault;
 mod graph;
 mod number;
+mod token;
 
 pub use fault::{GmlError, GmlFault, GmlKind};
 pub use graph::{Edge, Edges, Graph, Node, Nodes};
