@@ -1,3 +1,5 @@
 pub mod Number
 pub mod Token
 pub mod Tokens
+pub mod Scanning
+pub mod Left

@@ -4,6 +4,7 @@
 mod fault;
 mod graph;
 mod number;
+mod scanner;
 mod token;
 
 pub use fault::{GmlError, GmlFault, GmlKind};
