@@ -3,3 +3,5 @@ pub mod Token
 pub mod Tokens
 pub mod Scanning
 pub mod Left
+pub mod Steps
+pub mod Outline

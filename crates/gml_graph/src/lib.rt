@@ -4,6 +4,7 @@
 mod fault;
 mod graph;
 mod number;
+mod outline;
 mod scanner;
 mod token;
 

@@ -49,7 +49,7 @@ fn count_line(bytes: &[u8]) -> usize
 }
 
 /// The line behind some bytes of a line and those after it.
-fn line_behind(line: u64, bytes: &[u8]) -> u64
+pub fn line_behind(line: u64, bytes: &[u8]) -> u64
     requires { line + length bytes.now < 2 ^ 64 }
     ensures value { result ≡ fold next_line line bytes.now }
     ensures bound { result ≤ line + length bytes.now }
