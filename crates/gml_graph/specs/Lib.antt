@@ -5,3 +5,5 @@ pub mod Scanning
 pub mod Left
 pub mod Steps
 pub mod Outline
+pub mod Graph
+pub mod Gml

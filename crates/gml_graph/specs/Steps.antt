@@ -27,3 +27,7 @@ Fails (errors.Fault f) read = read ≡ Err f
 abbrev pub Gives : {X Y : Type 0} → (X → Y) → Result X GmlError → Result Y GmlFault → Type 0
 Gives view (Ok x) read = read ≡ Ok (view x)
 Gives view (Err e) read = Fails e read
+
+abbrev pub Sees : {X Y : Type 0} → (X → Y) → Result X GmlFault → Result Y GmlFault → Type 0
+Sees view (Ok x) read = read ≡ Ok (view x)
+Sees view (Err f) read = read ≡ Err f
