@@ -1,10 +1,10 @@
 //! From the bytes of a text to its graph.
 
-ghost use Rattle.std.specs.Prelude.{◌≡◌};
+ghost use Rattle.std.specs.Prelude.{◌≡◌, MatchResult, Ok, Err};
 ghost use Rattle.gml_graph.specs.Steps.{Gives};
 ghost use Rattle.gml_graph.specs.Outline.{outline};
 ghost use Rattle.gml_graph.specs.Graph.{graph_of};
-ghost use Rattle.gml_graph.specs.Gml.{graph};
+ghost use Rattle.gml_graph.specs.Gml.{graph, utf8_at};
 
 use crate::block::{read_directed, read_graph_rows};
 use crate::edge::read_edges;
@@ -31,19 +31,26 @@ fn read_graph(alloc: Global, rows: &[Row]) -> Result<Graph, GmlError>
     })
 }
 
+/// The text that the bytes spell.
+fn text_of(bytes: &[u8]) -> Result<&str, GmlFault>
+    ensures { MatchResult result (λ text. (text.now ≡ bytes.now) × (utf8_at bytes.now ≡ Ok tt))
+        (λ fault. utf8_at bytes.now ≡ Err fault) }
+{
+    match str::from_utf8(bytes) {
+        Ok(text) => Ok(text),
+        Err(e) => Err(GmlFault {
+            line: line_behind(1, &bytes[..e.valid_up_to()]),
+            kind: GmlKind::NotUtf8,
+        }),
+    }
+}
+
 /// Reads the graph of a GML text, or its first fault.
 #[tactic(auto, unfolding(crate::specs::Gml::graph))]
 pub fn read_gml(alloc: Global, text: &[u8]) -> Result<Graph, GmlError>
     ensures { Gives (λ found. found) result (graph text.now) }
 {
-    match str::from_utf8(text) {
-        Ok(text) => {
-            let rows = read_outline(alloc, text)?;
-            read_graph(alloc, &rows)
-        }
-        Err(e) => Err(GmlError::Fault(GmlFault {
-            line: line_behind(1, &text[..e.valid_up_to()]),
-            kind: GmlKind::NotUtf8,
-        })),
-    }
+    let text = text_of(text)?;
+    let rows = read_outline(alloc, text)?;
+    read_graph(alloc, &rows)
 }
