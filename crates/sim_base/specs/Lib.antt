@@ -1,4 +1,14 @@
+pub mod Calls
+pub mod Draws
 pub mod Errno
+pub mod Faults
+pub mod Files
 pub mod Key
+pub mod KeyLaws
+pub mod MemSink
+pub mod MemSource
 pub mod Packet
+pub mod Quantity
 pub mod Signal
+pub mod Sink
+pub mod Source

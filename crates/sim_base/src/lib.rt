@@ -4,6 +4,7 @@
 
 mod address;
 mod bytes;
+mod draws;
 mod errno;
 mod event;
 mod host;
@@ -11,7 +12,9 @@ mod key;
 mod memory;
 mod name;
 mod object;
+mod outside;
 mod packet;
+mod quantity;
 mod signal;
 mod state;
 mod text;
@@ -19,6 +22,7 @@ mod time;
 
 pub use address::{Addr, Ip};
 pub use bytes::Bytes;
+pub use draws::Draws;
 pub use errno::Errno;
 pub use event::{Event, Parcel, What};
 pub use host::HostId;
@@ -26,7 +30,11 @@ pub use key::{Key, Kind};
 pub use memory::NoMemory;
 pub use name::Name;
 pub use object::ObjectId;
+pub use outside::{
+    MemSink, MemSource, Place, ReadError, Sink, Source, WriteError, put_all, read_all,
+};
 pub use packet::{Load, Packet};
+pub use quantity::{read_rate, read_time};
 pub use signal::Signal;
 pub use state::State;
 pub use text::Text;

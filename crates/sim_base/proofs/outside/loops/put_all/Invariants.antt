@@ -1,0 +1,12 @@
+use Rattle.std.proofs.Common.{◌≡◌, length}
+use Rattle.sim_base.proofs.Putting.{HasPut}
+use Rattle.sim_base.proofs.outside.loops.put_all.Given as goal
+
+abbrev pub invariant-loop-taken : goal.invariant-loop-taken
+invariant-loop-taken g l = record {
+  put : HasPut l.place l.piece l.rest (g.S.Sink.content l.initial.sink) (g.S.Sink.content l.sink);
+  faults : g.S.Sink.faults l.sink ≡ g.S.Sink.faults l.initial.sink;
+}
+
+abbrev pub decreases-loop-taken : goal.decreases-loop-taken
+decreases-loop-taken g l = length l.rest

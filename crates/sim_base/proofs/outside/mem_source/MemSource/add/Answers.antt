@@ -1,0 +1,7 @@
+use Rattle.std.proofs.Common.{string_bytes}
+use Rattle.sim_base.proofs.FilesLemmas.{files_of-with_file}
+use Rattle.sim_base.proofs.outside.mem_source.MemSource.add.Goals as goal
+
+pub returns-clause-ok : goal.returns-clause-ok
+returns-clause-ok c =
+    files_of-with_file (string_bytes c.args.name) c.args.self.now.files c.insert.new.self c.args.bytes c.in_ok-insert.ensures.updates

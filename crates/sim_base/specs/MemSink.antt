@@ -1,0 +1,18 @@
+-- what a sink in memory holds
+use Rattle.std.specs.BTreeSet.{contains_text}
+use Rattle.sim_base.specs.declared.outside.mem_sink.MemSink.{MemSink}
+use Rattle.sim_base.specs.Calls.{CallCount}
+use Rattle.sim_base.specs.Files.{files_of}
+use Rattle.sim_base.specs.Sink.{Content}
+
+abbrev pub sink_content : MemSink → Content
+sink_content s = record {
+  there = contains_text s.directories;
+  out = s.out.items;
+  err = s.err.items;
+  files = files_of s.files;
+}
+
+-- its calls so far, and which fail
+abbrev pub sink_calls : MemSink → CallCount
+sink_calls s = s.calls

@@ -1,0 +1,143 @@
+//! A sink in memory.
+
+ghost use Rattle.std.specs.Prelude.{◌≡◌, ◌++◌, ◌∷◌, [], option_map, Some, OnOk, OnErr};
+ghost use Rattle.sim_base.specs.Calls.{no_calls};
+ghost use Rattle.sim_base.specs.Files.{files_of, add_to_file};
+ghost use Rattle.sim_base.specs.Sink.{nothing};
+
+use crate::memory::NoMemory;
+use crate::name::Name;
+use crate::outside::calls::Calls;
+use crate::outside::sink::{Place, Sink, WriteError};
+use std::alloc::Global;
+use std::collections::{BTreeMap, BTreeSet};
+
+/// A sink that holds its content in memory and tells it. Calls whose numbers, from 1, it was told
+/// fail.
+#[derive(Debug, Drop)]
+pub struct MemSink {
+    directories: BTreeSet<String>,
+    out: Vec<u8>,
+    err: Vec<u8>,
+    files: BTreeMap<String, Vec<u8>>,
+    calls: Calls,
+    alloc: Global,
+}
+
+impl MemSink {
+    ghost use Rattle.sim_base.specs.MemSink.{sink_content, sink_calls};
+
+    pub fn new(alloc: Global) -> MemSink
+        ensures content { sink_content result ≡ nothing }
+        ensures calls { sink_calls result ≡ no_calls }
+    {
+        MemSink {
+            directories: BTreeSet::new(alloc),
+            out: Vec::new(alloc),
+            err: Vec::new(alloc),
+            files: BTreeMap::new(alloc),
+            calls: Calls::new(alloc),
+            alloc,
+        }
+    }
+
+    /// Has the call of this number, from 1, fail.
+    pub fn fail_at(&mut self, call: u64) -> Result<(), NoMemory>
+        ensures ok { OnOk result (sink_calls self.new ≡ record (sink_calls self.old) { failing = (sink_calls self.old).failing ++ call ∷ [] }) }
+        ensures err { OnErr result (sink_calls self.new ≡ sink_calls self.old) }
+        ensures content { sink_content self.new ≡ sink_content self.old }
+    {
+        self.calls.fail_at(call)
+    }
+
+    /// Whether the directory is there.
+    pub fn has_directory(&self, dir: &str) -> bool
+        ensures { result ≡ (sink_content self.now).there dir.now }
+    {
+        self.directories.contains(dir)
+    }
+
+    /// The bytes of standard output.
+    pub fn out(&self) -> &[u8]
+        ensures { result.now ≡ (sink_content self.now).out }
+    {
+        self.out.as_slice()
+    }
+
+    /// The bytes of standard error.
+    pub fn err(&self) -> &[u8]
+        ensures { result.now ≡ (sink_content self.now).err }
+    {
+        self.err.as_slice()
+    }
+
+    /// The bytes of a file, or none where it is not there.
+    pub fn file(&self, name: &str) -> Option<&[u8]>
+        ensures { option_map (λ bytes. bytes.now) result ≡ (sink_content self.now).files name.now }
+    {
+        match self.files.get(name) {
+            Some(bytes) => Some(bytes.as_slice()),
+            None => None,
+        }
+    }
+
+    /// How many files there are.
+    pub fn file_count(&self) -> usize {
+        self.files.len()
+    }
+}
+
+/// Adds a piece to the end of a file, which is made where it was not there.
+fn add_to_file(
+    alloc: Global,
+    files: &mut BTreeMap<String, Vec<u8>>,
+    name: &Name,
+    piece: &[u8],
+) -> Result<(), NoMemory>
+    ensures ok { OnOk result (files_of files.new ≡ add_to_file name.now piece.now (files_of files.old)) }
+    ensures err { OnErr result (files_of files.new ≡ files_of files.old) }
+{
+    match files.get_mut(name.as_str()) {
+        Some(bytes) => bytes.extend_from_slice(piece)?,
+        None => {
+            let key = String::from_str(alloc, name.as_str())?;
+            let bytes = Vec::from_slice(alloc, piece)?;
+            files.insert(key, bytes)?;
+        }
+    }
+    Ok(())
+}
+
+impl Sink for MemSink {
+    ghost use Rattle.std.specs.Prelude.{Some};
+    ghost use Rattle.sim_base.specs.MemSink.{sink_content, sink_calls};
+
+    ghost content = { λ s. Some (sink_content s) };
+
+    ghost faults = { λ s. (sink_calls s).faults };
+
+    fn begin(&mut self, dir: &str) -> Result<bool, WriteError> {
+        if self.calls.next_fails() {
+            return Err(WriteError::Failed);
+        }
+        if self.directories.contains(dir) {
+            return Ok(false);
+        }
+        let name = String::from_str(self.alloc, dir)?;
+        self.directories.insert(name)?;
+        self.files = BTreeMap::new(self.alloc);
+        Ok(true)
+    }
+
+    fn put(&mut self, place: &Place, piece: &[u8]) -> Result<usize, WriteError> {
+        if self.calls.next_fails() {
+            return Err(WriteError::Failed);
+        }
+        match place {
+            Place::Out => self.out.extend_from_slice(piece)?,
+            Place::Err => self.err.extend_from_slice(piece)?,
+            Place::File(name) => add_to_file(self.alloc, &mut self.files, name, piece)?,
+        }
+        Ok(piece.len())
+    }
+}

@@ -1,0 +1,94 @@
+//! A source in memory.
+
+ghost use Rattle.std.specs.Prelude.{◌≡◌, ◌≤◌, ◌++◌, ◌∷◌, [], length, OnOk, OnErr, string_bytes};
+ghost use Rattle.sim_base.specs.Calls.{no_calls};
+ghost use Rattle.sim_base.specs.Files.{no_files, with_file};
+ghost use Rattle.sim_base.specs.Source.{IsPiece};
+
+use crate::memory::NoMemory;
+use crate::outside::calls::Calls;
+use crate::outside::source::{ReadError, Source};
+use std::alloc::Global;
+use std::collections::BTreeMap;
+
+/// A source that holds its files in memory and tells them. Calls whose numbers, from 1, it was told
+/// fail.
+#[derive(Debug, Drop)]
+pub struct MemSource {
+    files: BTreeMap<String, Vec<u8>>,
+    calls: Calls,
+}
+
+/// Copies the bytes from the place `at` on, as many as there are and have room.
+fn copy_piece(bytes: &[u8], at: u64, into: &mut [u8]) -> usize
+    ensures fits { result ≤ length into.old }
+    ensures piece { IsPiece bytes.now at result into.new }
+{
+    let start = (at as usize).min(bytes.len());
+    let (_, rest) = bytes.split_at(start);
+    let n = rest.len().min(into.len());
+    into[..n].copy_from_slice(&rest[..n]);
+    n
+}
+
+impl MemSource {
+    ghost use Rattle.sim_base.specs.MemSource.{mem_files, mem_calls};
+
+    pub fn new(alloc: Global) -> MemSource
+        ensures files { mem_files result ≡ no_files }
+        ensures calls { mem_calls result ≡ no_calls }
+    {
+        MemSource {
+            files: BTreeMap::new(alloc),
+            calls: Calls::new(alloc),
+        }
+    }
+
+    /// Holds a file, in place of an earlier one of its name.
+    pub fn add(&mut self, name: String, bytes: Vec<u8>) -> Result<(), NoMemory>
+        ensures ok { OnOk result (mem_files self.new ≡ with_file (string_bytes name) bytes.items (mem_files self.old)) }
+        ensures err { OnErr result (mem_files self.new ≡ mem_files self.old) }
+        ensures calls { mem_calls self.new ≡ mem_calls self.old }
+    {
+        self.files.insert(name, bytes)?;
+        Ok(())
+    }
+
+    /// Has the call of this number, from 1, fail.
+    pub fn fail_at(&mut self, call: u64) -> Result<(), NoMemory>
+        ensures ok { OnOk result (mem_calls self.new ≡ record (mem_calls self.old) { failing = (mem_calls self.old).failing ++ call ∷ [] }) }
+        ensures err { OnErr result (mem_calls self.new ≡ mem_calls self.old) }
+        ensures files { mem_files self.new ≡ mem_files self.old }
+    {
+        self.calls.fail_at(call)
+    }
+}
+
+impl Source for MemSource {
+    ghost use Rattle.std.specs.Prelude.{Some};
+    ghost use Rattle.sim_base.specs.MemSource.{mem_files, mem_calls};
+
+    ghost held = { λ s. Some (mem_files s) };
+
+    ghost faults = { λ s. (mem_calls s).faults };
+
+    fn size(&mut self, name: &str) -> Result<Option<u64>, ReadError> {
+        if self.calls.next_fails() {
+            return Err(ReadError::Failed);
+        }
+        match self.files.get(name) {
+            Some(bytes) => Ok(Some(bytes.len() as u64)),
+            None => Ok(None),
+        }
+    }
+
+    fn read(&mut self, name: &str, at: u64, into: &mut [u8]) -> Result<usize, ReadError> {
+        if self.calls.next_fails() {
+            return Err(ReadError::Failed);
+        }
+        match self.files.get(name) {
+            Some(bytes) => Ok(copy_piece(bytes.as_slice(), at, into)),
+            None => Ok(0),
+        }
+    }
+}
