@@ -1,6 +1,9 @@
 -- Tokens: keys, numbers, texts and brackets.
 use Rattle.std.specs.Prelude.{ℕ, Bool, true, false, ◌&&◌, ◌||◌, if◌then◌else◌, ◌==◌, List, [], ◌∷◌, Option, Some, None, codes}
 use Rattle.std.specs.List.{list_all}
+use Rattle.std.specs.Option.{option_map}
+use Rattle.sim_base.specs.declared.time.Time.{Time}
+use Rattle.sim_base.specs.Quantity.{time_of_text, rate_of_text}
 use Rattle.std.specs.Str.{bytes_eq}
 use Rattle.std.specs.Char.{is_ascii_alphabetic, is_ascii_alphanumeric}
 use Rattle.gml_graph.specs.declared.number.Decimal.{Decimal}
@@ -47,4 +50,4 @@ word_token word = if is_key word then Name (key_named word) else number_token (d
 
 -- what a text between quotes says
 unfoldable pub quoted : List ℕ → Quoted
-quoted text = record { time = None; rate = None }
+quoted text = record { time = option_map (λ nanos. record { nanos = nanos }) (time_of_text text); rate = rate_of_text text }

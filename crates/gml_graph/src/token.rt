@@ -5,7 +5,7 @@ ghost use Rattle.std.specs.List.{list_all};
 ghost use Rattle.gml_graph.specs.Token.{is_key_byte, is_key, key_named, word_token, quoted};
 
 use crate::number::{read_decimal, Decimal};
-use sim_base::Time;
+use sim_base::{read_rate, read_time, Time};
 
 /// The keys that mean something, somewhere.
 #[derive(Clone, Copy, Debug, PartialEq, Eq)]
@@ -137,9 +137,8 @@ pub fn token_of(word: &[u8]) -> Token
 pub fn read_quoted(text: &str) -> Quoted
     ensures { result ≡ quoted text.now }
 {
-    let _ = text;
     Quoted {
-        time: None,
-        rate: None,
+        time: read_time(text),
+        rate: read_rate(text),
     }
 }
