@@ -1,17 +1,16 @@
 -- digits and powers of ten
-use Rattle.std.proofs.Common.{cond, one-add, not, ◌≢◌, ⊎_elim, leb, ◌≡◌, ℕ, zero, suc, ◌+◌, ◌-◌, ◌*◌, ◌/◌, ◌^◌, ◌<◌, ◌≤◌, Bool, true, false, List, [], ◌∷◌, length, take, drop, get_or, refl, sym, ap, ◌∙◌, arith}
+use Rattle.std.proofs.Common.{cond, one-add, ◌≢◌, ⊎_elim, leb, ◌≡◌, ℕ, zero, suc, ◌+◌, ◌-◌, ◌*◌, ◌/◌, ◌^◌, ◌<◌, ◌≤◌, Bool, true, false, List, [], ◌∷◌, length, take, get_or, refl, sym, ap, ◌∙◌, arith}
 use Rattle.std.specs.List.{prefix_len, list_all}
 use Rattle.std.specs.Char.{is_ascii_digit}
 use Rattle.std.proofs.lemmas.Nat.{pow-add}
-use Rattle.std.proofs.lemmas.List.Sums.{list_all-from_AllPass, prefix_len_passes}
 use Rattle.std.proofs.lemmas.Bool.Decides.{leb_tells}
 use Rattle.std.proofs.lemmas.Bool.{le-leb}
-use Rattle.std.specs.Prelude.{nat_le, Option, Some, None, if◌then◌else◌}
+use Rattle.std.specs.Prelude.{nat_le}
 use Rattle.std.proofs.lemmas.Bool.Decides.{nat_tests}
 use Rattle.gml_graph.specs.declared.number.Decimal.{Decimal}
 use Rattle.gml_graph.specs.Number.{is_part, units}
 use Rattle.std.proofs.lemmas.Grind.{pow_more, common_steps}
-use Rattle.std.proofs.Math.Nat.{mul-div-mul_right, mul-div-mul_left, mul-div_cancel, mul-le-mul_left, mul-le-mul_right, div-eq_of_lt, div-le_of_le-mul, mul_comm, mul_assoc, pow-suc}
+use Rattle.std.proofs.Math.Nat.{mul-div-mul_right, mul-div_cancel, mul-le-mul_left, mul-le-mul_right, div-eq_of_lt, div-le_of_le-mul, mul_assoc, pow-suc}
 
 pub ten_pos : (k : ℕ) → 0 < 10 ^ k
 ten_pos zero = omega arith
@@ -94,11 +93,11 @@ part_same n up down h =
     let e = both (down - up) up down (omega arith) in
     let p = ten_pos up in
     ⊎_elim
-        (λ (yes : (leb n (10 ^ (down - up)) ≡ true) × (n ≤ 10 ^ (down - up))).
-            le-leb (n * 10 ^ up) (10 ^ down) (omega (arith, e, mul-le-mul_right (10 ^ up) yes.1)) ∙ sym yes.0)
-        (λ (no : (leb n (10 ^ (down - up)) ≡ false) × (10 ^ (down - up) < n)).
-            lt-leb (n * 10 ^ up) (10 ^ down) (omega (arith, e, p, mul-le-mul_right (10 ^ up) (let q : 10 ^ (down - up) + 1 ≤ n = omega (arith, no.1) in q))) ∙ sym no.0)
-        (leb_tells n (10 ^ (down - up)))
+    (λ (yes : (leb n (10 ^ (down - up)) ≡ true) × (n ≤ 10 ^ (down - up))).
+    le-leb (n * 10 ^ up) (10 ^ down) (omega (arith, e, mul-le-mul_right (10 ^ up) yes.1)) ∙ sym yes.0)
+    (λ (no : (leb n (10 ^ (down - up)) ≡ false) × (10 ^ (down - up) < n)).
+    lt-leb (n * 10 ^ up) (10 ^ down) (omega (arith, e, p, mul-le-mul_right (10 ^ up) (let q : 10 ^ (down - up) + 1 ≤ n = omega (arith, no.1) in q))) ∙ sym no.0)
+    (leb_tells n (10 ^ (down - up)))
 
 pub no_part : (n up down : ℕ) → 0 < n → down < up → nat_le (n * 10 ^ up) (10 ^ down) ≡ false
 no_part n up down some h =

@@ -1,15 +1,13 @@
 -- what follows from a place in a text
-use Rattle.std.proofs.Common.{◌≡◌, ◌≢◌, ℕ, zero, suc, ◌+◌, ◌-◌, ◌<◌, ◌≤◌, Bool, true, false, cond, not, List, [], ◌∷◌, ◌++◌, length, take, drop, get_or, refl, sym, ap, ◌∙◌, subst, arith, append_assoc, one-add, add-one, fold}
-use Rattle.std.specs.Prelude.{if◌then◌else◌, ◌||◌, ◌&&◌, ◌==◌}
-use Rattle.std.specs.List.{prefix_len, position_or_len, before_first, after_first}
+use Rattle.std.proofs.Common.{◌≡◌, ℕ, ◌+◌, ◌<◌, Bool, true, false, cond, not, List, [], ◌∷◌, ◌++◌, length, take, drop, get_or, refl, sym, ap, ◌∙◌, subst, arith, append_assoc, one-add, add-one, fold}
+use Rattle.std.specs.Prelude.{if◌then◌else◌, ◌==◌}
+use Rattle.std.specs.List.{position_or_len, before_first, after_first}
 use Rattle.std.proofs.lemmas.List.{append-nil}
-use Rattle.std.proofs.lemmas.Grind.{common_steps}
 use Rattle.std.proofs.lemmas.Bool.Decides.{nat_tests}
-use Rattle.gml_graph.specs.declared.token.Token.{Token}
-use Rattle.gml_graph.specs.declared.token.Token.TheVariants.{Text, Open, Close, Unclosed}
+use Rattle.gml_graph.specs.declared.token.Token.TheVariants.{Text, Unclosed}
 use Rattle.gml_graph.specs.declared.token.Lexeme.{Lexeme}
 use Rattle.gml_graph.specs.Token.{word_token, quoted}
-use Rattle.gml_graph.specs.Tokens.{is_line_feed, is_blank, is_hash, is_quote, is_open, is_close, ends_word, Place, between, in_word, in_text, in_comment, lexeme, place_behind, next_place, next_line, brackets, ended, ended_last, tokens_from}
+use Rattle.gml_graph.specs.Tokens.{is_line_feed, is_blank, is_quote, ends_word, between, in_word, in_text, in_comment, lexeme, place_behind, next_line, brackets, tokens_from}
 use Rattle.gml_graph.specs.Scanning.{word_len}
 use Rattle.gml_graph.specs.Left.{begins_word}
 use Rattle.std.proofs.lemmas.Bool.{false≢true}
@@ -25,7 +23,7 @@ stays_on_line b bs line h = grind (arith, nat_tests)
 word_step : (b : ℕ) (bs : List ℕ) (line : ℕ) (before : List ℕ) (ends : Bool) → ends ≡ ends_word b bs
     → ((w : List ℕ) → tokens_from (in_word w) line bs ≡ lexeme line (word_token (w ++ take (word_len bs) bs)) ∷ tokens_from (between false) line (drop (word_len bs) bs))
     → (if ends then lexeme line (word_token before) ∷ brackets line b else []) ++ tokens_from (if ends then place_behind false line b bs else in_word (before ++ b ∷ [])) (next_line line b) bs
-      ≡ lexeme line (word_token (before ++ take (if ends then 0 else 1 + word_len bs) (b ∷ bs))) ∷ tokens_from (between false) line (drop (if ends then 0 else 1 + word_len bs) (b ∷ bs))
+    ≡ lexeme line (word_token (before ++ take (if ends then 0 else 1 + word_len bs) (b ∷ bs))) ∷ tokens_from (between false) line (drop (if ends then 0 else 1 + word_len bs) (b ∷ bs))
 word_step b bs line before true e rest = ap (λ w. lexeme line (word_token w) ∷ tokens_from (between false) line (b ∷ bs)) (sym (append-nil before))
 word_step b bs line before false e rest = rw (stays_on_line b bs line (sym e), one-add) (rest (before ++ b ∷ []) ∙ ap (λ w. lexeme line (word_token w) ∷ tokens_from (between false) line (drop (word_len bs) bs)) (append_assoc before (b ∷ []) (take (word_len bs) bs)))
 
@@ -38,7 +36,7 @@ word_at before (b ∷ bs) line = word_step b bs line before (ends_word b bs) ref
 comment_step : (b : ℕ) (bs : List ℕ) (line : ℕ) (fresh ends : Bool) → ends ≡ is_line_feed b
     → tokens_from in_comment line bs ≡ tokens_from (between fresh) line (drop (position_or_len is_line_feed bs) bs)
     → tokens_from (if ends then between true else in_comment) (if ends then line + 1 else line) bs
-      ≡ tokens_from (between fresh) line (drop (cond (not ends) (1 + position_or_len is_line_feed bs) 0) (b ∷ bs))
+    ≡ tokens_from (between fresh) line (drop (cond (not ends) (1 + position_or_len is_line_feed bs) 0) (b ∷ bs))
 comment_step b bs line fresh true e rest =
     let P : ℕ → Type 0 = λ c. tokens_from (between true) (line + 1) bs ≡ tokens_from (between fresh) line (c ∷ bs) in
     subst P (sym (byte_named b 10 (sym e))) refl
@@ -55,10 +53,10 @@ quote_stays b line h = grind (arith, nat_tests)
 text_step : (b : ℕ) (bs : List ℕ) (line start : ℕ) (before : List ℕ) (ends : Bool) → ends ≡ is_quote b
     → cond (not ends) (1 + position_or_len is_quote bs) 0 < length (b ∷ bs)
     → ((l : ℕ) (w : List ℕ) → position_or_len is_quote bs < length bs
-       → tokens_from (in_text start w) l bs ≡ lexeme start (Text (quoted (w ++ before_first is_quote bs))) ∷ tokens_from (between false) (fold next_line l (before_first is_quote bs)) (after_first is_quote bs))
+    → tokens_from (in_text start w) l bs ≡ lexeme start (Text (quoted (w ++ before_first is_quote bs))) ∷ tokens_from (between false) (fold next_line l (before_first is_quote bs)) (after_first is_quote bs))
     → (if ends then lexeme start (Text (quoted before)) ∷ [] else []) ++ tokens_from (if ends then between false else in_text start (before ++ b ∷ [])) (next_line line b) bs
-      ≡ lexeme start (Text (quoted (before ++ take (cond (not ends) (1 + position_or_len is_quote bs) 0) (b ∷ bs))))
-        ∷ tokens_from (between false) (fold next_line line (take (cond (not ends) (1 + position_or_len is_quote bs) 0) (b ∷ bs))) (drop (cond (not ends) (1 + position_or_len is_quote bs) 0 + 1) (b ∷ bs))
+    ≡ lexeme start (Text (quoted (before ++ take (cond (not ends) (1 + position_or_len is_quote bs) 0) (b ∷ bs))))
+    ∷ tokens_from (between false) (fold next_line line (take (cond (not ends) (1 + position_or_len is_quote bs) 0) (b ∷ bs))) (drop (cond (not ends) (1 + position_or_len is_quote bs) 0 + 1) (b ∷ bs))
 text_step b bs line start before true e in_range rest = rw (quote_stays b line (sym e)) (ap (λ w. lexeme start (Text (quoted w)) ∷ tokens_from (between false) line bs) (sym (append-nil before)))
 text_step b bs line start before false e in_range rest =
     let n = position_or_len is_quote bs in

@@ -1,5 +1,5 @@
 -- The graph of a text, or its first fault: the whole text's UTF-8, then its syntax, then what its rows say.
-use Rattle.std.specs.Prelude.{ℕ, if◌then◌else◌, List, take, fold, Result, Ok, Err}
+use Rattle.std.specs.Prelude.{ℕ, if◌then◌else◌, List, take, fold, Result, Ok}
 use Rattle.std.specs.Str.{is_utf8}
 use Rattle.std.specs.Str.Lossy.{utf8_valid_len}
 use Rattle.gml_graph.specs.declared.fault.GmlFault.{GmlFault}

@@ -1,9 +1,8 @@
 -- The graph of a text.
-use Rattle.std.specs.Prelude.{ℕ, ◌+◌, ◌-◌, ◌*◌, ◌^◌, Bool, true, false, ◌&&◌, ◌||◌, not, if◌then◌else◌, ◌==◌, nat_lt, nat_le, List, [], ◌∷◌, ◌++◌, length, take, Option, Some, None, unwrap_or, option_and_then, is_some, Result, Ok, Err}
+use Rattle.std.specs.Prelude.{ℕ, ◌-◌, ◌^◌, Bool, true, false, ◌&&◌, if◌then◌else◌, ◌==◌, nat_lt, nat_le, List, [], ◌∷◌, ◌++◌, length, take, Option, Some, None, unwrap_or, option_and_then, is_some, Result, Ok}
 use Rattle.std.specs.List.{prefix_len, list_any}
 use Rattle.sim_base.specs.declared.time.Time.{Time}
 use Rattle.gml_graph.specs.declared.fault.GmlFault.{GmlFault}
-use Rattle.gml_graph.specs.declared.fault.GmlKind.{GmlKind}
 use Rattle.gml_graph.specs.declared.fault.GmlKind.TheVariants as kinds
 use Rattle.gml_graph.specs.declared.token.Key.{Key}
 use Rattle.gml_graph.specs.declared.token.Key.TheVariants as keys

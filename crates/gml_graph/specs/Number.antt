@@ -1,6 +1,6 @@
 -- Numbers: an optional sign; digits with an optional point, with a digit on one side at least, at most 36 of them;
 -- an optional e or E with an optional sign and one to four digits.
-use Rattle.std.specs.Prelude.{ℕ, ◌+◌, ◌-◌, ◌*◌, ◌/◌, ◌^◌, Bool, true, false, ◌&&◌, ◌||◌, not, if◌then◌else◌, ◌==◌, nat_lt, nat_le, List, [], ◌∷◌, length, take, drop, fold, Option, Some, None}
+use Rattle.std.specs.Prelude.{ℕ, ◌+◌, ◌-◌, ◌*◌, ◌/◌, ◌^◌, Bool, false, ◌&&◌, ◌||◌, not, if◌then◌else◌, ◌==◌, nat_lt, nat_le, List, [], ◌∷◌, length, take, drop, fold, Option, Some, None}
 use Rattle.std.specs.List.{prefix_len, list_all}
 use Rattle.std.specs.Option.{option_map}
 use Rattle.std.specs.Char.{is_ascii_digit}
@@ -67,8 +67,8 @@ decimal_of negative whole part is_whole power = record {
   digits = natural_after (natural_after 0 whole) part;
   up = (if power.negative then 0 else power.size);
   down = length part + (if power.negative then power.size else 0);
-  is_whole = is_whole
-  }
+  is_whole = is_whole;
+}
 
 abbrev pub is_empty : List ℕ → Bool
 is_empty bs = length bs == 0

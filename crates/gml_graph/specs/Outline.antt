@@ -1,5 +1,5 @@
 -- The outline of a text: a row for each pair, with its depth.
-use Rattle.std.specs.Prelude.{ℕ, ◌+◌, ◌-◌, Bool, ◌&&◌, if◌then◌else◌, ◌==◌, nat_le, List, [], ◌∷◌, ◌++◌, length, take, fold, Option, Some, None, Result, Ok, Err}
+use Rattle.std.specs.Prelude.{ℕ, ◌+◌, ◌-◌, ◌&&◌, if◌then◌else◌, ◌==◌, nat_le, List, [], ◌∷◌, ◌++◌, length, take, fold, Option, Some, None, Result, Ok}
 use Rattle.std.specs.Option.{is_none}
 use Rattle.gml_graph.specs.declared.fault.GmlFault.{GmlFault}
 use Rattle.gml_graph.specs.declared.fault.GmlKind.TheVariants.{Syntax}
@@ -41,8 +41,8 @@ abbrev pub with_row : Shape → Waiting → Value → Shape
 with_row s key value = record s {
   depth = depth_behind s.depth value;
   waiting = None;
-  rows = s.rows ++ (record { depth = s.depth; line = key.line; key = key.key; value = value }) ∷ []
-  }
+  rows = s.rows ++ (record { depth = s.depth; line = key.line; key = key.key; value = value }) ∷ [];
+}
 
 -- where a key or the end of a list may stand
 abbrev pub accept_key : Shape → ℕ → Token → Result Shape GmlFault

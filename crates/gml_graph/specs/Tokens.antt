@@ -1,5 +1,5 @@
 -- The tokens of a text, each with the line on which it begins.
-use Rattle.std.specs.Prelude.{ℕ, ◌+◌, Bool, true, false, ◌&&◌, ◌||◌, not, if◌then◌else◌, ◌==◌, List, [], ◌∷◌, ◌++◌, length}
+use Rattle.std.specs.Prelude.{ℕ, ◌+◌, Bool, true, false, ◌&&◌, ◌||◌, if◌then◌else◌, ◌==◌, List, [], ◌∷◌, ◌++◌}
 use Rattle.gml_graph.specs.declared.token.Token.{Token}
 use Rattle.gml_graph.specs.declared.token.Token.TheVariants.{Text, Open, Close, Unclosed}
 use Rattle.gml_graph.specs.declared.token.Lexeme.{Lexeme}

@@ -4,7 +4,7 @@ ghost use Rattle.std.specs.Prelude.{◌≡◌, length};
 ghost use Rattle.gml_graph.specs.Steps.{Gives, through};
 ghost use Rattle.gml_graph.specs.Graph.{block, known_id, latency_of, edge_attribute, edge_row, new_edge, finished_edge, edge_of, edges_of};
 
-use crate::block::{next_block, rows_inside, Part};
+use crate::block::{Part, next_block, rows_inside};
 use crate::fault::{GmlError, GmlFault, GmlKind};
 use crate::graph::{Edge, Edges};
 use crate::node::NodeTable;
@@ -132,12 +132,7 @@ fn finish(line: u64, draft: EdgeDraft) -> Result<Edge, GmlFault>
 
 /// Reads the edge of a row and of the rows inside it, behind `count` others.
 #[tactic(auto, unfolding(crate::specs::Graph::edge_of))]
-fn read_edge(
-    nodes: &NodeTable,
-    count: usize,
-    row: &Row,
-    behind: &[Row],
-) -> Result<Edge, GmlFault>
+fn read_edge(nodes: &NodeTable, count: usize, row: &Row, behind: &[Row]) -> Result<Edge, GmlFault>
     ensures { result ≡ edge_of nodes.now count (block row.now behind.now) }
 {
     check_list(row.value, row.line)?;

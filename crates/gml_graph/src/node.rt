@@ -5,7 +5,7 @@ ghost use Rattle.gml_graph.specs.declared.graph.Node.{Node};
 ghost use Rattle.gml_graph.specs.Steps.{Gives, through};
 ghost use Rattle.gml_graph.specs.Graph.{Block, block, inside, knows, needed, within, node_attribute, node_row, new_node, finished_node, node_of, nodes_of};
 
-use crate::block::{next_block, rows_inside, Part};
+use crate::block::{Part, next_block, rows_inside};
 use crate::fault::{GmlError, GmlFault};
 use crate::graph::{Node, Nodes};
 use crate::outline::Row;

@@ -6,7 +6,7 @@ ghost use Rattle.gml_graph.specs.Outline.{depth_behind, last_line, outline};
 
 use crate::fault::{GmlError, GmlFault, GmlKind};
 use crate::number::Decimal;
-use crate::scanner::{line_behind, Scanner};
+use crate::scanner::{Scanner, line_behind};
 use crate::token::{Key, Lexeme, Quoted, Token};
 use std::alloc::Global;
 use std::marker::Model;

@@ -11,7 +11,7 @@ use crate::edge::read_edges;
 use crate::fault::{GmlError, GmlFault, GmlKind};
 use crate::graph::{Edges, Graph};
 use crate::node::read_nodes;
-use crate::outline::{read_outline, Row};
+use crate::outline::{Row, read_outline};
 use crate::scanner::line_behind;
 use std::alloc::Global;
 

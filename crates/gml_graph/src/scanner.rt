@@ -8,7 +8,7 @@ ghost use Rattle.gml_graph.specs.Number.{begins_with};
 ghost use Rattle.gml_graph.specs.Tokens.{is_line_feed, is_blank, ends_word, next_line, tokens, brackets, lexeme, is_quote};
 ghost use Rattle.gml_graph.specs.Scanning.{word_len};
 
-use crate::token::{read_quoted, token_of, Lexeme, Token};
+use crate::token::{Lexeme, Token, read_quoted, token_of};
 
 fn is_blank_at(byte: u8, rest: &[u8]) -> bool
     ensures { result ≡ is_blank byte rest.now }
@@ -94,8 +94,8 @@ fn split_word(text: &str) -> (&[u8], &str)
 fn split_text(text: &str) -> Option<(&str, &str)>
     ensures { MatchOption result (position_or_len is_quote text.now ≡ length text.now)
         (λ x. (position_or_len is_quote text.now < length text.now)
-            × (x.0.now ≡ before_first is_quote text.now)
-            × (x.1.now ≡ after_first is_quote text.now)) }
+        × (x.0.now ≡ before_first is_quote text.now)
+        × (x.1.now ≡ after_first is_quote text.now)) }
 {
     text.split_once('"')
 }

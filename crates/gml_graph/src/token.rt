@@ -4,8 +4,8 @@ ghost use Rattle.std.specs.Prelude.{◌≡◌};
 ghost use Rattle.std.specs.List.{list_all};
 ghost use Rattle.gml_graph.specs.Token.{is_key_byte, is_key, key_named, word_token, quoted};
 
-use crate::number::{read_decimal, Decimal};
-use sim_base::{read_rate, read_time, Time};
+use crate::number::{Decimal, read_decimal};
+use sim_base::{Time, read_rate, read_time};
 
 /// The keys that mean something, somewhere.
 #[derive(Clone, Copy, Debug, PartialEq, Eq)]

@@ -1,9 +1,7 @@
 use Rattle.std.proofs.Common.{ℕ, suc, ◌≡◌, ◌+◌, ◌-◌, ◌*◌, ◌^◌, ◌<◌, ◌≤◌, List, length, get_or, arith, true, subst}
 use Rattle.std.specs.List.{list_all}
 use Rattle.std.specs.Char.{is_ascii_digit}
-use Rattle.std.proofs.lemmas.Grind.{common_steps}
 use Rattle.std.proofs.lemmas.List.Sums.{fold_more}
-use Rattle.gml_graph.specs.Number.{natural_after}
 use Rattle.gml_graph.proofs.NumberLemmas.{digit_fits, digit_small, room_more}
 use Rattle.gml_graph.proofs.number.append_digits.Goals as goal
 
@@ -31,6 +29,7 @@ loop-digit-preserved c =
     let ds = c.args.digits.now in
     let i = c.loop-digit.digit-index in
     let n = c.loop-digit.number in
-    let step = fold_more (λ m d. 10 * m + (d - 48)) c.args.start ds i 0 c.loop-digit-test.true in
-    (grind (arith, step, c.from.ensures, c.loop-digit.invariant.0),
-     grind (arith, c.from.ensures, room_more n (get_or ds i 0 - 48) (length ds - (i + 1)) _ (digit_small ds i c.requires.digits c.loop-digit-test.true) (room_at n (length ds) i _ c.loop-digit-test.true c.loop-digit.invariant.1)))
+    let step = fold_more (λ m d. 10 * m + (d - 48)) c.args.start ds i 0 c.loop-digit-test.true in (
+      grind (arith, step, c.from.ensures, c.loop-digit.invariant.0),
+      grind (arith, c.from.ensures, room_more n (get_or ds i 0 - 48) (length ds - (i + 1)) _ (digit_small ds i c.requires.digits c.loop-digit-test.true) (room_at n (length ds) i _ c.loop-digit-test.true c.loop-digit.invariant.1)),
+    )

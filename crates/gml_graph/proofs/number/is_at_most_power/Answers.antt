@@ -1,4 +1,4 @@
-use Rattle.std.proofs.Common.{ℕ, ◌≡◌, ◌^◌, ◌<◌, ◌≤◌, arith, sym}
+use Rattle.std.proofs.Common.{arith, sym}
 use Rattle.std.proofs.lemmas.Bool.{le-leb}
 use Rattle.gml_graph.proofs.NumberLemmas.{power_fits, greater_power}
 use Rattle.gml_graph.proofs.number.is_at_most_power.Goals as goal

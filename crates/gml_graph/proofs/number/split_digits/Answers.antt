@@ -1,4 +1,3 @@
-use Rattle.std.proofs.Common.{arith}
 use Rattle.std.specs.Char.{is_ascii_digit}
 use Rattle.gml_graph.proofs.NumberLemmas.{all_at_front}
 use Rattle.gml_graph.proofs.number.split_digits.Goals as goal

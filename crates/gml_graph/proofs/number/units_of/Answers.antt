@@ -1,4 +1,4 @@
-use Rattle.std.proofs.Common.{ℕ, ◌≡◌, ◌+◌, ◌-◌, ◌*◌, ◌/◌, ◌^◌, ◌<◌, ◌≤◌, arith, sym, ap, ◌∙◌}
+use Rattle.std.proofs.Common.{arith, sym}
 use Rattle.gml_graph.proofs.NumberLemmas.{ten_pos, power_fits, units_up, units_up_small, units_down, units_down_small, units_down_zero}
 use Rattle.gml_graph.proofs.number.units_of.Goals as goal
 

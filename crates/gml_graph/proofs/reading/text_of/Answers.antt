@@ -1,11 +1,10 @@
-use Rattle.std.proofs.Common.{ℕ, ◌≡◌, Bool, true, false, List, take, fold, Result, Ok, Err, refl, sym, ap, ◌∙◌}
+use Rattle.std.proofs.Common.{ℕ, ◌≡◌, Bool, true, false, List, take, fold, Ok, Err, refl, sym, ◌∙◌}
 use Rattle.std.specs.Str.{IsUtf8, is_utf8}
 use Rattle.std.specs.Str.Lossy.{utf8_valid_len}
 use Rattle.std.proofs.lemmas.Str.{is_utf8-from_IsUtf8, IsUtf8-from_is_utf8}
-use Rattle.gml_graph.specs.declared.fault.GmlFault.{GmlFault}
 use Rattle.gml_graph.specs.declared.fault.GmlKind.TheVariants.{NotUtf8}
 use Rattle.gml_graph.specs.Tokens.{next_line}
-use Rattle.gml_graph.specs.Gml.{utf8_at, broken_line}
+use Rattle.gml_graph.specs.Gml.{utf8_at}
 use Rattle.gml_graph.proofs.reading.text_of.Goals as goal
 
 utf8-at : (bs : List ℕ) → IsUtf8 bs → utf8_at bs ≡ Ok tt

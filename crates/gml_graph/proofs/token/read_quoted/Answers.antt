@@ -1,7 +1,6 @@
-use Rattle.std.proofs.Common.{◌≡◌, ℕ, Option, Some, None, refl, sym, ap, ◌∙◌}
+use Rattle.std.proofs.Common.{◌≡◌, Option, Some, None, refl, ap}
 use Rattle.std.specs.Option.{option_map}
 use Rattle.sim_base.specs.declared.time.Time.{Time}
-use Rattle.gml_graph.specs.declared.token.Quoted.{Quoted}
 use Rattle.gml_graph.specs.Token.{quoted}
 use Rattle.gml_graph.proofs.token.read_quoted.Goals as goal
 

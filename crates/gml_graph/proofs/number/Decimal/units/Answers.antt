@@ -1,4 +1,4 @@
-use Rattle.std.proofs.Common.{ℕ, ◌≡◌, arith, sym, ap, ◌∙◌, Some}
+use Rattle.std.proofs.Common.{ℕ, sym, ap, ◌∙◌, Some}
 use Rattle.gml_graph.proofs.NumberLemmas.{great_part, part_at, units_at, chosen, not_chosen}
 use Rattle.gml_graph.proofs.number.Decimal.units.Goals as goal
 

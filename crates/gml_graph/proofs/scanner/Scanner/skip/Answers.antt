@@ -1,4 +1,4 @@
-use Rattle.std.proofs.Common.{ℕ, ◌<◌, length, arith}
+use Rattle.std.proofs.Common.{◌<◌, length, arith}
 use Rattle.std.proofs.lemmas.Bool.Decides.{nat_tests}
 use Rattle.gml_graph.proofs.TokensLemmas.{comment_skipped}
 use Rattle.gml_graph.proofs.scanner.Scanner.skip.Goals as goal

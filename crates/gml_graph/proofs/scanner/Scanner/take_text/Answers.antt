@@ -1,4 +1,4 @@
-use Rattle.std.proofs.Common.{ℕ, ◌≡◌, ◌<◌, Bool, true, false, get_or, drop, List, [], ◌∷◌, length, fold, sym, ap, ◌∙◌, arith}
+use Rattle.std.proofs.Common.{ℕ, ◌≡◌, ◌<◌, Bool, true, false, get_or, drop, List, [], ◌∷◌, length, fold, ap, ◌∙◌}
 use Rattle.std.specs.List.{position_or_len, before_first, after_first}
 use Rattle.gml_graph.specs.declared.token.Quoted.{Quoted}
 use Rattle.gml_graph.specs.declared.token.Token.TheVariants.{Text}
@@ -19,7 +19,7 @@ pub returns-in-Some-clause-next : goal.returns-in-Some-clause-next
 returns-in-Some-clause-next c =
     let s = c.args.self.now in
     text_taken s.fresh s.line s.rest.now c.requires.some c.requires.quote c.behind_first-behind.result.now c.in-Some.text.now c.in-Some.rest.now _ _
-        c.behind_first-behind.ensures c.in-Some.ensures c.read_quoted.ensures (c.line_behind-self.ensures.value ∙ ap (λ t. fold next_line s.line t) c.as_bytes.ensures.value)
+    c.behind_first-behind.ensures c.in-Some.ensures c.read_quoted.ensures (c.line_behind-self.ensures.value ∙ ap (λ t. fold next_line s.line t) c.as_bytes.ensures.value)
 
 pub returns-in-None-clause-next : goal.returns-in-None-clause-next
 returns-in-None-clause-next c =
