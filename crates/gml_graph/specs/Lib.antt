@@ -5,5 +5,6 @@ pub mod Scanning
 pub mod Left
 pub mod Steps
 pub mod Outline
+pub mod Edges
 pub mod Graph
 pub mod Gml

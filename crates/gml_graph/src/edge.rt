@@ -143,8 +143,8 @@ fn read_edge(nodes: &NodeTable, count: usize, row: &Row, behind: &[Row]) -> Resu
 
 /// Reads all edges.
 #[tactic(auto, unfolding(crate::specs::Graph::edges_of, crate::specs::Graph::add_edge))]
-pub fn read_edges(alloc: Global, nodes: &NodeTable, rows: &[Row]) -> Result<Vec<Edge>, GmlError>
-    ensures { Gives (λ edges. edges.items) result (edges_of nodes.now rows.now) }
+pub fn read_edges(alloc: Global, nodes: &NodeTable, rows: &[Row]) -> Result<Edges, GmlError>
+    ensures { Gives (λ edges. edges) result (edges_of nodes.now rows.now) }
 {
     let mut edges = Vec::new(alloc);
     let mut rest = rows;
@@ -153,5 +153,5 @@ pub fn read_edges(alloc: Global, nodes: &NodeTable, rows: &[Row]) -> Result<Vec<
         edges.push(edge)?;
         rest = behind;
     }
-    Ok(edges)
+    Ok(Edges::new(edges))
 }

@@ -2,7 +2,7 @@
 
 ghost use Rattle.std.specs.Prelude.{◌≡◌, List};
 ghost use Rattle.gml_graph.specs.declared.graph.Node.{Node};
-ghost use Rattle.gml_graph.specs.declared.graph.Edge.{Edge};
+ghost use Rattle.gml_graph.specs.Edges.{AreEdges};
 
 use sim_base::Time;
 use std::marker::Model;
@@ -60,21 +60,35 @@ impl From<Vec<Node>> for Nodes {
     }
 }
 
-/// Edges, which contracts see as a list.
+/// Edges, which contracts see as a list: at most 65,536, of 1 ns to 1 h each.
 #[derive(Debug, Drop)]
 pub struct Edges {
     items: Vec<Edge>,
 }
 
 impl Model for Edges {
+    ghost use Rattle.std.specs.Prelude.{List};
+    ghost use Rattle.gml_graph.specs.declared.graph.Edge.{Edge};
+    ghost use Rattle.gml_graph.specs.Edges.{AreEdges};
+
     ghost Value = { List Edge };
 
     ghost view = { λ e. e.items.items };
+
+    ghost invariant = { λ e. AreEdges e.items.items };
 }
 
 impl Edges {
+    pub fn new(items: Vec<Edge>) -> Self
+        requires { AreEdges items.items }
+        ensures { result ≡ items.items }
+    {
+        Edges { items }
+    }
+
     pub fn as_slice(&self) -> &[Edge]
-        ensures { result.now ≡ self.now }
+        ensures items { result.now ≡ self.now }
+        ensures edges { AreEdges self.now }
     {
         self.items.as_slice()
     }
@@ -85,14 +99,6 @@ impl Edges {
     {
         let Edges { items } = self;
         items
-    }
-}
-
-impl From<Vec<Edge>> for Edges {
-    ghost from_gives = { λ v e. e ≡ v.items };
-
-    fn from(items: Vec<Edge>) -> Edges {
-        Edges { items }
     }
 }
 

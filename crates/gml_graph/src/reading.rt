@@ -9,7 +9,7 @@ ghost use Rattle.gml_graph.specs.Gml.{graph, utf8_at};
 use crate::block::{read_directed, read_graph_rows};
 use crate::edge::read_edges;
 use crate::fault::{GmlError, GmlFault, GmlKind};
-use crate::graph::{Edges, Graph};
+use crate::graph::Graph;
 use crate::node::read_nodes;
 use crate::outline::{Row, read_outline};
 use crate::scanner::line_behind;
@@ -27,7 +27,7 @@ fn read_graph(alloc: Global, rows: &[Row]) -> Result<Graph, GmlError>
     Ok(Graph {
         directed,
         nodes: nodes.into_nodes(),
-        edges: Edges::from(edges),
+        edges,
     })
 }
 
