@@ -1,8 +1,7 @@
 -- what every edge that was read has
-use Rattle.std.proofs.Common.{◌≡◌, ℕ, zero, suc, ◌+◌, ◌<◌, ◌≤◌, Bool, true, false, cond, List, [], ◌∷◌, ◌++◌, length, Option, Some, None, Result, Ok, Err, refl, sym, ap, ◌∙◌, subst, arith, length-append, ⊎_elim}
+use Rattle.std.proofs.Common.{◌≡◌, ℕ, ◌<◌, ◌≤◌, Bool, true, false, List, [], ◌∷◌, ◌++◌, length, Option, Some, None, Result, Ok, Err, refl, sym, subst, arith, length-append}
 use Rattle.std.specs.Prelude.{if◌then◌else◌, ◌==◌, nat_le, IfSome, is_some, unwrap_or, ◌-◌, ◌^◌}
-use Rattle.std.specs.List.{All}
-use Rattle.std.proofs.lemmas.Bool.{ltb-false, leb-true, leb-false}
+use Rattle.std.proofs.lemmas.Bool.{leb-false}
 use Rattle.std.proofs.lemmas.Bool.Decides.{nat_tests}
 use Rattle.std.proofs.lemmas.List.Elements.{All-push, All-nil}
 use Rattle.sim_base.specs.declared.time.Time.{Time}
@@ -19,7 +18,7 @@ use Rattle.gml_graph.specs.declared.edge.EdgeDraft.{EdgeDraft}
 use Rattle.gml_graph.specs.declared.block.Part.TheVariants as parts
 use Rattle.gml_graph.specs.Steps.{◌>>=◌, through, refused}
 use Rattle.gml_graph.specs.Edges.{IsEdge, AreEdges}
-use Rattle.gml_graph.specs.Graph.{Block, blocks, once, valued, needed, within, id_of, time_of, loss_of, list_at, latency_at, latency_of, known_id, edge_attribute, edge_row, new_edge, finished_edge, edge_of, add_edge, edges_of}
+use Rattle.gml_graph.specs.Graph.{Block, blocks, once, valued, needed, within, time_of, loss_of, list_at, latency_at, latency_of, known_id, edge_attribute, edge_row, new_edge, finished_edge, edge_of, add_edge, edges_of}
 
 pub bind_ok : {A B : Type 0} (x : Result A GmlFault) (f : A → Result B GmlFault) (y : B) → (x >>= f) ≡ Ok y → (a : A) × (x ≡ Ok a) × (f a ≡ Ok y)
 bind_ok (Ok a) f y h = (a, refl, h)
@@ -89,18 +88,18 @@ rows_fit nodes d e (r ∷ rows) f h =
     let p = bind_ok (edge_row nodes d r) (λ next. through (edge_row nodes) next rows) e h in
     rows_fit nodes p.0 e rows (row_fits nodes d p.0 r f p.1) p.2
 
-finished_cases : (o p : Option ℕ) (t : Option Time) (line r : ℕ) (e : Edge) → IfSome t FitsTime
+finished_cases : (o p : Option ℕ) (t : Option Time) (line r : ℕ) (e : Edge) → IfSome t FitsTime → r ≤ 10 ^ 9
     → (needed o line >>= λ source. needed p line >>= λ target. needed t line >>= λ latency. Ok (record { source = source; target = target; latency = latency; reliability = r })) ≡ Ok e → IsEdge e
-finished_cases None p t line r e f h = absurd (let no : ⊥ = cc in no)
-finished_cases (Some a) None t line r e f h = absurd (let no : ⊥ = cc in no)
-finished_cases (Some a) (Some b) None line r e f h = absurd (let no : ⊥ = cc in no)
-finished_cases (Some a) (Some b) (Some t) line r e f h =
+finished_cases None p t line r e f small h = absurd (let no : ⊥ = cc in no)
+finished_cases (Some a) None t line r e f small h = absurd (let no : ⊥ = cc in no)
+finished_cases (Some a) (Some b) None line r e f small h = absurd (let no : ⊥ = cc in no)
+finished_cases (Some a) (Some b) (Some t) line r e f small h =
     let P : Edge → Type 0 = λ x. IsEdge x in
-    subst P (ok_same _ e h) (record { some = f.0; within = f.1 })
+    subst P (ok_same _ e h) (record { some = f.0; within = f.1; part = small })
 
 finished_fits : (line : ℕ) (d : EdgeDraft) (e : Edge) → Fits d → finished_edge line d ≡ Ok e → IsEdge e
 unfolding finished_edge
-finished_fits line d e f h = finished_cases d.source d.target d.latency line (10 ^ 9 - unwrap_or d.loss 0) e f h
+finished_fits line d e f h = finished_cases d.source d.target d.latency line (10 ^ 9 - unwrap_or d.loss 0) e f (omega arith) h
 
 room_cases : (count line : ℕ) (b : Bool) (A : Type 0) (k : Result A GmlFault) (x : A) → b ≡ nat_le 65536 count → ((if b then refused {A = Unit {0}} kinds.TooMany line else Ok tt) >>= λ (_ : Unit {0}). k) ≡ Ok x → (count < 65536) × (k ≡ Ok x)
 room_cases count line true A k x e h = absurd (let no : ⊥ = cc in no)

@@ -60,7 +60,7 @@ impl From<Vec<Node>> for Nodes {
     }
 }
 
-/// Edges, which contracts see as a list: at most 65,536, of 1 ns to 1 h each.
+/// Edges, which contracts see as a list: at most 65,536, of 1 ns to 1 h and at most all that is sent each.
 #[derive(Debug, Drop)]
 pub struct Edges {
     items: Vec<Edge>,

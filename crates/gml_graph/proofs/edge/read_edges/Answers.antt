@@ -1,7 +1,5 @@
-use Rattle.std.proofs.Common.{◌≡◌, [], Result, Ok, sym}
-use Rattle.gml_graph.specs.declared.block.Part.TheVariants as parts
-use Rattle.gml_graph.specs.Steps.{through}
-use Rattle.gml_graph.specs.Graph.{blocks, add_edge, edges_of}
+use Rattle.std.proofs.Common.{sym}
+use Rattle.gml_graph.specs.Graph.{edges_of}
 use Rattle.gml_graph.proofs.EdgeLemmas.{edges_fit}
 use Rattle.gml_graph.proofs.edge.read_edges.Goals as goal
 
