@@ -1,4 +1,6 @@
 -- what a sink in memory holds
+use Rattle.std.specs.Prelude.{ℕ}
+use Rattle.std.specs.BTreeMap.{btree_map_len}
 use Rattle.std.specs.BTreeSet.{contains_text}
 use Rattle.sim_base.specs.declared.outside.mem_sink.MemSink.{MemSink}
 use Rattle.sim_base.specs.Calls.{CallCount}
@@ -12,6 +14,9 @@ sink_content s = record {
   err = s.err.items;
   files = files_of s.files;
 }
+
+abbrev pub file_count : MemSink → ℕ
+file_count s = btree_map_len s.files
 
 -- its calls so far, and which fail
 abbrev pub sink_calls : MemSink → CallCount

@@ -17,6 +17,8 @@ mod packet;
 mod quantity;
 mod signal;
 mod state;
+#[cfg(test)]
+mod tests;
 mod text;
 mod time;
 

@@ -25,7 +25,7 @@ pub struct MemSink {
 }
 
 impl MemSink {
-    ghost use Rattle.sim_base.specs.MemSink.{sink_content, sink_calls};
+    ghost use Rattle.sim_base.specs.MemSink.{sink_content, sink_calls, file_count};
 
     pub fn new(alloc: Global) -> MemSink
         ensures content { sink_content result ≡ nothing }
@@ -82,7 +82,9 @@ impl MemSink {
     }
 
     /// How many files there are.
-    pub fn file_count(&self) -> usize {
+    pub fn file_count(&self) -> usize
+        ensures { result ≡ file_count self.now }
+    {
         self.files.len()
     }
 }

@@ -1,4 +1,4 @@
-use Rattle.std.proofs.Common.{◌≡◌, ℕ, ◌+◌, ◌-◌, List, sym, ap, ◌∙◌, arith}
+use Rattle.std.proofs.Common.{ℕ, ◌+◌, ◌-◌, List, sym, ap, ◌∙◌, arith}
 use Rattle.sim_base.specs.Draws.{seeded, word_of}
 use Rattle.sim_base.proofs.DrawsLemmas.{word_of-more, word_of-last}
 use Rattle.sim_base.proofs.draws.Draws.for_host.Goals as goal

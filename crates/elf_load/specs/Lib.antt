@@ -1,0 +1,9 @@
+pub mod Build
+pub mod Cells
+pub mod Elf
+pub mod Fault
+pub mod Image
+pub mod Layout
+pub mod Pages
+pub mod ProgramImage
+pub mod Rights

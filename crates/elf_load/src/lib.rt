@@ -1,0 +1,22 @@
+//! The program image of an ELF file: what a loader lays into a guest's memory, or the first fault of the file.
+//!
+//! Executables are static 32-bit RISC-V files (System V gABI, ELF32, little-endian).
+#![tactic(auto)]
+
+mod build;
+mod elf_header;
+mod fault;
+mod fields;
+mod image;
+mod layout;
+mod loader;
+mod page;
+mod program_header;
+mod rights;
+mod segments;
+
+pub use fault::{ElfFault, LoadError};
+pub use image::Image;
+pub use loader::load;
+pub use page::{PAGE_SIZE, Page};
+pub use rights::Rights;

@@ -1,0 +1,52 @@
+-- a map from keys, seen as the list of its events
+use Rattle.std.proofs.Common.{◌≡◌, false, ◌||◌, List, [], ◌∷◌, is_some, if◌then◌else◌, refl, sym, ap, ◌∙◌, Ordering, Less, Equal, Greater, Some, option_map, slice_get}
+use Rattle.std.proofs.lemmas.Bool.{false≢true}
+use Rattle.std.proofs.lemmas.List.Elements.{recursion_from_All, All-from_recursion}
+use Rattle.std.proofs.lemmas.Map.Made.{is_some-lookup}
+use Rattle.std.specs.BTreeMap.{insert_entry, is_at}
+use Rattle.std.specs.BTreeMap.Range.{IsLtBy}
+use Rattle.std.specs.List.{All, AllByRecursion, list_any}
+use Rattle.std.specs.Map.{keys_of, lookup}
+use Rattle.std.specs.Ordering.{is_eq, is_lt, match_ordering}
+use Rattle.sim_base.specs.declared.event.Event.{Event}
+use Rattle.sim_base.specs.declared.event.What.{What}
+use Rattle.sim_base.specs.declared.key.Key.{Key}
+use Rattle.sim_base.specs.Key.{key_order}
+use Rattle.event_order.specs.Events.{IsBefore, has_key, with_event, event_of, events_of}
+
+inserted : (order : Ordering) (key : Key) (what : What) (e : Key × What) (es more : List (Key × What))
+    → (is_eq order || has_key key (events_of es)) ≡ false
+    → (has_key key (events_of es) ≡ false → events_of more ≡ with_event (event_of (key, what)) (events_of es))
+    → events_of (match_ordering order ((key, what) ∷ e ∷ es) ((e.0, what) ∷ es) (e ∷ more))
+    ≡ (if is_lt order then event_of (key, what) ∷ event_of e ∷ events_of es else event_of e ∷ with_event (event_of (key, what)) (events_of es))
+inserted Less key what e es more new behind = refl
+inserted Equal key what e es more new behind = absurd (false≢true (sym new))
+inserted Greater key what e es more new behind = ap (λ events. event_of e ∷ events) (behind new)
+
+-- an entry of a new key is an event in its place
+pub events_of-insert_entry : (key : Key) (what : What) (es : List (Key × What)) → has_key key (events_of es) ≡ false
+    → events_of (insert_entry key_order es key what) ≡ with_event (event_of (key, what)) (events_of es)
+events_of-insert_entry key what [] new = refl
+events_of-insert_entry key what (e ∷ es) new =
+    inserted (key_order key e.0) key what e es (insert_entry key_order es key what) new (events_of-insert_entry key what es)
+
+any_key : (key : Key) (es : List (Key × What)) → list_any (is_at (key_order key)) (keys_of es) ≡ has_key key (events_of es)
+any_key key [] = refl
+any_key key (e ∷ es) = ap (λ rest. is_eq (key_order key e.0) || rest) (any_key key es)
+
+-- a key is held where the map has an entry for it
+pub has_key-events_of : (key : Key) (es : List (Key × What)) → is_some (lookup (is_at (key_order key)) es) ≡ has_key key (events_of es)
+has_key-events_of key es = is_some-lookup (is_at (key_order key)) es ∙ any_key key es
+
+later_keys : (event : Event) (es : List (Key × What)) → AllByRecursion (IsLtBy key_order event.key) (keys_of es) → AllByRecursion (IsBefore event) (events_of es)
+later_keys event [] h = tt
+later_keys event (e ∷ es) h = (h.0, later_keys event es h.1)
+
+-- where the keys come later, the events do
+pub All-IsBefore : (event : Event) (es : List (Key × What)) → All (IsLtBy key_order event.key) (keys_of es) → All (IsBefore event) (events_of es)
+All-IsBefore event es h = All-from_recursion _ _ (later_keys event es (recursion_from_All _ _ h))
+
+-- when the first event is due
+pub due_of-first : (es : List (Key × What)) (e : Key × What) → slice_get es 0 ≡ Some e → option_map (λ (event : Event). event.key.due) (slice_get (events_of es) 0) ≡ Some e.0.due
+due_of-first [] e first = cc
+due_of-first (x ∷ es) e first = ap (option_map (λ (y : Key × What). y.0.due)) first

@@ -1,0 +1,29 @@
+-- lists of events, least key first
+use Rattle.std.specs.Prelude.{◌≡◌, Bool, List, [], ◌∷◌, map, if◌then◌else◌}
+use Rattle.std.specs.List.{list_any}
+use Rattle.std.specs.Ordering.{is_eq, is_lt}
+use Rattle.std.specs.declared.cmp.Ordering.TheVariants.{Less}
+use Rattle.sim_base.specs.declared.event.Event.{Event}
+use Rattle.sim_base.specs.declared.event.What.{What}
+use Rattle.sim_base.specs.declared.key.Key.{Key}
+use Rattle.sim_base.specs.Key.{key_order}
+
+-- the one event's key comes before the other's
+abbrev pub IsBefore : Event → Event → Type 0
+IsBefore a b = key_order a.key b.key ≡ Less
+
+-- some event has the key
+abbrev pub has_key : Key → List Event → Bool
+has_key key events = list_any (λ event. is_eq (key_order key event.key)) events
+
+-- the event stands before the first one whose key its key comes before
+abbrev pub with_event : Event → List Event → List Event
+with_event event [] = event ∷ []
+with_event event (next ∷ events) = if is_lt (key_order event.key next.key) then event ∷ next ∷ events else next ∷ with_event event events
+
+abbrev pub event_of : Key × What → Event
+event_of e = record { key = e.0; what = e.1 }
+
+-- the events that a map keeps by their keys
+abbrev pub events_of : List (Key × What) → List Event
+events_of entries = map event_of entries

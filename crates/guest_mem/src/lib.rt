@@ -1,0 +1,16 @@
+//! The memory of a guest: a map from address to byte with rights, over pages.
+#![tactic(auto)]
+
+mod bad;
+mod copies;
+mod index;
+mod mem;
+mod right;
+mod table;
+#[cfg(test)]
+mod tests;
+mod zero_pages;
+
+pub use bad::Bad;
+pub use mem::Mem;
+pub use right::Right;

@@ -1,0 +1,78 @@
+ghost use Rattle.std.specs.Prelude.{◌≡◌, ◌+◌, IfOk};
+ghost use Rattle.sim_base.specs.Packet.{packet_size};
+
+use super::*;
+use sim_base::{Addr, Bytes, Ip, Load, Packet, Time};
+use std::alloc::Global;
+use std::test::Fail;
+
+/// A datagram with so many bytes of text.
+fn datagram(alloc: Global, text: usize) -> Result<Packet, Fail>
+    ensures { IfOk result (λ packet. packet_size packet ≡ text + 28) }
+{
+    let end = Addr {
+        ip: Ip::LOOPBACK,
+        port: 1,
+    };
+    Ok(Packet {
+        from: end,
+        to: end,
+        load: Load::Udp(Bytes::from(vec![in alloc; 0u8; text]?)),
+    })
+}
+
+fn at(nanos: u64) -> Time
+    ensures { result.nanos ≡ nanos }
+{
+    Time { nanos }
+}
+
+#[test]
+fn packets_leave_at_whole_milliseconds(rt: HostRuntime) -> Result<(), Fail> {
+    let mut lane = Lane::new(rt.alloc(), 1_000_000);
+    let first = lane.push(at(500_000), datagram(rt.alloc(), 1472)?)?;
+    let second = lane.push(at(500_000), datagram(rt.alloc(), 1472)?)?;
+    let third = lane.push(at(500_000), datagram(rt.alloc(), 1472)?)?;
+    assert_eq!(rt; matches!(&first, Pushed::Leaves(_)), true);
+    assert_eq!(rt; second, Pushed::Waits(Some(at(11_000_000))));
+    assert_eq!(rt; third, Pushed::Waits(None));
+    let early = lane.release(at(10_999_999))?;
+    assert_eq!(rt; early.next, Some(at(11_000_000)));
+    let one = lane.release(at(11_000_000))?;
+    assert_eq!(rt; one.packets.len(), 1);
+    assert_eq!(rt; one.next, Some(at(23_000_000)));
+    let last = lane.release(at(23_000_000))?;
+    assert_eq!(rt; last.packets.len(), 1);
+    assert_eq!(rt; last.next, None);
+    Ok(())
+}
+
+#[test]
+fn a_lane_holds_a_thousand_packets(rt: HostRuntime) -> Result<(), Fail> {
+    let mut lane = Lane::new(rt.alloc(), 1_000_000);
+    let mut dropped = 0u32;
+    for _i in 0..1003 {
+        if let Pushed::Dropped(_) = lane.push(at(0), datagram(rt.alloc(), 1472)?)? {
+            dropped = dropped.saturating_add(1);
+        }
+    }
+    assert_eq!(rt; dropped, 2);
+    assert_eq!(rt; lane.len(), 1000);
+    Ok(())
+}
+
+#[test]
+fn a_bucket_gets_its_rate_each_millisecond(rt: HostRuntime) {
+    let mut slow = Bucket::new(1);
+    assert_eq!(rt; slow.spend(1501), true);
+    assert_eq!(rt; slow.spend(1), false);
+    slow.at(at(999_999));
+    assert_eq!(rt; slow.spend(1), false);
+    slow.at(at(1_000_000));
+    assert_eq!(rt; slow.spend(1), true);
+    let mut fast = Bucket::new(u64::MAX);
+    assert_eq!(rt; fast.spend(2_305_843_009_215_193), true);
+    fast.at(at(u64::MAX));
+    assert_eq!(rt; fast.spend(2_305_843_009_215_193), true);
+    assert_eq!(rt; fast.spend(1), false);
+}

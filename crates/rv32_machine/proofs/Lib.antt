@@ -1,0 +1,4 @@
+pub mod TableLaws
+pub mod TurnSteps
+pub mod TurnLaws
+mod Values

@@ -1,0 +1,84 @@
+-- Laws of the table: a trap leaves the state as it was, and a call only moves pc behind itself.
+use Rattle.std.proofs.Common.{◌≡◌, ℕ, Bool, true, false, Option, Some, None, ◌*◌, ◌/◌, refl, subst, if◌then◌else◌}
+use Rattle.sim_base.specs.declared.signal.Signal.{Signal}
+use Rattle.sim_base.specs.declared.signal.Signal.TheVariants.{SigBus}
+use Rattle.guest_mem.specs.Memory.{Memory, load}
+use Rattle.guest_mem.specs.declared.right.Right.TheVariants as right
+use Rattle.rv32_machine.specs.Word.{i_immediate, b_immediate, j_immediate}
+use Rattle.rv32_machine.specs.Arithmetic.{sum, is_taken}
+use Rattle.rv32_machine.specs.Table.{State, After, source1, source2, traps, goes_on, advanced, at, is_aligned, jumps, load_ends, store_ends, effect, executed, fetched, insn}
+use Rattle.rv32_machine.specs.declared.cpu.Cpu.{Cpu}
+use Rattle.rv32_machine.specs.declared.outcome.Outcome.{Outcome}
+use Rattle.rv32_machine.specs.declared.outcome.Outcome.TheVariants as outcome
+use Rattle.rv32_machine.specs.declared.instruction.Insn.{Insn}
+use Rattle.rv32_machine.specs.declared.instruction.Insn.TheVariants.{Lui, Auipc, Jal, Jalr, Branch, Load, Store, Immediate, Register, Fence, FenceI, Ecall, Ebreak}
+
+-- what an instruction leaves, by how it ends
+pub LeavesBy : Outcome → State → State → Type 0
+LeavesBy outcome.Next s t = Unit {0}
+LeavesBy outcome.Call s t = t ≡ record s { cpu = advanced s.cpu }
+LeavesBy (outcome.Trap g) s t = t ≡ s
+
+IsKept : State → After → Type 0
+IsKept s a = LeavesBy a.outcome s a.state
+
+jump_kept : (s : State) (cpu : Cpu) (b : Bool) (g : Signal) → IsKept s (if b then goes_on cpu s else traps g s)
+unfolding IsKept LeavesBy
+jump_kept s cpu true g = tt
+jump_kept s cpu false g = refl
+
+branch_kept : (s : State) (b : Bool) (target : ℕ) →
+    IsKept s (if b then jumps target s.cpu s else goes_on (advanced s.cpu) s)
+unfolding IsKept LeavesBy
+branch_kept s true target = jump_kept s (at target s.cpu) (is_aligned target) SigBus
+branch_kept s false target = tt
+
+load_kept : (s : State) (word : ℕ) (o : Option ℕ) → IsKept s (load_ends o word s)
+unfolding IsKept LeavesBy
+load_kept s word None = refl
+load_kept s word (Some n) = tt
+
+store_kept : (s : State) (o : Option Memory) → IsKept s (store_ends o s)
+unfolding IsKept LeavesBy
+store_kept s None = refl
+store_kept s (Some m) = tt
+
+effect_kept : (i : Insn) (word : ℕ) (s : State) → IsKept s (effect i word s)
+unfolding IsKept LeavesBy
+effect_kept (Immediate operation) word s = tt
+effect_kept Lui word s = tt
+effect_kept Auipc word s = tt
+effect_kept (Register operation) word s = tt
+effect_kept Jal word s = jump_kept s _ (is_aligned (sum s.cpu.pc (j_immediate word))) SigBus
+effect_kept Jalr word s = jump_kept s _ (is_aligned (sum (source1 word s) (i_immediate word) / 2 * 2)) SigBus
+effect_kept (Branch branch) word s = branch_kept s (is_taken branch (source1 word s) (source2 word s)) (sum s.cpu.pc (b_immediate word))
+effect_kept (Load kind) word s = load_kept s word _
+effect_kept (Store kind) word s = store_kept s _
+effect_kept Fence word s = tt
+effect_kept FenceI word s = tt
+effect_kept Ecall word s = refl
+effect_kept Ebreak word s = refl
+
+executed_kept : (o : Option Insn) (word : ℕ) (s : State) → IsKept s (executed o word s)
+unfolding IsKept LeavesBy
+executed_kept None word s = refl
+executed_kept (Some i) word s = effect_kept i word s
+
+fetched_kept : (o : Option ℕ) (s : State) → IsKept s (fetched o s)
+unfolding IsKept LeavesBy
+fetched_kept None s = refl
+fetched_kept (Some word) s = executed_kept _ word s
+
+kept : (s : State) → IsKept s (insn s)
+unfolding insn
+kept s = fetched_kept (load right.Execute 4 s.memory s.cpu.pc) s
+
+-- an instruction that traps leaves the state as it was
+pub insn-trap : (s : State) (g : Signal) → (insn s).outcome ≡ outcome.Trap g → (insn s).state ≡ s
+unfolding IsKept LeavesBy
+insn-trap s g is = let P : Outcome → Type 0 = λ o. LeavesBy o s (insn s).state in subst P is (kept s)
+
+-- an instruction that calls leaves the state as it was, but for pc, which stands behind it
+pub insn-call : (s : State) → (insn s).outcome ≡ outcome.Call → (insn s).state ≡ record s { cpu = advanced s.cpu }
+unfolding IsKept LeavesBy
+insn-call s is = let P : Outcome → Type 0 = λ o. LeavesBy o s (insn s).state in subst P is (kept s)

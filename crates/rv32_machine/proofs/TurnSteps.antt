@@ -1,0 +1,59 @@
+-- How a turn goes on by one instruction.
+use Rattle.std.proofs.Common.{◌≡◌, ℕ, suc, ◌+◌, ◌-◌, ◌<◌, ap, subst, refl, ◌∙◌, sym, Option, Some, None, arith}
+use Rattle.guest_mem.specs.Memory.{Memory}
+use Rattle.rv32_machine.specs.Table.{State, After, insn, state, after}
+use Rattle.rv32_machine.specs.Turn.{Turn, turn, turn_from, one_more, end_of}
+use Rattle.rv32_machine.specs.declared.cpu.Cpu.{Cpu}
+use Rattle.rv32_machine.specs.declared.outcome.Outcome.{Outcome}
+use Rattle.rv32_machine.specs.declared.outcome.Outcome.TheVariants as outcome
+use Rattle.rv32_machine.specs.declared.outcome.TurnEnd.{TurnEnd}
+use Rattle.rv32_machine.specs.declared.outcome.TurnEnd.TheVariants as end
+
+-- the turn, before which k instructions ran
+abbrev pub ran_before : ℕ → Turn → Turn
+ran_before k t = record t { ran = k + t.ran }
+
+-- the turn that begins with this instruction
+turn_by : ℕ → After → Turn
+turn_by n a = turn_from a.state a.outcome (turn n a.state)
+
+-- an instruction that neither calls nor traps
+pub turn-next : (budget k : ℕ) (s : State) (cpu : Cpu) (m : Memory) → k < budget → insn s ≡ after cpu m outcome.Next →
+    ran_before k (turn (budget - k) s) ≡ ran_before (k + 1) (turn (budget - (k + 1)) (state cpu m))
+unfolding turn turn_by
+turn-next budget k s cpu m below is =
+    let one : budget - k ≡ suc (budget - (k + 1)) = omega arith in
+    let begins : turn (budget - k) s ≡ turn_by (budget - (k + 1)) (insn s) = ap (λ (n : ℕ). turn n s) one in
+    let so : turn_by (budget - (k + 1)) (insn s) ≡ one_more (turn (budget - (k + 1)) (state cpu m)) = ap (turn_by (budget - (k + 1))) is in
+    let moved : (r : ℕ) → k + suc r ≡ k + 1 + r = λ r. omega arith in
+    ap (ran_before k) (begins ∙ so) ∙ ap (λ (r : ℕ). record (turn (budget - (k + 1)) (state cpu m)) { ran = r }) (moved _)
+
+-- an instruction that ends the turn
+pub turn-end : (budget k : ℕ) (s : State) (cpu : Cpu) (m : Memory) (o : Outcome) (e : TurnEnd) → k < budget → insn s ≡ after cpu m o → end_of o ≡ Some e →
+    turn (budget - k) s ≡ record { state = state cpu m; end = e; ran = 1 }
+unfolding turn turn_by
+turn-end budget k s cpu m o e below is ends =
+    let one : budget - k ≡ suc (budget - (k + 1)) = omega arith in
+    let begins : turn (budget - k) s ≡ turn_by (budget - (k + 1)) (insn s) = ap (λ (n : ℕ). turn n s) one in
+    begins ∙ ap (turn_by (budget - (k + 1))) is ∙ ended (state cpu m) o e (turn (budget - (k + 1)) (state cpu m)) ends
+  where
+    ended : (s : State) (o : Outcome) (e : TurnEnd) (rest : Turn) → end_of o ≡ Some e → turn_from s o rest ≡ record { state = s; end = e; ran = 1 }
+    ended s outcome.Next e rest h = cc
+    ended s outcome.Call e rest h = cc
+    ended s (outcome.Trap g) e rest h = cc
+
+-- the turn as a whole, where its instruction number k + 1 ends it
+pub turn-whole : (budget k : ℕ) (s0 s : State) (cpu : Cpu) (m : Memory) (o : Outcome) (e : TurnEnd) → k < budget →
+    turn budget s0 ≡ ran_before k (turn (budget - k) s) → insn s ≡ after cpu m o → end_of o ≡ Some e →
+    turn budget s0 ≡ record { state = state cpu m; end = e; ran = k + 1 }
+turn-whole budget k s0 s cpu m o e below same is ends = same ∙ ap (ran_before k) (turn-end budget k s cpu m o e below is ends)
+
+-- the turn as a whole, where the budget ran
+pub turn-spent : (budget k : ℕ) (s0 : State) (cpu : Cpu) (m : Memory) → k ≡ budget →
+    turn budget s0 ≡ ran_before k (turn (budget - k) (state cpu m)) →
+    turn budget s0 ≡ record { state = state cpu m; end = end.Spent; ran = budget }
+unfolding turn
+turn-spent budget k s0 cpu m all same =
+    let none : budget - k ≡ 0 = omega arith in
+    let whole : k + 0 ≡ budget = omega arith in
+    same ∙ ap (λ (n : ℕ). ran_before k (turn n (state cpu m))) none ∙ ap (λ (r : ℕ). record { state = state cpu m; end = end.Spent; ran = r }) whole

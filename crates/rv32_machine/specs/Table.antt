@@ -1,0 +1,153 @@
+-- The table of instructions: what each makes of the registers and the memory. A row an instruction, in the
+-- order of the RISC-V unprivileged manual, 2.4 to 2.8; `value` and `is_taken` have the rows of the
+-- operations and the branches.
+use Rattle.std.specs.Prelude.{ℕ, ◌+◌, ◌-◌, ◌*◌, ◌/◌, ◌%◌, ◌^◌, ◌==◌, Bool, if◌then◌else◌, Option, None, Some, slice_index, slice_set}
+use Rattle.std.specs.Option.{option_map}
+use Rattle.sim_base.specs.declared.signal.Signal.{Signal}
+use Rattle.sim_base.specs.declared.signal.Signal.TheVariants.{SigIll, SigTrap, SigBus, SigSegv}
+use Rattle.guest_mem.specs.Memory.{Memory, load, store}
+use Rattle.guest_mem.specs.declared.right.Right.TheVariants as right
+use Rattle.rv32_machine.specs.Word.{rd, rs1, rs2, sign_extended, i_immediate, s_immediate, b_immediate, u_immediate, j_immediate}
+use Rattle.rv32_machine.specs.Arithmetic.{sum, value, is_taken}
+use Rattle.rv32_machine.specs.Encoding.{decoded}
+use Rattle.rv32_machine.specs.declared.cpu.Cpu.{Cpu}
+use Rattle.rv32_machine.specs.declared.outcome.Outcome.{Outcome}
+use Rattle.rv32_machine.specs.declared.outcome.Outcome.TheVariants as outcome
+use Rattle.rv32_machine.specs.declared.instruction.Insn.{Insn}
+use Rattle.rv32_machine.specs.declared.instruction.Insn.TheVariants.{Lui, Auipc, Jal, Jalr, Branch, Load, Store, Immediate, Register, Fence, FenceI, Ecall, Ebreak}
+use Rattle.rv32_machine.specs.declared.instruction.Load.{Load as LoadKind}
+use Rattle.rv32_machine.specs.declared.instruction.Load.TheVariants.{Lb, Lh, Lw, Lbu, Lhu}
+use Rattle.rv32_machine.specs.declared.instruction.Store.{Store as StoreKind}
+use Rattle.rv32_machine.specs.declared.instruction.Store.TheVariants.{Sb, Sh, Sw}
+
+-- the registers and the memory
+pub record State : Type 0 where
+  pub cpu : Cpu
+  pub memory : Memory
+
+-- what an instruction leaves, and whether it calls or traps
+pub record After : Type 0 where
+  pub state : State
+  pub outcome : Outcome
+
+-- ---- 2.1: the registers
+
+-- register r, of which register 0 reads 0
+abbrev pub register : ℕ → Cpu → ℕ
+register r cpu = if r == 0 then 0 else slice_index cpu.x r
+
+-- register r is n from now on, but register 0 takes nothing
+abbrev pub with_register : ℕ → ℕ → Cpu → Cpu
+with_register r n cpu = if r == 0 then cpu else record cpu { x = slice_set cpu.x r n }
+
+-- the values of the registers that the word names as rs1 and rs2
+abbrev pub source1 : ℕ → State → ℕ
+source1 word s = register (rs1 word) s.cpu
+
+abbrev pub source2 : ℕ → State → ℕ
+source2 word s = register (rs2 word) s.cpu
+
+-- pc stands at the address from now on
+abbrev pub at : ℕ → Cpu → Cpu
+at address cpu = record cpu { pc = address }
+
+-- the address behind this instruction
+abbrev pub following : Cpu → ℕ
+following cpu = sum cpu.pc 4
+
+abbrev pub advanced : Cpu → Cpu
+advanced cpu = at (following cpu) cpu
+
+-- ---- how an instruction ends
+
+-- it traps, and leaves the state as it was
+abbrev pub traps : Signal → State → After
+traps signal s = record { state = s; outcome = outcome.Trap signal }
+
+-- the next instruction follows, with these registers
+abbrev pub goes_on : Cpu → State → After
+goes_on cpu s = record { state = record s { cpu = cpu }; outcome = outcome.Next }
+
+-- rd is n from now on
+abbrev pub sets : ℕ → ℕ → Cpu → Cpu
+sets word n cpu = with_register (rd word) n cpu
+
+abbrev pub computes : ℕ → ℕ → State → After
+computes word n s = goes_on (advanced (sets word n s.cpu)) s
+
+-- 2.5: instructions stand at multiples of 4; for a jump or a taken branch to any other target this project's own
+-- profile has SIGBUS
+abbrev pub is_aligned : ℕ → Bool
+is_aligned target = target % 4 == 0
+
+abbrev pub jumps : ℕ → Cpu → State → After
+jumps target cpu s = if is_aligned target then goes_on (at target cpu) s else traps SigBus s
+
+-- ---- 2.6: loads and stores; this project's own profile has SIGSEGV for an address that isn't mapped with the right
+
+-- the word that a load puts into rd
+abbrev pub loaded : LoadKind → Memory → ℕ → Option ℕ
+loaded Lb m address = option_map (sign_extended 8) (load right.Read 1 m address)
+loaded Lh m address = option_map (sign_extended 16) (load right.Read 2 m address)
+loaded Lw m address = load right.Read 4 m address
+loaded Lbu m address = load right.Read 1 m address
+loaded Lhu m address = load right.Read 2 m address
+
+-- the memory after a store of the lower bits of n
+abbrev pub stored : StoreKind → Memory → ℕ → ℕ → Option Memory
+stored Sb m address n = store 1 m address (n % 2 ^ 8)
+stored Sh m address n = store 2 m address (n % 2 ^ 16)
+stored Sw m address n = store 4 m address n
+
+abbrev pub load_ends : Option ℕ → ℕ → State → After
+load_ends None word s = traps SigSegv s
+load_ends (Some n) word s = computes word n s
+
+abbrev pub store_ends : Option Memory → State → After
+store_ends None s = traps SigSegv s
+store_ends (Some m) s = goes_on (advanced s.cpu) (record s { memory = m })
+
+-- ---- the table
+
+abbrev pub effect : Insn → ℕ → State → After
+-- 2.4 Integer Computational Instructions
+effect (Immediate operation) word s = computes word (value operation (source1 word s) (i_immediate word)) s
+effect Lui word s = computes word (u_immediate word) s
+effect Auipc word s = computes word (sum s.cpu.pc (u_immediate word)) s
+effect (Register operation) word s = computes word (value operation (source1 word s) (source2 word s)) s
+-- 2.5 Control Transfer Instructions: JAL and JALR put the address behind them into rd; JALR clears bit 0 of its target
+effect Jal word s = jumps (sum s.cpu.pc (j_immediate word)) (sets word (following s.cpu) s.cpu) s
+effect Jalr word s = jumps (sum (source1 word s) (i_immediate word) / 2 * 2) (sets word (following s.cpu) s.cpu) s
+effect (Branch branch) word s =
+    if is_taken branch (source1 word s) (source2 word s) then jumps (sum s.cpu.pc (b_immediate word)) s.cpu s
+    else goes_on (advanced s.cpu) s
+-- 2.6 Load and Store Instructions
+effect (Load kind) word s = load_ends (loaded kind s.memory (sum (source1 word s) (i_immediate word))) word s
+effect (Store kind) word s = store_ends (stored kind s.memory (sum (source1 word s) (s_immediate word)) (source2 word s)) s
+-- 2.7 Memory Ordering Instructions, and Zifencei: one hart sees its own accesses in their order
+effect Fence word s = goes_on (advanced s.cpu) s
+effect FenceI word s = goes_on (advanced s.cpu) s
+-- 2.8 Environment Call and Breakpoints
+effect Ecall word s = record (goes_on (advanced s.cpu) s) { outcome = outcome.Call }
+effect Ebreak word s = traps SigTrap s
+
+-- ---- one instruction
+
+abbrev pub executed : Option Insn → ℕ → State → After
+executed None word s = traps SigIll s
+executed (Some instruction) word s = effect instruction word s
+
+abbrev pub fetched : Option ℕ → State → After
+fetched None s = traps SigSegv s
+fetched (Some word) s = executed (decoded word) word s
+
+-- the instruction at pc, whose four bytes are mapped with the right to execute
+unfoldable pub insn : State → After
+insn s = fetched (load right.Execute 4 s.memory s.cpu.pc) s
+
+-- the state of these registers and this memory
+abbrev pub state : Cpu → Memory → State
+state cpu memory = record { cpu = cpu; memory = memory }
+
+abbrev pub after : Cpu → Memory → Outcome → After
+after cpu memory outcome = record { state = state cpu memory; outcome = outcome }

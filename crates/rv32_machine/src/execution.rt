@@ -1,0 +1,173 @@
+//! One instruction.
+
+ghost use Rattle.std.specs.Prelude.{◌≡◌, Some, None, MatchResult, OnOk, OnErr};
+ghost use Rattle.guest_mem.specs.Memory.{Memory};
+ghost use Rattle.rv32_machine.specs.Table.{insn, effect, state, after, traps, advanced, is_aligned, jumps, sets, following, loaded, stored};
+
+use crate::arithmetic::{is_taken, value};
+use crate::cpu::Cpu;
+use crate::encoding::decode;
+use crate::instruction::{Insn, Load, Store};
+use crate::outcome::Outcome;
+use crate::word::{
+    b_immediate, byte_extended, half_extended, i_immediate, j_immediate, rd, rs1, rs2, s_immediate,
+    u_immediate,
+};
+use guest_mem::{Bad, Mem};
+use sim_base::Signal;
+
+/// Runs the instruction at the program counter.
+#[tactic(auto, unfolding(crate::specs::Table::insn))]
+#[inline(always)]
+pub fn step(cpu: &mut Cpu, mem: &mut Mem) -> Outcome
+    ensures { insn (state cpu.old mem.old) ≡ after cpu.new mem.new result }
+{
+    match mem.fetch(cpu.pc) {
+        Ok(word) => match decode(word) {
+            Some(insn) => execute(insn, word, cpu, mem),
+            None => Outcome::Trap(Signal::SigIll),
+        },
+        Err(_) => Outcome::Trap(Signal::SigSegv),
+    }
+}
+
+#[inline(always)]
+fn execute(insn: Insn, word: u32, cpu: &mut Cpu, mem: &mut Mem) -> Outcome
+    ensures { effect insn word (state cpu.old mem.old) ≡ after cpu.new mem.new result }
+{
+    match insn {
+        Insn::Immediate(operation) => {
+            let n = value(operation, cpu.register(rs1(word)), i_immediate(word));
+            compute(cpu, word, n);
+            Outcome::Next
+        }
+        Insn::Lui => {
+            compute(cpu, word, u_immediate(word));
+            Outcome::Next
+        }
+        Insn::Auipc => {
+            let n = cpu.pc.wrapping_add(u_immediate(word));
+            compute(cpu, word, n);
+            Outcome::Next
+        }
+        Insn::Register(operation) => {
+            let n = value(operation, cpu.register(rs1(word)), cpu.register(rs2(word)));
+            compute(cpu, word, n);
+            Outcome::Next
+        }
+        Insn::Jal => {
+            let target = cpu.pc.wrapping_add(j_immediate(word));
+            link(cpu, word, target)
+        }
+        Insn::Jalr => {
+            let target = cpu.register(rs1(word)).wrapping_add(i_immediate(word));
+            link(cpu, word, target / 2 * 2)
+        }
+        Insn::Branch(branch) => {
+            if is_taken(branch, cpu.register(rs1(word)), cpu.register(rs2(word))) {
+                let target = cpu.pc.wrapping_add(b_immediate(word));
+                jump(cpu, target)
+            } else {
+                go_on(cpu);
+                Outcome::Next
+            }
+        }
+        Insn::Load(kind) => {
+            let address = cpu.register(rs1(word)).wrapping_add(i_immediate(word));
+            match load(kind, mem, address) {
+                Ok(n) => {
+                    compute(cpu, word, n);
+                    Outcome::Next
+                }
+                Err(_) => Outcome::Trap(Signal::SigSegv),
+            }
+        }
+        Insn::Store(kind) => {
+            let address = cpu.register(rs1(word)).wrapping_add(s_immediate(word));
+            match store(kind, mem, address, cpu.register(rs2(word))) {
+                Ok(()) => {
+                    go_on(cpu);
+                    Outcome::Next
+                }
+                Err(_) => Outcome::Trap(Signal::SigSegv),
+            }
+        }
+        Insn::Fence | Insn::FenceI => {
+            go_on(cpu);
+            Outcome::Next
+        }
+        Insn::Ecall => {
+            go_on(cpu);
+            Outcome::Call
+        }
+        Insn::Ebreak => Outcome::Trap(Signal::SigTrap),
+    }
+}
+
+fn go_on(cpu: &mut Cpu)
+    ensures { cpu.new ≡ advanced cpu.old }
+{
+    cpu.pc = cpu.pc.wrapping_add(4);
+}
+
+fn compute(cpu: &mut Cpu, word: u32, n: u32)
+    ensures { cpu.new ≡ advanced (sets word n cpu.old) }
+{
+    cpu.set_register(rd(word), n);
+    go_on(cpu);
+}
+
+// This project's own profile: a target that isn't a multiple of 4 is refused at the jump.
+fn is_aligned(target: u32) -> bool
+    ensures { result ≡ is_aligned target }
+{
+    target % 4 == 0
+}
+
+fn jump(cpu: &mut Cpu, target: u32) -> Outcome
+    ensures { (m : Memory) → jumps target cpu.old (state cpu.old m) ≡ after cpu.new m result }
+{
+    if is_aligned(target) {
+        cpu.pc = target;
+        Outcome::Next
+    } else {
+        Outcome::Trap(Signal::SigBus)
+    }
+}
+
+fn link(cpu: &mut Cpu, word: u32, target: u32) -> Outcome
+    ensures { (m : Memory) → jumps target (sets word (following cpu.old) cpu.old) (state cpu.old m) ≡ after cpu.new m result }
+{
+    if is_aligned(target) {
+        let back = cpu.pc.wrapping_add(4);
+        cpu.set_register(rd(word), back);
+        cpu.pc = target;
+        Outcome::Next
+    } else {
+        Outcome::Trap(Signal::SigBus)
+    }
+}
+
+fn load(kind: Load, mem: &Mem, address: u32) -> Result<u32, Bad>
+    ensures { MatchResult result (λ n. loaded kind mem.now address ≡ Some n) (λ _. loaded kind mem.now address ≡ None) }
+{
+    match kind {
+        Load::Lb => Ok(byte_extended(mem.load8(address)?)),
+        Load::Lh => Ok(half_extended(mem.load16(address)?)),
+        Load::Lw => mem.load32(address),
+        Load::Lbu => Ok(u32::from(mem.load8(address)?)),
+        Load::Lhu => Ok(u32::from(mem.load16(address)?)),
+    }
+}
+
+fn store(kind: Store, mem: &mut Mem, address: u32, n: u32) -> Result<(), Bad>
+    ensures ok { OnOk result (stored kind mem.old address n ≡ Some mem.new) }
+    ensures bad { OnErr result (stored kind mem.old address n ≡ None) }
+    ensures unchanged { OnErr result (mem.new ≡ mem.old) }
+{
+    match kind {
+        Store::Sb => mem.store8(address, (n % 0x100) as u8),
+        Store::Sh => mem.store16(address, (n % 0x1_0000) as u16),
+        Store::Sw => mem.store32(address, n),
+    }
+}

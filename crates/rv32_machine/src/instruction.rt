@@ -1,0 +1,73 @@
+//! The instructions by the manual's names. Their operands stay in the word.
+
+/// An instruction of RV32I, of the extension M or of Zifencei, without its operands.
+#[derive(Clone, Copy, Debug, PartialEq, Eq)]
+pub enum Insn {
+    Lui,
+    Auipc,
+    Jal,
+    Jalr,
+    Branch(Branch),
+    Load(Load),
+    Store(Store),
+    /// `ADDI` to `SRAI`: the operation on rs1 and the I-immediate.
+    Immediate(Operation),
+    /// `ADD` to `REMU`: the operation on rs1 and rs2.
+    Register(Operation),
+    Fence,
+    FenceI,
+    Ecall,
+    Ebreak,
+}
+
+/// The conditional branches, opcode BRANCH.
+#[derive(Clone, Copy, Debug, PartialEq, Eq)]
+pub enum Branch {
+    Beq,
+    Bne,
+    Blt,
+    Bge,
+    Bltu,
+    Bgeu,
+}
+
+/// The loads, opcode LOAD.
+#[derive(Clone, Copy, Debug, PartialEq, Eq)]
+pub enum Load {
+    Lb,
+    Lh,
+    Lw,
+    Lbu,
+    Lhu,
+}
+
+/// The stores, opcode STORE.
+#[derive(Clone, Copy, Debug, PartialEq, Eq)]
+pub enum Store {
+    Sb,
+    Sh,
+    Sw,
+}
+
+/// What the opcodes OP-IMM and OP compute of two words.
+#[derive(Clone, Copy, Debug, PartialEq, Eq)]
+pub enum Operation {
+    Add,
+    Sub,
+    Sll,
+    Slt,
+    Sltu,
+    Xor,
+    Srl,
+    Sra,
+    Or,
+    And,
+    Mul,
+    Mulh,
+    Mulhsu,
+    Mulhu,
+    Div,
+    Divu,
+    Rem,
+    Remu,
+}
