@@ -1,0 +1,10 @@
+pub mod Number
+pub mod Token
+pub mod Tokens
+pub mod Scanning
+pub mod Left
+pub mod Steps
+pub mod Outline
+pub mod Edges
+pub mod Graph
+pub mod Gml

@@ -1,0 +1,87 @@
+-- The tokens of a text, each with the line on which it begins.
+use Rattle.std.specs.Prelude.{ℕ, ◌+◌, Bool, true, false, ◌&&◌, ◌||◌, if◌then◌else◌, ◌==◌, List, [], ◌∷◌, ◌++◌}
+use Rattle.gml_graph.specs.declared.token.Token.{Token}
+use Rattle.gml_graph.specs.declared.token.Token.TheVariants.{Text, Open, Close, Unclosed}
+use Rattle.gml_graph.specs.declared.token.Lexeme.{Lexeme}
+use Rattle.gml_graph.specs.Number.{begins_with}
+use Rattle.gml_graph.specs.Token.{word_token, quoted}
+
+-- the end of a line; a CR directly before it belongs to it
+abbrev pub is_line_feed : ℕ → Bool
+is_line_feed b = b == 10
+
+abbrev pub is_blank : ℕ → List ℕ → Bool
+is_blank b rest = b == 32 || (b == 13 && begins_with is_line_feed rest)
+
+abbrev pub is_hash : ℕ → Bool
+is_hash b = b == 35
+
+abbrev pub is_quote : ℕ → Bool
+is_quote b = b == 34
+
+abbrev pub is_open : ℕ → Bool
+is_open b = b == 91
+
+abbrev pub is_close : ℕ → Bool
+is_close b = b == 93
+
+-- Spaces, line ends, brackets and quotes end a word.
+abbrev pub ends_word : ℕ → List ℕ → Bool
+ends_word b rest = is_blank b rest || (is_line_feed b || (is_open b || (is_close b || is_quote b)))
+
+-- Where a byte stands: between tokens (and whether only spaces stand before it on its line), in a word behind these bytes,
+-- in a text that began at a line behind these bytes, or in a comment.
+pub data Place : Type 0 where
+  between : (fresh : Bool) → Place
+  in_word : (before : List ℕ) → Place
+  in_text : (line : ℕ) → (before : List ℕ) → Place
+  in_comment : Place
+
+abbrev pub lexeme : ℕ → Token → Lexeme
+lexeme line token = record { line = line; token = token }
+
+-- the place behind a byte that stands in no word, text or comment: a comment begins its line
+abbrev pub place_behind : Bool → ℕ → ℕ → List ℕ → Place
+place_behind fresh line b rest =
+    if is_blank b rest then between fresh
+    else (if is_line_feed b then between true
+    else (if is_hash b && fresh then in_comment
+    else (if is_open b || is_close b then between false
+    else (if is_quote b then in_text line []
+    else in_word (b ∷ [])))))
+
+-- the place behind a byte
+abbrev pub next_place : Place → ℕ → ℕ → List ℕ → Place
+next_place (between fresh) line b rest = place_behind fresh line b rest
+next_place (in_word before) line b rest = if ends_word b rest then place_behind false line b rest else in_word (before ++ b ∷ [])
+next_place (in_text start before) line b rest = if is_quote b then between false else in_text start (before ++ b ∷ [])
+next_place in_comment line b rest = if is_line_feed b then between true else in_comment
+
+abbrev pub next_line : ℕ → ℕ → ℕ
+next_line line b = if is_line_feed b then line + 1 else line
+
+abbrev pub brackets : ℕ → ℕ → List Lexeme
+brackets line b = if is_open b then lexeme line Open ∷ [] else (if is_close b then lexeme line Close ∷ [] else [])
+
+-- the tokens that end with a byte
+abbrev pub ended : Place → ℕ → ℕ → List ℕ → List Lexeme
+ended (between fresh) line b rest = brackets line b
+ended (in_word before) line b rest = if ends_word b rest then lexeme line (word_token before) ∷ brackets line b else []
+ended (in_text start before) line b rest = if is_quote b then lexeme start (Text (quoted before)) ∷ [] else []
+ended in_comment line b rest = []
+
+-- the token that the end of the text ends; a text without its second quote is no text
+abbrev pub ended_last : Place → ℕ → List Lexeme
+ended_last (between fresh) line = []
+ended_last (in_word before) line = lexeme line (word_token before) ∷ []
+ended_last (in_text start before) line = lexeme start Unclosed ∷ []
+ended_last in_comment line = []
+
+-- the tokens from a place on
+abbrev pub tokens_from : Place → ℕ → List ℕ → List Lexeme
+tokens_from place line [] = ended_last place line
+tokens_from place line (b ∷ rest) = ended place line b rest ++ tokens_from (next_place place line b rest) (next_line line b) rest
+
+-- the tokens of a text
+abbrev pub tokens : List ℕ → List Lexeme
+tokens text = tokens_from (between true) 1 text

@@ -1,0 +1,102 @@
+//! Why a text has no graph.
+
+ghost use Rattle.std.specs.Prelude.{◌≡◌};
+ghost use Rattle.gml_graph.specs.declared.fault.GmlError.TheVariants as errors;
+
+use std::alloc::{AllocError, AllocFailed};
+use std::error::Error;
+use std::fmt;
+
+/// What is wrong with a text.
+#[derive(Clone, Copy, Debug, PartialEq, Eq)]
+pub enum GmlKind {
+    /// Some byte breaks UTF-8.
+    NotUtf8,
+    /// A token stands where none of its kind can, or the text ends too early.
+    Syntax,
+    /// There is no `graph`, or a node or an edge lacks an attribute that it needs.
+    Missing,
+    /// A second `graph`, a known attribute given twice, or the id of another node.
+    Duplicate,
+    /// No node has the id that an edge names.
+    UnknownNode,
+    /// A latency of 0.
+    ZeroLatency,
+    /// A loss outside 0 to 1.
+    Loss,
+    /// Any other value that isn't of its attribute's kind and range.
+    BadValue,
+    /// More than 4,096 nodes or 65,536 edges.
+    TooMany,
+}
+
+/// The first fault of a text, with its line, from 1.
+#[derive(Clone, Copy, Debug, PartialEq, Eq)]
+pub struct GmlFault {
+    pub line: u64,
+    pub kind: GmlKind,
+}
+
+/// Why no graph was read.
+#[derive(Clone, Copy, Debug, PartialEq, Eq)]
+pub enum GmlError {
+    /// The text has a fault.
+    Fault(GmlFault),
+    /// There was no memory for the graph.
+    NoMemory,
+}
+
+impl fmt::Display for GmlKind {
+    fn fmt<W: fmt::Write>(&self, f: &mut fmt::Formatter<W>) -> fmt::Result {
+        f.write_str(match self {
+            GmlKind::NotUtf8 => "not UTF-8",
+            GmlKind::Syntax => "syntax",
+            GmlKind::Missing => "missing",
+            GmlKind::Duplicate => "duplicate",
+            GmlKind::UnknownNode => "unknown node",
+            GmlKind::ZeroLatency => "zero latency",
+            GmlKind::Loss => "loss",
+            GmlKind::BadValue => "bad value",
+            GmlKind::TooMany => "too many",
+        })
+    }
+}
+
+impl fmt::Display for GmlError {
+    fn fmt<W: fmt::Write>(&self, f: &mut fmt::Formatter<W>) -> fmt::Result {
+        match self {
+            GmlError::Fault(fault) => {
+                let line = fault.line;
+                let kind = fault.kind;
+                write!(f, "line {line}: {kind}")
+            }
+            GmlError::NoMemory => f.write_str("out of memory"),
+        }
+    }
+}
+
+impl Error for GmlError {}
+
+impl From<GmlFault> for GmlError {
+    ghost from_gives = { λ f e. e ≡ errors.Fault f };
+
+    fn from(fault: GmlFault) -> GmlError {
+        GmlError::Fault(fault)
+    }
+}
+
+impl From<AllocError> for GmlError {
+    ghost from_gives = { λ _ e. e ≡ errors.NoMemory };
+
+    fn from(_e: AllocError) -> GmlError {
+        GmlError::NoMemory
+    }
+}
+
+impl<T: Drop> From<AllocFailed<T>> for GmlError {
+    ghost from_gives = { λ _ e. e ≡ errors.NoMemory };
+
+    fn from(_e: AllocFailed<T>) -> GmlError {
+        GmlError::NoMemory
+    }
+}

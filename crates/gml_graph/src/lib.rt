@@ -1,0 +1,21 @@
+//! The graph of a network, read from a GML text.
+#![tactic(auto)]
+
+mod block;
+mod edge;
+mod fault;
+mod graph;
+mod node;
+mod number;
+mod outline;
+mod reading;
+mod scanner;
+mod token;
+mod value;
+
+pub use fault::{GmlError, GmlFault, GmlKind};
+pub use graph::{Edge, Edges, Graph, Node, Nodes};
+pub use reading::read_gml;
+
+#[cfg(test)]
+mod tests;

@@ -1,0 +1,144 @@
+//! Tokens: keys, numbers, texts and brackets.
+
+ghost use Rattle.std.specs.Prelude.{◌≡◌};
+ghost use Rattle.std.specs.List.{list_all};
+ghost use Rattle.gml_graph.specs.Token.{is_key_byte, is_key, key_named, word_token, quoted};
+
+use crate::number::{Decimal, read_decimal};
+use sim_base::{Time, read_rate, read_time};
+
+/// The keys that mean something, somewhere.
+#[derive(Clone, Copy, Debug, PartialEq, Eq)]
+pub enum Key {
+    Graph,
+    Directed,
+    Node,
+    Edge,
+    Id,
+    HostBandwidthUp,
+    HostBandwidthDown,
+    Label,
+    Source,
+    Target,
+    Latency,
+    PacketLoss,
+    Jitter,
+    Other,
+}
+
+/// What a text between quotes says: the time and the rate that it spells, where it spells one.
+#[derive(Clone, Copy, Debug, PartialEq, Eq)]
+pub struct Quoted {
+    pub time: Option<Time>,
+    pub rate: Option<u64>,
+}
+
+/// A token of a text.
+#[derive(Clone, Copy, Debug, PartialEq, Eq)]
+pub enum Token {
+    Name(Key),
+    Number(Decimal),
+    Text(Quoted),
+    /// `[`
+    Open,
+    /// `]`
+    Close,
+    /// A text whose second quote is missing.
+    Unclosed,
+    /// A word that is neither a key nor a number.
+    Odd,
+}
+
+/// A token and the line on which it begins, from 1.
+#[derive(Clone, Copy, Debug, PartialEq, Eq)]
+pub struct Lexeme {
+    pub line: u64,
+    pub token: Token,
+}
+
+fn has_key_bytes(word: &[u8]) -> bool
+    ensures { result ≡ list_all is_key_byte word.now }
+{
+    word.iter().all(|b| b.is_ascii_alphanumeric() || *b == b'_')
+}
+
+/// A letter, and then letters, digits and `_`.
+fn is_key_word(word: &[u8]) -> bool
+    ensures { result ≡ is_key word.now }
+{
+    match word {
+        [first, ..] => first.is_ascii_alphabetic() && has_key_bytes(word),
+        [] => false,
+    }
+}
+
+#[tactic(auto, unfolding(crate::specs::Token::key_named))]
+fn key_of(word: &[u8]) -> Key
+    ensures { result ≡ key_named word.now }
+{
+    if word == b"graph".as_slice() {
+        return Key::Graph;
+    }
+    if word == b"directed".as_slice() {
+        return Key::Directed;
+    }
+    if word == b"node".as_slice() {
+        return Key::Node;
+    }
+    if word == b"edge".as_slice() {
+        return Key::Edge;
+    }
+    if word == b"id".as_slice() {
+        return Key::Id;
+    }
+    if word == b"host_bandwidth_up".as_slice() {
+        return Key::HostBandwidthUp;
+    }
+    if word == b"host_bandwidth_down".as_slice() {
+        return Key::HostBandwidthDown;
+    }
+    if word == b"label".as_slice() {
+        return Key::Label;
+    }
+    if word == b"source".as_slice() {
+        return Key::Source;
+    }
+    if word == b"target".as_slice() {
+        return Key::Target;
+    }
+    if word == b"latency".as_slice() {
+        return Key::Latency;
+    }
+    if word == b"packet_loss".as_slice() {
+        return Key::PacketLoss;
+    }
+    if word == b"jitter".as_slice() {
+        return Key::Jitter;
+    }
+    Key::Other
+}
+
+/// The token that a word is.
+#[tactic(auto, unfolding(crate::specs::Token::word_token))]
+pub fn token_of(word: &[u8]) -> Token
+    ensures { result ≡ word_token word.now }
+{
+    if is_key_word(word) {
+        return Token::Name(key_of(word));
+    }
+    match read_decimal(word) {
+        Some(number) => Token::Number(number),
+        None => Token::Odd,
+    }
+}
+
+/// What a text between quotes says.
+#[tactic(auto, unfolding(crate::specs::Token::quoted))]
+pub fn read_quoted(text: &str) -> Quoted
+    ensures { result ≡ quoted text.now }
+{
+    Quoted {
+        time: read_time(text),
+        rate: read_rate(text),
+    }
+}
