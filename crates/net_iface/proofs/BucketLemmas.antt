@@ -16,6 +16,7 @@ same_bucket r s t m n p q = λ i. bucket r (p i) (q i)
 
 -- after n milliseconds n rates came in, up to what the bucket holds
 pub after_ticks-closed : (n r t m : ℕ) → t ≤ r + 1500 → after_ticks n (bucket r t m) ≡ bucket r (min (t + n * r) (r + 1500)) (m + n)
+unfolding after_ticks
 after_ticks-closed zero r t m held = same_bucket r _ _ _ _ (omega arith) (omega arith)
 after_ticks-closed (suc n) r t m held =
     after_ticks-closed n r (min (t + r) (r + 1500)) (m + 1) (omega arith)
@@ -67,6 +68,7 @@ until_step seen n r t m some fits within later false e =
 -- the milliseconds until there are n tokens, by one division
 pub ticks_until-closed : (seen n r t m : ℕ) → 1 ≤ r → n ≤ r + 1500 → n ≤ t + seen * r → 1 ≤ seen
     → ticks_until seen n (bucket r t m) ≡ max 1 (div_ceil (n - t) r)
+unfolding ticks_until
 ticks_until-closed zero n r t m some fits within none = absurd (omega arith)
 ticks_until-closed (suc seen) n r t m some fits within none =
     until_step seen n r t m some fits within (λ u k. ticks_until-closed seen n r u k some fits) (nat_le n (min (t + r) (r + 1500))) refl

@@ -22,7 +22,7 @@ abbrev pub ticked : BucketState → BucketState
 ticked b = record { rate = b.rate; tokens = min (b.tokens + b.rate) (b.rate + 1500); millis = b.millis + 1 }
 
 -- some whole milliseconds come, one after another
-abbrev pub after_ticks : ℕ → BucketState → BucketState
+unfoldable pub after_ticks : ℕ → BucketState → BucketState
 after_ticks zero b = b
 after_ticks (suc n) b = after_ticks n (ticked b)
 
@@ -34,7 +34,7 @@ abbrev pub spent : ℕ → BucketState → BucketState
 spent n b = record b { tokens = b.tokens - n }
 
 -- how many whole milliseconds must come until there are n tokens, at least one, seen for as many as told
-abbrev pub ticks_until : ℕ → ℕ → BucketState → ℕ
+unfoldable pub ticks_until : ℕ → ℕ → BucketState → ℕ
 ticks_until zero n b = 0
 ticks_until (suc seen) n b = if nat_le n (ticked b).tokens then 1 else 1 + ticks_until seen n (ticked b)
 

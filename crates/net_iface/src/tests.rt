@@ -1,4 +1,4 @@
-ghost use Rattle.std.specs.Prelude.{◌≡◌, ◌+◌, IfOk};
+ghost use Rattle.std.specs.Prelude.{◌≡◌, ◌+◌, ◌/◌, ◌≤◌, IfOk, OnOk};
 ghost use Rattle.sim_base.specs.Packet.{packet_size};
 
 use super::*;
@@ -27,23 +27,48 @@ fn at(nanos: u64) -> Time
     Time { nanos }
 }
 
+fn push_at(lane: &mut Lane, nanos: u64, packet: Packet) -> Result<Pushed, Fail>
+    requires time { lane.old.bucket.millis ≤ nanos / 1000000 }
+    requires size { packet_size packet ≤ 1500 }
+    ensures { OnOk result (lane.new.bucket.millis ≡ nanos / 1000000) }
+{
+    Ok(lane.push(at(nanos), packet)?)
+}
+
+/// How many packets leave, and when the next release is to be made.
+fn release_at(lane: &mut Lane, nanos: u64) -> Result<(usize, Option<Time>), Fail>
+    requires { lane.old.bucket.millis ≤ nanos / 1000000 }
+    ensures { OnOk result (lane.new.bucket.millis ≡ nanos / 1000000) }
+{
+    let released = lane.release(at(nanos))?;
+    Ok((released.packets.len(), released.next))
+}
+
+fn three_pushed(alloc: Global) -> Result<(Lane, [Pushed; 3]), Fail>
+    ensures { IfOk result (λ r. r.0.bucket.millis ≡ 0) }
+{
+    let mut lane = Lane::new(alloc, 1_000_000);
+    let first = push_at(&mut lane, 500_000, datagram(alloc, 1472)?)?;
+    let second = push_at(&mut lane, 500_000, datagram(alloc, 1472)?)?;
+    let third = push_at(&mut lane, 500_000, datagram(alloc, 1472)?)?;
+    Ok((lane, [first, second, third]))
+}
+
 #[test]
-fn packets_leave_at_whole_milliseconds(rt: HostRuntime) -> Result<(), Fail> {
-    let mut lane = Lane::new(rt.alloc(), 1_000_000);
-    let first = lane.push(at(500_000), datagram(rt.alloc(), 1472)?)?;
-    let second = lane.push(at(500_000), datagram(rt.alloc(), 1472)?)?;
-    let third = lane.push(at(500_000), datagram(rt.alloc(), 1472)?)?;
+fn a_packet_leaves_or_waits(rt: HostRuntime) -> Result<(), Fail> {
+    let (_, [first, second, third]) = three_pushed(rt.alloc())?;
     assert_eq!(rt; matches!(&first, Pushed::Leaves(_)), true);
     assert_eq!(rt; second, Pushed::Waits(Some(at(11_000_000))));
     assert_eq!(rt; third, Pushed::Waits(None));
-    let early = lane.release(at(10_999_999))?;
-    assert_eq!(rt; early.next, Some(at(11_000_000)));
-    let one = lane.release(at(11_000_000))?;
-    assert_eq!(rt; one.packets.len(), 1);
-    assert_eq!(rt; one.next, Some(at(23_000_000)));
-    let last = lane.release(at(23_000_000))?;
-    assert_eq!(rt; last.packets.len(), 1);
-    assert_eq!(rt; last.next, None);
+    Ok(())
+}
+
+#[test]
+fn packets_leave_at_whole_milliseconds(rt: HostRuntime) -> Result<(), Fail> {
+    let (mut lane, _) = three_pushed(rt.alloc())?;
+    assert_eq!(rt; release_at(&mut lane, 10_999_999)?, (0, Some(at(11_000_000))));
+    assert_eq!(rt; release_at(&mut lane, 11_000_000)?, (1, Some(at(23_000_000))));
+    assert_eq!(rt; release_at(&mut lane, 23_000_000)?, (1, None));
     Ok(())
 }
 
