@@ -66,8 +66,14 @@ fn a_packet_leaves_or_waits(rt: HostRuntime) -> Result<(), Fail> {
 #[test]
 fn packets_leave_at_whole_milliseconds(rt: HostRuntime) -> Result<(), Fail> {
     let (mut lane, _) = three_pushed(rt.alloc())?;
-    assert_eq!(rt; release_at(&mut lane, 10_999_999)?, (0, Some(at(11_000_000))));
-    assert_eq!(rt; release_at(&mut lane, 11_000_000)?, (1, Some(at(23_000_000))));
+    assert_eq!(rt;
+        release_at(&mut lane, 10_999_999)?,
+        (0, Some(at(11_000_000)))
+    );
+    assert_eq!(rt;
+        release_at(&mut lane, 11_000_000)?,
+        (1, Some(at(23_000_000)))
+    );
     assert_eq!(rt; release_at(&mut lane, 23_000_000)?, (1, None));
     Ok(())
 }
