@@ -44,30 +44,40 @@ fn release_at(lane: &mut Lane, nanos: u64) -> Result<(usize, Option<Time>), Fail
     Ok((released.packets.len(), released.next))
 }
 
-fn three_pushed(alloc: Global) -> Result<(Lane, [Pushed; 3]), Fail>
-    ensures { IfOk result (λ r. r.0.bucket.millis ≡ 0) }
+/// A lane of 125 bytes a millisecond in which two packets wait.
+fn lane_with_two(alloc: Global) -> Result<Lane, Fail>
+    ensures { IfOk result (λ lane. lane.bucket.millis ≡ 0) }
 {
     let mut lane = Lane::new(alloc, 1_000_000);
-    let first = push_at(&mut lane, 500_000, datagram(alloc, 1472)?)?;
-    let second = push_at(&mut lane, 500_000, datagram(alloc, 1472)?)?;
-    let third = push_at(&mut lane, 500_000, datagram(alloc, 1472)?)?;
-    Ok((lane, [first, second, third]))
+    let _ = push_at(&mut lane, 500_000, datagram(alloc, 1472)?)?;
+    let _ = push_at(&mut lane, 500_000, datagram(alloc, 1472)?)?;
+    let _ = push_at(&mut lane, 500_000, datagram(alloc, 1472)?)?;
+    Ok(lane)
 }
 
 #[test]
 fn a_packet_leaves_or_waits(rt: HostRuntime) -> Result<(), Fail> {
-    let (_, [first, second, third]) = three_pushed(rt.alloc())?;
-    assert_eq!(rt; matches!(&first, Pushed::Leaves(_)), true);
+    let mut lane = Lane::new(rt.alloc(), 1_000_000);
+    let first = push_at(&mut lane, 500_000, datagram(rt.alloc(), 1472)?)?;
+    assert_eq!(rt; first, Pushed::Leaves(datagram(rt.alloc(), 1472)?));
+    let second = push_at(&mut lane, 500_000, datagram(rt.alloc(), 1472)?)?;
     assert_eq!(rt; second, Pushed::Waits(Some(at(11_000_000))));
+    let third = push_at(&mut lane, 500_000, datagram(rt.alloc(), 1472)?)?;
     assert_eq!(rt; third, Pushed::Waits(None));
     Ok(())
 }
 
 #[test]
 fn packets_leave_at_whole_milliseconds(rt: HostRuntime) -> Result<(), Fail> {
-    let (mut lane, _) = three_pushed(rt.alloc())?;
-    assert_eq!(rt; release_at(&mut lane, 10_999_999)?, (0, Some(at(11_000_000))));
-    assert_eq!(rt; release_at(&mut lane, 11_000_000)?, (1, Some(at(23_000_000))));
+    let mut lane = lane_with_two(rt.alloc())?;
+    assert_eq!(rt;
+        release_at(&mut lane, 10_999_999)?,
+        (0, Some(at(11_000_000)))
+    );
+    assert_eq!(rt;
+        release_at(&mut lane, 11_000_000)?,
+        (1, Some(at(23_000_000)))
+    );
     assert_eq!(rt; release_at(&mut lane, 23_000_000)?, (1, None));
     Ok(())
 }
