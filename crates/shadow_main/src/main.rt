@@ -13,6 +13,8 @@ use std::{env, io};
 
 mod disk_sink;
 mod disk_source;
+#[cfg(test)]
+mod tests;
 
 /// The status where memory ran out.
 const NO_MEMORY: u8 = 5;
