@@ -1,3 +1,6 @@
 pub mod NumberLemmas
 pub mod TokensLemmas
 pub mod EdgeLemmas
+pub mod GrammarLemmas
+pub mod FaultLemmas
+pub mod GrammarLaws
