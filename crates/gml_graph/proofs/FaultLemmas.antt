@@ -20,7 +20,7 @@ use Rattle.gml_graph.specs.Grammar.{spelled, rows_of, Begins, closed_token}
 use Rattle.gml_graph.proofs.EdgeLemmas.{bind_ok, ok_same}
 use Rattle.gml_graph.proofs.GrammarLemmas.{shape, read, close_step, spelled_read, read_spells}
 
-abbrev fault_at : ℕ → GmlFault
+abbrev pub fault_at : ℕ → GmlFault
 fault_at line = record { line = line; kind = Syntax }
 
 err_same : {A : Type 0} (x y : GmlFault) → ◌≡◌ {A = Result A GmlFault} (Err x) (Err y) → x ≡ y
@@ -33,7 +33,7 @@ append_cases : (xs ys : List Lexeme) (r : Result Shape GmlFault)
 append_cases xs ys (Ok n) rest = rest n
 append_cases xs ys (Err f) rest = refl
 
-through-append : (xs ys : List Lexeme) (s : Shape) → through accept s (xs ++ ys) ≡ (through accept s xs >>= (λ t. through accept t ys))
+pub through-append : (xs ys : List Lexeme) (s : Shape) → through accept s (xs ++ ys) ≡ (through accept s xs >>= (λ t. through accept t ys))
 through-append [] ys s = refl
 through-append (x ∷ xs) ys s = append_cases xs ys (accept s x) (through-append xs ys)
 

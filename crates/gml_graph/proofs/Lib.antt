@@ -3,4 +3,5 @@ pub mod TokensLemmas
 pub mod EdgeLemmas
 pub mod GrammarLemmas
 pub mod FaultLemmas
+pub mod FirstFaultLemmas
 pub mod GrammarLaws

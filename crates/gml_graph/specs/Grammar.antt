@@ -88,8 +88,13 @@ pub record LacksQuote (tokens : List Lexeme) : Type 0 where
   pub lacks : token.token ≡ Unclosed
   pub may : Begins (before ++ closed token ∷ [])
 
+-- The tokens spell no pairs, but with more behind them they would.
+pub record EndsEarly (tokens : List Lexeme) : Type 0 where
+  pub may : Begins tokens
+  pub not_whole : (rows : List Row) → ¬ Spells tokens rows
+
 -- The first fault of the tokens of a text with this last line: a token that can't stand where it stands, or the text ends
 -- too early.
 abbrev pub IsFirstFault : List Lexeme → ℕ → GmlFault → Type 0
 IsFirstFault tokens last fault =
-    (fault.kind ≡ Syntax) × (IsMisplaced tokens fault.line ⊎ ((fault.line ≡ last) × (LacksQuote tokens ⊎ Begins tokens)))
+    (fault.kind ≡ Syntax) × (IsMisplaced tokens fault.line ⊎ ((fault.line ≡ last) × (LacksQuote tokens ⊎ EndsEarly tokens)))
