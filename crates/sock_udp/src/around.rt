@@ -1,6 +1,6 @@
 //! What a socket has around it.
 
-ghost use Rattle.std.specs.Prelude.{◌≡◌};
+ghost use Rattle.std.specs.Prelude.{◌≡◌, ◌-◌, ◌≤◌, false};
 ghost use Rattle.sock_udp.specs.Addresses as spec;
 
 use sim_base::{Addr, Ip};
@@ -48,24 +48,19 @@ impl<'a> Around<'a> {
         self.bound.iter().any(|other| meets(at, *other))
     }
 
-    /// Whether another socket has a port, whatever its address.
-    fn has_port(&self, port: u16) -> bool
-        ensures { result ≡ spec.has_port self.now.bound port }
-    {
-        self.bound.iter().any(|at| at.port == port)
-    }
-
     /// The least port from 10000 up that no other socket has.
     fn least_free_port(&self) -> Option<u16>
         ensures { result ≡ spec.least_free_port self.now.bound }
     {
-        for port in FIRST_FREE..65536u32 {
-            let port = port as u16;
-            if !self.has_port(port) {
-                return Some(port);
+        let mut port = FIRST_FREE;
+        loop {
+            let next = port_past(self.bound, port);
+            if next == port {
+                break;
             }
+            port = next;
         }
-        None
+        u16::try_from(port).ok()
     }
 
     /// An address at the least free port, if there is a free one.
@@ -75,6 +70,24 @@ impl<'a> Around<'a> {
         let port = self.least_free_port()?;
         Some(Addr { ip, port })
     }
+}
+
+/// The port after those that the sockets have, from a port on, each where the last one left it. It
+/// is the same port where no socket has it.
+fn port_past(bound: &[Addr], port: u32) -> u32
+    requires { port ≤ 65536 }
+    ensures first_free { spec.first_free_port bound.now result (65536 - result) ≡ spec.first_free_port bound.now port (65536 - port) }
+    ensures no_less { port ≤ result }
+    ensures within { result ≤ 65536 }
+    ensures free { result ≡ port → spec.has_port bound.now port ≡ false }
+{
+    let mut past = port;
+    for at in bound {
+        if u32::from(at.port) == past {
+            past += 1;
+        }
+    }
+    past
 }
 
 /// Whether two sockets meet: they have one port, and one address or either of them 0.0.0.0.

@@ -5,6 +5,8 @@ mod around;
 mod datagram;
 mod error;
 mod socket;
+#[cfg(test)]
+mod tests;
 
 pub use around::Around;
 pub use datagram::{Datagram, Received};
