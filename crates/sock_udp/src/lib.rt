@@ -1,6 +1,7 @@
 //! UDP sockets: what a socket is bound and connected to, and the datagrams that wait in it.
 #![tactic(auto)]
 
+mod addresses;
 mod around;
 mod datagram;
 mod error;

@@ -3,6 +3,7 @@
 ghost use Rattle.std.specs.Prelude.{◌≡◌, ◌+◌, ◌<◌, ◌≤◌, ◌++◌, ◌↔◌, [], min, length, take, drop, IfOk, IfErr, OnOk, OnErr, IsTrue};
 ghost use Rattle.sock_udp.specs.Socket as spec;
 
+use crate::addresses::{is_bound_for, is_open_to, source_ip, stays_inside, with_port};
 use crate::around::Around;
 use crate::datagram::{Datagram, Received};
 use crate::error::UdpError;
@@ -263,60 +264,6 @@ impl UdpSock {
         self.reach(around, to)?;
         let at = self.address_to_use(around)?;
         Ok((at, to))
-    }
-}
-
-/// The address that is asked for, for port 0 at the least free port.
-fn with_port(around: &Around, at: Addr) -> Option<Addr>
-    ensures { result ≡ spec.with_port around.now at }
-{
-    if at.port == 0 {
-        around.at_free_port(at.ip)
-    } else {
-        Some(at)
-    }
-}
-
-/// Whether an address is that of a socket that sends to 127.0.0.1 alone.
-fn stays_inside(local: Option<Addr>) -> bool
-    ensures { result ≡ spec.stays_inside local }
-{
-    match local {
-        Some(at) => at.ip == Ip::LOOPBACK,
-        None => false,
-    }
-}
-
-/// The source address of a datagram.
-fn source_ip(around: &Around, bound: Ip, to: Ip) -> Ip
-    ensures { result ≡ spec.source_ip around.now bound to }
-{
-    if bound != Ip::ANY {
-        bound
-    } else if to == Ip::LOOPBACK {
-        Ip::LOOPBACK
-    } else {
-        around.own
-    }
-}
-
-/// Whether what is sent to an end goes to a socket that is bound so.
-fn is_bound_for(local: Option<Addr>, to: Addr) -> bool
-    ensures { result ≡ spec.is_bound_for local to }
-{
-    match local {
-        Some(at) => at.port == to.port && (at.ip == Ip::ANY || at.ip == to.ip),
-        None => false,
-    }
-}
-
-/// Whether a socket with this peer takes what comes from an end.
-fn is_open_to(peer: Option<Addr>, from: Addr) -> bool
-    ensures { result ≡ spec.is_open_to peer from }
-{
-    match peer {
-        Some(peer) => peer == from,
-        None => true,
     }
 }
 

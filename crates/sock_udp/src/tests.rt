@@ -351,3 +351,14 @@ fn a_connected_socket_takes_its_peers_datagrams(rt: HostRuntime) -> Result<(), F
     }
     Ok(())
 }
+
+#[test]
+fn errors_tell_their_number(rt: HostRuntime) -> Result<(), Fail> {
+    let refused = UdpError::Errno(Errno::Emsgsize);
+    let text = format!(in rt.alloc(); "{refused}")?;
+    assert_eq!(rt; text.as_str(), "error 90");
+    let want = UdpError::NoMemory;
+    let text = format!(in rt.alloc(); "{want}")?;
+    assert_eq!(rt; text.as_str(), "out of memory");
+    Ok(())
+}
