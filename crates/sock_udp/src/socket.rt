@@ -1,6 +1,6 @@
 //! Sockets.
 
-ghost use Rattle.std.specs.Prelude.{◌≡◌, ◌+◌, ◌<◌, ◌≤◌, ◌++◌, ◌↔◌, [], min, length, take, drop, IfOk, IfErr, OnOk, OnErr, IsTrue};
+ghost use Rattle.std.specs.Prelude.{◌≡◌, ◌<◌, ◌≤◌, ◌++◌, ◌↔◌, [], min, length, take, drop, IfOk, IfErr, OnOk, OnErr, IsTrue};
 ghost use Rattle.sock_udp.specs.Socket as spec;
 
 use crate::addresses::{is_bound_for, is_open_to, source_ip, stays_inside, with_port};
