@@ -1,0 +1,5 @@
+pub mod AddressLaws
+pub mod Addresses
+pub mod Refusals
+pub mod Socket
+pub mod SocketLaws

@@ -1,0 +1,278 @@
+//! Sockets.
+
+ghost use Rattle.std.specs.Prelude.{◌≡◌, ◌<◌, ◌≤◌, ◌++◌, ◌↔◌, [], min, length, take, drop, IfOk, IfErr, OnOk, OnErr, IsTrue};
+ghost use Rattle.sock_udp.specs.Socket as spec;
+
+use crate::addresses::{is_bound_for, is_open_to, source_ip, stays_inside, with_port};
+use crate::around::Around;
+use crate::datagram::{Datagram, Received};
+use crate::error::UdpError;
+use sim_base::{Addr, Bytes, Errno, Ip, Load, NoMemory, Packet};
+use std::alloc::Global;
+use std::collections::VecDeque;
+use std::marker::Model;
+
+/// How many datagrams may wait in a socket.
+const WAITING: usize = 64;
+
+/// The most bytes of a datagram, of which a packet of 1500 bytes has room for one.
+const LONGEST: usize = 1472;
+
+/// What a socket is ready for, by the bits of `poll(2)`.
+const POLLIN: u16 = 1;
+
+const POLLOUT: u16 = 4;
+
+/// A UDP socket (RFC 768).
+///
+/// Contracts see what it is bound to, what it is connected to, and the datagrams that wait in it,
+/// the oldest first.
+#[derive(Debug, Drop)]
+pub struct UdpSock {
+    local: Option<Addr>,
+    peer: Option<Addr>,
+    waiting: VecDeque<Datagram>,
+}
+
+impl Model for UdpSock {
+    ghost use Rattle.std.specs.Prelude.{◌≤◌, length};
+    ghost use Rattle.sock_udp.specs.Socket.{UdpState, limit};
+
+    ghost Value = { UdpState };
+
+    ghost view = { λ s. record { local = s.local; peer = s.peer; waiting = s.waiting.items } };
+
+    ghost invariant = { λ s. length s.waiting.items ≤ limit };
+}
+
+impl UdpSock {
+    /// A socket that is neither bound nor connected.
+    pub fn new(alloc: Global) -> UdpSock
+        ensures { result ≡ spec.new_socket }
+    {
+        UdpSock {
+            local: None,
+            peer: None,
+            waiting: VecDeque::new(alloc),
+        }
+    }
+
+    /// What the socket is bound to.
+    pub fn local(&self) -> Option<Addr>
+        ensures { result ≡ self.now.local }
+    {
+        self.local
+    }
+
+    /// What the socket is connected to.
+    pub fn peer(&self) -> Option<Addr>
+        ensures { result ≡ self.now.peer }
+    {
+        self.peer
+    }
+
+    /// How many datagrams wait.
+    pub fn len(&self) -> usize
+        ensures len { result ≡ length self.now.waiting }
+        ensures limit { length self.now.waiting ≤ spec.limit }
+    {
+        self.waiting.len()
+    }
+
+    pub fn is_empty(&self) -> bool
+        ensures { IsTrue result ↔ (self.now.waiting ≡ []) }
+    {
+        self.waiting.is_empty()
+    }
+
+    /// Binds the socket to an address, for port 0 at the least free port from 10000 up (`bind(2)`).
+    ///
+    /// Refused in this order: `Einval`, the socket is bound; `Eaddrnotavail`, the address is not
+    /// 0.0.0.0, 127.0.0.1 or the host's, or no port is free; `Eaddrinuse`, another socket of the
+    /// host has the port, and the same address or either of them 0.0.0.0.
+    pub fn bind(&mut self, around: &Around, at: Addr) -> Result<(), Errno>
+        ensures bound { OnOk result (spec.bind around.now at self.old ≡ Ok self.new) }
+        ensures refused { IfErr result (λ errno. spec.bind around.now at self.old ≡ Err errno) }
+        ensures unchanged { OnErr result (self.new ≡ self.old) }
+    {
+        let at = self.address_to_bind(around, at)?;
+        self.local = Some(at);
+        Ok(())
+    }
+
+    /// Connects the socket to another end, and binds it if it is unbound (`connect(2)`).
+    ///
+    /// Refused in this order: `Enetunreach`, the address is neither 127.0.0.1 nor that of a host;
+    /// `Einval`, the socket is bound to 127.0.0.1 and the address is another; `Eaddrnotavail`, the
+    /// port is 0, or no port is free.
+    pub fn connect(&mut self, around: &Around, to: Addr) -> Result<(), Errno>
+        ensures connected { OnOk result (spec.connect around.now to self.old ≡ Ok self.new) }
+        ensures refused { IfErr result (λ errno. spec.connect around.now to self.old ≡ Err errno) }
+        ensures unchanged { OnErr result (self.new ≡ self.old) }
+    {
+        let at = self.address_to_connect(around, to)?;
+        self.local = Some(at);
+        self.peer = Some(to);
+        Ok(())
+    }
+
+    /// Makes the packet of a datagram, to an address or else to the peer, and binds the socket if
+    /// it is unbound (`send(2)`, `sendto(2)`).
+    ///
+    /// Refused in this order: `Emsgsize`, there are more than 1,472 bytes; `Edestaddrreq`, there is
+    /// neither an address nor a peer; `Enetunreach` and `Einval` as for `connect`; `Eaddrnotavail`,
+    /// no port is free. After want of memory the socket is as before.
+    pub fn send(
+        &mut self,
+        around: &Around,
+        bytes: &[u8],
+        to: Option<Addr>,
+    ) -> Result<Packet, UdpError>
+        ensures sent { IfOk result (λ packet. spec.send around.now bytes.now to self.old ≡ Ok (packet, self.new)) }
+        ensures failed { IfErr result (spec.Fails (spec.send around.now bytes.now to self.old)) }
+        ensures unchanged { OnErr result (self.new ≡ self.old) }
+    {
+        let (at, to) = self.address_and_destination(around, bytes.len(), to)?;
+        let load = Load::Udp(Bytes::from_slice(*self.waiting.allocator(), bytes)?);
+        self.local = Some(at);
+        let from = Addr {
+            ip: source_ip(around, at.ip, to.ip),
+            port: at.port,
+        };
+        Ok(Packet { from, to, load })
+    }
+
+    /// Whether a datagram from one end to another goes to this socket: it has the port, its address
+    /// is 0.0.0.0 or the destination, and its peer, if it has one, is the sender.
+    pub fn takes(&self, from: Addr, to: Addr) -> bool
+        ensures { result ≡ spec.takes from to self.now }
+    {
+        is_bound_for(self.local, to) && is_open_to(self.peer, from)
+    }
+
+    /// A datagram arrives. False: 64 wait already, and it is dropped. After want of memory the
+    /// socket is as before.
+    pub fn arrive(&mut self, from: Addr, bytes: &[u8]) -> Result<bool, NoMemory>
+        ensures arrived { IfOk result (λ taken. (taken, self.new) ≡ spec.arrive from bytes.now self.old) }
+        ensures room { OnErr result (length self.old.waiting < spec.limit) }
+        ensures unchanged { OnErr result (self.new ≡ self.old) }
+    {
+        if self.waiting.len() >= WAITING {
+            return Ok(false);
+        }
+        let bytes = Bytes::from_slice(*self.waiting.allocator(), bytes)?;
+        self.waiting.push_back(Datagram { from, bytes })?;
+        Ok(true)
+    }
+
+    /// Takes the oldest datagram, cut at the buffer's end: what does not fit is lost (`recv(2)`).
+    ///
+    /// Refused by `Eagain` where none waits.
+    pub fn recv(&mut self, into: &mut [u8]) -> Result<Received, Errno>
+        ensures received { IfOk result (λ received. spec.recv into.old self.old ≡ Ok (received, into.new, self.new)) }
+        ensures refused { IfErr result (λ errno. spec.recv into.old self.old ≡ Err errno) }
+        ensures unchanged { OnErr result (self.new ≡ self.old) }
+        ensures untouched { OnErr result (into.new ≡ into.old) }
+    {
+        match self.waiting.pop_front() {
+            Some(datagram) => {
+                let bytes = copy_front(datagram.bytes.as_slice(), into);
+                Ok(Received {
+                    bytes,
+                    from: datagram.from,
+                })
+            }
+            None => Err(Errno::Eagain),
+        }
+    }
+
+    /// What the socket is ready for, by the bits of `poll(2)`: `POLLIN` where a datagram waits, and
+    /// always `POLLOUT`.
+    pub fn ready(&self) -> u16
+        ensures { result ≡ spec.ready self.now }
+    {
+        if self.waiting.is_empty() {
+            POLLOUT
+        } else {
+            POLLIN + POLLOUT
+        }
+    }
+
+    /// Where the socket is bound that asks for an address.
+    fn address_to_bind(&self, around: &Around, at: Addr) -> Result<Addr, Errno>
+        ensures { result ≡ spec.address_to_bind around.now at self.now }
+    {
+        if self.local.is_some() {
+            return Err(Errno::Einval);
+        }
+        if !around.is_local(at.ip) {
+            return Err(Errno::Eaddrnotavail);
+        }
+        let at = with_port(around, at).ok_or(Errno::Eaddrnotavail)?;
+        if around.is_taken(at) {
+            return Err(Errno::Eaddrinuse);
+        }
+        Ok(at)
+    }
+
+    /// Whether the socket may send to an address.
+    fn reach(&self, around: &Around, to: Addr) -> Result<(), Errno>
+        ensures { result ≡ spec.reach around.now to self.now }
+    {
+        if !around.is_reachable(to.ip) {
+            return Err(Errno::Enetunreach);
+        }
+        if stays_inside(self.local) && to.ip != Ip::LOOPBACK {
+            return Err(Errno::Einval);
+        }
+        Ok(())
+    }
+
+    /// Where the socket is bound, or will be by sending or connecting.
+    fn address_to_use(&self, around: &Around) -> Result<Addr, Errno>
+        ensures { result ≡ spec.address_to_use around.now self.now }
+    {
+        match self.local {
+            Some(at) => Ok(at),
+            None => around.at_free_port(Ip::ANY).ok_or(Errno::Eaddrnotavail),
+        }
+    }
+
+    fn address_to_connect(&self, around: &Around, to: Addr) -> Result<Addr, Errno>
+        ensures { result ≡ spec.address_to_connect around.now to self.now }
+    {
+        self.reach(around, to)?;
+        if to.port == 0 {
+            return Err(Errno::Eaddrnotavail);
+        }
+        self.address_to_use(around)
+    }
+
+    /// Where a datagram of so many bytes is sent from, and where to.
+    fn address_and_destination(
+        &self,
+        around: &Around,
+        size: usize,
+        to: Option<Addr>,
+    ) -> Result<(Addr, Addr), Errno>
+        ensures { result ≡ spec.address_and_destination around.now size to self.now }
+    {
+        if size > LONGEST {
+            return Err(Errno::Emsgsize);
+        }
+        let to = to.or(self.peer).ok_or(Errno::Edestaddrreq)?;
+        self.reach(around, to)?;
+        let at = self.address_to_use(around)?;
+        Ok((at, to))
+    }
+}
+
+/// Copies what fits to the front of a buffer, and answers how many bytes that is.
+fn copy_front(bytes: &[u8], into: &mut [u8]) -> usize
+    ensures count { result ≡ min (length into.old) (length bytes.now) }
+    ensures copied { into.new ≡ take result bytes.now ++ drop result into.old }
+{
+    let count = bytes.len().min(into.len());
+    into[..count].copy_from_slice(&bytes[..count]);
+    count
+}
