@@ -1,0 +1,16 @@
+pub mod BackSteps
+pub mod ColumnSteps
+pub mod DealSteps
+pub mod DeckSteps
+pub mod EmptySteps
+pub mod GatherSteps
+pub mod RowSteps
+pub mod SeatStacks
+pub mod SeatSteps
+pub mod ShareLists
+pub mod ShareSteps
+pub mod StackLemmas
+pub mod Steps
+pub mod UnusedLemmas
+pub mod Weights
+pub mod WholeSteps
