@@ -32,12 +32,18 @@ module _ {T : Type 0} where
   pub takes_all : (port : ℕ) (v : Hand T) → v.deals ≡ true → v.share ≡ marks v.dealt → 0 < v.share → Takes IsOneDeque port v 1 (TookBack v)
   takes_all port v deals all some_share xs items views nonempty short h at =
       let r = takes_back port v deals all some_share xs items views nonempty short h at in
-      let known : v.dealt ≡ h.2 = ((h.6 port v at).deals deals).1 in
-      (r.0, r.1, (r.2, λ g.
-          let out = all_out port v (xs ++ items) views deals all h at g in
-          let cut : weigh g v.dealt ≡ weigh g (h.1 ++ (xs ++ items)) = ap (weigh g) (known ∙ h.3) in
-          let now : weigh g (r.0).taken ≡ weigh g (v.taken ++ xs) = ap (λ (u : Hand T). weigh g u.taken) r.2.0 in
-          omega (arith, weigh-append g v.taken xs, weigh-append g h.1 (xs ++ items), weigh-append g xs items)))
+      let known : v.dealt ≡ h.2 = ((h.6 port v at).deals deals).1 in (
+        r.0,
+        r.1,
+        (
+          r.2,
+          λ g.
+              let out = all_out port v (xs ++ items) views deals all h at g in
+              let cut : weigh g v.dealt ≡ weigh g (h.1 ++ (xs ++ items)) = ap (weigh g) (known ∙ h.3) in
+              let now : weigh g (r.0).taken ≡ weigh g (v.taken ++ xs) = ap (λ (u : Hand T). weigh g u.taken) r.2.0 in
+              omega (arith, weigh-append g v.taken xs, weigh-append g h.1 (xs ++ items), weigh-append g xs items),
+        ),
+      )
 
   -- what was taken since v0, into a list that began as old
   abbrev pub More : Hand T → Hand T → List (Numbered T) → List (Numbered T) → Type 0
@@ -70,8 +76,7 @@ module _ {T : Type 0} where
   pub more_taken : (v0 v w : Hand T) (item : Item T) (old now : List (Numbered T)) → More v0 v old now → IsSince v0 v → MarksLast v0.dealt → TookBack v (item ∷ []) w → More v0 w old (now ++ kept item)
   more_taken v0 v w item old now m is last took =
       let dealt : v.dealt ≡ v0.dealt = ap (λ (u : Hand T). u.dealt) is in
-      let taken : w.taken ≡ v.taken ++ item ∷ [] = ap (λ (u : Hand T). u.taken) took.0.0 in
-      (
+      let taken : w.taken ≡ v.taken ++ item ∷ [] = ap (λ (u : Hand T). u.taken) took.0.0 in (
         m.0 ++ kept item,
         ap (λ l. l ++ kept item) m.1 ∙ append_assoc old m.0 (kept item),
         (λ h.
@@ -104,8 +109,7 @@ module _ {T : Type 0} where
   pub nearer : (v w : Hand T) (item : Item T) → TookBack v (item ∷ []) w → (length w.taken ≡ length v.taken + 1) × (length w.taken ≤ length v.dealt) × (length w.dealt ≡ length v.dealt)
   nearer v w item took =
       let taken : length w.taken ≡ length (v.taken ++ item ∷ []) = ap (λ (u : Hand T). length u.taken) took.0.0 in
-      let below = took.1 (λ _. 1) in
-      (
+      let below = took.1 (λ _. 1) in (
         omega (arith, length-append v.taken (item ∷ [])),
         omega (arith, weigh-ones w.taken, weigh-ones v.dealt),
         ap (λ (u : Hand T). length u.dealt) took.0.0,

@@ -45,12 +45,12 @@ module _ {X : Type 0} where
       let once : List X = set xs a (get_or xs b d) in
       let l = length-set xs a (get_or xs b d) in
       subst (λ (ys : List X). F i (get_or ys i d)) (swap_is xs a b d wa wb)
-          (dite (ℕ_discrete i b)
-              (λ (e : i ≡ b). subst (F i) (sym (ap (λ n. get_or (set once b (get_or xs a d)) n d) e ∙ get_or-set_same once b (get_or xs a d) d (let w : b < length once = omega arith in w))) (at_b e))
-              (λ (ne : i ≢ b). subst (F i) (sym (get_or-set_other once b i (get_or xs a d) d ne))
-                  (dite (ℕ_discrete i a)
-                      (λ (e : i ≡ a). subst (F i) (sym (ap (λ n. get_or once n d) e ∙ get_or-set_same xs a (get_or xs b d) d wa)) (at_a ne e))
-                      (λ (no : i ≢ a). subst (F i) (sym (get_or-set_other xs a i (get_or xs b d) d no)) (else ne no)))))
+      (dite (ℕ_discrete i b)
+      (λ (e : i ≡ b). subst (F i) (sym (ap (λ n. get_or (set once b (get_or xs a d)) n d) e ∙ get_or-set_same once b (get_or xs a d) d (let w : b < length once = omega arith in w))) (at_b e))
+      (λ (ne : i ≢ b). subst (F i) (sym (get_or-set_other once b i (get_or xs a d) d ne))
+      (dite (ℕ_discrete i a)
+      (λ (e : i ≡ a). subst (F i) (sym (ap (λ n. get_or once n d) e ∙ get_or-set_same xs a (get_or xs b d) d wa)) (at_a ne e))
+      (λ (no : i ≢ a). subst (F i) (sym (get_or-set_other xs a i (get_or xs b d) d no)) (else ne no)))))
 
 pub marks-mark_list : (T : Type 0) (n : ℕ) → marks (mark_list {T = T} n) ≡ n
 marks-mark_list T zero = refl
@@ -85,8 +85,8 @@ module _ {T : Type 0} where
       → F y → is_own y.end ≡ true → (i : ℕ) (e : Share T) → i < m + 1 → F (get_or (xs ++ y ∷ []) i e) × (is_own (get_or (xs ++ y ∷ []) i e).end ≡ (i == m))
   own_last F xs y m long each fresh own i e within =
       each_at_snoc (λ j share. F share × (is_own share.end ≡ (j == m))) xs y
-          (λ j d w. ((each j d w).0, (each j d w).1 ∙ sym (ne_eqb j m (λ s. absurd (omega arith)))))
-          (fresh, own ∙ sym (eq-eqb (length xs) m long)) i e (omega (arith, length-append xs (y ∷ [])))
+      (λ j d w. ((each j d w).0, (each j d w).1 ∙ sym (ne_eqb j m (λ s. absurd (omega arith)))))
+      (fresh, own ∙ sym (eq-eqb (length xs) m long)) i e (omega (arith, length-append xs (y ∷ [])))
 
   -- the owner's share moved to the owner's place
   pub column_swapped : (deque : RowsId × Global) (items : List (Item T)) (n place m : ℕ) (xs : List (Share T)) → place < n → m + 1 ≡ n → length xs ≡ n
@@ -94,7 +94,7 @@ module _ {T : Type 0} where
       → IsColumn deque items n place (swap xs (m - place) m)
   column_swapped deque items n place m xs within last long each i j e w sum =
       get_swap (λ k share. k + j + 1 ≡ n → IsFresh deque items share × (is_own share.end ≡ (j == place))) xs (m - place) m i e (omega arith) (omega arith)
-          (λ at s. ((each (m - place) e (omega arith)).0, (each (m - place) e (omega arith)).1 ∙ eq_same (m - place) m j place (λ q. omega arith) (λ q. omega arith)))
-          (λ ne at s. ((each m e (omega arith)).0, (each m e (omega arith)).1 ∙ eq_same m m j place (λ q. omega arith) (λ q. omega arith)))
-          (λ ne no s. ((each i e (omega arith)).0, (each i e (omega arith)).1 ∙ eq_same i m j place (λ q. absurd (ne q)) (λ q. absurd (no (omega arith)))))
-          sum
+      (λ at s. ((each (m - place) e (omega arith)).0, (each (m - place) e (omega arith)).1 ∙ eq_same (m - place) m j place (λ q. omega arith) (λ q. omega arith)))
+      (λ ne at s. ((each m e (omega arith)).0, (each m e (omega arith)).1 ∙ eq_same m m j place (λ q. omega arith) (λ q. omega arith)))
+      (λ ne no s. ((each i e (omega arith)).0, (each i e (omega arith)).1 ∙ eq_same i m j place (λ q. absurd (ne q)) (λ q. absurd (no (omega arith)))))
+      sum

@@ -30,9 +30,9 @@ module _ {X : Type 0} where
   each_at_set F xs d y here others j e within =
       let inside : j < length xs = (let l = length-set xs d y in omega arith) in
       dite (ℕ_discrete j d)
-          (λ (is : j ≡ d). subst (F j) (sym (ap (λ n. get_or (set xs d y) n e) is ∙ get_or-set_same xs d y e (let w : d < length xs = omega arith in w)))
-              (subst (λ n. F n y) (sym is) here))
-          (λ (ne : j ≢ d). subst (F j) (sym (get_or-set_other xs d j y e ne)) (others j e ne inside))
+      (λ (is : j ≡ d). subst (F j) (sym (ap (λ n. get_or (set xs d y) n e) is ∙ get_or-set_same xs d y e (let w : d < length xs = omega arith in w)))
+      (subst (λ n. F n y) (sym is) here))
+      (λ (ne : j ≢ d). subst (F j) (sym (get_or-set_other xs d j y e ne)) (others j e ne inside))
 
 above : (i n k q r : ℕ) → q * n + r ≡ k → i * n + r + 1 ≤ k + n → Dec (q + 1 ≤ i) → i ≤ q
 above i n k q r whole level (yes more) = let m : (q + 1) * n ≤ i * n = mul-le-mul_right n more in absurd (omega arith)
@@ -66,8 +66,7 @@ slice_get_seam (z ∷ xs) y ys = slice_get_seam xs y ys
 pub taken_next : {X : Type 0} (items done rest after : List X) (x : X) (k : ℕ) → length done ≡ k → items ≡ done ++ rest → rest ≡ x ∷ after
     → (slice_get items k ≡ Some x) × ((more : List X) × (length more ≡ k + 1) × (items ≡ more ++ after))
 taken_next items done rest after x k count is next =
-    let all : items ≡ done ++ (x ∷ after) = is ∙ ap (λ l. done ++ l) next in
-    (
+    let all : items ≡ done ++ (x ∷ after) = is ∙ ap (λ l. done ++ l) next in (
       subst (λ n. slice_get items n ≡ Some x) count (ap (λ l. slice_get l (length done)) all ∙ slice_get_seam done x after),
       (done ++ x ∷ [], (omega (arith, length-append done (x ∷ []))), all ∙ sym (append_assoc done (x ∷ []) after)),
     )
@@ -102,13 +101,13 @@ module _ {T : Type 0} where
         };
         capacity = (let c = f.capacity in let d = more.capacity in omega arith);
         level = (
-          let index : worker_index new.deque ≡ worker_index old.deque + 1 = more.index in
-          let here = turn (worker_index old.deque) n k f.level in
-          let m : worker_index old.deque * n ≤ k / n * n = mul-le-mul_right n here in
-          let w = div-add-mod' k n in
-          let same_level : worker_index new.deque * n ≡ (worker_index old.deque + 1) * n = ap (λ i. i * n) index in
-          omega arith
-        );
+            let index : worker_index new.deque ≡ worker_index old.deque + 1 = more.index in
+            let here = turn (worker_index old.deque) n k f.level in
+            let m : worker_index old.deque * n ≤ k / n * n = mul-le-mul_right n here in
+            let w = div-add-mod' k n in
+            let same_level : worker_index new.deque * n ≡ (worker_index old.deque + 1) * n = ap (λ i. i * n) index in
+            omega arith
+            );
         unmarked = (let u = f.unmarked in omega arith);
       }
 
@@ -128,14 +127,17 @@ module _ {T : Type 0} where
         each = each_at_set (IsFilling n room (suc k)) decks d new (grows n room k old new task (f.each d e within) more) (λ j x ne w. waits n room k j (get_or decks j x) (f.each j x w));
         numbered = λ j number t stands. dite (ℕ_discrete j d)
             (λ (same : j ≡ d).
-                let item = subst (λ (l : List (Item T)). get_elem? l stands.0 ≡ some (Task number t))
-                    (ap (λ (l : List (List (Item T))). get_or l j []) split ∙ ap (λ i. get_or (set qs d (queue_of new)) i []) same ∙ get_or-set_same qs d (queue_of new) [] inside ∙ queue) stands.1 in
-                ⊎_elim
-                    (λ (x : get_elem? (queue_of old) stands.0 ≡ some (Task number t)). f.numbered d number t (stands.0, subst (λ (l : List (Item T)). get_elem? l stands.0 ≡ some (Task number t)) (sym here) x))
-                    (λ (x : Task k task ≡ Task number t). subst (IsNumbered tasks) x is)
-                    (at_snoc (queue_of old) (Task k task) (Task number t) stands.0 item))
-            (λ (ne : j ≢ d). f.numbered j number t (stands.0, subst (λ (l : List (Item T)). get_elem? l stands.0 ≡ some (Task number t))
-                (ap (λ (l : List (List (Item T))). get_or l j []) split ∙ get_or-set_other qs d j (queue_of new) [] ne) stands.1));
+            let item = subst (λ (l : List (Item T)). get_elem? l stands.0 ≡ some (Task number t))
+            (ap (λ (l : List (List (Item T))). get_or l j []) split ∙ ap (λ i. get_or (set qs d (queue_of new)) i []) same ∙ get_or-set_same qs d (queue_of new) [] inside ∙ queue) stands.1 in
+            ⊎_elim
+            (λ (x : get_elem? (queue_of old) stands.0 ≡ some (Task number t)). f.numbered d number t (stands.0, subst (λ (l : List (Item T)). get_elem? l stands.0 ≡ some (Task number t)) (sym here) x))
+            (λ (x : Task k task ≡ Task number t). subst (IsNumbered tasks) x is)
+            (at_snoc (queue_of old) (Task k task) (Task number t) stands.0 item))
+            (λ (ne : j ≢ d). f.numbered j number t (
+              stands.0,
+              subst (λ (l : List (Item T)). get_elem? l stands.0 ≡ some (Task number t))
+                  (ap (λ (l : List (List (Item T))). get_or l j []) split ∙ get_or-set_other qs d j (queue_of new) [] ne) stands.1,
+            ));
         once = λ h.
             let w : List (Item T) → ℕ = λ q. weigh (number_weight h) q in
             let before : weigh w qs ≡ weigh h (numbers_below k) = f.once h in

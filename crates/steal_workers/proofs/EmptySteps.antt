@@ -144,8 +144,8 @@ module _ {T : Type 0} where
             omega (arith, weigh-append h (numbers_of left) (numbers_of drains.more));
         numbered = subst (All (λ (entry : Numbered T). slice_get deal.tasks entry.number ≡ Some entry.task)) (sym drains.joins)
             (All-append (λ (entry : Numbered T). slice_get deal.tasks entry.number ≡ Some entry.task) left drains.more e.numbered
-                (λ k x w. dealt.numbered d (get_or drains.more k x).number (get_or drains.more k x).task
-                    (subst (λ (l : List (Item T)). Stands l (Task (get_or drains.more k x).number (get_or drains.more k x).task)) same (drains.dealt k x w))));
+            (λ k x w. dealt.numbered d (get_or drains.more k x).number (get_or drains.more k x).task
+            (subst (λ (l : List (Item T)). Stands l (Task (get_or drains.more k x).number (get_or drains.more k x).task)) same (drains.dealt k x w))));
         none_left = λ p.
             let mark = own_mark P deal d old new column popped p one in
             let hand_marks : marks v.taken ≡ weigh (share_taken mark_weight) column = back.taken mark_weight in
@@ -165,7 +165,7 @@ module _ {T : Type 0} where
   start_counts : (seats : List (SeatView T)) → IsWholeDeal seats → length seats ≡ seat_count (common_deal seats)
   start_counts seats whole =
       sym (length-map seats (λ (s : SeatView T). s.place)) ∙ sym (length_permutation (map (λ (s : SeatView T). s.place) seats) (numbers_below (seat_count (common_deal seats))) whole.each_once)
-          ∙ length-numbers_below (seat_count (common_deal seats))
+      ∙ length-numbers_below (seat_count (common_deal seats))
 
   pub start : (seats : List (SeatView T)) (stacks : List (Stack T)) → IsWholeDeal seats → All (IsStack (AreOwnMarked seats) (common_deal seats) (seat_count (common_deal seats))) stacks
       → places stacks ≡ map (λ (s : SeatView T). s.place) seats → ((h : ℕ → ℕ) → all_taken (number_weight h) stacks ≡ seat_weights h seats)
@@ -210,10 +210,14 @@ module _ {T : Type 0} where
   ends seats stacks left e = record {
     each_once = same_weights (joined (map (λ (s : SeatView T). s.numbers) seats) ++ numbers_of left) (numbers_below (length (common_deal seats).tasks))
         (λ h.
-            let all = e.taken h in
-            let none = nothing_held (AreOwnMarked seats) (common_deal seats) (number_weight h) stacks e.stacks_left in
-            omega (arith, weigh-append h (joined (map (λ (s : SeatView T). s.numbers) seats)) (numbers_of left), weigh-joined h (map (λ (s : SeatView T). s.numbers) seats),
-                weigh-map (λ (s : SeatView T). s.numbers) (weigh h) seats));
+        let all = e.taken h in
+        let none = nothing_held (AreOwnMarked seats) (common_deal seats) (number_weight h) stacks e.stacks_left in
+        omega (
+          arith,
+          weigh-append h (joined (map (λ (s : SeatView T). s.numbers) seats)) (numbers_of left),
+          weigh-joined h (map (λ (s : SeatView T). s.numbers) seats),
+          weigh-map (λ (s : SeatView T). s.numbers) (weigh h) seats,
+        ));
     numbered = e.numbered;
     none_left = e.none_left;
   }

@@ -66,9 +66,9 @@ find_number x [] some_there = absurd (omega arith)
 find_number x (y ∷ ys) some_there = dite (ℕ_discrete y x)
     (λ (e : y ≡ x). (0, (omega arith), sym e))
     (λ (ne : y ≢ x).
-        let none : one_if (y == x) ≡ 0 = ap one_if (ne_eqb y x ne) in
-        let r = find_number x ys (omega arith) in
-        (suc r.0, (let w = r.1 in omega arith), r.2))
+    let none : one_if (y == x) ≡ 0 = ap one_if (ne_eqb y x ne) in
+    let r = find_number x ys (omega arith) in
+    (suc r.0, (let w = r.1 in omega arith), r.2))
 
 pub same_weights : (xs ys : List ℕ) → ((h : ℕ → ℕ) → weigh h xs ≡ weigh h ys) → IsPermutation xs ys
 same_weights [] [] same = IsPermutation-refl []
@@ -79,7 +79,7 @@ same_weights (x ∷ xs) ys same =
     let moved = IsPermutation-remove ys there.0 x there.1 there.2 in
     let rest : (h : ℕ → ℕ) → weigh h xs ≡ weigh h (remove ys there.0) = λ h. (let p = weigh-permutation h ys (x ∷ remove ys there.0) moved in let e = same h in omega arith) in
     IsPermutation-trans (x ∷ xs) (x ∷ remove ys there.0) ys (IsPermutation-cons x xs (remove ys there.0) (same_weights xs (remove ys there.0) rest))
-        (IsPermutation-sym ys (x ∷ remove ys there.0) moved)
+    (IsPermutation-sym ys (x ∷ remove ys there.0) moved)
 
 -- each number below n stands there once
 pub once_below : (d n : ℕ) → d < n → weigh (λ p. one_if (d == p)) (numbers_below n) ≡ 1
@@ -90,15 +90,16 @@ once_below d n within = go n within
     none_above (suc n) le =
         let last : one_if (d == n) ≡ 0 = ap one_if (ne_eqb d n (λ e. absurd (omega arith))) in
         omega (arith, weigh-append (λ p. one_if (d == p)) (numbers_below n) (n ∷ []), none_above n (omega arith))
+
     go : (n : ℕ) → d < n → weigh (λ p. one_if (d == p)) (numbers_below n) ≡ 1
     go zero w = absurd (omega arith)
     go (suc n) w = dite (ℕ_discrete d n)
         (λ (e : d ≡ n).
-            let last : one_if (d == n) ≡ 1 = ap one_if (eq-eqb d n e) in
-            omega (arith, weigh-append (λ p. one_if (d == p)) (numbers_below n) (n ∷ []), none_above n (omega arith)))
+        let last : one_if (d == n) ≡ 1 = ap one_if (eq-eqb d n e) in
+        omega (arith, weigh-append (λ p. one_if (d == p)) (numbers_below n) (n ∷ []), none_above n (omega arith)))
         (λ (ne : d ≢ n).
-            let last : one_if (d == n) ≡ 0 = ap one_if (ne_eqb d n ne) in
-            omega (arith, weigh-append (λ p. one_if (d == p)) (numbers_below n) (n ∷ []), go n (omega arith)))
+        let last : one_if (d == n) ≡ 0 = ap one_if (ne_eqb d n ne) in
+        omega (arith, weigh-append (λ p. one_if (d == p)) (numbers_below n) (n ∷ []), go n (omega arith)))
 
 pub weigh-joined : {X : Type 0} (h : X → ℕ) (xss : List (List X)) → weigh h (joined xss) ≡ weigh (weigh h) xss
 weigh-joined h [] = refl
@@ -149,8 +150,8 @@ module _ {T : Type 0} where
       let count = h.count in
       let here : length new.shares.items ≡ d = omega (arith, length-append new.shares.items (share ∷ [])) in
       subst (λ (p : ℕ × Share T). IsShareAt P deal p.0 old.place p.1)
-          (λ i. (here i, (ap (λ (l : List (Share T)). get_or l (length new.shares.items) share) is ∙ end new.shares.items share share) i))
-          (h.each (length new.shares.items) share (omega arith))
+      (λ i. (here i, (ap (λ (l : List (Share T)). get_or l (length new.shares.items) share) is ∙ end new.shares.items share share) i))
+      (h.each (length new.shares.items) share (omega arith))
     where
       end : (xs : List (Share T)) (y e : Share T) → get_or (xs ++ y ∷ []) (length xs) e ≡ y
       end [] y e = refl
@@ -180,7 +181,7 @@ module _ {T : Type 0} where
       → weigh own_weight column ≡ 1
   one_owner P deal d n old new column popped within once =
       weigh_alike own_weight (λ p. one_if (d == p)) column (places old) (popped.count ∙ sym (length-map old (λ (stack : Stack T). stack.place)))
-          (λ i e k w. ap one_if ((popped.tops i e w).3) ∙ ap (λ p. one_if (d == p)) (number (places old) i k (let c = popped.count in omega (arith, length-map old (λ (stack : Stack T). stack.place))))) ∙ once
+      (λ i e k w. ap one_if ((popped.tops i e w).3) ∙ ap (λ p. one_if (d == p)) (number (places old) i k (let c = popped.count in omega (arith, length-map old (λ (stack : Stack T). stack.place))))) ∙ once
     where
       number : (xs : List ℕ) (i k : ℕ) → i < length xs → get_or xs i 0 ≡ get_or xs i k
       number [] i k w = absurd (omega arith)

@@ -5,6 +5,7 @@ pub mod DeckSteps
 pub mod EmptySteps
 pub mod GatherSteps
 pub mod RowSteps
+pub mod SameSeats
 pub mod SeatStacks
 pub mod SeatSteps
 pub mod ShareLists

@@ -33,14 +33,14 @@ module _ {T : Type 0} where
   column_front deque items n d xs ys share is h i j e within sum =
       let long = ap length is in
       subst (λ (s : Share T). IsFresh deque items s × (is_own s.end ≡ (j == d))) (ap (λ (l : List (Share T)). get_or l i e) is ∙ get_or-front ys (share ∷ []) i e within)
-          (h i j e (omega (arith, length-append ys (share ∷ []))) sum)
+      (h i j e (omega (arith, length-append ys (share ∷ []))) sum)
 
   column_end : (deque : RowsId × Global) (items : List (Item T)) (n d place : ℕ) (xs ys : List (Share T)) (share : Share T) → xs ≡ ys ++ share ∷ [] → length xs + place ≡ n → IsColumn deque items n d xs
       → IsFresh deque items share × (is_own share.end ≡ (place == d))
   column_end deque items n d place xs ys share is height h =
       let long = ap length is in
       subst (λ (s : Share T). IsFresh deque items s × (is_own s.end ≡ (place == d))) (ap (λ (l : List (Share T)). get_or l (length ys) share) is ∙ get_or-end ys share share)
-          (h (length ys) place share (omega (arith, length-append ys (share ∷ []))) (omega (arith, length-append ys (share ∷ []))))
+      (h (length ys) place share (omega (arith, length-append ys (share ∷ []))) (omega (arith, length-append ys (share ∷ []))))
 
   -- one share leaves a column
   pub columns_after : (decks : List (Deck T)) (n : ℕ) (columns : List (Vec (Share T) Global)) (d : ℕ) (old new : Vec (Share T) Global) (share : Share T) (e : Vec (Share T) Global) → AreColumns decks n columns → d < n
@@ -50,7 +50,7 @@ module _ {T : Type 0} where
     same_count = h.same_count;
     each = each_at_set (λ j (column : Vec (Share T) Global). (k : Deck T) → IsColumn (deck_deque (get_or decks j k)) (closed n (get_or decks j k)) n j column.items) columns d new
         (λ k. column_front (deck_deque (get_or decks d k)) (closed n (get_or decks d k)) n d old.items new.items share popped
-            (subst (λ (v : Vec (Share T) Global). IsColumn (deck_deque (get_or decks d k)) (closed n (get_or decks d k)) n d v.items) (sym is) (h.each d e (let c = h.count in omega arith) k)))
+        (subst (λ (v : Vec (Share T) Global). IsColumn (deck_deque (get_or decks d k)) (closed n (get_or decks d k)) n d v.items) (sym is) (h.each d e (let c = h.count in omega arith) k)))
         (λ j x ne w. h.each j x w);
   }
 
@@ -60,8 +60,8 @@ module _ {T : Type 0} where
   heights_after n d place columns old new share popped height h =
       let long = ap length popped in
       each_at_set (λ j (column : Vec (Share T) Global). (j < d + 1 → length column.items + (place + 1) ≡ n) × (d + 1 ≤ j → length column.items + place ≡ n)) columns d new
-          ((λ _. omega (arith, length-append new.items (share ∷ []))), λ more. absurd (omega arith))
-          (λ j x ne w. let t = h j x w in ((λ less. t.0 (omega arith)), λ more. t.1 (omega arith)))
+      ((λ _. omega (arith, length-append new.items (share ∷ []))), λ more. absurd (omega arith))
+      (λ j x ne w. let t = h j x w in ((λ less. t.0 (omega arith)), λ more. t.1 (omega arith)))
 
   -- and joins the row
   pub row_more : (decks : List (Deck T)) (n d place : ℕ) (shares : List (Share T)) (columns : List (Vec (Share T) Global)) (old new : Vec (Share T) Global) (share : Share T) (e : Vec (Share T) Global)
@@ -71,7 +71,7 @@ module _ {T : Type 0} where
       let inside : d < length decks = (let c = h.same_count in omega arith) in
       let there = h.each d e (let c = h.count in omega arith) k in
       let fresh = column_end (deck_deque (get_or decks d k)) (closed n (get_or decks d k)) n d place old.items new.items share popped height
-          (subst (λ (v : Vec (Share T) Global). IsColumn (deck_deque (get_or decks d k)) (closed n (get_or decks d k)) n d v.items) (sym is) there) in
+      (subst (λ (v : Vec (Share T) Global). IsColumn (deck_deque (get_or decks d k)) (closed n (get_or decks d k)) n d v.items) (sym is) there) in
       let deques : List (RowsId × Global) = map deck_deque decks in
       let queues : List (List (Item T)) = map (closed n) decks in
       record {

@@ -16,9 +16,6 @@ use Rattle.steal_workers.proofs.Weights.{weigh-append}
 use Rattle.steal_workers.proofs.ShareLists.{moves_sound, moves_map, moves_length, moves_marked}
 
 module _ {T : Type 0} where
-
-
-
   same_queues : (xs ys : List (Share T)) → Moves xs ys → map dealt_to ys ≡ map dealt_to xs
   same_queues xs ys p = moves_map dealt_to (λ r s f. f.same_items) xs ys p
 
@@ -66,12 +63,15 @@ module _ {T : Type 0} where
   pub answers_empty : (s t : Inside T) → t.trail ≡ s.trail → AllMarked t.shares.items → Answers (seat_view s) Empty (seat_view t)
   answers_empty s t trail marked = (trail, λ d within. marked d (omega (arith, length-map t.shares.items (λ (share : Share T). deque_of share.end))))
 
-  pub answers_lost : (s t : Inside T) (deque : ℕ) → t.trail ≡ s.trail → get_or (map is_marked t.shares.items) t.place false ≡ true
+  pub answers_lost : (s t : Inside T) (deque : ℕ) → t.place < length t.shares.items → t.trail ≡ s.trail → get_or (map is_marked t.shares.items) t.place false ≡ true
       → (deque < length t.shares.items) × (get_or (map is_marked t.shares.items) deque false ≡ false) → Answers (seat_view s) (Lost deque) (seat_view t)
-  answers_lost s t deque trail own lacks = (
-    trail,
-    own,
-    (let w = lacks.0 in omega (arith, length-map t.shares.items (λ (share : Share T). deque_of share.end))),
-    (λ is. true≢false (sym own ∙ ap (λ d. get_or (map is_marked t.shares.items) d false) (sym is) ∙ lacks.1)),
-    λ m. true≢false (sym m ∙ lacks.1),
-  )
+  answers_lost s t deque within trail own lacks =
+      let another : deque ≢ t.place = λ is. true≢false (sym own ∙ ap (λ d. get_or (map is_marked t.shares.items) d false) (sym is) ∙ lacks.1) in
+      let below = lacks.0 in (
+        trail,
+        own,
+        omega (arith, length-map t.shares.items (λ (share : Share T). deque_of share.end)),
+        another,
+        omega (arith, length-map t.shares.items (λ (share : Share T). deque_of share.end)),
+        λ m. true≢false (sym m ∙ lacks.1),
+      )

@@ -50,8 +50,7 @@ module _ {T : Type 0} where
       let now : new.marked ≡ is_mark item = marked ∙ ap (λ b. b || is_mark item) unmarked in
       let all : marks (taken_from new) ≡ marks (taken_from old ++ item ∷ []) = ap (λ (v : Hand T). marks v.taken) took.0 in
       let before : mark_count old.marked ≡ 0 = ap mark_count unmarked in
-      let after : mark_count new.marked ≡ mark_count (is_mark item) = ap mark_count now in
-      (
+      let after : mark_count new.marked ≡ mark_count (is_mark item) = ap mark_count now in (
         record {
           sound = (
             same.0,

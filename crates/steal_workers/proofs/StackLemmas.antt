@@ -43,4 +43,4 @@ module _ {T : Type 0} where
   pub dealt_of_seat : (s : Inside T) (v : SeatView T) → IsSound s → seat_view s ≡ v → IsDealt v.deal.queues v.deal.tasks × (length v.deal.queues ≡ seat_count v.deal)
   dealt_of_seat s v sound is =
       subst (λ (u : SeatView T). IsDealt u.deal.queues u.deal.tasks × (length u.deal.queues ≡ seat_count u.deal)) is
-          (sound.dealt, length-map s.shares.items dealt_to ∙ sym (length-map s.shares.items (λ (share : Share T). deque_of share.end)))
+      (sound.dealt, length-map s.shares.items dealt_to ∙ sym (length-map s.shares.items (λ (share : Share T). deque_of share.end)))

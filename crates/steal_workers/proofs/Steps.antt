@@ -45,9 +45,17 @@ module _ {T : Type 0} where
   marks_behind (Mark ∷ xs) ys h some_mark = IsAllMarks-behind xs ys h
 
   pub begins : IsOneDeque {T = T} [] (hand true 0 [] [] ∷ [])
-  begins = (0, [], [], refl, refl, (λ h. refl), each_set (Fits 0 []) (hand true 0 [] [] ∷ []) 0 (hand true 0 [] [])
-      (record { deals = λ _. (refl, refl); knows = λ _. refl; idle = λ _. refl; within = omega arith })
-      (λ j u other e. absurd (only j u other e)))
+  begins = (
+    0,
+    [],
+    [],
+    refl,
+    refl,
+    (λ h. refl),
+    each_set (Fits 0 []) (hand true 0 [] [] ∷ []) 0 (hand true 0 [] [])
+        (record { deals = λ _. (refl, refl); knows = λ _. refl; idle = λ _. refl; within = omega arith })
+        (λ j u other e. absurd (only j u other e)),
+  )
     where
       only : (j : ℕ) (u : Hand T) → j ≢ 0 → get_elem? (hand true 0 [] [] ∷ []) j ≡ some u → ⊥
       only zero u other e = other refl
@@ -61,8 +69,7 @@ module _ {T : Type 0} where
       let same : marks v.dealt ≡ marks h.2 = ap marks known in
       let total : weigh (λ (u : Hand T). u.share) views ≡ marks h.2 = h.4 in
       let here = weigh-set (λ (u : Hand T). u.share) views port v w at in
-      let more = marks-append h.2 (x ∷ []) in
-      (
+      let more = marks-append h.2 (x ∷ []) in (
         w,
         (
           h.0,
@@ -98,8 +105,7 @@ module _ {T : Type 0} where
       let here = weigh-set (λ (u : Hand T). u.share) views port v w at in
       let total : weigh (λ (u : Hand T). u.share) views ≡ marks h.2 = h.4 in
       let part = weigh_part (λ (u : Hand T). marks u.taken) views port v at in
-      let all = h.5 mark_weight in
-      (
+      let all = h.5 mark_weight in (
         w,
         (
           h.0,
@@ -170,9 +176,8 @@ module _ {T : Type 0} where
       let total : weigh (λ (u : Hand T). u.share) views ≡ marks h.2 = h.4 in
       let none : marks v.taken ≡ 0 = ap marks fresh in
       let old : Each (Fits h.0 h.2) vs = each_set (Fits h.0 h.2) views port l
-          (record { deals = mine.deals; knows = λ _. known; idle = λ _. fresh; within = omega arith })
-          (λ j u other e. h.6 j u e) in
-      (
+      (record { deals = mine.deals; knows = λ _. known; idle = λ _. fresh; within = omega arith })
+      (λ j u other e. h.6 j u e) in (
         h.0,
         h.1,
         h.2,
@@ -198,8 +203,7 @@ module _ {T : Type 0} where
       let a = weigh-set (λ (u : Hand T). u.share) views port v both at in
       let b = weigh-set (λ (u : Hand T). u.share) vs other u spent at' in
       let within = mine.within in
-      let within' = theirs.within in
-      (
+      let within' = theirs.within in (
         h.0,
         h.1,
         h.2,
@@ -211,11 +215,11 @@ module _ {T : Type 0} where
             let p = weigh-append g v.taken u.taken in omega arith),
         each_set (Fits h.0 h.2) vs other spent (record { deals = λ p. absurd (true≢false (sym p)); knows = λ p. absurd (omega arith); idle = λ _. refl; within = omega arith })
             (λ j y apart e. each_set (Fits h.0 h.2) views port both
-                (record {
-                  deals = mine.deals;
-                  knows = λ _. known;
-                  idle = λ none. ap (λ l. l ++ u.taken) (mine.idle (omega arith)) ∙ theirs.idle (omega arith);
-                  within = omega (arith, marks-append v.taken u.taken);
-                })
-                (λ k z _ f. h.6 k z f) j y e),
+            (record {
+              deals = mine.deals;
+              knows = λ _. known;
+              idle = λ none. ap (λ l. l ++ u.taken) (mine.idle (omega arith)) ∙ theirs.idle (omega arith);
+              within = omega (arith, marks-append v.taken u.taken);
+            })
+            (λ k z _ f. h.6 k z f) j y e),
       )

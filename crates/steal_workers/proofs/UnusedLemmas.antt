@@ -23,7 +23,7 @@ module _ {T : Type 0} where
   own_at place (x ∷ xs) j zero h w = h 0 x w
   own_at place (x ∷ xs) j (suc d) h w =
       own_at place xs (suc j) d (λ k e v. h (suc k) e (omega arith) ∙ ap (λ n. n == place) (let n : suc k + j ≡ k + suc j = omega arith in n)) (omega arith)
-          ∙ ap (λ n. n == place) (let n : d + suc j ≡ suc d + j = omega arith in n)
+      ∙ ap (λ n. n == place) (let n : d + suc j ≡ suc d + j = omega arith in n)
 
   pub unused_own : (place : ℕ) (xs : List (Share T)) → IsUnused place xs → (d : ℕ) → d < length xs → get_or (map is_own_share xs) d false ≡ (d == place)
   unused_own place xs h d w = own_at place xs 0 d (λ k e v. (h k e v).3 ∙ ap (λ n. n == place) (let n : k ≡ k + 0 = omega arith in n)) w ∙ ap (λ n. n == place) (let n : d + 0 ≡ d = omega arith in n)

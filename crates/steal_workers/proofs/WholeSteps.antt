@@ -34,7 +34,7 @@ module _ {T : Type 0} where
       let here = whole.2 place x within in
       let same : deque_of x.end ≡ whole.0 = ap (λ (s : Share T). deque_of s.end) is ∙ here.1 in
       let each = all_tail (λ (s : Share T). IsShare s × (deque_of s.end ≡ whole.0) × (dealt_to s ≡ whole.1)) x rest
-          (All-permutation (λ (s : Share T). IsShare s × (deque_of s.end ≡ whole.0) × (dealt_to s ≡ whole.1)) xs (x ∷ rest) moved whole.2) in
+      (All-permutation (λ (s : Share T). IsShare s × (deque_of s.end ≡ whole.0) × (dealt_to s ≡ whole.1)) xs (x ∷ rest) moved whole.2) in
       record {
         sound = subst IsShare (sym is) here.0;
         others_left = λ k e w. ((each k e w).0, (each k e w).1 ∙ sym same, others rest (omega arith) k e w);

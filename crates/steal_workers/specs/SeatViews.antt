@@ -26,3 +26,7 @@ module _ {T : Type 0} where
     pub deal : new.deal ≡ old.deal
     pub place : new.place ≡ old.place
     pub marks : (deque : ℕ) → HasMark old deque → HasMark new deque
+
+  -- the same seats, later
+  abbrev pub AreSameSeats : List (SeatView T) → List (SeatView T) → Type 0
+  AreSameSeats old new = (length new ≡ length old) × ((k : ℕ) (e : SeatView T) → k < length old → IsSameSeat (slice_index_or old k e) (slice_index_or new k e))

@@ -27,7 +27,11 @@ fn put_marks<T: Drop>(deque: &mut Deque<T>, count: usize)
 }
 
 // One share for each thief, and the last one for the deque's owner.
-fn shared_out<T: Drop>(mut deque: Deque<T>, thieves: Vec<Thief<T>>, mut shares: Vec<Share<T>>) -> Vec<Share<T>>
+fn shared_out<T: Drop>(
+    mut deque: Deque<T>,
+    thieves: Vec<Thief<T>>,
+    mut shares: Vec<Share<T>>,
+) -> Vec<Share<T>>
     requires fifo { worker_flavor deque ≡ 0 }
     requires view { worker_view deque ≡ hand true (vec_len thieves + 1) (worker_view deque).dealt [] }
     requires thieves { All (IsThiefOf (worker_deque deque)) thieves.items }

@@ -55,11 +55,7 @@ struct Layout<T> {
     seats: Vec<Seat<T>>,
 }
 
-fn new_decks<T: Drop>(
-    alloc: Global,
-    seats: usize,
-    room: usize,
-) -> Result<Vec<Deck<T>>, AllocError>
+fn new_decks<T: Drop>(alloc: Global, seats: usize, room: usize) -> Result<Vec<Deck<T>>, AllocError>
     requires { 0 < seats }
     ensures { IfOk result (λ decks. AreFresh seats room decks.items) }
 {
@@ -70,11 +66,7 @@ fn new_decks<T: Drop>(
     Ok(decks)
 }
 
-fn new_rows<T: Drop>(
-    alloc: Global,
-    seats: usize,
-    tasks: &Vec<T>,
-) -> Result<Vec<Row<T>>, AllocError>
+fn new_rows<T: Drop>(alloc: Global, seats: usize, tasks: &Vec<T>) -> Result<Vec<Row<T>>, AllocError>
     ensures { IfOk result (λ rows. AreEmptyRows seats tasks.now.items rows.items) }
 {
     let mut rows = Vec::with_capacity(alloc, seats)?;
@@ -84,11 +76,7 @@ fn new_rows<T: Drop>(
     Ok(rows)
 }
 
-fn reserved<T: Drop>(
-    alloc: Global,
-    tasks: &Vec<T>,
-    seats: usize,
-) -> Result<Layout<T>, AllocError>
+fn reserved<T: Drop>(alloc: Global, tasks: &Vec<T>, seats: usize) -> Result<Layout<T>, AllocError>
     requires few_seats { (0 < seats) × (seats ≤ 64) }
     requires few_tasks { vec_len tasks.now < 2 ^ 32 }
     ensures decks { IfOk result (λ layout. AreFresh seats (vec_len tasks.now / seats + 1 + seats) layout.decks.items) }
@@ -115,10 +103,7 @@ fn filled<T: Drop>(mut decks: Vec<Deck<T>>, tasks: Vec<T>) -> Vec<Deck<T>>
     decks
 }
 
-fn columns_of<T: Drop>(
-    decks: Vec<Deck<T>>,
-    mut columns: Vec<Vec<Share<T>>>,
-) -> Vec<Vec<Share<T>>>
+fn columns_of<T: Drop>(decks: Vec<Deck<T>>, mut columns: Vec<Vec<Share<T>>>) -> Vec<Vec<Share<T>>>
     requires filled { AreFilled (vec_len decks) decks.items }
     requires empty { (columns.items ≡ []) × (vec_len decks ≤ vec_capacity columns) }
     ensures columns { AreColumns decks.items (vec_len decks) result.items }

@@ -254,10 +254,7 @@ fn dealt<T>(seats: &Vec<Seat<T>>) -> usize
 
 /// Gathers all seats of one deal, each once, in whatever order, and gives what they left in the deques.
 /// Fails for want of memory alone.
-pub fn gather<T: Drop>(
-    alloc: Global,
-    seats: Vec<Seat<T>>,
-) -> Result<Gathered<T>, GatherRefused<T>>
+pub fn gather<T: Drop>(alloc: Global, seats: Vec<Seat<T>>) -> Result<Gathered<T>, GatherRefused<T>>
     requires { IsWholeDeal seats.items }
     ensures gathered { IfOk result (λ gathered. IsGathered seats.items gathered.left.items) }
     ensures refused { IfErr result (λ refused. refused.seats.items ≡ seats.items) }

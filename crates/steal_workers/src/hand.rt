@@ -51,20 +51,6 @@ impl<T> Outcome<Item<T>, Hand<T>> for Take {
     ghost empty = { λ v. v.share ≤ marks v.taken };
 }
 
-/// The dealer, with all shares, took the item at the front. It finds none only where it has all that was dealt.
-pub struct TakeBack;
-
-impl<T> Outcome<Item<T>, Hand<T>> for TakeBack {
-    ghost use Rattle.std.specs.Prelude.{◌≡◌, ℕ};
-    ghost use Rattle.steal_workers.specs.declared.item.Item.{Item};
-    ghost use Rattle.steal_workers.specs.Items.{weigh};
-    ghost use Rattle.steal_workers.specs.OneDeque.{Took};
-
-    ghost then = { Took };
-
-    ghost empty = { λ v. (h : Item T → ℕ) → weigh h v.taken ≡ weigh h v.dealt };
-}
-
 /// One share of the dealer's goes to a seat, or comes back from it.
 pub struct OneShare;
 

@@ -26,6 +26,6 @@ returns-clause-each g c =
     let swapped : c.swap.new.self ≡ swap xs (m - place) m = c.swap.ensures.after ∙ ap (λ (l : List (Share T)). swap l (n - 1 - place) (n - 1)) read ∙ ap (λ (k : ℕ). swap xs (k - place) k) last in
     let dealt = ap (λ (v : Hand T). v.dealt) c.put_marks.ensures.view in
     let each = subst (λ (d : (RowsId × Global) × List (Item T)). (i : ℕ) (e : Share T) → i < m + 1 → IsFresh d.0 d.1 (get_or xs i e) × (is_own (get_or xs i e).end ≡ (i == m)))
-        (λ k. (c.put_marks.ensures.same.1 k, dealt k)) c.shared_out-shares.ensures.each in
+    (λ k. (c.put_marks.ensures.same.1 k, dealt k)) c.shared_out-shares.ensures.each in
     subst (IsColumn (deck_deque c.args.deck) (closed n c.args.deck) n place) (sym (left ∙ swapped))
-        (column_swapped (deck_deque c.args.deck) (closed n c.args.deck) n place m xs c.requires.place count long (λ i e within. each i e (omega arith)))
+    (column_swapped (deck_deque c.args.deck) (closed n c.args.deck) n place m xs c.requires.place count long (λ i e within. each i e (omega arith)))

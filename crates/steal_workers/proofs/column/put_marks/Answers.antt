@@ -9,4 +9,4 @@ pub put-requires-clause-share : goal.put-requires-clause-share
 put-requires-clause-share g c =
     let view = c.loop.invariant.view in
     ap (λ (v : Hand g.row.T.Denot). v.share) view
-        ∙ sym (ap (λ (v : Hand g.row.T.Denot). marks v.dealt) view ∙ marks_closed (worker_view c.args.deque.now).dealt c.loop.counter c.requires.unmarked)
+    ∙ sym (ap (λ (v : Hand g.row.T.Denot). marks v.dealt) view ∙ marks_closed (worker_view c.args.deque.now).dealt c.loop.counter c.requires.unmarked)

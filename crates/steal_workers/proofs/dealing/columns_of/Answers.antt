@@ -23,7 +23,7 @@ loop-deck-preserved g c =
     let all : decks ≡ inv.so_far.0 ++ (c.in-Some.deck ∷ rest) = inv.so_far.2 ∙ ap (λ (l : List (Deck g.row.T.Denot)). inv.so_far.0 ++ l) c.in-Some.ensures.steps.0 in
     let F : ℕ → Vec (Share g.row.T.Denot) Global → Type 0 = λ d column. ((e : Deck g.row.T.Denot) → IsColumn (deck_deque (get_or decks d e)) (closed n (get_or decks d e)) n d column.items) × (length column.items ≡ n) in
     let here : (e : Deck g.row.T.Denot) → get_or decks place e ≡ c.in-Some.deck = λ e.
-        ap (λ (l : List (Deck g.row.T.Denot)). get_or l place e) all ∙ ap (λ (i : ℕ). get_or (inv.so_far.0 ++ (c.in-Some.deck ∷ rest)) i e) (sym (inv.so_far.1 ∙ long)) ∙ get_or-seam inv.so_far.0 c.in-Some.deck rest e in
+    ap (λ (l : List (Deck g.row.T.Denot)). get_or l place e) all ∙ ap (λ (i : ℕ). get_or (inv.so_far.0 ++ (c.in-Some.deck ∷ rest)) i e) (sym (inv.so_far.1 ∙ long)) ∙ get_or-seam inv.so_far.0 c.in-Some.deck rest e in
     let count : c.len-count.result ≡ n = inv.count in
     let at : c.len-place.result ≡ place = c.len-place.ensures ∙ long in
     record {
@@ -31,10 +31,11 @@ loop-deck-preserved g c =
       count = inv.count;
       room = (let r = inv.room in let p = c.push_reserved.ensures.capacity in omega arith);
       each = subst (EachAt F) (sym c.push_reserved.ensures.items)
-          (each_at_snoc F c.loop-deck.columns.items c.column.result inv.each
-              ((λ e. subst (λ (deck : Deck g.row.T.Denot). IsColumn (deck_deque deck) (closed n deck) n place c.column.result.items) (sym (here e))
-                  (subst (λ (p : ℕ × ℕ). IsColumn (deck_deque c.in-Some.deck) (closed p.0 c.in-Some.deck) p.0 p.1 c.column.result.items) (λ i. (count i, at i)) c.column.ensures.each)),
-               c.column.ensures.count ∙ count));
+          (each_at_snoc F c.loop-deck.columns.items c.column.result inv.each (
+            (λ e. subst (λ (deck : Deck g.row.T.Denot). IsColumn (deck_deque deck) (closed n deck) n place c.column.result.items) (sym (here e))
+                (subst (λ (p : ℕ × ℕ). IsColumn (deck_deque c.in-Some.deck) (closed p.0 c.in-Some.deck) p.0 p.1 c.column.result.items) (λ i. (count i, at i)) c.column.ensures.each)),
+            c.column.ensures.count ∙ count,
+          ));
     }
 
 pub returns-clause-columns : goal.returns-clause-columns

@@ -19,7 +19,7 @@ columns_of-columns-requires-clause-filled g c =
     let filling : AreFilling n (all / n + 1 + n) all c.args.tasks.items decks = c.filled-decks.ensures in
     let same : n ≡ vec_len c.filled-decks.result = sym (c.filled-decks.result.ok.0 ∙ filling.count) in
     subst (λ (m : ℕ). AreFilled m decks) same
-        (filled_from_filling n all c.args.tasks.items decks (let s = c.requires.few_seats.0 in let d = c.requires.decks.0 in omega (arith, c.args.layout.decks.ok.0)) filling)
+    (filled_from_filling n all c.args.tasks.items decks (let s = c.requires.few_seats.0 in let d = c.requires.decks.0 in omega (arith, c.args.layout.decks.ok.0)) filling)
 
 pub seated-requires-clause-dealt : goal.seated-requires-clause-dealt
 seated-requires-clause-dealt g c =
@@ -30,7 +30,7 @@ seated-requires-clause-dealt g c =
     let filling = c.filled-decks.ensures in
     let long : all ≡ length c.args.tasks.items = c.args.tasks.ok.0 in
     let dealt : IsDealt (map (closed n) decks) c.args.tasks.items =
-        dealt_from_filling n (all / n + 1 + n) c.args.tasks.items decks (subst (λ (k : ℕ). AreFilling n (all / n + 1 + n) k c.args.tasks.items decks) long filling) in
+    dealt_from_filling n (all / n + 1 + n) c.args.tasks.items decks (subst (λ (k : ℕ). AreFilling n (all / n + 1 + n) k c.args.tasks.items decks) long filling) in
     let wide : n ≡ length c.as_mut_slice.result.now = sym (ap length c.as_mut_slice.ensures.value ∙ c.columns_of-columns.ensures.columns.count ∙ c.filled-decks.result.ok.0 ∙ filling.count) in
     let plan : decks ≡ c.of.result.value.items = sym (ap (λ (v : Vec (Deck T) Global). v.items) c.of.ensures) in
     let whole : c.args.tasks.items ≡ c.of-whole.result.value.items = sym (ap (λ (v : Vec T Global). v.items) c.of-whole.ensures) in
@@ -46,5 +46,5 @@ returns g c =
     let seats : length c.filled-decks.result.items ≡ c.args.seats = filling.count ∙ c.args.layout.decks.ok.0 ∙ c.requires.decks.0 in
     let wide : length slice ≡ c.args.seats = ap length c.as_mut_slice.ensures.value ∙ c.columns_of-columns.ensures.columns.count ∙ c.filled-decks.result.ok.0 ∙ seats in
     subst (λ (tasks : List T). IsNewDeal tasks c.args.seats c.seated.result.items) (ap (λ (v : Vec T Global). v.items) c.of-whole.ensures)
-        (new_deal deal c.args.seats c.seated.result.items c.requires.few_seats.0 (c.seated.ensures.count ∙ wide)
-            (length-map c.of.result.value.items deck_deque ∙ decks ∙ seats) c.seated.ensures.seats)
+    (new_deal deal c.args.seats c.seated.result.items c.requires.few_seats.0 (c.seated.ensures.count ∙ wide)
+    (length-map c.of.result.value.items deck_deque ∙ decks ∙ seats) c.seated.ensures.seats)

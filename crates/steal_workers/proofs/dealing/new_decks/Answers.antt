@@ -20,7 +20,7 @@ loop-preserved g c =
       room = (let r = c.loop.invariant.room in let p = c.push_reserved.ensures.capacity in omega arith);
       each = subst (EachAt F) (sym c.push_reserved.ensures.items)
           (each_at_snoc F c.loop.decks.items _ c.loop.invariant.each
-              (c.in_ok-new.ensures.0 (length c.loop.decks.items) (let t = c.loop-test.true in omega (arith, c.loop.decks.ok.0)), c.in_ok-new.ensures.1));
+          (c.in_ok-new.ensures.0 (length c.loop.decks.items) (let t = c.loop-test.true in omega (arith, c.loop.decks.ok.0)), c.in_ok-new.ensures.1));
     }
 
 pub returns : goal.returns

@@ -21,14 +21,14 @@ pop_as-requires-clause-fifo g c =
     let since = c.loop-item.invariant.since in
     let share = ap (λ (v : Hand g.row.T.Denot). v.share) since in
     λ _. takes_all _ _ (ap (λ (v : Hand g.row.T.Denot). v.deals) since ∙ c.requires.deals)
-        (share ∙ c.requires.share ∙ sym (ap (λ (v : Hand g.row.T.Denot). marks v.dealt) since))
-        (let s = c.requires.some in omega arith)
+    (share ∙ c.requires.share ∙ sym (ap (λ (v : Hand g.row.T.Denot). marks v.dealt) since))
+    (let s = c.requires.some in omega arith)
 
 pub pop_as-requires-clause-empty : goal.pop_as-requires-clause-empty
 pop_as-requires-clause-empty g c =
     let since = c.loop-item.invariant.since in
     finds_all _ _ (ap (λ (v : Hand g.row.T.Denot). v.deals) since ∙ c.requires.deals)
-        (ap (λ (v : Hand g.row.T.Denot). v.share) since ∙ c.requires.share ∙ sym (ap (λ (v : Hand g.row.T.Denot). marks v.dealt) since))
+    (ap (λ (v : Hand g.row.T.Denot). v.share) since ∙ c.requires.share ∙ sym (ap (λ (v : Hand g.row.T.Denot). marks v.dealt) since))
 
 pub keep-requires : goal.keep-requires
 keep-requires g c =

@@ -11,18 +11,18 @@ pub whole-requires-clause-shares : goal.whole-requires-clause-shares
 whole-requires-clause-shares g c =
     let seats = c.args.seats.now.value.items in
     whole_column (AreOwnMarked seats) (common_deal seats) c.args.deque c.args.stacks.now c.pop_each.new.stacks c.pop_each.new.column.items
-        (let k = c.pop_each.ensures.popped.count in let w = c.requires.deque in omega arith) c.pop_each.ensures.popped
+    (let k = c.pop_each.ensures.popped.count in let w = c.requires.deque in omega arith) c.pop_each.ensures.popped
 
 pub whole-requires-clause-owner : goal.whole-requires-clause-owner
 whole-requires-clause-owner g c =
     let seats = c.args.seats.now.value.items in
     one_owner (AreOwnMarked seats) (common_deal seats) c.args.deque (length c.args.stacks.now) c.args.stacks.now c.pop_each.new.stacks c.pop_each.new.column.items c.pop_each.ensures.popped c.requires.deque
-        (c.requires.emptying.once c.args.deque c.requires.deque)
+    (c.requires.emptying.once c.args.deque c.requires.deque)
 
 pub drain-requires-clause-share : goal.drain-requires-clause-share
 drain-requires-clause-share g c =
     share_is_marks c.args.seats.now.value.items c.args.deque c.args.stacks.now c.pop_each.new.stacks c.args.left.now.items c.pop_each.new.column.items (worker_view c.whole.result)
-        c.requires.emptying c.requires.dealt c.requires.deque c.pop_each.ensures.popped c.whole.ensures.back
+    c.requires.emptying c.requires.dealt c.requires.deque c.pop_each.ensures.popped c.whole.ensures.back
 
 pub drain-requires-clause-some : goal.drain-requires-clause-some
 drain-requires-clause-some g c =
@@ -40,7 +40,7 @@ drain-requires-clause-last g c =
 pub drain-requires-clause-room : goal.drain-requires-clause-room
 drain-requires-clause-room g c =
     let room = drain_room c.args.seats.now.value.items c.args.deque c.args.stacks.now c.pop_each.new.stacks c.args.left.now.items c.pop_each.new.column.items (worker_view c.whole.result)
-        c.requires.emptying c.requires.deque c.pop_each.ensures.popped c.whole.ensures.back in
+    c.requires.emptying c.requires.deque c.pop_each.ensures.popped c.whole.ensures.back in
     let asked = c.requires.room in
     omega (arith, c.args.left.now.ok.0)
 
@@ -48,7 +48,7 @@ pub returns-clause-emptying : goal.returns-clause-emptying
 returns-clause-emptying g c =
     let seats = c.args.seats.now.value.items in
     emptied_one seats c.args.deque c.args.stacks.now c.pop_each.new.stacks c.args.left.now.items c.drain.new.left.items c.pop_each.new.column.items (worker_view c.whole.result)
-        c.requires.emptying c.requires.dealt c.requires.deque c.pop_each.ensures.popped
-        (one_owner (AreOwnMarked seats) (common_deal seats) c.args.deque (length c.args.stacks.now) c.args.stacks.now c.pop_each.new.stacks c.pop_each.new.column.items c.pop_each.ensures.popped c.requires.deque
-            (c.requires.emptying.once c.args.deque c.requires.deque))
-        c.whole.ensures.back c.drain.ensures.drains
+    c.requires.emptying c.requires.dealt c.requires.deque c.pop_each.ensures.popped
+    (one_owner (AreOwnMarked seats) (common_deal seats) c.args.deque (length c.args.stacks.now) c.args.stacks.now c.pop_each.new.stacks c.pop_each.new.column.items c.pop_each.ensures.popped c.requires.deque
+    (c.requires.emptying.once c.args.deque c.requires.deque))
+    c.whole.ensures.back c.drain.ensures.drains

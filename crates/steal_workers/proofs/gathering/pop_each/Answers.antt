@@ -38,7 +38,7 @@ loop-seat-preserved g c =
     let F : ℕ → Stack T → Type 0 = λ j stack. (j < s + 1 → IsStack P deal d stack) × (s + 1 ≤ j → IsStack P deal (d + 1) stack) in
     let G : ℕ → Share T → Type 0 = λ j top. IsShareAt P deal d (get_or (places c.args.stacks.now) j 0) top in
     let named : old.place ≡ get_or (places c.args.stacks.now) (length c.loop-seat.column.items) 0 =
-        sym (get_or-map (λ (k : Stack T). k.place) stacks s e 0 within) ∙ (λ i. get_or (inv.same_places i) (sym count i) 0) in
+    sym (get_or-map (λ (k : Stack T). k.place) stacks s e 0 within) ∙ (λ i. get_or (inv.same_places i) (sym count i) 0) in
     record {
       same_places = map-set_same (λ (k : Stack T). k.place) stacks s new e place ∙ inv.same_places;
       stacks = each_at_set F stacks s new ((λ less. stack_front P deal d old new share whole popped place), λ more. absurd (omega arith))

@@ -10,8 +10,12 @@ use Rattle.steal_workers.proofs.gathering.stacks_of.Goals as goal
 
 pub loop-seat-init : goal.loop-seat-init
 loop-seat-init g c = record {
-  so_far = ([], (let e = ap length c.requires.empty.0 in omega (arith, c.args.stacks.ok.0)), sym c.into_iter-seat-iterator.ensures.into_iter_gives.0,
-      subst (AreStacked c.args.seats.items []) (sym c.requires.empty.0) (record { same_places = refl; numbers = λ h. refl; each = All-nil _ }));
+  so_far = (
+    [],
+    (let e = ap length c.requires.empty.0 in omega (arith, c.args.stacks.ok.0)),
+    sym c.into_iter-seat-iterator.ensures.into_iter_gives.0,
+    subst (AreStacked c.args.seats.items []) (sym c.requires.empty.0) (record { same_places = refl; numbers = λ h. refl; each = All-nil _ }),
+  );
   room = c.requires.empty.1;
   dealt = λ some_stack. (let e = ap length c.requires.empty.0 in absurd (omega (arith, c.args.stacks.ok.0)));
 }
@@ -27,8 +31,12 @@ loop-seat-preserved g c =
     let more = stacked_more seats done rest c.in-Some.seat c.loop-seat.stacks.items c.into_stack.result c.requires.whole all inv.so_far.3 c.into_stack.ensures.stack c.into_stack.ensures.numbers in
     let joins = c.push_reserved.ensures.items in
     record {
-      so_far = (done ++ c.in-Some.seat ∷ [], (let d = inv.so_far.1 in let p = c.push_reserved.ensures.len in omega (arith, length-append done (c.in-Some.seat ∷ []))),
-          all ∙ sym (append_assoc done (c.in-Some.seat ∷ []) rest), subst (AreStacked seats (done ++ c.in-Some.seat ∷ [])) (sym joins) more);
+      so_far = (
+        done ++ c.in-Some.seat ∷ [],
+        (let d = inv.so_far.1 in let p = c.push_reserved.ensures.len in omega (arith, length-append done (c.in-Some.seat ∷ []))),
+        all ∙ sym (append_assoc done (c.in-Some.seat ∷ []) rest),
+        subst (AreStacked seats (done ++ c.in-Some.seat ∷ [])) (sym joins) more,
+      );
       room = (let r = inv.room in let p = c.push_reserved.ensures.capacity in omega arith);
       dealt = λ some_stack. dealt_by seats done rest c.in-Some.seat c.requires.whole all c.into_stack.ensures.dealt;
     }

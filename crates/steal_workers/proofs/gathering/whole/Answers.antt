@@ -48,11 +48,11 @@ loop-share-preserved g c =
       deals = ap (λ (v : Hand g.row.T.Denot). v.deals) rule ∙ inv.deals;
       dealt = ap (λ (v : Hand g.row.T.Denot). v.dealt) rule ∙ inv.dealt;
       share = (
-        let now : (worker_view c.absorb.new.self).share ≡ (worker_view c.loop-share.deque).share + (view c.claim.result).share = ap (λ (v : Hand g.row.T.Denot). v.share) rule in
-        let one : (view c.claim.result).share ≡ 1 = ap (λ (v : Hand g.row.T.Denot). v.share) claimed ∙ split.1.0.1 in
-        let before = inv.share in
-        omega (arith, length-append c.pop.new.self.items (c.in-Some.share ∷ []))
-      );
+          let now : (worker_view c.absorb.new.self).share ≡ (worker_view c.loop-share.deque).share + (view c.claim.result).share = ap (λ (v : Hand g.row.T.Denot). v.share) rule in
+          let one : (view c.claim.result).share ≡ 1 = ap (λ (v : Hand g.row.T.Denot). v.share) claimed ∙ split.1.0.1 in
+          let before = inv.share in
+          omega (arith, length-append c.pop.new.self.items (c.in-Some.share ∷ []))
+          );
       taken = λ h.
           let before = inv.taken h in
           let now : weigh h (worker_view c.absorb.new.self).taken ≡ weigh h ((worker_view c.loop-share.deque).taken ++ (view c.claim.result).taken) = ap (λ (v : Hand g.row.T.Denot). weigh h v.taken) rule in
@@ -96,5 +96,5 @@ returns-clause-back g c =
     let none : c.loop-share.column.items ≡ [] = nil_if c.loop-share.column.items (let e = c.in_default.ensures.cases.0 in omega (arith, c.loop-share.column.ok.0)) in
     let empty : length c.loop-share.column.items ≡ 0 = ap length none in
     all_back xs c.swap_remove.new.self.items x (worker_view c.own-deque.result) (worker_view c.loop-share.deque) out c.own-deque.ensures.view.0 inv.deals inv.dealt
-        (let s = inv.share in omega arith)
-        (λ h. let t = inv.taken h in let n : weigh (share_taken h) c.loop-share.column.items ≡ 0 = ap (weigh (share_taken h)) none in omega arith)
+    (let s = inv.share in omega arith)
+    (λ h. let t = inv.taken h in let n : weigh (share_taken h) c.loop-share.column.items ≡ 0 = ap (weigh (share_taken h)) none in omega arith)

@@ -36,8 +36,7 @@ pub returns : goal.returns
 returns g c =
     let made = c.in_ok-deque.ensures in
     let view = made.4 in
-    let index = made.3 in
-    (
+    let index = made.3 in (
       (λ place within. record {
         sound = record {
           fifo = made.1;

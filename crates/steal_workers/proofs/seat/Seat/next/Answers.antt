@@ -11,7 +11,7 @@ pub invariant_of-self : goal.invariant_of-self
 invariant_of-self g c =
     let t : Inside g.row.T.Denot = record { place = c.self.inside.place; dealt = c.self.inside.dealt; shares = c.find_among.new.shares; trail = c.then.new.self; tasks = c.self.inside.tasks } in
     sound_after c.self.inside t c.self.invariant c.find_among.ensures.same refl refl refl
-        (numbers_after c.self.inside.trail c.then.new.self c.in-Some.number _ _ c.self.invariant.numbers c.then.ensures c.in-Some.ensures.found.taken)
+    (numbers_after c.self.inside.trail c.then.new.self c.in-Some.number _ _ c.self.invariant.numbers c.then.ensures c.in-Some.ensures.found.taken)
 
 pub invariant_of-self-in-None : goal.invariant_of-self-in-None
 invariant_of-self-in-None g c =
@@ -45,7 +45,11 @@ pub returns-after-unmarked-clause-answer : goal.returns-after-unmarked-clause-an
 returns-after-unmarked-clause-answer g c =
     let t : Inside g.row.T.Denot = record { place = c.self.inside.place; dealt = c.self.inside.dealt; shares = c.find_among.new.shares; trail = c.self.inside.trail; tasks = c.self.inside.tasks } in
     let read = c.as_slice.ensures.value in
+    let long : length c.find_among.new.shares.items ≡ length c.self.inside.shares.items = moves_length _ _ c.find_among.ensures.same in
+    let place = c.self.invariant.place in
+    let within : t.place < length t.shares.items = omega arith in
     rw (← c.self.view_is) (elim c.match-unmarked.branch [
-      in-Some-unmarked w ↦ rw w.result-is (answers_lost c.self.inside t w.in-Some-unmarked.deque refl c.in-None.ensures.marked
+      | in-Some-unmarked w ↦ rw w.result-is (answers_lost c.self.inside t w.in-Some-unmarked.deque within refl c.in-None.ensures.marked
           (subst (λ (l : List (Share g.row.T.Denot)). (w.in-Some-unmarked.deque < length l) × (get_or (map is_marked l) w.in-Some-unmarked.deque false ≡ false)) read w.in-Some-unmarked.ensures))
-    | in-None-unmarked w ↦ rw w.result-is (answers_empty c.self.inside t refl (subst AllMarked read w.in-None-unmarked.ensures)) ])
+      | in-None-unmarked w ↦ rw w.result-is (answers_empty c.self.inside t refl (subst AllMarked read w.in-None-unmarked.ensures))
+    ])
