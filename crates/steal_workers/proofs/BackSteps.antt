@@ -1,5 +1,5 @@
 -- Taking back what is left of a deque.
-use Rattle.std.proofs.Common.{◌≡◌, ◌≢◌, ℕ, zero, suc, ◌+◌, ◌<◌, ◌≤◌, Bool, true, false, List, [], ◌∷◌, ◌++◌, map, length, set, All, sym, refl, ap, ◌∙◌, subst, append_assoc, length-append, arith}
+use Rattle.std.proofs.Common.{◌≡◌, ℕ, ◌+◌, ◌<◌, ◌≤◌, true, List, [], ◌∷◌, ◌++◌, length, All, sym, refl, ap, ◌∙◌, subst, append_assoc, length-append, arith}
 use mathlib.Core.Option.{some}
 use lib.ListN.{get_elem?}
 use Rattle.std.proofs.lemmas.List.{length-map}
@@ -9,9 +9,9 @@ use Rattle.steal_workers.specs.declared.item.Item.{Item}
 use Rattle.steal_workers.specs.declared.item.Item.TheVariants.{Task, Mark}
 use Rattle.steal_workers.specs.declared.item.Numbered.{Numbered}
 use Rattle.steal_workers.specs.declared.hand.Hand.{Hand}
-use Rattle.steal_workers.specs.Items.{weigh, marks, mark_weight, number_weight, Stands, MarksLast}
-use Rattle.steal_workers.specs.OneDeque.{hand, Fits, IsOneDeque, after_take, Took}
-use Rattle.steal_workers.specs.TookBack.{TookBack, kept, numbers_of, Drains}
+use Rattle.steal_workers.specs.Items.{weigh, marks, number_weight, Stands, MarksLast}
+use Rattle.steal_workers.specs.OneDeque.{hand, IsOneDeque, after_take}
+use Rattle.steal_workers.specs.TookBack.{TookBack, kept, numbers_of}
 use Rattle.steal_workers.proofs.Weights.{weigh-append, weigh_alone}
 use Rattle.steal_workers.proofs.Steps.{takes_back, marks-append}
 

@@ -1,5 +1,5 @@
 -- The shares of one deque.
-use Rattle.std.proofs.Common.{◌≡◌, ◌≢◌, ℕ, zero, suc, ◌+◌, ◌-◌, ◌<◌, ◌≤◌, ◌==◌, Bool, true, false, List, [], ◌∷◌, ◌++◌, map, length, get_or, set, All, sym, refl, ap, ◌∙◌, subst, eq-eqb, ne_eqb, length-append, arith}
+use Rattle.std.proofs.Common.{◌≡◌, ◌≢◌, ℕ, zero, suc, ◌+◌, ◌-◌, ◌<◌, ◌==◌, true, false, List, [], ◌∷◌, ◌++◌, length, get_or, set, sym, refl, ap, ◌∙◌, subst, eq-eqb, ne_eqb, length-append, arith}
 use mathlib.Core.Logic.{dite}
 use native.Mathlib.Decide.{ℕ_discrete}
 use Rattle.std.proofs.lemmas.List.{get_or-set_other, get_or-set_same}
@@ -8,7 +8,7 @@ use Rattle.std.proofs.Math.ListN.{length-set}
 use Rattle.std.specs.List.{swap}
 use Rattle.std.specs.declared.alloc.Global.{Global}
 use Rattle.atomic_blocks.specs.Lent.{RowsId}
-use Rattle.crossbeam_deque.specs.Handles.{Pass, view, IsPassOf, worker_deque, worker_flavor, worker_view, stealer_deque, stealer_flavor}
+use Rattle.crossbeam_deque.specs.Handles.{Pass, view, IsPassOf, worker_deque, worker_flavor, worker_view}
 use Rattle.crossbeam_deque.specs.declared.handles.Stealer.{Stealer}
 use Rattle.crossbeam_deque.specs.declared.handles.Worker.{Worker}
 use Rattle.steal_workers.specs.declared.item.Item.{Item}
@@ -17,7 +17,7 @@ use Rattle.steal_workers.specs.declared.hand.Hand.{Hand}
 use Rattle.steal_workers.specs.declared.hand.OneDeque.{OneDeque}
 use Rattle.steal_workers.specs.declared.share.Share.{Share}
 use Rattle.steal_workers.specs.declared.end.End.TheVariants.{Own, Other}
-use Rattle.steal_workers.specs.Items.{weigh, marks, mark_weight}
+use Rattle.steal_workers.specs.Items.{marks}
 use Rattle.steal_workers.specs.OneDeque.{hand}
 use Rattle.steal_workers.specs.Ends.{is_own}
 use Rattle.steal_workers.specs.Decks.{EachAt, IsThiefOf, mark_list}

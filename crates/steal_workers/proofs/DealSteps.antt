@@ -1,11 +1,11 @@
 -- A deal, from its parts.
-use Rattle.std.proofs.Common.{◌≡◌, ◌≢◌, ℕ, zero, suc, ◌+◌, ◌-◌, ◌*◌, ◌/◌, ◌<◌, ◌≤◌, ◌==◌, Bool, true, false, true≢false, List, [], ◌∷◌, ◌++◌, map, take, length, get_or, slice_get, Some, All, sym, refl, ap, ◌∙◌, subst, length-append, arith}
+use Rattle.std.proofs.Common.{◌≡◌, ℕ, zero, suc, ◌+◌, ◌/◌, ◌<◌, false, true≢false, List, [], ◌∷◌, ◌++◌, map, take, length, get_or, sym, refl, ap, ◌∙◌, subst, arith}
 use mathlib.Core.Option.{some, some-injective, some-ne-none}
 use lib.ListN.{get_elem?}
-use Rattle.std.proofs.lemmas.List.{get_or-map, length-map}
+use Rattle.std.proofs.lemmas.List.{length-map}
 use Rattle.std.proofs.lemmas.List.Sorted.{IsPermutation-refl}
 use Rattle.std.specs.List.Sorted.{IsPermutation}
-use Rattle.crossbeam_deque.specs.Handles.{worker_capacity, worker_index}
+use Rattle.crossbeam_deque.specs.Handles.{worker_index}
 use Rattle.steal_workers.specs.declared.item.Item.{Item}
 use Rattle.steal_workers.specs.declared.item.Item.TheVariants.{Task, Mark}
 use Rattle.steal_workers.specs.declared.deck.Deck.{Deck}
@@ -14,11 +14,11 @@ use Rattle.steal_workers.specs.Items.{weigh, marks, number_weight, Stands, IsAll
 use Rattle.steal_workers.specs.Shares.{is_marked, dealt_to}
 use Rattle.steal_workers.specs.Ends.{deque_of}
 use Rattle.steal_workers.specs.Deals.{Deal, IsDealt, numbers_below}
-use Rattle.steal_workers.specs.SeatViews.{SeatView, seat_count, HasMark}
-use Rattle.steal_workers.specs.WholeDeals.{common_deal, IsNewSeat, IsWholeDeal, IsNewDeal}
-use Rattle.steal_workers.specs.Decks.{EachAt, IsFilling, AreFilling, mark_list, queue_of}
+use Rattle.steal_workers.specs.SeatViews.{SeatView, seat_count}
+use Rattle.steal_workers.specs.WholeDeals.{common_deal, IsNewSeat, IsNewDeal}
+use Rattle.steal_workers.specs.Decks.{AreFilling, mark_list, queue_of}
 use Rattle.steal_workers.specs.Columns.{IsRow, closed, deck_deque}
-use Rattle.steal_workers.specs.Unused.{IsUnused, unused_view}
+use Rattle.steal_workers.specs.Unused.{unused_view}
 use Rattle.steal_workers.specs.Layouts.{AreFresh, AreFilled, AreSeated, planned}
 use Rattle.steal_workers.proofs.Weights.{weigh-append}
 use Rattle.steal_workers.proofs.DeckSteps.{last_turn}

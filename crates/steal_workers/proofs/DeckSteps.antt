@@ -1,6 +1,6 @@
 -- Dealing over decks, step by step.
-use Rattle.std.proofs.Common.{◌≡◌, ◌≢◌, ℕ, zero, suc, ◌+◌, ◌-◌, ◌*◌, ◌/◌, ◌%◌, ◌<◌, ◌≤◌, ◌⊎◌, Bool, true, false, List, [], ◌∷◌, ◌++◌, map, length, get_or, set, slice_get, Some, All, length-append, sym, refl, ap, ◌∙◌, subst, ⊎_elim, mul-le-mul_right, div-add-mod', add-one, append_assoc, Vec, vec_len, vec_capacity, arith}
-use mathlib.Core.Option.{some, some-injective, some-ne-none}
+use Rattle.std.proofs.Common.{◌≡◌, ◌≢◌, ℕ, suc, ◌+◌, ◌*◌, ◌/◌, ◌%◌, ◌<◌, ◌≤◌, List, [], ◌∷◌, ◌++◌, map, length, get_or, set, slice_get, Some, All, length-append, sym, refl, ap, ◌∙◌, subst, ⊎_elim, mul-le-mul_right, div-add-mod', add-one, append_assoc, Vec, vec_len, vec_capacity, arith}
+use mathlib.Core.Option.{some}
 use mathlib.Core.Logic.{dite}
 use native.Mathlib.Decide.{ℕ_discrete, dec_le}
 use lib.ListN.{get_elem?}
@@ -8,7 +8,7 @@ use Rattle.std.proofs.lemmas.List.{get_or-set_other, get_or-set_same, map-set, l
 use Rattle.std.proofs.Math.ListN.{length-set}
 use Rattle.std.proofs.Math.Nat.{mod-lt, div-mul-le_self}
 use Rattle.std.proofs.lemmas.Nat.{le-div}
-use Rattle.crossbeam_deque.specs.Handles.{worker_deque, worker_view, worker_capacity, worker_index}
+use Rattle.crossbeam_deque.specs.Handles.{worker_deque, worker_view, worker_index}
 use Rattle.crossbeam_deque.proofs.Lists.{at_index, at_snoc}
 use Rattle.steal_workers.specs.declared.item.Item.{Item}
 use Rattle.steal_workers.specs.declared.item.Item.TheVariants.{Task, Mark}
@@ -18,10 +18,10 @@ use Rattle.crossbeam_deque.specs.declared.handles.Stealer.{Stealer}
 use Rattle.steal_workers.specs.declared.hand.OneDeque.{OneDeque}
 use Rattle.steal_workers.specs.declared.share.Share.{Share}
 use Rattle.steal_workers.specs.declared.deck.Deck.{Deck}
-use Rattle.steal_workers.specs.Items.{weigh, marks, mark_weight, number_weight, Stands}
+use Rattle.steal_workers.specs.Items.{weigh, marks, number_weight}
 use Rattle.steal_workers.specs.OneDeque.{after_push}
 use Rattle.steal_workers.specs.Deals.{numbers_below}
-use Rattle.steal_workers.specs.Decks.{EachAt, IsThiefOf, queue_of, IsDeck, IsFilling, AreFilling, HasMore}
+use Rattle.steal_workers.specs.Decks.{EachAt, IsThiefOf, queue_of, IsFilling, AreFilling, HasMore}
 use Rattle.steal_workers.proofs.Weights.{weigh-append, weigh-set}
 use Rattle.steal_workers.proofs.Steps.{marks-append}
 

@@ -1,22 +1,21 @@
 -- Emptying the deques of a deal.
-use Rattle.std.proofs.Common.{◌≡◌, ◌≢◌, ℕ, zero, suc, ◌+◌, ◌<◌, ◌≤◌, ◌==◌, Bool, true, false, List, [], ◌∷◌, ◌++◌, map, take, length, get_or, slice_get, Some, All, sym, refl, ap, ◌∙◌, subst, length-append, arith}
+use Rattle.std.proofs.Common.{◌≡◌, ℕ, zero, suc, ◌+◌, ◌<◌, ◌≤◌, ◌==◌, Bool, true, false, List, [], ◌∷◌, ◌++◌, map, take, length, get_or, slice_get, Some, All, sym, refl, ap, ◌∙◌, subst, length-append, arith}
 use mathlib.Core.Option.{some, some-injective, some-ne-none}
 use lib.ListN.{get_elem?}
-use Rattle.std.specs.List.Sorted.{IsPermutation}
 use Rattle.std.proofs.lemmas.List.{length-map, take_more}
 use Rattle.std.proofs.lemmas.List.Elements.{All-nil, All-append}
 use Rattle.std.proofs.lemmas.List.Sorted.{length_permutation}
 use Rattle.std.specs.declared.alloc.Global.{Global}
 use Rattle.atomic_blocks.specs.Lent.{RowsId}
 use Rattle.steal_workers.specs.declared.item.Item.{Item}
-use Rattle.steal_workers.specs.declared.item.Item.TheVariants.{Task, Mark}
+use Rattle.steal_workers.specs.declared.item.Item.TheVariants.{Task}
 use Rattle.steal_workers.specs.declared.item.Numbered.{Numbered}
 use Rattle.steal_workers.specs.declared.hand.Hand.{Hand}
 use Rattle.steal_workers.specs.declared.share.Share.{Share}
 use Rattle.steal_workers.specs.declared.seat.Stack.{Stack}
 use Rattle.steal_workers.specs.Items.{weigh, marks, mark_weight, number_weight, Stands}
 use Rattle.steal_workers.specs.Ends.{deque_of, is_own}
-use Rattle.steal_workers.specs.Shares.{IsShare, dealt_to, taken_from, mark_count}
+use Rattle.steal_workers.specs.Shares.{dealt_to, taken_from, mark_count}
 use Rattle.steal_workers.specs.Deals.{Deal, IsDealt, numbers_below}
 use Rattle.steal_workers.specs.SeatViews.{SeatView, seat_count}
 use Rattle.steal_workers.specs.WholeDeals.{common_deal, IsWholeDeal}

@@ -1,35 +1,25 @@
 -- Gathering, step by step.
-use Rattle.std.proofs.Common.{◌≡◌, ◌≢◌, ℕ, zero, suc, ◌+◌, ◌-◌, ◌<◌, ◌≤◌, ◌==◌, Bool, true, false, true≢false, List, [], ◌∷◌, ◌++◌, map, length, get_or, set, All, sym, refl, ap, ◌∙◌, subst, eq-eqb, ne_eqb, length-append, Vec, arith}
+use Rattle.std.proofs.Common.{◌≡◌, ◌≢◌, ℕ, zero, suc, ◌+◌, ◌<◌, ◌≤◌, ◌==◌, Bool, true, false, List, [], ◌∷◌, ◌++◌, map, length, get_or, set, All, sym, refl, ap, ◌∙◌, subst, eq-eqb, ne_eqb, length-append, arith}
 use mathlib.Core.Option.{some}
 use lib.ListN.{get_elem?}
 use mathlib.Core.Logic.{dite}
 use native.Mathlib.Decide.{ℕ_discrete}
 use Rattle.std.specs.List.{sum_by, remove}
 use Rattle.std.specs.List.Sorted.{IsPermutation}
-use Rattle.std.proofs.lemmas.List.{length-map, get_or-map}
+use Rattle.std.proofs.lemmas.List.{length-map}
 use Rattle.std.proofs.lemmas.List.Sums.{sum_by-cons}
-use Rattle.std.proofs.lemmas.List.Sorted.{IsPermutation-refl, IsPermutation-cons, IsPermutation-sym, IsPermutation-trans, IsPermutation-remove, sum_by-IsPermutation, All-permutation}
-use Rattle.std.proofs.Math.Seq.{map-set_same}
-use Rattle.std.proofs.Math.ListN.{length-set}
-use Rattle.std.specs.declared.alloc.Global.{Global}
-use Rattle.atomic_blocks.specs.Lent.{RowsId}
+use Rattle.std.proofs.lemmas.List.Sorted.{IsPermutation-refl, IsPermutation-cons, IsPermutation-sym, IsPermutation-trans, IsPermutation-remove, sum_by-IsPermutation}
 use Rattle.crossbeam_deque.proofs.Lists.{at_index}
 use Rattle.steal_workers.specs.declared.item.Item.{Item}
-use Rattle.steal_workers.specs.declared.hand.Hand.{Hand}
 use Rattle.steal_workers.specs.declared.share.Share.{Share}
 use Rattle.steal_workers.specs.declared.seat.Stack.{Stack}
-use Rattle.steal_workers.specs.Items.{weigh, marks, mark_weight, number_weight}
-use Rattle.steal_workers.specs.OneDeque.{taken_back}
-use Rattle.steal_workers.specs.Ends.{deque_of, hand_of, is_own}
-use Rattle.steal_workers.specs.Shares.{IsShare, dealt_to, taken_from, mark_count}
+use Rattle.steal_workers.specs.Items.{weigh}
+use Rattle.steal_workers.specs.Ends.{is_own}
 use Rattle.steal_workers.specs.Deals.{Deal, numbers_below}
-use Rattle.steal_workers.specs.Decks.{EachAt}
 use Rattle.steal_workers.specs.Backs.{one_if, own_weight}
 use Rattle.steal_workers.specs.Gathers.{joined, IsShareAt, IsStack, PopsEach, share_taken, stack_taken, all_taken, places}
-use Rattle.steal_workers.proofs.Weights.{weigh-append, weigh-set, weigh_part}
+use Rattle.steal_workers.proofs.Weights.{weigh-append, weigh-set}
 use Rattle.steal_workers.proofs.ShareLists.{all_head, all_tail, all_cons, all_none}
-use Rattle.steal_workers.proofs.DeckSteps.{each_at_set}
-use Rattle.steal_workers.proofs.ColumnSteps.{each_at_snoc}
 
 module _ {X : Type 0} where
   pub weigh_is_sum : (f : X → ℕ) (xs : List X) → weigh f xs ≡ sum_by f xs

@@ -1,5 +1,6 @@
 pub mod BackSteps
 pub mod ColumnSteps
+pub mod DealLaws
 pub mod DealSteps
 pub mod DeckSteps
 pub mod EmptySteps

@@ -1,5 +1,5 @@
 -- The seats of a deal after steps of theirs.
-use Rattle.std.proofs.Common.{◌≡◌, ◌≢◌, ℕ, zero, suc, ◌+◌, ◌<◌, List, [], ◌∷◌, map, length, get_or, set, All, sym, refl, ap, ◌∙◌, subst, arith}
+use Rattle.std.proofs.Common.{◌≡◌, ℕ, zero, suc, ◌<◌, List, [], ◌∷◌, map, length, get_or, set, sym, refl, ◌∙◌, subst, arith}
 use Rattle.std.proofs.Math.ListN.{length-set}
 use Rattle.std.specs.List.Sorted.{IsPermutation}
 use Rattle.steal_workers.specs.Deals.{Deal, numbers_below}
@@ -26,6 +26,14 @@ module _ {T : Type 0} where
       go (x ∷ xs) zero e s same (suc j) d within = same_seat-refl (get_or xs j d)
       go (x ∷ xs) (suc k) e s same zero d within = same_seat-refl x
       go (x ∷ xs) (suc k) e s same (suc j) d within = go xs k e s same j d (omega arith)
+
+  pub same_seats-trans : (a b c : List (SeatView T)) → AreSameSeats a b → AreSameSeats b c → AreSameSeats a c
+  same_seats-trans a b c p q = (q.0 ∙ p.0, λ k e within. same_seat-trans (get_or a k e) (get_or b k e) (get_or c k e) (p.1 k e within) (q.1 k e (let l = p.0 in omega arith)))
+
+  -- so does one of them after others
+  pub same_seats-step : (old seats : List (SeatView T)) (k : ℕ) (r s : SeatView T) → AreSameSeats old seats → r ≡ get_or seats k r → IsSameSeat r s → AreSameSeats old (set seats k s)
+  same_seats-step old seats k r s before is same =
+      same_seats-trans old seats (set seats k s) before (same_seats-set seats k r s (subst (λ (u : SeatView T). IsSameSeat u s) is same))
 
   same_places : (old new : List (SeatView T)) → AreSameSeats old new → map (λ (s : SeatView T). s.place) new ≡ map (λ (s : SeatView T). s.place) old
   same_places [] [] same = refl

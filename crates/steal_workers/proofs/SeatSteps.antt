@@ -1,5 +1,5 @@
 -- A seat after a step.
-use Rattle.std.proofs.Common.{◌≡◌, ◌≢◌, ℕ, zero, suc, ◌+◌, ◌<◌, ◌≤◌, ◌==◌, Bool, true, false, true≢false, List, [], ◌∷◌, ◌++◌, map, length, get_or, slice_get, Option, Some, None, MatchOption, sym, refl, ap, ◌∙◌, subst, arith}
+use Rattle.std.proofs.Common.{◌≡◌, ◌≢◌, ℕ, ◌+◌, ◌<◌, ◌==◌, Bool, true, false, true≢false, List, [], ◌∷◌, ◌++◌, map, length, get_or, sym, ap, ◌∙◌, subst, arith}
 use Rattle.std.proofs.lemmas.List.{length-map}
 use Rattle.steal_workers.specs.declared.share.Share.{Share}
 use Rattle.steal_workers.specs.declared.seat.Seat.TheInside.{Inside}
@@ -7,10 +7,10 @@ use Rattle.steal_workers.specs.declared.seat.Next.TheVariants.{Task, Empty, Lost
 use Rattle.steal_workers.specs.declared.item.Item.{Item}
 use Rattle.steal_workers.specs.Items.{weigh}
 use Rattle.steal_workers.specs.Ends.{deque_of}
-use Rattle.steal_workers.specs.Shares.{dealt_to, is_own_share, is_marked, Moves, taken_weights, Found, TookNone, AllMarked}
-use Rattle.steal_workers.specs.Deals.{Deal, IsDealt}
-use Rattle.steal_workers.specs.SeatViews.{SeatView, IsSameSeat, HasEveryMark}
-use Rattle.steal_workers.specs.Seats.{deal_of, seat_view, IsSound}
+use Rattle.steal_workers.specs.Shares.{dealt_to, is_own_share, is_marked, Moves, taken_weights, Found, AllMarked}
+use Rattle.steal_workers.specs.Deals.{IsDealt}
+use Rattle.steal_workers.specs.SeatViews.{IsSameSeat}
+use Rattle.steal_workers.specs.Seats.{seat_view, IsSound}
 use Rattle.steal_workers.specs.Answers.{Answers}
 use Rattle.steal_workers.proofs.Weights.{weigh-append}
 use Rattle.steal_workers.proofs.ShareLists.{moves_sound, moves_map, moves_length, moves_marked}

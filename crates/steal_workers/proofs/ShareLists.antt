@@ -1,17 +1,13 @@
 -- A seat's shares, step by step.
-use Rattle.std.proofs.Common.{◌≡◌, ◌≢◌, ℕ, zero, suc, ◌+◌, ◌<◌, ◌≤◌, Bool, true, false, List, [], ◌∷◌, ◌++◌, map, length, get_or, set, All, Option, Some, None, MatchOption, IfNone, sym, refl, ap, ◌∙◌, subst, arith}
-use mathlib.Core.Option.{some}
-use lib.ListN.{get_elem?}
-use Rattle.std.proofs.lemmas.List.{map-set, length-map, get_or-map}
+use Rattle.std.proofs.Common.{◌≡◌, ℕ, zero, suc, ◌+◌, ◌<◌, true, false, List, [], ◌∷◌, map, length, get_or, set, All, Option, Some, None, MatchOption, IfNone, sym, refl, ap, ◌∙◌, subst, arith}
+use Rattle.std.proofs.lemmas.List.{get_or-map}
 use Rattle.std.proofs.Math.ListN.{length-set}
-use Rattle.std.proofs.Math.Seq.{map-set_same}
 use Rattle.crossbeam_deque.proofs.Lists.{at_index}
 use Rattle.steal_workers.specs.declared.item.Item.{Item}
 use Rattle.steal_workers.specs.declared.item.Item.TheVariants.{Task as task_item}
 use Rattle.steal_workers.specs.declared.share.Share.{Share}
-use Rattle.steal_workers.specs.declared.share.Step.{Step}
-use Rattle.steal_workers.specs.declared.share.Step.TheVariants.{Task, Marked, Lost}
-use Rattle.steal_workers.specs.Items.{weigh, Stands}
+use Rattle.steal_workers.specs.declared.share.Step.TheVariants.{Task}
+use Rattle.steal_workers.specs.Items.{Stands}
 use Rattle.steal_workers.specs.Shares.{IsShare, Follows, Steps, Moves, dealt_to, is_marked, taken_weight, taken_weights, Found, TookNone}
 use Rattle.steal_workers.proofs.Weights.{weigh-set}
 use Rattle.steal_workers.proofs.ShareSteps.{stays}

@@ -1,13 +1,12 @@
 -- A seat's step on one deque keeps its share.
-use Rattle.std.proofs.Common.{◌≡◌, ℕ, ◌+◌, ◌<◌, ◌≤◌, Bool, true, false, true≢false, ◌||◌, List, [], ◌∷◌, ◌++◌, sym, refl, ap, ◌∙◌, subst, arith}
+use Rattle.std.proofs.Common.{◌≡◌, ℕ, ◌+◌, false, true≢false, ◌||◌, [], ◌∷◌, ◌++◌, sym, refl, ap, ◌∙◌, arith}
 use Rattle.steal_workers.specs.declared.item.Item.{Item}
 use Rattle.steal_workers.specs.declared.item.Item.TheVariants.{Task as task_item, Mark as mark_item}
 use Rattle.steal_workers.specs.declared.hand.Hand.{Hand}
 use Rattle.steal_workers.specs.declared.share.Share.{Share}
-use Rattle.steal_workers.specs.declared.share.Step.{Step}
-use Rattle.steal_workers.specs.declared.share.Step.TheVariants.{Task, Marked, Lost}
+use Rattle.steal_workers.specs.declared.share.Step.TheVariants.{Lost}
 use Rattle.steal_workers.specs.Items.{weigh, marks, mark_weight, number_weight, Stands}
-use Rattle.steal_workers.specs.OneDeque.{Took, after_take}
+use Rattle.steal_workers.specs.OneDeque.{Took}
 use Rattle.steal_workers.specs.Ends.{hand_of, is_own, CanTake, IsSameEnd}
 use Rattle.steal_workers.specs.Shares.{mark_count, IsShare, Follows, Steps, step_of, is_mark, dealt_to, taken_from, taken_weight}
 use Rattle.steal_workers.proofs.Weights.{weigh-append}

@@ -1,18 +1,17 @@
 -- A seat taken apart.
-use Rattle.std.proofs.Common.{◌≡◌, ◌≢◌, ℕ, ◌<◌, ◌==◌, Bool, true, false, true≢false, List, [], map, length, get_or, sym, refl, ap, ◌∙◌, subst, ne_eqb, arith}
+use Rattle.std.proofs.Common.{◌≡◌, ◌≢◌, ℕ, ◌<◌, ◌==◌, true, false, true≢false, List, [], map, length, get_or, sym, refl, ap, ◌∙◌, subst, ne_eqb}
 use mathlib.Core.Logic.{dite}
 use native.Mathlib.Decide.{ℕ_discrete}
 use Rattle.std.proofs.lemmas.List.{length-map, get_or-map}
 use Rattle.steal_workers.specs.declared.share.Share.{Share}
 use Rattle.steal_workers.specs.declared.seat.Seat.TheInside.{Inside}
-use Rattle.steal_workers.specs.declared.seat.Stack.{Stack}
 use Rattle.steal_workers.specs.Items.{weigh}
 use Rattle.steal_workers.specs.Ends.{deque_of, is_own}
-use Rattle.steal_workers.specs.Shares.{IsShare, dealt_to, is_own_share, is_marked, taken_weights}
-use Rattle.steal_workers.specs.Deals.{Deal, IsDealt}
+use Rattle.steal_workers.specs.Shares.{dealt_to, is_own_share, is_marked, taken_weights}
+use Rattle.steal_workers.specs.Deals.{IsDealt}
 use Rattle.steal_workers.specs.SeatViews.{SeatView, seat_count, HasMark}
 use Rattle.steal_workers.specs.Seats.{seat_view, IsSound}
-use Rattle.steal_workers.specs.Gathers.{IsStack, IsShareAt}
+use Rattle.steal_workers.specs.Gathers.{IsStack}
 
 module _ {T : Type 0} where
   own_mark_at : (xs : List (Share T)) (place d : ℕ) (e : Share T) → d < length xs → get_or (map is_marked xs) place false ≡ true → is_own (get_or xs d e).end ≡ (d == place) → is_own (get_or xs d e).end ≡ true → (get_or xs d e).marked ≡ true

@@ -1,5 +1,5 @@
 -- Each step on a deque keeps its rule.
-use Rattle.std.proofs.Common.{◌≡◌, ◌≢◌, ℕ, zero, suc, ◌+◌, ◌-◌, ◌<◌, ◌≤◌, ◌⊎◌, Bool, true, false, true≢false, List, [], ◌∷◌, ◌++◌, length, set, sym, refl, ap, ◌∙◌, subst, ⊎_elim, append_assoc, append-nil, arith}
+use Rattle.std.proofs.Common.{◌≡◌, ◌≢◌, ℕ, zero, suc, ◌+◌, ◌<◌, ◌≤◌, true, false, true≢false, List, [], ◌∷◌, ◌++◌, length, set, sym, refl, ap, ◌∙◌, subst, ⊎_elim, append_assoc, append-nil, arith}
 use mathlib.Core.Option.{some, some-injective, some-ne-none}
 use lib.ListN.{get_elem?}
 use Rattle.crossbeam_deque.specs.Tasks.{Pushes, Takes, Finds, FindsFew, Forks, Merges}
@@ -7,7 +7,7 @@ use Rattle.crossbeam_deque.proofs.Lists.{at_set, at_snoc, at_longer}
 use Rattle.steal_workers.specs.declared.item.Item.{Item}
 use Rattle.steal_workers.specs.declared.item.Item.TheVariants.{Task, Mark}
 use Rattle.steal_workers.specs.declared.hand.Hand.{Hand}
-use Rattle.steal_workers.specs.Items.{weigh, marks, mark_weight, Stands, IsAllMarks, MarksLast}
+use Rattle.steal_workers.specs.Items.{weigh, marks, mark_weight, IsAllMarks, MarksLast}
 use Rattle.steal_workers.specs.OneDeque.{hand, Fits, IsOneDeque, after_push, after_take, less_one_share, one_share, taken_back, Took}
 use Rattle.steal_workers.proofs.Weights.{weigh-append, weigh-set, weigh_part, weigh_two, weigh_alone, weigh_level, at_behind}
 

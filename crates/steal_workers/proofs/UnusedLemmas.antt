@@ -1,6 +1,5 @@
 -- Nothing was taken by a seat that is new.
-use Rattle.std.proofs.Common.{◌≡◌, ℕ, zero, suc, ◌+◌, ◌<◌, ◌==◌, Bool, false, List, [], ◌∷◌, map, length, get_or, All, refl, ap, ◌∙◌, arith}
-use Rattle.std.proofs.lemmas.List.{get_or-map}
+use Rattle.std.proofs.Common.{◌≡◌, ℕ, zero, suc, ◌+◌, ◌<◌, ◌==◌, false, List, [], ◌∷◌, map, length, get_or, All, refl, ap, ◌∙◌, arith}
 use Rattle.steal_workers.specs.declared.share.Share.{Share}
 use Rattle.steal_workers.specs.Items.{weigh, number_weight}
 use Rattle.steal_workers.specs.Ends.{is_own}

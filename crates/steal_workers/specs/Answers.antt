@@ -1,5 +1,5 @@
 -- What `Seat::next` answers.
-use Rattle.std.specs.Prelude.{◌≡◌, ◌≢◌, ℕ, ◌<◌, List, [], ◌∷◌, ◌++◌, slice_get, Some}
+use Rattle.std.specs.Prelude.{◌≡◌, ◌≢◌, ◌⊎◌, ℕ, ◌<◌, [], ◌∷◌, ◌++◌, slice_get, Some}
 use Rattle.steal_workers.specs.declared.seat.Next.{Next}
 use Rattle.steal_workers.specs.declared.seat.Next.TheVariants.{Task, Empty, Lost}
 use Rattle.steal_workers.specs.SeatViews.{SeatView, seat_count, HasMark, HasEveryMark}
@@ -13,3 +13,7 @@ module _ {T : Type 0} where
   Answers old Empty new = (new.numbers ≡ old.numbers) × HasEveryMark new
   Answers old (Lost deque) new =
       (new.numbers ≡ old.numbers) × HasMark new new.place × (deque < seat_count new.deal) × (deque ≢ new.place) × (1 < seat_count new.deal) × (¬ HasMark new deque)
+
+  -- the seat as it is after an answer that is no task
+  abbrev pub FoundNone : SeatView T → Type 0
+  FoundNone seat = (old : SeatView T) × (Answers old Empty seat ⊎ ((deque : ℕ) × Answers old (Lost deque) seat))

@@ -1,10 +1,10 @@
 -- The deques of a deal while they are emptied, the last first.
-use Rattle.std.specs.Prelude.{◌≡◌, ℕ, ◌+◌, ◌<◌, ◌≤◌, ◌==◌, List, [], ◌∷◌, map, take, length, slice_get, Some, All}
+use Rattle.std.specs.Prelude.{◌≡◌, ℕ, ◌+◌, ◌<◌, ◌≤◌, ◌==◌, List, [], take, length, slice_get, Some, All}
 use Rattle.steal_workers.specs.declared.item.Item.{Item}
 use Rattle.steal_workers.specs.declared.item.Numbered.{Numbered}
 use Rattle.steal_workers.specs.declared.seat.Stack.{Stack}
 use Rattle.steal_workers.specs.Items.{weigh, number_weight}
-use Rattle.steal_workers.specs.Deals.{Deal, IsDealt, numbers_below}
+use Rattle.steal_workers.specs.Deals.{numbers_below}
 use Rattle.steal_workers.specs.SeatViews.{SeatView, seat_count}
 use Rattle.steal_workers.specs.WholeDeals.{common_deal}
 use Rattle.steal_workers.specs.Backs.{one_if}

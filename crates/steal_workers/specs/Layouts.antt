@@ -1,9 +1,7 @@
 -- What a deal needs memory for, and what is made of it.
-use Rattle.std.specs.Prelude.{◌≡◌, ℕ, ◌+◌, ◌<◌, ◌≤◌, List, [], map, length, slice_index_or, All, Vec, vec_capacity}
-use Rattle.std.specs.declared.alloc.Global.{Global}
+use Rattle.std.specs.Prelude.{◌≡◌, ℕ, ◌+◌, ◌≤◌, List, [], map, length, All, vec_capacity}
 use Rattle.crossbeam_deque.specs.Handles.{worker_capacity, worker_index}
 use Rattle.steal_workers.specs.declared.deck.Deck.{Deck}
-use Rattle.steal_workers.specs.declared.share.Share.{Share}
 use Rattle.steal_workers.specs.declared.dealing.Row.{Row}
 use Rattle.steal_workers.specs.Items.{marks}
 use Rattle.steal_workers.specs.Deals.{Deal}

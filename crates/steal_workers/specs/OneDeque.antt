@@ -1,11 +1,11 @@
 -- The rule of one deque, over its queue and the views of its passes alone.
-use Rattle.std.specs.Prelude.{◌≡◌, ℕ, ◌+◌, ◌-◌, ◌<◌, ◌≤◌, Bool, true, false, List, [], ◌∷◌, ◌++◌}
+use Rattle.std.specs.Prelude.{◌≡◌, ℕ, ◌+◌, ◌-◌, ◌<◌, ◌≤◌, Bool, true, false, List, [], ◌++◌}
 use mathlib.Core.Option.{some}
 use lib.ListN.{get_elem?}
 use Rattle.steal_workers.specs.declared.item.Item.{Item}
-use Rattle.steal_workers.specs.declared.item.Item.TheVariants.{Task, Mark}
+use Rattle.steal_workers.specs.declared.item.Item.TheVariants.{Mark}
 use Rattle.steal_workers.specs.declared.hand.Hand.{Hand}
-use Rattle.steal_workers.specs.Items.{weigh, marks, mark_weight, Stands, MarksLast}
+use Rattle.steal_workers.specs.Items.{weigh, marks, Stands, MarksLast}
 
 module _ {T : Type 0} where
   abbrev pub hand : Bool → ℕ → List (Item T) → List (Item T) → Hand T

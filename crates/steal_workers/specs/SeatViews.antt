@@ -1,5 +1,5 @@
 -- What contracts see of a seat.
-use Rattle.std.specs.Prelude.{◌≡◌, ℕ, ◌<◌, Bool, true, false, List, [], ◌∷◌, ◌++◌, length, slice_get, slice_index_or, Some, IsTrue}
+use Rattle.std.specs.Prelude.{◌≡◌, ℕ, ◌<◌, Bool, false, List, length, slice_index_or, IsTrue}
 use Rattle.steal_workers.specs.Deals.{Deal}
 
 -- The deal and the seat's place in it, the numbers (places in the dealt list) of the tasks that it took, in the order in which it took them,

@@ -1,5 +1,5 @@
 -- A seat's fields, as contracts see them.
-use Rattle.std.specs.Prelude.{◌≡◌, ℕ, ◌<◌, ◌≤◌, ◌==◌, Bool, true, false, List, map, length, slice_index_or, All}
+use Rattle.std.specs.Prelude.{◌≡◌, ℕ, ◌<◌, ◌≤◌, ◌==◌, false, map, length, slice_index_or, All}
 use Rattle.steal_workers.specs.declared.share.Share.{Share}
 use Rattle.steal_workers.specs.declared.seat.Seat.TheInside.{Inside}
 use Rattle.steal_workers.specs.Items.{weigh}

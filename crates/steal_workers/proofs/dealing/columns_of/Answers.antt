@@ -1,10 +1,10 @@
-use Rattle.std.proofs.Common.{◌≡◌, ◌+◌, ◌<◌, ◌≤◌, ℕ, List, [], ◌∷◌, ◌++◌, length, get_or, Vec, vec_len, vec_capacity, refl, ap, sym, ◌∙◌, subst, length-append, arith}
+use Rattle.std.proofs.Common.{◌≡◌, ℕ, List, ◌∷◌, ◌++◌, length, get_or, Vec, vec_len, ap, sym, ◌∙◌, subst, length-append, arith}
 use Rattle.std.specs.Vec.Iter.{into_iter_items}
 use Rattle.std.specs.declared.alloc.Global.{Global}
 use Rattle.steal_workers.specs.declared.deck.Deck.{Deck}
 use Rattle.steal_workers.specs.declared.share.Share.{Share}
-use Rattle.steal_workers.specs.Decks.{EachAt, IsDeck}
-use Rattle.steal_workers.specs.Columns.{IsColumn, AreColumns, closed, deck_deque}
+use Rattle.steal_workers.specs.Decks.{EachAt}
+use Rattle.steal_workers.specs.Columns.{IsColumn, closed, deck_deque}
 use Rattle.steal_workers.proofs.DeckSteps.{taken_next}
 use Rattle.steal_workers.proofs.ColumnSteps.{each_at_snoc}
 use Rattle.steal_workers.proofs.DealSteps.{get_or-seam}

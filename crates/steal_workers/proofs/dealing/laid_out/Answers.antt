@@ -1,13 +1,12 @@
-use Rattle.std.proofs.Common.{◌≡◌, ◌+◌, ◌/◌, ◌<◌, ◌≤◌, ℕ, List, map, length, Vec, vec_len, refl, ap, sym, ◌∙◌, subst, arith}
+use Rattle.std.proofs.Common.{◌≡◌, ◌+◌, ◌/◌, ℕ, List, map, length, Vec, vec_len, ap, sym, ◌∙◌, subst, arith}
 use Rattle.std.proofs.lemmas.List.{length-map}
 use Rattle.std.specs.declared.alloc.Global.{Global}
 use Rattle.steal_workers.specs.declared.deck.Deck.{Deck}
-use Rattle.steal_workers.specs.declared.share.Share.{Share}
 use Rattle.steal_workers.specs.Deals.{Deal, IsDealt}
 use Rattle.steal_workers.specs.WholeDeals.{IsNewDeal}
 use Rattle.steal_workers.specs.Decks.{AreFilling}
-use Rattle.steal_workers.specs.Columns.{AreColumns, closed, deck_deque}
-use Rattle.steal_workers.specs.Layouts.{AreFresh, AreFilled, AreEmptyRows, AreSeated, planned}
+use Rattle.steal_workers.specs.Columns.{closed, deck_deque}
+use Rattle.steal_workers.specs.Layouts.{AreFilled, planned}
 use Rattle.steal_workers.proofs.DealSteps.{filled_from_filling, dealt_from_filling, new_deal}
 use Rattle.steal_workers.proofs.dealing.laid_out.Goals as goal
 

@@ -1,4 +1,4 @@
-use Rattle.std.proofs.Common.{◌≡◌, ◌+◌, ◌<◌, ◌≤◌, ℕ, List, [], ◌∷◌, ◌++◌, length, vec_len, vec_capacity, refl, ap, sym, ◌∙◌, subst, arith}
+use Rattle.std.proofs.Common.{◌≡◌, ℕ, [], length, sym, subst, arith}
 use Rattle.steal_workers.specs.declared.deck.Deck.{Deck}
 use Rattle.steal_workers.specs.Decks.{EachAt, IsFilling, queue_of}
 use Rattle.steal_workers.proofs.ColumnSteps.{each_at_snoc}

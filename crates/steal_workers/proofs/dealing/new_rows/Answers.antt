@@ -1,4 +1,4 @@
-use Rattle.std.proofs.Common.{◌≡◌, ◌+◌, ◌<◌, ◌≤◌, ℕ, List, [], ◌∷◌, ◌++◌, All, length, vec_len, vec_capacity, refl, ap, sym, ◌∙◌, subst, arith}
+use Rattle.std.proofs.Common.{[], ◌∷◌, arith}
 use Rattle.std.proofs.lemmas.List.Elements.{All-nil, All-cons, All-append}
 use Rattle.steal_workers.specs.declared.dealing.Row.{Row}
 use Rattle.steal_workers.specs.Layouts.{IsEmptyRow}

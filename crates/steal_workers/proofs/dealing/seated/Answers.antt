@@ -1,18 +1,14 @@
-use Rattle.std.proofs.Common.{◌≡◌, ◌+◌, ◌<◌, ◌≤◌, ℕ, List, [], ◌∷◌, ◌++◌, All, map, length, get_or, Vec, vec_len, vec_capacity, refl, ap, sym, ◌∙◌, subst, arith}
+use Rattle.std.proofs.Common.{◌≡◌, ℕ, ◌∷◌, All, length, ap, sym, ◌∙◌, subst, arith}
 use Rattle.std.specs.Vec.Iter.{into_iter_items}
-use Rattle.std.specs.declared.alloc.Global.{Global}
-use Rattle.steal_workers.specs.declared.deck.Deck.{Deck}
 use Rattle.steal_workers.specs.declared.dealing.Row.{Row}
-use Rattle.steal_workers.specs.declared.share.Share.{Share}
-use Rattle.steal_workers.specs.Deals.{IsDealt}
 use Rattle.steal_workers.specs.SeatViews.{SeatView}
 use Rattle.steal_workers.specs.WholeDeals.{IsNewSeat}
 use Rattle.steal_workers.specs.Decks.{EachAt}
-use Rattle.steal_workers.specs.Columns.{AreColumns, IsRow, closed}
-use Rattle.steal_workers.specs.Layouts.{IsEmptyRow, AreSeated, planned}
+use Rattle.steal_workers.specs.Columns.{AreColumns, IsRow}
+use Rattle.steal_workers.specs.Layouts.{IsEmptyRow, planned}
 use Rattle.steal_workers.proofs.ShareLists.{all_head, all_tail}
 use Rattle.steal_workers.proofs.ColumnSteps.{each_at_snoc}
-use Rattle.steal_workers.proofs.DealSteps.{row_queues, seat_of_row}
+use Rattle.steal_workers.proofs.DealSteps.{seat_of_row}
 use Rattle.steal_workers.proofs.dealing.seated.Goals as goal
 
 pub row-shares-requires-clause-columns : goal.row-shares-requires-clause-columns

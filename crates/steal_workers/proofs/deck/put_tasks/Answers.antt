@@ -1,7 +1,6 @@
-use Rattle.std.proofs.Common.{◌≡◌, ◌+◌, ◌/◌, ◌++◌, ◌%◌, ◌<◌, ◌≤◌, ℕ, List, length, set, vec_len, refl, ap, sym, ◌∙◌, subst, length-append, arith}
+use Rattle.std.proofs.Common.{◌≡◌, ◌+◌, ◌/◌, ◌++◌, ◌%◌, length, vec_len, refl, ap, length-append, arith}
 use Rattle.std.specs.Vec.Iter.{into_iter_items}
 use Rattle.std.proofs.Math.Nat.{mod-lt}
-use Rattle.steal_workers.specs.Decks.{AreFilling}
 use Rattle.steal_workers.proofs.DeckSteps.{turn, less_done, filling_next, taken_next}
 use Rattle.steal_workers.proofs.deck.put_tasks.Goals as goal
 

@@ -1,5 +1,4 @@
-use Rattle.std.proofs.Common.{◌≡◌, ◌≤◌, List, length, ℕ, min, arith, subst}
-use lib.ListN.{get_elem?}
+use Rattle.std.proofs.Common.{arith}
 use Rattle.steal_workers.proofs.Steps.{takes, finds_few}
 use Rattle.steal_workers.proofs.end.steal.Goals as goal
 

@@ -1,8 +1,7 @@
-use Rattle.std.proofs.Common.{◌≡◌, ◌<◌, ◌≤◌, List, [], length, vec_len, refl, sym, ap, ◌∙◌, subst, append-nil, arith}
+use Rattle.std.proofs.Common.{[], refl, sym, ap, ◌∙◌, subst, append-nil, arith}
 use Rattle.std.proofs.lemmas.List.Elements.{All-nil}
 use Rattle.crossbeam_deque.specs.Handles.{worker_view}
 use Rattle.steal_workers.specs.declared.hand.Hand.{Hand}
-use Rattle.steal_workers.specs.declared.item.Numbered.{Numbered}
 use Rattle.steal_workers.specs.Items.{marks}
 use Rattle.steal_workers.proofs.Steps.{finds_all}
 use Rattle.steal_workers.proofs.BackSteps.{More, takes_all, since_take, more_taken, room_for, nearer}

@@ -1,4 +1,4 @@
-use Rattle.std.proofs.Common.{◌≡◌, ◌+◌, ◌<◌, ◌≤◌, ℕ, List, [], Vec, length, vec_len, refl, ap, sym, ◌∙◌, subst, arith}
+use Rattle.std.proofs.Common.{List, Vec, length, ap, sym, subst, arith}
 use Rattle.std.specs.declared.alloc.Global.{Global}
 use Rattle.steal_workers.specs.declared.seat.Stack.{Stack}
 use Rattle.steal_workers.specs.declared.item.Numbered.{Numbered}

@@ -1,4 +1,4 @@
-use Rattle.std.proofs.Common.{◌≡◌, ◌+◌, ◌<◌, ◌≤◌, ℕ, List, length, vec_len, refl, ap, sym, ◌∙◌, subst, arith}
+use Rattle.std.proofs.Common.{length, sym, subst, arith}
 use Rattle.crossbeam_deque.specs.Handles.{worker_view}
 use Rattle.steal_workers.specs.Gathers.{AreOwnMarked}
 use Rattle.steal_workers.specs.WholeDeals.{common_deal}

@@ -1,4 +1,4 @@
-use Rattle.std.proofs.Common.{◌≡◌, ◌+◌, ◌-◌, ◌<◌, ◌≤◌, ℕ, List, [], length, refl, ap, sym, ◌∙◌, subst, arith}
+use Rattle.std.proofs.Common.{ℕ, subst, arith}
 use Rattle.steal_workers.specs.Emptying.{IsEmptying}
 use Rattle.steal_workers.proofs.gathering.empty_all.Goals as goal
 

@@ -1,4 +1,4 @@
-use Rattle.std.proofs.Common.{◌≡◌, ◌<◌, ℕ, length, arith}
+use Rattle.std.proofs.Common.{◌≡◌, arith}
 use Rattle.steal_workers.specs.Items.{weigh}
 use Rattle.steal_workers.specs.Backs.{own_weight}
 use Rattle.steal_workers.proofs.GatherSteps.{no_owner}

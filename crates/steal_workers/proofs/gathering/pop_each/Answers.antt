@@ -1,15 +1,13 @@
-use Rattle.std.proofs.Common.{◌≡◌, ◌+◌, ◌<◌, ◌≤◌, ℕ, List, [], ◌∷◌, ◌++◌, All, map, length, get_or, vec_len, refl, ap, sym, ◌∙◌, subst, length-append, arith}
+use Rattle.std.proofs.Common.{◌≡◌, ◌+◌, ◌<◌, ◌≤◌, ℕ, [], ◌∷◌, ◌++◌, length, get_or, ap, sym, ◌∙◌, subst, length-append, arith}
 use Rattle.std.proofs.lemmas.List.{get_or-map, length-map}
-use Rattle.std.proofs.Math.ListN.{length-set}
 use Rattle.std.proofs.Math.Seq.{map-set_same}
-use Rattle.steal_workers.specs.declared.item.Item.{Item}
 use Rattle.steal_workers.specs.declared.share.Share.{Share}
 use Rattle.steal_workers.specs.declared.seat.Stack.{Stack}
 use Rattle.steal_workers.specs.Items.{weigh}
 use Rattle.steal_workers.specs.Deals.{Deal}
 use Rattle.steal_workers.specs.WholeDeals.{common_deal}
 use Rattle.steal_workers.specs.Decks.{EachAt}
-use Rattle.steal_workers.specs.Gathers.{IsStack, IsShareAt, AreOwnMarked, places, all_taken, share_taken}
+use Rattle.steal_workers.specs.Gathers.{IsStack, IsShareAt, AreOwnMarked, places, share_taken}
 use Rattle.steal_workers.proofs.Weights.{weigh-append}
 use Rattle.steal_workers.proofs.DeckSteps.{each_at_set}
 use Rattle.steal_workers.proofs.ColumnSteps.{each_at_snoc}

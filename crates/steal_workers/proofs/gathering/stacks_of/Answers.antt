@@ -1,9 +1,7 @@
-use Rattle.std.proofs.Common.{◌≡◌, ◌+◌, ◌<◌, ◌≤◌, ◌++◌, ℕ, List, [], ◌∷◌, All, map, length, vec_len, vec_capacity, refl, ap, sym, ◌∙◌, subst, length-append, append-nil, append_assoc, arith}
+use Rattle.std.proofs.Common.{◌≡◌, ◌++◌, List, [], ◌∷◌, length, refl, ap, sym, ◌∙◌, subst, length-append, append-nil, append_assoc, arith}
 use Rattle.std.proofs.lemmas.List.Elements.{All-nil}
 use Rattle.std.specs.Vec.Iter.{into_iter_items}
-use Rattle.steal_workers.specs.declared.seat.Stack.{Stack}
-use Rattle.steal_workers.specs.SeatViews.{SeatView, seat_count}
-use Rattle.steal_workers.specs.WholeDeals.{common_deal}
+use Rattle.steal_workers.specs.SeatViews.{SeatView}
 use Rattle.steal_workers.proofs.GatherSteps.{nil_if}
 use Rattle.steal_workers.proofs.SeatStacks.{AreStacked, stacked_more, dealt_by}
 use Rattle.steal_workers.proofs.gathering.stacks_of.Goals as goal

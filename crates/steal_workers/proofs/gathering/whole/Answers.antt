@@ -1,14 +1,12 @@
-use Rattle.std.proofs.Common.{◌≡◌, ◌+◌, ◌<◌, ◌≤◌, ℕ, Bool, true, false, List, [], ◌∷◌, ◌++◌, All, length, get_or, vec_len, refl, ap, sym, ◌∙◌, subst, length-append, append-nil, arith}
+use Rattle.std.proofs.Common.{◌≡◌, ◌+◌, ◌<◌, true, false, List, [], ◌∷◌, ◌++◌, All, length, get_or, refl, ap, sym, ◌∙◌, subst, length-append, arith}
 use Rattle.std.specs.declared.alloc.Global.{Global}
 use Rattle.atomic_blocks.specs.Lent.{RowsId}
 use Rattle.crossbeam_deque.specs.Handles.{IsPassOf, worker_deque, worker_view, view}
-use Rattle.steal_workers.specs.declared.item.Item.{Item}
 use Rattle.steal_workers.specs.declared.hand.Hand.{Hand}
 use Rattle.steal_workers.specs.declared.share.Share.{Share}
 use Rattle.steal_workers.specs.Items.{weigh}
-use Rattle.steal_workers.specs.Ends.{deque_of, hand_of, is_own}
-use Rattle.steal_workers.specs.Shares.{IsShare, taken_from}
-use Rattle.steal_workers.specs.Backs.{own_weight}
+use Rattle.steal_workers.specs.Ends.{deque_of, is_own}
+use Rattle.steal_workers.specs.Shares.{IsShare}
 use Rattle.steal_workers.specs.Gathers.{share_taken}
 use Rattle.steal_workers.proofs.Weights.{weigh-append}
 use Rattle.steal_workers.proofs.Steps.{merges}

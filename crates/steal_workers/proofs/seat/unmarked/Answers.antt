@@ -1,4 +1,4 @@
-use Rattle.std.proofs.Common.{◌≡◌, ◌<◌, length, get_or, map, Bool, true, false, true≢false, refl, sym, ap, ◌∙◌, below_more}
+use Rattle.std.proofs.Common.{false, sym, ap, ◌∙◌, below_more}
 use Rattle.std.proofs.lemmas.List.{get_or-map}
 use Rattle.steal_workers.specs.Shares.{is_marked}
 use Rattle.steal_workers.proofs.seat.unmarked.Goals as goal

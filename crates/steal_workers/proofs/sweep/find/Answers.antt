@@ -1,5 +1,4 @@
-use Rattle.std.proofs.Common.{refl, ◌<◌, ◌≤◌, length, arith, Option, Some, None, MatchOption, IfNone}
-use Rattle.steal_workers.proofs.ShareLists.{moves_sound, moves_trans, moves_length, moves_marked, none_trans, found_after, ends_with, if_none}
+use Rattle.steal_workers.proofs.ShareLists.{moves_sound, moves_trans, moves_marked, none_trans, found_after, ends_with, if_none}
 use Rattle.steal_workers.proofs.sweep.find.Goals as goal
 
 pub sweep-requires-clause-sound : goal.sweep-requires-clause-sound

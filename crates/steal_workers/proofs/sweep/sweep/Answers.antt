@@ -1,7 +1,6 @@
-use Rattle.std.proofs.Common.{◌≡◌, ◌<◌, ℕ, List, length, get_or, All, refl, arith, subst}
-use Rattle.steal_workers.specs.declared.share.Share.{Share}
-use Rattle.steal_workers.specs.Shares.{IsShare, taken_weight, TookNone}
-use Rattle.steal_workers.proofs.ShareLists.{stays_all, moves_sound, moves_trans, moves_length, moves_set, none_set, none_trans, found_set, found_after}
+use Rattle.std.proofs.Common.{◌≡◌, ℕ, get_or, refl, arith}
+use Rattle.steal_workers.specs.Shares.{taken_weight}
+use Rattle.steal_workers.proofs.ShareLists.{stays_all, moves_sound, moves_trans, moves_set, none_set, none_trans, found_set, found_after}
 use Rattle.steal_workers.proofs.sweep.sweep.Goals as goal
 use Rattle.steal_workers.proofs.sweep.sweep.Goals.{in-Marked, in-Lost}
 

@@ -1,4 +1,4 @@
-use Rattle.std.proofs.Common.{◌≡◌, ◌-◌, ◌≤◌, ◌+◌, All, vec_len, vec_capacity}
+use Rattle.std.proofs.Common.{◌≡◌, ◌≤◌, ◌+◌, All, vec_len, vec_capacity}
 use Rattle.crossbeam_deque.specs.Handles.{worker_deque}
 use Rattle.steal_workers.specs.Decks.{IsThiefOf}
 use Rattle.steal_workers.proofs.deck.Deck.new.Given as goal

@@ -1,4 +1,4 @@
-use Rattle.std.proofs.Common.{◌≡◌, ◌<◌, ℕ, List, length, map, get_or, false, refl, sym, ap, ◌∙◌, subst, arith}
+use Rattle.std.proofs.Common.{◌≡◌, ◌<◌, List, length, map, get_or, false, refl, sym, ap, ◌∙◌, subst, arith}
 use Rattle.steal_workers.specs.declared.share.Share.{Share}
 use Rattle.steal_workers.specs.declared.seat.Seat.TheInside.{Inside}
 use Rattle.steal_workers.specs.Shares.{is_marked, AllMarked}

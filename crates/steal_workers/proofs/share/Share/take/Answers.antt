@@ -1,5 +1,3 @@
-use Rattle.std.proofs.Common.{subst, sym}
-use Rattle.steal_workers.specs.Shares.{Steps}
 use Rattle.steal_workers.proofs.ShareSteps.{noted}
 use Rattle.steal_workers.proofs.share.Share.take.Goals as goal
 
