@@ -1,0 +1,48 @@
+-- What the clauses on the seats of a deal say together.
+use Rattle.std.proofs.Common.{◌≡◌, ◌⊎◌, inl, inr, ℕ, zero, suc, ◌<◌, List, [], ◌∷◌, map, get_or, All, refl, ap, sym, subst, arith}
+use Rattle.std.proofs.lemmas.List.{length-map, get_or-map}
+use Rattle.std.proofs.lemmas.List.Elements.{All-append}
+use Rattle.std.proofs.lemmas.List.Sorted.{All-permutation, IsPermutation-sym}
+use Rattle.steal_workers.specs.declared.item.Numbered.{Numbered}
+use Rattle.steal_workers.specs.declared.seat.Next.{Next}
+use Rattle.steal_workers.specs.declared.seat.Next.TheVariants.{Task, Empty, Lost}
+use Rattle.steal_workers.specs.Deals.{numbers_below}
+use Rattle.steal_workers.specs.SeatViews.{SeatView, seat_count, HasMark, HasEveryMark}
+use Rattle.steal_workers.specs.Answers.{Answers, FoundNone}
+use Rattle.steal_workers.specs.WholeDeals.{common_deal, IsWholeDeal}
+use Rattle.steal_workers.specs.Gathers.{IsGathered}
+use Rattle.steal_workers.proofs.ShareLists.{all_none, all_cons}
+
+numbers_below-within : (n : ℕ) → All (λ (k : ℕ). k < n) (numbers_below n)
+numbers_below-within zero = all_none (λ (k : ℕ). k < zero)
+numbers_below-within (suc n) =
+    All-append (λ (k : ℕ). k < suc n) (numbers_below n) (n ∷ []) (λ k e within. (let below = numbers_below-within n k e within in omega arith)) (all_cons (λ (k : ℕ). k < suc n) n [] (omega arith) (all_none (λ (k : ℕ). k < suc n)))
+
+module _ {T : Type 0} where
+  -- a seat with every mark answers that no task is left, and nothing else
+  pub empty-exact : (old new : SeatView T) (next : Next T) → Answers old next new → HasEveryMark new → next ≡ Empty
+  empty-exact old new (Task task) answer every = absurd (answer.1 every)
+  empty-exact old new Empty answer every = refl
+  empty-exact old new (Lost deque) answer every = absurd (answer.5 (every deque answer.2))
+
+  pub one_seat-never_lost : (old new : SeatView T) (deque : ℕ) → seat_count new.deal ≡ 1 → Answers old (Lost deque) new → ⊥
+  one_seat-never_lost old new deque one answer = (let more = answer.4 in omega arith)
+
+  -- each seat's place is below the number of the seats
+  pub place-within : (seats : List (SeatView T)) → IsWholeDeal seats → All (λ (seat : SeatView T). seat.place < seat_count seat.deal) seats
+  place-within seats whole k e within =
+      let n = seat_count (common_deal seats) in
+      let places = map (λ (seat : SeatView T). seat.place) seats in
+      let all = All-permutation (λ (place : ℕ). place < n) (numbers_below n) places (IsPermutation-sym places (numbers_below n) whole.each_once) (numbers_below-within n) in
+      let here : (get_or seats k e).place < n = subst (λ (place : ℕ). place < n) (get_or-map (λ (seat : SeatView T). seat.place) seats k e 0 within)
+      (all k 0 (omega (arith, length-map seats (λ (seat : SeatView T). seat.place)))) in
+      subst (λ (count : ℕ). (get_or seats k e).place < count) (sym (ap seat_count (whole.one_deal k e within))) here
+
+  own_mark : (seat old : SeatView T) → seat.place < seat_count seat.deal → (Answers old Empty seat ⊎ ((deque : ℕ) × Answers old (Lost deque) seat)) → HasMark seat seat.place
+  own_mark seat old within (inl answer) = answer.1 seat.place within
+  own_mark seat old within (inr lost) = lost.1.1
+
+  -- where each seat's last answer was no task, nothing is left
+  pub nothing_left : (seats : List (SeatView T)) (left : List (Numbered T)) → IsWholeDeal seats → IsGathered seats left → All FoundNone seats → left ≡ []
+  nothing_left seats left whole gathered found =
+      gathered.none_left (λ k e within. own_mark (get_or seats k e) (found k e within).0 (place-within seats whole k e within) (found k e within).1)

@@ -1,0 +1,179 @@
+-- Gathering, step by step.
+use Rattle.std.proofs.Common.{◌≡◌, ◌≢◌, ℕ, zero, suc, ◌+◌, ◌<◌, ◌≤◌, ◌==◌, Bool, true, false, List, [], ◌∷◌, ◌++◌, map, length, get_or, set, All, sym, refl, ap, ◌∙◌, subst, eq-eqb, ne_eqb, length-append, arith}
+use mathlib.Core.Option.{some}
+use lib.ListN.{get_elem?}
+use mathlib.Core.Logic.{dite}
+use native.Mathlib.Decide.{ℕ_discrete}
+use Rattle.std.specs.List.{sum_by, remove}
+use Rattle.std.specs.List.Sorted.{IsPermutation}
+use Rattle.std.proofs.lemmas.List.{length-map}
+use Rattle.std.proofs.lemmas.List.Sums.{sum_by-cons}
+use Rattle.std.proofs.lemmas.List.Sorted.{IsPermutation-refl, IsPermutation-cons, IsPermutation-sym, IsPermutation-trans, IsPermutation-remove, sum_by-IsPermutation}
+use Rattle.crossbeam_deque.proofs.Lists.{at_index}
+use Rattle.steal_workers.specs.declared.item.Item.{Item}
+use Rattle.steal_workers.specs.declared.share.Share.{Share}
+use Rattle.steal_workers.specs.declared.seat.Stack.{Stack}
+use Rattle.steal_workers.specs.Items.{weigh}
+use Rattle.steal_workers.specs.Ends.{is_own}
+use Rattle.steal_workers.specs.Deals.{Deal, numbers_below}
+use Rattle.steal_workers.specs.Backs.{one_if, own_weight}
+use Rattle.steal_workers.specs.Gathers.{joined, IsShareAt, IsStack, PopsEach, share_taken, stack_taken, all_taken, places}
+use Rattle.steal_workers.proofs.Weights.{weigh-append, weigh-set}
+use Rattle.steal_workers.proofs.ShareLists.{all_head, all_tail, all_cons, all_none}
+
+module _ {X : Type 0} where
+  pub weigh_is_sum : (f : X → ℕ) (xs : List X) → weigh f xs ≡ sum_by f xs
+  weigh_is_sum f [] = refl
+  weigh_is_sum f (x ∷ xs) = ap (λ n. f x + n) (weigh_is_sum f xs) ∙ sym (sum_by-cons f x xs)
+
+  pub weigh-permutation : (f : X → ℕ) (xs ys : List X) → IsPermutation xs ys → weigh f ys ≡ weigh f xs
+  weigh-permutation f xs ys p = weigh_is_sum f ys ∙ sum_by-IsPermutation f xs ys p ∙ sym (weigh_is_sum f xs)
+
+  pub all_split : (P : X → Type 0) (ys : List X) (y : X) → All P (ys ++ y ∷ []) → All P ys × P y
+  all_split P [] y h = (all_none P, all_head P y [] h)
+  all_split P (x ∷ xs) y h = let r = all_split P xs y (all_tail P x (xs ++ y ∷ []) h) in (all_cons P x xs (all_head P x (xs ++ y ∷ []) h) r.0, r.1)
+
+  pub nil_if : (xs : List X) → length xs ≡ 0 → xs ≡ []
+  nil_if [] e = refl
+  nil_if (x ∷ xs) e = absurd (omega arith)
+
+  -- weights of lists that are alike, member by member
+  pub weigh_alike : {Y : Type 0} (f : X → ℕ) (g : Y → ℕ) (xs : List X) (ys : List Y) → length xs ≡ length ys → ((i : ℕ) (e : X) (k : Y) → i < length xs → f (get_or xs i e) ≡ g (get_or ys i k)) → weigh f xs ≡ weigh g ys
+  weigh_alike f g [] [] long alike = refl
+  weigh_alike f g [] (y ∷ ys) long alike = absurd (omega arith)
+  weigh_alike f g (x ∷ xs) [] long alike = absurd (omega arith)
+  weigh_alike f g (x ∷ xs) (y ∷ ys) long alike =
+      let here = alike 0 x y (omega arith) in
+      let rest = weigh_alike f g xs ys (omega arith) (λ i e k w. alike (suc i) e k (omega arith)) in
+      omega arith
+
+-- numbers that weigh the same, however they are weighed, are the same in another order
+indicator : ℕ → ℕ → ℕ
+indicator x y = one_if (y == x)
+
+find_number : (x : ℕ) (ys : List ℕ) → 0 < weigh (λ y. one_if (y == x)) ys → (i : ℕ) × (i < length ys) × (x ≡ get_or ys i x)
+find_number x [] some_there = absurd (omega arith)
+find_number x (y ∷ ys) some_there = dite (ℕ_discrete y x)
+    (λ (e : y ≡ x). (0, (omega arith), sym e))
+    (λ (ne : y ≢ x).
+    let none : one_if (y == x) ≡ 0 = ap one_if (ne_eqb y x ne) in
+    let r = find_number x ys (omega arith) in
+    (suc r.0, (let w = r.1 in omega arith), r.2))
+
+pub same_weights : (xs ys : List ℕ) → ((h : ℕ → ℕ) → weigh h xs ≡ weigh h ys) → IsPermutation xs ys
+same_weights [] [] same = IsPermutation-refl []
+same_weights [] (y ∷ ys) same = let e = same (λ _. 1) in absurd (omega arith)
+same_weights (x ∷ xs) ys same =
+    let one : one_if (x == x) ≡ 1 = ap one_if (eq-eqb x x refl) in
+    let there = find_number x ys (let e = same (λ y. one_if (y == x)) in omega arith) in
+    let moved = IsPermutation-remove ys there.0 x there.1 there.2 in
+    let rest : (h : ℕ → ℕ) → weigh h xs ≡ weigh h (remove ys there.0) = λ h. (let p = weigh-permutation h ys (x ∷ remove ys there.0) moved in let e = same h in omega arith) in
+    IsPermutation-trans (x ∷ xs) (x ∷ remove ys there.0) ys (IsPermutation-cons x xs (remove ys there.0) (same_weights xs (remove ys there.0) rest))
+    (IsPermutation-sym ys (x ∷ remove ys there.0) moved)
+
+-- each number below n stands there once
+pub once_below : (d n : ℕ) → d < n → weigh (λ p. one_if (d == p)) (numbers_below n) ≡ 1
+once_below d n within = go n within
+  where
+    none_above : (n : ℕ) → n ≤ d → weigh (λ p. one_if (d == p)) (numbers_below n) ≡ 0
+    none_above zero le = refl
+    none_above (suc n) le =
+        let last : one_if (d == n) ≡ 0 = ap one_if (ne_eqb d n (λ e. absurd (omega arith))) in
+        omega (arith, weigh-append (λ p. one_if (d == p)) (numbers_below n) (n ∷ []), none_above n (omega arith))
+
+    go : (n : ℕ) → d < n → weigh (λ p. one_if (d == p)) (numbers_below n) ≡ 1
+    go zero w = absurd (omega arith)
+    go (suc n) w = dite (ℕ_discrete d n)
+        (λ (e : d ≡ n).
+        let last : one_if (d == n) ≡ 1 = ap one_if (eq-eqb d n e) in
+        omega (arith, weigh-append (λ p. one_if (d == p)) (numbers_below n) (n ∷ []), none_above n (omega arith)))
+        (λ (ne : d ≢ n).
+        let last : one_if (d == n) ≡ 0 = ap one_if (ne_eqb d n ne) in
+        omega (arith, weigh-append (λ p. one_if (d == p)) (numbers_below n) (n ∷ []), go n (omega arith)))
+
+pub weigh-joined : {X : Type 0} (h : X → ℕ) (xss : List (List X)) → weigh h (joined xss) ≡ weigh (weigh h) xss
+weigh-joined h [] = refl
+weigh-joined h (xs ∷ rest) = omega (arith, weigh-append h xs (joined rest), weigh-joined h rest)
+
+pub weigh-map : {X Y : Type 0} (f : X → Y) (h : Y → ℕ) (xs : List X) → weigh h (map f xs) ≡ weigh (λ x. h (f x)) xs
+weigh-map f h [] = refl
+weigh-map f h (x ∷ xs) = omega (arith, weigh-map f h xs)
+
+not_own : (b : Bool) → one_if b ≡ 0 → b ≡ false
+not_own true e = absurd (omega arith)
+not_own false e = refl
+
+module _ {T : Type 0} where
+  -- a column has an owner
+  pub no_owner : (column : List (Share T)) → ((k : ℕ) (e : Share T) → k < length column → is_own (get_or column k e).end ≡ false) → weigh own_weight column ≡ 0
+  no_owner [] none = refl
+  no_owner (x ∷ xs) none =
+      let here : own_weight x ≡ 0 = ap one_if (none 0 x (omega arith)) in
+      omega (arith, no_owner xs (λ k e w. none (suc k) e (omega arith)))
+
+  -- once the owner's share is out, the others are not owners'
+  pub others : (column : List (Share T)) → weigh own_weight column ≡ 0 → (k : ℕ) (e : Share T) → k < length column → is_own (get_or column k e).end ≡ false
+  others [] none k e w = absurd (omega arith)
+  others (x ∷ xs) none zero e w = not_own (is_own x.end) (omega arith)
+  others (x ∷ xs) none (suc k) e w = others xs (omega arith) k e (omega arith)
+
+  -- one stack gives its last share
+  pub stack_front : (P : Type 0) (deal : Deal T) (d : ℕ) (old new : Stack T) (share : Share T) → IsStack P deal (d + 1) old → old.shares.items ≡ new.shares.items ++ share ∷ [] → new.place ≡ old.place → IsStack P deal d new
+  stack_front P deal d old new share h is place =
+      let long = ap length is in
+      let count = h.count in
+      record {
+        count = omega (arith, length-append new.shares.items (share ∷ []));
+        each = λ k e w. subst (λ (p : ℕ × Share T). IsShareAt P deal k p.0 p.1)
+            (λ i. (sym place i, (ap (λ (l : List (Share T)). get_or l k e) is ∙ front new.shares.items (share ∷ []) k e w) i))
+            (h.each k e (omega (arith, length-append new.shares.items (share ∷ []))));
+      }
+    where
+      front : (xs ys : List (Share T)) (i : ℕ) (e : Share T) → i < length xs → get_or (xs ++ ys) i e ≡ get_or xs i e
+      front [] ys i e within = absurd (omega arith)
+      front (x ∷ xs) ys zero e within = refl
+      front (x ∷ xs) ys (suc i) e within = front xs ys i e (omega arith)
+
+  pub stack_top : (P : Type 0) (deal : Deal T) (d : ℕ) (old new : Stack T) (share : Share T) → IsStack P deal (d + 1) old → old.shares.items ≡ new.shares.items ++ share ∷ [] → IsShareAt P deal d old.place share
+  stack_top P deal d old new share h is =
+      let long = ap length is in
+      let count = h.count in
+      let here : length new.shares.items ≡ d = omega (arith, length-append new.shares.items (share ∷ [])) in
+      subst (λ (p : ℕ × Share T). IsShareAt P deal p.0 old.place p.1)
+      (λ i. (here i, (ap (λ (l : List (Share T)). get_or l (length new.shares.items) share) is ∙ end new.shares.items share share) i))
+      (h.each (length new.shares.items) share (omega arith))
+    where
+      end : (xs : List (Share T)) (y e : Share T) → get_or (xs ++ y ∷ []) (length xs) e ≡ y
+      end [] y e = refl
+      end (x ∷ xs) y e = end xs y e
+
+  pub stack_taken_less : (h : Item T → ℕ) (old new : Stack T) (share : Share T) → old.shares.items ≡ new.shares.items ++ share ∷ [] → stack_taken h old ≡ stack_taken h new + share_taken h share
+  stack_taken_less h old new share is =
+      let e : stack_taken h old ≡ weigh (share_taken h) (new.shares.items ++ share ∷ []) = ap (weigh (share_taken h)) is in
+      omega (arith, weigh-append (share_taken h) new.shares.items (share ∷ []))
+
+  pub all_taken_less : (h : Item T → ℕ) (stacks : List (Stack T)) (s : ℕ) (e new : Stack T) (share : Share T) → s < length stacks → (get_or stacks s e).shares.items ≡ new.shares.items ++ share ∷ []
+      → all_taken h (set stacks s new) + share_taken h share ≡ all_taken h stacks
+  all_taken_less h stacks s e new share within is =
+      let old : Stack T = get_or stacks s e in
+      let there : get_elem? stacks s ≡ some old = at_index stacks s old within (default stacks s e old within) in
+      let change = weigh-set (stack_taken h) stacks s old new there in
+      let less = stack_taken_less h old new share is in
+      omega arith
+    where
+      default : (xs : List (Stack T)) (d : ℕ) (e f : Stack T) → d < length xs → get_or xs d e ≡ get_or xs d f
+      default [] d e f within = absurd (omega arith)
+      default (x ∷ xs) zero e f within = refl
+      default (x ∷ xs) (suc d) e f within = default xs d e f (omega arith)
+
+  -- the column of one deque has one owner
+  pub one_owner : (P : Type 0) (deal : Deal T) (d n : ℕ) (old new : List (Stack T)) (column : List (Share T)) → PopsEach P deal d old new column → d < n → weigh (λ p. one_if (d == p)) (places old) ≡ 1
+      → weigh own_weight column ≡ 1
+  one_owner P deal d n old new column popped within once =
+      weigh_alike own_weight (λ p. one_if (d == p)) column (places old) (popped.count ∙ sym (length-map old (λ (stack : Stack T). stack.place)))
+      (λ i e k w. ap one_if ((popped.tops i e w).3) ∙ ap (λ p. one_if (d == p)) (number (places old) i k (let c = popped.count in omega (arith, length-map old (λ (stack : Stack T). stack.place))))) ∙ once
+    where
+      number : (xs : List ℕ) (i k : ℕ) → i < length xs → get_or xs i 0 ≡ get_or xs i k
+      number [] i k w = absurd (omega arith)
+      number (x ∷ xs) zero k w = refl
+      number (x ∷ xs) (suc i) k w = number xs i k (omega arith)

@@ -1,0 +1,66 @@
+-- A seat's step on one deque keeps its share.
+use Rattle.std.proofs.Common.{◌≡◌, ℕ, ◌+◌, false, true≢false, ◌||◌, [], ◌∷◌, ◌++◌, sym, refl, ap, ◌∙◌, arith}
+use Rattle.steal_workers.specs.declared.item.Item.{Item}
+use Rattle.steal_workers.specs.declared.item.Item.TheVariants.{Task as task_item, Mark as mark_item}
+use Rattle.steal_workers.specs.declared.hand.Hand.{Hand}
+use Rattle.steal_workers.specs.declared.share.Share.{Share}
+use Rattle.steal_workers.specs.declared.share.Step.TheVariants.{Lost}
+use Rattle.steal_workers.specs.Items.{weigh, marks, mark_weight, number_weight, Stands}
+use Rattle.steal_workers.specs.OneDeque.{Took}
+use Rattle.steal_workers.specs.Ends.{hand_of, is_own, CanTake, IsSameEnd}
+use Rattle.steal_workers.specs.Shares.{mark_count, IsShare, Follows, Steps, step_of, is_mark, dealt_to, taken_from, taken_weight}
+use Rattle.steal_workers.proofs.Weights.{weigh-append}
+
+module _ {T : Type 0} where
+  pub can_take : (s : Share T) → IsShare s → s.marked ≡ false → CanTake s.end
+  can_take s sound unmarked = let none : mark_count s.marked ≡ 0 = ap mark_count unmarked in (sound.0, (let one = sound.1 in let count = sound.2 in omega arith))
+
+  pub stays : (old : Share T) → IsShare old → Follows old old
+  stays old sound = record { sound = sound; same_deque = refl; same_items = refl; same_owner = refl; mark_stays = λ m. m }
+
+  pub lost : (old new : Share T) → IsShare old → new.marked ≡ old.marked → IsSameEnd old.end new.end → hand_of new.end ≡ hand_of old.end → is_own old.end ≡ false → Follows old new × Steps old Lost new
+  lost old new sound marked same hand other = (
+    record {
+      sound = (
+        same.0,
+        ap (λ (v : Hand T). v.share) hand ∙ sound.1,
+        ap (λ (v : Hand T). marks v.taken) hand ∙ sound.2 ∙ ap mark_count (sym marked),
+      );
+      same_deque = same.1;
+      same_items = ap (λ (v : Hand T). v.dealt) hand;
+      same_owner = same.2;
+      mark_stays = λ m. marked ∙ m;
+    },
+    (other, λ h. ap (λ (v : Hand T). weigh (number_weight h) v.taken) hand),
+  )
+
+  taken_mark : (item : Item T) → mark_weight item ≡ mark_count (is_mark item)
+  taken_mark (task_item number task) = refl
+  taken_mark mark_item = refl
+
+  steps : (old new : Share T) (item : Item T) → new.marked ≡ is_mark item → Stands (dealt_to old) item
+      → ((h : ℕ → ℕ) → taken_weight h new ≡ taken_weight h old + (number_weight h item + 0)) → Steps old (step_of item) new
+  steps old new (task_item number task) marked stands weights = (marked, stands, λ h. let w = weights h in omega arith)
+  steps old new mark_item marked stands weights = (marked, λ h. let w = weights h in omega arith)
+
+  pub noted : (old new : Share T) (item : Item T) → IsShare old → old.marked ≡ false → new.marked ≡ (old.marked || is_mark item)
+      → IsSameEnd old.end new.end → Took (hand_of old.end) (item ∷ []) (hand_of new.end) → Follows old new × Steps old (step_of item) new
+  noted old new item sound unmarked marked same took =
+      let now : new.marked ≡ is_mark item = marked ∙ ap (λ b. b || is_mark item) unmarked in
+      let all : marks (taken_from new) ≡ marks (taken_from old ++ item ∷ []) = ap (λ (v : Hand T). marks v.taken) took.0 in
+      let before : mark_count old.marked ≡ 0 = ap mark_count unmarked in
+      let after : mark_count new.marked ≡ mark_count (is_mark item) = ap mark_count now in (
+        record {
+          sound = (
+            same.0,
+            ap (λ (v : Hand T). v.share) took.0 ∙ sound.1,
+            (let count = sound.2 in omega (arith, weigh-append mark_weight (taken_from old) (item ∷ []), taken_mark item)),
+          );
+          same_deque = same.1;
+          same_items = ap (λ (v : Hand T). v.dealt) took.0;
+          same_owner = same.2;
+          mark_stays = λ m. absurd (true≢false (sym m ∙ unmarked));
+        },
+        steps old new item now (took.1 item (0, refl))
+            (λ h. ap (λ (v : Hand T). weigh (number_weight h) v.taken) took.0 ∙ weigh-append (number_weight h) (taken_from old) (item ∷ [])),
+      )

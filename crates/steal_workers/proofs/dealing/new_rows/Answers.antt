@@ -1,0 +1,25 @@
+use Rattle.std.proofs.Common.{[], ◌∷◌, arith}
+use Rattle.std.proofs.lemmas.List.Elements.{All-nil, All-cons, All-append}
+use Rattle.steal_workers.specs.declared.dealing.Row.{Row}
+use Rattle.steal_workers.specs.Layouts.{IsEmptyRow}
+use Rattle.steal_workers.proofs.dealing.new_rows.Goals as goal
+
+pub loop-init : goal.loop-init
+loop-init g c = record {
+  count = c.in_ok-rows.ensures.len;
+  room = c.in_ok-rows.ensures.capacity;
+  each = rw c.in_ok-rows.ensures.items (All-nil _);
+}
+
+pub loop-preserved : goal.loop-preserved
+loop-preserved g c =
+    let P : Row g.row.T.Denot → Type 0 = IsEmptyRow c.args.seats c.args.tasks.now.items in
+    let count = c.loop.invariant.count in
+    record {
+      count = (let p = c.push_reserved.ensures.len in omega arith);
+      room = (let r = c.loop.invariant.room in let p = c.push_reserved.ensures.capacity in omega arith);
+      each = rw c.push_reserved.ensures.items (All-append P c.loop.rows.items (c.in_ok-new.field-0 ∷ []) c.loop.invariant.each (All-cons P c.in_ok-new.field-0 [] c.in_ok-new.ensures (All-nil P)));
+    }
+
+pub returns : goal.returns
+returns g c = ((let count = c.loop.invariant.count in let t = c.loop-test.false in let e = c.loop.auto.counter-end in omega (arith, c.loop.rows.ok.0)), c.loop.invariant.each)

@@ -1,0 +1,62 @@
+use Rattle.std.proofs.Common.{◌≡◌, ℕ, ◌∷◌, All, length, ap, sym, ◌∙◌, subst, arith}
+use Rattle.std.specs.Vec.Iter.{into_iter_items}
+use Rattle.steal_workers.specs.declared.dealing.Row.{Row}
+use Rattle.steal_workers.specs.SeatViews.{SeatView}
+use Rattle.steal_workers.specs.WholeDeals.{IsNewSeat}
+use Rattle.steal_workers.specs.Decks.{EachAt}
+use Rattle.steal_workers.specs.Columns.{AreColumns, IsRow}
+use Rattle.steal_workers.specs.Layouts.{IsEmptyRow, planned}
+use Rattle.steal_workers.proofs.ShareLists.{all_head, all_tail}
+use Rattle.steal_workers.proofs.ColumnSteps.{each_at_snoc}
+use Rattle.steal_workers.proofs.DealSteps.{seat_of_row}
+use Rattle.steal_workers.proofs.dealing.seated.Goals as goal
+
+pub row-shares-requires-clause-columns : goal.row-shares-requires-clause-columns
+row-shares-requires-clause-columns g c =
+    let inv = c.loop-empty.invariant in
+    subst (λ (n : ℕ). AreColumns c.args.plan.now.decks.value.items n c.loop-empty.columns) (sym inv.columns.count) inv.columns
+
+pub row-shares-requires-clause-height : goal.row-shares-requires-clause-height
+row-shares-requires-clause-height g c = λ d column w.
+    let inv = c.loop-empty.invariant in
+    let h = inv.height d column w in
+    let count = inv.columns.count in
+    let place = c.len-place.ensures in
+    omega arith
+
+pub row-shares-requires-clause-place : goal.row-shares-requires-clause-place
+row-shares-requires-clause-place g c =
+    let inv = c.loop-empty.invariant in
+    let count = inv.columns.count in
+    let left = inv.left in
+    let long = ap length c.in-Some.ensures.steps.0 in
+    let place = c.len-place.ensures in
+    omega arith
+
+pub loop-empty-preserved : goal.loop-empty-preserved
+loop-empty-preserved g c =
+    let inv = c.loop-empty.invariant in
+    let decks = c.args.plan.now.decks.value.items in
+    let tasks = c.args.plan.now.tasks.value.items in
+    let n = length c.args.columns.now in
+    let rest = into_iter_items c.next.new.self in
+    let next = c.in-Some.ensures.steps.0 in
+    let long = ap length next in
+    let P : Row g.row.T.Denot → Type 0 = IsEmptyRow n tasks in
+    let rows : All P (c.in-Some.empty ∷ rest) = subst (All P) next inv.rows in
+    let head = all_head P c.in-Some.empty rest rows in
+    let wide : length c.loop-empty.columns ≡ n = inv.columns.count in
+    let place = c.len-place.result in
+    let at : place ≡ length c.loop-empty.seats.items = c.len-place.ensures ∙ c.loop-empty.seats.ok.0 in
+    let F : ℕ → SeatView g.row.T.Denot → Type 0 = λ d seat. (seat.deal ≡ planned n decks tasks) × (seat.place ≡ d) × IsNewSeat seat in
+    let row : IsRow decks n n place c.row-shares.result.items = subst (λ (m : ℕ). IsRow decks m m place c.row-shares.result.items) wide c.row-shares.ensures.row in
+    let seat = seat_of_row decks n place c.row-shares.result.items tasks c.in-Some.empty.tasks.value.items c.new.result inv.columns.same_count row head.2 c.new.ensures in
+    record {
+      columns = subst (λ (m : ℕ). AreColumns decks m c.row-shares.new.columns) wide c.row-shares.ensures.columns;
+      height = λ d column w. (let h = c.row-shares.ensures.height d column w in let e = c.push_reserved.ensures.len in let p = c.len-place.ensures in omega arith);
+      rows = all_tail P c.in-Some.empty rest rows;
+      left = (let l = inv.left in let e = c.push_reserved.ensures.len in omega arith);
+      room = (let r = inv.room in let e = c.push_reserved.ensures.capacity in omega arith);
+      seats = subst (EachAt F) (sym c.push_reserved.ensures.items)
+          (each_at_snoc F c.loop-empty.seats.items c.new.result inv.seats (seat.0, seat.1 ∙ at, seat.2));
+    }

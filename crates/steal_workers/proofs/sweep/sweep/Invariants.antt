@@ -1,0 +1,5 @@
+use Rattle.steal_workers.specs.Shares.{Moves, TookNone}
+use Rattle.steal_workers.proofs.sweep.sweep.Given as goal
+
+abbrev pub invariant-loop-deque : goal.invariant-loop-deque
+invariant-loop-deque g l = Moves l.initial.shares l.shares × TookNone l.initial.shares l.shares

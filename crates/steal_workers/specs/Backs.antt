@@ -1,0 +1,29 @@
+-- All shares of one deque, and what comes back of them.
+use Rattle.std.specs.Prelude.{◌≡◌, ℕ, Bool, true, false, List, length, All}
+use Rattle.std.specs.declared.alloc.Global.{Global}
+use Rattle.atomic_blocks.specs.Lent.{RowsId}
+use Rattle.steal_workers.specs.declared.item.Item.{Item}
+use Rattle.steal_workers.specs.declared.hand.Hand.{Hand}
+use Rattle.steal_workers.specs.declared.share.Share.{Share}
+use Rattle.steal_workers.specs.Items.{weigh}
+use Rattle.steal_workers.specs.Ends.{deque_of, is_own}
+use Rattle.steal_workers.specs.Shares.{IsShare, dealt_to, taken_from}
+
+abbrev pub one_if : Bool → ℕ
+one_if true = 1
+one_if false = 0
+
+module _ {T : Type 0} where
+  abbrev pub own_weight : Share T → ℕ
+  own_weight share = one_if (is_own share.end)
+
+  -- shares of one deque, to which one list was dealt
+  abbrev pub IsWholeColumn : List (Share T) → Type 0
+  IsWholeColumn shares = (deque : RowsId × Global) × (items : List (Item T)) × All (λ share. IsShare share × (deque_of share.end ≡ deque) × (dealt_to share ≡ items)) shares
+
+  -- The view has all shares, and has taken what they had taken. It has a mark where the owner had one.
+  pub record IsBack (shares : List (Share T)) (v : Hand T) : Type 0 where
+    pub deals : v.deals ≡ true
+    pub share : v.share ≡ length shares
+    pub dealt : (items : List (Item T)) → All (λ share. dealt_to share ≡ items) shares → v.dealt ≡ items
+    pub taken : (h : Item T → ℕ) → weigh h v.taken ≡ weigh (λ share. weigh h (taken_from share)) shares

@@ -1,0 +1,29 @@
+-- What the dealer learns where it has all shares.
+use Rattle.std.specs.Prelude.{◌≡◌, ℕ, ◌+◌, ◌<◌, ◌≤◌, List, [], ◌∷◌, ◌++◌, map, All}
+use Rattle.steal_workers.specs.declared.item.Item.{Item}
+use Rattle.steal_workers.specs.declared.item.Item.TheVariants.{Task, Mark}
+use Rattle.steal_workers.specs.declared.item.Numbered.{Numbered}
+use Rattle.steal_workers.specs.declared.hand.Hand.{Hand}
+use Rattle.steal_workers.specs.Items.{weigh, marks, number_weight, Stands}
+use Rattle.steal_workers.specs.OneDeque.{Took}
+
+module _ {T : Type 0} where
+  -- nothing was taken that wasn't dealt
+  abbrev pub TookBack : Hand T → List (Item T) → Hand T → Type 0
+  TookBack v items w = Took v items w × ((h : Item T → ℕ) → weigh h w.taken ≤ weigh h v.dealt)
+
+  -- a task as it is left, and no mark
+  abbrev pub kept : Item T → List (Numbered T)
+  kept (Task number task) = record { number = number; task = task } ∷ []
+  kept Mark = []
+
+  abbrev pub numbers_of : List (Numbered T) → List ℕ
+  numbers_of left = map (λ entry. entry.number) left
+
+  -- What is left of the deque joins the list: with what was taken it is what was dealt, and where a mark was taken it is nothing.
+  pub record Drains (v : Hand T) (old new : List (Numbered T)) : Type 0 where
+    pub more : List (Numbered T)
+    pub joins : new ≡ old ++ more
+    pub all : (h : ℕ → ℕ) → weigh (number_weight h) v.taken + weigh h (numbers_of more) ≡ weigh (number_weight h) v.dealt
+    pub dealt : All (λ entry. Stands v.dealt (Task entry.number entry.task)) more
+    pub none : 0 < marks v.taken → more ≡ []

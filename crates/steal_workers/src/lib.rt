@@ -1,0 +1,26 @@
+//! Tasks dealt over the deques of seats that steal from one another.
+#![tactic(auto)]
+
+mod back;
+mod column;
+mod dealing;
+mod deck;
+mod end;
+mod gate;
+mod gathering;
+mod hand;
+mod item;
+mod row;
+mod seat;
+mod share;
+mod sweep;
+mod trail;
+
+pub use dealing::{DealFailed, deal};
+pub use gate::{Gate, OpenGate};
+pub use gathering::{GatherRefused, Gathered, gather};
+pub use item::Numbered;
+pub use seat::{Next, Seat};
+
+#[cfg(test)]
+mod tests;
