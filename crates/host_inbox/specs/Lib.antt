@@ -1,0 +1,4 @@
+pub mod Entries
+pub mod Walked
+pub mod Inboxes
+pub mod Steps

@@ -1,0 +1,8 @@
+//! Inboxes that threads share: parcels for hosts, put by carriers.
+#![tactic(auto)]
+
+mod entry;
+mod rule;
+mod trail;
+
+pub use entry::Entry;
