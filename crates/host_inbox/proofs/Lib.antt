@@ -1,0 +1,6 @@
+pub mod Weights
+pub mod Members
+pub mod Knowing
+pub mod ClaimSteps
+pub mod SettleSteps
+pub mod SeatSteps

@@ -1,0 +1,27 @@
+-- What each member of a list is, and places in lists.
+use Rattle.std.proofs.Common.{◌≡◌, ◌≢◌, ℕ, zero, suc, ◌<◌, List, [], ◌∷◌, ◌++◌, length, set, sym, refl, ap, ◌∙◌, arith}
+use mathlib.Core.Option.{some, some-injective, some-ne-none}
+use lib.ListN.{get_elem?}
+use Rattle.host_inbox.specs.Inboxes.{Each}
+
+module _ {X : Type 0} where
+  pub each-append : (P : X → Type 0) (xs ys : List X) → Each P xs → Each P ys → Each P (xs ++ ys)
+  each-append P [] ys p q = q
+  each-append P (x ∷ xs) ys p q = (p.0, each-append P xs ys p.1 q)
+
+  pub each_also : (P Q : X → Type 0) (xs : List X) → ((x : X) → P x → Q x) → Each P xs → Each Q xs
+  each_also P Q [] also p = tt
+  each_also P Q (x ∷ xs) also p = (also x p.0, each_also P Q xs also p.1)
+
+  pub each_at : (P : X → Type 0) (xs : List X) (i : ℕ) (x : X) → get_elem? xs i ≡ some x → Each P xs → P x
+  each_at P [] i x at p = absurd (some-ne-none x (sym at))
+  each_at P (y ∷ xs) zero x at p = subst_member (some-injective y x at) p.0
+    where
+      subst_member : y ≡ x → P y → P x
+      subst_member e q = let r : P x = rw (← e) q in r
+  each_at P (y ∷ xs) (suc i) x at p = each_at P xs i x at p.1
+
+  pub within : (xs : List X) (i : ℕ) (x : X) → get_elem? xs i ≡ some x → i < length xs
+  within [] i x e = absurd (some-ne-none x (sym e))
+  within (y ∷ xs) zero x e = omega arith
+  within (y ∷ xs) (suc i) x e = omega (arith, within xs i x e)
