@@ -25,9 +25,9 @@ next_here words host n m near e = get_or-set_same words host m 0 near ∙ e
 grown : (words : List ℕ) (host m other : ℕ) → host < length words → get_or words host 0 ≤ m → get_or words other 0 ≤ get_or (set words host m) other 0
 grown words host m other near le = dite (ℕ_discrete other host)
     (λ (e : other ≡ host).
-        let a : get_or (set words host m) other 0 ≡ m = ap (λ (k : ℕ). get_or (set words host m) k 0) e ∙ get_or-set_same words host m 0 near in
-        let b : get_or words other 0 ≡ get_or words host 0 = ap (λ (k : ℕ). get_or words k 0) e in
-        omega arith)
+    let a : get_or (set words host m) other 0 ≡ m = ap (λ (k : ℕ). get_or (set words host m) k 0) e ∙ get_or-set_same words host m 0 near in
+    let b : get_or words other 0 ≡ get_or words host 0 = ap (λ (k : ℕ). get_or words k 0) e in
+    omega arith)
     (λ (ne : other ≢ host). let a = get_or-set_other words host other m 0 ne in omega arith)
 
 module _ {T : Type 0} where
@@ -42,18 +42,18 @@ module _ {T : Type 0} where
       let long = rule.words in
       let room : host < length s.words = omega arith in
       dite (ℕ_discrete host other)
-        (λ (e : host ≡ other).
-            let one : only (host == other) (h n) ≡ h n = ap (λ b. only b (h n)) (eq-eqb host other e) in
-            let here : get_or (set s.words host m) other 0 ≡ n + 1 = ap (λ (k : ℕ). get_or (set s.words host m) k 0) (sym e) ∙ next_here s.words host n m room next in
-            let same : get_or s.words other 0 ≡ n = ap (λ (k : ℕ). get_or s.words k 0) (sym e) in
-            let was : weigh h (numbers_below (get_or s.words other 0)) ≡ weigh h (numbers_below n) = ap (λ (k : ℕ). weigh h (numbers_below k)) same in
-            let is : weigh h (numbers_below (get_or (set s.words host m) other 0)) ≡ weigh h (numbers_below n) + h n = ap (λ (k : ℕ). weigh h (numbers_below k)) here ∙ weigh_next h n in
-            omega arith)
-        (λ (ne : host ≢ other).
-            let nothing : only (host == other) (h n) ≡ 0 = ap (λ b. only b (h n)) (ne_eqb host other ne) in
-            let same : get_or (set s.words host m) other 0 ≡ get_or s.words other 0 = get_or-set_other s.words host other m 0 (λ e. ne (sym e)) in
-            let is : weigh h (numbers_below (get_or (set s.words host m) other 0)) ≡ weigh h (numbers_below (get_or s.words other 0)) = ap (λ (k : ℕ). weigh h (numbers_below k)) same in
-            omega arith)
+      (λ (e : host ≡ other).
+      let one : only (host == other) (h n) ≡ h n = ap (λ b. only b (h n)) (eq-eqb host other e) in
+      let here : get_or (set s.words host m) other 0 ≡ n + 1 = ap (λ (k : ℕ). get_or (set s.words host m) k 0) (sym e) ∙ next_here s.words host n m room next in
+      let same : get_or s.words other 0 ≡ n = ap (λ (k : ℕ). get_or s.words k 0) (sym e) in
+      let was : weigh h (numbers_below (get_or s.words other 0)) ≡ weigh h (numbers_below n) = ap (λ (k : ℕ). weigh h (numbers_below k)) same in
+      let is : weigh h (numbers_below (get_or (set s.words host m) other 0)) ≡ weigh h (numbers_below n) + h n = ap (λ (k : ℕ). weigh h (numbers_below k)) here ∙ weigh_next h n in
+      omega arith)
+      (λ (ne : host ≢ other).
+      let nothing : only (host == other) (h n) ≡ 0 = ap (λ b. only b (h n)) (ne_eqb host other ne) in
+      let same : get_or (set s.words host m) other 0 ≡ get_or s.words other 0 = get_or-set_other s.words host other m 0 (λ e. ne (sym e)) in
+      let is : weigh h (numbers_below (get_or (set s.words host m) other 0)) ≡ weigh h (numbers_below (get_or s.words other 0)) = ap (λ (k : ℕ). weigh h (numbers_below k)) same in
+      omega arith)
 
   claim_placed : (size : Size) (s : State (Option T) (Known T)) (host m id : ℕ) (v : Known T) → AreInboxes size s → host < size.hosts → get_elem? s.views id ≡ some v → m ≡ get_or s.words host 0 + 1
       → length v.settled + length v.pending < v.share * 4294967296 → get_or s.words host 0 < 16
@@ -73,13 +73,13 @@ module _ {T : Type 0} where
         once = claim_once size s host m id v w rule near at next (λ other h. claim_adds v host n other h);
         free = λ other p there from below.
             (let more = grown s.words host m other room (omega arith) in
-             let old : get_elem? s.homes (place_of other p) ≡ some (some None) = rule.free other p there (omega arith) below in
-             let apart : place_of other p ≢ k = λ e.
-                 (let both = same_place other p host n below small e in
-                  let here : get_or (set s.words host m) other 0 ≡ m = ap (λ (j : ℕ). get_or (set s.words host m) j 0) both.0 ∙ get_or-set_same s.words host m 0 room in
-                  let number = both.1 in
-                  absurd (omega arith)) in
-             set_else s.homes k (place_of other p) none apart ∙ old);
+            let old : get_elem? s.homes (place_of other p) ≡ some (some None) = rule.free other p there (omega arith) below in
+            let apart : place_of other p ≢ k = λ e.
+            (let both = same_place other p host n below small e in
+            let here : get_or (set s.words host m) other 0 ≡ m = ap (λ (j : ℕ). get_or (set s.words host m) j 0) both.0 ∙ get_or-set_same s.words host m 0 room in
+            let number = both.1 in
+            absurd (omega arith)) in
+            set_else s.homes k (place_of other p) none apart ∙ old);
         each = λ seat u to. ⊎_elim
             (λ t. subst (λ (x : Known T). Fits size.hosts (set s.homes k none) x) t.1 (mine k home))
             (λ t. fits_taken size.hosts s.homes k u home (rule.each seat u t.1))
@@ -113,7 +113,7 @@ module _ {T : Type 0} where
         once = claim_once size s host m id v w rule near at next (λ other h. full_adds v host n other h);
         free = λ other p there from below.
             (let more = grown s.words host m other room (omega arith) in
-             rule.free other p there (omega arith) below);
+            rule.free other p there (omega arith) below);
         each = λ seat u to. ⊎_elim
             (λ t. subst (λ (x : Known T). Fits size.hosts s.homes x) t.1 mine)
             (λ t. rule.each seat u t.1)
@@ -140,17 +140,26 @@ module _ {T : Type 0} where
       let bound = claimed_few size s host rule near in
       let next : (n + 1) % 2 ^ 64 ≡ n + 1 = omega arith in
       dite (dec_le 16 n)
-        (λ (large : 16 ≤ n). (
-            after_full v host n,
-            keeps,
-            tt,
-            claim_full size s host ((n + 1) % 2 ^ 64) id v rule near at next few large,
-            record { placed = λ small. absurd (omega arith); full = λ _. refl },
-          ))
-        (λ not. let small : n < 16 = lt_of_not-le not in (
-            after_claim v host n,
-            takes (place_of host n) None,
-            rule.free host n near (omega arith) small,
-            claim_placed size s host ((n + 1) % 2 ^ 64) id v rule near at next few small,
-            record { placed = λ _. refl; full = λ large. absurd (omega arith) },
-          ))
+      (λ (large : 16 ≤ n). (
+        after_full v host n,
+        keeps,
+        tt,
+        claim_full size s host ((n + 1) % 2 ^ 64) id v rule near at next few large,
+        record { placed = λ small. absurd (omega arith); full = λ _. refl },
+      ))
+      (λ not. let small : n < 16 = lt_of_not-le not in (
+        after_claim v host n,
+        takes (place_of host n) None,
+        rule.free host n near (omega arith) small,
+        claim_placed size s host ((n + 1) % 2 ^ 64) id v rule near at next few small,
+        record { placed = λ _. refl; full = λ large. absurd (omega arith) },
+      ))
+
+  -- the same, of a seat that holds no place
+  pub claims_of : (size : Size) (slots id host : ℕ) (me : Me (Option T) (Known T)) → host < size.hosts → me.1 ≡ [] → length me.0.settled + length me.0.pending < me.0.share * 4294967296
+      → Allows (AreInboxes size) slots id me host (λ n. (n + 1) % 2 ^ 64) (Claimed (step slots host 1 0 none) me)
+  claims_of size slots id host me near empty few =
+      subst
+        (λ (carried : List (ℕ × Option T)). Allows (AreInboxes size) slots id (me.0, carried) host (λ n. (n + 1) % 2 ^ 64) (Claimed (step slots host 1 0 none) (me.0, carried)))
+        (sym empty)
+        (claims size slots id host me.0 near few)

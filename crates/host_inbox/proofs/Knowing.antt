@@ -67,21 +67,30 @@ module _ {T : Type 0} where
   pub fits_taken : (hosts : ℕ) (homes : List (Place (Option T))) (k : ℕ) (v : Known T) → get_elem? homes k ≡ some (some None) → Fits hosts homes v → Fits hosts (set homes k none) v
   fits_taken hosts homes k v here fits = record {
     settled = each_also (IsSettled hosts homes) (IsSettled hosts (set homes k none)) v.settled
-        (λ e p. record { host = p.host; full = p.full; placed = λ small.
-            (let f = p.full small in let at = p.placed small in
-             let apart : place_of e.host e.number ≢ k = λ same. differs e.parcel f.0 f.1 (sym at ∙ ap (λ (j : ℕ). get_elem? homes j) same ∙ here) in
-             set_else homes k (place_of e.host e.number) none apart ∙ at) })
+        (λ e p. record {
+          host = p.host;
+          full = p.full;
+          placed = λ small.
+              (let f = p.full small in let at = p.placed small in
+              let apart : place_of e.host e.number ≢ k = λ same. differs e.parcel f.0 f.1 (sym at ∙ ap (λ (j : ℕ). get_elem? homes j) same ∙ here) in
+              set_else homes k (place_of e.host e.number) none apart ∙ at);
+        })
         fits.settled;
     pending = each_also (IsPending hosts homes) (IsPending hosts (set homes k none)) v.pending
-        (λ c p. record { host = p.host; number = p.number; out =
-            (let at = p.out in
-             let apart : place_of c.host c.number ≢ k = λ same. out_or_home none (some None) refl refl (sym at ∙ ap (λ (j : ℕ). get_elem? homes j) same ∙ here) in
-             set_else homes k (place_of c.host c.number) none apart ∙ at) })
+        (λ c p. record {
+          host = p.host;
+          number = p.number;
+          out =
+              (let at = p.out in
+              let apart : place_of c.host c.number ≢ k = λ same. out_or_home none (some None) refl refl (sym at ∙ ap (λ (j : ℕ). get_elem? homes j) same ∙ here) in
+              set_else homes k (place_of c.host c.number) none apart ∙ at);
+        })
         fits.pending;
     few = fits.few;
   }
     where
       differs : (p : Option T) (x : T) → p ≡ Some x → some (some p) ≡ some (some None) → ⊥
       differs p x is e = cc
+
       out_or_home : (x y : Place (Option T)) → x ≡ none → y ≡ some None → some x ≡ some y → ⊥
       out_or_home x y p q e = cc

@@ -26,20 +26,20 @@ module _ {T : Type 0} where
         words = rule.words;
         homes = rule.homes;
         shares = (let change = weigh-set (λ (u : Known T). u.share) s.views id v l at in
-                  let more = weigh-append (λ (u : Known T). u.share) (set s.views id l) (r ∷ []) in
-                  let all = rule.shares in omega arith);
+            let more = weigh-append (λ (u : Known T). u.share) (set s.views id l) (r ∷ []) in
+            let all = rule.shares in omega arith);
         few = rule.few;
         once = λ host h there.
             (let change = weigh-set (known_weight host h) s.views id v l at in
-             let more = weigh-append (known_weight host h) (set s.views id l) (r ∷ []) in
-             let all = rule.once host h there in omega arith);
+            let more = weigh-append (known_weight host h) (set s.views id l) (r ∷ []) in
+            let all = rule.once host h there in omega arith);
         free = rule.free;
         each = λ seat u to. ⊎_elim
             (λ t. ⊎_elim
-                (λ q. subst (λ (z : Known T). Fits size.hosts s.homes z) q.1
-                    (let old = rule.each id v at in record { settled = old.settled; pending = old.pending; few = omega arith }))
-                (λ q. rule.each seat u q.1)
-                (at_set s.views id seat l u t))
+            (λ q. subst (λ (z : Known T). Fits size.hosts s.homes z) q.1
+            (let old = rule.each id v at in record { settled = old.settled; pending = old.pending; few = omega arith }))
+            (λ q. rule.each seat u q.1)
+            (at_set s.views id seat l u t))
             (λ t. subst (λ (z : Known T). Fits size.hosts s.homes z) t (record { settled = tt; pending = tt; few = omega arith }))
             (at_snoc (set s.views id l) r u seat to);
       }
@@ -53,28 +53,28 @@ module _ {T : Type 0} where
         words = rule.words;
         homes = rule.homes;
         shares = (let first = weigh-set (λ (u : Known T). u.share) s.views id v b at in
-                  let second = weigh-set (λ (u : Known T). u.share) (set s.views id b) other w spent to in
-                  let all = rule.shares in omega arith);
+            let second = weigh-set (λ (u : Known T). u.share) (set s.views id b) other w spent to in
+            let all = rule.shares in omega arith);
         few = rule.few;
         once = λ host h there.
             (let first = weigh-set (known_weight host h) s.views id v b at in
-             let second = weigh-set (known_weight host h) (set s.views id b) other w spent to in
-             let settled = weigh-append (entry_weight host h) v.settled w.settled in
-             let pending = weigh-append (claim_weight host h) v.pending w.pending in
-             let all = rule.once host h there in omega arith);
+            let second = weigh-set (known_weight host h) (set s.views id b) other w spent to in
+            let settled = weigh-append (entry_weight host h) v.settled w.settled in
+            let pending = weigh-append (claim_weight host h) v.pending w.pending in
+            let all = rule.once host h there in omega arith);
         free = rule.free;
         each = λ seat u at_seat. ⊎_elim
             (λ t. subst (λ (z : Known T). Fits size.hosts s.homes z) t.1 (record { settled = tt; pending = tt; few = omega arith }))
             (λ t. ⊎_elim
-                (λ q. subst (λ (z : Known T). Fits size.hosts s.homes z) q.1
-                    (let mine = rule.each id v at in
-                     let others = rule.each other w theirs in
-                     record {
-                       settled = each-append (IsSettled size.hosts s.homes) v.settled w.settled mine.settled others.settled;
-                       pending = each-append (IsPending size.hosts s.homes) v.pending w.pending mine.pending others.pending;
-                       few = (let a = mine.few in let c = others.few in omega (arith, length-append v.settled w.settled, length-append v.pending w.pending));
-                     }))
-                (λ q. rule.each seat u q.1)
-                (at_set s.views id seat b u t.1))
+            (λ q. subst (λ (z : Known T). Fits size.hosts s.homes z) q.1
+            (let mine = rule.each id v at in
+            let others = rule.each other w theirs in
+            record {
+              settled = each-append (IsSettled size.hosts s.homes) v.settled w.settled mine.settled others.settled;
+              pending = each-append (IsPending size.hosts s.homes) v.pending w.pending mine.pending others.pending;
+              few = (let a = mine.few in let c = others.few in omega (arith, length-append v.settled w.settled, length-append v.pending w.pending));
+            }))
+            (λ q. rule.each seat u q.1)
+            (at_set s.views id seat b u t.1))
             (at_set (set s.views id b) other seat spent u at_seat);
       }

@@ -35,10 +35,14 @@ module _ {T : Type 0} where
   stays_settled : (hosts : ℕ) (homes : List (Place (Option T))) (k : ℕ) (y : Place (Option T)) (xs : List (Entry (Option T))) → get_elem? homes k ≡ some none
       → Each (IsSettled hosts homes) xs → Each (IsSettled hosts (set homes k y)) xs
   stays_settled hosts homes k y xs out p = each_also (IsSettled hosts homes) (IsSettled hosts (set homes k y)) xs
-      (λ e q. record { host = q.host; full = q.full; placed = λ small.
-          (let f = q.full small in let at = q.placed small in
-           let apart : place_of e.host e.number ≢ k = λ same. differs f.0 e.parcel f.1 none refl (sym at ∙ ap (λ (j : ℕ). get_elem? homes j) same ∙ out) in
-           set_else homes k (place_of e.host e.number) y apart ∙ at) })
+      (λ e q. record {
+        host = q.host;
+        full = q.full;
+        placed = λ small.
+            (let f = q.full small in let at = q.placed small in
+            let apart : place_of e.host e.number ≢ k = λ same. differs f.0 e.parcel f.1 none refl (sym at ∙ ap (λ (j : ℕ). get_elem? homes j) same ∙ out) in
+            set_else homes k (place_of e.host e.number) y apart ∙ at);
+      })
       p
 
   -- and so do the claims of a seat that hasn't this number
@@ -47,9 +51,9 @@ module _ {T : Type 0} where
   stays_pending hosts homes host number y [] small none_there p = tt
   stays_pending hosts homes host number y (c ∷ xs) small none_there p =
       let apart : place_of c.host c.number ≢ place_of host number = λ e.
-          (let both = same_place c.host c.number host number p.0.number small e in
-           let one = counted host number c.host c.number both.0 both.1 in
-           absurd (omega arith)) in (
+      (let both = same_place c.host c.number host number p.0.number small e in
+      let one = counted host number c.host c.number both.0 both.1 in
+      absurd (omega arith)) in (
         record { host = p.0.host; number = p.0.number; out = set_else homes (place_of host number) (place_of c.host c.number) y apart ∙ p.0.out },
         stays_pending hosts homes host number y xs small (omega arith) p.1,
       )
@@ -80,22 +84,22 @@ module _ {T : Type 0} where
         few = rule.few;
         once = λ other h there.
             (let change = weigh-set (known_weight other h) s.views id v w at in
-             let same = settle_adds v (Some x) other h in
-             let before = rule.once other h there in
-             let words : weigh h (numbers_below (get_or (set s.words (size.hosts + host) m) other 0)) ≡ weigh h (numbers_below (get_or s.words other 0)) = ap (λ (n : ℕ). weigh h (numbers_below n)) (same_claims size s.words host m other there) in
-             omega arith);
+            let same = settle_adds v (Some x) other h in
+            let before = rule.once other h there in
+            let words : weigh h (numbers_below (get_or (set s.words (size.hosts + host) m) other 0)) ≡ weigh h (numbers_below (get_or s.words other 0)) = ap (λ (n : ℕ). weigh h (numbers_below n)) (same_claims size s.words host m other there) in
+            omega arith);
         free = λ other p there from below.
             (let words = same_claims size s.words host m other there in
-             let empty = rule.free other p there (omega arith) below in
-             let apart : place_of other p ≢ k = λ e. out_or_empty none (some None) refl refl (sym empty ∙ ap (λ (j : ℕ). get_elem? s.homes j) e ∙ out) in
-             set_else s.homes k (place_of other p) (some (Some x)) apart ∙ empty);
+            let empty = rule.free other p there (omega arith) below in
+            let apart : place_of other p ≢ k = λ e. out_or_empty none (some None) refl refl (sym empty ∙ ap (λ (j : ℕ). get_elem? s.homes j) e ∙ out) in
+            set_else s.homes k (place_of other p) (some (Some x)) apart ∙ empty);
         each = λ seat u to. ⊎_elim
             (λ t. subst (λ (z : Known T). Fits size.hosts (set s.homes k (some (Some x))) z) t.1 (mine out old))
             (λ t. (let theirs = rule.each seat u t.1 in record {
-                settled = stays_settled size.hosts s.homes k (some (Some x)) u.settled out theirs.settled;
-                pending = stays_pending size.hosts s.homes host number (some (Some x)) u.pending small (others_lack size s id seat host number v u rule near pending at t.0 t.1) theirs.pending;
-                few = theirs.few;
-              }))
+              settled = stays_settled size.hosts s.homes k (some (Some x)) u.settled out theirs.settled;
+              pending = stays_pending size.hosts s.homes host number (some (Some x)) u.pending small (others_lack size s id seat host number v u rule near pending at t.0 t.1) theirs.pending;
+              few = theirs.few;
+            }))
             (at_set s.views id seat w u to);
       }
     where
@@ -119,9 +123,18 @@ module _ {T : Type 0} where
   pub settles : (size : Size) (slots id host number : ℕ) (v : Known T) (x : T) → host < size.hosts → number < 16 → v.pending ≡ claim host number ∷ []
       → Allows (AreInboxes size) slots id (v, (place_of host number, Some x) ∷ []) (size.hosts + host) (λ n. (n + 1) % 2 ^ 64) (Settled (step slots (size.hosts + host) 1 0 none) (v, (place_of host number, Some x) ∷ []))
   settles size slots id host number v x near small pending s rule long at fits = (
-      after_settle v (Some x),
-      gives,
-      tt,
-      settle_keeps size s ((get_or s.words (size.hosts + host) 0 + 1) % 2 ^ 64) id host number v x rule near small pending at,
-      refl,
-    )
+    after_settle v (Some x),
+    gives,
+    tt,
+    settle_keeps size s ((get_or s.words (size.hosts + host) 0 + 1) % 2 ^ 64) id host number v x rule near small pending at,
+    refl,
+  )
+
+  -- the same, as a seat holds it
+  pub settles_of : (size : Size) (slots id hosts host number : ℕ) (v : Known T) (me : Me (Option T) (Known T)) (x : T) → hosts ≡ size.hosts → host < hosts → number < 16 → v.pending ≡ claim host number ∷ []
+      → me ≡ (v, (place_of host number, Some x) ∷ [])
+      → Allows (AreInboxes size) slots id me (hosts + host) (λ n. (n + 1) % 2 ^ 64) (Settled (step slots (hosts + host) 1 0 none) me)
+  settles_of size slots id hosts host number v me x all near small pending is =
+      let step_of : Me (Option T) (Known T) → ℕ → Type 0 = λ it n. Allows (AreInboxes size) slots id it (n + host) (λ n. (n + 1) % 2 ^ 64) (Settled (step slots (n + host) 1 0 none) it) in
+      subst (λ (it : Me (Option T) (Known T)). step_of it hosts) (sym is)
+        (subst (λ (n : ℕ). step_of (v, (place_of host number, Some x) ∷ []) n) (sym all) (settles size slots id host number v x (omega arith) small pending))

@@ -81,22 +81,22 @@ pub at_most_once : (n k : ℕ) → weigh (is_number n) (numbers_below k) ≤ 1
 at_most_once n zero = omega arith
 at_most_once n (suc k) = dite (ℕ_discrete k n)
     (λ (e : k ≡ n).
-        let last : is_number n k ≡ 1 = ap (is_number n) e ∙ is_itself n in
-        omega (arith, weigh-append (is_number n) (numbers_below k) (k ∷ []), none_above n k (omega arith)))
+    let last : is_number n k ≡ 1 = ap (is_number n) e ∙ is_itself n in
+    omega (arith, weigh-append (is_number n) (numbers_below k) (k ∷ []), none_above n k (omega arith)))
     (λ (ne : k ≢ n).
-        let last : is_number n k ≡ 0 = is_other n k ne in
-        omega (arith, weigh-append (is_number n) (numbers_below k) (k ∷ []), at_most_once n k))
+    let last : is_number n k ≡ 0 = is_other n k ne in
+    omega (arith, weigh-append (is_number n) (numbers_below k) (k ∷ []), at_most_once n k))
 
 -- and each does once
 pub just_once : (n k : ℕ) → n < k → weigh (is_number n) (numbers_below k) ≡ 1
 just_once n zero w = absurd (omega arith)
 just_once n (suc k) w = dite (ℕ_discrete k n)
     (λ (e : k ≡ n).
-        let last : is_number n k ≡ 1 = ap (is_number n) e ∙ is_itself n in
-        omega (arith, weigh-append (is_number n) (numbers_below k) (k ∷ []), none_above n k (omega arith)))
+    let last : is_number n k ≡ 1 = ap (is_number n) e ∙ is_itself n in
+    omega (arith, weigh-append (is_number n) (numbers_below k) (k ∷ []), none_above n k (omega arith)))
     (λ (ne : k ≢ n).
-        let last : is_number n k ≡ 0 = is_other n k ne in
-        omega (arith, weigh-append (is_number n) (numbers_below k) (k ∷ []), just_once n k (omega arith)))
+    let last : is_number n k ≡ 0 = is_other n k ne in
+    omega (arith, weigh-append (is_number n) (numbers_below k) (k ∷ []), just_once n k (omega arith)))
 
 -- so many numbers
 pub count_below : (k : ℕ) → weigh (λ _. 1) (numbers_below k) ≡ k

@@ -2,3 +2,6 @@ pub mod Entries
 pub mod Walked
 pub mod Inboxes
 pub mod Steps
+pub mod Carriers
+pub mod CarrierViews
+pub mod Boards

@@ -1,0 +1,44 @@
+//! Boards: an inbox for each host.
+ghost use Rattle.std.specs.Prelude.{◌≡◌, ◌^◌, ◌<◌, ◌≤◌, ◌∷◌, ◌++◌, [], length, IfOk, IfErr};
+ghost use Rattle.host_inbox.specs.Entries.{entry};
+
+use crate::carrier::{Carrier, Full};
+use crate::rule::{Inboxes, Known, Size};
+use atomic_table::Table;
+use sim_base::{HostId, Parcel};
+use std::alloc::Global;
+use std::marker::Model;
+
+/// An inbox of 16 places for each host, into which carriers put parcels from any thread.
+#[derive(Drop)]
+pub struct Boards<T: Drop = Parcel> {
+    table: Table<Option<T>, Known<T>, Size, Inboxes, Global>,
+    size: Size,
+}
+
+impl<T: Drop> Model for Boards<T> {
+    ghost use Rattle.host_inbox.specs.CarrierViews.{BoardsView};
+
+    ghost Value = { BoardsView };
+
+    ghost use Rattle.host_inbox.specs.Boards.{boards_view, IsSoundBoards};
+
+    ghost view = { boards_view };
+
+    ghost invariant = { IsSoundBoards };
+}
+
+impl<T: Drop> Boards<T> {
+    /// Puts a parcel for a host, and answers its place, 0 to 15. Where the host's places are full, the parcel comes back
+    /// with the number that was claimed for it. Takes no memory, and waits for no other thread.
+    pub fn put(&self, carrier: &mut Carrier<T>, to: HostId, parcel: T) -> Result<u64, Full<T>>
+        requires boards { carrier.old.boards ≡ self.now.id }
+        requires to { to.index < self.now.hosts }
+        requires few { length carrier.old.entries < 2 ^ 32 }
+        ensures same { carrier.new.boards ≡ carrier.old.boards }
+        ensures placed { IfOk result (λ place. (place < 16) × (carrier.new.entries ≡ carrier.old.entries ++ entry to.index place parcel ∷ [])) }
+        ensures full { IfErr result (λ full. (16 ≤ full.claimed) × (full.parcel ≡ parcel) × (carrier.new.entries ≡ carrier.old.entries ++ entry to.index full.claimed parcel ∷ [])) }
+    {
+        carrier.put(&self.table.shared, self.size.hosts, to.index, parcel)
+    }
+}
