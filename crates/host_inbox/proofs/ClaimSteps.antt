@@ -160,6 +160,6 @@ module _ {T : Type 0} where
       → Allows (AreInboxes size) slots id me host (λ n. (n + 1) % 2 ^ 64) (Claimed (step slots host 1 0 none) me)
   claims_of size slots id host me near empty few =
       subst
-        (λ (carried : List (ℕ × Option T)). Allows (AreInboxes size) slots id (me.0, carried) host (λ n. (n + 1) % 2 ^ 64) (Claimed (step slots host 1 0 none) (me.0, carried)))
-        (sym empty)
-        (claims size slots id host me.0 near few)
+      (λ (carried : List (ℕ × Option T)). Allows (AreInboxes size) slots id (me.0, carried) host (λ n. (n + 1) % 2 ^ 64) (Claimed (step slots host 1 0 none) (me.0, carried)))
+      (sym empty)
+      (claims size slots id host me.0 near few)

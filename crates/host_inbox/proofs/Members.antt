@@ -1,5 +1,5 @@
 -- What each member of a list is, and places in lists.
-use Rattle.std.proofs.Common.{◌≡◌, ◌≢◌, ℕ, zero, suc, ◌<◌, List, [], ◌∷◌, ◌++◌, length, set, sym, refl, ap, ◌∙◌, arith}
+use Rattle.std.proofs.Common.{◌≡◌, ◌≢◌, ℕ, zero, suc, ◌<◌, List, [], ◌∷◌, ◌++◌, ◌+◌, length, set, All, sym, refl, ap, ◌∙◌, arith}
 use mathlib.Core.Option.{some, some-injective, some-ne-none}
 use lib.ListN.{get_elem?}
 use Rattle.host_inbox.specs.Inboxes.{Each}
@@ -25,3 +25,12 @@ module _ {X : Type 0} where
   within [] i x e = absurd (some-ne-none x (sym e))
   within (y ∷ xs) zero x e = omega arith
   within (y ∷ xs) (suc i) x e = omega (arith, within xs i x e)
+
+  pub all_none : (P : X → Type 0) → All P []
+  all_none P = λ k d within. absurd (omega arith)
+
+  pub all_snoc : (P : X → Type 0) (xs : List X) (y : X) → All P xs → P y → All P (xs ++ y ∷ [])
+  all_snoc P [] y all here zero d w = here
+  all_snoc P [] y all here (suc k) d w = absurd (omega arith)
+  all_snoc P (x ∷ xs) y all here zero d w = all 0 d (omega arith)
+  all_snoc P (x ∷ xs) y all here (suc k) d w = all_snoc P xs y (λ j e v. all (suc j) e (omega arith)) here k d (omega arith)

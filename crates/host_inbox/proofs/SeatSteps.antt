@@ -1,14 +1,15 @@
 -- Seats are made, and come back.
-use Rattle.std.proofs.Common.{◌≡◌, ◌≢◌, ◌⊎◌, ℕ, zero, suc, ◌+◌, ◌-◌, ◌*◌, ◌<◌, ◌≤◌, List, [], ◌∷◌, ◌++◌, map, length, get_or, set, Option, Some, None, sym, refl, ap, ◌∙◌, subst, ⊎_elim, length-append, arith}
-use mathlib.Core.Option.{Option as Place, some, none, some-injective}
+use Rattle.std.proofs.Common.{◌≡◌, ◌≢◌, ◌⊎◌, ℕ, zero, suc, ◌+◌, ◌-◌, ◌*◌, ◌<◌, ◌≤◌, List, [], ◌∷◌, ◌++◌, map, length, get_or, set, replicate, add-zero, Option, Some, None, sym, refl, ap, ◌∙◌, subst, ⊎_elim, length-append, arith}
+use mathlib.Core.Option.{Option as Place, some, none, some-injective, some-ne-none}
 use lib.ListN.{get_elem?}
-use Rattle.atomic_table.specs.Table.{State, Splits, Joins, opening}
+use Rattle.atomic_table.specs.Table.{State, Me, Splits, Joins, opening}
+use Rattle.std.proofs.lemmas.List.{length-map, length-replicate, get_or-replicate}
 use Rattle.atomic_table.proofs.Lists.{at_set, at_snoc, set_else}
 use Rattle.host_inbox.specs.declared.entry.Entry.{Entry}
 use Rattle.host_inbox.specs.declared.entry.Claim.{Claim}
 use Rattle.host_inbox.specs.declared.rule.Known.{Known}
 use Rattle.host_inbox.specs.declared.rule.Size.{Size}
-use Rattle.host_inbox.specs.Entries.{weigh, claim_weight, entry_weight}
+use Rattle.host_inbox.specs.Entries.{weigh, numbers_below, place_of, claim_weight, entry_weight}
 use Rattle.host_inbox.specs.Inboxes.{Each, IsSettled, IsPending, Fits, AreInboxes, known, known_weight}
 use Rattle.host_inbox.specs.Steps.{less_one, one, both, spent}
 use Rattle.host_inbox.proofs.Weights.{weigh-append, weigh-set}
@@ -77,4 +78,39 @@ module _ {T : Type 0} where
             (λ q. rule.each seat u q.1)
             (at_set s.views id seat b u t.1))
             (at_set (set s.views id b) other seat spent u at_seat);
+      }
+
+  -- the same, as a seat holds it
+  pub splits_of : (size : Size) (id k : ℕ) (me : Me (Option T) (Known T)) → 0 < k → me ≡ (known k [] [], []) → Splits (AreInboxes size) id me.0 (less_one me.0) (one me.0)
+  splits_of size id k me some_share is =
+      let share : me.0.share ≡ k = ap (λ (m : Me (Option T) (Known T)). m.0.share) is in
+      splits size id me.0 (omega arith) (ap (λ (m : Me (Option T) (Known T)). m.0.settled) is) (ap (λ (m : Me (Option T) (Known T)). m.0.pending) is)
+
+  pub one_less : (k : ℕ) (me new : Me (Option T) (Known T)) → me ≡ (known (k + 1) [] [], []) → new ≡ (less_one me.0, me.1) → new ≡ (known k [] [], [])
+  one_less k me new is to = to ∙ ap (λ (m : Me (Option T) (Known T)). (less_one m.0, m.1)) is ∙ ap (λ (n : ℕ). (known n [] [], [])) (let e : k + 1 - 1 ≡ k = omega arith in e)
+
+  vacant_at : (n k : ℕ) → k < n → get_elem? (map some (replicate {A = Option T} n None)) k ≡ some (some None)
+  vacant_at zero k w = absurd (omega arith)
+  vacant_at (suc n) zero w = refl
+  vacant_at (suc n) (suc k) w = vacant_at n k (omega arith)
+
+  one_view : (v u : Known T) (seat : ℕ) → get_elem? (v ∷ []) seat ≡ some u → v ≡ u
+  one_view v u zero e = some-injective v u e
+  one_view v u (suc seat) e = absurd (some-ne-none u (sym e))
+
+  -- inboxes into which nothing was put
+  pub opens : (size : Size) (words : List ℕ) → size.seats ≤ 64 → words ≡ replicate (size.hosts + size.hosts) 0
+      → AreInboxes size (opening words (replicate {A = Option T} (size.hosts * 16) None) (known size.seats [] []))
+  opens size words few is =
+      let zero_at : (host : ℕ) → host < size.hosts → get_or words host 0 ≡ 0 = λ host near.
+          ap (λ (ws : List ℕ). get_or ws host 0) is ∙ get_or-replicate (size.hosts + size.hosts) host 0 0 (omega arith) in
+      record {
+        words = ap length is ∙ length-replicate (size.hosts + size.hosts) 0;
+        homes = length-map (replicate {A = Option T} (size.hosts * 16) None) some ∙ length-replicate {A = Option T} (size.hosts * 16) None;
+        shares = add-zero size.seats;
+        few = few;
+        once = λ host h near. sym (ap (λ (n : ℕ). weigh h (numbers_below n)) (zero_at host near));
+        free = λ host number near from small. vacant_at (size.hosts * 16) (place_of host number) (omega arith);
+        each = λ seat u at. subst (λ (z : Known T). Fits size.hosts (map some (replicate {A = Option T} (size.hosts * 16) None)) z) (one_view (known size.seats [] []) u seat at)
+            (record { settled = tt; pending = tt; few = omega arith });
       }

@@ -137,4 +137,4 @@ module _ {T : Type 0} where
   settles_of size slots id hosts host number v me x all near small pending is =
       let step_of : Me (Option T) (Known T) → ℕ → Type 0 = λ it n. Allows (AreInboxes size) slots id it (n + host) (λ n. (n + 1) % 2 ^ 64) (Settled (step slots (n + host) 1 0 none) it) in
       subst (λ (it : Me (Option T) (Known T)). step_of it hosts) (sym is)
-        (subst (λ (n : ℕ). step_of (v, (place_of host number, Some x) ∷ []) n) (sym all) (settles size slots id host number v x (omega arith) small pending))
+      (subst (λ (n : ℕ). step_of (v, (place_of host number, Some x) ∷ []) n) (sym all) (settles size slots id host number v x (omega arith) small pending))

@@ -4,4 +4,5 @@ pub mod Inboxes
 pub mod Steps
 pub mod Carriers
 pub mod CarrierViews
+pub mod Sizes
 pub mod Boards

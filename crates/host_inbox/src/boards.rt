@@ -1,6 +1,7 @@
 //! Boards: an inbox for each host.
 ghost use Rattle.std.specs.Prelude.{◌≡◌, ◌^◌, ◌<◌, ◌≤◌, ◌∷◌, ◌++◌, [], length, IfOk, IfErr};
 ghost use Rattle.host_inbox.specs.Entries.{entry};
+ghost use Rattle.host_inbox.specs.Sizes.{IsSized};
 
 use crate::carrier::{Carrier, Full};
 use crate::rule::{Inboxes, Known, Size};
@@ -29,6 +30,16 @@ impl<T: Drop> Model for Boards<T> {
 }
 
 impl<T: Drop> Boards<T> {
+    pub(crate) fn new(
+        table: Table<Option<T>, Known<T>, Size, Inboxes, Global>,
+        size: Size,
+    ) -> Boards<T>
+        requires { IsSized table size }
+        ensures { result ≡ record { id = table.shared.table_id; hosts = size.hosts; seats = size.seats } }
+    {
+        Boards { table, size }
+    }
+
     /// Puts a parcel for a host, and answers its place, 0 to 15. Where the host's places are full, the parcel comes back
     /// with the number that was claimed for it. Takes no memory, and waits for no other thread.
     pub fn put(&self, carrier: &mut Carrier<T>, to: HostId, parcel: T) -> Result<u64, Full<T>>

@@ -4,6 +4,7 @@
 mod boards;
 mod carrier;
 mod entry;
+mod opening;
 mod rule;
 mod steps;
 mod trail;
