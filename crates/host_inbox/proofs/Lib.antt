@@ -4,3 +4,5 @@ pub mod Knowing
 pub mod ClaimSteps
 pub mod SettleSteps
 pub mod SeatSteps
+pub mod JoiningSteps
+pub mod DrainSteps

@@ -3,6 +3,7 @@ use Rattle.std.proofs.Common.{◌≡◌, ◌≢◌, ℕ, zero, suc, ◌<◌, Lis
 use mathlib.Core.Option.{some, some-injective, some-ne-none}
 use lib.ListN.{get_elem?}
 use Rattle.host_inbox.specs.Inboxes.{Each}
+use Rattle.host_inbox.specs.Drains.{EachAt}
 
 module _ {X : Type 0} where
   pub each-append : (P : X → Type 0) (xs ys : List X) → Each P xs → Each P ys → Each P (xs ++ ys)
@@ -34,3 +35,18 @@ module _ {X : Type 0} where
   all_snoc P [] y all here (suc k) d w = absurd (omega arith)
   all_snoc P (x ∷ xs) y all here zero d w = all 0 d (omega arith)
   all_snoc P (x ∷ xs) y all here (suc k) d w = all_snoc P xs y (λ j e v. all (suc j) e (omega arith)) here k d (omega arith)
+
+  pub all_front : (P : X → Type 0) (xs ys : List X) → All P (xs ++ ys) → All P xs
+  all_front P [] ys all k d w = absurd (omega arith)
+  all_front P (x ∷ xs) ys all zero d w = all 0 d (omega arith)
+  all_front P (x ∷ xs) ys all (suc k) d w = all_front P xs ys (λ j e v. all (suc j) e (omega arith)) k d (omega arith)
+
+  pub all_last : (P : X → Type 0) (xs : List X) (y : X) → All P (xs ++ y ∷ []) → P y
+  all_last P [] y all = all 0 y (omega arith)
+  all_last P (x ∷ xs) y all = all_last P xs y (λ j e v. all (suc j) e (omega arith))
+
+  pub each_at_snoc : (F : ℕ → X → Type 0) (xs : List X) (y : X) → EachAt F xs → F (length xs) y → EachAt F (xs ++ y ∷ [])
+  each_at_snoc F [] y h p zero e within = p
+  each_at_snoc F [] y h p (suc j) e within = absurd (omega arith)
+  each_at_snoc F (x ∷ xs) y h p zero e within = h 0 e (omega arith)
+  each_at_snoc F (x ∷ xs) y h p (suc j) e within = each_at_snoc (λ i. F (suc i)) xs y (λ i d w. h (suc i) d (omega arith)) p j e (omega arith)

@@ -103,7 +103,7 @@ module _ {T : Type 0} where
       → AreInboxes size (opening words (replicate {A = Option T} (size.hosts * 16) None) (known size.seats [] []))
   opens size words few is =
       let zero_at : (host : ℕ) → host < size.hosts → get_or words host 0 ≡ 0 = λ host near.
-          ap (λ (ws : List ℕ). get_or ws host 0) is ∙ get_or-replicate (size.hosts + size.hosts) host 0 0 (omega arith) in
+      ap (λ (ws : List ℕ). get_or ws host 0) is ∙ get_or-replicate (size.hosts + size.hosts) host 0 0 (omega arith) in
       record {
         words = ap length is ∙ length-replicate (size.hosts + size.hosts) 0;
         homes = length-map (replicate {A = Option T} (size.hosts * 16) None) some ∙ length-replicate {A = Option T} (size.hosts * 16) None;

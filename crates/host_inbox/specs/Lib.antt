@@ -6,3 +6,5 @@ pub mod Carriers
 pub mod CarrierViews
 pub mod Sizes
 pub mod Boards
+pub mod Drains
+pub mod Slots

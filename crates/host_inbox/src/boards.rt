@@ -1,11 +1,16 @@
 //! Boards: an inbox for each host.
-ghost use Rattle.std.specs.Prelude.{◌≡◌, ◌^◌, ◌<◌, ◌≤◌, ◌∷◌, ◌++◌, [], length, IfOk, IfErr};
+ghost use Rattle.std.specs.Prelude.{◌≡◌, ◌*◌, ◌^◌, ◌<◌, ◌≤◌, ◌∷◌, ◌++◌, [], length, IfOk, IfErr};
 ghost use Rattle.host_inbox.specs.Entries.{entry};
+ghost use Rattle.std.specs.Mem.Slots.{slots_items, slots_len, IsFull};
+ghost use Rattle.host_inbox.specs.CarrierViews.{AreAllOf};
+ghost use Rattle.host_inbox.specs.Drains.{all_entries};
 ghost use Rattle.host_inbox.specs.Sizes.{IsSized};
+ghost use Rattle.host_inbox.specs.Slots.{AreClosed};
 
 use crate::carrier::{Carrier, Full};
+use crate::joining::joined;
 use crate::rule::{Inboxes, Known, Size};
-use atomic_table::Table;
+use atomic_table::{Closed, Table};
 use sim_base::{HostId, Parcel};
 use std::alloc::Global;
 use std::marker::Model;
@@ -51,5 +56,24 @@ impl<T: Drop> Boards<T> {
         ensures full { IfErr result (λ full. (16 ≤ full.claimed) × (full.parcel ≡ parcel) × (carrier.new.entries ≡ carrier.old.entries ++ entry to.index full.claimed parcel ∷ [])) }
     {
         carrier.put(&self.table.shared, self.size.hosts, to.index, parcel)
+    }
+
+    /// How many hosts have an inbox.
+    pub fn hosts(&self) -> u32
+        ensures { result ≡ self.now.hosts }
+    {
+        self.size.hosts
+    }
+
+    // The places, once all carriers' seats are joined into one.
+    pub(crate) fn closed(self, carriers: Vec<Carrier<T>>) -> Closed<Option<T>, Global>
+        requires { AreAllOf self carriers.items }
+        ensures count { slots_len result.slots ≡ self.hosts * 16 }
+        ensures full { IsFull result.slots }
+        ensures laid { AreClosed self.hosts (all_entries carriers.items) (slots_items result.slots) }
+    {
+        let Boards { table, size: _ } = self;
+        let seat = joined(&table.shared, carriers);
+        table.close_with(seat)
     }
 }

@@ -1,5 +1,5 @@
 //! One worker's carrier.
-ghost use Rattle.std.specs.Prelude.{◌≡◌, ◌+◌, ◌^◌, ◌<◌, ◌≤◌, [], ◌∷◌, ◌++◌, length, IfOk, IfErr};
+ghost use Rattle.std.specs.Prelude.{◌≡◌, ◌+◌, ◌^◌, ◌<◌, ◌≤◌, [], ◌∷◌, ◌++◌, map, length, IfOk, IfErr};
 ghost use Rattle.host_inbox.specs.Entries.{entry};
 ghost use Rattle.host_inbox.specs.Inboxes.{known};
 
@@ -35,6 +35,8 @@ pub struct Full<T> {
 }
 
 impl<T> Carrier<T> {
+    ghost use Rattle.host_inbox.specs.Carriers.{filed};
+
     /// A carrier that has made no put.
     pub(crate) fn new(seat: PlaceSeat<T>) -> Carrier<T>
         requires { seat.me ≡ (known 1 [] [], []) }
@@ -44,6 +46,15 @@ impl<T> Carrier<T> {
             seat,
             trail: Trail::new(),
         }
+    }
+
+    /// The carrier's seat, which knows the entries of its puts.
+    pub(crate) fn into_seat(self) -> PlaceSeat<T>
+        ensures table { result.table_id ≡ self.boards }
+        ensures knows { result.me ≡ (known 1 (map filed self.entries) [], []) }
+    {
+        let Carrier { seat, trail: _ } = self;
+        seat
     }
 
     pub(crate) fn put(

@@ -3,7 +3,10 @@
 
 mod boards;
 mod carrier;
+mod closing;
+mod draining;
 mod entry;
+mod joining;
 mod opening;
 mod rule;
 mod steps;
@@ -11,4 +14,5 @@ mod trail;
 
 pub use boards::Boards;
 pub use carrier::{Carrier, Full};
+pub use closing::{CloseRefused, Drained};
 pub use entry::Entry;

@@ -26,5 +26,5 @@ loop-preserved g c =
       room = (let r = c.loop.invariant.room in let p = push.capacity in omega arith);
       each = subst (All (λ (carrier : CarrierView g.row.T.Denot). (carrier.boards ≡ c.args.places.now.table_id) × (carrier.entries ≡ []))) (sym push.items)
           (all_snoc (λ (carrier : CarrierView g.row.T.Denot). (carrier.boards ≡ c.args.places.now.table_id) × (carrier.entries ≡ [])) c.loop.carriers.items c.new.result c.loop.invariant.each
-            (c.new.ensures.0 ∙ (split.3 ∙ c.loop.invariant.table), c.new.ensures.1));
+          (c.new.ensures.0 ∙ (split.3 ∙ c.loop.invariant.table), c.new.ensures.1));
     }
