@@ -1,5 +1,5 @@
 -- What each member of a list is, and places in lists.
-use Rattle.std.proofs.Common.{◌≡◌, ◌≢◌, ℕ, zero, suc, ◌<◌, List, [], ◌∷◌, ◌++◌, ◌+◌, length, set, All, sym, refl, ap, ◌∙◌, arith}
+use Rattle.std.proofs.Common.{◌≡◌, ◌≢◌, ℕ, zero, suc, ◌<◌, List, [], ◌∷◌, ◌++◌, ◌+◌, map, length, set, All, sym, refl, ap, ◌∙◌, arith}
 use mathlib.Core.Option.{some, some-injective, some-ne-none}
 use lib.ListN.{get_elem?}
 use Rattle.host_inbox.specs.Inboxes.{Each}
@@ -50,3 +50,12 @@ module _ {X : Type 0} where
   each_at_snoc F [] y h p (suc j) e within = absurd (omega arith)
   each_at_snoc F (x ∷ xs) y h p zero e within = h 0 e (omega arith)
   each_at_snoc F (x ∷ xs) y h p (suc j) e within = each_at_snoc (λ i. F (suc i)) xs y (λ i d w. h (suc i) d (omega arith)) p j e (omega arith)
+
+pub each_map : {X Y : Type 0} (P : Y → Type 0) (f : X → Y) (xs : List X) → Each P (map f xs) → Each (λ x. P (f x)) xs
+each_map P f [] p = tt
+each_map P f (x ∷ xs) p = (p.0, each_map P f xs p.1)
+
+pub all_each : {X : Type 0} (P : X → Type 0) (xs : List X) → Each P xs → All P xs
+all_each P [] p k d within = absurd (omega arith)
+all_each P (x ∷ xs) p zero d within = p.0
+all_each P (x ∷ xs) p (suc k) d within = all_each P xs p.1 k d (omega arith)
