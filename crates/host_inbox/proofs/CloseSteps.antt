@@ -43,14 +43,14 @@ module _ {T : Type 0} where
   find_entry P host number [] some_there p = absurd (omega arith)
   find_entry P host number (e ∷ es) some_there p = dite (ℕ_discrete e.host host)
       (λ (same : e.host ≡ host). dite (ℕ_discrete e.number number)
-          (λ (is : e.number ≡ number). (e, p.0, same, is))
-          (λ (ne : e.number ≢ number).
-              let one : only (e.host == host) (is_number number e.number) ≡ is_number number e.number = ap (λ b. only b (is_number number e.number)) (eq-eqb e.host host same) in
-              let nothing = is_other number e.number ne in
-              find_entry P host number es (omega arith) p.1))
+      (λ (is : e.number ≡ number). (e, p.0, same, is))
+      (λ (ne : e.number ≢ number).
+      let one : only (e.host == host) (is_number number e.number) ≡ is_number number e.number = ap (λ b. only b (is_number number e.number)) (eq-eqb e.host host same) in
+      let nothing = is_other number e.number ne in
+      find_entry P host number es (omega arith) p.1))
       (λ (ne : e.host ≢ host).
-          let nothing : only (e.host == host) (is_number number e.number) ≡ 0 = ap (λ b. only b (is_number number e.number)) (ne_eqb e.host host ne) in
-          find_entry P host number es (omega arith) p.1)
+      let nothing : only (e.host == host) (is_number number e.number) ≡ 0 = ap (λ b. only b (is_number number e.number)) (ne_eqb e.host host ne) in
+      find_entry P host number es (omega arith) p.1)
 
   -- a seat with no share knows nothing
   idle : (hosts : ℕ) (homes : List (Place (Option T))) (host : ℕ) (h : ℕ → ℕ) (u : Known T) → Fits hosts homes u → u.share ≡ 0 → known_weight host h u ≡ 0
@@ -70,25 +70,27 @@ module _ {T : Type 0} where
       let n : ℕ = get_or s.words host 0 in
       let mine = rule.each id v at in
       let weighs : (h : ℕ → ℕ) → weigh h (numbers_below n) ≡ weigh (entry_weight host h) (map filed entries) = λ h.
-          (let alone = weigh_alone (known_weight host h) (λ (u : Known T). u.share) s.views id v at rule.shares (λ j u to no_share. idle size.hosts s.homes host h u (rule.each j u to) no_share) in
-           let all = rule.once host h near in
-           omega arith) in
+      (let alone = weigh_alone (known_weight host h) (λ (u : Known T). u.share) s.views id v at rule.shares (λ j u to no_share. idle size.hosts s.homes host h u (rule.each j u to) no_share) in
+      let all = rule.once host h near in
+      omega arith) in
       record {
         claimed = n;
         once = same_weights (numbers_of host entries) (numbers_below n) (λ h. numbers_weigh host h entries ∙ sym (filed_weigh host h entries) ∙ sym (weighs h));
         full = λ number below small.
             (let one = just_once number n below in
-             let sum = weighs (is_number number) in
-             let found = find_entry (IsSettled size.hosts s.homes) host number (map filed entries) (omega arith) mine.settled in
-             let e : Entry (Option T) = found.0 in
-             let here : e.number < 16 = (let is = found.3 in omega arith) in
-             let full = found.1.full here in
-             (full.0, values (place_of host number) (Some full.0)
-                (sym (ap (λ (p : ℕ × ℕ). get_elem? s.homes (place_of p.0 p.1)) (λ i. (found.2 i, found.3 i))) ∙ found.1.placed here ∙ ap (λ (p : Option T). some (some p)) full.1)));
+            let sum = weighs (is_number number) in
+            let found = find_entry (IsSettled size.hosts s.homes) host number (map filed entries) (omega arith) mine.settled in
+            let e : Entry (Option T) = found.0 in
+            let here : e.number < 16 = (let is = found.3 in omega arith) in
+            let full = found.1.full here in (
+              full.0,
+              values (place_of host number) (Some full.0)
+                  (sym (ap (λ (p : ℕ × ℕ). get_elem? s.homes (place_of p.0 p.1)) (λ i. (found.2 i, found.3 i))) ∙ found.1.placed here ∙ ap (λ (p : Option T). some (some p)) full.1),
+            ));
         empty = λ number from small. values (place_of host number) None (rule.free host number near from small);
         placed = each_also (λ (e : Entry T). IsSettled size.hosts s.homes (filed e)) (λ (e : Entry T). e.host ≡ host → e.number < 16 → get_elem? xs (place_of host e.number) ≡ some (Some e.parcel)) entries
             (λ e p of_host small. values (place_of host e.number) (Some e.parcel)
-                (sym (ap (λ (k : ℕ). get_elem? s.homes (place_of k e.number)) of_host) ∙ p.placed small ∙ ap (λ (y : Option T). some (some y)) (kept_parcel e.number e.parcel small)))
+            (sym (ap (λ (k : ℕ). get_elem? s.homes (place_of k e.number)) of_host) ∙ p.placed small ∙ ap (λ (y : Option T). some (some y)) (kept_parcel e.number e.parcel small)))
             (each_map (IsSettled size.hosts s.homes) filed entries mine.settled);
       }
 
@@ -109,8 +111,8 @@ module _ {T : Type 0} where
   closes_of key size id count hosts v entries words xs same knows all count_of final =
       let v_is : v ≡ known size.seats (map filed entries) [] = knows ∙ ap (λ (n : ℕ). known n (map filed entries) []) all in
       subst (λ (n : ℕ). AreClosed n entries xs) (sym count_of)
-        (closes size id entries words xs
-          (subst (λ (p : Size × Known T). Final (Seen (AreInboxes p.0) id p.1) words xs) (λ i. (same i, v_is i)) final))
+      (closes size id entries words xs
+      (subst (λ (p : Size × Known T). Final (Seen (AreInboxes p.0) id p.1) words xs) (λ i. (same i, v_is i)) final))
 
   pub known_of : (me : Me (Option T) (Known T)) (count : ℕ) (entries : List (Entry (Option T))) → me ≡ (known count entries [], []) → me.0 ≡ known count entries []
   known_of me count entries is = ap (λ (m : Me (Option T) (Known T)). m.0) is

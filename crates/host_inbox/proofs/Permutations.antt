@@ -21,9 +21,9 @@ find_number x [] some_there = absurd (omega arith)
 find_number x (y ∷ ys) some_there = dite (ℕ_discrete y x)
     (λ (e : y ≡ x). (0, (omega arith), sym e))
     (λ (ne : y ≢ x).
-        let none = is_other x y ne in
-        let r = find_number x ys (omega arith) in
-        (suc r.0, (let w = r.1 in omega arith), r.2))
+    let none = is_other x y ne in
+    let r = find_number x ys (omega arith) in
+    (suc r.0, (let w = r.1 in omega arith), r.2))
 
 pub same_weights : (xs ys : List ℕ) → ((h : ℕ → ℕ) → weigh h xs ≡ weigh h ys) → IsPermutation xs ys
 same_weights [] [] same = IsPermutation-refl []
@@ -34,4 +34,4 @@ same_weights (x ∷ xs) ys same =
     let moved = IsPermutation-remove ys there.0 x there.1 there.2 in
     let rest : (h : ℕ → ℕ) → weigh h xs ≡ weigh h (remove ys there.0) = λ h. (let p = weigh-permutation h ys (x ∷ remove ys there.0) moved in let e = same h in omega arith) in
     IsPermutation-trans (x ∷ xs) (x ∷ remove ys there.0) ys (IsPermutation-cons x xs (remove ys there.0) (same_weights xs (remove ys there.0) rest))
-        (IsPermutation-sym ys (x ∷ remove ys there.0) moved)
+    (IsPermutation-sym ys (x ∷ remove ys there.0) moved)

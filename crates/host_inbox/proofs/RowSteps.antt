@@ -45,18 +45,18 @@ module _ {T : Type 0} where
       let before = row_length host entries slots h n (omega arith) in
       let next : parcels_from slots (host * 16) (suc n) ≡ parcels_from slots (host * 16) (n + 1) = ap (parcels_from slots (host * 16)) (let e : suc n ≡ n + 1 = omega arith in e) in
       dite (dec_le h.claimed n)
-        (λ (past : h.claimed ≤ n).
-            let is = ap length (next ∙ next_empty slots (host * 16) n (h.empty n past (omega arith))) in
-            let a = min_above h.claimed n past in
-            let b = min_above h.claimed (suc n) (omega arith) in
-            omega (arith, length-append (parcels_from slots (host * 16) n) []))
-        (λ not.
-            let within : n < h.claimed = lt_of_not-le not in
-            let full = h.full n within (omega arith) in
-            let is = ap length (next ∙ next_full slots (host * 16) n full.0 full.1) in
-            let a = min_below h.claimed n (omega arith) in
-            let b = min_below h.claimed (suc n) (omega arith) in
-            omega (arith, length-append (parcels_from slots (host * 16) n) (full.0 ∷ [])))
+      (λ (past : h.claimed ≤ n).
+      let is = ap length (next ∙ next_empty slots (host * 16) n (h.empty n past (omega arith))) in
+      let a = min_above h.claimed n past in
+      let b = min_above h.claimed (suc n) (omega arith) in
+      omega (arith, length-append (parcels_from slots (host * 16) n) []))
+      (λ not.
+      let within : n < h.claimed = lt_of_not-le not in
+      let full = h.full n within (omega arith) in
+      let is = ap length (next ∙ next_full slots (host * 16) n full.0 full.1) in
+      let a = min_below h.claimed n (omega arith) in
+      let b = min_below h.claimed (suc n) (omega arith) in
+      omega (arith, length-append (parcels_from slots (host * 16) n) (full.0 ∷ [])))
 
   row_get : (host : ℕ) (entries : List (Entry T)) (slots : List (Option T)) (h : AreLaid host entries slots) (n p : ℕ) (x : T) → n ≤ 16 → p < n → p < h.claimed → get_elem? slots (host * 16 + p) ≡ some (Some x)
       → slice_get (parcels_from slots (host * 16) n) p ≡ Some x
@@ -65,15 +65,15 @@ module _ {T : Type 0} where
       let long = row_length host entries slots h n (omega arith) in
       let back : List T = listed (get_or slots (host * 16 + n) None) in
       dite (ℕ_discrete p n)
-        (λ (e : p ≡ n).
-            let m = min_below h.claimed n (omega arith) in
-            let here : get_elem? slots (host * 16 + n) ≡ some (Some x) = sym (ap (λ (k : ℕ). get_elem? slots (host * 16 + k)) e) ∙ at in
-            ap (λ (y : Option T). slice_get (parcels_from slots (host * 16) n ++ listed y) p) (read_at slots (host * 16 + n) (Some x) None here)
-            ∙ get_end (parcels_from slots (host * 16) n) x p (omega arith))
-        (λ (ne : p ≢ n).
-            let before : p < n = omega arith in
-            let more : p < length (parcels_from slots (host * 16) n) = longer h.claimed n p claimed before long in
-            get_front (parcels_from slots (host * 16) n) back p more ∙ row_get host entries slots h n p x (omega arith) before claimed at)
+      (λ (e : p ≡ n).
+      let m = min_below h.claimed n (omega arith) in
+      let here : get_elem? slots (host * 16 + n) ≡ some (Some x) = sym (ap (λ (k : ℕ). get_elem? slots (host * 16 + k)) e) ∙ at in
+      ap (λ (y : Option T). slice_get (parcels_from slots (host * 16) n ++ listed y) p) (read_at slots (host * 16 + n) (Some x) None here)
+      ∙ get_end (parcels_from slots (host * 16) n) x p (omega arith))
+      (λ (ne : p ≢ n).
+      let before : p < n = omega arith in
+      let more : p < length (parcels_from slots (host * 16) n) = longer h.claimed n p claimed before long in
+      get_front (parcels_from slots (host * 16) n) back p more ∙ row_get host entries slots h n p x (omega arith) before claimed at)
     where
       longer : (c n p : ℕ) → p < c → p < n → {l : ℕ} → l ≡ min c n → p < l
       longer c n p a b e = omega arith
@@ -89,11 +89,11 @@ module _ {T : Type 0} where
     count = row_length host entries slots h 16 (omega arith);
     placed = all_each (λ (e : Entry T). e.host ≡ host → e.number < 16 → slice_get (parcels_from slots (host * 16) 16) e.number ≡ Some e.parcel) entries
         (each_also (λ (e : Entry T). e.host ≡ host → e.number < 16 → get_elem? slots (place_of host e.number) ≡ some (Some e.parcel))
-          (λ (e : Entry T). e.host ≡ host → e.number < 16 → slice_get (parcels_from slots (host * 16) 16) e.number ≡ Some e.parcel) entries
-          (λ e p of_host small. dite (dec_le h.claimed e.number)
-              (λ (past : h.claimed ≤ e.number). absurd (differ e.parcel (sym (p of_host small) ∙ h.empty e.number past small)))
-              (λ not. row_get host entries slots h 16 e.number e.parcel (omega arith) small (lt_of_not-le not) (p of_host small)))
-          h.placed);
+        (λ (e : Entry T). e.host ≡ host → e.number < 16 → slice_get (parcels_from slots (host * 16) 16) e.number ≡ Some e.parcel) entries
+        (λ e p of_host small. dite (dec_le h.claimed e.number)
+        (λ (past : h.claimed ≤ e.number). absurd (differ e.parcel (sym (p of_host small) ∙ h.empty e.number past small)))
+        (λ not. row_get host entries slots h 16 e.number e.parcel (omega arith) small (lt_of_not-le not) (p of_host small)))
+        h.placed);
   }
 
   -- and all rows are what is drained

@@ -6,11 +6,12 @@ ghost use Rattle.host_inbox.specs.Inboxes.{known};
 use crate::entry::Claim;
 use crate::steps::{PlaceSeat, Places, claim_number, settle};
 use crate::trail::Trail;
+use sim_base::Parcel;
 use std::marker::Model;
 
 /// Puts parcels into the inboxes of its boards. Contracts see it as the entries of its puts.
 #[derive(Drop)]
-pub struct Carrier<T> {
+pub struct Carrier<T = Parcel> {
     seat: PlaceSeat<T>,
     trail: Trail<T>,
 }
@@ -29,7 +30,7 @@ impl<T> Model for Carrier<T> {
 
 /// The places of the host's inbox are full: the number that was claimed is 16 or more. The parcel comes back.
 #[derive(Debug, Drop)]
-pub struct Full<T> {
+pub struct Full<T = Parcel> {
     pub parcel: T,
     pub claimed: u64,
 }

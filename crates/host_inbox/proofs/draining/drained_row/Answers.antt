@@ -22,21 +22,21 @@ loop-number-preserved g c =
       taken = subst (IsTakenTo (from + (n + 1))) (sym take.others.1)
           (takes_next (slots_filled old) (from + n) (from + (n + 1)) (let w = c.requires.within in let p = inv.places in omega (arith, counts.1)) (omega arith) inv.taken);
       parcels = elim c.match-take.branch [
-        in-Some w ↦
-          ap (λ (v : Vec T Global). v.items) w.row-is
-          ∙ row_next (slots_items old) from n (n + 1) (Some w.in-Some.parcel) c.loop-number.row.items w.push_reserved.new.self.items refl w.in-Some.ensures.value inv.parcels w.push_reserved.ensures.items
-          ∙ ap (λ (s : List (Option T)). parcels_from s from (n + 1)) (sym take.others.0)
+        | in-Some w ↦
+            ap (λ (v : Vec T Global). v.items) w.row-is
+            ∙ row_next (slots_items old) from n (n + 1) (Some w.in-Some.parcel) c.loop-number.row.items w.push_reserved.new.self.items refl w.in-Some.ensures.value inv.parcels w.push_reserved.ensures.items
+            ∙ ap (λ (s : List (Option T)). parcels_from s from (n + 1)) (sym take.others.0)
         | in-None w ↦
-          ap (λ (v : Vec T Global). v.items) w.row-is
-          ∙ row_next (slots_items old) from n (n + 1) None c.loop-number.row.items c.loop-number.row.items refl w.in-None.ensures.value inv.parcels (sym (append-nil c.loop-number.row.items))
-          ∙ ap (λ (s : List (Option T)). parcels_from s from (n + 1)) (sym take.others.0)
+            ap (λ (v : Vec T Global). v.items) w.row-is
+            ∙ row_next (slots_items old) from n (n + 1) None c.loop-number.row.items c.loop-number.row.items refl w.in-None.ensures.value inv.parcels (sym (append-nil c.loop-number.row.items))
+            ∙ ap (λ (s : List (Option T)). parcels_from s from (n + 1)) (sym take.others.0)
       ];
       few = elim c.match-take.branch [
-        in-Some w ↦ (let e : vec_len c.match-take.row ≡ vec_len w.push_reserved.new.self = ap (λ (v : Vec T Global). vec_len v) w.row-is in let p = w.push_reserved.ensures.len in let f = inv.few in omega arith)
+        | in-Some w ↦ (let e : vec_len c.match-take.row ≡ vec_len w.push_reserved.new.self = ap (λ (v : Vec T Global). vec_len v) w.row-is in let p = w.push_reserved.ensures.len in let f = inv.few in omega arith)
         | in-None w ↦ (let e : vec_len c.match-take.row ≡ vec_len c.loop-number.row = ap (λ (v : Vec T Global). vec_len v) w.row-is in let f = inv.few in omega arith)
       ];
       room = elim c.match-take.branch [
-        in-Some w ↦ (let e : vec_capacity c.match-take.row ≡ vec_capacity w.push_reserved.new.self = ap (λ (v : Vec T Global). vec_capacity v) w.row-is in let p = w.push_reserved.ensures.capacity in let r = inv.room in omega arith)
+        | in-Some w ↦ (let e : vec_capacity c.match-take.row ≡ vec_capacity w.push_reserved.new.self = ap (λ (v : Vec T Global). vec_capacity v) w.row-is in let p = w.push_reserved.ensures.capacity in let r = inv.room in omega arith)
         | in-None w ↦ (let e : vec_capacity c.match-take.row ≡ vec_capacity c.loop-number.row = ap (λ (v : Vec T Global). vec_capacity v) w.row-is in let r = inv.room in omega arith)
       ];
     }

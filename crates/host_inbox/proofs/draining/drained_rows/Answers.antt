@@ -27,5 +27,5 @@ loop-row-preserved g c =
       rooms = all_front (IsRoom {T = T}) c.pop.new.self.items (c.in-Some.row ∷ []) (subst (All (IsRoom {T = T})) pop.items inv.rooms);
       each = subst (EachAt F) (sym push.items)
           (each_at_snoc F c.loop-row.rows.items c.drained_row.result inv.each
-            (row.parcels ∙ ap (λ (s : List (Option T)). row_of s c.len-host.result) inv.items ∙ ap (row_of slots) host));
+          (row.parcels ∙ ap (λ (s : List (Option T)). row_of s c.len-host.result) inv.items ∙ ap (row_of slots) host));
     }

@@ -12,8 +12,8 @@ returns-clause-laid g c =
     let seat = c.joined-seat.result in
     let closed = c.close_with.result in
     closes_of inside.table.shared.key inside.size seat.id _ c.args.self.hosts seat.me.0 (all_entries c.args.carriers.items) (slots_items closed.words) (slots_items closed.slots)
-      c.self.invariant.key
-      (known_of seat.me _ _ c.joined-seat.ensures.knows)
-      (c.args.carriers.ok.0 ∙ (c.requires.count ∙ sym (ap (λ (b : BoardsView). b.seats) c.self.view_is)))
-      (sym (ap (λ (b : BoardsView). b.hosts) c.self.view_is))
-      c.close_with.ensures.values.2
+    c.self.invariant.key
+    (known_of seat.me _ _ c.joined-seat.ensures.knows)
+    (c.args.carriers.ok.0 ∙ (c.requires.count ∙ sym (ap (λ (b : BoardsView). b.seats) c.self.view_is)))
+    (sym (ap (λ (b : BoardsView). b.hosts) c.self.view_is))
+    c.close_with.ensures.values.2
