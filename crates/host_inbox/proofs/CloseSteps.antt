@@ -1,17 +1,16 @@
 -- What lies in the places once one seat has all shares.
 use Rattle.std.proofs.Common.{◌≡◌, ◌≢◌, ℕ, zero, suc, ◌+◌, ◌*◌, ◌<◌, ◌≤◌, ◌==◌, Bool, true, false, List, [], ◌∷◌, map, length, get_or, Option, Some, None, nat_lt, sym, refl, ap, ◌∙◌, subst, eq-eqb, ne_eqb, lt-ltb, arith}
-use mathlib.Core.Option.{Option as Place, some, none}
+use mathlib.Core.Option.{Option as Place, some}
 use mathlib.Core.Logic.{dite}
 use native.Mathlib.Decide.{ℕ_discrete}
 use lib.ListN.{get_elem?}
 use Rattle.std.specs.List.{filter}
 use Rattle.atomic_table.specs.Table.{State, Me, Final, Seen}
 use Rattle.host_inbox.specs.declared.entry.Entry.{Entry}
-use Rattle.host_inbox.specs.declared.entry.Claim.{Claim}
 use Rattle.host_inbox.specs.declared.rule.Known.{Known}
 use Rattle.host_inbox.specs.declared.rule.Size.{Size}
 use Rattle.host_inbox.specs.Entries.{weigh, only, numbers_below, place_of, claim_weight, entry_weight}
-use Rattle.host_inbox.specs.Inboxes.{Each, IsSettled, IsPending, Fits, AreInboxes, known, known_weight}
+use Rattle.host_inbox.specs.Inboxes.{Each, IsSettled, Fits, AreInboxes, known, known_weight}
 use Rattle.host_inbox.specs.Carriers.{filed, kept_if}
 use Rattle.host_inbox.specs.Drains.{numbers_of}
 use Rattle.host_inbox.specs.Slots.{AreLaid, AreClosed}

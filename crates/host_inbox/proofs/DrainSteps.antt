@@ -6,7 +6,7 @@ use native.Mathlib.Decide.{ℕ_discrete}
 use lib.ListN.{get_elem?}
 use Rattle.std.proofs.lemmas.List.{length-set, get_or-set_other, get_or-set_same}
 use Rattle.std.proofs.lemmas.Bool.Decides.{nat_tests}
-use Rattle.host_inbox.specs.Slots.{IsTakenTo, listed, parcels_from, row_of}
+use Rattle.host_inbox.specs.Slots.{IsTakenTo, listed, parcels_from}
 
 le_true : (n k : ℕ) → n ≤ k → nat_le n k ≡ true
 le_true n k h = grind (arith, nat_tests)

@@ -1,19 +1,17 @@
 -- What seats know of the inboxes.
-use Rattle.std.proofs.Common.{◌≡◌, ◌≢◌, ℕ, zero, suc, ◌+◌, ◌*◌, ◌^◌, ◌<◌, ◌≤◌, ◌==◌, List, [], ◌∷◌, ◌++◌, map, length, get_or, set, Option, Some, None, Bool, true, false, sym, refl, ap, ◌∙◌, eq-eqb, ne_eqb, length-append, arith}
-use mathlib.Core.Option.{Option as Place, some, none, some-injective, some-ne-none}
-use mathlib.Core.Logic.{dite}
-use native.Mathlib.Decide.{ℕ_discrete}
+use Rattle.std.proofs.Common.{◌≡◌, ◌≢◌, ℕ, ◌+◌, ◌*◌, ◌<◌, ◌≤◌, ◌==◌, List, [], ◌∷◌, map, length, get_or, set, Option, Some, None, Bool, true, false, sym, refl, ap, ◌∙◌, arith}
+use mathlib.Core.Option.{Option as Place, some, none}
 use lib.ListN.{get_elem?}
 use Rattle.atomic_table.specs.Table.{State}
 use Rattle.host_inbox.specs.declared.entry.Entry.{Entry}
 use Rattle.host_inbox.specs.declared.entry.Claim.{Claim}
 use Rattle.host_inbox.specs.declared.rule.Known.{Known}
 use Rattle.host_inbox.specs.declared.rule.Size.{Size}
-use Rattle.host_inbox.specs.Entries.{weigh, only, numbers_below, place_of, claim, entry, claim_weight, entry_weight}
-use Rattle.host_inbox.specs.Inboxes.{Each, IsSettled, IsPending, Fits, AreInboxes, known, known_weight}
+use Rattle.host_inbox.specs.Entries.{weigh, only, place_of, claim, entry, claim_weight, entry_weight}
+use Rattle.host_inbox.specs.Inboxes.{IsSettled, IsPending, Fits, AreInboxes, known_weight}
 use Rattle.host_inbox.specs.Steps.{after_claim, after_full, after_settle}
-use Rattle.host_inbox.proofs.Weights.{weigh-append, weigh_part, weigh_below, weigh-times, count_below, is_number, is_itself, is_other}
-use Rattle.host_inbox.proofs.Members.{each-append, each_also, each_at}
+use Rattle.host_inbox.proofs.Weights.{weigh-append, weigh_below, weigh-times, count_below}
+use Rattle.host_inbox.proofs.Members.{each_also}
 use Rattle.atomic_table.proofs.Lists.{set_else}
 
 only_at_most : (b : Bool) (n : ℕ) → only b n ≤ n

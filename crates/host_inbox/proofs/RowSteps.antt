@@ -1,5 +1,5 @@
 -- The row of a host has the parcels of its places.
-use Rattle.std.proofs.Common.{◌≡◌, ◌≢◌, ℕ, zero, suc, ◌+◌, ◌*◌, ◌<◌, ◌≤◌, List, [], ◌∷◌, ◌++◌, length, min, get_or, All, Option, Some, None, Vec, sym, refl, ap, ◌∙◌, subst, length-append, lt_of_not-le, arith}
+use Rattle.std.proofs.Common.{◌≡◌, ◌≢◌, ℕ, zero, suc, ◌+◌, ◌*◌, ◌<◌, ◌≤◌, List, [], ◌∷◌, ◌++◌, length, min, get_or, Option, Some, None, Vec, sym, refl, ap, ◌∙◌, subst, length-append, lt_of_not-le, arith}
 use mathlib.Core.Option.{some}
 use mathlib.Core.Logic.{dite}
 use native.Mathlib.Decide.{dec_le, ℕ_discrete}
@@ -8,7 +8,6 @@ use Rattle.std.specs.List.{slice_get}
 use Rattle.std.specs.declared.alloc.Global.{Global}
 use Rattle.host_inbox.specs.declared.entry.Entry.{Entry}
 use Rattle.host_inbox.specs.Entries.{place_of}
-use Rattle.host_inbox.specs.Inboxes.{Each}
 use Rattle.host_inbox.specs.Drains.{EachAt, IsInboxOf, IsDrained}
 use Rattle.host_inbox.specs.Slots.{listed, parcels_from, row_of, AreLaid, AreClosed}
 use Rattle.host_inbox.proofs.Members.{each_also, all_each}

@@ -1,16 +1,14 @@
 -- Seats are made, and come back.
-use Rattle.std.proofs.Common.{◌≡◌, ◌≢◌, ◌⊎◌, ℕ, zero, suc, ◌+◌, ◌-◌, ◌*◌, ◌<◌, ◌≤◌, List, [], ◌∷◌, ◌++◌, map, length, get_or, set, replicate, add-zero, Option, Some, None, sym, refl, ap, ◌∙◌, subst, ⊎_elim, length-append, arith}
-use mathlib.Core.Option.{Option as Place, some, none, some-injective, some-ne-none}
+use Rattle.std.proofs.Common.{◌≡◌, ℕ, zero, suc, ◌+◌, ◌-◌, ◌*◌, ◌<◌, ◌≤◌, List, [], ◌∷◌, map, length, get_or, set, replicate, add-zero, Option, None, sym, refl, ap, ◌∙◌, subst, ⊎_elim, length-append, arith}
+use mathlib.Core.Option.{some, some-injective, some-ne-none}
 use lib.ListN.{get_elem?}
-use Rattle.atomic_table.specs.Table.{State, Me, Splits, Joins, opening}
+use Rattle.atomic_table.specs.Table.{Me, Splits, Joins, opening}
 use Rattle.std.proofs.lemmas.List.{length-map, length-replicate, get_or-replicate}
 use Rattle.atomic_table.proofs.Lists.{at_set, at_snoc, set_else}
-use Rattle.host_inbox.specs.declared.entry.Entry.{Entry}
-use Rattle.host_inbox.specs.declared.entry.Claim.{Claim}
 use Rattle.host_inbox.specs.declared.rule.Known.{Known}
 use Rattle.host_inbox.specs.declared.rule.Size.{Size}
 use Rattle.host_inbox.specs.Entries.{weigh, numbers_below, place_of, claim_weight, entry_weight}
-use Rattle.host_inbox.specs.Inboxes.{Each, IsSettled, IsPending, Fits, AreInboxes, known, known_weight}
+use Rattle.host_inbox.specs.Inboxes.{IsSettled, IsPending, Fits, AreInboxes, known, known_weight}
 use Rattle.host_inbox.specs.Steps.{less_one, one, both, spent}
 use Rattle.host_inbox.proofs.Weights.{weigh-append, weigh-set}
 use Rattle.host_inbox.proofs.Members.{each-append}

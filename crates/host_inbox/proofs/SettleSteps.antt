@@ -1,19 +1,19 @@
 -- Giving a place back with a parcel keeps the rule.
-use Rattle.std.proofs.Common.{◌≡◌, ◌≢◌, ◌⊎◌, ℕ, zero, suc, ◌+◌, ◌*◌, ◌^◌, ◌%◌, ◌<◌, ◌≤◌, ◌==◌, List, [], ◌∷◌, ◌++◌, map, length, get_or, set, Option, Some, None, sym, refl, ap, ◌∙◌, subst, ⊎_elim, eq-eqb, length-append, arith}
+use Rattle.std.proofs.Common.{◌≡◌, ◌≢◌, ℕ, ◌+◌, ◌^◌, ◌%◌, ◌<◌, List, [], ◌∷◌, map, length, get_or, set, Option, Some, None, sym, refl, ap, ◌∙◌, subst, ⊎_elim, eq-eqb, length-append, arith}
 use mathlib.Core.Option.{Option as Place, some, none}
 use lib.ListN.{get_elem?}
 use Rattle.std.proofs.lemmas.List.{length-set, get_or-set_other}
-use Rattle.atomic_table.specs.Table.{State, Me, Step, Act, gives, step, stepped, Allows}
+use Rattle.atomic_table.specs.Table.{State, Me, gives, step, stepped, Allows}
 use Rattle.atomic_table.proofs.Lists.{at_set, set_here, set_else}
 use Rattle.host_inbox.specs.declared.entry.Entry.{Entry}
 use Rattle.host_inbox.specs.declared.entry.Claim.{Claim}
 use Rattle.host_inbox.specs.declared.rule.Known.{Known}
 use Rattle.host_inbox.specs.declared.rule.Size.{Size}
 use Rattle.host_inbox.specs.Entries.{weigh, only, numbers_below, place_of, claim, entry, claim_weight}
-use Rattle.host_inbox.specs.Inboxes.{Each, IsSettled, IsPending, Fits, AreInboxes, known, known_weight}
+use Rattle.host_inbox.specs.Inboxes.{Each, IsSettled, IsPending, Fits, AreInboxes, known_weight}
 use Rattle.host_inbox.specs.Steps.{after_settle, Settled}
 use Rattle.host_inbox.proofs.Weights.{weigh-set, weigh_two, is_number, is_itself, at_most_once}
-use Rattle.host_inbox.proofs.Members.{each-append, each_also, each_at, within}
+use Rattle.host_inbox.proofs.Members.{each-append, each_also, within}
 use Rattle.host_inbox.proofs.Knowing.{same_place, settle_adds}
 
 counted : (host number at n : ℕ) → at ≡ host → n ≡ number → claim_weight host (is_number number) (claim at n) ≡ 1

@@ -1,5 +1,5 @@
 -- A carrier's fields, as contracts see them.
-use Rattle.std.specs.Prelude.{◌≡◌, ℕ, Bool, true, false, List, [], map, nat_lt, Option, Some, None}
+use Rattle.std.specs.Prelude.{◌≡◌, Bool, true, false, [], map, nat_lt, Option, Some, None}
 use Rattle.host_inbox.specs.declared.entry.Entry.{Entry}
 use Rattle.host_inbox.specs.declared.carrier.Carrier.TheInside.{Inside}
 use Rattle.host_inbox.specs.CarrierViews.{CarrierView}

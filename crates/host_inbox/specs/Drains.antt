@@ -1,5 +1,5 @@
 -- What is drained when boards are closed.
-use Rattle.std.specs.Prelude.{◌≡◌, ℕ, zero, suc, ◌+◌, ◌*◌, ◌<◌, ◌≤◌, ◌==◌, List, [], ◌∷◌, ◌++◌, map, filter, length, min, slice_get, slice_index_or, All, IsPermutation, Option, Some, None, Vec}
+use Rattle.std.specs.Prelude.{◌≡◌, ℕ, ◌<◌, ◌==◌, List, [], ◌∷◌, ◌++◌, map, filter, length, min, slice_get, slice_index_or, All, IsPermutation, Some, Vec}
 use Rattle.std.specs.declared.alloc.Global.{Global}
 use Rattle.host_inbox.specs.declared.entry.Entry.{Entry}
 use Rattle.host_inbox.specs.Entries.{numbers_below}

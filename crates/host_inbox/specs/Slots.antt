@@ -1,6 +1,6 @@
 -- The places of boards that are closed.
-use Rattle.std.specs.Prelude.{◌≡◌, ℕ, zero, suc, ◌+◌, ◌*◌, ◌-◌, ◌<◌, ◌≤◌, Bool, true, false, List, [], ◌∷◌, ◌++◌, map, length, nat_le, slice_index_or, All, IsPermutation, Option, Some, None, Vec, vec_capacity}
-use mathlib.Core.Option.{Option as Place, some, none}
+use Rattle.std.specs.Prelude.{◌≡◌, ℕ, zero, suc, ◌+◌, ◌*◌, ◌<◌, ◌≤◌, Bool, false, List, [], ◌∷◌, ◌++◌, map, length, nat_le, slice_index_or, All, IsPermutation, Option, Some, None, Vec, vec_capacity}
+use mathlib.Core.Option.{some}
 use lib.ListN.{get_elem?}
 use Rattle.std.specs.declared.alloc.Global.{Global}
 use Rattle.atomic_table.specs.Table.{Me}
@@ -11,7 +11,7 @@ use Rattle.host_inbox.specs.Entries.{numbers_below, place_of}
 use Rattle.host_inbox.specs.Inboxes.{Each, known}
 use Rattle.host_inbox.specs.Carriers.{filed}
 use Rattle.host_inbox.specs.CarrierViews.{CarrierView}
-use Rattle.host_inbox.specs.Drains.{all_entries, numbers_of, EachAt}
+use Rattle.host_inbox.specs.Drains.{all_entries, numbers_of}
 
 -- the first n are taken, and the others not
 abbrev pub IsTakenTo : ℕ → List Bool → Type 0

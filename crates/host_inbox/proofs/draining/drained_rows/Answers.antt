@@ -1,5 +1,5 @@
-use Rattle.std.proofs.Common.{◌≡◌, ◌+◌, ◌*◌, ◌<◌, ◌≤◌, ℕ, List, [], ◌∷◌, ◌++◌, All, Option, Vec, length, vec_len, vec_capacity, sym, subst, ap, ◌∙◌, arith}
-use Rattle.std.specs.Mem.Slots.{slots_items, slots_filled, slots_len}
+use Rattle.std.proofs.Common.{◌≡◌, ◌+◌, ◌*◌, ℕ, List, [], ◌∷◌, All, Option, Vec, length, vec_len, sym, subst, ap, ◌∙◌, arith}
+use Rattle.std.specs.Mem.Slots.{slots_items, slots_filled}
 use Rattle.std.specs.declared.alloc.Global.{Global}
 use Rattle.host_inbox.specs.Drains.{EachAt}
 use Rattle.host_inbox.specs.Slots.{IsRoom, IsTakenTo, row_of}

@@ -1,4 +1,4 @@
-use Rattle.std.proofs.Common.{◌≡◌, ◌≤◌, All, length, vec_len, vec_capacity}
+use Rattle.std.proofs.Common.{◌≡◌, ◌≤◌, All, vec_len, vec_capacity}
 use Rattle.host_inbox.specs.Slots.{IsRoom}
 use Rattle.host_inbox.proofs.draining.reserved.Given as goal
 

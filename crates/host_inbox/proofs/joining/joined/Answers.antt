@@ -1,6 +1,6 @@
-use Rattle.std.proofs.Common.{◌≡◌, ◌∙◌}
+use Rattle.std.proofs.Common.{◌∙◌}
 use Rattle.host_inbox.proofs.SeatSteps.{joins}
-use Rattle.host_inbox.proofs.JoiningSteps.{begins, joins_more, last_is_theirs, ends, holds_nothing}
+use Rattle.host_inbox.proofs.JoiningSteps.{begins, joins_more, last_is_theirs, holds_nothing}
 use Rattle.host_inbox.proofs.joining.joined.Goals as goal
 
 pub loop-carrier-init : goal.loop-carrier-init

@@ -1,4 +1,4 @@
-use Rattle.std.proofs.Common.{◌≡◌, ℕ, ◌+◌, ◌-◌, ◌<◌, ◌≤◌, [], ◌∷◌, ◌++◌, All, sym, subst, ap, ◌∙◌, arith}
+use Rattle.std.proofs.Common.{◌≡◌, ℕ, ◌+◌, ◌-◌, [], All, sym, subst, ap, ◌∙◌, arith}
 use Rattle.host_inbox.specs.CarrierViews.{CarrierView}
 use Rattle.host_inbox.specs.Inboxes.{known}
 use Rattle.host_inbox.proofs.Members.{all_snoc}

@@ -1,4 +1,4 @@
-use Rattle.std.proofs.Common.{◌+◌, ◌∙◌, arith}
+use Rattle.std.proofs.Common.{◌∙◌, arith}
 use Rattle.host_inbox.proofs.SettleSteps.{settles_of}
 use Rattle.host_inbox.proofs.steps.settle.Goals as goal
 

@@ -1,4 +1,4 @@
-use Rattle.std.proofs.Common.{◌≡◌, ◌+◌, ◌++◌, ◌∷◌, [], List, ℕ, All, length, sym, refl, ap, subst, ◌∙◌, length-append, arith}
+use Rattle.std.proofs.Common.{◌≡◌, ◌++◌, ◌∷◌, [], List, ℕ, All, length, sym, ap, subst, ◌∙◌, length-append, arith}
 use Rattle.host_inbox.specs.CarrierViews.{CarrierView, BoardsView, AreAllOf}
 use Rattle.host_inbox.proofs.Members.{all_none, all_snoc, all_front}
 use Rattle.host_inbox.proofs.JoiningSteps.{last_is_theirs}

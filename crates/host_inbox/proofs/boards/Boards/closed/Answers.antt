@@ -1,6 +1,5 @@
-use Rattle.std.proofs.Common.{◌≡◌, sym, ap, ◌∙◌}
+use Rattle.std.proofs.Common.{sym, ap, ◌∙◌}
 use Rattle.std.specs.Mem.Slots.{slots_items}
-use Rattle.atomic_table.specs.Table.{Me}
 use Rattle.host_inbox.specs.CarrierViews.{BoardsView}
 use Rattle.host_inbox.specs.Drains.{all_entries}
 use Rattle.host_inbox.proofs.CloseSteps.{closes_of, known_of}

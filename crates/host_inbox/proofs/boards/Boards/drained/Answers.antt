@@ -1,4 +1,4 @@
-use Rattle.std.proofs.Common.{◌≡◌, ◌∙◌}
+use Rattle.std.proofs.Common.{◌∙◌}
 use Rattle.std.specs.Mem.Slots.{slots_items}
 use Rattle.host_inbox.specs.Drains.{all_entries}
 use Rattle.host_inbox.proofs.RowSteps.{drains}

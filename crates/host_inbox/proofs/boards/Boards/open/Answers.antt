@@ -1,4 +1,4 @@
-use Rattle.std.proofs.Common.{◌≡◌, ◌∙◌}
+use Rattle.std.proofs.Common.{◌∙◌}
 use Rattle.host_inbox.proofs.SeatSteps.{opens}
 use Rattle.host_inbox.proofs.boards.Boards.open.Goals as goal
 
