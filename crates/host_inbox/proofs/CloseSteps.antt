@@ -28,7 +28,7 @@ module _ {T : Type 0} where
   by_test true e es h = refl
   by_test false e es h = omega arith
 
-  numbers_weigh : (host : ℕ) (h : ℕ → ℕ) (es : List (Entry T)) → weigh h (numbers_of host es) ≡ weigh (entry_weight host h) es
+  pub numbers_weigh : (host : ℕ) (h : ℕ → ℕ) (es : List (Entry T)) → weigh h (numbers_of host es) ≡ weigh (entry_weight host h) es
   numbers_weigh host h [] = refl
   numbers_weigh host h (e ∷ es) = by_test (e.host == host) e (filter (λ (x : Entry T). x.host == host) es) h ∙ ap (λ n. only (e.host == host) (h e.number) + n) (numbers_weigh host h es)
 

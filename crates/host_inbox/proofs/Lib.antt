@@ -9,3 +9,5 @@ pub mod DrainSteps
 pub mod Permutations
 pub mod CloseSteps
 pub mod RowSteps
+pub mod KeptSteps
+pub mod Values

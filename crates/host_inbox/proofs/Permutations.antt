@@ -13,7 +13,7 @@ weigh_is_sum : {X : Type 0} (f : X → ℕ) (xs : List X) → weigh f xs ≡ sum
 weigh_is_sum f [] = refl
 weigh_is_sum f (x ∷ xs) = ap (λ n. f x + n) (weigh_is_sum f xs) ∙ sym (sum_by-cons f x xs)
 
-weigh-permutation : (f : ℕ → ℕ) (xs ys : List ℕ) → IsPermutation xs ys → weigh f ys ≡ weigh f xs
+pub weigh-permutation : (f : ℕ → ℕ) (xs ys : List ℕ) → IsPermutation xs ys → weigh f ys ≡ weigh f xs
 weigh-permutation f xs ys p = weigh_is_sum f ys ∙ sum_by-IsPermutation f xs ys p ∙ sym (weigh_is_sum f xs)
 
 find_number : (x : ℕ) (ys : List ℕ) → 0 < weigh (is_number x) ys → (i : ℕ) × (i < length ys) × (x ≡ get_or ys i x)

@@ -8,3 +8,4 @@ pub mod Sizes
 pub mod Boards
 pub mod Drains
 pub mod Slots
+pub mod Kept

@@ -2,6 +2,7 @@
 ghost use Rattle.std.specs.Prelude.{◌≡◌, ◌≤◌, [], IfOk, IfErr, All, length, vec_capacity};
 ghost use Rattle.host_inbox.specs.CarrierViews.{AreAllOf};
 ghost use Rattle.host_inbox.specs.Drains.{all_entries, IsDrained};
+ghost use Rattle.host_inbox.specs.Kept.{AreKept};
 ghost use Rattle.host_inbox.specs.Slots.{IsRoom};
 
 use crate::boards::Boards;
@@ -27,7 +28,8 @@ impl<T: Drop> Boards<T> {
         requires carriers { AreAllOf self carriers.items }
         requires empty { (length room.empty.items ≡ self.hosts) × All IsRoom room.empty.items }
         requires rows { (room.rows.items ≡ []) × (self.hosts ≤ vec_capacity room.rows) }
-        ensures { IsDrained self.hosts (all_entries carriers.items) result.items }
+        ensures drained { IsDrained self.hosts (all_entries carriers.items) result.items }
+        ensures kept { AreKept (all_entries carriers.items) result.items }
     {
         let Room { empty, rows } = room;
         drained_rows(self.closed(carriers), empty, rows)
@@ -38,6 +40,7 @@ impl<T: Drop> Boards<T> {
     pub fn close(self, carriers: Vec<Carrier<T>>) -> Result<Drained<T>, CloseRefused<T>>
         requires { AreAllOf self carriers.items }
         ensures drained { IfOk result (λ drained. IsDrained self.hosts (all_entries carriers.items) drained.rows.items) }
+        ensures kept { IfOk result (λ drained. AreKept (all_entries carriers.items) drained.rows.items) }
         ensures refused { IfErr result (λ refused. (refused.boards ≡ self) × (refused.carriers.items ≡ carriers.items)) }
     {
         match reserved(*carriers.allocator(), self.hosts()) {
