@@ -1,0 +1,13 @@
+pub mod Weights
+pub mod Members
+pub mod Knowing
+pub mod ClaimSteps
+pub mod SettleSteps
+pub mod SeatSteps
+pub mod JoiningSteps
+pub mod DrainSteps
+pub mod Permutations
+pub mod CloseSteps
+pub mod RowSteps
+pub mod KeptSteps
+pub mod Values

@@ -1,0 +1,37 @@
+-- Numbers that weigh the same, however they are weighed, are the same in another order.
+use Rattle.std.proofs.Common.{◌≡◌, ◌≢◌, ℕ, suc, ◌+◌, ◌<◌, List, [], ◌∷◌, length, get_or, sym, refl, ap, ◌∙◌, arith}
+use mathlib.Core.Logic.{dite}
+use native.Mathlib.Decide.{ℕ_discrete}
+use Rattle.std.specs.List.{sum_by, remove}
+use Rattle.std.specs.List.Sorted.{IsPermutation}
+use Rattle.std.proofs.lemmas.List.Sums.{sum_by-cons}
+use Rattle.std.proofs.lemmas.List.Sorted.{IsPermutation-refl, IsPermutation-cons, IsPermutation-sym, IsPermutation-trans, IsPermutation-remove, sum_by-IsPermutation}
+use Rattle.host_inbox.specs.Entries.{weigh}
+use Rattle.host_inbox.proofs.Weights.{is_number, is_itself, is_other}
+
+weigh_is_sum : {X : Type 0} (f : X → ℕ) (xs : List X) → weigh f xs ≡ sum_by f xs
+weigh_is_sum f [] = refl
+weigh_is_sum f (x ∷ xs) = ap (λ n. f x + n) (weigh_is_sum f xs) ∙ sym (sum_by-cons f x xs)
+
+pub weigh-permutation : (f : ℕ → ℕ) (xs ys : List ℕ) → IsPermutation xs ys → weigh f ys ≡ weigh f xs
+weigh-permutation f xs ys p = weigh_is_sum f ys ∙ sum_by-IsPermutation f xs ys p ∙ sym (weigh_is_sum f xs)
+
+find_number : (x : ℕ) (ys : List ℕ) → 0 < weigh (is_number x) ys → (i : ℕ) × (i < length ys) × (x ≡ get_or ys i x)
+find_number x [] some_there = absurd (omega arith)
+find_number x (y ∷ ys) some_there = dite (ℕ_discrete y x)
+    (λ (e : y ≡ x). (0, (omega arith), sym e))
+    (λ (ne : y ≢ x).
+    let none = is_other x y ne in
+    let r = find_number x ys (omega arith) in
+    (suc r.0, (let w = r.1 in omega arith), r.2))
+
+pub same_weights : (xs ys : List ℕ) → ((h : ℕ → ℕ) → weigh h xs ≡ weigh h ys) → IsPermutation xs ys
+same_weights [] [] same = IsPermutation-refl []
+same_weights [] (y ∷ ys) same = let e = same (λ _. 1) in absurd (omega arith)
+same_weights (x ∷ xs) ys same =
+    let one = is_itself x in
+    let there = find_number x ys (let e = same (is_number x) in omega arith) in
+    let moved = IsPermutation-remove ys there.0 x there.1 there.2 in
+    let rest : (h : ℕ → ℕ) → weigh h xs ≡ weigh h (remove ys there.0) = λ h. (let p = weigh-permutation h ys (x ∷ remove ys there.0) moved in let e = same h in omega arith) in
+    IsPermutation-trans (x ∷ xs) (x ∷ remove ys there.0) ys (IsPermutation-cons x xs (remove ys there.0) (same_weights xs (remove ys there.0) rest))
+    (IsPermutation-sym ys (x ∷ remove ys there.0) moved)

@@ -1,0 +1,34 @@
+-- What is drained when boards are closed.
+use Rattle.std.specs.Prelude.{◌≡◌, ℕ, ◌<◌, ◌==◌, List, [], ◌∷◌, ◌++◌, map, filter, length, min, slice_get, slice_index_or, All, IsPermutation, Some, Vec}
+use Rattle.std.specs.declared.alloc.Global.{Global}
+use Rattle.host_inbox.specs.declared.entry.Entry.{Entry}
+use Rattle.host_inbox.specs.Entries.{numbers_below}
+use Rattle.host_inbox.specs.CarrierViews.{CarrierView}
+
+-- F of each place and the member there
+abbrev pub EachAt : {X : Type 0} → (ℕ → X → Type 0) → List X → Type 0
+EachAt {X} F xs = (i : ℕ) (d : X) → i < length xs → F i (slice_index_or xs i d)
+
+module _ {T : Type 0} where
+  -- the entries of all carriers
+  abbrev pub all_entries : List (CarrierView T) → List (Entry T)
+  all_entries [] = []
+  all_entries (carrier ∷ carriers) = carrier.entries ++ all_entries carriers
+
+  -- the numbers that were claimed of a host
+  abbrev pub numbers_of : ℕ → List (Entry T) → List ℕ
+  numbers_of host entries = map (λ e. e.number) (filter (λ e. e.host == host) entries)
+
+  -- The numbers claimed of the host are those below some number, each once. For each of them below 16 its entry's parcel is at
+  -- that place, and nothing else is drained.
+  pub record IsInboxOf (host : ℕ) (entries : List (Entry T)) (parcels : List T) : Type 0 where
+    pub claimed : ℕ
+    pub once : IsPermutation (numbers_of host entries) (numbers_below claimed)
+    pub count : length parcels ≡ min claimed 16
+    pub placed : All (λ e. e.host ≡ host → e.number < 16 → slice_get parcels e.number ≡ Some e.parcel) entries
+
+  -- a row for each host, and no entry of another host
+  pub record IsDrained (hosts : ℕ) (entries : List (Entry T)) (rows : List (Vec T Global)) : Type 0 where
+    pub count : length rows ≡ hosts
+    pub hosts_of : All (λ e. e.host < hosts) entries
+    pub each : EachAt (λ host row. IsInboxOf host entries row.items) rows

@@ -1,0 +1,11 @@
+pub mod Entries
+pub mod Walked
+pub mod Inboxes
+pub mod Steps
+pub mod Carriers
+pub mod CarrierViews
+pub mod Sizes
+pub mod Boards
+pub mod Drains
+pub mod Slots
+pub mod Kept

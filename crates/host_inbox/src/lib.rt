@@ -1,0 +1,21 @@
+//! Inboxes that threads share: parcels for hosts, put by carriers.
+#![tactic(auto)]
+
+mod boards;
+mod carrier;
+mod closing;
+mod draining;
+mod entry;
+mod joining;
+mod opening;
+mod rule;
+mod steps;
+mod trail;
+
+pub use boards::Boards;
+pub use carrier::{Carrier, Full};
+pub use closing::{CloseRefused, Drained};
+pub use entry::Entry;
+
+#[cfg(test)]
+mod tests;
