@@ -43,15 +43,18 @@ with_token-grows : (t : Token) (old new : Layout) → with_token t old ≡ Some 
 with_token-grows t nothing new e = begun_by-grows t new e
 with_token-grows t (leaf other) new e = absurd (none-some new e)
 with_token-grows t (row before head value) new e = elim (row_cases t head before value new e) [
-      inl h ↦ (let g = with_token-grows t value h.1 h.2 in let lev = g.no_fewer_levels in let siz = g.no_smaller in
-          grows-by (row before head value) (row before head h.1) new h.3 (record {
-            repeat_stays = or_grows (has_repeat before || is_among head before) (has_repeat value) (has_repeat h.1) g.repeat_stays;
-            no_fewer_levels = omega (arith, lev);
-            no_smaller = omega (arith, siz) }))
-    | inr h ↦ grows-by (row before head value) (row (row before head value) t nothing) new h.2 (record {
-            repeat_stays = or_left (has_repeat (row before head value)) (is_among t (row before head value)) false;
-            no_fewer_levels = omega arith;
-            no_smaller = omega arith }) ]
+  | inl h ↦ (let g = with_token-grows t value h.1 h.2 in let lev = g.no_fewer_levels in let siz = g.no_smaller in
+      grows-by (row before head value) (row before head h.1) new h.3 (record {
+        repeat_stays = or_grows (has_repeat before || is_among head before) (has_repeat value) (has_repeat h.1) g.repeat_stays;
+        no_fewer_levels = omega (arith, lev);
+        no_smaller = omega (arith, siz);
+      }))
+  | inr h ↦ grows-by (row before head value) (row (row before head value) t nothing) new h.2 (record {
+    repeat_stays = or_left (has_repeat (row before head value)) (is_among t (row before head value)) false;
+    no_fewer_levels = omega arith;
+    no_smaller = omega arith;
+  })
+]
 
 with_tokens-grows : (ts : List Token) (old new : Layout) → with_tokens ts old ≡ Some new → Grows old new
 with_tokens-grows [] old new e = grows-by old old new (same_Some _ _ e) (record { repeat_stays = λ h. h; no_fewer_levels = omega arith; no_smaller = omega arith })
@@ -72,9 +75,15 @@ first_lines lines n l tree =
     let read : option_and_then (with_tokens more) (with_tokens (tokens_of front) nothing) ≡ Some l = sym (with_tokens-append (tokens_of front) more nothing) ∙ ap (λ ts. with_tokens ts nothing) (sym parts) ∙ read-from_Spells (tokens_of lines) l tree.spelled in
     let c = chained (with_tokens more) (with_tokens (tokens_of front) nothing) l read in
     let g = with_tokens-grows more c.0 l c.2 in
-    let lev = g.no_fewer_levels in let siz = g.no_smaller in let deep = tree.shallow in let big = tree.small in
-    (c.0, record { spelled = Spells-from_read (tokens_of front) c.0 c.1; distinct = is_false (has_repeat c.0) (has_repeat l) g.repeat_stays tree.distinct;
-        shallow = omega (arith, lev, deep); small = omega (arith, siz, big) })
+    let lev = g.no_fewer_levels in let siz = g.no_smaller in let deep = tree.shallow in let big = tree.small in (
+      c.0,
+      record {
+        spelled = Spells-from_read (tokens_of front) c.0 c.1;
+        distinct = is_false (has_repeat c.0) (has_repeat l) g.repeat_stays tree.distinct;
+        shallow = omega (arith, lev, deep);
+        small = omega (arith, siz, big);
+      },
+    )
 
 misfit-no_layout : (ts : List Token) (kind : FaultKind) (l : Layout) → IsMisfit ts kind → Spells ts l → ⊥
 misfit-no_layout ts kind l h s = h.ends (h.rest, l, subst (λ us. Spells us l) (h.parts ∙ sym (append_assoc h.front (h.token ∷ []) h.rest)) s)

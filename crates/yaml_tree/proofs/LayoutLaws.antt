@@ -85,8 +85,9 @@ pub tokens-with_token : (t : Token) (old new : Layout) → with_token t old ≡ 
 tokens-with_token t nothing new e = tokens-begun_by t new e
 tokens-with_token t (leaf other) new e = absurd (none-some new e)
 tokens-with_token t (row before head value) new e = elim (row_cases t head before value new e) [
-      inl h ↦ ap tokens (sym h.3) ∙ ap (λ l. tokens before ++ (head ∷ l)) (tokens-with_token t value h.1 h.2) ∙ sym (append_assoc (tokens before) (head ∷ tokens value) (t ∷ []))
-    | inr h ↦ ap tokens (sym h.2) ]
+  | inl h ↦ ap tokens (sym h.3) ∙ ap (λ l. tokens before ++ (head ∷ l)) (tokens-with_token t value h.1 h.2) ∙ sym (append_assoc (tokens before) (head ∷ tokens value) (t ∷ []))
+  | inr h ↦ ap tokens (sym h.2)
+]
 
 StandsBelow-begun_by : (outer : ℕ) (t : Token) (new : Layout) → begun_by t ≡ Some new → outer < depth t → StandsBelow outer new
 StandsBelow-begun_by outer (dash line column) new e lt = subst (StandsBelow outer) (same_Some _ _ e) (refl, lt, tt, tt, tt)
@@ -98,8 +99,9 @@ pub StandsBelow-with_token : (outer : ℕ) (t : Token) (old new : Layout) → wi
 StandsBelow-with_token outer t nothing new e lt stands = StandsBelow-begun_by outer t new e lt
 StandsBelow-with_token outer t (leaf other) new e lt stands = absurd (none-some new e)
 StandsBelow-with_token outer t (row before head value) new e lt stands = elim (row_cases t head before value new e) [
-      inl h ↦ subst (StandsBelow outer) h.3 (stands.0, stands.1, stands.2, stands.3, StandsBelow-with_token (depth head) t value h.1 h.2 h.0 stands.4)
-    | inr h ↦ subst (StandsBelow outer) h.2 (h.0, lt, h.1, stands, tt) ]
+  | inl h ↦ subst (StandsBelow outer) h.3 (stands.0, stands.1, stands.2, stands.3, StandsBelow-with_token (depth head) t value h.1 h.2 h.0 stands.4)
+  | inr h ↦ subst (StandsBelow outer) h.2 (h.0, lt, h.1, stands, tt)
+]
 
 -- ---- what is spelled so is read
 
@@ -135,15 +137,20 @@ without_last outer ts t nothing stands e = absurd (not_nil ts [] t (sym e))
 without_last outer ts t (leaf other) stands e = let s = same_last [] ts other t e in
     subst (λ u. WithoutLast outer ts u (leaf other)) s.1 (nothing, s.0, tt, leaf_again other stands.0, stands.1)
 without_last outer ts t (row before head value) stands e =
-    elim (nil_or_last (tokens value)) [ inl none ↦ (let n = tokens-nil value none in
-        let s = same_last (tokens before) ts head t (ap (λ l. tokens before ++ (head ∷ l)) (sym none) ∙ e) in
-        subst (λ u. WithoutLast outer ts u (row before head value)) s.1 (subst (λ v. WithoutLast outer ts head (row before head v)) (sym n)
-            (before, s.0, stands.3, row_again before head stands.0 stands.2, stands.1)))
-    | inr h ↦ (let s = same_last (tokens before ++ (head ∷ h.0)) ts h.1 t (append_assoc (tokens before) (head ∷ h.0) (h.1 ∷ []) ∙ ap (λ l. tokens before ++ (head ∷ l)) (sym h.2) ∙ e) in
-        let w = without_last (depth head) h.0 t value stands.4 (h.2 ∙ ap (λ u. h.0 ++ (u ∷ [])) s.1) in
-        (row before head w.0, ap (λ l. tokens before ++ (head ∷ l)) w.1 ∙ s.0, (stands.0, stands.1, stands.2, stands.3, w.2),
+    elim (nil_or_last (tokens value)) [
+      | inl none ↦ (let n = tokens-nil value none in
+          let s = same_last (tokens before) ts head t (ap (λ l. tokens before ++ (head ∷ l)) (sym none) ∙ e) in
+          subst (λ u. WithoutLast outer ts u (row before head value)) s.1 (subst (λ v. WithoutLast outer ts head (row before head v)) (sym n)
+          (before, s.0, stands.3, row_again before head stands.0 stands.2, stands.1)))
+      | inr h ↦ (let s = same_last (tokens before ++ (head ∷ h.0)) ts h.1 t (append_assoc (tokens before) (head ∷ h.0) (h.1 ∷ []) ∙ ap (λ l. tokens before ++ (head ∷ l)) (sym h.2) ∙ e) in
+          let w = without_last (depth head) h.0 t value stands.4 (h.2 ∙ ap (λ u. h.0 ++ (u ∷ [])) s.1) in (
+            row before head w.0,
+            ap (λ l. tokens before ++ (head ∷ l)) w.1 ∙ s.0,
+            (stands.0, stands.1, stands.2, stands.3, w.2),
             cond-true (nat_lt (depth head) (depth t)) _ _ (lt-ltb _ _ w.4) ∙ ap (option_map (row before head)) w.3,
-            omega (arith, w.4, stands.1))) ]
+            omega (arith, w.4, stands.1),
+          ))
+    ]
 
 -- ---- lists of tokens
 

@@ -29,6 +29,12 @@ unfolding without_return
 return_of_nothing [] e = refl
 return_of_nothing (b ∷ line) e = absurd (omega (arith, e))
 
+pub length-without_return : (xs : List ℕ) → length (without_return xs) ≤ length xs
+unfolding without_return
+length-without_return [] = omega arith
+length-without_return (b ∷ []) = elim (b == 13) as (λ q. length (cond q [] (b ∷ [])) ≤ 1) [ true ↦ omega arith | false ↦ omega arith ]
+length-without_return (b ∷ c ∷ xs) = let more = length-without_return (c ∷ xs) in omega arith
+
 and_false : (a : Bool) → (a && false) ≡ false
 and_false true = refl
 and_false false = refl
@@ -61,9 +67,10 @@ FirstFeed bytes n = AllInside (take n bytes) × (n < length bytes → bytes ≡ 
 first_feed : (bytes : List ℕ) → FirstFeed bytes (prefix_len is_inside bytes)
 first_feed [] = (tt, λ lt. absurd (omega (arith, lt)))
 first_feed (b ∷ bytes) = elim (b == 10) as (λ q. (b == 10) ≡ q → FirstFeed (b ∷ bytes) (cond (not q) (1 + prefix_len is_inside bytes) 0)) [
-      true ↦ λ q. (tt, λ lt. ap (λ c. c ∷ bytes) (eqb-true b 10 q))
-    | false ↦ λ q. (let more = first_feed bytes in let e : suc (prefix_len is_inside bytes) ≡ 1 + prefix_len is_inside bytes = omega arith in
-        subst (FirstFeed (b ∷ bytes)) e (((λ w. false≢true (sym q ∙ eq-eqb b 10 w)), more.0), λ lt. ap (λ l. b ∷ l) (more.1 (omega (arith, lt))))) ] refl
+  | true ↦ λ q. (tt, λ lt. ap (λ c. c ∷ bytes) (eqb-true b 10 q))
+  | false ↦ λ q. (let more = first_feed bytes in let e : suc (prefix_len is_inside bytes) ≡ 1 + prefix_len is_inside bytes = omega arith in
+      subst (FirstFeed (b ∷ bytes)) e (((λ w. false≢true (sym q ∙ eq-eqb b 10 w)), more.0), λ lt. ap (λ l. b ∷ l) (more.1 (omega (arith, lt)))))
+] refl
 
 module _ (bytes : List ℕ) (n : ℕ) (is : n ≡ prefix_len is_inside bytes) where
   found : FirstFeed bytes n

@@ -47,7 +47,7 @@ module _ (line : ℕ) (xs : List ℕ) (i : ℕ) (b : Builder) (w : Result Builde
   pub row_ends : (r : Result (Unit {0}) Stop) (new : Builder) → i < length xs → (here ≡ 32 → ⊥) → (here ≡ 35 → ⊥) → is_dash here (drop (i + 1) xs) ≡ false → Steps r new (take_tokens (row_scan line i (drop i xs) (scalar_at (drop i xs))) b) → Steps r new w
   row_ends r new lt ne nc d h = subst (Steps r new)
       (ap (λ bytes. take_tokens (row_scan line i bytes (scalar_at bytes)) b) (drop_more xs i 0 lt)
-       ∙ ap (λ ts. take_tokens ts b) (sym (node_at lt ∙ cond-false (is_space here) _ _ (ne_eqb here 32 ne) ∙ cond-false (here == 35) _ _ (ne_eqb here 35 nc) ∙ cond-false (is_dash here (drop (i + 1) xs)) _ _ d)) ∙ so_far) h
+      ∙ ap (λ ts. take_tokens ts b) (sym (node_at lt ∙ cond-false (is_space here) _ _ (ne_eqb here 32 ne) ∙ cond-false (here == 35) _ _ (ne_eqb here 35 nc) ∙ cond-false (is_dash here (drop (i + 1) xs)) _ _ d)) ∙ so_far) h
 
   pub line_ends : length xs ≤ i → Ok b ≡ w
   unfolding node_tokens take_tokens

@@ -55,8 +55,9 @@ kind_at front (scalar line column text) l kind e k = k
 kind_at front (odd_token line column odd.Syntax) l kind e k = k
 kind_at front (odd_token line column odd.Unsupported) l kind e k = k
 kind_at front (odd_token line column odd.Mark) l kind e k = elim k [
-      inl h ↦ subst (IsKindAt front (odd_token line column odd.Mark)) (sym h.0) (may_begin (front ++ (scalar line column None ∷ [])) h.1 (one_more front (scalar line column None) l e ∙ h.2))
-    | inr h ↦ subst (IsKindAt front (odd_token line column odd.Mark)) (sym h.0) (may_not_begin (front ++ (scalar line column None ∷ [])) (one_more front (scalar line column None) l e ∙ h.1)) ]
+  | inl h ↦ subst (IsKindAt front (odd_token line column odd.Mark)) (sym h.0) (may_begin (front ++ (scalar line column None ∷ [])) h.1 (one_more front (scalar line column None) l e ∙ h.2))
+  | inr h ↦ subst (IsKindAt front (odd_token line column odd.Mark)) (sym h.0) (may_not_begin (front ++ (scalar line column None ∷ [])) (one_more front (scalar line column None) l e ∙ h.1))
+]
 
 abbrev TokensTaken : List Token → List Token → Layout → Result Builder FaultKind → Type 0
 TokensTaken front ts l (Ok b) = (new : Layout) × (with_tokens ts l ≡ Some new) × StandsFor b new
@@ -66,10 +67,18 @@ tokens-taken : (front ts : List Token) (b : Builder) (l : Layout) → StandsFor 
 unfolding take_tokens
 tokens-taken front [] b l s e = (l, refl, s)
 tokens-taken front (t ∷ ts) b l s e = elim (take_token t b) as (λ r. TakenAny t l r → TokensTaken front (t ∷ ts) l (r >>= take_tokens ts)) [
-      Ok after ↦ λ h. (let rest = tokens-taken (front ++ (t ∷ [])) ts after h.0 h.2 (one_more front t l e ∙ h.1) in
-          behind (take_tokens ts after) h.0 h.1 rest)
-    | Err kind ↦ λ h. record { front = front; token = t; rest = ts; parts = refl; begins = may_begin front l e;
-          ends = may_not_begin (front ++ (t ∷ [])) (one_more front t l e ∙ h.0); kind_is = kind_at front t l kind e h.1 } ] (take_token-taken t b l s)
+  | Ok after ↦ λ h. (let rest = tokens-taken (front ++ (t ∷ [])) ts after h.0 h.2 (one_more front t l e ∙ h.1) in
+      behind (take_tokens ts after) h.0 h.1 rest)
+  | Err kind ↦ λ h. record {
+    front = front;
+    token = t;
+    rest = ts;
+    parts = refl;
+    begins = may_begin front l e;
+    ends = may_not_begin (front ++ (t ∷ [])) (one_more front t l e ∙ h.0);
+    kind_is = kind_at front t l kind e h.1;
+  }
+] (take_token-taken t b l s)
   where
     behind : (r : Result Builder FaultKind) (mid : Layout) → with_token t l ≡ Some mid → TokensTaken (front ++ (t ∷ [])) ts mid r → TokensTaken front (t ∷ ts) l r
     behind (Ok b') mid m h = (h.0, ap (option_and_then (with_tokens ts)) m ∙ h.1, h.2)
@@ -87,16 +96,21 @@ judged-means b lines l s spelled = by b.repeated refl
   where
     has : b.repeated ≡ has_repeat l
     has = s.2.repeats ∙ ap has_repeat s.3
+
     deep : b.levels ≡ levels l
     deep = s.2.has_levels ∙ ap levels s.3
+
     big : (b.size ≤ 1_000_000 → b.size ≡ size l) × (1_000_000 < b.size → 1_000_000 < size l)
     big = (λ q. s.2.has_size.0 q ∙ ap size s.3, λ q. subst (λ n. 1_000_000 < n) (ap size s.3) (s.2.has_size.1 q))
+
     sized : has_repeat l ≡ false → levels l ≤ 64 → (r : Bool) → nat_lt 1_000_000 b.size ≡ r → JudgedTo b lines l (cond r (Err TooManyNodes) (Ok b))
     sized f d true e = (l, spelled, f, d, big.1 (ltb-true 1_000_000 b.size e))
     sized f d false e = (record { spelled = spelled; distinct = f; shallow = d; small = (let le : b.size ≤ 1_000_000 = ltb-false 1_000_000 b.size e in let same = big.0 le in omega arith) }, refl)
+
     levelled : has_repeat l ≡ false → (r : Bool) → nat_lt 64 b.levels ≡ r → JudgedTo b lines l (cond r (Err TooDeep) (cond (nat_lt 1_000_000 b.size) (Err TooManyNodes) (Ok b)))
     levelled f true e = (l, spelled, f, (let lt : 64 < b.levels = ltb-true 64 b.levels e in let same = deep in omega arith))
     levelled f false e = sized f (let le : b.levels ≤ 64 = ltb-false 64 b.levels e in let same = deep in omega arith) (nat_lt 1_000_000 b.size) refl
+
     by : (r : Bool) → b.repeated ≡ r → JudgedTo b lines l (cond r (Err Duplicate) (cond (nat_lt 64 b.levels) (Err TooDeep) (cond (nat_lt 1_000_000 b.size) (Err TooManyNodes) (Ok b))))
     by true e = (l, spelled, sym has ∙ e)
     by false e = levelled (sym has ∙ e) (nat_lt 64 b.levels) refl
@@ -140,8 +154,9 @@ one_of_two front (odd_token line column odd.Mark) TooManyNodes h = absurd h
 
 misfit-refused : (lines : List (List ℕ)) (kind : FaultKind) → IsMisfit (tokens_of lines) kind → IsRefused lines kind
 misfit-refused lines kind h = elim (one_of_two h.front h.token kind h.kind_is) [
-      inl e ↦ subst (IsRefused lines) (sym e) (subst (IsMisfit (tokens_of lines)) e h)
-    | inr e ↦ subst (IsRefused lines) (sym e) (subst (IsMisfit (tokens_of lines)) e h) ]
+  | inl e ↦ subst (IsRefused lines) (sym e) (subst (IsMisfit (tokens_of lines)) e h)
+  | inr e ↦ subst (IsRefused lines) (sym e) (subst (IsMisfit (tokens_of lines)) e h)
+]
 
 abbrev pub ReadsTo : List (List ℕ) → Result Builder YamlFault → Type 0
 ReadsTo lines (Ok b) = (l : Layout) × IsTree lines l × StandsFor b l
@@ -157,15 +172,20 @@ line-read done line i b l at s spelled = by (take_tokens ts b) (tokens-taken (to
   where
     ts : List Token
     ts = line_tokens (begun_after false done) (1 + i) line
+
     whole : List (List ℕ)
     whole = done ++ (line ∷ [])
+
     pushed : tokens_of whole ≡ tokens_of done ++ ts
     pushed = tokens_of-push done line i at
+
     reads : with_tokens (tokens_of done) nothing ≡ Some l
     reads = read-from_Spells (tokens_of done) l spelled
+
     after : (b' : Builder) (m : Layout) → StandsFor b' m → (r : Result Builder FaultKind) → JudgedTo b' whole m r → LineRead whole r
     after b' m s' (Ok c) h = (m, h.0, subst (λ x. StandsFor x m) (sym h.1) s')
     after b' m s' (Err kind) h = h
+
     by : (r : Result Builder FaultKind) → TokensTaken (tokens_of done) ts l r → LineRead whole (r >>= judged)
     by (Ok b') h = after b' h.0 h.2 (judged b') (judged-means b' whole h.0 h.2
         (Spells-from_read (tokens_of whole) h.0 (ap (λ us. with_tokens us nothing) pushed ∙ with_tokens-append (tokens_of done) ts nothing ∙ ap (option_and_then (with_tokens ts)) reads ∙ h.1)))
@@ -186,21 +206,24 @@ lines-read lines (line ∷ rest) i b l within at s tree all =
     let begun : begun_after false (take (i + 1) lines) ≡ (begun_after false done || has_content line) = ap (begun_after false) next ∙ begun_after-push false done line in
     let n : 1 + (i + 1) ≡ 1 + (1 + i) = omega arith in
     elim (read_line (begun_after false done) (1 + i) line b) as (λ r. LineRead (done ++ (line ∷ [])) r → ReadsTo lines (at_line (1 + i) r >>= read_lines (begun_after false done || has_content line) (1 + (1 + i)) rest)) [
-      Ok after ↦ λ h. (let longer : IsTree (take (i + 1) lines) h.0 = subst (λ ls. IsTree ls h.0) (sym next) h.1 in
+      | Ok after ↦ λ h. (let longer : IsTree (take (i + 1) lines) h.0 = subst (λ ls. IsTree ls h.0) (sym next) h.1 in
           subst (λ k. ReadsTo lines (read_lines (begun_after false done || has_content line) k rest after)) n
-            (subst (λ q. ReadsTo lines (read_lines q (1 + (i + 1)) rest after)) begun
-              (lines-read lines rest (i + 1) after h.0 (omega (arith, lt)) left h.2 longer
-                (λ m le. up_to lines i all (h.0, longer) m le))))
-    | Err kind ↦ λ h. record {
-          within = omega (arith, lt);
-          before = λ m less. all m (omega (arith, less));
-          refused = subst (λ ls. IsRefused ls kind) (sym next ∙ (let e : i + 1 ≡ 1 + i = omega arith in ap (λ k. take k lines) e)) h } ]
-      (line-read done line i b l (length-take-le i lines within) s tree.spelled)
+          (subst (λ q. ReadsTo lines (read_lines q (1 + (i + 1)) rest after)) begun
+          (lines-read lines rest (i + 1) after h.0 (omega (arith, lt)) left h.2 longer
+          (λ m le. up_to lines i all (h.0, longer) m le))))
+      | Err kind ↦ λ h. record {
+        within = omega (arith, lt);
+        before = λ m less. all m (omega (arith, less));
+        refused = subst (λ ls. IsRefused ls kind) (sym next ∙ (let e : i + 1 ≡ 1 + i = omega arith in ap (λ k. take k lines) e)) h;
+      }
+    ]
+    (line-read done line i b l (length-take-le i lines within) s tree.spelled)
   where
     up_to : (lines : List (List ℕ)) (i : ℕ) → ((m : ℕ) → m ≤ i → HasTree (take m lines)) → HasTree (take (i + 1) lines) → (m : ℕ) → m ≤ i + 1 → HasTree (take m lines)
     up_to lines i all last m le = elim (cases_lt i m) [
-          inl lt ↦ (let e : i + 1 ≡ m = omega (arith, lt, le) in subst (λ k. HasTree (take k lines)) e last)
-        | inr ge ↦ all m ge ]
+      | inl lt ↦ (let e : i + 1 ≡ m = omega (arith, lt, le) in subst (λ k. HasTree (take k lines)) e last)
+      | inr ge ↦ all m ge
+    ]
 
 -- ---- the whole text
 

@@ -206,13 +206,17 @@ closed-stands o os b f fs value s e =
     let last : List Node = node ∷ [] in
     record {
       opens = OpensAre-more first last os fs (subst (λ l. OpensAre l os fs) grows.1 (OpensAre-more b.nodes grows.0 os fs opens.3));
-      holds = λ line. (rows_of o, m,
-          HoldsRows-more first last f.before (rows_of o) (subst (λ l. HoldsRows l f.before (rows_of o)) grows.1 (HoldsRows-more b.nodes grows.0 f.before (rows_of o) opens.1)),
-          HoldsNode-more first last value (line_of f.head) m (subst (λ k. HoldsNode first value k m) is.has_line (value_held o.line b.nodes b.value value s.holds)),
-          slice_get-last first node ∙ (λ j. Some (record { line = is.has_first j; value = rows_value (is.has_kind j) (with_row (is.has_kind j) (is.has_line j) (is.has_name j) m (rows_of o)) })));
+      holds = λ line. (
+        rows_of o,
+        m,
+        HoldsRows-more first last f.before (rows_of o) (subst (λ l. HoldsRows l f.before (rows_of o)) grows.1 (HoldsRows-more b.nodes grows.0 f.before (rows_of o) opens.1)),
+        HoldsNode-more first last value (line_of f.head) m (subst (λ k. HoldsNode first value k m) is.has_line (value_held o.line b.nodes b.value value s.holds)),
+        slice_get-last first node ∙ (λ j. Some (record { line = is.has_first j; value = rows_value (is.has_kind j) (with_row (is.has_kind j) (is.has_line j) (is.has_name j) m (rows_of o)) })),
+      );
       repeats = s.repeats;
       has_levels = s.has_levels;
-      has_size = s.has_size }
+      has_size = s.has_size;
+    }
 
 -- ---- closing what is deeper
 
@@ -232,9 +236,10 @@ settled_on-stands d (o ∷ os) b (f ∷ fs) value e s full =
     let opens : OpensAre b.nodes (o ∷ os) (f ∷ fs) = subst (λ l. OpensAre b.nodes l (f ∷ fs)) e s.opens in
     let is : OpenIs o f = opens.0 in
     elim (nat_lt d o.depth) as (λ t. nat_lt d o.depth ≡ t → SettledTo d (cond t (settled_on d os (closed o (record b { open_rows = os }))) b) (wrap (f ∷ fs) value)) [
-      true ↦ λ q. settled_on-stands d os (closed o (record b { open_rows = os })) fs (row f.before f.head value) refl (closed-stands o os b f fs value s e)
+      | true ↦ λ q. settled_on-stands d os (closed o (record b { open_rows = os })) fs (row f.before f.head value) refl (closed-stands o os b f fs value s e)
           (let lt : d < o.depth = ltb-true d o.depth q in let same = is.has_depth in omega arith)
-    | false ↦ λ q. (f ∷ fs, value, s, refl, (let le : o.depth ≤ d = ltb-false d o.depth q in let same = is.has_depth in omega arith), full) ] refl
+      | false ↦ λ q. (f ∷ fs, value, s, refl, (let le : o.depth ≤ d = ltb-false d o.depth q in let same = is.has_depth in omega arith), full)
+    ] refl
 
 -- ---- heads
 
@@ -288,6 +293,7 @@ begun-taken t b fs value h s chain full = by b.value refl
   where
     new : Frame
     new = record { before = nothing; head = t }
+
     by : (number : Option ℕ) → b.value ≡ number → Taken t (wrap fs value) (cond (is_some number) (Err Syntax) (Ok (record b { open_rows = record { depth = depth t; mapping = is_key t; first_line = line_of t; items = []; entries = []; line = line_of t; key = key_of t } ∷ b.open_rows; levels = max b.levels (1 + length b.open_rows); size = grown b.size })))
     by (Some n) e = (with_token-wrap t fs value chain ∙ ap (option_map (wrap fs)) (scalars-refuse (depth t) t value refl (subst (λ v. ValueFull (depth t) v value) e full)), refl)
     by None e =
@@ -298,16 +304,23 @@ begun-taken t b fs value h s chain full = by b.value refl
         let nosiz : size value ≡ 1 = ap size none in
         let len = length-opens b.nodes b.open_rows fs s.opens in
         let held = s.has_levels in
-        let same : size (wrap fs value) + 1 ≡ size (wrap fs (row nothing t nothing)) = omega (arith, siz, siz', nosiz) in
-        (wrap fs (row nothing t nothing),
-            ap (λ v. with_token t (wrap fs v)) none ∙ with_token-wrap t fs nothing chain ∙ ap (option_map (wrap fs)) (begun_by-head t h),
-            (new ∷ fs, nothing, record {
-                opens = (record { has_depth = refl; has_kind = refl; has_line = refl; has_first = refl; has_name = refl; heads = h }, refl, chain, s.opens);
-                holds = subst (λ v. ValueIs b.nodes v nothing) (sym e) refl;
-                repeats = s.repeats ∙ has_repeat-wrap fs value ∙ ap (λ v. frames_repeat fs || has_repeat v) none ∙ sym (has_repeat-wrap fs (row nothing t nothing));
-                has_levels = omega (arith, lev, lev', nolev, len, held);
-                has_size = subst (λ n. SizeIs (grown b.size) n) same (grown-SizeIs b.size (size (wrap fs value)) s.has_size) },
-                refl, subst (λ v. Between v nothing) (sym e) tt))
+        let same : size (wrap fs value) + 1 ≡ size (wrap fs (row nothing t nothing)) = omega (arith, siz, siz', nosiz) in (
+          wrap fs (row nothing t nothing),
+          ap (λ v. with_token t (wrap fs v)) none ∙ with_token-wrap t fs nothing chain ∙ ap (option_map (wrap fs)) (begun_by-head t h),
+          (
+            new ∷ fs,
+            nothing,
+            record {
+              opens = (record { has_depth = refl; has_kind = refl; has_line = refl; has_first = refl; has_name = refl; heads = h }, refl, chain, s.opens);
+              holds = subst (λ v. ValueIs b.nodes v nothing) (sym e) refl;
+              repeats = s.repeats ∙ has_repeat-wrap fs value ∙ ap (λ v. frames_repeat fs || has_repeat v) none ∙ sym (has_repeat-wrap fs (row nothing t nothing));
+              has_levels = omega (arith, lev, lev', nolev, len, held);
+              has_size = subst (λ n. SizeIs (grown b.size) n) same (grown-SizeIs b.size (size (wrap fs value)) s.has_size);
+            },
+            refl,
+            subst (λ v. Between v nothing) (sym e) tt,
+          ),
+        )
 
 -- ---- a collection's next row
 
@@ -335,12 +348,14 @@ has_key-with_entry name other [] child = by (pointwise ◌==◌ name other)
     by true = refl
     by false = refl
 has_key-with_entry name other (e ∷ es) child = elim (pointwise ◌==◌ other e.0) as (λ t. pointwise ◌==◌ other e.0 ≡ t → has_key name (cond t ((e.0, child) ∷ es) (e ∷ with_entry es other child)) ≡ (has_key name (e ∷ es) || pointwise ◌==◌ name other)) [
-      true ↦ λ q. subst (λ k. has_key name ((e.0, child) ∷ es) ≡ (has_key name (e ∷ es) || pointwise ◌==◌ name k)) (sym (same_bytes other e.0 q)) (there (pointwise ◌==◌ name e.0) e.1 (lookup (pointwise ◌==◌ name) es))
-    | false ↦ λ q. later (pointwise ◌==◌ name e.0) (pointwise ◌==◌ name other) e.1 (lookup (pointwise ◌==◌ name) es) (lookup (pointwise ◌==◌ name) (with_entry es other child)) (has_key-with_entry name other es child) ] refl
+  | true ↦ λ q. subst (λ k. has_key name ((e.0, child) ∷ es) ≡ (has_key name (e ∷ es) || pointwise ◌==◌ name k)) (sym (same_bytes other e.0 q)) (there (pointwise ◌==◌ name e.0) e.1 (lookup (pointwise ◌==◌ name) es))
+  | false ↦ λ q. later (pointwise ◌==◌ name e.0) (pointwise ◌==◌ name other) e.1 (lookup (pointwise ◌==◌ name) es) (lookup (pointwise ◌==◌ name) (with_entry es other child)) (has_key-with_entry name other es child)
+] refl
   where
     there : (t : Bool) (old : Child) (rest : Option Child) → is_some (cond t (Some child) rest) ≡ (is_some (cond t (Some old) rest) || t)
     there true old rest = refl
     there false old rest = sym (or_false (is_some rest))
+
     later : (t u : Bool) (old : Child) (rest more : Option Child) → is_some more ≡ (is_some rest || u) → is_some (cond t (Some old) more) ≡ (is_some (cond t (Some old) rest) || u)
     later true u old rest more e = refl
     later false u old rest more e = e
@@ -389,24 +404,32 @@ next_row-stands t o os b f fs value head level s e =
     let whole : Layout = row f.before f.head value in
     let rows : Rows = with_row o.mapping o.line o.key m (rows_of o) in
     let kind : o.mapping ≡ is_key t = is.has_kind ∙ same_kind f.head t is.heads head level in
-    let holds : HoldsRows first whole rows = (rows_of o, m,
-          subst (λ l. HoldsRows l f.before (rows_of o)) grows.1 (HoldsRows-more b.nodes grows.0 f.before (rows_of o) opens.1),
-          subst (λ k. HoldsNode first value k m) is.has_line (value_held o.line b.nodes b.value value s.holds),
-          (λ j. with_row (is.has_kind j) (is.has_line j) (is.has_name j) m (rows_of o))) in
+    let holds : HoldsRows first whole rows = (
+      rows_of o,
+      m,
+      subst (λ l. HoldsRows l f.before (rows_of o)) grows.1 (HoldsRows-more b.nodes grows.0 f.before (rows_of o) opens.1),
+      subst (λ k. HoldsNode first value k m) is.has_line (value_held o.line b.nodes b.value value s.holds),
+      (λ j. with_row (is.has_kind j) (is.has_line j) (is.has_name j) m (rows_of o)),
+    ) in
     let lev = levels-wrap fs whole in let lev' = levels-wrap fs (row whole t nothing) in
     let siz = size-wrap fs whole in let siz' = size-wrap fs (row whole t nothing) in
     let has = s.has_levels in
     let bigger : size (wrap fs whole) + 1 ≡ size (wrap fs (row whole t nothing)) = omega (arith, siz, siz') in
     record {
-      opens = (record { has_depth = is.has_depth ∙ level; has_kind = kind; has_line = refl; has_first = is.has_first; has_name = refl; heads = head },
-          holds, subst (λ d. Chain d fs) level opens.2, subst (λ l. OpensAre l os fs) grows.1 (OpensAre-more b.nodes grows.0 os fs opens.3));
+      opens = (
+        record { has_depth = is.has_depth ∙ level; has_kind = kind; has_line = refl; has_first = is.has_first; has_name = refl; heads = head },
+        holds,
+        subst (λ d. Chain d fs) level opens.2,
+        subst (λ l. OpensAre l os fs) grows.1 (OpensAre-more b.nodes grows.0 os fs opens.3),
+      );
       holds = refl;
       repeats = (λ j. (s.repeats ∙ has_repeat-wrap fs whole) j || has_row_is first whole rows t o.mapping holds head kind j)
           ∙ sym (or_assoc (frames_repeat fs) (has_repeat whole) (is_among t whole))
           ∙ ap (λ q. frames_repeat fs || q) (sym (or_false (has_repeat whole || is_among t whole)))
           ∙ sym (has_repeat-wrap fs (row whole t nothing));
       has_levels = omega (arith, lev, lev', has);
-      has_size = subst (λ n. SizeIs (grown b.size) n) bigger (grown-SizeIs b.size (size (wrap fs whole)) s.has_size) }
+      has_size = subst (λ n. SizeIs (grown b.size) n) bigger (grown-SizeIs b.size (size (wrap fs whole)) s.has_size);
+    }
 
 next_value : (t : Token) (o : Open) (os : List Open) (b : Builder) → Between (next_row o (line_of t) (key_of t) (record b { open_rows = os })).value nothing
 unfolding next_row
@@ -421,17 +444,18 @@ headed_on-taken t (o ∷ os) b (f ∷ fs) value head e s most full =
     let is : OpenIs o f = opens.0 in
     let new : List Frame = record { before = row f.before f.head value; head = t } ∷ fs in
     elim (o.depth == depth t) as (λ q. (o.depth == depth t) ≡ q → Taken t (wrap (f ∷ fs) value) (cond q (Ok (next_row o (line_of t) (key_of t) (record b { open_rows = os }))) (begun (depth t) (is_key t) (line_of t) (key_of t) b))) [
-      true ↦ λ q. (let level : depth f.head ≡ depth t = sym is.has_depth ∙ eqb-true o.depth (depth t) q in
+      | true ↦ λ q. (let level : depth f.head ≡ depth t = sym is.has_depth ∙ eqb-true o.depth (depth t) q in
           (wrap new nothing, with_token-level t f fs value level head opens.2, (new, nothing, next_row-stands t o os b f fs value head level s e, refl, next_value t o os b)))
-    | false ↦ λ q. begun-taken t b (f ∷ fs) value head s
-          ((let other : (o.depth ≡ depth t → ⊥) = λ w. false≢true (sym q ∙ eq-eqb o.depth (depth t) w) in let same = is.has_depth in omega (arith, other, same, most)), opens.2) full ] refl
+      | false ↦ λ q. begun-taken t b (f ∷ fs) value head s
+          ((let other : (o.depth ≡ depth t → ⊥) = λ w. false≢true (sym q ∙ eq-eqb o.depth (depth t) w) in let same = is.has_depth in omega (arith, other, same, most)), opens.2) full
+    ] refl
 
 pub headed-taken : (t : Token) (b : Builder) (fs : List Frame) (value : Layout) → is_head t ≡ true → StandsAt b fs value → ValueFull (depth t) b.value value → Taken t (wrap fs value) (headed (depth t) (is_key t) (line_of t) (key_of t) b)
 unfolding headed
 headed-taken t b fs value head s full =
     let st = settled_on-stands (depth t) b.open_rows b fs value refl s full in
     subst (λ l. Taken t l (headed_on (depth t) (is_key t) (line_of t) (key_of t) (settled (depth t) b).open_rows (settled (depth t) b))) st.3
-        (headed_on-taken t (settled (depth t) b).open_rows (settled (depth t) b) st.0 st.1 head refl st.2 st.4 st.5)
+    (headed_on-taken t (settled (depth t) b).open_rows (settled (depth t) b) st.0 st.1 head refl st.2 st.4 st.5)
 
 -- ---- scalars
 
@@ -461,10 +485,12 @@ can_hold-means d b fs value s between = by b.value refl
     shallow [] (g ∷ gs) h e none = absurd h
     shallow (o ∷ os) [] h e none = absurd h
     shallow (o ∷ os) (g ∷ gs) h e none = elim (nat_lt o.depth d) as (λ q. nat_lt o.depth d ≡ q → CanHold d b (g ∷ gs) value q) [
-          true ↦ λ q. (e, none, ((let lt : o.depth < d = ltb-true o.depth d q in let same = h.0.has_depth in omega arith), h.2))
-        | false ↦ λ q. λ t head same. refused-wrap t gs (row g.before g.head value) head
-            (cond-false (nat_lt (depth g.head) (depth t)) _ _ (le-ltb _ _ (let le : d ≤ o.depth = ltb-false o.depth d q in let is = h.0.has_depth in omega arith))
-             ∙ ap (λ k. cond (k && (depth g.head == depth t)) (Some (row (row g.before g.head value) t nothing)) None) head) ] refl
+      | true ↦ λ q. (e, none, ((let lt : o.depth < d = ltb-true o.depth d q in let same = h.0.has_depth in omega arith), h.2))
+      | false ↦ λ q. λ t head same. refused-wrap t gs (row g.before g.head value) head
+          (cond-false (nat_lt (depth g.head) (depth t)) _ _ (le-ltb _ _ (let le : d ≤ o.depth = ltb-false o.depth d q in let is = h.0.has_depth in omega arith))
+          ∙ ap (λ k. cond (k && (depth g.head == depth t)) (Some (row (row g.before g.head value) t nothing)) None) head)
+    ] refl
+
     by : (number : Option ℕ) → b.value ≡ number → CanHold d b fs value (is_none number && is_shallower d b.open_rows)
     by (Some n) e = λ t head same. refused-wrap t fs value head (leaf-refuses t n value (subst (λ v. Between v value) e between))
     by None e = shallow b.open_rows fs s.opens e (subst (λ v. ValueIs b.nodes v value) e s.holds)
@@ -475,6 +501,7 @@ with_scalar-taken line column text b fs value s between = by (can_hold (1 + 2 * 
   where
     t : Token
     t = scalar line column text
+
     by : (q : Bool) → CanHold (1 + 2 * column) b fs value q → Taken t (wrap fs value) (cond q (Ok (with_node line (scalar_value text) b)) (Err Syntax))
     by false h = (h t refl refl, refl)
     by true h = let lev = levels-wrap fs value in let lev' = levels-wrap fs (leaf t) in
@@ -483,14 +510,23 @@ with_scalar-taken line column text b fs value s between = by (can_hold (1 + 2 * 
         let nosiz : size value ≡ 1 = ap size h.1 in
         let has = s.has_levels in
         let same : size (wrap fs value) ≡ size (wrap fs (leaf t)) = omega (arith, siz, siz', nosiz) in
-        let node : Node = record { line = line; value = scalar_value text } in
-        (wrap fs (leaf t), ap (λ v. with_token t (wrap fs v)) h.1 ∙ with_token-wrap t fs nothing h.2,
-          (fs, leaf t, record {
-            opens = OpensAre-more b.nodes (node ∷ []) b.open_rows fs s.opens;
-            holds = λ l. slice_get-last b.nodes node;
-            repeats = s.repeats ∙ has_repeat-wrap fs value ∙ ap (λ v. frames_repeat fs || has_repeat v) h.1 ∙ sym (has_repeat-wrap fs (leaf t));
-            has_levels = omega (arith, lev, lev', nolev, has);
-            has_size = subst (λ n. SizeIs b.size n) same s.has_size }, refl, tt))
+        let node : Node = record { line = line; value = scalar_value text } in (
+          wrap fs (leaf t),
+          ap (λ v. with_token t (wrap fs v)) h.1 ∙ with_token-wrap t fs nothing h.2,
+          (
+            fs,
+            leaf t,
+            record {
+              opens = OpensAre-more b.nodes (node ∷ []) b.open_rows fs s.opens;
+              holds = λ l. slice_get-last b.nodes node;
+              repeats = s.repeats ∙ has_repeat-wrap fs value ∙ ap (λ v. frames_repeat fs || has_repeat v) h.1 ∙ sym (has_repeat-wrap fs (leaf t));
+              has_levels = omega (arith, lev, lev', nolev, has);
+              has_size = subst (λ n. SizeIs b.size n) same s.has_size;
+            },
+            refl,
+            tt,
+          ),
+        )
 
 -- ---- any token
 
@@ -530,6 +566,8 @@ take_token-taken (scalar line column text) b l h = subst (λ m. TakenAny (scalar
     (any-from (scalar line column text) (wrap h.0 h.1) _ (λ k e. e) (with_scalar-taken line column text b h.0 h.1 h.2 h.4))
 take_token-taken (odd_token line column odd.Syntax) b l h = (odd-refused line column odd.Syntax l, refl)
 take_token-taken (odd_token line column odd.Unsupported) b l h = (odd-refused line column odd.Unsupported l, refl)
-take_token-taken (odd_token line column odd.Mark) b l h = (odd-refused line column odd.Mark l,
-    subst (λ m. KindAfter (odd_token line column odd.Mark) m (odd_kind (1 + 2 * column) odd.Mark b)) h.3
-      (mark-kind line column b h.0 h.1 (can_hold (1 + 2 * column) b) (can_hold-means (1 + 2 * column) b h.0 h.1 h.2 h.4)))
+take_token-taken (odd_token line column odd.Mark) b l h = (
+  odd-refused line column odd.Mark l,
+  subst (λ m. KindAfter (odd_token line column odd.Mark) m (odd_kind (1 + 2 * column) odd.Mark b)) h.3
+      (mark-kind line column b h.0 h.1 (can_hold (1 + 2 * column) b) (can_hold-means (1 + 2 * column) b h.0 h.1 h.2 h.4)),
+)

@@ -63,11 +63,11 @@ abbrev mutual
   HoldsNode nodes nothing line n = IsNode nodes n line Null
   HoldsNode nodes (leaf token) line n = IsNode nodes n (line_of token) (scalar_value (text_of token))
   HoldsNode nodes (row before head value) line n = (rows : Rows) × (m : ℕ) × HoldsRows nodes before rows × HoldsNode nodes value (line_of head) m
-    × IsNode nodes n (first_line before head) (rows_value (is_key head) (with_row (is_key head) (line_of head) (key_of head) m rows))
+      × IsNode nodes n (first_line before head) (rows_value (is_key head) (with_row (is_key head) (line_of head) (key_of head) m rows))
 
   -- the nodes hold the values of these rows
   pub HoldsRows : List Node → Layout → Rows → Type 0
   HoldsRows nodes nothing rows = rows ≡ no_rows
   HoldsRows nodes (leaf token) rows = ⊥
   HoldsRows nodes (row before head value) rows = (old : Rows) × (m : ℕ) × HoldsRows nodes before old × HoldsNode nodes value (line_of head) m
-    × (rows ≡ with_row (is_key head) (line_of head) (key_of head) m old)
+      × (rows ≡ with_row (is_key head) (line_of head) (key_of head) m old)

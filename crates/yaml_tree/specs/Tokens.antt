@@ -29,9 +29,21 @@ plain_value text = if is_null text then None else Some text
 abbrev pub refusal : ℕ → ℕ → Odd → List Token
 refusal line column why = odd_token line column why ∷ []
 
--- a scalar with nothing behind it on its line
+-- why nothing of this may stand behind a scalar
+abbrev pub why_not : Scan → Odd
+why_not (Plain text len) = odd.Syntax
+why_not (Quoted text len) = odd.Syntax
+why_not (Refused odd.Mark) = odd.Syntax
+why_not (Refused odd.Unsupported) = odd.Unsupported
+why_not (Refused odd.Syntax) = odd.Syntax
+
+-- what stands behind a scalar on its line: nothing, or what no layout has
+abbrev pub rest_tokens : ℕ → List ℕ → List Token
+rest_tokens line rest = if at_end rest then [] else refusal line 0 (why_not (scalar_at (after_spaces rest)))
+
+-- a scalar with what stands behind it on its line
 abbrev pub lone_scalar : ℕ → ℕ → Option (List ℕ) → List ℕ → List Token
-lone_scalar line column text rest = if at_end rest then scalar line column text ∷ [] else refusal line column odd.Syntax
+lone_scalar line column text rest = scalar line column text ∷ rest_tokens line rest
 
 abbrev pub value_scan : ℕ → ℕ → List ℕ → Scan → List Token
 value_scan line column bytes (Plain text len) = lone_scalar line column (plain_value text) (drop len bytes)

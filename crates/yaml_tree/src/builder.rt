@@ -128,7 +128,13 @@ impl Builder {
 
     /// Takes a key or a dash.
     #[tactic(auto, unfolding(crate::specs::Builder::headed))]
-    pub fn head(&mut self, depth: usize, mapping: bool, line: usize, key: Scalar) -> Result<(), Stop>
+    pub fn head(
+        &mut self,
+        depth: usize,
+        mapping: bool,
+        line: usize,
+        key: Scalar,
+    ) -> Result<(), Stop>
         ensures { Steps result self.new (headed depth mapping line key self.old) }
     {
         self.settle(depth)?;

@@ -5,13 +5,15 @@ ghost use Rattle.yaml_tree.specs.Lines.{begins_with};
 ghost use Rattle.yaml_tree.specs.Scalars.{is_space, after_spaces, is_nothing, at_gap, at_end, at_colon, scalar_at, IsWithin};
 ghost use Rattle.std.specs.List.{prefix_len};
 ghost use Rattle.yaml_tree.specs.Tokens.Token.{scalar, dash, key};
-ghost use Rattle.yaml_tree.specs.Tokens.{is_null, plain_value, refusal, lone_scalar, pair_tokens, value_scan, value_tokens, row_tokens, row_scan, is_dash, node_tokens, has_content, is_marker, line_tokens};
+ghost use Rattle.yaml_tree.specs.Tokens.{is_null, plain_value, refusal, why_not, rest_tokens, lone_scalar, pair_tokens, value_scan, value_tokens, row_tokens, row_scan, is_dash, node_tokens, has_content, is_marker, line_tokens};
 ghost use Rattle.yaml_tree.specs.Builder.{Steps, take_tokens, take_token};
 
 use crate::builder::Builder;
 use crate::fault::{Odd, Stop};
 use crate::scalar::Scalar;
-use crate::scan::{Scan, after_spaces, at_colon, at_end, at_gap, begins_with, from, past, scalar_at, spaces};
+use crate::scan::{
+    Scan, after_spaces, at_colon, at_end, at_gap, begins_with, from, past, scalar_at, spaces,
+};
 
 /// What a plain scalar says: a text, or null.
 fn plain_value(text: Scalar) -> Option<Scalar>
@@ -39,33 +41,78 @@ fn refuse(builder: &mut Builder, line: usize, column: usize, why: Odd) -> Result
     Err(Stop::Fault(builder.odd_kind(1 + 2 * column, why)))
 }
 
-#[tactic(auto, unfolding(crate::specs::Builder::take_tokens, crate::specs::Builder::take_token))]
-fn take_scalar(builder: &mut Builder, line: usize, column: usize, text: Option<Scalar>) -> Result<(), Stop>
+#[tactic(auto, unfolding(crate::specs::Builder::take_token))]
+fn take_scalar(
+    builder: &mut Builder,
+    line: usize,
+    column: usize,
+    text: Option<Scalar>,
+) -> Result<(), Stop>
     requires { column < 2 ^ 62 }
-    ensures { Steps result builder.new (take_tokens (scalar line column text ∷ []) builder.old) }
+    ensures { Steps result builder.new (take_token (scalar line column text) builder.old) }
 {
     builder.scalar(1 + 2 * column, line, text)
 }
 
-/// Takes a scalar with nothing behind it on its line.
-fn take_lone(builder: &mut Builder, line: usize, column: usize, text: Option<Scalar>, rest: &[u8]) -> Result<(), Stop>
-    requires { column < 2 ^ 62 }
-    ensures { Steps result builder.new (take_tokens (lone_scalar line column text rest.now) builder.old) }
+/// Why nothing of this may stand behind a scalar.
+fn why_not(scan: Scan) -> Odd
+    ensures { result ≡ why_not scan }
 {
-    if at_end(rest) {
-        take_scalar(builder, line, column, text)
-    } else {
-        refuse(builder, line, column, Odd::Syntax)
+    match scan {
+        Scan::Refused(Odd::Unsupported) => Odd::Unsupported,
+        _ => Odd::Syntax,
     }
 }
 
-fn take_value_scan(builder: &mut Builder, line: usize, column: usize, bytes: &[u8], scan: Scan) -> Result<(), Stop>
+/// Takes what stands behind a scalar on its line.
+#[tactic(auto, unfolding(crate::specs::Builder::take_tokens))]
+fn take_rest(builder: &mut Builder, line: usize, rest: &[u8]) -> Result<(), Stop>
+    requires { length rest.now < 2 ^ 62 }
+    ensures { Steps result builder.new (take_tokens (rest_tokens line rest.now) builder.old) }
+{
+    if at_end(rest) {
+        return Ok(());
+    }
+    let scan = scalar_at(builder.alloc, after_spaces(rest))?;
+    refuse(builder, line, 0, why_not(scan))
+}
+
+/// Takes a scalar with what stands behind it on its line.
+#[tactic(auto, unfolding(crate::specs::Builder::take_tokens))]
+fn take_lone(
+    builder: &mut Builder,
+    line: usize,
+    column: usize,
+    text: Option<Scalar>,
+    rest: &[u8],
+) -> Result<(), Stop>
     requires column { column < 2 ^ 62 }
+    requires small { length rest.now < 2 ^ 62 }
+    ensures { Steps result builder.new (take_tokens (lone_scalar line column text rest.now) builder.old) }
+{
+    take_scalar(builder, line, column, text)?;
+    take_rest(builder, line, rest)
+}
+
+fn take_value_scan(
+    builder: &mut Builder,
+    line: usize,
+    column: usize,
+    bytes: &[u8],
+    scan: Scan,
+) -> Result<(), Stop>
+    requires column { column + length bytes.now < 2 ^ 62 }
     requires within { IsWithin scan (length bytes.now) }
     ensures { Steps result builder.new (take_tokens (value_scan line column bytes.now scan) builder.old) }
 {
     match scan {
-        Scan::Plain(text, len) => take_lone(builder, line, column, plain_value(text), from(bytes, len)),
+        Scan::Plain(text, len) => take_lone(
+            builder,
+            line,
+            column,
+            plain_value(text),
+            from(bytes, len),
+        ),
         Scan::Quoted(text, len) => take_lone(builder, line, column, Some(text), from(bytes, len)),
         Scan::Refused(why) => refuse(builder, line, column, why),
     }
@@ -105,7 +152,14 @@ fn take_dash(builder: &mut Builder, line: usize, column: usize) -> Result<(), St
 
 /// Takes a key with the value behind its colon.
 #[tactic(auto, unfolding(crate::specs::Builder::take_tokens))]
-fn take_pair(builder: &mut Builder, line: usize, column: usize, text: Scalar, bytes: &[u8], len: usize) -> Result<(), Stop>
+fn take_pair(
+    builder: &mut Builder,
+    line: usize,
+    column: usize,
+    text: Scalar,
+    bytes: &[u8],
+    len: usize,
+) -> Result<(), Stop>
     requires column { column + length bytes.now < 2 ^ 62 }
     requires within { len ≤ length bytes.now }
     requires colon { IsTrue (at_colon (drop len bytes.now)) }
@@ -114,11 +168,23 @@ fn take_pair(builder: &mut Builder, line: usize, column: usize, text: Scalar, by
     let rest = from(bytes, len);
     let n = spaces(rest);
     take_key(builder, line, column, text)?;
-    take_value(builder, line, column + (len + (1 + n)), from(after_spaces(rest), 1))
+    take_value(
+        builder,
+        line,
+        column + (len + (1 + n)),
+        from(after_spaces(rest), 1),
+    )
 }
 
 /// Takes a key with its value, or a plain scalar.
-fn take_plain(builder: &mut Builder, line: usize, column: usize, text: Scalar, bytes: &[u8], len: usize) -> Result<(), Stop>
+fn take_plain(
+    builder: &mut Builder,
+    line: usize,
+    column: usize,
+    text: Scalar,
+    bytes: &[u8],
+    len: usize,
+) -> Result<(), Stop>
     requires column { column + length bytes.now < 2 ^ 62 }
     requires within { len ≤ length bytes.now }
     ensures { Steps result builder.new (take_tokens (row_tokens line column text (plain_value text) bytes.now len) builder.old) }
@@ -131,7 +197,14 @@ fn take_plain(builder: &mut Builder, line: usize, column: usize, text: Scalar, b
 }
 
 /// Takes a key with its value, or a quoted scalar.
-fn take_quoted(builder: &mut Builder, line: usize, column: usize, text: Scalar, bytes: &[u8], len: usize) -> Result<(), Stop>
+fn take_quoted(
+    builder: &mut Builder,
+    line: usize,
+    column: usize,
+    text: Scalar,
+    bytes: &[u8],
+    len: usize,
+) -> Result<(), Stop>
     requires column { column + length bytes.now < 2 ^ 62 }
     requires within { len ≤ length bytes.now }
     ensures { Steps result builder.new (take_tokens (row_tokens line column text (Some text) bytes.now len) builder.old) }
@@ -143,7 +216,13 @@ fn take_quoted(builder: &mut Builder, line: usize, column: usize, text: Scalar, 
     }
 }
 
-fn take_row_scan(builder: &mut Builder, line: usize, column: usize, bytes: &[u8], scan: Scan) -> Result<(), Stop>
+fn take_row_scan(
+    builder: &mut Builder,
+    line: usize,
+    column: usize,
+    bytes: &[u8],
+    scan: Scan,
+) -> Result<(), Stop>
     requires column { column + length bytes.now < 2 ^ 62 }
     requires within { IsWithin scan (length bytes.now) }
     ensures { Steps result builder.new (take_tokens (row_scan line column bytes.now scan) builder.old) }
@@ -218,7 +297,12 @@ fn is_foreign(bytes: &[u8]) -> bool
 
 /// Takes a line. `begun` says whether an earlier line has content.
 #[tactic(auto, unfolding(crate::specs::Tokens::line_tokens, crate::specs::Builder::take_tokens))]
-pub(crate) fn take_line(builder: &mut Builder, begun: bool, line: usize, bytes: &[u8]) -> Result<(), Stop>
+pub(crate) fn take_line(
+    builder: &mut Builder,
+    begun: bool,
+    line: usize,
+    bytes: &[u8],
+) -> Result<(), Stop>
     requires { length bytes.now < 2 ^ 62 }
     ensures { Steps result builder.new (take_tokens (line_tokens begun line bytes.now) builder.old) }
 {

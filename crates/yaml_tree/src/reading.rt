@@ -54,7 +54,12 @@ fn error_at(number: usize, stop: Stop) -> TreeError
 }
 
 /// Reads a line, and answers its number where it is faulty.
-fn read_numbered(builder: &mut Builder, begun: bool, number: usize, line: &[u8]) -> Result<(), TreeError>
+fn read_numbered(
+    builder: &mut Builder,
+    begun: bool,
+    number: usize,
+    line: &[u8],
+) -> Result<(), TreeError>
     requires { length line.now < 2 ^ 62 }
     ensures { Reads result builder.new (at_line number (read_line begun number line.now builder.old)) }
 {

@@ -28,17 +28,15 @@ pub(crate) struct Open {
 
 impl Open {
     pub fn new(alloc: Global, depth: usize, mapping: bool, line: usize, key: Scalar) -> Open
-        ensures {
-            result ≡ record {
-                depth = depth;
-                mapping = mapping;
-                first_line = line;
-                items = [];
-                entries = [];
-                line = line;
-                key = key
-            }
-        }
+        ensures { result ≡ record {
+          depth = depth;
+          mapping = mapping;
+          first_line = line;
+          items = [];
+          entries = [];
+          line = line;
+          key = key;
+        } }
     {
         Open {
             depth,

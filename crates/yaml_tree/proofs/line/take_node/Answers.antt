@@ -20,11 +20,11 @@ returns-then-not-is_dash c = row_ends c.args.line c.args.bytes.now c.loop-column
 pub returns-in_err-take_dash : goal.returns-in_err-take_dash
 returns-in_err-take_dash c = let p = err_from_is_err_and c.from_residual.result c.from_residual.ensures.1 in rw (p.1, p.2)
     (dash_refused c.args.line c.args.bytes.now c.loop-column.column c.loop-column.builder _ c.loop-column.invariant _ c.take_dash.new.builder c.loop-column-test.true c.if-b-eq32.false c.if-b-eq35.false
-      (sym (c.is_dash.ensures ∙ ap (is_dash (get_or c.args.bytes.now c.loop-column.column 0)) c.from-behind.ensures) ∙ c.if-not-is_dash.false) c.in_err-take_dash.ensures)
+    (sym (c.is_dash.ensures ∙ ap (is_dash (get_or c.args.bytes.now c.loop-column.column 0)) c.from-behind.ensures) ∙ c.if-not-is_dash.false) c.in_err-take_dash.ensures)
 
 pub loop-column-preserved : goal.loop-column-preserved
 loop-column-preserved c = dash_goes_on c.args.line c.args.bytes.now c.loop-column.column c.loop-column.builder _ c.loop-column.invariant c.take_dash.new.builder c.loop-column-test.true c.if-b-eq32.false c.if-b-eq35.false
-      (sym (c.is_dash.ensures ∙ ap (is_dash (get_or c.args.bytes.now c.loop-column.column 0)) c.from-behind.ensures) ∙ c.if-not-is_dash.false) c.in_ok-take_dash.ensures
+    (sym (c.is_dash.ensures ∙ ap (is_dash (get_or c.args.bytes.now c.loop-column.column 0)) c.from-behind.ensures) ∙ c.if-not-is_dash.false) c.in_ok-take_dash.ensures
 
 pub returns : goal.returns
 returns c = sym (line_ends c.args.line c.args.bytes.now c.loop-column.column c.loop-column.builder _ c.loop-column.invariant c.loop-column-test.false)

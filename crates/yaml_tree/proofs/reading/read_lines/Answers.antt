@@ -9,8 +9,14 @@ returns-in_err-read_numbered c = let p = err_from_is_err_and c.from_residual.res
     (line_is_refused c.loop-rest.begun c.loop-rest.number c.loop-rest.rest.now c.loop-rest.builder _ c.loop-rest.invariant.0 c.next_line.result.0.now c.next_line.result.1.now _ c.read_numbered.new.builder c.next_line.ensures.lines c.in_err-read_numbered.ensures)
 
 pub loop-rest-preserved : goal.loop-rest-preserved
-loop-rest-preserved c = (lines_go_on c.loop-rest.begun c.loop-rest.number c.loop-rest.rest.now c.loop-rest.builder _ c.loop-rest.invariant.0 c.next_line.result.0.now c.next_line.result.1.now c.read_numbered.new.builder c.has_begun-begun.result c.next_line.ensures.lines c.in_ok-read_numbered.ensures c.has_begun-begun.ensures,
-    omega (arith, c.next_line.ensures.rest, c.loop-rest.invariant.1))
+loop-rest-preserved c = (
+  lines_go_on c.loop-rest.begun c.loop-rest.number c.loop-rest.rest.now c.loop-rest.builder _ c.loop-rest.invariant.0 c.next_line.result.0.now c.next_line.result.1.now c.read_numbered.new.builder c.has_begun-begun.result c.next_line.ensures.lines c.in_ok-read_numbered.ensures c.has_begun-begun.ensures,
+  omega (arith, c.next_line.ensures.rest, c.loop-rest.invariant.1),
+  omega arith,
+)
 
 pub returns : goal.returns
 returns c = sym (lines_end c.loop-rest.begun c.loop-rest.number c.loop-rest.rest.now c.loop-rest.builder _ c.loop-rest.invariant.0 (eqb-true _ _ (sym c.is_empty.ensures ∙ c.loop-rest-test.false)))
+
+pub read_numbered-requires : goal.read_numbered-requires
+read_numbered-requires c = omega (arith, c.next_line.ensures.line, c.loop-rest.invariant.1, c.loop-rest.invariant.2, c.requires)

@@ -14,5 +14,5 @@ returns-in-Ok-clause-fault c = error_read c.args.text.now c.args.alloc c.read_te
 pub line_of-requires : goal.line_of-requires
 line_of-requires c = let most = utf8_valid_len_le c.args.text.now in omega (arith, most, c.valid_up_to.ensures, c.in-Err.ensures.valid_len)
 
-pub returns-clause-fault : goal.returns-clause-fault
-returns-clause-fault c = (c.in-Err.ensures.cases.0, c.line_of.ensures ∙ ap (λ n. 1 + count_by (λ b. b == line_feed) (take n c.args.text.now)) (c.valid_up_to.ensures ∙ c.in-Err.ensures.valid_len))
+pub returns-in-Err-clause-fault : goal.returns-in-Err-clause-fault
+returns-in-Err-clause-fault c = (c.in-Err.ensures.cases.0, c.line_of.ensures ∙ ap (λ n. 1 + count_by (λ b. b == line_feed) (take n c.args.text.now)) (c.valid_up_to.ensures ∙ c.in-Err.ensures.valid_len))
