@@ -1,6 +1,6 @@
 -- Closing the collections that are deeper, one by one.
-use Rattle.std.proofs.Common.{◌≡◌, ℕ, ◌<◌, Bool, true, false, cond, List, [], ◌∷◌, Option, Some, None, length, refl, sym, ap, ◌∙◌, subst, arith, nat_lt}
-use Rattle.std.proofs.lemmas.Bool.{cond-true, cond-false, false≢true}
+use Rattle.std.proofs.Common.{◌≡◌, ℕ, ◌<◌, true, List, [], ◌∷◌, Some, None, length, refl, sym, ap, ◌∙◌, arith, nat_lt}
+use Rattle.std.proofs.lemmas.Bool.{cond-true, cond-false}
 use Rattle.yaml_tree.specs.Stack.{PopsWhere}
 use Rattle.yaml_tree.specs.Builder.{settled_on, closed}
 use Rattle.yaml_tree.specs.declared.stack.Open.{Open}

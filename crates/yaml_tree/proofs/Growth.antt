@@ -1,16 +1,15 @@
 -- A layout only grows: the first lines of lines with a tree have one too, and lines with a tree have no fault.
-use Rattle.std.proofs.Common.{◌≡◌, ℕ, ◌+◌, ◌<◌, ◌≤◌, Bool, true, false, ◌||◌, List, [], ◌∷◌, ◌++◌, Option, Some, None, length, take, drop, max, refl, sym, ap, ◌∙◌, subst, append_assoc, arith, inl, inr, ◌⊎◌}
+use Rattle.std.proofs.Common.{◌≡◌, ℕ, ◌+◌, ◌≤◌, Bool, true, false, ◌||◌, List, [], ◌∷◌, ◌++◌, Some, length, take, drop, refl, sym, ap, ◌∙◌, subst, append_assoc, arith, inl, inr}
 use Rattle.std.specs.Option.{option_and_then}
 use Rattle.std.proofs.lemmas.Option.{none-some, same_Some}
 use Rattle.std.proofs.lemmas.Bool.{false≢true}
 use Rattle.std.proofs.lemmas.List.{take-append-drop}
-use Rattle.std.specs.Str.{IsUtf8}
 use Rattle.yaml_tree.specs.Lines.{lines_of}
 use Rattle.yaml_tree.specs.Tokens.{Token, tokens_from, tokens_of}
 use Rattle.yaml_tree.specs.Tokens.Token.{dash, key, scalar, odd_token}
 use Rattle.yaml_tree.specs.Layout.{Layout, is_among, has_repeat, levels, size, Spells}
 use Rattle.yaml_tree.specs.Layout.Layout.{nothing, leaf, row}
-use Rattle.yaml_tree.specs.Tree.{IsTree, HasTree, MayBegin, IsMisfit, IsRefused, IsFirstRefused, IsTreeOf, IsFaultOf}
+use Rattle.yaml_tree.specs.Tree.{IsTree, HasTree, IsMisfit, IsRefused, IsFirstRefused, IsTreeOf, IsFaultOf}
 use Rattle.yaml_tree.specs.declared.fault.FaultKind.{FaultKind}
 use Rattle.yaml_tree.specs.declared.fault.FaultKind.TheVariants.{NotUtf8, Syntax, Unsupported, Duplicate, Alias, TooDeep, TooManyNodes}
 use Rattle.yaml_tree.proofs.LayoutLaws.{begun_by, with_token, with_tokens, row_cases, chained, with_tokens-append, Spells-from_read, read-from_Spells, same_layout}

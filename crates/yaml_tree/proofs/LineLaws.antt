@@ -1,10 +1,10 @@
 -- The first line of a text, and what is left.
-use Rattle.std.proofs.Common.{◌≡◌, ℕ, ◌+◌, ◌<◌, ◌≤◌, Bool, true, false, ◌&&◌, not, cond, List, [], ◌∷◌, ◌++◌, length, take, drop, refl, sym, ap, ◌∙◌, subst, arith, ◌==◌, eq-eqb, suc, zero}
-use Rattle.std.proofs.lemmas.Bool.{cond-true, cond-false, false≢true, ne_eqb, eqb-true}
+use Rattle.std.proofs.Common.{◌≡◌, ℕ, ◌+◌, ◌<◌, ◌≤◌, Bool, true, false, ◌&&◌, not, cond, List, [], ◌∷◌, ◌++◌, length, take, drop, refl, sym, ap, ◌∙◌, subst, arith, ◌==◌, eq-eqb, suc}
+use Rattle.std.proofs.lemmas.Bool.{cond-false, false≢true, ne_eqb, eqb-true}
 use Rattle.std.proofs.lemmas.List.{take_all}
 use Rattle.std.proofs.Math.ListN.{drop_of_length-le}
 use Rattle.std.specs.List.{prefix_len}
-use Rattle.yaml_tree.specs.Lines.{line_feed, carriage_return, begins_with, byte_before, is_inside, without_return, split_lines}
+use Rattle.yaml_tree.specs.Lines.{byte_before, is_inside, without_return, split_lines}
 
 without_return-end : (xs : List ℕ) → without_return (xs ++ (13 ∷ [])) ≡ xs
 unfolding without_return

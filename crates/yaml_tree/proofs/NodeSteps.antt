@@ -1,10 +1,10 @@
 -- One byte more of a line before its row.
-use Rattle.std.proofs.Common.{◌≡◌, ◌≢◌, ℕ, ◌+◌, ◌<◌, ◌≤◌, Bool, true, false, ◌&&◌, cond, List, [], ◌∷◌, Result, Ok, Err, length, get_or, drop, refl, sym, ap, ◌∙◌, subst, arith, ◌==◌, eq-eqb}
+use Rattle.std.proofs.Common.{◌≡◌, ℕ, ◌+◌, ◌<◌, ◌≤◌, true, false, cond, List, [], ◌∷◌, Result, Ok, Err, length, get_or, drop, sym, ap, ◌∙◌, subst, arith, ◌==◌, eq-eqb}
 use Rattle.std.proofs.lemmas.Bool.{cond-true, cond-false, ne_eqb}
 use Rattle.std.proofs.lemmas.List.{drop_more, at_drop_all}
 use Rattle.yaml_tree.specs.Scalars.{is_space, scalar_at}
 use Rattle.yaml_tree.specs.Tokens.{Token, is_dash, row_scan, node_tokens}
-use Rattle.yaml_tree.specs.Tokens.Token.{dash, key, scalar, odd_token}
+use Rattle.yaml_tree.specs.Tokens.Token.{dash}
 use Rattle.yaml_tree.specs.Builder.{Steps, take_token, take_tokens, ◌>>=◌}
 use Rattle.yaml_tree.specs.declared.builder.Builder.{Builder}
 use Rattle.yaml_tree.specs.declared.fault.FaultKind.{FaultKind}

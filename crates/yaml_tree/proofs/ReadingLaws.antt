@@ -1,12 +1,12 @@
 -- What reading lines one by one finds is the tree of the lines, or their fault.
-use Rattle.std.proofs.Common.{◌≡◌, ℕ, ◌+◌, ◌<◌, ◌≤◌, Bool, true, false, ◌&&◌, ◌||◌, cond, List, [], ◌∷◌, ◌++◌, Option, Some, None, option_map, Result, Ok, Err, length, get_or, take, drop, refl, sym, ap, ◌∙◌, subst, append_assoc, arith, nat_lt, inl, inr, ◌⊎◌}
+use Rattle.std.proofs.Common.{◌≡◌, ℕ, ◌+◌, ◌<◌, ◌≤◌, Bool, true, false, ◌||◌, cond, List, [], ◌∷◌, ◌++◌, Option, Some, None, Result, Ok, Err, length, get_or, take, drop, refl, sym, ap, ◌∙◌, subst, append_assoc, arith, nat_lt, inl, inr, ◌⊎◌}
 use Rattle.std.specs.Option.{option_and_then}
-use Rattle.std.proofs.lemmas.Option.{none-some, same_Some}
-use Rattle.std.proofs.lemmas.Bool.{ltb-true, ltb-false, false≢true, cases_lt}
+use Rattle.std.proofs.lemmas.Option.{none-some}
+use Rattle.std.proofs.lemmas.Bool.{ltb-true, ltb-false, cases_lt}
 use Rattle.std.proofs.lemmas.List.{append-nil, length-drop, length-take-le, take_all, take_more, drop_more}
 use Rattle.yaml_tree.specs.Tokens.{Token, has_content, line_tokens, tokens_from, tokens_of}
 use Rattle.yaml_tree.specs.Tokens.Token.{dash, key, scalar, odd_token}
-use Rattle.yaml_tree.specs.Layout.{Layout, tokens, depth, Spells, has_repeat, levels, size}
+use Rattle.yaml_tree.specs.Layout.{Layout, depth, Spells, has_repeat, levels, size}
 use Rattle.yaml_tree.specs.Layout.Layout.{nothing, leaf, row}
 use Rattle.yaml_tree.specs.Tree.{IsTree, HasTree, MayBegin, IsKindAt, IsMisfit, IsRefused, IsFirstRefused, IsTreeOf, IsFaultOf}
 use Rattle.yaml_tree.specs.Builder.{take_token, take_tokens, judged, read_line, read_lines, at_line, Reads, ◌>>=◌, fresh, settled, nodes_with_value, value_number}
@@ -14,7 +14,6 @@ use Rattle.yaml_tree.specs.declared.builder.Builder.{Builder}
 use Rattle.yaml_tree.specs.declared.fault.YamlFault.{YamlFault}
 use Rattle.yaml_tree.specs.declared.fault.FaultKind.{FaultKind}
 use Rattle.yaml_tree.specs.declared.fault.FaultKind.TheVariants.{NotUtf8, Syntax, Unsupported, Duplicate, Alias, TooDeep, TooManyNodes}
-use Rattle.yaml_tree.specs.declared.fault.Odd.{Odd}
 use Rattle.yaml_tree.specs.declared.fault.Odd.TheVariants as odd
 use Rattle.yaml_tree.proofs.LayoutLaws.{with_token, with_tokens, with_tokens-append, head_deep, Spells-from_read, read-from_Spells}
 use Rattle.yaml_tree.proofs.Simulation.{StandsFor, StandsAt, TakenAny, KindAfter, take_token-taken, Frame, wrap, AtMost, OpensAre, settled_on-stands, between-full, value_held}
@@ -24,7 +23,7 @@ use Rattle.std.specs.declared.alloc.Global.{Global}
 use Rattle.std.proofs.lemmas.Option.{slice_get_within}
 use Rattle.yaml_tree.specs.Lines.{lines_of}
 use Rattle.yaml_tree.specs.Holds.{HoldsNode}
-use Rattle.yaml_tree.specs.Trees.{Holds, RootIsIn, IsWhole, IsReading, IsErrorOf}
+use Rattle.yaml_tree.specs.Trees.{Holds, RootIsIn, IsReading, IsErrorOf}
 use Rattle.yaml_tree.specs.declared.node.Node.{Node}
 use Rattle.yaml_tree.specs.declared.stack.Open.{Open}
 use Rattle.yaml_tree.specs.declared.tree.Tree.{Tree}

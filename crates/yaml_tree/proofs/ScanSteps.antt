@@ -1,9 +1,8 @@
 -- One byte more of a scanner's loop: each lemma is on what is left from an index on.
-use Rattle.std.proofs.Common.{◌≡◌, ℕ, ◌+◌, ◌<◌, ◌≤◌, Bool, true, false, ◌&&◌, ◌||◌, not, cond, List, [], ◌∷◌, ◌++◌, Option, Some, None, option_map, option_and_then, length, get_or, take, drop, refl, sym, ap, ◌∙◌, subst, append_assoc, arith, ◌==◌}
-use Rattle.std.proofs.lemmas.Bool.{cond-true, cond-false, false≢true}
-use Rattle.std.specs.List.{prefix_len}
+use Rattle.std.proofs.Common.{◌≡◌, ℕ, ◌+◌, ◌<◌, ◌≤◌, Bool, true, false, ◌&&◌, not, cond, List, [], ◌++◌, Option, Some, None, option_map, option_and_then, length, get_or, drop, refl, sym, ap, ◌∙◌, append_assoc, arith, ◌==◌}
+use Rattle.std.proofs.lemmas.Bool.{cond-true, cond-false}
 use Rattle.std.proofs.lemmas.List.{drop_more, at_drop_all, append-nil}
-use Rattle.yaml_tree.specs.Scalars.{is_space, plain_ends, plain_len, single_quoted, double_len, holds_back, closes, single_part, with_part, unescaped, put_before, escape_step, added_bytes, is_outside}
+use Rattle.yaml_tree.specs.Scalars.{plain_ends, plain_len, single_quoted, double_len, holds_back, closes, single_part, with_part, unescaped, put_before, escape_step, added_bytes, is_outside}
 use Rattle.yaml_tree.specs.declared.escapes.Escape.{Escape}
 use Rattle.yaml_tree.specs.declared.escapes.Escape.TheVariants.{Outside, Behind, Digits}
 use Rattle.yaml_tree.specs.declared.escapes.Added.{Added}

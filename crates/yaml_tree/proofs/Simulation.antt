@@ -1,20 +1,19 @@
 -- The builder stands for a layout: its open collections are the rows on the way to the place where the next value
 -- comes, and its nodes hold what is whole.
-use Rattle.std.proofs.Common.{◌≡◌, ℕ, ◌+◌, ◌*◌, ◌<◌, ◌≤◌, Bool, true, false, ◌&&◌, ◌||◌, not, cond, List, [], ◌∷◌, ◌++◌, Option, Some, None, option_map, unwrap_or, length, slice_get, zero, suc, refl, sym, ap, ◌∙◌, subst, append_assoc, arith, ◌==◌, nat_lt, nat_le, nat_eq, max, is_some, is_none, Result, Ok, Err, inl, inr, ◌⊎◌}
+use Rattle.std.proofs.Common.{◌≡◌, ℕ, ◌+◌, ◌*◌, ◌<◌, ◌≤◌, Bool, true, false, ◌&&◌, ◌||◌, cond, List, [], ◌∷◌, ◌++◌, Option, Some, None, option_map, unwrap_or, length, slice_get, zero, suc, refl, sym, ap, ◌∙◌, subst, arith, ◌==◌, nat_lt, nat_le, nat_eq, max, is_some, is_none, Result, Ok, Err, inl, inr, ◌⊎◌}
 use Rattle.std.proofs.lemmas.Bool.{leb-true, leb-false, ltb-true, ltb-false, cond-true, cond-false, false≢true, le-ltb, lt-ltb, eqb-true, eq-eqb, ne_eqb}
 use Rattle.std.proofs.lemmas.Option.{none-some}
 use Rattle.std.proofs.lemmas.List.{append-nil}
 use Rattle.yaml_tree.specs.Tokens.{Token}
 use Rattle.yaml_tree.specs.Tokens.Token.{dash, key, scalar, odd_token}
-use Rattle.yaml_tree.specs.Layout.{Layout, tokens, line_of, depth, is_head, is_scalar, same_key, is_among, has_repeat, levels, size}
+use Rattle.yaml_tree.specs.Layout.{Layout, line_of, depth, is_head, same_key, is_among, has_repeat, levels, size}
 use Rattle.yaml_tree.specs.Layout.Layout.{nothing, leaf, row}
-use Rattle.yaml_tree.specs.Holds.{is_key, key_of, text_of, first_line, Rows, with_row, rows_value, IsNode, HoldsNode, HoldsRows, scalar_value}
-use Rattle.yaml_tree.specs.Builder.{nodes_with_value, value_number, closed, settled_on, settled, grown, begun, next_row, headed, headed_on, is_shallower, can_hold, with_scalar, odd_kind, take_token, with_node}
+use Rattle.yaml_tree.specs.Holds.{is_key, key_of, first_line, Rows, with_row, rows_value, HoldsNode, HoldsRows, scalar_value}
+use Rattle.yaml_tree.specs.Builder.{nodes_with_value, closed, settled_on, settled, grown, begun, next_row, headed, headed_on, is_shallower, can_hold, with_scalar, odd_kind, take_token, with_node}
 use Rattle.yaml_tree.specs.Entries.{has_key, with_entry}
 use Rattle.yaml_tree.specs.declared.entries.Child.{Child}
 use Rattle.std.specs.Cmp.Lexicographic.{pointwise}
 use Rattle.std.specs.Map.{lookup}
-use Rattle.yaml_tree.specs.Stack.{finished, has_row}
 use Rattle.yaml_tree.specs.declared.fault.FaultKind.{FaultKind}
 use Rattle.yaml_tree.specs.declared.fault.FaultKind.TheVariants.{Syntax, Unsupported}
 use Rattle.yaml_tree.specs.declared.fault.Odd.{Odd}
@@ -24,7 +23,6 @@ use Rattle.yaml_tree.specs.declared.node.Value.TheVariants.{Null}
 use Rattle.yaml_tree.specs.declared.stack.Open.{Open}
 use Rattle.yaml_tree.specs.declared.builder.Builder.{Builder}
 use Rattle.yaml_tree.proofs.LayoutLaws.{with_token, begun_by, both_true}
-use Rattle.yaml_tree.proofs.BuilderSteps.{open_rows-closed}
 
 -- ---- nodes
 

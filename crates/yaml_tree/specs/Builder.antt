@@ -1,5 +1,5 @@
 -- What each step of the builder makes of the nodes and the open collections.
-use Rattle.std.specs.Prelude.{◌≡◌, ℕ, ◌+◌, ◌*◌, Bool, true, false, ◌&&◌, ◌||◌, not, List, [], ◌∷◌, ◌++◌, Option, Some, None, Result, Ok, Err, if◌then◌else◌, ◌==◌, nat_lt, nat_le, length, is_some, is_none, max, unwrap_or, option_map}
+use Rattle.std.specs.Prelude.{◌≡◌, ℕ, ◌+◌, ◌*◌, Bool, true, false, ◌&&◌, ◌||◌, List, [], ◌∷◌, ◌++◌, Option, Some, None, Result, Ok, Err, if◌then◌else◌, ◌==◌, nat_lt, nat_le, length, is_some, is_none, max, unwrap_or}
 use Rattle.yaml_tree.specs.Stack.{finished, collection, has_row}
 use Rattle.yaml_tree.specs.Holds.{scalar_value}
 use Rattle.yaml_tree.specs.Tokens.{Token, has_content, line_tokens}

@@ -1,5 +1,5 @@
 -- The entries of a mapping as a list.
-use Rattle.std.specs.Prelude.{ℕ, Bool, List, ◌==◌, Some, is_some}
+use Rattle.std.specs.Prelude.{ℕ, Bool, List, ◌==◌, is_some}
 use Rattle.std.specs.Cmp.Lexicographic.{pointwise}
 use Rattle.std.specs.Map.{lookup}
 use Rattle.indexmap.specs.IndexMap.{insert_entry}

@@ -1,5 +1,5 @@
 -- The numbers that a reader of escapes keeps.
-use Rattle.std.specs.Prelude.{◌≡◌, ℕ, ◌<◌, ◌≤◌}
+use Rattle.std.specs.Prelude.{◌≡◌, ◌<◌, ◌≤◌}
 use Rattle.yaml_tree.specs.declared.escapes.Escape.{Escape}
 use Rattle.yaml_tree.specs.declared.escapes.Escape.TheVariants.{Outside, Behind, Digits}
 

@@ -1,6 +1,6 @@
 -- How a tree is laid out over columns: which tokens spell it, and which columns they may have. The rules are those
 -- of block collections in YAML 1.2 (8.2), in this project's own profile.
-use Rattle.std.specs.Prelude.{◌≡◌, ℕ, ◌+◌, ◌*◌, ◌<◌, ◌≤◌, Bool, true, false, ◌||◌, IsTrue, List, [], ◌∷◌, ◌++◌, max, nat_eq}
+use Rattle.std.specs.Prelude.{◌≡◌, ℕ, ◌+◌, ◌*◌, ◌<◌, Bool, true, false, ◌||◌, List, [], ◌∷◌, ◌++◌, max, nat_eq}
 use Rattle.std.specs.Cmp.Lexicographic.{pointwise}
 use Rattle.yaml_tree.specs.Tokens.{Token}
 use Rattle.yaml_tree.specs.Tokens.Token.{dash, key, scalar, odd_token}

@@ -1,5 +1,5 @@
 -- Scalars on one line: plain, '..' and "..", as this project's own profile of YAML 1.2 (7.3) has them.
-use Rattle.std.specs.Prelude.{ℕ, ◌+◌, ◌-◌, ◌*◌, ◌<◌, ◌≤◌, Bool, true, false, ◌&&◌, ◌||◌, not, List, [], ◌∷◌, ◌++◌, Option, Some, None, Result, Ok, Err, if◌then◌else◌, ◌==◌, nat_lt, nat_le, length, take, drop, option_map, option_and_then, encode_utf8, is_some, codes}
+use Rattle.std.specs.Prelude.{ℕ, ◌+◌, ◌-◌, ◌*◌, ◌≤◌, Bool, true, false, ◌&&◌, ◌||◌, not, List, [], ◌∷◌, ◌++◌, Option, Some, None, if◌then◌else◌, ◌==◌, nat_lt, nat_le, length, take, drop, option_map, option_and_then, encode_utf8}
 use Rattle.std.specs.List.{prefix_len, suffix_len}
 use Rattle.yaml_tree.specs.Lines.{begins_with}
 use Rattle.yaml_tree.specs.declared.escapes.Escape.{Escape}
@@ -8,7 +8,6 @@ use Rattle.yaml_tree.specs.declared.escapes.Added.{Added}
 use Rattle.yaml_tree.specs.declared.escapes.Added.TheVariants.{Nothing, Byte, Character}
 use Rattle.yaml_tree.specs.declared.scan.Scan.{Scan}
 use Rattle.yaml_tree.specs.declared.scan.Scan.TheVariants.{Plain, Quoted, Refused}
-use Rattle.yaml_tree.specs.declared.fault.Odd.{Odd}
 use Rattle.yaml_tree.specs.declared.fault.Odd.TheVariants as odd
 
 abbrev pub is_space : ℕ → Bool

@@ -1,7 +1,6 @@
 -- Collections that are open: their rows, and the stack that they make.
 use Rattle.std.specs.Prelude.{◌≡◌, ℕ, Bool, true, false, ◌&&◌, List, [], ◌∷◌, ◌++◌, Option, Some, None, if◌then◌else◌}
 use Rattle.yaml_tree.specs.Entries.{has_key, with_entry}
-use Rattle.yaml_tree.specs.declared.entries.Child.{Child}
 use Rattle.yaml_tree.specs.declared.node.Value.{Value}
 use Rattle.yaml_tree.specs.declared.node.Value.TheVariants.{Sequence, Mapping}
 use Rattle.yaml_tree.specs.declared.stack.Open.{Open}

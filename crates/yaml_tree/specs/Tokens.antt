@@ -1,6 +1,6 @@
 -- The tokens of the lines, each with its line and column, as this project's own profile of YAML 1.2 has them.
-use Rattle.std.specs.Prelude.{ℕ, ◌+◌, Bool, true, false, ◌&&◌, ◌||◌, not, List, [], ◌∷◌, ◌++◌, Option, Some, None, if◌then◌else◌, ◌==◌, nat_eq, length, take, drop, codes}
-use Rattle.std.specs.List.{prefix_len, starts_with}
+use Rattle.std.specs.Prelude.{ℕ, ◌+◌, Bool, false, ◌&&◌, ◌||◌, not, List, [], ◌∷◌, ◌++◌, Option, Some, None, if◌then◌else◌, ◌==◌, nat_eq, drop, codes}
+use Rattle.std.specs.List.{prefix_len}
 use Rattle.std.specs.Cmp.Lexicographic.{pointwise}
 use Rattle.yaml_tree.specs.Lines.{begins_with}
 use Rattle.yaml_tree.specs.Scalars.{is_space, at_gap, after_spaces, is_nothing, at_end, at_colon, scalar_at}

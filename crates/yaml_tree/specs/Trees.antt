@@ -1,5 +1,5 @@
 -- What is seen of a tree: its nodes by number, and the root's.
-use Rattle.std.specs.Prelude.{◌≡◌, ◌<◌, ℕ, List, Result, Ok, Err, length, slice_get}
+use Rattle.std.specs.Prelude.{◌≡◌, ◌<◌, ℕ, List, Result, Ok, Err, length}
 use Rattle.yaml_tree.specs.Layout.{Layout}
 use Rattle.yaml_tree.specs.Holds.{HoldsNode}
 use Rattle.yaml_tree.specs.Builder.{settled, nodes_with_value, value_number}

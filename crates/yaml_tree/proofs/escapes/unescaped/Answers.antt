@@ -1,4 +1,4 @@
-use Rattle.std.proofs.Common.{◌∙◌, sym, ap, refl, Some}
+use Rattle.std.proofs.Common.{◌∙◌, sym, ap, Some}
 use Rattle.yaml_tree.proofs.ScanSteps.{escape_goes_on, escape_is_bad, escape_ends, escape_is_open, not_outside}
 use Rattle.yaml_tree.specs.Scalars.{is_outside}
 use Rattle.yaml_tree.proofs.escapes.unescaped.Goals as goal

@@ -1,4 +1,4 @@
-use Rattle.std.proofs.Common.{◌≡◌, ◌+◌, ◌++◌, drop}
+use Rattle.std.proofs.Common.{◌≡◌, drop}
 use Rattle.yaml_tree.specs.Scalars.{unescaped, put_before}
 use Rattle.yaml_tree.specs.Escapes.{IsInRange}
 use Rattle.yaml_tree.specs.declared.escapes.Escape.TheVariants.{Outside}

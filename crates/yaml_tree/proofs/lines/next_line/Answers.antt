@@ -1,4 +1,4 @@
-use Rattle.std.proofs.Common.{◌≡◌, ℕ, ◌+◌, ◌<◌, List, ◌∷◌, ◌∙◌, sym, ap, length, take, arith}
+use Rattle.std.proofs.Common.{◌∷◌, ◌∙◌, sym, ap, length, take, arith}
 use Rattle.yaml_tree.specs.Lines.{split_lines, without_return}
 use Rattle.yaml_tree.proofs.LineLaws.{split_cut, split_whole, length-without_return}
 use Rattle.std.proofs.lemmas.List.{length-take-le}

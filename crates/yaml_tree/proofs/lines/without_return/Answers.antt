@@ -1,4 +1,4 @@
-use Rattle.std.proofs.Common.{◌≡◌, List, [], ◌∷◌, ◌++◌, ◌∙◌, ap}
+use Rattle.std.proofs.Common.{[], ◌∷◌, ◌++◌, ◌∙◌, ap}
 use Rattle.yaml_tree.proofs.LineLaws.{return_taken, return_absent, return_of_nothing}
 use Rattle.yaml_tree.proofs.lines.without_return.Goals as goal
 

@@ -1,8 +1,7 @@
-use Rattle.std.proofs.Common.{◌≡◌, ◌∙◌, sym, Result, Ok, Err, false}
+use Rattle.std.proofs.Common.{◌∙◌, sym, false}
 use Rattle.std.proofs.lemmas.Result.{err_from_is_err_and}
 use Rattle.yaml_tree.specs.Lines.{lines_of, split_lines}
-use Rattle.yaml_tree.specs.Builder.{read_lines, fresh, Reads}
-use Rattle.yaml_tree.specs.Trees.{IsReading}
+use Rattle.yaml_tree.specs.Builder.{read_lines}
 use Rattle.yaml_tree.proofs.ReadingLaws.{root_is_in, error_passes}
 use Rattle.yaml_tree.proofs.reading.read_text.Goals as goal
 

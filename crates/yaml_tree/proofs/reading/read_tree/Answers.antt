@@ -1,4 +1,4 @@
-use Rattle.std.proofs.Common.{◌≡◌, ◌+◌, ◌≤◌, ◌∙◌, ap, take, length, ◌==◌, arith}
+use Rattle.std.proofs.Common.{◌+◌, ◌∙◌, ap, take, ◌==◌, arith}
 use Rattle.std.specs.Prelude.{count_by}
 use Rattle.std.proofs.lemmas.Str.{utf8_valid_len_le}
 use Rattle.yaml_tree.specs.Lines.{line_feed}

@@ -1,4 +1,4 @@
-use Rattle.std.proofs.Common.{◌≡◌, ◌+◌, drop, false}
+use Rattle.std.proofs.Common.{◌≡◌, drop, false}
 use Rattle.yaml_tree.specs.Scalars.{double_len}
 use Rattle.yaml_tree.proofs.ScanSteps.{places_on}
 use Rattle.yaml_tree.proofs.scan.double_len.Given as goal

@@ -1,4 +1,4 @@
-use Rattle.std.proofs.Common.{◌≡◌, ◌+◌, ◌++◌, drop, false}
+use Rattle.std.proofs.Common.{◌≡◌, drop, false}
 use Rattle.yaml_tree.specs.Scalars.{single_quoted}
 use Rattle.yaml_tree.proofs.ScanSteps.{behind_front}
 use Rattle.yaml_tree.proofs.scan.single_quoted.Given as goal
