@@ -1,0 +1,9 @@
+pub mod LayoutLaws
+pub mod BuilderSteps
+pub mod ScanSteps
+pub mod Simulation
+pub mod NodeSteps
+pub mod LineLaws
+pub mod ReadingLaws
+pub mod ReadSteps
+pub mod Growth

@@ -1,0 +1,11 @@
+pub mod Entries
+pub mod Lines
+pub mod Escapes
+pub mod Scalars
+pub mod Tokens
+pub mod Layout
+pub mod Holds
+pub mod Tree
+pub mod Stack
+pub mod Builder
+pub mod Trees

@@ -1,0 +1,59 @@
+//! The entries of a mapping.
+
+ghost use Rattle.std.specs.Prelude.{◌≡◌, ◌==◌, ◌++◌, ◌∷◌, List, ℕ, [], OnOk, IsTrue};
+ghost use Rattle.std.specs.Cmp.Lexicographic.{pointwise};
+ghost use Rattle.yaml_tree.specs.declared.entries.Child.{Child};
+ghost use Rattle.yaml_tree.specs.Entries.{has_key, with_entry};
+
+use crate::scalar::Scalar;
+use indexmap::IndexMap;
+use std::alloc::{AllocError, Global};
+use std::marker::Model;
+
+/// What a key names: the line of the key, and the number of its value's node.
+#[derive(Clone, Copy, Debug, PartialEq, Eq)]
+pub struct Child {
+    pub line: usize,
+    pub node: usize,
+}
+
+/// The entries of a mapping in the order of its keys, which contracts see as a list of pairs.
+#[derive(Drop)]
+pub struct Entries {
+    map: IndexMap<Scalar, Child>,
+}
+
+impl Model for Entries {
+    ghost Value = { List (List ℕ × Child) };
+
+    ghost view = { λ e. e.map.entries };
+}
+
+impl Entries {
+    pub fn new(alloc: Global) -> Entries
+        ensures { result ≡ [] }
+    {
+        Entries {
+            map: IndexMap::new(alloc),
+        }
+    }
+
+    pub fn contains(&self, key: &Scalar) -> bool
+        ensures { result ≡ has_key key.now self.now }
+    {
+        self.map.contains_key(key)
+    }
+
+    pub fn insert(&mut self, key: Scalar, child: Child) -> Result<(), AllocError>
+        ensures { OnOk result (self.new ≡ with_entry self.old key child) }
+    {
+        self.map.insert(key, child)?;
+        Ok(())
+    }
+
+    pub fn as_map(&self) -> &IndexMap<Scalar, Child>
+        ensures { result.now.entries ≡ self.now }
+    {
+        &self.map
+    }
+}

@@ -1,0 +1,111 @@
+//! Why a text has no tree.
+
+ghost use Rattle.std.specs.Prelude.{◌≡◌};
+
+use sim_base::NoMemory;
+use std::alloc::{AllocError, AllocFailed};
+use std::error::Error;
+use std::fmt;
+
+/// The kinds of fault. Where several stand in one line, an earlier kind comes first.
+#[derive(Clone, Copy, Debug, PartialEq, Eq)]
+pub enum FaultKind {
+    /// The text isn't UTF-8.
+    NotUtf8,
+    /// A token stands where no rule admits it.
+    Syntax,
+    /// A part of YAML that the profile leaves out.
+    Unsupported,
+    /// A key stands twice in one mapping.
+    Duplicate,
+    /// An alias of a name that is unknown or not complete.
+    Alias,
+    /// Over 64 levels of collections.
+    TooDeep,
+    /// Over 1,000,000 nodes.
+    TooManyNodes,
+}
+
+/// A fault, with the line (from 1) up to which the text is no accepted text.
+#[derive(Clone, Copy, Debug, PartialEq, Eq)]
+pub struct YamlFault {
+    pub line: usize,
+    pub kind: FaultKind,
+}
+
+/// Why no tree was made.
+#[derive(Clone, Copy, Debug, PartialEq, Eq)]
+pub enum TreeError {
+    Fault(YamlFault),
+    NoMemory,
+}
+
+impl fmt::Display for TreeError {
+    fn fmt<W: fmt::Write>(&self, f: &mut fmt::Formatter<W>) -> fmt::Result {
+        match self {
+            TreeError::Fault(fault) => write!(f, "line {}: {:?}", fault.line, fault.kind),
+            TreeError::NoMemory => f.write_str("out of memory"),
+        }
+    }
+}
+
+impl Error for TreeError {}
+
+impl From<NoMemory> for TreeError {
+    ghost use Rattle.yaml_tree.specs.declared.fault.TreeError.TheVariants as tree;
+
+    ghost from_gives = { λ _ e. e ≡ tree.NoMemory };
+
+    fn from(_e: NoMemory) -> TreeError {
+        TreeError::NoMemory
+    }
+}
+
+/// Why a token is one that no layout has.
+#[derive(Clone, Copy, Debug, PartialEq, Eq)]
+pub enum Odd {
+    /// A mark that would begin a value of YAML beyond the profile: unsupported where a value may
+    /// begin.
+    Mark,
+    /// Unsupported wherever it stands.
+    Unsupported,
+    /// A fault of syntax wherever it stands.
+    Syntax,
+}
+
+/// Why a part of a line was refused.
+#[derive(Clone, Copy, Debug, PartialEq, Eq)]
+pub(crate) enum Stop {
+    Fault(FaultKind),
+    NoMemory,
+}
+
+impl From<NoMemory> for Stop {
+    ghost use Rattle.yaml_tree.specs.declared.fault.Stop.TheVariants as stop;
+
+    ghost from_gives = { λ _ e. e ≡ stop.NoMemory };
+
+    fn from(_e: NoMemory) -> Stop {
+        Stop::NoMemory
+    }
+}
+
+impl From<AllocError> for Stop {
+    ghost use Rattle.yaml_tree.specs.declared.fault.Stop.TheVariants as stop;
+
+    ghost from_gives = { λ _ e. e ≡ stop.NoMemory };
+
+    fn from(_e: AllocError) -> Stop {
+        Stop::NoMemory
+    }
+}
+
+impl<T: Drop> From<AllocFailed<T>> for Stop {
+    ghost use Rattle.yaml_tree.specs.declared.fault.Stop.TheVariants as stop;
+
+    ghost from_gives = { λ _ e. e ≡ stop.NoMemory };
+
+    fn from(_e: AllocFailed<T>) -> Stop {
+        Stop::NoMemory
+    }
+}
