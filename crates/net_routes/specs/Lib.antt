@@ -1,0 +1,4 @@
+pub mod Cost
+pub mod Walk
+pub mod Path
+pub mod Search
