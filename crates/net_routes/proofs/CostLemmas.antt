@@ -5,7 +5,7 @@ use Rattle.std.specs.Prelude.{Contains}
 use Rattle.net_routes.specs.declared.cost.Cost.{Cost}
 use Rattle.net_routes.specs.declared.arc.Arc.{Arc}
 use Rattle.net_routes.specs.Cost.{nothing, IsAsGood}
-use Rattle.net_routes.specs.Path.{Leaves, Leads, and_then, HasPath}
+use Rattle.net_routes.specs.Path.{Leaves, Leads, then_arc, HasPath}
 
 pub good_refl : (c : Cost) → IsAsGood c c
 good_refl c = inr (refl, omega arith)
@@ -20,12 +20,12 @@ part_keeps : (a b k : ℕ) → a ≤ b → a * k / 1000000000 ≤ b * k / 100000
 part_keeps a b k h = let le : a * k ≤ b * k = mul-le-mul_right k h in omega arith
 
 -- what follows keeps the order
-pub good_extend : (c d : Cost) (x : Arc) → IsAsGood c d → IsAsGood (and_then c x) (and_then d x)
+pub good_extend : (c d : Cost) (x : Arc) → IsAsGood c d → IsAsGood (then_arc c x) (then_arc d x)
 good_extend c d x (inl p) = inl (omega arith)
-good_extend c d x (inr p) = inr (ap (λ (l : ℕ). l + x.latency) p.0, part_keeps d.reliability c.reliability x.reliability p.1)
+good_extend c d x (inr p) = inr (ap (λ (l : ℕ). l + x.cost.latency) p.0, part_keeps d.reliability c.reliability x.cost.reliability p.1)
 
 -- and an arc takes time
-pub good_before : (c : Cost) (x : Arc) → 0 < x.latency → IsAsGood c (and_then c x)
+pub good_before : (c : Cost) (x : Arc) → 0 < x.cost.latency → IsAsGood c (then_arc c x)
 good_before c x h = inl (omega arith)
 
 -- a path and one more arc
@@ -33,13 +33,13 @@ leads_more : (rows : List (List Arc)) (a b : ℕ) (path : List Arc) (x : Arc) �
 leads_more rows a b [] x h l = (let P : ℕ → Type 0 = λ p. Leaves rows p x in subst P (sym h) l, refl)
 leads_more rows a b (y ∷ path) x h l = (h.0, leads_more rows y.to b path x h.1 l)
 
-fold_push : (c : Cost) (path : List Arc) (x : Arc) → fold and_then c (path ++ x ∷ []) ≡ and_then (fold and_then c path) x
+fold_push : (c : Cost) (path : List Arc) (x : Arc) → fold then_arc c (path ++ x ∷ []) ≡ then_arc (fold then_arc c path) x
 fold_push c [] x = refl
-fold_push c (y ∷ path) x = fold_push (and_then c y) path x
+fold_push c (y ∷ path) x = fold_push (then_arc c y) path x
 
-pub path_more : (rows : List (List Arc)) (a b : ℕ) (c : Cost) (x : Arc) → HasPath rows a b c → Leaves rows b x → HasPath rows a x.to (and_then c x)
+pub path_more : (rows : List (List Arc)) (a b : ℕ) (c : Cost) (x : Arc) → HasPath rows a b c → Leaves rows b x → HasPath rows a x.to (then_arc c x)
 path_more rows a b c x p l = record {
   path = p.path ++ x ∷ [];
   leads = leads_more rows a b p.path x p.leads l;
-  costs = fold_push nothing p.path x ∙ ap (λ (d : Cost). and_then d x) p.costs
+  costs = fold_push nothing p.path x ∙ ap (λ (d : Cost). then_arc d x) p.costs
   }

@@ -1,25 +1,23 @@
 -- how a search goes on
 use Rattle.std.proofs.Common.{◌≡◌, ◌≢◌, ℕ, zero, suc, ◌+◌, ◌*◌, ◌/◌, ◌<◌, ◌≤◌, Bool, true, false, cond, List, [], ◌∷◌, ◌++◌, length, get_or, set, fold, Option, Some, None, refl, sym, ap, ◌∙◌, subst, inl, inr, ⊎_elim, arith, length-set, replicate}
-use Rattle.std.specs.Prelude.{Contains, is_some, count_by, ◌⊎◌}
+use Rattle.std.specs.Prelude.{Contains, All, is_some, count_by, ◌⊎◌}
 use Rattle.std.specs.List.Sorted.{IsPermutation}
 use Rattle.std.proofs.lemmas.List.{get_or-set_same, get_or-set_other, get_or_past, get_or-replicate, length-replicate}
 use Rattle.std.proofs.lemmas.List.Sorted.{Contains-permutation, IsPermutation-sym}
-use Rattle.std.proofs.lemmas.List.Elements.{All-contains, All-from_recursion, Contains-push, Contains-push_cases, Contains-append_left}
+use Rattle.std.proofs.lemmas.List.Elements.{All-contains, All-from_recursion, Contains-get_or, Contains-push, Contains-push_cases, Contains-append_left}
 use Rattle.std.proofs.lemmas.Bool.Decides.{nat_tests}
 use Rattle.std.specs.BinaryHeap.{IsUpperBound, lt_by_cmp}
 use Rattle.std.proofs.lemmas.Bool.{cases_eq, cases_lt}
-use Rattle.std.proofs.lemmas.List.Sums.{sum_by-set, count_by-le-length}
+use Rattle.std.proofs.lemmas.List.Sums.{sum_by-cons, sum_by-set, count_by-le-length}
 use Rattle.std.proofs.Math.Nat.{mul-le-mul_left}
 use Rattle.net_routes.specs.declared.cost.Cost.{Cost}
 use Rattle.net_routes.specs.declared.arc.Arc.{Arc}
 use Rattle.net_routes.specs.declared.search.Entry.{Entry}
 use Rattle.net_routes.specs.Cost.{nothing, IsAsGood}
-use Rattle.net_routes.specs.Path.{Leaves, Leads, and_then, HasPath, IsArc, AreArcs}
-use Rattle.net_routes.specs.Search.{cost_at, entry_order, IsSettled, IsReached, IsSearch, AddsArcs, IsFirst}
+use Rattle.net_routes.specs.Path.{Leaves, Leads, then_arc, HasPath, IsArc, AreArcs, IsBest}
+use Rattle.net_routes.specs.Search.{cost_at, entry_order, IsSettled, IsReached, IsSearch, AddsArcs, IsFirst, IsNext}
+use Rattle.net_routes.proofs.ListLemmas.{contains_cons, contains_head, contains_cases, some_same}
 use Rattle.net_routes.proofs.CostLemmas.{good_refl, good_trans, good_extend, good_before, path_more}
-
-some_same : {A : Type 0} (x y : A) → Some x ≡ Some y → x ≡ y
-some_same x y h = cc
 
 -- the same entries in another order
 reached_moved : (best : List (Option Cost)) (old new : List Entry) (v : ℕ) (c : Cost) → IsPermutation old new → IsReached best old v c → IsReached best new v c
@@ -32,20 +30,10 @@ search_moved rows start best old new p q s = record {
   settled = s.settled;
   waits = λ e h. s.waits e (Contains-permutation new old e q h);
   ordered = λ v c e t h. s.ordered v c e t (Contains-permutation new old e q h);
-  closed = λ u c x t l. reached_moved best old new x.to (and_then c x) p (s.closed u c x t l);
+  closed = λ u c x t l. reached_moved best old new x.to (then_arc c x) p (s.closed u c x t l);
   source = reached_moved best old new start nothing p s.source;
   bounded = λ e h. s.bounded e (Contains-permutation new old e q h)
   }
-
-contains_cons : {X : Type 0} (x : X) (xs : List X) (y : X) → Contains xs y → Contains (x ∷ xs) y
-contains_cons x xs y h = (suc h.0, (omega (arith, h.1), h.2))
-
-contains_head : {X : Type 0} (x : X) (xs : List X) → Contains (x ∷ xs) x
-contains_head x xs = (zero, (omega arith, refl))
-
-contains_cases : {X : Type 0} (x : X) (xs : List X) (y : X) → Contains (x ∷ xs) y → (x ≡ y) ⊎ Contains xs y
-contains_cases x xs y (zero, r) = inl r.1
-contains_cases x xs y (suc k, r) = inr (k, (omega (arith, r.0), r.1))
 
 -- an entry of a place that was left is passed over
 passed : (best : List (Option Cost)) (e : Entry) (rest : List Entry) (d : Cost) (v : ℕ) (c : Cost) → IsSettled best e.place d → IsAsGood d (cost_at e) → IsReached best (e ∷ rest) v c → IsReached best rest v c
@@ -67,7 +55,7 @@ search_passed rows start best e rest d t s =
       settled = s.settled;
       waits = λ o h. s.waits o (contains_cons e rest o h);
       ordered = λ v c o u h. s.ordered v c o u (contains_cons e rest o h);
-      closed = λ u c x w l. passed best e rest d x.to (and_then c x) t g (s.closed u c x w l);
+      closed = λ u c x w l. passed best e rest d x.to (then_arc c x) t g (s.closed u c x w l);
       source = passed best e rest d start nothing t g s.source;
       bounded = λ o h. s.bounded o (contains_cons e rest o h)
     }
@@ -75,7 +63,7 @@ search_passed rows start best e rest d t s =
 -- LEAVING A PLACE
 
 -- what was settled before, and the place that is left now
-settled_cases : (best : List (Option Cost)) (v : ℕ) (c : Cost) (u : ℕ) (d : Cost) → v < length best → IsSettled (set best v (Some c)) u d → ((u ≡ v) × (c ≡ d)) ⊎ IsSettled best u d
+pub settled_cases : (best : List (Option Cost)) (v : ℕ) (c : Cost) (u : ℕ) (d : Cost) → v < length best → IsSettled (set best v (Some c)) u d → ((u ≡ v) × (c ≡ d)) ⊎ IsSettled best u d
 settled_cases best v c u d lt t =
     ⊎_elim
         (λ (same : u ≡ v).
@@ -116,7 +104,7 @@ reached_still best e rest new arcs v c none lt adds (inr w) =
 count_more : (best : List (Option Cost)) (v : ℕ) (c : Cost) → v < length best → get_or best v None ≡ None → count_by is_some (set best v (Some c)) ≡ count_by is_some best + 1
 count_more best v c lt none =
     let step = sum_by-set (λ (o : Option Cost). cond (is_some o) 1 0) best v (Some c) None lt in
-    let zero_ : cond (is_some (get_or best v None)) 1 0 ≡ 0 = rw none refl in
+    let zero_ : ◌≡◌ {A = ℕ} (cond (is_some (get_or best v None)) 1 0) 0 = rw none refl in
     omega (arith, step, zero_)
 
 part_less : (r p : ℕ) → p ≤ 1000000000 → r * p / 1000000000 ≤ r
@@ -131,7 +119,7 @@ search_left rows start best e rest new are none first adds s =
     let b : List (Option Cost) = set best e.place (Some (cost_at e)) in
     let head : Contains (e ∷ rest) e = contains_head e rest in
     let lt : e.place < length best = omega (arith, s.size, (s.waits e head).0) in
-    let arc_good : (x : Arc) → Leaves rows e.place x → IsAsGood (cost_at e) (and_then (cost_at e) x) = λ x l. good_before (cost_at e) x (are e.place x l).some in
+    let arc_good : (x : Arc) → Leaves rows e.place x → IsAsGood (cost_at e) (then_arc (cost_at e) x) = λ x l. good_before (cost_at e) x (are e.place x l).step.some in
     record {
       size = length-set best e.place (Some (cost_at e)) ∙ s.size;
       settled = λ v c t. ⊎_elim
@@ -143,7 +131,7 @@ search_left rows start best e rest new are none first adds s =
         (settled_cases best e.place (cost_at e) v c lt t);
       waits = λ o h. ⊎_elim
         (λ (old : Contains rest o). s.waits o (contains_cons e rest o old))
-        (λ (w : (x : Arc) × Contains (get_or rows e.place []) x × (o.place ≡ x.to) × (cost_at o ≡ and_then (cost_at e) x)).
+        (λ (w : (x : Arc) × Contains (get_or rows e.place []) x × (o.place ≡ x.to) × (cost_at o ≡ then_arc (cost_at e) x)).
             let P : ℕ → Type 0 = λ p. (p < length rows) × HasPath rows start p (cost_at o) in
             let Q : Cost → Type 0 = λ k. HasPath rows start w.0.to k in
             subst P (sym w.2) ((are e.place w.0 w.1).ends, subst Q (sym w.3) (path_more rows start e.place (cost_at e) w.0 (s.waits e head).1 w.1)))
@@ -153,40 +141,40 @@ search_left rows start best e rest new are none first adds s =
             let P : Cost → Type 0 = λ k. IsAsGood k (cost_at o) in
             subst P now.1 (⊎_elim
                 (λ (old : Contains rest o). first o old)
-                (λ (w : (x : Arc) × Contains (get_or rows e.place []) x × (o.place ≡ x.to) × (cost_at o ≡ and_then (cost_at e) x)).
+                (λ (w : (x : Arc) × Contains (get_or rows e.place []) x × (o.place ≡ x.to) × (cost_at o ≡ then_arc (cost_at e) x)).
                     let Q : Cost → Type 0 = λ k. IsAsGood (cost_at e) k in subst Q (sym w.3) (arc_good w.0 w.1))
                 (adds.only o h)))
         (λ (was : IsSettled best v c). ⊎_elim
             (λ (old : Contains rest o). s.ordered v c o was (contains_cons e rest o old))
-            (λ (w : (x : Arc) × Contains (get_or rows e.place []) x × (o.place ≡ x.to) × (cost_at o ≡ and_then (cost_at e) x)).
+            (λ (w : (x : Arc) × Contains (get_or rows e.place []) x × (o.place ≡ x.to) × (cost_at o ≡ then_arc (cost_at e) x)).
                 let Q : Cost → Type 0 = λ k. IsAsGood c k in
-                subst Q (sym w.3) (good_trans c (cost_at e) (and_then (cost_at e) w.0) (s.ordered v c e was head) (arc_good w.0 w.1)))
+                subst Q (sym w.3) (good_trans c (cost_at e) (then_arc (cost_at e) w.0) (s.ordered v c e was head) (arc_good w.0 w.1)))
             (adds.only o h))
         (settled_cases best e.place (cost_at e) v c lt t);
       closed = λ u c x t l. ⊎_elim
         (λ (now : (u ≡ e.place) × (cost_at e ≡ c)).
-            let P : Cost → Type 0 = λ k. IsReached b new x.to (and_then k x) in
+            let P : Cost → Type 0 = λ k. IsReached b new x.to (then_arc k x) in
             let there : Leaves rows e.place x = (let L : ℕ → Type 0 = λ p. Leaves rows p x in subst L now.0 l) in
             subst P now.1 (⊎_elim
                 (λ (w : (d : Cost) × IsSettled b x.to d). inl (w.0, w.1, ⊎_elim
-                    (λ (here : (x.to ≡ e.place) × (cost_at e ≡ w.0)). let Q : Cost → Type 0 = λ k. IsAsGood k (and_then (cost_at e) x) in subst Q here.1 (arc_good x there))
-                    (λ (was : IsSettled best x.to w.0). good_trans w.0 (cost_at e) (and_then (cost_at e) x) (s.ordered x.to w.0 e was head) (arc_good x there))
+                    (λ (here : (x.to ≡ e.place) × (cost_at e ≡ w.0)). let Q : Cost → Type 0 = λ k. IsAsGood k (then_arc (cost_at e) x) in subst Q here.1 (arc_good x there))
+                    (λ (was : IsSettled best x.to w.0). good_trans w.0 (cost_at e) (then_arc (cost_at e) x) (s.ordered x.to w.0 e was head) (arc_good x there))
                     (settled_cases best e.place (cost_at e) x.to w.0 lt w.1)))
-                (λ (w : (o : Entry) × Contains new o × (o.place ≡ x.to) × (cost_at o ≡ and_then (cost_at e) x)). inr w)
+                (λ (w : (o : Entry) × Contains new o × (o.place ≡ x.to) × (cost_at o ≡ then_arc (cost_at e) x)). inr w)
                 (adds.added x there)))
-        (λ (was : IsSettled best u c). reached_still best e rest new (get_or rows e.place []) x.to (and_then c x) none lt adds (s.closed u c x was l))
+        (λ (was : IsSettled best u c). reached_still best e rest new (get_or rows e.place []) x.to (then_arc c x) none lt adds (s.closed u c x was l))
         (settled_cases best e.place (cost_at e) u c lt t);
       source = reached_still best e rest new (get_or rows e.place []) start nothing none lt adds s.source;
       bounded = λ o h. ⊎_elim
         (λ (old : Contains rest o).
             let was = s.bounded o (contains_cons e rest o old) in
             (omega (arith, was.0, count_more best e.place (cost_at e) lt none), was.1))
-        (λ (w : (x : Arc) × Contains (get_or rows e.place []) x × (o.place ≡ x.to) × (cost_at o ≡ and_then (cost_at e) x)).
+        (λ (w : (x : Arc) × Contains (get_or rows e.place []) x × (o.place ≡ x.to) × (cost_at o ≡ then_arc (cost_at e) x)).
             let was = s.bounded e head in
             let x = are e.place w.0 w.1 in
-            let latency : o.latency.0 ≡ e.latency.0 + w.0.latency = ap (λ (k : Cost). k.latency) w.3 in
-            let reliability : o.reliability ≡ e.reliability * w.0.reliability / 1000000000 = ap (λ (k : Cost). k.reliability) w.3 in
-            (omega (arith, was.0, latency, x.within, count_more best e.place (cost_at e) lt none), omega (arith, reliability, was.1, part_less e.reliability w.0.reliability x.part)))
+            let latency : o.latency.0 ≡ e.latency.0 + w.0.cost.latency = ap (λ (k : Cost). k.latency) w.3 in
+            let reliability : o.reliability ≡ e.reliability * w.0.cost.reliability / 1000000000 = ap (λ (k : Cost). k.reliability) w.3 in
+            (omega (arith, was.0, latency, x.step.within, count_more best e.place (cost_at e) lt none), omega (arith, reliability, was.1, part_less e.reliability w.0.cost.reliability x.step.part)))
         (adds.only o h)
     }
 
@@ -197,11 +185,11 @@ abbrev pub IsDone : List (Option Cost) → List Entry → Type 0
 IsDone best waiting = (v : ℕ) (c : Cost) → IsReached best waiting v c → (d : Cost) × IsSettled best v d × IsAsGood d c
 
 walk_done : (rows : List (List Arc)) (start : ℕ) (best : List (Option Cost)) (waiting : List Entry) → IsSearch rows start best waiting → IsDone best waiting
-    → (u v : ℕ) (path : List Arc) (c d : Cost) → IsSettled best u d → IsAsGood d c → Leads rows u v path → (k : Cost) × IsSettled best v k × IsAsGood k (fold and_then c path)
+    → (u v : ℕ) (path : List Arc) (c d : Cost) → IsSettled best u d → IsAsGood d c → Leads rows u v path → (k : Cost) × IsSettled best v k × IsAsGood k (fold then_arc c path)
 walk_done rows start best waiting s done u v [] c d t g leads = (d, (let P : ℕ → Type 0 = λ p. IsSettled best p d in subst P leads t), g)
 walk_done rows start best waiting s done u v (x ∷ path) c d t g leads =
-    let next = done x.to (and_then d x) (s.closed u d x t leads.0) in
-    walk_done rows start best waiting s done x.to v path (and_then c x) next.0 next.1 (good_trans next.0 (and_then d x) (and_then c x) next.2 (good_extend d c x g)) leads.1
+    let next = done x.to (then_arc d x) (s.closed u d x t leads.0) in
+    walk_done rows start best waiting s done x.to v path (then_arc c x) next.0 next.1 (good_trans next.0 (then_arc d x) (then_arc c x) next.2 (good_extend d c x g)) leads.1
 
 pub search_done : (rows : List (List Arc)) (start : ℕ) (best : List (Option Cost)) (waiting : List Entry) → IsSearch rows start best waiting → IsDone best waiting
     → (v : ℕ) (c : Cost) → HasPath rows start v c → (d : Cost) × IsSettled best v d × IsAsGood d c
@@ -262,11 +250,11 @@ adds_passed best c d arcs x old new t a = record {
     (Contains-push_cases arcs x y h);
   only = λ e h. ⊎_elim
     (λ (was : Contains old e). inl was)
-    (λ (w : (y : Arc) × Contains arcs y × (e.place ≡ y.to) × (cost_at e ≡ and_then c y)). inr (w.0, Contains-append_left arcs (x ∷ []) w.0 w.1, w.2, w.3))
+    (λ (w : (y : Arc) × Contains arcs y × (e.place ≡ y.to) × (cost_at e ≡ then_arc c y)). inr (w.0, Contains-append_left arcs (x ∷ []) w.0 w.1, w.2, w.3))
     (a.only e h)
   }
 
-pub adds_pushed : (best : List (Option Cost)) (c : Cost) (arcs : List Arc) (x : Arc) (o : Entry) (old mid new : List Entry) → o.place ≡ x.to → cost_at o ≡ and_then c x → IsPermutation (o ∷ mid) new
+pub adds_pushed : (best : List (Option Cost)) (c : Cost) (arcs : List Arc) (x : Arc) (o : Entry) (old mid new : List Entry) → o.place ≡ x.to → cost_at o ≡ then_arc c x → IsPermutation (o ∷ mid) new
     → AddsArcs best c arcs old mid → AddsArcs best c (arcs ++ x ∷ []) old new
 adds_pushed best c arcs x o old mid new place cost p a =
     let here : Contains new o = Contains-permutation (o ∷ mid) new o p (contains_head o mid) in
@@ -276,15 +264,15 @@ adds_pushed best c arcs x o old mid new place cost p a =
       added = λ y h. ⊎_elim
         (λ (was : Contains arcs y). ⊎_elim
             (λ (t : (d : Cost) × IsSettled best y.to d). inl t)
-            (λ (w : (e : Entry) × Contains mid e × (e.place ≡ y.to) × (cost_at e ≡ and_then c y)). inr (w.0, Contains-permutation (o ∷ mid) new w.0 p (contains_cons o mid w.0 w.1), w.2, w.3))
+            (λ (w : (e : Entry) × Contains mid e × (e.place ≡ y.to) × (cost_at e ≡ then_arc c y)). inr (w.0, Contains-permutation (o ∷ mid) new w.0 p (contains_cons o mid w.0 w.1), w.2, w.3))
             (a.added y was))
-        (λ (now : x ≡ y). inr (o, here, place ∙ ap (λ (z : Arc). z.to) now, cost ∙ ap (λ (z : Arc). and_then c z) now))
+        (λ (now : x ≡ y). inr (o, here, place ∙ ap (λ (z : Arc). z.to) now, cost ∙ ap (λ (z : Arc). then_arc c z) now))
         (Contains-push_cases arcs x y h);
       only = λ e h. ⊎_elim
-        (λ (is : o ≡ e). inr (x, Contains-push arcs x, (let P : Entry → Type 0 = λ z. z.place ≡ x.to in subst P is place), (let P : Entry → Type 0 = λ z. cost_at z ≡ and_then c x in subst P is cost)))
+        (λ (is : o ≡ e). inr (x, Contains-push arcs x, (let P : Entry → Type 0 = λ z. z.place ≡ x.to in subst P is place), (let P : Entry → Type 0 = λ z. cost_at z ≡ then_arc c x in subst P is cost)))
         (λ (there : Contains mid e). ⊎_elim
             (λ (was : Contains old e). inl was)
-            (λ (w : (y : Arc) × Contains arcs y × (e.place ≡ y.to) × (cost_at e ≡ and_then c y)). inr (w.0, Contains-append_left arcs (x ∷ []) w.0 w.1, w.2, w.3))
+            (λ (w : (y : Arc) × Contains arcs y × (e.place ≡ y.to) × (cost_at e ≡ then_arc c y)). inr (w.0, Contains-append_left arcs (x ∷ []) w.0 w.1, w.2, w.3))
             (a.only e there))
         (contains_cases o mid e (Contains-permutation new (o ∷ mid) e q h))
     }
@@ -301,7 +289,7 @@ unsettled n v = ⊎_elim
     (λ (ge : n ≤ v). get_or_past (replicate n nobody) v None (omega (arith, length-replicate n nobody)))
     (cases_lt v n)
 
-none_settled : (n v : ℕ) (c : Cost) → IsSettled (replicate n nobody) v c → ⊥
+pub none_settled : (n v : ℕ) (c : Cost) → IsSettled (replicate n nobody) v c → ⊥
 none_settled n v c t = let e = unsettled n v in cc
 
 lone : (e o : Entry) → Contains (e ∷ []) o → e ≡ o
@@ -330,3 +318,75 @@ search_begun rows start n e waiting size lt cost place p =
         let reliability : e.reliability ≡ 1000000000 = ap (λ (c : Cost). c.reliability) cost in
         subst P (only o h) (omega (arith, latency), omega (arith, reliability))
     }
+
+-- WHAT A TEST SAYS
+
+pub unsettled_from : (o : Option Cost) → is_some o ≡ false → o ≡ None
+unsettled_from None e = refl
+unsettled_from (Some c) e = absurd (let never : ⊥ = cc in never)
+
+pub settled_from : (o : Option Cost) → is_some o ≡ true → (c : Cost) × (o ≡ Some c)
+settled_from (Some c) e = (c, refl)
+settled_from None e = absurd (let never : ⊥ = cc in never)
+
+-- THE WHOLE SEARCH
+
+-- a place is left
+pub search_step : (rows : List (List Arc)) (start : ℕ) (best seen left : List (Option Cost)) (e : Entry) (rest new : List Entry) (cost : Cost) (row : List Arc)
+    → AreArcs rows → seen ≡ best → left ≡ set best e.place (Some cost) → cost ≡ cost_at e → row ≡ get_or rows e.place []
+    → IsNext rows start seen (Some e) rest → AddsArcs left cost row rest new → IsSearch rows start (set best e.place (Some cost)) new
+search_step rows start best seen left e rest new cost row are same_seen same_left same_cost same_row next adds =
+    let N : List (Option Cost) → Type 0 = λ b. IsNext rows start b (Some e) rest in
+    let here : IsNext rows start best (Some e) rest = subst N same_seen next in
+    let L : List (Option Cost) → Type 0 = λ b. AddsArcs b cost row rest new in
+    let R : List Arc → Type 0 = λ r. AddsArcs (set best e.place (Some cost)) cost r rest new in
+    let C : Cost → Type 0 = λ k. AddsArcs (set best e.place (Some k)) k (get_or rows e.place []) rest new in
+    let S : Cost → Type 0 = λ k. IsSearch rows start (set best e.place (Some k)) new in
+    let more : AddsArcs (set best e.place (Some (cost_at e))) (cost_at e) (get_or rows e.place []) rest new = subst C same_cost (subst R same_row (subst L same_left adds)) in
+    subst S (sym same_cost) (search_left rows start best e rest new are here.2 here.1 more here.0)
+
+-- and one more place is left then
+pub left_counts : (rows : List (List Arc)) (start : ℕ) (best seen : List (Option Cost)) (e : Entry) (rest : List Entry) (cost : Cost)
+    → seen ≡ best → IsNext rows start seen (Some e) rest → count_by is_some (set best e.place (Some cost)) ≡ count_by is_some best + 1
+left_counts rows start best seen e rest cost same next =
+    let N : List (Option Cost) → Type 0 = λ b. IsNext rows start b (Some e) rest in
+    let here : IsNext rows start best (Some e) rest = subst N same next in
+    count_more best e.place cost (omega (arith, here.0.size, (here.0.waits e (contains_head e rest)).0)) here.2
+
+-- what is known of the next place
+pub record IsPlace (rows : List (List Arc)) (e : Entry) : Type 0 where
+  pub within : e.place < length rows
+  pub soon : e.latency.0 ≤ length rows * 3600000000000
+  pub part : e.reliability ≤ 1000000000
+
+pub next_place : (rows : List (List Arc)) (start : ℕ) (seen : List (Option Cost)) (e : Entry) (rest : List Entry) → IsNext rows start seen (Some e) rest → IsPlace rows e
+next_place rows start seen e rest next =
+    let s = next.0 in
+    let bound = s.bounded e (contains_head e rest) in
+    record {
+      within = (s.waits e (contains_head e rest)).0;
+      soon = omega (arith, bound.0, count_by-le-length is_some seen, s.size);
+      part = bound.1
+    }
+
+pub row_arcs : (rows : List (List Arc)) (place n : ℕ) (row : List Arc) → AreArcs rows → n ≡ length rows → row ≡ get_or rows place [] → All (IsArc n) row
+row_arcs rows place n row are size is k d lt =
+    let P : ℕ → Type 0 = λ m. IsArc m (get_or row k d) in
+    let R : List Arc → Type 0 = λ r. Contains r (get_or row k d) in
+    subst P (sym size) (are place (get_or row k d) (subst R is (Contains-get_or row k d lt)))
+
+best_done : (rows : List (List Arc)) (start : ℕ) (best : List (Option Cost)) (waiting : List Entry) → IsSearch rows start best waiting → IsDone best waiting → IsBest (HasPath rows start) (λ v. get_or best v None)
+best_done rows start best waiting s done = record { goes = s.settled; least = search_done rows start best waiting s done }
+
+pub best_empty : (rows : List (List Arc)) (start : ℕ) (best seen : List (Option Cost)) (rest : List Entry) → seen ≡ best → IsNext rows start seen None rest → IsBest (HasPath rows start) (λ v. get_or best v None)
+best_empty rows start best seen rest same next =
+    let B : List (Option Cost) → Type 0 = λ b. IsSearch rows start b rest in
+    let W : List Entry → Type 0 = λ w. IsDone best w in
+    best_done rows start best rest (subst B same next.0) (subst W (sym next.1) (done_empty best))
+
+pub best_full : (rows : List (List Arc)) (start : ℕ) (best : List (Option Cost)) (waiting : List Entry) → IsSearch rows start best waiting → length best ≤ count_by is_some best → IsBest (HasPath rows start) (λ v. get_or best v None)
+best_full rows start best waiting s full = best_done rows start best waiting s (done_full rows start best waiting s full)
+
+pub none_counted : (n : ℕ) → count_by is_some (replicate n nobody) ≡ 0
+none_counted zero = refl
+none_counted (suc n) = omega (arith, sum_by-cons (λ (o : Option Cost). cond (is_some o) 1 0) nobody (replicate n nobody), none_counted n)

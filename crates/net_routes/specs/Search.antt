@@ -7,7 +7,7 @@ use Rattle.net_routes.specs.declared.cost.Cost.{Cost}
 use Rattle.net_routes.specs.declared.arc.Arc.{Arc}
 use Rattle.net_routes.specs.declared.search.Entry.{Entry}
 use Rattle.net_routes.specs.Cost.{nothing, IsAsGood}
-use Rattle.net_routes.specs.Path.{Leaves, and_then, HasPath}
+use Rattle.net_routes.specs.Path.{Leaves, then_arc, HasPath}
 
 -- the cost at which an entry waits
 abbrev pub cost_at : Entry → Cost
@@ -27,15 +27,15 @@ pub record IsSearch (rows : List (List Arc)) (start : ℕ) (best : List (Option 
   pub settled : (v : ℕ) (c : Cost) → IsSettled best v c → HasPath rows start v c
   pub waits : (e : Entry) → Contains waiting e → (e.place < length rows) × HasPath rows start e.place (cost_at e)
   pub ordered : (v : ℕ) (c : Cost) (e : Entry) → IsSettled best v c → Contains waiting e → IsAsGood c (cost_at e)
-  pub closed : (u : ℕ) (c : Cost) (x : Arc) → IsSettled best u c → Leaves rows u x → IsReached best waiting x.to (and_then c x)
+  pub closed : (u : ℕ) (c : Cost) (x : Arc) → IsSettled best u c → Leaves rows u x → IsReached best waiting x.to (then_arc c x)
   pub source : IsReached best waiting start nothing
   pub bounded : (e : Entry) → Contains waiting e → (e.latency.0 ≤ count_by is_some best * 3600000000000) × (e.reliability ≤ 1000000000)
 
 -- what a settled place adds to those that wait
 pub record AddsArcs (best : List (Option Cost)) (c : Cost) (arcs : List Arc) (old new : List Entry) : Type 0 where
   pub kept : (e : Entry) → Contains old e → Contains new e
-  pub added : (x : Arc) → Contains arcs x → ((d : Cost) × IsSettled best x.to d) ⊎ ((e : Entry) × Contains new e × (e.place ≡ x.to) × (cost_at e ≡ and_then c x))
-  pub only : (e : Entry) → Contains new e → Contains old e ⊎ ((x : Arc) × Contains arcs x × (e.place ≡ x.to) × (cost_at e ≡ and_then c x))
+  pub added : (x : Arc) → Contains arcs x → ((d : Cost) × IsSettled best x.to d) ⊎ ((e : Entry) × Contains new e × (e.place ≡ x.to) × (cost_at e ≡ then_arc c x))
+  pub only : (e : Entry) → Contains new e → Contains old e ⊎ ((x : Arc) × Contains arcs x × (e.place ≡ x.to) × (cost_at e ≡ then_arc c x))
 
 -- the first to leave is as cheap as each other
 abbrev pub IsFirst : Entry → List Entry → Type 0
@@ -51,9 +51,3 @@ entry_order a b =
 abbrev pub IsNext : List (List Arc) → ℕ → List (Option Cost) → Option Entry → List Entry → Type 0
 IsNext rows start best None rest = IsSearch rows start best rest × (rest ≡ [])
 IsNext rows start best (Some e) rest = IsSearch rows start best (e ∷ rest) × IsFirst e rest × (slice_index_or best e.place None ≡ None)
-
--- All places that a path leads to, each at a cost that no path beats.
-pub record IsCheapest (rows : List (List Arc)) (start : ℕ) (best : List (Option Cost)) : Type 0 where
-  pub size : length best ≡ length rows
-  pub goes : (v : ℕ) (c : Cost) → IsSettled best v c → HasPath rows start v c
-  pub least : (v : ℕ) (c : Cost) → HasPath rows start v c → (d : Cost) × IsSettled best v d × IsAsGood d c

@@ -1,17 +1,17 @@
 //! Arcs: the ways that leave a place.
 
-ghost use Rattle.std.specs.Prelude.{◌≡◌, ◌+◌, ◌<◌, ◌≤◌, ◌^◌, List};
-ghost use Rattle.net_routes.specs.Path.{and_then};
+ghost use Rattle.std.specs.Prelude.{◌≡◌, ◌++◌, ◌∷◌, [], OnOk};
 
 use crate::cost::Cost;
+use sim_base::NoMemory;
+use std::alloc::Global;
 use std::marker::Model;
 
-/// A way from one place to another.
+/// A way to a place.
 #[derive(Clone, Copy, Debug, PartialEq, Eq)]
 pub struct Arc {
     pub to: usize,
-    pub latency: u64,
-    pub reliability: u32,
+    pub cost: Cost,
 }
 
 /// The arcs that leave a place, which contracts see as a list.
@@ -30,24 +30,24 @@ impl Model for Row {
 }
 
 impl Row {
+    pub fn new(alloc: Global) -> Row
+        ensures { result ≡ [] }
+    {
+        Row {
+            arcs: Vec::new(alloc),
+        }
+    }
+
+    pub fn push(&mut self, arc: Arc) -> Result<(), NoMemory>
+        ensures { OnOk result (self.new ≡ self.old ++ arc ∷ []) }
+    {
+        self.arcs.push(arc)?;
+        Ok(())
+    }
+
     pub fn as_slice(&self) -> &[Arc]
         ensures { result.now ≡ self.now }
     {
         self.arcs.as_slice()
-    }
-}
-
-/// The cost of a walk and then of an arc.
-pub fn extended(cost: Cost, arc: Arc) -> Cost
-    requires room { cost.latency + arc.latency < 2 ^ 64 }
-    requires before { cost.reliability ≤ 1000000000 }
-    requires part { arc.reliability ≤ 1000000000 }
-    ensures value { result ≡ and_then cost arc }
-    ensures less { result.reliability ≤ cost.reliability }
-{
-    let arrived = u64::from(cost.reliability) * u64::from(arc.reliability) / 1_000_000_000;
-    Cost {
-        latency: cost.latency + arc.latency,
-        reliability: arrived as u32,
     }
 }

@@ -1,8 +1,20 @@
-//! Routes between the hosts of a network.
+//! Routes between the nodes of hosts, over the graph of a network.
 #![tactic(auto)]
 
 mod arc;
+mod arcs;
 mod cost;
+mod error;
+mod finding;
+mod line;
+mod net;
+mod places;
 mod search;
+mod step;
+mod table;
 
-pub use cost::Cost;
+
+
+pub use error::RouteError;
+pub use finding::routes;
+pub use table::Routes;

@@ -1,13 +1,14 @@
 //! The search for the cheapest paths from a place to all others: the cheapest place that waits is left first.
 
-ghost use Rattle.std.specs.Prelude.{◌≡◌, ℕ, ◌+◌, ◌*◌, ◌<◌, ◌≤◌, ◌^◌, List, length, All, IfOk, OnOk};
+ghost use Rattle.std.specs.Prelude.{◌≡◌, ℕ, ◌+◌, ◌*◌, ◌<◌, ◌≤◌, ◌^◌, List, length, All, None, IfOk, OnOk};
 ghost use Rattle.std.specs.BinaryHeap.{IsHeap, heap_items, heap_len};
 ghost use Rattle.net_routes.specs.declared.arc.Arc.{Arc};
-ghost use Rattle.net_routes.specs.Path.{AreArcs, IsArc};
-ghost use Rattle.net_routes.specs.Search.{cost_at, entry_order, IsSearch, IsNext, AddsArcs, IsCheapest};
+ghost use Rattle.std.specs.List.{slice_index_or};
+ghost use Rattle.net_routes.specs.Path.{AreArcs, IsArc, HasPath, IsBest};
+ghost use Rattle.net_routes.specs.Search.{cost_at, entry_order, IsSearch, IsNext, AddsArcs};
 
-use crate::arc::{extended, Arc, Row};
-use crate::cost::{no_cost, Cost};
+use crate::arc::{Arc, Row};
+use crate::cost::{Cost, extended, no_cost};
 use sim_base::NoMemory;
 use std::alloc::Global;
 use std::cmp::Reverse;
@@ -71,7 +72,7 @@ fn add_arcs(
 {
     for arc in arcs {
         if best[arc.to].is_none() {
-            waiting.push(entry_at(extended(cost, *arc), arc.to))?;
+            waiting.push(entry_at(extended(cost, arc.cost), arc.to))?;
         }
     }
     Ok(())
@@ -86,7 +87,9 @@ pub fn cheapest_paths(
     requires start { start < length rows.now }
     requires arcs { AreArcs rows.now }
     requires few { length rows.now ≤ 2 ^ 20 }
-    ensures { IfOk result (λ best. IsCheapest rows.now start best.items) }
+    ensures size { IfOk result (λ best. length best.items ≡ length rows.now) }
+    ensures best { IfOk result
+        (λ best. IsBest (HasPath rows.now start) (λ place. slice_index_or best.items place None)) }
 {
     let mut best = vec![in alloc; None; rows.len()]?;
     let mut waiting = BinaryHeap::new(alloc);
