@@ -8,3 +8,4 @@ pub mod NetLemmas
 pub mod LineLemmas
 pub mod RouteLemmas
 pub mod LeastLemmas
+pub mod Values

@@ -11,8 +11,10 @@ use Rattle.net_routes.specs.Walk.{Goes, IsRoute, steps}
 use Rattle.net_routes.specs.Needed.{IsAt, IsNeeded}
 use Rattle.net_routes.specs.Places.{place_of}
 use Rattle.net_routes.specs.Path.{IsBest}
-use Rattle.net_routes.specs.Lines.{IsLine, IsFirstLack}
-use Rattle.net_routes.specs.Routes.{route_at, LacksRoute, IsLeastLack}
+use Rattle.net_routes.specs.declared.error.RouteError.{RouteError}
+use Rattle.net_routes.specs.declared.error.RouteError.TheVariants as errors
+use Rattle.net_routes.specs.Lines.{IsLine, IsFirstLack, NamesLack}
+use Rattle.net_routes.specs.Routes.{route_at, LacksRoute, IsLeastLack, IsRefusal}
 use Rattle.net_routes.proofs.ListLemmas.{some_same}
 use Rattle.net_routes.proofs.PlaceLemmas.{at_rises, at_is, at_contains, contains_at, place_found}
 
@@ -132,3 +134,17 @@ lack_least g shortest nodes stops lines i from to found up same at below k lack 
             (cases_lt i a.0))
         (cases_lt a.0 i)
   }
+
+-- the nodes of hosts, each once
+pub stops_of : (ids stops given nodes : List ℕ) → ids ≡ stops → given ≡ nodes → ((id : ℕ) → Contains stops id ↔ Contains given id) → (id : ℕ) → Contains ids id ↔ Contains nodes id
+stops_of ids stops given nodes same copied all id =
+    let P : List ℕ → Type 0 = λ xs. Contains xs id ↔ Contains given id in
+    let Q : List ℕ → Type 0 = λ xs. Contains ids id ↔ Contains xs id in
+    subst Q copied (subst P (sym same) (all id))
+
+pub refused : (g : Graph) (shortest : Bool) (nodes stops : List ℕ) (lines : List (List Cost)) (i from : ℕ) (found : ℕ → Option Cost) (e : RouteError) → IsStrictlyIncreasing stops → ((id : ℕ) → Contains stops id ↔ Contains nodes id) → IsAt stops i from
+    → HasRoutesBelow i g shortest nodes stops lines → IsBest (Goes (steps g) shortest from) found → NamesLack nodes stops from found e → IsRefusal g shortest nodes e
+refused g shortest nodes stops lines i from found (errors.NoRoute a b) up same at below k h =
+    let P : ℕ → Type 0 = λ n. IsLeastLack g shortest nodes n b in
+    subst P (sym h.0) (lack_least g shortest nodes stops lines i from b found up same at below k h.1)
+refused g shortest nodes stops lines i from found errors.NoMemory up same at below k h = tt

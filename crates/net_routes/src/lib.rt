@@ -12,8 +12,8 @@ mod places;
 mod search;
 mod step;
 mod table;
-
-
+#[cfg(test)]
+mod tests;
 
 pub use error::RouteError;
 pub use finding::routes;

@@ -12,8 +12,8 @@ use sim_base::Time;
 /// that are sent.
 #[derive(Debug, Drop)]
 pub struct Routes {
-    pub stops: Places,
-    pub lines: Vec<Line>,
+    pub(crate) stops: Places,
+    pub(crate) lines: Vec<Line>,
 }
 
 impl Routes {

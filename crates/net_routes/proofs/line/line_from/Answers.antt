@@ -13,7 +13,7 @@ returns-in_err-needed_cost-clause-err c =
     let stops = c.args.stops.now in
     let i = c.loop-to.to-index in
     let lt : i < length stops = omega arith in
-    rw (p.1, p.2) (names_lack c.args.nodes.now stops c.args.from (cost_to c.args.net.now.places c.args.costs.now) c.in_err-needed_cost.field-0 c.loop-to.line.items i (get_or stops i 0) c.in_err-needed_cost.ensures.which (record { within = lt; is = refl }) c.in_err-needed_cost.ensures.needed c.in_err-needed_cost.ensures.none c.loop-to.invariant.line)
+    rw (p.1, p.2) (names_lack c.args.nodes.now stops c.args.from (cost_to c.args.net.now.places c.args.costs.now) c.in_err-needed_cost.field-0.0 c.loop-to.line.items i (get_or stops i 0) c.in_err-needed_cost.ensures.which (record { within = lt; is = refl }) c.in_err-needed_cost.ensures.needed c.in_err-needed_cost.ensures.none c.loop-to.invariant.line)
 
 pub loop-to-preserved : goal.loop-to-preserved
 loop-to-preserved c =

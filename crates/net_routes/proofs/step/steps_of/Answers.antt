@@ -10,8 +10,8 @@ use Rattle.net_routes.proofs.step.steps_of.Goals as goal
 pub returns-clause-sound : goal.returns-clause-sound
 returns-clause-sound c =
     let graph = c.args.graph.now in
-    let edges = c.as_slice.result.now in
+    let edges = c.as_slice-edges.result.now in
     let whole : take c.loop-edge.edge-index edges ≡ edges = take_all c.loop-edge.edge-index edges (omega arith) in
-    let same : c.loop-edge.found.items ≡ flat_map (ways graph.directed) graph.edges = c.loop-edge.invariant ∙ ap (λ (es : List Edge). flat_map (ways graph.directed) es) (whole ∙ c.as_slice.ensures.items) in
+    let same : c.loop-edge.found.items ≡ flat_map (ways graph.directed) graph.edges = c.loop-edge.invariant ∙ ap (λ (es : List Edge). flat_map (ways graph.directed) es) (whole ∙ c.as_slice-edges.ensures.items) in
     let P : List Step → Type 0 = λ ss. AreSteps ss in
-    subst P (sym same) (steps_sound graph.directed graph.edges c.as_slice.ensures.edges)
+    subst P (sym same) (steps_sound graph.directed graph.edges c.as_slice-edges.ensures.edges)

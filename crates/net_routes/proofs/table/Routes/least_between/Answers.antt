@@ -11,7 +11,7 @@ loop-host-preserved c =
     let nodes = c.args.nodes.now in
     let routes = c.args.self.now in
     let P : Option ℕ → Type 0 = λ o. IsLeastIf (IsFromFirst (c.loop-host.host + 1) (length nodes)) nodes routes o in
-    subst P (sym c.lesser.ensures) (first_more nodes routes (length nodes) c.loop-host.host c.loop-host.least c.least_from.result (omega arith) c.loop-host.invariant c.least_from.ensures)
+    subst P (sym c.lesser-least.ensures) (first_more nodes routes (length nodes) c.loop-host.host c.loop-host.least c.least_from.result (omega arith) c.loop-host.invariant c.least_from.ensures)
 
 pub returns-in-Some : goal.returns-in-Some
 returns-in-Some c =
