@@ -1,7 +1,6 @@
 -- the order of costs
 use Rattle.std.proofs.Common.{◌≡◌, ℕ, ◌+◌, ◌*◌, ◌/◌, ◌<◌, ◌≤◌, List, [], ◌∷◌, ◌++◌, fold, refl, sym, ap, ◌∙◌, inl, inr, subst, arith}
 use Rattle.std.proofs.Math.Nat.{mul-le-mul_right}
-use Rattle.std.specs.Prelude.{Contains}
 use Rattle.net_routes.specs.declared.cost.Cost.{Cost}
 use Rattle.net_routes.specs.declared.arc.Arc.{Arc}
 use Rattle.net_routes.specs.Cost.{nothing, IsAsGood}
@@ -41,5 +40,5 @@ pub path_more : (rows : List (List Arc)) (a b : ℕ) (c : Cost) (x : Arc) → Ha
 path_more rows a b c x p l = record {
   path = p.path ++ x ∷ [];
   leads = leads_more rows a b p.path x p.leads l;
-  costs = fold_push nothing p.path x ∙ ap (λ (d : Cost). then_arc d x) p.costs
-  }
+  costs = fold_push nothing p.path x ∙ ap (λ (d : Cost). then_arc d x) p.costs;
+}

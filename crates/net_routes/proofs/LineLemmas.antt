@@ -1,5 +1,5 @@
 -- which costs hosts need, and a list of them
-use Rattle.std.proofs.Common.{◌≡◌, ◌≢◌, ℕ, zero, suc, ◌+◌, ◌<◌, ◌≤◌, Bool, true, false, cond, ◌==◌, leb, List, [], ◌∷◌, ◌++◌, length, get_or, Option, Some, None, refl, sym, ap, ◌∙◌, subst, ⊎_elim, arith}
+use Rattle.std.proofs.Common.{◌≡◌, ◌≢◌, ℕ, zero, suc, ◌+◌, ◌<◌, ◌≤◌, Bool, true, false, cond, ◌==◌, leb, List, [], ◌∷◌, ◌++◌, length, Option, Some, None, refl, sym, ap, ◌∙◌, subst, ⊎_elim, arith}
 use Rattle.std.specs.Prelude.{Contains, count_by, slice_get, is_some, MatchBool}
 use Rattle.std.proofs.lemmas.Bool.{cases_eq, cases_lt}
 use Rattle.std.proofs.lemmas.Bool.Decides.{nat_tests}
@@ -43,35 +43,35 @@ one_host : (xs : List ℕ) (x : ℕ) → 1 ≤ hosts_on xs x → (i : ℕ) × Is
 one_host [] x h = absurd (omega (arith, h))
 one_host (y ∷ xs) x h =
     ⊎_elim
-        (λ (same : y ≡ x). (zero, (let P : ℕ → Type 0 = λ z. IsAt (y ∷ xs) zero z in subst P same (at_first y xs))))
-        (λ (other : y ≡ x → ⊥).
-            let rest = one_host xs x (omega (arith, h, missed y x xs other)) in
-            (suc rest.0, at_later y xs rest.0 x rest.1))
-        (cases_eq y x)
+    (λ (same : y ≡ x). (zero, (let P : ℕ → Type 0 = λ z. IsAt (y ∷ xs) zero z in subst P same (at_first y xs))))
+    (λ (other : y ≡ x → ⊥).
+    let rest = one_host xs x (omega (arith, h, missed y x xs other)) in
+    (suc rest.0, at_later y xs rest.0 x rest.1))
+    (cases_eq y x)
 
 pub two_hosts : (xs : List ℕ) (x : ℕ) → 2 ≤ hosts_on xs x → IsNeeded xs x x
 two_hosts [] x h = absurd (omega (arith, h))
 two_hosts (y ∷ xs) x h =
     ⊎_elim
-        (λ (same : y ≡ x).
-            let rest = one_host xs x (omega (arith, h, counted y x xs same)) in
-            record {
-              first = zero;
-              second = suc rest.0;
-              others = λ e. omega (arith, e);
-              from = (let P : ℕ → Type 0 = λ z. IsAt (y ∷ xs) zero z in subst P same (at_first y xs));
-              to = at_later y xs rest.0 x rest.1
-            })
-        (λ (other : y ≡ x → ⊥).
-            let rest = two_hosts xs x (omega (arith, h, missed y x xs other)) in
-            record {
-              first = suc rest.first;
-              second = suc rest.second;
-              others = λ e. rest.others (omega (arith, e));
-              from = at_later y xs rest.first x rest.from;
-              to = at_later y xs rest.second x rest.to
-            })
-        (cases_eq y x)
+    (λ (same : y ≡ x).
+    let rest = one_host xs x (omega (arith, h, counted y x xs same)) in
+    record {
+      first = zero;
+      second = suc rest.0;
+      others = λ e. omega (arith, e);
+      from = (let P : ℕ → Type 0 = λ z. IsAt (y ∷ xs) zero z in subst P same (at_first y xs));
+      to = at_later y xs rest.0 x rest.1;
+    })
+    (λ (other : y ≡ x → ⊥).
+    let rest = two_hosts xs x (omega (arith, h, missed y x xs other)) in
+    record {
+      first = suc rest.first;
+      second = suc rest.second;
+      others = λ e. rest.others (omega (arith, e));
+      from = at_later y xs rest.first x rest.from;
+      to = at_later y xs rest.second x rest.to;
+    })
+    (cases_eq y x)
 
 host_counted : (xs : List ℕ) (i x : ℕ) → IsAt xs i x → 1 ≤ hosts_on xs x
 host_counted [] i x a = absurd (omega (arith, a.within))
@@ -103,7 +103,7 @@ needed_apart nodes a b from to other =
       second = q.0;
       others = λ e. other (let P : ℕ → Type 0 = λ i. IsAt nodes i a in at_is nodes q.0 a b (subst P e p.1) q.1);
       from = p.1;
-      to = q.1
+      to = q.1;
     }
 
 -- and one
@@ -134,21 +134,21 @@ pub line_more : (nodes stops : List ℕ) (from : ℕ) (found : ℕ → Option Co
     → IsLineBelow i nodes stops from found line → IsLineBelow (i + 1) nodes stops from found (line ++ c ∷ [])
 line_more nodes stops from found line i node c size at is below k to lt there need =
     ⊎_elim
-        (λ (before : k < i).
-            let w = below k to before there need in
-            let inside : k < length line = omega (arith, before, size) in
-            let inside_now : k < length (line ++ c ∷ []) = omega (arith, before, size, length_push line c) in
-            let same : slice_get (line ++ c ∷ []) k ≡ slice_get line k = slice_get-get_or (line ++ c ∷ []) k c inside_now ∙ ap (λ (x : Cost). Some x) (get_or_append_left line (c ∷ []) c k inside) ∙ sym (slice_get-get_or line k c inside) in
-            (w.0, same ∙ w.1, w.2))
-        (λ (ge : i ≤ k).
-            let now : k ≡ i = omega (arith, lt, ge) in
-            let P : ℕ → Type 0 = λ p. IsAt stops p to in
-            let ends : to ≡ node = at_is stops i to node (subst P now there) at in
-            let inside_now : k < length (line ++ c ∷ []) = omega (arith, now, size, length_push line c) in
-            let N : ℕ → Type 0 = λ p. IsNeeded nodes from p in
-            let F : ℕ → Type 0 = λ p. found p ≡ Some c in
-            (c, slice_get-get_or (line ++ c ∷ []) k c inside_now ∙ ap (λ (x : Cost). Some x) (get_or_push line c c k (size ∙ sym now)), subst F (sym ends) (is (subst N ends need))))
-        (cases_lt k i)
+    (λ (before : k < i).
+    let w = below k to before there need in
+    let inside : k < length line = omega (arith, before, size) in
+    let inside_now : k < length (line ++ c ∷ []) = omega (arith, before, size, length_push line c) in
+    let same : slice_get (line ++ c ∷ []) k ≡ slice_get line k = slice_get-get_or (line ++ c ∷ []) k c inside_now ∙ ap (λ (x : Cost). Some x) (get_or_append_left line (c ∷ []) c k inside) ∙ sym (slice_get-get_or line k c inside) in
+    (w.0, same ∙ w.1, w.2))
+    (λ (ge : i ≤ k).
+    let now : k ≡ i = omega (arith, lt, ge) in
+    let P : ℕ → Type 0 = λ p. IsAt stops p to in
+    let ends : to ≡ node = at_is stops i to node (subst P now there) at in
+    let inside_now : k < length (line ++ c ∷ []) = omega (arith, now, size, length_push line c) in
+    let N : ℕ → Type 0 = λ p. IsNeeded nodes from p in
+    let F : ℕ → Type 0 = λ p. found p ≡ Some c in
+    (c, slice_get-get_or (line ++ c ∷ []) k c inside_now ∙ ap (λ (x : Cost). Some x) (get_or_push line c c k (size ∙ sym now)), subst F (sym ends) (is (subst N ends need))))
+    (cases_lt k i)
 
 -- what stops a line
 pub names_lack : (nodes stops : List ℕ) (from : ℕ) (found : ℕ → Option Cost) (e : RouteError) (line : List Cost) (i to : ℕ) → e ≡ errors.NoRoute from to → IsAt stops i to → IsNeeded nodes from to → found to ≡ None
@@ -160,6 +160,6 @@ names_lack nodes stops from found e line i to which at need none below =
       at = at;
       needed = need;
       none = none;
-      first = λ k before lt there n. let w = below k before lt there n in ap (λ (o : Option Cost). is_some o) w.2
-      } in
+      first = λ k before lt there n. let w = below k before lt there n in ap (λ (o : Option Cost). is_some o) w.2;
+    } in
     subst P (sym which) (refl, lack)

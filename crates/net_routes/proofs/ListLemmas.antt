@@ -1,5 +1,5 @@
 -- what a list contains
-use Rattle.std.proofs.Common.{◌≡◌, ℕ, zero, suc, ◌<◌, List, [], ◌∷◌, Some, refl, inl, inr, arith}
+use Rattle.std.proofs.Common.{◌≡◌, zero, suc, List, ◌∷◌, Some, refl, inl, inr, arith}
 use Rattle.std.specs.Prelude.{Contains, ◌⊎◌}
 
 pub contains_cons : {X : Type 0} (x : X) (xs : List X) (y : X) → Contains xs y → Contains (x ∷ xs) y

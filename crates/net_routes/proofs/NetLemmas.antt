@@ -4,18 +4,17 @@ use Rattle.std.specs.Prelude.{Contains, All, ◌⊎◌, option_and_then}
 use Rattle.std.specs.List.Sorted.{IsStrictlyIncreasing}
 use Rattle.std.proofs.lemmas.Bool.{cases_eq, cases_lt}
 use Rattle.std.proofs.lemmas.List.{get_or-set_same, get_or-set_other, get_or_past}
-use Rattle.std.proofs.lemmas.List.Elements.{All-get_or, Contains-push, Contains-push_cases, Contains-append_left}
+use Rattle.std.proofs.lemmas.List.Elements.{Contains-push, Contains-push_cases, Contains-append_left}
 use Rattle.net_routes.specs.declared.cost.Cost.{Cost}
 use Rattle.net_routes.specs.declared.step.Step.{Step}
 use Rattle.net_routes.specs.declared.arc.Arc.{Arc}
-use Rattle.net_routes.specs.Cost.{nothing, and_then, IsAsGood, IsStepCost}
+use Rattle.net_routes.specs.Cost.{nothing, and_then, IsStepCost}
 use Rattle.net_routes.specs.Walk as walks
 use Rattle.net_routes.specs.Walk.{then_step, cost_of, MayGo, Goes, AreSteps}
 use Rattle.net_routes.specs.Needed.{IsAt}
 use Rattle.net_routes.specs.Places.{place_of}
 use Rattle.net_routes.specs.Path.{Leaves, Leads, then_arc, HasWay, AreArcs, IsBest}
 use Rattle.net_routes.specs.Net.{IsArcOf, IsNet, AddsArc, cost_to}
-use Rattle.net_routes.proofs.ListLemmas.{some_same}
 use Rattle.net_routes.proofs.PlaceLemmas.{at_once, at_is, place_found, place_at}
 use Rattle.net_routes.proofs.ArcLemmas.{found}
 
@@ -24,9 +23,9 @@ use Rattle.net_routes.proofs.ArcLemmas.{found}
 empty_row : (rows : List (List Arc)) (place : ℕ) → All (λ (row : List Arc). row ≡ []) rows → get_or rows place [] ≡ []
 empty_row rows place none =
     ⊎_elim
-        (λ (lt : place < length rows). none place [] lt)
-        (λ (ge : length rows ≤ place). get_or_past rows place [] ge)
-        (cases_lt place (length rows))
+    (λ (lt : place < length rows). none place [] lt)
+    (λ (ge : length rows ≤ place). get_or_past rows place [] ge)
+    (cases_lt place (length rows))
 
 none_leaves : (rows : List (List Arc)) (place : ℕ) (x : Arc) → get_or rows place [] ≡ [] → Leaves rows place x → ⊥
 none_leaves rows place x e l =
@@ -38,8 +37,8 @@ pub net_none : (ids : List ℕ) (rows : List (List Arc)) → length rows ≡ len
 net_none ids rows size none = record {
   size = size;
   arcs = λ place x l. absurd (none_leaves rows place x (empty_row rows place none) l);
-  steps = λ s h. absurd (omega (arith, h.1))
-  }
+  steps = λ s h. absurd (omega (arith, h.1));
+}
 
 more : List (List Arc) → ℕ → Arc → List (List Arc)
 more rows place x = set rows place (get_or rows place [] ++ x ∷ [])
@@ -48,15 +47,15 @@ leaves_still : (rows : List (List Arc)) (place : ℕ) (x : Arc) (q : ℕ) (y : A
 unfolding more
 leaves_still rows place x q y lt l =
     ⊎_elim
-        (λ (same : q ≡ place).
-            let L : ℕ → Type 0 = λ p. Leaves rows p y in
-            let P : ℕ → Type 0 = λ p. Leaves (more rows place x) p y in
-            let R : List Arc → Type 0 = λ row. Contains row y in
-            subst P (sym same) (subst R (sym (get_or-set_same rows place (get_or rows place [] ++ x ∷ []) [] lt)) (Contains-append_left (get_or rows place []) (x ∷ []) y (subst L same l))))
-        (λ (other : q ≡ place → ⊥).
-            let R : List Arc → Type 0 = λ row. Contains row y in
-            subst R (sym (get_or-set_other rows place q (get_or rows place [] ++ x ∷ []) [] other)) l)
-        (cases_eq q place)
+    (λ (same : q ≡ place).
+    let L : ℕ → Type 0 = λ p. Leaves rows p y in
+    let P : ℕ → Type 0 = λ p. Leaves (more rows place x) p y in
+    let R : List Arc → Type 0 = λ row. Contains row y in
+    subst P (sym same) (subst R (sym (get_or-set_same rows place (get_or rows place [] ++ x ∷ []) [] lt)) (Contains-append_left (get_or rows place []) (x ∷ []) y (subst L same l))))
+    (λ (other : q ≡ place → ⊥).
+    let R : List Arc → Type 0 = λ row. Contains row y in
+    subst R (sym (get_or-set_other rows place q (get_or rows place [] ++ x ∷ []) [] other)) l)
+    (cases_eq q place)
 
 leaves_now : (rows : List (List Arc)) (place : ℕ) (x : Arc) → place < length rows → Leaves (more rows place x) place x
 unfolding more
@@ -68,18 +67,18 @@ leaves_cases : (rows : List (List Arc)) (place : ℕ) (x : Arc) (q : ℕ) (y : A
 unfolding more
 leaves_cases rows place x q y lt l =
     ⊎_elim
-        (λ (same : q ≡ place).
-            let L : ℕ → Type 0 = λ p. Leaves (more rows place x) p y in
-            let R : List Arc → Type 0 = λ row. Contains row y in
-            let here : Contains (get_or rows place [] ++ x ∷ []) y = subst R (get_or-set_same rows place (get_or rows place [] ++ x ∷ []) [] lt) (subst L same l) in
-            ⊎_elim
-                (λ (old : Contains (get_or rows place []) y). let P : ℕ → Type 0 = λ p. Leaves rows p y in inl (subst P (sym same) old))
-                (λ (now : x ≡ y). inr (same, now))
-                (Contains-push_cases (get_or rows place []) x y here))
-        (λ (other : q ≡ place → ⊥).
-            let R : List Arc → Type 0 = λ row. Contains row y in
-            inl (subst R (get_or-set_other rows place q (get_or rows place [] ++ x ∷ []) [] other) l))
-        (cases_eq q place)
+    (λ (same : q ≡ place).
+    let L : ℕ → Type 0 = λ p. Leaves (more rows place x) p y in
+    let R : List Arc → Type 0 = λ row. Contains row y in
+    let here : Contains (get_or rows place [] ++ x ∷ []) y = subst R (get_or-set_same rows place (get_or rows place [] ++ x ∷ []) [] lt) (subst L same l) in
+    ⊎_elim
+    (λ (old : Contains (get_or rows place []) y). let P : ℕ → Type 0 = λ p. Leaves rows p y in inl (subst P (sym same) old))
+    (λ (now : x ≡ y). inr (same, now))
+    (Contains-push_cases (get_or rows place []) x y here))
+    (λ (other : q ≡ place → ⊥).
+    let R : List Arc → Type 0 = λ row. Contains row y in
+    inl (subst R (get_or-set_other rows place q (get_or rows place [] ++ x ∷ []) [] other) l))
+    (cases_eq q place)
 
 net_set : (ss : List Step) (ids : List ℕ) (rows : List (List Arc)) (s : Step) (place : ℕ) (x : Arc) → IsNet ss ids rows → IsArcOf ids place x s → IsNet (ss ++ s ∷ []) ids (more rows place x)
 unfolding more
@@ -88,16 +87,16 @@ net_set ss ids rows s place x net of =
     record {
       size = length-set rows place (get_or rows place [] ++ x ∷ []) ∙ net.size;
       arcs = λ q y l. ⊎_elim
-        (λ (old : Leaves rows q y). let w = net.arcs q y old in (w.0, Contains-append_left ss (s ∷ []) w.0 w.1, w.2))
-        (λ (now : (q ≡ place) × (x ≡ y)).
-            let P : ℕ → Type 0 = λ p. IsArcOf ids p y s in
-            let Q : Arc → Type 0 = λ z. IsArcOf ids place z s in
-            (s, Contains-push ss s, subst P (sym now.0) (subst Q now.1 of)))
-        (leaves_cases rows place x q y lt l);
+          (λ (old : Leaves rows q y). let w = net.arcs q y old in (w.0, Contains-append_left ss (s ∷ []) w.0 w.1, w.2))
+          (λ (now : (q ≡ place) × (x ≡ y)).
+          let P : ℕ → Type 0 = λ p. IsArcOf ids p y s in
+          let Q : Arc → Type 0 = λ z. IsArcOf ids place z s in
+          (s, Contains-push ss s, subst P (sym now.0) (subst Q now.1 of)))
+          (leaves_cases rows place x q y lt l);
       steps = λ t h. ⊎_elim
-        (λ (old : Contains ss t). let w = net.steps t old in (w.0, w.1, leaves_still rows place x w.0 w.1 lt w.2, w.3))
-        (λ (now : s ≡ t). let P : Step → Type 0 = λ z. IsArcOf ids place x z in (place, x, leaves_now rows place x lt, subst P now of))
-        (Contains-push_cases ss s t h)
+          (λ (old : Contains ss t). let w = net.steps t old in (w.0, w.1, leaves_still rows place x w.0 w.1 lt w.2, w.3))
+          (λ (now : s ≡ t). let P : Step → Type 0 = λ z. IsArcOf ids place x z in (place, x, leaves_now rows place x lt, subst P now of))
+          (Contains-push_cases ss s t h);
     }
 
 -- one step more
@@ -160,41 +159,41 @@ pub net_best : (ss : List Step) (ids : List ℕ) (rows : List (List Arc)) (short
     → IsBest (HasWay rows shortest start) (found costs) → IsBest (Goes ss shortest from) (cost_to ids costs)
 net_best ss ids rows shortest start from costs up net at k = record {
   goes = λ to c t.
-    let p = cost_or ids costs to c (place_of ids to) refl t in
-    let way = k.goes p.0 c p.2 in
-    let w = walk_of_path ss ids rows net start p.0 from way.path nothing at way.leads in
-    let there = place_at ids to p.0 p.1 in
-    let ends : w.0 ≡ to = at_is ids p.0 w.0 to w.2 there in
-    let L : ℕ → Type 0 = λ q. walks.Leads ss from q w.1 in
-    record {
-      walk = w.1;
-      leads = subst L ends w.3;
-      may = record {
-        some = omega (arith, w.4, way.may.some);
-        one = λ h. w.4 ∙ way.may.one (⊎_elim
-            (λ (e : shortest ≡ false). inl e)
-            (λ (e : from ≡ to). let T : ℕ → Type 0 = λ q. IsAt ids p.0 q in inr (at_once ids start p.0 from up at (subst T (sym e) there)))
-            h)
+      let p = cost_or ids costs to c (place_of ids to) refl t in
+      let way = k.goes p.0 c p.2 in
+      let w = walk_of_path ss ids rows net start p.0 from way.path nothing at way.leads in
+      let there = place_at ids to p.0 p.1 in
+      let ends : w.0 ≡ to = at_is ids p.0 w.0 to w.2 there in
+      let L : ℕ → Type 0 = λ q. walks.Leads ss from q w.1 in
+      record {
+        walk = w.1;
+        leads = subst L ends w.3;
+        may = record {
+          some = omega (arith, w.4, way.may.some);
+          one = λ h. w.4 ∙ way.may.one (⊎_elim
+              (λ (e : shortest ≡ false). inl e)
+              (λ (e : from ≡ to). let T : ℕ → Type 0 = λ q. IsAt ids p.0 q in inr (at_once ids start p.0 from up at (subst T (sym e) there)))
+              h);
         };
-      costs = w.5 ∙ way.costs
-    };
+        costs = w.5 ∙ way.costs;
+      };
   least = λ to c h.
-    let w = path_of_walk ss ids rows up net start from to h.walk nothing at h.leads in
-    let way : HasWay rows shortest start w.0 c = record {
-      path = w.1;
-      leads = w.3;
-      may = record {
-        some = omega (arith, w.4, h.may.some);
-        one = λ o. w.4 ∙ h.may.one (⊎_elim
-            (λ (e : shortest ≡ false). inl e)
-            (λ (e : start ≡ w.0). let T : ℕ → Type 0 = λ q. IsAt ids q to in inr (at_is ids start from to at (subst T (sym e) w.2)))
-            o)
+      let w = path_of_walk ss ids rows up net start from to h.walk nothing at h.leads in
+      let way : HasWay rows shortest start w.0 c = record {
+        path = w.1;
+        leads = w.3;
+        may = record {
+          some = omega (arith, w.4, h.may.some);
+          one = λ o. w.4 ∙ h.may.one (⊎_elim
+              (λ (e : shortest ≡ false). inl e)
+              (λ (e : start ≡ w.0). let T : ℕ → Type 0 = λ q. IsAt ids q to in inr (at_is ids start from to at (subst T (sym e) w.2)))
+              o);
         };
-      costs = w.5 ∙ h.costs
+        costs = w.5 ∙ h.costs;
       } in
-    let d = k.least w.0 c way in
-    (d.0, cost_found ids costs to w.0 (place_found ids w.0 to up w.2) ∙ d.1, d.2)
-  }
+      let d = k.least w.0 c way in
+      (d.0, cost_found ids costs to w.0 (place_found ids w.0 to up w.2) ∙ d.1, d.2);
+}
 
 no_walk : (ss : List Step) (ids : List ℕ) (rows : List (List Arc)) (up : IsStrictlyIncreasing ids) (from to : ℕ) (walk : List Step) → IsNet ss ids rows → place_of ids from ≡ None → 0 < length walk → walks.Leads ss from to walk → ⊥
 no_walk ss ids rows up from to [] net none some l = omega (arith, some)
@@ -210,5 +209,5 @@ no_walk ss ids rows up from to (s ∷ walk) net none some l =
 pub net_alone : (ss : List Step) (ids : List ℕ) (rows : List (List Arc)) (shortest : Bool) (from : ℕ) → IsStrictlyIncreasing ids → IsNet ss ids rows → place_of ids from ≡ None → IsBest (Goes ss shortest from) (cost_to ids [])
 net_alone ss ids rows shortest from up net none = record {
   goes = λ to c t. absurd (let p = cost_or ids [] to c (place_of ids to) refl t in none_some c p.2);
-  least = λ to c h. absurd (no_walk ss ids rows up from to h.walk net none h.may.some h.leads)
-  }
+  least = λ to c h. absurd (no_walk ss ids rows up from to h.walk net none h.may.some h.leads);
+}

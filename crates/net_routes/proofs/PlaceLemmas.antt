@@ -1,6 +1,6 @@
 -- ids in rising order, and their places
-use Rattle.std.proofs.Common.{◌≡◌, ℕ, ◌+◌, ◌<◌, ◌≤◌, Bool, true, false, cond, ◌==◌, nat_lt, List, length, get_or, Option, Some, None, Result, Ok, Err, refl, sym, ap, ◌∙◌, subst, ⊎_elim, arith}
-use Rattle.std.specs.Prelude.{Contains, position, MatchResult}
+use Rattle.std.proofs.Common.{◌≡◌, ℕ, ◌<◌, ◌≤◌, true, false, cond, ◌==◌, nat_lt, List, length, get_or, Option, Some, None, Result, Ok, Err, refl, sym, ◌∙◌, subst, ⊎_elim, arith}
+use Rattle.std.specs.Prelude.{Contains}
 use Rattle.std.specs.List.{position_or_len}
 use Rattle.std.specs.List.Sorted.{IsStrictlyIncreasing, IsBinarySearchResult}
 use Rattle.std.specs.Result.{result_ok}
@@ -23,12 +23,12 @@ at_rises ids i j x y up a b lt = omega (arith, AllPairs-from_increasing ids up i
 pub at_once : (ids : List ℕ) (i j x : ℕ) → IsStrictlyIncreasing ids → IsAt ids i x → IsAt ids j x → i ≡ j
 at_once ids i j x up a b =
     ⊎_elim
-        (λ (lt : i < j). absurd (omega (arith, at_rises ids i j x x up a b lt)))
-        (λ (ge : j ≤ i). ⊎_elim
-            (λ (lt : j < i). absurd (omega (arith, at_rises ids j i x x up b a lt)))
-            (λ (le : i ≤ j). omega (arith, le, ge))
-            (cases_lt j i))
-        (cases_lt i j)
+    (λ (lt : i < j). absurd (omega (arith, at_rises ids i j x x up a b lt)))
+    (λ (ge : j ≤ i). ⊎_elim
+    (λ (lt : j < i). absurd (omega (arith, at_rises ids j i x x up b a lt)))
+    (λ (le : i ≤ j). omega (arith, le, ge))
+    (cases_lt j i))
+    (cases_lt i j)
 
 -- and a place has one id
 pub at_is : (ids : List ℕ) (i x y : ℕ) → IsAt ids i x → IsAt ids i y → x ≡ y
@@ -86,12 +86,12 @@ place_there ids id up h = place_or ids id (place_of ids id) refl up h
 rises : (ids : List ℕ) → IsStrictlyIncreasing ids → (i j : ℕ) → i ≤ j → j < length ids → get_or ids i 0 ≤ get_or ids j 0
 rises ids up i j le within =
     ⊎_elim
-        (λ (lt : i < j). omega (arith, AllPairs-from_increasing ids up i j 0 lt within))
-        (λ (ge : j ≤ i).
-            let same : i ≡ j = omega (arith, le, ge) in
-            let P : ℕ → Type 0 = λ q. get_or ids i 0 ≤ get_or ids q 0 in
-            subst P same (omega arith))
-        (cases_lt i j)
+    (λ (lt : i < j). omega (arith, AllPairs-from_increasing ids up i j 0 lt within))
+    (λ (ge : j ≤ i).
+    let same : i ≡ j = omega (arith, le, ge) in
+    let P : ℕ → Type 0 = λ q. get_or ids i 0 ≤ get_or ids q 0 in
+    subst P same (omega arith))
+    (cases_lt i j)
 
 -- what a search by halves finds
 pub searched_place : (ids : List ℕ) (id : ℕ) (r : Result ℕ ℕ) → IsStrictlyIncreasing ids → IsBinarySearchResult (λ y. nat_cmp y id) ids r → result_ok r ≡ place_of ids id
@@ -101,6 +101,6 @@ searched_place ids id (Ok i) up h =
 searched_place ids id (Err i) up h =
     let s = searched ids id (Err i) h (rises ids up) in
     sym (place_missing ids id (λ k a. ⊎_elim
-        (λ (lt : k < i). absurd (omega (arith, s.1 k lt, a.is)))
-        (λ (ge : i ≤ k). absurd (omega (arith, s.2 k ge a.within, a.is)))
-        (cases_lt k i)))
+    (λ (lt : k < i). absurd (omega (arith, s.1 k lt, a.is)))
+    (λ (ge : i ≤ k). absurd (omega (arith, s.2 k ge a.within, a.is)))
+    (cases_lt k i)))

@@ -1,6 +1,6 @@
 -- from what was found to routes
 use Rattle.std.proofs.Common.{◌≡◌, ℕ, ◌+◌, ◌<◌, ◌≤◌, Bool, true, List, [], ◌∷◌, ◌++◌, length, get_or, Option, Some, None, refl, sym, ap, ◌∙◌, subst, inl, inr, ⊎_elim, arith}
-use Rattle.std.specs.Prelude.{Contains, IsSome, IsSomeAnd, is_some, slice_get, option_and_then, ◌⊎◌, ◌↔◌}
+use Rattle.std.specs.Prelude.{Contains, IsSome, IsSomeAnd, is_some, slice_get, option_and_then, ◌↔◌}
 use Rattle.std.specs.List.Sorted.{IsStrictlyIncreasing}
 use Rattle.std.proofs.lemmas.Bool.{cases_lt}
 use Rattle.std.proofs.lemmas.List.{get_or_append_left, get_or_push}
@@ -14,7 +14,7 @@ use Rattle.net_routes.specs.Path.{IsBest}
 use Rattle.net_routes.specs.declared.error.RouteError.{RouteError}
 use Rattle.net_routes.specs.declared.error.RouteError.TheVariants as errors
 use Rattle.net_routes.specs.Lines.{IsLine, IsFirstLack, NamesLack}
-use Rattle.net_routes.specs.Routes.{route_at, LacksRoute, IsLeastLack, IsRefusal}
+use Rattle.net_routes.specs.Routes.{route_at, IsLeastLack, IsRefusal}
 use Rattle.net_routes.proofs.ListLemmas.{some_same}
 use Rattle.net_routes.proofs.PlaceLemmas.{at_rises, at_is, at_contains, contains_at, place_found}
 
@@ -30,10 +30,10 @@ is_route : (g : Graph) (shortest : Bool) (a b : ℕ) (found : ℕ → Option Cos
 is_route g shortest a b found c k e = record {
   goes = k.goes b c e;
   best = λ d h.
-    let w = k.least b d h in
-    let P : Cost → Type 0 = λ q. IsAsGood q d in
-    subst P (some_same w.0 c (sym w.1 ∙ e)) w.2
-  }
+      let w = k.least b d h in
+      let P : Cost → Type 0 = λ q. IsAsGood q d in
+      subst P (some_same w.0 c (sym w.1 ∙ e)) w.2;
+}
 
 pub routes_from : (g : Graph) (shortest : Bool) (nodes stops : List ℕ) (from : ℕ) (found : ℕ → Option Cost) (line : List Cost) → IsBest (Goes (steps g) shortest from) found → IsLine nodes stops from found line → HasRoutesFrom g shortest nodes stops from line
 routes_from g shortest nodes stops from found line k is i to at need =
@@ -44,17 +44,17 @@ pub routes_more : (g : Graph) (shortest : Bool) (nodes stops : List ℕ) (lines 
     → HasRoutesBelow i g shortest nodes stops lines → HasRoutesBelow (i + 1) g shortest nodes stops (lines ++ line ∷ [])
 routes_more g shortest nodes stops lines line i from size at is below k node lt there =
     ⊎_elim
-        (λ (before : k < i).
-            let P : List Cost → Type 0 = λ l. HasRoutesFrom g shortest nodes stops node l in
-            subst P (sym (get_or_append_left lines (line ∷ []) [] k (omega (arith, before, size)))) (below k node before there))
-        (λ (ge : i ≤ k).
-            let now : k ≡ i = omega (arith, lt, ge) in
-            let P : ℕ → Type 0 = λ p. IsAt stops p node in
-            let here : node ≡ from = at_is stops i node from (subst P now there) at in
-            let Q : List Cost → Type 0 = λ l. HasRoutesFrom g shortest nodes stops node l in
-            let R : ℕ → Type 0 = λ p. HasRoutesFrom g shortest nodes stops p line in
-            subst Q (sym (get_or_push lines line [] k (size ∙ sym now))) (subst R (sym here) is))
-        (cases_lt k i)
+    (λ (before : k < i).
+    let P : List Cost → Type 0 = λ l. HasRoutesFrom g shortest nodes stops node l in
+    subst P (sym (get_or_append_left lines (line ∷ []) [] k (omega (arith, before, size)))) (below k node before there))
+    (λ (ge : i ≤ k).
+    let now : k ≡ i = omega (arith, lt, ge) in
+    let P : ℕ → Type 0 = λ p. IsAt stops p node in
+    let here : node ≡ from = at_is stops i node from (subst P now there) at in
+    let Q : List Cost → Type 0 = λ l. HasRoutesFrom g shortest nodes stops node l in
+    let R : ℕ → Type 0 = λ p. HasRoutesFrom g shortest nodes stops p line in
+    subst Q (sym (get_or_push lines line [] k (size ∙ sym now))) (subst R (sym here) is))
+    (cases_lt k i)
 
 -- THE WHOLE
 
@@ -102,38 +102,41 @@ pub lack_least : (g : Graph) (shortest : Bool) (nodes stops : List ℕ) (lines :
 lack_least g shortest nodes stops lines i from to found up same at below k lack = record {
   lacks = record {
     needed = lack.needed;
-    none = λ c h. let w = k.least to c h in none_found w.0 (found to) lack.none w.1
-    };
+    none = λ c h. let w = k.least to c h in none_found w.0 (found to) lack.none w.1;
+  };
   least = λ p q other.
-    let a = at_contains stops p ((same p).1 (needed_from nodes p q other.needed)) in
-    let b = at_contains stops q ((same q).1 (needed_to nodes p q other.needed)) in
-    ⊎_elim
-        (λ (before : a.0 < i).
-            let w = below a.0 p before a.1 b.0 q b.1 other.needed in
-            absurd (other.none w.0 w.2.goes))
-        (λ (ge : i ≤ a.0). ⊎_elim
-            (λ (behind : i < a.0). inl (at_rises stops i a.0 from p up at a.1 behind))
-            (λ (le : a.0 ≤ i).
-                let here : a.0 ≡ i = omega (arith, le, ge) in
-                let A : ℕ → Type 0 = λ n. IsAt stops n p in
-                let starts : p ≡ from = at_is stops i p from (subst A here a.1) at in
-                inr (sym starts, ⊎_elim
-                    (λ (before : b.0 < lack.place).
-                        let N : ℕ → Type 0 = λ n. IsNeeded nodes n q in
-                        let there = false_some (found q) (lack.first b.0 q before b.1 (subst N starts other.needed)) in
-                        let G : ℕ → Type 0 = λ n. Goes (steps g) shortest n q there.0 in
-                        absurd (other.none there.0 (subst G (sym starts) (k.goes q there.0 there.1))))
-                    (λ (later : lack.place ≤ b.0). ⊎_elim
-                        (λ (behind : lack.place < b.0). omega (arith, at_rises stops lack.place b.0 to q up lack.at b.1 behind))
-                        (λ (not_behind : b.0 ≤ lack.place).
-                            let same_place : b.0 ≡ lack.place = omega (arith, later, not_behind) in
-                            let B : ℕ → Type 0 = λ n. IsAt stops n q in
-                            omega (arith, at_is stops lack.place q to (subst B same_place b.1) lack.at))
-                        (cases_lt lack.place b.0))
-                    (cases_lt b.0 lack.place)))
-            (cases_lt i a.0))
-        (cases_lt a.0 i)
-  }
+      let a = at_contains stops p ((same p).1 (needed_from nodes p q other.needed)) in
+      let b = at_contains stops q ((same q).1 (needed_to nodes p q other.needed)) in
+      ⊎_elim
+      (λ (before : a.0 < i).
+      let w = below a.0 p before a.1 b.0 q b.1 other.needed in
+      absurd (other.none w.0 w.2.goes))
+      (λ (ge : i ≤ a.0). ⊎_elim
+      (λ (behind : i < a.0). inl (at_rises stops i a.0 from p up at a.1 behind))
+      (λ (le : a.0 ≤ i).
+      let here : a.0 ≡ i = omega (arith, le, ge) in
+      let A : ℕ → Type 0 = λ n. IsAt stops n p in
+      let starts : p ≡ from = at_is stops i p from (subst A here a.1) at in
+      inr (
+        sym starts,
+        ⊎_elim
+            (λ (before : b.0 < lack.place).
+            let N : ℕ → Type 0 = λ n. IsNeeded nodes n q in
+            let there = false_some (found q) (lack.first b.0 q before b.1 (subst N starts other.needed)) in
+            let G : ℕ → Type 0 = λ n. Goes (steps g) shortest n q there.0 in
+            absurd (other.none there.0 (subst G (sym starts) (k.goes q there.0 there.1))))
+            (λ (later : lack.place ≤ b.0). ⊎_elim
+            (λ (behind : lack.place < b.0). omega (arith, at_rises stops lack.place b.0 to q up lack.at b.1 behind))
+            (λ (not_behind : b.0 ≤ lack.place).
+            let same_place : b.0 ≡ lack.place = omega (arith, later, not_behind) in
+            let B : ℕ → Type 0 = λ n. IsAt stops n q in
+            omega (arith, at_is stops lack.place q to (subst B same_place b.1) lack.at))
+            (cases_lt lack.place b.0))
+            (cases_lt b.0 lack.place),
+      ))
+      (cases_lt i a.0))
+      (cases_lt a.0 i);
+}
 
 -- the nodes of hosts, each once
 pub stops_of : (ids stops given nodes : List ℕ) → ids ≡ stops → given ≡ nodes → ((id : ℕ) → Contains stops id ↔ Contains given id) → (id : ℕ) → Contains ids id ↔ Contains nodes id

@@ -1,5 +1,5 @@
 -- how a search goes on
-use Rattle.std.proofs.Common.{◌≡◌, ◌≢◌, ℕ, zero, suc, ◌+◌, ◌*◌, ◌/◌, ◌<◌, ◌≤◌, Bool, true, false, cond, List, [], ◌∷◌, ◌++◌, length, get_or, set, fold, Option, Some, None, refl, sym, ap, ◌∙◌, subst, inl, inr, ⊎_elim, arith, length-set, replicate}
+use Rattle.std.proofs.Common.{◌≡◌, ℕ, zero, suc, ◌+◌, ◌*◌, ◌/◌, ◌<◌, ◌≤◌, true, false, cond, List, [], ◌∷◌, ◌++◌, length, get_or, set, fold, Option, Some, None, refl, sym, ap, ◌∙◌, subst, inl, inr, ⊎_elim, arith, length-set, replicate}
 use Rattle.std.specs.Prelude.{Contains, All, is_some, count_by, ◌⊎◌}
 use Rattle.std.specs.List.Sorted.{IsPermutation}
 use Rattle.std.proofs.lemmas.List.{get_or-set_same, get_or-set_other, get_or_past, get_or-replicate, length-replicate}
@@ -32,20 +32,20 @@ search_moved rows start best old new p q s = record {
   ordered = λ v c e t h. s.ordered v c e t (Contains-permutation new old e q h);
   closed = λ u c x t l. reached_moved best old new x.to (then_arc c x) p (s.closed u c x t l);
   source = reached_moved best old new start nothing p s.source;
-  bounded = λ e h. s.bounded e (Contains-permutation new old e q h)
-  }
+  bounded = λ e h. s.bounded e (Contains-permutation new old e q h);
+}
 
 -- an entry of a place that was left is passed over
 passed : (best : List (Option Cost)) (e : Entry) (rest : List Entry) (d : Cost) (v : ℕ) (c : Cost) → IsSettled best e.place d → IsAsGood d (cost_at e) → IsReached best (e ∷ rest) v c → IsReached best rest v c
 passed best e rest d v c t g (inl s) = inl s
 passed best e rest d v c t g (inr w) =
     ⊎_elim
-        (λ (is : e ≡ w.0).
-            let there : IsSettled best v d = let P : ℕ → Type 0 = λ p. IsSettled best p d in subst P (ap (λ (o : Entry). o.place) is ∙ w.2) t in
-            let good : IsAsGood d c = let P : Cost → Type 0 = λ k. IsAsGood d k in subst P (ap cost_at is ∙ w.3) g in
-            inl (d, there, good))
-        (λ (there : Contains rest w.0). inr (w.0, there, w.2, w.3))
-        (contains_cases e rest w.0 w.1)
+    (λ (is : e ≡ w.0).
+    let there : IsSettled best v d = let P : ℕ → Type 0 = λ p. IsSettled best p d in subst P (ap (λ (o : Entry). o.place) is ∙ w.2) t in
+    let good : IsAsGood d c = let P : Cost → Type 0 = λ k. IsAsGood d k in subst P (ap cost_at is ∙ w.3) g in
+    inl (d, there, good))
+    (λ (there : Contains rest w.0). inr (w.0, there, w.2, w.3))
+    (contains_cases e rest w.0 w.1)
 
 pub search_passed : (rows : List (List Arc)) (start : ℕ) (best : List (Option Cost)) (e : Entry) (rest : List Entry) (d : Cost) → IsSettled best e.place d → IsSearch rows start best (e ∷ rest) → IsSearch rows start best rest
 search_passed rows start best e rest d t s =
@@ -57,7 +57,7 @@ search_passed rows start best e rest d t s =
       ordered = λ v c o u h. s.ordered v c o u (contains_cons e rest o h);
       closed = λ u c x w l. passed best e rest d x.to (then_arc c x) t g (s.closed u c x w l);
       source = passed best e rest d start nothing t g s.source;
-      bounded = λ o h. s.bounded o (contains_cons e rest o h)
+      bounded = λ o h. s.bounded o (contains_cons e rest o h);
     }
 
 -- LEAVING A PLACE
@@ -66,12 +66,12 @@ search_passed rows start best e rest d t s =
 pub settled_cases : (best : List (Option Cost)) (v : ℕ) (c : Cost) (u : ℕ) (d : Cost) → v < length best → IsSettled (set best v (Some c)) u d → ((u ≡ v) × (c ≡ d)) ⊎ IsSettled best u d
 settled_cases best v c u d lt t =
     ⊎_elim
-        (λ (same : u ≡ v).
-            let P : ℕ → Type 0 = λ p. get_or (set best v (Some c)) p None ≡ Some d in
-            let there : get_or (set best v (Some c)) v None ≡ Some d = subst P same t in
-            inl (same, some_same c d (sym (get_or-set_same best v (Some c) None lt) ∙ there)))
-        (λ (other : u ≡ v → ⊥). inr (sym (get_or-set_other best v u (Some c) None other) ∙ t))
-        (cases_eq u v)
+    (λ (same : u ≡ v).
+    let P : ℕ → Type 0 = λ p. get_or (set best v (Some c)) p None ≡ Some d in
+    let there : get_or (set best v (Some c)) v None ≡ Some d = subst P same t in
+    inl (same, some_same c d (sym (get_or-set_same best v (Some c) None lt) ∙ there)))
+    (λ (other : u ≡ v → ⊥). inr (sym (get_or-set_other best v u (Some c) None other) ∙ t))
+    (cases_eq u v)
 
 settled_now : (best : List (Option Cost)) (v : ℕ) (c : Cost) → v < length best → IsSettled (set best v (Some c)) v c
 settled_now best v c lt = get_or-set_same best v (Some c) None lt
@@ -79,12 +79,12 @@ settled_now best v c lt = get_or-set_same best v (Some c) None lt
 settled_still : (best : List (Option Cost)) (v : ℕ) (c : Cost) (u : ℕ) (d : Cost) → get_or best v None ≡ None → IsSettled best u d → IsSettled (set best v (Some c)) u d
 settled_still best v c u d open_ t =
     ⊎_elim
-        (λ (same : u ≡ v).
-            let P : ℕ → Type 0 = λ p. get_or best p None ≡ Some d in
-            let there : get_or best v None ≡ Some d = subst P same t in
-            absurd (let none : ⊥ = cc in none))
-        (λ (other : u ≡ v → ⊥). get_or-set_other best v u (Some c) None other ∙ t)
-        (cases_eq u v)
+    (λ (same : u ≡ v).
+    let P : ℕ → Type 0 = λ p. get_or best p None ≡ Some d in
+    let there : get_or best v None ≡ Some d = subst P same t in
+    absurd (let none : ⊥ = cc in none))
+    (λ (other : u ≡ v → ⊥). get_or-set_other best v u (Some c) None other ∙ t)
+    (cases_eq u v)
 
 -- what was reached is still reached
 reached_still : (best : List (Option Cost)) (e : Entry) (rest new : List Entry) (arcs : List Arc) (v : ℕ) (c : Cost)
@@ -93,13 +93,13 @@ reached_still : (best : List (Option Cost)) (e : Entry) (rest new : List Entry) 
 reached_still best e rest new arcs v c none lt adds (inl s) = inl (s.0, settled_still best e.place (cost_at e) v s.0 none s.1, s.2)
 reached_still best e rest new arcs v c none lt adds (inr w) =
     ⊎_elim
-        (λ (is : e ≡ w.0).
-            let here : e.place ≡ v = ap (λ (o : Entry). o.place) is ∙ w.2 in
-            let P : ℕ → Type 0 = λ p. IsSettled (set best e.place (Some (cost_at e))) p (cost_at e) in
-            let Q : Cost → Type 0 = λ k. IsAsGood (cost_at e) k in
-            inl (cost_at e, subst P here (settled_now best e.place (cost_at e) lt), subst Q (ap cost_at is ∙ w.3) (good_refl (cost_at e))))
-        (λ (there : Contains rest w.0). inr (w.0, adds.kept w.0 there, w.2, w.3))
-        (contains_cases e rest w.0 w.1)
+    (λ (is : e ≡ w.0).
+    let here : e.place ≡ v = ap (λ (o : Entry). o.place) is ∙ w.2 in
+    let P : ℕ → Type 0 = λ p. IsSettled (set best e.place (Some (cost_at e))) p (cost_at e) in
+    let Q : Cost → Type 0 = λ k. IsAsGood (cost_at e) k in
+    inl (cost_at e, subst P here (settled_now best e.place (cost_at e) lt), subst Q (ap cost_at is ∙ w.3) (good_refl (cost_at e))))
+    (λ (there : Contains rest w.0). inr (w.0, adds.kept w.0 there, w.2, w.3))
+    (contains_cases e rest w.0 w.1)
 
 count_more : (best : List (Option Cost)) (v : ℕ) (c : Cost) → v < length best → get_or best v None ≡ None → count_by is_some (set best v (Some c)) ≡ count_by is_some best + 1
 count_more best v c lt none =
@@ -123,59 +123,63 @@ search_left rows start best e rest new are none first adds s =
     record {
       size = length-set best e.place (Some (cost_at e)) ∙ s.size;
       settled = λ v c t. ⊎_elim
-        (λ (now : (v ≡ e.place) × (cost_at e ≡ c)).
-            let P : ℕ → Type 0 = λ p. HasPath rows start p c in
-            let Q : Cost → Type 0 = λ k. HasPath rows start e.place k in
-            subst P (sym now.0) (subst Q now.1 (s.waits e head).1))
-        (λ (old : IsSettled best v c). s.settled v c old)
-        (settled_cases best e.place (cost_at e) v c lt t);
+          (λ (now : (v ≡ e.place) × (cost_at e ≡ c)).
+          let P : ℕ → Type 0 = λ p. HasPath rows start p c in
+          let Q : Cost → Type 0 = λ k. HasPath rows start e.place k in
+          subst P (sym now.0) (subst Q now.1 (s.waits e head).1))
+          (λ (old : IsSettled best v c). s.settled v c old)
+          (settled_cases best e.place (cost_at e) v c lt t);
       waits = λ o h. ⊎_elim
-        (λ (old : Contains rest o). s.waits o (contains_cons e rest o old))
-        (λ (w : (x : Arc) × Contains (get_or rows e.place []) x × (o.place ≡ x.to) × (cost_at o ≡ then_arc (cost_at e) x)).
-            let P : ℕ → Type 0 = λ p. (p < length rows) × HasPath rows start p (cost_at o) in
-            let Q : Cost → Type 0 = λ k. HasPath rows start w.0.to k in
-            subst P (sym w.2) ((are e.place w.0 w.1).ends, subst Q (sym w.3) (path_more rows start e.place (cost_at e) w.0 (s.waits e head).1 w.1)))
-        (adds.only o h);
+          (λ (old : Contains rest o). s.waits o (contains_cons e rest o old))
+          (λ (w : (x : Arc) × Contains (get_or rows e.place []) x × (o.place ≡ x.to) × (cost_at o ≡ then_arc (cost_at e) x)).
+          let P : ℕ → Type 0 = λ p. (p < length rows) × HasPath rows start p (cost_at o) in
+          let Q : Cost → Type 0 = λ k. HasPath rows start w.0.to k in
+          subst P (sym w.2) ((are e.place w.0 w.1).ends, subst Q (sym w.3) (path_more rows start e.place (cost_at e) w.0 (s.waits e head).1 w.1)))
+          (adds.only o h);
       ordered = λ v c o t h. ⊎_elim
-        (λ (now : (v ≡ e.place) × (cost_at e ≡ c)).
-            let P : Cost → Type 0 = λ k. IsAsGood k (cost_at o) in
-            subst P now.1 (⊎_elim
-                (λ (old : Contains rest o). first o old)
-                (λ (w : (x : Arc) × Contains (get_or rows e.place []) x × (o.place ≡ x.to) × (cost_at o ≡ then_arc (cost_at e) x)).
-                    let Q : Cost → Type 0 = λ k. IsAsGood (cost_at e) k in subst Q (sym w.3) (arc_good w.0 w.1))
-                (adds.only o h)))
-        (λ (was : IsSettled best v c). ⊎_elim
-            (λ (old : Contains rest o). s.ordered v c o was (contains_cons e rest o old))
-            (λ (w : (x : Arc) × Contains (get_or rows e.place []) x × (o.place ≡ x.to) × (cost_at o ≡ then_arc (cost_at e) x)).
-                let Q : Cost → Type 0 = λ k. IsAsGood c k in
-                subst Q (sym w.3) (good_trans c (cost_at e) (then_arc (cost_at e) w.0) (s.ordered v c e was head) (arc_good w.0 w.1)))
-            (adds.only o h))
-        (settled_cases best e.place (cost_at e) v c lt t);
+          (λ (now : (v ≡ e.place) × (cost_at e ≡ c)).
+          let P : Cost → Type 0 = λ k. IsAsGood k (cost_at o) in
+          subst P now.1 (⊎_elim
+          (λ (old : Contains rest o). first o old)
+          (λ (w : (x : Arc) × Contains (get_or rows e.place []) x × (o.place ≡ x.to) × (cost_at o ≡ then_arc (cost_at e) x)).
+          let Q : Cost → Type 0 = λ k. IsAsGood (cost_at e) k in subst Q (sym w.3) (arc_good w.0 w.1))
+          (adds.only o h)))
+          (λ (was : IsSettled best v c). ⊎_elim
+          (λ (old : Contains rest o). s.ordered v c o was (contains_cons e rest o old))
+          (λ (w : (x : Arc) × Contains (get_or rows e.place []) x × (o.place ≡ x.to) × (cost_at o ≡ then_arc (cost_at e) x)).
+          let Q : Cost → Type 0 = λ k. IsAsGood c k in
+          subst Q (sym w.3) (good_trans c (cost_at e) (then_arc (cost_at e) w.0) (s.ordered v c e was head) (arc_good w.0 w.1)))
+          (adds.only o h))
+          (settled_cases best e.place (cost_at e) v c lt t);
       closed = λ u c x t l. ⊎_elim
-        (λ (now : (u ≡ e.place) × (cost_at e ≡ c)).
-            let P : Cost → Type 0 = λ k. IsReached b new x.to (then_arc k x) in
-            let there : Leaves rows e.place x = (let L : ℕ → Type 0 = λ p. Leaves rows p x in subst L now.0 l) in
-            subst P now.1 (⊎_elim
-                (λ (w : (d : Cost) × IsSettled b x.to d). inl (w.0, w.1, ⊎_elim
-                    (λ (here : (x.to ≡ e.place) × (cost_at e ≡ w.0)). let Q : Cost → Type 0 = λ k. IsAsGood k (then_arc (cost_at e) x) in subst Q here.1 (arc_good x there))
-                    (λ (was : IsSettled best x.to w.0). good_trans w.0 (cost_at e) (then_arc (cost_at e) x) (s.ordered x.to w.0 e was head) (arc_good x there))
-                    (settled_cases best e.place (cost_at e) x.to w.0 lt w.1)))
-                (λ (w : (o : Entry) × Contains new o × (o.place ≡ x.to) × (cost_at o ≡ then_arc (cost_at e) x)). inr w)
-                (adds.added x there)))
-        (λ (was : IsSettled best u c). reached_still best e rest new (get_or rows e.place []) x.to (then_arc c x) none lt adds (s.closed u c x was l))
-        (settled_cases best e.place (cost_at e) u c lt t);
+          (λ (now : (u ≡ e.place) × (cost_at e ≡ c)).
+          let P : Cost → Type 0 = λ k. IsReached b new x.to (then_arc k x) in
+          let there : Leaves rows e.place x = (let L : ℕ → Type 0 = λ p. Leaves rows p x in subst L now.0 l) in
+          subst P now.1 (⊎_elim
+          (λ (w : (d : Cost) × IsSettled b x.to d). inl (
+            w.0,
+            w.1,
+            ⊎_elim
+                (λ (here : (x.to ≡ e.place) × (cost_at e ≡ w.0)). let Q : Cost → Type 0 = λ k. IsAsGood k (then_arc (cost_at e) x) in subst Q here.1 (arc_good x there))
+                (λ (was : IsSettled best x.to w.0). good_trans w.0 (cost_at e) (then_arc (cost_at e) x) (s.ordered x.to w.0 e was head) (arc_good x there))
+                (settled_cases best e.place (cost_at e) x.to w.0 lt w.1),
+          ))
+          (λ (w : (o : Entry) × Contains new o × (o.place ≡ x.to) × (cost_at o ≡ then_arc (cost_at e) x)). inr w)
+          (adds.added x there)))
+          (λ (was : IsSettled best u c). reached_still best e rest new (get_or rows e.place []) x.to (then_arc c x) none lt adds (s.closed u c x was l))
+          (settled_cases best e.place (cost_at e) u c lt t);
       source = reached_still best e rest new (get_or rows e.place []) start nothing none lt adds s.source;
       bounded = λ o h. ⊎_elim
-        (λ (old : Contains rest o).
-            let was = s.bounded o (contains_cons e rest o old) in
-            (omega (arith, was.0, count_more best e.place (cost_at e) lt none), was.1))
-        (λ (w : (x : Arc) × Contains (get_or rows e.place []) x × (o.place ≡ x.to) × (cost_at o ≡ then_arc (cost_at e) x)).
-            let was = s.bounded e head in
-            let x = are e.place w.0 w.1 in
-            let latency : o.latency.0 ≡ e.latency.0 + w.0.cost.latency = ap (λ (k : Cost). k.latency) w.3 in
-            let reliability : o.reliability ≡ e.reliability * w.0.cost.reliability / 1000000000 = ap (λ (k : Cost). k.reliability) w.3 in
-            (omega (arith, was.0, latency, x.step.within, count_more best e.place (cost_at e) lt none), omega (arith, reliability, was.1, part_less e.reliability w.0.cost.reliability x.step.part)))
-        (adds.only o h)
+          (λ (old : Contains rest o).
+          let was = s.bounded o (contains_cons e rest o old) in
+          (omega (arith, was.0, count_more best e.place (cost_at e) lt none), was.1))
+          (λ (w : (x : Arc) × Contains (get_or rows e.place []) x × (o.place ≡ x.to) × (cost_at o ≡ then_arc (cost_at e) x)).
+          let was = s.bounded e head in
+          let x = are e.place w.0 w.1 in
+          let latency : o.latency.0 ≡ e.latency.0 + w.0.cost.latency = ap (λ (k : Cost). k.latency) w.3 in
+          let reliability : o.reliability ≡ e.reliability * w.0.cost.reliability / 1000000000 = ap (λ (k : Cost). k.reliability) w.3 in
+          (omega (arith, was.0, latency, x.step.within, count_more best e.place (cost_at e) lt none), omega (arith, reliability, was.1, part_less e.reliability w.0.cost.reliability x.step.part)))
+          (adds.only o h);
     }
 
 -- THE END
@@ -224,12 +228,12 @@ done_full rows start best waiting s full v c (inr w) =
 greatest_good : (e o : Entry) → lt_by_cmp entry_order e o ≡ false → IsAsGood (cost_at e) (cost_at o)
 greatest_good e o h =
     ⊎_elim
-        (λ (lt : e.latency.0 < o.latency.0). inl lt)
-        (λ (ge : o.latency.0 ≤ e.latency.0).
-            let same : e.latency.0 ≡ o.latency.0 = grind (arith, nat_tests, h) in
-            let more : o.reliability ≤ e.reliability = grind (arith, nat_tests, h, same) in
-            inr (same, more))
-        (cases_lt e.latency.0 o.latency.0)
+    (λ (lt : e.latency.0 < o.latency.0). inl lt)
+    (λ (ge : o.latency.0 ≤ e.latency.0).
+    let same : e.latency.0 ≡ o.latency.0 = grind (arith, nat_tests, h) in
+    let more : o.reliability ≤ e.reliability = grind (arith, nat_tests, h, same) in
+    inr (same, more))
+    (cases_lt e.latency.0 o.latency.0)
 
 pub first_of : (e : Entry) (others : List Entry) → IsUpperBound entry_order e others → IsFirst e others
 first_of e others h = λ o there. greatest_good e o (All-contains (λ (y : Entry). lt_by_cmp entry_order e y ≡ false) others o (All-from_recursion (λ (y : Entry). lt_by_cmp entry_order e y ≡ false) others h) there)
@@ -238,21 +242,21 @@ pub adds_none : (best : List (Option Cost)) (c : Cost) (waiting : List Entry) �
 adds_none best c waiting = record {
   kept = λ e h. h;
   added = λ x h. absurd (omega (arith, h.1));
-  only = λ e h. inl h
-  }
+  only = λ e h. inl h;
+}
 
 pub adds_passed : (best : List (Option Cost)) (c d : Cost) (arcs : List Arc) (x : Arc) (old new : List Entry) → IsSettled best x.to d → AddsArcs best c arcs old new → AddsArcs best c (arcs ++ x ∷ []) old new
 adds_passed best c d arcs x old new t a = record {
   kept = a.kept;
   added = λ y h. ⊎_elim
-    (λ (was : Contains arcs y). a.added y was)
-    (λ (now : x ≡ y). inl (d, (let P : Arc → Type 0 = λ z. IsSettled best z.to d in subst P now t)))
-    (Contains-push_cases arcs x y h);
+      (λ (was : Contains arcs y). a.added y was)
+      (λ (now : x ≡ y). inl (d, (let P : Arc → Type 0 = λ z. IsSettled best z.to d in subst P now t)))
+      (Contains-push_cases arcs x y h);
   only = λ e h. ⊎_elim
-    (λ (was : Contains old e). inl was)
-    (λ (w : (y : Arc) × Contains arcs y × (e.place ≡ y.to) × (cost_at e ≡ then_arc c y)). inr (w.0, Contains-append_left arcs (x ∷ []) w.0 w.1, w.2, w.3))
-    (a.only e h)
-  }
+      (λ (was : Contains old e). inl was)
+      (λ (w : (y : Arc) × Contains arcs y × (e.place ≡ y.to) × (cost_at e ≡ then_arc c y)). inr (w.0, Contains-append_left arcs (x ∷ []) w.0 w.1, w.2, w.3))
+      (a.only e h);
+}
 
 pub adds_pushed : (best : List (Option Cost)) (c : Cost) (arcs : List Arc) (x : Arc) (o : Entry) (old mid new : List Entry) → o.place ≡ x.to → cost_at o ≡ then_arc c x → IsPermutation (o ∷ mid) new
     → AddsArcs best c arcs old mid → AddsArcs best c (arcs ++ x ∷ []) old new
@@ -262,19 +266,19 @@ adds_pushed best c arcs x o old mid new place cost p a =
     record {
       kept = λ e h. Contains-permutation (o ∷ mid) new e p (contains_cons o mid e (a.kept e h));
       added = λ y h. ⊎_elim
-        (λ (was : Contains arcs y). ⊎_elim
-            (λ (t : (d : Cost) × IsSettled best y.to d). inl t)
-            (λ (w : (e : Entry) × Contains mid e × (e.place ≡ y.to) × (cost_at e ≡ then_arc c y)). inr (w.0, Contains-permutation (o ∷ mid) new w.0 p (contains_cons o mid w.0 w.1), w.2, w.3))
-            (a.added y was))
-        (λ (now : x ≡ y). inr (o, here, place ∙ ap (λ (z : Arc). z.to) now, cost ∙ ap (λ (z : Arc). then_arc c z) now))
-        (Contains-push_cases arcs x y h);
+          (λ (was : Contains arcs y). ⊎_elim
+          (λ (t : (d : Cost) × IsSettled best y.to d). inl t)
+          (λ (w : (e : Entry) × Contains mid e × (e.place ≡ y.to) × (cost_at e ≡ then_arc c y)). inr (w.0, Contains-permutation (o ∷ mid) new w.0 p (contains_cons o mid w.0 w.1), w.2, w.3))
+          (a.added y was))
+          (λ (now : x ≡ y). inr (o, here, place ∙ ap (λ (z : Arc). z.to) now, cost ∙ ap (λ (z : Arc). then_arc c z) now))
+          (Contains-push_cases arcs x y h);
       only = λ e h. ⊎_elim
-        (λ (is : o ≡ e). inr (x, Contains-push arcs x, (let P : Entry → Type 0 = λ z. z.place ≡ x.to in subst P is place), (let P : Entry → Type 0 = λ z. cost_at z ≡ then_arc c x in subst P is cost)))
-        (λ (there : Contains mid e). ⊎_elim
-            (λ (was : Contains old e). inl was)
-            (λ (w : (y : Arc) × Contains arcs y × (e.place ≡ y.to) × (cost_at e ≡ then_arc c y)). inr (w.0, Contains-append_left arcs (x ∷ []) w.0 w.1, w.2, w.3))
-            (a.only e there))
-        (contains_cases o mid e (Contains-permutation new (o ∷ mid) e q h))
+          (λ (is : o ≡ e). inr (x, Contains-push arcs x, (let P : Entry → Type 0 = λ z. z.place ≡ x.to in subst P is place), (let P : Entry → Type 0 = λ z. cost_at z ≡ then_arc c x in subst P is cost)))
+          (λ (there : Contains mid e). ⊎_elim
+          (λ (was : Contains old e). inl was)
+          (λ (w : (y : Arc) × Contains arcs y × (e.place ≡ y.to) × (cost_at e ≡ then_arc c y)). inr (w.0, Contains-append_left arcs (x ∷ []) w.0 w.1, w.2, w.3))
+          (a.only e there))
+          (contains_cases o mid e (Contains-permutation new (o ∷ mid) e q h));
     }
 
 -- THE BEGINNING
@@ -305,18 +309,18 @@ search_begun rows start n e waiting size lt cost place p =
       size = length-replicate n nobody ∙ size;
       settled = λ v c t. absurd (none_settled n v c t);
       waits = λ o h.
-        let P : Entry → Type 0 = λ z. (z.place < length rows) × HasPath rows start z.place (cost_at z) in
-        let Q : ℕ → Type 0 = λ v. (v < length rows) × HasPath rows start v (cost_at e) in
-        let R : Cost → Type 0 = λ c. HasPath rows start start c in
-        subst P (only o h) (subst Q (sym place) (lt, subst R (sym cost) whole));
+          let P : Entry → Type 0 = λ z. (z.place < length rows) × HasPath rows start z.place (cost_at z) in
+          let Q : ℕ → Type 0 = λ v. (v < length rows) × HasPath rows start v (cost_at e) in
+          let R : Cost → Type 0 = λ c. HasPath rows start start c in
+          subst P (only o h) (subst Q (sym place) (lt, subst R (sym cost) whole));
       ordered = λ v c o t h. absurd (none_settled n v c t);
       closed = λ u c x t l. absurd (none_settled n u c t);
       source = inr (e, Contains-permutation (e ∷ []) waiting e p (contains_head e []), place, cost);
       bounded = λ o h.
-        let P : Entry → Type 0 = λ z. (z.latency.0 ≤ count_by is_some (replicate n nobody) * 3600000000000) × (z.reliability ≤ 1000000000) in
-        let latency : e.latency.0 ≡ 0 = ap (λ (c : Cost). c.latency) cost in
-        let reliability : e.reliability ≡ 1000000000 = ap (λ (c : Cost). c.reliability) cost in
-        subst P (only o h) (omega (arith, latency), omega (arith, reliability))
+          let P : Entry → Type 0 = λ z. (z.latency.0 ≤ count_by is_some (replicate n nobody) * 3600000000000) × (z.reliability ≤ 1000000000) in
+          let latency : e.latency.0 ≡ 0 = ap (λ (c : Cost). c.latency) cost in
+          let reliability : e.reliability ≡ 1000000000 = ap (λ (c : Cost). c.reliability) cost in
+          subst P (only o h) (omega (arith, latency), omega (arith, reliability));
     }
 
 -- WHAT A TEST SAYS
@@ -366,7 +370,7 @@ next_place rows start seen e rest next =
     record {
       within = (s.waits e (contains_head e rest)).0;
       soon = omega (arith, bound.0, count_by-le-length is_some seen, s.size);
-      part = bound.1
+      part = bound.1;
     }
 
 pub row_arcs : (rows : List (List Arc)) (place n : ℕ) (row : List Arc) → AreArcs rows → n ≡ length rows → row ≡ get_or rows place [] → All (IsArc n) row

@@ -1,11 +1,10 @@
 -- the steps of a graph
-use Rattle.std.proofs.Common.{◌≡◌, ℕ, ◌+◌, ◌*◌, ◌<◌, ◌≤◌, Bool, true, false, List, [], ◌∷◌, ◌++◌, length, get_or, take, refl, sym, ap, ◌∙◌, subst, ⊎_elim, arith, length-append}
+use Rattle.std.proofs.Common.{◌≡◌, ℕ, ◌+◌, ◌*◌, ◌<◌, ◌≤◌, Bool, true, false, List, [], ◌∷◌, ◌++◌, length, get_or, take, sym, ap, ◌∙◌, subst, ⊎_elim, arith, length-append}
 use Rattle.std.specs.Prelude.{Contains, All, flat_map}
 use Rattle.std.proofs.lemmas.List.{flat_map_more, take_more, length_push}
 use Rattle.std.proofs.lemmas.List.Elements.{All-head, All-tail, All-more, All-weaker, Contains-push, Contains-append_left, Contains-append_cases}
 use Rattle.gml_graph.specs.declared.graph.Edge.{Edge}
 use Rattle.gml_graph.specs.Edges.{IsEdge, AreEdges}
-use Rattle.net_routes.specs.declared.cost.Cost.{Cost}
 use Rattle.net_routes.specs.declared.step.Step.{Step}
 use Rattle.net_routes.specs.Cost.{IsStepCost}
 use Rattle.net_routes.specs.Walk.{along, against, ways, AreSteps}
@@ -32,32 +31,32 @@ ways_each : (directed : Bool) (e : Edge) (s : Step) → IsEdge e → Contains (w
 ways_each true e s k h =
     let P : Step → Type 0 = λ o. IsStepCost o.cost in
     ⊎_elim
-        (λ (is : along e ≡ s). subst P is (edge_cost e k))
-        (λ (there : Contains [] s). absurd (omega (arith, there.1)))
-        (contains_cases (along e) [] s h)
+    (λ (is : along e ≡ s). subst P is (edge_cost e k))
+    (λ (there : Contains [] s). absurd (omega (arith, there.1)))
+    (contains_cases (along e) [] s h)
 ways_each false e s k h =
     let P : Step → Type 0 = λ o. IsStepCost o.cost in
     ⊎_elim
-        (λ (is : along e ≡ s). subst P is (edge_cost e k))
-        (λ (there : Contains (against e ∷ []) s). ⊎_elim
-            (λ (is : against e ≡ s). subst P is (edge_cost e k))
-            (λ (none : Contains [] s). absurd (omega (arith, none.1)))
-            (contains_cases (against e) [] s there))
-        (contains_cases (along e) (against e ∷ []) s h)
+    (λ (is : along e ≡ s). subst P is (edge_cost e k))
+    (λ (there : Contains (against e ∷ []) s). ⊎_elim
+    (λ (is : against e ≡ s). subst P is (edge_cost e k))
+    (λ (none : Contains [] s). absurd (omega (arith, none.1)))
+    (contains_cases (against e) [] s there))
+    (contains_cases (along e) (against e ∷ []) s h)
 
 steps_each : (directed : Bool) (es : List Edge) → All IsEdge es → (s : Step) → Contains (flat_map (ways directed) es) s → IsStepCost s.cost
 steps_each directed [] all s h = absurd (omega (arith, h.1))
 steps_each directed (e ∷ es) all s h =
     ⊎_elim
-        (λ (here : Contains (ways directed e) s). ways_each directed e s (All-head IsEdge e es all) here)
-        (λ (there : Contains (flat_map (ways directed) es) s). steps_each directed es (All-tail IsEdge e es all) s there)
-        (Contains-append_cases (ways directed e) (flat_map (ways directed) es) s h)
+    (λ (here : Contains (ways directed e) s). ways_each directed e s (All-head IsEdge e es all) here)
+    (λ (there : Contains (flat_map (ways directed) es) s). steps_each directed es (All-tail IsEdge e es all) s there)
+    (Contains-append_cases (ways directed e) (flat_map (ways directed) es) s h)
 
 pub steps_sound : (directed : Bool) (es : List Edge) → AreEdges es → AreSteps (flat_map (ways directed) es)
 steps_sound directed es all = record {
   few = omega (arith, all.few, length_steps directed es);
-  each = steps_each directed es all.each
-  }
+  each = steps_each directed es all.each;
+}
 
 -- THE ENDS OF STEPS
 
@@ -65,9 +64,10 @@ abbrev pub HasEnds : List ℕ → Step → Type 0
 HasEnds ends s = Contains ends s.from × Contains ends s.to
 
 ends_still : (ends : List ℕ) (x y : ℕ) (s : Step) → HasEnds ends s → HasEnds ((ends ++ x ∷ []) ++ y ∷ []) s
-ends_still ends x y s h =
-    (Contains-append_left (ends ++ x ∷ []) (y ∷ []) s.from (Contains-append_left ends (x ∷ []) s.from h.0),
-     Contains-append_left (ends ++ x ∷ []) (y ∷ []) s.to (Contains-append_left ends (x ∷ []) s.to h.1))
+ends_still ends x y s h = (
+  Contains-append_left (ends ++ x ∷ []) (y ∷ []) s.from (Contains-append_left ends (x ∷ []) s.from h.0),
+  Contains-append_left (ends ++ x ∷ []) (y ∷ []) s.to (Contains-append_left ends (x ∷ []) s.to h.1),
+)
 
 ends_now : (ends : List ℕ) (s : Step) → HasEnds ((ends ++ s.from ∷ []) ++ s.to ∷ []) s
 ends_now ends s =

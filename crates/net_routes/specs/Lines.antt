@@ -1,5 +1,5 @@
 -- The costs of the routes from a node, one for each node of a host.
-use Rattle.std.specs.Prelude.{◌≡◌, ℕ, ◌<◌, List, Option, Some, None, slice_get, slice_index, IsSome}
+use Rattle.std.specs.Prelude.{◌≡◌, ℕ, ◌<◌, List, Option, Some, None, slice_get, IsSome}
 use Rattle.net_routes.specs.declared.cost.Cost.{Cost}
 use Rattle.net_routes.specs.declared.error.RouteError.{RouteError}
 use Rattle.net_routes.specs.declared.error.RouteError.TheVariants as errors

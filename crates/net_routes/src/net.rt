@@ -123,7 +123,7 @@ impl Net {
         requires size { length self.now.rows.items ≡ length self.now.places }
         ensures { (steps : List Step) → IsNet steps self.now.places self.now.rows.items →
             IfOk result (λ costs. IsBest (Goes steps shortest node)
-                (cost_to self.now.places costs.items)) }
+            (cost_to self.now.places costs.items)) }
     {
         match self.places.find(node) {
             Some(start) => costs_of(alloc, &self.rows, start, shortest),

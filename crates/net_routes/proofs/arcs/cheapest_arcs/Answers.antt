@@ -1,4 +1,4 @@
-use Rattle.std.proofs.Common.{◌≡◌, ℕ, ◌+◌, ◌<◌, List, [], ◌∷◌, ◌++◌, length, take, get_or, set, Option, Some, None, ◌∙◌, ap, sym, subst, arith, length-set}
+use Rattle.std.proofs.Common.{◌≡◌, ◌+◌, ◌<◌, List, [], ◌∷◌, ◌++◌, length, take, get_or, set, Option, Some, None, ◌∙◌, ap, sym, subst, arith, length-set}
 use Rattle.std.specs.Prelude.{IfSome, ◌⊎◌}
 use Rattle.std.proofs.lemmas.List.{take_more, get_or_read}
 use Rattle.net_routes.specs.declared.cost.Cost.{Cost}
@@ -28,5 +28,5 @@ loop-arc-preserved c =
     let T : List Arc → Type 0 = λ t. IsBest (HasArc t) (found (set best x.to (Some now))) in
     record {
       size = length-set best x.to (Some now) ∙ c.loop-arc.invariant.size;
-      best = subst T (sym more) (arcs_more best (take i arcs) x now within (subst F alone (subst E known c.better_of-cost.ensures.either)) (subst K known c.better_of-cost.ensures.known) (subst G alone c.better_of-cost.ensures.cost) c.loop-arc.invariant.best)
+      best = subst T (sym more) (arcs_more best (take i arcs) x now within (subst F alone (subst E known c.better_of-cost.ensures.either)) (subst K known c.better_of-cost.ensures.known) (subst G alone c.better_of-cost.ensures.cost) c.loop-arc.invariant.best);
     }

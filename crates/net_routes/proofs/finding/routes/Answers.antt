@@ -1,5 +1,4 @@
-use Rattle.std.proofs.Common.{◌≡◌, ℕ, ◌+◌, ◌<◌, ◌≤◌, List, [], ◌∷◌, ◌++◌, length, get_or, Option, refl, ◌∙◌, ap, sym, subst, arith}
-use Rattle.std.specs.Prelude.{Contains, ◌↔◌}
+use Rattle.std.proofs.Common.{ℕ, ◌+◌, ◌<◌, ◌≤◌, List, length, get_or, Option, refl, ◌∙◌, ap, sym, subst, arith}
 use Rattle.std.proofs.lemmas.List.{length_push}
 use Rattle.std.proofs.lemmas.List.Elements.{Contains-get_or}
 use Rattle.std.proofs.lemmas.Result.{err_from_is_err_and}
@@ -62,7 +61,7 @@ loop-from-preserved c =
     let P : List (List Cost) → Type 0 = λ ls. HasRoutesBelow (i + 1) graph c.args.shortest nodes ids ls in
     record {
       size = ap (λ (ls : List (List Cost)). length ls) c.in_ok-push.ensures.items ∙ length_push lines line ∙ ap (λ (n : ℕ). n + 1) c.loop-from.invariant.size;
-      lines = subst P (sym c.in_ok-push.ensures.items) (routes_more graph c.args.shortest nodes ids lines line i from c.loop-from.invariant.size (record { within = lt; is = refl }) (routes_from graph c.args.shortest nodes ids from found line best c.in_ok-line.ensures.ok) c.loop-from.invariant.lines)
+      lines = subst P (sym c.in_ok-push.ensures.items) (routes_more graph c.args.shortest nodes ids lines line i from c.loop-from.invariant.size (record { within = lt; is = refl }) (routes_from graph c.args.shortest nodes ids from found line best c.in_ok-line.ensures.ok) c.loop-from.invariant.lines);
     }
 
 pub returns-clause-ok : goal.returns-clause-ok

@@ -1,7 +1,3 @@
-use Rattle.std.proofs.Common.{◌≡◌, ◌≤◌, Bool, true, false, leb, arith}
-use Rattle.std.specs.Prelude.{MatchBool}
-use Rattle.std.proofs.lemmas.Bool.Decides.{nat_tests}
-use Rattle.net_routes.specs.Needed.{IsNeeded}
 use Rattle.net_routes.proofs.LineLemmas.{needed_tested}
 use Rattle.net_routes.proofs.line.is_needed.Goals as goal
 

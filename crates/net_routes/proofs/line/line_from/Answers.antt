@@ -1,8 +1,7 @@
-use Rattle.std.proofs.Common.{◌≡◌, ℕ, ◌+◌, ◌<◌, List, [], ◌∷◌, ◌++◌, length, get_or, Option, refl, ◌∙◌, ap, sym, subst, arith}
+use Rattle.std.proofs.Common.{ℕ, ◌+◌, ◌<◌, List, length, get_or, Option, refl, ◌∙◌, ap, sym, subst, arith}
 use Rattle.std.proofs.lemmas.List.{length_push}
 use Rattle.std.proofs.lemmas.Result.{err_from_is_err_and}
 use Rattle.net_routes.specs.declared.cost.Cost.{Cost}
-use Rattle.net_routes.specs.Needed.{IsAt}
 use Rattle.net_routes.specs.Net.{cost_to}
 use Rattle.net_routes.proofs.LineLemmas.{IsLineBelow, line_more, names_lack}
 use Rattle.net_routes.proofs.line.line_from.Goals as goal
@@ -27,5 +26,5 @@ loop-to-preserved c =
     let P : List Cost → Type 0 = λ l. IsLineBelow (i + 1) nodes stops c.args.from found l in
     record {
       size = ap (λ (l : List Cost). length l) c.in_ok-push.ensures.items ∙ length_push line cost ∙ ap (λ (n : ℕ). n + 1) c.loop-to.invariant.size;
-      line = subst P (sym c.in_ok-push.ensures.items) (line_more nodes stops c.args.from found line i (get_or stops i 0) cost c.loop-to.invariant.size (record { within = lt; is = refl }) c.in_ok-needed_cost.ensures.ok c.loop-to.invariant.line)
+      line = subst P (sym c.in_ok-push.ensures.items) (line_more nodes stops c.args.from found line i (get_or stops i 0) cost c.loop-to.invariant.size (record { within = lt; is = refl }) c.in_ok-needed_cost.ensures.ok c.loop-to.invariant.line);
     }

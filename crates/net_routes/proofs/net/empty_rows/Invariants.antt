@@ -6,5 +6,5 @@ use Rattle.net_routes.proofs.net.empty_rows.Given as goal
 abbrev pub invariant-loop : goal.invariant-loop
 invariant-loop l = record {
   size : length l.rows.items ≡ l.counter;
-  empty : All (λ (row : List Arc). row ≡ []) l.rows.items
-  }
+  empty : All (λ (row : List Arc). row ≡ []) l.rows.items;
+}

@@ -1,4 +1,4 @@
-use Rattle.std.proofs.Common.{◌≡◌, ℕ, ◌+◌, ◌*◌, ◌<◌, List, [], ◌∷◌, ◌++◌, length, take, get_or, ◌∙◌, ap, sym, subst, arith}
+use Rattle.std.proofs.Common.{◌≡◌, ℕ, ◌<◌, List, [], ◌∷◌, ◌++◌, length, take, get_or, ◌∙◌, ap, subst, arith}
 use Rattle.std.specs.Prelude.{All}
 use Rattle.std.proofs.lemmas.List.{take_all}
 use Rattle.net_routes.specs.declared.step.Step.{Step}
@@ -16,7 +16,7 @@ loop-step-preserved c =
     let pushed : c.push-in-loop-step.new.self.items ≡ (old ++ s.from ∷ []) ++ s.to ∷ [] = c.in_ok-push-2.ensures.items ∙ ap (λ (xs : List ℕ). xs ++ s.to ∷ []) c.in_ok-push.ensures.items in
     record {
       size = ends_size old c.push-in-loop-step.new.self.items s i pushed c.loop-step.invariant.size;
-      ends = ends_more steps old c.push-in-loop-step.new.self.items i d lt pushed c.loop-step.invariant.ends
+      ends = ends_more steps old c.push-in-loop-step.new.self.items i d lt pushed c.loop-step.invariant.ends;
     }
 
 pub returns-clause-ends : goal.returns-clause-ends

@@ -1,4 +1,4 @@
-use Rattle.std.proofs.Common.{◌≡◌, ℕ, ◌+◌, ◌<◌, List, [], ◌∷◌, ◌++◌, length, take, get_or, Option, None, Bool, not, ◌∙◌, ap, sym, subst, arith}
+use Rattle.std.proofs.Common.{◌≡◌, ◌+◌, ◌<◌, List, [], ◌∷◌, ◌++◌, length, take, get_or, None, Bool, not, ◌∙◌, ap, sym, subst, arith}
 use Rattle.std.specs.BinaryHeap.{IsHeap, heap_items}
 use Rattle.std.proofs.lemmas.List.{take_more}
 use Rattle.net_routes.specs.declared.arc.Arc.{Arc}
@@ -24,17 +24,17 @@ loop-arc-preserved c =
     let A : List Entry → Type 0 = λ w. AddsArcs best c.args.cost (take i arcs ++ x ∷ []) old w in
     let T : List Arc → Type 0 = λ t. AddsArcs best c.args.cost t old now in
     elim c.if-is_none.branch [
-      then-is_none+in_ok-push w ↦
-        (let same : now ≡ heap_items w.push.new.self = ap heap_items w.waiting-is in
-        record {
-          heap = subst H (sym same) (λ h. w.in_ok-push.ensures.heap_order (c.loop-arc.invariant.heap h));
-          adds = subst T (sym more) (subst A (sym same) (adds_pushed best c.args.cost (take i arcs) x w.entry_at.result old before (heap_items w.push.new.self) w.entry_at.ensures.1 (w.entry_at.ensures.0 ∙ w.extended.ensures) w.in_ok-push.ensures.permutation c.loop-arc.invariant.adds))
-        })
+      | then-is_none+in_ok-push w ↦
+          (let same : now ≡ heap_items w.push.new.self = ap heap_items w.waiting-is in
+          record {
+            heap = subst H (sym same) (λ h. w.in_ok-push.ensures.heap_order (c.loop-arc.invariant.heap h));
+            adds = subst T (sym more) (subst A (sym same) (adds_pushed best c.args.cost (take i arcs) x w.entry_at.result old before (heap_items w.push.new.self) w.entry_at.ensures.1 (w.entry_at.ensures.0 ∙ w.extended.ensures) w.in_ok-push.ensures.permutation c.loop-arc.invariant.adds));
+          })
       | else-is_none w ↦
-        (let same : now ≡ before = ap heap_items w.waiting-is in
-        let known = settled_from (get_or best x.to None) (c.is_none.ensures ∙ ap (λ (b : Bool). not b) w.if-is_none.false) in
-        record {
-          heap = subst H (sym same) c.loop-arc.invariant.heap;
-          adds = subst T (sym more) (subst A (sym same) (adds_passed best c.args.cost known.0 (take i arcs) x old before known.1 c.loop-arc.invariant.adds))
-        })
+          (let same : now ≡ before = ap heap_items w.waiting-is in
+          let known = settled_from (get_or best x.to None) (c.is_none.ensures ∙ ap (λ (b : Bool). not b) w.if-is_none.false) in
+          record {
+            heap = subst H (sym same) c.loop-arc.invariant.heap;
+            adds = subst T (sym more) (subst A (sym same) (adds_passed best c.args.cost known.0 (take i arcs) x old before known.1 c.loop-arc.invariant.adds));
+          })
     ]

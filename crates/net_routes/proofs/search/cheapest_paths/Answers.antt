@@ -1,10 +1,9 @@
-use Rattle.std.proofs.Common.{◌≡◌, ℕ, ◌+◌, ◌*◌, ◌<◌, ◌≤◌, ◌^◌, List, [], ◌∷◌, length, get_or, set, replicate, Option, Some, None, ◌∙◌, ap, sym, refl, subst, arith, rules, length-set}
+use Rattle.std.proofs.Common.{◌≡◌, List, [], ◌∷◌, length, get_or, replicate, Option, Some, ◌∙◌, ap, sym, refl, subst, arith, rules, length-set}
 use Rattle.std.specs.Prelude.{is_some, count_by, IsPermutation}
 use Rattle.std.specs.BinaryHeap.{heap_items}
 use Rattle.std.proofs.lemmas.List.{get_or_read}
 use Rattle.std.proofs.lemmas.List.Elements.{Contains-get_or}
 use Rattle.net_routes.specs.declared.cost.Cost.{Cost}
-use Rattle.net_routes.specs.declared.arc.Arc.{Arc}
 use Rattle.net_routes.specs.declared.search.Entry.{Entry}
 use Rattle.net_routes.specs.Search.{IsSearch}
 use Rattle.net_routes.proofs.SearchLemmas.{nobody, none_counted, search_begun, search_step, left_counts, next_place, row_arcs, best_empty, best_full}
@@ -22,7 +21,7 @@ loop-init c =
     record {
       heap = c.in_ok-push.ensures.heap_order c.new-waiting.ensures.heap_order;
       search = subst B (sym items) (search_begun rows c.args.start (length rows) e waiting refl c.requires.start (c.entry_at.ensures.0 ∙ c.no_cost.ensures) c.entry_at.ensures.1 moved);
-      count = ap (λ (b : List (Option Cost)). count_by is_some b) items ∙ none_counted (length rows)
+      count = ap (λ (b : List (Option Cost)). count_by is_some b) items ∙ none_counted (length rows);
     }
 
 pub next_entry-requires-clause-places : goal.next_entry-requires-clause-places
@@ -36,7 +35,7 @@ returns-in_default-clause-best c =
     let rows = c.args.rows.now in
     let B : List (Option Cost) → Type 0 = λ b. IsSearch rows c.args.start b (heap_items c.loop.waiting) in
     best_empty rows c.args.start c.loop.best.items c.deref.result.now (heap_items c.next_entry.new.waiting) c.deref.ensures.value
-        (c.in_default.ensures.next rows c.args.start (subst B (sym c.deref.ensures.value) c.loop.invariant.search))
+    (c.in_default.ensures.next rows c.args.start (subst B (sym c.deref.ensures.value) c.loop.invariant.search))
 
 pub index_mut-requires : goal.index_mut-requires
 index_mut-requires c =
@@ -103,7 +102,7 @@ loop-preserved c =
     record {
       heap = c.in_ok-add_arcs.ensures.heap c.in-Some.ensures.heap;
       search = search_step rows c.args.start best c.deref.result.now c.deref-in-loop.result.now e rest (heap_items c.add_arcs.new.waiting) cost c.as_slice.result.now c.requires.arcs c.deref.ensures.value c.deref-in-loop.ensures.value c.cost_of-cost.ensures row next c.in_ok-add_arcs.ensures.adds;
-      count = omega (arith, left_counts rows c.args.start best c.deref.result.now e rest cost c.deref.ensures.value next, c.loop.invariant.count)
+      count = omega (arith, left_counts rows c.args.start best c.deref.result.now e rest cost c.deref.ensures.value next, c.loop.invariant.count);
     }
 
 pub returns-clause-best : goal.returns-clause-best

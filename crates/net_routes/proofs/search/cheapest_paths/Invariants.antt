@@ -8,5 +8,5 @@ abbrev pub invariant-loop : goal.invariant-loop
 invariant-loop l = record {
   heap : IsHeap entry_order (heap_items l.waiting);
   search : IsSearch l.rows l.start l.best.items (heap_items l.waiting);
-  count : count_by is_some l.best.items ≡ l.counter
-  }
+  count : count_by is_some l.best.items ≡ l.counter;
+}

@@ -1,5 +1,5 @@
-use Rattle.std.proofs.Common.{◌≡◌, ℕ, ◌<◌, List, [], ◌∷◌, length, get_or, Option, None, Bool, not, ◌∙◌, ap, sym, subst, arith}
-use Rattle.std.specs.Prelude.{All, IsPermutation}
+use Rattle.std.proofs.Common.{◌≡◌, ◌<◌, List, [], ◌∷◌, length, get_or, None, Bool, not, ◌∙◌, ap, sym, subst, arith}
+use Rattle.std.specs.Prelude.{IsPermutation}
 use Rattle.std.specs.BinaryHeap.{heap_items}
 use Rattle.std.proofs.lemmas.List.{nil_from_length}
 use Rattle.std.proofs.lemmas.List.Elements.{All-tail}
@@ -14,10 +14,11 @@ returns-then-is_none-clause-next c rows start s =
     let e = c.in-Some.entry in
     let old = heap_items c.loop-entry.waiting in
     let rest = heap_items c.pop.new.self in
-    let moved : IsPermutation old (e ∷ rest) = c.in-Some.ensures.permutation in
-    (search_moved rows start c.args.best.now old (e ∷ rest) moved (IsPermutation-sym old (e ∷ rest) moved) (c.loop-entry.invariant.goes_on rows start s),
-     first_of e rest (c.in-Some.ensures.below_top c.loop-entry.invariant.heap),
-     unsettled_from (get_or c.args.best.now e.place None) (c.is_none.ensures ∙ ap (λ (b : Bool). not b) c.if-is_none.true))
+    let moved : IsPermutation old (e ∷ rest) = c.in-Some.ensures.permutation in (
+      search_moved rows start c.args.best.now old (e ∷ rest) moved (IsPermutation-sym old (e ∷ rest) moved) (c.loop-entry.invariant.goes_on rows start s),
+      first_of e rest (c.in-Some.ensures.below_top c.loop-entry.invariant.heap),
+      unsettled_from (get_or c.args.best.now e.place None) (c.is_none.ensures ∙ ap (λ (b : Bool). not b) c.if-is_none.true),
+    )
 
 pub loop-entry-preserved : goal.loop-entry-preserved
 loop-entry-preserved c =
@@ -31,8 +32,8 @@ loop-entry-preserved c =
       heap = (c.in-Some.ensures.heap_order c.loop-entry.invariant.heap).0;
       places = All-tail Within e rest (All-permutation Within old (e ∷ rest) moved c.loop-entry.invariant.places);
       goes_on = λ rows start s.
-        search_passed rows start c.args.best.now e rest known.0 known.1
-            (search_moved rows start c.args.best.now old (e ∷ rest) moved (IsPermutation-sym old (e ∷ rest) moved) (c.loop-entry.invariant.goes_on rows start s))
+          search_passed rows start c.args.best.now e rest known.0 known.1
+          (search_moved rows start c.args.best.now old (e ∷ rest) moved (IsPermutation-sym old (e ∷ rest) moved) (c.loop-entry.invariant.goes_on rows start s));
     }
 
 pub returns-clause-next : goal.returns-clause-next

@@ -1,4 +1,4 @@
-use Rattle.std.proofs.Common.{◌≡◌, ℕ, ◌<◌, List, length}
+use Rattle.std.proofs.Common.{ℕ, ◌<◌, List, length}
 use Rattle.std.specs.Prelude.{All}
 use Rattle.std.specs.BinaryHeap.{IsHeap, heap_items, heap_len}
 use Rattle.net_routes.specs.declared.arc.Arc.{Arc}
@@ -10,8 +10,8 @@ abbrev pub invariant-loop-entry : goal.invariant-loop-entry
 invariant-loop-entry l = record {
   heap : IsHeap entry_order (heap_items l.waiting);
   places : All (λ (e : Entry). e.place < length l.best) (heap_items l.waiting);
-  goes_on : (rows : List (List Arc)) (start : ℕ) → IsSearch rows start l.best (heap_items l.initial.waiting) → IsSearch rows start l.best (heap_items l.waiting)
-  }
+  goes_on : (rows : List (List Arc)) (start : ℕ) → IsSearch rows start l.best (heap_items l.initial.waiting) → IsSearch rows start l.best (heap_items l.waiting);
+}
 
 abbrev pub decreases-loop-entry : goal.decreases-loop-entry
 decreases-loop-entry l = heap_len l.waiting

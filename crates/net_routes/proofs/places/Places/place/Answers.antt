@@ -1,4 +1,4 @@
-use Rattle.std.proofs.Common.{◌≡◌, sym, ◌∙◌}
+use Rattle.std.proofs.Common.{sym, ◌∙◌}
 use Rattle.net_routes.proofs.PlaceLemmas.{place_there, place_at}
 use Rattle.net_routes.proofs.places.Places.place.Goals as goal
 

@@ -22,7 +22,7 @@ returns-clause-ids c id =
     let kept : c.dedup.new.self.items ≡ dedup eqb sorted = dedup_is eqb sorted c.dedup.new.self.items c.dedup.ensures.filtered in
     let P : List ℕ → Type 0 = λ xs. Contains xs id in
     let there : Contains c.dedup.new.self.items id → Contains given id = λ h.
-        Contains-permutation sorted given id (IsPermutation-sym given sorted c.sort_unstable.ensures.permutation) (Contains-from_dedup eqb sorted id (subst P kept h)) in
+    Contains-permutation sorted given id (IsPermutation-sym given sorted c.sort_unstable.ensures.permutation) (Contains-from_dedup eqb sorted id (subst P kept h)) in
     let back : Contains given id → Contains c.dedup.new.self.items id = λ h.
-        subst P (sym kept) (Contains-dedup_nat sorted id (Contains-permutation given sorted id c.sort_unstable.ensures.permutation h)) in
+    subst P (sym kept) (Contains-dedup_nat sorted id (Contains-permutation given sorted id c.sort_unstable.ensures.permutation h)) in
     (there, back)

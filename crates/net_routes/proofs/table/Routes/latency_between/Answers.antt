@@ -9,5 +9,5 @@ get-requires c =
       second = c.args.other;
       others = c.if-host-other.false;
       from = record { within = c.requires.host; is = refl };
-      to = record { within = c.requires.other; is = refl }
+      to = record { within = c.requires.other; is = refl };
     })
