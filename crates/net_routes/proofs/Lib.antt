@@ -1,0 +1,11 @@
+pub mod ListLemmas
+pub mod CostLemmas
+pub mod SearchLemmas
+pub mod StepLemmas
+pub mod PlaceLemmas
+pub mod ArcLemmas
+pub mod NetLemmas
+pub mod LineLemmas
+pub mod RouteLemmas
+pub mod LeastLemmas
+pub mod Values

@@ -1,0 +1,5 @@
+use Rattle.net_routes.proofs.LineLemmas.{needed_tested}
+use Rattle.net_routes.proofs.line.is_needed.Goals as goal
+
+pub returns-else-from-to : goal.returns-else-from-to
+returns-else-from-to c = needed_tested c.args.nodes.now c.args.from c.args.to c.hosts_on.result c.if-from-to.false c.hosts_on.ensures

@@ -1,0 +1,10 @@
+pub mod Cost
+pub mod Walk
+pub mod Needed
+pub mod Places
+pub mod Path
+pub mod Net
+pub mod Search
+pub mod Lines
+pub mod Routes
+pub mod Least

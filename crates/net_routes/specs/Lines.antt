@@ -1,0 +1,22 @@
+-- The costs of the routes from a node, one for each node of a host.
+use Rattle.std.specs.Prelude.{◌≡◌, ℕ, ◌<◌, List, Option, Some, None, slice_get, IsSome}
+use Rattle.net_routes.specs.declared.cost.Cost.{Cost}
+use Rattle.net_routes.specs.declared.error.RouteError.{RouteError}
+use Rattle.net_routes.specs.declared.error.RouteError.TheVariants as errors
+use Rattle.net_routes.specs.Needed.{IsAt, IsNeeded}
+
+-- each needed cost at its place
+abbrev pub IsLine : List ℕ → List ℕ → ℕ → (ℕ → Option Cost) → List Cost → Type 0
+IsLine nodes stops from found line = (k to : ℕ) → IsAt stops k to → IsNeeded nodes from to → (c : Cost) × (slice_get line k ≡ Some c) × (found to ≡ Some c)
+
+-- the first needed cost that isn't there
+pub record IsFirstLack (nodes stops : List ℕ) (from : ℕ) (found : ℕ → Option Cost) (to : ℕ) : Type 0 where
+  pub place : ℕ
+  pub at : IsAt stops place to
+  pub needed : IsNeeded nodes from to
+  pub none : found to ≡ None
+  pub first : (k before : ℕ) → k < place → IsAt stops k before → IsNeeded nodes from before → IsSome (found before)
+
+abbrev pub NamesLack : List ℕ → List ℕ → ℕ → (ℕ → Option Cost) → RouteError → Type 0
+NamesLack nodes stops from found (errors.NoRoute a b) = (a ≡ from) × IsFirstLack nodes stops from found b
+NamesLack nodes stops from found errors.NoMemory = Unit {0}

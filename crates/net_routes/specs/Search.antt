@@ -1,0 +1,53 @@
+-- What a search from a place on knows.
+use Rattle.std.specs.Prelude.{◌≡◌, ℕ, ◌*◌, ◌<◌, ◌≤◌, ◌⊎◌, List, [], ◌∷◌, length, Contains, Option, Some, None, is_some, count_by}
+use Rattle.std.specs.List.{slice_index_or}
+use Rattle.std.specs.Ordering.{nat_cmp, ordering_then}
+use Rattle.std.specs.declared.cmp.Ordering.{Ordering}
+use Rattle.net_routes.specs.declared.cost.Cost.{Cost}
+use Rattle.net_routes.specs.declared.arc.Arc.{Arc}
+use Rattle.net_routes.specs.declared.search.Entry.{Entry}
+use Rattle.net_routes.specs.Cost.{nothing, IsAsGood}
+use Rattle.net_routes.specs.Path.{Leaves, then_arc, HasPath}
+
+-- the cost at which an entry waits
+abbrev pub cost_at : Entry → Cost
+cost_at e = record { latency = e.latency.0; reliability = e.reliability }
+
+-- the place was left, at this cost
+abbrev pub IsSettled : List (Option Cost) → ℕ → Cost → Type 0
+IsSettled best place c = slice_index_or best place None ≡ Some c
+
+-- the place was left as cheaply, or waits at this cost
+abbrev pub IsReached : List (Option Cost) → List Entry → ℕ → Cost → Type 0
+IsReached best waiting place c =
+    ((d : Cost) × IsSettled best place d × IsAsGood d c) ⊎ ((e : Entry) × Contains waiting e × (e.place ≡ place) × (cost_at e ≡ c))
+
+pub record IsSearch (rows : List (List Arc)) (start : ℕ) (best : List (Option Cost)) (waiting : List Entry) : Type 0 where
+  pub size : length best ≡ length rows
+  pub settled : (v : ℕ) (c : Cost) → IsSettled best v c → HasPath rows start v c
+  pub waits : (e : Entry) → Contains waiting e → (e.place < length rows) × HasPath rows start e.place (cost_at e)
+  pub ordered : (v : ℕ) (c : Cost) (e : Entry) → IsSettled best v c → Contains waiting e → IsAsGood c (cost_at e)
+  pub closed : (u : ℕ) (c : Cost) (x : Arc) → IsSettled best u c → Leaves rows u x → IsReached best waiting x.to (then_arc c x)
+  pub source : IsReached best waiting start nothing
+  pub bounded : (e : Entry) → Contains waiting e → (e.latency.0 ≤ count_by is_some best * 3600000000000) × (e.reliability ≤ 1000000000)
+
+-- what a settled place adds to those that wait
+pub record AddsArcs (best : List (Option Cost)) (c : Cost) (arcs : List Arc) (old new : List Entry) : Type 0 where
+  pub kept : (e : Entry) → Contains old e → Contains new e
+  pub added : (x : Arc) → Contains arcs x → ((d : Cost) × IsSettled best x.to d) ⊎ ((e : Entry) × Contains new e × (e.place ≡ x.to) × (cost_at e ≡ then_arc c x))
+  pub only : (e : Entry) → Contains new e → Contains old e ⊎ ((x : Arc) × Contains arcs x × (e.place ≡ x.to) × (cost_at e ≡ then_arc c x))
+
+-- the first to leave is as cheap as each other
+abbrev pub IsFirst : Entry → List Entry → Type 0
+IsFirst e others = (o : Entry) → Contains others o → IsAsGood (cost_at e) (cost_at o)
+
+-- The greater entry is the cheaper one.
+abbrev pub entry_order : Entry → Entry → Ordering
+entry_order a b =
+    ordering_then (nat_cmp b.latency.0 a.latency.0)
+    (ordering_then (nat_cmp a.reliability b.reliability) (nat_cmp a.place b.place))
+
+-- what the first entry to a place that wasn't left yet leaves behind; nothing waits where there is none
+abbrev pub IsNext : List (List Arc) → ℕ → List (Option Cost) → Option Entry → List Entry → Type 0
+IsNext rows start best None rest = IsSearch rows start best rest × (rest ≡ [])
+IsNext rows start best (Some e) rest = IsSearch rows start best (e ∷ rest) × IsFirst e rest × (slice_index_or best e.place None ≡ None)

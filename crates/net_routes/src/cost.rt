@@ -1,0 +1,54 @@
+//! What walks cost.
+
+ghost use Rattle.std.specs.Prelude.{◌≡◌, ◌+◌, ◌<◌, ◌≤◌, ◌^◌, ◌⊎◌};
+ghost use Rattle.net_routes.specs.Cost.{nothing, and_then, IsAsGood};
+
+/// What a walk costs: the sum of its latencies in nanoseconds, and what arrives of 10^9 that are
+/// sent.
+#[derive(Clone, Copy, Debug, PartialEq, Eq)]
+pub struct Cost {
+    pub latency: u64,
+    pub reliability: u32,
+}
+
+/// The cost of no step.
+pub fn no_cost() -> Cost
+    ensures { result ≡ nothing }
+{
+    Cost {
+        latency: 0,
+        reliability: 1_000_000_000,
+    }
+}
+
+/// The cost of a walk and then of a step.
+pub fn extended(cost: Cost, step: Cost) -> Cost
+    requires room { cost.latency + step.latency < 2 ^ 64 }
+    requires before { cost.reliability ≤ 1000000000 }
+    requires part { step.reliability ≤ 1000000000 }
+    ensures { result ≡ and_then cost step }
+{
+    let arrived = u64::from(cost.reliability) * u64::from(step.reliability) / 1_000_000_000;
+    Cost {
+        latency: cost.latency + step.latency,
+        reliability: arrived as u32,
+    }
+}
+
+/// The better of two costs: that of less latency, or else that with which more arrives.
+pub fn better(a: Cost, b: Cost) -> Cost
+    ensures either { (result ≡ a) ⊎ (result ≡ b) }
+    ensures first { IsAsGood result a }
+    ensures second { IsAsGood result b }
+{
+    if a.latency < b.latency {
+        return a;
+    }
+    if b.latency < a.latency {
+        return b;
+    }
+    if a.reliability < b.reliability {
+        return b;
+    }
+    a
+}

@@ -1,0 +1,53 @@
+//! Why hosts have no routes.
+
+ghost use Rattle.std.specs.Prelude.{◌≡◌};
+ghost use Rattle.net_routes.specs.declared.error.RouteError.TheVariants as errors;
+
+use sim_base::NoMemory;
+use std::alloc::{AllocError, AllocFailed};
+use std::error::Error;
+use std::fmt;
+
+/// Why there are no routes.
+#[derive(Clone, Copy, Debug, PartialEq, Eq)]
+pub enum RouteError {
+    /// No walk leads from the one node to the other, by which a route that is needed could go.
+    NoRoute { from: u32, to: u32 },
+    /// There was no memory for the routes.
+    NoMemory,
+}
+
+impl fmt::Display for RouteError {
+    fn fmt<W: fmt::Write>(&self, f: &mut fmt::Formatter<W>) -> fmt::Result {
+        match self {
+            RouteError::NoRoute { from, to } => write!(f, "no route from node {from} to node {to}"),
+            RouteError::NoMemory => f.write_str("out of memory"),
+        }
+    }
+}
+
+impl Error for RouteError {}
+
+impl From<NoMemory> for RouteError {
+    ghost from_gives = { λ _ e. e ≡ errors.NoMemory };
+
+    fn from(_e: NoMemory) -> RouteError {
+        RouteError::NoMemory
+    }
+}
+
+impl From<AllocError> for RouteError {
+    ghost from_gives = { λ _ e. e ≡ errors.NoMemory };
+
+    fn from(_e: AllocError) -> RouteError {
+        RouteError::NoMemory
+    }
+}
+
+impl<T: Drop> From<AllocFailed<T>> for RouteError {
+    ghost from_gives = { λ _ e. e ≡ errors.NoMemory };
+
+    fn from(_e: AllocFailed<T>) -> RouteError {
+        RouteError::NoMemory
+    }
+}

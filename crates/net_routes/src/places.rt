@@ -1,0 +1,71 @@
+//! Ids of nodes in rising order, each once. The place of an id is its index.
+
+ghost use Rattle.std.specs.Prelude.{◌≡◌, ◌≤◌, ◌↔◌, ℕ, length, Contains, vec_len};
+ghost use Rattle.std.specs.List.Sorted.{IsStrictlyIncreasing};
+ghost use Rattle.net_routes.specs.Needed.{IsAt};
+ghost use Rattle.net_routes.specs.Places.{place_of};
+
+use std::marker::Model;
+
+/// Ids of nodes in rising order, each once. Contracts see the list.
+#[derive(Debug, Drop)]
+pub struct Places {
+    ids: Vec<u32>,
+}
+
+impl Model for Places {
+    ghost use Rattle.std.specs.Prelude.{ℕ, List};
+    ghost use Rattle.std.specs.List.Sorted.{IsStrictlyIncreasing};
+
+    ghost Value = { List ℕ };
+
+    ghost view = { λ p. p.ids.items };
+
+    ghost invariant = { λ p. IsStrictlyIncreasing p.ids.items };
+}
+
+impl From<Vec<u32>> for Places {
+    fn from(ids: Vec<u32>) -> Places
+        ensures ids { (id : ℕ) → Contains result id ↔ Contains ids.items id }
+        ensures few { length result ≤ vec_len ids }
+    {
+        let mut ids = ids;
+        ids.sort_unstable();
+        ids.dedup();
+        Places { ids }
+    }
+}
+
+impl Places {
+    pub fn len(&self) -> usize
+        ensures { result ≡ length self.now }
+    {
+        self.ids.len()
+    }
+
+    pub fn as_slice(&self) -> &[u32]
+        ensures ids { result.now ≡ self.now }
+        ensures rising { IsStrictlyIncreasing self.now }
+    {
+        self.ids.as_slice()
+    }
+
+    /// The place of an id, if it is there.
+    pub fn find(&self, id: u32) -> Option<usize>
+        ensures place { result ≡ place_of self.now id }
+        ensures rising { IsStrictlyIncreasing self.now }
+    {
+        self.ids.binary_search(&id).ok()
+    }
+
+    /// The place of an id that is there.
+    pub fn place(&self, id: u32) -> usize
+        requires { Contains self.now id }
+        ensures { IsAt self.now result id }
+    {
+        match self.find(id) {
+            Some(place) => place,
+            None => unreachable!(),
+        }
+    }
+}

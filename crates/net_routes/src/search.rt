@@ -1,0 +1,106 @@
+//! The search for the cheapest paths from a place to all others: the cheapest place that waits is left first.
+
+ghost use Rattle.std.specs.Prelude.{◌≡◌, ℕ, ◌+◌, ◌*◌, ◌<◌, ◌≤◌, ◌^◌, List, length, All, None, IfOk, OnOk};
+ghost use Rattle.std.specs.BinaryHeap.{IsHeap, heap_items, heap_len};
+ghost use Rattle.net_routes.specs.declared.arc.Arc.{Arc};
+ghost use Rattle.std.specs.List.{slice_index_or};
+ghost use Rattle.net_routes.specs.Path.{AreArcs, IsArc, HasPath, IsBest};
+ghost use Rattle.net_routes.specs.Search.{cost_at, entry_order, IsSearch, IsNext, AddsArcs};
+
+use crate::arc::{Arc, Row};
+use crate::cost::{Cost, extended, no_cost};
+use sim_base::NoMemory;
+use std::alloc::Global;
+use std::cmp::Reverse;
+use std::collections::BinaryHeap;
+
+/// A place that waits to be left, at a cost. The greatest is the cheapest.
+#[derive(Clone, Copy, Debug, PartialEq, Eq, PartialOrd, Ord)]
+pub struct Entry {
+    pub latency: Reverse<u64>,
+    pub reliability: u32,
+    pub place: usize,
+}
+
+fn entry_at(cost: Cost, place: usize) -> Entry
+    ensures { (cost_at result ≡ cost) × (result.place ≡ place) }
+{
+    Entry {
+        latency: Reverse(cost.latency),
+        reliability: cost.reliability,
+        place,
+    }
+}
+
+fn cost_of(entry: Entry) -> Cost
+    ensures { result ≡ cost_at entry }
+{
+    Cost {
+        latency: entry.latency.0,
+        reliability: entry.reliability,
+    }
+}
+
+/// The first entry of a place that wasn't left yet.
+fn next_entry(waiting: &mut BinaryHeap<Entry>, best: &[Option<Cost>]) -> Option<Entry>
+    requires heap { IsHeap entry_order (heap_items waiting.old) }
+    requires places { All (λ e. e.place < length best.now) (heap_items waiting.old) }
+    ensures heap { IsHeap entry_order (heap_items waiting.new) }
+    ensures next { (rows : List (List Arc)) (start : ℕ) → IsSearch rows start best.now (heap_items waiting.old)
+        → IsNext rows start best.now result (heap_items waiting.new) }
+{
+    while let Some(entry) = waiting.pop() {
+        if best[entry.place].is_none() {
+            return Some(entry);
+        }
+    }
+    None
+}
+
+/// Lets the ends of the arcs of a place that was left at this cost wait, but for those that were left.
+fn add_arcs(
+    waiting: &mut BinaryHeap<Entry>,
+    best: &[Option<Cost>],
+    cost: Cost,
+    arcs: &[Arc],
+) -> Result<(), NoMemory>
+    requires ends { All (IsArc (length best.now)) arcs.now }
+    requires room { cost.latency < 2 ^ 62 }
+    requires part { cost.reliability ≤ 1000000000 }
+    ensures heap { IsHeap entry_order (heap_items waiting.old) → IsHeap entry_order (heap_items waiting.new) }
+    ensures adds { OnOk result (AddsArcs best.now cost arcs.now (heap_items waiting.old) (heap_items waiting.new)) }
+{
+    for arc in arcs {
+        if best[arc.to].is_none() {
+            waiting.push(entry_at(extended(cost, arc.cost), arc.to))?;
+        }
+    }
+    Ok(())
+}
+
+/// The cheapest cost of a path from a place to each other, where there is one.
+pub fn cheapest_paths(
+    alloc: Global,
+    rows: &[Row],
+    start: usize,
+) -> Result<Vec<Option<Cost>>, NoMemory>
+    requires start { start < length rows.now }
+    requires arcs { AreArcs rows.now }
+    requires few { length rows.now ≤ 2 ^ 20 }
+    ensures size { IfOk result (λ best. length best.items ≡ length rows.now) }
+    ensures best { IfOk result
+        (λ best. IsBest (HasPath rows.now start) (λ place. slice_index_or best.items place None)) }
+{
+    let mut best = vec![in alloc; None; rows.len()]?;
+    let mut waiting = BinaryHeap::new(alloc);
+    waiting.push(entry_at(no_cost(), start))?;
+    for _ in 0..rows.len() {
+        let Some(entry) = next_entry(&mut waiting, &best) else {
+            return Ok(best);
+        };
+        let cost = cost_of(entry);
+        best[entry.place] = Some(cost);
+        add_arcs(&mut waiting, &best, cost, rows[entry.place].as_slice())?;
+    }
+    Ok(best)
+}

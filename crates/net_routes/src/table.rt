@@ -1,0 +1,99 @@
+//! The routes between the nodes of hosts.
+
+ghost use Rattle.std.specs.Prelude.{◌≡◌, ◌<◌, Some, IsSome, option_map, length};
+ghost use Rattle.net_routes.specs.Routes.{route_in, HasRoutes};
+ghost use Rattle.net_routes.specs.Least.{lesser, IsLatency, IsLeastIf, IsFromTo, IsLookahead};
+
+use crate::line::Line;
+use crate::places::Places;
+use sim_base::Time;
+
+/// The routes between the nodes of hosts: of each the latency, and what arrives of 10^9 packets
+/// that are sent.
+#[derive(Debug, Drop)]
+pub struct Routes {
+    pub(crate) stops: Places,
+    pub(crate) lines: Vec<Line>,
+}
+
+impl Routes {
+    /// The route from one node to another, if it is kept: its latency and its reliability in units
+    /// of 10^-9. Each that hosts need is kept. What is kept for other pairs is left open.
+    pub fn find(&self, from: u32, to: u32) -> Option<(Time, u32)>
+        ensures { result ≡ option_map (λ c. (record { nanos = c.latency }, c.reliability)) (route_in self.now from to) }
+    {
+        let line = self.lines.get(self.stops.find(from)?)?;
+        let cost = line.as_slice().get(self.stops.find(to)?)?;
+        Some((
+            Time {
+                nanos: cost.latency,
+            },
+            cost.reliability,
+        ))
+    }
+
+    /// The route from one node to another that is kept.
+    pub fn get(&self, from: u32, to: u32) -> (Time, u32)
+        requires { IsSome (route_in self.now from to) }
+        ensures { route_in self.now from to
+            ≡ Some (record { latency = result.0.nanos; reliability = result.1 }) }
+    {
+        match self.find(from, to) {
+            Some(route) => route,
+            None => unreachable!(),
+        }
+    }
+    /// The latency from one host to another one; none from a host to itself.
+    fn latency_between(&self, nodes: &[u32], host: usize, other: usize) -> Option<u64>
+        requires host { host < length nodes.now }
+        requires other { other < length nodes.now }
+        requires routes { HasRoutes nodes.now self.now }
+        ensures { IsLatency nodes.now self.now host other result }
+    {
+        if host == other {
+            return None;
+        }
+        let (latency, _) = self.get(nodes[host], nodes[other]);
+        Some(latency.nanos)
+    }
+
+    /// The least latency from one host to the others.
+    fn least_from(&self, nodes: &[u32], host: usize) -> Option<u64>
+        requires host { host < length nodes.now }
+        requires routes { HasRoutes nodes.now self.now }
+        ensures { IsLeastIf (IsFromTo host (length nodes.now)) nodes.now self.now result }
+    {
+        let mut least = None;
+        for other in 0..nodes.len() {
+            least = lesser(least, self.latency_between(nodes, host, other));
+        }
+        least
+    }
+
+    /// The least latency of all routes that hosts on these nodes need, one entry for each host;
+    /// none where there are fewer than two.
+    pub fn least_between(&self, nodes: &[u32]) -> Option<Time>
+        requires { HasRoutes nodes.now self.now }
+        ensures { IsLookahead nodes.now self.now (option_map (λ t. t.nanos) result) }
+    {
+        let mut least = None;
+        for host in 0..nodes.len() {
+            least = lesser(least, self.least_from(nodes, host));
+        }
+        match least {
+            Some(nanos) => Some(Time { nanos }),
+            None => None,
+        }
+    }
+}
+
+/// The less of two numbers, each of which may be missing.
+fn lesser(a: Option<u64>, b: Option<u64>) -> Option<u64>
+    ensures { result ≡ lesser a b }
+{
+    match (a, b) {
+        (Some(x), Some(y)) => Some(x.min(y)),
+        (Some(x), None) => Some(x),
+        (None, b) => b,
+    }
+}
