@@ -10,7 +10,8 @@ pub(crate) const BUFFER: usize = 65_535;
 
 /// A connection. It keeps the number of the first byte that isn't acknowledged (SND.UNA), how far
 /// the next one to send (SND.NXT) and the highest one sent are from it, what it sends and wasn't
-/// acknowledged yet, and what it received and wasn't read yet.
+/// acknowledged yet, and what it received and wasn't read yet. After a call that answers want of
+/// memory nothing is known of it.
 #[derive(Drop)]
 pub struct Conn {
     pub(crate) control: Control,

@@ -8,7 +8,8 @@ use sim_base::Addr;
 use std::alloc::Global;
 
 /// A listener. It keeps the connections whose handshake is on the way, in the order of their SYNs,
-/// and those that became ESTABLISHED, in this order, until they are accepted.
+/// and those that became ESTABLISHED, in this order, until they are accepted. After a call that
+/// answers want of memory nothing is known of it.
 #[derive(Drop)]
 pub struct Listener {
     pub(crate) local: Addr,
