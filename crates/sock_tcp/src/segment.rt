@@ -1,0 +1,115 @@
+//! The segments that a connection sends (RFC 9293, section 3.1).
+
+use crate::conn::{BUFFER, Conn};
+use crate::control::Control;
+use crate::effects::Draft;
+use crate::header::{ACK, RST, SYN};
+use crate::number::number_at;
+use sim_base::{Bytes, Load, NoMemory, Packet};
+use std::alloc::Global;
+
+impl Control {
+    ghost use Rattle.std.specs.Prelude.{◌≡◌};
+    ghost use Rattle.sock_tcp.specs.Segment.{segment, without_ack};
+
+    /// A segment from the own end to the other one.
+    pub(crate) fn segment(&self, flags: u8, seq: u32, ack: u32, window: u16, text: Bytes) -> Packet
+        ensures { result ≡ segment self.now flags seq ack window text }
+    {
+        Packet {
+            from: self.local,
+            to: self.peer,
+            load: Load::Tcp {
+                flags,
+                seq,
+                ack,
+                window,
+                text,
+            },
+        }
+    }
+
+    /// A segment without ACK and text.
+    #[tactic(auto, unfolding(crate::specs::Segment::without_ack))]
+    pub(crate) fn without_ack(&self, alloc: Global, flags: u8, seq: u32) -> Packet
+        ensures { result ≡ without_ack self.now flags seq }
+    {
+        self.segment(flags, seq, 0, u16::MAX, Bytes::new(alloc))
+    }
+}
+
+impl Conn {
+    ghost use Rattle.std.specs.Prelude.{◌≡◌, ◌+◌, ◌-◌, ◌^◌, ◌<◌, length, OnOk};
+    ghost use Rattle.sock_tcp.specs.Tcb.{Tcb, own_window};
+    ghost use Rattle.sock_tcp.specs.Number.{wire};
+    ghost use Rattle.sock_tcp.specs.Segment.{with_ack, sends_ack, sends_syn_ack, sends_reset, sends_refusal};
+    ghost use Rattle.sock_tcp.specs.StandsFor.{StandsFor, Does};
+
+    pub(crate) fn alloc(&self) -> Global {
+        *self.send.allocator()
+    }
+
+    /// How many more bytes the receive buffer holds.
+    pub(crate) fn own_window(&self) -> u16
+        ensures value { result ≡ 65535 - length self.now.receive.items }
+        ensures window { (r : Tcb) → StandsFor self.now r → result ≡ own_window r }
+    {
+        (BUFFER - self.receive.len()) as u16
+    }
+
+    /// The number so far behind the first one that isn't acknowledged.
+    #[tactic(auto, using(crate::proofs::Numbers::wires))]
+    pub(crate) fn number(&self, offset: usize) -> u32
+        requires { offset < 2 ^ 32 }
+        ensures value { result ≡ wire self.now.una offset }
+        ensures stands { (r : Tcb) → StandsFor self.now r → result ≡ wire r.iss (r.una + offset) }
+    {
+        number_at(self.una, offset as u32)
+    }
+
+    /// A segment with ACK, whose number is so far behind the first one that isn't acknowledged.
+    #[tactic(auto, unfolding(crate::specs::Segment::with_ack))]
+    pub(crate) fn with_ack(&self, flags: u8, offset: usize, text: Bytes) -> Packet
+        requires { offset < 2 ^ 32 }
+        ensures { (r : Tcb) → StandsFor self.now r → result ≡ with_ack r flags (r.una + offset) text }
+    {
+        let seq = self.number(offset);
+        self.control
+            .segment(flags, seq, self.rcv, self.own_window(), text)
+    }
+
+    #[tactic(auto, unfolding(crate::specs::Segment::sends_ack))]
+    pub(crate) fn send_ack(&self, draft: &mut Draft) -> Result<(), NoMemory>
+        ensures { OnOk result (Does sends_ack self.now draft.old self.now draft.new) }
+    {
+        let empty = Bytes::new(self.alloc());
+        draft.send(self.with_ack(ACK, self.sent, empty))?;
+        Ok(())
+    }
+
+    #[tactic(auto, unfolding(crate::specs::Segment::sends_syn_ack))]
+    pub(crate) fn send_syn_ack(&self, draft: &mut Draft) -> Result<(), NoMemory>
+        ensures { OnOk result (Does sends_syn_ack self.now draft.old self.now draft.new) }
+    {
+        let empty = Bytes::new(self.alloc());
+        draft.send(self.with_ack(SYN | ACK, 0, empty))?;
+        Ok(())
+    }
+
+    #[tactic(auto, unfolding(crate::specs::Segment::sends_reset))]
+    pub(crate) fn send_reset(&self, draft: &mut Draft) -> Result<(), NoMemory>
+        ensures { OnOk result (Does sends_reset self.now draft.old self.now draft.new) }
+    {
+        let seq = self.number(self.sent);
+        draft.send(self.control.without_ack(self.alloc(), RST, seq))?;
+        Ok(())
+    }
+
+    #[tactic(auto, unfolding(crate::specs::Segment::sends_refusal))]
+    pub(crate) fn send_refusal(&self, draft: &mut Draft, ack: u32) -> Result<(), NoMemory>
+        ensures { OnOk result (Does (sends_refusal ack) self.now draft.old self.now draft.new) }
+    {
+        draft.send(self.control.without_ack(self.alloc(), RST, ack))?;
+        Ok(())
+    }
+}
