@@ -5,6 +5,7 @@ pub mod Scanning
 pub mod Left
 pub mod Steps
 pub mod Outline
+pub mod Grammar
 pub mod Edges
 pub mod Graph
 pub mod Gml

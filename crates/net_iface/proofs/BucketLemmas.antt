@@ -1,12 +1,12 @@
 -- a bucket's milliseconds, walked and computed
-use Rattle.std.proofs.Common.{◌≡◌, ℕ, zero, suc, ◌+◌, ◌-◌, ◌*◌, ◌/◌, ◌%◌, ◌^◌, ◌<◌, ◌≤◌, ◌⊎◌, inl, inr, min, max, Bool, true, false, cond, refl, sym, ap, ◌∙◌, arith}
+use Rattle.std.proofs.Common.{◌≡◌, ℕ, zero, suc, ◌+◌, ◌-◌, ◌*◌, ◌^◌, ◌<◌, ◌≤◌, inl, inr, min, max, Bool, true, false, cond, refl, ap, ◌∙◌, arith}
 use Rattle.std.proofs.lemmas.Bool.{cases_lt}
 use Rattle.std.proofs.lemmas.Bool.Decides.{nat_tests}
 use Rattle.std.proofs.lemmas.Grind.{div_ceil_times}
 use Rattle.std.proofs.Math.Nat.{mul-le-mul_left}
 use Rattle.std.specs.Prelude.{nat_le}
 use Rattle.std.specs.Int.{div_ceil}
-use Rattle.net_iface.specs.Bucket.{BucketState, ticked, after_ticks, ticks_until, due_with}
+use Rattle.net_iface.specs.Bucket.{BucketState, ticked, after_ticks, ticks_until}
 
 abbrev pub bucket : ℕ → ℕ → ℕ → BucketState
 bucket r t m = record { rate = r; tokens = t; millis = m }

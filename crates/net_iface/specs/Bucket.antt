@@ -1,5 +1,5 @@
 -- buckets of tokens (this project's own profile)
-use Rattle.std.specs.Prelude.{◌≡◌, ℕ, zero, suc, ◌+◌, ◌-◌, ◌*◌, ◌/◌, ◌^◌, ◌<◌, ◌≤◌, min, max, nat_le, if◌then◌else◌}
+use Rattle.std.specs.Prelude.{ℕ, zero, suc, ◌+◌, ◌-◌, ◌*◌, ◌/◌, ◌^◌, ◌<◌, ◌≤◌, min, max, nat_le, if◌then◌else◌}
 
 -- the bytes that the bucket gets at each whole millisecond, its tokens, and the milliseconds that have come
 pub record BucketState : Type 0 where

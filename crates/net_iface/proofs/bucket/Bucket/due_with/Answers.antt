@@ -1,7 +1,7 @@
-use Rattle.std.proofs.Common.{◌≡◌, ◌+◌, ◌-◌, ◌*◌, ◌^◌, min, ap, ◌∙◌, arith}
+use Rattle.std.proofs.Common.{◌≡◌, ◌+◌, ap, ◌∙◌, arith}
 use Rattle.std.proofs.Math.Nat.{mul-le-mul_left}
 use Rattle.std.specs.Int.{div_ceil}
-use Rattle.net_iface.specs.Bucket.{ticks_until, due_with}
+use Rattle.net_iface.specs.Bucket.{due_with}
 use Rattle.net_iface.proofs.BucketLemmas.{bucket, ticks_until-closed}
 use Rattle.net_iface.proofs.bucket.Bucket.due_with.Goals as goal
 
