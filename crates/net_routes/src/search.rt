@@ -1,4 +1,5 @@
-//! The search for the cheapest paths from a place to all others: the cheapest place that waits is left first.
+//! The search for the cheapest paths from a place to all others: the cheapest place that waits is
+//! left first.
 
 ghost use Rattle.std.specs.Prelude.{◌≡◌, ℕ, ◌+◌, ◌*◌, ◌<◌, ◌≤◌, ◌^◌, List, length, All, None, IfOk, OnOk};
 ghost use Rattle.std.specs.BinaryHeap.{IsHeap, heap_items, heap_len};
@@ -46,7 +47,8 @@ fn next_entry(waiting: &mut BinaryHeap<Entry>, best: &[Option<Cost>]) -> Option<
     requires heap { IsHeap entry_order (heap_items waiting.old) }
     requires places { All (λ e. e.place < length best.now) (heap_items waiting.old) }
     ensures heap { IsHeap entry_order (heap_items waiting.new) }
-    ensures next { (rows : List (List Arc)) (start : ℕ) → IsSearch rows start best.now (heap_items waiting.old)
+    ensures next { (rows : List (List Arc)) (start : ℕ)
+        → IsSearch rows start best.now (heap_items waiting.old)
         → IsNext rows start best.now result (heap_items waiting.new) }
 {
     while let Some(entry) = waiting.pop() {
@@ -57,7 +59,8 @@ fn next_entry(waiting: &mut BinaryHeap<Entry>, best: &[Option<Cost>]) -> Option<
     None
 }
 
-/// Lets the ends of the arcs of a place that was left at this cost wait, but for those that were left.
+/// Lets the ends of the arcs of a place that was left at this cost wait, but for those that were
+/// left.
 fn add_arcs(
     waiting: &mut BinaryHeap<Entry>,
     best: &[Option<Cost>],
@@ -67,8 +70,10 @@ fn add_arcs(
     requires ends { All (IsArc (length best.now)) arcs.now }
     requires room { cost.latency < 2 ^ 62 }
     requires part { cost.reliability ≤ 1000000000 }
-    ensures heap { IsHeap entry_order (heap_items waiting.old) → IsHeap entry_order (heap_items waiting.new) }
-    ensures adds { OnOk result (AddsArcs best.now cost arcs.now (heap_items waiting.old) (heap_items waiting.new)) }
+    ensures heap { IsHeap entry_order (heap_items waiting.old)
+        → IsHeap entry_order (heap_items waiting.new) }
+    ensures adds { OnOk result
+        (AddsArcs best.now cost arcs.now (heap_items waiting.old) (heap_items waiting.new)) }
 {
     for arc in arcs {
         if best[arc.to].is_none() {

@@ -20,7 +20,8 @@ impl Routes {
     /// The route from one node to another, if it is kept: its latency and its reliability in units
     /// of 10^-9. Each that hosts need is kept. What is kept for other pairs is left open.
     pub fn find(&self, from: u32, to: u32) -> Option<(Time, u32)>
-        ensures { result ≡ option_map (λ c. (record { nanos = c.latency }, c.reliability)) (route_in self.now from to) }
+        ensures { result ≡ option_map (λ c. (record { nanos = c.latency }, c.reliability))
+            (route_in self.now from to) }
     {
         let line = self.lines.get(self.stops.find(from)?)?;
         let cost = line.as_slice().get(self.stops.find(to)?)?;
@@ -43,6 +44,7 @@ impl Routes {
             None => unreachable!(),
         }
     }
+
     /// The latency from one host to another one; none from a host to itself.
     fn latency_between(&self, nodes: &[u32], host: usize, other: usize) -> Option<u64>
         requires host { host < length nodes.now }

@@ -57,8 +57,8 @@ fn outcome_of(
     }
 }
 
-/// Whether a graph is directed, its edges, whether shortest paths are wanted, the nodes of hosts, two
-/// nodes, and what is found.
+/// Whether a graph is directed, its edges, whether shortest paths are wanted, the nodes of hosts,
+/// two nodes, and what is found.
 const CASES: [(u8, &[EdgeRow], bool, &[u32], u32, u32, Found); 20] = [
     // of two walks of 20 ms that with which more arrives
     (
