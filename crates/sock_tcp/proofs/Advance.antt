@@ -1,5 +1,5 @@
 -- what an acknowledgement moves
-use Rattle.std.proofs.Common.{◌≡◌, ℕ, ◌+◌, ◌-◌, ◌==◌, ◌<◌, ◌≤◌, List, ⊎_elim, length, take, drop, min, max, Bool, true, false, cond, if◌then◌else◌, refl, sym, ap, subst, ◌∙◌, arith}
+use Rattle.std.proofs.Common.{◌≡◌, ℕ, ◌+◌, ◌-◌, ◌==◌, ◌≤◌, List, ⊎_elim, length, drop, max, Bool, true, false, if◌then◌else◌, refl, sym, ap, ◌∙◌, arith}
 use Rattle.std.proofs.lemmas.Bool.Decides.{nat_tests}
 use Rattle.std.proofs.lemmas.List.{drop-drop, length-drop}
 use Rattle.std.proofs.lemmas.Bool.{cases_lt}
@@ -11,7 +11,7 @@ use Rattle.sock_tcp.specs.declared.control.Control.{Control}
 use Rattle.sock_tcp.specs.declared.state.TcpState.{TcpState}
 use Rattle.sock_tcp.specs.declared.state.TcpState.TheVariants.{SynSent, SynReceived, Established, FinWait1, FinWait2, CloseWait, Closing, LastAck, TimeWait, Ended, Vanished}
 use Rattle.sock_tcp.specs.Number.{wire}
-use Rattle.sock_tcp.specs.State.{phase_of, is_synchronized, after_own_fin}
+use Rattle.sock_tcp.specs.State.{phase_of, is_synchronized}
 use Rattle.sock_tcp.specs.Tcb.{Tcb, data_end}
 use Rattle.sock_tcp.specs.Arrival.{own_fin_acknowledged, state_advanced, advanced}
 use Rattle.sock_tcp.specs.StandsFor.{StandsFor, FitsPhase}

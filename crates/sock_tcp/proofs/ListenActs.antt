@@ -1,5 +1,5 @@
 -- what the acts of a listener leave
-use Rattle.std.proofs.Common.{◌≡◌, ℕ, ◌+◌, ◌%◌, ◌^◌, ◌<◌, not, ◌&&◌, ◌||◌, nat_lt, List, [], ◌∷◌, ◌++◌, length, get_or, set, Bool, true, false, if◌then◌else◌, Option, Some, None, slice_get, refl, sym, ap, subst, ◌∙◌, arith}
+use Rattle.std.proofs.Common.{◌≡◌, ℕ, ◌%◌, ◌^◌, ◌<◌, not, ◌&&◌, ◌||◌, nat_lt, List, [], ◌∷◌, ◌++◌, length, get_or, set, true, false, if◌then◌else◌, Some, None, slice_get, sym, ap, subst, ◌∙◌, arith}
 use Rattle.std.specs.List.{remove}
 use Rattle.std.proofs.lemmas.Option.{slice_get_past}
 use Rattle.std.proofs.lemmas.Bool.Decides.{nat_tests}

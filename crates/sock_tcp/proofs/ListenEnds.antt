@@ -1,6 +1,6 @@
 -- a listener's connections that are accepted, and those that are reset
 use Rattle.std.proofs.lemmas.Bool.Decides.{nat_tests}
-use Rattle.std.proofs.Common.{◌≡◌, ℕ, zero, suc, true, false, ◌==◌, ◌+◌, ◌-◌, ◌<◌, ◌≤◌, nat_lt, List, [], ◌∷◌, ◌++◌, length, get_or, take, Option, Some, None, slice_get, refl, sym, ap, subst, ◌∙◌, append_assoc, append-nil, add-one, arith}
+use Rattle.std.proofs.Common.{◌≡◌, ℕ, zero, suc, true, false, ◌==◌, ◌+◌, ◌-◌, ◌<◌, ◌≤◌, nat_lt, List, [], ◌∷◌, ◌++◌, length, get_or, take, Some, None, slice_get, sym, ap, subst, ◌∙◌, append_assoc, append-nil, add-one, arith}
 use Rattle.std.specs.List.{remove}
 use Rattle.std.proofs.lemmas.List.{take_all}
 use Rattle.sim_base.specs.declared.packet.Packet.{Packet}
@@ -8,7 +8,7 @@ use Rattle.sock_tcp.specs.declared.conn.Conn.{Conn}
 use Rattle.sock_tcp.specs.declared.effects.Effects.{Effects}
 use Rattle.sock_tcp.specs.declared.listener.Listener.{Listener}
 use Rattle.sock_tcp.specs.Tcb.{Tcb}
-use Rattle.sock_tcp.specs.Listen.{Listen, reset_of, resets_of, closed_listen, hears_close}
+use Rattle.sock_tcp.specs.Listen.{Listen, reset_of, resets_of, hears_close}
 use Rattle.sock_tcp.specs.StandsFor.{StandsFor}
 use Rattle.sock_tcp.specs.ListensFor.{StandsAll, ListensFor, Tells, AcceptsFrom}
 use Rattle.sock_tcp.proofs.Places.{same_length, record_at, stands_at}

@@ -1,5 +1,5 @@
 -- what the phase of a record says of its offsets
-use Rattle.std.proofs.Common.{◌≡◌, ℕ, ◌+◌, ◌-◌, ◌≤◌, length, drop, max, Bool, true, false, refl, sym, ap, ◌∙◌, arith}
+use Rattle.std.proofs.Common.{◌≡◌, ℕ, ◌+◌, ◌-◌, ◌≤◌, length, max, Bool, true, false, ap, ◌∙◌, arith}
 use Rattle.std.proofs.lemmas.List.{length-drop}
 use Rattle.sock_tcp.specs.declared.conn.Conn.{Conn}
 use Rattle.sock_tcp.specs.declared.state.TcpState.{TcpState}

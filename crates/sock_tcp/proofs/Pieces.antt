@@ -8,7 +8,7 @@ use Rattle.sim_base.specs.declared.packet.Packet.{Packet}
 use Rattle.sock_tcp.specs.declared.control.Control.{Control}
 use Rattle.sock_tcp.specs.Number.{wire}
 use Rattle.sock_tcp.specs.Segment.{segment}
-use Rattle.sock_tcp.specs.Output.{cut, pieces, text_segments, max_text}
+use Rattle.sock_tcp.specs.Output.{cut, pieces, text_segments}
 use Rattle.sock_tcp.proofs.Numbers.{wire-wire}
 
 -- the count doesn't matter where it is large enough

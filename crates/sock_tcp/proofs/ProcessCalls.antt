@@ -1,5 +1,5 @@
 -- what the process changes
-use Rattle.std.proofs.Common.{◌≡◌, ℕ, ◌+◌, ◌-◌, ◌==◌, ◌<◌, ◌≤◌, List, [], ◌∷◌, ◌++◌, length, take, drop, min, Bool, true, false, not, ◌||◌, if◌then◌else◌, refl, sym, ap, subst, ◌∙◌, append-nil, length-append, arith}
+use Rattle.std.proofs.Common.{◌≡◌, ℕ, ◌+◌, ◌-◌, ◌≤◌, List, [], ◌++◌, length, take, drop, min, Bool, true, false, not, ◌||◌, if◌then◌else◌, refl, sym, ap, subst, ◌∙◌, append-nil, length-append, arith}
 use Rattle.std.proofs.lemmas.List.{drop-drop, drop-append-le, length-drop, length-take, take_min}
 use Rattle.circular_buffer.specs.Buffer.{Buffer}
 use Rattle.sock_tcp.specs.declared.conn.Conn.{Conn}
@@ -9,8 +9,8 @@ use Rattle.sock_tcp.specs.declared.state.TcpState.TheVariants.{SynSent, SynRecei
 use Rattle.sock_tcp.specs.declared.state.Phase.{Phase}
 use Rattle.sock_tcp.specs.declared.state.Phase.TheVariants.{Opening, Open, Ending, Finished, Over}
 use Rattle.sock_tcp.specs.State.{phase_of, is_over, is_opening, after_writing}
-use Rattle.sock_tcp.specs.Tcb.{Tcb, data_end, unread, own_window, with_control}
-use Rattle.sock_tcp.specs.Process.{takes_bytes, room, unacknowledged, bytes_taken, writes, raises_window, finds_end, control_read, reads, writing_ended}
+use Rattle.sock_tcp.specs.Tcb.{Tcb, data_end, unread, with_control}
+use Rattle.sock_tcp.specs.Process.{takes_bytes, room, bytes_taken, writes, raises_window, finds_end, control_read, reads, writing_ended}
 use Rattle.sock_tcp.specs.StandsFor.{StandsFor, FitsPhase}
 
 -- the numbers and lists stay

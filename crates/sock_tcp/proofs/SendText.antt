@@ -1,9 +1,8 @@
 -- the text that goes out is what the definition says
-use Rattle.std.proofs.Common.{◌≡◌, ℕ, ◌+◌, ◌-◌, ◌<◌, ◌≤◌, List, [], ◌∷◌, ◌++◌, length, take, drop, min, max, Bool, true, false, refl, sym, ap, subst, append-nil, ◌∙◌, arith}
+use Rattle.std.proofs.Common.{◌≡◌, ℕ, ◌+◌, ◌-◌, ◌<◌, ◌≤◌, List, [], ◌∷◌, ◌++◌, length, take, drop, min, max, true, sym, ap, subst, append-nil, ◌∙◌, arith}
 use Rattle.std.proofs.lemmas.List.{length-drop, length-take, drop-drop, take_min}
 use Rattle.sim_base.specs.declared.packet.Packet.{Packet}
 use Rattle.sock_tcp.specs.declared.conn.Conn.{Conn}
-use Rattle.sock_tcp.specs.declared.control.Control.{Control}
 use Rattle.sock_tcp.specs.declared.effects.Draft.{Draft}
 use Rattle.sock_tcp.specs.Number.{wire}
 use Rattle.sock_tcp.specs.State.{phase_of, is_sending}

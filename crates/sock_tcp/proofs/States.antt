@@ -4,7 +4,7 @@ use Rattle.sock_tcp.specs.declared.state.TcpState.{TcpState}
 use Rattle.sock_tcp.specs.declared.state.TcpState.TheVariants.{SynSent, SynReceived, Established, FinWait1, FinWait2, CloseWait, Closing, LastAck, TimeWait, Ended, Vanished}
 use Rattle.sock_tcp.specs.declared.verdict.Verdict.{Verdict}
 use Rattle.sock_tcp.specs.declared.verdict.Verdict.TheVariants.{Dropped, Acknowledged, SynAcknowledged, Refused, ConnectRefused, Reset, Gone, Connects, Establishes, Advances, Continues}
-use Rattle.sock_tcp.specs.State.{phase_of, after_writing, after_peer_fin, is_over, is_opening, is_syn_sent, is_syn_received, is_synchronized}
+use Rattle.sock_tcp.specs.State.{phase_of, after_peer_fin, is_over, is_opening, is_syn_sent, is_syn_received, is_synchronized}
 use Rattle.sock_tcp.specs.Verdict.{ComesIn}
 
 pub is_synchronized_else : (state : TcpState) → is_over state ≡ false → is_syn_sent state ≡ false → is_syn_received state ≡ false → is_synchronized state ≡ true

@@ -1,5 +1,5 @@
 -- what an arriving segment does to a record (RFC 9293, section 3.10.7)
-use Rattle.std.specs.Prelude.{ℕ, ◌+◌, ◌-◌, ◌%◌, ◌^◌, ◌==◌, nat_lt, List, [], ◌∷◌, ◌++◌, length, take, drop, max, Bool, true, false, not, ◌&&◌, ◌||◌, if◌then◌else◌}
+use Rattle.std.specs.Prelude.{ℕ, ◌+◌, ◌-◌, ◌==◌, nat_lt, List, [], ◌++◌, length, take, drop, max, Bool, true, not, ◌&&◌, ◌||◌, if◌then◌else◌}
 use Rattle.sim_base.specs.declared.errno.Errno.TheVariants.{Econnrefused, Econnreset}
 use Rattle.sim_base.specs.declared.packet.Packet.{Packet}
 use Rattle.sim_base.specs.declared.packet.Load.{Load}
@@ -16,7 +16,7 @@ use Rattle.sock_tcp.specs.Number.{wire, distance}
 use Rattle.sock_tcp.specs.State.{is_over, is_time_wait, takes_text, after_own_fin, after_peer_fin}
 use Rattle.sock_tcp.specs.Header.{header_of}
 use Rattle.sock_tcp.specs.Verdict.{verdict_of}
-use Rattle.sock_tcp.specs.Tcb.{Tcb, Turn, data_end, own_window, with_control, changed}
+use Rattle.sock_tcp.specs.Tcb.{Tcb, Turn, data_end, own_window, changed}
 use Rattle.sock_tcp.specs.Segment.{sends_ack, sends_syn_ack, sends_reset, sends_refusal}
 use Rattle.sock_tcp.specs.Ending.{ends, vanishes}
 use Rattle.sock_tcp.specs.Timer.{judged, restarts}

@@ -1,5 +1,5 @@
 -- what a record keeps beside its numbers and lists
-use Rattle.std.specs.Prelude.{Bool, true, false, None}
+use Rattle.std.specs.Prelude.{true, false, None}
 use Rattle.sim_base.specs.declared.address.Addr.{Addr}
 use Rattle.sock_tcp.specs.declared.control.Control.{Control}
 use Rattle.sock_tcp.specs.declared.state.TcpState.{TcpState}

@@ -1,5 +1,5 @@
 -- how a record ends: by an error, which it keeps, or without a trace (RFC 9293, section 3.10)
-use Rattle.std.specs.Prelude.{Bool, true, false, Some}
+use Rattle.std.specs.Prelude.{true, false, Some}
 use Rattle.sim_base.specs.declared.errno.Errno.{Errno}
 use Rattle.sock_tcp.specs.declared.control.Control.{Control}
 use Rattle.sock_tcp.specs.declared.state.TcpState.TheVariants.{Ended, Vanished}

@@ -1,5 +1,5 @@
 -- what a listener of the code stands for
-use Rattle.std.specs.Prelude.{◌≡◌, ℕ, List, [], ◌∷◌, Option, Some, None}
+use Rattle.std.specs.Prelude.{◌≡◌, List, [], ◌∷◌, Option, Some, None}
 use Rattle.sock_tcp.specs.declared.conn.Conn.{Conn}
 use Rattle.sock_tcp.specs.declared.effects.Effects.{Effects}
 use Rattle.sock_tcp.specs.declared.listener.Listener.{Listener}

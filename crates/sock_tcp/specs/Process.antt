@@ -5,7 +5,6 @@ use Rattle.sim_base.specs.declared.errno.Errno.TheVariants.{Etimedout}
 use Rattle.sock_tcp.specs.declared.control.Control.{Control}
 use Rattle.sock_tcp.specs.declared.effects.Shut.{Shut}
 use Rattle.sock_tcp.specs.declared.effects.Shut.TheVariants.{Reading, Writing, Both}
-use Rattle.sock_tcp.specs.declared.state.TcpState.{TcpState}
 use Rattle.sock_tcp.specs.declared.state.TcpState.TheVariants.{SynSent, SynReceived}
 use Rattle.sock_tcp.specs.Number.{wire}
 use Rattle.sock_tcp.specs.State.{is_over, is_time_wait, is_opening, is_syn_sent, is_syn_received, is_sending, after_writing}

@@ -1,5 +1,5 @@
 -- what answers a segment of no connection (RFC 9293, section 3.10.7.1)
-use Rattle.std.specs.Prelude.{ℕ, ◌+◌, List, [], length, Bool, if◌then◌else◌, Option, Some, None}
+use Rattle.std.specs.Prelude.{ℕ, ◌+◌, [], length, Bool, if◌then◌else◌, Option, Some, None}
 use Rattle.sim_base.specs.declared.packet.Packet.{Packet}
 use Rattle.sim_base.specs.declared.packet.Load.{Load}
 use Rattle.sim_base.specs.declared.packet.Load.TheVariants.{Udp, Tcp}

@@ -1,5 +1,5 @@
 -- the segments that a record sends (RFC 9293, section 3.1)
-use Rattle.std.specs.Prelude.{ℕ, ◌+◌, List, [], ◌∷◌, ◌++◌, length}
+use Rattle.std.specs.Prelude.{ℕ, List, [], ◌∷◌, ◌++◌}
 use Rattle.sim_base.specs.declared.packet.Packet.{Packet}
 use Rattle.sim_base.specs.declared.packet.Load.TheVariants.{Tcp}
 use Rattle.sock_tcp.specs.declared.control.Control.{Control}

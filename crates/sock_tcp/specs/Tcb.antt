@@ -1,6 +1,6 @@
 -- the record of a connection: the transmission control block (RFC 9293, section 3.3.1) with the
 -- whole lists of what was written and received, and offsets without bound
-use Rattle.std.specs.Prelude.{ℕ, ◌+◌, ◌-◌, List, [], ◌∷◌, ◌++◌, length, Bool, min}
+use Rattle.std.specs.Prelude.{ℕ, ◌+◌, ◌-◌, List, length, Bool}
 use Rattle.sim_base.specs.declared.packet.Packet.{Packet}
 use Rattle.sock_tcp.specs.declared.control.Control.{Control}
 

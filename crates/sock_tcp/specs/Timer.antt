@@ -1,6 +1,6 @@
 -- the timer of a record: retransmission (RFC 9293, section 3.8.1), probes of a window of 0
 -- (section 3.8.6.1) and TIME-WAIT (section 3.6.1). Its lengths are this project's own profile
-use Rattle.std.specs.Prelude.{ℕ, ◌+◌, ◌*◌, ◌^◌, ◌==◌, nat_lt, Bool, true, false, ◌&&◌, ◌||◌, if◌then◌else◌, Option, Some, None}
+use Rattle.std.specs.Prelude.{ℕ, ◌*◌, ◌^◌, ◌==◌, nat_lt, Bool, true, false, ◌&&◌, ◌||◌, if◌then◌else◌, Option, Some, None}
 use Rattle.sim_base.specs.declared.time.Time.{Time}
 use Rattle.sock_tcp.specs.declared.control.Control.{Control}
 use Rattle.sock_tcp.specs.declared.state.Phase.{Phase}

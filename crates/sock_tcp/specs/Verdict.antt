@@ -1,7 +1,7 @@
 -- what is done with an arriving segment (RFC 9293, section 3.10.7), by the state, the numbers of
 -- what is expected next (RCV.NXT) and of what isn't acknowledged yet (SND.UNA), and by how much
 -- was sent from there on
-use Rattle.std.specs.Prelude.{◌≡◌, ◌≤◌, true, ℕ, ◌+◌, ◌%◌, ◌^◌, ◌==◌, nat_le, Bool, not, ◌&&◌, if◌then◌else◌}
+use Rattle.std.specs.Prelude.{◌≡◌, ◌≤◌, true, ℕ, ◌+◌, ◌%◌, ◌^◌, ◌==◌, nat_le, not, ◌&&◌, if◌then◌else◌}
 use Rattle.sock_tcp.specs.declared.number.Distance.{Distance}
 use Rattle.sock_tcp.specs.declared.number.Distance.TheVariants.{Ahead, Behind}
 use Rattle.sock_tcp.specs.declared.state.TcpState.{TcpState}

@@ -1,5 +1,4 @@
-use Rattle.std.proofs.Common.{◌≡◌, ◌≤◌, length, unwrap_or, ap, subst, sym, ◌∙◌}
-use Rattle.std.specs.List.{position_or_len}
+use Rattle.std.proofs.Common.{◌≤◌, length, unwrap_or, ap, subst, sym, ◌∙◌}
 use Rattle.sock_tcp.specs.declared.conn.Conn.{Conn}
 use Rattle.sock_tcp.specs.Listen.{is_pair}
 use Rattle.sock_tcp.proofs.Places.{place_within, unwrapped}

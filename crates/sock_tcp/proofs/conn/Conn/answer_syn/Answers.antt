@@ -1,4 +1,4 @@
-use Rattle.std.proofs.Common.{◌≡◌, ℕ, List, [], ◌∷◌, ◌++◌, refl, ap, ◌∙◌}
+use Rattle.std.proofs.Common.{ℕ, List, [], ◌∷◌, ◌++◌, ap, ◌∙◌}
 use Rattle.sock_tcp.specs.declared.state.TcpState.TheVariants.{SynReceived}
 use Rattle.sock_tcp.specs.Control.{fresh_control}
 use Rattle.sock_tcp.specs.Tcb.{Tcb}

@@ -1,4 +1,4 @@
-use Rattle.std.proofs.Common.{◌≡◌, ℕ, ◌-◌, length, drop, min, refl, ap, ◌∙◌}
+use Rattle.std.proofs.Common.{ℕ, ◌-◌, length, drop, refl, ap, ◌∙◌}
 use Rattle.circular_buffer.specs.Buffer.{Buffer}
 use Rattle.sock_tcp.specs.Process.{raises_window, finds_end, control_read}
 use Rattle.sock_tcp.proofs.ProcessCalls.{stands_reads}

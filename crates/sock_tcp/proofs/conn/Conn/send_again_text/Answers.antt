@@ -1,4 +1,4 @@
-use Rattle.std.proofs.Common.{◌≡◌, ℕ, length, take, drop, min, max, refl, ap, ◌∙◌}
+use Rattle.std.proofs.Common.{◌≡◌, length, take, drop, min, max, refl, ap, ◌∙◌}
 use Rattle.sock_tcp.proofs.SendText.{stands_sends_again_text}
 use Rattle.sock_tcp.proofs.conn.Conn.send_again_text.Goals as goal
 

@@ -1,4 +1,4 @@
-use Rattle.std.proofs.Common.{◌≡◌, ◌-◌, ◌++◌, length, take, drop}
+use Rattle.std.proofs.Common.{◌≡◌, ◌-◌, ◌++◌, take, drop}
 use Rattle.sock_tcp.specs.Output.{pieces, text_segments}
 use Rattle.sock_tcp.proofs.conn.Conn.send_pieces.Given as goal
 

@@ -1,5 +1,4 @@
-use Rattle.std.proofs.Common.{◌≡◌, ℕ, ◌+◌, ◌-◌, ◌<◌, ◌≤◌, length, nat_lt, ap, ◌∙◌, arith}
-use Rattle.sock_tcp.specs.Listen.{has_room}
+use Rattle.std.proofs.Common.{length, ◌∙◌, arith}
 use Rattle.sock_tcp.proofs.Places.{same_length}
 use Rattle.sock_tcp.proofs.ListenEnds.{room_below, room_above}
 use Rattle.sock_tcp.proofs.listener.Listener.has_room.Goals as goal

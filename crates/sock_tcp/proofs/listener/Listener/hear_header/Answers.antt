@@ -1,4 +1,4 @@
-use Rattle.std.proofs.Common.{◌≡◌, List, ℕ, true, false, if◌then◌else◌, sym, ap, ◌∙◌}
+use Rattle.std.proofs.Common.{◌≡◌, true, false, if◌then◌else◌, sym, ap, ◌∙◌}
 use Rattle.sim_base.specs.Draws.{draw}
 use Rattle.sock_tcp.specs.Listen.{makes_record}
 use Rattle.sock_tcp.proofs.ListenActs.{tells_not_made}

@@ -1,7 +1,7 @@
-use Rattle.std.proofs.Common.{◌≡◌, List, ℕ, Option, Some, None, if◌then◌else◌, sym, ap, subst, ◌∙◌}
+use Rattle.std.proofs.Common.{Option, if◌then◌else◌, ap, subst, ◌∙◌}
 use Rattle.sim_base.specs.Draws.{draw}
 use Rattle.sock_tcp.specs.declared.header.Header.{Header}
-use Rattle.sock_tcp.specs.Listen.{new_heard, header_makes, load_header}
+use Rattle.sock_tcp.specs.Listen.{new_heard, header_makes}
 use Rattle.sock_tcp.specs.ListensFor.{Tells}
 use Rattle.sock_tcp.proofs.ListenActs.{tells_nothing}
 use Rattle.sock_tcp.proofs.listener.Listener.hear_new.Goals as goal
