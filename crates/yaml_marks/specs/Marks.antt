@@ -1,0 +1,209 @@
+-- The tokens of the lines, each with its line and column, for all six rules of this project's own profile of
+-- YAML 1.2.
+use Rattle.std.specs.Prelude.{ℕ, ◌+◌, Bool, true, false, ◌&&◌, ◌||◌, not, List, [], ◌∷◌, ◌++◌, Option, Some, None, if◌then◌else◌, ◌==◌, nat_lt, nat_le, drop}
+use Rattle.std.specs.List.{prefix_len}
+use Rattle.yaml_marks.specs.Lines.{begins_with}
+use Rattle.yaml_marks.specs.Scalars.{is_space, is_nothing, at_gap, after_spaces, at_end, at_colon, scalar_at, plain_value, why_not}
+use Rattle.yaml_marks.specs.Literals.{chomp_at, chomp_len, is_digit_first, is_blank, indent}
+use Rattle.yaml_marks.specs.Names.{name_len, name_at, after_name, has_name}
+use Rattle.yaml_marks.specs.Pieces.{flow_at, is_bracket, why_bracket}
+use Rattle.yaml_marks.specs.declared.mark.Mark.{Mark}
+use Rattle.yaml_marks.specs.declared.mark.Mark.TheVariants.{Dash, Key, Scalar, Name, Copy, Bar, Body, Form, OddMark}
+use Rattle.yaml_marks.specs.declared.place.Place.{Place}
+use Rattle.yaml_marks.specs.declared.place.Place.TheVariants.{Outside, Inside}
+use Rattle.yaml_marks.specs.declared.scan.Scan.{Scan}
+use Rattle.yaml_marks.specs.declared.scan.Scan.TheVariants.{Plain, Quoted, Refused}
+use Rattle.yaml_marks.specs.declared.odd.Odd.{Odd}
+use Rattle.yaml_marks.specs.declared.odd.Odd.TheVariants as odd
+
+abbrev pub refused : ℕ → ℕ → Odd → List Mark
+refused line column why = OddMark line column why ∷ []
+
+-- ---- behind a value
+
+-- why nothing of this may stand behind a value on its line
+abbrev pub why_behind : List ℕ → Odd
+why_behind [] = odd.Syntax
+why_behind (b ∷ bytes) = if is_bracket b then why_bracket (flow_at (b ∷ bytes)).pieces else why_not (scalar_at (b ∷ bytes))
+
+-- what stands behind a value on its line: nothing, or what no layout has
+abbrev pub behind_value : ℕ → List ℕ → List Mark
+behind_value line rest = if at_end rest then [] else refused line 0 (why_behind (after_spaces rest))
+
+-- what stands behind a bar: nothing, or what no layout has
+abbrev pub behind_bar : ℕ → List ℕ → List Mark
+behind_bar line rest = if is_digit_first rest then refused line 0 odd.Unsupported else behind_value line rest
+
+-- ---- values that are no keys
+
+abbrev pub copy_marks : ℕ → ℕ → List ℕ → List Mark
+copy_marks line column bytes = if has_name at_gap bytes then Copy line column (name_at bytes) ∷ behind_value line (after_name bytes) else refused line column odd.Syntax
+
+abbrev pub bar_marks : ℕ → ℕ → List ℕ → List Mark
+bar_marks line column bytes = Bar line column (chomp_at bytes) ∷ behind_bar line (drop (chomp_len (chomp_at bytes)) bytes)
+
+abbrev pub flow_marks : ℕ → ℕ → List ℕ → List Mark
+flow_marks line column bytes = Form line column (flow_at bytes).pieces ∷ behind_value line (drop (flow_at bytes).len bytes)
+
+-- `*`, `|`, `[`, `{`; and `&` where no name may stand
+abbrev pub begins_mark : ℕ → Bool
+begins_mark b = is_bracket b || ((b == 42) || ((b == 124) || (b == 38)))
+
+-- what begins with one of those
+abbrev pub marked : ℕ → ℕ → ℕ → List ℕ → List Mark
+marked line column b bytes = if is_bracket b then flow_marks line column (b ∷ bytes)
+    else (if b == 42 then copy_marks line column bytes
+    else (if b == 124 then bar_marks line column bytes else refused line column odd.Syntax))
+
+abbrev pub scalar_marks : ℕ → ℕ → Option (List ℕ) → List ℕ → List Mark
+scalar_marks line column text rest = Scalar line column text ∷ behind_value line rest
+
+-- ---- a key's value on the key's line
+
+abbrev pub value_marks_of : ℕ → ℕ → List ℕ → Scan → List Mark
+value_marks_of line column bytes (Plain text len) = scalar_marks line column (plain_value text) (drop len bytes)
+value_marks_of line column bytes (Quoted text len) = scalar_marks line column (Some text) (drop len bytes)
+value_marks_of line column bytes (Refused why) = refused line column why
+
+-- a value without a name; nothing, and a comment, have no marks
+abbrev pub bare_value : ℕ → ℕ → List ℕ → List Mark
+bare_value line column [] = []
+bare_value line column (b ∷ bytes) = if b == 35 then []
+    else (if begins_mark b then marked line column b bytes
+    else value_marks_of line column (b ∷ bytes) (scalar_at (b ∷ bytes)))
+
+abbrev pub behind_spaces : (ℕ → List ℕ → List Mark) → ℕ → List ℕ → List Mark
+behind_spaces f column bytes = f (column + prefix_len is_space bytes) (after_spaces bytes)
+
+-- a value, or a name with a value or nothing behind it
+abbrev pub named_value : ℕ → ℕ → List ℕ → List Mark
+named_value line column [] = []
+named_value line column (b ∷ bytes) = if (b == 38) && has_name at_gap bytes then Name line column (name_at bytes) ∷ behind_spaces (bare_value line) (column + (1 + name_len bytes)) (after_name bytes)
+    else bare_value line column (b ∷ bytes)
+
+-- what stands behind a key's colon
+abbrev pub value_marks : ℕ → ℕ → List ℕ → List Mark
+value_marks line column bytes = behind_spaces (named_value line) column bytes
+
+-- ---- a node
+
+-- a key with its value
+abbrev pub pair_marks : ℕ → ℕ → List ℕ → List ℕ → ℕ → List Mark
+pair_marks line column text bytes len = Key line column text ∷ value_marks line (column + (len + (1 + prefix_len is_space (drop len bytes)))) (drop 1 (after_spaces (drop len bytes)))
+
+-- a key with its value, or a lone scalar
+abbrev pub row_marks : ℕ → ℕ → List ℕ → Option (List ℕ) → List ℕ → ℕ → List Mark
+row_marks line column text value bytes len = if at_colon (drop len bytes) then pair_marks line column text bytes len
+    else scalar_marks line column value (drop len bytes)
+
+abbrev pub row_marks_of : ℕ → ℕ → List ℕ → Scan → List Mark
+row_marks_of line column bytes (Plain text len) = row_marks line column text (plain_value text) bytes len
+row_marks_of line column bytes (Quoted text len) = row_marks line column text (Some text) bytes len
+row_marks_of line column bytes (Refused why) = refused line column why
+
+-- a row, or a value without a name
+abbrev pub last_marks : ℕ → ℕ → ℕ → List ℕ → List Mark
+last_marks line column b bytes = if b == 35 then []
+    else (if begins_mark b then marked line column b bytes
+    else row_marks_of line column (b ∷ bytes) (scalar_at (b ∷ bytes)))
+
+abbrev pub is_name_mark : ℕ → List ℕ → Bool
+is_name_mark b bytes = (b == 38) && has_name at_gap bytes
+
+abbrev pub last_node : ℕ → ℕ → List ℕ → List Mark
+last_node line column [] = []
+last_node line column (b ∷ bytes) = last_marks line column b bytes
+
+-- a row or a value, or a name with a row, a value or nothing behind it
+abbrev pub named_node : ℕ → ℕ → ℕ → List ℕ → List Mark
+named_node line column b bytes = if is_name_mark b bytes then Name line column (name_at bytes) ∷ behind_spaces (last_node line) (column + (1 + name_len bytes)) (after_name bytes)
+    else last_marks line column b bytes
+
+-- `-` before a space or the line's end
+abbrev pub is_dash : ℕ → List ℕ → Bool
+is_dash b bytes = (b == 45) && at_gap bytes
+
+-- The marks of a line from a column on, where a node may begin: dashes, and behind them a row, a value or a name.
+-- Nothing, and a comment, have none.
+unfoldable pub node_marks : ℕ → ℕ → List ℕ → List Mark
+node_marks line column [] = []
+node_marks line column (b ∷ bytes) = if is_space b then node_marks line (1 + column) bytes
+    else (if is_dash b bytes then Dash line column ∷ node_marks line (1 + column) bytes
+    else named_node line column b bytes)
+
+-- ---- lines
+
+-- whether a line is neither blank nor a comment
+abbrev pub has_content : List ℕ → Bool
+has_content bytes = not (is_nothing (after_spaces bytes) || begins_with 35 (after_spaces bytes))
+
+-- a line of three such bytes, with spaces or a comment behind them at most
+abbrev pub is_marker : ℕ → List ℕ → Bool
+is_marker b bytes = (begins_with b bytes && begins_with b (drop 1 bytes)) && (begins_with b (drop 2 bytes) && at_end (drop 3 bytes))
+
+-- A line stands outside of literal blocks, behind a last key or dash at some column, if any; or inside of the block
+-- of a bar, at the block's own column once a line of it isn't blank.
+abbrev pub head_of : Place → Option ℕ
+head_of (Outside head) = head
+head_of (Inside bar head column) = head
+
+-- A block stands deeper than the key or dash whose value it is; at the root it may stand at any column.
+abbrev pub is_deeper : Option ℕ → ℕ → Bool
+is_deeper None n = true
+is_deeper (Some head) n = nat_lt head n
+
+-- no line of a block stands left of it
+abbrev pub stands_in : Option ℕ → Option ℕ → ℕ → Bool
+stands_in head None n = is_deeper head n
+stands_in head (Some column) n = nat_le column n
+
+-- a line of a literal block: a blank one, or one that doesn't stand left of the block
+abbrev pub is_body : Place → List ℕ → Bool
+is_body (Outside head) bytes = false
+is_body (Inside bar head column) bytes = is_blank bytes || stands_in head column (indent bytes)
+
+abbrev pub bar_column : Place → ℕ
+bar_column (Outside head) = 0
+bar_column (Inside bar head column) = bar
+
+-- the block's column is that of its first line that isn't blank
+abbrev pub column_behind : Option ℕ → List ℕ → Option ℕ
+column_behind None bytes = if is_blank bytes then None else Some (indent bytes)
+column_behind (Some column) bytes = Some column
+
+-- behind a line of the block
+abbrev pub place_inside : Place → List ℕ → Place
+place_inside (Outside head) bytes = Outside head
+place_inside (Inside bar head column) bytes = Inside bar head (column_behind column bytes)
+
+-- behind marks
+abbrev pub place_behind : Place → List Mark → Place
+place_behind place [] = place
+place_behind place (Dash line column ∷ marks) = place_behind (Outside (Some column)) marks
+place_behind place (Key line column text ∷ marks) = place_behind (Outside (Some column)) marks
+place_behind place (Bar line column chomp ∷ marks) = place_behind (Inside column (head_of place) None) marks
+place_behind place (_ ∷ marks) = place_behind place marks
+
+-- The marks of a line. `---` may be the first content line; a later one, and `...`, are unsupported, in a literal
+-- block too, and `%` at column 0 outside of one. In the first argument stands whether an earlier line has content.
+unfoldable pub line_marks : Bool → Place → ℕ → List ℕ → List Mark
+line_marks begun place line bytes = if is_marker 45 bytes then (if begun then refused line 0 odd.Unsupported else [])
+    else (if is_marker 46 bytes then refused line 0 odd.Unsupported
+    else (if is_body place bytes then Body line (bar_column place) bytes ∷ []
+    else (if begins_with 37 bytes then refused line 0 odd.Unsupported
+    else node_marks line 0 bytes)))
+
+-- where the next line stands, behind a line that has these marks
+unfoldable pub place_after : Place → List ℕ → List Mark → Place
+place_after place bytes marks = if is_body place bytes then place_inside place bytes else place_behind (Outside (head_of place)) marks
+
+abbrev pub next_place : Bool → Place → ℕ → List ℕ → Place
+next_place begun place line bytes = place_after place bytes (line_marks begun place line bytes)
+
+-- the marks of lines, of which the first has this number
+unfoldable pub marks_from : Bool → Place → ℕ → List (List ℕ) → List Mark
+marks_from begun place number [] = []
+marks_from begun place number (line ∷ lines) = line_marks begun place number line ++ marks_from (begun || has_content line) (next_place begun place number line) (1 + number) lines
+
+abbrev pub marks_of : List (List ℕ) → List Mark
+marks_of lines = marks_from false (Outside None) 1 lines

@@ -1,0 +1,31 @@
+//! Whether a bracket is closed on its line.
+
+ghost use Rattle.std.specs.Prelude.{◌≡◌};
+ghost use Rattle.yaml_marks.specs.Pieces.{closes_at, why_bracket};
+
+use crate::odd::Odd;
+use crate::piece::Piece;
+
+/// Whether a bracket is closed by the pieces behind it.
+pub fn closes_at(pieces: &[Piece]) -> bool
+    ensures { result ≡ closes_at 0 pieces.now }
+{
+    let mut opened = 1;
+    for piece in pieces {
+        if piece.is_last(opened) {
+            return true;
+        }
+        opened = piece.open_after(opened);
+    }
+    false
+}
+
+/// Why a bracket can't stand where it is.
+pub fn why_bracket(pieces: &[Piece]) -> Odd
+    ensures { result ≡ why_bracket pieces.now }
+{
+    match pieces {
+        [_, behind @ ..] if !closes_at(behind) => Odd::Unsupported,
+        _ => Odd::Syntax,
+    }
+}

@@ -1,0 +1,31 @@
+//! The tokens of the lines of a YAML text, in this project's own profile of YAML 1.2.
+#![tactic(auto)]
+
+mod brackets;
+mod cells;
+mod chomp;
+mod escapes;
+mod line;
+mod lines;
+mod mark;
+mod names;
+mod odd;
+mod piece;
+mod place;
+mod scalar;
+mod scan;
+#[cfg(test)]
+mod tests;
+mod values;
+
+pub use brackets::{closes_at, why_bracket};
+pub use chomp::Chomp;
+pub use escapes::{Added, Escape};
+pub use line::{has_content, line_marks};
+pub use lines::{next_line, without_mark};
+pub use mark::{Mark, Marks};
+pub use odd::Odd;
+pub use piece::{Bracket, Piece, Pieces};
+pub use place::{Place, next_place};
+pub use scalar::Scalar;
+pub use scan::{Scan, is_blank, past, spaces};

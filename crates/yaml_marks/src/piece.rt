@@ -1,0 +1,109 @@
+//! The pieces of a flow form.
+
+ghost use Rattle.std.specs.Prelude.{◌≡◌, ◌++◌, ◌∷◌, List, [], OnOk};
+ghost use Rattle.yaml_marks.specs.declared.piece.Piece.{Piece};
+
+use crate::odd::Odd;
+use crate::scalar::Scalar;
+use sim_base::NoMemory;
+use std::alloc::Global;
+use std::marker::Model;
+
+#[derive(Clone, Copy, Debug, PartialEq, Eq)]
+pub enum Bracket {
+    /// `[` and `]`
+    Square,
+    /// `{` and `}`
+    Curly,
+}
+
+/// A part of a flow form.
+#[derive(Drop)]
+pub enum Piece {
+    Opening(Bracket),
+    Closing(Bracket),
+    Comma,
+    /// `KEY:`
+    CellKey(Scalar),
+    /// A scalar that is no key: a text, or none for plain `~` and `null`.
+    CellScalar(Option<Scalar>),
+    /// `&NAME`
+    CellName(Scalar),
+    /// `*NAME`
+    CellCopy(Scalar),
+    /// What no form has.
+    OddPiece(Odd),
+}
+
+impl Piece {
+    ghost use Rattle.std.specs.Prelude.{◌<◌, Some};
+    ghost use Rattle.yaml_marks.specs.Pieces.{open_after, is_last};
+
+    /// How many brackets are open behind it.
+    pub(crate) fn open_after(&self, opened: usize) -> usize
+        requires { opened < usize.MAX }
+        ensures { result ≡ open_after (Some self.now) opened }
+    {
+        match self {
+            Piece::Opening(_) => opened + 1,
+            Piece::Closing(_) => opened.saturating_sub(1),
+            _ => opened,
+        }
+    }
+
+    /// Whether it closes the last of the brackets that are open.
+    pub(crate) fn is_last(&self, opened: usize) -> bool
+        ensures { result ≡ is_last (Some self.now) opened }
+    {
+        match self {
+            Piece::Closing(_) => opened <= 1,
+            _ => false,
+        }
+    }
+}
+
+/// The pieces of a flow form in order, which contracts see as a list.
+#[derive(Drop)]
+pub struct Pieces {
+    items: Vec<Piece>,
+}
+
+impl Model for Pieces {
+    ghost use Rattle.std.specs.Prelude.{List};
+    ghost use Rattle.yaml_marks.specs.declared.piece.Piece.{Piece};
+
+    ghost Value = { List Piece };
+
+    ghost view = { λ p. p.items.items };
+}
+
+impl Pieces {
+    pub fn new(alloc: Global) -> Pieces
+        ensures { result ≡ [] }
+    {
+        Pieces {
+            items: Vec::new(alloc),
+        }
+    }
+
+    pub fn push(&mut self, piece: Piece) -> Result<(), NoMemory>
+        ensures { OnOk result (self.new ≡ self.old ++ piece ∷ []) }
+    {
+        self.items.push(piece)?;
+        Ok(())
+    }
+
+    pub fn as_slice(&self) -> &[Piece]
+        ensures { result.now ≡ self.now }
+    {
+        self.items.as_slice()
+    }
+
+    /// Gives the pieces back without taking memory.
+    pub fn into_vec(self) -> Vec<Piece>
+        ensures { result.items ≡ self }
+    {
+        let Pieces { items } = self;
+        items
+    }
+}

@@ -1,0 +1,128 @@
+use crate::{
+    Bracket, Mark, Marks, Odd, Piece, Pieces, Place, Scalar, closes_at, has_content, is_blank,
+    line_marks, next_line, next_place, past, spaces, why_bracket, without_mark,
+};
+use std::alloc::Global;
+use std::test::Fail;
+
+/// Lines with the first letters of their tokens, those of a flow form behind it.
+const LINES: [(&str, &str); 8] = [
+    ("- a: &x [b, *y] # c", "DKNF(s,c)"),
+    ("- - 'b'", "DDS"),
+    ("a: |-", "KB"),
+    ("*x", "C"),
+    ("{a: &x, b: [}", "F{kn,k(}"),
+    ("  # b", ""),
+    ("a: 'b", "KO"),
+    ("[!b]", "F(!s)"),
+];
+
+fn piece_letter(piece: &Piece) -> char {
+    match piece {
+        Piece::Opening(Bracket::Square) => '(',
+        Piece::Opening(Bracket::Curly) => '{',
+        Piece::Closing(Bracket::Square) => ')',
+        Piece::Closing(Bracket::Curly) => '}',
+        Piece::Comma => ',',
+        Piece::CellKey(_) => 'k',
+        Piece::CellScalar(_) => 's',
+        Piece::CellName(_) => 'n',
+        Piece::CellCopy(_) => 'c',
+        Piece::OddPiece(_) => '!',
+    }
+}
+
+fn mark_letter(mark: &Mark) -> char {
+    match mark {
+        Mark::Dash(_, _) => 'D',
+        Mark::Key(_, _, _) => 'K',
+        Mark::Scalar(_, _, _) => 'S',
+        Mark::Name(_, _, _) => 'N',
+        Mark::Copy(_, _, _) => 'C',
+        Mark::Bar(_, _, _) => 'B',
+        Mark::Body(_, _, _) => 'L',
+        Mark::Form(_, _, _) => 'F',
+        Mark::OddMark(_, _, _) => 'O',
+    }
+}
+
+fn add_pieces(letters: &mut String, mark: &Mark) -> Result<(), Fail> {
+    if let Mark::Form(_, _, pieces) = mark {
+        for piece in pieces.as_slice() {
+            letters.push(piece_letter(piece))?;
+        }
+    }
+    Ok(())
+}
+
+fn letters_of(alloc: Global, marks: &Marks) -> Result<String, Fail> {
+    let mut letters = String::new(alloc);
+    for mark in marks.as_slice() {
+        letters.push(mark_letter(mark))?;
+        add_pieces(&mut letters, mark)?;
+    }
+    Ok(letters)
+}
+
+#[test]
+fn reads_the_tokens_of_lines(rt: HostRuntime) -> Result<(), Fail> {
+    for (line, letters) in LINES {
+        let marks = line_marks(rt.alloc(), false, Place::Outside(None), 1, line.as_bytes())?;
+        assert_eq!(rt;
+            letters_of(rt.alloc(), &marks)?.as_str(),
+            letters,
+            "{line:?}"
+        );
+    }
+    Ok(())
+}
+
+#[test]
+fn tells_where_the_next_line_stands(rt: HostRuntime) -> Result<(), Fail> {
+    let outside = Place::Outside(None);
+    let bar = line_marks(rt.alloc(), false, outside, 1, b"a: |-".as_slice())?;
+    let first = next_place(outside, b"a: |-".as_slice(), &bar);
+    assert_eq!(rt; first, Place::Inside(3, Some(0), None));
+    let body = line_marks(rt.alloc(), true, first, 2, b"  # b".as_slice())?;
+    let second = next_place(first, b"  # b".as_slice(), &body);
+    assert_eq!(rt; second, Place::Inside(3, Some(0), Some(2)));
+    assert_eq!(rt; body.into_vec().len(), 1);
+    let behind = line_marks(rt.alloc(), true, second, 3, b" # c".as_slice())?;
+    assert_eq!(rt;
+        next_place(second, b" # c".as_slice(), &behind),
+        Place::Outside(Some(0))
+    );
+    Ok(())
+}
+
+#[test]
+fn parts_lines(rt: HostRuntime) -> Result<(), Fail> {
+    let text = without_mark(b"\xEF\xBB\xBFa\r\n  b".as_slice());
+    let (line, rest) = next_line(text);
+    assert_eq!(rt; line, b"a".as_slice());
+    assert_eq!(rt; rest, b"  b".as_slice());
+    assert_eq!(rt; spaces(rest), 2);
+    assert_eq!(rt; past(rest, 2), b"b".as_slice());
+    assert_eq!(rt; past(rest, 4), b"".as_slice());
+    assert!(rt; is_blank(b"  ".as_slice()));
+    assert!(rt; has_content(rest));
+    assert!(rt; !has_content(b"  # b".as_slice()));
+    Ok(())
+}
+
+#[test]
+fn looks_for_closing_brackets(rt: HostRuntime) -> Result<(), Fail> {
+    let mut pieces = Pieces::new(rt.alloc());
+    pieces.push(Piece::Opening(Bracket::Square))?;
+    pieces.push(Piece::Opening(Bracket::Curly))?;
+    pieces.push(Piece::Closing(Bracket::Square))?;
+    assert_eq!(rt; why_bracket(pieces.as_slice()), Odd::Unsupported);
+    pieces.push(Piece::Closing(Bracket::Curly))?;
+    assert_eq!(rt; why_bracket(pieces.as_slice()), Odd::Syntax);
+    assert!(rt; closes_at(&pieces.as_slice()[1..]));
+    assert_eq!(rt; pieces.into_vec().len(), 4);
+    let text = Scalar::from_slice(rt.alloc(), b"a".as_slice())?;
+    assert_eq!(rt; text.clone()?.into_vec().len(), 1);
+    assert!(rt; text == text);
+    Ok(())
+}
