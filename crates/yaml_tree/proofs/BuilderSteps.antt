@@ -1,15 +1,29 @@
--- Closing the collections that are deeper, one by one.
-use Rattle.std.proofs.Common.{◌≡◌, ℕ, ◌<◌, true, List, [], ◌∷◌, Some, None, length, refl, sym, ap, ◌∙◌, arith, nat_lt}
+-- One step more of the builder's loops.
+use Rattle.std.proofs.Common.{◌≡◌, ℕ, ◌<◌, Bool, true, false, cond, List, [], ◌∷◌, Some, None, Result, Ok, Err, is_some, length, refl, sym, ap, ◌∙◌, arith, nat_lt}
 use Rattle.std.proofs.lemmas.Bool.{cond-true, cond-false}
-use Rattle.yaml_tree.specs.Stack.{PopsWhere}
-use Rattle.yaml_tree.specs.Builder.{settled_on, closed}
+use Rattle.yaml_tree.specs.Stack.{PopsWhere, one_node}
+use Rattle.yaml_tree.specs.Builder.{settled_on, closed, valued, put_node, with_node, take_piece, take_pieces, take_mark, take_marks, Steps, ◌>>=◌}
+use Rattle.yaml_tree.specs.declared.node.Value.TheVariants.{Null}
 use Rattle.yaml_tree.specs.declared.stack.Open.{Open}
 use Rattle.yaml_tree.specs.declared.builder.Builder.{Builder}
+use Rattle.yaml_marks.specs.declared.mark.Mark.{Mark}
+use Rattle.yaml_marks.specs.declared.piece.Piece.{Piece}
+use Rattle.yaml_tree.specs.declared.fault.FaultKind.{FaultKind}
+use Rattle.yaml_tree.specs.declared.fault.Stop.{Stop}
+use Rattle.yaml_tree.specs.declared.fault.Stop.TheVariants as stop
+
+open_rows-valued : (line : ℕ) (b : Builder) → (valued line b).open_rows ≡ b.open_rows
+unfolding valued put_node with_node
+open_rows-valued line b = by (is_some b.value)
+  where
+    by : (t : Bool) → (cond t b (put_node line Null one_node b)).open_rows ≡ b.open_rows
+    by true = refl
+    by false = refl
 
 -- closing keeps the collections that are open
 pub open_rows-closed : (o : Open) (b : Builder) → (closed o b).open_rows ≡ b.open_rows
-unfolding closed
-open_rows-closed o b = refl
+unfolding closed put_node with_node
+open_rows-closed o b = open_rows-valued o.line b
 
 settled_on-first : (depth : ℕ) (o : Open) (os : List Open) (b : Builder) → nat_lt depth o.depth ≡ true → settled_on depth (o ∷ os) b ≡ settled_on depth os (closed o (record b { open_rows = os }))
 unfolding settled_on
@@ -26,3 +40,38 @@ pub settled_on_end : (depth : ℕ) (old new : List Open) (b : Builder) → b.ope
 unfolding settled_on
 settled_on_end depth [] new b at pops = ap (λ os. record b { open_rows = os }) (pops ∙ sym at)
 settled_on_end depth (o ∷ os) new b at pops = ap (λ os. record b { open_rows = os }) (pops.0 ∙ sym at) ∙ sym (cond-false (nat_lt depth o.depth) _ _ pops.1)
+
+-- ---- pieces
+
+-- a piece more of those that are left
+pub pieces_go_on : (line : ℕ) (left rest : List Piece) (p : Piece) (b after w : Builder) → left ≡ p ∷ rest → after ≡ take_piece line p b → take_pieces line left b ≡ w → take_pieces line rest after ≡ w
+unfolding take_pieces
+pieces_go_on line left rest p b after w cut e so_far = ap (take_pieces line rest) e ∙ sym (ap (λ ps. take_pieces line ps b) cut) ∙ so_far
+
+pub pieces_end : (line : ℕ) (left : List Piece) (b w : Builder) → length left ≡ 0 → take_pieces line left b ≡ w → b ≡ w
+unfolding take_pieces
+pieces_end line [] b w none so_far = so_far
+pieces_end line (p ∷ left) b w none so_far = absurd (omega (arith, none))
+
+-- ---- marks
+
+module _ (left : List Mark) (b : Builder) (w : Result Builder FaultKind) (so_far : take_marks left b ≡ w) where
+  mark_at : (m : Mark) (rest : List Mark) → left ≡ m ∷ rest → (take_mark m b >>= take_marks rest) ≡ w
+  unfolding take_marks
+  mark_at m rest cut = ap (λ ms. take_marks ms b) (sym cut) ∙ so_far
+
+  -- a mark more of those that are left
+  pub marks_go_on : (m : Mark) (rest : List Mark) (after : Builder) → left ≡ m ∷ rest → take_mark m b ≡ Ok after → take_marks rest after ≡ w
+  marks_go_on m rest after cut e = ap (λ r. r >>= take_marks rest) (sym e) ∙ mark_at m rest cut
+
+  pub mark_is_refused : (m : Mark) (rest : List Mark) (s : Stop) (new : Builder) → left ≡ m ∷ rest → Steps (Err s) new (take_mark m b) → Steps (Err s) new w
+  mark_is_refused m rest (stop.Fault kind) new cut e = sym (mark_at m rest cut) ∙ ap (λ r. r >>= take_marks rest) e
+  mark_is_refused m rest stop.NoMemory new cut e = tt
+
+  none_left : (ms : List Mark) → length ms ≡ 0 → Ok b ≡ take_marks ms b
+  unfolding take_marks
+  none_left [] e = refl
+  none_left (m ∷ ms) e = absurd (omega (arith, e))
+
+  pub marks_end : length left ≡ 0 → w ≡ Ok b
+  marks_end e = sym (none_left left e ∙ so_far)

@@ -1,27 +1,30 @@
 -- One line more of the loop over lines.
 use Rattle.std.proofs.Common.{◌≡◌, ℕ, ◌+◌, Bool, ◌||◌, List, [], ◌∷◌, Result, Ok, Err, length, refl, sym, ap, ◌∙◌, arith}
-use Rattle.yaml_tree.specs.Lines.{split_lines}
-use Rattle.yaml_tree.specs.Tokens.{has_content}
-use Rattle.yaml_tree.specs.Builder.{read_line, at_line, read_lines, Reads, ◌>>=◌}
+use Rattle.yaml_marks.specs.Lines.{split_lines}
+use Rattle.yaml_marks.specs.Marks.{has_content, next_place}
+use Rattle.yaml_tree.specs.Builder.{read_line, at_line, read_lines, Reads, ReadsLine, ◌>>=◌}
+use Rattle.yaml_marks.specs.declared.place.Place.{Place}
 use Rattle.yaml_tree.specs.declared.builder.Builder.{Builder}
 use Rattle.yaml_tree.specs.declared.fault.YamlFault.{YamlFault}
 use Rattle.yaml_tree.specs.declared.fault.TreeError.{TreeError}
 use Rattle.yaml_tree.specs.declared.fault.TreeError.TheVariants as tree
 
-module _ (begun : Bool) (number : ℕ) (text : List ℕ) (b : Builder) (w : Result Builder YamlFault) (so_far : read_lines begun number (split_lines text) b ≡ w) where
-  line_at : (line rest : List ℕ) → split_lines text ≡ line ∷ split_lines rest → (at_line number (read_line begun number line b) >>= read_lines (begun || has_content line) (1 + number) (split_lines rest)) ≡ w
-  unfolding read_lines
-  line_at line rest cut = ap (λ ls. read_lines begun number ls b) (sym cut) ∙ so_far
+module _ (begun : Bool) (place : Place) (number : ℕ) (text : List ℕ) (b : Builder) (w : Result Builder YamlFault) (so_far : read_lines begun place number (split_lines text) b ≡ w) where
+  abbrev lines_behind : List ℕ → List ℕ → Builder → Result Builder YamlFault
+  lines_behind line rest after = read_lines (begun || has_content line) (next_place begun place number line) (1 + number) (split_lines rest) after
 
-  pub lines_go_on : (line rest : List ℕ) (after : Builder) (more : Bool) → split_lines text ≡ line ∷ split_lines rest → at_line number (read_line begun number line b) ≡ Ok after → more ≡ (begun || has_content line) → read_lines more (number + 1) (split_lines rest) after ≡ w
-  lines_go_on line rest after more cut e m = let n : number + 1 ≡ 1 + number = omega arith in
-      ap (λ q. read_lines q (number + 1) (split_lines rest) after) m
-      ∙ ap (λ k. read_lines (begun || has_content line) k (split_lines rest) after) n
-      ∙ ap (λ r. r >>= read_lines (begun || has_content line) (1 + number) (split_lines rest)) (sym e)
+  line_at : (line rest : List ℕ) → split_lines text ≡ line ∷ split_lines rest → (at_line number (read_line begun place number line b) >>= lines_behind line rest) ≡ w
+  unfolding read_lines
+  line_at line rest cut = ap (λ ls. read_lines begun place number ls b) (sym cut) ∙ so_far
+
+  pub lines_go_on : (line rest : List ℕ) (after : Builder) (more : Bool) (next : Place) → split_lines text ≡ line ∷ split_lines rest → at_line number (read_line begun place number line b) ≡ Ok after → more ≡ (begun || has_content line) → next ≡ next_place begun place number line → read_lines more next (number + 1) (split_lines rest) after ≡ w
+  lines_go_on line rest after more next cut e m p = let n : number + 1 ≡ 1 + number = omega arith in
+      (λ j. read_lines (m j) (p j) (n j) (split_lines rest) after)
+      ∙ ap (λ r. r >>= lines_behind line rest) (sym e)
       ∙ line_at line rest cut
 
-  pub line_is_refused : (line rest : List ℕ) (error : TreeError) (new : Builder) → split_lines text ≡ line ∷ split_lines rest → Reads (Err error) new (at_line number (read_line begun number line b)) → Reads (Err error) new w
-  line_is_refused line rest (tree.Fault fault) new cut e = sym (line_at line rest cut) ∙ ap (λ r. r >>= read_lines (begun || has_content line) (1 + number) (split_lines rest)) e
+  pub line_is_refused : (line rest : List ℕ) (error : TreeError) (new : Builder) → split_lines text ≡ line ∷ split_lines rest → ReadsLine (Err error) new (at_line number (read_line begun place number line b)) → Reads (Err error) new w
+  line_is_refused line rest (tree.Fault fault) new cut e = sym (line_at line rest cut) ∙ ap (λ r. r >>= lines_behind line rest) e
   line_is_refused line rest tree.NoMemory new cut e = tt
 
   nothing_left : (xs : List ℕ) → length xs ≡ 0 → split_lines xs ≡ []
@@ -31,4 +34,4 @@ module _ (begun : Bool) (number : ℕ) (text : List ℕ) (b : Builder) (w : Resu
 
   pub lines_end : length text ≡ 0 → Ok b ≡ w
   unfolding read_lines
-  lines_end e = ap (λ ls. read_lines begun number ls b) (sym (nothing_left text e)) ∙ so_far
+  lines_end e = ap (λ ls. read_lines begun place number ls b) (sym (nothing_left text e)) ∙ so_far

@@ -1,222 +1,312 @@
 -- What reading lines one by one finds is the tree of the lines, or their fault.
-use Rattle.std.proofs.Common.{◌≡◌, ℕ, ◌+◌, ◌<◌, ◌≤◌, Bool, true, false, ◌||◌, cond, List, [], ◌∷◌, ◌++◌, Option, Some, None, Result, Ok, Err, length, get_or, take, drop, refl, sym, ap, ◌∙◌, subst, append_assoc, arith, nat_lt, inl, inr, ◌⊎◌}
+use Rattle.std.proofs.Common.{◌≡◌, ℕ, ◌+◌, ◌<◌, ◌≤◌, Bool, true, false, ◌||◌, cond, List, [], ◌∷◌, ◌++◌, Option, Some, None, Result, Ok, Err, length, get_or, take, drop, refl, sym, ap, ◌∙◌, subst, append_assoc, arith, nat_lt, nat_le, inl, inr, ◌⊎◌}
 use Rattle.std.specs.Option.{option_and_then}
-use Rattle.std.proofs.lemmas.Option.{none-some}
-use Rattle.std.proofs.lemmas.Bool.{ltb-true, ltb-false, cases_lt}
-use Rattle.std.proofs.lemmas.List.{append-nil, length-drop, length-take-le, take_all, take_more, drop_more}
-use Rattle.yaml_tree.specs.Tokens.{Token, has_content, line_tokens, tokens_from, tokens_of}
-use Rattle.yaml_tree.specs.Tokens.Token.{dash, key, scalar, odd_token}
-use Rattle.yaml_tree.specs.Layout.{Layout, depth, Spells, has_repeat, levels, size}
-use Rattle.yaml_tree.specs.Layout.Layout.{nothing, leaf, row}
-use Rattle.yaml_tree.specs.Tree.{IsTree, HasTree, MayBegin, IsKindAt, IsMisfit, IsRefused, IsFirstRefused, IsTreeOf, IsFaultOf}
-use Rattle.yaml_tree.specs.Builder.{take_token, take_tokens, judged, read_line, read_lines, at_line, Reads, ◌>>=◌, fresh, settled, nodes_with_value, value_number}
-use Rattle.yaml_tree.specs.declared.builder.Builder.{Builder}
-use Rattle.yaml_tree.specs.declared.fault.YamlFault.{YamlFault}
-use Rattle.yaml_tree.specs.declared.fault.FaultKind.{FaultKind}
-use Rattle.yaml_tree.specs.declared.fault.FaultKind.TheVariants.{NotUtf8, Syntax, Unsupported, Duplicate, Alias, TooDeep, TooManyNodes}
-use Rattle.yaml_tree.specs.declared.fault.Odd.TheVariants as odd
-use Rattle.yaml_tree.proofs.LayoutLaws.{with_token, with_tokens, with_tokens-append, head_deep, Spells-from_read, read-from_Spells}
-use Rattle.yaml_tree.proofs.Simulation.{StandsFor, StandsAt, TakenAny, KindAfter, take_token-taken, Frame, wrap, AtMost, OpensAre, settled_on-stands, between-full, value_held}
 use Rattle.std.specs.Str.{IsUtf8}
 use Rattle.std.specs.Result.{IfOk, IfErr}
 use Rattle.std.specs.declared.alloc.Global.{Global}
-use Rattle.std.proofs.lemmas.Option.{slice_get_within}
-use Rattle.yaml_tree.specs.Lines.{lines_of}
-use Rattle.yaml_tree.specs.Holds.{HoldsNode}
-use Rattle.yaml_tree.specs.Trees.{Holds, RootIsIn, IsReading, IsErrorOf}
+use Rattle.std.proofs.lemmas.Option.{none-some, slice_get_within}
+use Rattle.std.proofs.lemmas.Bool.{ltb-true, ltb-false, leb-false, lt-ltb, cases_lt}
+use Rattle.std.proofs.lemmas.List.{append-nil, length-drop, length-take-le, take_all, take_more, drop_more}
+use Rattle.yaml_marks.specs.Lines.{lines_of}
+use Rattle.yaml_marks.specs.Pieces.{why_bracket, closes_at}
+use Rattle.yaml_tree.specs.Flows.{IsPieceKind, IsFlowMisfit}
+use Rattle.yaml_marks.specs.Marks.{has_content, line_marks, next_place, marks_from, marks_of}
+use Rattle.yaml_tree.specs.Written.{Written, Spells}
+use Rattle.yaml_tree.specs.Written.Written.{nothing}
+use Rattle.yaml_tree.specs.Said.{Said, tree_of, has_repeat, has_unknown, levels, size}
+use Rattle.yaml_tree.specs.Said.Said.{null, text, unknown, sequence, mapping, with_item, with_pair}
+use Rattle.yaml_tree.specs.Holds.{HoldsSaid}
+use Rattle.yaml_tree.specs.Stack.{cut, measured}
+use Rattle.yaml_tree.specs.Tree.{Says, IsTree, HasTree, MayBegin, ValueMayBegin, kind_of, IsKindAt, IsMisfit, IsRefused, IsFirstRefused, IsTreeOf, IsFaultOf}
+use Rattle.yaml_tree.specs.Builder.{take_mark, take_marks, fault_of, judged_by, judged, read_line, read_lines, at_line, Reads, ◌>>=◌, fresh}
+use Rattle.yaml_tree.specs.Trees.{Holds, RootIsIn, IsReading, IsErrorOf, root_number}
+use Rattle.yaml_tree.specs.declared.builder.Builder.{Builder}
+use Rattle.yaml_marks.specs.declared.mark.Mark.{Mark}
+use Rattle.yaml_marks.specs.declared.mark.Mark.TheVariants.{Dash, Key, Scalar, Name, Copy, Bar, Body, Form, OddMark}
 use Rattle.yaml_tree.specs.declared.node.Node.{Node}
-use Rattle.yaml_tree.specs.declared.stack.Open.{Open}
-use Rattle.yaml_tree.specs.declared.tree.Tree.{Tree}
+use Rattle.yaml_marks.specs.declared.piece.Piece.{Piece}
+use Rattle.yaml_marks.specs.declared.piece.Piece.TheVariants.{Opening, Closing, Comma, CellKey, CellScalar, CellName, CellCopy, OddPiece}
+use Rattle.yaml_marks.specs.declared.place.Place.{Place}
+use Rattle.yaml_marks.specs.declared.place.Place.TheVariants.{Outside}
+use Rattle.yaml_tree.specs.declared.fault.FaultKind.{FaultKind}
+use Rattle.yaml_tree.specs.declared.fault.FaultKind.TheVariants.{NotUtf8, Syntax, Unsupported, Duplicate, Alias, TooDeep, TooManyNodes}
+use Rattle.yaml_marks.specs.declared.odd.Odd.{Odd}
+use Rattle.yaml_marks.specs.declared.odd.Odd.TheVariants as odd
 use Rattle.yaml_tree.specs.declared.fault.TreeError.{TreeError}
 use Rattle.yaml_tree.specs.declared.fault.TreeError.TheVariants as tree
+use Rattle.yaml_tree.specs.declared.fault.YamlFault.{YamlFault}
+use Rattle.yaml_tree.specs.declared.tree.Tree.{Tree}
+use Rattle.yaml_tree.proofs.WrittenLaws.{FlowReader, with_mark, with_marks, with_marks-append, Spells-from_read, read-from_Spells}
+use Rattle.yaml_tree.proofs.RuleLaws.{begun_after, place_of_next, marks_from-append}
+use Rattle.yaml_tree.proofs.Stands.{StandsFor}
+use Rattle.yaml_tree.proofs.FlowJudged.{Judges}
+use Rattle.yaml_tree.proofs.FlowLaws.{flow_reader}
+use Rattle.yaml_tree.proofs.FlowFaults.{flow_judged}
+use Rattle.yaml_tree.proofs.Simulation.{KindAfter, TakenAny, take_mark-taken, fresh-stands, measure-means, whole-holds}
 
--- ---- what may begin a layout
+-- ---- what a tree as it is written may begin with
 
-may_begin : (ts : List Token) (l : Layout) → with_tokens ts nothing ≡ Some l → MayBegin ts
-may_begin ts l e = ([], l, subst (λ us. Spells us l) (sym (append-nil ts)) (Spells-from_read ts l e))
+may_begin : (r : FlowReader) (ms : List Mark) (w : Written) → with_marks r ms nothing ≡ Some w → MayBegin ms
+may_begin r ms w e = ([], w, subst (λ ns. Spells ns w) (sym (append-nil ms)) (Spells-from_read r ms w e))
 
-one_more : (ts : List Token) (t : Token) (l : Layout) → with_tokens ts nothing ≡ Some l → with_tokens (ts ++ (t ∷ [])) nothing ≡ with_token t l
-one_more ts t l e = with_tokens-append ts (t ∷ []) nothing ∙ ap (option_and_then (with_tokens (t ∷ []))) e ∙ back (with_token t l)
+one_more : (r : FlowReader) (ms : List Mark) (m : Mark) (w : Written) → with_marks r ms nothing ≡ Some w → with_marks r (ms ++ (m ∷ [])) nothing ≡ with_mark r m w
+one_more r ms m w e = with_marks-append r ms (m ∷ []) nothing ∙ ap (option_and_then (with_marks r (m ∷ []))) e ∙ back (with_mark r m w)
   where
-    back : (o : Option Layout) → option_and_then (with_tokens []) o ≡ o
+    back : (o : Option Written) → option_and_then (with_marks r []) o ≡ o
     back None = refl
     back (Some x) = refl
 
-may_not_begin : (ts : List Token) → with_tokens ts nothing ≡ None → MayBegin ts → ⊥
-may_not_begin ts e h = none-some h.1 (sym (ap (option_and_then (with_tokens h.0)) e) ∙ sym (with_tokens-append ts h.0 nothing) ∙ read-from_Spells (ts ++ h.0) h.1 h.2)
+may_not_begin : (r : FlowReader) (ms : List Mark) → with_marks r ms nothing ≡ None → MayBegin ms → ⊥
+may_not_begin r ms e h = none-some h.1 (sym (ap (option_and_then (with_marks r h.0)) e) ∙ sym (with_marks-append r ms h.0 nothing) ∙ read-from_Spells r (ms ++ h.0) h.1 h.2)
 
--- ---- tokens
+-- a value may begin behind the front where a scalar would be read there
+value_may_begin : (r : FlowReader) (front : List Mark) (line column : ℕ) (w m : Written) → with_marks r front nothing ≡ Some w → with_mark r (Scalar line column None) w ≡ Some m → ValueMayBegin front line column
+value_may_begin r front line column w m e h = may_begin r (front ++ (Scalar line column None ∷ [])) m (one_more r front (Scalar line column None) w e ∙ h)
 
-kind_at : (front : List Token) (t : Token) (l : Layout) (kind : FaultKind) → with_tokens front nothing ≡ Some l → KindAfter t l kind → IsKindAt front t kind
-kind_at front (dash line column) l kind e k = k
-kind_at front (key line column text) l kind e k = k
-kind_at front (scalar line column text) l kind e k = k
-kind_at front (odd_token line column odd.Syntax) l kind e k = k
-kind_at front (odd_token line column odd.Unsupported) l kind e k = k
-kind_at front (odd_token line column odd.Mark) l kind e k = elim k [
-  | inl h ↦ subst (IsKindAt front (odd_token line column odd.Mark)) (sym h.0) (may_begin (front ++ (scalar line column None ∷ [])) h.1 (one_more front (scalar line column None) l e ∙ h.2))
-  | inr h ↦ subst (IsKindAt front (odd_token line column odd.Mark)) (sym h.0) (may_not_begin (front ++ (scalar line column None ∷ [])) (one_more front (scalar line column None) l e ∙ h.1))
+no_value_may_begin : (r : FlowReader) (front : List Mark) (line column : ℕ) (w : Written) → with_marks r front nothing ≡ Some w → with_mark r (Scalar line column None) w ≡ None → ValueMayBegin front line column → ⊥
+no_value_may_begin r front line column w e h = may_not_begin r (front ++ (Scalar line column None ∷ [])) (one_more r front (Scalar line column None) w e ∙ h)
+
+-- ---- marks
+
+kind_at : (r : FlowReader) (front : List Mark) (m : Mark) (w : Written) (kind : FaultKind) → with_marks r front nothing ≡ Some w → KindAfter r m w kind → IsKindAt front m kind
+kind_at r front (Dash line column) w kind e k = k
+kind_at r front (Key line column bytes) w kind e k = k
+kind_at r front (Scalar line column bytes) w kind e k = k
+kind_at r front (Name line column bytes) w kind e k = k
+kind_at r front (Copy line column bytes) w kind e k = k
+kind_at r front (Bar line column chomp) w kind e k = k
+kind_at r front (Body line column bytes) w kind e k = k
+kind_at r front (Form line column pieces) w kind e k = elim k [
+  | inl h ↦ inl (value_may_begin r front line column w h.0.0 e h.0.1, h.1)
+  | inr h ↦ inr (no_value_may_begin r front line column w e h.0, h.1)
+]
+kind_at r front (OddMark line column odd.Syntax) w kind e k = k
+kind_at r front (OddMark line column odd.Unsupported) w kind e k = k
+kind_at r front (OddMark line column odd.Mark) w kind e k = elim k [
+  | inl h ↦ subst (IsKindAt front (OddMark line column odd.Mark)) (sym h.0) (value_may_begin r front line column w h.1 e h.2)
+  | inr h ↦ subst (IsKindAt front (OddMark line column odd.Mark)) (sym h.0) (no_value_may_begin r front line column w e h.1)
 ]
 
-abbrev TokensTaken : List Token → List Token → Layout → Result Builder FaultKind → Type 0
-TokensTaken front ts l (Ok b) = (new : Layout) × (with_tokens ts l ≡ Some new) × StandsFor b new
-TokensTaken front ts l (Err kind) = IsMisfit (front ++ ts) kind
+abbrev MarksTaken : FlowReader → List Mark → List Mark → Written → Result Builder FaultKind → Type 0
+MarksTaken r front ms w (Ok b) = (new : Written) × (with_marks r ms w ≡ Some new) × StandsFor b new
+MarksTaken r front ms w (Err kind) = IsMisfit (front ++ ms) kind
 
-tokens-taken : (front ts : List Token) (b : Builder) (l : Layout) → StandsFor b l → with_tokens front nothing ≡ Some l → TokensTaken front ts l (take_tokens ts b)
-unfolding take_tokens
-tokens-taken front [] b l s e = (l, refl, s)
-tokens-taken front (t ∷ ts) b l s e = elim (take_token t b) as (λ r. TakenAny t l r → TokensTaken front (t ∷ ts) l (r >>= take_tokens ts)) [
-  | Ok after ↦ λ h. (let rest = tokens-taken (front ++ (t ∷ [])) ts after h.0 h.2 (one_more front t l e ∙ h.1) in
-      behind (take_tokens ts after) h.0 h.1 rest)
+marks-taken : (r : FlowReader) → Judges → (front ms : List Mark) (b : Builder) (w : Written) → StandsFor b w → with_marks r front nothing ≡ Some w → MarksTaken r front ms w (take_marks ms b)
+unfolding take_marks
+marks-taken r j front [] b w s e = (w, refl, s)
+marks-taken r j front (m ∷ ms) b w s e = elim (take_mark m b) as (λ x. TakenAny r m w x → MarksTaken r front (m ∷ ms) w (x >>= take_marks ms)) [
+  | Ok after ↦ λ h. (let rest = marks-taken r j (front ++ (m ∷ [])) ms after h.0 h.2 (one_more r front m w e ∙ h.1) in
+      behind (take_marks ms after) h.0 h.1 rest)
   | Err kind ↦ λ h. record {
     front = front;
-    token = t;
-    rest = ts;
+    mark = m;
+    rest = ms;
     parts = refl;
-    begins = may_begin front l e;
-    ends = may_not_begin (front ++ (t ∷ [])) (one_more front t l e ∙ h.0);
-    kind_is = kind_at front t l kind e h.1;
+    begins = may_begin r front w e;
+    ends = may_not_begin r (front ++ (m ∷ [])) (one_more r front m w e ∙ h.0);
+    kind_is = kind_at r front m w kind e h.1;
   }
-] (take_token-taken t b l s)
+] (take_mark-taken r j m b w s)
   where
-    behind : (r : Result Builder FaultKind) (mid : Layout) → with_token t l ≡ Some mid → TokensTaken (front ++ (t ∷ [])) ts mid r → TokensTaken front (t ∷ ts) l r
-    behind (Ok b') mid m h = (h.0, ap (option_and_then (with_tokens ts)) m ∙ h.1, h.2)
-    behind (Err kind) mid m h = subst (λ us. IsMisfit us kind) (append_assoc front (t ∷ []) ts) h
+    behind : (x : Result Builder FaultKind) (mid : Written) → with_mark r m w ≡ Some mid → MarksTaken r (front ++ (m ∷ [])) ms mid x → MarksTaken r front (m ∷ ms) w x
+    behind (Ok b') mid q h = (h.0, ap (option_and_then (with_marks r ms)) q ∙ h.1, h.2)
+    behind (Err kind) mid q h = subst (λ ns. IsMisfit ns kind) (append_assoc front (m ∷ []) ms) h
 
 -- ---- limits
 
-abbrev JudgedTo : Builder → List (List ℕ) → Layout → Result Builder FaultKind → Type 0
-JudgedTo b lines l (Ok after) = IsTree lines l × (after ≡ b)
-JudgedTo b lines l (Err kind) = IsRefused lines kind
-
-judged-means : (b : Builder) (lines : List (List ℕ)) (l : Layout) → StandsFor b l → Spells (tokens_of lines) l → JudgedTo b lines l (judged b)
-unfolding judged
-judged-means b lines l s spelled = by b.repeated refl
+-- what is counted to one more than the most tells whether there are more
+pub cut-over : (most n : ℕ) → nat_lt most (cut most n) ≡ nat_lt most n
+cut-over most n = by (nat_le n most) refl
   where
-    has : b.repeated ≡ has_repeat l
-    has = s.2.repeats ∙ ap has_repeat s.3
+    by : (q : Bool) → nat_le n most ≡ q → nat_lt most (cond q n (1 + most)) ≡ nat_lt most n
+    by true e = refl
+    by false e = let over : most < n = leb-false n most e in let next : most < 1 + most = omega arith in lt-ltb most (1 + most) next ∙ sym (lt-ltb most n over)
 
-    deep : b.levels ≡ levels l
-    deep = s.2.has_levels ∙ ap levels s.3
+abbrev JudgedTo : Builder → List (List ℕ) → Said → Result Builder FaultKind → Type 0
+JudgedTo b lines t (Ok after) = IsTree lines t × (after ≡ b)
+JudgedTo b lines t (Err kind) = IsRefused lines kind
 
-    big : (b.size ≤ 1_000_000 → b.size ≡ size l) × (1_000_000 < b.size → 1_000_000 < size l)
-    big = (λ q. s.2.has_size.0 q ∙ ap size s.3, λ q. subst (λ n. 1_000_000 < n) (ap size s.3) (s.2.has_size.1 q))
+-- the measure of what the lines say tells whether they have a tree
+measured-means : (b : Builder) (lines : List (List ℕ)) (t : Said) → Says lines t → JudgedTo b lines t (judged_by (fault_of (measured t)) b)
+measured-means b lines t says = by (has_repeat t) refl
+  where
+    sized : has_repeat t ≡ false → has_unknown t ≡ false → levels t ≤ 64 → (q : Bool) → nat_lt 1_000_000 (size t) ≡ q → JudgedTo b lines t (judged_by (cond q (Some TooManyNodes) None) b)
+    sized f u d true e = (t, says, f, u, d, ltb-true 1_000_000 (size t) e)
+    sized f u d false e = (record { says = says; distinct = f; known = u; shallow = d; small = ltb-false 1_000_000 (size t) e }, refl)
 
-    sized : has_repeat l ≡ false → levels l ≤ 64 → (r : Bool) → nat_lt 1_000_000 b.size ≡ r → JudgedTo b lines l (cond r (Err TooManyNodes) (Ok b))
-    sized f d true e = (l, spelled, f, d, big.1 (ltb-true 1_000_000 b.size e))
-    sized f d false e = (record { spelled = spelled; distinct = f; shallow = d; small = (let le : b.size ≤ 1_000_000 = ltb-false 1_000_000 b.size e in let same = big.0 le in omega arith) }, refl)
+    levelled : has_repeat t ≡ false → has_unknown t ≡ false → (q : Bool) → nat_lt 64 (levels t) ≡ q → JudgedTo b lines t (judged_by (cond q (Some TooDeep) (cond (nat_lt 1_000_000 (cut 1_000_000 (size t))) (Some TooManyNodes) None)) b)
+    levelled f u true e = (t, says, f, u, ltb-true 64 (levels t) e)
+    levelled f u false e = sized f u (ltb-false 64 (levels t) e) (nat_lt 1_000_000 (cut 1_000_000 (size t))) (sym (cut-over 1_000_000 (size t)))
 
-    levelled : has_repeat l ≡ false → (r : Bool) → nat_lt 64 b.levels ≡ r → JudgedTo b lines l (cond r (Err TooDeep) (cond (nat_lt 1_000_000 b.size) (Err TooManyNodes) (Ok b)))
-    levelled f true e = (l, spelled, f, (let lt : 64 < b.levels = ltb-true 64 b.levels e in let same = deep in omega arith))
-    levelled f false e = sized f (let le : b.levels ≤ 64 = ltb-false 64 b.levels e in let same = deep in omega arith) (nat_lt 1_000_000 b.size) refl
+    copied : has_repeat t ≡ false → (q : Bool) → has_unknown t ≡ q → JudgedTo b lines t (judged_by (cond q (Some Alias) (cond (nat_lt 64 (cut 64 (levels t))) (Some TooDeep) (cond (nat_lt 1_000_000 (cut 1_000_000 (size t))) (Some TooManyNodes) None))) b)
+    copied f true e = (t, says, f, e)
+    copied f false e = levelled f e (nat_lt 64 (cut 64 (levels t))) (sym (cut-over 64 (levels t)))
 
-    by : (r : Bool) → b.repeated ≡ r → JudgedTo b lines l (cond r (Err Duplicate) (cond (nat_lt 64 b.levels) (Err TooDeep) (cond (nat_lt 1_000_000 b.size) (Err TooManyNodes) (Ok b))))
-    by true e = (l, spelled, sym has ∙ e)
-    by false e = levelled (sym has ∙ e) (nat_lt 64 b.levels) refl
+    by : (q : Bool) → has_repeat t ≡ q → JudgedTo b lines t (judged_by (cond q (Some Duplicate) (cond (has_unknown t) (Some Alias) (cond (nat_lt 64 (cut 64 (levels t))) (Some TooDeep) (cond (nat_lt 1_000_000 (cut 1_000_000 (size t))) (Some TooManyNodes) None)))) b)
+    by true e = (t, says, e)
+    by false e = copied e (has_unknown t) refl
+
+judged-means : (b : Builder) (lines : List (List ℕ)) (w : Written) → StandsFor b w → Spells (marks_of lines) w → JudgedTo b lines (tree_of w) (judged b)
+unfolding judged
+judged-means b lines w s spelled = subst (λ m. JudgedTo b lines (tree_of w) (judged_by (fault_of m) b)) (sym (measure-means b w s))
+    (measured-means b lines (tree_of w) (record { written = w; spelled = spelled; said = refl }))
 
 -- ---- lines
-
-abbrev pub begun_after : Bool → List (List ℕ) → Bool
-begun_after begun [] = begun
-begun_after begun (line ∷ lines) = begun_after (begun || has_content line) lines
-
-pub tokens_from-append : (begun : Bool) (n : ℕ) (xs ys : List (List ℕ)) → tokens_from begun n (xs ++ ys) ≡ tokens_from begun n xs ++ tokens_from (begun_after begun xs) (n + length xs) ys
-unfolding tokens_from
-tokens_from-append begun n [] ys = let e : n ≡ n + 0 = omega arith in ap (λ k. tokens_from begun k ys) e
-tokens_from-append begun n (x ∷ xs) ys = let e : (1 + n) + length xs ≡ n + length (x ∷ xs) = omega arith in
-    ap (λ ts. line_tokens begun n x ++ ts) (tokens_from-append (begun || has_content x) (1 + n) xs ys)
-    ∙ sym (append_assoc (line_tokens begun n x) (tokens_from (begun || has_content x) (1 + n) xs) _)
-    ∙ ap (λ k. tokens_from begun n (x ∷ xs) ++ tokens_from (begun_after (begun || has_content x) xs) k ys) e
 
 begun_after-push : (begun : Bool) (xs : List (List ℕ)) (y : List ℕ) → begun_after begun (xs ++ (y ∷ [])) ≡ (begun_after begun xs || has_content y)
 begun_after-push begun [] y = refl
 begun_after-push begun (x ∷ xs) y = begun_after-push (begun || has_content x) xs y
 
-tokens_of-push : (xs : List (List ℕ)) (y : List ℕ) (i : ℕ) → length xs ≡ i → tokens_of (xs ++ (y ∷ [])) ≡ tokens_of xs ++ line_tokens (begun_after false xs) (1 + i) y
-unfolding tokens_from
-tokens_of-push xs y i e = tokens_from-append false 1 xs (y ∷ []) ∙ ap (λ ts. tokens_of xs ++ ts) (append-nil (line_tokens (begun_after false xs) (1 + length xs) y))
-    ∙ ap (λ k. tokens_of xs ++ line_tokens (begun_after false xs) (1 + k) y) e
+place_of_next-push : (begun : Bool) (place : Place) (n : ℕ) (xs : List (List ℕ)) (y : List ℕ) → place_of_next begun place n (xs ++ (y ∷ [])) ≡ next_place (begun_after begun xs) (place_of_next begun place n xs) (n + length xs) y
+place_of_next-push begun place n [] y = let e : n ≡ n + 0 = omega arith in ap (λ k. next_place begun place k y) e
+place_of_next-push begun place n (x ∷ xs) y = let e : (1 + n) + length xs ≡ n + length (x ∷ xs) = omega arith in
+    place_of_next-push (begun || has_content x) (next_place begun place n x) (1 + n) xs y
+    ∙ ap (λ k. next_place (begun_after begun (x ∷ xs)) (place_of_next begun place n (x ∷ xs)) k y) e
 
-one_of_two : (front : List Token) (t : Token) (kind : FaultKind) → IsKindAt front t kind → (kind ≡ Syntax) ⊎ (kind ≡ Unsupported)
-one_of_two front (dash line column) kind h = inl h
-one_of_two front (key line column text) kind h = inl h
-one_of_two front (scalar line column text) kind h = inl h
-one_of_two front (odd_token line column odd.Syntax) kind h = inl h
-one_of_two front (odd_token line column odd.Unsupported) kind h = inr h
-one_of_two front (odd_token line column odd.Mark) NotUtf8 h = absurd h
-one_of_two front (odd_token line column odd.Mark) Syntax h = inl refl
-one_of_two front (odd_token line column odd.Mark) Unsupported h = inr refl
-one_of_two front (odd_token line column odd.Mark) Duplicate h = absurd h
-one_of_two front (odd_token line column odd.Mark) Alias h = absurd h
-one_of_two front (odd_token line column odd.Mark) TooDeep h = absurd h
-one_of_two front (odd_token line column odd.Mark) TooManyNodes h = absurd h
+-- where the line behind these, which are all that came, stands
+abbrev place_behind_all : List (List ℕ) → Place
+place_behind_all lines = place_of_next false (Outside None) 1 lines
 
-misfit-refused : (lines : List (List ℕ)) (kind : FaultKind) → IsMisfit (tokens_of lines) kind → IsRefused lines kind
-misfit-refused lines kind h = elim (one_of_two h.front h.token kind h.kind_is) [
-  | inl e ↦ subst (IsRefused lines) (sym e) (subst (IsMisfit (tokens_of lines)) e h)
-  | inr e ↦ subst (IsRefused lines) (sym e) (subst (IsMisfit (tokens_of lines)) e h)
+marks_of-push : (xs : List (List ℕ)) (y : List ℕ) (i : ℕ) → length xs ≡ i → marks_of (xs ++ (y ∷ [])) ≡ marks_of xs ++ line_marks (begun_after false xs) (place_behind_all xs) (1 + i) y
+unfolding marks_from
+marks_of-push xs y i e = marks_from-append false (Outside None) 1 xs (y ∷ []) ∙ ap (λ ms. marks_of xs ++ ms) (append-nil (line_marks (begun_after false xs) (place_behind_all xs) (1 + length xs) y))
+    ∙ ap (λ k. marks_of xs ++ line_marks (begun_after false xs) (place_behind_all xs) (1 + k) y) e
+
+abbrev IsOneOfTwo : FaultKind → Type 0
+IsOneOfTwo kind = (kind ≡ Syntax) ⊎ (kind ≡ Unsupported)
+
+one_of_two-chosen : (b : Bool) → IsOneOfTwo (cond b Syntax Unsupported)
+one_of_two-chosen true = inl refl
+one_of_two-chosen false = inr refl
+
+one_of_two-odd : (why : Odd) → IsOneOfTwo (kind_of why)
+one_of_two-odd odd.Mark = inl refl
+one_of_two-odd odd.Unsupported = inr refl
+one_of_two-odd odd.Syntax = inl refl
+
+one_of_two-piece : (front : List Piece) (piece : Piece) (rest : List Piece) (kind : FaultKind) → IsPieceKind front piece rest kind → IsOneOfTwo kind
+one_of_two-piece front (Opening bracket) rest kind h = subst IsOneOfTwo (sym h) (one_of_two-chosen (closes_at 0 rest))
+one_of_two-piece front (Closing bracket) rest kind h = inl h
+one_of_two-piece front Comma rest kind h = inl h
+one_of_two-piece front (CellKey bytes) rest kind h = inl h
+one_of_two-piece front (CellScalar bytes) rest kind h = inl h
+one_of_two-piece front (CellName name) rest kind h = inl h
+one_of_two-piece front (CellCopy name) rest kind h = inl h
+one_of_two-piece front (OddPiece odd.Syntax) rest kind h = inl h
+one_of_two-piece front (OddPiece odd.Unsupported) rest kind h = inr h
+one_of_two-piece front (OddPiece odd.Mark) rest NotUtf8 h = absurd h
+one_of_two-piece front (OddPiece odd.Mark) rest Syntax h = inl refl
+one_of_two-piece front (OddPiece odd.Mark) rest Unsupported h = inr refl
+one_of_two-piece front (OddPiece odd.Mark) rest Duplicate h = absurd h
+one_of_two-piece front (OddPiece odd.Mark) rest Alias h = absurd h
+one_of_two-piece front (OddPiece odd.Mark) rest TooDeep h = absurd h
+one_of_two-piece front (OddPiece odd.Mark) rest TooManyNodes h = absurd h
+
+one_of_two-flow : (pieces : List Piece) (kind : FaultKind) → IsFlowMisfit pieces kind → IsOneOfTwo kind
+one_of_two-flow pieces kind h = elim h [
+  | inl first ↦ one_of_two-piece first.front first.piece first.rest kind first.kind_is
+  | inr open_still ↦ inr open_still.kind_is
 ]
 
+one_of_two : (front : List Mark) (m : Mark) (kind : FaultKind) → IsKindAt front m kind → IsOneOfTwo kind
+one_of_two front (Dash line column) kind h = inl h
+one_of_two front (Key line column bytes) kind h = inl h
+one_of_two front (Scalar line column bytes) kind h = inl h
+one_of_two front (Name line column bytes) kind h = inl h
+one_of_two front (Copy line column bytes) kind h = inl h
+one_of_two front (Bar line column chomp) kind h = inl h
+one_of_two front (Body line column bytes) kind h = inl h
+one_of_two front (Form line column pieces) kind h = elim h [
+  | inl may ↦ one_of_two-flow pieces kind may.1
+  | inr may_not ↦ subst IsOneOfTwo (sym may_not.1) (one_of_two-odd (why_bracket pieces))
+]
+one_of_two front (OddMark line column odd.Syntax) kind h = inl h
+one_of_two front (OddMark line column odd.Unsupported) kind h = inr h
+one_of_two front (OddMark line column odd.Mark) NotUtf8 h = absurd h
+one_of_two front (OddMark line column odd.Mark) Syntax h = inl refl
+one_of_two front (OddMark line column odd.Mark) Unsupported h = inr refl
+one_of_two front (OddMark line column odd.Mark) Duplicate h = absurd h
+one_of_two front (OddMark line column odd.Mark) Alias h = absurd h
+one_of_two front (OddMark line column odd.Mark) TooDeep h = absurd h
+one_of_two front (OddMark line column odd.Mark) TooManyNodes h = absurd h
+
+misfit-refused : (lines : List (List ℕ)) (kind : FaultKind) → IsMisfit (marks_of lines) kind → IsRefused lines kind
+misfit-refused lines kind h = elim (one_of_two h.front h.mark kind h.kind_is) [
+  | inl e ↦ subst (IsRefused lines) (sym e) (subst (IsMisfit (marks_of lines)) e h)
+  | inr e ↦ subst (IsRefused lines) (sym e) (subst (IsMisfit (marks_of lines)) e h)
+]
+
+-- what the lines are written as, their tree, and the builder that stands for it
+abbrev LinesStand : List (List ℕ) → Builder → Type 0
+LinesStand lines b = (w : Written) × Spells (marks_of lines) w × IsTree lines (tree_of w) × StandsFor b w
+
 abbrev pub ReadsTo : List (List ℕ) → Result Builder YamlFault → Type 0
-ReadsTo lines (Ok b) = (l : Layout) × IsTree lines l × StandsFor b l
+ReadsTo lines (Ok b) = LinesStand lines b
 ReadsTo lines (Err fault) = IsFirstRefused lines fault.line fault.kind
 
 abbrev LineRead : List (List ℕ) → Result Builder FaultKind → Type 0
-LineRead lines (Ok b) = (l : Layout) × IsTree lines l × StandsFor b l
+LineRead lines (Ok b) = LinesStand lines b
 LineRead lines (Err kind) = IsRefused lines kind
 
-line-read : (done : List (List ℕ)) (line : List ℕ) (i : ℕ) (b : Builder) (l : Layout) → length done ≡ i → StandsFor b l → Spells (tokens_of done) l → LineRead (done ++ (line ∷ [])) (read_line (begun_after false done) (1 + i) line b)
+line-read : (done : List (List ℕ)) (line : List ℕ) (i : ℕ) (b : Builder) (w : Written) → length done ≡ i → StandsFor b w → Spells (marks_of done) w → LineRead (done ++ (line ∷ [])) (read_line (begun_after false done) (place_behind_all done) (1 + i) line b)
 unfolding read_line
-line-read done line i b l at s spelled = by (take_tokens ts b) (tokens-taken (tokens_of done) ts b l s reads)
+line-read done line i b w at s spelled = by (take_marks ms b) (marks-taken flow_reader flow_judged (marks_of done) ms b w s reads)
   where
-    ts : List Token
-    ts = line_tokens (begun_after false done) (1 + i) line
+    ms : List Mark
+    ms = line_marks (begun_after false done) (place_behind_all done) (1 + i) line
 
-    whole : List (List ℕ)
-    whole = done ++ (line ∷ [])
+    all : List (List ℕ)
+    all = done ++ (line ∷ [])
 
-    pushed : tokens_of whole ≡ tokens_of done ++ ts
-    pushed = tokens_of-push done line i at
+    pushed : marks_of all ≡ marks_of done ++ ms
+    pushed = marks_of-push done line i at
 
-    reads : with_tokens (tokens_of done) nothing ≡ Some l
-    reads = read-from_Spells (tokens_of done) l spelled
+    reads : with_marks flow_reader (marks_of done) nothing ≡ Some w
+    reads = read-from_Spells flow_reader (marks_of done) w spelled
 
-    after : (b' : Builder) (m : Layout) → StandsFor b' m → (r : Result Builder FaultKind) → JudgedTo b' whole m r → LineRead whole r
-    after b' m s' (Ok c) h = (m, h.0, subst (λ x. StandsFor x m) (sym h.1) s')
-    after b' m s' (Err kind) h = h
+    spelled_behind : (new : Written) → with_marks flow_reader ms w ≡ Some new → Spells (marks_of all) new
+    spelled_behind new e = Spells-from_read flow_reader (marks_of all) new
+        (ap (λ ns. with_marks flow_reader ns nothing) pushed ∙ with_marks-append flow_reader (marks_of done) ms nothing ∙ ap (option_and_then (with_marks flow_reader ms)) reads ∙ e)
 
-    by : (r : Result Builder FaultKind) → TokensTaken (tokens_of done) ts l r → LineRead whole (r >>= judged)
-    by (Ok b') h = after b' h.0 h.2 (judged b') (judged-means b' whole h.0 h.2
-        (Spells-from_read (tokens_of whole) h.0 (ap (λ us. with_tokens us nothing) pushed ∙ with_tokens-append (tokens_of done) ts nothing ∙ ap (option_and_then (with_tokens ts)) reads ∙ h.1)))
-    by (Err kind) h = misfit-refused whole kind (subst (λ us. IsMisfit us kind) (sym pushed) h)
+    after : (b' : Builder) (new : Written) → StandsFor b' new → Spells (marks_of all) new → (r : Result Builder FaultKind) → JudgedTo b' all (tree_of new) r → LineRead all r
+    after b' new s' spelled' (Ok c) h = (new, spelled', h.0, subst (λ x. StandsFor x new) (sym h.1) s')
+    after b' new s' spelled' (Err kind) h = h
 
-pub lines-read : (lines rest : List (List ℕ)) (i : ℕ) (b : Builder) (l : Layout) → i ≤ length lines → drop i lines ≡ rest → StandsFor b l → IsTree (take i lines) l → ((m : ℕ) → m ≤ i → HasTree (take m lines)) → ReadsTo lines (read_lines (begun_after false (take i lines)) (1 + i) rest b)
+    by : (r : Result Builder FaultKind) → MarksTaken flow_reader (marks_of done) ms w r → LineRead all (r >>= judged)
+    by (Ok b') h = let now = spelled_behind h.0 h.1 in after b' h.0 h.2 now (judged b') (judged-means b' all h.0 h.2 now)
+    by (Err kind) h = misfit-refused all kind (subst (λ ns. IsMisfit ns kind) (sym pushed) h)
+
+pub lines-read : (lines rest : List (List ℕ)) (i : ℕ) (b : Builder) → i ≤ length lines → drop i lines ≡ rest → LinesStand (take i lines) b → ((m : ℕ) → m ≤ i → HasTree (take m lines)) → ReadsTo lines (read_lines (begun_after false (take i lines)) (place_behind_all (take i lines)) (1 + i) rest b)
 unfolding read_lines
-lines-read lines [] i b l within at s tree all =
+lines-read lines [] i b within at stand all =
     let len : length lines ≤ i = (let d = length-drop i lines in let e = ap length at in omega arith) in
-    (l, subst (λ ls. IsTree ls l) (take_all i lines len) tree, s)
-lines-read lines (line ∷ rest) i b l within at s tree all =
+    subst (λ ls. LinesStand ls b) (take_all i lines len) stand
+lines-read lines (line ∷ rest) i b within at stand all =
     let lt : i < length lines = (let d = length-drop i lines in let e = ap length at in omega arith) in
     let first = drop_more lines i [] lt in
     let here : get_or lines i [] ≡ line = cc in
     let left : drop (i + 1) lines ≡ rest = cc in
     let next : take (i + 1) lines ≡ take i lines ++ (line ∷ []) = take_more lines i [] lt ∙ ap (λ x. take i lines ++ (x ∷ [])) here in
     let done : List (List ℕ) = take i lines in
+    let many : length done ≡ i = length-take-le i lines within in
     let begun : begun_after false (take (i + 1) lines) ≡ (begun_after false done || has_content line) = ap (begun_after false) next ∙ begun_after-push false done line in
+    let stands : place_behind_all (take (i + 1) lines) ≡ next_place (begun_after false done) (place_behind_all done) (1 + i) line = ap place_behind_all next ∙ place_of_next-push false (Outside None) 1 done line
+    ∙ ap (λ k. next_place (begun_after false done) (place_behind_all done) (1 + k) line) many in
     let n : 1 + (i + 1) ≡ 1 + (1 + i) = omega arith in
-    elim (read_line (begun_after false done) (1 + i) line b) as (λ r. LineRead (done ++ (line ∷ [])) r → ReadsTo lines (at_line (1 + i) r >>= read_lines (begun_after false done || has_content line) (1 + (1 + i)) rest)) [
-      | Ok after ↦ λ h. (let longer : IsTree (take (i + 1) lines) h.0 = subst (λ ls. IsTree ls h.0) (sym next) h.1 in
-          subst (λ k. ReadsTo lines (read_lines (begun_after false done || has_content line) k rest after)) n
-          (subst (λ q. ReadsTo lines (read_lines q (1 + (i + 1)) rest after)) begun
-          (lines-read lines rest (i + 1) after h.0 (omega (arith, lt)) left h.2 longer
-          (λ m le. up_to lines i all (h.0, longer) m le))))
+    elim (read_line (begun_after false done) (place_behind_all done) (1 + i) line b) as (λ r. LineRead (done ++ (line ∷ [])) r → ReadsTo lines (at_line (1 + i) r >>= read_lines (begun_after false done || has_content line) (next_place (begun_after false done) (place_behind_all done) (1 + i) line) (1 + (1 + i)) rest)) [
+      | Ok after ↦ λ h. (let longer : LinesStand (take (i + 1) lines) after = subst (λ ls. LinesStand ls after) (sym next) h in
+          subst (λ k. ReadsTo lines (read_lines (begun_after false done || has_content line) (next_place (begun_after false done) (place_behind_all done) (1 + i) line) k rest after)) n
+          (subst (λ p. ReadsTo lines (read_lines (begun_after false done || has_content line) p (1 + (i + 1)) rest after)) stands
+          (subst (λ q. ReadsTo lines (read_lines q (place_behind_all (take (i + 1) lines)) (1 + (i + 1)) rest after)) begun
+          (lines-read lines rest (i + 1) after (omega (arith, lt)) left longer
+          (λ m le. up_to lines i all (tree_of longer.0, longer.2) m le)))))
       | Err kind ↦ λ h. record {
         within = omega (arith, lt);
         before = λ m less. all m (omega (arith, less));
         refused = subst (λ ls. IsRefused ls kind) (sym next ∙ (let e : i + 1 ≡ 1 + i = omega arith in ap (λ k. take k lines) e)) h;
       }
     ]
-    (line-read done line i b l (length-take-le i lines within) s tree.spelled)
+    (line-read done line i b stand.0 many stand.3 stand.1)
   where
     up_to : (lines : List (List ℕ)) (i : ℕ) → ((m : ℕ) → m ≤ i → HasTree (take m lines)) → HasTree (take (i + 1) lines) → (m : ℕ) → m ≤ i + 1 → HasTree (take m lines)
     up_to lines i all last m le = elim (cases_lt i m) [
@@ -226,57 +316,50 @@ lines-read lines (line ∷ rest) i b l within at s tree all =
 
 -- ---- the whole text
 
-fresh-stands : (alloc : Global) → StandsFor (fresh alloc) nothing
-fresh-stands alloc = ([], nothing, record { opens = tt; holds = refl; repeats = refl; has_levels = refl; has_size = (λ q. refl, λ q. q) }, refl, tt)
+-- no lines say null
+empty-tree : IsTree [] (null 1)
+unfolding marks_from
+empty-tree = record { says = record { written = nothing; spelled = (refl, tt); said = refl }; distinct = refl; known = refl; shallow = omega arith; small = omega arith }
 
-empty-tree : IsTree [] nothing
-unfolding tokens_from
-empty-tree = record { spelled = (refl, tt); distinct = refl; shallow = omega arith; small = omega arith }
+empty-stands : (alloc : Global) → LinesStand [] (fresh alloc)
+unfolding marks_from
+empty-stands alloc = (nothing, (refl, tt), empty-tree, fresh-stands alloc)
 
-pub read-means : (lines : List (List ℕ)) (alloc : Global) → ReadsTo lines (read_lines false 1 lines (fresh alloc))
-read-means lines alloc = lines-read lines lines 0 (fresh alloc) nothing (omega arith) refl (fresh-stands alloc) empty-tree
-    (λ m le. let e : 0 ≡ m = omega (arith, le) in subst (λ k. HasTree (take k lines)) e (nothing, empty-tree))
+pub read-means : (lines : List (List ℕ)) (alloc : Global) → ReadsTo lines (read_lines false (Outside None) 1 lines (fresh alloc))
+read-means lines alloc = lines-read lines lines 0 (fresh alloc) (omega arith) refl (empty-stands alloc)
+    (λ m le. let e : 0 ≡ m = omega (arith, le) in subst (λ k. HasTree (take k lines)) e (null 1, empty-tree))
 
-not_open : (nodes : List Node) (os : List Open) (f : Frame) (fs : List Frame) → OpensAre nodes os (f ∷ fs) → depth f.head ≤ 0 → ⊥
-not_open nodes [] f fs o most = o
-not_open nodes (p ∷ os) f fs o most = let q = head_deep f.head o.0.heads in omega (arith, q, most)
+node_is_in : (nodes : List Node) (t : Said) (n : ℕ) → HoldsSaid nodes t n → n < length nodes
+node_is_in nodes (null line) n h = slice_get_within nodes n _ h
+node_is_in nodes (text line bytes) n h = slice_get_within nodes n _ h
+node_is_in nodes (unknown line) n h = slice_get_within nodes n _ h
+node_is_in nodes (sequence line) n h = slice_get_within nodes n _ h
+node_is_in nodes (mapping line) n h = slice_get_within nodes n _ h
+node_is_in nodes (with_item before value) n h = slice_get_within nodes n _ h.4
+node_is_in nodes (with_pair before line key value) n h = slice_get_within nodes n _ h.4
 
-pub whole-holds : (b : Builder) (l : Layout) → StandsFor b l → HoldsNode (nodes_with_value 1 (settled 0 b).nodes (settled 0 b).value) l 1 (value_number (settled 0 b))
-whole-holds b l h =
-    let st = settled_on-stands 0 b.open_rows b h.0 h.1 refl h.2 (between-full 0 b.value h.1 h.4) in
-    by st.0 st.1 st.2 (st.3 ∙ h.3) st.4
-  where
-    by : (fs : List Frame) (value : Layout) → StandsAt (settled 0 b) fs value → wrap fs value ≡ l → AtMost 0 fs → HoldsNode (nodes_with_value 1 (settled 0 b).nodes (settled 0 b).value) l 1 (value_number (settled 0 b))
-    by [] value s e most = subst (λ m. HoldsNode (nodes_with_value 1 (settled 0 b).nodes (settled 0 b).value) m 1 (value_number (settled 0 b))) e (value_held 1 (settled 0 b).nodes (settled 0 b).value value s.holds)
-    by (f ∷ fs) value s e most = absurd (not_open (settled 0 b).nodes (settled 0 b).open_rows f fs s.opens most)
-
-node_is_in : (nodes : List Node) (l : Layout) (line n : ℕ) → HoldsNode nodes l line n → n < length nodes
-node_is_in nodes nothing line n h = slice_get_within nodes n _ h
-node_is_in nodes (leaf t) line n h = slice_get_within nodes n _ h
-node_is_in nodes (row before t value) line n h = slice_get_within nodes n _ h.4
-
-pub root_is_in : (lines : List (List ℕ)) (alloc : Global) (b : Builder) → read_lines false 1 lines (fresh alloc) ≡ Ok b → RootIsIn b
+pub root_is_in : (lines : List (List ℕ)) (alloc : Global) (b : Builder) → read_lines false (Outside None) 1 lines (fresh alloc) ≡ Ok b → RootIsIn b
 root_is_in lines alloc b e = let r : ReadsTo lines (Ok b) = subst (ReadsTo lines) e (read-means lines alloc) in
-    node_is_in _ r.0 1 (value_number (settled 0 b)) (whole-holds b r.0 r.2)
+    node_is_in _ (tree_of r.0) (root_number b) (whole-holds b r.0 r.3)
 
-fault_of : (text : List ℕ) (line : ℕ) (kind : FaultKind) → IsUtf8 text → IsFirstRefused (lines_of text) line kind → IsFaultOf text line kind
-fault_of text line NotUtf8 u h = absurd h.refused
-fault_of text line Syntax u h = (u, h)
-fault_of text line Unsupported u h = (u, h)
-fault_of text line Duplicate u h = (u, h)
-fault_of text line Alias u h = (u, h)
-fault_of text line TooDeep u h = (u, h)
-fault_of text line TooManyNodes u h = (u, h)
+fault-of_lines : (bytes : List ℕ) (line : ℕ) (kind : FaultKind) → IsUtf8 bytes → IsFirstRefused (lines_of bytes) line kind → IsFaultOf bytes line kind
+fault-of_lines bytes line NotUtf8 u h = absurd h.refused
+fault-of_lines bytes line Syntax u h = (u, h)
+fault-of_lines bytes line Unsupported u h = (u, h)
+fault-of_lines bytes line Duplicate u h = (u, h)
+fault-of_lines bytes line Alias u h = (u, h)
+fault-of_lines bytes line TooDeep u h = (u, h)
+fault-of_lines bytes line TooManyNodes u h = (u, h)
 
-pub tree_read : (text : List ℕ) (alloc : Global) (r : Result Tree TreeError) → IsUtf8 text → IsReading (read_lines false 1 (lines_of text) (fresh alloc)) r → IfOk r (λ t. (layout : Layout) × IsTreeOf text layout × Holds t layout)
-tree_read text alloc (Ok t) u h = let r : ReadsTo (lines_of text) (Ok h.0) = subst (ReadsTo (lines_of text)) h.1 (read-means (lines_of text) alloc) in
-    (r.0, (u, r.1), subst (λ n. HoldsNode t.nodes r.0 1 n) (sym h.2.1) (subst (λ ns. HoldsNode ns r.0 1 (value_number (settled 0 h.0))) (sym h.2.0) (whole-holds h.0 r.0 r.2)))
-tree_read text alloc (Err e) u h = tt
+pub tree_read : (bytes : List ℕ) (alloc : Global) (r : Result Tree TreeError) → IsUtf8 bytes → IsReading (read_lines false (Outside None) 1 (lines_of bytes) (fresh alloc)) r → IfOk r (λ t. (said : Said) × IsTreeOf bytes said × Holds t said)
+tree_read bytes alloc (Ok t) u h = let r : ReadsTo (lines_of bytes) (Ok h.0) = subst (ReadsTo (lines_of bytes)) h.1 (read-means (lines_of bytes) alloc) in
+    (tree_of r.0, (u, r.2), subst (HoldsSaid t.nodes (tree_of r.0)) (sym h.2.1) (subst (λ ns. HoldsSaid ns (tree_of r.0) (root_number h.0)) (sym h.2.0) (whole-holds h.0 r.0 r.3)))
+tree_read bytes alloc (Err e) u h = tt
 
-pub error_read : (text : List ℕ) (alloc : Global) (r : Result Tree TreeError) → IsUtf8 text → IsReading (read_lines false 1 (lines_of text) (fresh alloc)) r → IfErr r (IsErrorOf text)
-error_read text alloc (Ok t) u h = tt
-error_read text alloc (Err (tree.Fault fault)) u h = fault_of text fault.line fault.kind u (subst (ReadsTo (lines_of text)) h (read-means (lines_of text) alloc))
-error_read text alloc (Err tree.NoMemory) u h = tt
+pub error_read : (bytes : List ℕ) (alloc : Global) (r : Result Tree TreeError) → IsUtf8 bytes → IsReading (read_lines false (Outside None) 1 (lines_of bytes) (fresh alloc)) r → IfErr r (IsErrorOf bytes)
+error_read bytes alloc (Ok t) u h = tt
+error_read bytes alloc (Err (tree.Fault fault)) u h = fault-of_lines bytes fault.line fault.kind u (subst (ReadsTo (lines_of bytes)) h (read-means (lines_of bytes) alloc))
+error_read bytes alloc (Err tree.NoMemory) u h = tt
 
 pub error_passes : (error : TreeError) (new : Builder) (read other : Result Builder YamlFault) → read ≡ other → Reads (Err error) new read → IsReading other (Err error)
 error_passes (tree.Fault fault) new read other e h = sym e ∙ h

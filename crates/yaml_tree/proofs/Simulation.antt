@@ -1,571 +1,469 @@
--- The builder stands for a layout: its open collections are the rows on the way to the place where the next value
--- comes, and its nodes hold what is whole.
-use Rattle.std.proofs.Common.{◌≡◌, ℕ, ◌+◌, ◌*◌, ◌<◌, ◌≤◌, Bool, true, false, ◌&&◌, ◌||◌, cond, List, [], ◌∷◌, ◌++◌, Option, Some, None, option_map, unwrap_or, length, slice_get, zero, suc, refl, sym, ap, ◌∙◌, subst, arith, ◌==◌, nat_lt, nat_le, nat_eq, max, is_some, is_none, Result, Ok, Err, inl, inr, ◌⊎◌}
-use Rattle.std.proofs.lemmas.Bool.{leb-true, leb-false, ltb-true, ltb-false, cond-true, cond-false, false≢true, le-ltb, lt-ltb, eqb-true, eq-eqb, ne_eqb}
+-- Each mark that the builder takes is one that the tree as it is written so far takes, and the builder goes on
+-- standing for it.
+use Rattle.std.proofs.Common.{◌≡◌, ℕ, ◌+◌, ◌*◌, ◌<◌, ◌≤◌, Bool, true, false, ◌&&◌, cond, List, [], ◌∷◌, ◌++◌, Option, Some, None, option_map, unwrap_or, Result, Ok, Err, refl, sym, ap, ◌∙◌, subst, append_assoc, arith, ◌==◌, nat_lt, length, is_none, inl, inr, ◌⊎◌, eq-eqb, eqb-true}
 use Rattle.std.proofs.lemmas.Option.{none-some}
-use Rattle.std.proofs.lemmas.List.{append-nil}
-use Rattle.yaml_tree.specs.Tokens.{Token}
-use Rattle.yaml_tree.specs.Tokens.Token.{dash, key, scalar, odd_token}
-use Rattle.yaml_tree.specs.Layout.{Layout, line_of, depth, is_head, same_key, is_among, has_repeat, levels, size}
-use Rattle.yaml_tree.specs.Layout.Layout.{nothing, leaf, row}
-use Rattle.yaml_tree.specs.Holds.{is_key, key_of, first_line, Rows, with_row, rows_value, HoldsNode, HoldsRows, scalar_value}
-use Rattle.yaml_tree.specs.Builder.{nodes_with_value, closed, settled_on, settled, grown, begun, next_row, headed, headed_on, is_shallower, can_hold, with_scalar, odd_kind, take_token, with_node}
-use Rattle.yaml_tree.specs.Entries.{has_key, with_entry}
-use Rattle.yaml_tree.specs.declared.entries.Child.{Child}
+use Rattle.std.proofs.lemmas.Bool.{ltb-true, ltb-false, cond-true, cond-false, false≢true, le-ltb, ne_eqb}
 use Rattle.std.specs.Cmp.Lexicographic.{pointwise}
 use Rattle.std.specs.Map.{lookup}
+use Rattle.std.specs.declared.alloc.Global.{Global}
+use Rattle.yaml_marks.specs.Pieces.{why_bracket}
+use Rattle.yaml_tree.specs.Flows.{Flow, IsForm, SpellsFlow, IsFlowMisfit}
+use Rattle.yaml_tree.specs.Flows.Flow.{absent, word, called as naming, item, pair, form}
+use Rattle.yaml_tree.specs.Outline.{flow_fault}
+use Rattle.yaml_tree.specs.Written.{Written, depth, is_head, is_body_line}
+use Rattle.yaml_tree.specs.Written.Written.{nothing, leaf, literal, flowing, named, row}
+use Rattle.yaml_tree.specs.Said.{Said, Names, Meaning, said, scalar_said, flow_said, body_of, bodies_of, tree_of}
+use Rattle.yaml_tree.specs.Said.Said.{null, unknown}
+use Rattle.yaml_tree.specs.Holds.{HoldsSaid, IsNode, scalar_value}
+use Rattle.yaml_tree.specs.Stack.{measured, one_node, unknown_node, with_part, measure_about}
+use Rattle.yaml_tree.specs.Tree.{kind_of}
+use Rattle.yaml_tree.specs.Trees.{root_number}
+use Rattle.yaml_tree.specs.Builder.{fresh, find_name, with_node, put_node, valued, known_of, settled, is_shallower, can_hold, can_name, with_scalar, with_name, put_found, with_copy, new_literal, with_bar, with_line_of, with_line, ended, take_pieces, formed, with_form, odd_kind, take_mark, value_measure, measure, whole}
+use Rattle.yaml_marks.specs.declared.piece.Piece.{Piece}
+use Rattle.yaml_marks.specs.declared.mark.Mark.{Mark}
+use Rattle.yaml_marks.specs.declared.mark.Mark.TheVariants.{Dash, Key, Scalar, Name, Copy, Bar, Body, Form, OddMark}
+use Rattle.yaml_marks.specs.declared.chomp.Chomp.{Chomp}
+use Rattle.yaml_tree.specs.declared.literal.Literal.{Literal}
+use Rattle.yaml_marks.specs.declared.odd.Odd.{Odd}
+use Rattle.yaml_marks.specs.declared.odd.Odd.TheVariants as odd
 use Rattle.yaml_tree.specs.declared.fault.FaultKind.{FaultKind}
 use Rattle.yaml_tree.specs.declared.fault.FaultKind.TheVariants.{Syntax, Unsupported}
-use Rattle.yaml_tree.specs.declared.fault.Odd.{Odd}
-use Rattle.yaml_tree.specs.declared.fault.Odd.TheVariants as odd
+use Rattle.yaml_tree.specs.declared.known.Measure.{Measure}
+use Rattle.yaml_tree.specs.declared.known.Known.{Known}
 use Rattle.yaml_tree.specs.declared.node.Node.{Node}
-use Rattle.yaml_tree.specs.declared.node.Value.TheVariants.{Null}
 use Rattle.yaml_tree.specs.declared.stack.Open.{Open}
 use Rattle.yaml_tree.specs.declared.builder.Builder.{Builder}
-use Rattle.yaml_tree.proofs.LayoutLaws.{with_token, begun_by, both_true}
+use Rattle.yaml_tree.proofs.WrittenLaws.{FlowReader, begun_by, may_follow_name, with_mark, head_deep}
+use Rattle.yaml_tree.proofs.FlowJudged.{FlowJudged, Judges}
+use Rattle.yaml_tree.proofs.FlowPlay.{Played, flow_played}
+use Rattle.yaml_tree.proofs.KnownLaws.{slice_get-last}
+use Rattle.yaml_tree.proofs.Stands.{KnownIs, NameIs, NamesAre, named_by, Frame, called, wrap, names_at, line_at, HasName, OpenIs, before_of, Chain, OpensAre, LiteralIs, ValueIs, StandsAt, IsShut, Between, StandsFor}
+use Rattle.yaml_tree.proofs.SimulationValues.{meaning_at, said-called, named_by-said, OpensAre-more, put_node-stands, Valued, NoneIs, none_is, valued-stands, row-measure, HasCome, AtMost, Settled, settled_on-stands, Ready, ended-ready}
+use Rattle.yaml_tree.proofs.SimulationHeads.{with_mark-wrap, refused-wrap, called-begins, called-refuses, full-refuses, still_none, none-between, Taken, headed-taken}
 
--- ---- nodes
+-- ---- where a value may come
 
-slice_get-front : {A : Type 0} (xs ys : List A) (n : ℕ) (x : A) → slice_get xs n ≡ Some x → slice_get (xs ++ ys) n ≡ Some x
-slice_get-front [] ys n x e = absurd (none-some x e)
-slice_get-front (y ∷ xs) ys zero x e = e
-slice_get-front (y ∷ xs) ys (suc n) x e = slice_get-front xs ys n x e
+-- whether a value of this depth may come
+abbrev CanHold : FlowReader → ℕ → Builder → List Frame → Written → Bool → Type 0
+CanHold r d b fs value true = (b.value ≡ None) × NoneIs b fs value × Chain d fs
+CanHold r d b fs value false = (m : Mark) → is_head m ≡ false → is_body_line m ≡ false → depth m ≡ d → with_mark r m (wrap fs value) ≡ None
 
-slice_get-last : {A : Type 0} (xs : List A) (y : A) → slice_get (xs ++ (y ∷ [])) (length xs) ≡ Some y
-slice_get-last [] y = refl
-slice_get-last (x ∷ xs) y = slice_get-last xs y
-
-mutual
-  pub HoldsNode-more : (nodes more : List Node) (l : Layout) (line n : ℕ) → HoldsNode nodes l line n → HoldsNode (nodes ++ more) l line n
-  HoldsNode-more nodes more nothing line n h = slice_get-front nodes more n _ h
-  HoldsNode-more nodes more (leaf t) line n h = slice_get-front nodes more n _ h
-  HoldsNode-more nodes more (row before t value) line n h = (h.0, h.1, HoldsRows-more nodes more before h.0 h.2, HoldsNode-more nodes more value (line_of t) h.1 h.3, slice_get-front nodes more n _ h.4)
-
-  pub HoldsRows-more : (nodes more : List Node) (l : Layout) (rows : Rows) → HoldsRows nodes l rows → HoldsRows (nodes ++ more) l rows
-  HoldsRows-more nodes more nothing rows h = h
-  HoldsRows-more nodes more (leaf t) rows h = h
-  HoldsRows-more nodes more (row before t value) rows h = (h.0, h.1, HoldsRows-more nodes more before h.0 h.2, HoldsNode-more nodes more value (line_of t) h.1 h.3, h.4)
-
--- ---- frames
-
--- A row on the way to the place where the next value comes: the rows before it in its collection, and its head.
-pub record Frame : Type 0 where
-  pub before : Layout
-  pub head : Token
-
--- the layout whose next value comes in the innermost of the frames, which stands first
-abbrev pub wrap : List Frame → Layout → Layout
-wrap [] value = value
-wrap (f ∷ fs) value = wrap fs (row f.before f.head value)
-
--- each frame is deeper than those around it
-abbrev pub Chain : ℕ → List Frame → Type 0
-Chain d [] = Unit {0}
-Chain d (f ∷ fs) = (depth f.head < d) × Chain (depth f.head) fs
-
-chain-weaker : (d e : ℕ) (fs : List Frame) → d ≤ e → Chain d fs → Chain e fs
-chain-weaker d e [] le h = tt
-chain-weaker d e (f ∷ fs) le h = (omega (arith, le, h.0), h.1)
-
-option_map-same : {A : Type 0} (o : Option A) → o ≡ option_map (λ x. x) o
-option_map-same None = refl
-option_map-same (Some x) = refl
-
-option_map-twice : {A B C : Type 0} (f : A → B) (g : B → C) (o : Option A) → option_map g (option_map f o) ≡ option_map (λ x. g (f x)) o
-option_map-twice f g None = refl
-option_map-twice f g (Some x) = refl
-
--- a token that is deeper than all frames goes to the innermost
-pub with_token-wrap : (t : Token) (fs : List Frame) (value : Layout) → Chain (depth t) fs → with_token t (wrap fs value) ≡ option_map (wrap fs) (with_token t value)
-with_token-wrap t [] value h = option_map-same (with_token t value)
-with_token-wrap t (f ∷ fs) value h =
-    with_token-wrap t fs (row f.before f.head value) (chain-weaker (depth f.head) (depth t) fs (omega (arith, h.0)) h.1)
-    ∙ ap (option_map (wrap fs)) (cond-true (nat_lt (depth f.head) (depth t)) _ _ (lt-ltb _ _ h.0))
-    ∙ option_map-twice (row f.before f.head) (wrap fs) (with_token t value)
-
-level_again : (t : Token) (f : Frame) (value : Layout) → depth f.head ≡ depth t → is_head t ≡ true → with_token t (row f.before f.head value) ≡ Some (row (row f.before f.head value) t nothing)
-level_again t f value e h = cond-false (nat_lt (depth f.head) (depth t)) _ _ (le-ltb _ _ (omega (arith, e)))
-    ∙ cond-true (is_head t && (depth f.head == depth t)) _ _ (ap (λ k. k && (depth f.head == depth t)) h ∙ eq-eqb (depth f.head) (depth t) e)
-
--- a head as deep as the innermost frame is that collection's next row
-pub with_token-level : (t : Token) (f : Frame) (fs : List Frame) (value : Layout) → depth f.head ≡ depth t → is_head t ≡ true → Chain (depth f.head) fs → with_token t (wrap (f ∷ fs) value) ≡ Some (wrap (record { before = row f.before f.head value; head = t } ∷ fs) nothing)
-with_token-level t f fs value e h chain =
-    with_token-wrap t fs (row f.before f.head value) (subst (λ d. Chain d fs) e chain)
-    ∙ ap (option_map (wrap fs)) (level_again t f value e h)
-
--- ---- limits along the frames
-
-abbrev frames_repeat : List Frame → Bool
-frames_repeat [] = false
-frames_repeat (f ∷ fs) = frames_repeat fs || (has_repeat f.before || is_among f.head f.before)
-
-or_assoc : (a b c : Bool) → (a || (b || c)) ≡ ((a || b) || c)
-or_assoc true b c = refl
-or_assoc false b c = refl
-
-or_false : (a : Bool) → (a || false) ≡ a
-or_false true = refl
-or_false false = refl
-
-has_repeat-wrap : (fs : List Frame) (x : Layout) → has_repeat (wrap fs x) ≡ (frames_repeat fs || has_repeat x)
-has_repeat-wrap [] x = refl
-has_repeat-wrap (f ∷ fs) x = has_repeat-wrap fs (row f.before f.head x) ∙ or_assoc (frames_repeat fs) (has_repeat f.before || is_among f.head f.before) (has_repeat x)
-
-abbrev frames_levels : List Frame → ℕ
-frames_levels [] = 0
-frames_levels (f ∷ fs) = max (frames_levels fs) (length fs + levels f.before)
-
-levels-wrap : (fs : List Frame) (x : Layout) → levels (wrap fs x) ≡ max (frames_levels fs) (length fs + levels x)
-levels-wrap [] x = omega arith
-levels-wrap (f ∷ fs) x = let e = levels-wrap fs (row f.before f.head x) in omega (arith, e)
-
-abbrev frames_size : List Frame → ℕ
-frames_size [] = 0
-frames_size (f ∷ fs) = frames_size fs + size f.before
-
-size-wrap : (fs : List Frame) (x : Layout) → size (wrap fs x) ≡ frames_size fs + size x
-size-wrap [] x = omega arith
-size-wrap (f ∷ fs) x = let e = size-wrap fs (row f.before f.head x) in omega (arith, e)
-
--- counted to one more than a tree has at most
-abbrev pub SizeIs : ℕ → ℕ → Type 0
-SizeIs n s = (n ≤ 1_000_000 → n ≡ s) × (1_000_000 < n → 1_000_000 < s)
-
-grown-SizeIs : (n s : ℕ) → SizeIs n s → SizeIs (grown n) (s + 1)
-grown-SizeIs n s h = by (nat_le n 1_000_000) refl
+can_hold-means : (r : FlowReader) (d : ℕ) (b : Builder) (fs : List Frame) (value : Written) → Ready b fs value → CanHold r d b fs value (can_hold d b)
+can_hold-means r d b fs value ready = by b.value refl
   where
-    by : (t : Bool) → nat_le n 1_000_000 ≡ t → SizeIs (cond t (n + 1) n) (s + 1)
-    by true e = let le : n ≤ 1_000_000 = leb-true n 1_000_000 e in let same = h.0 le in (λ q. omega arith, λ q. omega arith)
-    by false e = let lt : 1_000_000 < n = leb-false n 1_000_000 e in let more = h.1 lt in (λ q. omega arith, λ q. omega arith)
+    shallow : (os : List Open) (gs : List Frame) → OpensAre b.nodes os gs → b.value ≡ None → NoneIs b fs value → ((m : Mark) → is_head m ≡ false → with_mark r m (wrap gs value) ≡ None → with_mark r m (wrap fs value) ≡ None) → (Chain d gs → Chain d fs) → CanHold r d b fs value (is_shallower d os)
+    shallow [] [] h e none out chain = (e, none, chain tt)
+    shallow [] (g ∷ gs) h e none out chain = absurd h
+    shallow (o ∷ os) [] h e none out chain = absurd h
+    shallow (o ∷ os) (g ∷ gs) h e none out chain = let same : o.depth ≡ depth g.head = h.0.has_depth in
+        elim (nat_lt o.depth d) as (λ q. nat_lt o.depth d ≡ q → CanHold r d b fs value q) [
+          | true ↦ λ q. (e, none, chain ((let lt : o.depth < d = ltb-true o.depth d q in omega (arith, lt, same)), h.1))
+          | false ↦ λ q. λ m head line deep. out m head (refused-wrap r m gs (called g.name (row g.before g.head value)) head (called-refuses r m g.name (row g.before g.head value)
+              (cond-false (nat_lt (depth g.head) (depth m)) _ _ (le-ltb _ _ (let le : d ≤ o.depth = ltb-false o.depth d q in omega (arith, le, same, deep)))
+              ∙ ap (λ k. cond (k && (depth g.head == depth m)) (Some (row (row g.before g.head value) m nothing)) None) head)))
+        ] refl
 
--- ---- standing for a layout
+    by : (v : Option Known) → b.value ≡ v → CanHold r d b fs value (is_none v && is_shallower d b.open_rows)
+    by (Some k) e = λ m head line deep. refused-wrap r m fs value head (full-refuses r m d value deep line (subst (λ v. HasCome d v value) e (ready.come d)))
+    by None e = shallow b.open_rows fs ready.stands.opens e (none_is b fs value e ready.shut ready.stands) (λ m head h. h) (λ h. h)
 
-abbrev pub ValueIs : List Node → Option ℕ → Layout → Type 0
-ValueIs nodes None value = value ≡ nothing
-ValueIs nodes (Some n) value = (line : ℕ) → HoldsNode nodes value line n
+-- a mark that begins a value where one may come
+value-begins : (r : FlowReader) (m : Mark) (b : Builder) (fs : List Frame) (value new : Written) → may_follow_name m ≡ true → begun_by r m ≡ Some new → (none : NoneIs b fs value) → Chain (depth m) fs → with_mark r m (wrap fs value) ≡ Some (wrap fs (called none.0 new))
+value-begins r m b fs value new follows begins none chain =
+    ap (λ v. with_mark r m (wrap fs v)) none.2 ∙ with_mark-wrap r m fs (called none.0 nothing) chain
+    ∙ ap (option_map (wrap fs)) (called-begins r m none.0 follows ∙ ap (option_map (called none.0)) begins)
 
--- where a value has come, it takes no token of this depth
-abbrev pub Full : ℕ → Layout → Type 0
-Full d nothing = ⊥
-Full d (leaf t) = Unit {0}
-Full d (row before head value) = d < depth head
-
-abbrev pub ValueFull : ℕ → Option ℕ → Layout → Type 0
-ValueFull d None value = Unit {0}
-ValueFull d (Some n) value = Full d value
-
-pub record OpenIs (o : Open) (f : Frame) : Type 0 where
-  pub has_depth : o.depth ≡ depth f.head
-  pub has_kind : o.mapping ≡ is_key f.head
-  pub has_line : o.line ≡ line_of f.head
-  pub has_first : o.first_line ≡ first_line f.before f.head
-  pub has_name : o.key ≡ key_of f.head
-  pub heads : is_head f.head ≡ true
-
-abbrev pub rows_of : Open → Rows
-rows_of o = record { items = o.items; entries = o.entries }
-
-abbrev pub OpensAre : List Node → List Open → List Frame → Type 0
-OpensAre nodes [] [] = Unit {0}
-OpensAre nodes [] (f ∷ fs) = ⊥
-OpensAre nodes (o ∷ os) [] = ⊥
-OpensAre nodes (o ∷ os) (f ∷ fs) = OpenIs o f × HoldsRows nodes f.before (rows_of o) × Chain (depth f.head) fs × OpensAre nodes os fs
-
-pub record StandsAt (b : Builder) (fs : List Frame) (value : Layout) : Type 0 where
-  pub opens : OpensAre b.nodes b.open_rows fs
-  pub holds : ValueIs b.nodes b.value value
-  pub repeats : b.repeated ≡ has_repeat (wrap fs value)
-  pub has_levels : b.levels ≡ levels (wrap fs value)
-  pub has_size : SizeIs b.size (size (wrap fs value))
-
-OpensAre-more : (nodes more : List Node) (os : List Open) (fs : List Frame) → OpensAre nodes os fs → OpensAre (nodes ++ more) os fs
-OpensAre-more nodes more [] [] h = tt
-OpensAre-more nodes more [] (f ∷ fs) h = h
-OpensAre-more nodes more (o ∷ os) [] h = h
-OpensAre-more nodes more (o ∷ os) (f ∷ fs) h = (h.0, HoldsRows-more nodes more f.before (rows_of o) h.1, h.2, OpensAre-more nodes more os fs h.3)
-
-with_value_grows : (line : ℕ) (nodes : List Node) (value : Option ℕ) → (more : List Node) × (nodes ++ more ≡ nodes_with_value line nodes value)
-with_value_grows line nodes None = (record { line = line; value = Null } ∷ [], refl)
-with_value_grows line nodes (Some n) = ([], append-nil nodes)
-
-pub value_held : (line : ℕ) (nodes : List Node) (number : Option ℕ) (value : Layout) → ValueIs nodes number value → HoldsNode (nodes_with_value line nodes number) value line (unwrap_or number (length nodes))
-value_held line nodes None value h = subst (λ v. HoldsNode (nodes ++ (record { line = line; value = Null } ∷ [])) v line (length nodes)) (sym h) (slice_get-last nodes _)
-value_held line nodes (Some n) value h = h line
-
-closed-stands : (o : Open) (os : List Open) (b : Builder) (f : Frame) (fs : List Frame) (value : Layout) → StandsAt b (f ∷ fs) value → b.open_rows ≡ o ∷ os → StandsAt (closed o (record b { open_rows = os })) fs (row f.before f.head value)
-unfolding closed
-closed-stands o os b f fs value s e =
-    let opens : OpensAre b.nodes (o ∷ os) (f ∷ fs) = subst (λ l. OpensAre b.nodes l (f ∷ fs)) e s.opens in
-    let is : OpenIs o f = opens.0 in
-    let m : ℕ = unwrap_or b.value (length b.nodes) in
-    let first : List Node = nodes_with_value o.line b.nodes b.value in
-    let grows = with_value_grows o.line b.nodes b.value in
-    let node : Node = record { line = o.first_line; value = rows_value o.mapping (with_row o.mapping o.line o.key m (rows_of o)) } in
-    let last : List Node = node ∷ [] in
-    record {
-      opens = OpensAre-more first last os fs (subst (λ l. OpensAre l os fs) grows.1 (OpensAre-more b.nodes grows.0 os fs opens.3));
-      holds = λ line. (
-        rows_of o,
-        m,
-        HoldsRows-more first last f.before (rows_of o) (subst (λ l. HoldsRows l f.before (rows_of o)) grows.1 (HoldsRows-more b.nodes grows.0 f.before (rows_of o) opens.1)),
-        HoldsNode-more first last value (line_of f.head) m (subst (λ k. HoldsNode first value k m) is.has_line (value_held o.line b.nodes b.value value s.holds)),
-        slice_get-last first node ∙ (λ j. Some (record { line = is.has_first j; value = rows_value (is.has_kind j) (with_row (is.has_kind j) (is.has_line j) (is.has_name j) m (rows_of o)) })),
-      );
-      repeats = s.repeats;
-      has_levels = s.has_levels;
-      has_size = s.has_size;
-    }
-
--- ---- closing what is deeper
-
-abbrev pub AtMost : ℕ → List Frame → Type 0
-AtMost d [] = Unit {0}
-AtMost d (f ∷ fs) = depth f.head ≤ d
-
-abbrev pub SettledTo : ℕ → Builder → Layout → Type 0
-SettledTo d b l = (fs : List Frame) × (value : Layout) × StandsAt b fs value × (wrap fs value ≡ l) × AtMost d fs × ValueFull d b.value value
-
-pub settled_on-stands : (d : ℕ) (os : List Open) (b : Builder) (fs : List Frame) (value : Layout) → b.open_rows ≡ os → StandsAt b fs value → ValueFull d b.value value → SettledTo d (settled_on d os b) (wrap fs value)
-unfolding settled_on closed
-settled_on-stands d [] b [] value e s full = ([], value, s, refl, tt, full)
-settled_on-stands d [] b (f ∷ fs) value e s full = absurd (subst (λ l. OpensAre b.nodes l (f ∷ fs)) e s.opens)
-settled_on-stands d (o ∷ os) b [] value e s full = absurd (subst (λ l. OpensAre b.nodes l []) e s.opens)
-settled_on-stands d (o ∷ os) b (f ∷ fs) value e s full =
-    let opens : OpensAre b.nodes (o ∷ os) (f ∷ fs) = subst (λ l. OpensAre b.nodes l (f ∷ fs)) e s.opens in
-    let is : OpenIs o f = opens.0 in
-    elim (nat_lt d o.depth) as (λ t. nat_lt d o.depth ≡ t → SettledTo d (cond t (settled_on d os (closed o (record b { open_rows = os }))) b) (wrap (f ∷ fs) value)) [
-      | true ↦ λ q. settled_on-stands d os (closed o (record b { open_rows = os })) fs (row f.before f.head value) refl (closed-stands o os b f fs value s e)
-          (let lt : d < o.depth = ltb-true d o.depth q in let same = is.has_depth in omega arith)
-      | false ↦ λ q. (f ∷ fs, value, s, refl, (let le : o.depth ≤ d = ltb-false d o.depth q in let same = is.has_depth in omega arith), full)
-    ] refl
-
--- ---- heads
-
-scalars-refuse : (d : ℕ) (t : Token) (value : Layout) → depth t ≡ d → Full d value → with_token t value ≡ None
-scalars-refuse d t nothing e full = absurd full
-scalars-refuse d t (leaf other) e full = refl
-scalars-refuse d t (row before head value) e full =
-    cond-false (nat_lt (depth head) (depth t)) _ _ (le-ltb _ _ (omega (arith, e, full)))
-    ∙ cond-false (is_head t && (depth head == depth t)) _ _ (and_false (is_head t) (depth head == depth t) (ne_eqb (depth head) (depth t) (λ q. omega (arith, q, e, full))))
-  where
-    and_false : (a b : Bool) → b ≡ false → (a && b) ≡ false
-    and_false true b e = e
-    and_false false b e = refl
-
-begun_by-head : (t : Token) → is_head t ≡ true → begun_by t ≡ Some (row nothing t nothing)
-begun_by-head (dash line column) h = refl
-begun_by-head (key line column text) h = refl
-begun_by-head (scalar line column text) h = absurd (false≢true h)
-begun_by-head (odd_token line column why) h = absurd (false≢true h)
-
--- between tokens the value has not come, or is a scalar
-abbrev pub Between : Option ℕ → Layout → Type 0
-Between None value = Unit {0}
-Between (Some n) nothing = ⊥
-Between (Some n) (leaf t) = Unit {0}
-Between (Some n) (row before head value) = ⊥
-
-pub between-full : (d : ℕ) (number : Option ℕ) (value : Layout) → Between number value → ValueFull d number value
-between-full d None value h = tt
-between-full d (Some n) nothing h = h
-between-full d (Some n) (leaf t) h = tt
-between-full d (Some n) (row before head value) h = absurd h
-
-abbrev pub StandsFor : Builder → Layout → Type 0
-StandsFor b l = (fs : List Frame) × (value : Layout) × StandsAt b fs value × (wrap fs value ≡ l) × Between b.value value
-
-length-opens : (nodes : List Node) (os : List Open) (fs : List Frame) → OpensAre nodes os fs → length os ≡ length fs
-length-opens nodes [] [] h = refl
-length-opens nodes [] (f ∷ fs) h = absurd h
-length-opens nodes (o ∷ os) [] h = absurd h
-length-opens nodes (o ∷ os) (f ∷ fs) h = let e = length-opens nodes os fs h.3 in omega (arith, e)
-
--- what a step left stands for the layout with the token, or the token was refused as a fault of syntax
-abbrev pub Taken : Token → Layout → Result Builder FaultKind → Type 0
-Taken t l (Ok b) = (new : Layout) × (with_token t l ≡ Some new) × StandsFor b new
-Taken t l (Err kind) = (with_token t l ≡ None) × (kind ≡ Syntax)
-
-begun-taken : (t : Token) (b : Builder) (fs : List Frame) (value : Layout) → is_head t ≡ true → StandsAt b fs value → Chain (depth t) fs → ValueFull (depth t) b.value value → Taken t (wrap fs value) (begun (depth t) (is_key t) (line_of t) (key_of t) b)
-unfolding begun
-begun-taken t b fs value h s chain full = by b.value refl
-  where
-    new : Frame
-    new = record { before = nothing; head = t }
-
-    by : (number : Option ℕ) → b.value ≡ number → Taken t (wrap fs value) (cond (is_some number) (Err Syntax) (Ok (record b { open_rows = record { depth = depth t; mapping = is_key t; first_line = line_of t; items = []; entries = []; line = line_of t; key = key_of t } ∷ b.open_rows; levels = max b.levels (1 + length b.open_rows); size = grown b.size })))
-    by (Some n) e = (with_token-wrap t fs value chain ∙ ap (option_map (wrap fs)) (scalars-refuse (depth t) t value refl (subst (λ v. ValueFull (depth t) v value) e full)), refl)
-    by None e =
-        let none : value ≡ nothing = subst (λ v. ValueIs b.nodes v value) e s.holds in
-        let lev = levels-wrap fs value in let lev' = levels-wrap fs (row nothing t nothing) in
-        let nolev : levels value ≡ 0 = ap levels none in
-        let siz = size-wrap fs value in let siz' = size-wrap fs (row nothing t nothing) in
-        let nosiz : size value ≡ 1 = ap size none in
-        let len = length-opens b.nodes b.open_rows fs s.opens in
-        let held = s.has_levels in
-        let same : size (wrap fs value) + 1 ≡ size (wrap fs (row nothing t nothing)) = omega (arith, siz, siz', nosiz) in (
-          wrap fs (row nothing t nothing),
-          ap (λ v. with_token t (wrap fs v)) none ∙ with_token-wrap t fs nothing chain ∙ ap (option_map (wrap fs)) (begun_by-head t h),
-          (
-            new ∷ fs,
-            nothing,
-            record {
-              opens = (record { has_depth = refl; has_kind = refl; has_line = refl; has_first = refl; has_name = refl; heads = h }, refl, chain, s.opens);
-              holds = subst (λ v. ValueIs b.nodes v nothing) (sym e) refl;
-              repeats = s.repeats ∙ has_repeat-wrap fs value ∙ ap (λ v. frames_repeat fs || has_repeat v) none ∙ sym (has_repeat-wrap fs (row nothing t nothing));
-              has_levels = omega (arith, lev, lev', nolev, len, held);
-              has_size = subst (λ n. SizeIs (grown b.size) n) same (grown-SizeIs b.size (size (wrap fs value)) s.has_size);
-            },
-            refl,
-            subst (λ v. Between v nothing) (sym e) tt,
-          ),
-        )
-
--- ---- a collection's next row
-
-same_bytes : (a b : List ℕ) → pointwise ◌==◌ a b ≡ true → a ≡ b
-same_bytes [] [] h = refl
-same_bytes [] (y ∷ b) h = absurd (false≢true h)
-same_bytes (x ∷ a) [] h = absurd (false≢true h)
-same_bytes (x ∷ a) (y ∷ b) h = let q = both_true (x == y) (pointwise ◌==◌ a b) h in λ j. eqb-true x y q.0 j ∷ same_bytes a b q.1 j
-
-is_among-dash : (t : Token) (l : Layout) → is_key t ≡ false → is_among t l ≡ false
-is_among-dash t nothing h = refl
-is_among-dash t (leaf other) h = refl
-is_among-dash t (row before head value) h = ap (λ a. a || same_key t head) (is_among-dash t before h) ∙ no_key t head h
-  where
-    no_key : (t head : Token) → is_key t ≡ false → same_key t head ≡ false
-    no_key (dash line column) head h = refl
-    no_key (key line column text) head h = absurd (false≢true (sym h))
-    no_key (scalar line column text) head h = refl
-    no_key (odd_token line column why) head h = refl
-
-has_key-with_entry : (name other : List ℕ) (es : List (List ℕ × Child)) (child : Child) → has_key name (with_entry es other child) ≡ (has_key name es || pointwise ◌==◌ name other)
-has_key-with_entry name other [] child = by (pointwise ◌==◌ name other)
-  where
-    by : (t : Bool) → is_some (cond t (Some child) None) ≡ (false || t)
-    by true = refl
-    by false = refl
-has_key-with_entry name other (e ∷ es) child = elim (pointwise ◌==◌ other e.0) as (λ t. pointwise ◌==◌ other e.0 ≡ t → has_key name (cond t ((e.0, child) ∷ es) (e ∷ with_entry es other child)) ≡ (has_key name (e ∷ es) || pointwise ◌==◌ name other)) [
-  | true ↦ λ q. subst (λ k. has_key name ((e.0, child) ∷ es) ≡ (has_key name (e ∷ es) || pointwise ◌==◌ name k)) (sym (same_bytes other e.0 q)) (there (pointwise ◌==◌ name e.0) e.1 (lookup (pointwise ◌==◌ name) es))
-  | false ↦ λ q. later (pointwise ◌==◌ name e.0) (pointwise ◌==◌ name other) e.1 (lookup (pointwise ◌==◌ name) es) (lookup (pointwise ◌==◌ name) (with_entry es other child)) (has_key-with_entry name other es child)
-] refl
-  where
-    there : (t : Bool) (old : Child) (rest : Option Child) → is_some (cond t (Some child) rest) ≡ (is_some (cond t (Some old) rest) || t)
-    there true old rest = refl
-    there false old rest = sym (or_false (is_some rest))
-
-    later : (t u : Bool) (old : Child) (rest more : Option Child) → is_some more ≡ (is_some rest || u) → is_some (cond t (Some old) more) ≡ (is_some (cond t (Some old) rest) || u)
-    later true u old rest more e = refl
-    later false u old rest more e = e
-
--- the entries have a key exactly where a row has it
-keys_agree : (nodes : List Node) (l : Layout) (rows : Rows) (line column : ℕ) (text : List ℕ) → HoldsRows nodes l rows → has_key text rows.entries ≡ is_among (key line column text) l
-keys_agree nodes nothing rows line column text h = ap (λ r. has_key text r.entries) h
-keys_agree nodes (leaf other) rows line column text h = absurd h
-keys_agree nodes (row before (key line' column' text') value) rows line column text h =
-    ap (λ r. has_key text r.entries) h.4 ∙ has_key-with_entry text text' h.0.entries (record { line = line'; node = h.1 })
-    ∙ ap (λ a. a || pointwise nat_eq text text') (keys_agree nodes before h.0 line column text h.2)
-keys_agree nodes (row before (dash line' column') value) rows line column text h =
-    ap (λ r. has_key text r.entries) h.4 ∙ keys_agree nodes before h.0 line column text h.2 ∙ sym (or_false _)
-keys_agree nodes (row before (scalar line' column' text') value) rows line column text h =
-    ap (λ r. has_key text r.entries) h.4 ∙ keys_agree nodes before h.0 line column text h.2 ∙ sym (or_false _)
-keys_agree nodes (row before (odd_token line' column' why) value) rows line column text h =
-    ap (λ r. has_key text r.entries) h.4 ∙ keys_agree nodes before h.0 line column text h.2 ∙ sym (or_false _)
-
-same_kind : (a b : Token) → is_head a ≡ true → is_head b ≡ true → depth a ≡ depth b → is_key a ≡ is_key b
-same_kind (dash line column) (dash line' column') ha hb e = refl
-same_kind (dash line column) (key line' column' text') ha hb e = absurd (omega arith)
-same_kind (key line column text) (dash line' column') ha hb e = absurd (omega arith)
-same_kind (key line column text) (key line' column' text') ha hb e = refl
-same_kind (scalar line column text) b ha hb e = absurd (false≢true ha)
-same_kind (odd_token line column why) b ha hb e = absurd (false≢true ha)
-same_kind (dash line column) (scalar line' column' text') ha hb e = absurd (false≢true hb)
-same_kind (dash line column) (odd_token line' column' why') ha hb e = absurd (false≢true hb)
-same_kind (key line column text) (scalar line' column' text') ha hb e = absurd (false≢true hb)
-same_kind (key line column text) (odd_token line' column' why') ha hb e = absurd (false≢true hb)
-
--- whether a finished row has the key, as the code asks it
-has_row_is : (nodes : List Node) (l : Layout) (rows : Rows) (t : Token) (mapping : Bool) → HoldsRows nodes l rows → is_head t ≡ true → mapping ≡ is_key t → (mapping && has_key (key_of t) rows.entries) ≡ is_among t l
-has_row_is nodes l rows (dash line column) mapping h head e = ap (λ m. m && has_key [] rows.entries) e ∙ sym (is_among-dash (dash line column) l refl)
-has_row_is nodes l rows (key line column text) mapping h head e = ap (λ m. m && has_key text rows.entries) e ∙ keys_agree nodes l rows line column text h
-has_row_is nodes l rows (scalar line column text) mapping h head e = absurd (false≢true head)
-has_row_is nodes l rows (odd_token line column why) mapping h head e = absurd (false≢true head)
-
-next_row-stands : (t : Token) (o : Open) (os : List Open) (b : Builder) (f : Frame) (fs : List Frame) (value : Layout) → is_head t ≡ true → depth f.head ≡ depth t → StandsAt b (f ∷ fs) value → b.open_rows ≡ o ∷ os → StandsAt (next_row o (line_of t) (key_of t) (record b { open_rows = os })) (record { before = row f.before f.head value; head = t } ∷ fs) nothing
-unfolding next_row
-next_row-stands t o os b f fs value head level s e =
-    let opens : OpensAre b.nodes (o ∷ os) (f ∷ fs) = subst (λ l. OpensAre b.nodes l (f ∷ fs)) e s.opens in
-    let is : OpenIs o f = opens.0 in
-    let m : ℕ = unwrap_or b.value (length b.nodes) in
-    let first : List Node = nodes_with_value o.line b.nodes b.value in
-    let grows = with_value_grows o.line b.nodes b.value in
-    let whole : Layout = row f.before f.head value in
-    let rows : Rows = with_row o.mapping o.line o.key m (rows_of o) in
-    let kind : o.mapping ≡ is_key t = is.has_kind ∙ same_kind f.head t is.heads head level in
-    let holds : HoldsRows first whole rows = (
-      rows_of o,
-      m,
-      subst (λ l. HoldsRows l f.before (rows_of o)) grows.1 (HoldsRows-more b.nodes grows.0 f.before (rows_of o) opens.1),
-      subst (λ k. HoldsNode first value k m) is.has_line (value_held o.line b.nodes b.value value s.holds),
-      (λ j. with_row (is.has_kind j) (is.has_line j) (is.has_name j) m (rows_of o)),
-    ) in
-    let lev = levels-wrap fs whole in let lev' = levels-wrap fs (row whole t nothing) in
-    let siz = size-wrap fs whole in let siz' = size-wrap fs (row whole t nothing) in
-    let has = s.has_levels in
-    let bigger : size (wrap fs whole) + 1 ≡ size (wrap fs (row whole t nothing)) = omega (arith, siz, siz') in
-    record {
-      opens = (
-        record { has_depth = is.has_depth ∙ level; has_kind = kind; has_line = refl; has_first = is.has_first; has_name = refl; heads = head },
-        holds,
-        subst (λ d. Chain d fs) level opens.2,
-        subst (λ l. OpensAre l os fs) grows.1 (OpensAre-more b.nodes grows.0 os fs opens.3),
-      );
-      holds = refl;
-      repeats = (λ j. (s.repeats ∙ has_repeat-wrap fs whole) j || has_row_is first whole rows t o.mapping holds head kind j)
-          ∙ sym (or_assoc (frames_repeat fs) (has_repeat whole) (is_among t whole))
-          ∙ ap (λ q. frames_repeat fs || q) (sym (or_false (has_repeat whole || is_among t whole)))
-          ∙ sym (has_repeat-wrap fs (row whole t nothing));
-      has_levels = omega (arith, lev, lev', has);
-      has_size = subst (λ n. SizeIs (grown b.size) n) bigger (grown-SizeIs b.size (size (wrap fs whole)) s.has_size);
-    }
-
-next_value : (t : Token) (o : Open) (os : List Open) (b : Builder) → Between (next_row o (line_of t) (key_of t) (record b { open_rows = os })).value nothing
-unfolding next_row
-next_value t o os b = tt
-
-headed_on-taken : (t : Token) (os : List Open) (b : Builder) (fs : List Frame) (value : Layout) → is_head t ≡ true → b.open_rows ≡ os → StandsAt b fs value → AtMost (depth t) fs → ValueFull (depth t) b.value value → Taken t (wrap fs value) (headed_on (depth t) (is_key t) (line_of t) (key_of t) os b)
-headed_on-taken t [] b [] value head e s most full = begun-taken t b [] value head s tt full
-headed_on-taken t [] b (f ∷ fs) value head e s most full = absurd (subst (λ l. OpensAre b.nodes l (f ∷ fs)) e s.opens)
-headed_on-taken t (o ∷ os) b [] value head e s most full = absurd (subst (λ l. OpensAre b.nodes l []) e s.opens)
-headed_on-taken t (o ∷ os) b (f ∷ fs) value head e s most full =
-    let opens : OpensAre b.nodes (o ∷ os) (f ∷ fs) = subst (λ l. OpensAre b.nodes l (f ∷ fs)) e s.opens in
-    let is : OpenIs o f = opens.0 in
-    let new : List Frame = record { before = row f.before f.head value; head = t } ∷ fs in
-    elim (o.depth == depth t) as (λ q. (o.depth == depth t) ≡ q → Taken t (wrap (f ∷ fs) value) (cond q (Ok (next_row o (line_of t) (key_of t) (record b { open_rows = os }))) (begun (depth t) (is_key t) (line_of t) (key_of t) b))) [
-      | true ↦ λ q. (let level : depth f.head ≡ depth t = sym is.has_depth ∙ eqb-true o.depth (depth t) q in
-          (wrap new nothing, with_token-level t f fs value level head opens.2, (new, nothing, next_row-stands t o os b f fs value head level s e, refl, next_value t o os b)))
-      | false ↦ λ q. begun-taken t b (f ∷ fs) value head s
-          ((let other : (o.depth ≡ depth t → ⊥) = λ w. false≢true (sym q ∙ eq-eqb o.depth (depth t) w) in let same = is.has_depth in omega (arith, other, same, most)), opens.2) full
-    ] refl
-
-pub headed-taken : (t : Token) (b : Builder) (fs : List Frame) (value : Layout) → is_head t ≡ true → StandsAt b fs value → ValueFull (depth t) b.value value → Taken t (wrap fs value) (headed (depth t) (is_key t) (line_of t) (key_of t) b)
-unfolding headed
-headed-taken t b fs value head s full =
-    let st = settled_on-stands (depth t) b.open_rows b fs value refl s full in
-    subst (λ l. Taken t l (headed_on (depth t) (is_key t) (line_of t) (key_of t) (settled (depth t) b).open_rows (settled (depth t) b))) st.3
-    (headed_on-taken t (settled (depth t) b).open_rows (settled (depth t) b) st.0 st.1 head refl st.2 st.4 st.5)
+shut-called : (name : Option Mark) (value : Written) → IsShut value → IsShut (called name value)
+shut-called None value h = h
+shut-called (Some mark) value h = h
 
 -- ---- scalars
 
-refused-wrap : (t : Token) (fs : List Frame) (x : Layout) → is_head t ≡ false → with_token t x ≡ None → with_token t (wrap fs x) ≡ None
-refused-wrap t [] x h e = e
-refused-wrap t (f ∷ fs) x h e = refused-wrap t fs (row f.before f.head x) h (inner (nat_lt (depth f.head) (depth t)))
-  where
-    inner : (q : Bool) → cond q (option_map (row f.before f.head) (with_token t x)) (cond (is_head t && (depth f.head == depth t)) (Some (row (row f.before f.head x) t nothing)) None) ≡ None
-    inner true = ap (option_map (row f.before f.head)) e
-    inner false = ap (λ k. cond (k && (depth f.head == depth t)) (Some (row (row f.before f.head x) t nothing)) None) h
+scalar-holds : (nodes : List Node) (line : ℕ) (text : Option (List ℕ)) (n : ℕ) → IsNode nodes n line (scalar_value text) → HoldsSaid nodes (scalar_said line text) n
+scalar-holds nodes line None n h = h
+scalar-holds nodes line (Some bytes) n h = h
 
--- whether a scalar of this depth may be the value
-abbrev pub CanHold : ℕ → Builder → List Frame → Layout → Bool → Type 0
-CanHold d b fs value true = (b.value ≡ None) × (value ≡ nothing) × Chain d fs
-CanHold d b fs value false = (t : Token) → is_head t ≡ false → depth t ≡ d → with_token t (wrap fs value) ≡ None
+scalar-measure : (line : ℕ) (text : Option (List ℕ)) → one_node ≡ measured (scalar_said line text)
+scalar-measure line None = refl
+scalar-measure line (Some bytes) = refl
 
-leaf-refuses : (t : Token) (n : ℕ) (value : Layout) → Between (Some n) value → with_token t value ≡ None
-leaf-refuses t n nothing h = absurd h
-leaf-refuses t n (leaf other) h = refl
-leaf-refuses t n (row before head value) h = absurd h
+put-between : (line : ℕ) (b : Builder) (text : Option (List ℕ)) (value : Written) → IsShut value → Between (put_node line (scalar_value text) one_node b).value value
+unfolding put_node
+put-between line b text value h = h
 
-can_hold-means : (d : ℕ) (b : Builder) (fs : List Frame) (value : Layout) → StandsAt b fs value → Between b.value value → CanHold d b fs value (can_hold d b)
-can_hold-means d b fs value s between = by b.value refl
-  where
-    shallow : (os : List Open) (gs : List Frame) → OpensAre b.nodes os gs → b.value ≡ None → value ≡ nothing → CanHold d b gs value (is_shallower d os)
-    shallow [] [] h e none = (e, none, tt)
-    shallow [] (g ∷ gs) h e none = absurd h
-    shallow (o ∷ os) [] h e none = absurd h
-    shallow (o ∷ os) (g ∷ gs) h e none = elim (nat_lt o.depth d) as (λ q. nat_lt o.depth d ≡ q → CanHold d b (g ∷ gs) value q) [
-      | true ↦ λ q. (e, none, ((let lt : o.depth < d = ltb-true o.depth d q in let same = h.0.has_depth in omega arith), h.2))
-      | false ↦ λ q. λ t head same. refused-wrap t gs (row g.before g.head value) head
-          (cond-false (nat_lt (depth g.head) (depth t)) _ _ (le-ltb _ _ (let le : d ≤ o.depth = ltb-false o.depth d q in let is = h.0.has_depth in omega arith))
-          ∙ ap (λ k. cond (k && (depth g.head == depth t)) (Some (row (row g.before g.head value) t nothing)) None) head)
-    ] refl
-
-    by : (number : Option ℕ) → b.value ≡ number → CanHold d b fs value (is_none number && is_shallower d b.open_rows)
-    by (Some n) e = λ t head same. refused-wrap t fs value head (leaf-refuses t n value (subst (λ v. Between v value) e between))
-    by None e = shallow b.open_rows fs s.opens e (subst (λ v. ValueIs b.nodes v value) e s.holds)
-
-with_scalar-taken : (line column : ℕ) (text : Option (List ℕ)) (b : Builder) (fs : List Frame) (value : Layout) → StandsAt b fs value → Between b.value value → Taken (scalar line column text) (wrap fs value) (with_scalar (1 + 2 * column) line text b)
+with_scalar-taken : (r : FlowReader) (line column : ℕ) (text : Option (List ℕ)) (b : Builder) (fs : List Frame) (value : Written) → Ready b fs value → Taken r (Scalar line column text) (wrap fs value) (with_scalar (1 + 2 * column) line text b)
 unfolding with_scalar
-with_scalar-taken line column text b fs value s between = by (can_hold (1 + 2 * column) b) (can_hold-means (1 + 2 * column) b fs value s between)
+with_scalar-taken r line column text b fs value ready = by (can_hold (1 + 2 * column) b) (can_hold-means r (1 + 2 * column) b fs value ready)
   where
-    t : Token
-    t = scalar line column text
+    m : Mark
+    m = Scalar line column text
 
-    by : (q : Bool) → CanHold (1 + 2 * column) b fs value q → Taken t (wrap fs value) (cond q (Ok (with_node line (scalar_value text) b)) (Err Syntax))
-    by false h = (h t refl refl, refl)
-    by true h = let lev = levels-wrap fs value in let lev' = levels-wrap fs (leaf t) in
-        let nolev : levels value ≡ 0 = ap levels h.1 in
-        let siz = size-wrap fs value in let siz' = size-wrap fs (leaf t) in
-        let nosiz : size value ≡ 1 = ap size h.1 in
-        let has = s.has_levels in
-        let same : size (wrap fs value) ≡ size (wrap fs (leaf t)) = omega (arith, siz, siz', nosiz) in
-        let node : Node = record { line = line; value = scalar_value text } in (
-          wrap fs (leaf t),
-          ap (λ v. with_token t (wrap fs v)) h.1 ∙ with_token-wrap t fs nothing h.2,
-          (
-            fs,
-            leaf t,
-            record {
-              opens = OpensAre-more b.nodes (node ∷ []) b.open_rows fs s.opens;
-              holds = λ l. slice_get-last b.nodes node;
-              repeats = s.repeats ∙ has_repeat-wrap fs value ∙ ap (λ v. frames_repeat fs || has_repeat v) h.1 ∙ sym (has_repeat-wrap fs (leaf t));
-              has_levels = omega (arith, lev, lev', nolev, has);
-              has_size = subst (λ n. SizeIs b.size n) same s.has_size;
-            },
-            refl,
-            tt,
-          ),
+    by : (q : Bool) → CanHold r (1 + 2 * column) b fs value q → Taken r m (wrap fs value) (cond q (Ok (put_node line (scalar_value text) one_node b)) (Err Syntax))
+    by false h = (h m refl refl refl, refl)
+    by true h = let none = h.1 in (
+      wrap fs (called none.0 (leaf m)),
+      value-begins r m b fs value (leaf m) refl refl none h.2,
+      (
+        fs,
+        called none.0 (leaf m),
+        put_node-stands line (scalar_value text) one_node b fs none.0 (leaf m) ready.stands.flat ready.shut ready.stands.opens none.1 none.3 (scalar-measure line text)
+            (scalar-holds (b.nodes ++ (record { line = line; value = scalar_value text } ∷ [])) line text (length b.nodes) (slice_get-last b.nodes _)),
+        refl,
+        put-between line b text (called none.0 (leaf m)) (shut-called none.0 (leaf m) tt),
+      ),
+    )
+
+-- ---- names and copies
+
+-- whether a name or a copy of this depth may come
+abbrev CanName : FlowReader → Mark → Builder → List Frame → Written → Bool → Type 0
+CanName r m b fs value true = (b.value ≡ None) × (b.name ≡ None) × (value ≡ nothing) × NamesAre b.nodes b.names (names_at fs) × Chain (depth m) fs
+CanName r m b fs value false = with_mark r m (wrap fs value) ≡ None
+
+no_name : (waits : Option (List ℕ)) (name : Option Mark) → HasName waits name → waits ≡ None → called name nothing ≡ nothing
+no_name None None h e = refl
+no_name None (Some mark) h e = absurd h
+no_name (Some n) name h e = absurd (none-some n (sym e))
+
+-- behind a name no other name may come, and no copy
+names-refuse : (r : FlowReader) (m : Mark) (waits : Option (List ℕ)) (n : List ℕ) (name : Option Mark) → may_follow_name m ≡ false → HasName waits name → waits ≡ Some n → with_mark r m (called name nothing) ≡ None
+names-refuse r m None n name follows h e = absurd (none-some n e)
+names-refuse r m (Some other) n None follows h e = absurd h
+names-refuse r m (Some other) n (Some mark) follows h e = cond-false (may_follow_name m) _ _ follows
+
+can_name-means : (r : FlowReader) (m : Mark) (b : Builder) (fs : List Frame) (value : Written) → is_head m ≡ false → is_body_line m ≡ false → may_follow_name m ≡ false → Ready b fs value → CanName r m b fs value (can_name (depth m) b)
+can_name-means r m b fs value head line follows ready = by b.name (can_hold (depth m) b) refl (can_hold-means r (depth m) b fs value ready)
+  where
+    by : (waits : Option (List ℕ)) (q : Bool) → b.name ≡ waits → CanHold r (depth m) b fs value q → CanName r m b fs value (is_none waits && q)
+    by None true e h = (h.0, e, h.1.2 ∙ no_name b.name h.1.0 h.1.1 e, h.1.3, h.2)
+    by None false e h = h m head line refl
+    by (Some n) true e h = ap (λ v. with_mark r m (wrap fs v)) h.1.2 ∙ with_mark-wrap r m fs (called h.1.0 nothing) h.2 ∙ ap (option_map (wrap fs)) (names-refuse r m b.name n h.1.0 follows h.1.1 e)
+    by (Some n) false e h = h m head line refl
+
+with_name-taken : (r : FlowReader) (line column : ℕ) (text : List ℕ) (b : Builder) (fs : List Frame) (value : Written) → Ready b fs value → Taken r (Name line column text) (wrap fs value) (with_name (1 + 2 * column) text b)
+unfolding with_name
+with_name-taken r line column text b fs value ready = by (can_name (1 + 2 * column) b) (can_name-means r (Name line column text) b fs value refl refl refl ready)
+  where
+    m : Mark
+    m = Name line column text
+
+    next : Builder
+    next = record b { name = Some text }
+
+    by : (q : Bool) → CanName r m b fs value q → Taken r m (wrap fs value) (cond q (Ok next) (Err Syntax))
+    by false h = (h, refl)
+    by true h = (
+      wrap fs (named m nothing),
+      ap (λ v. with_mark r m (wrap fs v)) h.2 ∙ with_mark-wrap r m fs nothing h.4,
+      (
+        fs,
+        named m nothing,
+        record { flat = ready.stands.flat; opens = ready.stands.opens; is = still_none b next fs (named m nothing) h.0 ready.shut (Some m, (refl, refl), refl, h.3) },
+        refl,
+        none-between b.value (named m nothing) h.0,
+      ),
+    )
+
+-- what a copy stands for, once it has come
+abbrev CopyStands : ℕ → Mark → Builder → List Frame → Option Known → Type 0
+CopyStands line m b fs found = StandsAt (put_found line found b) fs (leaf m) × Between (put_found line found b).value (leaf m)
+
+copy-stands : (line column : ℕ) (text : List ℕ) (b : Builder) (fs : List Frame) (value : Written) → Ready b fs value → b.name ≡ None → NamesAre b.nodes b.names (names_at fs) → CopyStands line (Copy line column text) b fs (find_name b.names text)
+unfolding put_node with_node
+copy-stands line column text b fs value ready e names = by (find_name b.names text) (lookup (pointwise ◌==◌ text) (names_at fs)) refl (names text)
+  where
+    m : Mark
+    m = Copy line column text
+
+    by : (found : Option Known) (tree : Option Said) → lookup (pointwise ◌==◌ text) (names_at fs) ≡ tree → NameIs b.nodes found tree → CopyStands line m b fs found
+    by None (Some tree) q h = absurd h
+    by (Some k) None q h = absurd h
+    by (Some k) (Some tree) q h = (record { flat = ready.stands.flat; opens = ready.stands.opens; is = (ready.shut, e, subst (KnownIs b.nodes k) (sym (ap (λ o. unwrap_or o (unknown line)) q)) h, names) }, tt)
+    by None None q h =
+        let lost = sym (ap (λ o. unwrap_or o (unknown line)) q) in (
+          put_node-stands line (scalar_value None) unknown_node b fs None (leaf m) ready.stands.flat ready.shut ready.stands.opens (subst (λ n. HasName n None) (sym e) tt) names
+              (ap measured lost)
+              (subst (λ t. HoldsSaid (b.nodes ++ (record { line = line; value = scalar_value None } ∷ [])) t (length b.nodes)) lost (slice_get-last b.nodes _)),
+          tt,
         )
 
--- ---- any token
+with_copy-taken : (r : FlowReader) (line column : ℕ) (text : List ℕ) (b : Builder) (fs : List Frame) (value : Written) → Ready b fs value → Taken r (Copy line column text) (wrap fs value) (with_copy (1 + 2 * column) line text b)
+unfolding with_copy
+with_copy-taken r line column text b fs value ready = by (can_name (1 + 2 * column) b) (can_name-means r (Copy line column text) b fs value refl refl refl ready)
+  where
+    m : Mark
+    m = Copy line column text
 
--- the kind of fault of a token that the layout so far doesn't take
-abbrev pub KindAfter : Token → Layout → FaultKind → Type 0
-KindAfter (dash line column) l kind = kind ≡ Syntax
-KindAfter (key line column text) l kind = kind ≡ Syntax
-KindAfter (scalar line column text) l kind = kind ≡ Syntax
-KindAfter (odd_token line column odd.Syntax) l kind = kind ≡ Syntax
-KindAfter (odd_token line column odd.Unsupported) l kind = kind ≡ Unsupported
-KindAfter (odd_token line column odd.Mark) l kind = ((kind ≡ Unsupported) × (m : Layout) × (with_token (scalar line column None) l ≡ Some m)) ⊎ ((kind ≡ Syntax) × (with_token (scalar line column None) l ≡ None))
+    by : (q : Bool) → CanName r m b fs value q → Taken r m (wrap fs value) (cond q (Ok (put_found line (find_name b.names text) b)) (Err Syntax))
+    by false h = (h, refl)
+    by true h = let c = copy-stands line column text b fs value ready h.1 h.3 in (
+      wrap fs (leaf m),
+      ap (λ v. with_mark r m (wrap fs v)) h.2 ∙ with_mark-wrap r m fs nothing h.4,
+      (fs, leaf m, c.0, refl, c.1),
+    )
 
-abbrev pub TakenAny : Token → Layout → Result Builder FaultKind → Type 0
-TakenAny t l (Ok b) = (new : Layout) × (with_token t l ≡ Some new) × StandsFor b new
-TakenAny t l (Err kind) = (with_token t l ≡ None) × KindAfter t l kind
+-- ---- literal blocks
 
-odd-refused : (line column : ℕ) (why : Odd) (l : Layout) → with_token (odd_token line column why) l ≡ None
-odd-refused line column why nothing = refl
-odd-refused line column why (leaf other) = refl
-odd-refused line column why (row before head value) = cond-false (nat_lt (depth head) 0) _ _ (le-ltb _ _ (omega arith))
+with_bar-taken : (r : FlowReader) (line column : ℕ) (chomp : Chomp) (b : Builder) (fs : List Frame) (value : Written) → Ready b fs value → Taken r (Bar line column chomp) (wrap fs value) (with_bar (1 + 2 * column) line chomp b)
+unfolding with_bar
+with_bar-taken r line column chomp b fs value ready = by (can_hold (1 + 2 * column) b) (can_hold-means r (1 + 2 * column) b fs value ready)
+  where
+    m : Mark
+    m = Bar line column chomp
 
-mark-kind : (line column : ℕ) (b : Builder) (fs : List Frame) (value : Layout) (q : Bool) → CanHold (1 + 2 * column) b fs value q → KindAfter (odd_token line column odd.Mark) (wrap fs value) (cond q Unsupported Syntax)
-mark-kind line column b fs value true h = inl (refl, wrap fs (leaf (scalar line column None)), ap (λ v. with_token (scalar line column None) (wrap fs v)) h.1 ∙ with_token-wrap (scalar line column None) fs nothing h.2)
-mark-kind line column b fs value false h = inr (refl, h (scalar line column None) refl refl)
+    l : Literal
+    l = new_literal (1 + 2 * column) line chomp
 
-any-from : (t : Token) (l : Layout) (r : Result Builder FaultKind) → ((kind : FaultKind) → kind ≡ Syntax → KindAfter t l kind) → Taken t l r → TakenAny t l r
-any-from t l (Ok b) k h = h
-any-from t l (Err kind) k h = (h.0, k kind h.1)
+    next : Builder
+    next = record b { literal = Some l }
 
-pub take_token-taken : (t : Token) (b : Builder) (l : Layout) → StandsFor b l → TakenAny t l (take_token t b)
-unfolding take_token
-take_token-taken (dash line column) b l h = subst (λ m. TakenAny (dash line column) m (headed (2 + 2 * column) false line [] b)) h.3
-    (any-from (dash line column) (wrap h.0 h.1) _ (λ k e. e) (headed-taken (dash line column) b h.0 h.1 refl h.2 (between-full (2 + 2 * column) b.value h.1 h.4)))
-take_token-taken (key line column text) b l h = subst (λ m. TakenAny (key line column text) m (headed (1 + 2 * column) true line text b)) h.3
-    (any-from (key line column text) (wrap h.0 h.1) _ (λ k e. e) (headed-taken (key line column text) b h.0 h.1 refl h.2 (between-full (1 + 2 * column) b.value h.1 h.4)))
-take_token-taken (scalar line column text) b l h = subst (λ m. TakenAny (scalar line column text) m (with_scalar (1 + 2 * column) line text b)) h.3
-    (any-from (scalar line column text) (wrap h.0 h.1) _ (λ k e. e) (with_scalar-taken line column text b h.0 h.1 h.2 h.4))
-take_token-taken (odd_token line column odd.Syntax) b l h = (odd-refused line column odd.Syntax l, refl)
-take_token-taken (odd_token line column odd.Unsupported) b l h = (odd-refused line column odd.Unsupported l, refl)
-take_token-taken (odd_token line column odd.Mark) b l h = (
-  odd-refused line column odd.Mark l,
-  subst (λ m. KindAfter (odd_token line column odd.Mark) m (odd_kind (1 + 2 * column) odd.Mark b)) h.3
-      (mark-kind line column b h.0 h.1 (can_hold (1 + 2 * column) b) (can_hold-means (1 + 2 * column) b h.0 h.1 h.2 h.4)),
-)
+    by : (q : Bool) → CanHold r (1 + 2 * column) b fs value q → Taken r m (wrap fs value) (cond q (Ok next) (Err Syntax))
+    by false h = (h m refl refl refl, refl)
+    by true h = let none = h.1 in let new : Written = called none.0 (literal m []) in (
+      wrap fs new,
+      value-begins r m b fs value (literal m []) refl refl none h.2,
+      (
+        fs,
+        new,
+        record {
+          flat = ready.stands.flat;
+          opens = ready.stands.opens;
+          is = subst (λ v. ValueIs v (Some l) next fs new) (sym h.0)
+              (none.0, none.1, m, [], record { is = refl; has_depth = refl; has_line = refl; has_chomp = refl; has_lines = refl }, h.2, refl, none.3);
+        },
+        refl,
+        none-between b.value new h.0,
+      ),
+    )
+
+bodies_of-more : (lines : List Mark) (m : Mark) → bodies_of (lines ++ (m ∷ [])) ≡ bodies_of lines ++ (body_of m ∷ [])
+bodies_of-more [] m = refl
+bodies_of-more (line ∷ lines) m = ap (λ l. body_of line ∷ l) (bodies_of-more lines m)
+
+-- a line more of the literal block at the end of the frames, where it is as deep
+line-goes : (r : FlowReader) (line column : ℕ) (bytes : List ℕ) (name : Option Mark) (bar : Mark) (lines : List Mark) (q : Bool) → (1 + 2 * column == depth bar) ≡ q → with_mark r (Body line column bytes) (called name (literal bar lines)) ≡ cond q (Some (called name (literal bar (lines ++ (Body line column bytes ∷ []))))) None
+line-goes r line column bytes None bar lines true e = cond-true (1 + 2 * column == depth bar) _ _ e
+line-goes r line column bytes None bar lines false e = cond-false (1 + 2 * column == depth bar) _ _ e
+line-goes r line column bytes (Some mark) bar lines true e = ap (option_map (named mark)) (cond-true (1 + 2 * column == depth bar) _ _ e)
+line-goes r line column bytes (Some mark) bar lines false e = ap (option_map (named mark)) (cond-false (1 + 2 * column == depth bar) _ _ e)
+
+-- a line of a literal block where none is open
+no_bar : (r : FlowReader) (line column : ℕ) (bytes : List ℕ) (b : Builder) (fs : List Frame) (value : Written) (v : Option Known) → b.value ≡ v → b.literal ≡ None → StandsAt b fs value → Between b.value value → with_mark r (Body line column bytes) value ≡ None
+no_bar r line column bytes b fs value None e shut s between = let none = none_is b fs value e shut s in ap (with_mark r (Body line column bytes)) none.2 ∙ called-refuses r (Body line column bytes) none.0 nothing refl
+no_bar r line column bytes b fs value (Some k) e shut s between = refuses value (subst (λ v. Between v value) e between)
+  where
+    refuses : (w : Written) → IsShut w → with_mark r (Body line column bytes) w ≡ None
+    refuses nothing h = absurd h
+    refuses (leaf mark) h = refl
+    refuses (literal mark lines) h = absurd h
+    refuses (flowing mark v) h = refl
+    refuses (named mark w) h = called-refuses r (Body line column bytes) (Some mark) w (refuses w h)
+    refuses (row before head w) h = absurd h
+
+with_line-taken : (r : FlowReader) (line column : ℕ) (bytes : List ℕ) (b : Builder) (fs : List Frame) (value : Written) → StandsAt b fs value → Between b.value value → Taken r (Body line column bytes) (wrap fs value) (with_line (1 + 2 * column) bytes b)
+unfolding with_line
+with_line-taken r line column bytes b fs value s between = by b.literal b.value refl refl
+  where
+    m : Mark
+    m = Body line column bytes
+
+    by : (open_literal : Option Literal) (v : Option Known) → b.literal ≡ open_literal → b.value ≡ v → Taken r m (wrap fs value) (with_line_of open_literal (1 + 2 * column) bytes b)
+    by None v e q = (refused-wrap r m fs value refl (no_bar r line column bytes b fs value v q e s between), refl)
+    by (Some l) (Some k) e q = absurd (none-some l (sym (subst (λ v. ValueIs v b.literal b fs value) q s.is).0 ∙ e))
+    by (Some l) None e q =
+        let i : ValueIs None (Some l) b fs value = subst (λ x. ValueIs None x b fs value) e (subst (λ v. ValueIs v b.literal b fs value) q s.is) in
+        let is : LiteralIs l i.2 i.3 = i.4 in
+        let longer : Literal = record l { lines = l.lines ++ bytes ∷ [] } in
+        let next : Builder = record b { literal = Some longer } in
+        let new : Written = called i.0 (literal i.2 (i.3 ++ (m ∷ []))) in
+        elim (l.depth == 1 + 2 * column) as (λ t. (l.depth == 1 + 2 * column) ≡ t → Taken r m (wrap fs value) (cond t (Ok next) (Err Syntax))) [
+          | true ↦ λ t. (let same : l.depth ≡ 1 + 2 * column = eqb-true l.depth (1 + 2 * column) t in let level : 1 + 2 * column ≡ depth i.2 = sym same ∙ is.has_depth in (
+            wrap fs new,
+            ap (λ v. with_mark r m (wrap fs v)) i.6 ∙ with_mark-wrap r m fs (called i.0 (literal i.2 i.3)) (subst (λ d. Chain d fs) (sym level) i.5)
+                ∙ ap (option_map (wrap fs)) (line-goes r line column bytes i.0 i.2 i.3 true (eq-eqb (1 + 2 * column) (depth i.2) level)),
+            (
+              fs,
+              new,
+              record {
+                flat = s.flat;
+                opens = s.opens;
+                is = subst (λ v. ValueIs v (Some longer) next fs new) (sym q)
+                    (i.0, i.1, i.2, i.3 ++ (m ∷ []), record { is = is.is; has_depth = is.has_depth; has_line = is.has_line; has_chomp = is.has_chomp; has_lines = ap (λ x. x ++ (bytes ∷ [])) is.has_lines ∙ sym (bodies_of-more i.3 m) }, i.5, refl, i.7);
+              },
+              refl,
+              none-between b.value new q,
+            ),
+          ))
+          | false ↦ λ t. (refused-wrap r m fs value refl (ap (with_mark r m) i.6 ∙ line-goes r line column bytes i.0 i.2 i.3 false (other l.depth (1 + 2 * column) (depth i.2) is.has_depth t)), refl)
+        ] refl
+      where
+        other : (a b c : ℕ) → a ≡ c → (a == b) ≡ false → (b == c) ≡ false
+        other a b c e t = ne_eqb b c (λ w. false≢true (sym t ∙ eq-eqb a b (e ∙ sym w)))
+
+-- ---- flow forms
+
+-- the kind of fault of a mark that the tree so far doesn't take
+abbrev pub KindAfter : FlowReader → Mark → Written → FaultKind → Type 0
+KindAfter r (OddMark line column odd.Syntax) w kind = kind ≡ Syntax
+KindAfter r (OddMark line column odd.Unsupported) w kind = kind ≡ Unsupported
+KindAfter r (OddMark line column odd.Mark) w kind = ((kind ≡ Unsupported) × (m : Written) × (with_mark r (Scalar line column None) w ≡ Some m)) ⊎ ((kind ≡ Syntax) × (with_mark r (Scalar line column None) w ≡ None))
+KindAfter r (Form line column pieces) w kind = (((m : Written) × (with_mark r (Scalar line column None) w ≡ Some m)) × IsFlowMisfit pieces kind) ⊎ ((with_mark r (Scalar line column None) w ≡ None) × (kind ≡ kind_of (why_bracket pieces)))
+KindAfter r _ w kind = kind ≡ Syntax
+
+abbrev pub TakenAny : FlowReader → Mark → Written → Result Builder FaultKind → Type 0
+TakenAny r m w (Ok b) = (new : Written) × (with_mark r m w ≡ Some new) × StandsFor b new
+TakenAny r m w (Err kind) = (with_mark r m w ≡ None) × KindAfter r m w kind
+
+-- a form begins its own collection
+form-same : (f : Flow) (line : ℕ) (a b : Said) (names : Names) → IsForm f → flow_said line a names f ≡ flow_said line b names f
+form-same absent line a b names h = absurd h
+form-same (word piece) line a b names h = absurd h
+form-same (naming piece f) line a b names h = absurd h
+form-same (item before f) line a b names h = absurd h
+form-same (pair before piece f) line a b names h = absurd h
+form-same (form bracket cells last) line a b names h = refl
+
+form-stands : (line column : ℕ) (pieces : List Piece) (f : Flow) (b : Builder) (fs : List Frame) (value : Written) → SpellsFlow pieces f → Ready b fs value → (none : NoneIs b fs value) → StandsFor (take_pieces line pieces b) (wrap fs (called none.0 (flowing (Form line column pieces) f)))
+form-stands line column pieces f b fs value spells ready none =
+    let p : Played line f b (names_at fs) (take_pieces line pieces b) = flow_played line pieces f b (names_at fs) spells ready.stands.flat none.3 in
+    let m : Mark = Form line column pieces in
+    let new : Written = called none.0 (flowing m f) in
+    let meaning : Meaning = flow_said line (null line) (names_at fs) f in
+    let nodes : List Node = b.nodes ++ p.0 in
+    let e : meaning_at fs new ≡ named_by b.name meaning = said-called b.name none.0 (null (line_at fs)) (names_at fs) (flowing m f) none.1 ∙ ap (named_by b.name) (form-same f line (null (line_at fs)) (null line) (names_at fs) spells.1) in
+    subst (λ x. StandsFor x (wrap fs new)) (sym p.3) (
+      fs,
+      new,
+      record {
+        flat = ready.stands.flat;
+        opens = OpensAre-more b.nodes p.0 b.open_rows fs ready.stands.opens;
+        is = (
+          ready.shut,
+          refl,
+          subst (λ tree. KnownIs nodes p.1 tree) (sym (named_by-said b.name meaning) ∙ ap (λ x. x.0) (sym e)) p.4,
+          subst (λ x. NamesAre nodes p.2 x.1) (sym e) p.5,
+        );
+      },
+      refl,
+      shut-called none.0 (flowing m f) tt,
+    )
+
+misfit-no_form : (pieces : List Piece) (kind : FaultKind) (f : Flow) → IsFlowMisfit pieces kind → SpellsFlow pieces f → ⊥
+misfit-no_form pieces kind f (inl h) s = h.ends (h.rest, f, subst (λ ps. SpellsFlow ps f) (h.parts ∙ sym (append_assoc h.front (h.piece ∷ []) h.rest)) s)
+misfit-no_form pieces kind f (inr h) s = h.open_still f s
+
+misfit-unread : (r : FlowReader) (pieces : List Piece) (kind : FaultKind) → IsFlowMisfit pieces kind → (o : Option Flow) → r.read pieces ≡ o → r.read pieces ≡ None
+misfit-unread r pieces kind h None e = e
+misfit-unread r pieces kind h (Some f) e = absurd (misfit-no_form pieces kind f h (r.sound pieces f e))
+
+with_form-taken : (r : FlowReader) → Judges → (line column : ℕ) (pieces : List Piece) (b : Builder) (fs : List Frame) (value : Written) → Ready b fs value → TakenAny r (Form line column pieces) (wrap fs value) (with_form (1 + 2 * column) line pieces b)
+unfolding with_form
+with_form-taken r judges line column pieces b fs value ready = by (can_hold (1 + 2 * column) b) (can_hold-means r (1 + 2 * column) b fs value ready)
+  where
+    m : Mark
+    m = Form line column pieces
+
+    scalar : Mark
+    scalar = Scalar line column None
+
+    judged : (fault : Option FaultKind) → FlowJudged pieces fault → (none : NoneIs b fs value) → Chain (1 + 2 * column) fs → TakenAny r m (wrap fs value) (formed fault line pieces b)
+    judged None j none chain = (
+      wrap fs (called none.0 (flowing m j.0)),
+      value-begins r m b fs value (flowing m j.0) refl (ap (option_map (flowing m)) (r.complete pieces j.0 j.1)) none chain,
+      form-stands line column pieces j.0 b fs value j.1 ready none,
+    )
+    judged (Some kind) j none chain = (
+      ap (λ v. with_mark r m (wrap fs v)) none.2 ∙ with_mark-wrap r m fs (called none.0 nothing) chain
+          ∙ ap (option_map (wrap fs)) (called-begins r m none.0 refl ∙ ap (λ o. option_map (called none.0) (option_map (flowing m) o)) (misfit-unread r pieces kind j (r.read pieces) refl)),
+      inl ((wrap fs (called none.0 (leaf scalar)), value-begins r scalar b fs value (leaf scalar) refl refl none chain), j),
+    )
+
+    by : (q : Bool) → CanHold r (1 + 2 * column) b fs value q → TakenAny r m (wrap fs value) (cond q (formed (flow_fault pieces) line pieces b) (Err (kind_of (why_bracket pieces))))
+    by false h = (h m refl refl refl, inr (h scalar refl refl refl, refl))
+    by true h = judged (flow_fault pieces) (judges pieces) h.1 h.2
+
+-- ---- any mark
+
+odd-refused : (r : FlowReader) (line column : ℕ) (why : Odd) (w : Written) → with_mark r (OddMark line column why) w ≡ None
+odd-refused r line column why nothing = refl
+odd-refused r line column why (leaf other) = refl
+odd-refused r line column why (literal head lines) = refl
+odd-refused r line column why (flowing other v) = refl
+odd-refused r line column why (named head w) = called-refuses r (OddMark line column why) (Some head) w (odd-refused r line column why w)
+odd-refused r line column why (row before head w) = cond-false (nat_lt (depth head) 0) _ _ (le-ltb _ _ (omega arith))
+
+mark-kind : (r : FlowReader) (line column : ℕ) (b : Builder) (fs : List Frame) (value : Written) (q : Bool) → CanHold r (1 + 2 * column) b fs value q → KindAfter r (OddMark line column odd.Mark) (wrap fs value) (cond q Unsupported Syntax)
+mark-kind r line column b fs value true h = let m : Mark = Scalar line column None in inl (refl, wrap fs (called h.1.0 (leaf m)), value-begins r m b fs value (leaf m) refl refl h.1 h.2)
+mark-kind r line column b fs value false h = inr (refl, h (Scalar line column None) refl refl refl)
+
+odd-taken : (r : FlowReader) (line column : ℕ) (why : Odd) (b : Builder) (fs : List Frame) (value : Written) → Ready b fs value → TakenAny r (OddMark line column why) (wrap fs value) (Err (odd_kind (1 + 2 * column) why b))
+odd-taken r line column odd.Mark b fs value ready = (odd-refused r line column odd.Mark (wrap fs value), mark-kind r line column b fs value (can_hold (1 + 2 * column) b) (can_hold-means r (1 + 2 * column) b fs value ready))
+odd-taken r line column odd.Unsupported b fs value ready = (odd-refused r line column odd.Unsupported (wrap fs value), refl)
+odd-taken r line column odd.Syntax b fs value ready = (odd-refused r line column odd.Syntax (wrap fs value), refl)
+
+any-from : (r : FlowReader) (m : Mark) (w : Written) (step : Result Builder FaultKind) → ((kind : FaultKind) → kind ≡ Syntax → KindAfter r m w kind) → Taken r m w step → TakenAny r m w step
+any-from r m w (Ok b) k h = h
+any-from r m w (Err kind) k h = (h.0, k kind h.1)
+
+taken_at : (r : FlowReader) → Judges → (m : Mark) (b : Builder) (fs : List Frame) (value : Written) → StandsAt b fs value → Between b.value value → TakenAny r m (wrap fs value) (take_mark m b)
+unfolding take_mark
+taken_at r judges (Dash line column) b fs value s between = any-from r (Dash line column) (wrap fs value) _ (λ k e. e) (headed-taken r (Dash line column) (ended b) fs value refl (ended-ready b fs value s between))
+taken_at r judges (Key line column text) b fs value s between = any-from r (Key line column text) (wrap fs value) _ (λ k e. e) (headed-taken r (Key line column text) (ended b) fs value refl (ended-ready b fs value s between))
+taken_at r judges (Scalar line column text) b fs value s between = any-from r (Scalar line column text) (wrap fs value) _ (λ k e. e) (with_scalar-taken r line column text (ended b) fs value (ended-ready b fs value s between))
+taken_at r judges (Name line column text) b fs value s between = any-from r (Name line column text) (wrap fs value) _ (λ k e. e) (with_name-taken r line column text (ended b) fs value (ended-ready b fs value s between))
+taken_at r judges (Copy line column text) b fs value s between = any-from r (Copy line column text) (wrap fs value) _ (λ k e. e) (with_copy-taken r line column text (ended b) fs value (ended-ready b fs value s between))
+taken_at r judges (Bar line column chomp) b fs value s between = any-from r (Bar line column chomp) (wrap fs value) _ (λ k e. e) (with_bar-taken r line column chomp (ended b) fs value (ended-ready b fs value s between))
+taken_at r judges (Body line column bytes) b fs value s between = any-from r (Body line column bytes) (wrap fs value) _ (λ k e. e) (with_line-taken r line column bytes b fs value s between)
+taken_at r judges (Form line column pieces) b fs value s between = with_form-taken r judges line column pieces (ended b) fs value (ended-ready b fs value s between)
+taken_at r judges (OddMark line column why) b fs value s between = odd-taken r line column why (ended b) fs value (ended-ready b fs value s between)
+
+-- each mark that is taken is one that the tree so far takes
+pub take_mark-taken : (r : FlowReader) → Judges → (m : Mark) (b : Builder) (w : Written) → StandsFor b w → TakenAny r m w (take_mark m b)
+take_mark-taken r judges m b w h = subst (λ x. TakenAny r m x (take_mark m b)) h.3 (taken_at r judges m b h.0 h.1 h.2 h.4)
+
+pub fresh-stands : (alloc : Global) → StandsFor (fresh alloc) nothing
+fresh-stands alloc = ([], nothing, record { flat = refl; opens = tt; is = (None, tt, refl, λ n. tt) }, refl, tt)
+
+-- ---- the measure of the tree so far
+
+said-of-called : (name : Option Mark) (none : Said) (names : Names) (value : Written) → (said none names (called name value)).0 ≡ (said none names value).0
+said-of-called None none names value = refl
+said-of-called (Some mark) none names value = refl
+
+measure-about : (nodes : List Node) (os : List Open) (fs : List Frame) (value : Written) (x : Measure) → OpensAre nodes os fs → x ≡ measured (meaning_at fs value).0 → measure_about os x ≡ measured (tree_of (wrap fs value))
+measure-about nodes [] [] value x h e = e
+measure-about nodes [] (f ∷ fs) value x h e = absurd h
+measure-about nodes (o ∷ os) [] value x h e = absurd h
+measure-about nodes (o ∷ os) (f ∷ fs) value x h e = let before : Said = before_of f (names_at fs) in let is : OpenIs nodes o f before = h.0 in
+    measure-about nodes os fs (called f.name (row f.before f.head value)) (with_part o.measure x) h.2
+    ((λ j. with_part (is.has_measure j) (e j)) ∙ row-measure f.head before (meaning_at (f ∷ fs) value) is.heads ∙ ap measured (sym (said-of-called f.name (null (line_at fs)) (names_at fs) (row f.before f.head value))))
+
+value-measure : (b : Builder) (fs : List Frame) (value : Written) (v : Option Known) (l : Option Literal) → ValueIs v l b fs value → value_measure v ≡ measured (meaning_at fs value).0
+value-measure b fs value (Some k) l h = h.2.0
+value-measure b fs value None (Some l) h = ap measured (sym (said-of-called h.0 (null (line_at fs)) (names_at fs) (literal h.2 h.3)) ∙ ap (λ w. (meaning_at fs w).0) (sym h.6))
+value-measure b fs value None None h = ap measured (sym (said-of-called h.0 (null (line_at fs)) (names_at fs) nothing) ∙ ap (λ w. (meaning_at fs w).0) (sym h.2))
+
+pub measure-means : (b : Builder) (w : Written) → StandsFor b w → measure b ≡ measured (tree_of w)
+measure-means b w h = measure-about b.nodes b.open_rows h.0 h.1 (value_measure b.value) h.2.opens (value-measure b h.0 h.1 b.value b.literal h.2.is) ∙ ap (λ x. measured (tree_of x)) h.3
+
+-- ---- the whole tree
+
+none_open : (nodes : List Node) (os : List Open) (fs : List Frame) → OpensAre nodes os fs → AtMost 0 fs → fs ≡ []
+none_open nodes os [] h most = refl
+none_open nodes [] (f ∷ fs) h most = absurd h
+none_open nodes (o ∷ os) (f ∷ fs) h most = let deep = head_deep f.head h.0.heads in absurd (omega (arith, deep, most))
+
+-- once all that is open is closed, the root holds the tree
+pub whole-holds : (b : Builder) (w : Written) → StandsFor b w → HoldsSaid (whole b).nodes (tree_of w) (root_number b)
+unfolding whole
+whole-holds b w h =
+    let ready : Ready (ended b) h.0 h.1 = ended-ready b h.0 h.1 h.2 h.4 in
+    let last : Builder = settled 0 (ended b) in
+    let st : Settled 0 last (wrap h.0 h.1) = settled_on-stands 0 (ended b).open_rows (ended b) h.0 h.1 refl ready.stands ready.shut (ready.come 0) in
+    let nil : st.frames ≡ [] = none_open last.nodes last.open_rows st.frames st.stands.opens st.shallow in
+    let v = valued-stands 1 last st.frames st.value (ap line_at (sym nil)) st.shut st.stands in
+    let root : Valued (valued 1 last) st.frames st.value v.0 = v.1 in
+    let come : ValueIs (Some v.0) (valued 1 last).literal (valued 1 last) st.frames st.value = subst (λ x. ValueIs x (valued 1 last).literal (valued 1 last) st.frames st.value) root.is root.stands.is in
+    let tree : (meaning_at st.frames st.value).0 ≡ tree_of w = ap (λ fs. (meaning_at fs st.value).0) nil ∙ ap tree_of (ap (λ fs. wrap fs st.value) (sym nil) ∙ st.wraps ∙ h.3) in
+    subst (λ n. HoldsSaid (valued 1 last).nodes (tree_of w) n) (ap (λ x. (known_of x).node) (sym root.is))
+    (subst (λ t. HoldsSaid (valued 1 last).nodes t v.0.node) tree come.2.1)

@@ -1,45 +1,80 @@
--- What each step of the builder makes of the nodes and the open collections.
-use Rattle.std.specs.Prelude.{◌≡◌, ℕ, ◌+◌, ◌*◌, Bool, true, false, ◌&&◌, ◌||◌, List, [], ◌∷◌, ◌++◌, Option, Some, None, Result, Ok, Err, if◌then◌else◌, ◌==◌, nat_lt, nat_le, length, is_some, is_none, max, unwrap_or}
-use Rattle.yaml_tree.specs.Stack.{finished, collection, has_row}
+-- What each step of the builder makes of the nodes, the names and what is open.
+use Rattle.std.specs.Prelude.{◌≡◌, ℕ, ◌+◌, ◌*◌, Bool, true, false, ◌&&◌, ◌||◌, List, [], ◌∷◌, ◌++◌, Option, Some, None, Result, Ok, Err, if◌then◌else◌, ◌==◌, nat_lt, length, is_some, is_none}
+use Rattle.std.specs.Cmp.Lexicographic.{pointwise}
+use Rattle.std.specs.Map.{lookup}
+use Rattle.indexmap.specs.IndexMap.{insert_entry}
+use Rattle.yaml_marks.specs.Literals.{block_text}
+use Rattle.yaml_marks.specs.Pieces.{why_bracket}
+use Rattle.yaml_marks.specs.Marks.{has_content, line_marks, next_place}
+use Rattle.yaml_tree.specs.Outline.{flow_fault}
+use Rattle.yaml_tree.specs.Stack.{one_node, unknown_node, no_row, finished, collection, with_next_row, measure_about}
 use Rattle.yaml_tree.specs.Holds.{scalar_value}
-use Rattle.yaml_tree.specs.Tokens.{Token, has_content, line_tokens}
-use Rattle.yaml_tree.specs.Tokens.Token.{dash, key, scalar, odd_token}
-use Rattle.yaml_tree.specs.declared.node.Node.{Node}
+use Rattle.yaml_tree.specs.Tree.{kind_of}
+use Rattle.yaml_marks.specs.declared.piece.Bracket.{Bracket}
+use Rattle.yaml_marks.specs.declared.piece.Bracket.TheVariants.{Square, Curly}
+use Rattle.yaml_marks.specs.declared.piece.Piece.{Piece}
+use Rattle.yaml_marks.specs.declared.piece.Piece.TheVariants.{Opening, Closing, Comma, CellKey, CellScalar, CellName, CellCopy, OddPiece}
+use Rattle.yaml_marks.specs.declared.mark.Mark.{Mark}
+use Rattle.yaml_marks.specs.declared.mark.Mark.TheVariants.{Dash, Key, Scalar, Name, Copy, Bar, Body, Form, OddMark}
+use Rattle.yaml_marks.specs.declared.chomp.Chomp.{Chomp}
+use Rattle.yaml_tree.specs.declared.literal.Literal.{Literal}
+use Rattle.yaml_marks.specs.declared.place.Place.{Place}
+use Rattle.yaml_tree.specs.declared.known.Measure.{Measure}
+use Rattle.yaml_tree.specs.declared.known.Known.{Known}
 use Rattle.yaml_tree.specs.declared.node.Value.{Value}
-use Rattle.yaml_tree.specs.declared.node.Value.TheVariants.{Null}
+use Rattle.yaml_tree.specs.declared.node.Value.TheVariants.{Null, Text}
 use Rattle.yaml_tree.specs.declared.stack.Open.{Open}
 use Rattle.yaml_tree.specs.declared.builder.Builder.{Builder}
 use Rattle.yaml_tree.specs.declared.fault.FaultKind.{FaultKind}
-use Rattle.yaml_tree.specs.declared.fault.FaultKind.TheVariants.{Syntax, Unsupported, Duplicate, TooDeep, TooManyNodes}
+use Rattle.yaml_tree.specs.declared.fault.FaultKind.TheVariants.{Syntax, Unsupported, Duplicate, Alias, TooDeep, TooManyNodes}
 use Rattle.yaml_tree.specs.declared.fault.YamlFault.{YamlFault}
 use Rattle.yaml_tree.specs.declared.fault.TreeError.{TreeError}
 use Rattle.yaml_tree.specs.declared.fault.TreeError.TheVariants as tree
-use Rattle.yaml_tree.specs.declared.fault.Odd.{Odd}
-use Rattle.yaml_tree.specs.declared.fault.Odd.TheVariants as odd
+use Rattle.yaml_marks.specs.declared.odd.Odd.{Odd}
+use Rattle.yaml_marks.specs.declared.odd.Odd.TheVariants as odd
 use Rattle.yaml_tree.specs.declared.fault.Stop.{Stop}
 use Rattle.yaml_tree.specs.declared.fault.Stop.TheVariants as stop
 use Rattle.std.specs.declared.alloc.Global.{Global}
 
 abbrev pub fresh : Global → Builder
-fresh alloc = record { alloc = alloc; nodes = []; open_rows = []; value = None; repeated = false; levels = 0; size = 1 }
+fresh alloc = record { alloc = alloc; nodes = []; open_rows = []; cells = []; value = None; name = None; literal = None; names = [] }
 
--- the number of the value's node, which is made where no value has come
-abbrev pub value_number : Builder → ℕ
-value_number b = unwrap_or b.value (length b.nodes)
+-- ---- nodes and names
 
-abbrev pub nodes_with_value : ℕ → List Node → Option ℕ → List Node
-nodes_with_value line nodes (Some n) = nodes
-nodes_with_value line nodes None = nodes ++ record { line = line; value = Null } ∷ []
+-- the node that has a name, if any
+abbrev pub find_name : List (List ℕ × Known) → List ℕ → Option Known
+find_name names name = lookup (pointwise ◌==◌ name) names
 
-abbrev pub with_value : ℕ → Builder → Builder
-with_value line b = record b { nodes = nodes_with_value line b.nodes b.value }
+-- a node that has a name is known by it from now on
+abbrev pub named : Option (List ℕ) → Known → List (List ℕ × Known) → List (List ℕ × Known)
+named None known names = names
+named (Some name) known names = insert_entry (pointwise ◌==◌) names name known
 
-abbrev pub with_node : ℕ → Value → Builder → Builder
-with_node line value b = record b { nodes = b.nodes ++ record { line = line; value = value } ∷ []; value = Some (length b.nodes) }
+abbrev pub next_known : Measure → Builder → Known
+next_known m b = record { node = length b.nodes; measure = m }
+
+-- a node more, which takes the name that waits for a node
+unfoldable pub with_node : ℕ → Value → Measure → Builder → Builder
+with_node line value m b = record b { nodes = b.nodes ++ record { line = line; value = value } ∷ []; names = named b.name (next_known m b) b.names; name = None }
+
+-- a node more, which is the value
+unfoldable pub put_node : ℕ → Value → Measure → Builder → Builder
+put_node line value m b = record (with_node line value m b) { value = Some (next_known m b) }
+
+-- the value, which is a null on this line where none has come
+unfoldable pub valued : ℕ → Builder → Builder
+valued line b = if is_some b.value then b else put_node line Null one_node b
+
+abbrev pub known_of : Option Known → Known
+known_of (Some known) = known
+known_of None = record { node = 0; measure = one_node }
+
+-- ---- collections
 
 -- the collection, its last row finished, is the value of the row around it
 unfoldable pub closed : Open → Builder → Builder
-closed o b = with_node o.first_line (collection (finished o (value_number b))) (with_value o.line b)
+closed o b = let v = valued o.line b in let rows = finished o (known_of v.value) in
+    put_node o.first_line (collection rows) rows.measure (record v { name = o.name })
 
 -- the collections that are deeper are closed
 unfoldable pub settled_on : ℕ → List Open → Builder → Builder
@@ -49,33 +84,141 @@ settled_on depth (o ∷ os) b = if nat_lt depth o.depth then settled_on depth os
 abbrev pub settled : ℕ → Builder → Builder
 settled depth b = settled_on depth b.open_rows b
 
-abbrev pub grown : ℕ → ℕ
-grown n = if nat_le n 1_000_000 then n + 1 else n
+abbrev pub new_open : ℕ → Bool → ℕ → List ℕ → Option (List ℕ) → Open
+new_open depth mapping line key name = record { depth = depth; mapping = mapping; first_line = line; items = []; entries = []; line = line; key = key; name = name; measure = no_row }
 
 unfoldable pub begun : ℕ → Bool → ℕ → List ℕ → Builder → Result Builder FaultKind
-begun depth mapping line name b = if is_some b.value then Err Syntax
-    else Ok (record b { open_rows = record { depth = depth; mapping = mapping; first_line = line; items = []; entries = []; line = line; key = name } ∷ b.open_rows; levels = max b.levels (1 + length b.open_rows); size = grown b.size })
+begun depth mapping line key b = if is_some b.value then Err Syntax
+    else Ok (record b { open_rows = new_open depth mapping line key b.name ∷ b.open_rows; name = None })
 
 unfoldable pub next_row : Open → ℕ → List ℕ → Builder → Builder
-next_row o line name b = let rows = finished o (value_number b) in
-    record b { nodes = nodes_with_value o.line b.nodes b.value; open_rows = record rows { line = line; key = name } ∷ b.open_rows; value = None; repeated = b.repeated || has_row rows name; size = grown b.size }
+next_row o line key b = let v = valued o.line b in
+    record v { open_rows = with_next_row line key (finished o (known_of v.value)) ∷ v.open_rows; value = None }
 
 abbrev pub headed_on : ℕ → Bool → ℕ → List ℕ → List Open → Builder → Result Builder FaultKind
-headed_on depth mapping line name [] b = begun depth mapping line name b
-headed_on depth mapping line name (o ∷ os) b = if o.depth == depth then Ok (next_row o line name (record b { open_rows = os })) else begun depth mapping line name b
+headed_on depth mapping line key [] b = begun depth mapping line key b
+headed_on depth mapping line key (o ∷ os) b = if o.depth == depth then Ok (next_row o line key (record b { open_rows = os })) else begun depth mapping line key b
 
 unfoldable pub headed : ℕ → Bool → ℕ → List ℕ → Builder → Result Builder FaultKind
-headed depth mapping line name b = headed_on depth mapping line name (settled depth b).open_rows (settled depth b)
+headed depth mapping line key b = headed_on depth mapping line key (settled depth b).open_rows (settled depth b)
+
+-- ---- values
 
 abbrev pub is_shallower : ℕ → List Open → Bool
 is_shallower depth [] = true
 is_shallower depth (o ∷ _) = nat_lt o.depth depth
 
+-- whether a value of this depth may come
 abbrev pub can_hold : ℕ → Builder → Bool
 can_hold depth b = is_none b.value && is_shallower depth b.open_rows
 
+-- whether a name or a copy of this depth may come
+abbrev pub can_name : ℕ → Builder → Bool
+can_name depth b = is_none b.name && can_hold depth b
+
 unfoldable pub with_scalar : ℕ → ℕ → Option (List ℕ) → Builder → Result Builder FaultKind
-with_scalar depth line text b = if can_hold depth b then Ok (with_node line (scalar_value text) b) else Err Syntax
+with_scalar depth line text b = if can_hold depth b then Ok (put_node line (scalar_value text) one_node b) else Err Syntax
+
+unfoldable pub with_name : ℕ → List ℕ → Builder → Result Builder FaultKind
+with_name depth name b = if can_name depth b then Ok (record b { name = Some name }) else Err Syntax
+
+abbrev pub put_found : ℕ → Option Known → Builder → Builder
+put_found line (Some known) b = record b { value = Some known }
+put_found line None b = put_node line Null unknown_node b
+
+unfoldable pub with_copy : ℕ → ℕ → List ℕ → Builder → Result Builder FaultKind
+with_copy depth line name b = if can_name depth b then Ok (put_found line (find_name b.names name) b) else Err Syntax
+
+abbrev pub new_literal : ℕ → ℕ → Chomp → Literal
+new_literal depth line chomp = record { depth = depth; line = line; chomp = chomp; lines = [] }
+
+unfoldable pub with_bar : ℕ → ℕ → Chomp → Builder → Result Builder FaultKind
+with_bar depth line chomp b = if can_hold depth b then Ok (record b { literal = Some (new_literal depth line chomp) }) else Err Syntax
+
+abbrev pub with_line_of : Option Literal → ℕ → List ℕ → Builder → Result Builder FaultKind
+with_line_of None depth bytes b = Err Syntax
+with_line_of (Some l) depth bytes b = if l.depth == depth then Ok (record b { literal = Some (record l { lines = l.lines ++ bytes ∷ [] }) }) else Err Syntax
+
+-- a line more of the literal block
+unfoldable pub with_line : ℕ → List ℕ → Builder → Result Builder FaultKind
+with_line depth bytes b = with_line_of b.literal depth bytes b
+
+abbrev pub ended_of : Option Literal → Builder → Builder
+ended_of None b = b
+ended_of (Some l) b = put_node l.line (Text (block_text l.chomp l.lines)) one_node (record b { literal = None })
+
+-- the literal block, if one is open, is the value
+unfoldable pub ended : Builder → Builder
+ended b = ended_of b.literal b
+
+-- ---- flow forms
+
+-- the value is a cell of the innermost bracket, or the whole form
+abbrev pub put_in : List Open → Known → Builder → Builder
+put_in [] known b = record b { value = Some known }
+put_in (o ∷ os) known b = record b { cells = finished o known ∷ os }
+
+unfoldable pub put_known : Known → Builder → Builder
+put_known known b = put_in b.cells known b
+
+unfoldable pub cell_node : ℕ → Value → Measure → Builder → Builder
+cell_node line value m b = put_known (next_known m b) (with_node line value m b)
+
+-- a name that nothing stands behind names a null
+unfoldable pub flushed : ℕ → Builder → Builder
+flushed line b = if is_some b.name then cell_node line Null one_node b else b
+
+abbrev pub is_curly : Bracket → Bool
+is_curly Square = false
+is_curly Curly = true
+
+unfoldable pub cell_opened : ℕ → Bracket → Builder → Builder
+cell_opened line bracket b = record b { cells = new_open 0 (is_curly bracket) line [] b.name ∷ b.cells; name = None }
+
+abbrev pub cell_closed_on : List Open → Builder → Builder
+cell_closed_on [] b = b
+cell_closed_on (o ∷ os) b = cell_node o.first_line (collection o) o.measure (record b { cells = os; name = o.name })
+
+unfoldable pub cell_closed : ℕ → Builder → Builder
+cell_closed line b = cell_closed_on (flushed line b).cells (flushed line b)
+
+abbrev pub cell_key_on : List Open → ℕ → List ℕ → Builder → Builder
+cell_key_on [] line key b = b
+cell_key_on (o ∷ os) line key b = record b { cells = with_next_row line key o ∷ os }
+
+unfoldable pub cell_key : ℕ → List ℕ → Builder → Builder
+cell_key line key b = cell_key_on b.cells line key b
+
+abbrev pub copy_found : ℕ → Option Known → Builder → Builder
+copy_found line (Some known) b = put_known known b
+copy_found line None b = cell_node line Null unknown_node b
+
+unfoldable pub cell_copy : ℕ → List ℕ → Builder → Builder
+cell_copy line name b = copy_found line (find_name b.names name) b
+
+-- a piece more of a flow form on this line
+unfoldable pub take_piece : ℕ → Piece → Builder → Builder
+take_piece line (Opening bracket) b = cell_opened line bracket b
+take_piece line (Closing bracket) b = cell_closed line b
+take_piece line Comma b = flushed line b
+take_piece line (CellKey key) b = cell_key line key b
+take_piece line (CellScalar text) b = cell_node line (scalar_value text) one_node b
+take_piece line (CellName name) b = record b { name = Some name }
+take_piece line (CellCopy name) b = cell_copy line name b
+take_piece line (OddPiece why) b = b
+
+unfoldable pub take_pieces : ℕ → List Piece → Builder → Builder
+take_pieces line [] b = b
+take_pieces line (p ∷ ps) b = take_pieces line ps (take_piece line p b)
+
+abbrev pub formed : Option FaultKind → ℕ → List Piece → Builder → Result Builder FaultKind
+formed None line pieces b = Ok (take_pieces line pieces b)
+formed (Some kind) line pieces b = Err kind
+
+unfoldable pub with_form : ℕ → ℕ → List Piece → Builder → Result Builder FaultKind
+with_form depth line pieces b = if can_hold depth b then formed (flow_fault pieces) line pieces b else Err (kind_of (why_bracket pieces))
+
+-- ---- marks
 
 abbrev pub odd_kind : ℕ → Odd → Builder → FaultKind
 odd_kind depth odd.Mark b = if can_hold depth b then Unsupported else Syntax
@@ -93,36 +236,73 @@ abbrev pub ◌>>=◌ : {A B E : Type 0} → Result A E → (A → Result B E) �
 (Ok x) >>= f = f x
 (Err e) >>= f = Err e
 
--- a token more
-unfoldable pub take_token : Token → Builder → Result Builder FaultKind
-take_token (dash line column) b = headed (2 + 2 * column) false line [] b
-take_token (key line column text) b = headed (1 + 2 * column) true line text b
-take_token (scalar line column text) b = with_scalar (1 + 2 * column) line text b
-take_token (odd_token line column why) b = Err (odd_kind (1 + 2 * column) why b)
+-- a mark more; a literal block has ended but where the mark is a line of one
+unfoldable pub take_mark : Mark → Builder → Result Builder FaultKind
+take_mark (Dash line column) b = headed (2 + 2 * column) false line [] (ended b)
+take_mark (Key line column text) b = headed (1 + 2 * column) true line text (ended b)
+take_mark (Scalar line column text) b = with_scalar (1 + 2 * column) line text (ended b)
+take_mark (Name line column text) b = with_name (1 + 2 * column) text (ended b)
+take_mark (Copy line column text) b = with_copy (1 + 2 * column) line text (ended b)
+take_mark (Bar line column chomp) b = with_bar (1 + 2 * column) line chomp (ended b)
+take_mark (Body line column bytes) b = with_line (1 + 2 * column) bytes b
+take_mark (Form line column pieces) b = with_form (1 + 2 * column) line pieces (ended b)
+take_mark (OddMark line column why) b = Err (odd_kind (1 + 2 * column) why (ended b))
 
-unfoldable pub take_tokens : List Token → Builder → Result Builder FaultKind
-take_tokens [] b = Ok b
-take_tokens (t ∷ ts) b = take_token t b >>= take_tokens ts
+unfoldable pub take_marks : List Mark → Builder → Result Builder FaultKind
+take_marks [] b = Ok b
+take_marks (m ∷ ms) b = take_mark m b >>= take_marks ms
+
+-- ---- lines
+
+abbrev pub value_measure : Option Known → Measure
+value_measure (Some known) = known.measure
+value_measure None = one_node
+
+-- the measure of the tree so far
+abbrev pub measure : Builder → Measure
+measure b = measure_about b.open_rows (value_measure b.value)
+
+abbrev pub fault_of : Measure → Option FaultKind
+fault_of m = if m.repeated then Some Duplicate
+    else (if m.unknown then Some Alias
+    else (if nat_lt 64 m.levels then Some TooDeep
+    else (if nat_lt 1_000_000 m.size then Some TooManyNodes else None)))
+
+abbrev pub judged_by : Option FaultKind → Builder → Result Builder FaultKind
+judged_by None b = Ok b
+judged_by (Some kind) b = Err kind
 
 -- the limits at a line's end
 unfoldable pub judged : Builder → Result Builder FaultKind
-judged b = if b.repeated then Err Duplicate
-    else (if nat_lt 64 b.levels then Err TooDeep
-    else (if nat_lt 1_000_000 b.size then Err TooManyNodes else Ok b))
+judged b = judged_by (fault_of (measure b)) b
 
-unfoldable pub read_line : Bool → ℕ → List ℕ → Builder → Result Builder FaultKind
-read_line begun number line b = take_tokens (line_tokens begun number line) b >>= judged
+-- the marks of a line, and the limits at its end
+abbrev pub take_line : List Mark → Builder → Result Builder FaultKind
+take_line marks b = take_marks marks b >>= judged
+
+unfoldable pub read_line : Bool → Place → ℕ → List ℕ → Builder → Result Builder FaultKind
+read_line begun place number line b = take_line (line_marks begun place number line) b
 
 abbrev pub at_line : ℕ → Result Builder FaultKind → Result Builder YamlFault
 at_line number (Ok b) = Ok b
 at_line number (Err kind) = Err (record { line = number; kind = kind })
 
 -- lines, of which the first has this number
-unfoldable pub read_lines : Bool → ℕ → List (List ℕ) → Builder → Result Builder YamlFault
-read_lines begun number [] b = Ok b
-read_lines begun number (line ∷ lines) b = at_line number (read_line begun number line b) >>= read_lines (begun || has_content line) (1 + number) lines
+unfoldable pub read_lines : Bool → Place → ℕ → List (List ℕ) → Builder → Result Builder YamlFault
+read_lines begun place number [] b = Ok b
+read_lines begun place number (line ∷ lines) b = at_line number (read_line begun place number line b) >>= read_lines (begun || has_content line) (next_place begun place number line) (1 + number) lines
 
 abbrev pub Reads : Result (Unit {0}) TreeError → Builder → Result Builder YamlFault → Type 0
 Reads (Ok _) new read = read ≡ Ok new
 Reads (Err (tree.Fault fault)) new read = read ≡ Err fault
 Reads (Err tree.NoMemory) new read = Unit {0}
+
+-- the same where the line left a place for the next one
+abbrev pub ReadsLine : Result Place TreeError → Builder → Result Builder YamlFault → Type 0
+ReadsLine (Ok place) new read = read ≡ Ok new
+ReadsLine (Err (tree.Fault fault)) new read = read ≡ Err fault
+ReadsLine (Err tree.NoMemory) new read = Unit {0}
+
+-- all that is open is closed, and the root is the value
+unfoldable pub whole : Builder → Builder
+whole b = valued 1 (settled 0 (ended b))

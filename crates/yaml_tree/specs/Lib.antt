@@ -1,11 +1,10 @@
 pub mod Entries
-pub mod Lines
-pub mod Escapes
-pub mod Scalars
-pub mod Tokens
-pub mod Layout
+pub mod Flows
+pub mod Written
+pub mod Said
 pub mod Holds
 pub mod Tree
+pub mod Outline
 pub mod Stack
 pub mod Builder
 pub mod Trees

@@ -1,67 +1,82 @@
 -- The tree of a text, and the fault of a text that has none.
-use Rattle.std.specs.Prelude.{◌≡◌, ℕ, ◌+◌, ◌<◌, ◌≤◌, true, false, List, [], ◌∷◌, ◌++◌, None, length, take, count_by, ◌==◌}
+use Rattle.std.specs.Prelude.{◌≡◌, ◌⊎◌, ℕ, ◌+◌, ◌<◌, ◌≤◌, true, false, List, [], ◌∷◌, ◌++◌, None, length, take, count_by, ◌==◌}
 use Rattle.std.specs.Str.{IsUtf8}
 use Rattle.std.specs.Str.Lossy.{utf8_valid_len}
-use Rattle.yaml_tree.specs.Lines.{lines_of, line_feed}
-use Rattle.yaml_tree.specs.Tokens.{Token, tokens_of}
-use Rattle.yaml_tree.specs.Tokens.Token.{dash, key, scalar, odd_token}
-use Rattle.yaml_tree.specs.Layout.{Layout, Spells, has_repeat, levels, size}
+use Rattle.yaml_marks.specs.Lines.{lines_of, line_feed}
+use Rattle.yaml_marks.specs.Pieces.{why_bracket}
+use Rattle.yaml_tree.specs.Flows.{IsFlowMisfit}
+use Rattle.yaml_marks.specs.Marks.{marks_of}
+use Rattle.yaml_marks.specs.declared.mark.Mark.{Mark}
+use Rattle.yaml_marks.specs.declared.mark.Mark.TheVariants.{Scalar, Form, OddMark}
+use Rattle.yaml_tree.specs.Written.{Written, Spells}
+use Rattle.yaml_tree.specs.Said.{Said, tree_of, has_repeat, has_unknown, levels, size}
 use Rattle.yaml_tree.specs.declared.fault.FaultKind.{FaultKind}
 use Rattle.yaml_tree.specs.declared.fault.FaultKind.TheVariants.{NotUtf8, Syntax, Unsupported, Duplicate, Alias, TooDeep, TooManyNodes}
-use Rattle.yaml_tree.specs.declared.fault.Odd.TheVariants as odd
+use Rattle.yaml_marks.specs.declared.odd.Odd.{Odd}
+use Rattle.yaml_marks.specs.declared.odd.Odd.TheVariants as odd
 
--- the lines have this tree: it is laid out by their tokens, no key is repeated, and it is within the limits
-pub record IsTree (lines : List (List ℕ)) (layout : Layout) : Type 0 where
-  pub spelled : Spells (tokens_of lines) layout
-  pub distinct : has_repeat layout ≡ false
-  pub shallow : levels layout ≤ 64
-  pub small : size layout ≤ 1_000_000
+-- the lines say this tree by one of the six rules at each place
+pub record Says (lines : List (List ℕ)) (tree : Said) : Type 0 where
+  pub written : Written
+  pub spelled : Spells (marks_of lines) written
+  pub said : tree_of written ≡ tree
+
+-- the lines have this tree: they say it, no key is repeated, no copy is of an unknown node, and it is within the
+-- limits
+pub record IsTree (lines : List (List ℕ)) (tree : Said) : Type 0 where
+  pub says : Says lines tree
+  pub distinct : has_repeat tree ≡ false
+  pub known : has_unknown tree ≡ false
+  pub shallow : levels tree ≤ 64
+  pub small : size tree ≤ 1_000_000
 
 abbrev pub HasTree : List (List ℕ) → Type 0
-HasTree lines = (layout : Layout) × IsTree lines layout
+HasTree lines = (tree : Said) × IsTree lines tree
 
--- a layout begins with these tokens
-abbrev pub MayBegin : List Token → Type 0
-MayBegin ts = (rest : List Token) × (layout : Layout) × Spells (ts ++ rest) layout
+-- a tree as it is written begins with these marks
+abbrev pub MayBegin : List Mark → Type 0
+MayBegin ms = (rest : List Mark) × (written : Written) × Spells (ms ++ rest) written
 
--- a scalar in the place of a token
-abbrev pub scalar_instead : Token → Token
-scalar_instead (dash line column) = scalar line column None
-scalar_instead (key line column text) = scalar line column None
-scalar_instead (scalar line column text) = scalar line column text
-scalar_instead (odd_token line column why) = scalar line column None
+-- behind the front a value may begin at this column
+abbrev pub ValueMayBegin : List Mark → ℕ → ℕ → Type 0
+ValueMayBegin front line column = MayBegin (front ++ (Scalar line column None ∷ []))
 
--- the kind of fault where this token can't stand behind the front
-abbrev pub IsKindAt : List Token → Token → FaultKind → Type 0
-IsKindAt front (dash line column) kind = kind ≡ Syntax
-IsKindAt front (key line column text) kind = kind ≡ Syntax
-IsKindAt front (scalar line column text) kind = kind ≡ Syntax
-IsKindAt front (odd_token line column odd.Syntax) kind = kind ≡ Syntax
-IsKindAt front (odd_token line column odd.Unsupported) kind = kind ≡ Unsupported
-IsKindAt front (odd_token line column odd.Mark) Unsupported = MayBegin (front ++ (scalar line column None ∷ []))
-IsKindAt front (odd_token line column odd.Mark) Syntax = ¬ MayBegin (front ++ (scalar line column None ∷ []))
-IsKindAt front (odd_token line column odd.Mark) _ = ⊥
+abbrev pub kind_of : Odd → FaultKind
+kind_of odd.Mark = Syntax
+kind_of odd.Unsupported = Unsupported
+kind_of odd.Syntax = Syntax
 
--- The tokens are no layout's: the first of them that can't stand behind those before it tells the kind.
-pub record IsMisfit (ts : List Token) (kind : FaultKind) : Type 0 where
-  pub front : List Token
-  pub token : Token
-  pub rest : List Token
-  pub parts : ts ≡ front ++ (token ∷ rest)
+-- The kind of fault where this mark can't stand behind the front. Of a flow form where a value may begin it is that
+-- of its first piece which can't stand.
+abbrev pub IsKindAt : List Mark → Mark → FaultKind → Type 0
+IsKindAt front (OddMark line column odd.Syntax) kind = kind ≡ Syntax
+IsKindAt front (OddMark line column odd.Unsupported) kind = kind ≡ Unsupported
+IsKindAt front (OddMark line column odd.Mark) Unsupported = ValueMayBegin front line column
+IsKindAt front (OddMark line column odd.Mark) Syntax = ¬ ValueMayBegin front line column
+IsKindAt front (OddMark line column odd.Mark) _ = ⊥
+IsKindAt front (Form line column pieces) kind = (ValueMayBegin front line column × IsFlowMisfit pieces kind) ⊎ ((¬ ValueMayBegin front line column) × (kind ≡ kind_of (why_bracket pieces)))
+IsKindAt front _ kind = kind ≡ Syntax
+
+-- The marks are no tree's: the first of them that can't stand behind those before it tells the kind.
+pub record IsMisfit (ms : List Mark) (kind : FaultKind) : Type 0 where
+  pub front : List Mark
+  pub mark : Mark
+  pub rest : List Mark
+  pub parts : ms ≡ front ++ (mark ∷ rest)
   pub begins : MayBegin front
-  pub ends : ¬ MayBegin (front ++ (token ∷ []))
-  pub kind_is : IsKindAt front token kind
+  pub ends : ¬ MayBegin (front ++ (mark ∷ []))
+  pub kind_is : IsKindAt front mark kind
 
--- The lines have no tree for this reason: they fit no layout, or their layout has a repeated key, or has none
--- and is too deep, or isn't too deep and has too many nodes.
+-- The lines have no tree for this reason: they fit no rule, or what they say has a repeated key, or has none and a
+-- copy of an unknown node, or neither and is too deep, or isn't too deep and has too many nodes.
 abbrev pub IsRefused : List (List ℕ) → FaultKind → Type 0
 IsRefused lines NotUtf8 = ⊥
-IsRefused lines Syntax = IsMisfit (tokens_of lines) Syntax
-IsRefused lines Unsupported = IsMisfit (tokens_of lines) Unsupported
-IsRefused lines Duplicate = (layout : Layout) × Spells (tokens_of lines) layout × (has_repeat layout ≡ true)
-IsRefused lines Alias = ⊥
-IsRefused lines TooDeep = (layout : Layout) × Spells (tokens_of lines) layout × (has_repeat layout ≡ false) × (64 < levels layout)
-IsRefused lines TooManyNodes = (layout : Layout) × Spells (tokens_of lines) layout × (has_repeat layout ≡ false) × (levels layout ≤ 64) × (1_000_000 < size layout)
+IsRefused lines Syntax = IsMisfit (marks_of lines) Syntax
+IsRefused lines Unsupported = IsMisfit (marks_of lines) Unsupported
+IsRefused lines Duplicate = (tree : Said) × Says lines tree × (has_repeat tree ≡ true)
+IsRefused lines Alias = (tree : Said) × Says lines tree × (has_repeat tree ≡ false) × (has_unknown tree ≡ true)
+IsRefused lines TooDeep = (tree : Said) × Says lines tree × (has_repeat tree ≡ false) × (has_unknown tree ≡ false) × (64 < levels tree)
+IsRefused lines TooManyNodes = (tree : Said) × Says lines tree × (has_repeat tree ≡ false) × (has_unknown tree ≡ false) × (levels tree ≤ 64) × (1_000_000 < size tree)
 
 -- the first of the lines up to which there is no tree, and why
 pub record IsFirstRefused (lines : List (List ℕ)) (number : ℕ) (kind : FaultKind) : Type 0 where
@@ -73,8 +88,8 @@ pub record IsFirstRefused (lines : List (List ℕ)) (number : ℕ) (kind : Fault
 abbrev pub line_of_break : List ℕ → ℕ
 line_of_break text = 1 + count_by (λ b. b == line_feed) (take (utf8_valid_len text) text)
 
-abbrev pub IsTreeOf : List ℕ → Layout → Type 0
-IsTreeOf text layout = IsUtf8 text × IsTree (lines_of text) layout
+abbrev pub IsTreeOf : List ℕ → Said → Type 0
+IsTreeOf text tree = IsUtf8 text × IsTree (lines_of text) tree
 
 abbrev pub IsFaultOf : List ℕ → ℕ → FaultKind → Type 0
 IsFaultOf text line NotUtf8 = ¬ IsUtf8 text × (line ≡ line_of_break text)

@@ -1,8 +1,8 @@
 -- What is seen of a tree: its nodes by number, and the root's.
 use Rattle.std.specs.Prelude.{◌≡◌, ◌<◌, ℕ, List, Result, Ok, Err, length}
-use Rattle.yaml_tree.specs.Layout.{Layout}
-use Rattle.yaml_tree.specs.Holds.{HoldsNode}
-use Rattle.yaml_tree.specs.Builder.{settled, nodes_with_value, value_number}
+use Rattle.yaml_tree.specs.Said.{Said}
+use Rattle.yaml_tree.specs.Holds.{HoldsSaid}
+use Rattle.yaml_tree.specs.Builder.{whole, known_of}
 use Rattle.yaml_tree.specs.declared.node.Node.{Node}
 use Rattle.yaml_tree.specs.Tree.{IsFaultOf}
 use Rattle.yaml_tree.specs.declared.tree.Tree.{Tree}
@@ -22,17 +22,20 @@ root_of t = t.root
 abbrev pub node_count : Tree → ℕ
 node_count t = length t.nodes
 
--- the tree's nodes hold the layout, which a null without text begins on line 1
-abbrev pub Holds : Tree → Layout → Type 0
-Holds t layout = HoldsNode t.nodes layout 1 t.root
+-- the tree's nodes hold what is said
+abbrev pub Holds : Tree → Said → Type 0
+Holds t said = HoldsSaid t.nodes said t.root
 
 -- the root's number once all that is open is closed
+abbrev pub root_number : Builder → ℕ
+root_number b = (known_of (whole b).value).node
+
 abbrev pub RootIsIn : Builder → Type 0
-RootIsIn b = value_number (settled 0 b) < length (nodes_with_value 1 (settled 0 b).nodes (settled 0 b).value)
+RootIsIn b = root_number b < length (whole b).nodes
 
 -- all that is open is closed
 abbrev pub IsWhole : Builder → Tree → Type 0
-IsWhole b t = (t.nodes ≡ nodes_with_value 1 (settled 0 b).nodes (settled 0 b).value) × (t.root ≡ value_number (settled 0 b))
+IsWhole b t = (t.nodes ≡ (whole b).nodes) × (t.root ≡ root_number b)
 
 -- what reading the lines gave, want of memory aside
 abbrev pub IsReading : Result Builder YamlFault → Result Tree TreeError → Type 0

@@ -1,40 +1,41 @@
-//! The builder: nodes that are whole, and collections that are still open.
+//! The builder: nodes that are whole, their names, and what is still open.
 
-ghost use Rattle.std.specs.Prelude.{◌≡◌, ◌++◌, ◌∷◌, ◌+◌, ◌*◌, ◌<◌, ◌^◌, List, ℕ, [], None, OnOk, IfOk, length, MatchOption};
-ghost use Rattle.yaml_tree.specs.Builder.{value_number, with_value, closed, settled, begun, next_row, headed, can_hold, with_scalar, odd_kind, Steps, grown};
+ghost use Rattle.std.specs.Prelude.{◌≡◌, ◌+◌, ◌*◌, Some, None, OnOk, IfOk};
+ghost use Rattle.yaml_tree.specs.Builder.{next_known, with_node, put_node, valued, closed, settled, begun, next_row, headed, can_hold, can_name, with_scalar, with_name, with_copy, put_found, with_bar, with_line, ended, with_form, odd_kind, take_mark, take_marks, Steps, judged, whole};
+ghost use Rattle.yaml_tree.specs.Trees.{root_number};
 ghost use Rattle.yaml_tree.specs.Builder as machine;
 ghost use Rattle.yaml_tree.specs.Holds.{scalar_value};
-ghost use Rattle.yaml_tree.specs.declared.builder.Builder.{Builder};
-ghost use Rattle.yaml_tree.specs.declared.node.Value.TheVariants.{Null};
+ghost use Rattle.yaml_tree.specs.Tree.{kind_of};
 
-use crate::fault::{FaultKind, Odd, Stop};
+use crate::fault::{FaultKind, Stop};
+use crate::known::{Known, Measure, Names};
+use crate::literal::{Literal, TextLines};
 use crate::node::{Node, Value};
 use crate::nodes::Nodes;
-use crate::scalar::Scalar;
+use crate::shape::flow_fault;
 use crate::stack::{Open, Stack};
 use sim_base::NoMemory;
 use std::alloc::Global;
+use yaml_marks::{Chomp, Mark, Odd, Pieces, Scalar, why_bracket};
 
-/// The most nodes that a tree has.
-pub(crate) const MOST_NODES: usize = 1_000_000;
-
-/// The most levels of collections that a tree has.
-pub(crate) const MOST_LEVELS: usize = 64;
-
-/// The tree so far: the nodes that are whole, the collections that are open, and the value of the
-/// innermost open row, where it has come.
+/// The tree so far.
 #[derive(Drop)]
 pub(crate) struct Builder {
     pub alloc: Global,
+    /// The nodes that are whole.
     pub nodes: Nodes,
+    /// The block collections that are open.
     pub open_rows: Stack,
-    pub value: Option<usize>,
-    /// Whether a key stands twice in one mapping.
-    pub repeated: bool,
-    /// The levels of collections so far.
-    pub levels: usize,
-    /// The nodes so far, counted to one more than a tree has at most.
-    pub size: usize,
+    /// The flow collections that are open.
+    pub cells: Stack,
+    /// The value of the innermost open row, where it has come.
+    pub value: Option<Known>,
+    /// The name that waits for a node.
+    pub name: Option<Scalar>,
+    /// The literal block that is open.
+    pub literal: Option<Literal>,
+    /// The nodes that have names.
+    pub names: Names,
 }
 
 impl Builder {
@@ -45,26 +46,54 @@ impl Builder {
             alloc,
             nodes: Nodes::new(alloc),
             open_rows: Stack::new(alloc),
+            cells: Stack::new(alloc),
             value: None,
-            repeated: false,
-            levels: 0,
-            size: 1,
+            name: None,
+            literal: None,
+            names: Names::new(alloc),
         }
     }
 
-    /// The number of the value's node, which is made where no value has come.
-    pub fn value_node(&mut self, line: usize) -> Result<usize, NoMemory>
-        ensures { IfOk result (λ n. (n ≡ value_number self.old) × (self.new ≡ with_value line self.old)) }
+    /// Makes a node, which takes the name that waits for one.
+    #[tactic(auto, unfolding(crate::specs::Builder::with_node))]
+    pub fn make_node(
+        &mut self,
+        line: usize,
+        value: Value,
+        measure: Measure,
+    ) -> Result<Known, NoMemory>
+        ensures { IfOk result (λ k. (k ≡ next_known measure self.old) × (self.new ≡ with_node line value measure self.old)) }
+    {
+        let node = self.nodes.len();
+        let known = Known { node, measure };
+        self.nodes.push(Node { line, value })?;
+        if let Some(name) = self.name.take() {
+            self.names.insert(name, known)?;
+        }
+        Ok(known)
+    }
+
+    /// Makes a node that is the value.
+    #[tactic(auto, unfolding(crate::specs::Builder::put_node))]
+    fn put_node(&mut self, line: usize, value: Value, measure: Measure) -> Result<(), NoMemory>
+        ensures { OnOk result (self.new ≡ put_node line value measure self.old) }
+    {
+        let known = self.make_node(line, value, measure)?;
+        self.value = Some(known);
+        Ok(())
+    }
+
+    /// The value, which is a null on this line where none has come.
+    #[tactic(auto, unfolding(crate::specs::Builder::valued, crate::specs::Builder::put_node))]
+    fn take_value(&mut self, line: usize) -> Result<Known, NoMemory>
+        ensures { IfOk result (λ k. (self.new ≡ valued line self.old) × (self.new.value ≡ Some k)) }
     {
         match self.value {
-            Some(number) => Ok(number),
+            Some(known) => Ok(known),
             None => {
-                let number = self.nodes.len();
-                self.nodes.push(Node {
-                    line,
-                    value: Value::Null,
-                })?;
-                Ok(number)
+                let known = self.make_node(line, Value::Null, Measure::one_node())?;
+                self.value = Some(known);
+                Ok(known)
             }
         }
     }
@@ -74,20 +103,17 @@ impl Builder {
     fn close(&mut self, last: Open) -> Result<(), NoMemory>
         ensures { OnOk result (self.new ≡ closed last self.old) }
     {
-        let node = self.value_node(last.line)?;
-        let whole = last.finish_row(self.alloc, node)?;
-        let line = whole.first_line;
-        let number = self.nodes.len();
-        self.nodes.push(Node {
-            line,
-            value: whole.into_value(),
-        })?;
-        self.value = Some(number);
-        Ok(())
+        let value = self.take_value(last.line)?;
+        let rows = last.finish_row(self.alloc, value)?;
+        let line = rows.first_line;
+        let measure = rows.measure;
+        let (collection, name) = rows.into_value();
+        self.name = name;
+        self.put_node(line, collection, measure)
     }
 
     /// Closes the collections that are deeper.
-    pub fn settle(&mut self, depth: usize) -> Result<(), NoMemory>
+    pub fn settle(&mut self, depth: u128) -> Result<(), NoMemory>
         ensures { OnOk result (self.new ≡ settled depth self.old) }
     {
         while let Some(last) = self.open_rows.pop_deeper(depth) {
@@ -98,16 +124,15 @@ impl Builder {
 
     /// Begins a collection.
     #[tactic(auto, unfolding(crate::specs::Builder::begun))]
-    fn begin(&mut self, depth: usize, mapping: bool, line: usize, key: Scalar) -> Result<(), Stop>
+    fn begin(&mut self, depth: u128, mapping: bool, line: usize, key: Scalar) -> Result<(), Stop>
         ensures { Steps result self.new (begun depth mapping line key self.old) }
     {
         if self.value.is_some() {
             return Err(Stop::Fault(FaultKind::Syntax));
         }
+        let name = self.name.take();
         self.open_rows
-            .push(Open::new(self.alloc, depth, mapping, line, key))?;
-        self.levels = self.levels.max(self.open_rows.len());
-        self.size = grown_size(self.size);
+            .push(Open::new(self.alloc, depth, mapping, line, key, name))?;
         Ok(())
     }
 
@@ -116,25 +141,16 @@ impl Builder {
     fn next_row(&mut self, last: Open, line: usize, key: Scalar) -> Result<(), NoMemory>
         ensures { OnOk result (self.new ≡ next_row last line key self.old) }
     {
-        let node = self.value_node(last.line)?;
-        let rows = last.finish_row(self.alloc, node)?;
-        let repeated = rows.has_row(&key);
-        self.repeated |= repeated;
-        self.open_rows.push(rows.with_row(line, key))?;
+        let value = self.take_value(last.line)?;
+        let rows = last.finish_row(self.alloc, value)?;
+        self.open_rows.push(rows.with_next_row(line, key))?;
         self.value = None;
-        self.size = grown_size(self.size);
         Ok(())
     }
 
     /// Takes a key or a dash.
     #[tactic(auto, unfolding(crate::specs::Builder::headed))]
-    pub fn head(
-        &mut self,
-        depth: usize,
-        mapping: bool,
-        line: usize,
-        key: Scalar,
-    ) -> Result<(), Stop>
+    fn head(&mut self, depth: u128, mapping: bool, line: usize, key: Scalar) -> Result<(), Stop>
         ensures { Steps result self.new (headed depth mapping line key self.old) }
     {
         self.settle(depth)?;
@@ -147,8 +163,8 @@ impl Builder {
         }
     }
 
-    /// Whether a scalar of this depth may be the value.
-    fn can_hold(&self, depth: usize) -> bool
+    /// Whether a value of this depth may come.
+    fn can_hold(&self, depth: u128) -> bool
         ensures { result ≡ can_hold depth self.now }
     {
         match self.open_rows.top_depth() {
@@ -157,25 +173,129 @@ impl Builder {
         }
     }
 
+    /// Whether a name or a copy of this depth may come.
+    fn can_name(&self, depth: u128) -> bool
+        ensures { result ≡ can_name depth self.now }
+    {
+        self.name.is_none() && self.can_hold(depth)
+    }
+
     /// Takes a scalar.
     #[tactic(auto, unfolding(crate::specs::Builder::with_scalar))]
-    pub fn scalar(&mut self, depth: usize, line: usize, text: Option<Scalar>) -> Result<(), Stop>
+    fn scalar(&mut self, depth: u128, line: usize, text: Option<Scalar>) -> Result<(), Stop>
         ensures { Steps result self.new (with_scalar depth line text self.old) }
     {
         if !self.can_hold(depth) {
             return Err(Stop::Fault(FaultKind::Syntax));
         }
-        let number = self.nodes.len();
-        self.nodes.push(Node {
-            line,
-            value: scalar_value(text),
-        })?;
-        self.value = Some(number);
+        self.put_node(line, scalar_value(text), Measure::one_node())?;
         Ok(())
     }
 
-    /// The kind of fault of a token that no layout has.
-    pub fn odd_kind(&self, depth: usize, why: Odd) -> FaultKind
+    /// Takes a name.
+    #[tactic(auto, unfolding(crate::specs::Builder::with_name))]
+    fn give_name(&mut self, depth: u128, name: Scalar) -> Result<(), Stop>
+        ensures { Steps result self.new (with_name depth name self.old) }
+    {
+        if !self.can_name(depth) {
+            return Err(Stop::Fault(FaultKind::Syntax));
+        }
+        self.name = Some(name);
+        Ok(())
+    }
+
+    /// Takes what a copy's name found.
+    fn put_found(&mut self, line: usize, found: Option<Known>) -> Result<(), NoMemory>
+        ensures { OnOk result (self.new ≡ put_found line found self.old) }
+    {
+        match found {
+            Some(known) => {
+                self.value = Some(known);
+                Ok(())
+            }
+            None => self.put_node(line, Value::Null, Measure::unknown_node()),
+        }
+    }
+
+    /// Takes a copy.
+    #[tactic(auto, unfolding(crate::specs::Builder::with_copy))]
+    fn copy(&mut self, depth: u128, line: usize, name: &Scalar) -> Result<(), Stop>
+        ensures { Steps result self.new (with_copy depth line name.now self.old) }
+    {
+        if !self.can_name(depth) {
+            return Err(Stop::Fault(FaultKind::Syntax));
+        }
+        let found = self.names.find(name);
+        self.put_found(line, found)?;
+        Ok(())
+    }
+
+    /// Takes the bar of a literal block.
+    #[tactic(auto, unfolding(crate::specs::Builder::with_bar))]
+    fn bar(&mut self, depth: u128, line: usize, chomp: Chomp) -> Result<(), Stop>
+        ensures { Steps result self.new (with_bar depth line chomp self.old) }
+    {
+        if !self.can_hold(depth) {
+            return Err(Stop::Fault(FaultKind::Syntax));
+        }
+        self.literal = Some(Literal {
+            depth,
+            line,
+            chomp,
+            lines: TextLines::new(self.alloc),
+        });
+        Ok(())
+    }
+
+    /// Takes a line of a literal block.
+    #[tactic(auto, unfolding(crate::specs::Builder::with_line))]
+    fn literal_line(&mut self, depth: u128, bytes: Scalar) -> Result<(), Stop>
+        ensures { Steps result self.new (with_line depth bytes self.old) }
+    {
+        match self.literal.take() {
+            Some(mut literal) if literal.depth == depth => {
+                literal.lines.push(bytes)?;
+                self.literal = Some(literal);
+                Ok(())
+            }
+            _ => Err(Stop::Fault(FaultKind::Syntax)),
+        }
+    }
+
+    /// Makes the literal block that is open, if any, the value.
+    #[tactic(auto, unfolding(crate::specs::Builder::ended))]
+    fn end_literal(&mut self) -> Result<(), NoMemory>
+        ensures { OnOk result (self.new ≡ ended self.old) }
+    {
+        match self.literal.take() {
+            Some(literal) => {
+                let line = literal.line;
+                let text = literal.into_text(self.alloc)?;
+                self.put_node(line, Value::Text(text), Measure::one_node())
+            }
+            None => Ok(()),
+        }
+    }
+
+    /// Takes a flow form.
+    #[tactic(auto, unfolding(crate::specs::Builder::with_form))]
+    fn form(&mut self, depth: u128, line: usize, pieces: Pieces) -> Result<(), Stop>
+        ensures { Steps result self.new (with_form depth line pieces self.old) }
+    {
+        if !self.can_hold(depth) {
+            return Err(Stop::Fault(kind_of(why_bracket(pieces.as_slice()))));
+        }
+        match flow_fault(self.alloc, pieces.as_slice())? {
+            Some(kind) => Err(Stop::Fault(kind)),
+            None => {
+                self.take_pieces(line, pieces)?;
+                Ok(())
+            }
+        }
+    }
+
+    /// The kind of fault of a token that no rule admits.
+    fn odd_kind(&self, depth: u128, why: Odd) -> FaultKind
         ensures { result ≡ odd_kind depth why self.now }
     {
         match why {
@@ -190,9 +310,76 @@ impl Builder {
             Odd::Syntax => FaultKind::Syntax,
         }
     }
+
+    /// Takes a token.
+    #[tactic(auto, unfolding(crate::specs::Builder::take_mark))]
+    pub fn take_mark(&mut self, mark: Mark) -> Result<(), Stop>
+        ensures { Steps result self.new (take_mark mark self.old) }
+    {
+        if let Mark::Body(_, column, bytes) = mark {
+            return self.literal_line(key_depth(column), bytes);
+        }
+        self.end_literal()?;
+        match mark {
+            Mark::Dash(line, column) => {
+                let none = Scalar::new(self.alloc);
+                self.head(dash_depth(column), false, line, none)
+            }
+            Mark::Key(line, column, text) => self.head(key_depth(column), true, line, text),
+            Mark::Scalar(line, column, text) => self.scalar(key_depth(column), line, text),
+            Mark::Name(_, column, text) => self.give_name(key_depth(column), text),
+            Mark::Copy(line, column, text) => self.copy(key_depth(column), line, &text),
+            Mark::Bar(line, column, chomp) => self.bar(key_depth(column), line, chomp),
+            Mark::Form(line, column, pieces) => self.form(key_depth(column), line, pieces),
+            Mark::OddMark(_, column, why) => {
+                Err(Stop::Fault(self.odd_kind(key_depth(column), why)))
+            }
+            Mark::Body(_, _, _) => Ok(()),
+        }
+    }
+
+    /// Closes all that is open, and gives the number of the root.
+    #[tactic(auto, unfolding(crate::specs::Builder::whole))]
+    pub fn finish(&mut self) -> Result<usize, NoMemory>
+        ensures { IfOk result (λ n. (n ≡ root_number self.old) × (self.new ≡ whole self.old)) }
+    {
+        self.end_literal()?;
+        self.settle(0)?;
+        let root = self.take_value(1)?;
+        Ok(root.node)
+    }
+
+    /// The limits at a line's end.
+    #[tactic(auto, unfolding(crate::specs::Builder::judged))]
+    pub fn judge(&self) -> Result<(), Stop>
+        ensures { Steps result self.now (judged self.now) }
+    {
+        let value = match self.value {
+            Some(known) => known.measure,
+            None => Measure::one_node(),
+        };
+        match self.open_rows.measure_about(value).fault() {
+            Some(kind) => Err(Stop::Fault(kind)),
+            None => Ok(()),
+        }
+    }
 }
 
-fn scalar_value(text: Option<Scalar>) -> Value
+/// How deep a dash at a column stands.
+fn dash_depth(column: usize) -> u128
+    ensures { result ≡ 2 + 2 * column }
+{
+    2 + 2 * (column as u128)
+}
+
+/// How deep a key, a scalar and any other token but a dash at a column stands.
+fn key_depth(column: usize) -> u128
+    ensures { result ≡ 1 + 2 * column }
+{
+    1 + 2 * (column as u128)
+}
+
+pub(crate) fn scalar_value(text: Option<Scalar>) -> Value
     ensures { result ≡ scalar_value text }
 {
     match text {
@@ -201,9 +388,11 @@ fn scalar_value(text: Option<Scalar>) -> Value
     }
 }
 
-/// One more, up to one more than a tree has at most.
-fn grown_size(size: usize) -> usize
-    ensures { result ≡ grown size }
+fn kind_of(why: Odd) -> FaultKind
+    ensures { result ≡ kind_of why }
 {
-    if size <= MOST_NODES { size + 1 } else { size }
+    match why {
+        Odd::Unsupported => FaultKind::Unsupported,
+        _ => FaultKind::Syntax,
+    }
 }

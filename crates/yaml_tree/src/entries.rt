@@ -5,10 +5,10 @@ ghost use Rattle.std.specs.Cmp.Lexicographic.{pointwise};
 ghost use Rattle.yaml_tree.specs.declared.entries.Child.{Child};
 ghost use Rattle.yaml_tree.specs.Entries.{has_key, with_entry};
 
-use crate::scalar::Scalar;
 use indexmap::IndexMap;
 use std::alloc::{AllocError, Global};
 use std::marker::Model;
+use yaml_marks::Scalar;
 
 /// What a key names: the line of the key, and the number of its value's node.
 #[derive(Clone, Copy, Debug, PartialEq, Eq)]

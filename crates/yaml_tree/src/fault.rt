@@ -61,18 +61,6 @@ impl From<NoMemory> for TreeError {
     }
 }
 
-/// Why a token is one that no layout has.
-#[derive(Clone, Copy, Debug, PartialEq, Eq)]
-pub enum Odd {
-    /// A mark that would begin a value of YAML beyond the profile: unsupported where a value may
-    /// begin.
-    Mark,
-    /// Unsupported wherever it stands.
-    Unsupported,
-    /// A fault of syntax wherever it stands.
-    Syntax,
-}
-
 /// Why a part of a line was refused.
 #[derive(Clone, Copy, Debug, PartialEq, Eq)]
 pub(crate) enum Stop {

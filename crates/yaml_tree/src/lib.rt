@@ -3,29 +3,26 @@
 
 mod builder;
 mod entries;
-mod escapes;
 mod fault;
+mod flow;
+mod known;
 pub mod laws;
-mod line;
-mod lines;
+mod literal;
 mod node;
 mod nodes;
 mod numbers;
 mod reading;
-mod scalar;
-mod scan;
+mod shape;
 mod stack;
 #[cfg(test)]
 mod tests;
 mod tree;
 
 pub use entries::{Child, Entries};
-pub use escapes::{Added, Escape};
-pub use fault::{FaultKind, Odd, TreeError, YamlFault};
+pub use fault::{FaultKind, TreeError, YamlFault};
 pub use node::{Node, Value};
 pub use nodes::Nodes;
 pub use numbers::Numbers;
 pub use reading::read_tree;
-pub use scalar::Scalar;
-pub use scan::Scan;
 pub use tree::Tree;
+pub use yaml_marks::Scalar;

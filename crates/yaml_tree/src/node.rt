@@ -2,7 +2,7 @@
 
 use crate::entries::Entries;
 use crate::numbers::Numbers;
-use crate::scalar::Scalar;
+use yaml_marks::Scalar;
 
 /// What a node is.
 #[derive(Drop)]

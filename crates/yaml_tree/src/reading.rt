@@ -1,46 +1,37 @@
 //! Reading a text, line by line.
 
-ghost use Rattle.std.specs.Prelude.{◌≡◌, ◌+◌, ◌<◌, ◌≤◌, ◌^◌, List, ℕ, Bool, Ok, Err, length, take, count_by, IfOk, IfErr, false, ◌==◌, ◌||◌};
-ghost use Rattle.yaml_tree.specs.Lines.{line_feed, split_lines, lines_of};
-ghost use Rattle.yaml_tree.specs.Builder.{Steps, Reads, judged, read_line, at_line, read_lines, fresh};
-ghost use Rattle.yaml_tree.specs.Layout.{Layout};
+ghost use Rattle.std.specs.Prelude.{◌≡◌, ◌+◌, ◌<◌, ◌≤◌, ◌^◌, List, ℕ, Bool, None, Ok, Err, length, take, count_by, IfOk, IfErr, false, ◌==◌, ◌||◌};
+ghost use Rattle.yaml_marks.specs.Lines.{line_feed, split_lines, lines_of};
+ghost use Rattle.yaml_tree.specs.Builder.{Steps, Reads, ReadsLine, take_marks, take_line, read_line, at_line, read_lines, fresh};
+ghost use Rattle.yaml_tree.specs.Said.{Said};
+ghost use Rattle.yaml_marks.specs.Marks.{has_content, place_after, line_marks, next_place};
+ghost use Rattle.yaml_marks.specs.declared.place.Place.TheVariants.{Outside};
 ghost use Rattle.yaml_tree.specs.Tree.{IsTreeOf, IsFaultOf};
 ghost use Rattle.yaml_tree.specs.Trees.{Holds, RootIsIn, IsWhole, IsReading, IsErrorOf, error_at};
-ghost use Rattle.yaml_tree.specs.Tokens.{has_content};
 
-use crate::builder::{Builder, MOST_LEVELS, MOST_NODES};
+use crate::builder::Builder;
 use crate::fault::{FaultKind, Stop, TreeError, YamlFault};
-use crate::line::{has_content, take_line};
-use crate::lines::{next_line, without_mark};
 use crate::tree::Tree;
 use sim_base::NoMemory;
 use std::alloc::Global;
+use yaml_marks::{Marks, Place, has_content, line_marks, next_line, next_place, without_mark};
 
-/// The limits at a line's end.
-#[tactic(auto, unfolding(crate::specs::Builder::judged))]
-fn judge(builder: &mut Builder) -> Result<(), Stop>
-    ensures { Steps result builder.new (judged builder.old) }
+/// Gives the tokens of a line to the builder.
+fn take_marks(builder: &mut Builder, marks: Marks) -> Result<(), Stop>
+    ensures { Steps result builder.new (take_marks marks builder.old) }
 {
-    if builder.repeated {
-        return Err(Stop::Fault(FaultKind::Duplicate));
-    }
-    if builder.levels > MOST_LEVELS {
-        return Err(Stop::Fault(FaultKind::TooDeep));
-    }
-    if builder.size > MOST_NODES {
-        return Err(Stop::Fault(FaultKind::TooManyNodes));
+    for mark in marks.into_vec() {
+        builder.take_mark(mark)?;
     }
     Ok(())
 }
 
-/// Reads a line.
-#[tactic(auto, unfolding(crate::specs::Builder::read_line))]
-fn read_line(builder: &mut Builder, begun: bool, number: usize, line: &[u8]) -> Result<(), Stop>
-    requires { length line.now < 2 ^ 62 }
-    ensures { Steps result builder.new (read_line begun number line.now builder.old) }
+/// Gives the tokens of a line to the builder, and judges the tree so far.
+fn take_line(builder: &mut Builder, marks: Marks) -> Result<(), Stop>
+    ensures { Steps result builder.new (take_line marks builder.old) }
 {
-    take_line(builder, begun, number, line)?;
-    judge(builder)
+    take_marks(builder, marks)?;
+    builder.judge()
 }
 
 /// The fault of a line.
@@ -53,33 +44,47 @@ fn error_at(number: usize, stop: Stop) -> TreeError
     }
 }
 
-/// Reads a line, and answers its number where it is faulty.
-fn read_numbered(
-    builder: &mut Builder,
-    begun: bool,
-    number: usize,
-    line: &[u8],
-) -> Result<(), TreeError>
-    requires { length line.now < 2 ^ 62 }
-    ensures { Reads result builder.new (at_line number (read_line begun number line.now builder.old)) }
+/// Gives the tokens of a line to the builder, and answers the line's number where it is faulty.
+fn take_numbered(builder: &mut Builder, number: usize, marks: Marks) -> Result<(), TreeError>
+    ensures { Reads result builder.new (at_line number (take_line marks builder.old)) }
 {
-    match read_line(builder, begun, number, line) {
+    match take_line(builder, marks) {
         Ok(()) => Ok(()),
         Err(stop) => Err(error_at(number, stop)),
     }
 }
 
+/// Reads a line, and tells where the next one stands.
+#[tactic(auto, unfolding(crate::specs::Builder::read_line))]
+fn read_line(
+    builder: &mut Builder,
+    begun: bool,
+    place: Place,
+    number: usize,
+    line: &[u8],
+) -> Result<Place, TreeError>
+    requires { length line.now < 2 ^ 62 }
+    ensures read { ReadsLine result builder.new (at_line number (read_line begun place number line.now builder.old)) }
+    ensures place { IfOk result (λ p. p ≡ next_place begun place number line.now) }
+{
+    let marks = line_marks(builder.alloc, begun, place, number, line)?;
+    let next = next_place(place, line, &marks);
+    take_numbered(builder, number, marks)?;
+    Ok(next)
+}
+
 /// Reads the lines of a text.
 fn read_lines(builder: &mut Builder, text: &[u8]) -> Result<(), TreeError>
     requires { length text.now < 2 ^ 62 }
-    ensures { Reads result builder.new (read_lines false 1 (split_lines text.now) builder.old) }
+    ensures { Reads result builder.new (read_lines false (Outside None) 1 (split_lines text.now) builder.old) }
 {
     let mut rest = text;
     let mut begun = false;
+    let mut place = Place::Outside(None);
     let mut number = 1;
     while !rest.is_empty() {
         let (line, behind) = next_line(rest);
-        read_numbered(builder, begun, number, line)?;
+        place = read_line(builder, begun, place, number, line)?;
         begun = has_begun(begun, line);
         number += 1;
         rest = behind;
@@ -99,23 +104,23 @@ fn finish(builder: Builder) -> Result<Tree, NoMemory>
     ensures { IfOk result (IsWhole builder) }
 {
     let mut builder = builder;
-    builder.settle(0)?;
-    let root = builder.value_node(1)?;
+    let root = builder.finish()?;
     let Builder {
         alloc: _,
         nodes,
         open_rows: _,
+        cells: _,
         value: _,
-        repeated: _,
-        levels: _,
-        size: _,
+        name: _,
+        literal: _,
+        names: _,
     } = builder;
     Ok(Tree { nodes, root })
 }
 
 /// Reads a text that is UTF-8.
 fn read_text(alloc: Global, text: &[u8]) -> Result<Tree, TreeError>
-    ensures { IsReading (read_lines false 1 (lines_of text.now) (fresh alloc)) result }
+    ensures { IsReading (read_lines false (Outside None) 1 (lines_of text.now) (fresh alloc)) result }
 {
     let bytes = without_mark(text);
     if bytes.len() >= LONGEST {
@@ -148,7 +153,7 @@ fn line_of(text: &[u8], place: usize) -> usize
 /// The tree of a text, in this project's own profile of YAML 1.2, or the fault of a text that has
 /// none. Lines are counted from 1.
 pub fn read_tree(alloc: Global, text: &[u8]) -> Result<Tree, TreeError>
-    ensures tree { IfOk result (λ tree. (layout : Layout) × IsTreeOf text.now layout × Holds tree layout) }
+    ensures tree { IfOk result (λ tree. (said : Said) × IsTreeOf text.now said × Holds tree said) }
     ensures fault { IfErr result (λ error. IsErrorOf text.now error) }
 {
     match std::str::from_utf8(text) {

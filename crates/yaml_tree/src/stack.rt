@@ -1,21 +1,23 @@
 //! Collections that are still open.
 
 ghost use Rattle.std.specs.Prelude.{◌≡◌, ◌++◌, ◌∷◌, List, ℕ, [], OnOk, IfOk, length, reverse, true, nat_lt, ◌==◌};
-ghost use Rattle.yaml_tree.specs.Stack.{finished, collection, top_depth, has_row, PopsWhere};
+ghost use Rattle.yaml_tree.specs.Stack.{finished, collection, top_depth, has_row, with_next_row, measure_about, PopsWhere};
+ghost use Rattle.yaml_tree.specs.Builder.{new_open};
 ghost use Rattle.yaml_tree.specs.declared.stack.Open.{Open};
 
 use crate::entries::{Child, Entries};
+use crate::known::{Known, Measure};
 use crate::node::Value;
 use crate::numbers::Numbers;
-use crate::scalar::Scalar;
 use sim_base::NoMemory;
 use std::alloc::Global;
 use std::marker::Model;
+use yaml_marks::Scalar;
 
 /// A collection that is still open: its finished rows, and the row whose value comes.
 #[derive(Drop)]
 pub(crate) struct Open {
-    pub depth: usize,
+    pub depth: u128,
     pub mapping: bool,
     /// The line on which it begins.
     pub first_line: usize,
@@ -24,19 +26,22 @@ pub(crate) struct Open {
     /// The row whose value comes.
     pub line: usize,
     pub key: Scalar,
+    /// The name that the collection takes once it is whole.
+    pub name: Option<Scalar>,
+    /// The measure of the finished rows.
+    pub measure: Measure,
 }
 
 impl Open {
-    pub fn new(alloc: Global, depth: usize, mapping: bool, line: usize, key: Scalar) -> Open
-        ensures { result ≡ record {
-          depth = depth;
-          mapping = mapping;
-          first_line = line;
-          items = [];
-          entries = [];
-          line = line;
-          key = key;
-        } }
+    pub fn new(
+        alloc: Global,
+        depth: u128,
+        mapping: bool,
+        line: usize,
+        key: Scalar,
+        name: Option<Scalar>,
+    ) -> Open
+        ensures { result ≡ new_open depth mapping line key name }
     {
         Open {
             depth,
@@ -46,12 +51,14 @@ impl Open {
             entries: Entries::new(alloc),
             line,
             key,
+            name,
+            measure: Measure::no_row(),
         }
     }
 
-    /// Finishes the row with the node of its value.
-    pub fn finish_row(self, alloc: Global, node: usize) -> Result<Open, NoMemory>
-        ensures { IfOk result (λ o. o ≡ finished self node) }
+    /// Finishes the row with its value.
+    pub fn finish_row(self, alloc: Global, value: Known) -> Result<Open, NoMemory>
+        ensures { IfOk result (λ o. o ≡ finished self value) }
     {
         let Open {
             depth,
@@ -61,7 +68,10 @@ impl Open {
             mut entries,
             line,
             key,
+            name,
+            measure,
         } = self;
+        let node = value.node;
         if mapping {
             entries.insert(key, Child { line, node })?;
         } else {
@@ -75,20 +85,23 @@ impl Open {
             entries,
             line,
             key: Scalar::new(alloc),
+            name,
+            measure: measure.with_part(value.measure),
         })
     }
 
     /// Whether a finished row has this key.
-    pub fn has_row(&self, key: &Scalar) -> bool
+    fn has_row(&self, key: &Scalar) -> bool
         ensures { result ≡ has_row self.now key.now }
     {
         self.mapping && self.entries.contains(key)
     }
 
     /// The same collection with another row begun.
-    pub fn with_row(self, line: usize, key: Scalar) -> Open
-        ensures { result ≡ record self { line = line; key = key } }
+    pub fn with_next_row(self, line: usize, key: Scalar) -> Open
+        ensures { result ≡ with_next_row line key self }
     {
+        let repeated = self.has_row(&key);
         let Open {
             depth,
             mapping,
@@ -97,6 +110,8 @@ impl Open {
             entries,
             line: _,
             key: _,
+            name,
+            measure,
         } = self;
         Open {
             depth,
@@ -106,12 +121,14 @@ impl Open {
             entries,
             line,
             key,
+            name,
+            measure: measure.with_repeat(repeated),
         }
     }
 
-    /// The finished rows as a node's value.
-    pub fn into_value(self) -> Value
-        ensures { result ≡ collection self }
+    /// The finished rows as a node's value, and the name.
+    pub fn into_value(self) -> (Value, Option<Scalar>)
+        ensures { result ≡ (collection self, self.name) }
     {
         let Open {
             depth: _,
@@ -121,11 +138,13 @@ impl Open {
             entries,
             line: _,
             key: _,
+            name,
+            measure: _,
         } = self;
         if mapping {
-            Value::Mapping(entries)
+            (Value::Mapping(entries), name)
         } else {
-            Value::Sequence(items)
+            (Value::Sequence(items), name)
         }
     }
 }
@@ -167,14 +186,14 @@ impl Stack {
         Ok(())
     }
 
-    fn pop(&mut self) -> Option<Open>
+    pub fn pop(&mut self) -> Option<Open>
         ensures { PopsWhere (λ _. true) self.old result self.new }
     {
         self.items.pop()
     }
 
     /// Takes the innermost collection, if it is deeper.
-    pub fn pop_deeper(&mut self, depth: usize) -> Option<Open>
+    pub fn pop_deeper(&mut self, depth: u128) -> Option<Open>
         ensures { PopsWhere (λ o. nat_lt depth o.depth) self.old result self.new }
     {
         match self.top_depth() {
@@ -184,7 +203,7 @@ impl Stack {
     }
 
     /// Takes the innermost collection, if it has this depth.
-    pub fn pop_at(&mut self, depth: usize) -> Option<Open>
+    pub fn pop_at(&mut self, depth: u128) -> Option<Open>
         ensures { PopsWhere (λ o. o.depth == depth) self.old result self.new }
     {
         match self.top_depth() {
@@ -194,12 +213,23 @@ impl Stack {
     }
 
     /// The depth of the innermost collection.
-    pub fn top_depth(&self) -> Option<usize>
+    pub fn top_depth(&self) -> Option<u128>
         ensures { result ≡ top_depth self.now }
     {
         match self.items.last() {
             Some(open) => Some(open.depth),
             None => None,
         }
+    }
+
+    /// The measure of all that is open, about a value.
+    pub fn measure_about(&self, value: Measure) -> Measure
+        ensures { result ≡ measure_about self.now value }
+    {
+        let mut measure = value;
+        for open in self.items.iter().rev() {
+            measure = open.measure.with_part(measure);
+        }
+        measure
     }
 }

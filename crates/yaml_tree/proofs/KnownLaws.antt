@@ -1,0 +1,171 @@
+-- Known nodes: more nodes behind leave what is held, a name is found once it is given, and the measures that are kept are
+-- those of the trees.
+use Rattle.std.proofs.Common.{◌≡◌, ℕ, ◌+◌, ◌<◌, ◌≤◌, Bool, true, false, ◌&&◌, ◌||◌, cond, List, [], ◌∷◌, ◌++◌, Option, Some, None, slice_get, zero, suc, refl, sym, ap, ◌∙◌, subst, arith, ◌==◌, nat_le, max, min, is_some, length, eqb-true, eq-eqb}
+use Rattle.std.specs.Cmp.Lexicographic.{pointwise}
+use Rattle.std.specs.Map.{lookup}
+use Rattle.std.proofs.lemmas.Option.{none-some}
+use Rattle.std.proofs.lemmas.Bool.{false≢true, leb-true, leb-false}
+use Rattle.indexmap.specs.IndexMap.{insert_entry}
+use Rattle.yaml_tree.specs.Entries as entries
+use Rattle.yaml_tree.specs.Entries.{with_entry}
+use Rattle.yaml_tree.specs.Said.{Said, Names, has_key, has_repeat, levels, size}
+use Rattle.yaml_tree.specs.Said.Said.{null, text, unknown, sequence, mapping, with_item, with_pair}
+use Rattle.yaml_tree.specs.Holds.{HoldsSaid, HoldsRows, Rows}
+use Rattle.yaml_tree.specs.Stack.{cut, measured, one_node, unknown_node, no_row, with_part, with_repeat}
+use Rattle.yaml_tree.specs.Builder.{find_name, named}
+use Rattle.yaml_tree.specs.declared.entries.Child.{Child}
+use Rattle.yaml_tree.specs.declared.known.Known.{Known}
+use Rattle.yaml_tree.specs.declared.node.Node.{Node}
+use Rattle.yaml_tree.proofs.Lists.{both_true}
+use Rattle.yaml_tree.proofs.Stands.{KnownIs, NameIs, NamesAre, named_by}
+
+-- ---- nodes
+
+pub slice_get-front : {A : Type 0} (xs ys : List A) (n : ℕ) (x : A) → slice_get xs n ≡ Some x → slice_get (xs ++ ys) n ≡ Some x
+slice_get-front [] ys n x e = absurd (none-some x e)
+slice_get-front (y ∷ xs) ys zero x e = e
+slice_get-front (y ∷ xs) ys (suc n) x e = slice_get-front xs ys n x e
+
+pub slice_get-last : {A : Type 0} (xs : List A) (y : A) → slice_get (xs ++ (y ∷ [])) (length xs) ≡ Some y
+slice_get-last [] y = refl
+slice_get-last (x ∷ xs) y = slice_get-last xs y
+
+mutual
+  -- nodes that hold a tree still hold it with more nodes behind
+  pub HoldsSaid-more : (nodes more : List Node) (tree : Said) (n : ℕ) → HoldsSaid nodes tree n → HoldsSaid (nodes ++ more) tree n
+  HoldsSaid-more nodes more (null line) n h = slice_get-front nodes more n _ h
+  HoldsSaid-more nodes more (text line bytes) n h = slice_get-front nodes more n _ h
+  HoldsSaid-more nodes more (unknown line) n h = slice_get-front nodes more n _ h
+  HoldsSaid-more nodes more (sequence line) n h = slice_get-front nodes more n _ h
+  HoldsSaid-more nodes more (mapping line) n h = slice_get-front nodes more n _ h
+  HoldsSaid-more nodes more (with_item before value) n h = (h.0, h.1, HoldsRows-more nodes more before h.0 h.2, HoldsSaid-more nodes more value h.1 h.3, slice_get-front nodes more n _ h.4)
+  HoldsSaid-more nodes more (with_pair before line key value) n h = (h.0, h.1, HoldsRows-more nodes more before h.0 h.2, HoldsSaid-more nodes more value h.1 h.3, slice_get-front nodes more n _ h.4)
+
+  pub HoldsRows-more : (nodes more : List Node) (tree : Said) (rows : Rows) → HoldsRows nodes tree rows → HoldsRows (nodes ++ more) tree rows
+  HoldsRows-more nodes more (null line) rows h = h
+  HoldsRows-more nodes more (text line bytes) rows h = h
+  HoldsRows-more nodes more (unknown line) rows h = h
+  HoldsRows-more nodes more (sequence line) rows h = h
+  HoldsRows-more nodes more (mapping line) rows h = h
+  HoldsRows-more nodes more (with_item before value) rows h = (h.0, h.1, HoldsRows-more nodes more before h.0 h.2, HoldsSaid-more nodes more value h.1 h.3, h.4)
+  HoldsRows-more nodes more (with_pair before line key value) rows h = (h.0, h.1, HoldsRows-more nodes more before h.0 h.2, HoldsSaid-more nodes more value h.1 h.3, h.4)
+
+pub KnownIs-more : (nodes more : List Node) (k : Known) (tree : Said) → KnownIs nodes k tree → KnownIs (nodes ++ more) k tree
+KnownIs-more nodes more k tree h = (h.0, HoldsSaid-more nodes more tree k.node h.1)
+
+NameIs-more : (nodes more : List Node) (found : Option Known) (tree : Option Said) → NameIs nodes found tree → NameIs (nodes ++ more) found tree
+NameIs-more nodes more None None h = tt
+NameIs-more nodes more (Some k) (Some tree) h = KnownIs-more nodes more k tree h
+NameIs-more nodes more None (Some tree) h = h
+NameIs-more nodes more (Some k) None h = h
+
+pub NamesAre-more : (nodes more : List Node) (entries : List (List ℕ × Known)) (names : Names) → NamesAre nodes entries names → NamesAre (nodes ++ more) entries names
+NamesAre-more nodes more entries names h = λ n. NameIs-more nodes more (find_name entries n) (lookup (pointwise ◌==◌ n) names) (h n)
+
+-- ---- names
+
+pub same_bytes : (a b : List ℕ) → pointwise ◌==◌ a b ≡ true → a ≡ b
+same_bytes [] [] h = refl
+same_bytes [] (y ∷ b) h = absurd (false≢true h)
+same_bytes (x ∷ a) [] h = absurd (false≢true h)
+same_bytes (x ∷ a) (y ∷ b) h = let q = both_true (x == y) (pointwise ◌==◌ a b) h in λ j. eqb-true x y q.0 j ∷ same_bytes a b q.1 j
+
+bytes_are_same : (a : List ℕ) → pointwise ◌==◌ a a ≡ true
+bytes_are_same [] = refl
+bytes_are_same (x ∷ a) = ap (λ t. t && pointwise ◌==◌ a a) (eq-eqb x x refl) ∙ bytes_are_same a
+
+-- what is found behind an insertion
+pub lookup-insert_entry : {X : Type 0} (wanted name : List ℕ) (x : X) (es : List (List ℕ × X)) → lookup (pointwise ◌==◌ wanted) (insert_entry (pointwise ◌==◌) es name x) ≡ cond (pointwise ◌==◌ wanted name) (Some x) (lookup (pointwise ◌==◌ wanted) es)
+lookup-insert_entry wanted name x [] = refl
+lookup-insert_entry wanted name x (e ∷ es) = elim (pointwise ◌==◌ name e.0) as (λ t. pointwise ◌==◌ name e.0 ≡ t → lookup (pointwise ◌==◌ wanted) (cond t ((e.0, x) ∷ es) (e ∷ insert_entry (pointwise ◌==◌) es name x)) ≡ cond (pointwise ◌==◌ wanted name) (Some x) (cond (pointwise ◌==◌ wanted e.0) (Some e.1) (lookup (pointwise ◌==◌ wanted) es))) [
+  | true ↦ λ q. subst (λ k. cond (pointwise ◌==◌ wanted e.0) (Some x) (lookup (pointwise ◌==◌ wanted) es) ≡ cond (pointwise ◌==◌ wanted k) (Some x) (cond (pointwise ◌==◌ wanted e.0) (Some e.1) (lookup (pointwise ◌==◌ wanted) es)))
+      (sym (same_bytes name e.0 q)) (here (pointwise ◌==◌ wanted e.0))
+  | false ↦ λ q. ap (cond (pointwise ◌==◌ wanted e.0) (Some e.1)) (lookup-insert_entry wanted name x es) ∙ later q (pointwise ◌==◌ wanted e.0) (pointwise ◌==◌ wanted name) refl refl
+] refl
+  where
+    here : (t : Bool) → cond t (Some x) (lookup (pointwise ◌==◌ wanted) es) ≡ cond t (Some x) (cond t (Some e.1) (lookup (pointwise ◌==◌ wanted) es))
+    here true = refl
+    here false = refl
+
+    later : pointwise ◌==◌ name e.0 ≡ false → (t u : Bool) → pointwise ◌==◌ wanted e.0 ≡ t → pointwise ◌==◌ wanted name ≡ u → cond t (Some e.1) (cond u (Some x) (lookup (pointwise ◌==◌ wanted) es)) ≡ cond u (Some x) (cond t (Some e.1) (lookup (pointwise ◌==◌ wanted) es))
+    later q true true a b = absurd (false≢true (sym q ∙ ap (λ k. pointwise ◌==◌ k e.0) (sym (same_bytes wanted name b)) ∙ a))
+    later q true false a b = refl
+    later q false u a b = refl
+
+-- a node that a name waits for is found by it from now on
+pub named_are : (nodes : List Node) (entries : List (List ℕ × Known)) (names : Names) (waits : Option (List ℕ)) (k : Known) (tree : Said) → NamesAre nodes entries names → KnownIs nodes k tree → NamesAre nodes (named waits k entries) (named_by waits (tree, names)).1
+named_are nodes entries names None k tree h known = h
+named_are nodes entries names (Some name) k tree h known = λ n. subst (λ found. NameIs nodes found (cond (pointwise ◌==◌ n name) (Some tree) (lookup (pointwise ◌==◌ n) names))) (sym (lookup-insert_entry n name k entries)) (by (pointwise ◌==◌ n name) n)
+  where
+    by : (t : Bool) (n : List ℕ) → NameIs nodes (cond t (Some k) (lookup (pointwise ◌==◌ n) entries)) (cond t (Some tree) (lookup (pointwise ◌==◌ n) names))
+    by true n = known
+    by false n = h n
+
+-- ---- measures
+
+pub measured-null : (line : ℕ) → measured (null line) ≡ one_node
+measured-null line = refl
+
+pub measured-text : (line : ℕ) (bytes : List ℕ) → measured (text line bytes) ≡ one_node
+measured-text line bytes = refl
+
+pub measured-unknown : (line : ℕ) → measured (unknown line) ≡ unknown_node
+measured-unknown line = refl
+
+pub measured-sequence : (line : ℕ) → measured (sequence line) ≡ no_row
+measured-sequence line = refl
+
+pub measured-mapping : (line : ℕ) → measured (mapping line) ≡ no_row
+measured-mapping line = refl
+
+cut-min : (most n : ℕ) → cut most n ≡ min n (1 + most)
+cut-min most n = by (nat_le n most) refl
+  where
+    by : (t : Bool) → nat_le n most ≡ t → cond t n (1 + most) ≡ min n (1 + most)
+    by true e = let le : n ≤ most = leb-true n most e in omega arith
+    by false e = let lt : most < n = leb-false n most e in omega arith
+
+-- the cut of a sum of cuts is that of the sum
+cut-sum : (most a b : ℕ) → cut most (cut most a + cut most b) ≡ cut most (a + b)
+cut-sum most a b = omega (arith, cut-min most a, cut-min most b, cut-min most (a + b), cut-min most (cut most a + cut most b))
+
+cut-levels : (most a b : ℕ) → max (cut most a) (cut most (1 + cut most b)) ≡ cut most (max a (1 + b))
+cut-levels most a b = omega (arith, cut-min most a, cut-min most b, cut-min most (max a (1 + b)), cut-min most (1 + cut most b))
+
+pub with_part-item : (a v : Said) → with_part (measured a) (measured v) ≡ measured (with_item a v)
+with_part-item a v = λ j. record { size = cut-sum 1_000_000 (size a) (size v) j; levels = cut-levels 64 (levels a) (levels v) j; repeated = has_repeat a || has_repeat v; unknown = (measured (with_item a v)).unknown }
+
+pub with_part-pair : (a : Said) (line : ℕ) (k : List ℕ) (v : Said) → with_part (with_repeat (has_key k a) (measured a)) (measured v) ≡ measured (with_pair a line k v)
+with_part-pair a line k v = λ j. record { size = cut-sum 1_000_000 (size a) (size v) j; levels = cut-levels 64 (levels a) (levels v) j; repeated = (has_repeat a || has_key k a) || has_repeat v; unknown = (measured (with_pair a line k v)).unknown }
+
+-- ---- keys
+
+or_false : (a : Bool) → (a || false) ≡ a
+or_false true = refl
+or_false false = refl
+
+-- whether a key is there once another is given a child
+has_key-with_entry : (k other : List ℕ) (es : List (List ℕ × Child)) (child : Child) → entries.has_key k (with_entry es other child) ≡ (entries.has_key k es || pointwise ◌==◌ k other)
+has_key-with_entry k other es child = ap is_some (lookup-insert_entry k other child es) ∙ by (pointwise ◌==◌ k other) (lookup (pointwise ◌==◌ k) es)
+  where
+    by : (t : Bool) (found : Option Child) → is_some (cond t (Some child) found) ≡ (is_some found || t)
+    by true None = refl
+    by true (Some old) = refl
+    by false None = refl
+    by false (Some old) = refl
+
+-- the entries have a key exactly where a row has it
+pub key_found : (nodes : List Node) (tree : Said) (rows : Rows) (k : List ℕ) → HoldsRows nodes tree rows → entries.has_key k rows.entries ≡ has_key k tree
+key_found nodes (null line) rows k h = absurd h
+key_found nodes (text line bytes) rows k h = absurd h
+key_found nodes (unknown line) rows k h = absurd h
+key_found nodes (sequence line) rows k h = ap (λ r. entries.has_key k r.entries) h
+key_found nodes (mapping line) rows k h = ap (λ r. entries.has_key k r.entries) h
+key_found nodes (with_item before value) rows k h = ap (λ r. entries.has_key k r.entries) h.4 ∙ key_found nodes before h.0 k h.2
+key_found nodes (with_pair before line other value) rows k h =
+    ap (λ r. entries.has_key k r.entries) h.4 ∙ has_key-with_entry k other h.0.entries (record { line = line; node = h.1 })
+    ∙ ap (λ t. t || pointwise ◌==◌ k other) (key_found nodes before h.0 k h.2)
+
+-- the same, as the code asks it of a mapping
+pub mapping_has_key : (nodes : List Node) (tree : Said) (rows : Rows) (keyed : Bool) (k : List ℕ) → HoldsRows nodes tree rows → keyed ≡ true → (keyed && entries.has_key k rows.entries) ≡ has_key k tree
+mapping_has_key nodes tree rows keyed k h e = ap (λ t. t && entries.has_key k rows.entries) e ∙ key_found nodes tree rows k h

@@ -1,0 +1,307 @@
+-- Values as the builder makes them: it stands for them once they have come, once a literal block has ended and once a
+-- collection is closed.
+use Rattle.std.proofs.Common.{◌≡◌, ℕ, ◌<◌, ◌≤◌, Bool, true, false, ◌||◌, cond, List, [], ◌∷◌, ◌++◌, Option, Some, None, refl, sym, ap, ◌∙◌, subst, arith, nat_lt, length, is_some}
+use Rattle.std.proofs.lemmas.Option.{none-some}
+use Rattle.std.proofs.lemmas.Bool.{ltb-true, ltb-false, false≢true}
+use Rattle.yaml_marks.specs.Literals.{block_text}
+use Rattle.yaml_tree.specs.Said.{Said, Names, Meaning, said, given, row_behind, has_repeat}
+use Rattle.yaml_tree.specs.Said.Said.{null}
+use Rattle.yaml_tree.specs.Holds.{HoldsSaid, HoldsRows, Rows, IsNode, with_row, rows_value, begins_on}
+use Rattle.yaml_tree.specs.Written.{Written, depth, line_of, is_head}
+use Rattle.yaml_tree.specs.Written.Written.{nothing, leaf, literal, flowing, named, row}
+use Rattle.yaml_tree.specs.Stack.{measured, one_node, with_part, with_repeat, finished, collection}
+use Rattle.yaml_tree.specs.Builder.{next_known, with_node, put_node, valued, known_of, closed, settled_on, ended, ended_of}
+use Rattle.yaml_tree.specs.Builder as steps
+use Rattle.yaml_marks.specs.declared.mark.Mark.{Mark}
+use Rattle.yaml_marks.specs.declared.mark.Mark.TheVariants.{Dash, Key, Scalar, Name, Copy, Bar, Body, Form, OddMark}
+use Rattle.yaml_tree.specs.declared.literal.Literal.{Literal}
+use Rattle.yaml_tree.specs.declared.known.Measure.{Measure}
+use Rattle.yaml_tree.specs.declared.known.Known.{Known}
+use Rattle.yaml_tree.specs.declared.node.Node.{Node}
+use Rattle.yaml_tree.specs.declared.node.Value.{Value}
+use Rattle.yaml_tree.specs.declared.node.Value.TheVariants.{Null, Text}
+use Rattle.yaml_tree.specs.declared.stack.Open.{Open}
+use Rattle.yaml_tree.specs.declared.builder.Builder.{Builder}
+use Rattle.yaml_tree.proofs.Stands.{KnownIs, NamesAre, named_by, Frame, called, wrap, names_at, line_at, is_key, key_of, repeats, HasName, rows_of, OpenIs, before_of, OpensAre, LiteralIs, ValueIs, StandsAt, IsShut, Between}
+use Rattle.yaml_tree.proofs.KnownLaws.{slice_get-last, HoldsSaid-more, HoldsRows-more, NamesAre-more, named_are, with_part-item, with_part-pair}
+
+-- ---- nodes more
+
+OpenIs-more : (nodes more : List Node) (o : Open) (f : Frame) (before : Said) → OpenIs nodes o f before → OpenIs (nodes ++ more) o f before
+OpenIs-more nodes more o f before h = record { has_depth = h.has_depth; has_kind = h.has_kind; has_line = h.has_line; has_first = h.has_first; has_key = h.has_key; has_name = h.has_name; has_measure = h.has_measure; holds = HoldsRows-more nodes more before (rows_of o) h.holds; heads = h.heads }
+
+pub OpensAre-more : (nodes more : List Node) (os : List Open) (fs : List Frame) → OpensAre nodes os fs → OpensAre (nodes ++ more) os fs
+OpensAre-more nodes more [] [] h = tt
+OpensAre-more nodes more [] (f ∷ fs) h = h
+OpensAre-more nodes more (o ∷ os) [] h = h
+OpensAre-more nodes more (o ∷ os) (f ∷ fs) h = (OpenIs-more nodes more o f (before_of f (names_at fs)) h.0, h.1, OpensAre-more nodes more os fs h.2)
+
+-- ---- a node that is the value
+
+-- what is said where the next value comes
+abbrev pub meaning_at : List Frame → Written → Meaning
+meaning_at fs value = said (null (line_at fs)) (names_at fs) value
+
+pub said-called : (waits : Option (List ℕ)) (name : Option Mark) (none : Said) (names : Names) (value : Written) → HasName waits name → said none names (called name value) ≡ named_by waits (said none names value)
+said-called None None none names value h = refl
+said-called (Some n) (Some mark) none names value h = ap (λ k. given k (said none names value)) (sym h.1)
+said-called None (Some mark) none names value h = absurd h
+said-called (Some n) None none names value h = absurd h
+
+pub named_by-said : (waits : Option (List ℕ)) (meaning : Meaning) → (named_by waits meaning).0 ≡ meaning.0
+named_by-said None meaning = refl
+named_by-said (Some n) meaning = refl
+
+-- a node more, which takes the name that waits, is the value
+pub put_node-stands : (line : ℕ) (v : Value) (m : Measure) (b : Builder) (fs : List Frame) (name : Option Mark) (value : Written) → b.cells ≡ [] → b.literal ≡ None → OpensAre b.nodes b.open_rows fs → HasName b.name name
+    → NamesAre b.nodes b.names (meaning_at fs value).1 → m ≡ measured (meaning_at fs value).0 → HoldsSaid (b.nodes ++ (record { line = line; value = v } ∷ [])) (meaning_at fs value).0 (length b.nodes)
+    → StandsAt (put_node line v m b) fs (called name value)
+unfolding put_node with_node
+put_node-stands line v m b fs name value flat shut opens waits names is holds =
+    let more : List Node = record { line = line; value = v } ∷ [] in
+    let k : Known = next_known m b in
+    let meaning : Meaning = meaning_at fs value in
+    let e = said-called b.name name (null (line_at fs)) (names_at fs) value waits in
+    record {
+      flat = flat;
+      opens = OpensAre-more b.nodes more b.open_rows fs opens;
+      is = (
+        shut,
+        refl,
+        subst (λ tree. KnownIs (b.nodes ++ more) k tree) (sym (named_by-said b.name meaning) ∙ ap (λ x. x.0) (sym e)) (is, holds),
+        subst (λ x. NamesAre (b.nodes ++ more) (steps.named b.name k b.names) x.1) (sym e) (named_are (b.nodes ++ more) b.names meaning.1 b.name k meaning.0 (NamesAre-more b.nodes more b.names meaning.1 names) (is, holds)),
+      );
+    }
+
+-- ---- the value, or a null where none has come
+
+-- a value has come
+pub record Valued (b : Builder) (fs : List Frame) (value : Written) (k : Known) : Type 0 where
+  pub stands : StandsAt b fs value
+  pub is : b.value ≡ Some k
+  pub shut : b.literal ≡ None
+
+abbrev pub NoneIs : Builder → List Frame → Written → Type 0
+NoneIs b fs value = (name : Option Mark) × HasName b.name name × (value ≡ called name nothing) × NamesAre b.nodes b.names (names_at fs)
+
+pub none_is : (b : Builder) (fs : List Frame) (value : Written) → b.value ≡ None → b.literal ≡ None → StandsAt b fs value → NoneIs b fs value
+none_is b fs value e shut s = subst (λ l. ValueIs None l b fs value) shut (subst (λ v. ValueIs v b.literal b fs value) e s.is)
+
+pub valued-stands : (line : ℕ) (b : Builder) (fs : List Frame) (value : Written) → line ≡ line_at fs → b.literal ≡ None → StandsAt b fs value → (k : Known) × Valued (valued line b) fs value k × ((valued line b).open_rows ≡ b.open_rows)
+unfolding valued put_node with_node
+valued-stands line b fs value same shut s = by b.value refl
+  where
+    by : (v : Option Known) → b.value ≡ v → (k : Known) × Valued (cond (is_some v) b (put_node line Null one_node b)) fs value k × ((cond (is_some v) b (put_node line Null one_node b)).open_rows ≡ b.open_rows)
+    by (Some k) e = (k, record { stands = s; is = e; shut = shut }, refl)
+    by None e = let i = none_is b fs value e shut s in (
+      next_known one_node b,
+      record {
+        stands = subst (λ x. StandsAt (put_node line Null one_node b) fs x) (sym i.2)
+            (put_node-stands line Null one_node b fs i.0 nothing s.flat shut s.opens i.1 i.3 refl (slice_get-last b.nodes _ ∙ ap (λ l. Some (record { line = l; value = Null })) same));
+        is = refl;
+        shut = shut;
+      },
+      refl,
+    )
+
+-- which collections are open makes no difference
+pub valued-rows : (line : ℕ) (b : Builder) (os : List Open) → valued line (record b { open_rows = os }) ≡ record (valued line b) { open_rows = os }
+unfolding valued put_node with_node
+valued-rows line b os = by (is_some b.value)
+  where
+    by : (t : Bool) → cond t (record b { open_rows = os }) (put_node line Null one_node (record b { open_rows = os })) ≡ record (cond t b (put_node line Null one_node b)) { open_rows = os }
+    by true = refl
+    by false = refl
+
+-- ---- rows
+
+or_false : (a : Bool) → (a || false) ≡ a
+or_false true = refl
+or_false false = refl
+
+pub row_behind-names : (head : Mark) (before : Said) (meaning : Meaning) → (row_behind head before meaning).1 ≡ meaning.1
+row_behind-names (Key line column text) before meaning = refl
+row_behind-names (Dash line column) before meaning = refl
+row_behind-names (Scalar line column text) before meaning = refl
+row_behind-names (Name line column text) before meaning = refl
+row_behind-names (Copy line column text) before meaning = refl
+row_behind-names (Bar line column chomp) before meaning = refl
+row_behind-names (Body line column bytes) before meaning = refl
+row_behind-names (Form line column pieces) before meaning = refl
+row_behind-names (OddMark line column why) before meaning = refl
+
+-- the measure that is kept is that of the rows with the value
+pub row-measure : (head : Mark) (before : Said) (meaning : Meaning) → is_head head ≡ true → with_part (with_repeat (repeats head before) (measured before)) (measured meaning.0) ≡ measured (row_behind head before meaning).0
+row-measure (Key line column text) before meaning h = with_part-pair before line text meaning.0
+row-measure (Dash line column) before meaning h = ap (λ q. with_part (record (measured before) { repeated = q }) (measured meaning.0)) (or_false (has_repeat before)) ∙ with_part-item before meaning.0
+row-measure (Scalar line column text) before meaning h = absurd (false≢true h)
+row-measure (Name line column text) before meaning h = absurd (false≢true h)
+row-measure (Copy line column text) before meaning h = absurd (false≢true h)
+row-measure (Bar line column chomp) before meaning h = absurd (false≢true h)
+row-measure (Body line column bytes) before meaning h = absurd (false≢true h)
+row-measure (Form line column pieces) before meaning h = absurd (false≢true h)
+row-measure (OddMark line column why) before meaning h = absurd (false≢true h)
+
+-- the rows with the value of node m
+abbrev pub rows_with : Mark → ℕ → Rows → Rows
+rows_with head m rows = with_row (is_key head) (line_of head) (key_of head) m rows
+
+row-holds : (nodes : List Node) (head : Mark) (before : Said) (meaning : Meaning) (rows : Rows) (m n : ℕ) → is_head head ≡ true → HoldsRows nodes before rows → HoldsSaid nodes meaning.0 m
+    → IsNode nodes n (begins_on before) (rows_value (is_key head) (rows_with head m rows)) → HoldsSaid nodes (row_behind head before meaning).0 n
+row-holds nodes (Key line column text) before meaning rows m n h held value e = (rows, m, held, value, e)
+row-holds nodes (Dash line column) before meaning rows m n h held value e = (rows, m, held, value, e)
+row-holds nodes (Scalar line column text) before meaning rows m n h held value e = absurd (false≢true h)
+row-holds nodes (Name line column text) before meaning rows m n h held value e = absurd (false≢true h)
+row-holds nodes (Copy line column text) before meaning rows m n h held value e = absurd (false≢true h)
+row-holds nodes (Bar line column chomp) before meaning rows m n h held value e = absurd (false≢true h)
+row-holds nodes (Body line column bytes) before meaning rows m n h held value e = absurd (false≢true h)
+row-holds nodes (Form line column pieces) before meaning rows m n h held value e = absurd (false≢true h)
+row-holds nodes (OddMark line column why) before meaning rows m n h held value e = absurd (false≢true h)
+
+pub rows-hold : (nodes : List Node) (head : Mark) (before : Said) (meaning : Meaning) (rows : Rows) (m : ℕ) → is_head head ≡ true → HoldsRows nodes before rows → HoldsSaid nodes meaning.0 m → HoldsRows nodes (row_behind head before meaning).0 (rows_with head m rows)
+rows-hold nodes (Key line column text) before meaning rows m h held value = (rows, m, held, value, refl)
+rows-hold nodes (Dash line column) before meaning rows m h held value = (rows, m, held, value, refl)
+rows-hold nodes (Scalar line column text) before meaning rows m h held value = absurd (false≢true h)
+rows-hold nodes (Name line column text) before meaning rows m h held value = absurd (false≢true h)
+rows-hold nodes (Copy line column text) before meaning rows m h held value = absurd (false≢true h)
+rows-hold nodes (Bar line column chomp) before meaning rows m h held value = absurd (false≢true h)
+rows-hold nodes (Body line column bytes) before meaning rows m h held value = absurd (false≢true h)
+rows-hold nodes (Form line column pieces) before meaning rows m h held value = absurd (false≢true h)
+rows-hold nodes (OddMark line column why) before meaning rows m h held value = absurd (false≢true h)
+
+-- ---- closing a collection
+
+-- the collection, its last row finished by a node, is the value
+abbrev closing : Open → Known → Builder → Builder
+closing o k b = put_node o.first_line (collection (finished o k)) (with_part o.measure k.measure) (record b { name = o.name })
+
+closing-stands : (o : Open) (os : List Open) (b : Builder) (f : Frame) (fs : List Frame) (value : Written) (k : Known) → Valued b (f ∷ fs) value k → b.open_rows ≡ o ∷ os → StandsAt (closing o k (record b { open_rows = os })) fs (called f.name (row f.before f.head value))
+closing-stands o os b f fs value k s e =
+    let opens : OpensAre b.nodes (o ∷ os) (f ∷ fs) = subst (λ l. OpensAre b.nodes l (f ∷ fs)) e s.stands.opens in
+    let open_is : OpenIs b.nodes o f (before_of f (names_at fs)) = opens.0 in
+    let come : ValueIs (Some k) b.literal b (f ∷ fs) value = subst (λ v. ValueIs v b.literal b (f ∷ fs) value) s.is s.stands.is in
+    let before : Said = before_of f (names_at fs) in
+    let meaning : Meaning = meaning_at (f ∷ fs) value in
+    let node : Node = record { line = o.first_line; value = collection (finished o k) } in
+    put_node-stands o.first_line (collection (finished o k)) (with_part o.measure k.measure) (record b { open_rows = os; name = o.name }) fs f.name (row f.before f.head value) s.stands.flat s.shut opens.2 open_is.has_name
+    (subst (NamesAre b.nodes b.names) (sym (row_behind-names f.head before meaning)) come.3)
+    ((λ j. with_part (open_is.has_measure j) (come.2.0 j)) ∙ row-measure f.head before meaning open_is.heads)
+    (row-holds (b.nodes ++ (node ∷ [])) f.head before meaning (rows_of o) k.node (length b.nodes) open_is.heads
+    (HoldsRows-more b.nodes (node ∷ []) before (rows_of o) open_is.holds)
+    (HoldsSaid-more b.nodes (node ∷ []) meaning.0 k.node come.2.1)
+    (slice_get-last b.nodes node ∙ (λ j. Some (record { line = open_is.has_first j; value = rows_value (open_is.has_kind j) (with_row (open_is.has_kind j) (open_is.has_line j) (open_is.has_key j) k.node (rows_of o)) }))))
+
+pub closed-stands : (o : Open) (os : List Open) (b : Builder) (f : Frame) (fs : List Frame) (value : Written) → b.literal ≡ None → StandsAt b (f ∷ fs) value → b.open_rows ≡ o ∷ os → StandsAt (closed o (record b { open_rows = os })) fs (called f.name (row f.before f.head value))
+unfolding closed
+closed-stands o os b f fs value shut s e =
+    let opens : OpensAre b.nodes (o ∷ os) (f ∷ fs) = subst (λ l. OpensAre b.nodes l (f ∷ fs)) e s.opens in
+    let v = valued-stands o.line b (f ∷ fs) value opens.0.has_line shut s in
+    subst (λ x. StandsAt x fs (called f.name (row f.before f.head value)))
+    (ap (λ k. closing o k (record (valued o.line b) { open_rows = os })) (sym (ap known_of v.1.is)) ∙ ap (λ x. closing o (known_of x.value) x) (sym (valued-rows o.line b os)))
+    (closing-stands o os (valued o.line b) f fs value v.0 v.1 (v.2 ∙ e))
+
+-- a value that has come and takes no mark of this depth but a line of a literal block
+abbrev pub IsFull : ℕ → Written → Type 0
+IsFull d nothing = ⊥
+IsFull d (leaf mark) = Unit {0}
+IsFull d (literal mark lines) = Unit {0}
+IsFull d (flowing mark value) = Unit {0}
+IsFull d (named mark value) = IsFull d value
+IsFull d (row before head value) = d < depth head
+
+full-called : (d : ℕ) (name : Option Mark) (value : Written) → IsFull d value → IsFull d (called name value)
+full-called d None value h = h
+full-called d (Some mark) value h = h
+
+-- the same, where one has come
+abbrev pub HasCome : ℕ → Option Known → Written → Type 0
+HasCome d None value = Unit {0}
+HasCome d (Some k) value = IsFull d value
+
+abbrev pub AtMost : ℕ → List Frame → Type 0
+AtMost d [] = Unit {0}
+AtMost d (f ∷ fs) = depth f.head ≤ d
+
+-- the builder stands for this, with no literal block open and no collection that is deeper
+pub record Settled (d : ℕ) (b : Builder) (w : Written) : Type 0 where
+  pub frames : List Frame
+  pub value : Written
+  pub stands : StandsAt b frames value
+  pub shut : b.literal ≡ None
+  pub wraps : wrap frames value ≡ w
+  pub shallow : AtMost d frames
+  pub come : HasCome d b.value value
+
+closed-shut : (o : Open) (b : Builder) → b.literal ≡ None → (closed o b).literal ≡ None
+unfolding closed valued put_node with_node
+closed-shut o b shut = by (is_some b.value)
+  where
+    by : (t : Bool) → (cond t b (put_node o.line Null one_node b)).literal ≡ None
+    by true = shut
+    by false = shut
+
+closed-rows : (o : Open) (os : List Open) (b : Builder) → (closed o (record b { open_rows = os })).open_rows ≡ os
+unfolding closed valued put_node with_node
+closed-rows o os b = by (is_some b.value)
+  where
+    by : (t : Bool) → (cond t (record b { open_rows = os }) (put_node o.line Null one_node (record b { open_rows = os }))).open_rows ≡ os
+    by true = refl
+    by false = refl
+
+closed-come : (d : ℕ) (o : Open) (b : Builder) (value : Written) → IsFull d value → HasCome d (closed o b).value value
+unfolding closed put_node with_node
+closed-come d o b value h = h
+
+pub settled_on-stands : (d : ℕ) (os : List Open) (b : Builder) (fs : List Frame) (value : Written) → b.open_rows ≡ os → StandsAt b fs value → b.literal ≡ None → HasCome d b.value value → Settled d (settled_on d os b) (wrap fs value)
+unfolding settled_on
+settled_on-stands d [] b [] value e s shut come = record { frames = []; value = value; stands = s; shut = shut; wraps = refl; shallow = tt; come = come }
+settled_on-stands d [] b (f ∷ fs) value e s shut come = absurd (subst (λ l. OpensAre b.nodes l (f ∷ fs)) e s.opens)
+settled_on-stands d (o ∷ os) b [] value e s shut come = absurd (subst (λ l. OpensAre b.nodes l []) e s.opens)
+settled_on-stands d (o ∷ os) b (f ∷ fs) value e s shut come =
+    let opens : OpensAre b.nodes (o ∷ os) (f ∷ fs) = subst (λ l. OpensAre b.nodes l (f ∷ fs)) e s.opens in
+    let same : o.depth ≡ depth f.head = opens.0.has_depth in
+    let c : Builder = closed o (record b { open_rows = os }) in
+    let new : Written = called f.name (row f.before f.head value) in
+    elim (nat_lt d o.depth) as (λ t. nat_lt d o.depth ≡ t → Settled d (cond t (settled_on d os c) b) (wrap (f ∷ fs) value)) [
+      | true ↦ λ q. settled_on-stands d os c fs new (closed-rows o os b) (closed-stands o os b f fs value shut s e) (closed-shut o (record b { open_rows = os }) shut)
+          (closed-come d o (record b { open_rows = os }) new (full-called d f.name (row f.before f.head value) (let lt : d < o.depth = ltb-true d o.depth q in omega (arith, lt, same))))
+      | false ↦ λ q. record { frames = f ∷ fs; value = value; stands = s; shut = shut; wraps = refl; shallow = (let le : o.depth ≤ d = ltb-false d o.depth q in omega (arith, le, same)); come = come }
+    ] refl
+
+-- ---- the end of a literal block
+
+full-shut : (d : ℕ) (value : Written) → IsShut value → IsFull d value
+full-shut d nothing h = h
+full-shut d (leaf mark) h = tt
+full-shut d (literal mark lines) h = absurd h
+full-shut d (flowing mark value) h = tt
+full-shut d (named mark value) h = full-shut d value h
+full-shut d (row before head value) h = absurd h
+
+-- no literal block is open, and a value that has come is full
+pub record Ready (b : Builder) (fs : List Frame) (value : Written) : Type 0 where
+  pub stands : StandsAt b fs value
+  pub shut : b.literal ≡ None
+  pub come : (d : ℕ) → HasCome d b.value value
+
+pub ended-ready : (b : Builder) (fs : List Frame) (value : Written) → StandsAt b fs value → Between b.value value → Ready (ended b) fs value
+unfolding ended put_node with_node
+ended-ready b fs value s between = by b.literal b.value refl refl
+  where
+    come : (d : ℕ) (v : Option Known) → Between v value → HasCome d v value
+    come d None h = tt
+    come d (Some k) h = full-shut d value h
+
+    by : (l : Option Literal) (v : Option Known) → b.literal ≡ l → b.value ≡ v → Ready (ended_of l b) fs value
+    by None v e q = record { stands = s; shut = e; come = λ d. come d b.value between }
+    by (Some l) (Some k) e q = absurd (none-some l (sym (subst (λ v. ValueIs v b.literal b fs value) q s.is).0 ∙ e))
+    by (Some l) None e q =
+        let i : ValueIs None (Some l) b fs value = subst (λ x. ValueIs None x b fs value) e (subst (λ v. ValueIs v b.literal b fs value) q s.is) in
+        let is : LiteralIs l i.2 i.3 = i.4 in
+        record {
+          stands = subst (λ x. StandsAt (put_node l.line (Text (block_text l.chomp l.lines)) one_node (record b { literal = None })) fs x) (sym i.6)
+              (put_node-stands l.line (Text (block_text l.chomp l.lines)) one_node (record b { literal = None }) fs i.0 (literal i.2 i.3) s.flat refl s.opens i.1 i.7 refl
+              (slice_get-last b.nodes _ ∙ (λ j. Some (record { line = is.has_line j; value = Text (block_text (is.has_chomp j) (is.has_lines j)) }))));
+          shut = refl;
+          come = λ d. subst (IsFull d) (sym i.6) (full-called d i.0 (literal i.2 i.3) tt);
+        }

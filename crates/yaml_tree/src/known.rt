@@ -1,0 +1,183 @@
+//! What is kept of nodes that are whole, and their names.
+
+ghost use Rattle.std.specs.Prelude.{◌≡◌, ◌==◌, ◌+◌, List, ℕ, [], OnOk};
+ghost use Rattle.std.specs.Cmp.Lexicographic.{pointwise};
+ghost use Rattle.indexmap.specs.IndexMap.{insert_entry};
+ghost use Rattle.yaml_tree.specs.Stack.{cut, one_node, unknown_node, no_row, with_part, with_repeat};
+ghost use Rattle.yaml_tree.specs.Builder.{find_name, fault_of};
+ghost use Rattle.yaml_tree.specs.declared.known.Known.{Known};
+
+use crate::fault::FaultKind;
+use indexmap::IndexMap;
+use sim_base::NoMemory;
+use std::alloc::Global;
+use std::marker::Model;
+use yaml_marks::Scalar;
+
+/// The most nodes that a tree has.
+pub(crate) const MOST_NODES: usize = 1_000_000;
+
+/// The most levels of collections that a tree has.
+pub(crate) const MOST_LEVELS: usize = 64;
+
+/// What the limits ask of a tree: its nodes and its levels, each counted to one more than a tree
+/// has at most; whether a key stands twice in one mapping; and whether a copy is of an unknown
+/// node.
+#[derive(Clone, Copy, Debug, PartialEq, Eq)]
+pub(crate) struct Measure {
+    pub size: usize,
+    pub levels: usize,
+    pub repeated: bool,
+    pub unknown: bool,
+}
+
+impl Measure {
+    /// A tree of one node.
+    pub fn one_node() -> Measure
+        ensures { result ≡ one_node }
+    {
+        Measure {
+            size: 1,
+            levels: 0,
+            repeated: false,
+            unknown: false,
+        }
+    }
+
+    /// A copy of an unknown node.
+    pub fn unknown_node() -> Measure
+        ensures { result ≡ unknown_node }
+    {
+        Measure {
+            size: 1,
+            levels: 0,
+            repeated: false,
+            unknown: true,
+        }
+    }
+
+    /// A collection without rows.
+    pub fn no_row() -> Measure
+        ensures { result ≡ no_row }
+    {
+        Measure {
+            size: 1,
+            levels: 1,
+            repeated: false,
+            unknown: false,
+        }
+    }
+
+    /// The rows of a collection, and a value more.
+    pub fn with_part(self, value: Measure) -> Measure
+        ensures { result ≡ with_part self value }
+    {
+        Measure {
+            size: sum_of_sizes(self.size, value.size),
+            levels: self.levels.max(levels_above(value.levels)),
+            repeated: self.repeated || value.repeated,
+            unknown: self.unknown || value.unknown,
+        }
+    }
+
+    /// The same, with a key twice in one mapping.
+    pub fn with_repeat(self, repeated: bool) -> Measure
+        ensures { result ≡ with_repeat repeated self }
+    {
+        Measure {
+            size: self.size,
+            levels: self.levels,
+            repeated: self.repeated || repeated,
+            unknown: self.unknown,
+        }
+    }
+}
+
+impl Measure {
+    /// The limit that is passed, if any.
+    pub fn fault(self) -> Option<FaultKind>
+        ensures { result ≡ fault_of self }
+    {
+        if self.repeated {
+            Some(FaultKind::Duplicate)
+        } else if self.unknown {
+            Some(FaultKind::Alias)
+        } else if self.levels > MOST_LEVELS {
+            Some(FaultKind::TooDeep)
+        } else if self.size > MOST_NODES {
+            Some(FaultKind::TooManyNodes)
+        } else {
+            None
+        }
+    }
+}
+
+/// The sum of two sizes, up to one more than a tree has at most.
+fn sum_of_sizes(a: usize, b: usize) -> usize
+    ensures { result ≡ cut 1_000_000 (a + b) }
+{
+    if a > MOST_NODES || b > MOST_NODES || a + b > MOST_NODES {
+        1 + MOST_NODES
+    } else {
+        a + b
+    }
+}
+
+/// One level more, up to one more than a tree has at most.
+fn levels_above(levels: usize) -> usize
+    ensures { result ≡ cut 64 (1 + levels) }
+{
+    if levels < MOST_LEVELS {
+        1 + levels
+    } else {
+        1 + MOST_LEVELS
+    }
+}
+
+/// A node that is whole, with the measure of its tree.
+#[derive(Clone, Copy, Debug, PartialEq, Eq)]
+pub(crate) struct Known {
+    pub node: usize,
+    pub measure: Measure,
+}
+
+/// The nodes that have names, which contracts see as a list of pairs.
+#[derive(Drop)]
+pub(crate) struct Names {
+    map: IndexMap<Scalar, Known>,
+}
+
+impl Model for Names {
+    ghost use Rattle.std.specs.Prelude.{List, ℕ};
+    ghost use Rattle.yaml_tree.specs.declared.known.Known.{Known};
+
+    ghost Value = { List (List ℕ × Known) };
+
+    ghost view = { λ n. n.map.entries };
+}
+
+impl Names {
+    pub fn new(alloc: Global) -> Names
+        ensures { result ≡ [] }
+    {
+        Names {
+            map: IndexMap::new(alloc),
+        }
+    }
+
+    pub fn find(&self, name: &Scalar) -> Option<Known>
+        ensures { result ≡ find_name self.now name.now }
+    {
+        match self.map.get(name) {
+            Some(known) => Some(*known),
+            None => None,
+        }
+    }
+
+    pub fn insert(&mut self, name: Scalar, known: Known) -> Result<(), NoMemory>
+        ensures { OnOk result (self.new ≡ insert_entry (pointwise ◌==◌) self.old name known) }
+    {
+        self.map.insert(name, known)?;
+        Ok(())
+    }
+}

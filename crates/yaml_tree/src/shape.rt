@@ -1,0 +1,239 @@
+//! Whether pieces are a flow form.
+
+ghost use Rattle.std.specs.Prelude.{◌≡◌, ◌<◌, ◌∷◌, ◌↔◌, List, [], Some, IfOk, OnOk, IsTrue, length, drop};
+ghost use Rattle.yaml_tree.specs.Outline.{is_bracket_of, takes_value, takes_form, takes_name, takes_key, takes_comma, takes_closing, takes_piece, closed, behind, piece_fault, fault_from, flow_fault};
+ghost use Rattle.yaml_marks.specs.declared.piece.Bracket.{Bracket};
+ghost use Rattle.yaml_tree.specs.declared.shape.Want.TheVariants as want;
+
+use crate::fault::FaultKind;
+use sim_base::NoMemory;
+use std::alloc::Global;
+use std::marker::Model;
+use yaml_marks::{Bracket, Odd, Piece, closes_at};
+
+/// What may come next in a flow form.
+#[derive(Clone, Copy, Debug, PartialEq, Eq)]
+pub enum Want {
+    /// The opening bracket.
+    Form,
+    /// An item, a key, or the closing bracket.
+    Cell,
+    /// A value behind a key.
+    Value,
+    /// A value without a name, or what stands behind a value: behind a name.
+    Named,
+    /// A comma or the closing bracket.
+    End,
+    /// Nothing: the form is closed.
+    Nothing,
+}
+
+/// The brackets that are open, which contracts see as a list, the innermost first.
+#[derive(Drop)]
+pub struct Brackets {
+    items: Vec<Bracket>,
+}
+
+impl Model for Brackets {
+    ghost use Rattle.std.specs.Prelude.{List, reverse};
+    ghost use Rattle.yaml_marks.specs.declared.piece.Bracket.{Bracket};
+
+    ghost Value = { List Bracket };
+
+    ghost view = { λ b. reverse b.items.items };
+}
+
+impl Brackets {
+    fn new(alloc: Global) -> Brackets
+        ensures { result ≡ [] }
+    {
+        Brackets {
+            items: Vec::new(alloc),
+        }
+    }
+
+    fn push(&mut self, bracket: Bracket) -> Result<(), NoMemory>
+        ensures { OnOk result (self.new ≡ bracket ∷ self.old) }
+    {
+        self.items.push(bracket)?;
+        Ok(())
+    }
+
+    /// Takes the innermost bracket off, if any is open.
+    fn pop(&mut self)
+        ensures { self.new ≡ drop 1 self.old }
+    {
+        self.items.pop();
+    }
+
+    fn is_empty(&self) -> bool
+        ensures { IsTrue result ↔ length self.now ≡ 0 }
+    {
+        self.items.is_empty()
+    }
+
+    /// Whether the innermost bracket is this one.
+    fn is_in(&self, bracket: Bracket) -> bool
+        ensures { result ≡ is_bracket_of bracket self.now }
+    {
+        match self.items.last() {
+            Some(innermost) => *innermost == bracket,
+            None => false,
+        }
+    }
+}
+
+/// A flow form that is read so far.
+#[derive(Drop)]
+pub struct Shape {
+    pub want: Want,
+    pub brackets: Brackets,
+}
+
+impl Shape {
+    fn new(alloc: Global) -> Shape
+        ensures { result ≡ record { want = want.Form; brackets = [] } }
+    {
+        Shape {
+            want: Want::Form,
+            brackets: Brackets::new(alloc),
+        }
+    }
+
+    /// Whether a value may come.
+    fn takes_value(&self) -> bool
+        ensures { result ≡ takes_value self.now.want self.now.brackets }
+    {
+        match self.want {
+            Want::Cell => self.brackets.is_in(Bracket::Square),
+            Want::Value | Want::Named => true,
+            Want::Form | Want::End | Want::Nothing => false,
+        }
+    }
+
+    /// Whether a bracket may open.
+    fn takes_form(&self) -> bool
+        ensures { result ≡ takes_form self.now.want self.now.brackets }
+    {
+        self.want == Want::Form || self.takes_value()
+    }
+
+    /// Whether a name, or a copy, may come.
+    fn takes_name(&self) -> bool
+        ensures { result ≡ takes_name self.now.want self.now.brackets }
+    {
+        self.want != Want::Named && self.takes_value()
+    }
+
+    fn takes_key(&self) -> bool
+        ensures { result ≡ takes_key self.now.want self.now.brackets }
+    {
+        self.want == Want::Cell && !self.brackets.is_in(Bracket::Square)
+    }
+
+    fn takes_comma(&self) -> bool
+        ensures { result ≡ takes_comma self.now.want }
+    {
+        match self.want {
+            Want::Named | Want::End => true,
+            Want::Form | Want::Cell | Want::Value | Want::Nothing => false,
+        }
+    }
+
+    fn takes_closing(&self, bracket: Bracket) -> bool
+        ensures { result ≡ takes_closing bracket self.now }
+    {
+        match self.want {
+            Want::Cell | Want::Named | Want::End => self.brackets.is_in(bracket),
+            Want::Form | Want::Value | Want::Nothing => false,
+        }
+    }
+
+    /// Whether the piece may come.
+    fn takes_piece(&self, piece: &Piece) -> bool
+        ensures { result ≡ takes_piece piece.now self.now }
+    {
+        match piece {
+            Piece::Opening(_) => self.takes_form(),
+            Piece::Closing(bracket) => self.takes_closing(*bracket),
+            Piece::Comma => self.takes_comma(),
+            Piece::CellKey(_) => self.takes_key(),
+            Piece::CellScalar(_) => self.takes_value(),
+            Piece::CellName(_) | Piece::CellCopy(_) => self.takes_name(),
+            Piece::OddPiece(_) => false,
+        }
+    }
+
+    /// Closes the innermost bracket.
+    fn close(&mut self)
+        ensures { self.new ≡ closed self.old.brackets }
+    {
+        self.brackets.pop();
+        self.want = if self.brackets.is_empty() {
+            Want::Nothing
+        } else {
+            Want::End
+        };
+    }
+
+    /// Takes a piece that may come.
+    fn take_piece(&mut self, piece: &Piece) -> Result<(), NoMemory>
+        ensures { OnOk result (self.new ≡ behind piece.now self.old) }
+    {
+        match piece {
+            Piece::Opening(bracket) => {
+                self.brackets.push(*bracket)?;
+                self.want = Want::Cell;
+            }
+            Piece::Closing(_) => self.close(),
+            Piece::Comma => self.want = Want::Cell,
+            Piece::CellKey(_) => self.want = Want::Value,
+            Piece::CellName(_) => self.want = Want::Named,
+            Piece::CellScalar(_) | Piece::CellCopy(_) => self.want = Want::End,
+            Piece::OddPiece(_) => {}
+        }
+        Ok(())
+    }
+
+    /// The fault of a piece that may not come; behind it stands the rest.
+    fn piece_fault(&self, piece: &Piece, rest: &[Piece]) -> FaultKind
+        ensures { result ≡ piece_fault piece.now rest.now self.now }
+    {
+        let unsupported = match piece {
+            Piece::Opening(_) => !closes_at(rest),
+            Piece::OddPiece(Odd::Unsupported) => true,
+            Piece::OddPiece(Odd::Mark) => self.takes_value(),
+            _ => false,
+        };
+        if unsupported {
+            FaultKind::Unsupported
+        } else {
+            FaultKind::Syntax
+        }
+    }
+
+    /// The fault of pieces that end here, if any.
+    #[tactic(auto, unfolding(crate::specs::Outline::fault_from))]
+    fn end_fault(&self) -> Option<FaultKind>
+        ensures { result ≡ fault_from [] self.now }
+    {
+        match self.want {
+            Want::Nothing => None,
+            _ => Some(FaultKind::Unsupported),
+        }
+    }
+}
+
+/// The fault of pieces that are no flow form's, if any.
+pub(crate) fn flow_fault(alloc: Global, pieces: &[Piece]) -> Result<Option<FaultKind>, NoMemory>
+    ensures { IfOk result (λ fault. fault ≡ flow_fault pieces.now) }
+{
+    let mut shape = Shape::new(alloc);
+    for (i, piece) in pieces.iter().enumerate() {
+        if !shape.takes_piece(piece) {
+            return Ok(Some(shape.piece_fault(piece, &pieces[i + 1..])));
+        }
+        shape.take_piece(piece)?;
+    }
+    Ok(shape.end_fault())
+}
