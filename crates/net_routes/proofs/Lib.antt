@@ -7,5 +7,6 @@ pub mod ArcLemmas
 pub mod NetLemmas
 pub mod LineLemmas
 pub mod RouteLemmas
+pub mod RouteLaws
 pub mod LeastLemmas
 pub mod Values

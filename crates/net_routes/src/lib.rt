@@ -6,6 +6,7 @@ mod arcs;
 mod cost;
 mod error;
 mod finding;
+pub mod laws;
 mod line;
 mod net;
 mod places;
