@@ -1,10 +1,10 @@
 -- The function `turn` gives the turn that the relation `IsTurn` describes, and no other turn is so.
-use Rattle.std.proofs.Common.{◌≡◌, ℕ, zero, suc, ◌+◌, ◌-◌, ◌<◌, ◌≤◌, ◌⊎◌, inl, inr, ap, subst, refl, ◌∙◌, sym, Option, Some, None, arith}
+use Rattle.std.proofs.Common.{◌≡◌, ℕ, zero, suc, ◌-◌, ◌<◌, ◌≤◌, inl, inr, ap, subst, refl, ◌∙◌, sym, Some, None, arith}
 use Rattle.std.proofs.lemmas.Bool.{cases_lt}
 use Rattle.sim_base.specs.declared.signal.Signal.{Signal}
-use Rattle.rv32_machine.specs.Table.{State, After, insn}
+use Rattle.rv32_machine.specs.Table.{State, insn}
 use Rattle.rv32_machine.proofs.TableLaws.{insn-trap}
-use Rattle.rv32_machine.specs.Turn.{Turn, turn, turn_from, one_more, end_of, state_after, outcome_of, GoesOn, IsEndedBy, IsTurn}
+use Rattle.rv32_machine.specs.Turn.{Turn, turn, turn_from, one_more, end_of, state_after, outcome_of, GoesOn, IsTurn}
 use Rattle.rv32_machine.specs.declared.outcome.Outcome.{Outcome}
 use Rattle.rv32_machine.specs.declared.outcome.Outcome.TheVariants as outcome
 use Rattle.rv32_machine.specs.declared.outcome.TurnEnd.{TurnEnd}

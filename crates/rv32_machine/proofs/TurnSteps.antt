@@ -1,5 +1,5 @@
 -- How a turn goes on by one instruction.
-use Rattle.std.proofs.Common.{◌≡◌, ℕ, suc, ◌+◌, ◌-◌, ◌<◌, ap, subst, refl, ◌∙◌, sym, Option, Some, None, arith}
+use Rattle.std.proofs.Common.{◌≡◌, ℕ, suc, ◌+◌, ◌-◌, ◌<◌, ap, ◌∙◌, Some, arith}
 use Rattle.guest_mem.specs.Memory.{Memory}
 use Rattle.rv32_machine.specs.Table.{State, After, insn, state, after}
 use Rattle.rv32_machine.specs.Turn.{Turn, turn, turn_from, one_more, end_of}

@@ -1,22 +1,20 @@
 -- Values from outside: the RISC-V unprivileged manual, and the programs of riscv-tests.
-use Rattle.std.proofs.Common.{◌≡◌, ℕ, Option, Some, None, List, [], ◌∷◌, ap, refl, lit≤}
+use Rattle.std.proofs.Common.{◌≡◌, ℕ, Some, None, [], ◌∷◌, ap, refl, lit≤}
 use Rattle.std.specs.Option.{option_map}
 use Rattle.guest_mem.specs.Memory.{Memory, load}
 use Rattle.guest_mem.specs.declared.right.Right.TheVariants as right
 use Rattle.rv32_machine.specs.Word.{i_immediate, s_immediate, b_immediate, u_immediate, j_immediate, sign_extended}
-use Rattle.rv32_machine.specs.Arithmetic.{value, is_taken}
+use Rattle.rv32_machine.specs.Arithmetic.{value}
 use Rattle.rv32_machine.specs.Encoding.{decoded}
-use Rattle.rv32_machine.specs.Table.{State, After, state, effect, goes_on, at, traps, loaded}
-use Rattle.rv32_machine.specs.Turn.{Turn, turn, state_after, outcome_of, GoesOn}
+use Rattle.rv32_machine.specs.Table.{State, state, effect, goes_on, at, traps, loaded}
+use Rattle.rv32_machine.specs.Turn.{turn, state_after, outcome_of, GoesOn}
 use Rattle.rv32_machine.proofs.TurnLaws.{call_in_time, spent_without}
 use Rattle.sim_base.specs.declared.signal.Signal.TheVariants.{SigBus}
-use Rattle.rv32_machine.specs.declared.cpu.Cpu.{Cpu}
 use Rattle.rv32_machine.specs.declared.instruction.Load.TheVariants.{Lb}
 use Rattle.rv32_machine.specs.declared.outcome.Outcome.TheVariants as outcome
 use Rattle.rv32_machine.specs.declared.outcome.TurnEnd.TheVariants as end
-use Rattle.rv32_machine.specs.declared.instruction.Insn.{Insn}
 use Rattle.rv32_machine.specs.declared.instruction.Insn.TheVariants as insn
-use Rattle.rv32_machine.specs.declared.instruction.Operation.TheVariants.{Add, Sub, Sll, Slt, Sltu, Xor, Srl, Sra, Or, And, Mul, Mulh, Mulhsu, Mulhu, Div, Divu, Rem, Remu}
+use Rattle.rv32_machine.specs.declared.instruction.Operation.TheVariants.{Sub, Sll, Slt, Sltu, Sra, Mul, Mulh, Mulhsu, Mulhu, Div, Divu, Rem, Remu}
 
 -- ---- division: -2 ^ 31 by -1, and by zero
 

@@ -1,6 +1,6 @@
 -- Which instruction a word is, or none. RISC-V unprivileged manual, the chapter RV32/64G Instruction
 -- Set Listings: the tables of RV32I, of RV32M and of Zifencei.
-use Rattle.std.specs.Prelude.{ℕ, ◌==◌, ◌&&◌, if◌then◌else◌, Option, None, Some, option_map}
+use Rattle.std.specs.Prelude.{ℕ, ◌==◌, if◌then◌else◌, Option, None, Some, option_map}
 use Rattle.rv32_machine.specs.Word.{opcode, funct3, funct7}
 use Rattle.rv32_machine.specs.declared.instruction.Insn.{Insn}
 use Rattle.rv32_machine.specs.declared.instruction.Insn.TheVariants as insn

@@ -1,7 +1,7 @@
 -- The table of instructions: what each makes of the registers and the memory. A row an instruction, in the
 -- order of the RISC-V unprivileged manual, 2.4 to 2.8; `value` and `is_taken` have the rows of the
 -- operations and the branches.
-use Rattle.std.specs.Prelude.{ℕ, ◌+◌, ◌-◌, ◌*◌, ◌/◌, ◌%◌, ◌^◌, ◌==◌, Bool, if◌then◌else◌, Option, None, Some, slice_index, slice_set}
+use Rattle.std.specs.Prelude.{ℕ, ◌*◌, ◌/◌, ◌%◌, ◌^◌, ◌==◌, Bool, if◌then◌else◌, Option, None, Some, slice_index, slice_set}
 use Rattle.std.specs.Option.{option_map}
 use Rattle.sim_base.specs.declared.signal.Signal.{Signal}
 use Rattle.sim_base.specs.declared.signal.Signal.TheVariants.{SigIll, SigTrap, SigBus, SigSegv}

@@ -1,6 +1,6 @@
 -- A turn of the machine: instructions up to the first that calls or traps, or as many as a budget allows.
-use Rattle.std.specs.Prelude.{◌≡◌, ℕ, zero, suc, ◌+◌, ◌-◌, ◌<◌, ◌≤◌, ◌⊎◌, Option, None, Some}
-use Rattle.rv32_machine.specs.Table.{State, After, insn}
+use Rattle.std.specs.Prelude.{◌≡◌, ℕ, zero, suc, ◌-◌, ◌≤◌, ◌⊎◌, Option, None, Some}
+use Rattle.rv32_machine.specs.Table.{State, insn}
 use Rattle.rv32_machine.specs.declared.outcome.Outcome.{Outcome}
 use Rattle.rv32_machine.specs.declared.outcome.Outcome.TheVariants as outcome
 use Rattle.rv32_machine.specs.declared.outcome.TurnEnd.{TurnEnd}

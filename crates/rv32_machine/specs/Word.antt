@@ -1,6 +1,6 @@
 -- Words of 32 bits as numbers: their fields, and the immediates that are built from them.
 -- RISC-V unprivileged manual, 2.2 Base Instruction Formats and 2.3 Immediate Encoding Variants.
-use Rattle.std.specs.Prelude.{ℕ, ◌+◌, ◌-◌, ◌*◌, ◌/◌, ◌%◌, ◌^◌, ◌==◌, nat_lt, if◌then◌else◌}
+use Rattle.std.specs.Prelude.{ℕ, ◌+◌, ◌-◌, ◌*◌, ◌/◌, ◌%◌, ◌^◌, nat_lt, if◌then◌else◌}
 
 -- inst[high:low]
 abbrev pub bits : ℕ → ℕ → ℕ → ℕ

@@ -1,9 +1,9 @@
-use Rattle.std.proofs.Common.{◌≡◌, ◌+◌, ◌∙◌, ap, refl, sym, arith}
+use Rattle.std.proofs.Common.{◌∙◌, ap, refl, arith}
 use Rattle.rv32_machine.specs.Table.{after}
-use Rattle.rv32_machine.specs.Turn.{Turn, turn}
+use Rattle.rv32_machine.specs.Turn.{Turn}
 use Rattle.rv32_machine.specs.declared.outcome.Outcome.TheVariants as outcome
 use Rattle.rv32_machine.specs.declared.outcome.TurnEnd.TheVariants as end
-use Rattle.rv32_machine.proofs.TurnSteps.{turn-next, turn-whole, turn-spent, ran_before}
+use Rattle.rv32_machine.proofs.TurnSteps.{turn-next, turn-whole, turn-spent}
 use Rattle.rv32_machine.proofs.TurnLaws.{turn_as}
 use Rattle.rv32_machine.proofs.turns.turn.Goals as goal
 
