@@ -10,10 +10,12 @@ use Rattle.atomic_table.proofs.Lists.{at_set, set_here, set_else}
 use Rattle.host_inbox.specs.declared.entry.Entry.{Entry}
 use Rattle.host_inbox.specs.declared.rule.Known.{Known}
 use Rattle.host_inbox.specs.declared.rule.Size.{Size}
-use Rattle.host_inbox.specs.Entries.{weigh, only, numbers_below, place_of, claim, entry}
+use Rattle.list_weights.specs.Weights.{weigh, numbers_below}
+use Rattle.host_inbox.specs.Entries.{only, place_of, claim, entry}
 use Rattle.host_inbox.specs.Inboxes.{IsSettled, IsPending, Fits, AreInboxes, known_weight}
 use Rattle.host_inbox.specs.Steps.{after_claim, after_full, Claimed}
-use Rattle.host_inbox.proofs.Weights.{weigh-set, weigh_next}
+use Rattle.list_weights.proofs.Weights.{weigh-set}
+use Rattle.host_inbox.proofs.Weights.{weigh_next}
 use Rattle.host_inbox.proofs.Members.{each-append, within}
 use Rattle.host_inbox.proofs.Knowing.{same_place, claimed_few, claim_adds, full_adds, fits_taken}
 

@@ -9,14 +9,16 @@ use Rattle.atomic_table.specs.Table.{State, Me, Final, Seen}
 use Rattle.host_inbox.specs.declared.entry.Entry.{Entry}
 use Rattle.host_inbox.specs.declared.rule.Known.{Known}
 use Rattle.host_inbox.specs.declared.rule.Size.{Size}
-use Rattle.host_inbox.specs.Entries.{weigh, only, numbers_below, place_of, claim_weight, entry_weight}
+use Rattle.list_weights.specs.Weights.{weigh, numbers_below}
+use Rattle.host_inbox.specs.Entries.{only, place_of, claim_weight, entry_weight}
 use Rattle.host_inbox.specs.Inboxes.{Each, IsSettled, Fits, AreInboxes, known, known_weight}
 use Rattle.host_inbox.specs.Carriers.{filed, kept_if}
 use Rattle.host_inbox.specs.Drains.{numbers_of}
 use Rattle.host_inbox.specs.Slots.{AreLaid, AreClosed}
-use Rattle.host_inbox.proofs.Weights.{weigh_alone, is_number, is_other, just_once}
+use Rattle.list_weights.proofs.Weights.{weigh_alone, is_number, is_other}
+use Rattle.host_inbox.proofs.Weights.{just_once}
 use Rattle.host_inbox.proofs.Members.{each_also, each_map}
-use Rattle.host_inbox.proofs.Permutations.{same_weights}
+use Rattle.list_weights.proofs.Permutations.{same_weights}
 
 weigh_none : {X : Type 0} (h : X → ℕ) (xs : List X) → length xs ≡ 0 → weigh h xs ≡ 0
 weigh_none h [] e = refl

@@ -7,11 +7,12 @@ use Rattle.std.specs.declared.alloc.Global.{Global}
 use Rattle.std.proofs.lemmas.Bool.Decides.{nat_tests}
 use Rattle.std.proofs.lemmas.Option.{slice_get_past}
 use Rattle.host_inbox.specs.declared.entry.Entry.{Entry}
-use Rattle.host_inbox.specs.Entries.{weigh, only, numbers_below, entry_weight}
+use Rattle.list_weights.specs.Weights.{weigh, numbers_below}
+use Rattle.host_inbox.specs.Entries.{only, entry_weight}
 use Rattle.host_inbox.specs.Drains.{EachAt, numbers_of, IsInboxOf, IsDrained}
 use Rattle.host_inbox.specs.Kept.{back_weight, AreKept}
-use Rattle.host_inbox.proofs.Weights.{weigh-append}
-use Rattle.host_inbox.proofs.Permutations.{weigh-permutation}
+use Rattle.list_weights.proofs.Weights.{weigh-append}
+use Rattle.list_weights.proofs.Permutations.{weigh-permutation}
 use Rattle.host_inbox.proofs.CloseSteps.{numbers_weigh}
 
 -- the numbers below n + 1 are 0 and those after it

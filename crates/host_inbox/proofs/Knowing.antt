@@ -7,10 +7,12 @@ use Rattle.host_inbox.specs.declared.entry.Entry.{Entry}
 use Rattle.host_inbox.specs.declared.entry.Claim.{Claim}
 use Rattle.host_inbox.specs.declared.rule.Known.{Known}
 use Rattle.host_inbox.specs.declared.rule.Size.{Size}
-use Rattle.host_inbox.specs.Entries.{weigh, only, place_of, claim, entry, claim_weight, entry_weight}
+use Rattle.list_weights.specs.Weights.{weigh}
+use Rattle.host_inbox.specs.Entries.{only, place_of, claim, entry, claim_weight, entry_weight}
 use Rattle.host_inbox.specs.Inboxes.{IsSettled, IsPending, Fits, AreInboxes, known_weight}
 use Rattle.host_inbox.specs.Steps.{after_claim, after_full, after_settle}
-use Rattle.host_inbox.proofs.Weights.{weigh-append, weigh_below, weigh-times, count_below}
+use Rattle.list_weights.proofs.Weights.{weigh-append, weigh_below}
+use Rattle.host_inbox.proofs.Weights.{weigh-times, count_below}
 use Rattle.host_inbox.proofs.Members.{each_also}
 use Rattle.atomic_table.proofs.Lists.{set_else}
 

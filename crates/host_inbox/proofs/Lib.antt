@@ -6,7 +6,6 @@ pub mod SettleSteps
 pub mod SeatSteps
 pub mod JoiningSteps
 pub mod DrainSteps
-pub mod Permutations
 pub mod CloseSteps
 pub mod RowSteps
 pub mod KeptSteps

@@ -7,10 +7,11 @@ use Rattle.std.proofs.lemmas.List.{length-map, length-replicate, get_or-replicat
 use Rattle.atomic_table.proofs.Lists.{at_set, at_snoc, set_else}
 use Rattle.host_inbox.specs.declared.rule.Known.{Known}
 use Rattle.host_inbox.specs.declared.rule.Size.{Size}
-use Rattle.host_inbox.specs.Entries.{weigh, numbers_below, place_of, claim_weight, entry_weight}
+use Rattle.list_weights.specs.Weights.{weigh, numbers_below}
+use Rattle.host_inbox.specs.Entries.{place_of, claim_weight, entry_weight}
 use Rattle.host_inbox.specs.Inboxes.{IsSettled, IsPending, Fits, AreInboxes, known, known_weight}
 use Rattle.host_inbox.specs.Steps.{less_one, one, both, spent}
-use Rattle.host_inbox.proofs.Weights.{weigh-append, weigh-set}
+use Rattle.list_weights.proofs.Weights.{weigh-append, weigh-set}
 use Rattle.host_inbox.proofs.Members.{each-append}
 
 module _ {T : Type 0} where

@@ -1,7 +1,8 @@
 -- The definitions on small values.
 use Rattle.std.proofs.Common.{◌≡◌, ℕ, List, [], ◌∷◌, refl}
 use Rattle.host_inbox.specs.declared.entry.Entry.{Entry}
-use Rattle.host_inbox.specs.Entries.{entry, numbers_below, place_of, weigh}
+use Rattle.list_weights.specs.Weights.{weigh}
+use Rattle.host_inbox.specs.Entries.{entry, place_of}
 use Rattle.host_inbox.specs.Drains.{numbers_of}
 use Rattle.host_inbox.specs.Kept.{back_weight}
 
@@ -20,9 +21,6 @@ numbers_of_none = refl
 given_back : weigh (back_weight (λ parcel. parcel)) three_and_one ≡ 73
 unfolding three_and_one
 given_back = refl
-
-below_three : numbers_below 3 ≡ 0 ∷ 1 ∷ 2 ∷ []
-below_three = refl
 
 places_of_two : (place_of 2 0 ≡ 32) × (place_of 2 15 ≡ 47) × (place_of 3 0 ≡ 48)
 places_of_two = (refl, refl, refl)

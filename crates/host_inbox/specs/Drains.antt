@@ -2,7 +2,7 @@
 use Rattle.std.specs.Prelude.{◌≡◌, ℕ, ◌<◌, ◌==◌, List, [], ◌∷◌, ◌++◌, map, filter, length, min, slice_get, slice_index_or, All, IsPermutation, Some, Vec}
 use Rattle.std.specs.declared.alloc.Global.{Global}
 use Rattle.host_inbox.specs.declared.entry.Entry.{Entry}
-use Rattle.host_inbox.specs.Entries.{numbers_below}
+use Rattle.list_weights.specs.Weights.{numbers_below}
 use Rattle.host_inbox.specs.CarrierViews.{CarrierView}
 
 -- F of each place and the member there

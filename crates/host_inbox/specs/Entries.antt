@@ -1,22 +1,12 @@
 -- What was put, and the numbers that were claimed.
-use Rattle.std.specs.Prelude.{ℕ, zero, suc, ◌+◌, ◌*◌, ◌==◌, Bool, true, false, List, [], ◌∷◌, ◌++◌}
+use Rattle.std.specs.Prelude.{ℕ, ◌+◌, ◌*◌, ◌==◌, Bool, true, false}
 use Rattle.host_inbox.specs.declared.entry.Entry.{Entry}
 use Rattle.host_inbox.specs.declared.entry.Claim.{Claim}
-
--- the weights of a list's members, added up
-abbrev pub weigh : {X : Type 0} → (X → ℕ) → List X → ℕ
-weigh h [] = 0
-weigh h (x ∷ xs) = h x + weigh h xs
 
 -- n, if the test holds
 abbrev pub only : Bool → ℕ → ℕ
 only true n = n
 only false n = 0
-
--- the numbers below n, in order
-abbrev pub numbers_below : ℕ → List ℕ
-numbers_below zero = []
-numbers_below (suc n) = numbers_below n ++ n ∷ []
 
 -- a host's inbox has 16 places, in the order of the numbers that are claimed for them
 abbrev pub place_of : ℕ → ℕ → ℕ

@@ -7,7 +7,8 @@ use Rattle.host_inbox.specs.declared.entry.Entry.{Entry}
 use Rattle.host_inbox.specs.declared.entry.Claim.{Claim}
 use Rattle.host_inbox.specs.declared.rule.Known.{Known}
 use Rattle.host_inbox.specs.declared.rule.Size.{Size}
-use Rattle.host_inbox.specs.Entries.{weigh, numbers_below, place_of, claim_weight, entry_weight}
+use Rattle.list_weights.specs.Weights.{weigh, numbers_below}
+use Rattle.host_inbox.specs.Entries.{place_of, claim_weight, entry_weight}
 
 -- P of each member
 abbrev pub Each : {X : Type 0} → (X → Type 0) → List X → Type 0

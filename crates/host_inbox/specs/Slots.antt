@@ -7,7 +7,8 @@ use Rattle.atomic_table.specs.Table.{Me}
 use Rattle.atomic_table.specs.Seated.{TableId}
 use Rattle.host_inbox.specs.declared.entry.Entry.{Entry}
 use Rattle.host_inbox.specs.declared.rule.Known.{Known}
-use Rattle.host_inbox.specs.Entries.{numbers_below, place_of}
+use Rattle.list_weights.specs.Weights.{numbers_below}
+use Rattle.host_inbox.specs.Entries.{place_of}
 use Rattle.host_inbox.specs.Inboxes.{Each, known}
 use Rattle.host_inbox.specs.Carriers.{filed}
 use Rattle.host_inbox.specs.CarrierViews.{CarrierView}

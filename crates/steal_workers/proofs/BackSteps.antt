@@ -9,10 +9,11 @@ use Rattle.steal_workers.specs.declared.item.Item.{Item}
 use Rattle.steal_workers.specs.declared.item.Item.TheVariants.{Task, Mark}
 use Rattle.steal_workers.specs.declared.item.Numbered.{Numbered}
 use Rattle.steal_workers.specs.declared.hand.Hand.{Hand}
-use Rattle.steal_workers.specs.Items.{weigh, marks, number_weight, Stands, MarksLast}
+use Rattle.list_weights.specs.Weights.{weigh}
+use Rattle.steal_workers.specs.Items.{marks, number_weight, Stands, MarksLast}
 use Rattle.steal_workers.specs.OneDeque.{hand, IsOneDeque, after_take}
 use Rattle.steal_workers.specs.TookBack.{TookBack, kept, numbers_of}
-use Rattle.steal_workers.proofs.Weights.{weigh-append, weigh_alone}
+use Rattle.list_weights.proofs.Weights.{weigh-append, weigh_alone}
 use Rattle.steal_workers.proofs.Steps.{takes_back, marks-append}
 
 pub weigh-ones : {X : Type 0} (xs : List X) → weigh (λ (x : X). 1) xs ≡ length xs

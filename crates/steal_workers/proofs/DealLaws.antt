@@ -6,7 +6,7 @@ use Rattle.std.proofs.lemmas.List.Sorted.{All-permutation, IsPermutation-sym}
 use Rattle.steal_workers.specs.declared.item.Numbered.{Numbered}
 use Rattle.steal_workers.specs.declared.seat.Next.{Next}
 use Rattle.steal_workers.specs.declared.seat.Next.TheVariants.{Task, Empty, Lost}
-use Rattle.steal_workers.specs.Deals.{numbers_below}
+use Rattle.list_weights.specs.Weights.{numbers_below}
 use Rattle.steal_workers.specs.SeatViews.{SeatView, seat_count, HasMark, HasEveryMark}
 use Rattle.steal_workers.specs.Answers.{Answers, FoundNone}
 use Rattle.steal_workers.specs.WholeDeals.{common_deal, IsWholeDeal}

@@ -10,17 +10,18 @@ use Rattle.steal_workers.specs.declared.item.Item.{Item}
 use Rattle.steal_workers.specs.declared.item.Item.TheVariants.{Task, Mark}
 use Rattle.steal_workers.specs.declared.deck.Deck.{Deck}
 use Rattle.steal_workers.specs.declared.share.Share.{Share}
-use Rattle.steal_workers.specs.Items.{weigh, marks, number_weight, Stands, IsAllMarks, MarksLast}
+use Rattle.list_weights.specs.Weights.{weigh, numbers_below}
+use Rattle.steal_workers.specs.Items.{marks, number_weight, Stands, IsAllMarks, MarksLast}
 use Rattle.steal_workers.specs.Shares.{is_marked, dealt_to}
 use Rattle.steal_workers.specs.Ends.{deque_of}
-use Rattle.steal_workers.specs.Deals.{Deal, IsDealt, numbers_below}
+use Rattle.steal_workers.specs.Deals.{Deal, IsDealt}
 use Rattle.steal_workers.specs.SeatViews.{SeatView, seat_count}
 use Rattle.steal_workers.specs.WholeDeals.{common_deal, IsNewSeat, IsNewDeal}
 use Rattle.steal_workers.specs.Decks.{AreFilling, mark_list, queue_of}
 use Rattle.steal_workers.specs.Columns.{IsRow, closed, deck_deque}
 use Rattle.steal_workers.specs.Unused.{unused_view}
 use Rattle.steal_workers.specs.Layouts.{AreFresh, AreFilled, AreSeated, planned}
-use Rattle.steal_workers.proofs.Weights.{weigh-append}
+use Rattle.list_weights.proofs.Weights.{weigh-append}
 use Rattle.steal_workers.proofs.DeckSteps.{last_turn}
 use Rattle.steal_workers.proofs.ColumnSteps.{marks_closed}
 

@@ -13,21 +13,23 @@ use Rattle.steal_workers.specs.declared.item.Numbered.{Numbered}
 use Rattle.steal_workers.specs.declared.hand.Hand.{Hand}
 use Rattle.steal_workers.specs.declared.share.Share.{Share}
 use Rattle.steal_workers.specs.declared.seat.Stack.{Stack}
-use Rattle.steal_workers.specs.Items.{weigh, marks, mark_weight, number_weight, Stands}
+use Rattle.list_weights.specs.Weights.{weigh, numbers_below}
+use Rattle.steal_workers.specs.Items.{marks, mark_weight, number_weight, Stands}
 use Rattle.steal_workers.specs.Ends.{deque_of, is_own}
 use Rattle.steal_workers.specs.Shares.{dealt_to, taken_from, mark_count}
-use Rattle.steal_workers.specs.Deals.{Deal, IsDealt, numbers_below}
+use Rattle.steal_workers.specs.Deals.{Deal, IsDealt}
 use Rattle.steal_workers.specs.SeatViews.{SeatView, seat_count}
 use Rattle.steal_workers.specs.WholeDeals.{common_deal, IsWholeDeal}
 use Rattle.steal_workers.specs.Backs.{one_if, own_weight, IsWholeColumn, IsBack}
 use Rattle.steal_workers.specs.TookBack.{numbers_of, Drains}
 use Rattle.steal_workers.specs.Gathers.{joined, IsShareAt, IsStack, PopsEach, IsGathered, AreOwnMarked, share_taken, stack_taken, all_taken, places}
 use Rattle.steal_workers.specs.Emptying.{IsEmptying, queue_weights, seat_weights}
-use Rattle.steal_workers.proofs.Weights.{weigh-append, weigh_part}
+use Rattle.list_weights.proofs.Weights.{weigh-append, weigh_part}
 use Rattle.steal_workers.proofs.BackSteps.{weigh-ones}
 use Rattle.steal_workers.proofs.ShareLists.{all_head, all_tail}
 use Rattle.steal_workers.proofs.DealSteps.{take_whole}
-use Rattle.steal_workers.proofs.GatherSteps.{weigh-permutation, same_weights, once_below, weigh-joined, weigh-map}
+use Rattle.list_weights.proofs.Permutations.{weigh-permutation, same_weights}
+use Rattle.steal_workers.proofs.GatherSteps.{once_below, weigh-joined, weigh-map}
 
 get_of_at : {X : Type 0} (xs : List X) (i : ℕ) (x e : X) → get_elem? xs i ≡ some x → (get_or xs i e ≡ x) × (i < length xs)
 get_of_at [] i x e at = absurd (some-ne-none x (sym at))

@@ -4,31 +4,20 @@ use mathlib.Core.Option.{some}
 use lib.ListN.{get_elem?}
 use mathlib.Core.Logic.{dite}
 use native.Mathlib.Decide.{ℕ_discrete}
-use Rattle.std.specs.List.{sum_by, remove}
-use Rattle.std.specs.List.Sorted.{IsPermutation}
 use Rattle.std.proofs.lemmas.List.{length-map}
-use Rattle.std.proofs.lemmas.List.Sums.{sum_by-cons}
-use Rattle.std.proofs.lemmas.List.Sorted.{IsPermutation-refl, IsPermutation-cons, IsPermutation-sym, IsPermutation-trans, IsPermutation-remove, sum_by-IsPermutation}
 use Rattle.crossbeam_deque.proofs.Lists.{at_index}
 use Rattle.steal_workers.specs.declared.item.Item.{Item}
 use Rattle.steal_workers.specs.declared.share.Share.{Share}
 use Rattle.steal_workers.specs.declared.seat.Stack.{Stack}
-use Rattle.steal_workers.specs.Items.{weigh}
+use Rattle.list_weights.specs.Weights.{weigh, numbers_below}
 use Rattle.steal_workers.specs.Ends.{is_own}
-use Rattle.steal_workers.specs.Deals.{Deal, numbers_below}
+use Rattle.steal_workers.specs.Deals.{Deal}
 use Rattle.steal_workers.specs.Backs.{one_if, own_weight}
 use Rattle.steal_workers.specs.Gathers.{joined, IsShareAt, IsStack, PopsEach, share_taken, stack_taken, all_taken, places}
-use Rattle.steal_workers.proofs.Weights.{weigh-append, weigh-set}
+use Rattle.list_weights.proofs.Weights.{weigh-append, weigh-set}
 use Rattle.steal_workers.proofs.ShareLists.{all_head, all_tail, all_cons, all_none}
 
 module _ {X : Type 0} where
-  pub weigh_is_sum : (f : X → ℕ) (xs : List X) → weigh f xs ≡ sum_by f xs
-  weigh_is_sum f [] = refl
-  weigh_is_sum f (x ∷ xs) = ap (λ n. f x + n) (weigh_is_sum f xs) ∙ sym (sum_by-cons f x xs)
-
-  pub weigh-permutation : (f : X → ℕ) (xs ys : List X) → IsPermutation xs ys → weigh f ys ≡ weigh f xs
-  weigh-permutation f xs ys p = weigh_is_sum f ys ∙ sum_by-IsPermutation f xs ys p ∙ sym (weigh_is_sum f xs)
-
   pub all_split : (P : X → Type 0) (ys : List X) (y : X) → All P (ys ++ y ∷ []) → All P ys × P y
   all_split P [] y h = (all_none P, all_head P y [] h)
   all_split P (x ∷ xs) y h = let r = all_split P xs y (all_tail P x (xs ++ y ∷ []) h) in (all_cons P x xs (all_head P x (xs ++ y ∷ []) h) r.0, r.1)
@@ -46,30 +35,6 @@ module _ {X : Type 0} where
       let here = alike 0 x y (omega arith) in
       let rest = weigh_alike f g xs ys (omega arith) (λ i e k w. alike (suc i) e k (omega arith)) in
       omega arith
-
--- numbers that weigh the same, however they are weighed, are the same in another order
-indicator : ℕ → ℕ → ℕ
-indicator x y = one_if (y == x)
-
-find_number : (x : ℕ) (ys : List ℕ) → 0 < weigh (λ y. one_if (y == x)) ys → (i : ℕ) × (i < length ys) × (x ≡ get_or ys i x)
-find_number x [] some_there = absurd (omega arith)
-find_number x (y ∷ ys) some_there = dite (ℕ_discrete y x)
-    (λ (e : y ≡ x). (0, (omega arith), sym e))
-    (λ (ne : y ≢ x).
-    let none : one_if (y == x) ≡ 0 = ap one_if (ne_eqb y x ne) in
-    let r = find_number x ys (omega arith) in
-    (suc r.0, (let w = r.1 in omega arith), r.2))
-
-pub same_weights : (xs ys : List ℕ) → ((h : ℕ → ℕ) → weigh h xs ≡ weigh h ys) → IsPermutation xs ys
-same_weights [] [] same = IsPermutation-refl []
-same_weights [] (y ∷ ys) same = let e = same (λ _. 1) in absurd (omega arith)
-same_weights (x ∷ xs) ys same =
-    let one : one_if (x == x) ≡ 1 = ap one_if (eq-eqb x x refl) in
-    let there = find_number x ys (let e = same (λ y. one_if (y == x)) in omega arith) in
-    let moved = IsPermutation-remove ys there.0 x there.1 there.2 in
-    let rest : (h : ℕ → ℕ) → weigh h xs ≡ weigh h (remove ys there.0) = λ h. (let p = weigh-permutation h ys (x ∷ remove ys there.0) moved in let e = same h in omega arith) in
-    IsPermutation-trans (x ∷ xs) (x ∷ remove ys there.0) ys (IsPermutation-cons x xs (remove ys there.0) (same_weights xs (remove ys there.0) rest))
-    (IsPermutation-sym ys (x ∷ remove ys there.0) moved)
 
 -- each number below n stands there once
 pub once_below : (d n : ℕ) → d < n → weigh (λ p. one_if (d == p)) (numbers_below n) ≡ 1

@@ -2,7 +2,8 @@
 use Rattle.std.proofs.Common.{◌≡◌, ℕ, zero, suc, ◌<◌, List, [], ◌∷◌, map, length, get_or, set, sym, refl, ◌∙◌, subst, arith}
 use Rattle.std.proofs.Math.ListN.{length-set}
 use Rattle.std.specs.List.Sorted.{IsPermutation}
-use Rattle.steal_workers.specs.Deals.{Deal, numbers_below}
+use Rattle.list_weights.specs.Weights.{numbers_below}
+use Rattle.steal_workers.specs.Deals.{Deal}
 use Rattle.steal_workers.specs.SeatViews.{SeatView, IsSameSeat, AreSameSeats, seat_count}
 use Rattle.steal_workers.specs.WholeDeals.{common_deal, IsWholeDeal}
 

@@ -5,14 +5,14 @@ use Rattle.steal_workers.specs.declared.share.Share.{Share}
 use Rattle.steal_workers.specs.declared.seat.Seat.TheInside.{Inside}
 use Rattle.steal_workers.specs.declared.seat.Next.TheVariants.{Task, Empty, Lost}
 use Rattle.steal_workers.specs.declared.item.Item.{Item}
-use Rattle.steal_workers.specs.Items.{weigh}
+use Rattle.list_weights.specs.Weights.{weigh}
 use Rattle.steal_workers.specs.Ends.{deque_of}
 use Rattle.steal_workers.specs.Shares.{dealt_to, is_own_share, is_marked, Moves, taken_weights, Found, AllMarked}
 use Rattle.steal_workers.specs.Deals.{IsDealt}
 use Rattle.steal_workers.specs.SeatViews.{IsSameSeat}
 use Rattle.steal_workers.specs.Seats.{seat_view, IsSound}
 use Rattle.steal_workers.specs.Answers.{Answers}
-use Rattle.steal_workers.proofs.Weights.{weigh-append}
+use Rattle.list_weights.proofs.Weights.{weigh-append}
 use Rattle.steal_workers.proofs.ShareLists.{moves_sound, moves_map, moves_length, moves_marked}
 
 module _ {T : Type 0} where

@@ -9,7 +9,7 @@ use Rattle.steal_workers.specs.declared.share.Share.{Share}
 use Rattle.steal_workers.specs.declared.share.Step.TheVariants.{Task}
 use Rattle.steal_workers.specs.Items.{Stands}
 use Rattle.steal_workers.specs.Shares.{IsShare, Follows, Steps, Moves, dealt_to, is_marked, taken_weight, taken_weights, Found, TookNone}
-use Rattle.steal_workers.proofs.Weights.{weigh-set}
+use Rattle.list_weights.proofs.Weights.{weigh-set}
 use Rattle.steal_workers.proofs.ShareSteps.{stays}
 
 module _ {X : Type 0} (P : X → Type 0) where

@@ -5,11 +5,12 @@ use Rattle.steal_workers.specs.declared.item.Item.TheVariants.{Task as task_item
 use Rattle.steal_workers.specs.declared.hand.Hand.{Hand}
 use Rattle.steal_workers.specs.declared.share.Share.{Share}
 use Rattle.steal_workers.specs.declared.share.Step.TheVariants.{Lost}
-use Rattle.steal_workers.specs.Items.{weigh, marks, mark_weight, number_weight, Stands}
+use Rattle.list_weights.specs.Weights.{weigh}
+use Rattle.steal_workers.specs.Items.{marks, mark_weight, number_weight, Stands}
 use Rattle.steal_workers.specs.OneDeque.{Took}
 use Rattle.steal_workers.specs.Ends.{hand_of, is_own, CanTake, IsSameEnd}
 use Rattle.steal_workers.specs.Shares.{mark_count, IsShare, Follows, Steps, step_of, is_mark, dealt_to, taken_from, taken_weight}
-use Rattle.steal_workers.proofs.Weights.{weigh-append}
+use Rattle.list_weights.proofs.Weights.{weigh-append}
 
 module _ {T : Type 0} where
   pub can_take : (s : Share T) → IsShare s → s.marked ≡ false → CanTake s.end

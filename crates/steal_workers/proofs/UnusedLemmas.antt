@@ -1,7 +1,8 @@
 -- Nothing was taken by a seat that is new.
 use Rattle.std.proofs.Common.{◌≡◌, ℕ, zero, suc, ◌+◌, ◌<◌, ◌==◌, false, List, [], ◌∷◌, map, length, get_or, All, refl, ap, ◌∙◌, arith}
 use Rattle.steal_workers.specs.declared.share.Share.{Share}
-use Rattle.steal_workers.specs.Items.{weigh, number_weight}
+use Rattle.list_weights.specs.Weights.{weigh}
+use Rattle.steal_workers.specs.Items.{number_weight}
 use Rattle.steal_workers.specs.Ends.{is_own}
 use Rattle.steal_workers.specs.Shares.{IsShare, taken_from, is_own_share, taken_weight, taken_weights}
 use Rattle.steal_workers.specs.Unused.{IsUnused}

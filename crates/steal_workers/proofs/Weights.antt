@@ -1,57 +1,11 @@
 -- Weights of lists, and lists read by place.
-use Rattle.std.proofs.Common.{◌≡◌, ◌≢◌, ℕ, zero, suc, ◌+◌, ◌≤◌, List, [], ◌∷◌, ◌++◌, length, set, sym, refl, ap, subst, arith}
+use Rattle.std.proofs.Common.{◌≡◌, ℕ, zero, suc, ◌+◌, ◌≤◌, List, [], ◌∷◌, ◌++◌, length, sym, refl, ap, subst, arith}
 use mathlib.Core.Option.{some, some-injective, some-ne-none}
 use lib.ListN.{get_elem?}
-use Rattle.steal_workers.specs.Items.{weigh}
+use Rattle.list_weights.specs.Weights.{weigh}
+use Rattle.list_weights.proofs.Weights.{weigh_below}
 
 module _ {X : Type 0} where
-  pub weigh-append : (h : X → ℕ) (xs ys : List X) → weigh h (xs ++ ys) ≡ weigh h xs + weigh h ys
-  weigh-append h [] ys = omega arith
-  weigh-append h (x ∷ xs) ys = omega (arith, weigh-append h xs ys)
-
-  -- one member changes
-  pub weigh-set : (f : X → ℕ) (xs : List X) (i : ℕ) (v w : X) → get_elem? xs i ≡ some v → weigh f (set xs i w) + f v ≡ weigh f xs + f w
-  weigh-set f [] i v w e = absurd (some-ne-none v (sym e))
-  weigh-set f (x ∷ xs) zero v w e = let same : f x ≡ f v = ap f (some-injective x v e) in omega arith
-  weigh-set f (x ∷ xs) (suc i) v w e = omega (arith, weigh-set f xs i v w e)
-
-  -- a member weighs no more than all
-  pub weigh_part : (f : X → ℕ) (xs : List X) (i : ℕ) (v : X) → get_elem? xs i ≡ some v → f v ≤ weigh f xs
-  weigh_part f [] i v e = absurd (some-ne-none v (sym e))
-  weigh_part f (x ∷ xs) zero v e = let same : f x ≡ f v = ap f (some-injective x v e) in omega arith
-  weigh_part f (x ∷ xs) (suc i) v e = omega (arith, weigh_part f xs i v e)
-
-  -- nor do two
-  pub weigh_two : (f : X → ℕ) (xs : List X) (i j : ℕ) (v u : X) → j ≢ i → get_elem? xs i ≡ some v → get_elem? xs j ≡ some u → f v + f u ≤ weigh f xs
-  weigh_two f [] i j v u ne at to = absurd (some-ne-none v (sym at))
-  weigh_two f (x ∷ xs) zero zero v u ne at to = absurd (ne refl)
-  weigh_two f (x ∷ xs) zero (suc j) v u ne at to = let same : f x ≡ f v = ap f (some-injective x v at) in omega (arith, weigh_part f xs j u to)
-  weigh_two f (x ∷ xs) (suc i) zero v u ne at to = let same : f x ≡ f u = ap f (some-injective x u to) in omega (arith, weigh_part f xs i v at)
-  weigh_two f (x ∷ xs) (suc i) (suc j) v u ne at to = omega (arith, weigh_two f xs i j v u (λ e. ne (ap suc e)) at to)
-
-  weigh_nothing : (f : X → ℕ) (xs : List X) → ((j : ℕ) (u : X) → get_elem? xs j ≡ some u → f u ≡ 0) → weigh f xs ≡ 0
-  weigh_nothing f [] none = refl
-  weigh_nothing f (x ∷ xs) none = let here : f x ≡ 0 = none 0 x refl in omega (arith, weigh_nothing f xs (λ j u at. none (suc j) u at))
-
-  -- where one member has all shares, and who has none weighs nothing, that one weighs what all do
-  pub weigh_alone : (f share : X → ℕ) (xs : List X) (i : ℕ) (v : X) → get_elem? xs i ≡ some v → weigh share xs ≡ share v
-      → ((j : ℕ) (u : X) → get_elem? xs j ≡ some u → share u ≡ 0 → f u ≡ 0) → weigh f xs ≡ f v
-  weigh_alone f share [] i v at all idle = absurd (some-ne-none v (sym at))
-  weigh_alone f share (x ∷ xs) zero v at all idle =
-      let same : f x ≡ f v = ap f (some-injective x v at) in
-      let theirs : share x ≡ share v = ap share (some-injective x v at) in
-      let rest : weigh f xs ≡ 0 = weigh_nothing f xs (λ j u to. let p = weigh_part share xs j u to in idle (suc j) u to (omega arith)) in
-      omega arith
-  weigh_alone f share (x ∷ xs) (suc i) v at all idle =
-      let p = weigh_part share xs i v at in
-      let here : f x ≡ 0 = idle 0 x refl (omega arith) in
-      let rest = weigh_alone f share xs i v at (omega arith) (λ j u to. idle (suc j) u to) in
-      omega arith
-
-  weigh_below : (f g : X → ℕ) (xs : List X) → ((j : ℕ) (u : X) → get_elem? xs j ≡ some u → f u ≤ g u) → weigh f xs ≤ weigh g xs
-  weigh_below f g [] below = omega arith
-  weigh_below f g (x ∷ xs) below = let here = below 0 x refl in omega (arith, weigh_below f g xs (λ j u to. below (suc j) u to))
-
   -- where no member weighs more by f than by g, and all weigh the same, each weighs the same
   pub weigh_level : (f g : X → ℕ) (xs : List X) (i : ℕ) (v : X) → get_elem? xs i ≡ some v → weigh g xs ≤ weigh f xs
       → ((j : ℕ) (u : X) → get_elem? xs j ≡ some u → f u ≤ g u) → g v ≤ f v

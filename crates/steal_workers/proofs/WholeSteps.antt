@@ -6,13 +6,14 @@ use Rattle.std.proofs.lemmas.List.Sorted.{IsPermutation-swap_remove, length_perm
 use Rattle.steal_workers.specs.declared.item.Item.{Item}
 use Rattle.steal_workers.specs.declared.hand.Hand.{Hand}
 use Rattle.steal_workers.specs.declared.share.Share.{Share}
-use Rattle.steal_workers.specs.Items.{weigh}
+use Rattle.list_weights.specs.Weights.{weigh}
 use Rattle.steal_workers.specs.Ends.{deque_of, hand_of, is_own}
 use Rattle.steal_workers.specs.Shares.{IsShare, dealt_to, taken_from}
 use Rattle.steal_workers.specs.Backs.{one_if, own_weight, IsWholeColumn, IsBack}
 use Rattle.steal_workers.specs.Gathers.{share_taken}
 use Rattle.steal_workers.proofs.ShareLists.{all_tail}
-use Rattle.steal_workers.proofs.GatherSteps.{weigh-permutation, others}
+use Rattle.list_weights.proofs.Permutations.{weigh-permutation}
+use Rattle.steal_workers.proofs.GatherSteps.{others}
 
 module _ {T : Type 0} where
   -- the owner's share x is out of the column xs, and the rest are others'

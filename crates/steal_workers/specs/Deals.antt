@@ -1,15 +1,11 @@
 -- A deal of tasks over the deques of seats.
-use Rattle.std.specs.Prelude.{◌≡◌, ℕ, zero, suc, ◌<◌, List, [], ◌∷◌, ◌++◌, length, slice_get, slice_index_or, Some}
+use Rattle.std.specs.Prelude.{◌≡◌, ℕ, ◌<◌, List, [], length, slice_get, slice_index_or, Some}
 use Rattle.std.specs.declared.alloc.Global.{Global}
 use Rattle.atomic_blocks.specs.Lent.{RowsId}
 use Rattle.steal_workers.specs.declared.item.Item.{Item}
 use Rattle.steal_workers.specs.declared.item.Item.TheVariants.{Task}
-use Rattle.steal_workers.specs.Items.{weigh, marks, number_weight, Stands, MarksLast}
-
--- the numbers below n, in order
-abbrev pub numbers_below : ℕ → List ℕ
-numbers_below zero = []
-numbers_below (suc n) = numbers_below n ++ n ∷ []
+use Rattle.list_weights.specs.Weights.{weigh, numbers_below}
+use Rattle.steal_workers.specs.Items.{marks, number_weight, Stands, MarksLast}
 
 -- Which deal it is: its deques, one for each seat, and what was dealt to each. And the dealt tasks, in their order.
 pub record Deal (T : Type 0) : Type 0 where

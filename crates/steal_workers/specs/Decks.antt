@@ -6,8 +6,8 @@ use Rattle.steal_workers.specs.declared.item.Item.{Item}
 use Rattle.steal_workers.specs.declared.item.Item.TheVariants.{Task, Mark}
 use Rattle.steal_workers.specs.declared.deck.Deck.{Deck}
 use Rattle.crossbeam_deque.specs.declared.handles.Stealer.{Stealer}
-use Rattle.steal_workers.specs.Items.{weigh, marks, number_weight, Stands}
-use Rattle.steal_workers.specs.Deals.{numbers_below}
+use Rattle.list_weights.specs.Weights.{weigh, numbers_below}
+use Rattle.steal_workers.specs.Items.{marks, number_weight, Stands}
 use Rattle.steal_workers.specs.OneDeque.{after_push}
 
 -- F of each place and the member there

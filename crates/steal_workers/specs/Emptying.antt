@@ -3,8 +3,8 @@ use Rattle.std.specs.Prelude.{◌≡◌, ℕ, ◌+◌, ◌<◌, ◌≤◌, ◌==
 use Rattle.steal_workers.specs.declared.item.Item.{Item}
 use Rattle.steal_workers.specs.declared.item.Numbered.{Numbered}
 use Rattle.steal_workers.specs.declared.seat.Stack.{Stack}
-use Rattle.steal_workers.specs.Items.{weigh, number_weight}
-use Rattle.steal_workers.specs.Deals.{numbers_below}
+use Rattle.list_weights.specs.Weights.{weigh, numbers_below}
+use Rattle.steal_workers.specs.Items.{number_weight}
 use Rattle.steal_workers.specs.SeatViews.{SeatView, seat_count}
 use Rattle.steal_workers.specs.WholeDeals.{common_deal}
 use Rattle.steal_workers.specs.Backs.{one_if}

@@ -6,10 +6,10 @@ use Rattle.steal_workers.specs.declared.item.Item.{Item}
 use Rattle.steal_workers.specs.declared.item.Numbered.{Numbered}
 use Rattle.steal_workers.specs.declared.share.Share.{Share}
 use Rattle.steal_workers.specs.declared.seat.Stack.{Stack}
-use Rattle.steal_workers.specs.Items.{weigh}
+use Rattle.list_weights.specs.Weights.{weigh, numbers_below}
 use Rattle.steal_workers.specs.Ends.{deque_of, is_own}
 use Rattle.steal_workers.specs.Shares.{IsShare, dealt_to, taken_from}
-use Rattle.steal_workers.specs.Deals.{Deal, numbers_below}
+use Rattle.steal_workers.specs.Deals.{Deal}
 use Rattle.steal_workers.specs.SeatViews.{SeatView, HasMark}
 use Rattle.steal_workers.specs.WholeDeals.{common_deal}
 use Rattle.steal_workers.specs.Decks.{EachAt}

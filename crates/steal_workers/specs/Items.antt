@@ -1,14 +1,10 @@
 -- What is said of the items of a deque.
-use Rattle.std.specs.Prelude.{◌≡◌, ℕ, ◌+◌, List, [], ◌∷◌}
+use Rattle.std.specs.Prelude.{◌≡◌, ℕ, List, [], ◌∷◌}
 use mathlib.Core.Option.{some}
 use lib.ListN.{get_elem?}
+use Rattle.list_weights.specs.Weights.{weigh}
 use Rattle.steal_workers.specs.declared.item.Item.{Item}
 use Rattle.steal_workers.specs.declared.item.Item.TheVariants.{Task, Mark}
-
--- the weights of a list's members, added up
-abbrev pub weigh : {X : Type 0} → (X → ℕ) → List X → ℕ
-weigh h [] = 0
-weigh h (x ∷ xs) = h x + weigh h xs
 
 module _ {T : Type 0} where
   abbrev pub mark_weight : Item T → ℕ

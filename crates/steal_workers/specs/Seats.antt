@@ -2,7 +2,7 @@
 use Rattle.std.specs.Prelude.{◌≡◌, ℕ, ◌<◌, ◌≤◌, ◌==◌, false, map, length, slice_index_or, All}
 use Rattle.steal_workers.specs.declared.share.Share.{Share}
 use Rattle.steal_workers.specs.declared.seat.Seat.TheInside.{Inside}
-use Rattle.steal_workers.specs.Items.{weigh}
+use Rattle.list_weights.specs.Weights.{weigh}
 use Rattle.steal_workers.specs.Ends.{deque_of}
 use Rattle.steal_workers.specs.Shares.{dealt_to, is_own_share, is_marked, IsShare, taken_weights}
 use Rattle.steal_workers.specs.Deals.{Deal, IsDealt}

@@ -5,7 +5,8 @@ use Rattle.steal_workers.specs.declared.item.Item.TheVariants.{Task as task_item
 use Rattle.steal_workers.specs.declared.share.Share.{Share}
 use Rattle.steal_workers.specs.declared.share.Step.{Step}
 use Rattle.steal_workers.specs.declared.share.Step.TheVariants.{Task, Marked, Lost}
-use Rattle.steal_workers.specs.Items.{weigh, marks, number_weight, Stands}
+use Rattle.list_weights.specs.Weights.{weigh}
+use Rattle.steal_workers.specs.Items.{marks, number_weight, Stands}
 use Rattle.steal_workers.specs.Ends.{deque_of, hand_of, is_own, IsFit}
 
 abbrev pub mark_count : Bool → ℕ

@@ -4,7 +4,8 @@ use Rattle.steal_workers.specs.declared.item.Item.{Item}
 use Rattle.steal_workers.specs.declared.item.Item.TheVariants.{Task, Mark}
 use Rattle.steal_workers.specs.declared.item.Numbered.{Numbered}
 use Rattle.steal_workers.specs.declared.hand.Hand.{Hand}
-use Rattle.steal_workers.specs.Items.{weigh, marks, number_weight, Stands}
+use Rattle.list_weights.specs.Weights.{weigh}
+use Rattle.steal_workers.specs.Items.{marks, number_weight, Stands}
 use Rattle.steal_workers.specs.OneDeque.{Took}
 
 module _ {T : Type 0} where

@@ -1,6 +1,7 @@
 -- All seats of one deal.
 use Rattle.std.specs.Prelude.{◌≡◌, ℕ, List, [], ◌∷◌, map, length, All, IsPermutation}
-use Rattle.steal_workers.specs.Deals.{Deal, numbers_below}
+use Rattle.list_weights.specs.Weights.{numbers_below}
+use Rattle.steal_workers.specs.Deals.{Deal}
 use Rattle.steal_workers.specs.SeatViews.{SeatView, seat_count, HasMark}
 
 module _ {T : Type 0} where

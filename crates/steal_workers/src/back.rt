@@ -9,7 +9,7 @@ pub struct TakeAll;
 impl<T> Outcome<Item<T>, Hand<T>> for TakeAll {
     ghost use Rattle.std.specs.Prelude.{◌≡◌, ℕ};
     ghost use Rattle.steal_workers.specs.declared.item.Item.{Item};
-    ghost use Rattle.steal_workers.specs.Items.{weigh};
+    ghost use Rattle.list_weights.specs.Weights.{weigh};
     ghost use Rattle.steal_workers.specs.TookBack.{TookBack};
 
     ghost then = { TookBack };

@@ -3,7 +3,7 @@ ghost use Rattle.std.specs.Prelude.{◌≡◌, ℕ, ◌<◌, ◌≤◌, MatchOpt
 ghost use Rattle.steal_workers.specs.Answers.{Answers};
 ghost use Rattle.steal_workers.specs.Deals.{IsDealt};
 ghost use Rattle.steal_workers.specs.Gathers.{IsStack};
-ghost use Rattle.steal_workers.specs.Items.{weigh};
+ghost use Rattle.list_weights.specs.Weights.{weigh};
 ghost use Rattle.steal_workers.specs.SeatViews.{IsSameSeat, HasMark, seat_count};
 ghost use Rattle.steal_workers.specs.Shares.{is_marked, dealt_to, taken_weights, AllMarked};
 ghost use Rattle.steal_workers.specs.Unused.{IsUnused, unused_view};

@@ -4,11 +4,11 @@ use Rattle.atomic_blocks.specs.Lent.{RowsId}
 use Rattle.crossbeam_deque.specs.Handles.{IsPassOf, worker_deque, worker_view, view}
 use Rattle.steal_workers.specs.declared.hand.Hand.{Hand}
 use Rattle.steal_workers.specs.declared.share.Share.{Share}
-use Rattle.steal_workers.specs.Items.{weigh}
+use Rattle.list_weights.specs.Weights.{weigh}
 use Rattle.steal_workers.specs.Ends.{deque_of, is_own}
 use Rattle.steal_workers.specs.Shares.{IsShare}
 use Rattle.steal_workers.specs.Gathers.{share_taken}
-use Rattle.steal_workers.proofs.Weights.{weigh-append}
+use Rattle.list_weights.proofs.Weights.{weigh-append}
 use Rattle.steal_workers.proofs.Steps.{merges}
 use Rattle.steal_workers.proofs.GatherSteps.{all_split, nil_if}
 use Rattle.steal_workers.proofs.WholeSteps.{IsOwnerOut, owner_out, all_back}

@@ -1,5 +1,5 @@
 use Rattle.std.proofs.Common.{ap, ◌∙◌}
-use Rattle.steal_workers.specs.Items.{weigh}
+use Rattle.list_weights.specs.Weights.{weigh}
 use Rattle.steal_workers.proofs.UnusedLemmas.{unused_shares, unused_own, unused_numbers}
 use Rattle.steal_workers.proofs.seat.Seat.new.Goals as goal
 

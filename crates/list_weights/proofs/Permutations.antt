@@ -6,14 +6,14 @@ use Rattle.std.specs.List.{sum_by, remove}
 use Rattle.std.specs.List.Sorted.{IsPermutation}
 use Rattle.std.proofs.lemmas.List.Sums.{sum_by-cons}
 use Rattle.std.proofs.lemmas.List.Sorted.{IsPermutation-refl, IsPermutation-cons, IsPermutation-sym, IsPermutation-trans, IsPermutation-remove, sum_by-IsPermutation}
-use Rattle.host_inbox.specs.Entries.{weigh}
-use Rattle.host_inbox.proofs.Weights.{is_number, is_itself, is_other}
+use Rattle.list_weights.specs.Weights.{weigh}
+use Rattle.list_weights.proofs.Weights.{is_number, is_itself, is_other}
 
 weigh_is_sum : {X : Type 0} (f : X → ℕ) (xs : List X) → weigh f xs ≡ sum_by f xs
 weigh_is_sum f [] = refl
 weigh_is_sum f (x ∷ xs) = ap (λ n. f x + n) (weigh_is_sum f xs) ∙ sym (sum_by-cons f x xs)
 
-pub weigh-permutation : (f : ℕ → ℕ) (xs ys : List ℕ) → IsPermutation xs ys → weigh f ys ≡ weigh f xs
+pub weigh-permutation : {X : Type 0} (f : X → ℕ) (xs ys : List X) → IsPermutation xs ys → weigh f ys ≡ weigh f xs
 weigh-permutation f xs ys p = weigh_is_sum f ys ∙ sum_by-IsPermutation f xs ys p ∙ sym (weigh_is_sum f xs)
 
 find_number : (x : ℕ) (ys : List ℕ) → 0 < weigh (is_number x) ys → (i : ℕ) × (i < length ys) × (x ≡ get_or ys i x)

@@ -1,0 +1,12 @@
+-- What lists weigh, and the lists of the first numbers.
+use Rattle.std.specs.Prelude.{ℕ, zero, suc, ◌+◌, List, [], ◌∷◌, ◌++◌}
+
+-- the weights of a list's members, added up
+abbrev pub weigh : {X : Type 0} → (X → ℕ) → List X → ℕ
+weigh h [] = 0
+weigh h (x ∷ xs) = h x + weigh h xs
+
+-- the numbers below n, in order
+abbrev pub numbers_below : ℕ → List ℕ
+numbers_below zero = []
+numbers_below (suc n) = numbers_below n ++ n ∷ []
