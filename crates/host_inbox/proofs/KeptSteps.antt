@@ -11,7 +11,7 @@ use Rattle.list_weights.specs.Weights.{weigh, numbers_below}
 use Rattle.host_inbox.specs.Entries.{only, entry_weight}
 use Rattle.host_inbox.specs.Drains.{EachAt, numbers_of, IsInboxOf, IsDrained}
 use Rattle.host_inbox.specs.Kept.{back_weight, AreKept}
-use Rattle.list_weights.proofs.Weights.{weigh-append}
+use Rattle.list_weights.proofs.Weights.{weigh-append, weigh_only}
 use Rattle.list_weights.proofs.Permutations.{weigh-permutation}
 use Rattle.host_inbox.proofs.CloseSteps.{numbers_weigh}
 
@@ -29,21 +29,8 @@ no_weight [] = refl
 no_weight (x ∷ xs) = omega (arith, no_weight xs)
 
 -- a host stands once among all
-none_past : (d m n : ℕ) → n ≤ d → weigh (λ p. only (d == p) m) (numbers_below n) ≡ 0
-none_past d m zero le = refl
-none_past d m (suc n) le =
-    let last : only (d == n) m ≡ 0 = ap (λ b. only b m) (ne_eqb d n (λ e. absurd (omega arith))) in
-    omega (arith, weigh-append (λ p. only (d == p) m) (numbers_below n) (n ∷ []), none_past d m n (omega arith))
-
 once_in : (d m n : ℕ) → d < n → weigh (λ p. only (d == p) m) (numbers_below n) ≡ m
-once_in d m zero w = absurd (omega arith)
-once_in d m (suc n) w = dite (ℕ_discrete d n)
-    (λ (e : d ≡ n).
-    let last : only (d == n) m ≡ m = ap (λ b. only b m) (eq-eqb d n e) in
-    omega (arith, weigh-append (λ p. only (d == p) m) (numbers_below n) (n ∷ []), none_past d m n (omega arith)))
-    (λ (ne : d ≢ n).
-    let last : only (d == n) m ≡ 0 = ap (λ b. only b m) (ne_eqb d n ne) in
-    omega (arith, weigh-append (λ p. only (d == p) m) (numbers_below n) (n ∷ []), once_in d m n (omega arith)))
+once_in d m n within = weigh_only (λ p. only (d == p) m) d n within (λ p ne. ap (λ b. only b m) (ne_eqb d p ne)) ∙ ap (λ b. only b m) (eq-eqb d d refl)
 
 lt_true : (a b : ℕ) → a < b → nat_lt a b ≡ true
 lt_true a b h = grind (arith, nat_tests)

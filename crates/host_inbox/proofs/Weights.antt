@@ -1,41 +1,23 @@
 -- Weights of lists and of the numbers below a number.
-use Rattle.std.proofs.Common.{◌≡◌, ◌≢◌, ℕ, zero, suc, ◌+◌, ◌*◌, ◌<◌, ◌≤◌, List, [], ◌∷◌, ◌++◌, refl, ap, ◌∙◌, arith}
+use Rattle.std.proofs.Common.{◌≡◌, ℕ, zero, suc, ◌+◌, ◌*◌, ◌<◌, ◌≤◌, List, [], ◌∷◌, ◌++◌, sym, refl, ap, ◌∙◌, lt_of_not-le, arith}
 use mathlib.Core.Logic.{dite}
-use native.Mathlib.Decide.{ℕ_discrete}
+use native.Mathlib.Decide.{dec_le}
 use Rattle.list_weights.specs.Weights.{weigh, numbers_below}
-use Rattle.list_weights.proofs.Weights.{weigh-append, is_number, is_itself, is_other}
+use Rattle.list_weights.proofs.Weights.{weigh-append, is_number, is_itself, is_other, weigh_past, weigh_only}
 
 pub weigh-times : {X : Type 0} (f : X → ℕ) (xs : List X) → weigh (λ x. f x * 4294967296) xs ≡ weigh f xs * 4294967296
 weigh-times f [] = refl
 weigh-times f (x ∷ xs) = omega (arith, weigh-times f xs)
 
-none_above : (n k : ℕ) → k ≤ n → weigh (is_number n) (numbers_below k) ≡ 0
-none_above n zero le = refl
-none_above n (suc k) le =
-    let last : is_number n k ≡ 0 = is_other n k (λ e. absurd (omega arith)) in
-    omega (arith, weigh-append (is_number n) (numbers_below k) (k ∷ []), none_above n k (omega arith))
-
--- no number stands twice among those below k
-pub at_most_once : (n k : ℕ) → weigh (is_number n) (numbers_below k) ≤ 1
-at_most_once n zero = omega arith
-at_most_once n (suc k) = dite (ℕ_discrete k n)
-    (λ (e : k ≡ n).
-    let last : is_number n k ≡ 1 = ap (is_number n) e ∙ is_itself n in
-    omega (arith, weigh-append (is_number n) (numbers_below k) (k ∷ []), none_above n k (omega arith)))
-    (λ (ne : k ≢ n).
-    let last : is_number n k ≡ 0 = is_other n k ne in
-    omega (arith, weigh-append (is_number n) (numbers_below k) (k ∷ []), at_most_once n k))
-
--- and each does once
+-- each number below k stands once among those below k
 pub just_once : (n k : ℕ) → n < k → weigh (is_number n) (numbers_below k) ≡ 1
-just_once n zero w = absurd (omega arith)
-just_once n (suc k) w = dite (ℕ_discrete k n)
-    (λ (e : k ≡ n).
-    let last : is_number n k ≡ 1 = ap (is_number n) e ∙ is_itself n in
-    omega (arith, weigh-append (is_number n) (numbers_below k) (k ∷ []), none_above n k (omega arith)))
-    (λ (ne : k ≢ n).
-    let last : is_number n k ≡ 0 = is_other n k ne in
-    omega (arith, weigh-append (is_number n) (numbers_below k) (k ∷ []), just_once n k (omega arith)))
+just_once n k within = weigh_only (is_number n) n k within (λ p ne. is_other n p (λ e. ne (sym e))) ∙ is_itself n
+
+-- no number stands twice among them
+pub at_most_once : (n k : ℕ) → weigh (is_number n) (numbers_below k) ≤ 1
+at_most_once n k = dite (dec_le k n)
+    (λ (le : k ≤ n). let none = weigh_past (is_number n) n k le (λ p ne. is_other n p (λ e. ne (sym e))) in omega arith)
+    (λ (more : (k ≤ n) → ⊥). let one = just_once n k (lt_of_not-le more) in omega arith)
 
 -- so many numbers
 pub count_below : (k : ℕ) → weigh (λ _. 1) (numbers_below k) ≡ k

@@ -1,8 +1,10 @@
 -- Weights of lists.
-use Rattle.std.proofs.Common.{◌≡◌, ◌≢◌, ℕ, zero, suc, ◌+◌, ◌≤◌, ◌==◌, Bool, true, false, List, [], ◌∷◌, ◌++◌, set, sym, refl, ap, eq-eqb, ne_eqb, arith}
+use Rattle.std.proofs.Common.{◌≡◌, ◌≢◌, ℕ, zero, suc, ◌+◌, ◌<◌, ◌≤◌, ◌==◌, Bool, true, false, List, [], ◌∷◌, ◌++◌, set, sym, refl, ap, eq-eqb, ne_eqb, arith}
 use mathlib.Core.Option.{some, some-injective, some-ne-none}
 use lib.ListN.{get_elem?}
-use Rattle.list_weights.specs.Weights.{weigh}
+use mathlib.Core.Logic.{dite}
+use native.Mathlib.Decide.{ℕ_discrete}
+use Rattle.list_weights.specs.Weights.{weigh, numbers_below}
 
 module _ {X : Type 0} where
   pub weigh-append : (h : X → ℕ) (xs ys : List X) → weigh h (xs ++ ys) ≡ weigh h xs + weigh h ys
@@ -68,3 +70,21 @@ is_itself n = ap one (eq-eqb n n refl)
 pub is_other : (n m : ℕ) → m ≢ n → is_number n m ≡ 0
 unfolding is_number
 is_other n m ne = ap one (ne_eqb m n ne)
+
+-- where every number but one weighs nothing, so do the numbers below n of which it is none
+pub weigh_past : (f : ℕ → ℕ) (d n : ℕ) → n ≤ d → ((p : ℕ) → d ≢ p → f p ≡ 0) → weigh f (numbers_below n) ≡ 0
+weigh_past f d zero le others = refl
+weigh_past f d (suc n) le others =
+    let last : f n ≡ 0 = others n (λ e. absurd (omega arith)) in
+    omega (arith, weigh-append f (numbers_below n) (n ∷ []), weigh_past f d n (omega arith) others)
+
+-- and where it is one of them, they weigh what it does
+pub weigh_only : (f : ℕ → ℕ) (d n : ℕ) → d < n → ((p : ℕ) → d ≢ p → f p ≡ 0) → weigh f (numbers_below n) ≡ f d
+weigh_only f d zero w others = absurd (omega arith)
+weigh_only f d (suc n) w others = dite (ℕ_discrete d n)
+    (λ (e : d ≡ n).
+    let last : f n ≡ f d = ap f (sym e) in
+    omega (arith, weigh-append f (numbers_below n) (n ∷ []), weigh_past f d n (omega arith) others))
+    (λ (ne : d ≢ n).
+    let last : f n ≡ 0 = others n ne in
+    omega (arith, weigh-append f (numbers_below n) (n ∷ []), weigh_only f d n (omega arith) others))

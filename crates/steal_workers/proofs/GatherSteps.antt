@@ -1,9 +1,7 @@
 -- Gathering, step by step.
-use Rattle.std.proofs.Common.{◌≡◌, ◌≢◌, ℕ, zero, suc, ◌+◌, ◌<◌, ◌≤◌, ◌==◌, Bool, true, false, List, [], ◌∷◌, ◌++◌, map, length, get_or, set, All, sym, refl, ap, ◌∙◌, subst, eq-eqb, ne_eqb, length-append, arith}
+use Rattle.std.proofs.Common.{◌≡◌, ℕ, zero, suc, ◌+◌, ◌<◌, ◌==◌, Bool, true, false, List, [], ◌∷◌, ◌++◌, map, length, get_or, set, All, sym, refl, ap, ◌∙◌, subst, eq-eqb, ne_eqb, length-append, arith}
 use mathlib.Core.Option.{some}
 use lib.ListN.{get_elem?}
-use mathlib.Core.Logic.{dite}
-use native.Mathlib.Decide.{ℕ_discrete}
 use Rattle.std.proofs.lemmas.List.{length-map}
 use Rattle.crossbeam_deque.proofs.Lists.{at_index}
 use Rattle.steal_workers.specs.declared.item.Item.{Item}
@@ -14,7 +12,7 @@ use Rattle.steal_workers.specs.Ends.{is_own}
 use Rattle.steal_workers.specs.Deals.{Deal}
 use Rattle.steal_workers.specs.Backs.{one_if, own_weight}
 use Rattle.steal_workers.specs.Gathers.{joined, IsShareAt, IsStack, PopsEach, share_taken, stack_taken, all_taken, places}
-use Rattle.list_weights.proofs.Weights.{weigh-append, weigh-set}
+use Rattle.list_weights.proofs.Weights.{weigh-append, weigh-set, weigh_only}
 use Rattle.steal_workers.proofs.ShareLists.{all_head, all_tail, all_cons, all_none}
 
 module _ {X : Type 0} where
@@ -38,23 +36,7 @@ module _ {X : Type 0} where
 
 -- each number below n stands there once
 pub once_below : (d n : ℕ) → d < n → weigh (λ p. one_if (d == p)) (numbers_below n) ≡ 1
-once_below d n within = go n within
-  where
-    none_above : (n : ℕ) → n ≤ d → weigh (λ p. one_if (d == p)) (numbers_below n) ≡ 0
-    none_above zero le = refl
-    none_above (suc n) le =
-        let last : one_if (d == n) ≡ 0 = ap one_if (ne_eqb d n (λ e. absurd (omega arith))) in
-        omega (arith, weigh-append (λ p. one_if (d == p)) (numbers_below n) (n ∷ []), none_above n (omega arith))
-
-    go : (n : ℕ) → d < n → weigh (λ p. one_if (d == p)) (numbers_below n) ≡ 1
-    go zero w = absurd (omega arith)
-    go (suc n) w = dite (ℕ_discrete d n)
-        (λ (e : d ≡ n).
-        let last : one_if (d == n) ≡ 1 = ap one_if (eq-eqb d n e) in
-        omega (arith, weigh-append (λ p. one_if (d == p)) (numbers_below n) (n ∷ []), none_above n (omega arith)))
-        (λ (ne : d ≢ n).
-        let last : one_if (d == n) ≡ 0 = ap one_if (ne_eqb d n ne) in
-        omega (arith, weigh-append (λ p. one_if (d == p)) (numbers_below n) (n ∷ []), go n (omega arith)))
+once_below d n within = weigh_only (λ p. one_if (d == p)) d n within (λ p ne. ap one_if (ne_eqb d p ne)) ∙ ap one_if (eq-eqb d d refl)
 
 pub weigh-joined : {X : Type 0} (h : X → ℕ) (xss : List (List X)) → weigh h (joined xss) ≡ weigh (weigh h) xss
 weigh-joined h [] = refl
