@@ -1,12 +1,2 @@
-pub mod Numbers
-pub mod Phases
-pub mod Parts
-pub mod Pieces
-pub mod SendText
-pub mod States
-pub mod Advance
-pub mod Received
-pub mod ProcessCalls
-pub mod Places
 pub mod ListenActs
 pub mod ListenEnds

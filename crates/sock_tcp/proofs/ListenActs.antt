@@ -5,18 +5,20 @@ use Rattle.std.proofs.lemmas.Option.{slice_get_past}
 use Rattle.std.proofs.lemmas.Bool.Decides.{nat_tests}
 use Rattle.sim_base.specs.declared.address.Addr.{Addr}
 use Rattle.sim_base.specs.declared.packet.Packet.{Packet}
-use Rattle.sock_tcp.specs.declared.header.Header.{Header}
-use Rattle.sock_tcp.specs.declared.conn.Conn.{Conn}
-use Rattle.sock_tcp.specs.declared.effects.Effects.{Effects}
+use Rattle.tcp_segment.specs.declared.control.Control.{Control}
+use Rattle.tcp_segment.specs.declared.header.Header.{Header}
+use Rattle.tcp_record.specs.declared.conn.Conn.{Conn}
+use Rattle.tcp_record.specs.declared.effects.Effects.{Effects}
 use Rattle.sock_tcp.specs.declared.listener.Listener.{Listener}
-use Rattle.sock_tcp.specs.State.{is_over}
-use Rattle.sock_tcp.specs.Tcb.{Tcb, Turn}
-use Rattle.sock_tcp.specs.Begin.{begin}
-use Rattle.sock_tcp.specs.Listen.{Listen, Heard, place_in, replaced, settled, opening_heard, whole_heard, nothing_heard, opening_acts, whole_acts, kept_acts, load_header, header_makes, makes_record, takes_word, opening_made, asked}
-use Rattle.sock_tcp.specs.Process.{answered}
-use Rattle.sock_tcp.specs.StandsFor.{StandsFor, Gives, Follows}
-use Rattle.sock_tcp.specs.ListensFor.{StandsAll, ListensFor, Tells}
-use Rattle.sock_tcp.proofs.Places.{record_at, stands_at, stands_set, stands_push, stands_remove, slice_get-set}
+use Rattle.tcp_segment.specs.State.{is_over}
+use Rattle.tcp_record.specs.Tcb.{Tcb, Turn}
+use Rattle.tcp_record.specs.Begin.{begin}
+use Rattle.sock_tcp.specs.Listen.{Listen, Heard, replaced, settled, opening_heard, whole_heard, nothing_heard, opening_acts, whole_acts, kept_acts, load_header, header_makes, makes_record, takes_word, opening_made, asked}
+use Rattle.tcp_record.specs.Pairs.{place_in}
+use Rattle.tcp_record.specs.Process.{answered}
+use Rattle.tcp_record.specs.StandsFor.{StandsFor, Gives, Follows, StandsAll}
+use Rattle.sock_tcp.specs.ListensFor.{ListensFor, Tells}
+use Rattle.tcp_record.proofs.Places.{record_at, stands_at, stands_set, stands_push, stands_remove, slice_get-set}
 
 -- the branches of settling
 settled-whole : (place : ℕ) (r : Tcb) (l : Listen) → r.control.was_established ≡ true → settled place r l ≡ record l { opening = remove l.opening place; whole = l.whole ++ r ∷ [] }
@@ -44,10 +46,10 @@ at_place k l place r c h e is = subst (λ (x : Conn). StandsFor x r) (sym is) (s
 pub at_whole : (k : Listener) (l : Listen) (place : ℕ) (r : Tcb) (c : Conn) → ListensFor k l → slice_get l.whole place ≡ Some r → c ≡ get_or k.whole.items place c → StandsFor c r
 at_whole k l place r c h e is = subst (λ (x : Conn). StandsFor x r) (sym is) (stands_at k.whole.items l.whole place r c h.whole e)
 
-pub listens_whole : (k k' : Listener) (l : Listen) (place : ℕ) (r : Tcb) (seen conn : Conn) → ListensFor k l → slice_get l.opening place ≡ Some r → seen ≡ get_or k.opening.items place seen → seen.control.was_established ≡ true → conn ≡ get_or k.opening.items place conn → k'.local ≡ k.local → k'.limit ≡ k.limit → k'.opening.items ≡ remove k.opening.items place → k'.whole.items ≡ k.whole.items ++ conn ∷ [] → ListensFor k' (settled place r l)
-listens_whole k k' l place r seen conn h e is b cis local limit opening whole =
-    let s = at_place k l place r seen h e is in
-    let b' : r.control.was_established ≡ true = sym (ap (λ x. x.was_established) s.control) ∙ b in
+pub listens_whole : (k k' : Listener) (l : Listen) (place : ℕ) (r : Tcb) (seen conn : Conn) (control : Control) → ListensFor k l → slice_get l.opening place ≡ Some r → seen ≡ get_or k.opening.items place seen → ((x : Tcb) → StandsFor seen x → control ≡ x.control) → control.was_established ≡ true → conn ≡ get_or k.opening.items place conn → k'.local ≡ k.local → k'.limit ≡ k.limit → k'.opening.items ≡ remove k.opening.items place → k'.whole.items ≡ k.whole.items ++ conn ∷ [] → ListensFor k' (settled place r l)
+listens_whole k k' l place r seen conn control h e is c b cis local limit opening whole =
+    let s = c r (at_place k l place r seen h e is) in
+    let b' : r.control.was_established ≡ true = sym (ap (λ x. x.was_established) s) ∙ b in
     subst (λ (m : Listen). ListensFor k' m) (sym (settled-whole place r l b'))
     (record {
       local = local ∙ h.local;
@@ -56,11 +58,11 @@ listens_whole k k' l place r seen conn h e is b cis local limit opening whole =
       whole = subst (λ (xs : List Conn). StandsAll xs (l.whole ++ r ∷ [])) (sym whole) (stands_push k.whole.items l.whole conn r h.whole (at_place k l place r conn h e cis));
     })
 
-pub listens_gone : (k k' : Listener) (l : Listen) (place : ℕ) (r : Tcb) (seen : Conn) → ListensFor k l → slice_get l.opening place ≡ Some r → seen ≡ get_or k.opening.items place seen → seen.control.was_established ≡ false → is_over seen.control.state ≡ true → k'.local ≡ k.local → k'.limit ≡ k.limit → k'.opening.items ≡ remove k.opening.items place → k'.whole.items ≡ k.whole.items → ListensFor k' (settled place r l)
-listens_gone k k' l place r seen h e is b o local limit opening whole =
-    let s = at_place k l place r seen h e is in
-    let b' : r.control.was_established ≡ false = sym (ap (λ x. x.was_established) s.control) ∙ b in
-    let o' : is_over r.control.state ≡ true = sym (ap (λ x. is_over x.state) s.control) ∙ o in
+pub listens_gone : (k k' : Listener) (l : Listen) (place : ℕ) (r : Tcb) (seen : Conn) (control : Control) → ListensFor k l → slice_get l.opening place ≡ Some r → seen ≡ get_or k.opening.items place seen → ((x : Tcb) → StandsFor seen x → control ≡ x.control) → control.was_established ≡ false → is_over control.state ≡ true → k'.local ≡ k.local → k'.limit ≡ k.limit → k'.opening.items ≡ remove k.opening.items place → k'.whole.items ≡ k.whole.items → ListensFor k' (settled place r l)
+listens_gone k k' l place r seen control h e is c b o local limit opening whole =
+    let s = c r (at_place k l place r seen h e is) in
+    let b' : r.control.was_established ≡ false = sym (ap (λ x. x.was_established) s) ∙ b in
+    let o' : is_over r.control.state ≡ true = sym (ap (λ x. is_over x.state) s) ∙ o in
     subst (λ (m : Listen). ListensFor k' m) (sym (settled-gone place r l b' o'))
     (record {
       local = local ∙ h.local;
@@ -69,11 +71,11 @@ listens_gone k k' l place r seen h e is b o local limit opening whole =
       whole = subst (λ (xs : List Conn). StandsAll xs l.whole) (sym whole) h.whole;
     })
 
-pub listens_stays : (k : Listener) (l : Listen) (place : ℕ) (r : Tcb) (seen : Conn) → ListensFor k l → slice_get l.opening place ≡ Some r → seen ≡ get_or k.opening.items place seen → seen.control.was_established ≡ false → is_over seen.control.state ≡ false → ListensFor k (settled place r l)
-listens_stays k l place r seen h e is b o =
-    let s = at_place k l place r seen h e is in
-    let b' : r.control.was_established ≡ false = sym (ap (λ x. x.was_established) s.control) ∙ b in
-    let o' : is_over r.control.state ≡ false = sym (ap (λ x. is_over x.state) s.control) ∙ o in
+pub listens_stays : (k : Listener) (l : Listen) (place : ℕ) (r : Tcb) (seen : Conn) (control : Control) → ListensFor k l → slice_get l.opening place ≡ Some r → seen ≡ get_or k.opening.items place seen → ((x : Tcb) → StandsFor seen x → control ≡ x.control) → control.was_established ≡ false → is_over control.state ≡ false → ListensFor k (settled place r l)
+listens_stays k l place r seen control h e is c b o =
+    let s = c r (at_place k l place r seen h e is) in
+    let b' : r.control.was_established ≡ false = sym (ap (λ x. x.was_established) s) ∙ b in
+    let o' : is_over r.control.state ≡ false = sym (ap (λ x. is_over x.state) s) ∙ o in
     subst (λ (m : Listen). ListensFor k m) (sym (settled-stays place r l b' o')) h
 
 -- a connection whose handshake is on the way did an act

@@ -1,17 +1,2 @@
-pub mod Number
-pub mod State
-pub mod Header
-pub mod Verdict
-pub mod Control
-pub mod Tcb
-pub mod Segment
-pub mod Ending
-pub mod Timer
-pub mod Output
-pub mod Arrival
-pub mod Process
-pub mod Begin
-pub mod StandsFor
 pub mod Listen
 pub mod ListensFor
-pub mod Refusal

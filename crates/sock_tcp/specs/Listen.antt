@@ -1,22 +1,21 @@
 -- a listener: LISTEN, and the records that wait to be accepted (RFC 9293, section 3.10.7.2)
-use Rattle.std.specs.Prelude.{ℕ, ℤ, pos, negsuc, ◌+◌, ◌%◌, ◌^◌, ◌==◌, nat_lt, List, [], ◌∷◌, ◌++◌, length, slice_get, slice_set, min, max, Bool, false, not, ◌&&◌, ◌||◌, if◌then◌else◌, Option, Some, None}
-use Rattle.std.specs.List.{position_or_len, remove}
+use Rattle.std.specs.Prelude.{ℕ, ℤ, pos, negsuc, ◌+◌, ◌%◌, ◌^◌, nat_lt, List, [], ◌∷◌, ◌++◌, length, slice_get, slice_set, min, max, Bool, false, not, ◌&&◌, ◌||◌, if◌then◌else◌, Option, Some, None}
+use Rattle.std.specs.List.{remove}
 use Rattle.sim_base.specs.declared.address.Addr.{Addr}
 use Rattle.sim_base.specs.declared.packet.Packet.{Packet}
 use Rattle.sim_base.specs.declared.packet.Load.{Load}
 use Rattle.sim_base.specs.declared.packet.Load.TheVariants.{Udp, Tcp}
 use Rattle.sim_base.specs.declared.time.Time.{Time}
-use Rattle.sock_tcp.specs.declared.control.Control.{Control}
-use Rattle.sock_tcp.specs.declared.header.Header.{Header}
-use Rattle.sock_tcp.specs.Header.{header_of}
-use Rattle.sock_tcp.specs.State.{is_over}
-use Rattle.sock_tcp.specs.Number.{wire}
-use Rattle.sock_tcp.specs.Tcb.{Tcb, Turn}
-use Rattle.sock_tcp.specs.Segment.{without_ack}
-use Rattle.sock_tcp.specs.Timer.{timer_of}
-use Rattle.sock_tcp.specs.Arrival.{takes_packet}
-use Rattle.sock_tcp.specs.Process.{answered, expires}
-use Rattle.sock_tcp.specs.Begin.{begin}
+use Rattle.tcp_segment.specs.declared.header.Header.{Header}
+use Rattle.tcp_segment.specs.Header.{header_of}
+use Rattle.tcp_segment.specs.State.{is_over}
+use Rattle.tcp_record.specs.Tcb.{Tcb, Turn}
+use Rattle.tcp_record.specs.Timer.{timer_of}
+use Rattle.tcp_record.specs.Pairs.{place_in}
+use Rattle.tcp_record.specs.Resets.{resets_of}
+use Rattle.tcp_record.specs.Arrival.{takes_packet}
+use Rattle.tcp_record.specs.Process.{answered, expires}
+use Rattle.tcp_record.specs.Begin.{begin}
 
 -- the own end, how many records the queue holds, those in SYN-RECEIVED in the order of their SYNs,
 -- and those that became ESTABLISHED, in this order
@@ -41,16 +40,6 @@ queue_limit (negsuc n) = 1
 unfoldable pub fresh_listen : Addr → ℤ → Listen
 fresh_listen local backlog =
     record { local = local; limit = queue_limit backlog; opening = []; whole = [] }
-
--- a record is found by both ends, while it isn't over
-abbrev pub same_end : Addr → Addr → Bool
-same_end a b = (a.ip.bits == b.ip.bits) && (a.port == b.port)
-
-abbrev pub is_pair : Addr → Addr → Control → Bool
-is_pair own other c = not (is_over c.state) && (same_end c.local own && same_end c.peer other)
-
-abbrev pub place_in : Addr → Addr → List Tcb → ℕ
-place_in own other records = position_or_len (λ (r : Tcb). is_pair own other r.control) records
 
 -- a record that became ESTABLISHED waits behind the others, and one that vanished leaves
 abbrev pub replaced : ℕ → Tcb → Listen → Listen
@@ -147,15 +136,6 @@ takes_word p l = not (is_kept p.to p.from l) && header_makes (load_header p.load
 -- the timer of a kept record expires
 unfoldable pub hears_timer : Addr → Addr → Listen → Heard
 hears_timer own other l = kept_acts expires own other l (nothing_heard l)
-
--- a closed listener resets each record that wasn't accepted (section 3.10.4)
-abbrev pub reset_of : Tcb → List Packet
-reset_of r =
-    if is_over r.control.state then [] else without_ack r.control 4 (wire r.iss r.nxt) ∷ []
-
-abbrev pub resets_of : List Tcb → List Packet
-resets_of [] = []
-resets_of (r ∷ records) = reset_of r ++ resets_of records
 
 abbrev pub closed_listen : Listen → Listen
 closed_listen l = record l { opening = []; whole = [] }

@@ -1,18 +1,11 @@
 -- what a listener of the code stands for
 use Rattle.std.specs.Prelude.{◌≡◌, List, [], ◌∷◌, Option, Some, None}
-use Rattle.sock_tcp.specs.declared.conn.Conn.{Conn}
-use Rattle.sock_tcp.specs.declared.effects.Effects.{Effects}
+use Rattle.tcp_record.specs.declared.conn.Conn.{Conn}
+use Rattle.tcp_record.specs.declared.effects.Effects.{Effects}
 use Rattle.sock_tcp.specs.declared.listener.Listener.{Listener}
-use Rattle.sock_tcp.specs.Tcb.{Tcb}
-use Rattle.sock_tcp.specs.StandsFor.{StandsFor}
+use Rattle.tcp_record.specs.Tcb.{Tcb}
+use Rattle.tcp_record.specs.StandsFor.{StandsFor, StandsAll}
 use Rattle.sock_tcp.specs.Listen.{Listen, Heard}
-
--- each connection stands for the record at its place
-abbrev pub StandsAll : List Conn → List Tcb → Type 0
-StandsAll [] [] = Unit {0}
-StandsAll [] (r ∷ records) = ⊥
-StandsAll (c ∷ conns) [] = ⊥
-StandsAll (c ∷ conns) (r ∷ records) = StandsFor c r × StandsAll conns records
 
 pub record ListensFor (k : Listener) (l : Listen) : Type 0 where
   pub local : k.local ≡ l.local

@@ -3,11 +3,10 @@
 ghost use Rattle.std.specs.Prelude.{◌≡◌};
 ghost use Rattle.sock_tcp.specs.Listen.{asks, load_header};
 
-use crate::conn::Conn;
-use crate::effects::{Effects, Opened};
-use crate::header::Header;
 use crate::listener::Listener;
 use sim_base::{Draws, Load, NoMemory, Packet};
+use tcp_record::{Conn, Effects, Opened};
+use tcp_segment::Header;
 
 /// Whether it is a SYN alone.
 fn asks(header: Header) -> bool

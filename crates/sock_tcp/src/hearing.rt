@@ -1,31 +1,17 @@
 //! What a listener does with a segment, an expiry and a call of its process (RFC 9293, sections
 //! 3.10.4 and 3.10.7.2).
 
-use crate::effects::Effects;
 use crate::listener::Listener;
 use sim_base::{NoMemory, Packet};
 use std::alloc::Global;
-
-impl Effects {
-    ghost use Rattle.std.specs.Prelude.{◌≡◌, [], None};
-
-    pub(crate) fn none(alloc: Global) -> Effects
-        ensures segments { result.segments.items ≡ [] }
-        ensures timer { result.timer ≡ None }
-    {
-        Effects {
-            segments: Vec::new(alloc),
-            timer: None,
-        }
-    }
-}
+use tcp_record::Effects;
 
 impl Listener {
     ghost use Rattle.std.specs.Prelude.{◌≡◌, ◌<◌, length, slice_get, Some, IfOk, OnOk};
-    ghost use Rattle.sock_tcp.specs.Tcb.{Tcb};
-    ghost use Rattle.sock_tcp.specs.Begin.{begin};
-    ghost use Rattle.sock_tcp.specs.Arrival.{takes_packet};
-    ghost use Rattle.sock_tcp.specs.Process.{expires};
+    ghost use Rattle.tcp_record.specs.Tcb.{Tcb};
+    ghost use Rattle.tcp_record.specs.Begin.{begin};
+    ghost use Rattle.tcp_record.specs.Arrival.{takes_packet};
+    ghost use Rattle.tcp_record.specs.Process.{expires};
     ghost use Rattle.sock_tcp.specs.Listen.{Listen, settled, opening_heard, whole_heard};
     ghost use Rattle.sock_tcp.specs.ListensFor.{ListensFor, Tells};
 
@@ -40,7 +26,7 @@ impl Listener {
         ensures { OnOk result ((l : Listen) → ListensFor self.old l
             → (r : Tcb) → slice_get l.opening place ≡ Some r → ListensFor self.new (settled place r l)) }
     {
-        let control = self.opening[place].control;
+        let control = self.opening[place].control();
         if control.was_established {
             let conn = self.opening.remove(place);
             self.whole.push(conn)?;

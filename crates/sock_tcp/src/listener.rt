@@ -1,11 +1,24 @@
 //! A listener and the connections that wait to be accepted.
 
 ghost use Rattle.std.specs.Prelude.{◌≡◌};
+ghost use Rattle.sock_tcp.specs.Listen.{queue_limit};
 
-use crate::conn::Conn;
-use crate::lookup::queue_limit;
 use sim_base::Addr;
 use std::alloc::Global;
+use tcp_record::Conn;
+
+/// How many connections a queue holds for what the process asked: at least 1 and at most 128.
+fn queue_limit(backlog: i32) -> usize
+    ensures { result ≡ queue_limit backlog }
+{
+    if backlog < 1 {
+        1
+    } else if backlog > 128 {
+        128
+    } else {
+        backlog as usize
+    }
+}
 
 /// A listener. It keeps the connections whose handshake is on the way, in the order of their SYNs,
 /// and those that became ESTABLISHED, in this order, until they are accepted. After a call that
@@ -21,10 +34,10 @@ pub struct Listener {
 impl Listener {
     ghost use Rattle.std.specs.Prelude.{◌≡◌, ◌<◌, length, vec_len, nat_lt, slice_get, Some, IfOk, OnOk, if◌then◌else◌};
     ghost use Rattle.sim_base.specs.Draws.{draw};
-    ghost use Rattle.sock_tcp.specs.Tcb.{Tcb};
-    ghost use Rattle.sock_tcp.specs.Begin.{begin};
-    ghost use Rattle.sock_tcp.specs.Arrival.{takes_packet};
-    ghost use Rattle.sock_tcp.specs.Process.{expires};
+    ghost use Rattle.tcp_record.specs.Tcb.{Tcb};
+    ghost use Rattle.tcp_record.specs.Begin.{begin};
+    ghost use Rattle.tcp_record.specs.Arrival.{takes_packet};
+    ghost use Rattle.tcp_record.specs.Process.{expires};
     ghost use Rattle.sock_tcp.specs.Listen.{Listen, fresh_listen, queue_limit, settled, opening_heard, whole_heard, nothing_heard, asks, has_room, makes_record, asked, load_header, new_heard, hears, is_kept, header_makes, takes_word, hears_timer, hears_close};
     ghost use Rattle.sock_tcp.specs.ListensFor.{ListensFor, Tells, Hears, Accepts};
 
@@ -58,7 +71,7 @@ impl Listener {
     }
 
     /// Whether a whole connection waits.
-    #[tactic(auto, using(crate::proofs::Places::same_length))]
+    #[tactic(auto, using(tcp_record::proofs::Places::same_length))]
     pub fn has_whole(&self) -> bool
         ensures { (l : Listen) → ListensFor self.now l → result ≡ nat_lt 0 (length l.whole) }
     {

@@ -1,16 +1,14 @@
 //! The calls on a listener (RFC 9293, sections 3.10.4 and 3.10.7.2).
 
-use crate::conn::Conn;
-use crate::effects::{Draft, Effects};
 use crate::listener::Listener;
-use crate::lookup::place_in;
-use crate::resets::reset_all;
 use sim_base::{Addr, Draws, NoMemory, Packet};
+use tcp_record::{Conn, Draft, Effects, place_in, reset_all};
 
 impl Listener {
     ghost use Rattle.std.specs.Prelude.{◌≡◌, ◌<◌, length, nat_lt, is_some, false, IfSome, IfOk, OnOk, if◌then◌else◌};
     ghost use Rattle.sim_base.specs.Draws.{draw};
-    ghost use Rattle.sock_tcp.specs.Listen.{Listen, place_in, hears, is_kept, takes_word, hears_timer, hears_close};
+    ghost use Rattle.sock_tcp.specs.Listen.{Listen, hears, is_kept, takes_word, hears_timer, hears_close};
+    ghost use Rattle.tcp_record.specs.Pairs.{place_in};
     ghost use Rattle.sock_tcp.specs.ListensFor.{ListensFor, Tells, Hears, Accepts};
 
     /// The place of the live connection of two ends whose handshake is on the way.

@@ -1,8 +1,8 @@
 use Rattle.std.proofs.Common.{List, ◌++◌, refl, sym, ap, subst, ◌∙◌}
 use Rattle.sim_base.specs.declared.packet.Packet.{Packet}
-use Rattle.sock_tcp.specs.declared.conn.Conn.{Conn}
-use Rattle.sock_tcp.specs.Listen.{resets_of}
-use Rattle.sock_tcp.specs.ListensFor.{StandsAll}
+use Rattle.tcp_record.specs.declared.conn.Conn.{Conn}
+use Rattle.tcp_record.specs.Resets.{resets_of}
+use Rattle.tcp_record.specs.StandsFor.{StandsAll}
 use Rattle.sock_tcp.proofs.ListenEnds.{tells_close}
 use Rattle.sock_tcp.proofs.listener.Listener.close.Goals as goal
 

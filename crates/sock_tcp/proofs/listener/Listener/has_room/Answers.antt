@@ -1,5 +1,5 @@
 use Rattle.std.proofs.Common.{length, ◌∙◌, arith}
-use Rattle.sock_tcp.proofs.Places.{same_length}
+use Rattle.tcp_record.proofs.Places.{same_length}
 use Rattle.sock_tcp.proofs.ListenEnds.{room_below, room_above}
 use Rattle.sock_tcp.proofs.listener.Listener.has_room.Goals as goal
 

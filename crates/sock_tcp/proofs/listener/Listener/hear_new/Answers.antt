@@ -1,6 +1,6 @@
 use Rattle.std.proofs.Common.{Option, if◌then◌else◌, ap, subst, ◌∙◌}
 use Rattle.sim_base.specs.Draws.{draw}
-use Rattle.sock_tcp.specs.declared.header.Header.{Header}
+use Rattle.tcp_segment.specs.declared.header.Header.{Header}
 use Rattle.sock_tcp.specs.Listen.{new_heard, header_makes}
 use Rattle.sock_tcp.specs.ListensFor.{Tells}
 use Rattle.sock_tcp.proofs.ListenActs.{tells_nothing}

@@ -1,7 +1,7 @@
 use Rattle.std.proofs.Common.{◌≡◌, ℕ, ◌%◌, ◌^◌, List, refl, ap, subst}
 use Rattle.sim_base.specs.Draws.{draw}
-use Rattle.sock_tcp.specs.Process.{answered}
-use Rattle.sock_tcp.specs.StandsFor.{Gives}
+use Rattle.tcp_record.specs.Process.{answered}
+use Rattle.tcp_record.specs.StandsFor.{Gives}
 use Rattle.sock_tcp.proofs.ListenActs.{tells_made}
 use Rattle.sock_tcp.proofs.listener.Listener.make_record.Goals as goal
 

@@ -1,5 +1,5 @@
 use Rattle.std.proofs.Common.{sym}
-use Rattle.sock_tcp.specs.Process.{expires}
+use Rattle.tcp_record.specs.Process.{expires}
 use Rattle.sock_tcp.specs.Listen.{nothing_heard, hears_timer}
 use Rattle.sock_tcp.proofs.ListenActs.{tells_kept_opening}
 use Rattle.sock_tcp.proofs.listener.Listener.timer.Goals as goal

@@ -1,5 +1,5 @@
 use Rattle.std.proofs.Common.{refl}
-use Rattle.sock_tcp.specs.Arrival.{takes_packet}
+use Rattle.tcp_record.specs.Arrival.{takes_packet}
 use Rattle.sock_tcp.proofs.ListenActs.{tells_whole}
 use Rattle.sock_tcp.proofs.listener.Listener.whole_arrive.Goals as goal
 

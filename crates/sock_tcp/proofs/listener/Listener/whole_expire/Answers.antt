@@ -1,5 +1,5 @@
 use Rattle.std.proofs.Common.{refl}
-use Rattle.sock_tcp.specs.Process.{expires}
+use Rattle.tcp_record.specs.Process.{expires}
 use Rattle.sock_tcp.proofs.ListenActs.{tells_whole}
 use Rattle.sock_tcp.proofs.listener.Listener.whole_expire.Goals as goal
 

@@ -1,0 +1,9 @@
+pub mod Phases
+pub mod Parts
+pub mod Pieces
+pub mod SendText
+pub mod Advance
+pub mod Received
+pub mod ProcessCalls
+pub mod Places
+pub mod ResetSteps

@@ -1,0 +1,11 @@
+pub mod Tcb
+pub mod Segment
+pub mod Ending
+pub mod Timer
+pub mod Output
+pub mod Arrival
+pub mod Process
+pub mod Begin
+pub mod StandsFor
+pub mod Pairs
+pub mod Resets

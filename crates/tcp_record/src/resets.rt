@@ -1,0 +1,34 @@
+//! The resets of connections that a listener gives up (RFC 9293, section 3.10.4).
+
+ghost use Rattle.std.specs.Prelude.{◌≡◌, ◌++◌, List, OnOk};
+ghost use Rattle.tcp_record.specs.Tcb.{Tcb};
+ghost use Rattle.tcp_record.specs.Resets.{reset_of, resets_of};
+ghost use Rattle.tcp_record.specs.StandsFor.{StandsFor, StandsAll};
+
+use crate::conn::Conn;
+use crate::effects::Draft;
+use sim_base::NoMemory;
+use tcp_segment::RST;
+
+/// Resets a connection, unless it is over.
+fn reset(conn: &Conn, draft: &mut Draft) -> Result<(), NoMemory>
+    ensures { OnOk result ((r : Tcb) → StandsFor conn.now r
+        → draft.new.segments.items ≡ draft.old.segments.items ++ reset_of r) }
+{
+    if !conn.control.state.is_over() {
+        let seq = conn.number(conn.sent);
+        draft.send(conn.control.without_ack(conn.alloc(), RST, seq))?;
+    }
+    Ok(())
+}
+
+/// Resets each connection, unless it is over.
+pub fn reset_all(conns: &[Conn], draft: &mut Draft) -> Result<(), NoMemory>
+    ensures { OnOk result ((records : List Tcb) → StandsAll conns.now records
+        → draft.new.segments.items ≡ draft.old.segments.items ++ resets_of records) }
+{
+    for conn in conns {
+        reset(conn, draft)?;
+    }
+    Ok(())
+}

@@ -1,0 +1,6 @@
+pub mod Number
+pub mod State
+pub mod Header
+pub mod Verdict
+pub mod Control
+pub mod Refusal
