@@ -12,8 +12,9 @@ use tcp_segment::RST;
 
 /// Resets a connection, unless it is over.
 fn reset(conn: &Conn, draft: &mut Draft) -> Result<(), NoMemory>
-    ensures { OnOk result ((r : Tcb) → StandsFor conn.now r
+    ensures segments { OnOk result ((r : Tcb) → StandsFor conn.now r
         → draft.new.segments.items ≡ draft.old.segments.items ++ reset_of r) }
+    ensures started { draft.new.started ≡ draft.old.started }
 {
     if !conn.control.state.is_over() {
         let seq = conn.number(conn.sent);
@@ -22,10 +23,11 @@ fn reset(conn: &Conn, draft: &mut Draft) -> Result<(), NoMemory>
     Ok(())
 }
 
-/// Resets each connection, unless it is over.
+/// Resets each connection, unless it is over. It starts no timer.
 pub fn reset_all(conns: &[Conn], draft: &mut Draft) -> Result<(), NoMemory>
-    ensures { OnOk result ((records : List Tcb) → StandsAll conns.now records
+    ensures segments { OnOk result ((records : List Tcb) → StandsAll conns.now records
         → draft.new.segments.items ≡ draft.old.segments.items ++ resets_of records) }
+    ensures started { draft.new.started ≡ draft.old.started }
 {
     for conn in conns {
         reset(conn, draft)?;
