@@ -1,0 +1,9 @@
+pub mod EventOrder
+pub mod Model
+pub mod World
+pub mod Window
+pub mod Round
+pub mod Steps
+pub mod Schedule
+pub mod Premises
+pub mod Settled
