@@ -1,5 +1,7 @@
+pub mod BookLemmas
 pub mod DrawsLemmas
 pub mod FilesLemmas
+pub mod PortLemmas
 pub mod Putting
 pub mod QuantityLemmas
 pub mod Reading

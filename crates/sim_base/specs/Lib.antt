@@ -1,3 +1,5 @@
+pub mod AddressLaws
+pub mod Addresses
 pub mod Calls
 pub mod Draws
 pub mod Errno
@@ -8,7 +10,9 @@ pub mod KeyLaws
 pub mod MemSink
 pub mod MemSource
 pub mod Packet
+pub mod Poll
 pub mod Quantity
+pub mod Refusals
 pub mod Signal
 pub mod Sink
 pub mod Source

@@ -1,6 +1,6 @@
 //! A list of bytes.
 
-ghost use Rattle.std.specs.Prelude.{◌≡◌, ◌<◌, ◌^◌, ◌==◌, ◌↔◌, List, ℕ, [], length, IfOk, IsTrue};
+ghost use Rattle.std.specs.Prelude.{◌≡◌, ◌<◌, ◌^◌, ◌==◌, ◌++◌, ◌↔◌, List, ℕ, [], length, IfOk, OnOk, OnErr, IsTrue};
 ghost use Rattle.std.proofs.Common.{rules};
 ghost use Rattle.std.specs.Cmp.Lexicographic.{pointwise};
 ghost use Rattle.std.specs.Cmp.Rules.{comparing};
@@ -36,6 +36,15 @@ impl Bytes {
         Ok(Bytes {
             items: Vec::from_slice(alloc, bytes)?,
         })
+    }
+
+    /// Adds a piece at the end, or leaves the bytes as they were.
+    pub fn extend_from_slice(&mut self, piece: &[u8]) -> Result<(), NoMemory>
+        ensures ok { OnOk result (self.new ≡ self.old ++ piece.now) }
+        ensures err { OnErr result (self.new ≡ self.old) }
+    {
+        self.items.extend_from_slice(piece)?;
+        Ok(())
     }
 
     pub fn as_slice(&self) -> &[u8]

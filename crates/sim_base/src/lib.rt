@@ -2,9 +2,13 @@
 //! event keys with their order, events and packets.
 #![tactic(auto)]
 
+mod act;
 mod address;
+mod around;
+mod book;
 mod bytes;
 mod draws;
+mod ends;
 mod errno;
 mod event;
 mod host;
@@ -14,17 +18,24 @@ mod name;
 mod object;
 mod outside;
 mod packet;
+mod poll;
+mod ports;
 mod quantity;
 mod signal;
+mod size;
 mod state;
 #[cfg(test)]
 mod tests;
 mod text;
 mod time;
 
+pub use act::Act;
 pub use address::{Addr, Ip};
+pub use around::Around;
+pub use book::Book;
 pub use bytes::Bytes;
 pub use draws::Draws;
+pub use ends::{source_ip, stays_inside};
 pub use errno::Errno;
 pub use event::{Event, Parcel, What};
 pub use host::HostId;
@@ -35,9 +46,12 @@ pub use object::ObjectId;
 pub use outside::{
     MemSink, MemSource, Place, ReadError, Sink, Source, WriteError, put_all, read_all,
 };
-pub use packet::{Load, Packet};
+pub use packet::{ACK, FIN, Load, Packet, RST, SYN};
+pub use poll::{POLLERR, POLLHUP, POLLIN, POLLNVAL, POLLOUT};
+pub use ports::{at_free_port, is_taken, least_free_port, with_port};
 pub use quantity::{read_rate, read_time};
 pub use signal::Signal;
+pub use size::{IPV4_HEADER, MAX_DATAGRAM, MAX_PACKET, MAX_SEGMENT, TCP_HEADER, UDP_HEADER};
 pub use state::State;
 pub use text::Text;
 pub use time::Time;

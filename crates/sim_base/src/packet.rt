@@ -4,14 +4,24 @@ ghost use Rattle.std.specs.Prelude.{◌≡◌};
 
 use crate::address::Addr;
 use crate::bytes::Bytes;
+use crate::size::{IPV4_HEADER, TCP_HEADER, UDP_HEADER};
+
+/// The flags of a segment, by the bits of the header's fourteenth byte (RFC 9293, section 3.1).
+pub const FIN: u8 = 1;
+
+pub const SYN: u8 = 2;
+
+pub const RST: u8 = 4;
+
+pub const ACK: u8 = 16;
 
 /// What a packet carries.
 #[derive(Clone, Debug, PartialEq, Eq, Drop)]
 pub enum Load {
     /// A datagram (RFC 768).
     Udp(Bytes),
-    /// A segment without options (RFC 9293, section 3.1). `flags` has the bits of the header's
-    /// thirteenth byte after the offset: FIN 1, SYN 2, RST 4, ACK 16.
+    /// A segment without options (RFC 9293, section 3.1). `flags` has the bits `FIN`,
+    /// `SYN`, `RST` and `ACK`.
     Tcp {
         flags: u8,
         seq: u32,
@@ -36,9 +46,10 @@ impl Packet {
     pub fn size(&self) -> u64
         ensures { result ≡ packet_size self.now }
     {
-        match &self.load {
-            Load::Udp(text) => 28 + text.len() as u64,
-            Load::Tcp { text, .. } => 40 + text.len() as u64,
-        }
+        let load = match &self.load {
+            Load::Udp(text) => UDP_HEADER + text.len(),
+            Load::Tcp { text, .. } => TCP_HEADER + text.len(),
+        };
+        (IPV4_HEADER + load) as u64
     }
 }

@@ -1,6 +1,9 @@
 -- UDP sockets (RFC 768) and their calls: bind(2), connect(2), send(2), recv(2) and poll(2), in this project's own profile.
 use Rattle.std.specs.Prelude.{◌≡◌, ℕ, ◌==◌, ◌+◌, Bool, true, false, not, ◌&&◌, ◌||◌, min, List, [], ◌∷◌, ◌++◌, length, take, drop, Option, Some, None, is_some, Result, Ok, Err, IsOk, if◌then◌else◌, nat_lt}
-use Rattle.sim_base.specs.declared.address.Ip.{Ip}
+use Rattle.sim_base.specs.Addresses.{Surroundings, any, loopback, is_same_ip, is_same, is_local, is_reachable, is_taken, at_port, at_free_port, with_port, stays_inside, source_ip}
+use Rattle.sim_base.specs.Packet.{max_datagram}
+use Rattle.sim_base.specs.Poll.{pollin, pollout}
+use Rattle.sim_base.specs.Refusals.{◌>>=◌, ◌>>◌, refuse_if, or_refuse}
 use Rattle.sim_base.specs.declared.address.Addr.{Addr}
 use Rattle.sim_base.specs.declared.errno.Errno.{Errno}
 use Rattle.sim_base.specs.declared.errno.Errno.TheVariants.{Eagain, Einval, Edestaddrreq, Emsgsize, Eaddrinuse, Eaddrnotavail, Enetunreach}
@@ -10,8 +13,6 @@ use Rattle.sock_udp.specs.declared.datagram.Datagram.{Datagram}
 use Rattle.sock_udp.specs.declared.datagram.Received.{Received}
 use Rattle.sock_udp.specs.declared.error.UdpError.{UdpError}
 use Rattle.sock_udp.specs.declared.error.UdpError.TheVariants as error
-use Rattle.sock_udp.specs.Addresses.{Surroundings, any, loopback, is_same_ip, is_same, is_local, is_reachable, is_taken, at_port, at_free_port}
-use Rattle.sock_udp.specs.Refusals.{◌>>=◌, ◌>>◌, refuse_if, or_refuse}
 
 -- what a socket is bound to, what it is connected to, and the datagrams that wait in it, the oldest first
 pub record UdpState : Type 0 where
@@ -26,25 +27,18 @@ new_socket = record { local = None; peer = None; waiting = [] }
 abbrev pub limit : ℕ
 limit = 64
 
--- the most bytes of a datagram: with 8 bytes of UDP and 20 of IPv4 they make 1500
-abbrev pub longest : ℕ
-longest = 1472
-
 -- the first of two addresses, if it is there, or else the other
 abbrev pub or_else : Option Addr → Option Addr → Option Addr
 or_else None other = other
 or_else (Some at) other = Some at
 
--- bind(2): where a socket is bound that asks for an address: for port 0 at the least free port
-abbrev pub with_port : Surroundings → Addr → Option Addr
-with_port around at = if at.port == 0 then at_free_port around at.ip else Some at
-
+-- bind(2): where a socket is bound that asks for an address
 abbrev pub address_to_bind : Surroundings → Addr → UdpState → Result Addr Errno
 address_to_bind around at socket = do
   refuse_if (is_some socket.local) Einval
-  refuse_if (not (is_local around at.ip)) Eaddrnotavail
-  bound ← or_refuse (with_port around at) Eaddrnotavail
-  refuse_if (is_taken around bound) Eaddrinuse
+  refuse_if (not (is_local around.own at.ip)) Eaddrnotavail
+  bound ← or_refuse (with_port around.bound at) Eaddrnotavail
+  refuse_if (is_taken around.bound bound) Eaddrinuse
   Ok bound
 
 abbrev pub bind : Surroundings → Addr → UdpState → Result UdpState Errno
@@ -52,20 +46,15 @@ bind around at socket = do
   bound ← address_to_bind around at socket
   Ok (record socket { local = Some bound })
 
--- a socket that is bound to 127.0.0.1 has no other destination
-abbrev pub stays_inside : Option Addr → Bool
-stays_inside None = false
-stays_inside (Some at) = is_same_ip at.ip loopback
-
 -- where a socket may send to
 abbrev pub reach : Surroundings → Addr → UdpState → Result (Unit {0}) Errno
 reach around to socket = do
-  refuse_if (not (is_reachable around to.ip)) Enetunreach
+  refuse_if (not (is_reachable around.hosts to.ip)) Enetunreach
   refuse_if (stays_inside socket.local && not (is_same_ip to.ip loopback)) Einval
 
 -- sending and connecting bind an unbound socket to 0.0.0.0 and the least free port
 abbrev pub address_to_use : Surroundings → UdpState → Result Addr Errno
-address_to_use around socket = or_refuse (or_else socket.local (at_free_port around any)) Eaddrnotavail
+address_to_use around socket = or_refuse (or_else socket.local (at_free_port around.bound any)) Eaddrnotavail
 
 abbrev pub address_to_connect : Surroundings → Addr → UdpState → Result Addr Errno
 address_to_connect around to socket = do
@@ -79,21 +68,17 @@ connect around to socket = do
   bound ← address_to_connect around to socket
   Ok (record socket { local = Some bound; peer = Some to })
 
--- the source address is the bound one where that is not 0.0.0.0, else 127.0.0.1 to 127.0.0.1, else the host's
-abbrev pub source_ip : Surroundings → Ip → Ip → Ip
-source_ip around bound to = if is_same_ip bound any then (if is_same_ip to loopback then loopback else around.own) else bound
-
 -- the two ends of a datagram that is sent
 abbrev pub address_and_destination : Surroundings → ℕ → Option Addr → UdpState → Result (Addr × Addr) Errno
 address_and_destination around size to socket = do
-  refuse_if (nat_lt longest size) Emsgsize
+  refuse_if (nat_lt max_datagram size) Emsgsize
   destination ← or_refuse (or_else to socket.peer) Edestaddrreq
   reach around destination socket
   bound ← address_to_use around socket
   Ok (bound, destination)
 
 abbrev pub packet_between : Surroundings → List ℕ → Addr → Addr → Packet
-packet_between around bytes bound to = record { from = at_port (source_ip around bound.ip to.ip) bound.port; to = to; load = Udp bytes }
+packet_between around bytes bound to = record { from = at_port (source_ip around.own bound.ip to.ip) bound.port; to = to; load = Udp bytes }
 
 -- send(2), and sendto(2) where an address is given
 abbrev pub send : Surroundings → List ℕ → Option Addr → UdpState → Result (Packet × UdpState) Errno
@@ -136,6 +121,6 @@ received_from into socket (datagram ∷ behind) =
 abbrev pub recv : List ℕ → UdpState → Result (Received × List ℕ × UdpState) Errno
 recv into socket = received_from into socket socket.waiting
 
--- poll(2): POLLIN 1 where a datagram waits, and POLLOUT 4
+-- poll(2): POLLIN where a datagram waits, and always POLLOUT
 abbrev pub ready : UdpState → ℕ
-ready socket = if nat_lt 0 (length socket.waiting) then 1 + 4 else 4
+ready socket = if nat_lt 0 (length socket.waiting) then pollin + pollout else pollout

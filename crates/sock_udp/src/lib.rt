@@ -1,15 +1,13 @@
 //! UDP sockets: what a socket is bound and connected to, and the datagrams that wait in it.
 #![tactic(auto)]
 
-mod addresses;
-mod around;
 mod datagram;
 mod error;
+mod filters;
 mod socket;
 #[cfg(test)]
 mod tests;
 
-pub use around::Around;
 pub use datagram::{Datagram, Received};
 pub use error::UdpError;
 pub use socket::UdpSock;

@@ -3,25 +3,19 @@
 ghost use Rattle.std.specs.Prelude.{◌≡◌, ◌<◌, ◌≤◌, ◌++◌, ◌↔◌, [], min, length, take, drop, IfOk, IfErr, OnOk, OnErr, IsTrue};
 ghost use Rattle.sock_udp.specs.Socket as spec;
 
-use crate::addresses::{is_bound_for, is_open_to, source_ip, stays_inside, with_port};
-use crate::around::Around;
 use crate::datagram::{Datagram, Received};
 use crate::error::UdpError;
-use sim_base::{Addr, Bytes, Errno, Ip, Load, NoMemory, Packet};
+use crate::filters::{is_bound_for, is_open_to};
+use sim_base::{
+    Addr, Around, Bytes, Errno, Ip, Load, MAX_DATAGRAM, NoMemory, POLLIN, POLLOUT, Packet,
+    at_free_port, is_taken, source_ip, stays_inside, with_port,
+};
 use std::alloc::Global;
 use std::collections::VecDeque;
 use std::marker::Model;
 
 /// How many datagrams may wait in a socket.
 const WAITING: usize = 64;
-
-/// The most bytes of a datagram, of which a packet of 1500 bytes has room for one.
-const LONGEST: usize = 1472;
-
-/// What a socket is ready for, by the bits of `poll(2)`.
-const POLLIN: u16 = 1;
-
-const POLLOUT: u16 = 4;
 
 /// A UDP socket (RFC 768).
 ///
@@ -136,7 +130,7 @@ impl UdpSock {
         let load = Load::Udp(Bytes::from_slice(*self.waiting.allocator(), bytes)?);
         self.local = Some(at);
         let from = Addr {
-            ip: source_ip(around, at.ip, to.ip),
+            ip: source_ip(around.own, at.ip, to.ip),
             port: at.port,
         };
         Ok(Packet { from, to, load })
@@ -205,11 +199,11 @@ impl UdpSock {
         if self.local.is_some() {
             return Err(Errno::Einval);
         }
-        if !around.is_local(at.ip) {
+        if !at.ip.is_local(around.own) {
             return Err(Errno::Eaddrnotavail);
         }
-        let at = with_port(around, at).ok_or(Errno::Eaddrnotavail)?;
-        if around.is_taken(at) {
+        let at = with_port(around.bound, at).ok_or(Errno::Eaddrnotavail)?;
+        if is_taken(around.bound, at) {
             return Err(Errno::Eaddrinuse);
         }
         Ok(at)
@@ -219,7 +213,7 @@ impl UdpSock {
     fn reach(&self, around: &Around, to: Addr) -> Result<(), Errno>
         ensures { result ≡ spec.reach around.now to self.now }
     {
-        if !around.is_reachable(to.ip) {
+        if !around.hosts.is_reachable(to.ip) {
             return Err(Errno::Enetunreach);
         }
         if stays_inside(self.local) && to.ip != Ip::LOOPBACK {
@@ -234,7 +228,7 @@ impl UdpSock {
     {
         match self.local {
             Some(at) => Ok(at),
-            None => around.at_free_port(Ip::ANY).ok_or(Errno::Eaddrnotavail),
+            None => at_free_port(around.bound, Ip::ANY).ok_or(Errno::Eaddrnotavail),
         }
     }
 
@@ -257,7 +251,7 @@ impl UdpSock {
     ) -> Result<(Addr, Addr), Errno>
         ensures { result ≡ spec.address_and_destination around.now size to self.now }
     {
-        if size > LONGEST {
+        if size > MAX_DATAGRAM {
             return Err(Errno::Emsgsize);
         }
         let to = to.or(self.peer).ok_or(Errno::Edestaddrreq)?;

@@ -1,5 +1,5 @@
 use super::*;
-use sim_base::{Addr, Errno, Ip, Load, Packet};
+use sim_base::{Addr, Around, Book, Errno, Ip, Load, Packet};
 use std::alloc::Global;
 use std::test::Fail;
 
@@ -14,7 +14,9 @@ const ANY: Ip = Ip::ANY;
 const LOOPBACK: Ip = Ip::LOOPBACK;
 
 /// The hosts are 11.0.0.1 and 11.0.0.2, and this one is the first.
-const HOSTS: [Ip; 2] = [OWN, OTHER];
+fn hosts(alloc: Global) -> Result<Book, Fail> {
+    Ok(Book::new(alloc, [OWN, OTHER].to_vec(alloc)?)?)
+}
 
 /// What other sockets are bound to.
 const BOUND: [Addr; 4] = [
@@ -46,22 +48,23 @@ fn at(end: End) -> Addr {
     }
 }
 
-fn around<'a>(bound: &'a [Addr]) -> Around<'a> {
+fn around<'a>(hosts: &'a Book, bound: &'a [Addr]) -> Around<'a> {
     Around {
         own: OWN,
-        hosts: &HOSTS,
+        hosts,
         bound,
     }
 }
 
 /// A socket that is bound and connected so.
 fn socket(alloc: Global, local: Option<End>, peer: Option<End>) -> Result<UdpSock, Fail> {
+    let hosts = hosts(alloc)?;
     let mut socket = UdpSock::new(alloc);
     if let Some(local) = local {
-        socket.bind(&around(&[]), at(local))?;
+        socket.bind(&around(&hosts, &[]), at(local))?;
     }
     if let Some(peer) = peer {
-        socket.connect(&around(&[]), at(peer))?;
+        socket.connect(&around(&hosts, &[]), at(peer))?;
     }
     Ok(socket)
 }
@@ -90,9 +93,10 @@ const BINDS: [(Option<End>, End, Result<End, Errno>); 15] = [
 
 #[test]
 fn bind_refuses_in_order(rt: HostRuntime) -> Result<(), Fail> {
+    let hosts = hosts(rt.alloc())?;
     for (local, asked, wanted) in BINDS {
         let mut socket = socket(rt.alloc(), local, None)?;
-        let answer = socket.bind(&around(&BOUND), at(asked));
+        let answer = socket.bind(&around(&hosts, &BOUND), at(asked));
         assert_eq!(rt; answer, wanted.map(|_| ()), "{asked:?}");
         let bound = wanted.ok().or(local).map(at);
         assert_eq!(rt; socket.local(), bound, "{asked:?}");
@@ -118,9 +122,10 @@ const CONNECTS: [(Option<End>, End, Result<End, Errno>); 11] = [
 
 #[test]
 fn connect_refuses_in_order(rt: HostRuntime) -> Result<(), Fail> {
+    let hosts = hosts(rt.alloc())?;
     for (local, asked, wanted) in CONNECTS {
         let mut socket = socket(rt.alloc(), local, None)?;
-        let answer = socket.connect(&around(&BOUND), at(asked));
+        let answer = socket.connect(&around(&hosts, &BOUND), at(asked));
         assert_eq!(rt; answer, wanted.map(|_| ()), "{asked:?}");
         let bound = wanted.ok().or(local).map(at);
         assert_eq!(rt; socket.local(), bound, "{asked:?}");
@@ -237,10 +242,11 @@ fn text_of(packet: &Packet) -> Option<&[u8]> {
 
 #[test]
 fn send_refuses_in_order(rt: HostRuntime) -> Result<(), Fail> {
+    let hosts = hosts(rt.alloc())?;
     for (local, peer, size, to, wanted) in SENDINGS {
         let mut socket = socket(rt.alloc(), local, peer)?;
         let bytes = vec![in rt.alloc(); b'x'; size]?;
-        match socket.send(&around(&BOUND), &bytes, to.map(at)) {
+        match socket.send(&around(&hosts, &BOUND), &bytes, to.map(at)) {
             Ok(packet) => {
                 assert_eq!(rt;
                     Ok((packet.from, packet.to)),
@@ -259,15 +265,16 @@ fn send_refuses_in_order(rt: HostRuntime) -> Result<(), Fail> {
 
 #[test]
 fn a_host_has_so_many_ports(rt: HostRuntime) -> Result<(), Fail> {
+    let hosts = hosts(rt.alloc())?;
     let mut bound = Vec::new(rt.alloc());
     for port in 10000..65535u16 {
         bound.push(at((LOOPBACK, port)))?;
     }
     let mut last = UdpSock::new(rt.alloc());
-    last.bind(&around(&bound), at((OWN, 0)))?;
+    last.bind(&around(&hosts, &bound), at((OWN, 0)))?;
     assert_eq!(rt; last.local(), Some(at((OWN, 65535))));
     bound.push(at((OWN, 65535)))?;
-    let full = around(&bound);
+    let full = around(&hosts, &bound);
     let mut none = UdpSock::new(rt.alloc());
     let other = at((OTHER, 9));
     assert_eq!(rt; none.bind(&full, at((OWN, 0))), Err(Errno::Eaddrnotavail));

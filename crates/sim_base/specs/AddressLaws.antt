@@ -6,7 +6,7 @@ use Rattle.std.proofs.lemmas.Bool.{and_left, cases_eq, or_from, or_parts}
 use Rattle.std.proofs.lemmas.Bool.Decides.{nat_tests}
 use Rattle.sim_base.specs.declared.address.Ip.{Ip}
 use Rattle.sim_base.specs.declared.address.Addr.{Addr}
-use Rattle.sock_udp.specs.Addresses.{meets, has_port, first_free_port, at_port}
+use Rattle.sim_base.specs.Addresses.{meets, has_port, first_free_port, at_port}
 
 -- the least port that no other socket has, of some in a row
 pub record IsLeastFree (bound : List Addr) (first count port : ℕ) : Type 0 where

@@ -1,8 +1,8 @@
 use Rattle.std.proofs.Common.{ℕ, ◌-◌, sym, ap, ◌∙◌, arith}
-use Rattle.sock_udp.specs.Addresses.{first_free_port}
-use Rattle.sock_udp.proofs.PortLemmas.{first_free_port-passed, has_port-not_so_far}
-use Rattle.sock_udp.proofs.around.port_past.Goals as goal
-use Rattle.sock_udp.proofs.around.port_past.Goals.{then-from-past, else-from-past}
+use Rattle.sim_base.specs.Addresses.{first_free_port}
+use Rattle.sim_base.proofs.PortLemmas.{first_free_port-passed, has_port-not_so_far}
+use Rattle.sim_base.proofs.ports.port_past.Goals as goal
+use Rattle.sim_base.proofs.ports.port_past.Goals.{then-from-past, else-from-past}
 
 pub loop-at-preserved : goal.loop-at-preserved
 loop-at-preserved c =

@@ -6,7 +6,7 @@ use Rattle.std.specs.Prelude.{find, Result, Ok, Err}
 use Rattle.std.specs.Result.{OkIff, result_ok}
 use Rattle.std.specs.List.{range_with_len}
 use Rattle.sim_base.specs.declared.address.Addr.{Addr}
-use Rattle.sock_udp.specs.Addresses.{has_port, first_free_port}
+use Rattle.sim_base.specs.Addresses.{has_port, first_free_port}
 
 abbrev later : List Addr → ℕ → ℕ → Option ℕ
 later bound port count = find (λ candidate. not (has_port bound candidate)) (range_with_len (port + 1) count)

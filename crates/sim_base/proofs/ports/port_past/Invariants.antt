@@ -1,6 +1,6 @@
 use Rattle.std.proofs.Common.{◌≡◌, ◌-◌, ◌≤◌, false, take}
-use Rattle.sock_udp.specs.Addresses.{has_port, first_free_port}
-use Rattle.sock_udp.proofs.around.port_past.Given as goal
+use Rattle.sim_base.specs.Addresses.{has_port, first_free_port}
+use Rattle.sim_base.proofs.ports.port_past.Given as goal
 
 abbrev pub invariant-loop-at : goal.invariant-loop-at
 invariant-loop-at l = record {
