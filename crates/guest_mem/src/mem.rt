@@ -1,6 +1,6 @@
 //! Guest memory: bytes with rights at addresses, and the break.
 
-ghost use Rattle.std.specs.Prelude.{◌≡◌, Some, None, MatchResult, IfOk, OnOk, OnErr, length};
+ghost use Rattle.std.specs.Prelude.{◌≡◌, Some, None, MatchResult, IfOk, OnOk, OnErr, is_some, length};
 ghost use Rattle.guest_mem.specs.Memory.{read, load, write, store};
 ghost use Rattle.guest_mem.specs.Break.{grown, pages_to};
 ghost use Rattle.guest_mem.specs.Opening.{opening};
@@ -136,6 +136,14 @@ impl Mem {
         ensures unchanged { OnErr result (self.new ≡ self.old) }
     {
         self.table.put(at, &value.to_le_bytes())
+    }
+
+    /// Whether each of the `size` bytes from `at` on is mapped with the right. A span of no bytes
+    /// is open anywhere.
+    pub fn is_open(&self, right: Right, at: u32, size: usize) -> bool
+        ensures { result ≡ is_some (read right size self.now at) }
+    {
+        self.table.is_open(right, at, size)
     }
 
     /// Writes `bytes` into the guest's memory from `at` on. No bytes can be written anywhere.

@@ -111,7 +111,7 @@ impl PageTable {
     }
 
     /// Whether each of the `len` addresses from `at` on is mapped with the right.
-    fn is_open(&self, right: Right, at: u32, len: usize) -> bool
+    pub fn is_open(&self, right: Right, at: u32, len: usize) -> bool
         ensures value { result ≡ is_some (bytes_for right len (cells_of self.now.pages.items) at) }
         ensures in_range { OnTrue result (at + len ≤ 2 ^ 32) }
     {

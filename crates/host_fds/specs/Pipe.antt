@@ -1,6 +1,7 @@
 -- A pipe, as pipe(7) has it: bytes in the order in which they were written, and whether each end is still held.
 use Rattle.std.specs.Prelude.{ℕ, ◌+◌, ◌-◌, Bool, true, false, not, min, List, [], ◌++◌, length, take, drop, if◌then◌else◌, nat_lt, refl}
 use Rattle.std.specs.Coded.{Coded, code_by, coded×, coded_ℕ, coded_bool, coded_list}
+use Rattle.sim_base.specs.Poll.{pollin, pollout, pollerr, pollhup}
 use Rattle.host_fds.specs.declared.pipe.End.{End}
 use Rattle.host_fds.specs.declared.pipe.End.TheVariants.{Reading, Writing}
 
@@ -21,9 +22,13 @@ capacity = 65536
 abbrev pub new_pipe : PipeState
 new_pipe = record { bytes = []; has_reader = true; has_writer = true }
 
+-- how many bytes there is room for
+abbrev pub room : PipeState → ℕ
+room p = capacity - length p.bytes
+
 -- how many of some bytes are taken: what there is room for, and none once writing has ended
 abbrev pub count_taken : PipeState → List ℕ → ℕ
-count_taken p offered = if p.has_writer then min (length offered) (capacity - length p.bytes) else 0
+count_taken p offered = if p.has_writer then min (length offered) (room p) else 0
 
 -- the pipe after some bytes were offered to it
 abbrev pub written : PipeState → List ℕ → PipeState
@@ -38,12 +43,12 @@ abbrev pub shut : PipeState → End → PipeState
 shut p Reading = record p { has_reader = false }
 shut p Writing = record p { has_writer = false }
 
--- the bits of poll(2): POLLIN 1, POLLOUT 4, POLLERR 8, POLLHUP 16
+-- a bit of poll(2), where it holds
 abbrev pub bit_of : ℕ → Bool → ℕ
 bit_of bit holds = if holds then bit else 0
 
 -- an end's readiness: of the reading end, that there are bytes, and that no writer is left;
 -- of the writing end, that there is room for one byte, and that no reader is left
 abbrev pub ready : PipeState → End → ℕ
-ready p Reading = bit_of 1 (nat_lt 0 (length p.bytes)) + bit_of 16 (not p.has_writer)
-ready p Writing = bit_of 4 (nat_lt (length p.bytes) capacity) + bit_of 8 (not p.has_reader)
+ready p Reading = bit_of pollin (nat_lt 0 (length p.bytes)) + bit_of pollhup (not p.has_writer)
+ready p Writing = bit_of pollout (nat_lt (length p.bytes) capacity) + bit_of pollerr (not p.has_reader)

@@ -4,7 +4,7 @@ ghost use Rattle.std.specs.Prelude.{◌≡◌, ◌++◌, min, length, take, drop
 ghost use Rattle.host_fds.specs.Pipe as spec;
 
 use circular_buffer::HeapCircularBuffer;
-use sim_base::NoMemory;
+use sim_base::{NoMemory, POLLERR, POLLHUP, POLLIN, POLLOUT};
 use std::alloc::Global;
 use std::marker::Model;
 
@@ -73,6 +73,34 @@ impl Pipe {
         self.bytes.read_into(into)
     }
 
+    /// How many bytes were written and not read yet.
+    pub fn len(&self) -> usize
+        ensures { result ≡ length self.now.bytes }
+    {
+        self.bytes.len()
+    }
+
+    /// How many bytes there is room for.
+    pub fn room(&self) -> usize
+        ensures { result ≡ spec.room self.now }
+    {
+        Self::CAPACITY - self.bytes.len()
+    }
+
+    /// Whether the reading end is held.
+    pub fn has_reader(&self) -> bool
+        ensures { result ≡ self.now.has_reader }
+    {
+        self.has_reader
+    }
+
+    /// Whether the writing end is held.
+    pub fn has_writer(&self) -> bool
+        ensures { result ≡ self.now.has_writer }
+    {
+        self.has_writer
+    }
+
     /// Lets an end go.
     pub fn shut(&mut self, end: End)
         ensures { self.new ≡ spec.shut self.old end }
@@ -89,19 +117,10 @@ impl Pipe {
     {
         match end {
             End::Reading => bit(POLLIN, !self.bytes.is_empty()) + bit(POLLHUP, !self.has_writer),
-            End::Writing => bit(POLLOUT, self.bytes.len() < Self::CAPACITY)
-                + bit(POLLERR, !self.has_reader),
+            End::Writing => bit(POLLOUT, self.room() > 0) + bit(POLLERR, !self.has_reader),
         }
     }
 }
-
-const POLLIN: u16 = 1;
-
-const POLLOUT: u16 = 4;
-
-const POLLERR: u16 = 8;
-
-const POLLHUP: u16 = 16;
 
 /// The bit, where it holds.
 fn bit(bit: u16, holds: bool) -> u16
@@ -124,6 +143,8 @@ mod tests {
         );
         let block = vec![in rt.alloc(); b'a'; 65536]?;
         assert_eq!(rt; (pipe.write(&block), pipe.write(b"z")), (65536, 0));
+        assert_eq!(rt; (pipe.len(), pipe.room()), (65536, 0));
+        assert_eq!(rt; (pipe.has_reader(), pipe.has_writer()), (true, true));
         assert_eq!(rt;
             (pipe.ready(End::Reading), pipe.ready(End::Writing)),
             (1, 0)
@@ -142,6 +163,8 @@ mod tests {
         assert_eq!(rt; (pipe.ready(End::Writing), pipe.write(b"x")), (12, 1));
         pipe.shut(End::Writing);
         assert_eq!(rt; (pipe.ready(End::Reading), pipe.write(b"y")), (17, 0));
+        assert_eq!(rt; (pipe.has_reader(), pipe.has_writer()), (false, false));
+        assert_eq!(rt; (pipe.len(), pipe.room()), (1, 65535));
         Ok(())
     }
 }

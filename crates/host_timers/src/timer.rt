@@ -68,12 +68,26 @@ impl Timer {
         }
     }
 
+    /// The number of expiries at or before `now`, whether a read has taken them or not.
+    pub fn expired(&self, now: Time) -> u64
+        requires { now.nanos ≤ 2 ^ 61 }
+        ensures { result ≡ spec.expired self.now now.nanos }
+    {
+        if self.first == 0 || now.nanos < self.first {
+            0
+        } else if self.interval == 0 {
+            1
+        } else {
+            (now.nanos - self.first) / self.interval + 1
+        }
+    }
+
     /// The number of expiries at or before `now` that no read has taken.
     pub fn count(&self, now: Time) -> u64
         requires { now.nanos ≤ 2 ^ 61 }
         ensures { result ≡ spec.count self.now now.nanos }
     {
-        self.expired(now.nanos).saturating_sub(self.taken)
+        self.expired(now).saturating_sub(self.taken)
     }
 
     /// Takes the expiries at or before `now` that no read has taken, and answers how many they are.
@@ -82,7 +96,7 @@ impl Timer {
         ensures count { result ≡ spec.count self.old now.nanos }
         ensures taken { self.new ≡ spec.read self.old now.nanos }
     {
-        let expired = self.expired(now.nanos);
+        let expired = self.expired(now);
         let count = expired.saturating_sub(self.taken);
         self.taken = self.taken.max(expired);
         count
@@ -102,24 +116,10 @@ impl Timer {
         if self.interval == 0 {
             return None;
         }
-        let number = self.expired(now.nanos);
+        let number = self.expired(now);
         Some(Time {
             nanos: self.first + number * self.interval,
         })
-    }
-
-    /// The number of expiries at or before a moment.
-    fn expired(&self, now: u64) -> u64
-        requires { now ≤ 2 ^ 61 }
-        ensures { result ≡ spec.expired self.now now }
-    {
-        if self.first == 0 || now < self.first {
-            0
-        } else if self.interval == 0 {
-            1
-        } else {
-            (now - self.first) / self.interval + 1
-        }
     }
 }
 
@@ -148,6 +148,10 @@ mod tests {
         assert_eq!(rt; timer.read(at(3_000_000)), 0);
         assert_eq!(rt; timer.read(at(4_000_001)), 1);
         assert_eq!(rt; timer.interval(), at(1_000_000));
+        assert_eq!(rt;
+            (timer.expired(at(999_999)), timer.expired(at(4_000_001))),
+            (0, 4)
+        );
         timer.set(at(7), at(3), at(0));
         assert_eq!(rt;
             (timer.count(at(7)), timer.next_due(at(7))),
