@@ -1,2 +1,10 @@
+pub mod Members
+pub mod Keys
+pub mod Least
+pub mod Apart
+pub mod Homes
+pub mod Firings
+pub mod Turns
+pub mod Results
 pub mod Toy
 pub mod Values

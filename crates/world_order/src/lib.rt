@@ -1,6 +1,10 @@
 //! The world of hosts, and the rounds in which several workers fire its events: definitions and laws, and no code that runs.
 #![tactic(auto)]
 
+mod laws;
+mod simulated;
 mod step;
 
+pub use laws::one_result;
+pub use simulated::Simulated;
 pub use step::{Spot, Step};
