@@ -1,0 +1,5 @@
+use Rattle.out_text.proofs.TextLaws.{one_line}
+use Rattle.out_text.proofs.laws.one_line.Goals as goal
+
+pub returns : goal.returns
+returns c = one_line

@@ -1,0 +1,7 @@
+pub mod Address
+pub mod Faults
+pub mod Files
+pub mod Hosts
+pub mod Laws
+pub mod Log
+pub mod Summary

@@ -1,0 +1,54 @@
+-- The packet log (this project's own profile): one line for each thing that happens to a packet.
+use Rattle.std.specs.Prelude.{ℕ, ◌+◌, List, [], ◌∷◌, ◌++◌, Bool, not, codes, if◌then◌else◌, ◌==◌, bit_and}
+use Rattle.std.specs.Fmt.{decimal}
+use Rattle.std.specs.List.{join_with_byte}
+use Rattle.sim_base.specs.Packet.{packet_size, syn_flag, ack_flag, fin_flag, rst_flag}
+use Rattle.sim_base.specs.declared.act.Act.{Act}
+use Rattle.sim_base.specs.declared.act.Act.TheVariants.{Send, Lost, FullUp, FullDown, Recv, SockFull, NoPort, Codel}
+use Rattle.sim_base.specs.declared.packet.Load.{Load}
+use Rattle.sim_base.specs.declared.packet.Load.TheVariants.{Udp, Tcp}
+use Rattle.out_text.specs.Address.{addr_text}
+use Rattle.out_text.specs.declared.log.LogLine.{LogLine}
+
+-- what happened
+abbrev pub act_word : Act → List ℕ
+act_word Send = codes "send"
+act_word Lost = codes "lost"
+act_word FullUp = codes "fullup"
+act_word FullDown = codes "fulldown"
+act_word Recv = codes "recv"
+act_word SockFull = codes "sockfull"
+act_word NoPort = codes "noport"
+act_word Codel = codes "codel"
+
+abbrev pub protocol_word : Load → List ℕ
+protocol_word (Udp text) = codes "udp"
+protocol_word (Tcp flags seq ack window text) = codes "tcp"
+
+-- whether a flag is set
+abbrev pub is_set : ℕ → ℕ → Bool
+is_set flags flag = not (bit_and flags flag == 0)
+
+-- the letter of a flag, where it is set
+abbrev pub letter : ℕ → ℕ → List ℕ → List ℕ
+letter flags flag name = if is_set flags flag then name else []
+
+-- the letters of those of SYN, ACK, FIN and RST that are set, in this order, or a dash where none is
+abbrev pub flags_word : ℕ → List ℕ
+flags_word flags = if is_set flags (syn_flag + (ack_flag + (fin_flag + rst_flag)))
+    then letter flags syn_flag (codes "S") ++ (letter flags ack_flag (codes "A") ++ (letter flags fin_flag (codes "F") ++ letter flags rst_flag (codes "R")))
+    else codes "-"
+
+-- FLAGS SEQ ACK, of a segment
+abbrev pub segment_words : Load → List (List ℕ)
+segment_words (Udp text) = []
+segment_words (Tcp flags seq ack window text) = flags_word flags ∷ decimal seq ∷ decimal ack ∷ []
+
+-- TIME HOST ACT PROTO SRC DST SIZE, the time in nanoseconds, and of a segment FLAGS SEQ ACK
+abbrev pub log_words : LogLine → List (List ℕ)
+log_words l = decimal l.time.nanos ∷ l.host ∷ act_word l.act ∷ protocol_word l.packet.load
+    ∷ addr_text l.packet.from ∷ addr_text l.packet.to ∷ decimal (packet_size l.packet) ∷ segment_words l.packet.load
+
+-- the words with a space between each two, and a line end
+abbrev pub log_line : LogLine → List ℕ
+log_line l = join_with_byte 32 (log_words l) ++ codes "\n"

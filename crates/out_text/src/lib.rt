@@ -1,0 +1,18 @@
+//! The exact bytes of each line and file name that the simulator writes.
+#![tactic(auto)]
+
+mod address;
+mod faults;
+mod files;
+mod hosts;
+pub mod laws;
+mod log;
+mod summary;
+#[cfg(test)]
+mod tests;
+
+pub use faults::{FaultText, fault_line, note_line};
+pub use files::{FileKind, file_name, state_line};
+pub use hosts::{HostLine, hosts_text};
+pub use log::{LogLine, log_line};
+pub use summary::{Summary, summary_line};
