@@ -1,2 +1,3 @@
-pub mod ListenActs
-pub mod ListenEnds
+pub mod Segments
+pub mod Connections
+pub mod Listeners

@@ -1,2 +1,3 @@
-pub mod Listen
-pub mod ListensFor
+pub mod segment
+pub mod connection
+pub mod listener

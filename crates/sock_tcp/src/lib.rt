@@ -1,14 +1,15 @@
-//! TCP listeners, beside the connections that they make (a profile of RFC 9293).
+//! TCP connections and listeners (a profile of RFC 9293): what segments, processes and timers do to
+//! them.
 #![tactic(auto)]
 
-mod asking;
-mod hearing;
+mod connection;
 mod listener;
-mod listening;
-
-pub use listener::Listener;
-pub use tcp_record::{Conn, Effects, Opened, Shut};
-pub use tcp_segment::{Control, Distance, Header, Phase, TcpState, Verdict, refusal};
-
+mod segment;
 #[cfg(test)]
 mod tests;
+
+pub use connection::{Conn, Effects, Opened, Shut};
+pub use listener::Listener;
+pub use segment::{
+    ACK, Control, Distance, FIN, Header, Phase, RST, SYN, TcpState, Verdict, refusal,
+};

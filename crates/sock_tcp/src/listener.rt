@@ -1,11 +1,15 @@
 //! A listener and the connections that wait to be accepted.
 
 ghost use Rattle.std.specs.Prelude.{◌≡◌};
-ghost use Rattle.sock_tcp.specs.Listen.{queue_limit};
+ghost use Rattle.sock_tcp.specs.listener.Listen.{queue_limit};
 
+mod asking;
+mod hearing;
+mod listening;
+
+use crate::connection::Conn;
 use sim_base::Addr;
 use std::alloc::Global;
-use tcp_record::Conn;
 
 /// How many connections a queue holds for what the process asked: at least 1 and at most 128.
 fn queue_limit(backlog: i32) -> usize
@@ -34,16 +38,16 @@ pub struct Listener {
 impl Listener {
     ghost use Rattle.std.specs.Prelude.{◌≡◌, ◌<◌, length, vec_len, nat_lt, slice_get, Some, IfOk, OnOk, if◌then◌else◌};
     ghost use Rattle.sim_base.specs.Draws.{draw};
-    ghost use Rattle.tcp_record.specs.Tcb.{Tcb};
-    ghost use Rattle.tcp_record.specs.Begin.{begin};
-    ghost use Rattle.tcp_record.specs.Arrival.{takes_packet};
-    ghost use Rattle.tcp_record.specs.Process.{expires};
-    ghost use Rattle.sock_tcp.specs.Listen.{Listen, fresh_listen, queue_limit, settled, opening_heard, whole_heard, nothing_heard, asks, has_room, makes_record, asked, load_header, new_heard, hears, is_kept, header_makes, takes_word, hears_timer, hears_close};
-    ghost use Rattle.sock_tcp.specs.ListensFor.{ListensFor, Tells, Hears, Accepts};
+    ghost use Rattle.sock_tcp.specs.connection.Tcb.{Tcb};
+    ghost use Rattle.sock_tcp.specs.connection.Begin.{begin};
+    ghost use Rattle.sock_tcp.specs.connection.Arrival.{takes_packet};
+    ghost use Rattle.sock_tcp.specs.connection.Process.{expires};
+    ghost use Rattle.sock_tcp.specs.listener.Listen.{Listen, fresh_listen, queue_limit, settled, opening_heard, whole_heard, nothing_heard, asks, has_room, makes_record, asked, load_header, new_heard, hears, is_kept, header_makes, takes_word, hears_timer, hears_close};
+    ghost use Rattle.sock_tcp.specs.listener.ListensFor.{ListensFor, Tells, Hears, Accepts};
 
     /// A listener on an end, whose queue holds as many connections as `backlog` asks for, at least
     /// 1 and at most 128.
-    #[tactic(auto, unfolding(crate::specs::Listen::fresh_listen))]
+    #[tactic(auto, unfolding(crate::specs::listener::Listen::fresh_listen))]
     pub fn new(alloc: Global, local: Addr, backlog: i32) -> Listener
         ensures { ListensFor result (fresh_listen local backlog) }
     {
@@ -71,7 +75,7 @@ impl Listener {
     }
 
     /// Whether a whole connection waits.
-    #[tactic(auto, using(tcp_record::proofs::Places::same_length))]
+    #[tactic(auto, using(crate::proofs::Connections::Places::same_length))]
     pub fn has_whole(&self) -> bool
         ensures { (l : Listen) → ListensFor self.now l → result ≡ nat_lt 0 (length l.whole) }
     {

@@ -1,5 +1,5 @@
 use Rattle.std.proofs.Common.{◌≡◌, ◌==◌, length, true, false}
-use Rattle.sock_tcp.proofs.ListenEnds.{accepts_none, accepts_first, empty_length, some_length}
+use Rattle.sock_tcp.proofs.Listeners.ListenEnds.{accepts_none, accepts_first, empty_length, some_length}
 use Rattle.sock_tcp.proofs.listener.Listener.accept.Goals as goal
 
 pub returns-then-is_empty : goal.returns-then-is_empty

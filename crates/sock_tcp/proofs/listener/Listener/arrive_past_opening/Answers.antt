@@ -1,8 +1,8 @@
 use Rattle.std.proofs.Common.{if◌then◌else◌, sym, ap, ◌∙◌}
 use Rattle.sim_base.specs.Draws.{draw}
-use Rattle.tcp_record.specs.Arrival.{takes_packet}
-use Rattle.sock_tcp.specs.Listen.{new_heard, load_header, hears}
-use Rattle.sock_tcp.proofs.ListenActs.{tells_kept_whole, tells_kept_none, takes_word-whole, takes_word-new}
+use Rattle.sock_tcp.specs.connection.Arrival.{takes_packet}
+use Rattle.sock_tcp.specs.listener.Listen.{new_heard, load_header, hears}
+use Rattle.sock_tcp.proofs.Listeners.ListenActs.{tells_kept_whole, tells_kept_none, takes_word-whole, takes_word-new}
 use Rattle.sock_tcp.proofs.listener.Listener.arrive_past_opening.Goals as goal
 
 pub returns-in-Some-clause-hears : goal.returns-in-Some-clause-hears

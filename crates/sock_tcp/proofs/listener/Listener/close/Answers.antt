@@ -1,9 +1,9 @@
 use Rattle.std.proofs.Common.{List, ◌++◌, refl, sym, ap, subst, ◌∙◌}
 use Rattle.sim_base.specs.declared.packet.Packet.{Packet}
-use Rattle.tcp_record.specs.declared.conn.Conn.{Conn}
-use Rattle.tcp_record.specs.Resets.{resets_of}
-use Rattle.tcp_record.specs.StandsFor.{StandsAll}
-use Rattle.sock_tcp.proofs.ListenEnds.{tells_close}
+use Rattle.sock_tcp.specs.declared.connection.conn.Conn.{Conn}
+use Rattle.sock_tcp.specs.connection.Resets.{resets_of}
+use Rattle.sock_tcp.specs.connection.StandsFor.{StandsAll}
+use Rattle.sock_tcp.proofs.Listeners.ListenEnds.{tells_close}
 use Rattle.sock_tcp.proofs.listener.Listener.close.Goals as goal
 
 pub returns : goal.returns

@@ -1,6 +1,6 @@
 use Rattle.std.proofs.Common.{length, ◌∙◌, arith}
-use Rattle.tcp_record.proofs.Places.{same_length}
-use Rattle.sock_tcp.proofs.ListenEnds.{room_below, room_above}
+use Rattle.sock_tcp.proofs.Connections.Places.{same_length}
+use Rattle.sock_tcp.proofs.Listeners.ListenEnds.{room_below, room_above}
 use Rattle.sock_tcp.proofs.listener.Listener.has_room.Goals as goal
 
 pub returns-then-opening-self : goal.returns-then-opening-self

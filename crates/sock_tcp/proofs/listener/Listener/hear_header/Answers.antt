@@ -1,7 +1,7 @@
 use Rattle.std.proofs.Common.{◌≡◌, true, false, if◌then◌else◌, sym, ap, ◌∙◌}
 use Rattle.sim_base.specs.Draws.{draw}
-use Rattle.sock_tcp.specs.Listen.{makes_record}
-use Rattle.sock_tcp.proofs.ListenActs.{tells_not_made}
+use Rattle.sock_tcp.specs.listener.Listen.{makes_record}
+use Rattle.sock_tcp.proofs.Listeners.ListenActs.{tells_not_made}
 use Rattle.sock_tcp.proofs.listener.Listener.hear_header.Goals as goal
 
 pub returns-then-makes_record-clause-hears : goal.returns-then-makes_record-clause-hears

@@ -1,9 +1,9 @@
 use Rattle.std.proofs.Common.{Option, if◌then◌else◌, ap, subst, ◌∙◌}
 use Rattle.sim_base.specs.Draws.{draw}
-use Rattle.tcp_segment.specs.declared.header.Header.{Header}
-use Rattle.sock_tcp.specs.Listen.{new_heard, header_makes}
-use Rattle.sock_tcp.specs.ListensFor.{Tells}
-use Rattle.sock_tcp.proofs.ListenActs.{tells_nothing}
+use Rattle.sock_tcp.specs.declared.segment.header.Header.{Header}
+use Rattle.sock_tcp.specs.listener.Listen.{new_heard, header_makes}
+use Rattle.sock_tcp.specs.listener.ListensFor.{Tells}
+use Rattle.sock_tcp.proofs.Listeners.ListenActs.{tells_nothing}
 use Rattle.sock_tcp.proofs.listener.Listener.hear_new.Goals as goal
 
 pub returns-clause-hears : goal.returns-clause-hears

@@ -1,8 +1,8 @@
 use Rattle.std.proofs.Common.{◌≡◌, ℕ, ◌%◌, ◌^◌, List, refl, ap, subst}
 use Rattle.sim_base.specs.Draws.{draw}
-use Rattle.tcp_record.specs.Process.{answered}
-use Rattle.tcp_record.specs.StandsFor.{Gives}
-use Rattle.sock_tcp.proofs.ListenActs.{tells_made}
+use Rattle.sock_tcp.specs.connection.Process.{answered}
+use Rattle.sock_tcp.specs.connection.StandsFor.{Gives}
+use Rattle.sock_tcp.proofs.Listeners.ListenActs.{tells_made}
 use Rattle.sock_tcp.proofs.listener.Listener.make_record.Goals as goal
 
 pub returns-clause-hears : goal.returns-clause-hears

@@ -1,6 +1,6 @@
 use Rattle.std.proofs.Common.{refl}
-use Rattle.tcp_record.specs.Process.{expires}
-use Rattle.sock_tcp.proofs.ListenActs.{tells_opening}
+use Rattle.sock_tcp.specs.connection.Process.{expires}
+use Rattle.sock_tcp.proofs.Listeners.ListenActs.{tells_opening}
 use Rattle.sock_tcp.proofs.listener.Listener.opening_expire.Goals as goal
 
 pub returns : goal.returns

@@ -1,7 +1,7 @@
 use Rattle.std.proofs.Common.{List, length, sym, ap, subst, ◌∙◌, arith}
-use Rattle.tcp_record.specs.declared.conn.Conn.{Conn}
-use Rattle.tcp_record.specs.StandsFor.{StandsAll}
-use Rattle.tcp_record.proofs.Places.{found_yes, found_no}
+use Rattle.sock_tcp.specs.declared.connection.conn.Conn.{Conn}
+use Rattle.sock_tcp.specs.connection.StandsFor.{StandsAll}
+use Rattle.sock_tcp.proofs.Connections.Places.{found_yes, found_no}
 use Rattle.sock_tcp.proofs.listener.Listener.opening_place.Goals as goal
 
 pub returns-then-place-len-clause-found : goal.returns-then-place-len-clause-found

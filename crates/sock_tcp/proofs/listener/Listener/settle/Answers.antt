@@ -1,5 +1,5 @@
 use Rattle.std.proofs.Common.{refl}
-use Rattle.sock_tcp.proofs.ListenActs.{listens_whole, listens_gone, listens_stays}
+use Rattle.sock_tcp.proofs.Listeners.ListenActs.{listens_whole, listens_gone, listens_stays}
 use Rattle.sock_tcp.proofs.listener.Listener.settle.Goals as goal
 
 pub returns-in_ok-push : goal.returns-in_ok-push

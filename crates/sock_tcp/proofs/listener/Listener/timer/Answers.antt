@@ -1,7 +1,7 @@
 use Rattle.std.proofs.Common.{sym}
-use Rattle.tcp_record.specs.Process.{expires}
-use Rattle.sock_tcp.specs.Listen.{nothing_heard, hears_timer}
-use Rattle.sock_tcp.proofs.ListenActs.{tells_kept_opening}
+use Rattle.sock_tcp.specs.connection.Process.{expires}
+use Rattle.sock_tcp.specs.listener.Listen.{nothing_heard, hears_timer}
+use Rattle.sock_tcp.proofs.Listeners.ListenActs.{tells_kept_opening}
 use Rattle.sock_tcp.proofs.listener.Listener.timer.Goals as goal
 
 pub returns-in-Some : goal.returns-in-Some

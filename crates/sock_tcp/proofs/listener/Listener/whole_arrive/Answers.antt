@@ -1,6 +1,6 @@
 use Rattle.std.proofs.Common.{refl}
-use Rattle.tcp_record.specs.Arrival.{takes_packet}
-use Rattle.sock_tcp.proofs.ListenActs.{tells_whole}
+use Rattle.sock_tcp.specs.connection.Arrival.{takes_packet}
+use Rattle.sock_tcp.proofs.Listeners.ListenActs.{tells_whole}
 use Rattle.sock_tcp.proofs.listener.Listener.whole_arrive.Goals as goal
 
 pub returns : goal.returns

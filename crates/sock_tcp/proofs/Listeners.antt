@@ -1,0 +1,2 @@
+pub mod ListenActs
+pub mod ListenEnds

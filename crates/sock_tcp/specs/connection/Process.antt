@@ -1,0 +1,175 @@
+-- what the process and the timer do to a record (RFC 9293, section 3.10.1 to 3.10.4 and 3.10.8)
+use Rattle.std.specs.Prelude.{ℕ, ◌+◌, ◌-◌, nat_lt, nat_le, List, [], ◌∷◌, ◌++◌, length, take, drop, min, max, Bool, true, false, ◌&&◌, ◌||◌, if◌then◌else◌, None}
+use Rattle.sim_base.specs.declared.address.Addr.{Addr}
+use Rattle.sim_base.specs.declared.errno.Errno.TheVariants.{Etimedout}
+use Rattle.sock_tcp.specs.declared.segment.control.Control.{Control}
+use Rattle.sock_tcp.specs.declared.connection.effects.Shut.{Shut}
+use Rattle.sock_tcp.specs.declared.connection.effects.Shut.TheVariants.{Reading, Writing, Both}
+use Rattle.sock_tcp.specs.declared.segment.state.TcpState.TheVariants.{SynSent, SynReceived}
+use Rattle.sock_tcp.specs.segment.Number.{wire}
+use Rattle.sock_tcp.specs.segment.State.{is_over, is_time_wait, is_opening, is_syn_sent, is_syn_received, is_sending}
+use Rattle.sock_tcp.specs.segment.Control.{fresh_control, without_ack, takes_bytes, finds_end, control_read, writing_ended}
+use Rattle.sock_tcp.specs.connection.Tcb.{Tcb, Turn, buffer_size, data_end, unread, own_window, with_control, changed}
+use Rattle.sock_tcp.specs.connection.Segment.{with_ack, sends, sends_ack, sends_syn_ack, sends_reset}
+use Rattle.sock_tcp.specs.connection.Ending.{ends, vanishes}
+use Rattle.sock_tcp.specs.connection.Timer.{judged}
+use Rattle.sock_tcp.specs.connection.Output.{max_text, moves_next, sends_fin, follows, output}
+use Rattle.sock_tcp.specs.connection.Arrival.{unless_over}
+
+-- a record that has sent its SYN, and nothing else
+unfoldable pub fresh_tcb : Control → ℕ → ℕ → ℕ → Tcb
+fresh_tcb c iss irs rcv = record {
+  control = c;
+  iss = iss;
+  irs = irs;
+  una = 0;
+  nxt = 1;
+  highest = 1;
+  rcv = rcv;
+  written = [];
+  received = [];
+  read = 0;
+  discarded = 0;
+}
+
+-- an active open (section 3.10.1): the SYN goes out without ACK
+unfoldable pub opened : Addr → Addr → ℕ → Turn
+opened local peer iss =
+    let c = fresh_control local peer SynSent in
+    record { tcb = fresh_tcb c iss 0 0; sent = without_ack c 2 iss ∷ []; started = true }
+
+-- a passive open (section 3.10.7.2, third step): a SYN came, and the SYN and ACK goes out
+unfoldable pub answered : Addr → Addr → ℕ → ℕ → Turn
+answered local peer iss seq =
+    let r = fresh_tcb (fresh_control local peer SynReceived) iss seq 1 in
+    record { tcb = r; sent = with_ack r 18 0 [] ∷ []; started = true }
+
+-- what was written and isn't acknowledged yet, and how much more there is room for
+abbrev pub unacknowledged : Tcb → List ℕ
+unacknowledged r = drop (r.una - 1) r.written
+
+abbrev pub room : Tcb → ℕ
+room r = buffer_size - length (unacknowledged r)
+
+unfoldable pub bytes_taken : List ℕ → Tcb → List ℕ
+bytes_taken bytes r = if takes_bytes r.control then take (room r) bytes else []
+
+unfoldable pub writes : List ℕ → Tcb → Tcb
+writes bytes r = record r { written = r.written ++ bytes_taken bytes r }
+
+-- a read of count bytes gives as many as wait (section 3.10.3)
+abbrev pub bytes_read : ℕ → Tcb → List ℕ
+bytes_read count r = take count (drop r.read r.received)
+
+-- it owes the peer an ACK where it raises the own window over a segment's text (section 3.8.6.2.2)
+abbrev pub raises_window : ℕ → ℕ → Bool
+raises_window before after = nat_lt before max_text && nat_le max_text after
+
+unfoldable pub reads : ℕ → Tcb → Tcb
+reads count r =
+    let moved = record r { read = r.read + min count (unread r) } in
+    with_control (control_read (raises_window (own_window r) (own_window moved)) (finds_end count (unread r) r.control)) moved
+
+-- what a read or a write brings about: the ACK that is owed, and then what may be sent
+abbrev pub ack_paid : Control → Control
+ack_paid c = record c { owes_ack = false }
+
+unfoldable pub pays_ack : Turn → Turn
+pays_ack t =
+    if t.tcb.control.owes_ack then changed (with_control ack_paid) (sends_ack t) else t
+
+abbrev pub flows_on : Turn → Turn
+flows_on t = output (pays_ack t)
+
+unfoldable pub flows : Turn → Turn
+flows t = judged (unless_over flows_on t)
+
+unfoldable pub ends_writing : Turn → Turn
+ends_writing t =
+    if is_opening t.tcb.control.state then t else output (changed (with_control writing_ended) t)
+
+-- the end of reading
+abbrev pub reading_ended : Control → Control
+reading_ended c = record c { reading_ended = true }
+
+unfoldable pub ends_reading : Turn → Turn
+ends_reading t = changed (with_control reading_ended) t
+
+abbrev pub shuts_end : Shut → Turn → Turn
+shuts_end Reading t = ends_reading t
+shuts_end Writing t = ends_writing t
+shuts_end Both t = ends_writing (ends_reading t)
+
+unfoldable pub shuts : Shut → Turn → Turn
+shuts end t = judged (shuts_end end t)
+
+-- the socket is closed: a connection with bytes that nobody read is reset (section 3.6.1)
+abbrev pub socket_closed : Control → Control
+socket_closed c = record c { closed = true }
+
+unfoldable pub closes_socket : Turn → Turn
+closes_socket t =
+    if is_syn_sent t.tcb.control.state || is_over t.tcb.control.state then vanishes t
+    else if nat_lt 0 (unread t.tcb) then vanishes (sends_reset t)
+    else ends_writing t
+
+unfoldable pub closes : Turn → Turn
+closes t = judged (closes_socket (changed (with_control socket_closed) t))
+
+-- the error is taken by the call that answers it
+unfoldable pub error_taken : Tcb → Tcb
+error_taken r = with_control (λ c. record c { error = None }) r
+
+-- what goes out again at an expiry: one segment from what isn't acknowledged on (section 3.8.1),
+-- where a window of 0 is probed by one byte (section 3.8.6.1)
+abbrev pub probe_length : Tcb → ℕ
+probe_length r = min max_text (max r.control.window 1)
+
+unfoldable pub sends_again_text : Turn → Turn
+sends_again_text t =
+    let r = t.tcb in
+    let text = take (probe_length r) (unacknowledged r) in
+    changed (moves_next (r.una + length text)) (sends (with_ack r 16 r.una text) t)
+
+unfoldable pub sends_again : Turn → Turn
+sends_again t =
+    if nat_lt t.tcb.una (data_end t.tcb)
+    then sends_again_text t
+    else sends_fin (changed (moves_next t.tcb.una) t)
+
+-- the SYN, which isn't acknowledged yet, or the SYN and ACK; what is next to send stays behind it
+unfoldable pub sends_syn : Turn → Turn
+sends_syn t = sends (without_ack t.tcb.control 2 (wire t.tcb.iss t.tcb.una)) t
+
+unfoldable pub sends_syn_again : Turn → Turn
+sends_syn_again t = if is_syn_sent t.tcb.control.state then sends_syn t else sends_syn_ack t
+
+abbrev pub expired_again : Control → Control
+expired_again c = record c { retries = c.retries + 1 }
+
+abbrev pub counts_expiry : Turn → Turn
+counts_expiry t = record (changed (with_control expired_again) t) { started = true }
+
+unfoldable pub sends_one : Turn → Turn
+sends_one t =
+    if is_opening t.tcb.control.state then sends_syn_again t
+    else if is_sending t.tcb.control.state then follows (sends_again t)
+    else t
+
+-- the expiry counts, and the timer starts again
+unfoldable pub retries_once : Turn → Turn
+retries_once t = sends_one (counts_expiry t)
+
+-- at the seventh expiry in a row the record gives up
+unfoldable pub gives_up : Turn → Turn
+gives_up t = if is_syn_received t.tcb.control.state then vanishes t else ends Etimedout t
+
+unfoldable pub expires_running : Turn → Turn
+expires_running t =
+    if is_time_wait t.tcb.control.state then vanishes t
+    else if nat_lt t.tcb.control.retries 6 then retries_once t
+    else gives_up t
+
+-- an expiry of a timer that doesn't run is none
+unfoldable pub expires : Turn → Turn
+expires t = if t.tcb.control.timer then judged (expires_running t) else t

@@ -1,0 +1,2 @@
+pub mod Listen
+pub mod ListensFor

@@ -1,0 +1,23 @@
+//! The connections of TCP (a profile of RFC 9293).
+
+mod acknowledgement;
+mod arrival;
+mod calls;
+mod conn;
+mod effects;
+mod ending;
+mod expiry;
+mod lookup;
+mod output;
+mod process;
+mod resets;
+mod segment;
+#[cfg(test)]
+mod tests;
+mod text;
+mod timer;
+
+pub use conn::Conn;
+pub use effects::{Draft, Effects, Opened, Shut};
+pub use lookup::place_in;
+pub use resets::reset_all;

@@ -1,0 +1,30 @@
+//! A connection.
+
+ghost use Rattle.std.specs.Prelude.{◌≡◌, ◌+◌, ◌≤◌, length};
+
+use crate::segment::Control;
+use circular_buffer::HeapCircularBuffer;
+
+/// How many bytes either buffer holds.
+pub(crate) const BUFFER: usize = 65_535;
+
+/// A connection. It keeps the number of the first byte that isn't acknowledged (SND.UNA), how far
+/// the next one to send (SND.NXT) and the highest one sent are from it, what it sends and wasn't
+/// acknowledged yet, and what it received and wasn't read yet. After a call that answers want of
+/// memory nothing is known of it.
+#[derive(Drop)]
+pub struct Conn {
+    pub(crate) control: Control,
+    pub(crate) una: u32,
+    pub(crate) sent: usize,
+    pub(crate) highest: usize,
+    pub(crate) rcv: u32,
+    pub(crate) send: HeapCircularBuffer<u8>,
+    pub(crate) receive: HeapCircularBuffer<u8>,
+    ghost send_room: { send.capacity ≡ 65535 },
+    ghost receive_room: { receive.capacity ≡ 65535 },
+    ghost send_fits: { length send.items ≤ 65535 },
+    ghost receive_fits: { length receive.items ≤ 65535 },
+    ghost next_in: { sent ≤ length send.items + 2 },
+    ghost highest_in: { highest ≤ length send.items + 2 },
+}

@@ -1,0 +1,17 @@
+//! The headers, numbers, states and verdicts of TCP segments (a profile of RFC 9293).
+
+mod control;
+mod header;
+mod number;
+mod state;
+#[cfg(test)]
+mod tests;
+mod unmatched;
+mod verdict;
+
+pub use control::Control;
+pub use header::{ACK, FIN, Header, RST, SYN};
+pub use number::{Distance, distance_to, number_at, number_past};
+pub use state::{Phase, TcpState};
+pub use unmatched::refusal;
+pub use verdict::{Verdict, verdict_on};

@@ -1,7 +1,0 @@
--- how a call begins
-use Rattle.std.specs.Prelude.{[], false}
-use Rattle.tcp_record.specs.Tcb.{Tcb, Turn}
-
--- the turn that a call begins with: nothing is sent yet
-abbrev pub begin : Tcb → Turn
-begin r = record { tcb = r; sent = []; started = false }
