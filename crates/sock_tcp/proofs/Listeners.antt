@@ -1,2 +1,3 @@
+pub mod QueuePlaces
 pub mod ListenActs
 pub mod ListenEnds

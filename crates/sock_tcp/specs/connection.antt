@@ -9,3 +9,4 @@ pub mod Begin
 pub mod StandsFor
 pub mod Pairs
 pub mod Resets
+pub mod Ready

@@ -1,2 +1,3 @@
 pub mod Listen
+pub mod Ready
 pub mod ListensFor

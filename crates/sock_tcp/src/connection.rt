@@ -10,6 +10,7 @@ mod expiry;
 mod lookup;
 mod output;
 mod process;
+mod readiness;
 mod resets;
 mod segment;
 #[cfg(test)]
@@ -17,7 +18,8 @@ mod tests;
 mod text;
 mod timer;
 
-pub use conn::Conn;
+pub use conn::{BUFFER_SIZE, Conn};
 pub use effects::{Draft, Effects, Opened, Shut};
 pub use lookup::place_in;
+pub use readiness::bit_if;
 pub use resets::reset_all;

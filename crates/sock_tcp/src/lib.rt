@@ -8,8 +8,6 @@ mod segment;
 #[cfg(test)]
 mod tests;
 
-pub use connection::{Conn, Effects, Opened, Shut};
-pub use listener::Listener;
-pub use segment::{
-    ACK, Control, Distance, FIN, Header, Phase, RST, SYN, TcpState, Verdict, refusal,
-};
+pub use connection::{BUFFER_SIZE, Conn, Effects, Opened, Shut};
+pub use listener::{Listener, MAX_BACKLOG};
+pub use segment::{Control, Distance, Header, Phase, TcpState, Verdict, refusal};

@@ -10,7 +10,7 @@ mod unmatched;
 mod verdict;
 
 pub use control::Control;
-pub use header::{ACK, FIN, Header, RST, SYN};
+pub use header::Header;
 pub use number::{Distance, distance_to, number_at, number_past};
 pub use state::{Phase, TcpState};
 pub use unmatched::refusal;

@@ -1,68 +1,64 @@
 -- a listener's connections that are accepted, and those that are reset
-use Rattle.std.proofs.lemmas.Bool.Decides.{nat_tests}
-use Rattle.std.proofs.Common.{◌≡◌, ℕ, true, false, ◌==◌, ◌+◌, ◌-◌, ◌<◌, ◌≤◌, nat_lt, List, [], ◌∷◌, ◌++◌, length, get_or, Some, None, sym, ap, subst, ◌∙◌, arith}
-use Rattle.std.specs.List.{remove}
+use Rattle.std.proofs.Common.{◌≡◌, ℕ, ◌<◌, List, [], ◌∷◌, length, Option, Some, None, slice_get, sym, ap, subst, ◌∙◌, arith}
+use Rattle.std.specs.List.{All}
+use Rattle.std.proofs.lemmas.List.Elements.{All-nil, All-head}
 use Rattle.sock_tcp.specs.declared.connection.conn.Conn.{Conn}
 use Rattle.sock_tcp.specs.declared.connection.effects.Effects.{Effects}
 use Rattle.sock_tcp.specs.declared.listener.Listener.{Listener}
 use Rattle.sock_tcp.specs.connection.Tcb.{Tcb}
-use Rattle.sock_tcp.specs.listener.Listen.{Listen, hears_close}
 use Rattle.sock_tcp.specs.connection.Resets.{resets_of}
 use Rattle.sock_tcp.specs.connection.StandsFor.{StandsFor, StandsAll}
-use Rattle.sock_tcp.specs.listener.ListensFor.{ListensFor, Tells, AcceptsFrom}
+use Rattle.sock_tcp.specs.listener.Listen.{Listen, without, accepted_at, accepted_from, accepts, hears_close}
+use Rattle.sock_tcp.specs.listener.ListensFor.{ListensFor, Tells, AcceptsAs}
+use Rattle.sock_tcp.proofs.Connections.Places.{same_length, record_at}
 
--- nothing is accepted where nothing waits
-pub accepts_none : (k : Listener) (l : Listen) (conns : List Conn) (records : List Tcb) → StandsAll conns records → length conns ≡ 0 → ListensFor k l → AcceptsFrom l records None k
-accepts_none k l [] [] h e s = s
-accepts_none k l [] (r ∷ records) h e s = absurd h
-accepts_none k l (c ∷ conns) [] h e s = absurd h
-accepts_none k l (c ∷ conns) (r ∷ records) h e s = absurd (omega arith)
+-- nothing is accepted where the queue is empty
+none_from : (queue : List ℕ) (k : Listener) (l : Listen) → None ≡ slice_get queue 0 → ListensFor k l → AcceptsAs (accepted_from queue l) l None k
+none_from [] k l e h = h
+none_from (place ∷ behind) k l e h = cc
 
--- else the first one is
-pub accepts_first : (k k' : Listener) (l : Listen) (conns : List Conn) (records : List Tcb) (conn : Conn) → StandsAll conns records → 0 < length conns → conn ≡ get_or conns 0 conn → k'.local ≡ l.local → k'.limit ≡ l.limit → StandsAll k'.opening.items l.opening → k'.whole.items ≡ remove conns 0 → AcceptsFrom l records (Some conn) k'
-accepts_first k k' l [] records conn h b is local limit opening whole = absurd (omega arith)
-accepts_first k k' l (c ∷ conns) [] conn h b is local limit opening whole = absurd h
-accepts_first k k' l (c ∷ conns) (r ∷ records) conn h b is local limit opening whole = (
-  subst (λ (x : Conn). StandsFor x r) (sym is) h.0,
-  record {
-    local = local;
-    limit = limit;
-    opening = opening;
-    whole = subst (λ (xs : List Conn). StandsAll xs records) (sym whole) h.1;
-  },
-)
+pub accepts_none : (k : Listener) (l : Listen) → ListensFor k l → None ≡ slice_get l.accept_queue 0 → AcceptsAs (accepts l) l None k
+unfolding accepts
+accepts_none k l h e = none_from l.accept_queue k l e h
+
+-- the first place of the queue is that of a record
+place_below : (queue : List ℕ) (place n : ℕ) → slice_get queue 0 ≡ Some place → All (λ at. at < n) queue → place < n
+place_below [] place n e h = cc
+place_below (first ∷ behind) place n e h =
+    let same : first ≡ place = cc in
+    subst (λ (x : ℕ). x < n) same (All-head (λ at. at < n) first behind h)
+
+pub first_below : (k : Listener) (l : Listen) (place : ℕ) → slice_get k.accept_queue.items 0 ≡ Some place → ListensFor k l → place < length k.records.items
+first_below k l place e h =
+    let at : slice_get l.accept_queue 0 ≡ Some place = ap (λ xs. slice_get xs 0) (sym h.accept_queue) ∙ e in
+    omega (arith, place_below l.accept_queue place (length l.records) at h.places, same_length k.records.items l.records h.records)
+
+-- else the record there is accepted
+first_from : (queue : List ℕ) (place : ℕ) (r : Tcb) (k' : Listener) (l : Listen) (conn : Conn) → slice_get queue 0 ≡ Some place → slice_get l.records place ≡ Some r → StandsFor conn r → ListensFor k' (without place l) → AcceptsAs (accepted_from queue l) l (Some conn) k'
+first_from [] place r k' l conn e at s h = cc
+first_from (first ∷ behind) place r k' l conn e at s h =
+    let same : first ≡ place = cc in
+    let is : accepted_from (first ∷ behind) l ≡ Some (r, without place l) =
+    ap (λ n. accepted_at n (slice_get l.records n) l) same ∙ ap (λ o. accepted_at place o l) at in
+    subst (λ (o : Option (Tcb × Listen)). AcceptsAs o l (Some conn) k') (sym is) (s, h)
+
+pub accepts_first : (k k' : Listener) (l : Listen) (place : ℕ) (conn : Conn) → ListensFor k l → Some place ≡ slice_get l.accept_queue 0 → place < length k.records.items → ((m : Listen) → ListensFor k m → (r : Tcb) → slice_get m.records place ≡ Some r → StandsFor conn r) → ((m : Listen) → ListensFor k m → ListensFor k' (without place m)) → AcceptsAs (accepts l) l (Some conn) k'
+unfolding accepts
+accepts_first k k' l place conn h e b stands rest =
+    let found = record_at k.records.items l.records place h.records b in
+    first_from l.accept_queue place found.0 k' l conn (sym e) found.1 (stands l h found.0 found.1) (rest l h)
 
 -- a listener that was closed
-pub tells_close : (k k' : Listener) (l : Listen) (e : Effects) → ListensFor k l → k'.local ≡ k.local → k'.limit ≡ k.limit → k'.opening.items ≡ [] → k'.whole.items ≡ [] → e.segments.items ≡ resets_of l.whole ++ resets_of l.opening → e.timer ≡ None → Tells k' e (hears_close l)
+pub tells_close : (k k' : Listener) (l : Listen) (e : Effects) → ListensFor k l → k'.local ≡ k.local → k'.limit ≡ k.limit → k'.records.items ≡ [] → k'.accept_queue.items ≡ [] → e.segments.items ≡ resets_of l.records → e.timer ≡ None → Tells k' e (hears_close l)
 unfolding hears_close
-tells_close k k' l e h local limit opening whole segments timer = record {
+tells_close k k' l e h local limit records queue segments timer = record {
   listen = record {
     local = local ∙ h.local;
     limit = limit ∙ h.limit;
-    opening = subst (λ (xs : List Conn). StandsAll xs []) (sym opening) tt;
-    whole = subst (λ (xs : List Conn). StandsAll xs []) (sym whole) tt;
+    records = subst (λ (xs : List Conn). StandsAll xs []) (sym records) tt;
+    accept_queue = queue;
+    places = All-nil (λ (place : ℕ). place < 0);
   };
   segments = segments;
   timer = timer;
 }
-
-pub empty_length : (n m : ℕ) → (n == 0) ≡ true → n ≡ m → m ≡ 0
-empty_length n m e f = let g : n ≡ 0 = grind (arith, nat_tests) in sym f ∙ g
-
-pub some_length : (n m : ℕ) → (n == 0) ≡ false → n ≡ m → 0 < m
-some_length n m e f = let g : 0 < n = grind (arith, nat_tests) in omega (arith, f, g)
-
--- room for one more, without a sum
-room_test : (a b n : ℕ) → a < n → nat_lt b (n - a) ≡ nat_lt (a + b) n
-room_test a b n h = grind (arith, nat_tests)
-
-pub room_below : (a b n opening whole limit : ℕ) → a < n → a ≡ opening → b ≡ whole → n ≡ limit → nat_lt b (n - a) ≡ nat_lt (opening + whole) limit
-room_below a b n opening whole limit h p q r =
-    room_test a b n h ∙ (ap (λ x. nat_lt (x + b) n) p ∙ (ap (λ x. nat_lt (opening + x) n) q ∙ ap (nat_lt (opening + whole)) r))
-
-full_test : (a b n : ℕ) → n ≤ a → nat_lt a n ≡ nat_lt (a + b) n
-full_test a b n h = grind (arith, nat_tests)
-
-pub room_above : (a n opening whole limit : ℕ) → n ≤ a → a ≡ opening → n ≡ limit → nat_lt a n ≡ nat_lt (opening + whole) limit
-room_above a n opening whole limit h p r =
-    full_test a whole n h ∙ (ap (λ x. nat_lt (x + whole) n) p ∙ ap (nat_lt (opening + whole)) r)

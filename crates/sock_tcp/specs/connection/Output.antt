@@ -1,6 +1,7 @@
 -- what a record sends of its own accord (RFC 9293, section 3.10.7.4 and section 3.8.6)
 use Rattle.std.specs.Prelude.{ℕ, ◌+◌, ◌-◌, ◌==◌, zero, suc, List, [], ◌∷◌, ◌++◌, length, take, drop, min, max, Bool, ◌&&◌, if◌then◌else◌}
 use Rattle.sim_base.specs.declared.packet.Packet.{Packet}
+use Rattle.sim_base.specs.Packet.{fin_flag, ack_flag, max_segment}
 use Rattle.sock_tcp.specs.declared.segment.control.Control.{Control}
 use Rattle.sock_tcp.specs.segment.Number.{wire}
 use Rattle.sock_tcp.specs.segment.State.{is_sending}
@@ -8,12 +9,7 @@ use Rattle.sock_tcp.specs.connection.Tcb.{Tcb, Turn, data_end, own_window, chang
 use Rattle.sock_tcp.specs.segment.Control.{segment}
 use Rattle.sock_tcp.specs.connection.Segment.{with_ack, sends}
 
--- the text of one segment is at most this long
-abbrev pub max_text : ℕ
-max_text = 1460
-
--- text cut into pieces of this size, the last of which may be shorter; count is at least their
--- number
+-- text cut into pieces of a size, the last of which may be shorter; count is at least their number
 abbrev pub cut : ℕ → ℕ → List ℕ → List (List ℕ)
 cut size zero text = []
 cut size (suc count) [] = []
@@ -21,13 +17,13 @@ cut size (suc count) (byte ∷ text) =
     take size (byte ∷ text) ∷ cut size count (drop size (byte ∷ text))
 
 unfoldable pub pieces : List ℕ → List (List ℕ)
-pieces text = cut max_text (length text) text
+pieces text = cut max_segment (length text) text
 
 -- a segment for each piece, one after another from an offset on
 abbrev pub text_segments : Control → ℕ → ℕ → ℕ → ℕ → List (List ℕ) → List Packet
 text_segments c start offset ack window [] = []
 text_segments c start offset ack window (piece ∷ rest) =
-    segment c 16 (wire start offset) ack window piece
+    segment c ack_flag (wire start offset) ack window piece
     ∷ text_segments c start (offset + length piece) ack window rest
 
 -- how far text may be sent: to the end of what was written, and to that of the peer's window
@@ -54,7 +50,7 @@ moves_next offset r = record r { nxt = offset }
 unfoldable pub sends_fin : Turn → Turn
 sends_fin t =
     if fin_is_next t.tcb
-    then changed (moves_next (t.tcb.nxt + 1)) (sends (with_ack t.tcb 17 t.tcb.nxt []) t)
+    then changed (moves_next (t.tcb.nxt + 1)) (sends (with_ack t.tcb (fin_flag + ack_flag) t.tcb.nxt []) t)
     else t
 
 -- the highest offset follows

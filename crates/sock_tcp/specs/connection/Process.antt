@@ -2,6 +2,7 @@
 use Rattle.std.specs.Prelude.{ℕ, ◌+◌, ◌-◌, nat_lt, nat_le, List, [], ◌∷◌, ◌++◌, length, take, drop, min, max, Bool, true, false, ◌&&◌, ◌||◌, if◌then◌else◌, None}
 use Rattle.sim_base.specs.declared.address.Addr.{Addr}
 use Rattle.sim_base.specs.declared.errno.Errno.TheVariants.{Etimedout}
+use Rattle.sim_base.specs.Packet.{syn_flag, ack_flag, max_segment}
 use Rattle.sock_tcp.specs.declared.segment.control.Control.{Control}
 use Rattle.sock_tcp.specs.declared.connection.effects.Shut.{Shut}
 use Rattle.sock_tcp.specs.declared.connection.effects.Shut.TheVariants.{Reading, Writing, Both}
@@ -13,7 +14,7 @@ use Rattle.sock_tcp.specs.connection.Tcb.{Tcb, Turn, buffer_size, data_end, unre
 use Rattle.sock_tcp.specs.connection.Segment.{with_ack, sends, sends_ack, sends_syn_ack, sends_reset}
 use Rattle.sock_tcp.specs.connection.Ending.{ends, vanishes}
 use Rattle.sock_tcp.specs.connection.Timer.{judged}
-use Rattle.sock_tcp.specs.connection.Output.{max_text, moves_next, sends_fin, follows, output}
+use Rattle.sock_tcp.specs.connection.Output.{moves_next, sends_fin, follows, output}
 use Rattle.sock_tcp.specs.connection.Arrival.{unless_over}
 
 -- a record that has sent its SYN, and nothing else
@@ -36,13 +37,13 @@ fresh_tcb c iss irs rcv = record {
 unfoldable pub opened : Addr → Addr → ℕ → Turn
 opened local peer iss =
     let c = fresh_control local peer SynSent in
-    record { tcb = fresh_tcb c iss 0 0; sent = without_ack c 2 iss ∷ []; started = true }
+    record { tcb = fresh_tcb c iss 0 0; sent = without_ack c syn_flag iss ∷ []; started = true }
 
 -- a passive open (section 3.10.7.2, third step): a SYN came, and the SYN and ACK goes out
 unfoldable pub answered : Addr → Addr → ℕ → ℕ → Turn
 answered local peer iss seq =
     let r = fresh_tcb (fresh_control local peer SynReceived) iss seq 1 in
-    record { tcb = r; sent = with_ack r 18 0 [] ∷ []; started = true }
+    record { tcb = r; sent = with_ack r (syn_flag + ack_flag) 0 [] ∷ []; started = true }
 
 -- what was written and isn't acknowledged yet, and how much more there is room for
 abbrev pub unacknowledged : Tcb → List ℕ
@@ -63,7 +64,7 @@ bytes_read count r = take count (drop r.read r.received)
 
 -- it owes the peer an ACK where it raises the own window over a segment's text (section 3.8.6.2.2)
 abbrev pub raises_window : ℕ → ℕ → Bool
-raises_window before after = nat_lt before max_text && nat_le max_text after
+raises_window before after = nat_lt before max_segment && nat_le max_segment after
 
 unfoldable pub reads : ℕ → Tcb → Tcb
 reads count r =
@@ -123,13 +124,13 @@ error_taken r = with_control (λ c. record c { error = None }) r
 -- what goes out again at an expiry: one segment from what isn't acknowledged on (section 3.8.1),
 -- where a window of 0 is probed by one byte (section 3.8.6.1)
 abbrev pub probe_length : Tcb → ℕ
-probe_length r = min max_text (max r.control.window 1)
+probe_length r = min max_segment (max r.control.window 1)
 
 unfoldable pub sends_again_text : Turn → Turn
 sends_again_text t =
     let r = t.tcb in
     let text = take (probe_length r) (unacknowledged r) in
-    changed (moves_next (r.una + length text)) (sends (with_ack r 16 r.una text) t)
+    changed (moves_next (r.una + length text)) (sends (with_ack r ack_flag r.una text) t)
 
 unfoldable pub sends_again : Turn → Turn
 sends_again t =
@@ -139,7 +140,7 @@ sends_again t =
 
 -- the SYN, which isn't acknowledged yet, or the SYN and ACK; what is next to send stays behind it
 unfoldable pub sends_syn : Turn → Turn
-sends_syn t = sends (without_ack t.tcb.control 2 (wire t.tcb.iss t.tcb.una)) t
+sends_syn t = sends (without_ack t.tcb.control syn_flag (wire t.tcb.iss t.tcb.una)) t
 
 unfoldable pub sends_syn_again : Turn → Turn
 sends_syn_again t = if is_syn_sent t.tcb.control.state then sends_syn t else sends_syn_ack t

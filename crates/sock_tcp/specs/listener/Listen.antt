@@ -1,14 +1,15 @@
 -- a listener: LISTEN, and the records that wait to be accepted (RFC 9293, section 3.10.7.2)
-use Rattle.std.specs.Prelude.{ℕ, ℤ, pos, negsuc, ◌+◌, ◌%◌, ◌^◌, nat_lt, List, [], ◌∷◌, ◌++◌, length, slice_get, slice_set, min, max, Bool, false, not, ◌&&◌, ◌||◌, if◌then◌else◌, Option, Some, None}
+use Rattle.std.specs.Prelude.{ℕ, ℤ, pos, negsuc, ◌-◌, ◌%◌, ◌^◌, ◌==◌, nat_lt, List, [], ◌∷◌, ◌++◌, length, map, filter, slice_get, slice_set, min, max, Bool, false, not, ◌&&◌, ◌||◌, if◌then◌else◌, Option, Some, None}
 use Rattle.std.specs.List.{remove}
+use Rattle.sim_base.specs.Addresses.{any, is_same_ip}
 use Rattle.sim_base.specs.declared.address.Addr.{Addr}
 use Rattle.sim_base.specs.declared.packet.Packet.{Packet}
 use Rattle.sim_base.specs.declared.packet.Load.{Load}
 use Rattle.sim_base.specs.declared.packet.Load.TheVariants.{Udp, Tcp}
 use Rattle.sim_base.specs.declared.time.Time.{Time}
-use Rattle.sock_tcp.specs.declared.segment.header.Header.{Header}
 use Rattle.sock_tcp.specs.segment.Header.{header_of}
 use Rattle.sock_tcp.specs.segment.State.{is_over}
+use Rattle.sock_tcp.specs.declared.segment.header.Header.{Header}
 use Rattle.sock_tcp.specs.connection.Tcb.{Tcb, Turn}
 use Rattle.sock_tcp.specs.connection.Timer.{timer_of}
 use Rattle.sock_tcp.specs.connection.Pairs.{place_in}
@@ -17,13 +18,14 @@ use Rattle.sock_tcp.specs.connection.Arrival.{takes_packet}
 use Rattle.sock_tcp.specs.connection.Process.{answered, expires}
 use Rattle.sock_tcp.specs.connection.Begin.{begin}
 
--- the own end, how many records the queue holds, those in SYN-RECEIVED in the order of their SYNs,
--- and those that became ESTABLISHED, in this order
+-- the own end, how many records the queues hold, the records that weren't accepted, in the order of
+-- their SYNs, and the accept queue: the places of those that became ESTABLISHED, in this order. The
+-- others are the SYN queue
 pub record Listen : Type 0 where
   pub local : Addr
   pub limit : ℕ
-  pub opening : List Tcb
-  pub whole : List Tcb
+  pub records : List Tcb
+  pub accept_queue : List ℕ
 
 -- what an act of a listener leaves and brings about
 pub record Heard : Type 0 where
@@ -31,34 +33,53 @@ pub record Heard : Type 0 where
   pub sent : List Packet
   pub timer : Option Time
 
--- the queue holds as many as the process asks for, at least one and at most 128
+-- the queues hold as many as the process asks for, at least one and at most 128
+abbrev pub max_backlog : ℕ
+max_backlog = 128
+
 abbrev pub queue_limit : ℤ → ℕ
-queue_limit (pos n) = max 1 (min n 128)
+queue_limit (pos n) = max 1 (min n max_backlog)
 queue_limit (negsuc n) = 1
 
 -- a listener without records
 unfoldable pub fresh_listen : Addr → ℤ → Listen
 fresh_listen local backlog =
-    record { local = local; limit = queue_limit backlog; opening = []; whole = [] }
+    record { local = local; limit = queue_limit backlog; records = []; accept_queue = [] }
 
--- a record that became ESTABLISHED waits behind the others, and one that vanished leaves
+-- the record at a place leaves, and those behind it move up
+abbrev pub is_elsewhere : ℕ → ℕ → Bool
+is_elsewhere gone place = not (place == gone)
+
+abbrev pub place_past : ℕ → ℕ → ℕ
+place_past gone place = if nat_lt gone place then place - 1 else place
+
+abbrev pub places_past : ℕ → List ℕ → List ℕ
+places_past gone places = map (place_past gone) (filter (is_elsewhere gone) places)
+
+unfoldable pub without : ℕ → Listen → Listen
+without place l = record l {
+  records = remove l.records place;
+  accept_queue = places_past place l.accept_queue;
+}
+
 abbrev pub replaced : ℕ → Tcb → Listen → Listen
-replaced place r l = record l { opening = slice_set l.opening place r }
+replaced place r l = record l { records = slice_set l.records place r }
 
-unfoldable pub settled : ℕ → Tcb → Listen → Listen
-settled place r l =
-    if r.control.was_established
-    then record l { opening = remove l.opening place; whole = l.whole ++ r ∷ [] }
-    else if is_over r.control.state then record l { opening = remove l.opening place }
+abbrev pub waits : ℕ → Listen → Listen
+waits place l = record l { accept_queue = l.accept_queue ++ place ∷ [] }
+
+-- after an act on the record at a place: one that became ESTABLISHED waits behind the others, and
+-- one of the SYN queue that is over leaves
+unfoldable pub settled : ℕ → Bool → Tcb → Listen → Listen
+settled place before r l =
+    if r.control.was_established then (if before then l else waits place l)
+    else if is_over r.control.state then without place l
     else l
 
-abbrev pub opening_heard : ℕ → Turn → Listen → Heard
-opening_heard place t l =
-    record { listen = settled place t.tcb (replaced place t.tcb l); sent = t.sent; timer = timer_of t }
-
-abbrev pub whole_heard : ℕ → Turn → Listen → Heard
-whole_heard place t l = record {
-  listen = record l { whole = slice_set l.whole place t.tcb };
+-- the record at a place does an act, if there is one
+abbrev pub record_heard : ℕ → Bool → Turn → Listen → Heard
+record_heard place before t l = record {
+  listen = settled place before t.tcb (replaced place t.tcb l);
   sent = t.sent;
   timer = timer_of t;
 }
@@ -66,33 +87,27 @@ whole_heard place t l = record {
 abbrev pub nothing_heard : Listen → Heard
 nothing_heard l = record { listen = l; sent = []; timer = None }
 
--- the record at a place does an act, if there is one
-abbrev pub whole_acts : (Turn → Turn) → ℕ → Option Tcb → Listen → Heard → Heard
-whole_acts act place None l otherwise = otherwise
-whole_acts act place (Some r) l otherwise = whole_heard place (act (begin r)) l
+abbrev pub record_acts : (Turn → Turn) → ℕ → Option Tcb → Listen → Heard → Heard
+record_acts act place None l otherwise = otherwise
+record_acts act place (Some r) l otherwise =
+    record_heard place r.control.was_established (act (begin r)) l
 
-abbrev pub opening_acts : (Turn → Turn) → ℕ → Option Tcb → Listen → Heard → Heard
-opening_acts act place None l otherwise = otherwise
-opening_acts act place (Some r) l otherwise = opening_heard place (act (begin r)) l
-
--- the kept record of two ends does an act
+-- the live record of two ends does an act
 unfoldable pub kept_acts : (Turn → Turn) → Addr → Addr → Listen → Heard → Heard
 kept_acts act own other l otherwise =
-    let in_opening = place_in own other l.opening in
-    let in_whole = place_in own other l.whole in
-    opening_acts act in_opening (slice_get l.opening in_opening) l
-    (whole_acts act in_whole (slice_get l.whole in_whole) l otherwise)
+    let place = place_in own other l.records in
+    record_acts act place (slice_get l.records place) l otherwise
 
--- a SYN alone asks for a connection; it makes a record while the queue has room
+-- a SYN alone asks for a connection; it makes a record while the queues have room
 abbrev pub asks : Header → Bool
 asks h = h.syn && (not h.has_ack && not h.rst)
 
 abbrev pub has_room : Listen → Bool
-has_room l = nat_lt (length l.opening + length l.whole) l.limit
+has_room l = nat_lt (length l.records) l.limit
 
-unfoldable pub opening_made : Turn → Listen → Heard
-opening_made t l = record {
-  listen = record l { opening = l.opening ++ t.tcb ∷ [] };
+unfoldable pub record_made : Turn → Listen → Heard
+record_made t l = record {
+  listen = record l { records = l.records ++ t.tcb ∷ [] };
   sent = t.sent;
   timer = timer_of t;
 }
@@ -103,7 +118,7 @@ makes_record h l = asks h && has_room l
 unfoldable pub asked : Packet → Header → ℕ → Listen → Heard
 asked p h word l =
     if makes_record h l
-    then opening_made (answered p.to p.from (word % 2 ^ 32) h.seq) l
+    then record_made (answered p.to p.from (word % 2 ^ 32) h.seq) l
     else nothing_heard l
 
 abbrev pub load_header : Load → Option Header
@@ -120,12 +135,11 @@ unfoldable pub hears : Packet → ℕ → Listen → Heard
 hears p word l =
     kept_acts (takes_packet p) p.to p.from l (new_heard p (load_header p.load) word l)
 
--- whether it makes a record, and so takes the word
+-- whether it keeps a live record of two ends
 abbrev pub is_kept : Addr → Addr → Listen → Bool
-is_kept own other l =
-    nat_lt (place_in own other l.opening) (length l.opening)
-    || nat_lt (place_in own other l.whole) (length l.whole)
+is_kept own other l = nat_lt (place_in own other l.records) (length l.records)
 
+-- whether a segment makes a record, and so takes the word
 abbrev pub header_makes : Option Header → Listen → Bool
 header_makes None l = false
 header_makes (Some h) l = makes_record h l
@@ -137,9 +151,34 @@ takes_word p l = not (is_kept p.to p.from l) && header_makes (load_header p.load
 unfoldable pub hears_timer : Addr → Addr → Listen → Heard
 hears_timer own other l = kept_acts expires own other l (nothing_heard l)
 
+-- the oldest record of the accept queue is accepted, if one waits
+abbrev pub accepted_at : ℕ → Option Tcb → Listen → Option (Tcb × Listen)
+accepted_at place None l = None
+accepted_at place (Some r) l = Some (r, without place l)
+
+abbrev pub accepted_from : List ℕ → Listen → Option (Tcb × Listen)
+accepted_from [] l = None
+accepted_from (place ∷ behind) l = accepted_at place (slice_get l.records place) l
+
+unfoldable pub accepts : Listen → Option (Tcb × Listen)
+accepts l = accepted_from l.accept_queue l
+
+-- it is closed: each record that wasn't accepted is reset, in the order of their SYNs
 abbrev pub closed_listen : Listen → Listen
-closed_listen l = record l { opening = []; whole = [] }
+closed_listen l = record l { records = []; accept_queue = [] }
 
 unfoldable pub hears_close : Listen → Heard
-hears_close l =
-    record { listen = closed_listen l; sent = resets_of l.whole ++ resets_of l.opening; timer = None }
+hears_close l = record { listen = closed_listen l; sent = resets_of l.records; timer = None }
+
+-- whether a segment that belongs to no record is for this listener: a SYN alone to its port, and to
+-- its address where that isn't 0.0.0.0
+abbrev pub asks_in : Option Header → Bool
+asks_in None = false
+asks_in (Some h) = asks h
+
+abbrev pub listens_at : Addr → Addr → Bool
+listens_at to local =
+    (local.port == to.port) && (is_same_ip local.ip any || is_same_ip local.ip to.ip)
+
+unfoldable pub takes : Packet → Listen → Bool
+takes p l = asks_in (load_header p.load) && listens_at p.to l.local

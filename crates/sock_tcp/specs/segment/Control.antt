@@ -31,7 +31,7 @@ abbrev pub segment : Control → ℕ → ℕ → ℕ → ℕ → List ℕ → Pa
 segment c flags seq ack window text =
     record { from = c.local; to = c.peer; load = Tcp flags seq ack window text }
 
--- a segment without ACK: a SYN of SYN-SENT (flag 2) or a RST (flag 4)
+-- a segment without ACK: a SYN of SYN-SENT or a RST
 unfoldable pub without_ack : Control → ℕ → ℕ → Packet
 without_ack c flags seq = segment c flags seq 0 65535 []
 
@@ -48,11 +48,11 @@ timer_seconds c = if is_time_wait c.state then 60 else seconds_after c.retries
 abbrev pub takes_bytes : Control → Bool
 takes_bytes c = not (c.fin_wanted || is_over c.state)
 
--- it finds the end of what the peer sent where nothing waits and nothing comes any more
+-- it finds the end of what the peer sent where the FIN was taken and nothing waits
 abbrev pub finds_end : ℕ → ℕ → Control → Bool
 finds_end count waiting c =
     (nat_lt 0 count && (waiting == 0))
-    && ((c.fin_taken || is_over c.state) && not (c.reading_ended || c.had_error))
+    && (c.fin_taken && not (c.reading_ended || c.had_error))
 
 abbrev pub control_read : Bool → Bool → Control → Control
 control_read owes found c =

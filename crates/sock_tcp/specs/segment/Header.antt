@@ -1,5 +1,6 @@
 -- what a segment's header says beside its ports (RFC 9293, section 3.1)
 use Rattle.std.specs.Prelude.{ℕ, Bool, not, ◌==◌, bit_and}
+use Rattle.sim_base.specs.Packet.{fin_flag, syn_flag, rst_flag, ack_flag}
 use Rattle.sock_tcp.specs.declared.segment.header.Header.{Header}
 
 -- whether a bit of the flags is set
@@ -9,10 +10,10 @@ has_flag flags flag = not (bit_and flags flag == 0)
 -- the header of these flags, numbers and window
 abbrev pub header_of : ℕ → ℕ → ℕ → ℕ → Header
 header_of flags seq ack window = record {
-  fin = has_flag flags 1;
-  syn = has_flag flags 2;
-  rst = has_flag flags 4;
-  has_ack = has_flag flags 16;
+  fin = has_flag flags fin_flag;
+  syn = has_flag flags syn_flag;
+  rst = has_flag flags rst_flag;
+  has_ack = has_flag flags ack_flag;
   seq = seq;
   ack = ack;
   window = window;

@@ -3,6 +3,7 @@ use Rattle.std.specs.Prelude.{ℕ, ◌+◌, [], length, Bool, if◌then◌else�
 use Rattle.sim_base.specs.declared.packet.Packet.{Packet}
 use Rattle.sim_base.specs.declared.packet.Load.{Load}
 use Rattle.sim_base.specs.declared.packet.Load.TheVariants.{Udp, Tcp}
+use Rattle.sim_base.specs.Packet.{rst_flag, ack_flag}
 use Rattle.sock_tcp.specs.declared.segment.header.Header.{Header}
 use Rattle.sock_tcp.specs.segment.Header.{header_of}
 use Rattle.sock_tcp.specs.segment.Number.{wire}
@@ -20,8 +21,8 @@ one_if b = if b then 1 else 0
 unfoldable pub header_refusal : Packet → Header → ℕ → Option Packet
 header_refusal p h count =
     if h.rst then None
-    else if h.has_ack then Some (sent_back p 4 h.ack 0)
-    else Some (sent_back p 20 0 (wire h.seq (count + (one_if h.syn + one_if h.fin))))
+    else if h.has_ack then Some (sent_back p rst_flag h.ack 0)
+    else Some (sent_back p (rst_flag + ack_flag) 0 (wire h.seq (count + (one_if h.syn + one_if h.fin))))
 
 abbrev pub load_refusal : Packet → Load → Option Packet
 load_refusal p (Udp text) = None

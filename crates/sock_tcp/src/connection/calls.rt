@@ -1,10 +1,10 @@
 //! The calls on a connection.
 
-use crate::connection::conn::{BUFFER, Conn};
+use crate::connection::conn::{BUFFER_SIZE, Conn};
 use crate::connection::effects::{Draft, Effects, Opened, Shut};
-use crate::segment::{ACK, Control, Header, SYN, TcpState, number_at};
+use crate::segment::{Control, Header, TcpState, number_at};
 use circular_buffer::HeapCircularBuffer;
-use sim_base::{Addr, Bytes, Errno, Load, NoMemory, Packet};
+use sim_base::{ACK, Addr, Bytes, Errno, Load, NoMemory, Packet, SYN};
 use std::alloc::Global;
 
 impl Conn {
@@ -32,8 +32,8 @@ impl Conn {
             → StandsFor conn (fresh_tcb (fresh_control local peer state) iss irs at)) }
     {
         let control = Control::new(local, peer, state);
-        let send = HeapCircularBuffer::with_capacity(alloc, BUFFER)?;
-        let receive = HeapCircularBuffer::with_capacity(alloc, BUFFER)?;
+        let send = HeapCircularBuffer::with_capacity(alloc, BUFFER_SIZE)?;
+        let receive = HeapCircularBuffer::with_capacity(alloc, BUFFER_SIZE)?;
         Ok(Conn {
             control,
             una: iss,
@@ -140,7 +140,7 @@ impl Conn {
     pub fn room(&self) -> usize
         ensures { (r : Tcb) → StandsFor self.now r → result ≡ room r }
     {
-        BUFFER - self.send.len()
+        BUFFER_SIZE - self.send.len()
     }
 
     /// Takes the kept error.

@@ -2,10 +2,8 @@
 
 use crate::connection::conn::Conn;
 use crate::connection::effects::Draft;
-use crate::connection::output::MAX_TEXT;
 use crate::connection::text::copy_part;
-use crate::segment::{ACK, SYN};
-use sim_base::{Errno, NoMemory};
+use sim_base::{ACK, Errno, MAX_SEGMENT, NoMemory, SYN};
 
 impl Conn {
     ghost use Rattle.std.specs.Prelude.{◌≡◌, ◌<◌, nat_lt, true, OnOk};
@@ -22,7 +20,7 @@ impl Conn {
         ensures does { OnOk result (Does sends_again_text self.old draft.old self.new draft.new) }
         ensures control { self.new.control ≡ self.old.control }
     {
-        let probe = MAX_TEXT.min(usize::from(self.control.window).max(1));
+        let probe = MAX_SEGMENT.min(usize::from(self.control.window).max(1));
         let count = probe.min(self.send.len());
         let (front, back) = self.send.as_slices();
         let text = copy_part(self.alloc(), front, back, 0, count)?;

@@ -2,24 +2,25 @@
 
 ghost use Rattle.std.specs.Prelude.{◌≡◌, ◌≤◌, List, length, position};
 ghost use Rattle.sock_tcp.specs.connection.Tcb.{Tcb};
-ghost use Rattle.sock_tcp.specs.connection.Pairs.{same_end, is_pair, place_in};
+ghost use Rattle.sim_base.specs.Addresses.{is_same};
+ghost use Rattle.sock_tcp.specs.connection.Pairs.{is_pair, place_in, is_segment, takes};
 ghost use Rattle.sock_tcp.specs.connection.StandsFor.{StandsAll};
 
 use crate::connection::conn::Conn;
-use sim_base::Addr;
+use sim_base::{Addr, Load, Packet};
 
-fn same_end(a: Addr, b: Addr) -> bool
-    ensures { result ≡ same_end a b }
+fn is_same(a: Addr, b: Addr) -> bool
+    ensures { result ≡ is_same a b }
 {
-    a.ip.bits == b.ip.bits && a.port == b.port
+    a.ip == b.ip && a.port == b.port
 }
 
 fn is_pair(conn: &Conn, own: Addr, other: Addr) -> bool
     ensures { result ≡ is_pair own other conn.now.control }
 {
     !conn.control.state.is_over()
-        && same_end(conn.control.local, own)
-        && same_end(conn.control.peer, other)
+        && is_same(conn.control.local, own)
+        && is_same(conn.control.peer, other)
 }
 
 /// The place of the live connection of two ends.
@@ -37,4 +38,22 @@ pub fn place_in(conns: &[Conn], own: Addr, other: Addr) -> usize
     ensures within { result ≤ length conns.now }
 {
     position_in(conns, own, other).unwrap_or(conns.len())
+}
+
+/// Whether it is a segment of TCP.
+fn is_segment(load: &Load) -> bool
+    ensures { result ≡ is_segment load.now }
+{
+    matches!(load, Load::Tcp { .. })
+}
+
+impl Conn {
+    ghost use Rattle.sock_tcp.specs.connection.StandsFor.{StandsFor};
+
+    /// Whether a packet is a segment of the connection's two ends, while it isn't over.
+    pub fn takes(&self, packet: &Packet) -> bool
+        ensures { (r : Tcb) → StandsFor self.now r → result ≡ takes packet.now r.control }
+    {
+        is_segment(&packet.load) && is_pair(self, packet.to, packet.from)
+    }
 }

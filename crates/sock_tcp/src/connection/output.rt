@@ -3,11 +3,7 @@
 use crate::connection::conn::Conn;
 use crate::connection::effects::Draft;
 use crate::connection::text::copy_part;
-use crate::segment::{ACK, FIN};
-use sim_base::{Bytes, NoMemory};
-
-/// The text of one segment is at most this long.
-pub(crate) const MAX_TEXT: usize = 1_460;
+use sim_base::{ACK, Bytes, FIN, MAX_SEGMENT, NoMemory};
 
 impl Conn {
     ghost use Rattle.std.specs.Prelude.{◌≡◌, ◌+◌, ◌-◌, ◌++◌, ◌≤◌, ◌<◌, take, drop, min, max, true, OnOk, IfOk, length};
@@ -41,7 +37,7 @@ impl Conn {
         let (front, back) = self.send.as_slices();
         let mut at = from;
         while at < to {
-            let count = MAX_TEXT.min(to - at);
+            let count = MAX_SEGMENT.min(to - at);
             let text = copy_part(alloc, front, back, at, count)?;
             let seq = self.number(at);
             draft.send(self.control.segment(ACK, seq, self.rcv, window, text))?;

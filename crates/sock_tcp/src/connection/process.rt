@@ -6,13 +6,12 @@ ghost use Rattle.sock_tcp.specs.connection.Process.{raises_window};
 
 use crate::connection::conn::Conn;
 use crate::connection::effects::{Draft, Shut};
-use crate::connection::output::MAX_TEXT;
-use sim_base::NoMemory;
+use sim_base::{MAX_SEGMENT, NoMemory};
 
 fn raises_window(before: u16, after: u16) -> bool
     ensures { result ≡ raises_window before after }
 {
-    usize::from(before) < MAX_TEXT && MAX_TEXT <= usize::from(after)
+    usize::from(before) < MAX_SEGMENT && MAX_SEGMENT <= usize::from(after)
 }
 
 impl Conn {

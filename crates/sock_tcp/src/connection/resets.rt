@@ -7,8 +7,7 @@ ghost use Rattle.sock_tcp.specs.connection.StandsFor.{StandsFor, StandsAll};
 
 use crate::connection::conn::Conn;
 use crate::connection::effects::Draft;
-use crate::segment::RST;
-use sim_base::NoMemory;
+use sim_base::{NoMemory, RST};
 
 /// Resets a connection, unless it is over.
 fn reset(conn: &Conn, draft: &mut Draft) -> Result<(), NoMemory>

@@ -1,9 +1,9 @@
 //! The segments that a connection sends (RFC 9293, section 3.1).
 
-use crate::connection::conn::{BUFFER, Conn};
+use crate::connection::conn::{BUFFER_SIZE, Conn};
 use crate::connection::effects::Draft;
-use crate::segment::{ACK, RST, SYN, number_at};
-use sim_base::{Bytes, NoMemory, Packet};
+use crate::segment::number_at;
+use sim_base::{ACK, Bytes, NoMemory, Packet, RST, SYN};
 use std::alloc::Global;
 
 impl Conn {
@@ -22,7 +22,7 @@ impl Conn {
         ensures value { result ≡ 65535 - length self.now.receive.items }
         ensures window { (r : Tcb) → StandsFor self.now r → result ≡ own_window r }
     {
-        (BUFFER - self.receive.len()) as u16
+        (BUFFER_SIZE - self.receive.len()) as u16
     }
 
     /// The number so far behind the first one that isn't acknowledged.

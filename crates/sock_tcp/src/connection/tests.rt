@@ -1,8 +1,7 @@
 //! The calls that a listener makes. Those of a process are tried in the crate of the listeners.
 
 use crate::connection::{Conn, Draft, Effects, Opened, place_in, reset_all};
-use crate::segment::{ACK, RST, SYN};
-use sim_base::{Addr, Ip, Load, Packet};
+use sim_base::{ACK, Addr, Ip, Load, Packet, RST, SYN};
 use std::test::Fail;
 
 fn end(bits: u32, port: u16) -> Addr {

@@ -1,12 +1,12 @@
 //! A SYN that asks a listener for a connection (RFC 9293, section 3.10.7.2).
 
 ghost use Rattle.std.specs.Prelude.{◌≡◌};
-ghost use Rattle.sock_tcp.specs.listener.Listen.{asks, load_header};
+ghost use Rattle.sock_tcp.specs.listener.Listen.{asks, load_header, asks_in, listens_at};
 
 use crate::connection::{Conn, Effects, Opened};
 use crate::listener::Listener;
 use crate::segment::Header;
-use sim_base::{Draws, Load, NoMemory, Packet};
+use sim_base::{Addr, Draws, Ip, Load, NoMemory, Packet};
 
 /// Whether it is a SYN alone.
 fn asks(header: Header) -> bool
@@ -31,22 +31,38 @@ fn load_header(load: &Load) -> Option<Header>
     }
 }
 
+/// Whether a packet carries a SYN alone.
+fn asks_in(load: &Load) -> bool
+    ensures { result ≡ asks_in (load_header load.now) }
+{
+    match load_header(load) {
+        None => false,
+        Some(header) => asks(header),
+    }
+}
+
+/// Whether a listener on `local` takes what is sent to an end.
+fn listens_at(to: Addr, local: Addr) -> bool
+    ensures { result ≡ listens_at to local }
+{
+    local.port == to.port && (local.ip == Ip::ANY || local.ip == to.ip)
+}
+
 impl Listener {
     ghost use Rattle.std.specs.Prelude.{true, IfOk, OnOk, if◌then◌else◌};
     ghost use Rattle.sim_base.specs.Draws.{draw};
-    ghost use Rattle.sock_tcp.specs.listener.Listen.{Listen, has_room, makes_record, asked, new_heard, header_makes};
+    ghost use Rattle.sock_tcp.specs.listener.Listen.{Listen, has_room, makes_record, asked, new_heard, header_makes, takes, takes_word};
     ghost use Rattle.sock_tcp.specs.listener.ListensFor.{ListensFor, Tells};
 
-    /// Whether the queue has room for one more connection.
+    /// Whether the queues have room for one more connection.
     fn has_room(&self) -> bool
         ensures { (l : Listen) → ListensFor self.now l → result ≡ has_room l }
     {
-        let opening = self.opening.len();
-        opening < self.limit && self.whole.len() < self.limit - opening
+        self.records.len() < self.limit
     }
 
     /// Whether a segment that belongs to no connection makes one.
-    fn makes_record(&self, header: Header) -> bool
+    fn header_makes(&self, header: Header) -> bool
         ensures { (l : Listen) → ListensFor self.now l → result ≡ makes_record header l }
     {
         asks(header) && self.has_room()
@@ -68,7 +84,7 @@ impl Listener {
         let iss = (draws.word() % (1 << 32)) as u32;
         let made = Conn::answer_syn(alloc, segment.to, segment.from, iss, header.seq)?;
         let Opened { conn, effects } = made;
-        self.opening.push(conn)?;
+        self.records.push(conn)?;
         Ok(effects)
     }
 
@@ -83,7 +99,7 @@ impl Listener {
         ensures draws { OnOk result ((l : Listen) → ListensFor self.old l
             → draws.new ≡ (if makes_record header l then (draw draws.old).1 else draws.old)) }
     {
-        if self.makes_record(header) {
+        if self.header_makes(header) {
             let effects = self.make_record(segment, header, draws)?;
             return Ok(effects);
         }
@@ -106,5 +122,32 @@ impl Listener {
             return Ok(effects);
         }
         Ok(Effects::none(self.alloc()))
+    }
+    /// Whether a segment that belongs to no connection is for this listener: a SYN alone to its
+    /// port, and to its address where that isn't 0.0.0.0.
+    #[tactic(auto, unfolding(crate::specs::listener::Listen::takes))]
+    pub fn takes(&self, segment: &Packet) -> bool
+        ensures { (l : Listen) → ListensFor self.now l → result ≡ takes segment.now l }
+    {
+        asks_in(&segment.load) && listens_at(segment.to, self.local)
+    }
+
+    /// Whether the arrival of a segment makes a connection.
+    #[tactic(auto, unfolding(crate::specs::listener::Listen::takes_word))]
+    pub fn makes_record(&self, segment: &Packet) -> bool
+        ensures { (l : Listen) → ListensFor self.now l → result ≡ takes_word segment.now l }
+    {
+        let kept = self.is_kept(segment.to, segment.from);
+        !kept && self.load_makes(&segment.load)
+    }
+
+    /// Whether what a packet carries makes a connection, where it belongs to none.
+    fn load_makes(&self, load: &Load) -> bool
+        ensures { (l : Listen) → ListensFor self.now l → result ≡ header_makes (load_header load.now) l }
+    {
+        match load_header(load) {
+            None => false,
+            Some(header) => self.header_makes(header),
+        }
     }
 }

@@ -131,10 +131,7 @@ impl Control {
     pub fn finds_end(&self, count: usize, waiting: usize) -> bool
         ensures { result ≡ finds_end count waiting self.now }
     {
-        count > 0
-            && waiting == 0
-            && (self.fin_taken || self.state.is_over())
-            && !(self.reading_ended || self.had_error)
+        count > 0 && waiting == 0 && self.fin_taken && !(self.reading_ended || self.had_error)
     }
 
     /// What the end of writing leaves.

@@ -3,13 +3,7 @@
 ghost use Rattle.std.specs.Prelude.{◌≡◌};
 ghost use Rattle.sock_tcp.specs.segment.Header.{header_of, has_flag};
 
-pub const FIN: u8 = 1;
-
-pub const SYN: u8 = 2;
-
-pub const RST: u8 = 4;
-
-pub const ACK: u8 = 16;
+use sim_base::{ACK, FIN, RST, SYN};
 
 /// What a segment's header says beside its ports.
 #[derive(Clone, Copy, Debug, PartialEq, Eq)]

@@ -1,10 +1,10 @@
 //! Calls of the public functions, with numbers and flags of RFC 9293.
 
 use crate::segment::{
-    ACK, Control, Distance, FIN, Header, Phase, RST, SYN, TcpState, Verdict, distance_to,
-    number_at, number_past, refusal, verdict_on,
+    Control, Distance, Header, Phase, TcpState, Verdict, distance_to, number_at, number_past,
+    refusal, verdict_on,
 };
-use sim_base::{Addr, Bytes, Ip, Load, NoMemory, Packet};
+use sim_base::{ACK, Addr, Bytes, FIN, Ip, Load, NoMemory, Packet, RST, SYN};
 use std::alloc::Global;
 use std::test::Fail;
 

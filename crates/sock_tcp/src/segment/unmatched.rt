@@ -3,9 +3,9 @@
 ghost use Rattle.std.specs.Prelude.{◌≡◌};
 ghost use Rattle.sock_tcp.specs.segment.Refusal.{sent_back, header_refusal, refusal_of};
 
-use crate::segment::header::{ACK, Header, RST};
+use crate::segment::header::Header;
 use crate::segment::number::{number_at, number_past};
-use sim_base::{Bytes, Load, Packet};
+use sim_base::{ACK, Bytes, Load, Packet, RST};
 use std::alloc::Global;
 
 fn sent_back(alloc: Global, segment: &Packet, flags: u8, seq: u32, ack: u32) -> Packet

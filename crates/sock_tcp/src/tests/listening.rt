@@ -19,7 +19,7 @@ fn loopback(rt: HostRuntime) -> Result<(), Fail> {
     let answer = client.arrive(&answer.segments[0])?;
     assert_eq!(rt; answer.segments.len(), 1);
     listener.arrive(&answer.segments[0], &mut draws)?;
-    assert!(rt; listener.has_whole());
+    assert!(rt; listener.waiting() == 1);
     assert_eq!(rt; client.app_write(b"x"), 1);
     let sent = client.flow()?;
     assert_eq!(rt; sent.segments.len(), 1);
