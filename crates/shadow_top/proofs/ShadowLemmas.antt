@@ -6,7 +6,8 @@ use Rattle.sim_base.specs.Files.{Held}
 use Rattle.sim_base.specs.Sink.{Content, add, begun, AddsFront}
 use Rattle.sim_base.specs.declared.outside.sink.Place.TheVariants as place
 use Rattle.shadow_top.specs.Contract.{Shows, TellsReadFailed, ShowsPart, TellsPart, Runs, TellsLine, Tells, read_failed_line}
-use Rattle.shadow_top.specs.FirstFault.{Input, accepted, plan, data_directory, line_of, IsReached, ◌>>=◌}
+use Rattle.shadow_top.specs.FirstFault.{Input, accepted, plan, data_directory, line_of, IsReached}
+use Rattle.sim_base.specs.Refusals.{◌>>=◌}
 use Rattle.shadow_top.specs.Outcome.{Told, Outcome, showed, failed_reading, failed_writing, wanted_memory}
 use Rattle.shadow_top.specs.Pieces.{Put, with_pieces, PutsFront}
 use Rattle.shadow_top.specs.ShadowInput.{input, directory_fault, RunsPlan}

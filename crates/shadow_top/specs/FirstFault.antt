@@ -1,6 +1,7 @@
 -- The first fault of an input: what is asked is read step by step, and the first step that can't be done tells the fault.
 use Rattle.std.specs.Prelude.{◌≡◌, ℕ, ◌⊎◌, List, ◌++◌, length, Option, Some, None, Result, Ok, Err, Bool, if◌then◌else◌, nat_le, codes}
 use Rattle.sim_base.specs.Files.{Held}
+use Rattle.sim_base.specs.Refusals.{◌>>=◌, or_refuse}
 use Rattle.elf_load.specs.ProgramImage.{ProgramImage}
 use Rattle.elf_load.specs.Image.{image}
 use Rattle.elf_load.specs.Fault.{word_of}
@@ -13,15 +14,6 @@ use Rattle.shadow_top.specs.declared.fault.Fault.TheVariants.{Usage, NotFound, T
 use Rattle.shadow_top.specs.declared.plan.Plan.{Plan}
 use Rattle.shadow_top.specs.declared.shd_config.Config.{Config}
 
-infixl 10 ◌>>=◌
-abbrev pub ◌>>=◌ : {A B : Type 0} → Result A Fault → (A → Result B Fault) → Result B Fault
-Ok a >>= f = f a
-Err fault >>= f = Err fault
-
-abbrev pub or_fault : {A : Type 0} → Fault → Option A → Result A Fault
-or_fault fault None = Err fault
-or_fault fault (Some a) = Ok a
-
 -- a file has at most 16 MiB
 abbrev pub at_most_16_mib : List ℕ → List ℕ → Result (List ℕ) Fault
 at_most_16_mib name bytes = if nat_le (length bytes) 16777216 then Ok bytes else Err (TooLong name)
@@ -29,7 +21,7 @@ at_most_16_mib name bytes = if nat_le (length bytes) 16777216 then Ok bytes else
 -- the bytes of a file that is there and isn't too long
 abbrev pub file : Held → List ℕ → Result (List ℕ) Fault
 file held name = do
-  bytes ← or_fault (NotFound name) (held name)
+  bytes ← or_refuse (held name) (NotFound name)
   at_most_16_mib name bytes
 
 -- its length alone
@@ -46,9 +38,9 @@ or_elf_fault path (Err fault) = Err (Elf path fault)
 -- the configuration in the file that the command line names
 unfoldable pub configured : List (List ℕ) → Held → Result Config Fault
 configured words held = do
-  name ← or_fault Usage (config_name words)
+  name ← or_refuse (config_name words) Usage
   text ← file held name
-  or_fault (Unsupported name) (config_of_file text)
+  or_refuse (config_of_file text) (Unsupported name)
 
 -- the image in the file of the program
 unfoldable pub program : Held → List ℕ → Result ProgramImage Fault

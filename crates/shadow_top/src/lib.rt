@@ -13,7 +13,6 @@ mod plan;
 mod report;
 mod shd_config;
 mod simulation;
-mod steal_workers;
 #[cfg(test)]
 mod tests;
 mod world;

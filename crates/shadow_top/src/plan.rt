@@ -2,7 +2,8 @@
 
 ghost use Rattle.std.specs.Prelude.{◌≡◌, ◌≤◌, map, take, string_bytes, IfSome, IfOk, IfErr};
 ghost use Rattle.shadow_top.specs.CommandLine.{config_name};
-ghost use Rattle.shadow_top.specs.FirstFault.{size_of, file, or_fault, or_elf_fault, configured, program, plan, IsReached};
+ghost use Rattle.sim_base.specs.Refusals.{or_refuse};
+ghost use Rattle.shadow_top.specs.FirstFault.{size_of, file, or_elf_fault, configured, program, plan, IsReached};
 ghost use Rattle.shadow_top.specs.ShdConfig.{config_of_file, IsShort};
 ghost use Rattle.shadow_top.specs.Stop.{Meets, FailsReading, CountsSource, NoOutside, NoWriteFailed, NeverRefuses};
 ghost use Rattle.elf_load.specs.Image.{image};
@@ -86,7 +87,7 @@ fn read_file<S: Source>(alloc: Global, source: &mut S, name: &str) -> Result<Vec
 
 /// The configuration in some bytes of a file.
 fn parse_config(alloc: Global, name: &str, bytes: &[u8]) -> Result<Config, Stop>
-    ensures told { Meets (λ c. c) (or_fault (Fault.Unsupported name.now) (config_of_file bytes.now)) result }
+    ensures told { Meets (λ c. c) (or_refuse (config_of_file bytes.now) (Fault.Unsupported name.now)) result }
     ensures short { IfOk result IsShort }
     ensures count { NoOutside result }
 {

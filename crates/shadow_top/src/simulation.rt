@@ -17,11 +17,11 @@ use crate::host_state::Process;
 use crate::out_text::{self, FaultText};
 use crate::plan::{Plan, make_plan};
 use crate::report::report;
-use crate::steal_workers::Gate;
 use crate::world;
 use sim_base::{Name, NoMemory, Place, Sink, Source, Text, WriteError, put_all};
 use std::alloc::{AllocGlobal, Global};
 use std::thread::Threads;
+use steal_workers::Gate;
 
 /// Makes the data directory, or refuses the input where it is there.
 fn begin<K: Sink>(alloc: Global, sink: &mut K) -> Result<(), Stop>
