@@ -6,9 +6,11 @@ use Rattle.sim_base.specs.declared.event.Event.{Event}
 use Rattle.sim_base.specs.declared.key.Key.{Key}
 use Rattle.sim_base.specs.declared.time.Time.{Time}
 use Rattle.shadow_top.specs.Engine.{host_record, world_of, LeavesHost, IsOwn, Follows}
-use Rattle.shadow_top.specs.HostState.{HostRecord, Fired, fire}
+use Rattle.shadow_top.specs.HostState.{HostRecord, HostFired, fire}
 use Rattle.shadow_top.specs.Shown.{net_of}
-use Rattle.shadow_top.specs.World.{World, next, fires, fires_at, after_firing}
+use Rattle.shadow_top.specs.World.{World, next, model}
+use Rattle.world_order.specs.Model.{Firing, fires, fires_at, with_host}
+use Rattle.world_order.specs.World.{logged, after_firing, next as next_of}
 use Rattle.shadow_top.specs.declared.host.Host.{Host}
 
 -- how long it is from the event that waits to the stop
@@ -17,35 +19,35 @@ time_left stop None = 0
 time_left stop (Some e) = stop - e.key.due.nanos
 
 -- a firing of the one host, as a turn of its world
-left_by : (h h' : Host) (made : Option Event) (f : Fired) → LeavesHost f h' made
-    → after_firing 0 f (record { hosts = host_record h ∷ []; events = []; log = [] }) ≡ world_of h' made
-left_by h h' made f leaves =
-    ap (λ (r : HostRecord). let w : World = record { hosts = r ∷ []; events = f.made; log = f.lines } in w) leaves.host_is
-    ∙ ap (λ (es : List Event). let w : World = record { hosts = host_record h' ∷ []; events = es; log = f.lines } in w) leaves.made_is
-    ∙ ap (λ (ls : List (List ℕ)). let w : World = record { hosts = host_record h' ∷ []; events = option_to_list made; log = ls } in w) leaves.lines_is
+left_by : (e : Event) (h h' : Host) (made : Option Event) (f : HostFired) → LeavesHost f h' made
+    → after_firing (world_of h None) e [] (with_host (host_record h ∷ []) 0 f) ≡ world_of h' made
+left_by e h h' made f leaves =
+    ap (λ (r : HostRecord). let w : World = record { hosts = r ∷ []; events = f.made; log = logged e.key f.lines } in w) leaves.host_is
+    ∙ ap (λ (es : List Event). let w : World = record { hosts = host_record h' ∷ []; events = es; log = logged e.key f.lines } in w) leaves.made_is
+    ∙ ap (λ (ls : List (List ℕ)). let w : World = record { hosts = host_record h' ∷ []; events = option_to_list made; log = logged e.key ls } in w) leaves.lines_is
 
 pub next-fires : (stop : Time) (h h' : Host) (e : Event) (made : Option Event) → e.key.source.index ≡ 0 → e.key.due.nanos < stop.nanos
     → LeavesHost (fire 10000000 (host_record h) e) h' made → next (net_of stop) (world_of h (Some e)) ≡ Some (world_of h' made)
-unfolding next
+unfolding next_of
 next-fires stop h h' e made own due leaves =
-    let w : World = record { hosts = host_record h ∷ []; events = []; log = [] } in
+    let hosts : List HostRecord = host_record h ∷ [] in
+    let f : HostFired = fire 10000000 (host_record h) e in
     let is_due : nat_lt e.key.due.nanos stop.nanos ≡ true = search rules in
-    let fired : fires 10000000 e w ≡ world_of h' made =
-    ap (λ (n : ℕ). fires_at 10000000 e w (slice_get w.hosts n)) own
-    ∙ ap (λ (n : ℕ). after_firing n (fire 10000000 (host_record h) e) w) own
-    ∙ left_by h h' made (fire 10000000 (host_record h) e) leaves in
-    ap (λ (b : Bool). if b then Some (fires 10000000 e w) else None) is_due ∙ ap Some fired
+    let fired : fires (model 10000000) hosts e ≡ with_host hosts 0 f =
+    ap (λ (n : ℕ). fires_at (model 10000000) hosts e (slice_get hosts n)) own ∙ ap (λ (n : ℕ). with_host hosts n f) own in
+    ap (λ (b : Bool). if b then Some (after_firing (world_of h None) e [] (fires (model 10000000) hosts e)) else None) is_due
+    ∙ ap (λ (g : Firing HostRecord (List ℕ)). Some (after_firing (world_of h None) e [] g)) fired
+    ∙ ap Some (left_by e h h' made f leaves)
 
 pub next-none : (stop : Time) (h : Host) → next (net_of stop) (world_of h None) ≡ None
-unfolding next
+unfolding next_of
 next-none stop h = refl
 
 pub next-late : (stop : Time) (h : Host) (e : Event) → stop.nanos ≤ e.key.due.nanos → next (net_of stop) (world_of h (Some e)) ≡ None
-unfolding next
+unfolding next_of
 next-late stop h e late =
-    let w : World = record { hosts = host_record h ∷ []; events = []; log = [] } in
     let is_late : nat_lt e.key.due.nanos stop.nanos ≡ false = search rules in
-    ap (λ (b : Bool). if b then Some (fires 10000000 e w) else None) is_late
+    ap (λ (b : Bool). if b then Some (after_firing (world_of h None) e [] (fires (model 10000000) (host_record h ∷ []) e)) else None) is_late
 
 -- the event that follows is the host's own, and later
 pub own_of : (now : Key) (made : Option Event) → IfSome made (Follows now) → (e : Event) → made ≡ Some e → IsOwn e

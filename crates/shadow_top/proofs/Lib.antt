@@ -1,6 +1,5 @@
 pub mod ConfigLaws
 pub mod EngineLemmas
-pub mod EventLaws
 pub mod FireLemmas
 pub mod PartLemmas
 pub mod PieceLemmas
@@ -11,4 +10,4 @@ pub mod StackLemmas
 pub mod StartLemmas
 pub mod TextLemmas
 mod Values
-pub mod WorldLaws
+pub mod HostSimulation

@@ -20,7 +20,7 @@ use Rattle.shadow_top.specs.declared.fault.Stop.{Stop}
 use Rattle.shadow_top.specs.declared.fault.Stop.TheVariants.{Refused, ReadFailed, WriteFailed, NoMemory}
 use Rattle.shadow_top.specs.declared.plan.Plan.{Plan}
 use Rattle.shadow_top.proofs.PartLemmas.{Grows, Grows-refl, Grows-with_pieces, IsPrefix, between-puts, part-begun, part-same, part-line}
-use Rattle.shadow_top.proofs.WorldLaws.{IsResult-exists}
+use Rattle.shadow_top.proofs.HostSimulation.{plan-result}
 
 -- ---- what is shown
 
@@ -52,7 +52,7 @@ showing_by i old (Err fault) is = record {
   err = record { rest = line_of fault; whole = refl };
 }
 showing_by i old (Ok p) is =
-    let (w, result) = IsResult-exists (net_of p.config.stop) (opening_world p) in
+    let (w, result) = plan-result p in
     let grown : Grows (begun data_directory old) (with_pieces (pieces w) (begun data_directory old)) = Grows-with_pieces (pieces w) (begun data_directory old) in
     record { whole = with_pieces (pieces w) (begun data_directory old); status = status_of w; shown = ran_shown i old p w is result; out = grown.out; err = grown.err }
 
@@ -175,7 +175,7 @@ plan_reported p start w (Some c) new (Err NoMemory) result opens status ok err n
 
 pub plan_not_run : (p : Plan) (o : Option Content) → IfSome o (λ c. RunsPlan p c o (Err NoMemory))
 plan_not_run p None = tt
-plan_not_run p (Some c) = let (w, result) = IsResult-exists (net_of p.config.stop) (opening_world p) in (w, result, nothing_put (pieces w) (Some c))
+plan_not_run p (Some c) = let (w, result) = plan-result p in (w, result, nothing_put (pieces w) (Some c))
 
 -- ---- the whole, by its status
 

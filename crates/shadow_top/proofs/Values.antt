@@ -1,5 +1,5 @@
 -- Values of the definitions, by computation.
-use Rattle.std.proofs.Common.{◌≡◌, ℕ, List, [], ◌∷◌, ◌++◌, Option, Some, None, true, false, refl, codes}
+use Rattle.std.proofs.Common.{◌≡◌, ℕ, List, [], ◌∷◌, Some, None, true, false, refl, codes}
 use Rattle.sim_base.specs.declared.state.State.TheVariants.{Signaled}
 use Rattle.sim_base.specs.declared.signal.Signal.TheVariants.{SigXcpu}
 use Rattle.guest_mem.specs.Memory.{Memory}

@@ -7,7 +7,7 @@ use Rattle.sim_base.specs.declared.state.State.TheVariants.{Exited}
 use Rattle.sim_base.specs.declared.event.What.{What}
 use Rattle.sim_base.specs.declared.event.What.TheVariants as what
 use Rattle.sim_base.specs.declared.key.Key.{Key}
-use Rattle.shadow_top.specs.HostState.{HostRecord, ProcessRecord, Fired, process_state, process_stdout, process_stderr}
+use Rattle.shadow_top.specs.HostState.{HostRecord, ProcessRecord, HostFired, process_state, process_stdout, process_stderr}
 use Rattle.shadow_top.specs.OutText.{file_name, state_text, unmet_line, process_text}
 use Rattle.shadow_top.specs.Pieces.{Put}
 use Rattle.shadow_top.specs.Shown.{first_id, meets}
@@ -27,7 +27,7 @@ abbrev pub world_of : Host → Option Event → World
 world_of h pending = record { hosts = host_record h ∷ []; events = option_to_list pending; log = [] }
 
 -- a firing leaves this host, and made this event or none
-pub record LeavesHost (f : Fired) (host : Host) (made : Option Event) : Type 0 where
+pub record LeavesHost (f : HostFired) (host : Host) (made : Option Event) : Type 0 where
   pub host_is : f.host ≡ host_record host
   pub made_is : f.made ≡ option_to_list made
   pub lines_is : f.lines ≡ []

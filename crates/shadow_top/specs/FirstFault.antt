@@ -1,5 +1,5 @@
 -- The first fault of an input: what is asked is read step by step, and the first step that can't be done tells the fault.
-use Rattle.std.specs.Prelude.{◌≡◌, ℕ, ◌⊎◌, List, ◌++◌, length, Option, Some, None, Result, Ok, Err, Bool, if◌then◌else◌, nat_le, codes}
+use Rattle.std.specs.Prelude.{◌≡◌, ℕ, ◌⊎◌, List, ◌++◌, length, Some, Result, Ok, Err, Bool, if◌then◌else◌, nat_le, codes}
 use Rattle.sim_base.specs.Files.{Held}
 use Rattle.sim_base.specs.Refusals.{◌>>=◌, or_refuse}
 use Rattle.elf_load.specs.ProgramImage.{ProgramImage}

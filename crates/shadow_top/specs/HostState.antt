@@ -13,6 +13,7 @@ use Rattle.rv32_machine.specs.Table.{state}
 use Rattle.rv32_machine.specs.Turn.{Turn, turn}
 use Rattle.rv32_machine.specs.declared.outcome.TurnEnd.{TurnEnd}
 use Rattle.rv32_machine.specs.declared.outcome.TurnEnd.TheVariants as end
+use Rattle.world_order.specs.Model.{Fired}
 use Rattle.shadow_top.specs.HostCalls.{call}
 use Rattle.shadow_top.specs.Guest.{called, call_number, call_arguments, answered, started}
 use Rattle.shadow_top.specs.declared.guest.Guest.{Guest}
@@ -115,13 +116,11 @@ pub record HostRecord : Type 0 where
   pub next : ℕ
 
 -- what firing an event leaves: the host, the events made, and the lines of the packet log
-pub record Fired : Type 0 where
-  pub host : HostRecord
-  pub made : List Event
-  pub lines : List (List ℕ)
+abbrev pub HostFired : Type 0
+HostFired = Fired HostRecord (List ℕ)
 
 -- nothing happens
-abbrev pub nothing_happens : HostRecord → Fired
+abbrev pub nothing_happens : HostRecord → HostFired
 nothing_happens host = record { host = host; made = []; lines = [] }
 
 -- a paused process goes on 100,000 ns later
@@ -132,18 +131,18 @@ go host now p = record {
 }
 
 -- the host makes an event with its next number; a host whose number stands at 2^64 - 1 makes no more
-abbrev pub makes : Event → HostRecord → Fired
+abbrev pub makes : Event → HostRecord → HostFired
 makes event host =
     if nat_lt host.next (2 ^ 64 - 1) then record { host = record host { next = host.next + 1 }; made = event ∷ []; lines = [] }
     else nothing_happens host
 
 -- process p of the host is now this one, and goes on later where it pauses
-abbrev pub with_process : HostRecord → Key → ℕ → ProcessRecord → Process × Bool → Fired
+abbrev pub with_process : HostRecord → Key → ℕ → ProcessRecord → Process × Bool → HostFired
 with_process host now p r (new, pauses) =
     let host' = record host { processes = slice_set host.processes p (record r { process = new }) } in
     if pauses then makes (go host' now p) host' else nothing_happens host'
 
-abbrev pub acts_on : HostRecord → Key → ℕ → (ProcessRecord → Process × Bool) → Option ProcessRecord → Fired
+abbrev pub acts_on : HostRecord → Key → ℕ → (ProcessRecord → Process × Bool) → Option ProcessRecord → HostFired
 acts_on host now p act None = nothing_happens host
 acts_on host now p act (Some r) = with_process host now p r (act r)
 
@@ -151,11 +150,11 @@ acts_on host now p act (Some r) = with_process host now p r (act r)
 abbrev pub starts : ℕ → ProcessRecord → Process × Bool
 starts budget r = runs budget (started r.image (r.path ∷ []) [])
 
-abbrev pub by_what : ℕ → HostRecord → Key → What → Fired
+abbrev pub by_what : ℕ → HostRecord → Key → What → HostFired
 by_what budget host now (what.Start p) = acts_on host now p (starts budget) (slice_get host.processes p)
 by_what budget host now (what.Go p) = acts_on host now p (λ r. goes_on budget r.process) (slice_get host.processes p)
 by_what budget host now _ = nothing_happens host
 
 -- an event of the host fires; the other kinds of event come with packets, timers and shutdowns
-unfoldable pub fire : ℕ → HostRecord → Event → Fired
+unfoldable pub fire : ℕ → HostRecord → Event → HostFired
 fire budget host event = by_what budget host event.key event.what

@@ -2,7 +2,6 @@ pub mod CommandLine
 pub mod ConfigError
 pub mod Contract
 pub mod Engine
-pub mod EventOrder
 pub mod FirstFault
 pub mod Guest
 pub mod HostCalls

@@ -9,6 +9,7 @@ use Rattle.shadow_top.specs.FirstFault.{Input, accepted, data_directory, line_of
 use Rattle.shadow_top.specs.HostState.{HostRecord, ProcessRecord, process_state, process_stdout, process_stderr}
 use Rattle.shadow_top.specs.OutText.{file_name, state_line, state_text, unmet_line, process_text}
 use Rattle.shadow_top.specs.Pieces.{Put, with_pieces}
+use Rattle.world_order.specs.World.{Logged}
 use Rattle.shadow_top.specs.World.{World, Net, IsResult, first_event}
 use Rattle.shadow_top.specs.declared.fault.Fault.{Fault}
 use Rattle.shadow_top.specs.declared.host_state.Process.TheVariants as process
@@ -70,7 +71,7 @@ host_unmet host pid (r ∷ rs) = process_unmet host pid r ++ host_unmet host (pi
 
 -- the files of all hosts, the packet log, and the unmet expectations
 abbrev pub log_file : World → Put
-log_file w = (place.File (codes "packets.log"), flat_map (λ line. line) w.log)
+log_file w = (place.File (codes "packets.log"), flat_map (λ (entry : Logged (List ℕ)). entry.line) w.log)
 
 abbrev pub unmet : World → List Put
 unmet w = flat_map (λ (h : HostRecord). host_unmet h.name first_id h.processes) w.hosts

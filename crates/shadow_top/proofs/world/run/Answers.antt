@@ -2,7 +2,8 @@ use Rattle.std.proofs.Common.{◌≡◌, Some, None, Option, sym, ap, subst, ◌
 use Rattle.sim_base.specs.declared.event.Event.{Event}
 use Rattle.shadow_top.specs.Engine.{world_of}
 use Rattle.shadow_top.specs.Shown.{net_of}
-use Rattle.shadow_top.specs.World.{World, IsResult, is_over, goes_on, next}
+use Rattle.shadow_top.specs.World.{World, IsResult, next}
+use Rattle.world_order.specs.World.{is_over, goes_on}
 use Rattle.shadow_top.proofs.EngineLemmas.{next-fires, next-over, own_of}
 use Rattle.shadow_top.proofs.world.run.Goals as goal
 
