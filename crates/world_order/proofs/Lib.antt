@@ -6,5 +6,16 @@ pub mod Homes
 pub mod Firings
 pub mod Turns
 pub mod Results
+pub mod Scenes
+pub mod Runs
+pub mod Logs
+pub mod Worlds
+pub mod Parts
+pub mod RoundStates
+pub mod Fires
+pub mod Schedules
+pub mod Openings
+pub mod RoundLaws
+pub mod Orders
 pub mod Toy
 pub mod Values

@@ -7,3 +7,4 @@ pub mod Steps
 pub mod Schedule
 pub mod Premises
 pub mod Settled
+pub mod Rounds

@@ -13,6 +13,11 @@ module _ {H L : Type 0} where
   after_all m [] s = Some s
   after_all m (step ∷ steps) s = option_and_then (after_all m steps) (after m step s)
 
+  -- of the state that is reached
+  abbrev pub on_way : (State H L → List Event) → Option (State H L) → List Event
+  on_way f None = []
+  on_way f (Some s) = f s
+
   -- the firing that a step is
   abbrev pub firing : Step → State H L → Option (Ready H)
   firing (Fire w) (Going r) = ready w r
@@ -34,10 +39,6 @@ module _ {H L : Type 0} where
   made m step s = made_by m (firing step s)
 
   -- the same of a list of steps
-  abbrev on_way : (State H L → List Event) → Option (State H L) → List Event
-  on_way f None = []
-  on_way f (Some s) = f s
-
   unfoldable pub fired_in : Model H L → List Step → State H L → List Event
   fired_in m [] s = []
   fired_in m (step ∷ steps) s = fired step s ++ on_way (fired_in m steps) (after m step s)
