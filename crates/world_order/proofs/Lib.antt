@@ -17,5 +17,7 @@ pub mod Schedules
 pub mod Openings
 pub mod RoundLaws
 pub mod Orders
+pub mod Jobs
+pub mod JobRuns
 pub mod Toy
 pub mod Values

@@ -32,7 +32,7 @@ module _ {H L : Type 0} (m : Model H L) (events : List Event) where
   empty_members number [] = refl
   empty_members number (host ∷ hosts) = ap (λ (ps : List Event). ps ++ flat_map (λ (x : Member H). placed x.places) (opened_from m events (suc number) hosts)) (empty_places place_count) ∙ empty_members (suc number) hosts
 
-  hosts_opened : (number : ℕ) (hosts : List H) → map (λ (x : Member H). x.host) (opened_from m events number hosts) ≡ hosts
+  pub hosts_opened : (number : ℕ) (hosts : List H) → map (λ (x : Member H). x.host) (opened_from m events number hosts) ≡ hosts
   hosts_opened number [] = refl
   hosts_opened number (host ∷ hosts) = ap (λ (l : List H). host ∷ l) (hosts_opened (suc number) hosts)
 

@@ -8,3 +8,4 @@ pub mod Schedule
 pub mod Premises
 pub mod Settled
 pub mod Rounds
+pub mod WholeTurns

@@ -2,14 +2,17 @@
 //!
 //! A round is opened on a world between rounds, for some workers and for the window that begins at a time before which no event is due.
 
-ghost use Rattle.std.specs.Prelude.{◌≡◌, ℕ, List, ◌++◌, Some};
+ghost use Rattle.std.specs.Prelude.{◌≡◌, ℕ, ◌<◌, ◌≤◌, Option, None, List, [], ◌∷◌, ◌++◌, map, flat_map, length, Contains, Some};
 ghost use Rattle.sim_base.specs.declared.event.Event.{Event};
-ghost use Rattle.world_order.specs.Round.{State, Round, Going, Closed, events_at};
+ghost use Rattle.world_order.specs.Round.{State, Round, Going, Closed, events_at, opened, world_of};
 ghost use Rattle.world_order.specs.Rounds.{end_of, round_on, IsSameWorld, after_round, AreRounds};
 ghost use Rattle.world_order.specs.Schedule.{after_all, fired_in, made_in};
 ghost use Rattle.world_order.specs.Settled.{IsSettled, AreDueFrom, Leaves, AreLaid};
+ghost use Rattle.world_order.specs.WholeTurns.{Job, job_steps, WorksTo, Turn, turn_of, AreTurns};
+ghost use Rattle.world_order.specs.Window.{window_end};
 ghost use Rattle.world_order.specs.World.{World, IsResult, fired_by};
 ghost use Rattle.world_order.specs.declared.step.Step.{Step};
+ghost use Rattle.world_order.specs.declared.step.Step.TheVariants.{Close};
 
 use crate::simulated::Simulated;
 
@@ -52,8 +55,28 @@ pub fn same_end<S: Simulated>()
         → after_all S.simulation.model more (round_on S.simulation stop least others w) ≡ Some (Closed u) → IsSameWorld v u }
 {}
 
+/// A round in which the hosts are taken one after another, each is fired to the end in one go, and all packets go to the
+/// spill: it is allowed, in whatever order the hosts are taken, by whichever workers, and closes.
+pub fn whole_turns<S: Simulated>()
+    ensures allowed { (stop least workers : ℕ) (w : World S.Host S.Line) (last : Round S.Host S.Line) (jobs : List (Job S.Host S.Line))
+        → WorksTo S.simulation.model last jobs (opened S.simulation.model (end_of S.simulation stop least) workers w)
+        → ((number : ℕ) → number < length w.hosts → Contains (map (λ job. job.number) jobs) number)
+        → after_all S.simulation.model (flat_map job_steps jobs ++ Close ∷ []) (round_on S.simulation stop least workers w) ≡ Some (Closed (world_of last)) }
+    ensures any_order { (stop least workers : ℕ) (w : World S.Host S.Line) (turns : List Turn) → IsSettled S.simulation w → AreTurns workers (length w.hosts) turns
+        → (last : Round S.Host S.Line) × (jobs : List (Job S.Host S.Line))
+        × WorksTo S.simulation.model last jobs (opened S.simulation.model (end_of S.simulation stop least) workers w) × (map turn_of jobs ≡ turns) }
+{}
+
 /// Rounds one after another, until no event is due before the stop, lead to the result of the run.
 pub fn rounds<S: Simulated>()
     ensures { (stop : ℕ) (w last result : World S.Host S.Line) → IsSettled S.simulation w → AreRounds S.simulation stop last w
         → IsResult S.simulation.model stop result w → IsSameWorld last result }
+{}
+
+/// A round's end is no later than the stop; and where its least event is due before the stop, and the lookahead is a nanosecond at least,
+/// it is later than that event.
+pub fn window()
+    ensures no_later { (lookahead : Option ℕ) (stop least : ℕ) → window_end lookahead stop least ≤ stop }
+    ensures lone { (stop least : ℕ) → least < stop → least < window_end None stop least }
+    ensures later { (lookahead stop least : ℕ) → 0 < lookahead → least < stop → least < window_end (Some lookahead) stop least }
 {}

@@ -5,6 +5,6 @@ mod laws;
 mod simulated;
 mod step;
 
-pub use laws::{closed_round, every_schedule, one_result, rounds, same_end};
+pub use laws::{closed_round, every_schedule, one_result, rounds, same_end, whole_turns, window};
 pub use simulated::Simulated;
 pub use step::{Spot, Step};
