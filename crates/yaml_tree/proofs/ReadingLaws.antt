@@ -18,7 +18,7 @@ use Rattle.yaml_tree.specs.Said.Said.{null, text, unknown, sequence, mapping, wi
 use Rattle.yaml_tree.specs.Holds.{HoldsSaid}
 use Rattle.yaml_tree.specs.Stack.{cut, measured}
 use Rattle.yaml_tree.specs.Tree.{Says, IsTree, HasTree, MayBegin, ValueMayBegin, kind_of, IsKindAt, IsMisfit, IsRefused, IsFirstRefused, IsTreeOf, IsFaultOf}
-use Rattle.yaml_tree.specs.Builder.{take_mark, take_marks, fault_of, judged_by, judged, read_line, read_lines, at_line, Reads, ◌>>=◌, fresh}
+use Rattle.yaml_tree.specs.Builder.{take_mark, take_marks, fault_of, judged_by, judged, read_line, read_lines, at_line, ReadsLine, ◌>>=◌, fresh}
 use Rattle.yaml_tree.specs.Trees.{Holds, RootIsIn, IsReading, IsErrorOf, root_number}
 use Rattle.yaml_tree.specs.declared.builder.Builder.{Builder}
 use Rattle.yaml_marks.specs.declared.mark.Mark.{Mark}
@@ -361,6 +361,6 @@ error_read bytes alloc (Ok t) u h = tt
 error_read bytes alloc (Err (tree.Fault fault)) u h = fault-of_lines bytes fault.line fault.kind u (subst (ReadsTo (lines_of bytes)) h (read-means (lines_of bytes) alloc))
 error_read bytes alloc (Err tree.NoMemory) u h = tt
 
-pub error_passes : (error : TreeError) (new : Builder) (read other : Result Builder YamlFault) → read ≡ other → Reads (Err error) new read → IsReading other (Err error)
-error_passes (tree.Fault fault) new read other e h = sym e ∙ h
-error_passes tree.NoMemory new read other e h = tt
+pub error_passes : (A : Type 0) (error : TreeError) (new : Builder) (read other : Result Builder YamlFault) → read ≡ other → ReadsLine {A = A} (Err error) new read → IsReading other (Err error)
+error_passes A (tree.Fault fault) new read other e h = sym e ∙ h
+error_passes A tree.NoMemory new read other e h = tt

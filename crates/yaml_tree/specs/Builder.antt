@@ -297,9 +297,9 @@ Reads (Ok _) new read = read ≡ Ok new
 Reads (Err (tree.Fault fault)) new read = read ≡ Err fault
 Reads (Err tree.NoMemory) new read = Unit {0}
 
--- the same where the line left a place for the next one
-abbrev pub ReadsLine : Result Place TreeError → Builder → Result Builder YamlFault → Type 0
-ReadsLine (Ok place) new read = read ≡ Ok new
+-- the same where the reader tells more
+abbrev pub ReadsLine : {A : Type 0} → Result A TreeError → Builder → Result Builder YamlFault → Type 0
+ReadsLine (Ok told) new read = read ≡ Ok new
 ReadsLine (Err (tree.Fault fault)) new read = read ≡ Err fault
 ReadsLine (Err tree.NoMemory) new read = Unit {0}
 

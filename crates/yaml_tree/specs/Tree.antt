@@ -1,5 +1,6 @@
 -- The tree of a text, and the fault of a text that has none.
-use Rattle.std.specs.Prelude.{◌≡◌, ◌⊎◌, ℕ, ◌+◌, ◌<◌, ◌≤◌, true, false, List, [], ◌∷◌, ◌++◌, None, length, take, count_by, ◌==◌}
+use Rattle.std.specs.Prelude.{◌≡◌, ◌⊎◌, ℕ, Bool, ◌+◌, ◌<◌, ◌≤◌, true, false, List, [], ◌∷◌, ◌++◌, None, length, take, count_by, ◌==◌}
+use Rattle.std.specs.List.{list_all}
 use Rattle.std.specs.Str.{IsUtf8}
 use Rattle.std.specs.Str.Lossy.{utf8_valid_len}
 use Rattle.yaml_marks.specs.Lines.{lines_of, line_feed}
@@ -8,7 +9,7 @@ use Rattle.yaml_tree.specs.Flows.{IsFlowMisfit}
 use Rattle.yaml_marks.specs.Marks.{marks_of}
 use Rattle.yaml_marks.specs.declared.mark.Mark.{Mark}
 use Rattle.yaml_marks.specs.declared.mark.Mark.TheVariants.{Scalar, Form, OddMark}
-use Rattle.yaml_tree.specs.Written.{Written, Spells}
+use Rattle.yaml_tree.specs.Written.{Written, Spells, is_name}
 use Rattle.yaml_tree.specs.Said.{Said, tree_of, has_repeat, has_unknown, levels, size}
 use Rattle.yaml_tree.specs.declared.fault.FaultKind.{FaultKind}
 use Rattle.yaml_tree.specs.declared.fault.FaultKind.TheVariants.{NotUtf8, Syntax, Unsupported, Duplicate, Alias, TooDeep, TooManyNodes}
@@ -83,6 +84,10 @@ pub record IsFirstRefused (lines : List (List ℕ)) (number : ℕ) (kind : Fault
   pub within : number ≤ length lines
   pub before : (n : ℕ) → n < number → HasTree (take n lines)
   pub refused : IsRefused (take number lines) kind
+
+-- a document is empty that has no token but a name
+abbrev pub is_empty_document : List (List ℕ) → Bool
+is_empty_document lines = list_all is_name (marks_of lines)
 
 -- the line of the first byte that breaks UTF-8
 abbrev pub line_of_break : List ℕ → ℕ

@@ -1,5 +1,5 @@
 -- What is seen of a tree: its nodes by number, and the root's.
-use Rattle.std.specs.Prelude.{◌≡◌, ◌<◌, ℕ, List, Result, Ok, Err, length}
+use Rattle.std.specs.Prelude.{◌≡◌, ◌<◌, ℕ, Bool, List, Result, Ok, Err, length}
 use Rattle.yaml_tree.specs.Said.{Said}
 use Rattle.yaml_tree.specs.Holds.{HoldsSaid}
 use Rattle.yaml_tree.specs.Builder.{whole, known_of}
@@ -18,6 +18,10 @@ nodes_of t = t.nodes
 
 abbrev pub root_of : Tree → ℕ
 root_of t = t.root
+
+-- the tree is told to be that of an empty document
+abbrev pub is_empty : Tree → Bool
+is_empty t = t.empty
 
 abbrev pub node_count : Tree → ℕ
 node_count t = length t.nodes

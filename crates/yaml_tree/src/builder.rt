@@ -54,7 +54,7 @@ impl Builder {
         }
     }
 
-    /// Makes a node, which takes the name that waits for one.
+    /// Makes a node, which takes the name that waits for one. No memory has room for 2^32 nodes.
     #[tactic(auto, unfolding(crate::specs::Builder::with_node))]
     pub fn make_node(
         &mut self,
@@ -64,7 +64,9 @@ impl Builder {
     ) -> Result<Known, NoMemory>
         ensures { IfOk result (λ k. (k ≡ next_known measure self.old) × (self.new ≡ with_node line value measure self.old)) }
     {
-        let node = self.nodes.len();
+        let Ok(node) = u32::try_from(self.nodes.len()) else {
+            return Err(NoMemory);
+        };
         let known = Known { node, measure };
         self.nodes.push(Node { line, value })?;
         if let Some(name) = self.name.take() {
@@ -340,7 +342,7 @@ impl Builder {
 
     /// Closes all that is open, and gives the number of the root.
     #[tactic(auto, unfolding(crate::specs::Builder::whole))]
-    pub fn finish(&mut self) -> Result<usize, NoMemory>
+    pub fn finish(&mut self) -> Result<u32, NoMemory>
         ensures { IfOk result (λ n. (n ≡ root_number self.old) × (self.new ≡ whole self.old)) }
     {
         self.end_literal()?;

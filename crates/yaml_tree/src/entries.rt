@@ -14,7 +14,7 @@ use yaml_marks::Scalar;
 #[derive(Clone, Copy, Debug, PartialEq, Eq)]
 pub struct Child {
     pub line: usize,
-    pub node: usize,
+    pub node: u32,
 }
 
 /// The entries of a mapping in the order of its keys, which contracts see as a list of pairs.

@@ -137,7 +137,7 @@ fn levels_above(levels: usize) -> usize
 /// A node that is whole, with the measure of its tree.
 #[derive(Clone, Copy, Debug, PartialEq, Eq)]
 pub(crate) struct Known {
-    pub node: usize,
+    pub node: u32,
     pub measure: Measure,
 }
 

@@ -29,6 +29,12 @@ impl Nodes {
         }
     }
 
+    pub fn as_slice(&self) -> &[Node]
+        ensures { result.now ≡ self.now }
+    {
+        self.items.as_slice()
+    }
+
     pub fn len(&self) -> usize
         ensures { result ≡ length self.now }
     {

@@ -8,7 +8,7 @@ use std::marker::Model;
 /// The numbers of the items' nodes, in order, which contracts see as a list.
 #[derive(Debug, Drop)]
 pub struct Numbers {
-    numbers: Vec<usize>,
+    numbers: Vec<u32>,
 }
 
 impl Model for Numbers {
@@ -26,14 +26,14 @@ impl Numbers {
         }
     }
 
-    pub fn push(&mut self, number: usize) -> Result<(), AllocError>
+    pub fn push(&mut self, number: u32) -> Result<(), AllocError>
         ensures { OnOk result (self.new ≡ self.old ++ number ∷ []) }
     {
         self.numbers.push(number)?;
         Ok(())
     }
 
-    pub fn as_slice(&self) -> &[usize]
+    pub fn as_slice(&self) -> &[u32]
         ensures { result.now ≡ self.now }
     {
         self.numbers.as_slice()

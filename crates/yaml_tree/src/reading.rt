@@ -4,17 +4,21 @@ ghost use Rattle.std.specs.Prelude.{◌≡◌, ◌+◌, ◌<◌, ◌≤◌, ◌^
 ghost use Rattle.yaml_marks.specs.Lines.{line_feed, split_lines, lines_of};
 ghost use Rattle.yaml_tree.specs.Builder.{Steps, Reads, ReadsLine, take_marks, take_line, read_line, at_line, read_lines, fresh};
 ghost use Rattle.yaml_tree.specs.Said.{Said};
-ghost use Rattle.yaml_marks.specs.Marks.{has_content, place_after, line_marks, next_place};
+ghost use Rattle.yaml_marks.specs.Marks.{has_content, place_after, line_marks, next_place, marks_of};
 ghost use Rattle.yaml_marks.specs.declared.place.Place.TheVariants.{Outside};
-ghost use Rattle.yaml_tree.specs.Tree.{IsTreeOf, IsFaultOf};
-ghost use Rattle.yaml_tree.specs.Trees.{Holds, RootIsIn, IsWhole, IsReading, IsErrorOf, error_at};
+ghost use Rattle.yaml_tree.specs.Tree.{IsTreeOf, IsFaultOf, is_empty_document};
+ghost use Rattle.yaml_tree.specs.Written.{is_name};
+ghost use Rattle.std.specs.List.{list_all};
+ghost use Rattle.yaml_tree.specs.Trees.{Holds, RootIsIn, IsWhole, IsReading, IsErrorOf, error_at, is_empty};
 
 use crate::builder::Builder;
 use crate::fault::{FaultKind, Stop, TreeError, YamlFault};
 use crate::tree::Tree;
 use sim_base::NoMemory;
 use std::alloc::Global;
-use yaml_marks::{Marks, Place, has_content, line_marks, next_line, next_place, without_mark};
+use yaml_marks::{
+    Mark, Marks, Place, has_content, line_marks, next_line, next_place, without_mark,
+};
 
 /// Gives the tokens of a line to the builder.
 fn take_marks(builder: &mut Builder, marks: Marks) -> Result<(), Stop>
@@ -54,7 +58,20 @@ fn take_numbered(builder: &mut Builder, number: usize, marks: Marks) -> Result<(
     }
 }
 
-/// Reads a line, and tells where the next one stands.
+fn is_name(mark: &Mark) -> bool
+    ensures { result ≡ is_name mark.now }
+{
+    matches!(mark, Mark::Name(_, _, _))
+}
+
+/// Whether there are no tokens but names.
+fn are_names(marks: &Marks) -> bool
+    ensures { result ≡ list_all is_name marks.now }
+{
+    marks.as_slice().iter().all(|mark| is_name(mark))
+}
+
+/// Reads a line, and tells where the next one stands, and whether it has no tokens but names.
 #[tactic(auto, unfolding(crate::specs::Builder::read_line))]
 fn read_line(
     builder: &mut Builder,
@@ -62,34 +79,40 @@ fn read_line(
     place: Place,
     number: usize,
     line: &[u8],
-) -> Result<Place, TreeError>
+) -> Result<(Place, bool), TreeError>
     requires { length line.now < 2 ^ 62 }
     ensures read { ReadsLine result builder.new (at_line number (read_line begun place number line.now builder.old)) }
-    ensures place { IfOk result (λ p. p ≡ next_place begun place number line.now) }
+    ensures place { IfOk result (λ p. p.0 ≡ next_place begun place number line.now) }
+    ensures names { IfOk result (λ p. p.1 ≡ list_all is_name (line_marks begun place number line.now)) }
 {
     let marks = line_marks(builder.alloc, begun, place, number, line)?;
     let next = next_place(place, line, &marks);
+    let names = are_names(&marks);
     take_numbered(builder, number, marks)?;
-    Ok(next)
+    Ok((next, names))
 }
 
-/// Reads the lines of a text.
-fn read_lines(builder: &mut Builder, text: &[u8]) -> Result<(), TreeError>
+/// Reads the lines of a text, and tells whether they are those of an empty document.
+fn read_lines(builder: &mut Builder, text: &[u8]) -> Result<bool, TreeError>
     requires { length text.now < 2 ^ 62 }
-    ensures { Reads result builder.new (read_lines false (Outside None) 1 (split_lines text.now) builder.old) }
+    ensures read { ReadsLine result builder.new (read_lines false (Outside None) 1 (split_lines text.now) builder.old) }
+    ensures empty { IfOk result (λ empty. empty ≡ is_empty_document (split_lines text.now)) }
 {
     let mut rest = text;
     let mut begun = false;
     let mut place = Place::Outside(None);
     let mut number = 1;
+    let mut empty = true;
     while !rest.is_empty() {
         let (line, behind) = next_line(rest);
-        place = read_line(builder, begun, place, number, line)?;
+        let read = read_line(builder, begun, place, number, line)?;
+        place = read.0;
+        empty = empty && read.1;
         begun = has_begun(begun, line);
         number += 1;
         rest = behind;
     }
-    Ok(())
+    Ok(empty)
 }
 
 fn has_begun(begun: bool, line: &[u8]) -> bool
@@ -99,9 +122,10 @@ fn has_begun(begun: bool, line: &[u8]) -> bool
 }
 
 /// Closes all that is open.
-fn finish(builder: Builder) -> Result<Tree, NoMemory>
+fn finish(builder: Builder, empty: bool) -> Result<Tree, NoMemory>
     requires { RootIsIn builder }
-    ensures { IfOk result (IsWhole builder) }
+    ensures whole { IfOk result (IsWhole builder) }
+    ensures empty { IfOk result (λ tree. is_empty tree ≡ empty) }
 {
     let mut builder = builder;
     let root = builder.finish()?;
@@ -115,20 +139,21 @@ fn finish(builder: Builder) -> Result<Tree, NoMemory>
         literal: _,
         names: _,
     } = builder;
-    Ok(Tree { nodes, root })
+    Ok(Tree { nodes, root, empty })
 }
 
 /// Reads a text that is UTF-8.
 fn read_text(alloc: Global, text: &[u8]) -> Result<Tree, TreeError>
-    ensures { IsReading (read_lines false (Outside None) 1 (lines_of text.now) (fresh alloc)) result }
+    ensures read { IsReading (read_lines false (Outside None) 1 (lines_of text.now) (fresh alloc)) result }
+    ensures empty { IfOk result (λ tree. is_empty tree ≡ is_empty_document (lines_of text.now)) }
 {
     let bytes = without_mark(text);
     if bytes.len() >= LONGEST {
         return Err(TreeError::NoMemory);
     }
     let mut builder = Builder::new(alloc);
-    read_lines(&mut builder, bytes)?;
-    Ok(finish(builder)?)
+    let empty = read_lines(&mut builder, bytes)?;
+    Ok(finish(builder, empty)?)
 }
 
 /// Longer texts don't fit into memory.
@@ -154,6 +179,7 @@ fn line_of(text: &[u8], place: usize) -> usize
 /// none. Lines are counted from 1.
 pub fn read_tree(alloc: Global, text: &[u8]) -> Result<Tree, TreeError>
     ensures tree { IfOk result (λ tree. (said : Said) × IsTreeOf text.now said × Holds tree said) }
+    ensures empty { IfOk result (λ tree. is_empty tree ≡ is_empty_document (lines_of text.now)) }
     ensures fault { IfErr result (λ error. IsErrorOf text.now error) }
 {
     match std::str::from_utf8(text) {

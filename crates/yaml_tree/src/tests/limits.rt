@@ -105,8 +105,8 @@ const LISTS: &str = "a: &a [1, 1, 1, 1, 1, 1, 1, 1, 1, 1]\n\
     d: &d [*c, *c, *c, *c, *c, *c, *c, *c, *c, *c]\n\
     e: &e [*d, *d, *d, *d, *d, *d, *d, *d, *d, *d]\n";
 
-fn count(counts: &[usize], number: usize) -> usize {
-    match counts.get(number) {
+fn count(counts: &[usize], number: u32) -> usize {
+    match counts.get(number as usize) {
         Some(count) => *count,
         None => 0,
     }
@@ -134,8 +134,8 @@ fn count_of(value: &Value, counts: &[usize]) -> usize {
 /// How many nodes a tree has, where copies count in full.
 fn node_count(alloc: Global, tree: &Tree) -> Result<usize, AllocError> {
     let mut counts = Vec::new(alloc);
-    for number in 0..tree.len() {
-        let count = count_of(&tree.node(number).value, counts.as_slice());
+    for node in tree.nodes() {
+        let count = count_of(&node.value, counts.as_slice());
         counts.push(count)?;
     }
     Ok(count_of(&tree.root().value, counts.as_slice()))

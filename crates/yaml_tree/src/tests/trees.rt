@@ -6,8 +6,8 @@ use std::test::Fail;
 /// a mapping, each with its line and its value. A copy is printed in full.
 type Row = (&'static str, &'static str);
 
-fn printed(nodes: &[String], number: usize) -> &str {
-    match nodes.get(number) {
+fn printed(nodes: &[String], number: u32) -> &str {
+    match nodes.get(number as usize) {
         Some(node) => node.as_str(),
         None => "?",
     }
@@ -49,9 +49,9 @@ fn print_node(alloc: Global, node: &Node, nodes: &[String]) -> Result<String, Al
 fn shown(alloc: Global, text: &str) -> Result<String, Fail> {
     let tree = read_tree(alloc, text.as_bytes())?;
     let mut nodes = Vec::new(alloc);
-    for number in 0..tree.len() {
-        let node = print_node(alloc, tree.node(number), nodes.as_slice())?;
-        nodes.push(node)?;
+    for node in tree.nodes() {
+        let printed = print_node(alloc, node, nodes.as_slice())?;
+        nodes.push(printed)?;
     }
     Ok(print_node(alloc, tree.root(), nodes.as_slice())?)
 }
@@ -100,6 +100,25 @@ const BLOCKS: [Row; 18] = [
         "1[ 1{ a@1=2[ 2'b' ] c@3=3~ } 4~ ]",
     ),
 ];
+
+#[test]
+fn tells_an_empty_document(rt: HostRuntime) -> Result<(), Fail> {
+    for text in ["", "\n# c\n", "---", "&x", "\n  &x\n"] {
+        assert_eq!(rt;
+            read_tree(rt.alloc(), text.as_bytes())?.is_empty(),
+            true,
+            "{text:?}"
+        );
+    }
+    for text in ["~", "null", "''", "\"\"", "[]", "a:", "-", "&x ~"] {
+        assert_eq!(rt;
+            read_tree(rt.alloc(), text.as_bytes())?.is_empty(),
+            false,
+            "{text:?}"
+        );
+    }
+    Ok(())
+}
 
 #[test]
 fn finds_the_tree_of_block_collections(rt: HostRuntime) -> Result<(), Fail> {
