@@ -1,8 +1,10 @@
 pub mod Tcb
 pub mod Segment
 pub mod Ending
+pub mod Congestion
 pub mod Timer
 pub mod Output
+pub mod Retransmission
 pub mod Arrival
 pub mod Process
 pub mod Begin

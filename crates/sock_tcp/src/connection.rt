@@ -3,6 +3,7 @@
 mod acknowledgement;
 mod arrival;
 mod calls;
+mod congestion;
 mod conn;
 mod effects;
 mod ending;
@@ -12,6 +13,7 @@ mod output;
 mod process;
 mod readiness;
 mod resets;
+mod retransmission;
 mod segment;
 #[cfg(test)]
 mod tests;

@@ -10,4 +10,4 @@ mod tests;
 
 pub use connection::{BUFFER_SIZE, Conn, Effects, Opened, Shut};
 pub use listener::{Listener, MAX_BACKLOG};
-pub use segment::{Control, Distance, Header, Phase, TcpState, Verdict, refusal};
+pub use segment::{Congestion, Control, Distance, Header, Phase, TcpState, Verdict, refusal};

@@ -1,5 +1,6 @@
 //! The headers, numbers, states and verdicts of TCP segments (a profile of RFC 9293).
 
+mod congestion;
 mod control;
 mod header;
 mod number;
@@ -9,6 +10,7 @@ mod tests;
 mod unmatched;
 mod verdict;
 
+pub use congestion::Congestion;
 pub use control::Control;
 pub use header::Header;
 pub use number::{Distance, distance_to, number_at, number_past};

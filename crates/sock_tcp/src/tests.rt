@@ -2,6 +2,7 @@
 //! numbers of `connected` begin at 100 and the peer's at 300.
 
 mod closing;
+mod congestion;
 mod listening;
 mod receiving;
 mod sending;

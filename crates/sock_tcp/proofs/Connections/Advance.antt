@@ -10,6 +10,7 @@ use Rattle.sock_tcp.specs.declared.connection.conn.Conn.{Conn}
 use Rattle.sock_tcp.specs.declared.segment.control.Control.{Control}
 use Rattle.sock_tcp.specs.declared.segment.state.TcpState.{TcpState}
 use Rattle.sock_tcp.specs.declared.segment.state.TcpState.TheVariants.{SynSent, SynReceived, Established, FinWait1, FinWait2, CloseWait, Closing, LastAck, TimeWait, Ended, Vanished}
+use Rattle.sock_tcp.specs.segment.Congestion.{acknowledged}
 use Rattle.sock_tcp.specs.segment.Number.{wire}
 use Rattle.sock_tcp.specs.segment.State.{phase_of, is_synchronized}
 use Rattle.sock_tcp.specs.connection.Tcb.{Tcb, data_end}
@@ -86,10 +87,15 @@ not_all una by end highest e a b = grind (arith, nat_tests)
 
 -- what the code changes
 pub record AdvancesTo (c c' : Conn) (state : TcpState) (by window : ℕ) : Type 0 where
-  pub control : c'.control ≡ record c.control { state = state; window = window }
+  pub control : c'.control ≡ record c.control {
+    state = state;
+    window = window;
+    congestion = acknowledged by c.control.congestion;
+  }
   pub una : c'.una ≡ wire c.una by
   pub sent : c'.sent ≡ c.sent - by
   pub highest : c'.highest + by ≡ c.highest
+  pub recover : c'.recover ≡ c.recover - by
   pub rcv : c'.rcv ≡ c.rcv
   pub send : c'.send.items ≡ keep_last (length c.send.items - by) c.send.items
   pub receive : c'.receive ≡ c.receive
@@ -108,10 +114,13 @@ stands_advanced c c' r state by window h s b st e =
     let one : 1 ≤ r.una = from_one r.control.state _ _ _ _ _ t h.phase in
     let place : r.una - 1 + by ≡ r.una + by - 1 = omega arith in
     record {
-      control = e.control ∙ (ap (λ (k : Control). record k { state = state; window = window }) h.control ∙ ap (λ (x : TcpState). record r.control { state = x; window = window }) st);
+      control = e.control
+          ∙ (ap (λ (k : Control). record k { state = state; window = window; congestion = acknowledged by k.congestion }) h.control
+          ∙ ap (λ (x : TcpState). record r.control { state = x; window = window; congestion = acknowledged by r.control.congestion }) st);
       una = e.una ∙ (ap (λ n. wire n by) h.una ∙ wire-wire r.iss r.una by);
       next = omega (arith, h.next, e.sent);
       highest = omega (arith, h.highest, e.highest);
+      recover = omega (arith, h.recover, e.recover);
       rcv = e.rcv ∙ h.rcv;
       send = e.send ∙ (kept_items c.send.items by ∙ (ap (drop by) h.send ∙ (drop-drop by (r.una - 1) r.written ∙ ap (λ n. drop n r.written) place)));
       receive = ap (λ x. x.items) e.receive ∙ h.receive;

@@ -8,7 +8,7 @@ use Rattle.sock_tcp.specs.segment.Number.{wire}
 use Rattle.sock_tcp.specs.segment.State.{phase_of, is_sending}
 use Rattle.sock_tcp.specs.connection.Tcb.{Tcb, Turn, data_end, own_window}
 use Rattle.sock_tcp.specs.connection.Segment.{with_ack}
-use Rattle.sock_tcp.specs.connection.Process.{unacknowledged, probe_length, sends_again_text}
+use Rattle.sock_tcp.specs.connection.Retransmission.{unacknowledged, probe_length, sends_again_text}
 use Rattle.sock_tcp.specs.connection.Output.{pieces, text_segments, send_limit, to_send, sends_text}
 use Rattle.sock_tcp.specs.connection.StandsFor.{StandsFor, Stands, FitsPhase}
 use Rattle.sock_tcp.proofs.Connections.Phases.{unacknowledged_ends, FitsPhase-next}
@@ -24,6 +24,7 @@ pub record SendsTo (c c' : Conn) (limit : ℕ) : Type 0 where
   pub una : c'.una ≡ c.una
   pub sent : c'.sent ≡ limit
   pub highest : c'.highest ≡ c.highest
+  pub recover : c'.recover ≡ c.recover
   pub rcv : c'.rcv ≡ c.rcv
   pub send : c'.send ≡ c.send
   pub receive : c'.receive ≡ c.receive
@@ -73,6 +74,7 @@ stands_sends_text c c' d d' limit t h e sending b at segments started =
         una = e.una ∙ h.conn.una;
         next = ap (λ n. r.una + n) e.sent ∙ next;
         highest = ap (λ n. r.una + n) e.highest ∙ h.conn.highest;
+        recover = e.recover ∙ h.conn.recover;
         rcv = e.rcv ∙ h.conn.rcv;
         send = ap (λ b. b.items) e.send ∙ h.conn.send;
         receive = ap (λ b. b.items) e.receive ∙ h.conn.receive;
@@ -95,6 +97,7 @@ stands_sends_no_text c d limit t h b at =
         una = h.conn.una;
         next = h.conn.next ∙ next;
         highest = h.conn.highest;
+        recover = h.conn.recover;
         rcv = h.conn.rcv;
         send = h.conn.send;
         receive = h.conn.receive;
@@ -126,6 +129,7 @@ stands_sends_again_text c c' d d' count text p t h e sending counted text_is p_i
         una = e.una ∙ h.conn.una;
         next = ap (λ n. r.una + n) e.sent ∙ next;
         highest = ap (λ n. r.una + n) e.highest ∙ h.conn.highest;
+        recover = e.recover ∙ h.conn.recover;
         rcv = e.rcv ∙ h.conn.rcv;
         send = ap (λ b. b.items) e.send ∙ h.conn.send;
         receive = ap (λ b. b.items) e.receive ∙ h.conn.receive;

@@ -21,6 +21,9 @@ use Rattle.sock_tcp.specs.connection.Segment.{sends_ack, sends_syn_ack, sends_re
 use Rattle.sock_tcp.specs.connection.Ending.{ends, vanishes}
 use Rattle.sock_tcp.specs.connection.Timer.{judged, restarts}
 use Rattle.sock_tcp.specs.connection.Output.{output}
+use Rattle.sock_tcp.specs.connection.Congestion.{happens, flight_of, tells_loss, is_duplicate}
+use Rattle.sock_tcp.specs.connection.Congestion.CongestionEvent.{opens, acknowledges, duplicates}
+use Rattle.sock_tcp.specs.connection.Retransmission.{sends_one}
 
 abbrev pub verdict : Tcb → Header → Verdict
 verdict r h =
@@ -32,10 +35,12 @@ peer_known seq r = record r { irs = seq; rcv = 1 }
 
 -- the own SYN is acknowledged
 unfoldable pub established : ℕ → Tcb → Tcb
-established window r = record r {
-  una = 1;
-  control = record r.control { state = Established; was_established = true; window = window };
-}
+established window r =
+    happens (opens (nat_lt 0 r.control.retries))
+    (record r {
+      una = 1;
+      control = record r.control { state = Established; was_established = true; window = window };
+    })
 
 unfoldable pub establishes : ℕ → Turn → Turn
 establishes window t = judged (restarts (changed (established window) t))
@@ -52,11 +57,13 @@ control_advanced fin window c =
     record c { window = window; state = state_advanced fin c.state }
 
 unfoldable pub advanced : ℕ → ℕ → Tcb → Tcb
-advanced by window r = record r {
-  una = r.una + by;
-  nxt = max r.nxt (r.una + by);
-  control = control_advanced (own_fin_acknowledged by r) window r.control;
-}
+advanced by window r =
+    happens (acknowledges by)
+    (record r {
+      una = r.una + by;
+      nxt = max r.nxt (r.una + by);
+      control = control_advanced (own_fin_acknowledged by r) window r.control;
+    })
 
 -- the timer starts anew at what moves SND.UNA, and while the window is 0 at each acknowledgement
 abbrev pub restarts_timer : ℕ → ℕ → Control → Bool
@@ -66,6 +73,19 @@ unfoldable pub advances : ℕ → ℕ → Turn → Turn
 advances by window t =
     let moved = changed (advanced by window) t in
     judged (if restarts_timer by window t.tcb.control then restarts moved else moved)
+
+-- a duplicate acknowledgement: where it tells of a loss, the first segment that isn't acknowledged goes
+-- out again at once (RFC 5681, section 3.2)
+abbrev pub duplicate_heard : Tcb → Tcb
+duplicate_heard r = happens (duplicates r.una r.highest) r
+
+unfoldable pub hears_duplicate : Turn → Turn
+hears_duplicate t =
+    let heard = changed duplicate_heard t in
+    if tells_loss t.tcb.una (flight_of t.tcb) then sends_one heard else heard
+
+unfoldable pub notices : Bool → Turn → Turn
+notices duplicate t = if duplicate then hears_duplicate t else t
 
 -- the text that begins where it is expected: what was received before is cut off
 abbrev pub fresh_text : Distance → List ℕ → List ℕ
@@ -145,7 +165,8 @@ acts_on Reset h text t = ends Econnreset t
 acts_on Gone h text t = vanishes t
 acts_on Connects h text t = connects h t
 acts_on Establishes h text t = receives h text (establishes h.window t)
-acts_on (Advances by) h text t = receives h text (advances by h.window t)
+acts_on (Advances by) h text t =
+    receives h text (notices (is_duplicate by h (length text) t.tcb) (advances by h.window t))
 acts_on Continues h text t = receives h text t
 
 unfoldable pub takes_segment : Header → List ℕ → Turn → Turn

@@ -6,7 +6,7 @@ use Rattle.sock_tcp.specs.declared.segment.control.Control.{Control}
 use Rattle.sock_tcp.specs.segment.Number.{wire}
 use Rattle.sock_tcp.specs.segment.State.{is_sending}
 use Rattle.sock_tcp.specs.connection.Tcb.{Tcb, Turn, data_end, own_window, changed}
-use Rattle.sock_tcp.specs.segment.Control.{segment}
+use Rattle.sock_tcp.specs.segment.Control.{segment, send_window}
 use Rattle.sock_tcp.specs.connection.Segment.{with_ack, sends}
 
 -- text cut into pieces of a size, the last of which may be shorter; count is at least their number
@@ -26,9 +26,9 @@ text_segments c start offset ack window (piece ∷ rest) =
     segment c ack_flag (wire start offset) ack window piece
     ∷ text_segments c start (offset + length piece) ack window rest
 
--- how far text may be sent: to the end of what was written, and to that of the peer's window
+-- how far text may be sent: to the end of what was written, and to that of the windows
 abbrev pub send_limit : Tcb → ℕ
-send_limit r = min (data_end r) (r.una + r.control.window)
+send_limit r = min (data_end r) (r.una + send_window r.control)
 
 -- the text that is sent now, from what is next to the limit
 abbrev pub to_send : Tcb → List ℕ
@@ -40,7 +40,7 @@ sends_text t = let r = t.tcb in record t {
   sent = t.sent ++ text_segments r.control r.iss r.nxt (wire r.irs r.rcv) (own_window r) (pieces (to_send r));
 }
 
--- the FIN goes in a segment of its own, whatever the window is, once all text was sent
+-- the FIN goes in a segment of its own, whatever the windows are, once all text was sent
 abbrev pub fin_is_next : Tcb → Bool
 fin_is_next r = (r.nxt == data_end r) && r.control.fin_wanted
 

@@ -1,5 +1,5 @@
 -- what the process and the timer do to a record (RFC 9293, section 3.10.1 to 3.10.4 and 3.10.8)
-use Rattle.std.specs.Prelude.{ℕ, ◌+◌, ◌-◌, nat_lt, nat_le, List, [], ◌∷◌, ◌++◌, length, take, drop, min, max, Bool, true, false, ◌&&◌, ◌||◌, if◌then◌else◌, None}
+use Rattle.std.specs.Prelude.{ℕ, ◌+◌, ◌-◌, nat_lt, nat_le, List, [], ◌∷◌, ◌++◌, length, take, drop, min, Bool, true, false, ◌&&◌, ◌||◌, if◌then◌else◌, None}
 use Rattle.sim_base.specs.declared.address.Addr.{Addr}
 use Rattle.sim_base.specs.declared.errno.Errno.TheVariants.{Etimedout}
 use Rattle.sim_base.specs.Packet.{syn_flag, ack_flag, max_segment}
@@ -7,14 +7,16 @@ use Rattle.sock_tcp.specs.declared.segment.control.Control.{Control}
 use Rattle.sock_tcp.specs.declared.connection.effects.Shut.{Shut}
 use Rattle.sock_tcp.specs.declared.connection.effects.Shut.TheVariants.{Reading, Writing, Both}
 use Rattle.sock_tcp.specs.declared.segment.state.TcpState.TheVariants.{SynSent, SynReceived}
-use Rattle.sock_tcp.specs.segment.Number.{wire}
-use Rattle.sock_tcp.specs.segment.State.{is_over, is_time_wait, is_opening, is_syn_sent, is_syn_received, is_sending}
+use Rattle.sock_tcp.specs.segment.State.{is_over, is_time_wait, is_opening, is_syn_sent, is_syn_received, is_synchronized}
 use Rattle.sock_tcp.specs.segment.Control.{fresh_control, without_ack, takes_bytes, finds_end, control_read, writing_ended}
-use Rattle.sock_tcp.specs.connection.Tcb.{Tcb, Turn, buffer_size, data_end, unread, own_window, with_control, changed}
-use Rattle.sock_tcp.specs.connection.Segment.{with_ack, sends, sends_ack, sends_syn_ack, sends_reset}
+use Rattle.sock_tcp.specs.connection.Tcb.{Tcb, Turn, buffer_size, unread, own_window, with_control, changed}
+use Rattle.sock_tcp.specs.connection.Segment.{with_ack, sends_ack, sends_reset}
 use Rattle.sock_tcp.specs.connection.Ending.{ends, vanishes}
-use Rattle.sock_tcp.specs.connection.Timer.{judged}
-use Rattle.sock_tcp.specs.connection.Output.{moves_next, sends_fin, follows, output}
+use Rattle.sock_tcp.specs.connection.Timer.{is_in_flight, judged}
+use Rattle.sock_tcp.specs.connection.Congestion.{happens}
+use Rattle.sock_tcp.specs.connection.Congestion.CongestionEvent.{times_out}
+use Rattle.sock_tcp.specs.connection.Retransmission.{unacknowledged, sends_one}
+use Rattle.sock_tcp.specs.connection.Output.{output}
 use Rattle.sock_tcp.specs.connection.Arrival.{unless_over}
 
 -- a record that has sent its SYN, and nothing else
@@ -26,6 +28,7 @@ fresh_tcb c iss irs rcv = record {
   una = 0;
   nxt = 1;
   highest = 1;
+  recover = 0;
   rcv = rcv;
   written = [];
   received = [];
@@ -45,10 +48,7 @@ answered local peer iss seq =
     let r = fresh_tcb (fresh_control local peer SynReceived) iss seq 1 in
     record { tcb = r; sent = with_ack r (syn_flag + ack_flag) 0 [] ∷ []; started = true }
 
--- what was written and isn't acknowledged yet, and how much more there is room for
-abbrev pub unacknowledged : Tcb → List ℕ
-unacknowledged r = drop (r.una - 1) r.written
-
+-- how much more there is room for
 abbrev pub room : Tcb → ℕ
 room r = buffer_size - length (unacknowledged r)
 
@@ -121,45 +121,22 @@ closes t = judged (closes_socket (changed (with_control socket_closed) t))
 unfoldable pub error_taken : Tcb → Tcb
 error_taken r = with_control (λ c. record c { error = None }) r
 
--- what goes out again at an expiry: one segment from what isn't acknowledged on (section 3.8.1),
--- where a window of 0 is probed by one byte (section 3.8.6.1)
-abbrev pub probe_length : Tcb → ℕ
-probe_length r = min max_segment (max r.control.window 1)
-
-unfoldable pub sends_again_text : Turn → Turn
-sends_again_text t =
-    let r = t.tcb in
-    let text = take (probe_length r) (unacknowledged r) in
-    changed (moves_next (r.una + length text)) (sends (with_ack r ack_flag r.una text) t)
-
-unfoldable pub sends_again : Turn → Turn
-sends_again t =
-    if nat_lt t.tcb.una (data_end t.tcb)
-    then sends_again_text t
-    else sends_fin (changed (moves_next t.tcb.una) t)
-
--- the SYN, which isn't acknowledged yet, or the SYN and ACK; what is next to send stays behind it
-unfoldable pub sends_syn : Turn → Turn
-sends_syn t = sends (without_ack t.tcb.control syn_flag (wire t.tcb.iss t.tcb.una)) t
-
-unfoldable pub sends_syn_again : Turn → Turn
-sends_syn_again t = if is_syn_sent t.tcb.control.state then sends_syn t else sends_syn_ack t
-
 abbrev pub expired_again : Control → Control
 expired_again c = record c { retries = c.retries + 1 }
+
+-- with text or the FIN in flight an expiry tells of a loss (RFC 5681, section 3.1)
+unfoldable pub backs_off : Tcb → Tcb
+backs_off r =
+    if is_synchronized r.control.state && is_in_flight r
+    then happens (times_out r.control.retries r.una r.highest) r
+    else r
 
 abbrev pub counts_expiry : Turn → Turn
 counts_expiry t = record (changed (with_control expired_again) t) { started = true }
 
-unfoldable pub sends_one : Turn → Turn
-sends_one t =
-    if is_opening t.tcb.control.state then sends_syn_again t
-    else if is_sending t.tcb.control.state then follows (sends_again t)
-    else t
-
--- the expiry counts, and the timer starts again
+-- the window shrinks, the expiry counts, and the timer starts again
 unfoldable pub retries_once : Turn → Turn
-retries_once t = sends_one (counts_expiry t)
+retries_once t = sends_one (counts_expiry (changed backs_off t))
 
 -- at the seventh expiry in a row the record gives up
 unfoldable pub gives_up : Turn → Turn

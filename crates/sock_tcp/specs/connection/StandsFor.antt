@@ -27,6 +27,7 @@ pub record StandsFor (c : Conn) (r : Tcb) : Type 0 where
   pub una : c.una ≡ wire r.iss r.una
   pub next : r.una + c.sent ≡ r.nxt
   pub highest : r.una + c.highest ≡ r.highest
+  pub recover : c.recover ≡ r.recover - r.una
   pub rcv : c.rcv ≡ wire r.irs r.rcv
   -- what isn't acknowledged yet, and what isn't read yet
   pub send : c.send.items ≡ drop (r.una - 1) r.written

@@ -16,6 +16,8 @@ pub record Tcb : Type 0 where
   pub una : ℕ
   pub nxt : ℕ
   pub highest : ℕ
+  -- what was the highest offset when a loss was last noticed (RFC 6582, section 3.2)
+  pub recover : ℕ
   -- the offset from irs that is expected next (RCV.NXT)
   pub rcv : ℕ
   -- all bytes that were taken from the process, and all that were taken for it

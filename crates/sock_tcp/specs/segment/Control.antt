@@ -1,10 +1,11 @@
 -- what a record keeps beside its numbers and lists
-use Rattle.std.specs.Prelude.{ℕ, ◌^◌, ◌==◌, nat_lt, List, [], Bool, true, false, not, ◌&&◌, ◌||◌, if◌then◌else◌, None}
+use Rattle.std.specs.Prelude.{ℕ, ◌^◌, ◌==◌, nat_lt, min, List, [], Bool, true, false, not, ◌&&◌, ◌||◌, if◌then◌else◌, None}
 use Rattle.sim_base.specs.declared.address.Addr.{Addr}
 use Rattle.sim_base.specs.declared.packet.Packet.{Packet}
 use Rattle.sim_base.specs.declared.packet.Load.TheVariants.{Tcp}
 use Rattle.sock_tcp.specs.declared.segment.control.Control.{Control}
 use Rattle.sock_tcp.specs.declared.segment.state.TcpState.{TcpState}
+use Rattle.sock_tcp.specs.segment.Congestion.{fresh_congestion}
 use Rattle.sock_tcp.specs.segment.State.{is_over, is_time_wait, after_writing}
 
 -- of a record that has just sent its SYN: its timer runs
@@ -14,6 +15,7 @@ fresh_control local peer state = record {
   peer = peer;
   state = state;
   window = 0;
+  congestion = fresh_congestion;
   fin_wanted = false;
   fin_taken = false;
   reading_ended = false;
@@ -42,6 +44,11 @@ seconds_after retries = if nat_lt retries 6 then 2 ^ retries else 60
 -- TIME-WAIT lasts 60 seconds
 abbrev pub timer_seconds : Control → ℕ
 timer_seconds c = if is_time_wait c.state then 60 else seconds_after c.retries
+
+-- how many bytes may be in flight: as many as the peer's window and the congestion window allow
+-- (RFC 5681, section 3.1)
+abbrev pub send_window : Control → ℕ
+send_window c = min c.window c.congestion.cwnd
 
 -- bytes are taken from the process until it ends its writing or the record is over
 -- (section 3.10.2)

@@ -29,6 +29,8 @@ impl Conn {
         self.una = number_at(self.una, 1);
         self.sent = self.sent.saturating_sub(1);
         self.highest = self.highest.saturating_sub(1);
+        self.recover = self.recover.saturating_sub(1);
+        self.control.congestion = self.control.congestion.opened(self.control.retries > 0);
         self.control.state = TcpState::Established;
         self.control.was_established = true;
         self.control.window = window;
@@ -72,6 +74,8 @@ impl Conn {
         self.una = number_at(self.una, by);
         self.sent = self.sent.saturating_sub(count);
         self.highest -= count;
+        self.recover = self.recover.saturating_sub(count);
+        self.control.congestion = self.control.congestion.acknowledged(by);
         self.send.truncate_front(rest);
     }
 

@@ -226,7 +226,9 @@ impl Conn {
                 self.receive_segment(draft, header, text)
             }
             Verdict::Advances(by) => {
+                let duplicate = self.is_duplicate(by, header, text);
                 self.advance(draft, by, header.window);
+                self.notice(draft, duplicate)?;
                 self.receive_segment(draft, header, text)
             }
             Verdict::Continues => self.receive_segment(draft, header, text),

@@ -9,8 +9,9 @@ use circular_buffer::HeapCircularBuffer;
 pub const BUFFER_SIZE: usize = 65_535;
 
 /// A connection. It keeps the number of the first byte that isn't acknowledged (SND.UNA), how far
-/// the next one to send (SND.NXT) and the highest one sent are from it, what it sends and wasn't
-/// acknowledged yet, and what it received and wasn't read yet. After a call that answers want of
+/// the next one to send (SND.NXT) and the highest one sent are from it, and what was the highest when
+/// a loss was last noticed, what it sends and wasn't acknowledged yet, and what it received and wasn't
+/// read yet. After a call that answers want of
 /// memory nothing is known of it.
 #[derive(Drop)]
 pub struct Conn {
@@ -18,6 +19,7 @@ pub struct Conn {
     pub(crate) una: u32,
     pub(crate) sent: usize,
     pub(crate) highest: usize,
+    pub(crate) recover: usize,
     pub(crate) rcv: u32,
     pub(crate) send: HeapCircularBuffer<u8>,
     pub(crate) receive: HeapCircularBuffer<u8>,

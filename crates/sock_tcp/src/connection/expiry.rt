@@ -2,83 +2,44 @@
 
 use crate::connection::conn::Conn;
 use crate::connection::effects::Draft;
-use crate::connection::text::copy_part;
-use sim_base::{ACK, Errno, MAX_SEGMENT, NoMemory, SYN};
+use sim_base::{Errno, NoMemory};
 
 impl Conn {
-    ghost use Rattle.std.specs.Prelude.{◌≡◌, ◌<◌, nat_lt, true, OnOk};
-    ghost use Rattle.sock_tcp.specs.connection.Tcb.{Tcb, Turn, data_end, changed};
-    ghost use Rattle.sock_tcp.specs.segment.State.{is_sending};
-    ghost use Rattle.sock_tcp.specs.connection.Output.{moves_next};
-    ghost use Rattle.sock_tcp.specs.connection.Process.{sends_again_text, sends_again, sends_syn, sends_syn_again, counts_expiry, sends_one, retries_once, gives_up, expires_running, expires};
-    ghost use Rattle.sock_tcp.specs.connection.StandsFor.{StandsFor, Stands, Does};
+    ghost use Rattle.std.specs.Prelude.{◌≡◌, ◌<◌, OnOk};
+    ghost use Rattle.sock_tcp.specs.connection.Tcb.{Tcb};
+    ghost use Rattle.sock_tcp.specs.connection.Timer.{is_in_flight};
+    ghost use Rattle.sock_tcp.specs.connection.Congestion.{happens};
+    ghost use Rattle.sock_tcp.specs.connection.Congestion.CongestionEvent.{times_out};
+    ghost use Rattle.sock_tcp.specs.connection.Process.{backs_off, counts_expiry, retries_once, gives_up, expires_running, expires};
+    ghost use Rattle.sock_tcp.specs.connection.StandsFor.{StandsFor, Does};
 
-    /// One segment of text from the first byte that isn't acknowledged on, at least one byte of it
-    /// even where the peer's window is 0.
-    fn send_again_text(&mut self, draft: &mut Draft) -> Result<(), NoMemory>
-        requires { is_sending self.old.control.state ≡ true }
-        ensures does { OnOk result (Does sends_again_text self.old draft.old self.new draft.new) }
-        ensures control { self.new.control ≡ self.old.control }
+    /// Whether text or the FIN is in flight.
+    fn is_in_flight(&self) -> bool
+        ensures { (r : Tcb) → StandsFor self.now r → result ≡ is_in_flight r }
     {
-        let probe = MAX_SEGMENT.min(usize::from(self.control.window).max(1));
-        let count = probe.min(self.send.len());
-        let (front, back) = self.send.as_slices();
-        let text = copy_part(self.alloc(), front, back, 0, count)?;
-        draft.send(self.with_ack(ACK, 0, text))?;
-        self.sent = count;
-        Ok(())
+        self.highest > 0
     }
 
-    /// What is next to send goes back to the first byte that isn't acknowledged.
-    fn go_back(&mut self, draft: &Draft)
-        requires { is_sending self.old.control.state ≡ true }
-        ensures does { (t : Turn) → Stands self.old draft.now t
-            → Stands self.new draft.now (changed (moves_next t.tcb.una) t) }
-        ensures control { self.new.control ≡ self.old.control }
+    /// The window after an expiry with text or the FIN in flight.
+    fn back_off(&mut self)
+        ensures stands { (r : Tcb) → StandsFor self.old r
+            → StandsFor self.new (happens (times_out r.control.retries r.una r.highest) r) }
+        ensures retries { self.new.control.retries ≡ self.old.control.retries }
     {
-        self.sent = 0;
+        let first = self.control.retries == 0;
+        self.control.congestion = self.control.congestion.timed_out(first, self.highest);
+        self.recover = self.highest;
     }
 
-    /// Whether text isn't acknowledged yet.
-    #[tactic(auto, using(crate::proofs::Connections::Phases::unacknowledged_ends))]
-    fn has_text(&self) -> bool
-        requires { is_sending self.now.control.state ≡ true }
-        ensures { (r : Tcb) → StandsFor self.now r → result ≡ nat_lt r.una (data_end r) }
+    /// An expiry with text or the FIN in flight tells of a loss.
+    #[tactic(auto, unfolding(crate::specs::connection::Process::backs_off))]
+    fn notice_expiry(&mut self)
+        ensures stands { (r : Tcb) → StandsFor self.old r → StandsFor self.new (backs_off r) }
+        ensures retries { self.new.control.retries ≡ self.old.control.retries }
     {
-        !self.send.is_empty()
-    }
-
-    #[tactic(auto, unfolding(crate::specs::connection::Process::sends_again))]
-    fn send_again(&mut self, draft: &mut Draft) -> Result<(), NoMemory>
-        requires { is_sending self.old.control.state ≡ true }
-        ensures does { OnOk result (Does sends_again self.old draft.old self.new draft.new) }
-        ensures control { self.new.control ≡ self.old.control }
-    {
-        if self.has_text() {
-            self.send_again_text(draft)
-        } else {
-            self.go_back(draft);
-            self.send_fin(draft)
-        }
-    }
-
-    #[tactic(auto, unfolding(crate::specs::connection::Process::sends_syn))]
-    fn send_syn(&self, draft: &mut Draft) -> Result<(), NoMemory>
-        ensures { OnOk result (Does sends_syn self.now draft.old self.now draft.new) }
-    {
-        let seq = self.number(0);
-        draft.send(self.control.without_ack(self.alloc(), SYN, seq))?;
-        Ok(())
-    }
-
-    #[tactic(auto, unfolding(crate::specs::connection::Process::sends_syn_again))]
-    fn send_syn_again(&self, draft: &mut Draft) -> Result<(), NoMemory>
-        ensures { OnOk result (Does sends_syn_again self.now draft.old self.now draft.new) }
-    {
-        if self.control.state.is_syn_sent() {
-            self.send_syn(draft)
-        } else {
-            self.send_syn_ack(draft)
+        let synchronized = self.control.state.is_synchronized();
+        if synchronized && self.is_in_flight() {
+            self.back_off();
         }
     }
 
@@ -92,17 +53,15 @@ impl Conn {
         draft.started = true;
     }
 
-    /// Sends the one segment of an expiry.
-    #[tactic(auto, unfolding(crate::specs::connection::Process::sends_one))]
-    fn send_one(&mut self, draft: &mut Draft) -> Result<(), NoMemory>
-        ensures { OnOk result (Does sends_one self.old draft.old self.new draft.new) }
+    /// The window shrinks, the expiry counts, and one segment goes out again.
+    #[tactic(auto, unfolding(crate::specs::connection::Process::retries_once))]
+    fn retry(&mut self, draft: &mut Draft) -> Result<(), NoMemory>
+        requires { self.old.control.retries < 6 }
+        ensures { OnOk result (Does retries_once self.old draft.old self.new draft.new) }
     {
-        if self.control.state.is_opening() {
-            self.send_syn_again(draft)?;
-        } else if self.control.state.is_sending() {
-            self.send_again(draft)?;
-            self.follow(draft);
-        }
+        self.notice_expiry();
+        self.count_expiry(draft);
+        self.send_one(draft)?;
         Ok(())
     }
 
@@ -118,15 +77,14 @@ impl Conn {
         }
     }
 
-    #[tactic(auto, unfolding(crate::specs::connection::Process::expires_running, crate::specs::connection::Process::retries_once))]
+    #[tactic(auto, unfolding(crate::specs::connection::Process::expires_running))]
     fn expire_running(&mut self, draft: &mut Draft) -> Result<(), NoMemory>
         ensures { OnOk result (Does expires_running self.old draft.old self.new draft.new) }
     {
         if self.control.state.is_time_wait() {
             self.vanish(draft);
         } else if self.control.retries < 6 {
-            self.count_expiry(draft);
-            self.send_one(draft)?;
+            self.retry(draft)?;
         } else {
             self.give_up(draft);
         }

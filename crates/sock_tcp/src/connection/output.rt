@@ -20,7 +20,7 @@ impl Conn {
         ensures within { result ≤ length self.now.send.items }
         ensures limit { (r : Tcb) → StandsFor self.now r → r.una + result ≡ send_limit r }
     {
-        self.send.len().min(usize::from(self.control.window))
+        self.send.len().min(usize::from(self.control.send_window()))
     }
 
     /// Sends the text between two places of the send buffer, cut into pieces.

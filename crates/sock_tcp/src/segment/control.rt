@@ -3,6 +3,7 @@
 ghost use Rattle.std.specs.Prelude.{◌≡◌};
 ghost use Rattle.sock_tcp.specs.segment.Control.{fresh_control};
 
+use crate::segment::congestion::Congestion;
 use crate::segment::state::TcpState;
 use sim_base::{Addr, Bytes, Errno, Load, Packet};
 use std::alloc::Global;
@@ -17,6 +18,8 @@ pub struct Control {
     pub state: TcpState,
     /// The peer's window (SND.WND), 0 until a segment sets it.
     pub window: u16,
+    /// What congestion control allows to be in flight.
+    pub congestion: Congestion,
     /// The process has ended its writing.
     pub fin_wanted: bool,
     /// The peer's FIN was taken.
@@ -43,7 +46,7 @@ pub struct Control {
 
 impl Control {
     ghost use Rattle.std.specs.Prelude.{◌≤◌};
-    ghost use Rattle.sock_tcp.specs.segment.Control.{segment, without_ack, timer_seconds, takes_bytes, control_read, finds_end, writing_ended};
+    ghost use Rattle.sock_tcp.specs.segment.Control.{segment, without_ack, timer_seconds, send_window, takes_bytes, control_read, finds_end, writing_ended};
 
     /// The control of a record that has just sent its SYN.
     #[tactic(auto, unfolding(crate::specs::segment::Control::fresh_control))]
@@ -55,6 +58,7 @@ impl Control {
             peer,
             state,
             window: 0,
+            congestion: Congestion::new(),
             fin_wanted: false,
             fin_taken: false,
             reading_ended: false,
@@ -107,6 +111,13 @@ impl Control {
         } else {
             60
         }
+    }
+
+    /// How many bytes may be in flight: as many as the peer and the congestion window allow.
+    pub fn send_window(&self) -> u16
+        ensures { result ≡ send_window self.now }
+    {
+        self.window.min(self.congestion.cwnd)
     }
 
     /// Whether bytes are taken from the process.

@@ -1,7 +1,7 @@
 //! The states of a record (RFC 9293, section 3.3.2).
 
 ghost use Rattle.std.specs.Prelude.{◌≡◌};
-ghost use Rattle.sock_tcp.specs.segment.State.{phase_of, after_writing, after_own_fin, after_peer_fin, takes_text, is_over, is_time_wait, is_sending, is_opening, is_syn_sent, is_syn_received};
+ghost use Rattle.sock_tcp.specs.segment.State.{phase_of, after_writing, after_own_fin, after_peer_fin, takes_text, is_over, is_time_wait, is_sending, is_synchronized, is_opening, is_syn_sent, is_syn_received};
 
 /// The state of a connection. LISTEN is a `Listener`'s, and CLOSED is split by how a record came
 /// there.
@@ -112,6 +112,12 @@ impl TcpState {
         ensures { result ≡ is_sending self }
     {
         matches!(self.phase(), Phase::Open | Phase::Ending)
+    }
+
+    pub fn is_synchronized(self) -> bool
+        ensures { result ≡ is_synchronized self }
+    {
+        matches!(self.phase(), Phase::Open | Phase::Ending | Phase::Finished)
     }
 
     pub fn is_opening(self) -> bool

@@ -1,0 +1,98 @@
+//! What a connection sends again (RFC 9293, sections 3.8.1 and 3.8.6.1).
+
+use crate::connection::conn::Conn;
+use crate::connection::effects::Draft;
+use crate::connection::text::copy_part;
+use sim_base::{ACK, MAX_SEGMENT, NoMemory, SYN};
+
+impl Conn {
+    ghost use Rattle.std.specs.Prelude.{◌≡◌, nat_lt, true, OnOk};
+    ghost use Rattle.sock_tcp.specs.segment.State.{is_sending};
+    ghost use Rattle.sock_tcp.specs.connection.Tcb.{Tcb, Turn, data_end, changed};
+    ghost use Rattle.sock_tcp.specs.connection.Output.{moves_next};
+    ghost use Rattle.sock_tcp.specs.connection.Retransmission.{sends_again_text, sends_again, sends_syn, sends_syn_again, sends_one};
+    ghost use Rattle.sock_tcp.specs.connection.StandsFor.{StandsFor, Stands, Does};
+
+    /// One segment of text from the first byte that isn't acknowledged on, at least one byte of it
+    /// even where the peer's window is 0.
+    fn send_again_text(&mut self, draft: &mut Draft) -> Result<(), NoMemory>
+        requires { is_sending self.old.control.state ≡ true }
+        ensures does { OnOk result (Does sends_again_text self.old draft.old self.new draft.new) }
+        ensures control { self.new.control ≡ self.old.control }
+    {
+        let probe = MAX_SEGMENT.min(usize::from(self.control.window).max(1));
+        let count = probe.min(self.send.len());
+        let (front, back) = self.send.as_slices();
+        let text = copy_part(self.alloc(), front, back, 0, count)?;
+        draft.send(self.with_ack(ACK, 0, text))?;
+        self.sent = count;
+        Ok(())
+    }
+
+    /// What is next to send goes back to the first byte that isn't acknowledged.
+    fn go_back(&mut self, draft: &Draft)
+        requires { is_sending self.old.control.state ≡ true }
+        ensures does { (t : Turn) → Stands self.old draft.now t
+            → Stands self.new draft.now (changed (moves_next t.tcb.una) t) }
+        ensures control { self.new.control ≡ self.old.control }
+    {
+        self.sent = 0;
+    }
+
+    /// Whether text isn't acknowledged yet.
+    #[tactic(auto, using(crate::proofs::Connections::Phases::unacknowledged_ends))]
+    fn has_text(&self) -> bool
+        requires { is_sending self.now.control.state ≡ true }
+        ensures { (r : Tcb) → StandsFor self.now r → result ≡ nat_lt r.una (data_end r) }
+    {
+        !self.send.is_empty()
+    }
+
+    #[tactic(auto, unfolding(crate::specs::connection::Retransmission::sends_again))]
+    fn send_again(&mut self, draft: &mut Draft) -> Result<(), NoMemory>
+        requires { is_sending self.old.control.state ≡ true }
+        ensures does { OnOk result (Does sends_again self.old draft.old self.new draft.new) }
+        ensures control { self.new.control ≡ self.old.control }
+    {
+        if self.has_text() {
+            self.send_again_text(draft)
+        } else {
+            self.go_back(draft);
+            self.send_fin(draft)
+        }
+    }
+
+    #[tactic(auto, unfolding(crate::specs::connection::Retransmission::sends_syn))]
+    fn send_syn(&self, draft: &mut Draft) -> Result<(), NoMemory>
+        ensures { OnOk result (Does sends_syn self.now draft.old self.now draft.new) }
+    {
+        let seq = self.number(0);
+        draft.send(self.control.without_ack(self.alloc(), SYN, seq))?;
+        Ok(())
+    }
+
+    #[tactic(auto, unfolding(crate::specs::connection::Retransmission::sends_syn_again))]
+    fn send_syn_again(&self, draft: &mut Draft) -> Result<(), NoMemory>
+        ensures { OnOk result (Does sends_syn_again self.now draft.old self.now draft.new) }
+    {
+        if self.control.state.is_syn_sent() {
+            self.send_syn(draft)
+        } else {
+            self.send_syn_ack(draft)
+        }
+    }
+
+    /// Sends one segment from the first number that isn't acknowledged on.
+    #[tactic(auto, unfolding(crate::specs::connection::Retransmission::sends_one))]
+    pub(crate) fn send_one(&mut self, draft: &mut Draft) -> Result<(), NoMemory>
+        ensures { OnOk result (Does sends_one self.old draft.old self.new draft.new) }
+    {
+        if self.control.state.is_opening() {
+            self.send_syn_again(draft)?;
+        } else if self.control.state.is_sending() {
+            self.send_again(draft)?;
+            self.follow(draft);
+        }
+        Ok(())
+    }
+}
