@@ -1,3 +1,4 @@
 pub mod Segments
 pub mod Connections
 pub mod Listeners
+pub mod Keeping

@@ -1,3 +1,4 @@
 pub mod segment
 pub mod connection
 pub mod listener
+pub mod laws

@@ -62,7 +62,7 @@ same_state c r by h s =
     ∙ state-advanced r.control.state _ _ _ _ _ _ _ (λ b. same_test by (length c.send.items) r.una (data_end r) (omega arith)) t h.phase
 
 -- the offsets still fit the phase
-phase_advanced : (state : TcpState) (fin wanted : Bool) (una nxt highest end by : ℕ) → (fin ≡ false → una + by ≤ highest → highest ≤ end + 1 → una + by ≤ end) → una ≤ nxt → una + by ≤ highest → is_synchronized state ≡ true → FitsPhase (phase_of state) wanted una nxt highest end → FitsPhase (phase_of (state_advanced fin state)) wanted (una + by) (max nxt (una + by)) highest end
+pub phase_advanced : (state : TcpState) (fin wanted : Bool) (una nxt highest end by : ℕ) → (fin ≡ false → una + by ≤ highest → highest ≤ end + 1 → una + by ≤ end) → una ≤ nxt → una + by ≤ highest → is_synchronized state ≡ true → FitsPhase (phase_of state) wanted una nxt highest end → FitsPhase (phase_of (state_advanced fin state)) wanted (una + by) (max nxt (una + by)) highest end
 phase_advanced SynSent fin wanted una nxt highest end by f n m s h = cc
 phase_advanced SynReceived fin wanted una nxt highest end by f n m s h = cc
 phase_advanced Established true wanted una nxt highest end by f n m s h = (h.0, omega arith, omega arith, h.3)
@@ -82,7 +82,7 @@ phase_advanced TimeWait false wanted una nxt highest end by f n m s h = (h.0, om
 phase_advanced Ended fin wanted una nxt highest end by f n m s h = cc
 phase_advanced Vanished fin wanted una nxt highest end by f n m s h = cc
 
-not_all : (una by end highest : ℕ) → (una + by == end + 1) ≡ false → una + by ≤ highest → highest ≤ end + 1 → una + by ≤ end
+pub not_all : (una by end highest : ℕ) → (una + by == end + 1) ≡ false → una + by ≤ highest → highest ≤ end + 1 → una + by ≤ end
 not_all una by end highest e a b = grind (arith, nat_tests)
 
 -- what the code changes

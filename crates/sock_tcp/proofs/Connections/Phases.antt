@@ -10,7 +10,7 @@ use Rattle.sock_tcp.specs.segment.State.{phase_of, is_opening, is_sending, is_se
 use Rattle.sock_tcp.specs.connection.Tcb.{Tcb, data_end}
 use Rattle.sock_tcp.specs.connection.StandsFor.{StandsFor, FitsPhase}
 
-bounds : (p : Phase) (wanted : Bool) (una nxt highest end : ℕ) → is_sending_phase p ≡ true → una ≤ nxt → FitsPhase p wanted una nxt highest end → (1 ≤ una) × (una ≤ end)
+pub bounds : (p : Phase) (wanted : Bool) (una nxt highest end : ℕ) → is_sending_phase p ≡ true → una ≤ nxt → FitsPhase p wanted una nxt highest end → (1 ≤ una) × (una ≤ end)
 bounds Opening wanted una nxt highest end s b h = cc
 bounds Open wanted una nxt highest end s b h = (h.1, omega arith)
 bounds Ending wanted una nxt highest end s b h = (h.1, h.2)
@@ -49,7 +49,7 @@ FitsPhase-highest Ending wanted una nxt highest end s h = (h.0, h.1, h.2, h.3, o
 FitsPhase-highest Finished wanted una nxt highest end s h = cc
 FitsPhase-highest Over wanted una nxt highest end s h = cc
 
-opening_of : (state : TcpState) (wanted : Bool) (una nxt highest end : ℕ) → is_opening state ≡ true → FitsPhase (phase_of state) wanted una nxt highest end → (wanted ≡ false) × (una ≡ 0) × (nxt ≡ 1) × (highest ≡ 1)
+pub opening_of : (state : TcpState) (wanted : Bool) (una nxt highest end : ℕ) → is_opening state ≡ true → FitsPhase (phase_of state) wanted una nxt highest end → (wanted ≡ false) × (una ≡ 0) × (nxt ≡ 1) × (highest ≡ 1)
 opening_of SynSent wanted una nxt highest end e h = h
 opening_of SynReceived wanted una nxt highest end e h = h
 opening_of Established wanted una nxt highest end e h = cc

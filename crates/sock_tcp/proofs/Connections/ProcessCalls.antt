@@ -40,7 +40,7 @@ stands_control c c' r f h e k p = record {
 }
 
 -- the end of writing
-phase_writing_ended : (state : TcpState) (wanted : Bool) (una nxt highest end : ℕ) → is_opening state ≡ false → una ≤ nxt → FitsPhase (phase_of state) wanted una nxt highest end → FitsPhase (phase_of (after_writing state)) true una nxt highest end
+pub phase_writing_ended : (state : TcpState) (wanted : Bool) (una nxt highest end : ℕ) → is_opening state ≡ false → una ≤ nxt → FitsPhase (phase_of state) wanted una nxt highest end → FitsPhase (phase_of (after_writing state)) true una nxt highest end
 phase_writing_ended SynSent wanted una nxt highest end o n h = cc
 phase_writing_ended SynReceived wanted una nxt highest end o n h = cc
 phase_writing_ended Established wanted una nxt highest end o n h = (refl, h.1, omega arith, omega arith, omega arith)
@@ -60,7 +60,7 @@ stands_writing_ended c c' r h e o k =
     stands_control c c' r writing_ended h e k (phase_writing_ended r.control.state r.control.fin_wanted r.una r.nxt r.highest (data_end r) t (omega (arith, h.next)) h.phase)
 
 -- what was written may grow
-phase_longer : (p : Phase) (wanted : Bool) (una nxt highest end longer : ℕ) → end ≤ longer → FitsPhase p wanted una nxt highest end → FitsPhase p wanted una nxt highest longer
+pub phase_longer : (p : Phase) (wanted : Bool) (una nxt highest end longer : ℕ) → end ≤ longer → FitsPhase p wanted una nxt highest end → FitsPhase p wanted una nxt highest longer
 phase_longer Opening wanted una nxt highest end longer b h = h
 phase_longer Open wanted una nxt highest end longer b h = (h.0, h.1, omega arith, omega arith)
 phase_longer Ending wanted una nxt highest end longer b h = (h.0, h.1, omega arith, omega arith, omega arith)

@@ -1,0 +1,12 @@
+pub mod Tests
+pub mod Places
+pub mod Nearest
+pub mod Segments
+pub mod Holds
+pub mod Sending
+pub mod Ends
+pub mod Receiving
+pub mod Acknowledging
+pub mod Acting
+pub mod Windows
+pub mod Histories
