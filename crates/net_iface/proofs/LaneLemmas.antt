@@ -1,86 +1,107 @@
 -- lanes, one packet after another
-use Rattle.std.proofs.Common.{◌≡◌, ℕ, ◌<◌, ◌≤◌, ◌==◌, Bool, true, false, cond, List, [], ◌∷◌, ◌++◌, length, Option, Some, None, option_map, slice_get, refl, sym, ap, ◌∙◌, arith, append-nil}
+use Rattle.std.proofs.Common.{◌≡◌, ℕ, ◌+◌, ◌*◌, ◌<◌, ◌≤◌, Bool, true, false, cond, List, [], ◌∷◌, ◌++◌, length, Option, Some, None, option_map, slice_get, refl, sym, ap, ◌∙◌, arith, append-nil, append_assoc}
 use Rattle.std.proofs.lemmas.Bool.Decides.{nat_tests}
+use Rattle.std.proofs.lemmas.List.{length_push}
+use Rattle.std.proofs.lemmas.List.Sums.{sum_by-cons, sum_by_push}
 use Rattle.std.specs.Prelude.{nat_le}
 use Rattle.sim_base.specs.declared.packet.Packet.{Packet}
 use Rattle.sim_base.specs.declared.time.Time.{Time}
-use Rattle.sim_base.specs.Packet.{packet_size}
-use Rattle.net_iface.specs.declared.lane.Pushed.{Pushed}
-use Rattle.net_iface.specs.declared.lane.Pushed.TheVariants.{Leaves, Waits}
-use Rattle.net_iface.specs.Bucket.{BucketState, spent, due_with}
-use Rattle.net_iface.specs.Lane.{LaneState, AllFit, due_of, next_due, pushed_first, pushed_on, front_taken, with_first, leaving}
+use Rattle.net_iface.specs.declared.codel.CodelState.{CodelState}
+use Rattle.net_iface.specs.declared.lane.Taken.{Taken}
+use Rattle.net_iface.specs.declared.lane.Waiting.{Waiting}
+use Rattle.net_iface.specs.Bucket.{BucketState, paid}
+use Rattle.net_iface.specs.Lane.{LaneState, AllFit, IsLane, Left, waiting_size, waiting_bytes, treated, with_rest, popped, first_of, taken_as, taken_front, front_taken, none_left, with_taken, with_first, leaving}
 
-abbrev pub lane : BucketState → List Packet → LaneState
-lane b ws = record { bucket = b; waiting = ws }
+AllFit-push : (ws : List Waiting) (w : Waiting) → AllFit ws → waiting_size w ≤ 1500 → AllFit (ws ++ w ∷ [])
+AllFit-push [] w h small = (small, tt)
+AllFit-push (x ∷ ws) w h small = (h.0, AllFit-push ws w h.1 small)
 
-pub AllFit-push : (ws : List Packet) (p : Packet) → AllFit ws → packet_size p ≤ 1500 → AllFit (ws ++ p ∷ [])
-AllFit-push [] p h small = (small, tt)
-AllFit-push (w ∷ ws) p h small = (h.0, AllFit-push ws p h.1 small)
+pub bytes_bound : (ws : List Waiting) → AllFit ws → waiting_bytes ws ≤ 1500 * length ws
+bytes_bound [] h = omega arith
+bytes_bound (w ∷ ws) h = rw (sum_by-cons waiting_size w ws) (omega (arith, bytes_bound ws h.1, h.0))
 
-front_due : (b : BucketState) (n : ℕ) (t : Time) (front : Option Packet) → Some n ≡ option_map packet_size front → t.nanos ≡ due_with n b → Some t ≡ option_map (due_of b) front
-front_due b n t None e due = cc
-front_due b n t (Some p) e due = let same : n ≡ packet_size p = cc in λ i. Some (record { nanos = (due ∙ ap (λ k. due_with k b) same) i })
+-- there is room for the bytes of one more
+pub bytes_fit : (ws : List Waiting) (bytes more : ℕ) → IsLane ws bytes → more ≤ 1500 → bytes + more ≤ 1501500
+bytes_fit ws bytes more h small = omega (arith, bytes_bound ws h.fit, h.few, h.told)
 
-pub next_due-is : (l : LaneState) (n : ℕ) (t : Time) → Some n ≡ option_map packet_size (slice_get l.waiting 0) → t.nanos ≡ due_with n l.bucket → Some t ≡ next_due l
-next_due-is l n t e due = front_due l.bucket n t (slice_get l.waiting 0) e due
+pub IsLane-push : (ws : List Waiting) (w : Waiting) (bytes : ℕ) → IsLane ws bytes → waiting_size w ≤ 1500 → length ws < 1000
+    → IsLane (ws ++ w ∷ []) (bytes + waiting_size w)
+IsLane-push ws w bytes h small room = record {
+  fit = AllFit-push ws w h.fit small;
+  few = omega (arith, length_push ws w);
+  told = ap (λ n. n + waiting_size w) h.told ∙ sym (sum_by_push waiting_size ws w);
+}
 
-leaves : (p : Packet) (b : BucketState) (enough : Bool) → nat_le (packet_size p) b.tokens ≡ enough → packet_size p ≤ b.tokens
-    → ◌≡◌ {A = Pushed × LaneState} (Leaves p, lane (spent (packet_size p) b) []) (cond enough (Leaves p, lane (spent (packet_size p) b) []) (Waits (Some (due_of b p)), lane b (p ∷ [])))
-leaves p b true e within = refl
-leaves p b false e within = absurd (grind (arith, nat_tests))
+-- the front's bytes are among those that wait
+pub front_within : (ws : List Waiting) (bytes n : ℕ) → IsLane ws bytes → Some n ≡ option_map waiting_size (slice_get ws 0) → n ≤ bytes
+front_within [] bytes n h e = absurd cc
+front_within (w ∷ ws) bytes n h e =
+    let same : n ≡ waiting_size w = cc in
+    omega (arith, h.told, sum_by-cons waiting_size w ws)
 
-pub pushed_first-leaves : (p : Packet) (b after : BucketState) (ws : List Packet) (n : ℕ) → n ≡ packet_size p → n ≤ b.tokens → after ≡ spent n b → ws ≡ []
-    → ◌≡◌ {A = Pushed × LaneState} (Leaves p, lane after ws) (pushed_first p b)
-pushed_first-leaves p b after ws n size within paid none =
-    (λ i. (Leaves p, lane ((paid ∙ ap (λ k. spent k b) size) i) (none i))) ∙ leaves p b (nat_le (packet_size p) b.tokens) refl (omega arith)
+front_enough : (T : Option Taken × LaneState) (other : Option Taken × LaneState) (enough : Bool) (n tokens : ℕ) → nat_le n tokens ≡ enough → n ≤ tokens → T ≡ cond enough T other
+front_enough T other true n tokens e within = refl
+front_enough T other false n tokens e within = absurd (grind (arith, nat_tests))
 
-waits : (p : Packet) (b : BucketState) (enough : Bool) → nat_le (packet_size p) b.tokens ≡ enough → b.tokens < packet_size p
-    → ◌≡◌ {A = Pushed × LaneState} (Waits (Some (due_of b p)), lane b (p ∷ [])) (cond enough (Leaves p, lane (spent (packet_size p) b) []) (Waits (Some (due_of b p)), lane b (p ∷ [])))
-waits p b true e fewer = absurd (grind (arith, nat_tests))
-waits p b false e fewer = refl
+pub front_taken-is : (now : Time) (l : LaneState) (ws : List Waiting) (n : ℕ) (front : Waiting) (p q : LaneState) (dropped : Bool) (left : ℕ) (b : BucketState)
+    → Some n ≡ option_map waiting_size (slice_get ws 0) → n ≤ l.bucket.tokens
+    → ◌≡◌ {A = Option Waiting × LaneState} (Some front, p) (popped l ws)
+    → left ≡ waiting_bytes p.waiting
+    → ◌≡◌ {A = Bool × CodelState} (dropped, q.codel) (treated p.rule now front.since left p.codel)
+    → q ≡ record p { codel = q.codel } → b ≡ paid dropped n q.bucket
+    → ◌≡◌ {A = Option Taken × LaneState} (Some (record { packet = front.packet; dropped = dropped }), record q { bucket = b }) (front_taken now l ws)
+front_taken-is now l [] n front p q dropped left b size enough out told verdict rest pays = absurd cc
+front_taken-is now l (w ∷ ws) n front p q dropped left b size enough out told verdict rest pays =
+    let given : Some front ≡ Some w = ap (λ (t : Option Waiting × LaneState). t.0) out in
+    let same : front ≡ w = cc in
+    let stays : p ≡ with_rest l ws = ap (λ (t : Option Waiting × LaneState). t.1) out in
+    let big : n ≡ waiting_size w = cc in
+    let T : Option Taken × LaneState = first_of (taken_front now w (with_rest l ws)) in
+    ap (λ (x : LaneState). (Some (record { packet = front.packet; dropped = dropped }), record x { bucket = b })) rest
+    ∙ ap (λ (y : BucketState). (Some (record { packet = front.packet; dropped = dropped }), record p { codel = q.codel; bucket = y }))
+    (pays ∙ ap (λ k. paid dropped k q.bucket) (big ∙ sym (ap waiting_size same)) ∙ ap (λ (x : LaneState). paid dropped (waiting_size front) x.bucket) rest)
+    ∙ ap (λ (v : Bool × CodelState). first_of (taken_as front v p)) (verdict ∙ ap (λ k. treated p.rule now front.since k p.codel) told)
+    ∙ (λ i. first_of (taken_front now (same i) (stays i)))
+    ∙ front_enough T _ (nat_le (waiting_size w) l.bucket.tokens) (waiting_size w) l.bucket.tokens refl (omega arith)
 
-pub pushed_first-waits : (p : Packet) (b after : BucketState) (ws : List Packet) (n : ℕ) (t : Time) → n ≡ packet_size p → b.tokens < n → after ≡ b → t.nanos ≡ due_with n after → ws ≡ p ∷ []
-    → ◌≡◌ {A = Pushed × LaneState} (Waits (Some t), lane after ws) (pushed_first p b)
-pushed_first-waits p b after ws n t size fewer kept due alone =
-    (λ i. (Waits (Some (record { nanos = (due ∙ ap (λ k. due_with k after) size ∙ ap (due_with (packet_size p)) kept) i })), lane (kept i) (alone i)))
-    ∙ waits p b (nat_le (packet_size p) b.tokens) refl (omega arith)
+-- what a release gives after the front was asked for
+abbrev pub follow : Time → Option Taken → LaneState → Left
+follow now None lane = none_left lane
+follow now (Some t) lane = with_first t (leaving now lane lane.waiting)
 
--- a lane with nobody waiting
-pub pushed_on-empty : (p : Packet) (b here : BucketState) (ws : List Packet) → ws ≡ [] → here ≡ b → pushed_first p here ≡ pushed_on p b ws
-pushed_on-empty p b here ws none same = ap (pushed_first p) same ∙ ap (pushed_on p b) (sym none)
+abbrev followed : Time → Option Taken × LaneState → Left
+followed now t = follow now t.0 t.1
 
--- what leaves after the front was asked for
-abbrev pub follow : Option Packet → LaneState → List Packet × LaneState
-follow None l = ([], l)
-follow (Some p) l = with_first p (leaving l.bucket l.waiting)
+leaving_step : (now : Time) (lane : LaneState) (w : Waiting) (ws : List Waiting) (test : Bool)
+    → ◌≡◌ {A = Left} (cond test (with_first (taken_front now w (with_rest lane ws)).0 (leaving now (taken_front now w (with_rest lane ws)).1 ws)) (none_left (with_rest lane (w ∷ ws))))
+    (followed now (cond test (first_of (taken_front now w (with_rest lane ws))) (None, with_rest lane (w ∷ ws))))
+leaving_step now lane w ws true = refl
+leaving_step now lane w ws false = refl
 
-abbrev followed : Option Packet × LaneState → List Packet × LaneState
-followed t = follow t.0 t.1
+leaving-follow : (now : Time) (lane : LaneState) (ws : List Waiting) → leaving now lane ws ≡ followed now (front_taken now lane ws)
+leaving-follow now lane [] = refl
+leaving-follow now lane (w ∷ ws) = leaving_step now lane w ws (nat_le (waiting_size w) lane.bucket.tokens)
 
-leaving_step : (b : BucketState) (w : Packet) (ws : List Packet) (test : Bool)
-    → ◌≡◌ {A = List Packet × LaneState} (cond test (with_first w (leaving (spent (packet_size w) b) ws)) ([], lane b (w ∷ ws)))
-    (followed (cond test (Some w, lane (spent (packet_size w) b) ws) (None, lane b (w ∷ ws))))
-leaving_step b w ws true = refl
-leaving_step b w ws false = refl
+-- behind packets that left and were dropped before
+abbrev pub behind_first : List Packet → List Packet → Left → Left
+behind_first ps ds left = record left { packets = ps ++ left.packets; dropped = ds ++ left.dropped }
 
-leaving-follow : (b : BucketState) (ws : List Packet) → leaving b ws ≡ followed (front_taken b ws)
-leaving-follow b [] = refl
-leaving-follow b (w ∷ ws) = leaving_step b w ws (nat_le (packet_size w) b.tokens)
+-- one more was taken
+pub leaving-more : (now : Time) (ps ds : List Packet) (l : LaneState) (ws : List Waiting) (t : Taken) (next : LaneState)
+    → ◌≡◌ {A = Option Taken × LaneState} (Some t, next) (front_taken now l ws)
+    → behind_first ps ds (with_first t (leaving now next next.waiting)) ≡ behind_first ps ds (leaving now l ws)
+leaving-more now ps ds l ws t next taken = ap (behind_first ps ds) (ap (followed now) taken ∙ sym (leaving-follow now l ws))
 
--- packets that left before
-abbrev pub behind_first : List Packet → List Packet × LaneState → List Packet × LaneState
-behind_first xs left = (xs ++ left.0, left.1)
+pub behind_leaving : (ps ds : List Packet) (p : Packet) (left : Left) → behind_first (ps ++ p ∷ []) ds left ≡ behind_first ps ds (with_taken false p left)
+behind_leaving ps ds p left = ap (λ xs. record left { packets = xs; dropped = ds ++ left.dropped }) (append_assoc ps (p ∷ []) left.packets)
 
--- no other leaves where the front stays
-pub leaving-last : (xs : List Packet) (b : BucketState) (ws : List Packet) (front : Option Packet) (next : LaneState) (whole : List Packet × LaneState)
-    → ◌≡◌ {A = Option Packet × LaneState} (front, next) (front_taken b ws) → front ≡ None → behind_first xs (leaving b ws) ≡ whole → ◌≡◌ {A = List Packet × LaneState} (xs, next) whole
-leaving-last xs b ws front next whole taken none e =
-    ap (λ ys. (ys, next)) (sym (append-nil xs))
-    ∙ ap (λ (o : Option Packet). behind_first xs (follow o next)) (sym none)
-    ∙ ap (λ (t : Option Packet × LaneState). behind_first xs (followed t)) taken
-    ∙ ap (behind_first xs) (sym (leaving-follow b ws))
+-- no other is taken where the front stays
+pub leaving-last : (now : Time) (ps ds : List Packet) (l : LaneState) (ws : List Waiting) (front : Option Taken) (next : LaneState) (whole : Left)
+    → ◌≡◌ {A = Option Taken × LaneState} (front, next) (front_taken now l ws) → front ≡ None → behind_first ps ds (leaving now l ws) ≡ whole
+    → ◌≡◌ {A = Left} (record { packets = ps; dropped = ds; lane = next }) whole
+leaving-last now ps ds l ws front next whole taken none e =
+    (λ i. record { packets = sym (append-nil ps) i; dropped = sym (append-nil ds) i; lane = next })
+    ∙ ap (λ (o : Option Taken). behind_first ps ds (follow now o next)) (sym none)
+    ∙ ap (λ (t : Option Taken × LaneState). behind_first ps ds (followed now t)) taken
+    ∙ ap (behind_first ps ds) (sym (leaving-follow now l ws))
     ∙ e
-
-pub none-from_test : (ws : List Packet) (n : ℕ) → n ≡ length ws → true ≡ (n == 0) → ws ≡ []
-none-from_test [] n size e = refl
-none-from_test (w ∷ ws) n size e = let none : n ≡ 0 = grind (arith, nat_tests) in absurd (omega (arith, size))

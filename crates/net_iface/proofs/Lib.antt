@@ -1,2 +1,5 @@
 pub mod BucketLemmas
+pub mod DropLaws
 pub mod LaneLemmas
+pub mod RateLaws
+pub mod RootLemmas

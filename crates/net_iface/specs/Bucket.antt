@@ -1,5 +1,5 @@
 -- buckets of tokens (this project's own profile)
-use Rattle.std.specs.Prelude.{ℕ, zero, suc, ◌+◌, ◌-◌, ◌*◌, ◌/◌, ◌^◌, ◌<◌, ◌≤◌, min, max, nat_le, if◌then◌else◌}
+use Rattle.std.specs.Prelude.{ℕ, zero, suc, ◌+◌, ◌-◌, ◌*◌, ◌/◌, ◌^◌, ◌<◌, ◌≤◌, min, max, Bool, true, false, nat_le, if◌then◌else◌}
 
 -- the bytes that the bucket gets at each whole millisecond, its tokens, and the milliseconds that have come
 pub record BucketState : Type 0 where
@@ -32,6 +32,11 @@ bucket_at now b = after_ticks (now / 1000000 - b.millis) b
 
 abbrev pub spent : ℕ → BucketState → BucketState
 spent n b = record b { tokens = b.tokens - n }
+
+-- a packet that is dropped spends nothing
+abbrev pub paid : Bool → ℕ → BucketState → BucketState
+paid true n b = b
+paid false n b = spent n b
 
 -- how many whole milliseconds must come until there are n tokens, at least one, seen for as many as told
 unfoldable pub ticks_until : ℕ → ℕ → BucketState → ℕ

@@ -1,2 +1,5 @@
+pub mod Acts
 pub mod Bucket
+pub mod Codel
 pub mod Lane
+pub mod Root

@@ -2,7 +2,7 @@
 
 ghost use Rattle.std.specs.Prelude.{◌≡◌, ◌/◌, ◌<◌, ◌≤◌};
 ghost use Rattle.std.specs.Bool.{OnTrue, OnFalse};
-ghost use Rattle.net_iface.specs.Bucket.{full_bucket, bucket_at, spent, due_with};
+ghost use Rattle.net_iface.specs.Bucket.{full_bucket, bucket_at, spent, paid, due_with};
 
 use sim_base::Time;
 use std::marker::Model;
@@ -70,6 +70,24 @@ impl Bucket {
         }
         self.tokens -= n;
         true
+    }
+
+    /// Whether there are so many tokens.
+    pub fn holds(&self, n: u64) -> bool
+        ensures enough { OnTrue result (n ≤ self.now.tokens) }
+        ensures fewer { OnFalse result (self.now.tokens < n) }
+    {
+        n <= self.tokens
+    }
+
+    /// Spends the tokens of a packet that was not dropped.
+    pub fn pay(&mut self, dropped: bool, n: u64)
+        requires { n ≤ self.old.tokens }
+        ensures { self.new ≡ paid dropped n self.old }
+    {
+        if !dropped {
+            self.tokens -= n;
+        }
     }
 
     /// The first whole millisecond, later than the time that has come, at which there are `n`

@@ -2,9 +2,12 @@
 #![tactic(auto)]
 
 mod bucket;
+mod codel;
 mod lane;
+pub mod laws;
 #[cfg(test)]
 mod tests;
 
 pub use bucket::Bucket;
-pub use lane::{Lane, Pushed, Released};
+pub use codel::{CodelState, isqrt};
+pub use lane::{Lane, Pushed, QueueRule, Released};

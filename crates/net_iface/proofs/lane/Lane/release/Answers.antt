@@ -1,18 +1,38 @@
-use Rattle.std.proofs.Common.{◌≡◌, List, Option, ap, ◌∙◌}
-use Rattle.sim_base.specs.declared.packet.Packet.{Packet}
-use Rattle.sim_base.specs.declared.time.Time.{Time}
+use Rattle.std.proofs.Common.{◌≡◌, sym, ap, ◌∙◌}
 use Rattle.net_iface.specs.Bucket.{BucketState}
-use Rattle.net_iface.specs.Lane.{LaneState, leaving, with_next, released}
-use Rattle.net_iface.proofs.LaneLemmas.{leaving-last}
+use Rattle.net_iface.specs.Lane.{Release, leaving, with_taken, with_next, released}
+use Rattle.net_iface.proofs.LaneLemmas.{behind_first, leaving-more, behind_leaving, leaving-last}
 use Rattle.net_iface.proofs.lane.Lane.release.Goals as goal
+
+pub loop-taken-preserved : goal.loop-taken-preserved
+loop-taken-preserved c =
+    let t = c.in-Some.taken in
+    let next = c.take_front.new.self in
+    let ps = c.loop-taken.packets.items in
+    let ds = c.loop-taken.dropped.items in
+    let rest = leaving c.args.now next next.waiting in
+    record {
+      left =
+          ap (λ xs. behind_first xs ds rest) c.in_ok-push-2.ensures.items
+          ∙ behind_leaving ps ds t.packet rest
+          ∙ ap (λ d. behind_first ps ds (with_taken d t.packet rest)) (sym c.if-taken.false)
+          ∙ leaving-more c.args.now ps ds c.loop-taken.self c.loop-taken.self.waiting t next c.in-Some.ensures.taken
+          ∙ c.loop-taken.invariant.left;
+      time = c.take_front.ensures.time ∙ c.loop-taken.invariant.time;
+    }
 
 pub returns-clause-released : goal.returns-clause-released
 returns-clause-released c =
-    let left = c.loop-packet.packets.items in
-    let stays = c.take_front.new.self in
-    let told : ◌≡◌ {A = List Packet × Option Time × LaneState} (left, c.next_due-next.result, stays) (with_next (left, stays)) =
-    λ i. (left, c.next_due-next.ensures i, stays) in
+    let now = c.args.now in
+    let ps = c.loop-taken.packets.items in
+    let ds = c.loop-taken.dropped.items in
+    let next = c.take_front.new.self in
+    let b = c.self.inside in
+    let told : ◌≡◌ {A = Release} (record { packets = ps; dropped = ds; next = c.next_due-next.result; lane = next }) (with_next (record { packets = ps; dropped = ds; lane = next })) =
+    λ i. record { packets = ps; dropped = ds; next = c.next_due-next.ensures i; lane = next } in
     told
-    ∙ ap with_next (leaving-last left c.loop-packet.self.bucket c.loop-packet.self.waiting _ stays (leaving c.at.new.self c.self.inside.waiting.items) c.take_front.ensures.taken c.in_default.is c.loop-packet.invariant.left)
-    ∙ ap (λ (b : BucketState). with_next (leaving b c.self.inside.waiting.items)) c.at.ensures.at
-    ∙ ap (released c.args.now.nanos) c.self.view_is
+    ∙ ap with_next (leaving-last now ps ds c.loop-taken.self c.loop-taken.self.waiting c.take_front.result next
+    (leaving now (record { rule = b.rule; codel = b.codel; bucket = c.at.new.self; waiting = b.waiting.items }) b.waiting.items)
+    c.take_front.ensures.taken c.in_default.is c.loop-taken.invariant.left)
+    ∙ ap (λ (x : BucketState). with_next (leaving now (record { rule = b.rule; codel = b.codel; bucket = x; waiting = b.waiting.items }) b.waiting.items)) c.at.ensures.at
+    ∙ ap (released now) c.self.view_is
