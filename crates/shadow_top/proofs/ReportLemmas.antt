@@ -6,7 +6,7 @@ use Rattle.sim_base.specs.declared.event.Event.{Event}
 use Rattle.sim_base.specs.declared.outside.sink.Place.TheVariants as place
 use Rattle.shadow_top.specs.Engine.{world_of, own_pieces, own_unmet}
 use Rattle.shadow_top.specs.HostState.{HostRecord, process_state}
-use Rattle.shadow_top.specs.OutText.{state_line}
+use Rattle.out_text.specs.Files.{state_line}
 use Rattle.shadow_top.specs.Pieces.{Put, put_of}
 use Rattle.shadow_top.specs.Shown.{first_id, meets, pieces, unmet, log_file, host_files}
 use Rattle.shadow_top.specs.World.{World}

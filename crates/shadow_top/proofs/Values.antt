@@ -7,7 +7,7 @@ use Rattle.shadow_top.specs.CommandLine.{config_name}
 use Rattle.shadow_top.specs.FirstFault.{line_of}
 use Rattle.shadow_top.specs.Guest.{texts_at, start_words, stack_pointer}
 use Rattle.shadow_top.specs.HostCalls.{call, answers}
-use Rattle.shadow_top.specs.OutText.{state_line}
+use Rattle.out_text.specs.Files.{state_line}
 use Rattle.shadow_top.specs.ShdConfig.{written, places, is_word}
 use Rattle.shadow_top.specs.declared.fault.Fault.TheVariants.{Elf}
 use Rattle.elf_load.specs.declared.fault.ElfFault.TheVariants.{Truncated}

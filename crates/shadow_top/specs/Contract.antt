@@ -4,7 +4,7 @@ use Rattle.sim_base.specs.Faults.{Rose}
 use Rattle.sim_base.specs.Sink.{Content, add, AddsFront}
 use Rattle.sim_base.specs.declared.outside.sink.Place.TheVariants as place
 use Rattle.shadow_top.specs.FirstFault.{Input, accepted, line_of, IsReached}
-use Rattle.shadow_top.specs.OutText.{file_line}
+use Rattle.out_text.specs.Faults.{file_line}
 use Rattle.shadow_top.specs.Pieces.{IsPart}
 use Rattle.shadow_top.specs.Shown.{IsShown}
 use Rattle.shadow_top.specs.declared.fault.Stop.{Stop}

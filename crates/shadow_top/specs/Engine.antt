@@ -8,10 +8,11 @@ use Rattle.sim_base.specs.declared.event.What.{What}
 use Rattle.sim_base.specs.declared.event.What.TheVariants as what
 use Rattle.sim_base.specs.declared.key.Key.{Key}
 use Rattle.shadow_top.specs.HostState.{HostRecord, ProcessRecord, HostFired, process_state, process_stdout, process_stderr}
-use Rattle.shadow_top.specs.OutText.{file_name, state_text, unmet_line, process_text}
+use Rattle.out_text.specs.Faults.{unmet_line}
+use Rattle.out_text.specs.Files.{file_name, state_text, process_text}
 use Rattle.shadow_top.specs.Pieces.{Put}
 use Rattle.shadow_top.specs.Shown.{first_id, meets}
-use Rattle.shadow_top.specs.declared.out_text.FileKind.TheVariants as kind
+use Rattle.out_text.specs.declared.files.FileKind.TheVariants as kind
 use Rattle.shadow_top.specs.World.{World}
 use Rattle.shadow_top.specs.declared.host.Host.{Host}
 

@@ -7,7 +7,7 @@ use Rattle.elf_load.specs.Image.{image}
 use Rattle.elf_load.specs.Fault.{word_of}
 use Rattle.elf_load.specs.declared.fault.ElfFault.{ElfFault}
 use Rattle.shadow_top.specs.CommandLine.{config_name}
-use Rattle.shadow_top.specs.OutText.{file_line}
+use Rattle.out_text.specs.Faults.{file_line, usage_line}
 use Rattle.shadow_top.specs.ShdConfig.{config_of_file}
 use Rattle.shadow_top.specs.declared.fault.Fault.{Fault}
 use Rattle.shadow_top.specs.declared.fault.Fault.TheVariants.{Usage, NotFound, TooLong, Unsupported, Elf, Exists}
@@ -78,7 +78,7 @@ accepted input = do
 
 -- the line that tells a fault
 abbrev pub line_of : Fault → List ℕ
-line_of Usage = codes "shadow: usage: shadow [options] CONFIG\n"
+line_of Usage = usage_line
 line_of (NotFound name) = file_line name (codes "not found")
 line_of (TooLong name) = file_line name (codes "too long")
 line_of (Unsupported name) = file_line name (codes "unsupported")

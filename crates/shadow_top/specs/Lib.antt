@@ -6,7 +6,6 @@ pub mod FirstFault
 pub mod Guest
 pub mod HostCalls
 pub mod HostState
-pub mod OutText
 pub mod Outcome
 pub mod Pieces
 pub mod ShadowInput

@@ -7,13 +7,14 @@ use Rattle.sim_base.specs.declared.state.State.TheVariants.{NotStarted, Running,
 use Rattle.sim_base.specs.declared.time.Time.{Time}
 use Rattle.shadow_top.specs.FirstFault.{Input, accepted, data_directory, line_of}
 use Rattle.shadow_top.specs.HostState.{HostRecord, ProcessRecord, process_state, process_stdout, process_stderr}
-use Rattle.shadow_top.specs.OutText.{file_name, state_line, state_text, unmet_line, process_text}
+use Rattle.out_text.specs.Faults.{unmet_line}
+use Rattle.out_text.specs.Files.{file_name, state_line, state_text, process_text}
 use Rattle.shadow_top.specs.Pieces.{Put, with_pieces}
 use Rattle.world_order.specs.World.{Logged}
 use Rattle.shadow_top.specs.World.{World, Net, IsResult, first_event}
 use Rattle.shadow_top.specs.declared.fault.Fault.{Fault}
 use Rattle.shadow_top.specs.declared.host_state.Process.TheVariants as process
-use Rattle.shadow_top.specs.declared.out_text.FileKind.TheVariants as kind
+use Rattle.out_text.specs.declared.files.FileKind.TheVariants as kind
 use Rattle.shadow_top.specs.declared.plan.Plan.{Plan}
 
 -- ---- the run

@@ -3,10 +3,10 @@
 ghost use Rattle.std.specs.Prelude.{◌≡◌, ◌++◌, IfOk, OnOk, OnErr, codes, string_bytes};
 ghost use Rattle.elf_load.specs.Fault.{word_of};
 ghost use Rattle.shadow_top.specs.FirstFault.{line_of};
-ghost use Rattle.shadow_top.specs.OutText.{file_line};
+ghost use Rattle.out_text.specs.Faults.{file_line};
 
-use crate::out_text::{self, FaultText};
 use elf_load::ElfFault;
+use out_text::FaultText;
 use sim_base::{Name, NoMemory, Text};
 use std::alloc::{AllocError, Global};
 

@@ -7,7 +7,6 @@ mod guest;
 mod host;
 mod host_calls;
 mod host_state;
-mod out_text;
 mod output;
 mod plan;
 mod report;

@@ -4,7 +4,7 @@ ghost use Rattle.std.specs.Prelude.{◌≡◌, ◌∷◌, map, option_map, IfOk,
 ghost use Rattle.sim_base.specs.declared.outside.sink.Place.TheVariants as place;
 ghost use Rattle.shadow_top.specs.Engine.{world_of, own_pieces, own_unmet};
 ghost use Rattle.shadow_top.specs.HostState.{process_state, process_stdout, process_stderr};
-ghost use Rattle.shadow_top.specs.OutText.{file_name, state_line};
+ghost use Rattle.out_text.specs.Files.{file_name, state_line};
 ghost use Rattle.shadow_top.specs.Pieces.{put_of, with_pieces, PutsFront};
 ghost use Rattle.shadow_top.specs.Shown.{first_id, meets, pieces, status_of};
 ghost use Rattle.shadow_top.specs.Stop.{CountsSink, NeverRefuses, NoReadFailed};
@@ -12,9 +12,9 @@ ghost use Rattle.shadow_top.specs.Stop.{CountsSink, NeverRefuses, NoReadFailed};
 use crate::fault::Stop;
 use crate::host::Host;
 use crate::host_state::Process;
-use crate::out_text::{self, FaultText, FileKind};
 use crate::output::{Piece, put_pieces};
 use crate::world::World;
+use out_text::{FaultText, FileKind};
 use sim_base::{Name, NoMemory, Place, Sink, State, Text, WriteError};
 use std::alloc::Global;
 

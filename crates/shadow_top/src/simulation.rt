@@ -14,10 +14,10 @@ ghost use Rattle.shadow_top.specs.Stop.{Meets, CountsSource, CountsSink, NoReadF
 use crate::fault::{self, Fault, Stop};
 use crate::host::Host;
 use crate::host_state::Process;
-use crate::out_text::{self, FaultText};
 use crate::plan::{Plan, make_plan};
 use crate::report::report;
 use crate::world;
+use out_text::FaultText;
 use sim_base::{Name, NoMemory, Place, Sink, Source, Text, WriteError, put_all};
 use std::alloc::{AllocGlobal, Global};
 use std::thread::Threads;
