@@ -84,9 +84,9 @@ fn congestion_avoidance(rt: HostRuntime) -> Result<(), Fail> {
     let mut conn = connected(alloc, 65_535)?;
     done(alloc, &mut conn, Writes(65_535))?;
     done(alloc, &mut conn, Expires)?;
-    let mut number = 101;
+    let mut number: u32 = 101;
     for _i in 0..40 {
-        number += 1_460;
+        number = number.wrapping_add(1_460);
         done(alloc, &mut conn, ack(number))?;
     }
     assert_eq!(rt; conn.control().congestion.cwnd, 13_334);
