@@ -1,0 +1,5 @@
+use Rattle.sim_base.proofs.QuantityLemmas.{AllDigits-front}
+use Rattle.shd_values.proofs.number.leading_number.Goals as goal
+
+pub number-requires : goal.number-requires
+number-requires c = rw (c.split_at.ensures.front, c.digits_len.ensures.len) (AllDigits-front c.args.text.now)

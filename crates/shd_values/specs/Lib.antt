@@ -1,0 +1,4 @@
+pub mod Number
+pub mod Word
+pub mod Address
+pub mod Words
