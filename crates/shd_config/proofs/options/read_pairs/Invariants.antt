@@ -1,0 +1,8 @@
+use Rattle.std.proofs.Common.{◌≡◌, drop}
+use Rattle.shd_config.specs.Steps.{through}
+use Rattle.shd_config.specs.Host.{options_row}
+use Rattle.shd_config.proofs.options.read_pairs.Given as goal
+
+-- what is left gives the whole
+abbrev pub invariant-loop-pair : goal.invariant-loop-pair
+invariant-loop-pair l = through options_row l.draft (drop l.pair-index l.pairs) ≡ through options_row l.initial.draft l.pairs

@@ -1,0 +1,7 @@
+use Rattle.std.proofs.Common.{◌≡◌, string_bytes, take, flat_map}
+use Rattle.shd_config.specs.Shown.{shown_host}
+use Rattle.shd_config.proofs.show.host.hosts_string.Given as goal
+
+-- what has been written so far
+abbrev pub invariant-loop-host : goal.invariant-loop-host
+invariant-loop-host l = string_bytes l.out ≡ flat_map shown_host (take l.host-index l.hosts)

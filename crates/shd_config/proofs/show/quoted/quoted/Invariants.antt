@@ -1,0 +1,7 @@
+use Rattle.std.proofs.Common.{◌≡◌, ◌++◌, string_bytes, codes, flat_map}
+use Rattle.shd_config.specs.Quoted.{escaped}
+use Rattle.shd_config.proofs.show.quoted.quoted.Given as goal
+
+-- what has been written so far
+abbrev pub invariant-loop-character : goal.invariant-loop-character
+invariant-loop-character l = string_bytes l.out ≡ codes "\"" ++ flat_map escaped l.yielded

@@ -1,0 +1,11 @@
+pub mod Steps
+pub mod Keys
+pub mod Values
+pub mod General
+pub mod Network
+pub mod Process
+pub mod Host
+pub mod Notes
+pub mod Config
+pub mod Quoted
+pub mod Shown

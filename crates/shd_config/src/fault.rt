@@ -1,0 +1,86 @@
+//! Why a tree has no configuration.
+
+use sim_base::{NoMemory, Text};
+use std::alloc::{AllocError, AllocFailed};
+use std::error::Error;
+use std::fmt;
+
+/// The kinds of fault.
+#[derive(Clone, Copy, Debug, PartialEq, Eq)]
+pub enum ConfigKind {
+    /// A key that is needed is absent.
+    Missing,
+    /// The mapping has no such key.
+    UnknownKey,
+    /// A mapping, a sequence, a scalar or a null stands in another's place.
+    WrongType,
+    /// A value is of its grammar, but not in its range.
+    OutOfRange,
+    /// A scalar or a host's name isn't of its grammar, or a key excludes another.
+    BadValue,
+    /// A value that the profile leaves out.
+    Unsupported,
+}
+
+/// A fault: the line (from 1) and the path of what is wrong, as `hosts.a.processes[0].path`. At the
+/// root the path is empty.
+#[derive(Debug, Drop)]
+pub struct ConfigFault {
+    pub line: usize,
+    pub path: Text,
+    pub kind: ConfigKind,
+}
+
+/// Why no configuration was made.
+#[derive(Debug, Drop)]
+pub enum ConfigError {
+    Fault(ConfigFault),
+    NoMemory,
+}
+
+impl fmt::Display for ConfigError {
+    fn fmt<W: fmt::Write>(&self, f: &mut fmt::Formatter<W>) -> fmt::Result {
+        match self {
+            ConfigError::Fault(fault) => {
+                let path = fault.path.as_str();
+                write!(f, "line {}: {path}: {:?}", fault.line, fault.kind)
+            }
+            ConfigError::NoMemory => f.write_str("out of memory"),
+        }
+    }
+}
+
+impl Error for ConfigError {}
+
+impl From<NoMemory> for ConfigError {
+    ghost use Rattle.std.specs.Prelude.{◌≡◌};
+    ghost use Rattle.shd_config.specs.declared.fault.ConfigError.TheVariants as errors;
+
+    ghost from_gives = { λ _ e. e ≡ errors.NoMemory };
+
+    fn from(_e: NoMemory) -> ConfigError {
+        ConfigError::NoMemory
+    }
+}
+
+impl From<AllocError> for ConfigError {
+    ghost use Rattle.std.specs.Prelude.{◌≡◌};
+    ghost use Rattle.shd_config.specs.declared.fault.ConfigError.TheVariants as errors;
+
+    ghost from_gives = { λ _ e. e ≡ errors.NoMemory };
+
+    fn from(_e: AllocError) -> ConfigError {
+        ConfigError::NoMemory
+    }
+}
+
+impl<T: Drop> From<AllocFailed<T>> for ConfigError {
+    ghost use Rattle.std.specs.Prelude.{◌≡◌};
+    ghost use Rattle.shd_config.specs.declared.fault.ConfigError.TheVariants as errors;
+
+    ghost from_gives = { λ _ e. e ≡ errors.NoMemory };
+
+    fn from(_e: AllocFailed<T>) -> ConfigError {
+        ConfigError::NoMemory
+    }
+}

@@ -1,0 +1,30 @@
+//! The configuration of a tree, or its first fault; the notes of a configuration, and the text that
+//! shows it.
+#![tactic(auto)]
+
+mod config;
+mod fault;
+mod general;
+mod graph;
+mod host;
+mod key;
+mod lists;
+mod network;
+mod notes;
+mod optional;
+mod options;
+mod overrides;
+mod process;
+mod reading;
+mod show;
+mod state;
+mod steps;
+#[cfg(test)]
+mod tests;
+mod value;
+
+pub use config::{Config, FinalState, GraphSource, HostConfig, ProcessConfig, QueueRule, Variable};
+pub use fault::{ConfigError, ConfigFault, ConfigKind};
+pub use lists::{Hosts, Processes, Variables};
+pub use overrides::Overrides;
+pub use reading::config_of;

@@ -1,0 +1,12 @@
+//! What the command line overrides.
+
+use sim_base::{Name, Time};
+
+/// The values that options of the command line give in place of those of the configuration.
+#[derive(Debug, Drop)]
+pub struct Overrides {
+    pub seed: Option<u32>,
+    pub parallelism: Option<u32>,
+    pub data_directory: Option<Name>,
+    pub stop_time: Option<Time>,
+}
