@@ -1,0 +1,32 @@
+//! Open files.
+
+/// What an open file is an end of, or reads from.
+#[derive(Clone, Copy, Debug, PartialEq, Eq)]
+pub enum Object {
+    /// Standard input, which is empty.
+    Input,
+    /// Standard output.
+    Output,
+    /// Standard error.
+    Errors,
+    /// The text of `/etc/hosts`, and how many of its bytes were read.
+    Hosts(u64),
+    /// The reading end of the pipe with this number.
+    ReadEnd(usize),
+    /// The writing end of the pipe with this number.
+    WriteEnd(usize),
+    /// The timer with this number.
+    Timer(usize),
+    /// The UDP socket with this number.
+    Udp(usize),
+    /// The TCP socket with this number.
+    Tcp(usize),
+}
+
+/// An open file (`open(2)`): each has one descriptor, since there is neither `dup` nor `fork`.
+#[derive(Clone, Copy, Debug, PartialEq, Eq)]
+pub struct File {
+    /// Whether calls that would wait answer EAGAIN (`O_NONBLOCK`).
+    pub nonblocking: bool,
+    pub object: Object,
+}

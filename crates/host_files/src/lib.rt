@@ -1,0 +1,13 @@
+//! What the descriptors of a host's processes name: open files, pipes and timers, each by a number.
+#![tactic(auto)]
+
+mod file;
+mod files;
+mod slots;
+#[cfg(test)]
+mod tests;
+mod timer;
+
+pub use file::{File, Object};
+pub use files::Files;
+pub use timer::KeptTimer;
