@@ -1,0 +1,83 @@
+-- an act of a socket is an act of all, and what is asked of one is asked of all
+use Rattle.std.proofs.Common.{◌≡◌, ℕ, ◌<◌, ◌≤◌, List, length, get_or, set, Option, Some, None, slice_get, Result, Err, refl, sym, ap, subst, ◌∙◌}
+use Rattle.sim_base.specs.declared.errno.Errno.TheVariants.{Ebadf}
+use Rattle.sim_base.specs.Refusals.{◌>>=◌, or_refuse}
+use Rattle.sock_tcp.specs.connection.Tcb.{Tcb}
+use Rattle.host_sockets.specs.declared.error.Refusal.{Refusal}
+use Rattle.host_sockets.specs.declared.error.Refusal.TheVariants as refusal
+use Rattle.host_sockets.specs.declared.sockets.Sockets.{Sockets}
+use Rattle.host_sockets.specs.declared.tcp_sock.TcpSock.{TcpSock}
+use Rattle.host_sockets.specs.Wanted.{Wanted}
+use Rattle.host_sockets.specs.TcpSocket.{TcpSocket}
+use Rattle.host_sockets.specs.Sockets.{SocketsRecord, tcp_at, with_tcp, changes_at, changes_in}
+use Rattle.host_sockets.specs.TcpActs.{Acted, acts_in, acts_at}
+use Rattle.host_sockets.specs.StandsFor.{SocketStands, AllStand, Stand, Brings, Leaves}
+use Rattle.host_sockets.proofs.Places.{socket_at, no_socket_at, stands_at, stands_set}
+
+-- the socket that was read at a place
+stands_there : (c : Sockets) (t : SocketsRecord) (k : ℕ) (old : TcpSock) (s : TcpSocket) → Stand c t → old ≡ get_or c.tcp.items k old → slice_get t.tcp k ≡ Some s → SocketStands old s
+stands_there c t k old s h is e = subst (λ (x : TcpSock). SocketStands x s) (sym is) (stands_at c.tcp.items t.tcp k s old h.tcp e)
+
+-- with another socket at a place, which stands for another there
+pub stand_with : (c c' : Sockets) (t : SocketsRecord) (k : ℕ) (new : TcpSock) (s : TcpSocket) (gone : List Tcb) → Stand c t → SocketStands new s → c'.own ≡ c.own → c'.udp.items ≡ c.udp.items → c'.tcp.items ≡ set c.tcp.items k new → Stand c' (record (with_tcp k s t) { gone = gone })
+stand_with c c' t k new s gone h stands own udp tcp = record {
+  own = own ∙ h.own;
+  udp = udp ∙ h.udp;
+  tcp = subst (λ (xs : List TcpSock). AllStand xs (set t.tcp k s)) (sym tcp) (stands_set c.tcp.items t.tcp k new s h.tcp stands);
+}
+
+pub leaves_acted : (c c' : Sockets) (t : SocketsRecord) (w w' : Wanted) (k : ℕ) (old new : TcpSock) (act : TcpSocket → Wanted → Acted) → Stand c t → k < length c.tcp.items → old ≡ get_or c.tcp.items k old → ((s : TcpSocket) → SocketStands old s → Brings new w' (act s w)) → c'.own ≡ c.own → c'.udp.items ≡ c.udp.items → c'.tcp.items ≡ set c.tcp.items k new → Leaves c' w' (acts_at k act t w)
+leaves_acted c c' t w w' k old new act h b is acts own udp tcp =
+    let found = socket_at c.tcp.items t.tcp k h.tcp b in
+    let brings = acts found.0 (stands_there c t k old found.0 h is found.1) in
+    subst (λ (o : Option TcpSocket). Leaves c' w' (acts_in k act o t w)) (sym found.1)
+    (record { sockets = stand_with c c' t k new (act found.0 w).socket _ h brings.socket own udp tcp; wanted = brings.wanted })
+
+pub leaves_none : (c : Sockets) (t : SocketsRecord) (w : Wanted) (k : ℕ) (act : TcpSocket → Wanted → Acted) → Stand c t → length c.tcp.items ≤ k → Leaves c w (acts_at k act t w)
+leaves_none c t w k act h b =
+    subst (λ (o : Option TcpSocket). Leaves c w (acts_in k act o t w)) (sym (no_socket_at c.tcp.items t.tcp k h.tcp b))
+    (record { sockets = h; wanted = refl })
+
+-- the same where the number is told by an equation
+pub leaves_acted_by : (c c' : Sockets) (t : SocketsRecord) (w w' : Wanted) (k n : ℕ) (old new : TcpSock) (act : ℕ → TcpSocket → Wanted → Acted) → k ≡ n → Stand c t → k < length c.tcp.items → old ≡ get_or c.tcp.items k old → ((s : TcpSocket) → SocketStands old s → Brings new w' (act k s w)) → c'.own ≡ c.own → c'.udp.items ≡ c.udp.items → c'.tcp.items ≡ set c.tcp.items k new → Leaves c' w' (acts_at n (act n) t w)
+leaves_acted_by c c' t w w' k n old new act e h b is acts own udp tcp =
+    subst (λ (m : ℕ). Leaves c' w' (acts_at m (act m) t w)) e (leaves_acted c c' t w w' k old new (act k) h b is acts own udp tcp)
+
+pub leaves_none_by : (c : Sockets) (t : SocketsRecord) (w : Wanted) (k n : ℕ) (act : ℕ → TcpSocket → Wanted → Acted) → k ≡ n → Stand c t → length c.tcp.items ≤ k → Leaves c w (acts_at n (act n) t w)
+leaves_none_by c t w k n act e h b = subst (λ (m : ℕ). Leaves c w (acts_at m (act m) t w)) e (leaves_none c t w k (act k) h b)
+
+-- a change that wants nothing
+pub stand_changed : (c c' : Sockets) (t : SocketsRecord) (k : ℕ) (old new : TcpSock) (f : TcpSocket → TcpSocket) → Stand c t → k < length c.tcp.items → old ≡ get_or c.tcp.items k old → ((s : TcpSocket) → SocketStands old s → SocketStands new (f s)) → c'.own ≡ c.own → c'.udp.items ≡ c.udp.items → c'.tcp.items ≡ set c.tcp.items k new → Stand c' (changes_at k f t)
+stand_changed c c' t k old new f h b is changes own udp tcp =
+    let found = socket_at c.tcp.items t.tcp k h.tcp b in
+    subst (λ (o : Option TcpSocket). Stand c' (changes_in k f o t)) (sym found.1)
+    (stand_with c c' t k new (f found.0) _ h (changes found.0 (stands_there c t k old found.0 h is found.1)) own udp tcp)
+
+pub stand_unchanged : (c : Sockets) (t : SocketsRecord) (k : ℕ) (f : TcpSocket → TcpSocket) → Stand c t → length c.tcp.items ≤ k → Stand c (changes_at k f t)
+stand_unchanged c t k f h b =
+    subst (λ (o : Option TcpSocket). Stand c (changes_in k f o t)) (sym (no_socket_at c.tcp.items t.tcp k h.tcp b)) h
+
+-- what is asked of the socket at a place
+pub asked_at : {A : Type 0} (c : Sockets) (t : SocketsRecord) (k : ℕ) (sock : TcpSock) (f : TcpSocket → Result A Refusal) (result : Result A Refusal) → Stand c t → k < length c.tcp.items → sock ≡ get_or c.tcp.items k sock → ((s : TcpSocket) → SocketStands sock s → result ≡ f s) → result ≡ (tcp_at k t >>= f)
+asked_at c t k sock f result h b is asks =
+    let found = socket_at c.tcp.items t.tcp k h.tcp b in
+    asks found.0 (stands_there c t k sock found.0 h is found.1)
+    ∙ ap (λ (o : Option TcpSocket). or_refuse o (refusal.Errno Ebadf) >>= f) (sym found.1)
+
+pub asked_none : {A : Type 0} (c : Sockets) (t : SocketsRecord) (k : ℕ) (f : TcpSocket → Result A Refusal) → Stand c t → length c.tcp.items ≤ k → Err (refusal.Errno Ebadf) ≡ (tcp_at k t >>= f)
+asked_none c t k f h b = ap (λ (o : Option TcpSocket). or_refuse o (refusal.Errno Ebadf) >>= f) (sym (no_socket_at c.tcp.items t.tcp k h.tcp b))
+
+-- the same of an answer that isn't refused
+pub told_at : {A : Type 0} (c : Sockets) (t : SocketsRecord) (k : ℕ) (sock : TcpSock) (f : Option TcpSocket → A) (result : A) → Stand c t → k < length c.tcp.items → sock ≡ get_or c.tcp.items k sock → ((s : TcpSocket) → SocketStands sock s → result ≡ f (Some s)) → result ≡ f (slice_get t.tcp k)
+told_at c t k sock f result h b is tells =
+    let found = socket_at c.tcp.items t.tcp k h.tcp b in
+    tells found.0 (stands_there c t k sock found.0 h is found.1) ∙ ap f (sym found.1)
+
+pub told_none : {A : Type 0} (c : Sockets) (t : SocketsRecord) (k : ℕ) (f : Option TcpSocket → A) → Stand c t → length c.tcp.items ≤ k → f None ≡ f (slice_get t.tcp k)
+told_none c t k f h b = ap f (sym (no_socket_at c.tcp.items t.tcp k h.tcp b))
+
+-- the socket that a loop looks at
+pub socket_there : (c : Sockets) (t : SocketsRecord) (k : ℕ) (sock : TcpSock) → Stand c t → k < length c.tcp.items → sock ≡ get_or c.tcp.items k sock → (s : TcpSocket) × ((slice_get t.tcp k ≡ Some s) × SocketStands sock s)
+socket_there c t k sock h b is =
+    let found = socket_at c.tcp.items t.tcp k h.tcp b in
+    (found.0, (found.1, stands_there c t k sock found.0 h is found.1))

@@ -1,0 +1,86 @@
+-- acts on the connections that a listener keeps, and a connection that it gives
+use Rattle.std.proofs.Common.{◌≡◌, ℕ, ◌<◌, ◌≤◌, List, length, get_or, set, Option, Some, None, slice_get, Result, Ok, refl, sym, ap, subst, ◌∙◌}
+use Rattle.sim_base.specs.declared.address.Addr.{Addr}
+use Rattle.sim_base.specs.declared.time.Time.{Time}
+use Rattle.sim_base.specs.Refusals.{◌>>=◌, ◌>>◌, or_refuse}
+use Rattle.sock_tcp.specs.declared.connection.conn.Conn.{Conn}
+use Rattle.sock_tcp.specs.declared.listener.Listener.{Listener}
+use Rattle.sock_tcp.specs.declared.segment.control.Control.{Control}
+use Rattle.sock_tcp.specs.connection.Tcb.{Tcb}
+use Rattle.sock_tcp.specs.connection.StandsFor.{StandsFor}
+use Rattle.sock_tcp.specs.listener.Listen.{Listen, Heard, accepts}
+use Rattle.sock_tcp.specs.listener.ListensFor.{ListensFor, AcceptsAs}
+use Rattle.host_sockets.specs.declared.error.Refusal.{Refusal}
+use Rattle.host_sockets.specs.declared.error.Refusal.TheVariants as refusal
+use Rattle.host_sockets.specs.declared.reply.Accepted.{Accepted}
+use Rattle.host_sockets.specs.declared.sockets.Sockets.{Sockets}
+use Rattle.host_sockets.specs.declared.tcp_sock.KeptTimer.{KeptTimer}
+use Rattle.host_sockets.specs.declared.tcp_sock.TcpSock.{TcpSock}
+use Rattle.host_sockets.specs.Wanted.{Wanted, sends}
+use Rattle.host_sockets.specs.TcpSocket.{TcpSocket}
+use Rattle.host_sockets.specs.Sockets.{SocketsRecord, changes_at, changes_in}
+use Rattle.host_sockets.specs.ListenerActs.{with_listen, with_timers, timers_kept, timer_starts, heard}
+use Rattle.host_sockets.specs.Accepting.{accepts_in, accepts_of, accepts_at, given_up, placed, TakesConn, TakesAt}
+use Rattle.host_sockets.specs.StandsFor.{SocketStands, ListenerStands, Stand, Brings, Becomes}
+use Rattle.host_sockets.proofs.Places.{no_socket_at, socket_same}
+use Rattle.host_sockets.proofs.SocketActs.{socket_there, stand_with}
+
+-- an act on a record that a listener keeps: what it started and left
+pub brings_heard : (now : Time) (k : ℕ) (own other : Addr) (h : Heard) (gone : List Tcb) (s : TcpSocket) (w w1 v : Wanted) (timer : Option Time) (new : TcpSock) → w1 ≡ sends h.sent w → timer ≡ h.timer → SocketStands new (with_timers (timers_kept own other h.listen (timer_starts now k own other timer s.timers w1).0) (with_listen h.listen s)) → v ≡ (timer_starts now k own other timer s.timers w1).1 → Brings new v (heard now k own other h gone s w)
+unfolding heard
+brings_heard now k own other h gone s w w1 v timer new sent started stands e =
+    let same : timer_starts now k own other timer s.timers w1 ≡ timer_starts now k own other h.timer s.timers (sends h.sent w) =
+    ap (λ (x : Wanted). timer_starts now k own other timer s.timers x) sent ∙ ap (λ (o : Option Time). timer_starts now k own other o s.timers (sends h.sent w)) started in
+    record {
+      socket = subst (λ (p : List KeptTimer × Wanted). SocketStands new (with_timers (timers_kept own other h.listen p.0) (with_listen h.listen s))) same stands;
+      wanted = e ∙ ap (λ (p : List KeptTimer × Wanted). p.1) same;
+    }
+
+-- what a listener gives, and its timers without that of the connection
+gives_up : (old new : TcpSock) (s : TcpSocket) (k' : Listener) (conn : Conn) (control : Control) (l : Listen) (a : Option (Tcb × Listen)) → SocketStands old s → AcceptsAs a l (Some conn) k' → ((r : Tcb) → StandsFor conn r → control ≡ r.control) → ((s : TcpSocket) (l : Listen) → SocketStands (record old { listener = Some k' }) s → s.listen ≡ Some l → SocketStands new (with_timers (timers_kept control.local control.peer l s.timers) s)) → TakesConn a s (Some conn) new
+gives_up old new s k' conn control l None h given told keeps = absurd given
+gives_up old new s k' conn control l (Some (r, rest)) h given told keeps =
+    let left : SocketStands (record old { listener = Some k' }) (with_listen rest s) =
+    record { held = h.held; bound = h.bound; conn = h.conn; listener = given.1; serial = h.serial; timers = h.timers } in
+    (given.0, subst (λ (c : Control). SocketStands new (with_timers (timers_kept c.local c.peer rest s.timers) (with_listen rest s))) (told r given.0) (keeps (with_listen rest s) rest left refl))
+
+pub takes_conn : (old new : TcpSock) (s : TcpSocket) (o : Option Listen) (k k' : Listener) (conn : Conn) (control : Control) → SocketStands old s → ListenerStands (Some k) o → ((l : Listen) → ListensFor k l → AcceptsAs (accepts l) l (Some conn) k') → ((r : Tcb) → StandsFor conn r → control ≡ r.control) → ((s : TcpSocket) (l : Listen) → SocketStands (record old { listener = Some k' }) s → s.listen ≡ Some l → SocketStands new (with_timers (timers_kept control.local control.peer l s.timers) s)) → TakesConn (accepts_in o) s (Some conn) new
+takes_conn old new s None k k' conn control h stands accepted told keeps = absurd stands
+takes_conn old new s (Some l) k k' conn control h stands accepted told keeps =
+    gives_up old new s k' conn control l (accepts l) h (accepted l stands) told keeps
+
+-- of the socket with a number
+takes_from : (c c' : Sockets) (t : SocketsRecord) (k : ℕ) (new : TcpSock) (s : TcpSocket) (a : Option (Tcb × Listen)) (result : Option Conn) → Stand c t → slice_get t.tcp k ≡ Some s → TakesConn a s result new → c'.own ≡ c.own → c'.udp.items ≡ c.udp.items → c'.tcp.items ≡ set c.tcp.items k new → TakesAt a k t result c'
+takes_from c c' t k new s None None h at takes own udp tcp =
+    subst (λ (xs : List TcpSocket). Stand c' (record t { tcp = xs })) (socket_same t.tcp k s at) (stand_with c c' t k new s t.gone h takes own udp tcp)
+takes_from c c' t k new s None (Some conn) h at takes own udp tcp = absurd takes
+takes_from c c' t k new s (Some (r, rest)) None h at takes own udp tcp = absurd takes
+takes_from c c' t k new s (Some (r, rest)) (Some conn) h at takes own udp tcp =
+    (takes.0, subst (λ (o : Option TcpSocket). Stand c' (changes_in k (given_up r rest) o t)) (sym at) (stand_with c c' t k new (given_up r rest s) t.gone h takes.1 own udp tcp))
+
+pub takes_at : (c c' : Sockets) (t : SocketsRecord) (k : ℕ) (old new : TcpSock) (result : Option Conn) → Stand c t → k < length c.tcp.items → old ≡ get_or c.tcp.items k old → ((s : TcpSocket) → SocketStands old s → TakesConn (accepts_in s.listen) s result new) → c'.own ≡ c.own → c'.udp.items ≡ c.udp.items → c'.tcp.items ≡ set c.tcp.items k new → TakesAt (accepts_at k t) k t result c'
+takes_at c c' t k old new result h b is takes own udp tcp =
+    let found = socket_there c t k old h b is in
+    subst (λ (o : Option TcpSocket). TakesAt (accepts_of o) k t result c') (sym found.1.0)
+    (takes_from c c' t k new found.0 (accepts_in found.0.listen) result h found.1.0 (takes found.0 found.1.1) own udp tcp)
+
+pub takes_none : (c : Sockets) (t : SocketsRecord) (k : ℕ) → Stand c t → length c.tcp.items ≤ k → TakesAt (accepts_at k t) k t None c
+takes_none c t k h b = subst (λ (o : Option TcpSocket). TakesAt (accepts_of o) k t None c) (sym (no_socket_at c.tcp.items t.tcp k h.tcp b)) h
+
+-- the row: it is asked, given and placed
+abbrev pub accept_row : ℕ → Result (Unit {0}) Refusal → Option (Tcb × Listen) → SocketsRecord → Result (Accepted × SocketsRecord) Refusal
+accept_row k asked a t = do
+  asked
+  (r, rest) ← or_refuse a (refusal.Wait None)
+  Ok (placed r (changes_at k (given_up r rest) t))
+
+pub accepts_row : (c c' : Sockets) (t : SocketsRecord) (k : ℕ) (conn : Conn) (answer : Accepted) (asked : Result (Unit {0}) Refusal) (a : Option (Tcb × Listen)) → Ok tt ≡ asked → TakesAt a k t (Some conn) c → ((t : SocketsRecord) (r : Tcb) → Stand c t → StandsFor conn r → answer ≡ (placed r t).0) → ((t : SocketsRecord) (r : Tcb) → Stand c t → StandsFor conn r → Stand c' (placed r t).1) → Becomes (accept_row k asked a t) t c' (Ok answer)
+accepts_row c c' t k conn answer asked None e takes answers stands = absurd takes
+accepts_row c c' t k conn answer asked (Some (r, rest)) e takes answers stands =
+    let after : SocketsRecord = changes_at k (given_up r rest) t in (
+      (placed r after).1,
+      (
+        ap (λ (x : Result (Unit {0}) Refusal). accept_row k x (Some (r, rest)) t) (sym e) ∙ ap (λ (x : Accepted). Ok (x, (placed r after).1)) (sym (answers after r takes.1 takes.0)),
+        stands after r takes.1 takes.0,
+      ),
+    )

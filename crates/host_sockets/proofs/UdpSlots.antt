@@ -1,0 +1,90 @@
+-- an act in the place of a UDP socket is an act of all
+use Rattle.std.proofs.Common.{◌≡◌, ℕ, zero, suc, ◌<◌, ◌≤◌, List, [], ◌∷◌, length, get_or, set, Option, Some, None, slice_get, Result, Ok, Err, refl, sym, ap, subst, ◌∙◌, arith}
+use Rattle.sim_base.specs.Addresses.{Surroundings}
+use Rattle.sim_base.specs.declared.address.Addr.{Addr}
+use Rattle.sim_base.specs.declared.address.Ip.{Ip}
+use Rattle.sim_base.specs.declared.errno.Errno.TheVariants.{Ebadf}
+use Rattle.sock_udp.specs.Socket.{UdpState}
+use Rattle.host_sockets.specs.declared.error.CallError.{CallError}
+use Rattle.host_sockets.specs.declared.error.CallError.TheVariants as error
+use Rattle.host_sockets.specs.declared.error.Refusal.{Refusal}
+use Rattle.host_sockets.specs.declared.error.Refusal.TheVariants as refusal
+use Rattle.host_sockets.specs.declared.sockets.Sockets.{Sockets}
+use Rattle.host_sockets.specs.Sockets.{SocketsRecord}
+use Rattle.host_sockets.specs.StandsFor.{AllStand, Stand, Becomes}
+use Rattle.host_sockets.specs.Udp.{udp_in, socket_in, with_slot, udp_acts, acted_udp, udp_ends, udp_around, SlotDoes}
+
+slot_there : (slots : List (Option UdpState)) (k : ℕ) (d : Option UdpState) → k < length slots → slice_get slots k ≡ Some (get_or slots k d)
+slot_there [] k d b = absurd (omega arith)
+slot_there (x ∷ slots) zero d b = refl
+slot_there (x ∷ slots) (suc k) d b = slot_there slots k d (omega arith)
+
+pub slot_read : (slots : List (Option UdpState)) (k : ℕ) (slot : Option UdpState) → k < length slots → slot ≡ get_or slots k slot → slice_get slots k ≡ Some slot
+slot_read slots k slot b is = slot_there slots k slot b ∙ ap (λ (x : Option UdpState). Some x) (sym is)
+
+slot_past : (slots : List (Option UdpState)) (k : ℕ) → length slots ≤ k → slice_get slots k ≡ None
+slot_past [] k b = refl
+slot_past (x ∷ slots) zero b = absurd (omega arith)
+slot_past (x ∷ slots) (suc k) b = slot_past slots k (omega arith)
+
+set_same : (slots : List (Option UdpState)) (k : ℕ) (x : Option UdpState) → slice_get slots k ≡ Some x → set slots k x ≡ slots
+set_same [] k x e = refl
+set_same (y ∷ slots) zero x e = let same : y ≡ x = cc in ap (λ (z : Option UdpState). z ∷ slots) (sym same)
+set_same (y ∷ slots) (suc k) x e = ap (λ (zs : List (Option UdpState)). y ∷ zs) (set_same slots k x e)
+
+pub slot_at : (c : Sockets) (t : SocketsRecord) (k : ℕ) (slot : Option UdpState) → Stand c t → k < length c.udp.items → slot ≡ get_or c.udp.items k slot → slice_get t.udp k ≡ Some slot
+slot_at c t k slot h b is =
+    ap (λ (slots : List (Option UdpState)). slice_get slots k) (sym h.udp) ∙ (slot_there c.udp.items k slot b ∙ ap (λ (x : Option UdpState). Some x) (sym is))
+
+pub told_udp : {A : Type 0} (c : Sockets) (t : SocketsRecord) (k : ℕ) (slot : Option UdpState) (f : Option UdpState → A) → Stand c t → k < length c.udp.items → slot ≡ get_or c.udp.items k slot → f slot ≡ f (udp_in k t)
+told_udp c t k slot f h b is = ap (λ (o : Option (Option UdpState)). f (socket_in o)) (sym (slot_at c t k slot h b is))
+
+pub told_no_udp : {A : Type 0} (c : Sockets) (t : SocketsRecord) (k : ℕ) (f : Option UdpState → A) → Stand c t → length c.udp.items ≤ k → f None ≡ f (udp_in k t)
+told_no_udp c t k f h b =
+    ap (λ (o : Option (Option UdpState)). f (socket_in o)) (sym (ap (λ (slots : List (Option UdpState)). slice_get slots k) (sym h.udp) ∙ slot_past c.udp.items k b))
+
+pub stand_slot : (c c' : Sockets) (t : SocketsRecord) (k : ℕ) (new : Option UdpState) → Stand c t → c'.own ≡ c.own → c'.udp.items ≡ set c.udp.items k new → c'.tcp.items ≡ c.tcp.items → Stand c' (with_slot k new t)
+stand_slot c c' t k new h own udp tcp = record {
+  own = own ∙ h.own;
+  udp = udp ∙ ap (λ (slots : List (Option UdpState)). set slots k new) h.udp;
+  tcp = subst (λ xs. AllStand xs t.tcp) (sym tcp) h.tcp;
+}
+
+stand_same_slot : (c c' : Sockets) (t : SocketsRecord) (k : ℕ) (old new : Option UdpState) → Stand c t → slice_get t.udp k ≡ Some old → new ≡ old → c'.own ≡ c.own → c'.udp.items ≡ set c.udp.items k new → c'.tcp.items ≡ c.tcp.items → Stand c' t
+stand_same_slot c c' t k old new h at e own udp tcp = record {
+  own = own ∙ h.own;
+  udp = udp ∙ (ap (λ (slots : List (Option UdpState)). set slots k new) h.udp ∙ (ap (set t.udp k) e ∙ set_same t.udp k old at));
+  tcp = subst (λ xs. AllStand xs t.tcp) (sym tcp) h.tcp;
+}
+
+-- by cases on what stood there and what the act answers
+does : {A : Type 0} (act : UdpState → Result (A × UdpState) Refusal) (c c' : Sockets) (t : SocketsRecord) (k : ℕ) (old new : Option UdpState) (result : Result A CallError) → Stand c t → slice_get t.udp k ≡ Some old → SlotDoes act old new result → c'.own ≡ c.own → c'.udp.items ≡ set c.udp.items k new → c'.tcp.items ≡ c.tcp.items → Becomes (acted_udp act k (socket_in (Some old)) t) t c' result
+does act c c' t k None new (Ok a) h at d own udp tcp = absurd d
+does act c c' t k None new (Err (error.Refused why)) h at d own udp tcp = (ap (λ (r : Refusal). Err r) (sym d.0), stand_same_slot c c' t k None new h at d.1 own udp tcp)
+does act c c' t k None new (Err error.NoMemory) h at d own udp tcp = tt
+does act c c' t k (Some u) new (Ok a) h at d own udp tcp = (with_slot k (Some d.0) t, (rw d.1.0 refl, stand_slot c c' t k (Some d.0) h own (udp ∙ ap (set c.udp.items k) d.1.1) tcp))
+does act c c' t k (Some u) new (Err (error.Refused why)) h at d own udp tcp = (rw d.0 refl, stand_same_slot c c' t k (Some u) new h at d.1 own udp tcp)
+does act c c' t k (Some u) new (Err error.NoMemory) h at d own udp tcp = tt
+
+pub becomes_udp : {A : Type 0} (act : UdpState → Result (A × UdpState) Refusal) (c c' : Sockets) (t : SocketsRecord) (k : ℕ) (old new : Option UdpState) (result : Result A CallError) → Stand c t → k < length c.udp.items → old ≡ get_or c.udp.items k old → SlotDoes act old new result → c'.own ≡ c.own → c'.udp.items ≡ set c.udp.items k new → c'.tcp.items ≡ c.tcp.items → Becomes (udp_acts act k t) t c' result
+becomes_udp act c c' t k old new result h b is d own udp tcp =
+    let at = slot_at c t k old h b is in
+    subst (λ (o : Option (Option UdpState)). Becomes (acted_udp act k (socket_in o) t) t c' result) (sym at) (does act c c' t k old new result h at d own udp tcp)
+
+pub refused_udp : {A : Type 0} (act : UdpState → Result (A × UdpState) Refusal) (c : Sockets) (t : SocketsRecord) (k : ℕ) → Stand c t → length c.udp.items ≤ k → Becomes {A = A} (udp_acts act k t) t c (Err (error.Refused (refusal.Errno Ebadf)))
+refused_udp act c t k h b = (sym (told_no_udp c t k (λ o. acted_udp act k o t) h b), h)
+
+-- what the code gives a socket as its surroundings
+pub around_same : (c : Sockets) (t : SocketsRecord) (hosts : List Ip) (ends : List Addr) → Stand c t → ends ≡ udp_ends t → (let around : Surroundings = record { own = c.own; hosts = hosts; bound = ends } in around ≡ udp_around hosts t)
+around_same c t hosts ends h same =
+    ap (λ (own : Ip). let around : Surroundings = record { own = own; hosts = hosts; bound = ends } in around) h.own
+    ∙ ap (λ (bound : List Addr). let around : Surroundings = record { own = t.own; hosts = hosts; bound = bound } in around) same
+
+-- acts that agree on the socket that stands there are one
+pub slot_same : {A : Type 0} (f g : UdpState → Result (A × UdpState) Refusal) (old new : Option UdpState) (result : Result A CallError) → ((u : UdpState) → old ≡ Some u → f u ≡ g u) → SlotDoes f old new result → SlotDoes g old new result
+slot_same f g None new (Ok a) same d = d
+slot_same f g None new (Err (error.Refused why)) same d = d
+slot_same f g None new (Err error.NoMemory) same d = d
+slot_same f g (Some u) new (Ok a) same d = (d.0, (sym (same u refl) ∙ d.1.0, d.1.1))
+slot_same f g (Some u) new (Err (error.Refused why)) same d = (sym (same u refl) ∙ d.0, d.1)
+slot_same f g (Some u) new (Err error.NoMemory) same d = d

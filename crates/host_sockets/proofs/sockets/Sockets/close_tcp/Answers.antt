@@ -1,0 +1,13 @@
+use Rattle.std.proofs.Common.{refl, arith}
+use Rattle.host_sockets.specs.Closing.{closed, closes_tcp}
+use Rattle.host_sockets.proofs.SocketActs.{leaves_acted, leaves_none}
+use Rattle.host_sockets.proofs.sockets.Sockets.close_tcp.Goals as goal
+
+pub returns-then-k-len : goal.returns-then-k-len
+unfolding closes_tcp
+returns-then-k-len c = λ t h. leaves_none c.args.self.now t c.args.outlet.now c.args.k (closed c.args.now c.args.k) h (omega (arith, c.args.self.now.tcp.ok.0))
+
+pub returns : goal.returns
+unfolding closes_tcp
+returns c = λ t h.
+    leaves_acted c.args.self.now _ t c.args.outlet.now c.close.new.outlet c.args.k c.index_mut-sock.result.now c.close.new.self (closed c.args.now c.args.k) h (omega (arith, c.args.self.now.tcp.ok.0)) c.index_mut-sock.ensures.value c.in_ok-close.ensures refl refl refl

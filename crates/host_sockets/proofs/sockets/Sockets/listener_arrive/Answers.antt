@@ -1,0 +1,11 @@
+use Rattle.std.proofs.Common.{refl, arith}
+use Rattle.host_sockets.specs.Arriving.{listener_hears}
+use Rattle.host_sockets.proofs.SocketActs.{leaves_acted, leaves_none}
+use Rattle.host_sockets.proofs.sockets.Sockets.listener_arrive.Goals as goal
+
+pub returns-then-k-len : goal.returns-then-k-len
+returns-then-k-len c = λ t h. leaves_none c.args.self.now t c.args.outlet.now c.args.k (listener_hears c.args.now c.args.packet.now c.args.k) h (omega (arith, c.args.self.now.tcp.ok.0))
+
+pub returns : goal.returns
+returns c = λ t h.
+    leaves_acted c.args.self.now _ t c.args.outlet.now c.hear.new.outlet c.args.k c.index_mut-sock.result.now c.hear.new.self (listener_hears c.args.now c.args.packet.now c.args.k) h (omega (arith, c.args.self.now.tcp.ok.0)) c.index_mut-sock.ensures.value c.in_ok-hear.ensures refl refl refl

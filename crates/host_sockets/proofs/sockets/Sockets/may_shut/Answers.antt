@@ -1,0 +1,14 @@
+use Rattle.std.proofs.Common.{arith}
+use Rattle.std.specs.Prelude.{is_none}
+use Rattle.sim_base.specs.declared.errno.Errno.TheVariants.{Enotconn}
+use Rattle.sim_base.specs.Refusals.{refuse_if}
+use Rattle.host_sockets.specs.declared.error.Refusal.TheVariants as refusal
+use Rattle.host_sockets.specs.TcpSocket.{connected}
+use Rattle.host_sockets.proofs.SocketActs.{asked_at, asked_none}
+use Rattle.host_sockets.proofs.sockets.Sockets.may_shut.Goals as goal
+
+pub returns-then-k-len : goal.returns-then-k-len
+returns-then-k-len c = λ t h. asked_none c.args.self.now t c.args.k (λ s. refuse_if (is_none (connected s.tcb)) (refusal.Errno Enotconn)) h (omega (arith, c.args.self.now.tcp.ok.0))
+
+pub returns : goal.returns
+returns c = λ t h. asked_at c.args.self.now t c.args.k c.index.result.now (λ s. refuse_if (is_none (connected s.tcb)) (refusal.Errno Enotconn)) c.refuse_unconnected.result h (omega (arith, c.args.self.now.tcp.ok.0)) c.index.ensures c.refuse_unconnected.ensures

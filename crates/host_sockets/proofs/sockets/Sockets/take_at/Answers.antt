@@ -1,0 +1,10 @@
+use Rattle.std.proofs.Common.{refl, arith}
+use Rattle.host_sockets.proofs.Taking.{takes_at, takes_none}
+use Rattle.host_sockets.proofs.sockets.Sockets.take_at.Goals as goal
+
+pub returns-then-k-len : goal.returns-then-k-len
+returns-then-k-len c = λ t h. takes_none c.args.self.now t c.args.k h (omega (arith, c.args.self.now.tcp.ok.0))
+
+pub returns : goal.returns
+returns c = λ t h.
+    takes_at c.args.self.now _ t c.args.k c.index_mut-sock.result.now c.take_conn.new.self c.take_conn.result h (omega (arith, c.args.self.now.tcp.ok.0)) c.index_mut-sock.ensures.value c.take_conn.ensures refl refl refl

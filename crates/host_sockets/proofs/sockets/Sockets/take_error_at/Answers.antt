@@ -1,0 +1,11 @@
+use Rattle.std.proofs.Common.{refl, arith}
+use Rattle.host_sockets.specs.Connecting.{error_takes}
+use Rattle.host_sockets.proofs.SocketActs.{leaves_acted, leaves_none}
+use Rattle.host_sockets.proofs.sockets.Sockets.take_error_at.Goals as goal
+
+pub returns-then-k-len : goal.returns-then-k-len
+returns-then-k-len c = λ t h. leaves_none c.args.self.now t c.args.outlet.now c.args.k (error_takes c.args.now c.args.k) h (omega (arith, c.args.self.now.tcp.ok.0))
+
+pub returns : goal.returns
+returns c = λ t h.
+    leaves_acted c.args.self.now _ t c.args.outlet.now c.take_error.new.outlet c.args.k c.index_mut-sock.result.now c.take_error.new.self (error_takes c.args.now c.args.k) h (omega (arith, c.args.self.now.tcp.ok.0)) c.index_mut-sock.ensures.value c.in_ok-take_error.ensures refl refl refl

@@ -1,0 +1,83 @@
+-- what the code's sockets stand for. Of the records that were let go it keeps nothing
+use Rattle.std.specs.Prelude.{◌≡◌, List, [], ◌∷◌, Option, Some, None, Result, Ok, Err}
+use Rattle.sim_base.specs.declared.act.Act.{Act}
+use Rattle.sock_tcp.specs.declared.connection.conn.Conn.{Conn}
+use Rattle.sock_tcp.specs.declared.listener.Listener.{Listener}
+use Rattle.sock_tcp.specs.connection.StandsFor.{StandsFor}
+use Rattle.sock_tcp.specs.connection.Tcb.{Tcb}
+use Rattle.sock_tcp.specs.listener.Listen.{Listen}
+use Rattle.sock_tcp.specs.listener.ListensFor.{ListensFor}
+use Rattle.host_sockets.specs.declared.error.CallError.{CallError}
+use Rattle.host_sockets.specs.declared.error.CallError.TheVariants as error
+use Rattle.host_sockets.specs.declared.error.Refusal.{Refusal}
+use Rattle.host_sockets.specs.declared.sockets.Sockets.{Sockets}
+use Rattle.host_sockets.specs.declared.tcp_sock.TcpSock.{TcpSock}
+use Rattle.host_sockets.specs.Wanted.{Wanted}
+use Rattle.host_sockets.specs.TcpSocket.{TcpSocket}
+use Rattle.host_sockets.specs.Sockets.{SocketsRecord}
+use Rattle.host_sockets.specs.TcpActs.{Acted}
+
+abbrev pub ConnStands : Option Conn → Option Tcb → Type 0
+ConnStands None None = Unit {0}
+ConnStands None (Some r) = ⊥
+ConnStands (Some c) None = ⊥
+ConnStands (Some c) (Some r) = StandsFor c r
+
+abbrev pub ListenerStands : Option Listener → Option Listen → Type 0
+ListenerStands None None = Unit {0}
+ListenerStands None (Some l) = ⊥
+ListenerStands (Some c) None = ⊥
+ListenerStands (Some c) (Some l) = ListensFor c l
+
+pub record SocketStands (c : TcpSock) (s : TcpSocket) : Type 0 where
+  pub held : c.held ≡ s.held
+  pub bound : c.bound ≡ s.bound
+  pub conn : ConnStands c.conn s.tcb
+  pub listener : ListenerStands c.listener s.listen
+  pub serial : c.serial ≡ s.serial
+  pub timers : c.timers.items ≡ s.timers
+
+-- each socket stands for the one with its number
+abbrev pub AllStand : List TcpSock → List TcpSocket → Type 0
+AllStand [] [] = Unit {0}
+AllStand [] (s ∷ sockets) = ⊥
+AllStand (c ∷ socks) [] = ⊥
+AllStand (c ∷ socks) (s ∷ sockets) = SocketStands c s × AllStand socks sockets
+
+pub record Stand (c : Sockets) (t : SocketsRecord) : Type 0 where
+  pub own : c.own ≡ t.own
+  pub udp : c.udp.items ≡ t.udp
+  pub tcp : AllStand c.tcp.items t.tcp
+
+-- an act on a socket leaves this
+pub record Brings (c : TcpSock) (w : Wanted) (a : Acted) : Type 0 where
+  pub socket : SocketStands c a.socket
+  pub wanted : w ≡ a.wanted
+
+-- a call that can't refuse leaves this
+pub record Leaves (c : Sockets) (w : Wanted) (after : SocketsRecord × Wanted) : Type 0 where
+  pub sockets : Stand c after.0
+  pub wanted : w ≡ after.1
+
+-- the same with what the packet log tells
+abbrev pub Delivers : Act → Sockets → Wanted → Act × (SocketsRecord × Wanted) → Type 0
+Delivers act c w told = (act ≡ told.0) × Leaves c w told.1
+
+-- what is asked, changes nothing and takes memory
+abbrev pub Asks : {A : Type 0} → Result A Refusal → Result A CallError → Type 0
+Asks row (Ok a) = row ≡ Ok a
+Asks row (Err (error.Refused refusal)) = row ≡ Err refusal
+Asks row (Err error.NoMemory) = Unit {0}
+
+-- a call answers as its row does: what it leaves, if it is done, or else nothing has changed. After want of memory nothing is
+-- known
+abbrev pub Answers : {A : Type 0} → Result (A × (SocketsRecord × Wanted)) Refusal → SocketsRecord → Wanted → Sockets → Wanted → Result A CallError → Type 0
+Answers row t w c v (Ok a) = (t' : SocketsRecord) × ((row ≡ Ok (a, (t', v))) × Stand c t')
+Answers row t w c v (Err (error.Refused refusal)) = (row ≡ Err refusal) × (Stand c t × (v ≡ w))
+Answers row t w c v (Err error.NoMemory) = Unit {0}
+
+-- the same of a call that wants nothing
+abbrev pub Becomes : {A : Type 0} → Result (A × SocketsRecord) Refusal → SocketsRecord → Sockets → Result A CallError → Type 0
+Becomes row t c (Ok a) = (t' : SocketsRecord) × ((row ≡ Ok (a, t')) × Stand c t')
+Becomes row t c (Err (error.Refused refusal)) = (row ≡ Err refusal) × Stand c t
+Becomes row t c (Err error.NoMemory) = Unit {0}

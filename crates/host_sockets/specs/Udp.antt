@@ -1,0 +1,130 @@
+-- the calls on UDP sockets, beside those of a socket alone: which sockets it has around it
+use Rattle.std.specs.Prelude.{◌≡◌, ℕ, Bool, false, not, ◌||◌, nat_lt, List, [], ◌∷◌, length, take, slice_get, slice_set, Option, Some, None, is_some, is_none, Result, Ok, Err}
+use Rattle.std.specs.List.{flat_map, position_or_len}
+use Rattle.sim_base.specs.declared.address.Ip.{Ip}
+use Rattle.sim_base.specs.declared.address.Addr.{Addr}
+use Rattle.sim_base.specs.declared.errno.Errno.TheVariants.{Ebadf, Emsgsize, Edestaddrreq}
+use Rattle.sim_base.specs.declared.packet.Packet.{Packet}
+use Rattle.sim_base.specs.Packet.{max_datagram}
+use Rattle.sim_base.specs.Addresses.{Surroundings}
+use Rattle.sim_base.specs.Refusals.{◌>>=◌, ◌>>◌, refuse_if, or_refuse}
+use Rattle.sock_udp.specs.declared.datagram.Datagram.{Datagram}
+use Rattle.sock_udp.specs.Socket.{UdpState, new_socket, bind, connect, send}
+use Rattle.host_sockets.specs.declared.error.CallError.{CallError}
+use Rattle.host_sockets.specs.declared.error.CallError.TheVariants as error
+use Rattle.host_sockets.specs.declared.error.Refusal.{Refusal}
+use Rattle.host_sockets.specs.declared.error.Refusal.TheVariants as refusal
+use Rattle.host_sockets.specs.Refusals.{by_errno, waits_if}
+use Rattle.host_sockets.specs.TcpSocket.{bound_end}
+use Rattle.host_sockets.specs.Sockets.{SocketsRecord, put_at}
+
+-- the place that a UDP socket of a number has, while it isn't closed
+abbrev pub socket_in : Option (Option UdpState) → Option UdpState
+socket_in None = None
+socket_in (Some place) = place
+
+abbrev pub udp_in : ℕ → SocketsRecord → Option UdpState
+udp_in k t = socket_in (slice_get t.udp k)
+
+abbrev pub with_slot : ℕ → Option UdpState → SocketsRecord → SocketsRecord
+with_slot k slot t = record t { udp = slice_set t.udp k slot }
+
+-- socket(2): the least free number is the new socket's
+abbrev pub udp_place : SocketsRecord → ℕ
+udp_place t = position_or_len is_none t.udp
+
+unfoldable pub new_udp : SocketsRecord → ℕ × SocketsRecord
+new_udp t = (udp_place t, record t { udp = put_at (udp_place t) (Some new_socket) t.udp })
+
+-- close(2): what waits in it is dropped
+unfoldable pub closes_udp : ℕ → SocketsRecord → SocketsRecord
+closes_udp k t = with_slot k None t
+
+-- what the UDP sockets are bound to
+abbrev pub local_in : Option UdpState → Option Addr
+local_in None = None
+local_in (Some u) = u.local
+
+abbrev pub udp_end : Option UdpState → List Addr
+udp_end socket = bound_end (local_in socket)
+
+abbrev pub udp_ends : SocketsRecord → List Addr
+udp_ends t = flat_map udp_end t.udp
+
+abbrev pub udp_around : List Ip → SocketsRecord → Surroundings
+udp_around hosts t = record { own = t.own; hosts = hosts; bound = udp_ends t }
+
+-- EVERY act of a process on a UDP socket is this: a part of sock_udp, in the socket's place
+abbrev pub acted_udp : {A : Type 0} → (UdpState → Result (A × UdpState) Refusal) → ℕ → Option UdpState → SocketsRecord → Result (A × SocketsRecord) Refusal
+acted_udp act k socket t = do
+  u ← or_refuse socket (refusal.Errno Ebadf)
+  (answer, after) ← act u
+  Ok (answer, with_slot k (Some after) t)
+
+abbrev pub udp_acts : {A : Type 0} → (UdpState → Result (A × UdpState) Refusal) → ℕ → SocketsRecord → Result (A × SocketsRecord) Refusal
+udp_acts act k t = acted_udp act k (udp_in k t) t
+
+abbrev pub only_state : Result UdpState Refusal → Result (Unit {0} × UdpState) Refusal
+only_state (Ok u) = Ok (tt, u)
+only_state (Err r) = Err r
+
+-- bind(2)
+unfoldable pub binds_udp : List Ip → ℕ → Addr → SocketsRecord → Result (Unit {0} × SocketsRecord) Refusal
+binds_udp hosts k at t = udp_acts (λ u. only_state (by_errno (bind (udp_around hosts t) at u))) k t
+
+-- connect(2)
+unfoldable pub connects_udp : List Ip → ℕ → Addr → SocketsRecord → Result (Unit {0} × SocketsRecord) Refusal
+connects_udp hosts k to t = udp_acts (λ u. only_state (by_errno (connect (udp_around hosts t) to u))) k t
+
+-- send(2), and sendto(2) where an address is given
+unfoldable pub sends_udp : List Ip → ℕ → List ℕ → Option Addr → SocketsRecord → Result (Packet × SocketsRecord) Refusal
+sends_udp hosts k bytes to t = udp_acts (λ u. by_errno (send (udp_around hosts t) bytes to u)) k t
+
+-- what refuses a send of so many bytes before they and an address, if one is given, are read
+abbrev pub fits_in : ℕ → Bool → Option UdpState → Result (Unit {0}) Refusal
+fits_in count given socket = do
+  u ← or_refuse socket (refusal.Errno Ebadf)
+  refuse_if (nat_lt max_datagram count) (refusal.Errno Emsgsize)
+  refuse_if (not (given || is_some u.peer)) (refusal.Errno Edestaddrreq)
+
+abbrev pub udp_fits : ℕ → ℕ → Bool → SocketsRecord → Result (Unit {0}) Refusal
+udp_fits k count given t = fits_in count given (udp_in k t)
+
+-- a read waits until a datagram does
+abbrev pub recv_asked_in : Option UdpState → Result (Unit {0}) Refusal
+recv_asked_in socket = do
+  u ← or_refuse socket (refusal.Errno Ebadf)
+  waits_if (not (nat_lt 0 (length u.waiting)))
+
+abbrev pub recv_udp_asked : ℕ → SocketsRecord → Result (Unit {0}) Refusal
+recv_udp_asked k t = recv_asked_in (udp_in k t)
+
+-- recv(2) of so many bytes: the oldest datagram, cut there; where none waits the call does
+abbrev pub oldest_datagram : UdpState → List Datagram → ℕ → Result (Datagram × UdpState) Refusal
+oldest_datagram u [] count = Err (refusal.Wait None)
+oldest_datagram u (datagram ∷ behind) count =
+    Ok (record { from = datagram.from; bytes = take count datagram.bytes }, record u { waiting = behind })
+
+unfoldable pub receives_udp : ℕ → ℕ → SocketsRecord → Result (Datagram × SocketsRecord) Refusal
+receives_udp k count t = udp_acts (λ u. oldest_datagram u u.waiting count) k t
+
+-- whether the socket with a number is bound, and needs no other's ends
+abbrev pub udp_bound : ℕ → SocketsRecord → Bool
+udp_bound k t = is_some (local_in (udp_in k t))
+
+abbrev pub IsEnoughFor : ℕ → SocketsRecord → List Addr → Type 0
+IsEnoughFor k t ends = udp_bound k t ≡ false → ends ≡ udp_ends t
+
+-- what the code does in a socket's place
+abbrev pub SlotDoes : {A : Type 0} → (UdpState → Result (A × UdpState) Refusal) → Option UdpState → Option UdpState → Result A CallError → Type 0
+SlotDoes act None new (Ok a) = ⊥
+SlotDoes act None new (Err (error.Refused why)) = (why ≡ refusal.Errno Ebadf) × (new ≡ None)
+SlotDoes act None new (Err error.NoMemory) = Unit {0}
+SlotDoes act (Some u) new (Ok a) = (u' : UdpState) × ((act u ≡ Ok (a, u')) × (new ≡ Some u'))
+SlotDoes act (Some u) new (Err (error.Refused why)) = (act u ≡ Err why) × (new ≡ Some u)
+SlotDoes act (Some u) new (Err error.NoMemory) = Unit {0}
+
+abbrev pub GivesOldest : ℕ → UdpState → UdpState → Result Datagram CallError → Type 0
+GivesOldest count old new (Ok datagram) = oldest_datagram old old.waiting count ≡ Ok (datagram, new)
+GivesOldest count old new (Err (error.Refused why)) = (oldest_datagram old old.waiting count ≡ Err why) × (new ≡ old)
+GivesOldest count old new (Err error.NoMemory) = Unit {0}

@@ -1,0 +1,34 @@
+//! The sockets of a host: what its network stack does at calls of processes, at packets that arrive
+//! and at alarms, without guest memory and without descriptors.
+#![tactic(auto)]
+
+mod accept;
+mod asking;
+mod binding;
+mod connect;
+mod deliver;
+mod error;
+mod heard;
+pub mod laws;
+mod moving;
+mod names;
+mod outlet;
+mod ports;
+mod ready;
+mod reply;
+mod slots;
+mod sockets;
+mod tcp_acts;
+mod tcp_close;
+mod tcp_sock;
+#[cfg(test)]
+mod tests;
+mod turned;
+mod udp;
+mod udp_slot;
+
+pub use error::{CallError, Refusal};
+pub use outlet::{Outlet, Want};
+pub use reply::{Accepted, Reply};
+pub use sockets::Sockets;
+pub use tcp_sock::{KeptTimer, TcpSock};

@@ -1,0 +1,86 @@
+//! The sockets of a host.
+
+use crate::slots::{Sought, place_in};
+use crate::tcp_sock::TcpSock;
+use sim_base::{Ip, NoMemory};
+use sock_udp::UdpSock;
+use std::alloc::Global;
+
+/// The sockets of a host, by their numbers, and the connections that closed ones leave behind. After
+/// a call that answers want of memory nothing is known of them.
+#[derive(Drop)]
+pub struct Sockets {
+    pub(crate) own: Ip,
+    pub(crate) udp: Vec<Option<UdpSock>>,
+    pub(crate) tcp: Vec<TcpSock>,
+}
+
+impl Sockets {
+    ghost use Rattle.std.specs.Prelude.{◌≡◌, IfOk, OnOk};
+    ghost use Rattle.host_sockets.specs.TcpSocket.{TcpSocket};
+    ghost use Rattle.host_sockets.specs.Sockets.{SocketsRecord, no_sockets, put_at, tcp_place, put_tcp, new_tcp};
+    ghost use Rattle.host_sockets.specs.StandsFor.{SocketStands, Stand};
+
+    /// The sockets of a host with this address, which has none yet.
+    pub fn new(alloc: Global, own: Ip) -> Sockets
+        ensures { Stand result (no_sockets own) }
+    {
+        Sockets {
+            own,
+            udp: Vec::new(alloc),
+            tcp: Vec::new(alloc),
+        }
+    }
+
+    /// The host's address.
+    pub fn own(&self) -> Ip
+        ensures { (t : SocketsRecord) → Stand self.now t → result ≡ t.own }
+    {
+        self.own
+    }
+
+    pub(crate) fn alloc(&self) -> Global {
+        *self.tcp.allocator()
+    }
+
+    /// The least number that a new TCP socket may take.
+    fn tcp_place(&self) -> usize
+        ensures { (t : SocketsRecord) → Stand self.now t → result ≡ tcp_place t }
+    {
+        place_in(self.tcp.as_slice(), Sought::Free).unwrap_or(self.tcp.len())
+    }
+
+    /// Puts a TCP socket at a place of the list, or behind it.
+    fn put_tcp_at(&mut self, place: usize, sock: TcpSock) -> Result<(), NoMemory>
+        ensures { OnOk result ((t : SocketsRecord) (s : TcpSocket) → Stand self.old t → SocketStands sock s
+            → Stand self.new (record t { tcp = put_at place s t.tcp })) }
+    {
+        if place < self.tcp.len() {
+            self.tcp[place] = sock;
+            return Ok(());
+        }
+        self.tcp.push(sock)?;
+        Ok(())
+    }
+
+    /// Puts a TCP socket at the least number that is free, and answers it.
+    pub(crate) fn put_tcp(&mut self, sock: TcpSock) -> Result<usize, NoMemory>
+        ensures place { IfOk result (λ k. (t : SocketsRecord) → Stand self.old t → k ≡ tcp_place t) }
+        ensures stands { OnOk result ((t : SocketsRecord) (s : TcpSocket) → Stand self.old t → SocketStands sock s
+            → Stand self.new (put_tcp s t)) }
+    {
+        let place = self.tcp_place();
+        self.put_tcp_at(place, sock)?;
+        Ok(place)
+    }
+
+    /// Makes a TCP socket, and answers its number, the least one that is free (`socket(2)`).
+    pub fn new_tcp(&mut self) -> Result<usize, NoMemory>
+        ensures place { IfOk result (λ k. (t : SocketsRecord) → Stand self.old t → k ≡ (new_tcp t).0) }
+        ensures stands { OnOk result ((t : SocketsRecord) → Stand self.old t → Stand self.new (new_tcp t).1) }
+    {
+        let sock = TcpSock::fresh(self.alloc(), true);
+        let place = self.put_tcp(sock)?;
+        Ok(place)
+    }
+}

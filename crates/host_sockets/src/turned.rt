@@ -1,0 +1,132 @@
+//! What an act on the connection of a socket brings about.
+
+ghost use Rattle.std.specs.Prelude.{◌≡◌, ◌<◌, ◌^◌, IfOk};
+ghost use Rattle.host_sockets.specs.Wanted.{wants_alarm, due_after};
+ghost use Rattle.host_sockets.specs.Alarms.{place_of};
+ghost use Rattle.host_sockets.specs.TcpActs.{object_of};
+
+use crate::outlet::Outlet;
+use crate::tcp_sock::TcpSock;
+use sim_base::{NoMemory, ObjectId, Time};
+use sock_tcp::{Control, Effects};
+
+/// Objects from here on are TCP sockets, by their numbers.
+const FIRST_OBJECT: u64 = 1 << 33;
+
+/// The latest moment that an alarm is due.
+const LATEST: u64 = 1 << 62;
+
+/// The object that is the TCP socket with a number.
+fn object_of(place: usize) -> ObjectId
+    requires { place < 2 ^ 63 }
+    ensures { result ≡ object_of place }
+{
+    ObjectId {
+        number: FIRST_OBJECT + place as u64,
+    }
+}
+
+/// The number of the TCP socket that an object is.
+pub(crate) fn place_of(object: ObjectId) -> usize
+    ensures { result ≡ place_of object }
+{
+    object.number.saturating_sub(FIRST_OBJECT) as usize
+}
+
+/// A moment later by a length.
+fn due_after(now: Time, length: Time) -> Time
+    ensures { result ≡ due_after now length }
+{
+    Time {
+        nanos: now.nanos.saturating_add(length.nanos).min(LATEST),
+    }
+}
+
+/// Makes the alarm of a timer of the socket with a number, and answers its serial.
+pub(crate) fn start(
+    outlet: &mut Outlet,
+    now: Time,
+    place: usize,
+    length: Time,
+) -> Result<u64, NoMemory>
+    requires { place < 2 ^ 63 }
+    ensures { IfOk result (λ serial. (serial, outlet.new) ≡ wants_alarm (object_of place) (due_after now length) outlet.old) }
+{
+    let object = object_of(place);
+    let due = due_after(now, length);
+    outlet.alarm(object, due)
+}
+
+impl TcpSock {
+    ghost use Rattle.std.specs.Prelude.{◌≡◌, ◌<◌, ◌^◌, Some, OnOk, IfOk};
+    ghost use Rattle.sock_tcp.specs.connection.Tcb.{Tcb, Turn};
+    ghost use Rattle.sock_tcp.specs.connection.Timer.{timer_of};
+    ghost use Rattle.host_sockets.specs.Wanted.{Wanted};
+    ghost use Rattle.host_sockets.specs.TcpSocket.{TcpSocket, with_tcb};
+    ghost use Rattle.host_sockets.specs.TcpActs.{is_let_go, let_go, starts, turned};
+    ghost use Rattle.host_sockets.specs.StandsFor.{SocketStands, Brings};
+
+    /// The timer that an act started, if it did, is an alarm of the socket from then on.
+    fn start_timer(
+        &mut self,
+        outlet: &mut Outlet,
+        now: Time,
+        place: usize,
+        timer: Option<Time>,
+    ) -> Result<(), NoMemory>
+        requires { place < 2 ^ 63 }
+        ensures socket { OnOk result ((s : TcpSocket) → SocketStands self.old s
+            → SocketStands self.new (starts now place timer s outlet.old).0) }
+        ensures wanted { OnOk result ((s : TcpSocket) → outlet.new ≡ (starts now place timer s outlet.old).1) }
+    {
+        if let Some(length) = timer {
+            let serial = start(outlet, now, place, length)?;
+            self.serial = serial;
+        }
+        Ok(())
+    }
+
+    /// Whether a connection is over and done with: no descriptor names its socket any more, or it
+    /// was never ESTABLISHED and its error was taken.
+    fn is_done(&self, control: Control) -> bool
+        ensures { (s : TcpSocket) (r : Tcb) → SocketStands self.now s → control ≡ r.control → result ≡ is_let_go r s }
+    {
+        control.state.is_over()
+            && (!self.held || (!control.was_established && control.error.is_none()))
+    }
+
+    /// Lets a connection go that is done with.
+    fn let_go(&mut self)
+        ensures { (s : TcpSocket) (r : Tcb) (w : Wanted) → SocketStands self.old s → s.tcb ≡ Some r
+            → SocketStands self.new (let_go r s w).socket }
+    {
+        if let Some(conn) = &self.conn {
+            let control = conn.control();
+            if self.is_done(control) {
+                *self = TcpSock::fresh(self.alloc(), self.held);
+            }
+        }
+    }
+
+    /// Brings about what an act on its connection does: its segments are sent, then its timer
+    /// starts, and a connection that is done with is let go.
+    #[tactic(auto, unfolding(crate::specs::TcpActs::turned))]
+    pub(crate) fn bring_about(
+        &mut self,
+        outlet: &mut Outlet,
+        now: Time,
+        place: usize,
+        effects: Effects,
+    ) -> Result<(), NoMemory>
+        requires { place < 2 ^ 63 }
+        ensures { OnOk result ((s : TcpSocket) (t : Turn) → SocketStands self.old (with_tcb t.tcb s)
+            → effects.segments.items ≡ t.sent → effects.timer ≡ timer_of t
+            → Brings self.new outlet.new (turned now place t s outlet.old)) }
+    {
+        let Effects { segments, timer } = effects;
+        outlet.send_all(segments)?;
+        self.start_timer(outlet, now, place, timer)?;
+        self.let_go();
+        Ok(())
+    }
+}

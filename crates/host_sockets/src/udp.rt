@@ -1,0 +1,271 @@
+//! Calls on UDP sockets, and datagrams that arrive.
+
+use crate::error::{CallError, Refusal};
+use crate::sockets::Sockets;
+use crate::udp_slot;
+use sim_base::{Act, Addr, Around, Book, Errno, NoMemory, Packet};
+use sock_udp::{Datagram, UdpSock};
+
+impl Sockets {
+    ghost use Rattle.std.specs.Prelude.{◌≡◌, ◌≤◌, length, position, Some, IfOk, OnOk};
+    ghost use Rattle.host_sockets.specs.Sockets.{SocketsRecord, put_at};
+    ghost use Rattle.host_sockets.specs.Arriving.{takes_in, datagram_at, datagram_arrives};
+    ghost use Rattle.host_sockets.specs.Names.{udp_name, udp_peer};
+    ghost use Rattle.host_sockets.specs.Ready.{udp_ready};
+    ghost use Rattle.host_sockets.specs.Udp.{udp_bound, IsEnoughFor, udp_place, new_udp, closes_udp, udp_ends, binds_udp, connects_udp, udp_fits, sends_udp, recv_udp_asked, receives_udp};
+    ghost use Rattle.host_sockets.specs.StandsFor.{Stand, Becomes};
+
+    /// The least number that a new UDP socket may take.
+    fn udp_place(&self) -> usize
+        ensures { (t : SocketsRecord) → Stand self.now t → result ≡ udp_place t }
+    {
+        udp_slot::place(self.udp.as_slice())
+    }
+
+    fn put_udp_at(&mut self, place: usize, sock: UdpSock) -> Result<(), NoMemory>
+        ensures { OnOk result ((t : SocketsRecord) → Stand self.old t → Stand self.new (record t { udp = put_at place (Some sock) t.udp })) }
+    {
+        if place < self.udp.len() {
+            self.udp[place] = Some(sock);
+            return Ok(());
+        }
+        self.udp.push(Some(sock))?;
+        Ok(())
+    }
+
+    /// Makes a UDP socket, and answers its number, the least one that is free (`socket(2)`).
+    #[tactic(auto, unfolding(crate::specs::Udp::new_udp))]
+    pub fn new_udp(&mut self) -> Result<usize, NoMemory>
+        ensures place { IfOk result (λ k. (t : SocketsRecord) → Stand self.old t → k ≡ (new_udp t).0) }
+        ensures stands { OnOk result ((t : SocketsRecord) → Stand self.old t → Stand self.new (new_udp t).1) }
+    {
+        let place = self.udp_place();
+        let sock = UdpSock::new(self.alloc());
+        self.put_udp_at(place, sock)?;
+        Ok(place)
+    }
+
+    /// Closes the UDP socket with a number (`close(2)`): what waits in it is dropped.
+    #[tactic(auto, unfolding(crate::specs::Udp::closes_udp))]
+    pub fn close_udp(&mut self, k: usize)
+        ensures { (t : SocketsRecord) → Stand self.old t → Stand self.new (closes_udp k t) }
+    {
+        if k >= self.udp.len() {
+            return;
+        }
+        self.udp[k] = None;
+    }
+
+    /// The ends that UDP sockets are bound to.
+    fn udp_ends(&self) -> Result<Vec<Addr>, NoMemory>
+        ensures { IfOk result (λ ends. (t : SocketsRecord) → Stand self.now t → ends.items ≡ udp_ends t) }
+    {
+        let mut ends = Vec::new(self.alloc());
+        for slot in &self.udp {
+            udp_slot::add_end(slot, &mut ends)?;
+        }
+        Ok(ends)
+    }
+
+    /// Binds the UDP socket with a number to an address, for port 0 at the least port from 10000 up
+    /// that no UDP socket of the host has (`bind(2)`).
+    ///
+    /// Refused in this order: `Ebadf`, there is no such socket; then as by `UdpSock::bind`.
+    pub fn bind_udp(&mut self, hosts: &Book, k: usize, at: Addr) -> Result<(), CallError>
+        ensures { (t : SocketsRecord) → Stand self.old t → Becomes (binds_udp hosts.now k at t) t self.new result }
+    {
+        let bound = self.udp_ends()?;
+        let around = Around {
+            own: self.own,
+            hosts,
+            bound: bound.as_slice(),
+        };
+        if k >= self.udp.len() {
+            return Err(CallError::Refused(Refusal::Errno(Errno::Ebadf)));
+        }
+        let slot = &mut self.udp[k];
+        udp_slot::bind(slot, &around, at)
+    }
+
+    /// Connects the UDP socket with a number to another end, and binds it if it is unbound
+    /// (`connect(2)`).
+    ///
+    /// Refused in this order: `Ebadf`, there is no such socket; then as by `UdpSock::connect`.
+    pub fn connect_udp(&mut self, hosts: &Book, k: usize, to: Addr) -> Result<(), CallError>
+        ensures { (t : SocketsRecord) → Stand self.old t → Becomes (connects_udp hosts.now k to t) t self.new result }
+    {
+        let bound = self.udp_ends()?;
+        let around = Around {
+            own: self.own,
+            hosts,
+            bound: bound.as_slice(),
+        };
+        if k >= self.udp.len() {
+            return Err(CallError::Refused(Refusal::Errno(Errno::Ebadf)));
+        }
+        let slot = &mut self.udp[k];
+        udp_slot::connect(slot, &around, to)
+    }
+
+    /// Whether a datagram of so many bytes may be sent from the UDP socket with a number, before the
+    /// bytes and an address, if one is given, are read.
+    ///
+    /// Refused in this order: `Ebadf`, there is no such socket; `Emsgsize`, there are more than 1,472
+    /// bytes; `Edestaddrreq`, there is neither an address nor a peer.
+    pub fn udp_fits(&self, k: usize, count: usize, given: bool) -> Result<(), Refusal>
+        ensures { (t : SocketsRecord) → Stand self.now t → result ≡ udp_fits k count given t }
+    {
+        if k >= self.udp.len() {
+            return Err(Refusal::Errno(Errno::Ebadf));
+        }
+        udp_slot::fits(&self.udp[k], count, given)
+    }
+
+    /// The ends of the other UDP sockets, where the socket with a number needs a port.
+    fn ends_to_use(&self, k: usize) -> Result<Vec<Addr>, NoMemory>
+        ensures { IfOk result (λ ends. (t : SocketsRecord) → Stand self.now t → IsEnoughFor k t ends.items) }
+    {
+        if self.bound_udp(k) {
+            return Ok(Vec::new(self.alloc()));
+        }
+        let ends = self.udp_ends()?;
+        Ok(ends)
+    }
+
+    /// Whether the UDP socket with a number is bound.
+    pub fn bound_udp(&self, k: usize) -> bool
+        ensures { (t : SocketsRecord) → Stand self.now t → result ≡ udp_bound k t }
+    {
+        if k >= self.udp.len() {
+            return false;
+        }
+        udp_slot::local(&self.udp[k]).is_some()
+    }
+
+    /// Makes the packet of a datagram from the UDP socket with a number, to an address or else to
+    /// its peer, and binds the socket if it is unbound (`send(2)`, `sendto(2)`). One that is bound
+    /// looks at no other socket.
+    ///
+    /// Refused in this order: `Ebadf`, there is no such socket; then as by `UdpSock::send`.
+    pub fn send_udp(
+        &mut self,
+        hosts: &Book,
+        k: usize,
+        bytes: &[u8],
+        to: Option<Addr>,
+    ) -> Result<Packet, CallError>
+        ensures { (t : SocketsRecord) → Stand self.old t → Becomes (sends_udp hosts.now k bytes.now to t) t self.new result }
+    {
+        let bound = self.ends_to_use(k)?;
+        let around = Around {
+            own: self.own,
+            hosts,
+            bound: bound.as_slice(),
+        };
+        if k >= self.udp.len() {
+            return Err(CallError::Refused(Refusal::Errno(Errno::Ebadf)));
+        }
+        let slot = &mut self.udp[k];
+        udp_slot::send(slot, &around, bytes, to)
+    }
+
+    /// Whether a datagram waits in the UDP socket with a number. Refused by `Ebadf` where there is
+    /// no such socket; where none waits the call does.
+    pub fn recv_udp_asked(&self, k: usize) -> Result<(), Refusal>
+        ensures { (t : SocketsRecord) → Stand self.now t → result ≡ recv_udp_asked k t }
+    {
+        if k >= self.udp.len() {
+            return Err(Refusal::Errno(Errno::Ebadf));
+        }
+        udp_slot::recv_asked(&self.udp[k])
+    }
+
+    /// Takes the oldest datagram of the UDP socket with a number, cut at so many bytes: what does
+    /// not fit is lost (`recv(2)`).
+    ///
+    /// Refused in this order: `Ebadf`, there is no such socket; where none waits the call does.
+    pub fn recv_udp(&mut self, k: usize, count: usize) -> Result<Datagram, CallError>
+        ensures row { (t : SocketsRecord) → Stand self.old t → Becomes (receives_udp k count t) t self.new result }
+        ensures at_most { IfOk result (λ datagram. length datagram.bytes ≤ count) }
+    {
+        if k >= self.udp.len() {
+            return Err(CallError::Refused(Refusal::Errno(Errno::Ebadf)));
+        }
+        let alloc = self.alloc();
+        let slot = &mut self.udp[k];
+        udp_slot::recv(slot, alloc, count)
+    }
+
+    /// The own end of the UDP socket with a number: what it is bound to, or 0.0.0.0:0
+    /// (`getsockname(2)`).
+    ///
+    /// Refused by `Ebadf` where there is no such socket.
+    pub fn udp_name(&self, k: usize) -> Result<Addr, Refusal>
+        ensures { (t : SocketsRecord) → Stand self.now t → result ≡ udp_name k t }
+    {
+        if k >= self.udp.len() {
+            return Err(Refusal::Errno(Errno::Ebadf));
+        }
+        udp_slot::name(&self.udp[k])
+    }
+
+    /// The end that the UDP socket with a number is connected to (`getpeername(2)`).
+    ///
+    /// Refused in this order: `Ebadf`, there is no such socket; `Enotconn`, it isn't connected.
+    pub fn udp_peer(&self, k: usize) -> Result<Addr, Refusal>
+        ensures { (t : SocketsRecord) → Stand self.now t → result ≡ udp_peer k t }
+    {
+        if k >= self.udp.len() {
+            return Err(Refusal::Errno(Errno::Ebadf));
+        }
+        udp_slot::peer(&self.udp[k])
+    }
+
+    /// What the UDP socket with a number is ready for; a number without a socket for nothing.
+    pub fn udp_ready(&self, k: usize) -> u16
+        ensures { (t : SocketsRecord) → Stand self.now t → result ≡ udp_ready k t }
+    {
+        if k >= self.udp.len() {
+            return 0;
+        }
+        udp_slot::ready(&self.udp[k])
+    }
+
+    /// The number of the UDP socket that takes a datagram from one end to another.
+    fn taker(&self, from: Addr, to: Addr) -> Option<usize>
+        ensures { (t : SocketsRecord) → Stand self.now t → result ≡ position (takes_in from to) t.udp }
+    {
+        udp_slot::taker(self.udp.as_slice(), from, to)
+    }
+
+    /// A datagram arrives at the UDP socket with a number.
+    fn arrive_at(&mut self, k: usize, from: Addr, bytes: &[u8]) -> Result<Act, NoMemory>
+        ensures act { IfOk result (λ act. (t : SocketsRecord) → Stand self.old t → act ≡ (datagram_at from bytes.now (Some k) t).0) }
+        ensures stands { OnOk result ((t : SocketsRecord) → Stand self.old t → Stand self.new (datagram_at from bytes.now (Some k) t).1) }
+    {
+        if k >= self.udp.len() {
+            return Ok(Act::NoPort);
+        }
+        let slot = &mut self.udp[k];
+        let act = udp_slot::arrive(slot, from, bytes)?;
+        Ok(act)
+    }
+
+    /// A datagram arrives.
+    #[tactic(auto, unfolding(crate::specs::Arriving::datagram_arrives))]
+    pub(crate) fn deliver_datagram(
+        &mut self,
+        from: Addr,
+        to: Addr,
+        bytes: &[u8],
+    ) -> Result<Act, NoMemory>
+        ensures act { IfOk result (λ act. (t : SocketsRecord) → Stand self.old t → act ≡ (datagram_arrives from to bytes.now t).0) }
+        ensures stands { OnOk result ((t : SocketsRecord) → Stand self.old t → Stand self.new (datagram_arrives from to bytes.now t).1) }
+    {
+        if let Some(k) = self.taker(from, to) {
+            let act = self.arrive_at(k, from, bytes)?;
+            return Ok(act);
+        }
+        Ok(Act::NoPort)
+    }
+}

@@ -1,0 +1,236 @@
+//! The acts of a process on the place of a UDP socket.
+
+ghost use Rattle.std.specs.Prelude.{◌≡◌, ◌≤◌, ◌++◌, length, is_none, position, IfOk, OnOk};
+ghost use Rattle.std.specs.List.{position_or_len};
+ghost use Rattle.sock_udp.specs.Socket.{bind, connect, send};
+ghost use Rattle.host_sockets.specs.Refusals.{by_errno};
+ghost use Rattle.host_sockets.specs.Udp.{only_state, local_in, udp_end, fits_in, recv_asked_in, oldest_datagram, SlotDoes, GivesOldest};
+ghost use Rattle.host_sockets.specs.Arriving.{takes_in, slot_arrives};
+ghost use Rattle.host_sockets.specs.Names.{udp_name_in, udp_peer_in};
+ghost use Rattle.host_sockets.specs.Ready.{udp_ready_in};
+
+use crate::error::{CallError, Refusal};
+use crate::names::NOWHERE;
+use sim_base::{Act, Addr, Around, Bytes, Errno, MAX_DATAGRAM, NoMemory, Packet};
+use sock_udp::{Datagram, Received, UdpError, UdpSock};
+use std::alloc::Global;
+
+/// The first place without a socket.
+fn first_free(slots: &[Option<UdpSock>]) -> Option<usize>
+    ensures { result ≡ position is_none slots.now }
+{
+    slots.iter().position(|slot| slot.is_none())
+}
+
+/// The least number that a new socket may take.
+pub(crate) fn place(slots: &[Option<UdpSock>]) -> usize
+    ensures { result ≡ position_or_len is_none slots.now }
+{
+    first_free(slots).unwrap_or(slots.len())
+}
+
+/// What a socket is bound to.
+pub(crate) fn local(slot: &Option<UdpSock>) -> Option<Addr>
+    ensures { result ≡ local_in slot.now }
+{
+    match slot {
+        Some(sock) => sock.local(),
+        None => None,
+    }
+}
+
+/// Adds the end that a socket is bound to, if it is.
+pub(crate) fn add_end(slot: &Option<UdpSock>, ends: &mut Vec<Addr>) -> Result<(), NoMemory>
+    ensures { OnOk result (ends.new.items ≡ ends.old.items ++ udp_end slot.now) }
+{
+    if let Some(at) = local(slot) {
+        ends.push(at)?;
+    }
+    Ok(())
+}
+
+/// `bind(2)`.
+pub(crate) fn bind(slot: &mut Option<UdpSock>, around: &Around, at: Addr) -> Result<(), CallError>
+    ensures { SlotDoes (λ u. only_state (by_errno (bind around.now at u))) slot.old slot.new result }
+{
+    match slot {
+        Some(sock) => {
+            sock.bind(around, at)?;
+            Ok(())
+        }
+        None => Err(CallError::Refused(Refusal::Errno(Errno::Ebadf))),
+    }
+}
+
+/// `connect(2)`.
+pub(crate) fn connect(
+    slot: &mut Option<UdpSock>,
+    around: &Around,
+    to: Addr,
+) -> Result<(), CallError>
+    ensures { SlotDoes (λ u. only_state (by_errno (connect around.now to u))) slot.old slot.new result }
+{
+    match slot {
+        Some(sock) => {
+            sock.connect(around, to)?;
+            Ok(())
+        }
+        None => Err(CallError::Refused(Refusal::Errno(Errno::Ebadf))),
+    }
+}
+
+/// `send(2)`, and `sendto(2)` where an address is given.
+pub(crate) fn send(
+    slot: &mut Option<UdpSock>,
+    around: &Around,
+    bytes: &[u8],
+    to: Option<Addr>,
+) -> Result<Packet, CallError>
+    ensures { SlotDoes (λ u. by_errno (send around.now bytes.now to u)) slot.old slot.new result }
+{
+    match slot {
+        Some(sock) => match sock.send(around, bytes, to) {
+            Ok(packet) => Ok(packet),
+            Err(UdpError::Errno(errno)) => Err(CallError::Refused(Refusal::Errno(errno))),
+            Err(UdpError::NoMemory) => Err(CallError::NoMemory),
+        },
+        None => Err(CallError::Refused(Refusal::Errno(Errno::Ebadf))),
+    }
+}
+
+/// Takes the oldest datagram of a socket, cut at so many bytes; where none waits the call does.
+fn take_oldest(sock: &mut UdpSock, alloc: Global, count: usize) -> Result<Datagram, CallError>
+    ensures gives { GivesOldest count sock.old sock.new result }
+    ensures at_most { IfOk result (λ datagram. length datagram.bytes ≤ count) }
+{
+    let mut into = vec![in alloc; 0u8; count]?;
+    match sock.recv(into.as_mut_slice()) {
+        Ok(received) => {
+            let Received { bytes, from } = received;
+            into.truncate(bytes);
+            Ok(Datagram {
+                from,
+                bytes: Bytes::from(into),
+            })
+        }
+        Err(_) => Err(CallError::Refused(Refusal::Wait(None))),
+    }
+}
+
+/// `recv(2)` of so many bytes.
+pub(crate) fn recv(
+    slot: &mut Option<UdpSock>,
+    alloc: Global,
+    count: usize,
+) -> Result<Datagram, CallError>
+    ensures does { SlotDoes (λ u. oldest_datagram u u.waiting count) slot.old slot.new result }
+    ensures at_most { IfOk result (λ datagram. length datagram.bytes ≤ count) }
+{
+    match slot {
+        Some(sock) => {
+            let datagram = take_oldest(sock, alloc, count)?;
+            Ok(datagram)
+        }
+        None => Err(CallError::Refused(Refusal::Errno(Errno::Ebadf))),
+    }
+}
+
+/// Whether a socket takes a datagram from one end to another.
+pub(crate) fn takes(slot: &Option<UdpSock>, from: Addr, to: Addr) -> bool
+    ensures { result ≡ takes_in from to slot.now }
+{
+    match slot {
+        Some(sock) => sock.takes(from, to),
+        None => false,
+    }
+}
+
+/// The number of the first socket that takes a datagram from one end to another.
+pub(crate) fn taker(slots: &[Option<UdpSock>], from: Addr, to: Addr) -> Option<usize>
+    ensures { result ≡ position (takes_in from to) slots.now }
+{
+    slots.iter().position(|slot| takes(slot, from, to))
+}
+
+/// A datagram arrives at a socket.
+pub(crate) fn arrive(slot: &mut Option<UdpSock>, from: Addr, bytes: &[u8]) -> Result<Act, NoMemory>
+    ensures { IfOk result (λ act. (act, slot.new) ≡ slot_arrives from bytes.now slot.old) }
+{
+    match slot {
+        Some(sock) => {
+            if sock.arrive(from, bytes)? {
+                Ok(Act::Recv)
+            } else {
+                Ok(Act::SockFull)
+            }
+        }
+        None => Ok(Act::NoPort),
+    }
+}
+
+/// What refuses a send of so many bytes, before they and an address are read.
+pub(crate) fn fits(slot: &Option<UdpSock>, count: usize, given: bool) -> Result<(), Refusal>
+    ensures { result ≡ fits_in count given slot.now }
+{
+    match slot {
+        Some(sock) => {
+            if count > MAX_DATAGRAM {
+                Err(Refusal::Errno(Errno::Emsgsize))
+            } else if given || sock.peer().is_some() {
+                Ok(())
+            } else {
+                Err(Refusal::Errno(Errno::Edestaddrreq))
+            }
+        }
+        None => Err(Refusal::Errno(Errno::Ebadf)),
+    }
+}
+
+/// What refuses a read.
+pub(crate) fn recv_asked(slot: &Option<UdpSock>) -> Result<(), Refusal>
+    ensures { result ≡ recv_asked_in slot.now }
+{
+    match slot {
+        Some(sock) => {
+            if sock.len() > 0 {
+                Ok(())
+            } else {
+                Err(Refusal::Wait(None))
+            }
+        }
+        None => Err(Refusal::Errno(Errno::Ebadf)),
+    }
+}
+
+/// The own end of a socket.
+pub(crate) fn name(slot: &Option<UdpSock>) -> Result<Addr, Refusal>
+    ensures { result ≡ udp_name_in slot.now }
+{
+    match slot {
+        Some(sock) => Ok(sock.local().unwrap_or(NOWHERE)),
+        None => Err(Refusal::Errno(Errno::Ebadf)),
+    }
+}
+
+/// The end that a socket is connected to.
+pub(crate) fn peer(slot: &Option<UdpSock>) -> Result<Addr, Refusal>
+    ensures { result ≡ udp_peer_in slot.now }
+{
+    match slot {
+        Some(sock) => match sock.peer() {
+            Some(peer) => Ok(peer),
+            None => Err(Refusal::Errno(Errno::Enotconn)),
+        },
+        None => Err(Refusal::Errno(Errno::Ebadf)),
+    }
+}
+
+/// What a socket is ready for.
+pub(crate) fn ready(slot: &Option<UdpSock>) -> u16
+    ensures { result ≡ udp_ready_in slot.now }
+{
+    match slot {
+        Some(sock) => sock.ready(),
+        None => 0,
+    }
+}
