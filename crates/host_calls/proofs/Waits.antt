@@ -1,0 +1,148 @@
+-- Which calls wait: a row waits exactly where what it waits for says so.
+use Rattle.std.proofs.Common.{◌≡◌, ℕ, Bool, true, false, not, ◌&&◌, List, Option, Some, None, is_some, Result, Ok, Err, refl, sym, ap, ◌∙◌, if◌then◌else◌}
+use Rattle.sim_base.specs.declared.errno.Errno as errno_type
+use Rattle.sim_base.specs.declared.errno.Errno.TheVariants.{Ebadf, Efault}
+use Rattle.sim_base.specs.declared.object.ObjectId.{ObjectId}
+use Rattle.sim_base.specs.Refusals.{◌>>=◌, ◌>>◌, refuse_if, or_refuse}
+use Rattle.host_files.specs.declared.file.Object.{Object}
+use Rattle.host_files.specs.declared.file.Object.TheVariants as kind
+use Rattle.host_files.specs.Files.{FilesState, file_at}
+use Rattle.host_sockets.specs.declared.error.Refusal.{Refusal}
+use Rattle.host_sockets.specs.declared.error.Refusal.TheVariants as refusal
+use Rattle.host_calls.specs.declared.parts.Reaction.{Reaction}
+use Rattle.host_calls.specs.declared.parts.Reaction.TheVariants.{Value, Waits}
+use Rattle.host_calls.specs.declared.parts.Task.{Task}
+use Rattle.host_calls.specs.declared.parts.Shared.{Shared}
+use Rattle.std.specs.FinMap as map
+use Rattle.host_calls.specs.Calls.{reacts, is_wait}
+use Rattle.host_calls.specs.Descriptors.{descriptor, descriptor_by}
+use Rattle.host_calls.specs.Parts.{Scene, plainly}
+use Rattle.host_calls.specs.Scene.{Local, or_again}
+use Rattle.host_calls.specs.Sockets.{socket_number, open_socket}
+
+abbrev pub tells_wait : Refusal → Bool
+tells_wait (refusal.Wait until) = true
+tells_wait (refusal.Errno errno) = false
+tells_wait (refusal.Kept errno) = false
+tells_wait (refusal.End state) = false
+
+abbrev pub waits_in : {A : Type 0} → Result A Refusal → Bool
+waits_in (Ok a) = false
+waits_in (Err r) = tells_wait r
+
+abbrev pub reaction_waits : Result (Reaction × Scene) Refusal → Bool
+reaction_waits (Ok (Waits, s)) = true
+reaction_waits (Ok (Value value, s)) = false
+reaction_waits (Err r) = tells_wait r
+
+-- a row and what it waits for
+abbrev pub Same : {A B : Type 0} → Result A Refusal → Result B Refusal → Type 0
+Same r q = waits_in r ≡ waits_in q
+
+-- a row that never waits
+abbrev pub Never : {A : Type 0} → Result A Refusal → Type 0
+Never r = waits_in r ≡ false
+
+pub is_wait-is : (r : Result (Unit {0}) Refusal) → is_wait r ≡ waits_in r
+is_wait-is (Ok tt) = refl
+is_wait-is (Err (refusal.Wait until)) = refl
+is_wait-is (Err (refusal.Errno errno)) = refl
+is_wait-is (Err (refusal.Kept errno)) = refl
+is_wait-is (Err (refusal.End state)) = refl
+
+pub never_bind : {A B : Type 0} (r : Result A Refusal) (f : A → Result B Refusal) → Never r → ((a : A) → Never (f a)) → Never (r >>= f)
+never_bind (Ok a) f h k = k a
+never_bind (Err e) f h k = h
+
+pub never_then : {A B : Type 0} (r : Result A Refusal) (q : Result B Refusal) → Never r → Never q → Never (r >> q)
+never_then (Ok a) q h k = k
+never_then (Err e) q h k = h
+
+pub same_bind : {A B C : Type 0} (r : Result A Refusal) (f : A → Result B Refusal) (g : A → Result C Refusal) → ((a : A) → Same (f a) (g a)) → Same (r >>= f) (r >>= g)
+same_bind (Ok a) f g k = k a
+same_bind (Err e) f g k = refl
+
+pub same_then : {A B C : Type 0} (r : Result A Refusal) (q : Result B Refusal) (p : Result C Refusal) → Same q p → Same (r >> q) (r >> p)
+same_then (Ok a) q p k = k
+same_then (Err e) q p k = refl
+
+pub ends_bind : {A B : Type 0} (r : Result A Refusal) (f : A → Result B Refusal) → ((a : A) → Never (f a)) → Same (r >>= f) r
+ends_bind (Ok a) f k = k a
+ends_bind (Err e) f k = refl
+
+pub ends_then : {A B : Type 0} (r : Result A Refusal) (q : Result B Refusal) → Never q → Same (r >> q) r
+ends_then (Ok a) q k = k
+ends_then (Err e) q k = refl
+
+pub never_or_refuse : {A : Type 0} (o : Option A) (e : errno_type.Errno) → Never (or_refuse o (refusal.Errno e))
+never_or_refuse None e = refl
+never_or_refuse (Some a) e = refl
+
+pub never_refuse_if : (b : Bool) (e : errno_type.Errno) → Never (refuse_if b (refusal.Errno e))
+never_refuse_if true e = refl
+never_refuse_if false e = refl
+
+pub never_if : {A : Type 0} (b : Bool) (x y : Result A Refusal) → Never x → Never y → Never (if b then x else y)
+never_if true x y h k = h
+never_if false x y h k = k
+
+again_is : {A : Type 0} (b : Bool) (r : Result A Refusal) → waits_in (or_again b r) ≡ (not b && waits_in r)
+again_is true (Ok a) = refl
+again_is false (Ok a) = refl
+again_is true (Err (refusal.Wait until)) = refl
+again_is false (Err (refusal.Wait until)) = refl
+again_is true (Err (refusal.Errno errno)) = refl
+again_is false (Err (refusal.Errno errno)) = refl
+again_is true (Err (refusal.Kept errno)) = refl
+again_is false (Err (refusal.Kept errno)) = refl
+again_is true (Err (refusal.End state)) = refl
+again_is false (Err (refusal.End state)) = refl
+
+pub same_again : {A B : Type 0} (b : Bool) (r : Result A Refusal) (q : Result B Refusal) → Same r q → Same (or_again b r) (or_again b q)
+same_again b r q h = again_is b r ∙ ap (λ (x : Bool). not b && x) h ∙ sym (again_is b q)
+
+never_not : (b : Bool) → (not b && false) ≡ false
+never_not true = refl
+never_not false = refl
+
+pub never_again : {A : Type 0} (b : Bool) (r : Result A Refusal) → Never r → Never (or_again b r)
+never_again b r h = again_is b r ∙ ap (λ (x : Bool). not b && x) h ∙ never_not b
+
+pub reacts-is : (r : Result (ℕ × Scene) Refusal) → reaction_waits (reacts r) ≡ waits_in r
+reacts-is (Ok (value, s)) = refl
+reacts-is (Err r) = refl
+
+pub plainly-is : {A : Type 0} (r : Result (A × Local) Refusal) (s : Scene) → Same (plainly r s) r
+plainly-is (Ok (a, local)) s = refl
+plainly-is (Err r) s = refl
+
+-- looking a descriptor up
+descriptor_by-never : (o : Option ObjectId) (files : FilesState) → Never (descriptor_by o files)
+descriptor_by-never None files = refl
+descriptor_by-never (Some id) files = never_bind (or_refuse (file_at id files) (refusal.Errno Ebadf)) _ (never_or_refuse (file_at id files) Ebadf) (λ file. refl)
+
+pub descriptor-never : (fd : ℕ) (task : Task) (files : FilesState) → Never (descriptor fd task files)
+descriptor-never fd task files = descriptor_by-never (map.get task.table fd) files
+
+pub socket_number-never : (object : Object) → Never (socket_number object)
+socket_number-never kind.Input = refl
+socket_number-never kind.Output = refl
+socket_number-never kind.Errors = refl
+socket_number-never (kind.Hosts read) = refl
+socket_number-never (kind.ReadEnd k) = refl
+socket_number-never (kind.WriteEnd k) = refl
+socket_number-never (kind.Timer k) = refl
+socket_number-never (kind.Udp k) = refl
+socket_number-never (kind.Tcp k) = refl
+
+pub open_socket-never : (fd : ℕ) (task : Task) (shared : Shared) → Never (open_socket fd (task, shared))
+open_socket-never fd task shared =
+    never_bind (descriptor fd task shared.files) _ (descriptor-never fd task shared.files) (λ d. never_bind (socket_number d.file.object) _ (socket_number-never d.file.object) (λ n. refl))
+
+-- bytes that are read, where the row takes them and what it waits for only tests their span
+pub span_same : {B C : Type 0} (o : Option (List ℕ)) (f : List ℕ → Result B Refusal) (q : Result C Refusal) → ((bytes : List ℕ) → o ≡ Some bytes → Same (f bytes) q)
+    → Same (or_refuse o (refusal.Errno Efault) >>= f) (refuse_if (not (is_some o)) (refusal.Errno Efault) >> q)
+span_same None f q k = refl
+span_same (Some bytes) f q k = k bytes refl
+
+pub ruleset nevers = (never_bind, never_then, never_if, never_or_refuse, never_refuse_if, never_again, descriptor-never, socket_number-never, open_socket-never)

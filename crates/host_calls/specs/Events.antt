@@ -1,0 +1,57 @@
+-- What a host does with a packet that arrives, an alarm, and the end of a process.
+use Rattle.std.specs.Prelude.{◌≡◌, ℕ, ◌-◌, Option, Some, None, nat_lt, if◌then◌else◌}
+use Rattle.sim_base.specs.declared.act.Act.{Act}
+use Rattle.sim_base.specs.declared.object.ObjectId.{ObjectId}
+use Rattle.sim_base.specs.declared.packet.Packet.{Packet}
+use Rattle.sim_base.specs.declared.time.Time.{Time}
+use Rattle.host_sockets.specs.Wanted.{Wanted}
+use Rattle.host_sockets.specs.Sockets.{SocketsRecord}
+use Rattle.host_sockets.specs.TcpActs.{first_object}
+use Rattle.host_sockets.specs.Arriving as arriving
+use Rattle.host_sockets.specs.Alarms.{alarm_comes}
+use Rattle.host_calls.specs.declared.all.Parts.{Parts}
+use Rattle.host_calls.specs.declared.parts.Task.{Task}
+use Rattle.host_calls.specs.Calls.{scene_at, cleared}
+use Rattle.host_calls.specs.Closing.{all_closed}
+use Rattle.host_calls.specs.Parts.{PartsRecord, PartsStand, Place, place_of, place_in, with_place}
+use Rattle.host_calls.specs.Times.{first_timer, rings}
+
+-- what the sockets leave
+abbrev pub with_wanted : SocketsRecord × Wanted → PartsRecord → PartsRecord
+with_wanted (t, w) h = record h { shared = record h.shared { outlet = w }; sockets = t }
+
+abbrev pub with_act : Act × (SocketsRecord × Wanted) → PartsRecord → Act × PartsRecord
+with_act (act, after) h = (act, with_wanted after h)
+
+-- a packet arrives: its act in the packet log, and what it leaves
+abbrev pub arrives : Time → Packet → PartsRecord → Act × PartsRecord
+arrives now packet h = with_act (arriving.arrives now packet h.sockets h.shared.outlet) h
+
+-- an alarm: objects below 2^32 are deadlines of processes, those below 2^33 timers, and the others connections
+abbrev pub timer_number : ObjectId → ℕ
+timer_number object = object.number - first_timer
+
+abbrev pub rung : Time → ObjectId → ℕ → PartsRecord → PartsRecord
+rung now object serial h =
+    record h { shared = rings now (timer_number object) serial h.shared }
+
+abbrev pub alarmed : Time → ObjectId → ℕ → PartsRecord → PartsRecord
+alarmed now object serial h =
+    if nat_lt object.number first_timer then h
+    else if nat_lt object.number first_object then rung now object serial h
+    else with_wanted (alarm_comes now object serial h.sockets h.shared.outlet) h
+
+-- the end of a process, if it is there: its descriptors are closed, and it waits in no call
+abbrev pub ended_by : Time → Option Task → Place → Place
+ended_by now None p = p
+ended_by now (Some task) p = place_of (all_closed now (cleared (scene_at task p)))
+
+abbrev pub ended_place : Time → Place → Place
+ended_place now p = ended_by now p.task p
+
+abbrev pub ended : Time → ℕ → PartsRecord → PartsRecord
+ended now process h = with_place process (ended_place now (place_in process h)) h
+
+-- what the code answers and leaves
+abbrev pub Delivered : Act × PartsRecord → Act → Parts → Type 0
+Delivered (b, h) a c = (a ≡ b) × PartsStand c h

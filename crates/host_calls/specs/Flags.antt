@@ -1,0 +1,24 @@
+-- Flags, as Linux has them on RISC-V (open(2), pipe(2), send(2)).
+use Rattle.std.specs.Prelude.{ℕ, ◌==◌, Bool, not, bit_and}
+
+-- O_NONBLOCK, also as SOCK_NONBLOCK and TFD_NONBLOCK
+abbrev pub o_nonblock : ℕ
+o_nonblock = 0x800
+
+-- MSG_DONTWAIT and MSG_NOSIGNAL
+abbrev pub msg_dontwait : ℕ
+msg_dontwait = 0x40
+
+abbrev pub msg_nosignal : ℕ
+msg_nosignal = 0x4000
+
+abbrev pub has : ℕ → ℕ → Bool
+has flag flags = not (bit_and flags flag == 0)
+
+-- the bits beside O_NONBLOCK 0x800 and O_CLOEXEC 0x80000, which has no effect, since there is no exec
+abbrev pub beside_open : ℕ → ℕ
+beside_open flags = bit_and flags 0xfff7_f7ff
+
+-- the bits beside MSG_DONTWAIT 0x40 and MSG_NOSIGNAL 0x4000
+abbrev pub beside_message : ℕ → ℕ
+beside_message flags = bit_and flags 0xffff_bfbf

@@ -1,0 +1,15 @@
+pub mod Scene
+pub mod Descriptors
+pub mod Flags
+pub mod Files
+pub mod Times
+pub mod Guest
+pub mod Parts
+pub mod Polling
+pub mod Sockets
+pub mod Closing
+pub mod Call
+pub mod Calls
+pub mod Events
+pub mod Starting
+pub mod Laws

@@ -1,0 +1,477 @@
+-- socket(2), bind(2), listen(2), accept(2), connect(2), getsockname(2), getpeername(2), send(2), recv(2), setsockopt(2),
+-- getsockopt(2) and shutdown(2).
+use Rattle.std.specs.Prelude.{ℕ, ◌==◌, ◌&&◌, ◌||◌, Bool, true, false, not, min, List, [], ◌∷◌, length, Option, Some, None, is_some, Result, Ok, Err, nat_lt, if◌then◌else◌}
+use Rattle.std.specs.Int.{w32, to_le_bytes, cast_signed}
+use Rattle.sim_base.specs.declared.address.Ip.{Ip}
+use Rattle.sim_base.specs.declared.address.Addr.{Addr}
+use Rattle.sim_base.specs.declared.packet.Packet.{Packet}
+use Rattle.sim_base.specs.declared.errno.Errno as errno_type
+use Rattle.sim_base.specs.declared.errno.Errno.TheVariants.{Eafnosupport, Efault, Einprogress, Einval, Emfile, Enoprotoopt, Enotconn, Enotsock, Eopnotsupp, Eprotonosupport}
+use Rattle.sim_base.specs.declared.time.Time.{Time}
+use Rattle.sim_base.specs.Errno.{errno_number}
+use Rattle.sim_base.specs.Refusals.{◌>>=◌, ◌>>◌, refuse_if, or_refuse}
+use Rattle.guest_mem.specs.Memory.{Memory}
+use Rattle.guest_args.specs.declared.address.AddressPlace.{AddressPlace}
+use Rattle.guest_args.specs.Span.{counted, span, can_read, can_write, filled}
+use Rattle.guest_args.specs.Address.{address_size, address_span, inet, family_of, sockaddr_of, word, wanted_place, answered}
+use Rattle.sock_tcp.specs.declared.connection.effects.Shut.{Shut}
+use Rattle.sock_tcp.specs.declared.connection.effects.Shut.TheVariants.{Reading, Writing, Both}
+use Rattle.host_files.specs.declared.file.File.{File}
+use Rattle.host_files.specs.declared.file.Object.{Object}
+use Rattle.host_files.specs.declared.file.Object.TheVariants as kind
+use Rattle.host_sockets.specs.declared.error.Refusal.{Refusal}
+use Rattle.host_sockets.specs.declared.error.Refusal.TheVariants.{Errno}
+use Rattle.host_sockets.specs.declared.reply.Reply.{Reply}
+use Rattle.host_sockets.specs.declared.reply.Reply.TheVariants.{Done, Failed}
+use Rattle.host_sockets.specs.declared.reply.Accepted.{Accepted}
+use Rattle.host_sockets.specs.Wanted.{sends}
+use Rattle.host_sockets.specs.Sockets.{SocketsRecord, new_tcp}
+use Rattle.host_sockets.specs.Udp.{new_udp, udp_bound, binds_udp, connects_udp, udp_fits, sends_udp, receives_udp, recv_udp_asked}
+use Rattle.host_sockets.specs.Binding.{tcp_bound, binds_tcp, listens_tcp}
+use Rattle.host_sockets.specs.Accepting.{accept_asked, accept_ready, accepts_tcp}
+use Rattle.host_sockets.specs.Connecting.{connects_taking, connect_waited, connect_answers}
+use Rattle.host_sockets.specs.Moving.{send_asked, sends_taking, recv_asked, receives_taking, shuts_tcp}
+use Rattle.host_sockets.specs.Names.{tcp_name, udp_name, tcp_peer, udp_peer, takes_error}
+use Rattle.host_calls.specs.declared.sockets.SocketNumber.{SocketNumber}
+use Rattle.host_calls.specs.declared.sockets.SocketNumber.TheVariants as number
+use Rattle.host_calls.specs.declared.accepting.NewPlace.{NewPlace}
+use Rattle.host_calls.specs.declared.binding.NewSocket.{NewSocket}
+use Rattle.host_calls.specs.declared.options.Asked.{Asked}
+use Rattle.host_calls.specs.declared.receiving.Room.{Room}
+use Rattle.host_calls.specs.declared.sending.Message.{Message}
+use Rattle.host_calls.specs.declared.sockets.OpenSocket.{OpenSocket}
+use Rattle.host_calls.specs.declared.parts.Task.{Task}
+use Rattle.host_calls.specs.declared.parts.Reaction.{Reaction}
+use Rattle.host_calls.specs.declared.parts.Reaction.TheVariants.{Value, Waits}
+use Rattle.host_calls.specs.Flags.{o_nonblock, msg_dontwait, msg_nosignal, has, beside_open, beside_message}
+use Rattle.host_calls.specs.Scene.{Local, negative, or_again}
+use Rattle.host_calls.specs.Descriptors.{lowest_free, descriptor, opens}
+use Rattle.host_calls.specs.Parts.{Scene, local_of, with_local, with_sockets, with_wanted}
+
+-- the socket that a descriptor names
+abbrev pub socket_number : Object → Result SocketNumber Refusal
+socket_number (kind.Udp k) = Ok (number.Udp k)
+socket_number (kind.Tcp k) = Ok (number.Tcp k)
+socket_number _ = Err (Errno Enotsock)
+
+abbrev pub open_socket : ℕ → Local → Result OpenSocket Refusal
+open_socket fd (task, shared) = do
+  d ← descriptor fd task shared.files
+  socket ← socket_number d.file.object
+  Ok (record { nonblocking = d.file.nonblocking; number = socket })
+
+-- where only TCP will do
+abbrev pub tcp_number : SocketNumber → Result ℕ Refusal
+tcp_number (number.Udp k) = Err (Errno Eopnotsupp)
+tcp_number (number.Tcp k) = Ok k
+
+-- an address that is handed in: its span, its length, and then its family
+abbrev pub address_bytes : ℕ → ℕ → Memory → Result (List ℕ) Refusal
+address_bytes at size memory = do
+  refuse_if (not (can_read (address_span size) at memory)) (Errno Efault)
+  refuse_if (nat_lt size address_size) (Errno Einval)
+  or_refuse (span address_size at memory) (Errno Efault)
+
+abbrev pub inet_address : List ℕ → Result Addr Refusal
+inet_address bytes = do
+  refuse_if (not (family_of bytes == inet)) (Errno Eafnosupport)
+  Ok (sockaddr_of bytes)
+
+abbrev pub address : ℕ → ℕ → Memory → Result Addr Refusal
+address at size memory = do
+  bytes ← address_bytes at size memory
+  inet_address bytes
+
+-- a null pointer means that none is given
+abbrev pub given_address : ℕ → ℕ → Memory → Result (Option Addr) Refusal
+given_address at size memory = if at == 0 then Ok None else do
+  to ← address at size memory
+  Ok (Some to)
+
+-- where an address goes that a call answers
+abbrev pub result_address : ℕ → ℕ → Memory → Result (Option AddressPlace) Refusal
+result_address at size_at memory = or_refuse (wanted_place at size_at memory) (Errno Efault)
+
+abbrev pub tell_address : Option AddressPlace → Addr → Scene → Scene
+tell_address place at s = record s { task = record s.task { memory = answered place at s.task.memory } }
+
+-- what a guest sees of a reply
+abbrev pub value_of : Reply ℕ → ℕ
+value_of (Done value) = value
+value_of (Failed errno) = negative errno
+
+-- socket(2): AF_INET 2; SOCK_STREAM 1 and SOCK_DGRAM 2, with IPPROTO_TCP 6 and IPPROTO_UDP 17
+abbrev pub is_stream : ℕ → Result Bool Refusal
+is_stream type = if type == 1 then Ok true else if type == 2 then Ok false else Err (Errno Einval)
+
+abbrev pub protocol_of : Bool → ℕ
+protocol_of stream = if stream then 6 else 17
+
+abbrev pub socket_file : Bool → Object → File
+socket_file nonblocking object = record { nonblocking = nonblocking; object = object }
+
+abbrev pub with_tcp_file : ℕ → Bool → ℕ × SocketsRecord → Scene → Scene
+with_tcp_file fd nonblocking (k, t) s = with_sockets t (with_local (opens fd (socket_file nonblocking (kind.Tcp k)) (local_of s)) s)
+
+abbrev pub with_udp_file : ℕ → Bool → ℕ × SocketsRecord → Scene → Scene
+with_udp_file fd nonblocking (k, t) s = with_sockets t (with_local (opens fd (socket_file nonblocking (kind.Udp k)) (local_of s)) s)
+
+abbrev pub with_socket : NewSocket → Bool → Scene → Scene
+with_socket new nonblocking s =
+    if new.stream then with_tcp_file new.fd nonblocking (new_tcp s.sockets) s else with_udp_file new.fd nonblocking (new_udp s.sockets) s
+
+abbrev pub socket_asked : ℕ → ℕ → ℕ → Task → Result NewSocket Refusal
+socket_asked family type protocol task = do
+  refuse_if (not (family == inet)) (Errno Eafnosupport)
+  stream ← is_stream (beside_open type)
+  refuse_if (not (protocol == 0 || protocol == protocol_of stream)) (Errno Eprotonosupport)
+  fd ← or_refuse (lowest_free task.table) (Errno Emfile)
+  Ok (record { stream = stream; fd = fd })
+
+abbrev pub socket : ℕ → ℕ → ℕ → Scene → Result (ℕ × Scene) Refusal
+socket family type protocol s = do
+  new ← socket_asked family type protocol s.task
+  Ok (new.fd, with_socket new (has o_nonblock type) s)
+
+-- bind(2)
+abbrev pub is_bound : SocketNumber → SocketsRecord → Bool
+is_bound (number.Udp k) t = udp_bound k t
+is_bound (number.Tcp k) t = tcp_bound k t
+
+abbrev pub binds : List Ip → SocketNumber → Addr → SocketsRecord → Result (Unit {0} × SocketsRecord) Refusal
+binds hosts (number.Udp k) at t = binds_udp hosts k at t
+binds hosts (number.Tcp k) at t = binds_tcp k at t
+
+abbrev pub bind_asked : SocketNumber → ℕ → ℕ → Memory → SocketsRecord → Result Addr Refusal
+bind_asked socket at size memory t = do
+  bytes ← address_bytes at size memory
+  refuse_if (is_bound socket t) (Errno Einval)
+  inet_address bytes
+
+abbrev pub bind : List Ip → ℕ → ℕ → ℕ → Scene → Result (ℕ × Scene) Refusal
+bind hosts fd at size s = do
+  socket ← open_socket fd (local_of s)
+  to ← bind_asked socket.number at size s.task.memory s.sockets
+  (done, t) ← binds hosts socket.number to s.sockets
+  Ok (0, with_sockets t s)
+
+-- listen(2): the backlog is read as signed
+abbrev pub listen : ℕ → ℕ → Scene → Result (ℕ × Scene) Refusal
+listen fd backlog s = do
+  socket ← open_socket fd (local_of s)
+  k ← tcp_number socket.number
+  (done, t) ← listens_tcp k (cast_signed w32 backlog) s.sockets
+  Ok (0, with_sockets t s)
+
+-- accept(2): what refuses, and then what waits
+abbrev pub accept_place : ℕ → ℕ → ℕ → Task → SocketsRecord → Result NewPlace Refusal
+accept_place k at size_at task t = do
+  accept_asked k t
+  place ← result_address at size_at task.memory
+  fd ← or_refuse (lowest_free task.table) (Errno Emfile)
+  Ok (record { fd = fd; place = place })
+
+abbrev pub accepted_by : NewPlace → Accepted → SocketsRecord → Scene → Scene
+accepted_by new accepted t s = tell_address new.place accepted.peer (with_tcp_file new.fd false (accepted.socket, t) s)
+
+abbrev pub accept_call : OpenSocket → ℕ → ℕ → Scene → Result (ℕ × Scene) Refusal
+accept_call socket at size_at s = do
+  k ← tcp_number socket.number
+  new ← accept_place k at size_at s.task s.sockets
+  (accepted, t) ← accepts_tcp k s.sockets
+  Ok (new.fd, accepted_by new accepted t s)
+
+abbrev pub accept : ℕ → ℕ → ℕ → Scene → Result (ℕ × Scene) Refusal
+accept fd at size_at s = do
+  socket ← open_socket fd (local_of s)
+  or_again socket.nonblocking (accept_call socket at size_at s)
+
+abbrev pub accept_wait : OpenSocket → ℕ → ℕ → Task → SocketsRecord → Result (Unit {0}) Refusal
+accept_wait socket at size_at task t = do
+  k ← tcp_number socket.number
+  new ← accept_place k at size_at task t
+  accept_ready k t
+
+abbrev pub accept_waits : ℕ → ℕ → ℕ → Scene → Result (Unit {0}) Refusal
+accept_waits fd at size_at s = do
+  socket ← open_socket fd (local_of s)
+  or_again socket.nonblocking (accept_wait socket at size_at s.task s.sockets)
+
+-- connect(2): a TCP socket sends its SYN, and waits or answers EINPROGRESS
+abbrev pub connecting : Bool → Reply (Unit {0}) → Reaction
+connecting nonblocking (Done done) = if nonblocking then Value (negative Einprogress) else Waits
+connecting nonblocking (Failed errno) = Value (negative errno)
+
+abbrev pub connect_tcp : List Ip → Time → Bool → ℕ → ℕ → ℕ → Scene → Result (Reaction × Scene) Refusal
+connect_tcp hosts now nonblocking k at size s = do
+  to ← address at size s.task.memory
+  (reply, after) ← connects_taking hosts now k to s.sockets s.shared.outlet
+  Ok (connecting nonblocking reply, with_wanted after s)
+
+abbrev pub connect_udp : List Ip → ℕ → ℕ → ℕ → Scene → Result (Reaction × Scene) Refusal
+connect_udp hosts k at size s = do
+  to ← address at size s.task.memory
+  (done, t) ← connects_udp hosts k to s.sockets
+  Ok (Value 0, with_sockets t s)
+
+-- one that waited is called again: it tries no refusal
+abbrev pub connected : Reply (Unit {0}) → Reaction
+connected (Done done) = Value 0
+connected (Failed errno) = Value (negative errno)
+
+abbrev pub connect_again : Time → ℕ → Scene → Result (Reaction × Scene) Refusal
+connect_again now k s = do
+  (reply, after) ← connect_answers now k s.sockets s.shared.outlet
+  Ok (connected reply, with_wanted after s)
+
+abbrev pub connect_call : List Ip → Time → Bool → SocketNumber → ℕ → ℕ → Scene → Result (Reaction × Scene) Refusal
+connect_call hosts now nonblocking (number.Udp k) at size s = connect_udp hosts k at size s
+connect_call hosts now nonblocking (number.Tcp k) at size s =
+    if is_some s.task.kept then connect_again now k s else connect_tcp hosts now nonblocking k at size s
+
+abbrev pub connect : List Ip → Time → ℕ → ℕ → ℕ → Scene → Result (Reaction × Scene) Refusal
+connect hosts now fd at size s = do
+  socket ← open_socket fd (local_of s)
+  connect_call hosts now socket.nonblocking socket.number at size s
+
+abbrev pub connect_wait : SocketNumber → SocketsRecord → Result (Unit {0}) Refusal
+connect_wait (number.Udp k) t = Ok tt
+connect_wait (number.Tcp k) t = connect_waited k t
+
+abbrev pub connect_waits : ℕ → Scene → Result (Unit {0}) Refusal
+connect_waits fd s = do
+  socket ← open_socket fd (local_of s)
+  connect_wait socket.number s.sockets
+
+-- getsockname(2), getpeername(2)
+abbrev pub name_of : SocketNumber → SocketsRecord → Result Addr Refusal
+name_of (number.Udp k) t = udp_name k t
+name_of (number.Tcp k) t = tcp_name k t
+
+abbrev pub peer_of : SocketNumber → SocketsRecord → Result Addr Refusal
+peer_of (number.Udp k) t = udp_peer k t
+peer_of (number.Tcp k) t = tcp_peer k t
+
+abbrev pub getsockname : ℕ → ℕ → ℕ → Scene → Result (ℕ × Scene) Refusal
+getsockname fd at size_at s = do
+  socket ← open_socket fd (local_of s)
+  name ← name_of socket.number s.sockets
+  place ← result_address at size_at s.task.memory
+  Ok (0, tell_address place name s)
+
+abbrev pub getpeername : ℕ → ℕ → ℕ → Scene → Result (ℕ × Scene) Refusal
+getpeername fd at size_at s = do
+  socket ← open_socket fd (local_of s)
+  peer ← peer_of socket.number s.sockets
+  place ← result_address at size_at s.task.memory
+  Ok (0, tell_address place peer s)
+
+-- send(2): MSG_DONTWAIT and MSG_NOSIGNAL alone may be given
+abbrev pub refuse_flags : ℕ → Result (Unit {0}) Refusal
+refuse_flags flags = refuse_if (not (beside_message flags == 0)) (Errno Einval)
+
+abbrev pub is_quick : Bool → ℕ → Bool
+is_quick nonblocking flags = nonblocking || has msg_dontwait flags
+
+abbrev pub packet_sent : Packet → SocketsRecord → Scene → Scene
+packet_sent packet t s = with_wanted (t, sends (packet ∷ []) s.shared.outlet) s
+
+abbrev pub send_udp : List Ip → ℕ → Message → Scene → Result (ℕ × Scene) Refusal
+send_udp hosts k message s = do
+  udp_fits k message.n (not (message.to_at == 0)) s.sockets
+  bytes ← or_refuse (span (counted message.n) message.at s.task.memory) (Errno Efault)
+  to ← given_address message.to_at message.size s.task.memory
+  (packet, t) ← sends_udp hosts k bytes to s.sockets
+  Ok (length bytes, packet_sent packet t s)
+
+abbrev pub send_tcp : List Ip → Time → ℕ → Bool → Message → Scene → Result (ℕ × Scene) Refusal
+send_tcp hosts now k quiet message s = do
+  bytes ← or_refuse (span (counted message.n) message.at s.task.memory) (Errno Efault)
+  to ← given_address message.to_at message.size s.task.memory
+  (reply, after) ← sends_taking hosts now k bytes to quiet s.sockets s.shared.outlet
+  Ok (value_of reply, with_wanted after s)
+
+abbrev pub send_call : List Ip → Time → SocketNumber → Bool → Message → Scene → Result (ℕ × Scene) Refusal
+send_call hosts now (number.Udp k) quiet message s = send_udp hosts k message s
+send_call hosts now (number.Tcp k) quiet message s = send_tcp hosts now k quiet message s
+
+abbrev pub send_again : List Ip → Time → OpenSocket → ℕ → Message → Scene → Result (ℕ × Scene) Refusal
+send_again hosts now socket flags message s =
+    or_again (is_quick socket.nonblocking flags) (send_call hosts now socket.number (has msg_nosignal flags) message s)
+
+-- also write(2), without flags and address
+abbrev pub send : List Ip → Time → OpenSocket → ℕ → Message → Scene → Result (ℕ × Scene) Refusal
+send hosts now socket flags message s = do
+  refuse_flags flags
+  send_again hosts now socket flags message s
+
+abbrev pub sendto : List Ip → Time → ℕ → ℕ → Message → Scene → Result (ℕ × Scene) Refusal
+sendto hosts now fd flags message s = do
+  socket ← open_socket fd (local_of s)
+  send hosts now socket flags message s
+
+-- what waits: nothing but a TCP socket without room
+abbrev pub send_tcp_wait : List Ip → ℕ → Bool → Message → Memory → SocketsRecord → Result (Unit {0}) Refusal
+send_tcp_wait hosts k quiet message memory t = do
+  refuse_if (not (can_read (counted message.n) message.at memory)) (Errno Efault)
+  to ← given_address message.to_at message.size memory
+  send_asked hosts k (counted message.n) to quiet t
+
+abbrev pub send_wait : List Ip → SocketNumber → Bool → Message → Memory → SocketsRecord → Result (Unit {0}) Refusal
+send_wait hosts (number.Udp k) quiet message memory t = Ok tt
+send_wait hosts (number.Tcp k) quiet message memory t = send_tcp_wait hosts k quiet message memory t
+
+abbrev pub send_waits : List Ip → OpenSocket → ℕ → Message → Memory → SocketsRecord → Result (Unit {0}) Refusal
+send_waits hosts socket flags message memory t = do
+  refuse_flags flags
+  or_again (is_quick socket.nonblocking flags) (send_wait hosts socket.number (has msg_nosignal flags) message memory t)
+
+-- recv(2): the bytes go to the guest, and so does the sender's address where it is wanted
+abbrev pub recv_place : Room → Memory → Result (Option AddressPlace) Refusal
+recv_place room memory = do
+  refuse_if (not (can_write (counted room.n) room.at memory)) (Errno Efault)
+  result_address room.from_at room.size_at memory
+
+abbrev pub with_memory : Memory → Scene → Scene
+with_memory memory s = record s { task = record s.task { memory = memory } }
+
+abbrev pub recv_udp : ℕ → Room → Scene → Result (ℕ × Scene) Refusal
+recv_udp k room s = do
+  place ← recv_place room s.task.memory
+  (datagram, t) ← receives_udp k (counted room.n) s.sockets
+  Ok (length datagram.bytes, with_sockets t (with_memory (answered place datagram.from (filled room.at datagram.bytes s.task.memory)) s))
+
+-- of a TCP socket the sender is its peer
+abbrev pub with_peer : Option AddressPlace → Result Addr Refusal → Memory → Memory
+with_peer place (Ok peer) memory = answered place peer memory
+with_peer place (Err refusal) memory = memory
+
+abbrev pub received_count : Reply (List ℕ) → ℕ
+received_count (Done bytes) = length bytes
+received_count (Failed errno) = negative errno
+
+abbrev pub with_received : ℕ → ℕ → Option AddressPlace → Reply (List ℕ) → SocketsRecord → Memory → Memory
+with_received k at place (Done bytes) t memory = with_peer place (tcp_peer k t) (filled at bytes memory)
+with_received k at place (Failed errno) t memory = memory
+
+abbrev pub recv_tcp : Time → ℕ → Room → Scene → Result (ℕ × Scene) Refusal
+recv_tcp now k room s = do
+  place ← recv_place room s.task.memory
+  (reply, (t, w)) ← receives_taking now k (counted room.n) s.sockets s.shared.outlet
+  Ok (received_count reply, with_wanted (t, w) (with_memory (with_received k room.at place reply t s.task.memory) s))
+
+abbrev pub recv_call : Time → SocketNumber → Room → Scene → Result (ℕ × Scene) Refusal
+recv_call now (number.Udp k) room s = recv_udp k room s
+recv_call now (number.Tcp k) room s = recv_tcp now k room s
+
+abbrev pub recv_again : Time → OpenSocket → ℕ → Room → Scene → Result (ℕ × Scene) Refusal
+recv_again now socket flags room s = or_again (is_quick socket.nonblocking flags) (recv_call now socket.number room s)
+
+-- also read(2), without flags and address
+abbrev pub recv : Time → OpenSocket → ℕ → Room → Scene → Result (ℕ × Scene) Refusal
+recv now socket flags room s = do
+  refuse_flags flags
+  recv_again now socket flags room s
+
+abbrev pub recvfrom : Time → ℕ → ℕ → Room → Scene → Result (ℕ × Scene) Refusal
+recvfrom now fd flags room s = do
+  socket ← open_socket fd (local_of s)
+  recv now socket flags room s
+
+abbrev pub recv_ready : SocketNumber → SocketsRecord → Result (Unit {0}) Refusal
+recv_ready (number.Udp k) t = recv_udp_asked k t
+recv_ready (number.Tcp k) t = recv_asked k t
+
+abbrev pub recv_wait : SocketNumber → Room → Memory → SocketsRecord → Result (Unit {0}) Refusal
+recv_wait socket room memory t = do
+  place ← recv_place room memory
+  recv_ready socket t
+
+abbrev pub recv_waits : OpenSocket → ℕ → Room → Memory → SocketsRecord → Result (Unit {0}) Refusal
+recv_waits socket flags room memory t = do
+  refuse_flags flags
+  or_again (is_quick socket.nonblocking flags) (recv_wait socket.number room memory t)
+
+-- setsockopt(2): SO_REUSEADDR (1, 2), SO_KEEPALIVE (1, 9) and TCP_NODELAY (6, 1) may be set, and have no effect
+abbrev pub may_set : ℕ → ℕ → Bool
+may_set level option = (level == 1 && (option == 2 || option == 9)) || (level == 6 && option == 1)
+
+abbrev pub setsockopt_asked : ℕ → ℕ → ℕ → ℕ → ℕ → Local → Result (Unit {0}) Refusal
+setsockopt_asked fd level option at n (task, shared) = do
+  socket ← open_socket fd (task, shared)
+  refuse_if (not (may_set level option)) (Errno Enoprotoopt)
+  refuse_if (nat_lt n 4) (Errno Einval)
+  refuse_if (not (can_read (counted n) at task.memory)) (Errno Efault)
+
+abbrev pub setsockopt : ℕ → ℕ → ℕ → ℕ → ℕ → Local → Result (ℕ × Local) Refusal
+setsockopt fd level option at n s = do
+  setsockopt_asked fd level option at n s
+  Ok (0, s)
+
+-- getsockopt(2): SO_TYPE (1, 3) and SO_ERROR (1, 4), each a word
+abbrev pub is_error : ℕ → ℕ → Result Bool Refusal
+is_error level option =
+    if level == 1 && option == 4 then Ok true else if level == 1 && option == 3 then Ok false else Err (Errno Enoprotoopt)
+
+abbrev pub word_at : ℕ → Memory → Result ℕ Refusal
+word_at at memory = or_refuse (word at memory) (Errno Efault)
+
+abbrev pub option_place : ℕ → ℕ → Memory → Result (Unit {0}) Refusal
+option_place at size_at memory = do
+  size ← word_at size_at memory
+  refuse_if (not (can_write 4 size_at memory)) (Errno Efault)
+  refuse_if (not (can_write (min size 4) at memory)) (Errno Efault)
+  refuse_if (nat_lt size 4) (Errno Einval)
+
+abbrev pub getsockopt_asked : ℕ → ℕ → ℕ → ℕ → ℕ → Local → Result Asked Refusal
+getsockopt_asked fd level option at size_at (task, shared) = do
+  socket ← open_socket fd (task, shared)
+  error ← is_error level option
+  option_place at size_at task.memory
+  Ok (record { number = socket.number; error = error })
+
+abbrev pub with_option : ℕ → ℕ → ℕ → Memory → Memory
+with_option at size_at value memory = filled size_at (to_le_bytes w32 4) (filled at (to_le_bytes w32 value) memory)
+
+abbrev pub tell_option : ℕ → ℕ → ℕ → Scene → Scene
+tell_option at size_at value s = with_memory (with_option at size_at value s.task.memory) s
+
+abbrev pub type_of : SocketNumber → ℕ
+type_of (number.Udp k) = 2
+type_of (number.Tcp k) = 1
+
+abbrev pub number_of : Option errno_type.Errno → ℕ
+number_of None = 0
+number_of (Some errno) = errno_number errno
+
+-- SO_ERROR takes the kept error
+abbrev pub told_error : Time → SocketNumber → ℕ → ℕ → Scene → Result (ℕ × Scene) Refusal
+told_error now (number.Udp k) at size_at s = Ok (0, tell_option at size_at 0 s)
+told_error now (number.Tcp k) at size_at s = do
+  (error, after) ← takes_error now k s.sockets s.shared.outlet
+  Ok (0, tell_option at size_at (number_of error) (with_wanted after s))
+
+abbrev pub told_option : Time → Asked → ℕ → ℕ → Scene → Result (ℕ × Scene) Refusal
+told_option now asked at size_at s =
+    if asked.error then told_error now asked.number at size_at s else Ok (0, tell_option at size_at (type_of asked.number) s)
+
+abbrev pub getsockopt : Time → ℕ → ℕ → ℕ → ℕ → ℕ → Scene → Result (ℕ × Scene) Refusal
+getsockopt now fd level option at size_at s = do
+  asked ← getsockopt_asked fd level option at size_at (local_of s)
+  told_option now asked at size_at s
+
+-- shutdown(2): SHUT_RD 0, SHUT_WR 1, SHUT_RDWR 2
+abbrev pub shut_of : ℕ → Result Shut Refusal
+shut_of how = if how == 0 then Ok Reading else if how == 1 then Ok Writing else if how == 2 then Ok Both else Err (Errno Einval)
+
+abbrev pub shuts : Time → Shut → SocketNumber → Scene → Result (ℕ × Scene) Refusal
+shuts now how (number.Udp k) s = Err (Errno Enotconn)
+shuts now how (number.Tcp k) s = do
+  (done, after) ← shuts_tcp now k how s.sockets s.shared.outlet
+  Ok (0, with_wanted after s)
+
+abbrev pub shutdown : Time → ℕ → ℕ → Scene → Result (ℕ × Scene) Refusal
+shutdown now fd how s = do
+  socket ← open_socket fd (local_of s)
+  direction ← shut_of how
+  shuts now direction socket.number s

@@ -1,0 +1,13 @@
+//! All that a host's calls act on.
+
+use crate::parts::{Shared, Task};
+use host_sockets::Sockets;
+
+/// All that a host's calls act on: its processes by their numbers (None: it hasn't started, or the
+/// host has let it go), what they share, and its sockets, which know its address.
+#[derive(Drop)]
+pub struct Parts {
+    pub tasks: Vec<Option<Task>>,
+    pub shared: Shared,
+    pub sockets: Sockets,
+}

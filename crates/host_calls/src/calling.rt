@@ -1,0 +1,478 @@
+//! The table of system calls.
+
+ghost use Rattle.std.specs.Prelude.{◌≡◌, ◌<◌, ◌≤◌, ◌^◌, vec_len, Result, IfOk, OnOk};
+ghost use Rattle.host_sockets.specs.Sockets.{SocketsRecord};
+ghost use Rattle.host_sockets.specs.StandsFor.{Stand};
+ghost use Rattle.host_calls.specs.Calls as spec;
+ghost use Rattle.host_calls.specs.Parts.{Answers, PartsRecord, PartsStand, scene, Scene, local_of};
+ghost use Rattle.host_calls.specs.Parts.{place as place_at, Leaves};
+ghost use Rattle.host_calls.specs.Scene.{Does};
+ghost use Rattle.host_calls.specs.Sockets.{socket_number};
+
+use crate::accepting::accept;
+use crate::again::negative;
+use crate::all::Parts;
+use crate::binding::{bind, listen, socket};
+use crate::call::{Call, NetworkCall, PlainCall};
+use crate::closing::{close, close_task};
+use crate::connecting::connect;
+use crate::descriptors::{Descriptor, look_up};
+use crate::files::{fcntl, openat, pipe2};
+use crate::guest::{brk, getpid, getrandom};
+use crate::naming::{getpeername, getsockname, shutdown};
+use crate::options::{getsockopt, setsockopt};
+use crate::parts::{Answer, Known, Reaction, Shared, Task, Why};
+use crate::polling::ppoll;
+use crate::receiving::{Room, recv, recvfrom};
+use crate::sending::{Message, send, sendto};
+use crate::sockets::{OpenSocket, SocketNumber, socket_number};
+use crate::times::{clock_gettime, clock_nanosleep, timerfd_create, timerfd_settime};
+use crate::{reading, writing};
+use host_sockets::{CallError, Refusal, Sockets};
+use sim_base::{Errno, NoMemory, ObjectId, State, Time};
+
+/// The row of a call that needs no sockets.
+fn plain_row(
+    now: Time,
+    process: u32,
+    call: PlainCall,
+    args: [u32; 6],
+    task: &mut Task,
+    shared: &mut Shared,
+) -> Result<u32, CallError>
+    requires { now.nanos ≤ 2 ^ 61 }
+    ensures { Does (spec.plain_row now process call args (task.old, shared.old)) (task.old, shared.old) (task.new, shared.new) result }
+{
+    match call {
+        PlainCall::Fcntl => fcntl(task, shared, args[0], args[1], args[2]),
+        PlainCall::Openat => openat(task, shared, args[1], args[2]),
+        PlainCall::Pipe2 => pipe2(task, shared, args[0], args[1]),
+        PlainCall::TimerfdCreate => timerfd_create(task, shared, args[0], args[1]),
+        PlainCall::Getpid => Ok(getpid(process)),
+        PlainCall::Setsockopt => setsockopt(
+            args[0], args[1], args[2], args[3], args[4], task, shared,
+        ),
+        PlainCall::Brk => {
+            let standing = brk(task, args[0])?;
+            Ok(standing)
+        }
+        PlainCall::Getrandom => getrandom(task, shared, args[0], args[1], args[2]),
+        PlainCall::ClockGettime => clock_gettime(task, shared, now, args[0], args[1]),
+        PlainCall::ClockNanosleep => {
+            clock_nanosleep(task, shared, now, args[0], args[1], args[2])
+        }
+        PlainCall::TimerfdSettime => {
+            timerfd_settime(task, shared, now, args[0], args[1], args[2], args[3])
+        }
+    }
+}
+
+/// The row of a call on sockets.
+fn network_row(
+    known: &Known,
+    now: Time,
+    call: NetworkCall,
+    args: [u32; 6],
+    task: &mut Task,
+    shared: &mut Shared,
+    sockets: &mut Sockets,
+) -> Result<Reaction, CallError>
+    ensures { (t : SocketsRecord) → Stand sockets.old t → Answers (spec.network_row known.now now call args (scene (task.old, shared.old) t)) (task.old, shared.old) t (task.new, shared.new) sockets.new result }
+{
+    let hosts = &known.book;
+    let [a, b, c, d, e, f] = args;
+    match call {
+        NetworkCall::Socket => {
+            let value = socket(a, b, c, task, shared, sockets)?;
+            Ok(Reaction::Value(value))
+        }
+        NetworkCall::Bind => {
+            let value = bind(hosts, a, b, c, task, shared, sockets)?;
+            Ok(Reaction::Value(value))
+        }
+        NetworkCall::Listen => {
+            let value = listen(a, b, task, shared, sockets)?;
+            Ok(Reaction::Value(value))
+        }
+        NetworkCall::Accept => {
+            let value = accept(a, b, c, task, shared, sockets)?;
+            Ok(Reaction::Value(value))
+        }
+        NetworkCall::Connect => connect(hosts, now, a, b, c, task, shared, sockets),
+        NetworkCall::Getsockname => {
+            let value = getsockname(a, b, c, task, shared, sockets)?;
+            Ok(Reaction::Value(value))
+        }
+        NetworkCall::Getpeername => {
+            let value = getpeername(a, b, c, task, shared, sockets)?;
+            Ok(Reaction::Value(value))
+        }
+        NetworkCall::Sendto => {
+            let message = message_of(b, c, e, f);
+            let value = sendto(hosts, now, a, d, message, task, shared, sockets)?;
+            Ok(Reaction::Value(value))
+        }
+        NetworkCall::Recvfrom => {
+            let value = recvfrom(now, a, d, room_of(b, c, e, f), task, shared, sockets)?;
+            Ok(Reaction::Value(value))
+        }
+        NetworkCall::Getsockopt => {
+            let value = getsockopt(now, a, b, c, d, e, task, shared, sockets)?;
+            Ok(Reaction::Value(value))
+        }
+        NetworkCall::Shutdown => {
+            let value = shutdown(now, a, b, task, shared, sockets)?;
+            Ok(Reaction::Value(value))
+        }
+    }
+}
+
+pub(crate) fn message_of(at: u32, n: u32, to_at: u32, size: u32) -> Message
+    ensures { result ≡ spec.message_of at n to_at size }
+{
+    Message { at, n, to_at, size }
+}
+
+pub(crate) fn room_of(at: u32, n: u32, from_at: u32, size_at: u32) -> Room
+    ensures { result ≡ spec.room_of at n from_at size_at }
+{
+    Room {
+        at,
+        n,
+        from_at,
+        size_at,
+    }
+}
+
+fn read_by(
+    known: &Known,
+    now: Time,
+    d: Descriptor,
+    at: u32,
+    n: u32,
+    task: &mut Task,
+    shared: &mut Shared,
+    sockets: &mut Sockets,
+) -> Result<u32, CallError>
+    requires { now.nanos ≤ 2 ^ 61 }
+    ensures { (t : SocketsRecord) → Stand sockets.old t → Answers (spec.read_by known.now now d (socket_number d.file.object) at n (scene (task.old, shared.old) t)) (task.old, shared.old) t (task.new, shared.new) sockets.new result }
+{
+    match socket_number(d.file.object) {
+        Ok(number) => {
+            let socket = open_by(d, number);
+            recv(now, socket, 0, room_of(at, n, 0, 0), task, shared, sockets)
+        }
+        Err(_) => {
+            let value = reading::read(known.hosts.as_slice(), now, d, at, n, task, shared)?;
+            Ok(value)
+        }
+    }
+}
+
+pub(crate) fn open_by(d: Descriptor, number: SocketNumber) -> OpenSocket
+    ensures { result ≡ spec.open_by d number }
+{
+    OpenSocket {
+        nonblocking: d.file.nonblocking,
+        number,
+    }
+}
+
+/// `read(2)`.
+fn read(
+    known: &Known,
+    now: Time,
+    fd: u32,
+    at: u32,
+    n: u32,
+    task: &mut Task,
+    shared: &mut Shared,
+    sockets: &mut Sockets,
+) -> Result<u32, CallError>
+    requires { now.nanos ≤ 2 ^ 61 }
+    ensures { (t : SocketsRecord) → Stand sockets.old t → Answers (spec.read known.now now fd at n (scene (task.old, shared.old) t)) (task.old, shared.old) t (task.new, shared.new) sockets.new result }
+{
+    let d = look_up(fd, task, &shared.files)?;
+    read_by(known, now, d, at, n, task, shared, sockets)
+}
+
+fn write_by(
+    known: &Known,
+    now: Time,
+    process: u32,
+    d: Descriptor,
+    at: u32,
+    n: u32,
+    task: &Task,
+    shared: &mut Shared,
+    sockets: &mut Sockets,
+) -> Result<u32, CallError>
+    ensures { (t : SocketsRecord) → Stand sockets.old t → Answers (spec.write_by known.now now process d (socket_number d.file.object) at n (scene (task.now, shared.old) t)) (task.now, shared.old) t (task.now, shared.new) sockets.new result }
+{
+    match socket_number(d.file.object) {
+        Ok(number) => {
+            let socket = open_by(d, number);
+            let message = message_of(at, n, 0, 0);
+            send(&known.book, now, socket, 0, message, task, shared, sockets)
+        }
+        Err(_) => {
+            let value = writing::write(process, d, at, n, task, shared)?;
+            Ok(value)
+        }
+    }
+}
+
+/// `write(2)`.
+fn write(
+    known: &Known,
+    now: Time,
+    process: u32,
+    fd: u32,
+    at: u32,
+    n: u32,
+    task: &Task,
+    shared: &mut Shared,
+    sockets: &mut Sockets,
+) -> Result<u32, CallError>
+    ensures { (t : SocketsRecord) → Stand sockets.old t → Answers (spec.write known.now now process fd at n (scene (task.now, shared.old) t)) (task.now, shared.old) t (task.now, shared.new) sockets.new result }
+{
+    let d = look_up(fd, task, &shared.files)?;
+    write_by(known, now, process, d, at, n, task, shared, sockets)
+}
+
+/// The row of a call.
+fn row(
+    known: &Known,
+    now: Time,
+    process: u32,
+    call: Call,
+    args: [u32; 6],
+    task: &mut Task,
+    shared: &mut Shared,
+    sockets: &mut Sockets,
+) -> Result<Reaction, CallError>
+    requires { now.nanos ≤ 2 ^ 61 }
+    ensures { (t : SocketsRecord) → Stand sockets.old t → Answers (spec.row known.now now process call args (scene (task.old, shared.old) t)) (task.old, shared.old) t (task.new, shared.new) sockets.new result }
+{
+    match call {
+        Call::Plain(call) => {
+            let value = plain_row(now, process, call, args, task, shared)?;
+            Ok(Reaction::Value(value))
+        }
+        Call::Network(call) => network_row(known, now, call, args, task, shared, sockets),
+        Call::Close => {
+            let value = close(now, args[0], task, shared, sockets)?;
+            Ok(Reaction::Value(value))
+        }
+        Call::Read => {
+            let value = read(known, now, args[0], args[1], args[2], task, shared, sockets)?;
+            Ok(Reaction::Value(value))
+        }
+        Call::Write => {
+            let value = write(
+                known, now, process, args[0], args[1], args[2], task, shared, sockets,
+            )?;
+            Ok(Reaction::Value(value))
+        }
+        Call::Ppoll => {
+            let value = ppoll(now, args[0], args[1], args[2], task, shared, sockets)?;
+            Ok(Reaction::Value(value))
+        }
+        Call::Exit => Err(CallError::Refused(Refusal::End(exited(args[0])))),
+    }
+}
+
+fn exited(status: u32) -> State
+    ensures { result ≡ spec.exited status }
+{
+    State::Exited((status % 256) as u8)
+}
+
+fn row_of(
+    known: &Known,
+    now: Time,
+    process: u32,
+    call: Option<Call>,
+    args: [u32; 6],
+    task: &mut Task,
+    shared: &mut Shared,
+    sockets: &mut Sockets,
+) -> Result<Reaction, CallError>
+    requires { now.nanos ≤ 2 ^ 61 }
+    ensures { (t : SocketsRecord) → Stand sockets.old t → Answers (spec.row_of known.now now process call args (scene (task.old, shared.old) t)) (task.old, shared.old) t (task.new, shared.new) sockets.new result }
+{
+    match call {
+        Some(call) => row(known, now, process, call, args, task, shared, sockets),
+        None => Err(CallError::Refused(Refusal::Errno(Errno::Enosys))),
+    }
+}
+
+/// The object that is a process's deadline.
+fn deadline_object(process: u32) -> ObjectId
+    ensures { result ≡ spec.deadline_object process }
+{
+    ObjectId {
+        number: u64::from(process),
+    }
+}
+
+fn want_alarm(process: u32, deadline: Option<Time>, shared: &mut Shared) -> Result<(), NoMemory>
+    ensures { OnOk result (shared.new ≡ spec.with_alarm process deadline shared.old) }
+{
+    if let Some(deadline) = deadline {
+        let _serial = shared.outlet.alarm(deadline_object(process), deadline)?;
+    }
+    Ok(())
+}
+
+/// A call that waits is kept.
+fn block(process: u32, why: Why, task: &mut Task, shared: &mut Shared) -> Result<Answer, NoMemory>
+    ensures { IfOk result (λ a. spec.IsCalled (spec.blocks process why (task.old, shared.old)) a task.new shared.new) }
+{
+    match task.kept {
+        Some(first) => Ok(Answer::Block(first)),
+        None => {
+            want_alarm(process, why.deadline, shared)?;
+            task.kept = Some(why);
+            Ok(Answer::Block(why))
+        }
+    }
+}
+
+/// Ends a process: it waits in no call, and its descriptors are closed.
+pub(crate) fn end_task(
+    now: Time,
+    task: &mut Task,
+    shared: &mut Shared,
+    sockets: &mut Sockets,
+) -> Result<(), NoMemory>
+    ensures { OnOk result ((t : SocketsRecord) → Stand sockets.old t → Leaves (spec.all_ended now (scene (task.old, shared.old) t)) (task.new, shared.new) sockets.new) }
+{
+    task.kept = None;
+    close_task(now, task, shared, sockets)
+}
+
+/// What a guest sees of what its call's row says.
+fn settle(
+    now: Time,
+    process: u32,
+    number: u32,
+    args: [u32; 6],
+    reaction: Result<Reaction, CallError>,
+    task: &mut Task,
+    shared: &mut Shared,
+    sockets: &mut Sockets,
+) -> Result<Answer, NoMemory>
+    ensures { IfOk result (λ a. (row : Result (Reaction × Scene) Refusal) (before : Scene)
+        → Answers row (local_of before) before.sockets (task.old, shared.old) sockets.old reaction
+        → spec.SceneCalled (spec.answered now process number args row before) a task.new shared.new sockets.new) }
+{
+    match reaction {
+        Ok(Reaction::Value(value)) => {
+            task.kept = None;
+            Ok(Answer::Value(value))
+        }
+        Ok(Reaction::Waits) => block(process, why_of(number, args, None), task, shared),
+        Err(CallError::Refused(Refusal::Errno(errno))) => {
+            task.kept = None;
+            Ok(Answer::Value(negative(errno)))
+        }
+        Err(CallError::Refused(Refusal::Kept(errno))) => {
+            task.kept = None;
+            Ok(Answer::Value(negative(errno)))
+        }
+        Err(CallError::Refused(Refusal::Wait(deadline))) => {
+            block(process, why_of(number, args, deadline), task, shared)
+        }
+        Err(CallError::Refused(Refusal::End(state))) => {
+            end_task(now, task, shared, sockets)?;
+            Ok(Answer::End(state))
+        }
+        Err(CallError::NoMemory) => Err(NoMemory),
+    }
+}
+
+fn why_of(number: u32, args: [u32; 6], deadline: Option<Time>) -> Why
+    ensures { result ≡ spec.why_of number args deadline }
+{
+    Why {
+        number,
+        args,
+        deadline,
+    }
+}
+
+/// A call of a process.
+fn call_task(
+    known: &Known,
+    now: Time,
+    process: u32,
+    number: u32,
+    args: [u32; 6],
+    task: &mut Task,
+    shared: &mut Shared,
+    sockets: &mut Sockets,
+) -> Result<Answer, NoMemory>
+    requires { now.nanos ≤ 2 ^ 61 }
+    ensures { IfOk result (λ a. (t : SocketsRecord) → Stand sockets.old t → spec.SceneCalled (spec.call_scene known.now now process number args (scene (task.old, shared.old) t)) a task.new shared.new sockets.new) }
+{
+    let reaction = row_of(
+        known,
+        now,
+        process,
+        Call::of(number),
+        args,
+        task,
+        shared,
+        sockets,
+    );
+    settle(now, process, number, args, reaction, task, shared, sockets)
+}
+
+fn call_place(
+    known: &Known,
+    now: Time,
+    process: u32,
+    number: u32,
+    args: [u32; 6],
+    place: &mut Option<Task>,
+    shared: &mut Shared,
+    sockets: &mut Sockets,
+) -> Result<Answer, NoMemory>
+    requires { now.nanos ≤ 2 ^ 61 }
+    ensures { IfOk result (λ a. (t : SocketsRecord) → Stand sockets.old t → spec.PlaceCalled (spec.call_place known.now now process number args (place_at place.old shared.old t)) a place.new shared.new sockets.new) }
+{
+    match place {
+        Some(task) => call_task(known, now, process, number, args, task, shared, sockets),
+        None => Ok(Answer::Value(negative(Errno::Enosys))),
+    }
+}
+
+/// A system call of a process: what it answers (Linux's manual pages, section 2).
+///
+/// At `Block` the call is kept, and the alarm of its deadline is wanted; every other answer clears
+/// the kept call. At `End` the descriptors of the process are closed. A process that isn't there
+/// has no calls: ENOSYS.
+pub fn do_call(
+    parts: &mut Parts,
+    known: &Known,
+    now: Time,
+    process: u32,
+    number: u32,
+    args: [u32; 6],
+) -> Result<Answer, NoMemory>
+    requires now { now.nanos ≤ 2 ^ 61 }
+    requires process { process < vec_len parts.old.tasks }
+    ensures { IfOk result (λ a. (h : PartsRecord) → PartsStand parts.old h → spec.PartsCalled (spec.call known.now now process number args h) a parts.new) }
+{
+    call_place(
+        known,
+        now,
+        process,
+        number,
+        args,
+        &mut parts.tasks[process as usize],
+        &mut parts.shared,
+        &mut parts.sockets,
+    )
+}

@@ -1,0 +1,115 @@
+//! close, and the end of a process.
+
+ghost use Rattle.std.specs.Prelude.{◌≡◌, OnOk};
+ghost use Rattle.host_sockets.specs.Sockets.{SocketsRecord};
+ghost use Rattle.host_sockets.specs.StandsFor.{Stand};
+ghost use Rattle.host_calls.specs.Closing as spec;
+ghost use Rattle.host_calls.specs.Parts.{Answers, Leaves, scene};
+
+use crate::descriptors::{Descriptor, look_up};
+use crate::parts::{Shared, Task};
+use host_fds::{End, Table};
+use host_files::Object;
+use host_sockets::{CallError, Sockets};
+use sim_base::{NoMemory, Time};
+
+/// Ends what a file was an end of.
+fn end_object(
+    now: Time,
+    object: Object,
+    shared: &mut Shared,
+    sockets: &mut Sockets,
+) -> Result<(), NoMemory>
+    ensures { OnOk result ((t : SocketsRecord) → Stand sockets.old t → spec.Ended (spec.ends now object shared.old t) shared.new sockets.new) }
+{
+    match object {
+        Object::ReadEnd(place) => {
+            shared.files.shut_pipe(place, End::Reading);
+            Ok(())
+        }
+        Object::WriteEnd(place) => {
+            shared.files.shut_pipe(place, End::Writing);
+            Ok(())
+        }
+        Object::Timer(place) => {
+            shared.files.end_timer(place);
+            Ok(())
+        }
+        Object::Udp(place) => {
+            sockets.close_udp(place);
+            Ok(())
+        }
+        Object::Tcp(place) => {
+            sockets.close_tcp(&mut shared.outlet, now, place)?;
+            Ok(())
+        }
+        Object::Input => Ok(()),
+        Object::Output => Ok(()),
+        Object::Errors => Ok(()),
+        Object::Hosts(_) => Ok(()),
+    }
+}
+
+fn close_file(
+    now: Time,
+    fd: u32,
+    d: Descriptor,
+    task: &mut Task,
+    shared: &mut Shared,
+    sockets: &mut Sockets,
+) -> Result<(), NoMemory>
+    ensures { OnOk result ((t : SocketsRecord) → Stand sockets.old t → Leaves (spec.closes now fd d (scene (task.old, shared.old) t)) (task.new, shared.new) sockets.new) }
+{
+    end_object(now, d.file.object, shared, sockets)?;
+    shared.files.close(d.id);
+    let _object = task.table.close(fd);
+    Ok(())
+}
+
+/// `close(2)`.
+pub(crate) fn close(
+    now: Time,
+    fd: u32,
+    task: &mut Task,
+    shared: &mut Shared,
+    sockets: &mut Sockets,
+) -> Result<u32, CallError>
+    ensures { (t : SocketsRecord) → Stand sockets.old t → Answers (spec.close now fd (scene (task.old, shared.old) t)) (task.old, shared.old) t (task.new, shared.new) sockets.new result }
+{
+    let d = look_up(fd, task, &shared.files)?;
+    close_file(now, fd, d, task, shared, sockets)?;
+    Ok(0)
+}
+
+fn close_one(
+    now: Time,
+    fd: u32,
+    task: &mut Task,
+    shared: &mut Shared,
+    sockets: &mut Sockets,
+) -> Result<(), NoMemory>
+    ensures { OnOk result ((t : SocketsRecord) → Stand sockets.old t → Leaves (spec.closed_one now fd (scene (task.old, shared.old) t)) (task.new, shared.new) sockets.new) }
+{
+    match look_up(fd, task, &shared.files) {
+        Ok(d) => close_file(now, fd, d, task, shared, sockets),
+        Err(_) => {
+            let _object = task.table.close(fd);
+            Ok(())
+        }
+    }
+}
+
+/// Closes all descriptors of a process, in rising order.
+pub(crate) fn close_task(
+    now: Time,
+    task: &mut Task,
+    shared: &mut Shared,
+    sockets: &mut Sockets,
+) -> Result<(), NoMemory>
+    ensures { OnOk result ((t : SocketsRecord) → Stand sockets.old t → Leaves (spec.all_closed now (scene (task.old, shared.old) t)) (task.new, shared.new) sockets.new) }
+{
+    for fd in 0..Table::LIMIT as u32 {
+        close_one(now, fd, task, shared, sockets)?;
+    }
+    Ok(())
+}

@@ -1,0 +1,76 @@
+//! What a host does with a packet that arrives, an alarm, and the end of a process.
+
+ghost use Rattle.std.specs.Prelude.{◌≡◌, ◌<◌, ◌≤◌, ◌^◌, vec_len, IfOk, OnOk};
+ghost use Rattle.host_sockets.specs.Sockets.{SocketsRecord};
+ghost use Rattle.host_sockets.specs.StandsFor.{Stand};
+ghost use Rattle.host_calls.specs.Events as spec;
+ghost use Rattle.host_calls.specs.Parts.{PartsRecord, PartsStand, PlaceStands};
+ghost use Rattle.host_calls.specs.Parts.{place as place_at};
+
+use crate::all::Parts;
+use crate::calling::end_task;
+use crate::parts::{Shared, Task};
+use crate::times::{FIRST_TIMER, ring};
+use host_sockets::Sockets;
+use sim_base::{Act, NoMemory, ObjectId, Packet, Time};
+
+/// A packet arrives: it is handed to the sockets. Answers what the packet log tells of it.
+pub fn deliver(parts: &mut Parts, now: Time, packet: Packet) -> Result<Act, NoMemory>
+    requires { now.nanos ≤ 2 ^ 61 }
+    ensures { IfOk result (λ act. (h : PartsRecord) → PartsStand parts.old h → spec.Delivered (spec.arrives now packet h) act parts.new) }
+{
+    parts
+        .sockets
+        .deliver(&mut parts.shared.outlet, now, &packet)
+}
+
+/// The number from which on sockets are objects of alarms.
+const FIRST_SOCKET: u64 = 1 << 33;
+
+/// The alarm of an object: of a process's deadline, a timer or a TCP socket. A stale serial does
+/// nothing.
+pub fn alarm(parts: &mut Parts, now: Time, object: ObjectId, serial: u64) -> Result<(), NoMemory>
+    requires { now.nanos ≤ 2 ^ 61 }
+    ensures { OnOk result ((h : PartsRecord) → PartsStand parts.old h → PartsStand parts.new (spec.alarmed now object serial h)) }
+{
+    if object.number < FIRST_TIMER {
+        return Ok(());
+    }
+    if object.number < FIRST_SOCKET {
+        let place = (object.number - FIRST_TIMER) as usize;
+        ring(now, place, serial, &mut parts.shared)?;
+        return Ok(());
+    }
+    parts
+        .sockets
+        .expire(&mut parts.shared.outlet, now, object, serial)?;
+    Ok(())
+}
+
+fn end_place(
+    now: Time,
+    place: &mut Option<Task>,
+    shared: &mut Shared,
+    sockets: &mut Sockets,
+) -> Result<(), NoMemory>
+    ensures { OnOk result ((t : SocketsRecord) → Stand sockets.old t → PlaceStands place.new shared.new sockets.new (spec.ended_place now (place_at place.old shared.old t))) }
+{
+    match place {
+        Some(task) => end_task(now, task, shared, sockets),
+        None => Ok(()),
+    }
+}
+
+/// The end of a process: its descriptors are closed in rising order, and it waits in no call.
+pub fn close_all(parts: &mut Parts, now: Time, process: u32) -> Result<(), NoMemory>
+    requires now { now.nanos ≤ 2 ^ 61 }
+    requires process { process < vec_len parts.old.tasks }
+    ensures { OnOk result ((h : PartsRecord) → PartsStand parts.old h → PartsStand parts.new (spec.ended now process h)) }
+{
+    end_place(
+        now,
+        &mut parts.tasks[process as usize],
+        &mut parts.shared,
+        &mut parts.sockets,
+    )
+}

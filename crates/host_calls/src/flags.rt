@@ -1,0 +1,43 @@
+//! Flags.
+
+ghost use Rattle.std.specs.Prelude.{◌≡◌};
+ghost use Rattle.host_calls.specs.Flags as spec;
+
+/// O_NONBLOCK, also as SOCK_NONBLOCK and TFD_NONBLOCK.
+pub(crate) const O_NONBLOCK: u32 = 0x800;
+
+/// O_CLOEXEC, which has no effect.
+const O_CLOEXEC: u32 = 0x80000;
+
+/// MSG_DONTWAIT.
+pub(crate) const MSG_DONTWAIT: u32 = 0x40;
+
+/// MSG_NOSIGNAL.
+pub(crate) const MSG_NOSIGNAL: u32 = 0x4000;
+
+/// The bits beside O_NONBLOCK and O_CLOEXEC.
+const BESIDE_OPEN: u32 = !(O_NONBLOCK | O_CLOEXEC);
+
+/// The bits beside MSG_DONTWAIT and MSG_NOSIGNAL.
+const BESIDE_MESSAGE: u32 = !(MSG_DONTWAIT | MSG_NOSIGNAL);
+
+/// Whether a flag is among some.
+pub(crate) fn has(flag: u32, flags: u32) -> bool
+    ensures { result ≡ spec.has flag flags }
+{
+    flags & flag != 0
+}
+
+/// The flags beside O_NONBLOCK and O_CLOEXEC.
+pub(crate) fn beside_open(flags: u32) -> u32
+    ensures { result ≡ spec.beside_open flags }
+{
+    flags & BESIDE_OPEN
+}
+
+/// The flags beside MSG_DONTWAIT and MSG_NOSIGNAL.
+pub(crate) fn beside_message(flags: u32) -> u32
+    ensures { result ≡ spec.beside_message flags }
+{
+    flags & BESIDE_MESSAGE
+}

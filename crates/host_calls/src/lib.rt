@@ -1,0 +1,41 @@
+//! The system calls of guests: each row of the table, and what a host does with a packet that
+//! arrives, an alarm, and the end of a process.
+#![tactic(auto)]
+
+mod accepting;
+mod again;
+mod all;
+mod binding;
+mod call;
+mod calling;
+mod closing;
+mod connecting;
+mod descriptors;
+mod events;
+mod files;
+mod flags;
+mod guest;
+pub mod laws;
+mod naming;
+mod options;
+mod outputs;
+mod parts;
+mod polling;
+mod reading;
+mod receiving;
+mod sending;
+mod sockets;
+mod starting;
+#[cfg(test)]
+mod tests;
+mod times;
+mod waiting;
+mod writing;
+
+pub use all::Parts;
+pub use calling::do_call;
+pub use events::{alarm, close_all, deliver};
+pub use outputs::Outputs;
+pub use parts::{Answer, Known, Output, Shared, Task, Why};
+pub use starting::start_task;
+pub use waiting::answers_now;

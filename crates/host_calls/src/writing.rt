@@ -1,0 +1,151 @@
+//! write, where no socket is meant.
+
+ghost use Rattle.std.specs.Prelude.{◌≡◌, ◌≤◌, vec_len, OnOk, IfOk};
+ghost use Rattle.host_calls.specs.Files as spec;
+ghost use Rattle.host_calls.specs.Scene.{Does};
+
+use crate::again::or_again;
+use crate::descriptors::Descriptor;
+use crate::parts::{Output, Shared, Task};
+use guest_args::{block, counted};
+use guest_mem::Right;
+use host_files::{Files, Object};
+use host_sockets::{CallError, Refusal};
+use sim_base::{Bytes, Errno, NoMemory, Signal, State};
+
+/// What cannot be written.
+fn may_write(object: Object) -> Result<(), Refusal>
+    ensures { result ≡ spec.may_write object }
+{
+    match object {
+        Object::Input => Err(Refusal::Errno(Errno::Ebadf)),
+        Object::Hosts(_) => Err(Refusal::Errno(Errno::Ebadf)),
+        Object::ReadEnd(_) => Err(Refusal::Errno(Errno::Ebadf)),
+        Object::Timer(_) => Err(Refusal::Errno(Errno::Einval)),
+        Object::Output => Ok(()),
+        Object::Errors => Ok(()),
+        Object::WriteEnd(_) => Ok(()),
+        Object::Udp(_) => Ok(()),
+        Object::Tcp(_) => Ok(()),
+    }
+}
+
+fn pipe_full(count: usize, place: usize, files: &Files) -> Result<(), Refusal>
+    ensures { result ≡ spec.pipe_full count place files.now }
+{
+    match files.pipe(place) {
+        Some(pipe) => {
+            if !pipe.has_reader() {
+                return Err(Refusal::End(State::Signaled(Signal::SigPipe)));
+            }
+            if count > 0 && pipe.room() == 0 {
+                return Err(Refusal::Wait(None));
+            }
+            Ok(())
+        }
+        None => Err(Refusal::Errno(Errno::Ebadf)),
+    }
+}
+
+fn wait_to_write(count: usize, object: Object, files: &Files) -> Result<(), Refusal>
+    ensures { result ≡ spec.wait_to_write count object files.now }
+{
+    match object {
+        Object::WriteEnd(place) => pipe_full(count, place, files),
+        Object::Input => Ok(()),
+        Object::Output => Ok(()),
+        Object::Errors => Ok(()),
+        Object::Hosts(_) => Ok(()),
+        Object::ReadEnd(_) => Ok(()),
+        Object::Timer(_) => Ok(()),
+        Object::Udp(_) => Ok(()),
+        Object::Tcp(_) => Ok(()),
+    }
+}
+
+/// What refuses a write, and whether it waits.
+pub(crate) fn write_asked(
+    d: Descriptor,
+    at: u32,
+    n: u32,
+    task: &Task,
+    shared: &Shared,
+) -> Result<(), Refusal>
+    ensures { result ≡ spec.write_asked d at n (task.now, shared.now) }
+{
+    may_write(d.file.object)?;
+    if !task.memory.is_open(Right::Read, at, counted(n)) {
+        return Err(Refusal::Errno(Errno::Efault));
+    }
+    or_again(
+        d.file.nonblocking,
+        wait_to_write(counted(n), d.file.object, &shared.files),
+    )
+}
+
+fn put_out(
+    process: u32,
+    descriptor: u32,
+    bytes: Vec<u8>,
+    shared: &mut Shared,
+) -> Result<(), NoMemory>
+    ensures { OnOk result (shared.new ≡ spec.with_output process descriptor bytes.items shared.old) }
+{
+    shared.outputs.push(Output {
+        process,
+        descriptor,
+        bytes: Bytes::from(bytes),
+    })
+}
+
+/// Moves the bytes of a write to where they go.
+fn write_done(
+    process: u32,
+    d: Descriptor,
+    bytes: Vec<u8>,
+    shared: &mut Shared,
+) -> Result<u32, NoMemory>
+    requires { vec_len bytes ≤ 65536 }
+    ensures count { IfOk result (λ moved. moved ≡ spec.count_written bytes.items d.file.object shared.old.files) }
+    ensures left { OnOk result (shared.new ≡ spec.after_write process bytes.items d.file.object shared.old) }
+{
+    let count = bytes.len() as u32;
+    match d.file.object {
+        Object::Output => {
+            put_out(process, 1, bytes, shared)?;
+            Ok(count)
+        }
+        Object::Errors => {
+            put_out(process, 2, bytes, shared)?;
+            Ok(count)
+        }
+        Object::WriteEnd(place) => Ok(shared.files.write_pipe(place, &bytes) as u32),
+        Object::Input => Ok(0),
+        Object::Hosts(_) => Ok(0),
+        Object::ReadEnd(_) => Ok(0),
+        Object::Timer(_) => Ok(0),
+        Object::Udp(_) => Ok(0),
+        Object::Tcp(_) => Ok(0),
+    }
+}
+
+/// `write(2)`.
+pub(crate) fn write(
+    process: u32,
+    d: Descriptor,
+    at: u32,
+    n: u32,
+    task: &Task,
+    shared: &mut Shared,
+) -> Result<u32, CallError>
+    ensures { Does (spec.writes process d at n (task.now, shared.old)) (task.now, shared.old) (task.now, shared.new) result }
+{
+    write_asked(d, at, n, task, shared)?;
+    match block(shared.files.allocator(), &task.memory, at, counted(n))? {
+        Some(bytes) => {
+            let moved = write_done(process, d, bytes, shared)?;
+            Ok(moved)
+        }
+        None => Err(CallError::Refused(Refusal::Errno(Errno::Efault))),
+    }
+}
