@@ -1,0 +1,42 @@
+-- What firings and the beginning leave at a host.
+use Rattle.std.proofs.Common.{◌≡◌, ℕ, ◌≤◌, List, [], map, ◌++◌, refl, ap, ◌∙◌}
+use Rattle.sim_base.specs.declared.event.Event.{Event}
+use Rattle.sim_base.specs.declared.address.Ip.{Ip}
+use Rattle.host_calls.specs.declared.parts.Output.{Output}
+use Rattle.host_calls.specs.Starting.{no_parts}
+use Rattle.host_state.specs.declared.firing.Made.{Made}
+use Rattle.host_state.specs.declared.host.Host.{Host}
+use Rattle.host_state.specs.declared.line.Line.{Line}
+use Rattle.host_state.specs.declared.net.Net.{Net}
+use Rattle.host_state.specs.declared.outbox.Outbox.{Outbox}
+use Rattle.host_state.specs.Fire.{fire, wrote}
+use Rattle.host_state.specs.HostRecord.{HostRecord}
+use Rattle.host_state.specs.HostStands.{Stands, Fires}
+use Rattle.host_state.specs.Link.{LinkState}
+use Rattle.host_state.specs.Outbox.{Adds, own_events, parcels_of, logged}
+use Rattle.host_state.specs.StandsFor.{BodyStands, HandsOut}
+
+pub fired : (net : Net) (e : Event) (c d : Host) (made : Made) (before after : Outbox) (number : ℕ) → number ≡ c.body.link.number → d.queue ≡ c.queue
+    → ((h : HostRecord) → BodyStands c.body h → h.link.time.nanos ≤ e.key.due.nanos → HandsOut (fire net h e) (wrote net h e) made d.body)
+    → Adds net number e.key made before after
+    → (h : HostRecord) → Stands c h → h.link.time.nanos ≤ e.key.due.nanos → Fires net e h c d before after
+fired net e c d made before after number number_is queue hands adds = λ h s early.
+    let o = hands h s.body early in
+    let n : number ≡ h.link.number = number_is ∙ ap (λ (l : LinkState). l.number) s.body.link in
+    record {
+      leaves = record {
+        host = record { body = o.body; made = refl; lines = refl; outputs = refl };
+        own = adds.own
+            ∙ (ap (λ (k : ℕ). before.own.items ++ own_events net k made.events.items) n
+            ∙ ap (λ (es : List Event). before.own.items ++ own_events net h.link.number es) o.events);
+        parcels = adds.parcels
+            ∙ (ap (λ (k : ℕ). before.parcels.items ++ parcels_of net k made.events.items) n
+            ∙ ap (λ (es : List Event). before.parcels.items ++ parcels_of net h.link.number es) o.events);
+        lines = adds.lines ∙ ap (λ (ls : List Line). before.lines.items ++ map (logged e.key) ls) o.lines;
+        outputs = adds.outputs ∙ ap (λ (os : List Output). before.outputs.items ++ os) o.outputs;
+      };
+      queue = queue;
+    }
+
+pub no_outputs : (own : Ip) (draws : List ℕ) (count : ℕ) → (no_parts own draws count).shared.outputs ≡ []
+no_outputs own draws count = refl

@@ -1,0 +1,12 @@
+pub mod Seen
+pub mod Acts
+pub mod Slices
+pub mod Firings
+pub mod Stacks
+pub mod Texts
+pub mod Hosts
+pub mod FitLink
+pub mod FitWire
+pub mod FitHost
+pub mod Fit
+pub mod FitOpening

@@ -1,0 +1,5 @@
+use Rattle.host_state.proofs.Slices.{killed}
+use Rattle.host_state.proofs.host.Body.kill.Goals as goal
+
+pub returns : goal.returns
+returns c = killed c.args.net.now c.args.process c.args.signal c.args.self.now _ c.in_ok-close.ensures

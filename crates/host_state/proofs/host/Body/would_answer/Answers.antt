@@ -1,0 +1,24 @@
+use Rattle.std.proofs.Common.{◌≡◌, ◌∙◌, sym, refl, length, nat_lt, true, false, Some, None, subst, rules}
+use Rattle.host_calls.specs.declared.parts.Why.{Why}
+use Rattle.std.proofs.Common.{Option}
+use Rattle.host_state.specs.Fire.{would_answer}
+use Rattle.host_state.proofs.Firings.{would_so, not_would}
+use Rattle.host_state.proofs.host.Body.would_answer.Goals as goal
+
+pub returns-in-None : goal.returns-in-None
+unfolding would_answer
+returns-in-None c = λ h s. subst (λ (x : Option Why). false ≡ would_answer c.args.net.now c.args.process x h) (sym c.in-None.is) refl
+
+pub returns-then-not-has_task : goal.returns-then-not-has_task
+returns-then-not-has_task c = λ h s.
+    let there : nat_lt c.args.process (length c.args.self.now.parts.tasks.items) ≡ false =
+    let r : c.has_task.result ≡ false = search rules in sym c.has_task.ensures.is ∙ r in
+    subst (λ (x : Option Why). false ≡ would_answer c.args.net.now c.args.process x h) (sym c.in-Some.is)
+    (not_would c.args.net.now c.args.process c.args.self.now c.in-Some.why there h s)
+
+pub returns : goal.returns
+returns c = λ h s.
+    let there : nat_lt c.args.process (length c.args.self.now.parts.tasks.items) ≡ true =
+    let r : c.has_task.result ≡ true = search rules in sym c.has_task.ensures.is ∙ r in
+    subst (λ (x : Option Why). c.answers_now.result ≡ would_answer c.args.net.now c.args.process x h) (sym c.in-Some.is)
+    (would_so c.args.net.now c.args.process c.args.self.now c.in-Some.why c.now-now.result c.answers_now.result there c.now-now.ensures.time c.answers_now.ensures h s)

@@ -1,0 +1,5 @@
+use Rattle.host_state.proofs.FitOpening.{home-within}
+use Rattle.host_state.proofs.laws.homes_are_hosts.Goals as goal
+
+pub returns : goal.returns
+returns c = home-within

@@ -1,0 +1,5 @@
+use Rattle.host_state.proofs.FitOpening.{opens-fit}
+use Rattle.host_state.proofs.laws.openings_fit.Goals as goal
+
+pub returns : goal.returns
+returns c = opens-fit

@@ -1,0 +1,52 @@
+-- What a host of the code stands for, and what its calls leave.
+use Rattle.std.specs.Prelude.{◌≡◌, Bool, List, [], ◌∷◌, ◌++◌, map, if◌then◌else◌}
+use Rattle.event_order.specs.Events.{has_key, with_event}
+use Rattle.sim_base.specs.declared.event.Event.{Event}
+use Rattle.world_order.specs.Model.{Fired}
+use Rattle.host_state.specs.declared.host.Host.{Host}
+use Rattle.host_state.specs.declared.line.Line.{Line}
+use Rattle.host_state.specs.declared.net.Net.{Net}
+use Rattle.host_state.specs.declared.outbox.Outbox.{Outbox}
+use Rattle.host_state.specs.declared.row.Row.{Row}
+use Rattle.host_state.specs.Fire.{fire, wrote}
+use Rattle.host_state.specs.HostRecord.{HostRecord}
+use Rattle.host_state.specs.Opening.{opening}
+use Rattle.host_state.specs.Outbox.{own_events, parcels_of, logged}
+use Rattle.host_state.specs.StandsFor.{BodyStands}
+
+-- between firings there is nothing to hand out
+pub record Stands (c : Host) (h : HostRecord) : Type 0 where
+  pub body : BodyStands c.body h
+  pub made : h.link.made ≡ []
+  pub lines : h.link.lines ≡ []
+  pub outputs : h.parts.shared.outputs ≡ []
+
+-- it stands for what it stood for
+abbrev pub IsSameBody : Host → Host → Type 0
+IsSameBody old new = (h : HostRecord) → Stands old h → Stands new h
+
+-- what a firing leaves at the host, and what it adds to an outbox: the host's own events, packets for others, lines, and what
+-- the host's processes wrote
+pub record Leaves (net : Net) (e : Event) (h : HostRecord) (f : Fired HostRecord Line) (new : Host) (before after : Outbox) : Type 0 where
+  pub host : Stands new f.host
+  pub own : after.own.items ≡ before.own.items ++ own_events net h.link.number f.made
+  pub parcels : after.parcels.items ≡ before.parcels.items ++ parcels_of net h.link.number f.made
+  pub lines : after.lines.items ≡ before.lines.items ++ map (logged e.key) f.lines
+  pub outputs : after.outputs.items ≡ before.outputs.items ++ wrote net h e
+
+pub record Fires (net : Net) (e : Event) (h : HostRecord) (old new : Host) (before after : Outbox) : Type 0 where
+  pub leaves : Leaves net e h (fire net h e) new before after
+  pub queue : new.queue ≡ old.queue
+
+-- events are held one after another, each key once
+abbrev pub held_once : Bool → Event → List Event → List Event
+held_once had e queue = if had then queue else with_event e queue
+
+abbrev pub with_events : List Event → List Event → List Event
+with_events [] queue = queue
+with_events (e ∷ es) queue = with_events es (held_once (has_key e.key queue) e queue)
+
+-- a host at the beginning, with its events
+pub record Begins (row : Row) (new : Host) : Type 0 where
+  pub host : Stands new (opening row).host
+  pub queue : new.queue ≡ with_events (opening row).made []

@@ -1,0 +1,16 @@
+pub mod Arriving
+pub mod Fire
+pub mod Fits
+pub mod Home
+pub mod Host
+pub mod HostRecord
+pub mod HostStands
+pub mod Lanes
+pub mod Link
+pub mod Opening
+pub mod Outbox
+pub mod Sending
+pub mod Slice
+pub mod StandsFor
+pub mod Stack
+pub mod Start

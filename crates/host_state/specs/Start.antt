@@ -1,0 +1,61 @@
+-- What a process starts with (System V ABI: the process stack).
+use Rattle.std.specs.Prelude.{◌≡◌, ℕ, ◌+◌, ◌-◌, ◌*◌, ◌/◌, Bool, nat_le, List, [], ◌∷◌, ◌++◌, length, replicate, slice_set, flat_map}
+use Rattle.elf_load.specs.ProgramImage.{ProgramImage}
+use Rattle.guest_mem.specs.Memory.{Memory, low_bytes, put_all}
+use Rattle.guest_mem.specs.Opening.{opening}
+use Rattle.rv32_machine.specs.declared.cpu.Cpu.{Cpu}
+
+-- the texts one after another, each with a zero byte
+abbrev pub texts_bytes : List (List ℕ) → List ℕ
+texts_bytes texts = flat_map (λ text. text ++ 0 ∷ []) texts
+
+-- where each text begins, the first of them at the address
+abbrev pub pointers : ℕ → List (List ℕ) → List ℕ
+pointers at [] = []
+pointers at (text ∷ texts) = at ∷ pointers (at + (length text + 1)) texts
+
+abbrev pub rounded_down : ℕ → ℕ
+rounded_down address = address / 16 * 16
+
+-- the texts of arguments and environment end below the stack's end
+abbrev pub texts_at : List (List ℕ) → ℕ
+texts_at texts = rounded_down (0xC0000000 - length (texts_bytes texts))
+
+-- with texts from an address on: argc, the pointers to the arguments, 0, those to the environment, 0, and two auxiliary pairs: the page size (6), the end (0)
+abbrev pub words_at : ℕ → List (List ℕ) → List (List ℕ) → List ℕ
+words_at at arguments environment =
+    length arguments ∷ (pointers at arguments ++ (0 ∷ (pointers (at + length (texts_bytes arguments)) environment ++ (0 ∷ 6 ∷ 4096 ∷ 0 ∷ 0 ∷ []))))
+
+abbrev pub start_words : List (List ℕ) → List (List ℕ) → List ℕ
+start_words arguments environment = words_at (texts_at (arguments ++ environment)) arguments environment
+
+-- the words stand below the texts, the first of them at the stack pointer
+abbrev pub stack_pointer : List (List ℕ) → List (List ℕ) → ℕ
+stack_pointer arguments environment = rounded_down (texts_at (arguments ++ environment) - 4 * length (start_words arguments environment))
+
+abbrev pub word_bytes : List ℕ → List ℕ
+word_bytes words = flat_map (low_bytes 4) words
+
+-- arguments and environment take at most so many bytes, with a zero byte after each text
+abbrev pub texts_fit : List (List ℕ) → List (List ℕ) → Bool
+texts_fit arguments environment = nat_le (length (texts_bytes (arguments ++ environment))) 65536
+
+-- the memory with these bytes from an address on
+abbrev pub filled : Memory → ℕ → List ℕ → Memory
+filled m at bytes = record m { cells = put_all m.cells at bytes }
+
+-- pc is the entry, and all registers are 0 but the stack pointer (x2)
+abbrev pub start_cpu : ProgramImage → List (List ℕ) → List (List ℕ) → Cpu
+start_cpu image arguments environment = record { pc = image.entry; x = slice_set (replicate 32 0) 2 (stack_pointer arguments environment) }
+
+-- the image, and the stack with texts and words
+unfoldable pub start_memory : ProgramImage → List (List ℕ) → List (List ℕ) → Memory
+start_memory image arguments environment =
+    filled
+    (filled (opening image) (texts_at (arguments ++ environment)) (texts_bytes (arguments ++ environment)))
+    (stack_pointer arguments environment) (word_bytes (start_words arguments environment))
+
+-- these registers and this memory are those of a process at its start
+pub record IsStarted (image : ProgramImage) (arguments environment : List (List ℕ)) (c : Cpu) (m : Memory) : Type 0 where
+  pub cpu : c ≡ start_cpu image arguments environment
+  pub memory : m ≡ start_memory image arguments environment

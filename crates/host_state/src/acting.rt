@@ -1,0 +1,150 @@
+//! What a host's calls want is done at once, after each act.
+
+ghost use Rattle.std.specs.Prelude.{◌≤◌, OnOk};
+ghost use Rattle.sim_base.specs.Packet.{packet_size};
+ghost use Rattle.host_state.specs.Sending.{IsWire, up_comes};
+ghost use Rattle.host_state.specs.StandsFor.{Does};
+ghost use Rattle.host_state.specs.Host as spec;
+ghost use Rattle.host_state.specs.Arriving as arriving;
+ghost use Rattle.host_state.specs.Fire as fire;
+
+use crate::host::Body;
+use crate::link::Link;
+use crate::net::Net;
+use host_calls::{alarm, deliver};
+use host_sockets::{Outlet, Want};
+use net_iface::Pushed;
+use sim_base::{Act, Ip, MAX_PACKET, NoMemory, ObjectId, Packet, What};
+
+impl Link {
+    /// A packet that is wanted is sent, and an alarm is an event.
+    #[tactic(auto, unfolding(crate::specs::Host::does_want))]
+    fn do_want(
+        &mut self,
+        outlet: &mut Outlet,
+        net: &Net,
+        own: Ip,
+        want: Want,
+    ) -> Result<(), NoMemory>
+        ensures { OnOk result (IsWire self.new outlet.new (spec.does_want net.now own want (self.old, outlet.old))) }
+    {
+        match want {
+            Want::Send(packet) => self.send(outlet, net, own, packet),
+            Want::Alarm {
+                object,
+                serial,
+                due,
+            } => self.make(due, What::Alarm { object, serial }),
+        }
+    }
+
+    /// What is wanted is done, in order.
+    #[tactic(auto, unfolding(crate::specs::Host::does_wants, crate::specs::Host::does_all))]
+    fn do_wants(&mut self, outlet: &mut Outlet, net: &Net, own: Ip) -> Result<(), NoMemory>
+        ensures { OnOk result (IsWire self.new outlet.new (spec.does_wants net.now own (self.old, outlet.old))) }
+    {
+        let wants = outlet.take_wants();
+        for want in wants {
+            self.do_want(outlet, net, own, want)?;
+        }
+        Ok(())
+    }
+}
+
+impl Body {
+    /// The parts have acted: what they want is done.
+    pub(crate) fn settle(&mut self, net: &Net) -> Result<(), NoMemory>
+        ensures { OnOk result (Does (spec.settles net.now) self.old self.new) }
+    {
+        let own = self.row.address;
+        self.link.do_wants(&mut self.parts.shared.outlet, net, own)?;
+        Ok(())
+    }
+
+    /// The lane to the network releases what it can.
+    pub(crate) fn come_up(&mut self, net: &Net) -> Result<(), NoMemory>
+        ensures { OnOk result (Does (spec.on_wire (up_comes net.now)) self.old self.new) }
+    {
+        self.link.come_up(&mut self.parts.shared.outlet, net)?;
+        Ok(())
+    }
+
+    /// The sockets get a packet.
+    pub(crate) fn hand_over(&mut self, net: &Net, packet: Packet) -> Result<(), NoMemory>
+        ensures { OnOk result (Does (arriving.is_handed_over net.now packet) self.old self.new) }
+    {
+        let now = self.link.now();
+        let act = deliver(&mut self.parts, now, packet.clone()?)?;
+        self.link.log(act, packet)?;
+        self.settle(net)?;
+        Ok(())
+    }
+
+    /// The sockets get packets, one after another.
+    fn hand_over_all(&mut self, net: &Net, packets: Vec<Packet>) -> Result<(), NoMemory>
+        ensures { OnOk result (Does (arriving.are_handed_over net.now packets.items) self.old self.new) }
+    {
+        for packet in packets {
+            self.hand_over(net, packet)?;
+        }
+        Ok(())
+    }
+
+    /// A packet comes to the router's lane.
+    fn come_to_router(&mut self, net: &Net, packet: Packet) -> Result<(), NoMemory>
+        requires { packet_size packet ≤ MAX_PACKET }
+        ensures { OnOk result (Does (arriving.comes_to_router net.now packet) self.old self.new) }
+    {
+        let pushed = self.link.push_down(packet)?;
+        self.go_in(net, pushed)?;
+        Ok(())
+    }
+
+    /// A packet that came to the router's lane arrives, waits or is dropped.
+    fn go_in(&mut self, net: &Net, pushed: Pushed) -> Result<(), NoMemory>
+        ensures { OnOk result (Does (arriving.goes_in net.now pushed) self.old self.new) }
+    {
+        match pushed {
+            Pushed::Leaves(packet) => self.hand_over(net, packet),
+            Pushed::Waits(due) => self.link.make_if(due, What::Down),
+            Pushed::Dropped(packet) => self.link.log(Act::FullDown, packet),
+        }
+    }
+
+    /// A packet of another host comes to the router.
+    pub(crate) fn come_in(&mut self, net: &Net, packet: Packet) -> Result<(), NoMemory>
+        ensures { OnOk result (Does (arriving.comes_in net.now packet) self.old self.new) }
+    {
+        if packet.size() > MAX_PACKET as u64 {
+            return Ok(());
+        }
+        let at_once = net.is_bootstrapping(self.link.now());
+        if at_once {
+            self.hand_over(net, packet)?;
+            return Ok(());
+        }
+        self.come_to_router(net, packet)?;
+        Ok(())
+    }
+
+    /// The router's lane releases what it can.
+    pub(crate) fn come_down(&mut self, net: &Net) -> Result<(), NoMemory>
+        ensures { OnOk result (Does (arriving.down_comes net.now) self.old self.new) }
+    {
+        let released = self.link.release_down()?;
+        self.link.drop_all(released.dropped)?;
+        self.hand_over_all(net, released.packets)?;
+        self.link.make_if(released.next, What::Down)?;
+        Ok(())
+    }
+
+    /// A moment has come for an object.
+    pub(crate) fn ring(&mut self, net: &Net, object: ObjectId, serial: u64) -> Result<(), NoMemory>
+        ensures { OnOk result (Does (fire.rings net.now object serial) self.old self.new) }
+    {
+        let now = self.link.now();
+        alarm(&mut self.parts, now, object, serial)?;
+        self.settle(net)?;
+        Ok(())
+    }
+}

@@ -1,0 +1,168 @@
+//! What a host is.
+
+ghost use Rattle.std.specs.Prelude.{◌≡◌, ◌≤◌, ◌<◌, ◌∷◌, ◌^◌, [], false, length, replicate, option_map, slice_get, IfOk, IfErr, IfSome, IfNone, OnOk, OnErr, All, vec_len};
+ghost use Rattle.event_order.specs.Events.{IsBefore, has_key, with_event};
+ghost use Rattle.host_state.specs.HostRecord.{HostRecord, process_state};
+ghost use Rattle.host_state.specs.HostStands.{Stands, Fires, Begins, IsSameBody, with_events};
+ghost use Rattle.host_state.specs.Opening as opening;
+ghost use Rattle.host_state.specs.declared.process.Process.TheVariants as process;
+
+use crate::link::Link;
+use crate::net::Net;
+use crate::outbox::Outbox;
+use crate::process::Process;
+use crate::row::{ProcessRow, Row};
+use event_order::{Queue, Refused};
+use host_calls::Parts;
+use sim_base::{Draws, Event, NoMemory, State, Time, What};
+use std::alloc::Global;
+
+/// A host without the events that it holds.
+#[derive(Drop)]
+pub(crate) struct Body {
+    pub(crate) row: Row,
+    pub(crate) link: Link,
+    pub(crate) processes: Vec<Process>,
+    pub(crate) parts: Parts,
+}
+
+/// A host, with the events that it holds.
+#[derive(Drop)]
+pub struct Host {
+    pub(crate) body: Body,
+    pub(crate) queue: Queue,
+}
+
+/// So many processes that have not started.
+fn not_started(alloc: Global, count: usize) -> Result<Vec<Process>, NoMemory>
+    ensures { IfOk result (λ processes. processes.items ≡ replicate count process.NotStarted) }
+{
+    let mut processes = Vec::new(alloc);
+    for _process in 0..count {
+        processes.push(Process::NotStarted)?;
+    }
+    Ok(processes)
+}
+
+impl Link {
+    /// The start of a process, and its shutdown, where there is one.
+    fn begin_process(&mut self, process: u32, row: &ProcessRow) -> Result<(), NoMemory>
+        ensures { OnOk result (self.new ≡ opening.begins_process process row.now self.old) }
+    {
+        self.number_event(row.start, What::Start(process))?;
+        match row.shutdown {
+            Some(due) => self.number_event(due, What::Shutdown(process)),
+            None => Ok(()),
+        }
+    }
+
+    /// The starts and shutdowns of all processes.
+    #[tactic(auto, unfolding(crate::specs::Opening::begins_all))]
+    fn begin_all(&mut self, rows: &[ProcessRow]) -> Result<(), NoMemory>
+        requires { length rows.now ≤ 2 ^ 32 }
+        ensures { OnOk result (self.new ≡ opening.begins_all 0 rows.now self.old) }
+    {
+        for (process, row) in rows.iter().enumerate() {
+            self.begin_process(process as u32, row)?;
+        }
+        Ok(())
+    }
+}
+
+/// A queue of events, no two of which have the same key.
+fn queue_of(alloc: Global, events: Vec<Event>) -> Result<Queue, NoMemory>
+    ensures { IfOk result (λ queue. queue ≡ with_events events.items []) }
+{
+    let mut queue = Queue::new(alloc);
+    for event in events {
+        if !queue.has_key(&event.key) {
+            queue.add(event)?;
+        }
+    }
+    Ok(queue)
+}
+
+impl Host {
+    /// The host of a row at the beginning, which holds the events that start and shut down its
+    /// processes.
+    pub fn new(row: Row, net: &Net) -> Result<Host, NoMemory>
+        requires { vec_len row.processes ≤ 64 }
+        ensures { IfOk result (Begins row) }
+    {
+        let alloc = *net.nodes.allocator();
+        let count = row.processes.len();
+        let draws = Draws::for_host(row.seed, row.host.index);
+        let parts = Parts::new(alloc, row.address, draws, count)?;
+        let mut link = Link::new(alloc, &row);
+        link.begin_all(row.processes.as_slice())?;
+        let (events, _) = link.hand_out();
+        let queue = queue_of(alloc, events)?;
+        let processes = not_started(alloc, count)?;
+        let body = Body {
+            row,
+            link,
+            processes,
+            parts,
+        };
+        Ok(Host { body, queue })
+    }
+
+    /// An event fires at the host. What it makes is added to `out`.
+    pub fn fire(&mut self, net: &Net, event: Event, out: &mut Outbox) -> Result<(), NoMemory>
+        requires stop { net.now.stop.nanos ≤ 2 ^ 61 }
+        requires before { event.key.due.nanos < net.now.stop.nanos }
+        ensures { OnOk result ((h : HostRecord) → Stands self.old h → h.link.time.nanos ≤ event.key.due.nanos → Fires net.now event h self.old self.new out.old out.new) }
+    {
+        let key = event.key;
+        let number = self.body.link.number();
+        let made = self.body.fire(net, event)?;
+        out.add(net, number, key, made)?;
+        Ok(())
+    }
+
+    /// The host holds one more event, whose key it does not hold, or gives it back for want of memory.
+    pub fn add(&mut self, event: Event) -> Result<(), Refused>
+        requires { has_key event.key self.old.queue ≡ false }
+        ensures ok { OnOk result (self.new.queue ≡ with_event event self.old.queue) }
+        ensures given_back { IfErr result (λ refused. refused.event ≡ event) }
+        ensures err { OnErr result (self.new.queue ≡ self.old.queue) }
+        ensures body { IsSameBody self.old self.new }
+    {
+        self.queue.add(event)
+    }
+
+    /// Takes out the event of least key that the host holds.
+    pub fn take_least(&mut self) -> Option<Event>
+        ensures taken { IfSome result (λ event. self.old.queue ≡ event ∷ self.new.queue) }
+        ensures least { IfSome result (λ event. All (IsBefore event) self.new.queue) }
+        ensures none { IfNone result (self.old.queue ≡ []) }
+        ensures unchanged { IfNone result (self.new.queue ≡ self.old.queue) }
+        ensures body { IsSameBody self.old self.new }
+    {
+        self.queue.take_least()
+    }
+
+    /// When the event of least key that the host holds is due.
+    pub fn next_due(&self) -> Option<Time>
+        ensures { result ≡ option_map (λ event. event.key.due) (slice_get self.now.queue 0) }
+    {
+        self.queue.least_due()
+    }
+
+    /// The row that it was made of.
+    pub fn row(&self) -> &Row
+        ensures { (h : HostRecord) → Stands self.now h → result.now ≡ h.row }
+    {
+        &self.body.row
+    }
+
+    /// The state of a process; where there is none, it has not started.
+    pub fn state(&self, process: u32) -> State
+        ensures { (h : HostRecord) → Stands self.now h → result ≡ process_state process h }
+    {
+        match self.body.processes.get(process as usize) {
+            Some(process) => process.state(),
+            None => State::NotStarted,
+        }
+    }
+}

@@ -1,0 +1,23 @@
+//! A host, and what one event does to it.
+#![tactic(auto)]
+
+mod acting;
+mod firing;
+mod host;
+pub mod laws;
+mod line;
+mod link;
+mod net;
+mod outbox;
+mod process;
+mod row;
+mod sending;
+mod slice;
+mod start;
+
+pub use host::Host;
+pub use line::{Line, Logged};
+pub use net::Net;
+pub use outbox::Outbox;
+pub use process::{Process, Running};
+pub use row::{FinalState, ProcessRow, Row};

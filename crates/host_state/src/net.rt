@@ -1,0 +1,80 @@
+//! What all hosts know of the network.
+
+ghost use Rattle.std.specs.Prelude.{◌≡◌, unwrap_or};
+ghost use Rattle.sim_base.specs.Addresses.{host_at};
+ghost use Rattle.host_state.specs.Home.{home};
+ghost use Rattle.host_state.specs.Sending.{route_from, route_to, is_bootstrapping};
+
+use elf_load::Image;
+use host_calls::Known;
+use net_routes::Routes;
+use sim_base::{Event, Ip, Time, What};
+
+/// What is lent to all hosts: the routes between nodes, the hosts' addresses and nodes, the times of
+/// the experiment, the budget of instructions between two calls, and the images of programs.
+#[derive(Debug, Drop)]
+pub struct Net {
+    pub routes: Routes,
+    pub known: Known,
+    /// The node of each host.
+    pub nodes: Vec<u32>,
+    /// Before this time packets pass all lanes at once, and none is lost.
+    pub bootstrap_end: Time,
+    /// No event that is due at this time or later fires.
+    pub stop: Time,
+    /// How many instructions a process may run from one call to the next.
+    pub budget: u64,
+    pub images: Vec<Image>,
+}
+
+impl Net {
+    /// The latency and the reliability, of 10^9, of the route from a host to another one.
+    #[tactic(auto, unfolding(crate::specs::Sending::route_from))]
+    fn route_from(&self, host: u32, other: u32) -> Option<(Time, u32)>
+        ensures { result ≡ route_from self.now host other }
+    {
+        let from = *self.nodes.get(host as usize)?;
+        let to = *self.nodes.get(other as usize)?;
+        self.routes.find(from, to)
+    }
+
+    /// The route from a host to the one that has an address, if that is another host.
+    #[tactic(auto, unfolding(crate::specs::Sending::route_to))]
+    pub(crate) fn route_to(&self, host: u32, ip: Ip) -> Option<(Time, u32)>
+        ensures { result ≡ route_to self.now host ip }
+    {
+        let other = self.known.book.host_at(ip)?;
+        if other.index == host {
+            return None;
+        }
+        self.route_from(host, other.index)
+    }
+
+    /// Whether the network is being set up.
+    pub(crate) fn is_bootstrapping(&self, now: Time) -> bool
+        ensures { result ≡ is_bootstrapping self.now now }
+    {
+        now.nanos < self.bootstrap_end.nanos
+    }
+
+    /// The host that has an address, or else this one.
+    fn host_or(&self, ip: Ip, other: u32) -> u32
+        ensures { result ≡ unwrap_or (host_at self.now.known.book ip) other }
+    {
+        match self.known.book.host_at(ip) {
+            Some(host) => host.index,
+            None => other,
+        }
+    }
+
+    /// The number of the host at which an event fires.
+    pub fn home(&self, event: &Event) -> u32
+        ensures { result ≡ home self.now event.now }
+    {
+        let source = event.key.source.index;
+        match &event.what {
+            What::Packet(packet) => self.host_or(packet.to.ip, source),
+            _ => source,
+        }
+    }
+}
