@@ -1,0 +1,10 @@
+use Rattle.std.proofs.Common.{◌≡◌, [], ◌++◌, drop, map}
+use Rattle.host_state.specs.HostRecord.{HostRecord}
+use Rattle.net_run.specs.Pieces.{put_of}
+use Rattle.net_run.specs.Shown.{files_from}
+use Rattle.net_run.specs.StandsFor.{RunStands}
+use Rattle.net_run.proofs.listing.host_files.Given as goal
+
+-- what is left completes the whole
+abbrev pub invariant-loop-place : goal.invariant-loop-place
+invariant-loop-place l = (h : HostRecord) → RunStands l.run h → map put_of l.pieces.items ++ files_from h l.place (drop l.place l.rows) ≡ [] ++ files_from h 0 l.rows

@@ -1,0 +1,14 @@
+use Rattle.std.proofs.Common.{◌≡◌, drop, map, Option, option_map}
+use Rattle.sim_base.specs.Sink.{Content}
+use Rattle.net_run.specs.Pieces.{put_of, with_pieces, PutsFront}
+use Rattle.net_run.proofs.output.put_pieces.Given as goal
+
+-- what is left completes the whole, and the count stands
+abbrev pub invariant-loop-piece : goal.invariant-loop-piece
+invariant-loop-piece g l = record {
+  whole : option_map (with_pieces (drop l.piece-index (map put_of l.pieces))) (g.K.Sink.content l.sink)
+      ≡ option_map (with_pieces (map put_of l.pieces)) (g.K.Sink.content l.initial.sink);
+  part : (new : Option Content) → PutsFront (drop l.piece-index (map put_of l.pieces)) (g.K.Sink.content l.sink) new
+      → PutsFront (map put_of l.pieces) (g.K.Sink.content l.initial.sink) new;
+  count : g.K.Sink.faults l.sink ≡ g.K.Sink.faults l.initial.sink;
+}

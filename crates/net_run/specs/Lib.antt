@@ -1,0 +1,6 @@
+pub mod World
+pub mod StandsFor
+pub mod Pieces
+pub mod Shown
+pub mod Telling
+pub mod Parcels

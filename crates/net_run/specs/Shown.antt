@@ -1,0 +1,147 @@
+-- What is shown of the result of a run.
+use Rattle.std.specs.Prelude.{◌≡◌, ℕ, ◌+◌, List, [], ◌∷◌, ◌++◌, length, map, flat_map, slice_get, Option, Some, None, Bool, true, false, ◌&&◌, if◌then◌else◌, codes, ◌==◌}
+use Rattle.std.specs.Path.{rsplit_once}
+use Rattle.sim_base.specs.Signal.{signal_number}
+use Rattle.sim_base.specs.declared.outside.sink.Place.TheVariants as place
+use Rattle.sim_base.specs.declared.state.State.{State}
+use Rattle.sim_base.specs.declared.state.State.TheVariants.{NotStarted, Running, Exited, Signaled}
+use Rattle.host_calls.specs.declared.parts.Output.{Output}
+use Rattle.host_state.specs.HostRecord.{HostRecord, process_state}
+use Rattle.host_state.specs.declared.line.Line.{Line}
+use Rattle.host_state.specs.declared.row.ProcessRow.{ProcessRow}
+use Rattle.host_state.specs.declared.row.FinalState.{FinalState}
+use Rattle.host_state.specs.declared.row.FinalState.TheVariants as final
+use Rattle.out_text.specs.Faults.{note_line, unmet_line}
+use Rattle.out_text.specs.Files.{file_name, state_line, state_text, process_text}
+use Rattle.out_text.specs.Log.{log_line}
+use Rattle.out_text.specs.Summary.{summary_of, summary_line}
+use Rattle.out_text.specs.declared.files.FileKind.TheVariants as kind
+use Rattle.out_text.specs.declared.log.LogLine.{LogLine}
+use Rattle.out_text.specs.declared.summary.Summary.{Summary}
+use Rattle.net_run.specs.Pieces.{Put}
+use Rattle.net_run.specs.StandsFor.{lines_of}
+use Rattle.net_run.specs.World.{World}
+
+-- ---- processes
+
+-- processes have the ids 1000, 1001, .. in the order of their host's list
+abbrev pub first_id : ℕ
+first_id = 1000
+
+abbrev pub last_part : List ℕ → Option (List ℕ × List ℕ) → List ℕ
+last_part path None = path
+last_part path (Some split) = split.1
+
+-- the program's name: the part of its path behind the last slash
+unfoldable pub program_of : List ℕ → List ℕ
+program_of path = last_part path (rsplit_once 47 path)
+
+-- all that process p wrote to a descriptor
+abbrev pub written_to : ℕ → ℕ → List Output → List ℕ
+written_to p descriptor outputs = flat_map (λ (o : Output). if (o.process == p) && (o.descriptor == descriptor) then o.bytes else []) outputs
+
+-- ---- files
+
+-- the three files of a process, with these bytes
+abbrev pub files_named : List ℕ → List ℕ → ℕ → List ℕ → List ℕ → List ℕ → List Put
+files_named host program pid stdout stderr exit =
+    (place.File (file_name host program pid kind.Stdout), stdout)
+    ∷ (place.File (file_name host program pid kind.Stderr), stderr)
+    ∷ (place.File (file_name host program pid kind.Exit), exit)
+    ∷ []
+
+-- the files of process p of a host: what it wrote to descriptors 1 and 2, and its final state
+abbrev pub process_files : HostRecord → ℕ → ProcessRow → List Put
+process_files h p row =
+    files_named h.row.name (program_of row.path) (first_id + p) (written_to p 1 h.written) (written_to p 2 h.written) (state_line (process_state p h))
+
+-- those of the processes from p on, in order
+abbrev pub files_from : HostRecord → ℕ → List ProcessRow → List Put
+files_from h p [] = []
+files_from h p (row ∷ rows) = process_files h p row ++ files_from h (p + 1) rows
+
+abbrev pub host_files : HostRecord → List Put
+host_files h = files_from h 0 h.row.processes.items
+
+-- ---- the packet log
+
+abbrev pub name_of : Option HostRecord → List ℕ
+name_of None = []
+name_of (Some h) = h.row.name
+
+-- a line tells its host by name
+abbrev pub named : List HostRecord → Line → LogLine
+named hosts l = record { time = l.time; host = name_of (slice_get hosts l.host.index); act = l.act; packet = l.packet }
+
+abbrev pub named_log : World → List LogLine
+named_log w = map (named w.hosts) (lines_of w.log)
+
+abbrev pub log_name : List ℕ
+log_name = codes "packets.log"
+
+abbrev pub log_file : World → Put
+log_file w = (place.File log_name, flat_map log_line (named_log w))
+
+-- ---- expectations
+
+abbrev pub expected_state : FinalState → State
+expected_state (final.Exited status) = Exited status
+expected_state (final.Signaled signal) = Signaled signal
+expected_state final.Running = Running
+
+-- the final state is the one that is expected; a process that has not started meets every expectation
+abbrev pub meets : State → State → Bool
+meets expected NotStarted = true
+meets Running Running = true
+meets (Exited a) (Exited b) = a == b
+meets (Signaled a) (Signaled b) = signal_number a == signal_number b
+meets expected state = false
+
+-- the line of a process on the error stream, if its final state is another one
+abbrev pub unmet_by : List ℕ → List ℕ → ℕ → State → State → List Put
+unmet_by host program pid expected state =
+    if meets expected state then [] else (place.Err, unmet_line (process_text host program pid) (state_text state) (state_text expected)) ∷ []
+
+abbrev pub process_unmet : HostRecord → ℕ → ProcessRow → List Put
+process_unmet h p row = unmet_by h.row.name (program_of row.path) (first_id + p) (expected_state row.expected) (process_state p h)
+
+abbrev pub unmet_from : HostRecord → ℕ → List ProcessRow → List Put
+unmet_from h p [] = []
+unmet_from h p (row ∷ rows) = process_unmet h p row ++ unmet_from h (p + 1) rows
+
+abbrev pub host_unmet : HostRecord → List Put
+host_unmet h = unmet_from h 0 h.row.processes.items
+
+-- in the order of hosts and ids
+abbrev pub unmet : World → List Put
+unmet w = flat_map host_unmet w.hosts
+
+-- ---- the whole
+
+-- for a self-load, what was sent, lost and received
+abbrev pub summary_puts : Bool → Summary → List Put
+summary_puts true s = (place.Out, summary_line s) ∷ []
+summary_puts false s = []
+
+abbrev pub summary : Bool → World → List Put
+summary load w = summary_puts load (summary_of (length w.hosts) (named_log w))
+
+-- the files of all hosts, the packet log, the unmet expectations and, for a self-load, its summary
+abbrev pub run_pieces : Bool → World → List Put
+run_pieces load w = flat_map host_files w.hosts ++ (log_file w ∷ (unmet w ++ summary load w))
+
+-- a line on the error stream for each key without effect
+abbrev pub note_puts : List (List ℕ) → List Put
+note_puts notes = map (λ (path : List ℕ). let p : Put = (place.Err, note_line path) in p) notes
+
+-- what stands in the new data directory and on the streams: the notes, and then what the run shows
+abbrev pub pieces : List (List ℕ) → Bool → World → List Put
+pieces notes load w = note_puts notes ++ run_pieces load w
+
+-- 0 where each expectation is met, and else 1
+abbrev pub status_by : List Put → ℕ
+status_by [] = 0
+status_by (put ∷ puts) = 1
+
+abbrev pub status_of : World → ℕ
+status_of w = status_by (unmet w)

@@ -1,0 +1,28 @@
+//! Bytes to their places.
+
+ghost use Rattle.std.specs.Prelude.{◌≡◌, map, option_map, OnOk, OnErr};
+ghost use Rattle.sim_base.specs.Sink.{CountsWrites};
+ghost use Rattle.net_run.specs.Pieces.{put_of, with_pieces, PutsFront};
+
+use sim_base::{Bytes, Place, Sink, WriteError, put_all};
+
+/// A place, and the bytes that are put there.
+#[derive(Drop)]
+pub struct Piece {
+    pub place: Place,
+    pub bytes: Bytes,
+}
+
+/// Puts all pieces in order.
+pub fn put_pieces<K: Sink>(sink: &mut K, pieces: &[Piece]) -> Result<(), WriteError>
+    ensures ok { OnOk result (K.content sink.new ≡ option_map (with_pieces (map put_of pieces.now)) (K.content sink.old)) }
+
+    // After an error some of the pieces were put, the last one perhaps in part.
+    ensures err { OnErr result (PutsFront (map put_of pieces.now) (K.content sink.old) (K.content sink.new)) }
+    ensures count { CountsWrites result (K.faults sink.old) (K.faults sink.new) }
+{
+    for piece in pieces {
+        put_all(sink, &piece.place, piece.bytes.as_slice())?;
+    }
+    Ok(())
+}

@@ -1,0 +1,11 @@
+pub mod AddressLemmas
+pub mod ConfiguredLemmas
+pub mod ImageLemmas
+pub mod InRangeLemmas
+pub mod OrderLemmas
+pub mod PlanLemmas
+pub mod PlannedLemmas
+pub mod RateLemmas
+pub mod RowLemmas
+pub mod SelfLoadLemmas
+pub mod StepLemmas

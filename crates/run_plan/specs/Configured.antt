@@ -1,0 +1,45 @@
+-- The configuration of a text: its tree, and then what the tree says.
+use Rattle.std.specs.Prelude.{◌≡◌, ℕ, List, Result, Ok, Err}
+use Rattle.yaml_marks.specs.Lines.{lines_of}
+use Rattle.yaml_tree.specs.Said.{Said}
+use Rattle.yaml_tree.specs.Tree.{IsTreeOf, IsFaultOf, is_empty_document}
+use Rattle.yaml_tree.specs.Trees.{Holds, is_empty}
+use Rattle.yaml_tree.specs.declared.tree.Tree.{Tree}
+use Rattle.yaml_merge.specs.SaidAt.{said_of}
+use Rattle.shd_config.specs.Config.{config}
+use Rattle.shd_config.specs.declared.config.Config.{Config}
+use Rattle.shd_config.specs.declared.fault.ConfigFault.{ConfigFault}
+use Rattle.shd_config.specs.declared.overrides.Overrides.{Overrides}
+use Rattle.run_plan.specs.Outcomes.{Outcomes, gives, ◌>>=◌}
+use Rattle.run_plan.specs.declared.fault.Fault.{Fault}
+use Rattle.run_plan.specs.declared.fault.Fault.TheVariants as fault
+use Rattle.run_plan.specs.declared.fault.ReadStop.TheVariants.{Refused, ReadFailed, NoMemory}
+
+-- the fault is that of the text of this file
+abbrev pub IsTreeFault : List ℕ → List ℕ → Fault → Type 0
+IsTreeFault name text (fault.Tree file f) = (file ≡ name) × IsFaultOf text f.line f.kind
+IsTreeFault name text _ = ⊥
+
+-- the nodes hold the tree of the text
+pub record HoldsTreeOf (text : List ℕ) (tree : Tree) : Type 0 where
+  pub said : Said
+  pub is : IsTreeOf text said
+  pub holds : Holds tree said
+  pub empty : is_empty tree ≡ is_empty_document (lines_of text)
+
+-- the tree of a text, or its first fault
+abbrev pub tree_of : List ℕ → List ℕ → Outcomes Tree
+tree_of name text (Ok tree) = HoldsTreeOf text tree
+tree_of name text (Err (Refused f)) = IsTreeFault name text f
+tree_of name text (Err (ReadFailed file)) = ⊥
+tree_of name text (Err NoMemory) = Unit {0}
+
+abbrev pub or_config_fault : List ℕ → Result Config ConfigFault → Result Config Fault
+or_config_fault name (Ok c) = Ok c
+or_config_fault name (Err f) = Err (fault.Config name f)
+
+-- the configuration of the text of this file
+unfoldable pub configured : List ℕ → List ℕ → Overrides → Outcomes Config
+configured name text overrides = do
+  tree ← tree_of name text
+  gives (or_config_fault name (config overrides (is_empty tree) (said_of tree)))

@@ -1,0 +1,42 @@
+-- The files that are read.
+use Rattle.std.specs.Prelude.{◌≡◌, ℕ, List, length, Result, Ok, Err, if◌then◌else◌, nat_le}
+use Rattle.sim_base.specs.Files.{Held}
+use Rattle.sim_base.specs.Refusals.{◌>>=◌, or_refuse}
+use Rattle.run_plan.specs.Outcomes.{Outcomes}
+use Rattle.run_plan.specs.declared.fault.Fault.{Fault}
+use Rattle.run_plan.specs.declared.fault.Fault.TheVariants.{NotFound, TooLong}
+use Rattle.run_plan.specs.declared.fault.ReadStop.{ReadStop}
+use Rattle.run_plan.specs.declared.fault.ReadStop.TheVariants.{Refused, ReadFailed, NoMemory}
+
+-- a file has at most 16 MiB
+abbrev pub at_most_16_mib : List ℕ → List ℕ → Result (List ℕ) Fault
+at_most_16_mib name bytes = if nat_le (length bytes) 16777216 then Ok bytes else Err (TooLong name)
+
+-- the bytes of a file that is there and isn't too long
+abbrev pub file : Held → List ℕ → Result (List ℕ) Fault
+file held name = do
+  bytes ← or_refuse (held name) (NotFound name)
+  at_most_16_mib name bytes
+
+-- its length alone
+abbrev pub size_of : Held → List ℕ → Result ℕ Fault
+size_of held name = do
+  bytes ← file held name
+  Ok (length bytes)
+
+-- what a step answers that reads this file, and gives this
+abbrev pub reads : {A : Type 0} → List ℕ → Result A Fault → Outcomes A
+reads name defined (Ok a) = defined ≡ Ok a
+reads name defined (Err (Refused fault)) = defined ≡ Err fault
+reads name defined (Err (ReadFailed failed)) = failed ≡ name
+reads name defined (Err NoMemory) = Unit {0}
+
+-- a file is read
+abbrev pub read : Held → List ℕ → Outcomes (List ℕ)
+read held name = reads name (file held name)
+
+-- the read of this file failed, or memory ran out
+abbrev pub IsReadStop : List ℕ → ReadStop → Type 0
+IsReadStop name (Refused fault) = ⊥
+IsReadStop name (ReadFailed failed) = failed ≡ name
+IsReadStop name NoMemory = Unit {0}

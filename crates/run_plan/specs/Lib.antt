@@ -1,0 +1,16 @@
+pub mod Addresses
+pub mod Configured
+pub mod File
+pub mod HostRows
+pub mod InRange
+pub mod Line
+pub mod Network
+pub mod Outcomes
+pub mod Plan
+pub mod Planned
+pub mod Program
+pub mod Programs
+pub mod Rates
+pub mod Ring
+pub mod Room
+pub mod SelfLoad

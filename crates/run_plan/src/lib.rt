@@ -1,0 +1,28 @@
+//! What is to be run: the reading half of the simulator.
+#![tactic(auto)]
+
+mod addresses;
+mod configured;
+mod fault;
+mod file;
+mod host_row;
+mod line;
+mod network;
+mod one_file;
+mod plan;
+mod planned;
+mod programs;
+mod rates;
+mod ring;
+mod self_load;
+#[cfg(test)]
+mod tests;
+
+pub use addresses::addresses_of;
+pub use fault::{Fault, HostFault, ReadStop};
+pub use host_row::{HostRow, HostRows, Places};
+pub use line::tell;
+pub use plan::{Images, Plan, Settings};
+pub use planned::{Planned, Run, read_plan};
+pub use rates::Rates;
+pub use ring::RING;

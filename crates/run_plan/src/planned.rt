@@ -1,0 +1,144 @@
+//! What is asked by the words of a call.
+
+ghost use Rattle.std.specs.Prelude.{◌≡◌, ◌<◌, ◌≤◌, map, string_bytes, IfSome, IfOk};
+ghost use Rattle.command_line.specs.Asked.{asked};
+ghost use Rattle.run_plan.specs.Outcomes.{gives, Meets, CountsSource};
+ghost use Rattle.run_plan.specs.Planned.{or_words_fault, shown_or_run, file_planned, self_load_planned, planned_of, planned};
+ghost use Rattle.run_plan.specs.InRange.{IsInRange};
+
+use crate::configured::configure;
+use crate::fault::{Fault, ReadStop};
+use crate::file::read_file;
+use crate::one_file::OneFile;
+use crate::plan::{Plan, read_plan_of, read_run};
+use crate::ring::ring_bytes;
+use crate::self_load::{self_load_config, self_load_graph};
+use command_line::{Asked, Subject, WordsError, read_words};
+use shd_config::{Config, Overrides};
+use sim_base::{Name, NoMemory, Source};
+use std::alloc::Global;
+
+/// A plan and how it is run.
+#[derive(Debug, Drop)]
+pub struct Run {
+    pub plan: Plan,
+    /// How many instructions a process may run from one call to the next.
+    pub budget: u32,
+    /// Whether the counts of packets are told at the end.
+    pub is_self_load: bool,
+}
+
+/// What is asked for.
+#[derive(Debug, Drop)]
+pub enum Planned {
+    /// The configuration is shown.
+    Shows(Config),
+    /// The plan is run.
+    Runs(Run),
+}
+
+/// What the words ask for.
+fn parse_words(alloc: Global, words: &[String]) -> Result<Asked, ReadStop>
+    ensures told { Meets (λ a. a) (gives (or_words_fault (asked (map string_bytes words.now)))) result }
+    ensures range { IfOk result (λ a. IsInRange a.subject) }
+{
+    match read_words(alloc, words) {
+        Ok(asked) => Ok(asked),
+        Err(WordsError::Refused(fault)) => Err(ReadStop::Refused(Fault::Words(fault))),
+        Err(WordsError::NoMemory) => Err(ReadStop::NoMemory),
+    }
+}
+
+/// What is asked of a configuration that is to run, and how.
+#[derive(Drop)]
+pub struct Manner {
+    pub overrides: Overrides,
+    pub budget: u32,
+    pub shows_config: bool,
+}
+
+/// The plan of the configuration in a file.
+#[tactic(auto, unfolding(crate::specs::Planned::file_planned))]
+fn plan_file<S: Source>(
+    alloc: Global,
+    source: &mut S,
+    manner: &Manner,
+    name: &Name,
+) -> Result<Planned, ReadStop>
+    ensures told { IfSome (S.held source.old) (λ held. Meets (λ p. p) (file_planned manner.now held name.now) result) }
+    ensures same { S.held source.new ≡ S.held source.old }
+    ensures count { CountsSource result (S.faults source.old) (S.faults source.new) }
+{
+    let text = read_file(alloc, source, name.as_str())?;
+    let config = configure(alloc, name.as_str(), &text, &manner.overrides)?;
+    if manner.shows_config {
+        return Ok(Planned::Shows(config));
+    }
+    let plan = read_plan_of(alloc, source, name.as_str(), config)?;
+    Ok(Planned::Runs(Run {
+        plan,
+        budget: manner.budget,
+        is_self_load: false,
+    }))
+}
+
+/// The plan of a self-load, of which only the guest is read, from memory.
+#[tactic(auto, unfolding(crate::specs::Planned::self_load_planned))]
+fn plan_self_load(alloc: Global, manner: &Manner, hosts: u32) -> Result<Planned, ReadStop>
+    requires some { 0 < hosts }
+    requires few { hosts ≤ 4096 }
+    ensures told { Meets (λ p. p) (self_load_planned manner.now hosts) result }
+    ensures count { CountsSource result 0 0 }
+{
+    let config = self_load_config(alloc, &manner.overrides, hosts)?;
+    if manner.shows_config {
+        return Ok(Planned::Shows(config));
+    }
+    let graph = self_load_graph(alloc, hosts)?;
+    let mut files = OneFile {
+        name: "ring",
+        bytes: ring_bytes(alloc)?,
+    };
+    let plan = read_run(alloc, &mut files, "self-load", &graph, config)?;
+    Ok(Planned::Runs(Run {
+        plan,
+        budget: manner.budget,
+        is_self_load: true,
+    }))
+}
+
+/// The plan of a call with these words, or its first fault.
+#[tactic(auto, unfolding(crate::specs::Planned::planned))]
+pub fn read_plan<S: Source>(
+    alloc: Global,
+    words: &[String],
+    source: &mut S,
+) -> Result<Planned, ReadStop>
+    ensures told { IfSome (S.held source.old) (λ held. Meets (λ p. p) (planned (map string_bytes words.now) held) result) }
+    ensures same { S.held source.new ≡ S.held source.old }
+    ensures count { CountsSource result (S.faults source.old) (S.faults source.new) }
+{
+    let Asked {
+        subject,
+        seed,
+        parallelism,
+        data_directory,
+        stop_time,
+        budget,
+        shows_config,
+    } = parse_words(alloc, words)?;
+    let manner = Manner {
+        overrides: Overrides {
+            seed,
+            parallelism,
+            data_directory,
+            stop_time,
+        },
+        budget,
+        shows_config,
+    };
+    match subject {
+        Subject::File(name) => plan_file(alloc, source, &manner, &name),
+        Subject::SelfLoad(hosts) => plan_self_load(alloc, &manner, hosts),
+    }
+}
