@@ -40,7 +40,7 @@ fn main(rt: HostRuntime) -> ExitCode {
     let Ok(words) = words(&rt, rt.alloc()) else {
         return ExitCode::from(NO_MEMORY);
     };
-    let mut source = DiskSource::new(&rt);
+    let mut source = DiskSource::new(&rt, rt.stdin());
     let mut sink = DiskSink::new(&rt, rt.stdout(), rt.stderr());
     ExitCode::from(shadow(&rt, &words, cores(&rt), &mut source, &mut sink, &OpenGate))
 }

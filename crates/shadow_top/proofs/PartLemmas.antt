@@ -7,7 +7,8 @@ use Rattle.std.proofs.lemmas.List.{take-append-drop}
 use Rattle.sim_base.specs.Sink.{Content, add, begun, AddsFront}
 use Rattle.sim_base.specs.declared.outside.sink.Place.{Place}
 use Rattle.sim_base.specs.declared.outside.sink.Place.TheVariants as place
-use Rattle.shadow_top.specs.Pieces.{Put, with_pieces, PutsFront, IsBetween, IsFrontOf, IsPart}
+use Rattle.net_run.specs.Pieces.{Put, with_pieces, PutsFront}
+use Rattle.shadow_top.specs.Parts.{IsBetween, IsFrontOf, IsPart}
 
 -- one text is followed by the rest of another
 pub record IsPrefix (xs ys : List ℕ) : Type 0 where
@@ -136,6 +137,23 @@ part-line old line new front =
       record {
         out = is_between _ _ _ (prefix-refl old.out) (prefix-refl old.out);
         err = is_between _ _ _ (record { rest = take some.0 line; whole = refl }) (prefix_of_added old.err some.0 line);
+        files = inl (refl, refl);
+      },
+    ))
+    front
+
+-- and a front of a text on the output
+pub part-text : (old : Content) (text : List ℕ) (new : Option Content) → AddsFront place.Out text (Some old) new
+    → (now : Content) × (new ≡ Some now) × IsPart old now (add place.Out text old)
+part-text old text new front =
+    ⊎_elim
+    (λ (same : new ≡ Some old). (old, same, part-same old old (add place.Out text old) refl (record { rest = text; whole = refl }) (prefix-refl old.err)))
+    (λ (some : (n : ℕ) × (n ≤ length text) × (new ≡ option_map (add place.Out (take n text)) (Some old))). (
+      add place.Out (take some.0 text) old,
+      some.2,
+      record {
+        out = is_between _ _ _ (record { rest = take some.0 text; whole = refl }) (prefix_of_added old.out some.0 text);
+        err = is_between _ _ _ (prefix-refl old.err) (prefix-refl old.err);
         files = inl (refl, refl);
       },
     ))

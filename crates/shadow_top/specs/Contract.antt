@@ -1,14 +1,27 @@
 -- What the program promises of its status and of what stands where after it.
-use Rattle.std.specs.Prelude.{◌≡◌, ℕ, ◌⊎◌, List, Option, Some, option_map, Result, Ok, Err, codes}
+use Rattle.std.specs.Prelude.{◌≡◌, ℕ, ◌⊎◌, List, Option, Some, option_map, IfSome, Result, Ok, Err, Bool, true, false, codes}
 use Rattle.sim_base.specs.Faults.{Rose}
-use Rattle.sim_base.specs.Sink.{Content, add, AddsFront}
+use Rattle.sim_base.specs.Sink.{Content, add, begun, AddsFront}
 use Rattle.sim_base.specs.declared.outside.sink.Place.TheVariants as place
-use Rattle.shadow_top.specs.FirstFault.{Input, accepted, line_of, IsReached}
 use Rattle.out_text.specs.Faults.{file_line}
-use Rattle.shadow_top.specs.Pieces.{IsPart}
-use Rattle.shadow_top.specs.Shown.{IsShown}
-use Rattle.shadow_top.specs.declared.fault.Stop.{Stop}
-use Rattle.shadow_top.specs.declared.fault.Stop.TheVariants.{Refused, ReadFailed, WriteFailed, NoMemory}
+use Rattle.host_state.specs.declared.net.Net.{Net}
+use Rattle.host_state.specs.declared.row.Row.{Row}
+use Rattle.net_run.specs.Pieces.{with_pieces, PutsFront}
+use Rattle.net_run.specs.Shown.{pieces, run_pieces, status_of}
+use Rattle.net_run.specs.World.{World, IsResult, opening_world}
+use Rattle.run_plan.specs.Line.{line_of}
+use Rattle.run_plan.specs.declared.fault.Fault.TheVariants.{Exists}
+use Rattle.run_plan.specs.declared.planned.Planned.{Planned}
+use Rattle.run_plan.specs.declared.planned.Planned.TheVariants as plan
+use Rattle.run_plan.specs.declared.planned.Run.{Run}
+use Rattle.shadow_top.specs.Input.{Input, IsFirstFault, IsReached, directory_of}
+use Rattle.shadow_top.specs.Parts.{IsPart}
+use Rattle.shadow_top.specs.Shown.{IsShown, IsRunTo, pieces_of}
+use Rattle.shadow_top.specs.declared.opened.Opened.{Opened}
+use Rattle.shd_config.specs.Shown.{shown}
+use Rattle.shd_config.specs.declared.config.Config.{Config}
+use Rattle.shadow_top.specs.declared.stop.Stop.{Stop}
+use Rattle.shadow_top.specs.declared.stop.Stop.TheVariants.{Refused, ReadFailed, WriteFailed, NoMemory}
 
 -- what is shown stands there now, and this is its status
 pub record Shows (input : Input) (old : Content) (new : Option Content) (status : ℕ) : Type 0 where
@@ -23,11 +36,11 @@ read_failed_line file = file_line file (codes "read failed")
 -- the line of a file that the order comes to with no fault before it was added, and nothing else
 pub record TellsReadFailed (input : Input) (old : Content) (new : Option Content) : Type 0 where
   pub file : List ℕ
-  pub reached : IsReached input.words input.held file
+  pub reached : IsReached input file
   pub new_is : new ≡ Some (add place.Err (read_failed_line file) old)
 
 -- each place holds what it held and a front of what is shown adds there
-pub record ShowsPart (input : Input) (old : Content) (new : Option Content) : Type 0 where
+pub record ShowsFront (input : Input) (old : Content) (new : Option Content) : Type 0 where
   pub now : Content
   pub whole : Content
   pub status : ℕ
@@ -35,12 +48,16 @@ pub record ShowsPart (input : Input) (old : Content) (new : Option Content) : Ty
   pub shown : IsShown input old whole status
   pub part : IsPart old now whole
 
+-- nothing was put, or that
+abbrev pub ShowsPart : Input → Content → Option Content → Type 0
+ShowsPart input old new = (new ≡ Some old) ⊎ ShowsFront input old new
+
 -- the error stream holds what it held and a front of the line of a file that could not be read; the rest is as it was
 pub record TellsPart (input : Input) (old : Content) (new : Option Content) : Type 0 where
   pub now : Content
   pub file : List ℕ
   pub new_is : new ≡ Some now
-  pub reached : IsReached input.words input.held file
+  pub reached : IsReached input file
   pub part : IsPart old now (add place.Err (read_failed_line file) old)
 
 -- ---- the steps of the program
@@ -48,10 +65,72 @@ pub record TellsPart (input : Input) (old : Content) (new : Option Content) : Ty
 -- what a run leaves before its stop is told
 abbrev pub Runs : Input → Content → Option Content → Result ℕ Stop → Type 0
 Runs input old new (Ok status) = Shows input old new status
-Runs input old new (Err (Refused fault)) = (accepted input ≡ Err fault) × (new ≡ Some old)
-Runs input old new (Err (ReadFailed file)) = IsReached input.words input.held file × (new ≡ Some old)
+Runs input old new (Err (Refused fault)) = IsFirstFault input fault × (new ≡ Some old)
+Runs input old new (Err (ReadFailed file)) = IsReached input file × (new ≡ Some old)
 Runs input old new (Err WriteFailed) = ShowsPart input old new
 Runs input old new (Err NoMemory) = ShowsPart input old new
+
+-- what showing a configuration leaves
+abbrev pub ShowsConfig : Config → Content → Option Content → Result ℕ Stop → Type 0
+ShowsConfig config c new (Ok status) = (new ≡ Some (add place.Out (shown config) c)) × (status ≡ 0)
+ShowsConfig config c new (Err (Refused fault)) = ⊥
+ShowsConfig config c new (Err (ReadFailed file)) = ⊥
+ShowsConfig config c new (Err WriteFailed) = AddsFront place.Out (shown config) (Some c) new
+ShowsConfig config c new (Err NoMemory) = AddsFront place.Out (shown config) (Some c) new
+
+-- what the report of a world leaves
+abbrev pub Reports : Bool → World → Option Content → Option Content → Result ℕ Stop → Type 0
+Reports load w old new (Ok status) = (new ≡ option_map (with_pieces (run_pieces load w)) old) × (status ≡ status_of w)
+Reports load w old new (Err (Refused fault)) = ⊥
+Reports load w old new (Err (ReadFailed file)) = ⊥
+Reports load w old new (Err WriteFailed) = PutsFront (run_pieces load w) old new
+Reports load w old new (Err NoMemory) = PutsFront (run_pieces load w) old new
+
+-- what a run leaves whose notes were put
+abbrev pub RunsNoted : Net → List Row → Bool → Option Content → Option Content → Result ℕ Stop → Type 0
+RunsNoted net rows load old new r = (w : World) × IsResult net w (opening_world rows) × Reports load w old new r
+
+-- some of the pieces of an opened run's result were put
+abbrev pub PutsSome : Opened → Content → Option Content → Type 0
+PutsSome opened c new = (w : World) × IsResult opened.net w (opening_world opened.rows.items) × PutsFront (pieces opened.notes opened.is_self_load w) (Some c) new
+
+-- what a run leaves whose data directory was made
+abbrev pub RunsOpened : Opened → Content → Option Content → Result ℕ Stop → Type 0
+RunsOpened opened c new (Ok status) =
+    (w : World) × IsResult opened.net w (opening_world opened.rows.items)
+    × (new ≡ Some (with_pieces (pieces opened.notes opened.is_self_load w) c)) × (status ≡ status_of w)
+RunsOpened opened c new (Err (Refused fault)) = ⊥
+RunsOpened opened c new (Err (ReadFailed file)) = ⊥
+RunsOpened opened c new (Err WriteFailed) = PutsSome opened c new
+RunsOpened opened c new (Err NoMemory) = PutsSome opened c new
+
+-- nothing was put; or the directory was made, and some of the pieces of the run's result were put
+abbrev pub RunsInPart : Run → Content → Option Content → Type 0
+RunsInPart run c new = (new ≡ Some c)
+    ⊎ ((c.there (directory_of run) ≡ false) × (w : World) × IsRunTo run w × PutsFront (pieces_of run w) (Some (begun (directory_of run) c)) new)
+
+-- what a run leaves
+abbrev pub RunsPlan : Run → Content → Option Content → Result ℕ Stop → Type 0
+RunsPlan run c new (Ok status) =
+    (c.there (directory_of run) ≡ false) × (w : World) × IsRunTo run w
+    × (new ≡ Some (with_pieces (pieces_of run w) (begun (directory_of run) c))) × (status ≡ status_of w)
+RunsPlan run c new (Err (Refused fault)) = (c.there (directory_of run) ≡ true) × (fault ≡ Exists (directory_of run)) × (new ≡ Some c)
+RunsPlan run c new (Err (ReadFailed file)) = ⊥
+RunsPlan run c new (Err WriteFailed) = RunsInPart run c new
+RunsPlan run c new (Err NoMemory) = RunsInPart run c new
+
+-- what doing what was planned leaves
+abbrev pub CarriesOut : Planned → Content → Option Content → Result ℕ Stop → Type 0
+CarriesOut (plan.Shows config) c new r = ShowsConfig config c new r
+CarriesOut (plan.Runs run) c new r = RunsPlan run c new r
+
+-- what making a data directory leaves
+abbrev pub BeginsSo : List ℕ → Option Content → Option Content → Result (Unit {0}) Stop → Type 0
+BeginsSo directory old new (Ok done) = (new ≡ option_map (begun directory) old) × IfSome old (λ c. c.there directory ≡ false)
+BeginsSo directory old new (Err (Refused fault)) = (new ≡ old) × (fault ≡ Exists directory) × IfSome old (λ c. c.there directory ≡ true)
+BeginsSo directory old new (Err (ReadFailed file)) = ⊥
+BeginsSo directory old new (Err WriteFailed) = new ≡ old
+BeginsSo directory old new (Err NoMemory) = new ≡ old
 
 -- a line was told, or its write failed, or memory ran out
 abbrev pub TellsLine : List ℕ → ℕ → Option Content → Option Content → ℕ → ℕ → ℕ → Type 0

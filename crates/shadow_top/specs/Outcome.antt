@@ -4,8 +4,7 @@ use Rattle.sim_base.specs.Faults.{Rose}
 use Rattle.sim_base.specs.Files.{Held}
 use Rattle.sim_base.specs.Sink.{Content}
 use Rattle.shadow_top.specs.Contract.{Shows, TellsReadFailed, ShowsPart, TellsPart}
-use Rattle.shadow_top.specs.FirstFault.{Input}
-use Rattle.shadow_top.specs.ShadowInput.{input}
+use Rattle.shadow_top.specs.Input.{Input, input}
 
 -- the fact holds of the input, where source and sink tell what they hold
 abbrev pub Told : List (List ℕ) → Option Held → Option Content → (Input → Content → Type 0) → Type 0

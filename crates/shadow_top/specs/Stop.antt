@@ -1,26 +1,12 @@
 -- Why a call stops before its end.
-use Rattle.std.specs.Prelude.{◌≡◌, ℕ, List, Result, Ok, Err}
+use Rattle.std.specs.Prelude.{◌≡◌, ℕ, Result, Ok, Err}
 use Rattle.sim_base.specs.Faults.{Rose}
-use Rattle.shadow_top.specs.declared.fault.Fault.{Fault}
-use Rattle.shadow_top.specs.declared.fault.Stop.{Stop}
-use Rattle.shadow_top.specs.declared.fault.Stop.TheVariants.{Refused, ReadFailed, WriteFailed, NoMemory}
-
--- the result is the one that a definition gives, or its fault, if the outside didn't fail and memory sufficed
-module _ {A B : Type 0} (view : A → B) (defined : Result B Fault) where
-  abbrev pub Meets : Result A Stop → Type 0
-  Meets (Ok a) = defined ≡ Ok (view a)
-  Meets (Err (Refused fault)) = defined ≡ Err fault
-  Meets (Err (ReadFailed name)) = Unit {0}
-  Meets (Err WriteFailed) = Unit {0}
-  Meets (Err NoMemory) = Unit {0}
-
--- where a read failed, it was of such a file
-abbrev pub FailsReading : {A : Type 0} → (List ℕ → Type 0) → Result A Stop → Type 0
-FailsReading P (Ok a) = Unit {0}
-FailsReading P (Err (Refused fault)) = Unit {0}
-FailsReading P (Err (ReadFailed name)) = P name
-FailsReading P (Err WriteFailed) = Unit {0}
-FailsReading P (Err NoMemory) = Unit {0}
+use Rattle.sim_base.specs.declared.outside.sink.WriteError.{WriteError}
+use Rattle.sim_base.specs.declared.outside.sink.WriteError.TheVariants as write
+use Rattle.run_plan.specs.declared.fault.ReadStop.{ReadStop}
+use Rattle.run_plan.specs.declared.fault.ReadStop.TheVariants as read
+use Rattle.shadow_top.specs.declared.stop.Stop.{Stop}
+use Rattle.shadow_top.specs.declared.stop.Stop.TheVariants.{Refused, ReadFailed, WriteFailed, NoMemory}
 
 -- the source's count of faults rises where a read failed, and stays at every other answer
 abbrev pub CountsSource : {A : Type 0} → Result A Stop → ℕ → ℕ → Type 0
@@ -38,29 +24,6 @@ CountsSink (Err (ReadFailed name)) before now = now ≡ before
 CountsSink (Err WriteFailed) before now = Rose before now
 CountsSink (Err NoMemory) before now = now ≡ before
 
--- neither a read nor a write failed
-abbrev pub NoOutside : {A : Type 0} → Result A Stop → Type 0
-NoOutside (Ok a) = Unit {0}
-NoOutside (Err (Refused fault)) = Unit {0}
-NoOutside (Err (ReadFailed name)) = ⊥
-NoOutside (Err WriteFailed) = ⊥
-NoOutside (Err NoMemory) = Unit {0}
-
--- the stop is no refusal
-abbrev pub NeverRefuses : Stop → Type 0
-NeverRefuses (Refused fault) = ⊥
-NeverRefuses (ReadFailed name) = Unit {0}
-NeverRefuses WriteFailed = Unit {0}
-NeverRefuses NoMemory = Unit {0}
-
--- no write failed
-abbrev pub NoWriteFailed : {A : Type 0} → Result A Stop → Type 0
-NoWriteFailed (Ok a) = Unit {0}
-NoWriteFailed (Err (Refused fault)) = Unit {0}
-NoWriteFailed (Err (ReadFailed name)) = Unit {0}
-NoWriteFailed (Err WriteFailed) = ⊥
-NoWriteFailed (Err NoMemory) = Unit {0}
-
 -- no read failed
 abbrev pub NoReadFailed : {A : Type 0} → Result A Stop → Type 0
 NoReadFailed (Ok a) = Unit {0}
@@ -68,3 +31,13 @@ NoReadFailed (Err (Refused fault)) = Unit {0}
 NoReadFailed (Err (ReadFailed name)) = ⊥
 NoReadFailed (Err WriteFailed) = Unit {0}
 NoReadFailed (Err NoMemory) = Unit {0}
+
+-- a stop of the reading, and one of a write
+abbrev pub of_reading : ReadStop → Stop
+of_reading (read.Refused fault) = Refused fault
+of_reading (read.ReadFailed file) = ReadFailed file
+of_reading read.NoMemory = NoMemory
+
+abbrev pub of_writing : WriteError → Stop
+of_writing write.Failed = WriteFailed
+of_writing write.NoMemory = NoMemory

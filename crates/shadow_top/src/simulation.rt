@@ -4,37 +4,36 @@ ghost use Rattle.std.specs.Prelude.{◌≡◌, ◌≢◌, ◌<◌, ◌≤◌, �
 ghost use Rattle.sim_base.specs.Faults.{Rose};
 ghost use Rattle.sim_base.specs.Sink.{begun, add, AddsFront};
 ghost use Rattle.sim_base.specs.declared.outside.sink.Place.TheVariants as place;
-ghost use Rattle.shadow_top.specs.Contract.{Shows, TellsReadFailed, ShowsPart, TellsPart, Runs, TellsLine, Tells, read_failed_line};
-ghost use Rattle.shadow_top.specs.FirstFault.{data_directory, plan, line_of};
-ghost use Rattle.shadow_top.specs.ShadowInput.{input, directory_fault, Opens, RunsPlan};
+ghost use Rattle.net_run.specs.StandsFor.{RanStands};
+ghost use Rattle.net_run.specs.World.{World, AreRows};
+ghost use Rattle.shadow_top.specs.Opened.{Opens};
+ghost use Rattle.run_plan.specs.Line.{line_of};
+ghost use Rattle.shadow_top.specs.Contract.{Shows, TellsReadFailed, ShowsPart, TellsPart, Runs, CarriesOut, RunsPlan, ShowsConfig, RunsOpened, RunsNoted, Reports, TellsLine, Tells, BeginsSo, read_failed_line};
+ghost use Rattle.shadow_top.specs.Input.{input};
 ghost use Rattle.shadow_top.specs.Outcome.{Outcome};
-ghost use Rattle.shadow_top.specs.ShdConfig.{IsShort};
-ghost use Rattle.shadow_top.specs.Stop.{Meets, CountsSource, CountsSink, NoReadFailed};
+ghost use Rattle.shadow_top.specs.Stop.{CountsSource, CountsSink, NoReadFailed};
 
-use crate::fault::{self, Fault, Stop};
-use crate::host::Host;
-use crate::host_state::Process;
-use crate::plan::{Plan, make_plan};
-use crate::report::report;
-use crate::world;
+use crate::opened::{MOST_HOSTS, Opened, open};
+use crate::stop::Stop;
+use host_state::{Net, Row};
+use net_run::{Ran, put_notes, report};
 use out_text::FaultText;
+use run_plan::{Fault, Planned, Run, read_plan, tell};
+use shd_config::Config;
 use sim_base::{Name, NoMemory, Place, Sink, Source, Text, WriteError, put_all};
 use std::alloc::{AllocGlobal, Global};
 use std::thread::Threads;
 use steal_workers::Gate;
 
 /// Makes the data directory, or refuses the input where it is there.
-fn begin<K: Sink>(alloc: Global, sink: &mut K) -> Result<(), Stop>
-    ensures ok { OnOk result (K.content sink.new ≡ option_map (begun data_directory) (K.content sink.old)) }
-    ensures told { IfSome (K.content sink.old) (λ c. Meets (λ u. u) (directory_fault c) result) }
-    ensures err { OnErr result (K.content sink.new ≡ K.content sink.old) }
+fn begin<K: Sink>(sink: &mut K, directory: Name) -> Result<(), Stop>
+    ensures told { BeginsSo directory (K.content sink.old) (K.content sink.new) result }
     ensures reads { NoReadFailed result }
     ensures count { CountsSink result (K.faults sink.old) (K.faults sink.new) }
 {
-    let name = Name::from_str(alloc, "shadow.data")?;
-    match sink.begin("shadow.data") {
+    match sink.begin(directory.as_str()) {
         Ok(true) => Ok(()),
-        Ok(false) => Err(Stop::Refused(Fault::Exists(name))),
+        Ok(false) => Err(Stop::Refused(Fault::Exists(directory))),
         Err(WriteError::Failed) => Err(Stop::WriteFailed),
         Err(WriteError::NoMemory) => Err(Stop::NoMemory),
     }
@@ -55,7 +54,7 @@ fn fault_text(alloc: Global, fault: &Fault) -> Result<Text, NoMemory>
     ensures { IfOk result (λ line. line ≡ line_of fault.now) }
 {
     let mut line = Text::new(alloc);
-    fault::tell(alloc, &mut line, fault)?;
+    tell(alloc, &mut line, fault)?;
     Ok(line)
 }
 
@@ -89,38 +88,125 @@ fn tell_stop<K: Sink>(alloc: Global, sink: &mut K, stop: &Stop) -> u8
     }
 }
 
-/// The host of a plan, before its process has started.
-fn open_host(plan: Plan) -> Host
-    requires { IsShort plan.config }
-    ensures { Opens plan result }
-{
-    let Plan { config, image } = plan;
-    Host {
-        name: config.host,
-        path: config.path,
-        image,
-        process: Process::NotStarted,
-        next: 1,
-    }
-}
-
-/// Runs a plan whose data directory was made, and writes what it shows.
-fn run_plan<K: Sink>(alloc: Global, plan: Plan, sink: &mut K) -> Result<u8, Stop>
-    requires { IsShort plan.config }
-    ensures told { IfSome (K.content sink.old) (λ c. RunsPlan plan c (K.content sink.new) result) }
+/// Puts a configuration on the output.
+fn show_config<K: Sink>(alloc: Global, sink: &mut K, config: &Config) -> Result<u8, Stop>
+    ensures told { IfSome (K.content sink.old) (λ c. ShowsConfig config.now c (K.content sink.new) result) }
     ensures status { IfOk result (λ status. status ≤ 1) }
     ensures reads { NoReadFailed result }
     ensures count { CountsSink result (K.faults sink.old) (K.faults sink.new) }
 {
-    let stop = plan.config.stop;
-    let host = open_host(plan);
-    match world::run(alloc, host, stop) {
-        Ok(world) => report(alloc, sink, &world),
+    let mut text = Text::new(alloc);
+    config.show(&mut text)?;
+    match put_all(sink, &Place::Out, text.as_bytes()) {
+        Ok(()) => Ok(0),
+        Err(WriteError::Failed) => Err(Stop::WriteFailed),
+        Err(WriteError::NoMemory) => Err(Stop::NoMemory),
+    }
+}
+
+/// Writes what a run leaves.
+fn report_run<K: Sink>(
+    alloc: Global,
+    ran: Ran,
+    is_self_load: bool,
+    sink: &mut K,
+) -> Result<u8, Stop>
+    ensures told { (w : World) → RanStands ran w → Reports is_self_load w (K.content sink.old) (K.content sink.new) result }
+    ensures status { (w : World) → RanStands ran w → IfOk result (λ status. status ≤ 1) }
+    ensures reads { NoReadFailed result }
+    ensures count { CountsSink result (K.faults sink.old) (K.faults sink.new) }
+{
+    if ran.hosts.len() > MOST_HOSTS {
+        return Err(Stop::NoMemory);
+    }
+    match report(alloc, sink, ran, is_self_load) {
+        Ok(status) => Ok(status),
+        Err(error) => Err(Stop::from(error)),
+    }
+}
+
+/// Makes a run whose notes were written, and writes what it leaves.
+fn run_noted<K: Sink>(
+    alloc: Global,
+    rows: Vec<Row>,
+    net: &Net,
+    is_self_load: bool,
+    sink: &mut K,
+) -> Result<u8, Stop>
+    requires { AreRows net.now rows.items }
+    ensures told { RunsNoted net.now rows.items is_self_load (K.content sink.old) (K.content sink.new) result }
+    ensures status { IfOk result (λ status. status ≤ 1) }
+    ensures reads { NoReadFailed result }
+    ensures count { CountsSink result (K.faults sink.old) (K.faults sink.new) }
+{
+    match net_run::run(alloc, rows, net) {
+        Ok(ran) => report_run(alloc, ran, is_self_load, sink),
         Err(NoMemory) => Err(Stop::NoMemory),
     }
 }
 
-/// Reads what is asked, runs it, and writes what it shows.
+/// Makes a run whose data directory was made, and writes what it shows.
+fn run_begun<K: Sink>(alloc: Global, opened: Opened, sink: &mut K) -> Result<u8, Stop>
+    requires { AreRows opened.net opened.rows.items }
+    ensures told { IfSome (K.content sink.old) (λ c. RunsOpened opened c (K.content sink.new) result) }
+    ensures status { IfOk result (λ status. status ≤ 1) }
+    ensures reads { NoReadFailed result }
+    ensures count { CountsSink result (K.faults sink.old) (K.faults sink.new) }
+{
+    let Opened {
+        directory: _,
+        notes,
+        is_self_load,
+        rows,
+        net,
+    } = opened;
+    match put_notes(alloc, sink, notes.as_slice()) {
+        Ok(()) => run_noted(alloc, rows, &net, is_self_load, sink),
+        Err(error) => Err(Stop::from(error)),
+    }
+}
+
+/// What a run begins with, and the name of its directory.
+fn prepare(alloc: Global, run: Run) -> Result<(Opened, Name), NoMemory>
+    ensures opens { IfOk result (λ p. Opens run p.0) }
+    ensures rows { IfOk result (λ p. AreRows p.0.net p.0.rows.items) }
+    ensures directory { IfOk result (λ p. p.1 ≡ p.0.directory) }
+{
+    let opened = open(alloc, run)?;
+    let directory = Name::from_str(alloc, opened.directory.as_str())?;
+    Ok((opened, directory))
+}
+
+/// Makes a run, and writes what it shows.
+fn run_plan<K: Sink>(alloc: Global, run: Run, sink: &mut K) -> Result<u8, Stop>
+    ensures told { IfSome (K.content sink.old) (λ c. RunsPlan run c (K.content sink.new) result) }
+    ensures status { IfOk result (λ status. status ≤ 1) }
+    ensures reads { NoReadFailed result }
+    ensures count { CountsSink result (K.faults sink.old) (K.faults sink.new) }
+{
+    match prepare(alloc, run) {
+        Ok((opened, directory)) => match begin(sink, directory) {
+            Ok(()) => run_begun(alloc, opened, sink),
+            Err(stop) => Err(stop),
+        },
+        Err(NoMemory) => Err(Stop::NoMemory),
+    }
+}
+
+/// Does what was planned, and writes what it shows.
+fn carry_out<K: Sink>(alloc: Global, planned: Planned, sink: &mut K) -> Result<u8, Stop>
+    ensures told { IfSome (K.content sink.old) (λ c. CarriesOut planned c (K.content sink.new) result) }
+    ensures status { IfOk result (λ status. status ≤ 1) }
+    ensures reads { NoReadFailed result }
+    ensures count { CountsSink result (K.faults sink.old) (K.faults sink.new) }
+{
+    match planned {
+        Planned::Shows(config) => show_config(alloc, sink, &config),
+        Planned::Runs(run) => run_plan(alloc, run, sink),
+    }
+}
+
+/// Reads what is asked, does it, and writes what it shows.
 fn run<S: Source, K: Sink>(
     alloc: Global,
     words: &[String],
@@ -133,12 +219,9 @@ fn run<S: Source, K: Sink>(
     ensures reads { CountsSource result (S.faults source.old) (S.faults source.new) }
     ensures writes { CountsSink result (K.faults sink.old) (K.faults sink.new) }
 {
-    match make_plan(alloc, words, source) {
-        Ok(plan) => match begin(alloc, sink) {
-            Ok(()) => run_plan(alloc, plan, sink),
-            Err(stop) => Err(stop),
-        },
-        Err(stop) => Err(stop),
+    match read_plan(alloc, words, source) {
+        Ok(planned) => carry_out(alloc, planned, sink),
+        Err(stop) => Err(Stop::from(stop)),
     }
 }
 

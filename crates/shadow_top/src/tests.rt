@@ -1,5 +1,8 @@
 //! Whole runs over a source and a sink in memory.
 
+mod networks;
+mod script;
+
 use crate::{OpenGate, shadow};
 use sim_base::{MemSink, MemSource};
 use std::alloc::Global;
@@ -98,6 +101,9 @@ fn source(alloc: Global, text: &str, file: Vec<u8>) -> Result<MemSource, Fail> {
 
 const CONFIG: [&str; 2] = ["shadow", "t.yaml"];
 
+/// The same, with an earlier stop.
+const SHORT: [&str; 3] = ["shadow", "--stop-time=100ms", "t.yaml"];
+
 const USAGE: &str = "shadow: usage: shadow [options] CONFIG\n";
 
 /// A run over a configuration and a program.
@@ -140,7 +146,7 @@ fn ends(
     out: usize,
     err: usize,
 ) -> Result<(), Fail> {
-    let (status, sink) = ran(rt, &CONFIG, TEXT, file)?;
+    let (status, sink) = ran(rt, &SHORT, TEXT, file)?;
     assert_eq!(rt;
         sink.file("hosts/a/hi.1000.exit").unwrap_or(b"none"),
         exit.as_bytes()
@@ -184,13 +190,7 @@ fn shows_what_each_program_does(rt: HostRuntime) -> Result<(), Fail> {
     ends(&rt, program(alloc, &HI, b"hi\n")?, "exited 0\n", 3, 0)?;
     ends(&rt, program(alloc, &SEVEN, b"")?, "exited 7\n", 0, 0)?;
     ends(&rt, program(alloc, &BUSY, b"")?, "signaled SIGXCPU\n", 0, 0)?;
-    ends(
-        &rt,
-        program(alloc, &FOREVER, b"")?,
-        "running\n",
-        1_000_000,
-        0,
-    )?;
+    ends(&rt, program(alloc, &FOREVER, b"")?, "running\n", 100_000, 0)?;
     ends(
         &rt,
         program(alloc, &WRITER, b"err")?,
@@ -209,7 +209,7 @@ fn refuses_each_input_with_its_line(rt: HostRuntime) -> Result<(), Fail> {
         &CONFIG,
         GML,
         Vec::new(alloc),
-        "shadow: t.yaml: unsupported\n",
+        "shadow: t.yaml:5: network.graph.inline: missing\n",
     )?;
     refuses(
         &rt,

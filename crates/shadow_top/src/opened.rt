@@ -1,0 +1,259 @@
+//! The rows of hosts and the net that a run begins with.
+
+ghost use Rattle.std.specs.Prelude.{◌≡◌, ◌+◌, ◌≤◌, ◌<◌, ◌^◌, ◌∷◌, map, length, All, IfOk, IsTrue, codes};
+ghost use Rattle.net_run.specs.World.{AreRows};
+ghost use Rattle.run_plan.specs.Plan.{nodes_of};
+ghost use Rattle.shadow_top.specs.Opened.{variable_text, state_of, lane_rule, said_process, process_of, processes_of, said_host, host_of, hosts_from, IsWithinLimits, Opens};
+
+use host_calls::Known;
+use host_state::{FinalState, Net, ProcessRow, Row};
+use net_iface::QueueRule;
+use run_plan::{HostRow, Plan, Run, Settings};
+use shd_config::{ProcessConfig, Variable};
+use shd_values::Texts;
+use sim_base::{Book, Bytes, HostId, Ip, Name, NoMemory, Text};
+use std::alloc::Global;
+
+/// The most hosts of a configuration.
+pub const MOST_HOSTS: usize = 16_384;
+
+/// The most processes of a host.
+const MOST_PROCESSES: usize = 64;
+
+/// The latest stop time, 2^61 ns.
+const LATEST_STOP: u64 = 1 << 61;
+
+/// A run before its first event.
+#[derive(Drop)]
+pub struct Opened {
+    /// The directory that it writes to.
+    pub directory: Name,
+    /// The paths of the keys of its configuration that have no effect.
+    pub notes: Texts,
+    /// Whether the counts of packets are told at the end.
+    pub is_self_load: bool,
+    /// The hosts in their order.
+    pub rows: Vec<Row>,
+    pub net: Net,
+}
+
+fn bytes_of(text: Text) -> Bytes
+    ensures { result ≡ text }
+{
+    Bytes::from(text.into_string().into_bytes())
+}
+
+/// A variable as its process finds it: NAME=VALUE.
+fn variable(alloc: Global, variable: &Variable) -> Result<Bytes, NoMemory>
+    ensures { IfOk result (λ bytes. bytes ≡ variable_text variable.now) }
+{
+    let mut bytes = Bytes::from_slice(alloc, variable.name.as_bytes())?;
+    bytes.extend_from_slice(b"=")?;
+    bytes.extend_from_slice(variable.value.as_bytes())?;
+    Ok(bytes)
+}
+
+/// The path, and the arguments behind it.
+fn arguments_of(alloc: Global, path: &Name, args: &[Text]) -> Result<Vec<Bytes>, NoMemory>
+    ensures { IfOk result (λ v. v.items ≡ path.now ∷ args.now) }
+{
+    let mut arguments = Vec::new(alloc);
+    arguments.push(Bytes::from_slice(alloc, path.as_bytes())?)?;
+    for arg in args {
+        arguments.push(Bytes::from_slice(alloc, arg.as_bytes())?)?;
+    }
+    Ok(arguments)
+}
+
+fn environment_of(alloc: Global, variables: &[Variable]) -> Result<Vec<Bytes>, NoMemory>
+    ensures { IfOk result (λ v. v.items ≡ map variable_text variables.now) }
+{
+    let mut environment = Vec::new(alloc);
+    for each in variables {
+        environment.push(variable(alloc, each)?)?;
+    }
+    Ok(environment)
+}
+
+fn state_of(state: shd_config::FinalState) -> FinalState
+    ensures { result ≡ state_of state }
+{
+    match state {
+        shd_config::FinalState::Exited(status) => FinalState::Exited(status),
+        shd_config::FinalState::Signaled(signal) => FinalState::Signaled(signal),
+        shd_config::FinalState::Running => FinalState::Running,
+    }
+}
+
+/// A process, and the place of its image.
+fn process_row(alloc: Global, process: &ProcessConfig, image: usize) -> Result<ProcessRow, NoMemory>
+    ensures { IfOk result (λ row. said_process row ≡ process_of process.now image) }
+{
+    Ok(ProcessRow {
+        path: Name::from_str(alloc, process.path.as_str())?,
+        image,
+        arguments: arguments_of(alloc, &process.path, process.args.as_slice())?,
+        environment: environment_of(alloc, process.environment.as_slice())?,
+        start: process.start_time,
+        shutdown: process.shutdown_time,
+        shutdown_signal: process.shutdown_signal,
+        expected: state_of(process.expected_final_state),
+    })
+}
+
+fn process_rows(
+    alloc: Global,
+    processes: &[ProcessConfig],
+    images: &[usize],
+) -> Result<Vec<ProcessRow>, NoMemory>
+    ensures { IfOk result (λ rows. map said_process rows.items ≡ processes_of processes.now images.now) }
+{
+    let mut rows = Vec::new(alloc);
+    for (place, process) in processes.iter().enumerate() {
+        let Some(image) = images.get(place) else {
+            break;
+        };
+        rows.push(process_row(alloc, process, *image)?)?;
+    }
+    Ok(rows)
+}
+
+fn lane_rule(rule: shd_config::QueueRule) -> QueueRule
+    ensures { result ≡ lane_rule rule }
+{
+    match rule {
+        shd_config::QueueRule::Fifo => QueueRule::Fifo,
+        shd_config::QueueRule::Codel => QueueRule::Codel,
+    }
+}
+
+/// The host with a number.
+fn row_of(alloc: Global, settings: &Settings, number: u32, host: &HostRow) -> Result<Row, NoMemory>
+    ensures { IfOk result (λ row. said_host row ≡ host_of settings.now number host.now) }
+{
+    let config = &host.config;
+    Ok(Row {
+        host: HostId { index: number },
+        name: Name::from_str(alloc, config.name.as_str())?,
+        address: host.address,
+        bandwidth_up: host.rates.up,
+        bandwidth_down: host.rates.down,
+        router_queue: lane_rule(settings.router_queue),
+        seed: settings.seed,
+        processes: process_rows(alloc, config.processes.as_slice(), host.images.as_slice())?,
+    })
+}
+
+/// The hosts in their order.
+fn rows_of(alloc: Global, settings: &Settings, hosts: &[HostRow]) -> Result<Vec<Row>, NoMemory>
+    requires { length hosts.now ≤ 16384 }
+    ensures { IfOk result (λ rows. map said_host rows.items ≡ hosts_from settings.now 0 hosts.now) }
+{
+    let mut rows = Vec::new(alloc);
+    for (number, host) in hosts.iter().enumerate() {
+        rows.push(row_of(alloc, settings, number as u32, host)?)?;
+    }
+    Ok(rows)
+}
+
+fn addresses_of(alloc: Global, hosts: &[HostRow]) -> Result<Vec<Ip>, NoMemory>
+    ensures { IfOk result (λ v. v.items ≡ map (λ h. h.address) hosts.now) }
+{
+    let mut addresses = Vec::new(alloc);
+    for host in hosts {
+        addresses.push(host.address)?;
+    }
+    Ok(addresses)
+}
+
+fn nodes_of(alloc: Global, hosts: &[HostRow]) -> Result<Vec<u32>, NoMemory>
+    ensures { IfOk result (λ v. v.items ≡ nodes_of hosts.now) }
+{
+    let mut nodes = Vec::new(alloc);
+    for host in hosts {
+        nodes.push(host.config.network_node_id)?;
+    }
+    Ok(nodes)
+}
+
+/// The book of all addresses, and the text of `/etc/hosts`.
+fn known_of(alloc: Global, hosts: &[HostRow], text: Text) -> Result<Known, NoMemory>
+    requires { length hosts.now ≤ 16384 }
+    ensures book { IfOk result (λ k. k.book ≡ map (λ h. h.address) hosts.now) }
+    ensures hosts { IfOk result (λ k. k.hosts ≡ text) }
+{
+    let addresses = addresses_of(alloc, hosts)?;
+    Ok(Known {
+        book: Book::new(alloc, addresses)?,
+        hosts: bytes_of(text),
+    })
+}
+
+/// Whether each host has at most as many processes as a configuration may give it.
+fn have_few_processes(hosts: &[HostRow]) -> bool
+    ensures { IsTrue result → All (λ h. length h.config.processes ≤ 64) hosts.now }
+{
+    hosts
+        .iter()
+        .all(|host| host.config.processes.len() <= MOST_PROCESSES)
+}
+
+/// Whether a plan is within the limits of configurations, as each is that was read.
+fn is_within_limits(plan: &Plan) -> bool
+    ensures { IsTrue result → IsWithinLimits plan.now }
+{
+    plan.settings.stop_time.nanos <= LATEST_STOP
+        && plan.rows.as_slice().len() <= MOST_HOSTS
+        && have_few_processes(plan.rows.as_slice())
+}
+
+/// What a run begins with. There is room for the limits of configurations, and for no more.
+pub fn open(alloc: Global, run: Run) -> Result<Opened, NoMemory>
+    ensures opens { IfOk result (Opens run) }
+    ensures rows { IfOk result (λ o. AreRows o.net o.rows.items) }
+{
+    if !is_within_limits(&run.plan) {
+        return Err(NoMemory);
+    }
+    let Run {
+        plan,
+        budget,
+        is_self_load,
+    } = run;
+    let Plan {
+        settings,
+        rows: hosts,
+        routes,
+        lookahead: _,
+        images,
+        hosts_text,
+    } = plan;
+    let rows = rows_of(alloc, &settings, hosts.as_slice())?;
+    let nodes = nodes_of(alloc, hosts.as_slice())?;
+    let known = known_of(alloc, hosts.as_slice(), hosts_text)?;
+    let Settings {
+        stop_time,
+        bootstrap_end_time,
+        data_directory,
+        notes,
+        seed: _,
+        parallelism: _,
+        router_queue: _,
+    } = settings;
+    let net = Net {
+        routes,
+        known,
+        nodes,
+        bootstrap_end: bootstrap_end_time,
+        stop: stop_time,
+        budget: u64::from(budget),
+        images: images.into_vec(),
+    };
+    Ok(Opened {
+        directory: data_directory,
+        notes,
+        is_self_load,
+        rows,
+        net,
+    })
+}
