@@ -1,8 +1,8 @@
-/* The system calls of shadow's guests, with the names and numbers of Linux for 32-bit RISC-V.
+/* The system calls of shadow's guests, with the names, numbers and structures of Linux for 32-bit RISC-V (64-bit time).
  *
  * The number of a call is in a7, its arguments are in a0 to a5, its answer comes in a0. There is no errno: a call that
- * is refused answers the negative error number, so `if (n < 0)` is the test and `n == -EFAULT` the cause.
- * There are write (64), exit (93) and exit_group (94); every other number answers -ENOSYS. */
+ * is refused answers the negative error number, so `if (fd < 0)` is the test and `fd == -EMFILE` the cause.
+ * docs/GUIDE.md has each call with its refusals in order. A call that isn't here answers -ENOSYS. */
 #ifndef SHADOW_H
 #define SHADOW_H
 
@@ -10,6 +10,7 @@
 #include <stdint.h>
 
 typedef int32_t ssize_t;
+typedef uint32_t socklen_t;
 
 /* ---- errors */
 #define ENOENT 2
@@ -47,6 +48,22 @@ int memcmp(const void *a, const void *b, size_t size);
 size_t strlen(const char *text);
 
 /* ---- the call itself */
+static inline long shadow_call6(long number, long a, long b, long c, long d, long e, long f)
+{
+    register long a0 __asm__("a0") = a;
+    register long a1 __asm__("a1") = b;
+    register long a2 __asm__("a2") = c;
+    register long a3 __asm__("a3") = d;
+    register long a4 __asm__("a4") = e;
+    register long a5 __asm__("a5") = f;
+    register long a7 __asm__("a7") = number;
+    __asm__ volatile("ecall"
+                     : "+r"(a0)
+                     : "r"(a1), "r"(a2), "r"(a3), "r"(a4), "r"(a5), "r"(a7)
+                     : "memory");
+    return a0;
+}
+
 static inline long shadow_call(long number, long a, long b, long c)
 {
     register long a0 __asm__("a0") = a;
@@ -57,14 +74,49 @@ static inline long shadow_call(long number, long a, long b, long c)
     return a0;
 }
 
-/* Writes the first 65,536 bytes, or all where there are fewer, to descriptor 1 or 2 and gives how many these were.
- * -EBADF for another descriptor, -EFAULT where a byte may not be read. */
+/* ---- files, pipes and descriptors */
+#define AT_FDCWD (-100)
+#define O_RDONLY 0
+#define O_NONBLOCK 2048
+#define O_CLOEXEC 0x80000
+#define F_GETFD 1
+#define F_SETFD 2
+#define F_GETFL 3
+#define F_SETFL 4
+
+static inline int fcntl(int fd, int command, long argument)
+{
+    return shadow_call(25, fd, command, argument);
+}
+
+/* Opens "/etc/hosts", the one file that there is, to be read. */
+static inline int openat(int directory, const char *path, int flags)
+{
+    return shadow_call6(56, directory, (long)path, flags, 0, 0, 0);
+}
+
+static inline int close(int fd)
+{
+    return shadow_call(57, fd, 0, 0);
+}
+
+/* Makes a pipe: ends[0] is read from, ends[1] is written to. */
+static inline int pipe2(int ends[2], int flags)
+{
+    return shadow_call(59, (long)ends, flags, 0);
+}
+
+static inline ssize_t read(int fd, void *into, size_t size)
+{
+    return shadow_call(63, fd, (long)into, (long)size);
+}
+
 static inline ssize_t write(int fd, const void *bytes, size_t size)
 {
     return shadow_call(64, fd, (long)bytes, (long)size);
 }
 
-/* Ends the process with the status modulo 256. */
+/* ---- the process */
 __attribute__((noreturn)) static inline void exit(int status)
 {
     shadow_call(93, status, 0, 0);
@@ -75,6 +127,207 @@ __attribute__((noreturn)) static inline void exit_group(int status)
 {
     shadow_call(94, status, 0, 0);
     __builtin_unreachable();
+}
+
+static inline int getpid(void)
+{
+    return shadow_call(172, 0, 0, 0);
+}
+
+/* Moves the end of the data segment and gives where it then is, as the system call does; brk(0) asks. */
+static inline void *brk(void *to)
+{
+    return (void *)shadow_call(214, (long)to, 0, 0);
+}
+
+static inline ssize_t getrandom(void *into, size_t size, unsigned flags)
+{
+    return shadow_call(278, (long)into, (long)size, (long)flags);
+}
+
+/* ---- time */
+struct timespec {
+    int64_t tv_sec;
+    int64_t tv_nsec;
+};
+
+struct itimerspec {
+    struct timespec it_interval;
+    struct timespec it_value;
+};
+
+#define CLOCK_REALTIME 0
+#define CLOCK_MONOTONIC 1
+#define TIMER_ABSTIME 1
+#define TFD_TIMER_ABSTIME 1
+#define TFD_NONBLOCK O_NONBLOCK
+#define TFD_CLOEXEC O_CLOEXEC
+
+static inline int clock_gettime(int clock, struct timespec *now)
+{
+    return shadow_call(403, clock, (long)now, 0);
+}
+
+static inline int clock_nanosleep(int clock, int flags, const struct timespec *time, struct timespec *rest)
+{
+    return shadow_call6(407, clock, flags, (long)time, (long)rest, 0, 0);
+}
+
+static inline int timerfd_create(int clock, int flags)
+{
+    return shadow_call(85, clock, flags, 0);
+}
+
+static inline int timerfd_settime(int fd, int flags, const struct itimerspec *time, struct itimerspec *old)
+{
+    return shadow_call6(411, fd, flags, (long)time, (long)old, 0, 0);
+}
+
+/* ---- waiting for several descriptors */
+#define POLLIN 1
+#define POLLOUT 4
+#define POLLERR 8
+#define POLLHUP 16
+#define POLLNVAL 32
+
+struct pollfd {
+    int fd;
+    short events;
+    short revents;
+};
+
+/* A null time waits without limit. */
+static inline int ppoll(struct pollfd *entries, unsigned count, const struct timespec *time)
+{
+    return shadow_call6(414, (long)entries, (long)count, (long)time, 0, 0, 0);
+}
+
+/* ---- sockets */
+#define AF_INET 2
+#define SOCK_STREAM 1
+#define SOCK_DGRAM 2
+#define SOCK_NONBLOCK O_NONBLOCK
+#define SOCK_CLOEXEC O_CLOEXEC
+#define IPPROTO_TCP 6
+#define IPPROTO_UDP 17
+#define MSG_DONTWAIT 0x40
+#define MSG_NOSIGNAL 0x4000
+#define SHUT_RD 0
+#define SHUT_WR 1
+#define SHUT_RDWR 2
+#define SOL_SOCKET 1
+#define SO_REUSEADDR 2
+#define SO_TYPE 3
+#define SO_ERROR 4
+#define SO_KEEPALIVE 9
+#define TCP_NODELAY 1
+#define INADDR_ANY 0u
+#define INADDR_LOOPBACK 0x7f000001u
+
+struct in_addr {
+    uint32_t s_addr; /* in network order: htonl */
+};
+
+struct sockaddr_in {
+    uint16_t sin_family;
+    uint16_t sin_port; /* in network order: htons */
+    struct in_addr sin_addr;
+    uint8_t sin_zero[8];
+};
+
+static inline uint16_t htons(uint16_t n)
+{
+    return (uint16_t)(n << 8 | n >> 8);
+}
+
+static inline uint32_t htonl(uint32_t n)
+{
+    return n << 24 | (n & 0xff00) << 8 | (n >> 8 & 0xff00) | n >> 24;
+}
+
+#define ntohs htons
+#define ntohl htonl
+
+static inline int socket(int family, int type, int protocol)
+{
+    return shadow_call(198, family, type, protocol);
+}
+
+static inline int bind(int fd, const struct sockaddr_in *at, socklen_t size)
+{
+    return shadow_call(200, fd, (long)at, (long)size);
+}
+
+static inline int listen(int fd, int backlog)
+{
+    return shadow_call(201, fd, backlog, 0);
+}
+
+static inline int accept(int fd, struct sockaddr_in *peer, socklen_t *size)
+{
+    return shadow_call(202, fd, (long)peer, (long)size);
+}
+
+static inline int connect(int fd, const struct sockaddr_in *to, socklen_t size)
+{
+    return shadow_call(203, fd, (long)to, (long)size);
+}
+
+static inline int getsockname(int fd, struct sockaddr_in *at, socklen_t *size)
+{
+    return shadow_call(204, fd, (long)at, (long)size);
+}
+
+static inline int getpeername(int fd, struct sockaddr_in *peer, socklen_t *size)
+{
+    return shadow_call(205, fd, (long)peer, (long)size);
+}
+
+static inline ssize_t sendto(int fd, const void *bytes, size_t size, int flags, const struct sockaddr_in *to,
+                             socklen_t to_size)
+{
+    return shadow_call6(206, fd, (long)bytes, (long)size, flags, (long)to, (long)to_size);
+}
+
+static inline ssize_t send(int fd, const void *bytes, size_t size, int flags)
+{
+    return sendto(fd, bytes, size, flags, 0, 0);
+}
+
+static inline ssize_t recvfrom(int fd, void *into, size_t size, int flags, struct sockaddr_in *from,
+                               socklen_t *from_size)
+{
+    return shadow_call6(207, fd, (long)into, (long)size, flags, (long)from, (long)from_size);
+}
+
+static inline ssize_t recv(int fd, void *into, size_t size, int flags)
+{
+    return recvfrom(fd, into, size, flags, 0, 0);
+}
+
+static inline int setsockopt(int fd, int level, int option, const void *value, socklen_t size)
+{
+    return shadow_call6(208, fd, level, option, (long)value, (long)size, 0);
+}
+
+static inline int getsockopt(int fd, int level, int option, void *value, socklen_t *size)
+{
+    return shadow_call6(209, fd, level, option, (long)value, (long)size, 0);
+}
+
+static inline int shutdown(int fd, int how)
+{
+    return shadow_call(210, fd, how, 0);
+}
+
+/* An address of this host or another one, `in(11, 0, 0, 2, 7000)` for 11.0.0.2 port 7000. */
+static inline struct sockaddr_in in(unsigned a, unsigned b, unsigned c, unsigned d, unsigned port)
+{
+    struct sockaddr_in address = {0};
+    address.sin_family = AF_INET;
+    address.sin_port = htons((uint16_t)port);
+    address.sin_addr.s_addr = htonl(a << 24 | b << 16 | c << 8 | d);
+    return address;
 }
 
 #endif

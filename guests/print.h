@@ -1,0 +1,57 @@
+/* Writing numbers and texts to descriptor 1, and reading numbers and addresses from texts. */
+#ifndef PRINT_H
+#define PRINT_H
+
+#include "shadow.h"
+
+static inline void print(const char *text)
+{
+    write(1, text, strlen(text));
+}
+
+static inline void print_number(int64_t value)
+{
+    char text[21];
+    size_t at = sizeof text - 1;
+    uint64_t n = value < 0 ? -(uint64_t)value : (uint64_t)value;
+    text[at] = 0;
+    do
+        text[--at] = (char)('0' + n % 10);
+    while (n /= 10);
+    if (value < 0)
+        text[--at] = '-';
+    print(text + at);
+}
+
+/* a decimal number, and the place behind it */
+static inline const char *read_number(const char *text, uint32_t *value)
+{
+    uint32_t n = 0;
+    while (*text >= '0' && *text <= '9')
+        n = n * 10 + (uint32_t)(*text++ - '0');
+    *value = n;
+    return text;
+}
+
+/* an address as 11.0.0.2 */
+static inline struct sockaddr_in read_address(const char *text, unsigned port)
+{
+    uint32_t part, ip = 0;
+    for (int i = 0; i < 4; i++) {
+        text = read_number(text, &part);
+        ip = ip << 8 | (part & 255);
+        if (*text == '.')
+            text++;
+    }
+    return in(ip >> 24, ip >> 16 & 255, ip >> 8 & 255, ip & 255, port);
+}
+
+/* simulated time in nanoseconds */
+static inline int64_t now(void)
+{
+    struct timespec t;
+    clock_gettime(CLOCK_MONOTONIC, &t);
+    return t.tv_sec * 1000000000 + t.tv_nsec;
+}
+
+#endif
