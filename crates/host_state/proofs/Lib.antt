@@ -5,8 +5,7 @@ pub mod Firings
 pub mod Stacks
 pub mod Texts
 pub mod Hosts
-pub mod FitLink
-pub mod FitWire
-pub mod FitHost
-pub mod Fit
-pub mod FitOpening
+pub mod Growth
+pub mod HostGrowth
+pub mod Simulations
+pub mod Openings

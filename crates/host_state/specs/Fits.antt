@@ -1,5 +1,5 @@
 -- What the law of rounds asks of hosts and events.
-use Rattle.std.specs.Prelude.{◌≡◌, ◌≢◌, ℕ, ◌-◌, ◌^◌, ◌<◌, ◌≤◌, [], length, All, Option, Some, None, IsSome, unwrap_or}
+use Rattle.std.specs.Prelude.{◌≡◌, ◌≢◌, ℕ, ◌-◌, ◌^◌, ◌<◌, ◌≤◌, [], length, All, Option, Some, None, IsSome, nat_lt, if◌then◌else◌}
 use Rattle.sim_base.specs.declared.event.Event.{Event}
 use Rattle.sim_base.specs.declared.event.What.{What}
 use Rattle.sim_base.specs.declared.event.What.TheVariants as what
@@ -17,12 +17,16 @@ use Rattle.host_state.specs.HostRecord.{HostRecord}
 use Rattle.host_state.specs.Sending.{route_from}
 use Rattle.host_state.specs.Fire.{fire}
 use Rattle.world_order.specs.Model.{Model, Fired}
-use Rattle.world_order.specs.Premises.{AreNumbered}
+use Rattle.world_order.specs.Premises.{AreNumbered, IsFit}
+
+-- an event that is due at the stop or later does not fire
+abbrev pub fires_before_stop : Net → HostRecord → Event → Fired HostRecord Line
+fires_before_stop net host e = if nat_lt e.key.due.nanos net.stop.nanos then fire net host e else record { host = host; made = []; lines = [] }
 
 -- the hosts of a net as a kind of hosts
 abbrev pub model : Net → Model HostRecord Line
 model net = record {
-  fire = λ number host e. fire net host e;
+  fire = λ number host e. fires_before_stop net host e;
   home = home net;
   next = λ host. host.link.next;
   clock = λ host. host.link.time.nanos;
@@ -69,3 +73,14 @@ IsLatency (Some lookahead) latency = lookahead ≤ latency
 abbrev pub IsLookaheadOf : Net → Option ℕ → Type 0
 IsLookaheadOf net lookahead =
     (i j : ℕ) (latency : Time) (reliability : ℕ) → i ≢ j → route_from net i j ≡ Some (latency, reliability) → IsLatency lookahead latency.nanos
+
+-- a lookahead that leaves room before the end of time
+abbrev pub IsShort : Option ℕ → Type 0
+IsShort None = Unit {0}
+IsShort (Some lookahead) = lookahead ≤ 2 ^ 63
+
+-- a firing at a host that fired no later event fits
+abbrev pub FiringsFit : Net → Option ℕ → Type 0
+FiringsFit net lookahead =
+    (host : HostRecord) (e : Event) → IsHostOf net (home net e) host → IsEventOf net e → host.link.time.nanos ≤ e.key.due.nanos
+    → IsFit (model net) lookahead (2 ^ 64 - 1) (IsHostOf net) (IsEventOf net) host e (fires_before_stop net host e)

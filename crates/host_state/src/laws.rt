@@ -1,22 +1,18 @@
-//! Laws of hosts.
+//! What hosts owe the laws of worlds and rounds.
 
-ghost use Rattle.std.specs.Prelude.{◌≤◌, ◌<◌, ◌-◌, ◌^◌, length, Some};
+ghost use Rattle.std.specs.Prelude.{◌≤◌, ◌<◌, ◌^◌, ℕ, Option, length};
 ghost use Rattle.sim_base.specs.declared.event.Event.{Event};
 ghost use Rattle.host_state.specs.declared.net.Net.{Net};
-ghost use Rattle.host_state.specs.Fire.{fire};
-ghost use Rattle.host_state.specs.Fits.{model, FitsNet, IsHostOf, IsEventOf, OpensFit};
-ghost use Rattle.host_state.specs.Home.{home};
-ghost use Rattle.host_state.specs.HostRecord.{HostRecord};
 ghost use Rattle.host_state.specs.declared.row.Row.{Row};
+ghost use Rattle.host_state.specs.Fits.{FiringsFit, FitsNet, IsEventOf, IsLookaheadOf, IsShort, OpensFit};
+ghost use Rattle.host_state.specs.Home.{home};
 ghost use Rattle.host_state.specs.Opening.{opening};
-ghost use Rattle.world_order.specs.Premises.{IsFit};
 
-/// What a firing leaves fits: its events are later and have the host's next numbers, and what holds
-/// of hosts and events still does.
+/// What a firing leaves fits, with any lookahead that no route from one host to another falls short
+/// of: each event that it makes is due later, and one for another host by the lookahead at least;
+/// they have the host's next numbers; and what holds of hosts and events still does.
 pub fn firings_fit()
-    ensures { (net : Net) (host : HostRecord) (e : Event) → IsHostOf net (home net e) host → IsEventOf net e
-        → host.link.time.nanos ≤ e.key.due.nanos
-        → IsFit (model net) (Some 0) (2 ^ 64 - 1) (IsHostOf net) (IsEventOf net) host e (fire net host e) }
+    ensures { (net : Net) (lookahead : Option ℕ) → IsLookaheadOf net lookahead → IsShort lookahead → net.stop.nanos ≤ 2 ^ 61 → FiringsFit net lookahead }
 {}
 
 /// An event fires at a host of the net.

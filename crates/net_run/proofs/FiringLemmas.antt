@@ -18,6 +18,7 @@ use Rattle.std.specs.Prelude.{if◌then◌else◌}
 use Rattle.std.proofs.lemmas.Bool.Decides.{Decides-eqb}
 use Rattle.host_state.specs.HostRecord.{HostRecord}
 use Rattle.host_state.specs.HostStands.{Fires}
+use Rattle.host_state.proofs.Simulations.{fires-before_stop}
 use Rattle.net_run.specs.Parcels.{parcel_event}
 use Rattle.host_state.specs.declared.outbox.Outbox.{Outbox}
 use Rattle.host_calls.specs.declared.parts.Output.{Output}
@@ -142,16 +143,17 @@ lines-logged key (l ∷ ls) = ap (λ (k : List Line). l ∷ k) (lines-logged key
 
 -- ---- the engine after a firing
 
-pub fired-stands : (net : Net) (e : Event) (w : World) (old new : Engine) (run : HostRun) (made : Made) → home net e < length old.hosts.items → EngineStands old w
+pub fired-stands : (net : Net) (e : Event) (w : World) (old new : Engine) (run : HostRun) (made : Made) → e.key.due.nanos < net.stop.nanos → home net e < length old.hosts.items → EngineStands old w
     → ((h : HostRecord) → slice_get w.hosts (home net e) ≡ Some h → FiredSo (fire net h e) run made)
     → new.hosts.items ≡ slice_set old.hosts.items (home net e) run → IsPermutation new.queue (old.queue ++ made.events.items) → new.log.items ≡ old.log.items ++ made.lines.items
     → EngineStands new (with_fired net e w)
-fired-stands net e w old new run made below stands so hosts_is queue_is log_is =
+fired-stands net e w old new run made due below stands so hosts_is queue_is log_is =
     let there = record-there old.hosts.items w.hosts (home net e) stands.hosts below in
     let h = there.0 in
     let f : Fired HostRecord Line = fire net h e in
     let s = so h there.1 in
-    let is : fires (model net) w.hosts e ≡ with_host w.hosts (home net e) f = fires-is (model net) w.hosts e h there.1 in
+    let is : fires (model net) w.hosts e ≡ with_host w.hosts (home net e) f =
+    fires-is (model net) w.hosts e h there.1 ∙ ap (with_host w.hosts (home net e)) (fires-before_stop net h e due) in
     let queue' = made.events.items in
     subst (λ (g : Firing HostRecord Line). EngineStands new (after_firing w e w.events g)) (sym is)
     (record {
@@ -165,9 +167,10 @@ fired-stands net e w old new run made below stands so hosts_is queue_is log_is =
     })
 
 -- what a firing makes has new keys
-pub new-apart : (net : Net) (e : Event) (w : World) (h : HostRecord) (queue made : List Event) → slice_get w.hosts (home net e) ≡ Some h → IsPermutation queue w.events
+pub new-apart : (net : Net) (e : Event) (w : World) (h : HostRecord) (queue made : List Event) → e.key.due.nanos < net.stop.nanos → slice_get w.hosts (home net e) ≡ Some h → IsPermutation queue w.events
     → IsPermutation (fire net h e).made made → AreApart (with_fired net e w).events → AreApart (queue ++ made)
-new-apart net e w h queue made there same all apart =
+new-apart net e w h queue made due there same all apart =
     let f : Fired HostRecord Line = fire net h e in
     AreApart-permutation (w.events ++ f.made) (queue ++ made) (IsPermutation-append w.events queue f.made made (IsPermutation-sym queue w.events same) all)
-    (subst (λ (g : Firing HostRecord Line). AreApart (w.events ++ g.made)) (fires-is (model net) w.hosts e h there) apart)
+    (subst (λ (g : Firing HostRecord Line). AreApart (w.events ++ g.made))
+    (fires-is (model net) w.hosts e h there ∙ ap (with_host w.hosts (home net e)) (fires-before_stop net h e due)) apart)

@@ -9,7 +9,7 @@ use Rattle.host_state.specs.declared.row.Row.{Row}
 use Rattle.host_state.specs.Opening.{opening}
 use Rattle.host_state.specs.Fits.{model, IsEventOf, IsHostOf, FitsNet, OpensFit}
 use Rattle.host_state.specs.HostRecord.{HostRecord}
-use Rattle.host_state.proofs.FitOpening.{opens-fit}
+use Rattle.host_state.proofs.Openings.{opens-fit}
 use Rattle.world_order.specs.EventOrder.{AreApart}
 use Rattle.world_order.specs.Settled.{IsSettled, next_at}
 use Rattle.world_order.proofs.Apart.{apart_append, apart_left, AreApart-permutation}
@@ -96,7 +96,7 @@ length_hosts [] = refl
 length_hosts (row ∷ rows) = ap suc (length_hosts rows)
 
 -- the opening world of a net's rows is one between turns
-pub opened-settled : (net : Net) (rows : List Row) → AreRows net rows → IsSettled (simulation net) (opening_world rows)
+pub opened-settled : (net : Net) (rows : List Row) (are : AreRows net rows) → IsSettled (simulation net are.stop) (opening_world rows)
 opened-settled net rows are =
     let all : AllOpen net 0 rows = all_open net 0 rows (λ i row is. ((let p = are.places i row is in omega arith), are.fit i row is)) in
     record {

@@ -10,13 +10,12 @@ use Rattle.host_state.specs.declared.line.Logged.{Logged as LoggedLine}
 use Rattle.host_state.specs.declared.net.Net.{Net}
 use Rattle.host_state.specs.Fire.{fire}
 use Rattle.host_state.specs.Home.{home}
-use Rattle.host_state.specs.Fits.{model, IsEventOf, IsHostOf}
+use Rattle.host_state.specs.Fits.{model, fires_before_stop, IsEventOf, IsHostOf}
 use Rattle.host_state.specs.HostRecord.{HostRecord}
 use Rattle.host_state.specs.Link.{LinkState}
-use Rattle.host_state.proofs.Fit.{fit-fire}
-use Rattle.host_state.proofs.FitOpening.{home-within}
+use Rattle.host_state.proofs.Simulations as hosts
 use Rattle.world_order.specs.EventOrder.{take_least, AreApart}
-use Rattle.world_order.specs.Model.{Firing, fires, with_host}
+use Rattle.world_order.specs.Model.{Fired, Firing, fires, with_host}
 use Rattle.world_order.specs.Premises.{Simulation}
 use Rattle.world_order.specs.Settled.{IsSettled}
 use Rattle.world_order.specs.World.{next, after_firing, is_over, goes_on}
@@ -40,46 +39,38 @@ use Rattle.net_run.proofs.QueueLemmas.{first-taken}
 abbrev pub last_number : ℕ
 last_number = 2 ^ 64 - 1
 
--- the hosts of a net, as the laws of worlds want them
-abbrev pub simulation : Net → Simulation HostRecord Line
-simulation net = record {
-  model = model net;
-  lookahead = Some 0;
-  limit = last_number;
-  count = length net.known.book;
-  IsHost = IsHostOf net;
-  IsEvent = IsEventOf net;
-  homes = λ e own. home-within net e own;
-  fit = λ host e own event clock. fit-fire net host e own event clock;
-}
+-- the hosts of a net, as the laws of worlds want them: a run of one event after another needs no lookahead
+abbrev pub simulation : (net : Net) → net.stop.nanos ≤ 2 ^ 61 → Simulation HostRecord Line
+simulation net early = hosts.simulation net (Some 0) (λ i j latency reliability apart route. omega arith) (omega arith) early
 
 -- the engine without its least event
 abbrev pub without_least : Engine → List Event → Engine
 without_least e rest = record e { queue = rest }
 
 -- an event that the engine took is the world's least, and may fire; the world has gone on once it has
-pub record IsTurnOf (net : Net) (e : Event) (engine : Engine) (w : World) : Type 0 where
+pub record IsTurnOf (net : Net) (early : net.stop.nanos ≤ 2 ^ 61) (e : Event) (engine : Engine) (w : World) : Type 0 where
   pub others : List Event
   pub stands : EngineStands engine (record w { events = others })
   pub may_in : MayFireIn net w e
   pub may : MayFire net engine e
-  pub settled : IsSettled (simulation net) (with_fired net e (record w { events = others }))
+  pub settled : IsSettled (simulation net early) (with_fired net e (record w { events = others }))
   pub goes : next (model net) net.stop.nanos w ≡ Some (with_fired net e (record w { events = others }))
   pub taken : take_least w.events ≡ Some (e, others)
 
 -- what a host makes is its own
-made-own : (net : Net) (w : World) (e : Event) (h : HostRecord) → IsSettled (simulation net) w → IsEventOf net e → slice_get w.hosts (home net e) ≡ Some h → h.link.time.nanos ≤ e.key.due.nanos
-    → All (λ (g : Event). g.key.source.index ≡ h.link.number) (fire net h e).made
-made-own net w e h settled good at later =
+made-own : (net : Net) (early : net.stop.nanos ≤ 2 ^ 61) (w : World) (e : Event) (h : HostRecord) → IsSettled (simulation net early) w → IsEventOf net e → slice_get w.hosts (home net e) ≡ Some h
+    → h.link.time.nanos ≤ e.key.due.nanos → e.key.due.nanos < net.stop.nanos → All (λ (g : Event). g.key.source.index ≡ h.link.number) (fire net h e).made
+made-own net early w e h settled good at later due =
     let host : IsHostOf net (home net e) h = settled.hosts (home net e) h at in
-    let fits = fit-fire net h e host good later in
-    All-from_Each (λ (g : Event). g.key.source.index ≡ h.link.number) (fire net h e).made
-    (λ g is. numbered-source (home net e) h.link.next (fire net h e).made fits.numbered g is ∙ sym host.number)
+    let fits = (simulation net early).fit h e host good later in
+    subst (λ (f : Fired HostRecord Line). All (λ (g : Event). g.key.source.index ≡ h.link.number) f.made) (hosts.fires-before_stop net h e due)
+    (All-from_Each (λ (g : Event). g.key.source.index ≡ h.link.number) (fires_before_stop net h e).made
+    (λ g is. numbered-source (home net e) h.link.next (fires_before_stop net h e).made fits.numbered g is ∙ sym host.number))
 
-pub takes-turn : (net : Net) (old : Engine) (rest : List Event) (e : Event) (w : World) → net.stop.nanos ≤ 2 ^ 61 → IsSettled (simulation net) w → EngineStands old w
-    → old.queue ≡ e ∷ rest → All (IsBefore e) rest → e.key.due.nanos < net.stop.nanos → IsTurnOf net e (without_least old rest) w
+pub takes-turn : (net : Net) (old : Engine) (rest : List Event) (e : Event) (w : World) (early : net.stop.nanos ≤ 2 ^ 61) → IsSettled (simulation net early) w → EngineStands old w
+    → old.queue ≡ e ∷ rest → All (IsBefore e) rest → e.key.due.nanos < net.stop.nanos → IsTurnOf net early e (without_least old rest) w
 takes-turn net old rest e w early settled stands queue_is least due =
-    let sim = simulation net in
+    let sim = simulation net early in
     let moved : IsPermutation (e ∷ rest) w.events = subst (λ (q : List Event). IsPermutation q w.events) queue_is stands.events in
     let apart : AreApart (e ∷ rest) = AreApart-permutation w.events (e ∷ rest) (IsPermutation-sym (e ∷ rest) w.events moved) settled.apart in
     let found = take_least-permutation (e ∷ rest) w.events e rest (first-taken e rest least) moved apart in
@@ -91,7 +82,7 @@ takes-turn net old rest e w early settled stands queue_is least due =
     let after : IsSettled sim (with_fired net e v) = turn_settled sim w settled e found.0 found.1 in
     let may : MayFireIn net w e = λ h at. record {
       later = Each-from_All (λ (x : Event). h.link.time.nanos ≤ x.key.due.nanos) w.events (settled.clock (home net e) h at) e there;
-      own = made-own net w e h settled good at (Each-from_All (λ (x : Event). h.link.time.nanos ≤ x.key.due.nanos) w.events (settled.clock (home net e) h at) e there);
+      own = made-own net early w e h settled good at (Each-from_All (λ (x : Event). h.link.time.nanos ≤ x.key.due.nanos) w.events (settled.clock (home net e) h at) e there) due;
     } in
     record {
       others = found.0;
@@ -155,17 +146,17 @@ left-set [] i host new is = absurd (let e : None ≡ Some host = is in cc)
 left-set (x ∷ xs) zero host new is = let same : x.link.next ≡ host.link.next = ap (λ (h : HostRecord). h.link.next) (some_is x host is) in omega arith
 left-set (x ∷ xs) (suc i) host new is = omega (arith, left-set xs i host new is)
 
-left_fires : (net : Net) (hosts : List HostRecord) (e : Event) (k : Known (simulation net) hosts e (fires (model net) hosts e))
-    → records_left (fires (model net) hosts e).hosts + length (fires (model net) hosts e).made ≡ records_left hosts
-left_fires net hosts e k =
+left_fires : (net : Net) (early : net.stop.nanos ≤ 2 ^ 61) (records : List HostRecord) (e : Event) (k : Known (simulation net early) records e (fires (model net) records e))
+    → records_left (fires (model net) records e).hosts + length (fires (model net) records e).made ≡ records_left records
+left_fires net early records e k =
     let at = home net e in
-    let f = fire net k.before e in
-    let is : fires (model net) hosts e ≡ with_host hosts at f = fires-is (model net) hosts e k.before k.before_at in
-    let there : slice_get (fires (model net) hosts e).hosts at ≡ Some f.host = ap (λ (g : Firing HostRecord Line). slice_get g.hosts at) is ∙ get-set_same hosts at k.before f.host k.before_at in
+    let f = fires_before_stop net k.before e in
+    let is : fires (model net) records e ≡ with_host records at f = fires-is (model net) records e k.before k.before_at in
+    let there : slice_get (fires (model net) records e).hosts at ≡ Some f.host = ap (λ (g : Firing HostRecord Line). slice_get g.hosts at) is ∙ get-set_same records at k.before f.host k.before_at in
     let now : k.now.link.next ≡ f.host.link.next = ap (λ (h : HostRecord). h.link.next) (some_is k.now f.host (sym k.now_at ∙ there)) in
-    let hosts_is : records_left (fires (model net) hosts e).hosts ≡ records_left (slice_set hosts at f.host) = ap (λ (g : Firing HostRecord Line). records_left g.hosts) is in
-    let change = left-set hosts at k.before f.host k.before_at in
-    let counted : k.now.link.next ≡ k.before.link.next + length (fires (model net) hosts e).made = k.counted in
+    let hosts_is : records_left (fires (model net) records e).hosts ≡ records_left (slice_set records at f.host) = ap (λ (g : Firing HostRecord Line). records_left g.hosts) is in
+    let change = left-set records at k.before f.host k.before_at in
+    let counted : k.now.link.next ≡ k.before.link.next + length (fires (model net) records e).made = k.counted in
     let limited : k.now.link.next ≤ last_number = k.limited in
     omega arith
 
@@ -175,11 +166,11 @@ engine_left-is engine w stands =
     let events = length_permutation engine.queue w.events stands.events in
     omega arith
 
-pub turn-smaller : (net : Net) (old new : Engine) (e : Event) (w : World) (others : List Event) → IsSettled (simulation net) w → take_least w.events ≡ Some (e, others) → EngineStands old w
+pub turn-smaller : (net : Net) (old new : Engine) (e : Event) (w : World) (others : List Event) (early : net.stop.nanos ≤ 2 ^ 61) → IsSettled (simulation net early) w → take_least w.events ≡ Some (e, others) → EngineStands old w
     → EngineStands new (with_fired net e (record w { events = others })) → engine_left new < engine_left old
-turn-smaller net old new e w others settled taken stands after =
-    let known = turn_known (simulation net) w settled e others taken in
-    let hosts = left_fires net w.hosts e known in
+turn-smaller net old new e w others early settled taken stands after =
+    let known = turn_known (simulation net early) w settled e others taken in
+    let hosts = left_fires net early w.hosts e known in
     let long = length_permutation w.events (e ∷ others) (take_least-IsPermutation w.events (e, others) taken) in
     let both = length-append others (fires (model net) w.hosts e).made in
     let before = engine_left-is old w stands in
@@ -190,36 +181,37 @@ turn-smaller net old new e w others settled taken stands after =
 
 -- the engine stands for a world between turns, and a result from there on is one from the beginning on
 abbrev pub HasTurned : Net → World → Engine → Type 0
-HasTurned net start engine = (w : World) × EngineStands engine w × IsSettled (simulation net) w × ((r : World) → IsResult net r w → IsResult net r start)
+HasTurned net start engine =
+    (early : net.stop.nanos ≤ 2 ^ 61) × (w : World) × EngineStands engine w × IsSettled (simulation net early) w × ((r : World) → IsResult net r w → IsResult net r start)
 
-module _ (net : Net) (early : net.stop.nanos ≤ 2 ^ 61) (start : World) (engine : Engine) (rest : List Event) (so_far : HasTurned net start engine) where
+module _ (net : Net) (start : World) (engine : Engine) (rest : List Event) (so_far : HasTurned net start engine) where
   module _ (e : Event) (queue_is : engine.queue ≡ e ∷ rest) (least : All (IsBefore e) rest) (due : e.key.due.nanos < net.stop.nanos) where
-    turn : IsTurnOf net e (without_least engine rest) so_far.0
-    turn = takes-turn net engine rest e so_far.0 early so_far.2 so_far.1 queue_is least due
+    turn : IsTurnOf net so_far.0 e (without_least engine rest) so_far.1
+    turn = takes-turn net engine rest e so_far.1 so_far.0 so_far.3 so_far.2 queue_is least due
 
     pub may-turn : MayFire net (without_least engine rest) e
     may-turn = turn.may
 
     module _ (new : Engine) (fired : (w : World) → EngineStands (without_least engine rest) w → MayFireIn net w e → EngineStands new (with_fired net e w)) where
       abbrev after : World
-      after = with_fired net e (record so_far.0 { events = turn.others })
+      after = with_fired net e (record so_far.1 { events = turn.others })
 
       stands-after : EngineStands new after
-      stands-after = fired (record so_far.0 { events = turn.others }) turn.stands turn.may_in
+      stands-after = fired (record so_far.1 { events = turn.others }) turn.stands turn.may_in
 
       pub has-turned : HasTurned net start new
-      has-turned = (after, stands-after, turn.settled, λ r h. so_far.3 r (goes_on so_far.0 after turn.goes h))
+      has-turned = (so_far.0, after, stands-after, turn.settled, λ r h. so_far.4 r (goes_on so_far.1 after turn.goes h))
 
       pub turned-smaller : engine_left new < engine_left engine
-      turned-smaller = turn-smaller net engine new e so_far.0 turn.others so_far.2 turn.taken so_far.1 stands-after
+      turned-smaller = turn-smaller net engine new e so_far.1 turn.others so_far.0 so_far.3 turn.taken so_far.2 stands-after
 
   pub has-ended : All (λ (e : Event). net.stop.nanos ≤ e.key.due.nanos) engine.queue → (ran : Ran) → ran.hosts ≡ engine.hosts → ran.log ≡ engine.log
       → (w : World) × IsResult net w start × RanStands ran w
   has-ended late ran hosts_is log_is = (
-    so_far.0,
-    so_far.3 so_far.0 (is_over so_far.0 (over-queue net engine so_far.0 so_far.1 late) refl),
+    so_far.1,
+    so_far.4 so_far.1 (is_over so_far.1 (over-queue net engine so_far.1 so_far.2 late) refl),
     record {
-      hosts = subst (λ (hs : Vec HostRun Global). AllStand hs.items so_far.0.hosts) (sym hosts_is) so_far.1.hosts;
-      log = ap (λ (ls : Vec LoggedLine Global). kept_lines ls.items) log_is ∙ so_far.1.log;
+      hosts = subst (λ (hs : Vec HostRun Global). AllStand hs.items so_far.1.hosts) (sym hosts_is) so_far.2.hosts;
+      log = ap (λ (ls : Vec LoggedLine Global). kept_lines ls.items) log_is ∙ so_far.2.log;
     },
   )

@@ -1,4 +1,4 @@
-use Rattle.host_state.proofs.FitOpening.{home-within}
+use Rattle.host_state.proofs.Simulations.{home-within}
 use Rattle.host_state.proofs.laws.homes_are_hosts.Goals as goal
 
 pub returns : goal.returns

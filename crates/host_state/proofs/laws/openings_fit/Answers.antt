@@ -1,4 +1,4 @@
-use Rattle.host_state.proofs.FitOpening.{opens-fit}
+use Rattle.host_state.proofs.Openings.{opens-fit}
 use Rattle.host_state.proofs.laws.openings_fit.Goals as goal
 
 pub returns : goal.returns

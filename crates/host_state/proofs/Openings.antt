@@ -1,58 +1,31 @@
--- An event fires at a host of the net, and what a host begins with fits.
-use Rattle.std.proofs.Common.{◌≡◌, ℕ, ◌+◌, ◌-◌, ◌^◌, ◌<◌, ◌≤◌, Bool, true, false, cond, List, [], ◌∷◌, ◌++◌, length, All, Option, Some, None, IsSome, nat_lt, unwrap_or, refl, sym, subst, arith}
+-- What a host begins with fits.
+use Rattle.std.proofs.Common.{◌≡◌, ℕ, ◌+◌, ◌-◌, ◌^◌, ◌<◌, ◌≤◌, true, List, [], ◌∷◌, ◌++◌, length, All, Option, Some, None, nat_lt, refl, arith}
 use Rattle.std.proofs.lemmas.Bool.Decides.{nat_tests}
 use Rattle.std.proofs.lemmas.List.{length_push}
 use Rattle.std.proofs.lemmas.List.Elements.{All-push}
-use Rattle.std.specs.List.{position_from}
-use Rattle.sim_base.specs.declared.address.Ip.{Ip}
 use Rattle.sim_base.specs.declared.event.Event.{Event}
 use Rattle.sim_base.specs.declared.event.What.{What}
 use Rattle.sim_base.specs.declared.event.What.TheVariants as what
 use Rattle.sim_base.specs.declared.time.Time.{Time}
-use Rattle.sim_base.specs.Addresses.{is_same_ip, host_at}
 use Rattle.net_iface.specs.Lane.{AllFit}
-use Rattle.host_state.specs.declared.line.Line.{Line}
 use Rattle.host_state.specs.declared.net.Net.{Net}
 use Rattle.host_state.specs.declared.row.ProcessRow.{ProcessRow}
 use Rattle.host_state.specs.declared.row.Row.{Row}
-use Rattle.host_state.specs.Fits.{FitsWhat, FitsNet, IsHostOf, IsEventOf, OpensFit}
-use Rattle.host_state.specs.Home.{home, home_of}
+use Rattle.host_state.specs.Fits.{FitsWhat, FitsNet, IsEventOf, OpensFit}
 use Rattle.host_state.specs.Link.{LinkState, new_link, event_of, numbers}
 use Rattle.host_state.specs.Opening.{begins_shutdown, begins_process, begins_all, host_begins, opening}
 use Rattle.world_order.specs.Premises.{AreNumbered}
-use Rattle.host_state.proofs.FitLink.{choose_by, AreNumbered-push, below}
+use Rattle.host_state.proofs.Growth.{by_if}
 
--- where a host has an address, it is one of them
-first_or-within : (test : Bool) (from n : ℕ) (behind : Option ℕ) (k : ℕ) → ((k : ℕ) → behind ≡ Some k → k < (from + 1) + n) → cond test (Some from) behind ≡ Some k → k < from + (n + 1)
-first_or-within true from n behind k later e = let same : from ≡ k = cc in omega (arith, same)
-first_or-within false from n behind k later e = omega (arith, later k e)
+-- one event more
+AreNumbered-push : (n start : ℕ) (es : List Event) (e : Event) → AreNumbered n start es → e.key.source.index ≡ n → e.key.number ≡ start + length es → AreNumbered n start (es ++ e ∷ [])
+AreNumbered-push n start [] e numbered source number = let first : e.key.number ≡ start = omega (arith, number) in (source, first, tt)
+AreNumbered-push n start (f ∷ es) e numbered source number =
+    let next : e.key.number ≡ (start + 1) + length es = omega (arith, number) in
+    (numbered.0, numbered.1, AreNumbered-push n (start + 1) es e numbered.2 source next)
 
-position_from-within : {A : Type 0} (test : A → Bool) (from : ℕ) (xs : List A) (k : ℕ) → position_from test from xs ≡ Some k → k < from + length xs
-position_from-within test from [] k e = cc
-position_from-within test from (x ∷ xs) k e =
-    let inside : k < from + (length xs + 1) = first_or-within (test x) from (length xs) (position_from test (from + 1) xs) k (λ j. position_from-within test (from + 1) xs j) e in
-    omega (arith, inside)
-
-host_at-within : (hosts : List Ip) (ip : Ip) (k : ℕ) → host_at hosts ip ≡ Some k → k < length hosts
-unfolding host_at
-host_at-within hosts ip k e = let inside : k < 0 + length hosts = position_from-within (is_same_ip ip) 0 hosts k e in omega (arith, inside)
-
-home_by : (hosts : List Ip) (ip : Ip) (o : Option ℕ) (source : ℕ) → host_at hosts ip ≡ o → source < length hosts → unwrap_or o source < length hosts
-home_by hosts ip None source e within = within
-home_by hosts ip (Some k) source e within = host_at-within hosts ip k e
-
-home_of-within : (net : Net) (source : ℕ) (w : What) → source < length net.known.book → home_of net source w < length net.known.book
-home_of-within net source (what.Start p) within = within
-home_of-within net source (what.Go p) within = within
-home_of-within net source (what.Shutdown p) within = within
-home_of-within net source (what.Alarm object serial) within = within
-home_of-within net source (what.Loop packet) within = within
-home_of-within net source what.Up within = within
-home_of-within net source what.Down within = within
-home_of-within net source (what.Packet packet) within = home_by net.known.book packet.to.ip (host_at net.known.book packet.to.ip) source refl within
-
-pub home-within : (net : Net) (e : Event) → IsEventOf net e → home net e < length net.known.book
-home-within net e fits = home_of-within net e.key.source.index e.what fits.source
+below : (a b : ℕ) → nat_lt a b ≡ true → a + 1 ≤ b
+below a b e = grind (arith, nat_tests)
 
 -- the events that a host begins with
 record Opens (net : Net) (n : ℕ) (link : LinkState) : Type 0 where
@@ -69,7 +42,7 @@ record Opens (net : Net) (n : ℕ) (link : LinkState) : Type 0 where
 module _ (net : Net) (n : ℕ) where
   numbers-opens : (at : Time) (w : What) (link : LinkState) → Opens net n link → FitsWhat net w → Opens net n (numbers at w link)
   unfolding numbers
-  numbers-opens at w link k fits = choose_by (Opens net n) (nat_lt link.next (2 ^ 64 - 1)) _ _
+  numbers-opens at w link k fits = by_if (Opens net n) (nat_lt link.next (2 ^ 64 - 1)) _ _
       (λ more. record {
         number = k.number;
         within = k.within;
