@@ -1,5 +1,5 @@
 -- The memory that a guest starts with, and the memory after the break moves.
-use Rattle.std.proofs.Common.{◌≡◌, ℕ, ◌+◌, ◌-◌, ◌*◌, ◌<◌, ◌≤◌, inl, Bool, true, cond, List, ◌++◌, All, None, refl, sym, ap, ◌∙◌, arith}
+use Rattle.std.proofs.Common.{◌≡◌, ℕ, ◌+◌, ◌-◌, ◌*◌, ◌<◌, ◌≤◌, inl, Bool, true, cond, List, ◌++◌, map, All, None, refl, sym, ap, ◌∙◌, arith}
 use Rattle.std.proofs.lemmas.Bool.{le-leb}
 use Rattle.elf_load.specs.Cells.{Cells, cells_of}
 use Rattle.elf_load.specs.ProgramImage.{ProgramImage}
@@ -7,27 +7,27 @@ use Rattle.elf_load.specs.declared.page.Page.{Page}
 use Rattle.guest_mem.specs.Memory.{Memory}
 use Rattle.guest_mem.specs.Break.{with_zeros, without, pages_to, pages_end, pages_with, may_break, moved, grown}
 use Rattle.guest_mem.specs.Opening.{stack_base, stack_pages, opening}
-use Rattle.guest_mem.specs.Pages.{numbers, place_of, AreZeroPages}
-use Rattle.guest_mem.proofs.HeapLemmas.{with_zeros-none, without-none, cells_of-grown, below_start, numbers-append}
+use Rattle.guest_mem.specs.Pages.{GuestPage, of_image, zero_pages, mapped_cells, numbers, place_of}
+use Rattle.guest_mem.proofs.HeapLemmas.{with_zeros-none, without-none, cells-grown, zero_pages-are, below_start, cells_of-image, numbers-append}
 use Rattle.guest_mem.proofs.PageLemmas.{place_of-append_nowhere, place_of-range_out}
 
 same_memory : (c d : Cells) (s t b e p q : ℕ) → c ≡ d → s ≡ t → b ≡ e → p ≡ q → ◌≡◌ {A = Memory} (record { cells = c; start = s; break = b; pages = p }) (record { cells = d; start = t; break = e; pages = q })
 same_memory c d s t b e p q h i j k = cc
 
 -- no page of an image and of the stack lies where the heap grows
-pub apart_at_start : (image copies stack now : List Page) (start first count n : ℕ) → now ≡ copies ++ stack → numbers copies ≡ numbers image → All (λ p. 4096 * p.number + 4096 ≤ start) image → AreZeroPages stack first count
+pub apart_at_start : (image : List Page) (now : List GuestPage) (start first count n : ℕ) → now ≡ map of_image image ++ zero_pages first count → All (λ p. 4096 * p.number + 4096 ≤ start) image
     → start ≤ 4096 * n → n < first → place_of (numbers now) n ≡ None
-apart_at_start image copies stack now start first count n is same low zeros above below =
-    ap (λ (ps : List Page). place_of (numbers ps) n) is ∙ ap (λ (ns : List ℕ). place_of ns n) (numbers-append copies stack)
-    ∙ place_of-append_nowhere (numbers copies) (numbers stack) n
-    (ap (λ (ns : List ℕ). place_of ns n) same ∙ below_start image start n low above)
-    (ap (λ (ns : List ℕ). place_of ns n) zeros.numbered ∙ place_of-range_out first count n (inl below))
+apart_at_start image now start first count n is low above below =
+    ap (λ (ps : List GuestPage). place_of (numbers ps) n) is ∙ ap (λ (ns : List ℕ). place_of ns n) (numbers-append (map of_image image) (zero_pages first count))
+    ∙ place_of-append_nowhere (numbers (map of_image image)) (numbers (zero_pages first count)) n
+    (below_start image start n low above)
+    (ap (λ (ns : List ℕ). place_of ns n) (zero_pages-are first count).numbered ∙ place_of-range_out first count n (inl below))
 
-pub cells_at_start : (image copies stack : List Page) (start first count : ℕ) → cells_of copies ≡ cells_of image → numbers copies ≡ numbers image → All (λ p. 4096 * p.number + 4096 ≤ start) image → AreZeroPages stack first count
-    → start ≤ 4096 * first → cells_of (copies ++ stack) ≡ with_zeros (cells_of image) (4096 * first) (4096 * count)
-cells_at_start image copies stack start first count cells same low zeros above =
-    cells_of-grown copies stack first count zeros (λ n past within. ap (λ (ns : List ℕ). place_of ns n) same ∙ below_start image start n low (omega arith))
-    ∙ ap (λ (c : Cells). with_zeros c (4096 * first) (4096 * count)) cells
+pub cells_at_start : (image : List Page) (start first count : ℕ) → All (λ p. 4096 * p.number + 4096 ≤ start) image
+    → start ≤ 4096 * first → mapped_cells (map of_image image ++ zero_pages first count) ≡ with_zeros (cells_of image) (4096 * first) (4096 * count)
+cells_at_start image start first count low above =
+    cells-grown (map of_image image) (zero_pages first count) first count (zero_pages-are first count) (λ n past within. below_start image start n low (omega arith))
+    ∙ ap (λ (c : Cells). with_zeros c (4096 * first) (4096 * count)) (cells_of-image image)
 
 pub opening_is : (image : ProgramImage) (cells : Cells) (start pages : ℕ) → cells ≡ with_zeros image.cells stack_base (4096 * stack_pages) → start ≡ image.start → pages ≡ image.pages + stack_pages → record { cells = cells; start = start; break = start; pages = pages } ≡ opening image
 unfolding opening

@@ -1,32 +1,34 @@
 -- Pages that are mapped and unmapped.
-use Rattle.std.proofs.Common.{◌≡◌, ℕ, zero, suc, ◌+◌, ◌-◌, ◌*◌, ◌<◌, ◌≤◌, ◌⊎◌, inl, inr, Bool, true, false, cond, not, ◌&&◌, List, [], ◌∷◌, ◌++◌, length, get_or, take, drop, Option, Some, None, refl, sym, ap, subst, ◌∙◌, arith, ⊎_elim, ltb, leb, Equal}
+use Rattle.std.proofs.Common.{◌≡◌, ℕ, zero, suc, ◌+◌, ◌-◌, ◌*◌, ◌^◌, ◌<◌, ◌≤◌, ◌⊎◌, inl, inr, Bool, true, false, cond, not, ◌&&◌, List, [], ◌∷◌, ◌++◌, length, get_or, take, drop, Option, Some, None, map, replicate, vec_len, refl, sym, ap, subst, ◌∙◌, arith, ⊎_elim, ltb, leb, Equal}
 use Rattle.std.proofs.lemmas.Bool.{cases_lt, lt-ltb, le-ltb, le-leb}
 use Rattle.std.proofs.lemmas.Bool.Decides.{leb_tells}
-use Rattle.std.proofs.lemmas.List.{length-map, length-append, length-take-le, get_or_append_left, get_or-append-add, get_or-take, map-append, take-map, take-take, take-append-le, drop-append-le, take-append-drop, drop-take, drop-drop, get_or_push, get_or-map}
+use Rattle.std.proofs.lemmas.List.{length-map, length-append, length-take-le, get_or_append_left, get_or-append-add, get_or-take, map-append, take-map, take-take, take-append-le, drop-append-le, take-append-drop, drop-take, drop-drop, get_or_push, get_or-map, get_or-replicate, get_or_past, length-replicate, take_all}
+use Rattle.std.proofs.Math.ListN.{drop_of_length-le}
+use Rattle.std.proofs.lemmas.Simd.{map-map}
 use Rattle.std.proofs.lemmas.List.FromFn.{length-range_with_len}
 use Rattle.std.specs.List.{range_with_len, flat_map, All}
-use Rattle.std.specs.FinMap as map
+use Rattle.std.specs.FinMap as finmap
 use Rattle.std.specs.FinMap.{from_entries, get-retain_keys, same_map, nat_cmp-IsAntisymmetric}
 use Rattle.std.specs.Cmp.{nat_cmp_total, ranked}
-use Rattle.elf_load.specs.Cells.{Cell, Cells, cells_of_page, cells_of}
+use Rattle.elf_load.specs.Cells.{Cell, Cells, cells_from, cells_of_page, cells_of}
 use Rattle.elf_load.specs.declared.page.Page.{Page}
 use Rattle.elf_load.specs.declared.rights.Rights.{Rights}
 use Rattle.std.specs.List.{slice_index}
 use Rattle.guest_mem.specs.Break.{zero_cell, with_zeros, without}
-use Rattle.guest_mem.specs.Pages.{cell_in, numbers, place_of, AreZeroPages, IsPageTable}
+use Rattle.guest_mem.specs.Pages.{GuestPage, of_image, zeros, zero_page, zero_pages, cell_in, cells_within, mapped_cells, numbers, place_of, AreZeroPages, IsPageTable}
 use Rattle.guest_mem.proofs.CellLemmas.{get-insert_same, get-insert_other}
-use Rattle.guest_mem.proofs.PageLemmas.{told, by_page, place_of-in, place_of-append_some, place_of-append_none, place_of-append_nowhere, place_of-range_in, place_of-range_out, get-cells_of_some, get-cells_of_none}
+use Rattle.guest_mem.proofs.PageLemmas.{Entries, entries_of, told, by_page, place_of-in, place_of-append_some, place_of-append_none, place_of-append_nowhere, place_of-range_in, place_of-range_out, get-cells_some, get-cells_none}
 
 -- the cells with zeros over a span
-pub get-with_zeros_in : (cells : Cells) (from n q : ℕ) → from ≤ q → q < from + n → map.get (with_zeros cells from n) q ≡ Some zero_cell
+pub get-with_zeros_in : (cells : Cells) (from n q : ℕ) → from ≤ q → q < from + n → finmap.get (with_zeros cells from n) q ≡ Some zero_cell
 unfolding with_zeros
 get-with_zeros_in cells from zero q above below = absurd (omega arith)
 get-with_zeros_in cells from (suc n) q above below =
     ⊎_elim (λ (earlier : q < from + n). get-insert_other (with_zeros cells from n) (from + n) zero_cell q (λ same. omega arith) ∙ get-with_zeros_in cells from n q above earlier)
-    (λ (last : from + n ≤ q). subst (λ (x : ℕ). map.get (map.insert (with_zeros cells from n) (from + n) zero_cell) x ≡ Some zero_cell) (let e : from + n ≡ q = omega arith in e) (get-insert_same (with_zeros cells from n) (from + n) zero_cell))
+    (λ (last : from + n ≤ q). subst (λ (x : ℕ). finmap.get (finmap.insert (with_zeros cells from n) (from + n) zero_cell) x ≡ Some zero_cell) (let e : from + n ≡ q = omega arith in e) (get-insert_same (with_zeros cells from n) (from + n) zero_cell))
     (cases_lt q (from + n))
 
-pub get-with_zeros_out : (cells : Cells) (from n q : ℕ) → (q < from) ⊎ (from + n ≤ q) → map.get (with_zeros cells from n) q ≡ map.get cells q
+pub get-with_zeros_out : (cells : Cells) (from n q : ℕ) → (q < from) ⊎ (from + n ≤ q) → finmap.get (with_zeros cells from n) q ≡ finmap.get cells q
 unfolding with_zeros
 get-with_zeros_out cells from zero q out = refl
 get-with_zeros_out cells from (suc n) q out =
@@ -38,7 +40,7 @@ unfolding with_zeros
 with_zeros-none cells from = refl
 
 -- the cells without a span
-get-without : (cells : Cells) (from to q : ℕ) → map.get (without cells from to) q ≡ cond (not (leb from q && ltb q to)) (map.get cells q) None
+get-without : (cells : Cells) (from to q : ℕ) → finmap.get (without cells from to) q ≡ cond (not (leb from q && ltb q to)) (finmap.get cells q) None
 get-without cells from to q = get-retain_keys cells (λ a. not (leb from a && ltb a to)) q (λ x tie. ap (λ (a : ℕ). not (leb from a && ltb a to)) (sym (ranked q x Equal (sym tie))))
 
 outside_test : (from to q : ℕ) → (q < from) ⊎ (to ≤ q) → not (leb from q && ltb q to) ≡ true
@@ -49,11 +51,11 @@ outside_test from to q out =
 inside_test : (from to q : ℕ) → from ≤ q → q < to → not (leb from q && ltb q to) ≡ false
 inside_test from to q above below = rw (le-leb from q above, lt-ltb q to below) refl
 
-pub get-without_out : (cells : Cells) (from to q : ℕ) → (q < from) ⊎ (to ≤ q) → map.get (without cells from to) q ≡ map.get cells q
-get-without_out cells from to q out = get-without cells from to q ∙ ap (λ (b : Bool). cond b (map.get cells q) None) (outside_test from to q out)
+pub get-without_out : (cells : Cells) (from to q : ℕ) → (q < from) ⊎ (to ≤ q) → finmap.get (without cells from to) q ≡ finmap.get cells q
+get-without_out cells from to q out = get-without cells from to q ∙ ap (λ (b : Bool). cond b (finmap.get cells q) None) (outside_test from to q out)
 
-pub get-without_in : (cells : Cells) (from to q : ℕ) → from ≤ q → q < to → map.get (without cells from to) q ≡ None
-get-without_in cells from to q above below = get-without cells from to q ∙ ap (λ (b : Bool). cond b (map.get cells q) None) (inside_test from to q above below)
+pub get-without_in : (cells : Cells) (from to q : ℕ) → from ≤ q → q < to → finmap.get (without cells from to) q ≡ None
+get-without_in cells from to q above below = get-without cells from to q ∙ ap (λ (b : Bool). cond b (finmap.get cells q) None) (inside_test from to q above below)
 
 pub without-none : (cells : Cells) (from to : ℕ) → to ≤ from → without cells from to ≡ cells
 without-none cells from to l = same_map nat_cmp_total nat_cmp-IsAntisymmetric _ _ (λ q. get-without_out cells from to q (⊎_elim (λ (below : q < from). inl below) (λ (above : from ≤ q). inr (omega arith)) (cases_lt q from)))
@@ -73,18 +75,18 @@ drop-range a zero n = let at : a + 0 ≡ a = omega arith in let all : n - 0 ≡ 
 drop-range a (suc m) zero = let none : 0 - suc m ≡ 0 = omega arith in rw none refl
 drop-range a (suc m) (suc n) = let at : a + suc m ≡ a + 1 + m = omega arith in let all : suc n - suc m ≡ n - m = omega arith in rw (at, all) (drop-range (a + 1) m n)
 
-pub numbers-append : (ps qs : List Page) → numbers (ps ++ qs) ≡ numbers ps ++ numbers qs
-numbers-append ps qs = map-append (λ (p : Page). p.number) ps qs
+pub numbers-append : (ps qs : List GuestPage) → numbers (ps ++ qs) ≡ numbers ps ++ numbers qs
+numbers-append ps qs = map-append (λ (p : GuestPage). p.number) ps qs
 
 -- some page of a list that has one
-a_page : (ps : List Page) → 0 < length ps → Page
+a_page : (ps : List GuestPage) → 0 < length ps → GuestPage
 a_page [] l = absurd (omega arith)
 a_page (p ∷ ps) l = p
 
-pub cells_of-grown : (ps fresh : List Page) (first count : ℕ) → AreZeroPages fresh first count → ((n : ℕ) → first ≤ n → n < first + count → place_of (numbers ps) n ≡ None)
-    → cells_of (ps ++ fresh) ≡ with_zeros (cells_of ps) (4096 * first) (4096 * count)
-cells_of-grown ps fresh first count zeros apart =
-    same_map nat_cmp_total nat_cmp-IsAntisymmetric _ _ (by_page (λ q. map.get (cells_of (ps ++ fresh)) q ≡ map.get (with_zeros (cells_of ps) (4096 * first) (4096 * count)) q) each)
+pub cells-grown : (ps fresh : List GuestPage) (first count : ℕ) → AreZeroPages fresh first count → ((n : ℕ) → first ≤ n → n < first + count → place_of (numbers ps) n ≡ None)
+    → mapped_cells (ps ++ fresh) ≡ with_zeros (mapped_cells ps) (4096 * first) (4096 * count)
+cells-grown ps fresh first count zeros apart =
+    same_map nat_cmp_total nat_cmp-IsAntisymmetric _ _ (by_page (λ q. finmap.get (mapped_cells (ps ++ fresh)) q ≡ finmap.get (with_zeros (mapped_cells ps) (4096 * first) (4096 * count)) q) each)
   where
     all : numbers (ps ++ fresh) ≡ numbers ps ++ range_with_len first count
     all = numbers-append ps fresh ∙ ap (λ (ns : List ℕ). numbers ps ++ ns) zeros.numbered
@@ -92,33 +94,33 @@ cells_of-grown ps fresh first count zeros apart =
     placed : (n : ℕ) (o : Option ℕ) → place_of (numbers ps ++ range_with_len first count) n ≡ o → place_of (numbers (ps ++ fresh)) n ≡ o
     placed n o is = ap (λ (ns : List ℕ). place_of ns n) all ∙ is
 
-    new_page : (n o : ℕ) → o < 4096 → first ≤ n → n < first + count → map.get (cells_of (ps ++ fresh)) (4096 * n + o) ≡ map.get (with_zeros (cells_of ps) (4096 * first) (4096 * count)) (4096 * n + o)
+    new_page : (n o : ℕ) → o < 4096 → first ≤ n → n < first + count → finmap.get (mapped_cells (ps ++ fresh)) (4096 * n + o) ≡ finmap.get (with_zeros (mapped_cells ps) (4096 * first) (4096 * count)) (4096 * n + o)
     new_page n o l above below =
         let k : ℕ = n - first in
         let at : first + k ≡ n = omega arith in
         let found : place_of (range_with_len first count) n ≡ Some k = subst (λ (x : ℕ). place_of (range_with_len first count) x ≡ Some k) at (place_of-range_in first count k (omega arith)) in
-        let d : Page = a_page fresh (omega (arith, ap (λ (ns : List ℕ). length ns) zeros.numbered, length-range_with_len first count, length-map fresh (λ (p : Page). p.number))) in
+        let d : GuestPage = a_page fresh (omega (arith, ap (λ (ns : List ℕ). length ns) zeros.numbered, length-range_with_len first count, length-map fresh (λ (p : GuestPage). p.number))) in
         let there : place_of (numbers (ps ++ fresh)) n ≡ Some (length (numbers ps) + k) = placed n _ (place_of-append_none (numbers ps) (range_with_len first count) n k (apart n above below) found) in
-        let page : get_or (ps ++ fresh) (length (numbers ps) + k) d ≡ get_or fresh k d = ap (λ (x : ℕ). get_or (ps ++ fresh) (x + k) d) (length-map ps (λ (p : Page). p.number)) ∙ get_or-append-add ps fresh k d in
-        get-cells_of_some (ps ++ fresh) n (length (numbers ps) + k) o d l there ∙ ap (λ (p : Page). Some (cell_in p o)) page ∙ ap (λ (c : Cell). Some c) (zeros.zero k o d (omega arith) l)
-        ∙ sym (get-with_zeros_in (cells_of ps) (4096 * first) (4096 * count) (4096 * n + o) (omega arith) (omega arith))
+        let page : get_or (ps ++ fresh) (length (numbers ps) + k) d ≡ get_or fresh k d = ap (λ (x : ℕ). get_or (ps ++ fresh) (x + k) d) (length-map ps (λ (p : GuestPage). p.number)) ∙ get_or-append-add ps fresh k d in
+        get-cells_some (ps ++ fresh) n (length (numbers ps) + k) o d l there ∙ ap (λ (p : GuestPage). Some (cell_in p o)) page ∙ ap (λ (c : Cell). Some c) (zeros.zero k o d (omega arith) l)
+        ∙ sym (get-with_zeros_in (mapped_cells ps) (4096 * first) (4096 * count) (4096 * n + o) (omega arith) (omega arith))
 
-    old_page : (n o : ℕ) → o < 4096 → (n < first) ⊎ (first + count ≤ n) → map.get (cells_of (ps ++ fresh)) (4096 * n + o) ≡ map.get (with_zeros (cells_of ps) (4096 * first) (4096 * count)) (4096 * n + o)
+    old_page : (n o : ℕ) → o < 4096 → (n < first) ⊎ (first + count ≤ n) → finmap.get (mapped_cells (ps ++ fresh)) (4096 * n + o) ≡ finmap.get (with_zeros (mapped_cells ps) (4096 * first) (4096 * count)) (4096 * n + o)
     old_page n o l out =
-        let same : map.get (with_zeros (cells_of ps) (4096 * first) (4096 * count)) (4096 * n + o) ≡ map.get (cells_of ps) (4096 * n + o) =
-        get-with_zeros_out (cells_of ps) (4096 * first) (4096 * count) (4096 * n + o) (⊎_elim (λ (h : n < first). inl (omega arith)) (λ (h : first + count ≤ n). inr (omega arith)) out) in
+        let same : finmap.get (with_zeros (mapped_cells ps) (4096 * first) (4096 * count)) (4096 * n + o) ≡ finmap.get (mapped_cells ps) (4096 * n + o) =
+        get-with_zeros_out (mapped_cells ps) (4096 * first) (4096 * count) (4096 * n + o) (⊎_elim (λ (h : n < first). inl (omega arith)) (λ (h : first + count ≤ n). inr (omega arith)) out) in
         ⊎_elim (λ (none : place_of (numbers ps) n ≡ None).
-        get-cells_of_none (ps ++ fresh) n o l (placed n None (place_of-append_nowhere (numbers ps) (range_with_len first count) n none (place_of-range_out first count n out)))
-        ∙ sym (same ∙ get-cells_of_none ps n o l none))
+        get-cells_none (ps ++ fresh) n o l (placed n None (place_of-append_nowhere (numbers ps) (range_with_len first count) n none (place_of-range_out first count n out)))
+        ∙ sym (same ∙ get-cells_none ps n o l none))
         (λ (some : (j : ℕ) × (place_of (numbers ps) n ≡ Some j)).
-        let below : some.0 < length ps = omega (arith, (place_of-in (numbers ps) n some.0 some.1).0, length-map ps (λ (p : Page). p.number)) in
-        let d : Page = a_page ps (omega arith) in
-        get-cells_of_some (ps ++ fresh) n some.0 o d l (placed n (Some some.0) (place_of-append_some (numbers ps) (range_with_len first count) n some.0 some.1))
-        ∙ ap (λ (p : Page). Some (cell_in p o)) (get_or_append_left ps fresh d some.0 below)
-        ∙ sym (same ∙ get-cells_of_some ps n some.0 o d l some.1))
+        let below : some.0 < length ps = omega (arith, (place_of-in (numbers ps) n some.0 some.1).0, length-map ps (λ (p : GuestPage). p.number)) in
+        let d : GuestPage = a_page ps (omega arith) in
+        get-cells_some (ps ++ fresh) n some.0 o d l (placed n (Some some.0) (place_of-append_some (numbers ps) (range_with_len first count) n some.0 some.1))
+        ∙ ap (λ (p : GuestPage). Some (cell_in p o)) (get_or_append_left ps fresh d some.0 below)
+        ∙ sym (same ∙ get-cells_some ps n some.0 o d l some.1))
         (told (place_of (numbers ps) n))
 
-    each : (n o : ℕ) → o < 4096 → map.get (cells_of (ps ++ fresh)) (4096 * n + o) ≡ map.get (with_zeros (cells_of ps) (4096 * first) (4096 * count)) (4096 * n + o)
+    each : (n o : ℕ) → o < 4096 → finmap.get (mapped_cells (ps ++ fresh)) (4096 * n + o) ≡ finmap.get (with_zeros (mapped_cells ps) (4096 * first) (4096 * count)) (4096 * n + o)
     each n o l =
         ⊎_elim (λ (below : n < first). old_page n o l (inl below))
         (λ (above : first ≤ n). ⊎_elim (λ (within : n < first + count). new_page n o l above within) (λ (past : first + count ≤ n). old_page n o l (inr past)) (cases_lt n (first + count)))
@@ -160,40 +162,65 @@ module _ (found : ℕ → Option ℕ) (ns : List ℕ) (fixed heap : ℕ) (table 
         bounded = omega arith;
       }
 
--- the table after an append that may have been refused
-pub table-after : (found : ℕ → Option ℕ) (ps fresh now : List Page) (fixed heap count : ℕ) (done : Bool) → now ≡ cond done (ps ++ fresh) ps → IsPageTable found (numbers ps) fixed heap
-    → AreZeroPages fresh (heap + (length (numbers ps) - fixed)) count → heap + (length (numbers ps) - fixed) + count ≤ 0xBF000 → IsPageTable found (numbers now) fixed heap
-table-after found ps fresh now fixed heap count false is table zeros bounded = subst (λ (xs : List Page). IsPageTable found (numbers xs) fixed heap) (sym is) table
-table-after found ps fresh now fixed heap count true is table zeros bounded =
-    let all : numbers now ≡ numbers ps ++ range_with_len (heap + (length (numbers ps) - fixed)) count =
-    ap numbers is ∙ numbers-append ps fresh ∙ ap (λ (ns : List ℕ). numbers ps ++ ns) zeros.numbered in
-    subst (λ (ns : List ℕ). IsPageTable found ns fixed heap) (sym all) (table-grown found (numbers ps) fixed heap table count bounded)
+-- bytes that are all 0
+pub get_or-zeros : (n o : ℕ) → get_or (zeros n) o 0 ≡ 0
+unfolding zeros
+get_or-zeros n o =
+    ⊎_elim (λ (l : o < n). get_or-replicate n o 0 0 l) (λ (past : n ≤ o). get_or_past (replicate n 0) o 0 (omega (arith, length-replicate {A = ℕ} n 0))) (cases_lt o n)
 
--- a page of zeros behind others
-zero_page : (p : Page) (o : ℕ) → slice_index p.bytes.items o ≡ 0 → p.rights ≡ zero_cell.rights → cell_in p o ≡ zero_cell
-zero_page p o byte rights = ap (λ (b : ℕ). record { byte = b; rights = p.rights }) byte ∙ ap (λ (r : Rights). record { byte = 0; rights = r }) rights
+pub length-zeros : (n : ℕ) → length (zeros n) ≡ n
+unfolding zeros
+length-zeros n = length-replicate n 0
 
-pub zero-pushed : (ps : List Page) (p : Page) (first k m : ℕ) → AreZeroPages ps first k → length ps ≡ k → p.number ≡ first + k → ((o : ℕ) → slice_index p.bytes.items o ≡ 0) → p.rights ≡ zero_cell.rights → m ≡ k + 1 → AreZeroPages (ps ++ p ∷ []) first m
-zero-pushed ps p first k m zeros long number bytes rights next =
-    subst (λ (x : ℕ). AreZeroPages (ps ++ p ∷ []) first x) (sym next) record {
-      numbered = numbers-append ps (p ∷ []) ∙ ap (λ (ns : List ℕ). ns ++ p.number ∷ []) zeros.numbered ∙ ap (λ (x : ℕ). range_with_len first k ++ x ∷ []) number ∙ range-append first k 1;
-      zero = λ i o d l within.
-          ⊎_elim (λ (earlier : i < k). ap (λ (q : Page). cell_in q o) (get_or_append_left ps (p ∷ []) d i (omega arith)) ∙ zeros.zero i o d earlier within)
-          (λ (last : k ≤ i). ap (λ (q : Page). cell_in q o) (get_or_push ps p d i (omega arith)) ∙ zero_page p o (bytes o) rights)
-          (cases_lt i k);
+-- new pages of zeros
+pub zero_pages-are : (first count : ℕ) → AreZeroPages (zero_pages first count) first count
+zero_pages-are first count = record {
+      numbered = map-map (λ (p : GuestPage). p.number) (zero_page zero_cell.rights) (range_with_len first count) ∙ map-same (range_with_len first count);
+      zero = λ k o d l within.
+          let there : get_or (zero_pages first count) k d ≡ zero_page zero_cell.rights (get_or (range_with_len first count) k 0) =
+          get_or-map (zero_page zero_cell.rights) (range_with_len first count) k 0 d (omega (arith, length-range_with_len first count)) in
+          ap (λ (p : GuestPage). cell_in p o) there ∙ ap (λ (b : ℕ). record { byte = b; rights = zero_cell.rights }) (get_or-zeros 4096 o);
+    }
+  where
+    map-same : (ns : List ℕ) → map (λ (n : ℕ). n) ns ≡ ns
+    map-same [] = refl
+    map-same (n ∷ ns) = ap (λ (xs : List ℕ). n ∷ xs) (map-same ns)
+
+pub zero_pages-more : (first k : ℕ) → zero_pages first (k + 1) ≡ zero_pages first k ++ zero_page zero_cell.rights (first + k) ∷ []
+zero_pages-more first k = ap (map (zero_page zero_cell.rights)) (sym (range-append first k 1)) ∙ map-append (zero_page zero_cell.rights) (range_with_len first k) (range_with_len (first + k) 1)
+
+-- a table whose heap is empty
+pub table-new : (found : ℕ → Option ℕ) (ns : List ℕ) (fixed heap : ℕ) → fixed ≡ length ns → ((n : ℕ) → n < 2 ^ 20 → found n ≡ place_of ns n) → ((n : ℕ) → heap ≤ n → n < 0xBF000 → place_of ns n ≡ None) → heap ≤ 0xBF000 → IsPageTable found ns fixed heap
+table-new found ns fixed heap all finds apart low =
+    let same : take fixed ns ≡ ns = take_all fixed ns (omega (arith, all)) in
+    let none : length ns - fixed ≡ 0 = omega (arith, all) in
+    record {
+      fixed_in = omega (arith, all);
+      indexed = λ n l. finds n l ∙ ap (λ (ms : List ℕ). place_of ms n) (sym same);
+      rising = drop_of_length-le ns (omega (arith, all)) ∙ ap (range_with_len heap) (sym none);
+      apart = λ n above below. ap (λ (ms : List ℕ). place_of ms n) same ∙ apart n above below;
+      bounded = omega (arith, none, low);
     }
 
+-- the table with such pages at its end
+pub table-with_zeros : (found : ℕ → Option ℕ) (ps now : List GuestPage) (fixed heap count : ℕ) → now ≡ ps ++ zero_pages (heap + (length (numbers ps) - fixed)) count → IsPageTable found (numbers ps) fixed heap
+    → heap + (length (numbers ps) - fixed) + count ≤ 0xBF000 → IsPageTable found (numbers now) fixed heap
+table-with_zeros found ps now fixed heap count is table bounded =
+    let all : numbers now ≡ numbers ps ++ range_with_len (heap + (length (numbers ps) - fixed)) count =
+    ap numbers is ∙ numbers-append ps (zero_pages (heap + (length (numbers ps) - fixed)) count) ∙ ap (λ (ns : List ℕ). numbers ps ++ ns) (zero_pages-are (heap + (length (numbers ps) - fixed)) count).numbered in
+    subst (λ (ns : List ℕ). IsPageTable found ns fixed heap) (sym all) (table-grown found (numbers ps) fixed heap table count bounded)
+
 -- the pages of a table but for its last
-pub cells_of-shrunk : (found : ℕ → Option ℕ) (ps : List Page) (fixed heap k : ℕ) → IsPageTable found (numbers ps) fixed heap → fixed ≤ k → k ≤ length ps
-    → cells_of (take k ps) ≡ without (cells_of ps) (4096 * (heap + (k - fixed))) (4096 * (heap + (length ps - fixed)))
-cells_of-shrunk found ps fixed heap k table above below =
-    same_map nat_cmp_total nat_cmp-IsAntisymmetric _ _ (by_page (λ q. map.get (cells_of (take k ps)) q ≡ map.get (without (cells_of ps) from to) q) each)
+pub cells-shrunk : (found : ℕ → Option ℕ) (ps : List GuestPage) (fixed heap k : ℕ) → IsPageTable found (numbers ps) fixed heap → fixed ≤ k → k ≤ length ps
+    → mapped_cells (take k ps) ≡ without (mapped_cells ps) (4096 * (heap + (k - fixed))) (4096 * (heap + (length ps - fixed)))
+cells-shrunk found ps fixed heap k table above below =
+    same_map nat_cmp_total nat_cmp-IsAntisymmetric _ _ (by_page (λ q. finmap.get (mapped_cells (take k ps)) q ≡ finmap.get (without (mapped_cells ps) from to) q) each)
   where
     ns : List ℕ
     ns = numbers ps
 
     long : length ns ≡ length ps
-    long = length-map ps (λ (p : Page). p.number)
+    long = length-map ps (λ (p : GuestPage). p.number)
 
     from : ℕ
     from = 4096 * (heap + (k - fixed))
@@ -202,7 +229,7 @@ cells_of-shrunk found ps fixed heap k table above below =
     to = 4096 * (heap + (length ps - fixed))
 
     kept : numbers (take k ps) ≡ take k ns
-    kept = sym (take-map (λ (p : Page). p.number) k ps)
+    kept = sym (take-map (λ (p : GuestPage). p.number) k ps)
 
     kept_long : length (take k ns) ≡ k
     kept_long = length-take-le k ns (omega (arith, long))
@@ -216,50 +243,77 @@ cells_of-shrunk found ps fixed heap k table above below =
         let rest : length ns - fixed - (k - fixed) ≡ length ns - k = omega arith in
         ap (λ (x : ℕ). drop x ns) (sym at) ∙ sym (drop-drop (k - fixed) fixed ns) ∙ ap (drop (k - fixed)) table.rising ∙ drop-range heap (k - fixed) (length ns - fixed) ∙ ap (range_with_len (heap + (k - fixed))) rest
 
-    unmapped : (n o : ℕ) → o < 4096 → heap + (k - fixed) ≤ n → n < heap + (length ps - fixed) → map.get (cells_of (take k ps)) (4096 * n + o) ≡ map.get (without (cells_of ps) from to) (4096 * n + o)
+    unmapped : (n o : ℕ) → o < 4096 → heap + (k - fixed) ≤ n → n < heap + (length ps - fixed) → finmap.get (mapped_cells (take k ps)) (4096 * n + o) ≡ finmap.get (without (mapped_cells ps) from to) (4096 * n + o)
     unmapped n o l past within =
         let bounded : heap + (length ns - fixed) ≤ 0xBF000 = table.bounded in
         let nowhere : place_of (take k ns) n ≡ None = place_of-above found (take k ns) fixed heap smaller n (omega (arith, kept_long)) (omega (arith, long)) in
-        get-cells_of_none (take k ps) n o l (ap (λ (ms : List ℕ). place_of ms n) kept ∙ nowhere) ∙ sym (get-without_in (cells_of ps) from to (4096 * n + o) (omega arith) (omega arith))
+        get-cells_none (take k ps) n o l (ap (λ (ms : List ℕ). place_of ms n) kept ∙ nowhere) ∙ sym (get-without_in (mapped_cells ps) from to (4096 * n + o) (omega arith) (omega arith))
 
-    stays : (n o : ℕ) → o < 4096 → (n < heap + (k - fixed)) ⊎ (heap + (length ps - fixed) ≤ n) → map.get (cells_of (take k ps)) (4096 * n + o) ≡ map.get (without (cells_of ps) from to) (4096 * n + o)
+    stays : (n o : ℕ) → o < 4096 → (n < heap + (k - fixed)) ⊎ (heap + (length ps - fixed) ≤ n) → finmap.get (mapped_cells (take k ps)) (4096 * n + o) ≡ finmap.get (without (mapped_cells ps) from to) (4096 * n + o)
     stays n o l out =
-        let same : map.get (without (cells_of ps) from to) (4096 * n + o) ≡ map.get (cells_of ps) (4096 * n + o) =
-        get-without_out (cells_of ps) from to (4096 * n + o) (⊎_elim (λ (h : n < heap + (k - fixed)). inl (omega arith)) (λ (h : heap + (length ps - fixed) ≤ n). inr (omega arith)) out) in
+        let same : finmap.get (without (mapped_cells ps) from to) (4096 * n + o) ≡ finmap.get (mapped_cells ps) (4096 * n + o) =
+        get-without_out (mapped_cells ps) from to (4096 * n + o) (⊎_elim (λ (h : n < heap + (k - fixed)). inl (omega arith)) (λ (h : heap + (length ps - fixed) ≤ n). inr (omega arith)) out) in
         let behind : place_of (drop k ns) n ≡ None =
         ap (λ (ms : List ℕ). place_of ms n) left ∙ place_of-range_out (heap + (k - fixed)) (length ns - k) n (⊎_elim (λ (h : n < heap + (k - fixed)). inl h) (λ (h : heap + (length ps - fixed) ≤ n). inr (omega (arith, long))) out) in
         ⊎_elim (λ (none : place_of (take k ns) n ≡ None).
         let nowhere : place_of ns n ≡ None = subst (λ (ms : List ℕ). place_of ms n ≡ None) (take-append-drop k ns) (place_of-append_nowhere (take k ns) (drop k ns) n none behind) in
-        get-cells_of_none (take k ps) n o l (ap (λ (ms : List ℕ). place_of ms n) kept ∙ none) ∙ sym (same ∙ get-cells_of_none ps n o l nowhere))
+        get-cells_none (take k ps) n o l (ap (λ (ms : List ℕ). place_of ms n) kept ∙ none) ∙ sym (same ∙ get-cells_none ps n o l nowhere))
         (λ (some : (j : ℕ) × (place_of (take k ns) n ≡ Some j)).
         let early : some.0 < k = omega (arith, (place_of-in (take k ns) n some.0 some.1).0, kept_long) in
-        let d : Page = a_page ps (omega arith) in
+        let d : GuestPage = a_page ps (omega arith) in
         let there : place_of ns n ≡ Some some.0 = subst (λ (ms : List ℕ). place_of ms n ≡ Some some.0) (take-append-drop k ns) (place_of-append_some (take k ns) (drop k ns) n some.0 some.1) in
-        get-cells_of_some (take k ps) n some.0 o d l (ap (λ (ms : List ℕ). place_of ms n) kept ∙ some.1)
-        ∙ ap (λ (p : Page). Some (cell_in p o)) (get_or-take k ps some.0 d early)
-        ∙ sym (same ∙ get-cells_of_some ps n some.0 o d l there))
+        get-cells_some (take k ps) n some.0 o d l (ap (λ (ms : List ℕ). place_of ms n) kept ∙ some.1)
+        ∙ ap (λ (p : GuestPage). Some (cell_in p o)) (get_or-take k ps some.0 d early)
+        ∙ sym (same ∙ get-cells_some ps n some.0 o d l there))
         (told (place_of (take k ns) n))
 
-    each : (n o : ℕ) → o < 4096 → map.get (cells_of (take k ps)) (4096 * n + o) ≡ map.get (without (cells_of ps) from to) (4096 * n + o)
+    each : (n o : ℕ) → o < 4096 → finmap.get (mapped_cells (take k ps)) (4096 * n + o) ≡ finmap.get (without (mapped_cells ps) from to) (4096 * n + o)
     each n o l =
         ⊎_elim (λ (below : n < heap + (k - fixed)). stays n o l (inl below))
         (λ (above : heap + (k - fixed) ≤ n). ⊎_elim (λ (within : n < heap + (length ps - fixed)). unmapped n o l above within) (λ (past : heap + (length ps - fixed) ≤ n). stays n o l (inr past)) (cases_lt n (heap + (length ps - fixed))))
         (cases_lt n (heap + (k - fixed)))
 
 -- the pages of an image lie below its first break
-pub below_start : (ps : List Page) (start n : ℕ) → All (λ p. 4096 * p.number + 4096 ≤ start) ps → start ≤ 4096 * n → place_of (numbers ps) n ≡ None
+pub below_start : (ps : List Page) (start n : ℕ) → All (λ p. 4096 * p.number + 4096 ≤ start) ps → start ≤ 4096 * n → place_of (numbers (map of_image ps)) n ≡ None
 below_start ps start n low above =
     ⊎_elim (λ none. none)
-    (λ (some : (i : ℕ) × (place_of (numbers ps) n ≡ Some i)).
-    let found : (some.0 < length (numbers ps)) × (get_or (numbers ps) some.0 0 ≡ n) = place_of-in (numbers ps) n some.0 some.1 in
-    let within : some.0 < length ps = omega (arith, found.0, length-map ps (λ (p : Page). p.number)) in
-    let d : Page = a_page ps (omega arith) in
-    let number : get_or (numbers ps) some.0 0 ≡ (get_or ps some.0 d).number = get_or-map (λ (p : Page). p.number) ps some.0 d 0 within in
+    (λ (some : (i : ℕ) × (place_of (numbers (map of_image ps)) n ≡ Some i)).
+    let found : (some.0 < length (numbers (map of_image ps))) × (get_or (numbers (map of_image ps)) some.0 0 ≡ n) = place_of-in (numbers (map of_image ps)) n some.0 some.1 in
+    let same : numbers (map of_image ps) ≡ map (λ (p : Page). p.number) ps = map-map (λ (p : GuestPage). p.number) of_image ps in
+    let within : some.0 < length ps = omega (arith, found.0, ap (λ (ns : List ℕ). length ns) same, length-map ps (λ (p : Page). p.number)) in
+    let d : Page = an_image_page ps (omega arith) in
+    let number : get_or (numbers (map of_image ps)) some.0 0 ≡ (get_or ps some.0 d).number = ap (λ (ns : List ℕ). get_or ns some.0 0) same ∙ get_or-map (λ (p : Page). p.number) ps some.0 d 0 within in
     let limit : 4096 * (get_or ps some.0 d).number + 4096 ≤ start = low some.0 d within in
     absurd (omega (arith, found.1, number)))
-    (told (place_of (numbers ps) n))
+    (told (place_of (numbers (map of_image ps)) n))
+  where
+    an_image_page : (ps : List Page) → 0 < length ps → Page
+    an_image_page [] l = absurd (omega arith)
+    an_image_page (p ∷ ps) l = p
 
--- lists of pages with the same entries
-pub cells_of-same : (ps qs : List Page) → flat_map cells_of_page ps ≡ flat_map cells_of_page qs → cells_of ps ≡ cells_of qs
-unfolding cells_of
-cells_of-same ps qs same = ap from_entries same
+-- the pages of an image stand for its cells
+cells_from-within : (p : GuestPage) (bs : List ℕ) (o : ℕ) → ((k : ℕ) → k < length bs → get_or p.bytes (o + k) 0 ≡ get_or bs k 0) → cells_from p.rights (4096 * p.number + o) bs ≡ cells_within p o (length bs)
+unfolding cells_within
+cells_from-within p [] o same = refl
+cells_from-within p (b ∷ bs) o same =
+    let first : b ≡ get_or p.bytes o 0 = sym (same 0 (omega arith)) ∙ ap (λ (x : ℕ). get_or p.bytes x 0) (let e : o + 0 ≡ o = omega arith in e) in
+    let there : 4096 * p.number + o + 1 ≡ 4096 * p.number + (o + 1) = omega arith in
+    let later : (k : ℕ) → k < length bs → get_or p.bytes (o + 1 + k) 0 ≡ get_or bs k 0 =
+    λ k l. ap (λ (x : ℕ). get_or p.bytes x 0) (let e : o + 1 + k ≡ o + suc k = omega arith in e) ∙ same (suc k) (omega arith) in
+    ap (λ (es : List (ℕ × Cell)). (4096 * p.number + o, record { byte = b; rights = p.rights }) ∷ es) (ap (λ (x : ℕ). cells_from p.rights x bs) there ∙ cells_from-within p bs (o + 1) later)
+    ∙ ap (λ (x : ℕ). (4096 * p.number + o, record { byte = x; rights = p.rights }) ∷ cells_within p (o + 1) (length bs)) first
+
+image_page : (p : Page) → cells_of_page p ≡ cells_within (of_image p) 0 4096
+image_page p =
+    let whole : length p.bytes.items ≡ 4096 = (let long : vec_len p.bytes ≡ 4096 = p.is_whole in omega (arith, long, p.bytes.ok.0)) in
+    ap (λ (x : ℕ). cells_from p.rights x p.bytes.items) (let e : 4096 * p.number ≡ 4096 * p.number + 0 = omega arith in e)
+    ∙ cells_from-within (of_image p) p.bytes.items 0 (λ k l. ap (λ (x : ℕ). get_or p.bytes.items x 0) (let e : 0 + k ≡ k = omega arith in e))
+    ∙ ap (cells_within (of_image p) 0) whole
+
+image_pages : (ps : List Page) → flat_map cells_of_page ps ≡ flat_map entries_of (map of_image ps)
+image_pages [] = refl
+image_pages (p ∷ ps) = ap (λ (es : Entries). es ++ flat_map cells_of_page ps) (image_page p) ∙ ap (λ (es : Entries). entries_of (of_image p) ++ es) (image_pages ps)
+
+pub cells_of-image : (ps : List Page) → mapped_cells (map of_image ps) ≡ cells_of ps
+unfolding cells_of mapped_cells
+cells_of-image ps = ap from_entries (sym (image_pages ps))

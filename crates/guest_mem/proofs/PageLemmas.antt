@@ -1,6 +1,5 @@
 -- The cells that a list of pages stands for.
-use Rattle.std.proofs.Common.{◌≡◌, ℕ, zero, suc, ◌+◌, ◌-◌, ◌*◌, ◌/◌, ◌%◌, ◌^◌, ◌<◌, ◌≤◌, ◌≢◌, ◌⊎◌, inl, inr, Bool, true, false, cond, List, [], ◌∷◌, ◌++◌, length, get_or, set, take, drop, Option, Some, None, refl, sym, ap, subst, ◌∙◌, arith, ⊎_elim, eq-eqb, eqb, vec_len, Global}
-use Rattle.std.specs.declared.vec.Vec.{Vec}
+use Rattle.std.proofs.Common.{◌≡◌, ℕ, zero, suc, ◌+◌, ◌-◌, ◌*◌, ◌/◌, ◌%◌, ◌^◌, ◌<◌, ◌≤◌, ◌≢◌, ◌⊎◌, inl, inr, Bool, true, false, cond, List, [], ◌∷◌, ◌++◌, length, get_or, set, take, drop, Option, Some, None, refl, sym, ap, subst, ◌∙◌, arith, ⊎_elim, eq-eqb, eqb}
 use Rattle.std.proofs.lemmas.List.{map-set, set-get_or, get_or-set_same, get_or-set_other, length-map, take-append-drop, length-take-le, length-drop, get_or-take, get_or-drop, get_or-map, take_more, map-append}
 use Rattle.std.proofs.lemmas.Bool.{ne_eqb, cases_eq, cases_lt}
 use Rattle.std.specs.Option.{option_map}
@@ -10,12 +9,13 @@ use Rattle.std.specs.FinMap.{get-from_entries, same_map, nat_cmp-IsAntisymmetric
 use Rattle.std.specs.FinMap.Entries.{find}
 use Rattle.std.specs.Cmp.{nat_cmp_total, unsigned_tied}
 use Rattle.std.specs.Ordering.{nat_cmp, eq_by_cmp}
-use Rattle.elf_load.specs.Cells.{Cell, Cells, cells_from, cells_of_page, cells_of}
+use Rattle.elf_load.specs.Cells.{Cell, Cells}
 use Rattle.elf_load.specs.declared.rights.Rights.{Rights}
-use Rattle.elf_load.specs.declared.page.Page.{Page}
 use Rattle.guest_mem.specs.declared.right.Right.{Right}
 use Rattle.guest_mem.specs.Memory.{permits, permitted, byte_for, bytes_for, put_all}
-use Rattle.guest_mem.specs.Pages.{cell_in, numbers, place_of, Rewrites, IsPageTable}
+use Rattle.guest_mem.specs.declared.entry.Entry.{Entry}
+use Rattle.guest_mem.specs.Slots.{entry_numbers}
+use Rattle.guest_mem.specs.Pages.{GuestPage, cell_in, cells_within, mapped_cells, numbers, place_of, Rewrites, IsPageTable}
 use Rattle.guest_mem.proofs.CellLemmas.{get-put_all_in, get-put_all_out, get-put_all_none, bytes_for-all, bytes_for-none}
 
 abbrev pub Entries : Type 0
@@ -46,36 +46,33 @@ look-append_some q (x ∷ xs) ys cell some =
 apart_sides : (m n : ℕ) → m ≢ n → (m < n) ⊎ (n < m)
 apart_sides m n apart = ⊎_elim (λ (l : m < n). inl l) (λ (l : n ≤ m). inr (omega arith)) (cases_lt m n)
 
--- the cells of bytes that stand one after another
-look-cells_from_out : (rights : Rights) (a : ℕ) (bytes : List ℕ) (q : ℕ) → (q < a) ⊎ (a + length bytes ≤ q) → look q (cells_from rights a bytes) ≡ None
-look-cells_from_out rights a [] q out = refl
-look-cells_from_out rights a (b ∷ bs) q out =
-    let apart : q ≢ a = ⊎_elim (λ l same. omega arith) (λ l same. omega arith) out in
-    let later : (q < a + 1) ⊎ (a + 1 + length bs ≤ q) = ⊎_elim (λ l. inl (omega arith)) (λ l. inr (omega arith)) out in
-    look_other q a _ _ apart ∙ look-cells_from_out rights (a + 1) bs q later
-
-look-cells_from_in : (rights : Rights) (a : ℕ) (bytes : List ℕ) (o : ℕ) → o < length bytes → look (a + o) (cells_from rights a bytes) ≡ Some (record { byte = get_or bytes o 0; rights = rights })
-look-cells_from_in rights a [] o l = absurd (omega arith)
-look-cells_from_in rights a (b ∷ bs) zero l =
-    let here : a + 0 ≡ a = omega arith in
-    subst (λ (x : ℕ). look x (cells_from rights a (b ∷ bs)) ≡ Some (record { byte = b; rights = rights })) (sym here) (look_same a (record { byte = b; rights = rights }) (cells_from rights (a + 1) bs))
-look-cells_from_in rights a (b ∷ bs) (suc o) l =
-    let there : a + 1 + o ≡ a + suc o = omega arith in
-    look_other (a + suc o) a (record { byte = b; rights = rights }) (cells_from rights (a + 1) bs) (λ same. omega arith)
-    ∙ subst (λ (x : ℕ). look x (cells_from rights (a + 1) bs) ≡ Some (record { byte = get_or bs o 0; rights = rights })) there (look-cells_from_in rights (a + 1) bs o (omega arith))
-
 -- a page has the cells of its addresses alone
-pub length-page : (p : Page) → length p.bytes.items ≡ 4096
-length-page p = let whole : vec_len p.bytes ≡ 4096 = p.is_whole in omega (arith, whole, p.bytes.ok.0)
+cells_within_out : (p : GuestPage) (o n q : ℕ) → (q < 4096 * p.number + o) ⊎ (4096 * p.number + o + n ≤ q) → look q (cells_within p o n) ≡ None
+unfolding cells_within
+cells_within_out p o zero q out = refl
+cells_within_out p o (suc n) q out =
+    let apart : q ≢ 4096 * p.number + o = ⊎_elim (λ l same. omega arith) (λ l same. omega arith) out in
+    let later : (q < 4096 * p.number + (o + 1)) ⊎ (4096 * p.number + (o + 1) + n ≤ q) = ⊎_elim (λ l. inl (omega arith)) (λ l. inr (omega arith)) out in
+    look_other q (4096 * p.number + o) _ _ apart ∙ cells_within_out p (o + 1) n q later
 
-look-page_in : (p : Page) (o : ℕ) → o < 4096 → look (4096 * p.number + o) (cells_of_page p) ≡ Some (record { byte = get_or p.bytes.items o 0; rights = p.rights })
-look-page_in p o l = look-cells_from_in p.rights (4096 * p.number) p.bytes.items o (omega (arith, length-page p))
+cells_within_in : (p : GuestPage) (o n k : ℕ) → k < n → look (4096 * p.number + (o + k)) (cells_within p o n) ≡ Some (cell_in p (o + k))
+unfolding cells_within
+cells_within_in p o zero k l = absurd (omega arith)
+cells_within_in p o (suc n) zero l =
+    let here : o + 0 ≡ o = omega arith in
+    subst (λ (x : ℕ). look (4096 * p.number + x) (cells_within p o (suc n)) ≡ Some (cell_in p x)) (sym here) (look_same (4096 * p.number + o) (cell_in p o) (cells_within p (o + 1) n))
+cells_within_in p o (suc n) (suc k) l =
+    let there : o + 1 + k ≡ o + suc k = omega arith in
+    look_other (4096 * p.number + (o + suc k)) (4096 * p.number + o) (cell_in p o) (cells_within p (o + 1) n) (λ same. omega arith)
+    ∙ subst (λ (x : ℕ). look (4096 * p.number + x) (cells_within p (o + 1) n) ≡ Some (cell_in p x)) there (cells_within_in p (o + 1) n k (omega arith))
 
-look-page_out : (p : Page) (n o : ℕ) → o < 4096 → p.number ≢ n → look (4096 * n + o) (cells_of_page p) ≡ None
-look-page_out p n o l apart = look-cells_from_out p.rights (4096 * p.number) p.bytes.items (4096 * n + o) (sides (length-page p))
-  where
-    sides : length p.bytes.items ≡ 4096 → (4096 * n + o < 4096 * p.number) ⊎ (4096 * p.number + length p.bytes.items ≤ 4096 * n + o)
-    sides whole = ⊎_elim (λ (below : n < p.number). inl (omega arith)) (λ (above : p.number < n). inr (omega arith)) (apart_sides n p.number (λ same. apart (sym same)))
+look-page_in : (p : GuestPage) (o : ℕ) → o < 4096 → look (4096 * p.number + o) (cells_within p 0 4096) ≡ Some (cell_in p o)
+look-page_in p o l = subst (λ (x : ℕ). look (4096 * p.number + x) (cells_within p 0 4096) ≡ Some (cell_in p x)) (let e : 0 + o ≡ o = omega arith in e) (cells_within_in p 0 4096 o l)
+
+look-page_out : (p : GuestPage) (n o : ℕ) → o < 4096 → p.number ≢ n → look (4096 * n + o) (cells_within p 0 4096) ≡ None
+look-page_out p n o l apart =
+    cells_within_out p 0 4096 (4096 * n + o)
+    (⊎_elim (λ (below : n < p.number). inl (omega arith)) (λ (above : p.number < n). inr (omega arith)) (apart_sides n p.number (λ same. apart (sym same))))
 
 -- what an option holds
 pub told : {A : Type 0} (o : Option A) → (o ≡ None) ⊎ ((x : A) × (o ≡ Some x))
@@ -92,7 +89,7 @@ place_of-other m ms n apart = ap (λ (b : Bool). cond b (Some 0) (option_map (λ
 place_of-later : (m : ℕ) (ms : List ℕ) (n j : ℕ) → m ≢ n → place_of ms n ≡ Some j → place_of (m ∷ ms) n ≡ Some (j + 1)
 place_of-later m ms n j apart is = place_of-other m ms n apart ∙ ap (option_map (λ i. i + 1)) is
 
-place_of-nowhere : (m : ℕ) (ms : List ℕ) (n : ℕ) → m ≢ n → place_of ms n ≡ None → place_of (m ∷ ms) n ≡ None
+pub place_of-nowhere : (m : ℕ) (ms : List ℕ) (n : ℕ) → m ≢ n → place_of ms n ≡ None → place_of (m ∷ ms) n ≡ None
 place_of-nowhere m ms n apart is = place_of-other m ms n apart ∙ ap (option_map (λ i. i + 1)) is
 
 -- where the first of a list stands, and where a later one does
@@ -117,60 +114,61 @@ place_of-in (m ∷ ms) n i is =
       ]
     ]
 
-pub length-numbers : (pages : Vec Page Global) → length (numbers pages.items) ≡ vec_len pages
-length-numbers pages = omega (arith, length-map pages.items (λ (p : Page). p.number), pages.ok.0)
+-- the cells of all pages
+abbrev pub entries_of : GuestPage → Entries
+entries_of p = cells_within p 0 4096
 
-look-pages_some : (ps : List Page) (n i o : ℕ) (d : Page) → o < 4096 → place_of (numbers ps) n ≡ Some i → look (4096 * n + o) (flat_map cells_of_page ps) ≡ Some (cell_in (get_or ps i d) o)
+look-pages_some : (ps : List GuestPage) (n i o : ℕ) (d : GuestPage) → o < 4096 → place_of (numbers ps) n ≡ Some i → look (4096 * n + o) (flat_map entries_of ps) ≡ Some (cell_in (get_or ps i d) o)
 look-pages_some [] n i o d l is = cc
 look-pages_some (p ∷ ps) n i o d l is =
     elim (place_of-step p.number (numbers ps) n) [
       | inl first ↦ let at : 0 ≡ i = cc in
-          let found : look (4096 * n + o) (cells_of_page p) ≡ Some (cell_in p o) = subst (λ (m : ℕ). look (4096 * m + o) (cells_of_page p) ≡ Some (cell_in p o)) first.0 (look-page_in p o l) in
-          subst (λ (x : ℕ). look (4096 * n + o) (flat_map cells_of_page (p ∷ ps)) ≡ Some (cell_in (get_or (p ∷ ps) x d) o)) at (look-append_some (4096 * n + o) (cells_of_page p) (flat_map cells_of_page ps) (cell_in p o) found)
+          let found : look (4096 * n + o) (entries_of p) ≡ Some (cell_in p o) = subst (λ (m : ℕ). look (4096 * m + o) (entries_of p) ≡ Some (cell_in p o)) first.0 (look-page_in p o l) in
+          subst (λ (x : ℕ). look (4096 * n + o) (flat_map entries_of (p ∷ ps)) ≡ Some (cell_in (get_or (p ∷ ps) x d) o)) at (look-append_some (4096 * n + o) (entries_of p) (flat_map entries_of ps) (cell_in p o) found)
       | inr later ↦ elim later [
         | inl nowhere ↦ cc
         | inr there ↦ let at : suc there.0 ≡ i = (let e : there.0 + 1 ≡ i = cc in omega arith) in
-            let found : look (4096 * n + o) (flat_map cells_of_page (p ∷ ps)) ≡ Some (cell_in (get_or ps there.0 d) o) =
-            look-append_none (4096 * n + o) (cells_of_page p) (flat_map cells_of_page ps) (look-page_out p n o l there.1) ∙ look-pages_some ps n there.0 o d l there.2 in
-            subst (λ (x : ℕ). look (4096 * n + o) (flat_map cells_of_page (p ∷ ps)) ≡ Some (cell_in (get_or (p ∷ ps) x d) o)) at found
+            let found : look (4096 * n + o) (flat_map entries_of (p ∷ ps)) ≡ Some (cell_in (get_or ps there.0 d) o) =
+            look-append_none (4096 * n + o) (entries_of p) (flat_map entries_of ps) (look-page_out p n o l there.1) ∙ look-pages_some ps n there.0 o d l there.2 in
+            subst (λ (x : ℕ). look (4096 * n + o) (flat_map entries_of (p ∷ ps)) ≡ Some (cell_in (get_or (p ∷ ps) x d) o)) at found
       ]
     ]
 
-look-pages_none : (ps : List Page) (n o : ℕ) → o < 4096 → place_of (numbers ps) n ≡ None → look (4096 * n + o) (flat_map cells_of_page ps) ≡ None
+look-pages_none : (ps : List GuestPage) (n o : ℕ) → o < 4096 → place_of (numbers ps) n ≡ None → look (4096 * n + o) (flat_map entries_of ps) ≡ None
 look-pages_none [] n o l is = refl
 look-pages_none (p ∷ ps) n o l is =
     elim (place_of-step p.number (numbers ps) n) [
       | inl first ↦ cc
       | inr later ↦ elim later [
-        | inl nowhere ↦ look-append_none (4096 * n + o) (cells_of_page p) (flat_map cells_of_page ps) (look-page_out p n o l nowhere.0) ∙ look-pages_none ps n o l nowhere.1.0
+        | inl nowhere ↦ look-append_none (4096 * n + o) (entries_of p) (flat_map entries_of ps) (look-page_out p n o l nowhere.0) ∙ look-pages_none ps n o l nowhere.1.0
         | inr there ↦ cc
       ]
     ]
 
-pub get-cells_of : (ps : List Page) (q : ℕ) → map.get (cells_of ps) q ≡ look q (flat_map cells_of_page ps)
-unfolding cells_of
-get-cells_of ps q = get-from_entries nat_cmp_total (flat_map cells_of_page ps) q
+pub get-cells : (ps : List GuestPage) (q : ℕ) → map.get (mapped_cells ps) q ≡ look q (flat_map entries_of ps)
+unfolding mapped_cells
+get-cells ps q = get-from_entries nat_cmp_total (flat_map entries_of ps) q
 
 -- the cell at an offset of page n: that of the first page with the number, or none
-pub get-cells_of_some : (ps : List Page) (n i o : ℕ) (d : Page) → o < 4096 → place_of (numbers ps) n ≡ Some i → map.get (cells_of ps) (4096 * n + o) ≡ Some (cell_in (get_or ps i d) o)
-get-cells_of_some ps n i o d l is = get-cells_of ps (4096 * n + o) ∙ look-pages_some ps n i o d l is
+pub get-cells_some : (ps : List GuestPage) (n i o : ℕ) (d : GuestPage) → o < 4096 → place_of (numbers ps) n ≡ Some i → map.get (mapped_cells ps) (4096 * n + o) ≡ Some (cell_in (get_or ps i d) o)
+get-cells_some ps n i o d l is = get-cells ps (4096 * n + o) ∙ look-pages_some ps n i o d l is
 
-pub get-cells_of_none : (ps : List Page) (n o : ℕ) → o < 4096 → place_of (numbers ps) n ≡ None → map.get (cells_of ps) (4096 * n + o) ≡ None
-get-cells_of_none ps n o l is = get-cells_of ps (4096 * n + o) ∙ look-pages_none ps n o l is
+pub get-cells_none : (ps : List GuestPage) (n o : ℕ) → o < 4096 → place_of (numbers ps) n ≡ None → map.get (mapped_cells ps) (4096 * n + o) ≡ None
+get-cells_none ps n o l is = get-cells ps (4096 * n + o) ∙ look-pages_none ps n o l is
 
 -- a fact at each address is one at each offset of each page
 pub by_page : (P : ℕ → Type 0) → ((n o : ℕ) → o < 4096 → P (4096 * n + o)) → (q : ℕ) → P q
 by_page P at q = subst P (let e : 4096 * (q / 4096) + q % 4096 ≡ q = omega arith in e) (at (q / 4096) (q % 4096) (omega arith))
 
 -- a page in the place of another with its number
-pub numbers-set : (ps : List Page) (i : ℕ) (p : Page) → p.number ≡ get_or (numbers ps) i 0 → numbers (set ps i p) ≡ numbers ps
-numbers-set ps i p same = map-set (λ (x : Page). x.number) ps i p ∙ ap (λ (x : ℕ). set (numbers ps) i x) same ∙ set-get_or (numbers ps) i 0
+pub numbers-set : (ps : List GuestPage) (i : ℕ) (p : GuestPage) → p.number ≡ get_or (numbers ps) i 0 → numbers (set ps i p) ≡ numbers ps
+numbers-set ps i p same = map-set (λ (x : GuestPage). x.number) ps i p ∙ ap (λ (x : ℕ). set (numbers ps) i x) same ∙ set-get_or (numbers ps) i 0
 
 same_cell : (b c : ℕ) (r s : Rights) → b ≡ c → r ≡ s → ◌≡◌ {A = Option Cell} (Some (record { byte = b; rights = r })) (Some (record { byte = c; rights = s }))
 same_cell b c r s e f = cc
 
 -- the cells of one page after such a write, the page's own and the others'
-written_same : (cells : Cells) (n o : ℕ) (bytes : List ℕ) (old new : Page) (q : ℕ) → Rewrites old new o bytes → q < 4096 → map.get cells (4096 * n + q) ≡ Some (cell_in old q)
+written_same : (cells : Cells) (n o : ℕ) (bytes : List ℕ) (old new : GuestPage) (q : ℕ) → Rewrites old new o bytes → q < 4096 → map.get cells (4096 * n + q) ≡ Some (cell_in old q)
     → Some (cell_in new q) ≡ map.get (put_all cells (4096 * n + o) bytes) (4096 * n + q)
 written_same cells n o bytes old new q writes l is =
     ⊎_elim (λ (below : q < o). outside (inl below))
@@ -190,12 +188,12 @@ written_same cells n o bytes old new q writes l is =
         let was : map.get cells (4096 * n + o + k) ≡ Some (cell_in old q) = subst (λ (x : ℕ). map.get cells x ≡ Some (cell_in old q)) (sym there) is in
         let now : map.get (put_all cells (4096 * n + o) bytes) (4096 * n + o + k) ≡ Some (record { byte = get_or bytes k 0; rights = old.rights }) =
         get-put_all_in cells (4096 * n + o) bytes k (cell_in old q) (omega arith) was in
-        let byte : get_or new.bytes.items q 0 ≡ get_or bytes k 0 = subst (λ (x : ℕ). get_or new.bytes.items x 0 ≡ get_or bytes k 0) at (writes.inside k (omega arith)) in
+        let byte : get_or new.bytes q 0 ≡ get_or bytes k 0 = subst (λ (x : ℕ). get_or new.bytes x 0 ≡ get_or bytes k 0) at (writes.inside k (omega arith)) in
         same_cell _ _ _ _ byte writes.rights ∙ sym (subst (λ (x : ℕ). map.get (put_all cells (4096 * n + o) bytes) x ≡ Some (record { byte = get_or bytes k 0; rights = old.rights })) there now)
 
 -- a page in the place of the first with its number stands for the cells with bytes put into that page
-pub cells_of-set : (ps : List Page) (i n o : ℕ) (bytes : List ℕ) (new d : Page) → place_of (numbers ps) n ≡ Some i → new.number ≡ n → Rewrites (get_or ps i d) new o bytes → cells_of (set ps i new) ≡ put_all (cells_of ps) (4096 * n + o) bytes
-cells_of-set ps i n o bytes new d is numbered writes = same_map nat_cmp_total nat_cmp-IsAntisymmetric _ _ (by_page (λ q. map.get (cells_of (set ps i new)) q ≡ map.get (put_all (cells_of ps) (4096 * n + o) bytes) q) each)
+pub cells-set : (ps : List GuestPage) (i n o : ℕ) (bytes : List ℕ) (new d : GuestPage) → place_of (numbers ps) n ≡ Some i → new.number ≡ n → Rewrites (get_or ps i d) new o bytes → mapped_cells (set ps i new) ≡ put_all (mapped_cells ps) (4096 * n + o) bytes
+cells-set ps i n o bytes new d is numbered writes = same_map nat_cmp_total nat_cmp-IsAntisymmetric _ _ (by_page (λ q. map.get (mapped_cells (set ps i new)) q ≡ map.get (put_all (mapped_cells ps) (4096 * n + o) bytes) q) each)
   where
     found : (i < length (numbers ps)) × (get_or (numbers ps) i 0 ≡ n)
     found = place_of-in (numbers ps) n i is
@@ -204,7 +202,7 @@ cells_of-set ps i n o bytes new d is numbered writes = same_map nat_cmp_total na
     same_numbers = numbers-set ps i new (numbered ∙ sym found.1)
 
     i_below : i < length ps
-    i_below = omega (arith, found.0, length-map ps (λ (p : Page). p.number))
+    i_below = omega (arith, found.0, length-map ps (λ (p : GuestPage). p.number))
 
     same_place : (j : ℕ) → place_of (numbers ps) n ≡ Some j → j ≡ i
     same_place j at = cc
@@ -214,28 +212,28 @@ cells_of-set ps i n o bytes new d is numbered writes = same_map nat_cmp_total na
         let fits : o + length bytes ≤ 4096 = writes.fits in
         ⊎_elim (λ (below : m < n). inl (omega arith)) (λ (above : n < m). inr (omega arith)) (apart_sides m n other)
 
-    at_page : (m q : ℕ) → q < 4096 → m ≡ n → map.get (cells_of (set ps i new)) (4096 * m + q) ≡ map.get (put_all (cells_of ps) (4096 * n + o) bytes) (4096 * m + q)
+    at_page : (m q : ℕ) → q < 4096 → m ≡ n → map.get (mapped_cells (set ps i new)) (4096 * m + q) ≡ map.get (put_all (mapped_cells ps) (4096 * n + o) bytes) (4096 * m + q)
     at_page m q l same =
-        let now : map.get (cells_of (set ps i new)) (4096 * n + q) ≡ Some (cell_in new q) =
-        get-cells_of_some (set ps i new) n i q d l (ap (λ (ns : List ℕ). place_of ns n) same_numbers ∙ is) ∙ ap (λ (p : Page). Some (cell_in p q)) (get_or-set_same ps i new d i_below) in
-        subst (λ (x : ℕ). map.get (cells_of (set ps i new)) (4096 * x + q) ≡ map.get (put_all (cells_of ps) (4096 * n + o) bytes) (4096 * x + q)) (sym same)
-        (now ∙ written_same (cells_of ps) n o bytes (get_or ps i d) new q writes l (get-cells_of_some ps n i q d l is))
+        let now : map.get (mapped_cells (set ps i new)) (4096 * n + q) ≡ Some (cell_in new q) =
+        get-cells_some (set ps i new) n i q d l (ap (λ (ns : List ℕ). place_of ns n) same_numbers ∙ is) ∙ ap (λ (p : GuestPage). Some (cell_in p q)) (get_or-set_same ps i new d i_below) in
+        subst (λ (x : ℕ). map.get (mapped_cells (set ps i new)) (4096 * x + q) ≡ map.get (put_all (mapped_cells ps) (4096 * n + o) bytes) (4096 * x + q)) (sym same)
+        (now ∙ written_same (mapped_cells ps) n o bytes (get_or ps i d) new q writes l (get-cells_some ps n i q d l is))
 
-    each : (m q : ℕ) → q < 4096 → map.get (cells_of (set ps i new)) (4096 * m + q) ≡ map.get (put_all (cells_of ps) (4096 * n + o) bytes) (4096 * m + q)
+    each : (m q : ℕ) → q < 4096 → map.get (mapped_cells (set ps i new)) (4096 * m + q) ≡ map.get (put_all (mapped_cells ps) (4096 * n + o) bytes) (4096 * m + q)
     each m q l =
         ⊎_elim (λ (none : place_of (numbers ps) m ≡ None).
-        get-cells_of_none (set ps i new) m q l (ap (λ (ns : List ℕ). place_of ns m) same_numbers ∙ none) ∙ sym (get-put_all_none (cells_of ps) (4096 * n + o) bytes (4096 * m + q) (get-cells_of_none ps m q l none)))
+        get-cells_none (set ps i new) m q l (ap (λ (ns : List ℕ). place_of ns m) same_numbers ∙ none) ∙ sym (get-put_all_none (mapped_cells ps) (4096 * n + o) bytes (4096 * m + q) (get-cells_none ps m q l none)))
         (λ (some : (j : ℕ) × (place_of (numbers ps) m ≡ Some j)).
         let j : ℕ = some.0 in
         let there : (j < length (numbers ps)) × (get_or (numbers ps) j 0 ≡ m) = place_of-in (numbers ps) m j some.1 in
-        let now : map.get (cells_of (set ps i new)) (4096 * m + q) ≡ Some (cell_in (get_or (set ps i new) j d) q) =
-        get-cells_of_some (set ps i new) m j q d l (ap (λ (ns : List ℕ). place_of ns m) same_numbers ∙ some.1) in
-        let was : map.get (cells_of ps) (4096 * m + q) ≡ Some (cell_in (get_or ps j d) q) = get-cells_of_some ps m j q d l some.1 in
+        let now : map.get (mapped_cells (set ps i new)) (4096 * m + q) ≡ Some (cell_in (get_or (set ps i new) j d) q) =
+        get-cells_some (set ps i new) m j q d l (ap (λ (ns : List ℕ). place_of ns m) same_numbers ∙ some.1) in
+        let was : map.get (mapped_cells ps) (4096 * m + q) ≡ Some (cell_in (get_or ps j d) q) = get-cells_some ps m j q d l some.1 in
         ⊎_elim (λ (same : j ≡ i). at_page m q l (sym there.1 ∙ ap (λ (x : ℕ). get_or (numbers ps) x 0) same ∙ found.1))
         (λ (apart : j ≢ i).
         let other : m ≢ n = λ (same : m ≡ n). apart (same_place j (subst (λ (x : ℕ). place_of (numbers ps) x ≡ Some j) same some.1)) in
-        now ∙ ap (λ (p : Page). Some (cell_in p q)) (get_or-set_other ps i j new d apart)
-        ∙ sym (get-put_all_out (cells_of ps) (4096 * n + o) bytes (4096 * m + q) (elsewhere m q l other) ∙ was))
+        now ∙ ap (λ (p : GuestPage). Some (cell_in p q)) (get_or-set_other ps i j new d apart)
+        ∙ sym (get-put_all_out (mapped_cells ps) (4096 * n + o) bytes (4096 * m + q) (elsewhere m q l other) ∙ was))
         (cases_eq j i))
         (told (place_of (numbers ps) m))
 
@@ -314,63 +312,58 @@ module _ (found : ℕ → Option ℕ) (ns : List ℕ) (fixed heap : ℕ) (table 
       (told (place_of (take fixed ns) n)))
 
 -- what an access asks of the page that holds its address
-pub byte_for-some : (right : Right) (ps : List Page) (n i o : ℕ) (d : Page) → o < 4096 → place_of (numbers ps) n ≡ Some i → permits right (get_or ps i d).rights ≡ true → byte_for right (cells_of ps) (4096 * n + o) ≡ Some (get_or (get_or ps i d).bytes.items o 0)
-byte_for-some right ps n i o d l is may = ap (permitted right) (get-cells_of_some ps n i o d l is) ∙ ap (λ (b : Bool). cond b (Some (get_or (get_or ps i d).bytes.items o 0)) None) may
+pub byte_for-some : (right : Right) (ps : List GuestPage) (n i o : ℕ) (d : GuestPage) → o < 4096 → place_of (numbers ps) n ≡ Some i → permits right (get_or ps i d).rights ≡ true → byte_for right (mapped_cells ps) (4096 * n + o) ≡ Some (get_or (get_or ps i d).bytes o 0)
+byte_for-some right ps n i o d l is may = ap (permitted right) (get-cells_some ps n i o d l is) ∙ ap (λ (b : Bool). cond b (Some (get_or (get_or ps i d).bytes o 0)) None) may
 
-byte_for-denied : (right : Right) (ps : List Page) (n i o : ℕ) (d : Page) → o < 4096 → place_of (numbers ps) n ≡ Some i → permits right (get_or ps i d).rights ≡ false → byte_for right (cells_of ps) (4096 * n + o) ≡ None
-byte_for-denied right ps n i o d l is may = ap (permitted right) (get-cells_of_some ps n i o d l is) ∙ ap (λ (b : Bool). cond b (Some (get_or (get_or ps i d).bytes.items o 0)) None) may
+byte_for-denied : (right : Right) (ps : List GuestPage) (n i o : ℕ) (d : GuestPage) → o < 4096 → place_of (numbers ps) n ≡ Some i → permits right (get_or ps i d).rights ≡ false → byte_for right (mapped_cells ps) (4096 * n + o) ≡ None
+byte_for-denied right ps n i o d l is may = ap (permitted right) (get-cells_some ps n i o d l is) ∙ ap (λ (b : Bool). cond b (Some (get_or (get_or ps i d).bytes o 0)) None) may
 
-byte_for-none : (right : Right) (ps : List Page) (n o : ℕ) → o < 4096 → place_of (numbers ps) n ≡ None → byte_for right (cells_of ps) (4096 * n + o) ≡ None
-byte_for-none right ps n o l is = ap (permitted right) (get-cells_of_none ps n o l is)
+byte_for-none : (right : Right) (ps : List GuestPage) (n o : ℕ) → o < 4096 → place_of (numbers ps) n ≡ None → byte_for right (mapped_cells ps) (4096 * n + o) ≡ None
+byte_for-none right ps n o l is = ap (permitted right) (get-cells_none ps n o l is)
 
-pub within-some : (right : Right) (ps : List Page) (a i k : ℕ) (d : Page) → a % 4096 + k ≤ 4096 → place_of (numbers ps) (a / 4096) ≡ Some i → permits right (get_or ps i d).rights ≡ true
-    → bytes_for right k (cells_of ps) a ≡ Some (take k (drop (a % 4096) (get_or ps i d).bytes.items))
-within-some right ps a i k d fits is may =
-    let bytes : List ℕ = (get_or ps i d).bytes.items in
+pub within-some : (right : Right) (ps : List GuestPage) (a i k : ℕ) (d : GuestPage) → a % 4096 + k ≤ 4096 → length (get_or ps i d).bytes ≡ 4096 → place_of (numbers ps) (a / 4096) ≡ Some i → permits right (get_or ps i d).rights ≡ true
+    → bytes_for right k (mapped_cells ps) a ≡ Some (take k (drop (a % 4096) (get_or ps i d).bytes))
+within-some right ps a i k d fits whole is may =
+    let bytes : List ℕ = (get_or ps i d).bytes in
     let part : List ℕ = take k (drop (a % 4096) bytes) in
-    let whole : length bytes ≡ 4096 = length-page (get_or ps i d) in
     let as_long : length part ≡ k = length-take-le k (drop (a % 4096) bytes) (omega (arith, length-drop (a % 4096) bytes)) in
-    let each : (o : ℕ) → o < length part → byte_for right (cells_of ps) (a + o) ≡ Some (get_or part o 0) =
+    let each : (o : ℕ) → o < length part → byte_for right (mapped_cells ps) (a + o) ≡ Some (get_or part o 0) =
     λ o l.
     let there : 4096 * (a / 4096) + (a % 4096 + o) ≡ a + o = omega arith in
     let read : get_or part o 0 ≡ get_or bytes (a % 4096 + o) 0 = get_or-take k (drop (a % 4096) bytes) o 0 (omega arith) ∙ get_or-drop (a % 4096) bytes o 0 in
-    subst (λ (x : ℕ). byte_for right (cells_of ps) x ≡ Some (get_or part o 0)) there (byte_for-some right ps (a / 4096) i (a % 4096 + o) d (omega arith) is may ∙ ap (λ (x : ℕ). Some x) (sym read)) in
-    subst (λ (x : ℕ). bytes_for right x (cells_of ps) a ≡ Some part) as_long (bytes_for-all right (cells_of ps) part a each)
+    subst (λ (x : ℕ). byte_for right (mapped_cells ps) x ≡ Some (get_or part o 0)) there (byte_for-some right ps (a / 4096) i (a % 4096 + o) d (omega arith) is may ∙ ap (λ (x : ℕ). Some x) (sym read)) in
+    subst (λ (x : ℕ). bytes_for right x (mapped_cells ps) a ≡ Some part) as_long (bytes_for-all right (mapped_cells ps) part a each)
 
-pub within-denied : (right : Right) (ps : List Page) (a i k : ℕ) (d : Page) → 0 < k → place_of (numbers ps) (a / 4096) ≡ Some i → permits right (get_or ps i d).rights ≡ false → bytes_for right k (cells_of ps) a ≡ None
+pub within-denied : (right : Right) (ps : List GuestPage) (a i k : ℕ) (d : GuestPage) → 0 < k → place_of (numbers ps) (a / 4096) ≡ Some i → permits right (get_or ps i d).rights ≡ false → bytes_for right k (mapped_cells ps) a ≡ None
 within-denied right ps a i k d some is may =
-    bytes_for-none right (cells_of ps) k a 0 some
-    (subst (λ (x : ℕ). byte_for right (cells_of ps) x ≡ None) (let e : 4096 * (a / 4096) + a % 4096 ≡ a + 0 = omega arith in e) (byte_for-denied right ps (a / 4096) i (a % 4096) d (omega arith) is may))
+    bytes_for-none right (mapped_cells ps) k a 0 some
+    (subst (λ (x : ℕ). byte_for right (mapped_cells ps) x ≡ None) (let e : 4096 * (a / 4096) + a % 4096 ≡ a + 0 = omega arith in e) (byte_for-denied right ps (a / 4096) i (a % 4096) d (omega arith) is may))
 
-pub within-none : (right : Right) (ps : List Page) (a k : ℕ) → 0 < k → place_of (numbers ps) (a / 4096) ≡ None → bytes_for right k (cells_of ps) a ≡ None
+pub within-none : (right : Right) (ps : List GuestPage) (a k : ℕ) → 0 < k → place_of (numbers ps) (a / 4096) ≡ None → bytes_for right k (mapped_cells ps) a ≡ None
 within-none right ps a k some is =
-    bytes_for-none right (cells_of ps) k a 0 some
-    (subst (λ (x : ℕ). byte_for right (cells_of ps) x ≡ None) (let e : 4096 * (a / 4096) + a % 4096 ≡ a + 0 = omega arith in e) (byte_for-none right ps (a / 4096) (a % 4096) (omega arith) is))
+    bytes_for-none right (mapped_cells ps) k a 0 some
+    (subst (λ (x : ℕ). byte_for right (mapped_cells ps) x ≡ None) (let e : 4096 * (a / 4096) + a % 4096 ≡ a + 0 = omega arith in e) (byte_for-none right ps (a / 4096) (a % 4096) (omega arith) is))
 
 -- a write within the page that holds an address
-numbered : (ps : List Page) (n i : ℕ) (d : Page) → place_of (numbers ps) n ≡ Some i → (get_or ps i d).number ≡ n
+numbered : (ps : List GuestPage) (n i : ℕ) (d : GuestPage) → place_of (numbers ps) n ≡ Some i → (get_or ps i d).number ≡ n
 numbered ps n i d is =
     let found : (i < length (numbers ps)) × (get_or (numbers ps) i 0 ≡ n) = place_of-in (numbers ps) n i is in
-    let below : i < length ps = omega (arith, found.0, length-map ps (λ (p : Page). p.number)) in
-    sym (get_or-map (λ (p : Page). p.number) ps i d 0 below) ∙ found.1
+    let below : i < length ps = omega (arith, found.0, length-map ps (λ (p : GuestPage). p.number)) in
+    sym (get_or-map (λ (p : GuestPage). p.number) ps i d 0 below) ∙ found.1
 
-pub numbers-put : (ps : List Page) (n i o : ℕ) (bytes : List ℕ) (new d : Page) → place_of (numbers ps) n ≡ Some i → Rewrites (get_or ps i d) new o bytes → numbers (set ps i new) ≡ numbers ps
+pub numbers-put : (ps : List GuestPage) (n i o : ℕ) (bytes : List ℕ) (new d : GuestPage) → place_of (numbers ps) n ≡ Some i → Rewrites (get_or ps i d) new o bytes → numbers (set ps i new) ≡ numbers ps
 numbers-put ps n i o bytes new d is writes = numbers-set ps i new (writes.number ∙ numbered ps n i d is ∙ sym (place_of-in (numbers ps) n i is).1)
 
-pub cells_of-put : (ps : List Page) (a i : ℕ) (bytes : List ℕ) (new d : Page) → place_of (numbers ps) (a / 4096) ≡ Some i → Rewrites (get_or ps i d) new (a % 4096) bytes → cells_of (set ps i new) ≡ put_all (cells_of ps) a bytes
-cells_of-put ps a i bytes new d is writes =
-    subst (λ (x : ℕ). cells_of (set ps i new) ≡ put_all (cells_of ps) x bytes) (let e : 4096 * (a / 4096) + a % 4096 ≡ a = omega arith in e)
-    (cells_of-set ps i (a / 4096) (a % 4096) bytes new d is (writes.number ∙ numbered ps (a / 4096) i d is) writes)
+pub cells-put : (ps : List GuestPage) (a i : ℕ) (bytes : List ℕ) (new d : GuestPage) → place_of (numbers ps) (a / 4096) ≡ Some i → Rewrites (get_or ps i d) new (a % 4096) bytes → mapped_cells (set ps i new) ≡ put_all (mapped_cells ps) a bytes
+cells-put ps a i bytes new d is writes =
+    subst (λ (x : ℕ). mapped_cells (set ps i new) ≡ put_all (mapped_cells ps) x bytes) (let e : 4096 * (a / 4096) + a % 4096 ≡ a = omega arith in e)
+    (cells-set ps i (a / 4096) (a % 4096) bytes new d is (writes.number ∙ numbered ps (a / 4096) i d is) writes)
 
--- no page lies at or past 2^32
-numbers_below : (ps : List Page) (n : ℕ) → 2 ^ 20 ≤ n → place_of (numbers ps) n ≡ None
-numbers_below [] n l = refl
-numbers_below (p ∷ ps) n l = let low : p.number < 2 ^ 20 = p.in_range in place_of-nowhere p.number (numbers ps) n (λ same. omega arith) (numbers_below ps n l)
-
-pub byte_for-past : (right : Right) (ps : List Page) (a : ℕ) → 2 ^ 32 ≤ a → byte_for right (cells_of ps) a ≡ None
-byte_for-past right ps a l =
-    subst (λ (x : ℕ). byte_for right (cells_of ps) x ≡ None) (let e : 4096 * (a / 4096) + a % 4096 ≡ a = omega arith in e)
-    (byte_for-none right ps (a / 4096) (a % 4096) (omega arith) (numbers_below ps (a / 4096) (omega arith)))
+-- no page has an address at or past 2^32
+pub byte_for-past : (right : Right) (ps : List GuestPage) (a : ℕ) → ((n : ℕ) → 2 ^ 20 ≤ n → place_of (numbers ps) n ≡ None) → 2 ^ 32 ≤ a → byte_for right (mapped_cells ps) a ≡ None
+byte_for-past right ps a low l =
+    subst (λ (x : ℕ). byte_for right (mapped_cells ps) x ≡ None) (let e : 4096 * (a / 4096) + a % 4096 ≡ a = omega arith in e)
+    (byte_for-none right ps (a / 4096) (a % 4096) (omega arith) (low (a / 4096) (omega arith)))
 
 -- one page number behind others
 one_other : (m n : ℕ) → n ≢ m → place_of (m ∷ []) n ≡ None
@@ -398,9 +391,9 @@ pushed_new ms m none n =
         (λ (some : (k : ℕ) × (place_of ms n ≡ Some k)). place_of-append_some ms (m ∷ []) n some.0 some.1 ∙ sym some.1)
         (told (place_of ms n))
 
-pub numbers-more : (ps : List Page) (i : ℕ) (p : Page) → i < length ps → p ≡ get_or ps i p → numbers (take (i + 1) ps) ≡ numbers (take i ps) ++ p.number ∷ []
-numbers-more ps i p l is =
-    ap numbers (take_more ps i p l) ∙ map-append (λ (q : Page). q.number) (take i ps) (get_or ps i p ∷ []) ∙ ap (λ (q : Page). numbers (take i ps) ++ q.number ∷ []) (sym is)
+pub numbers-more : (es : List Entry) (i : ℕ) (e : Entry) → i < length es → e ≡ get_or es i e → entry_numbers (take (i + 1) es) ≡ entry_numbers (take i es) ++ e.number ∷ []
+numbers-more es i e l is =
+    ap entry_numbers (take_more es i e l) ∙ map-append (λ (x : Entry). x.number) (take i es) (get_or es i e ∷ []) ∙ ap (λ (x : Entry). entry_numbers (take i es) ++ x.number ∷ []) (sym is)
 
-pub length-numbers_so_far : (ps : List Page) (i : ℕ) → i ≤ length ps → length (numbers (take i ps)) ≡ i
-length-numbers_so_far ps i l = length-map (take i ps) (λ (p : Page). p.number) ∙ length-take-le i ps l
+pub length-numbers_so_far : (es : List Entry) (i : ℕ) → i ≤ length es → length (entry_numbers (take i es)) ≡ i
+length-numbers_so_far es i l = length-map (take i es) (λ (x : Entry). x.number) ∙ length-take-le i es l

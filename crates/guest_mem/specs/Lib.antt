@@ -2,6 +2,8 @@ pub mod Break
 pub mod Memory
 pub mod Opening
 pub mod PageIndex
+pub mod PageStore
 pub mod PageTable
 pub mod Pages
+pub mod Slots
 pub mod Vectors

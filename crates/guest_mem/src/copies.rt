@@ -1,25 +1,53 @@
 //! Copies of an image's pages.
 
-ghost use Rattle.std.specs.Prelude.{◌≡◌, IfOk, length, vec_len};
-ghost use Rattle.elf_load.specs.Cells.{cells_of};
-ghost use Rattle.guest_mem.specs.Pages.{numbers};
+ghost use Rattle.std.specs.Prelude.{◌≡◌, ℕ, ◌+◌, ◌<◌, ◌≤◌, [], ◌∷◌, ◌++◌, IfOk, length, map, slice_index};
+ghost use Rattle.std.specs.Bool.{OnTrue};
+ghost use Rattle.guest_mem.specs.PageStore.{HasRoom, shown};
+ghost use Rattle.guest_mem.specs.Pages.{of_image};
 
+use crate::pages::Pages;
 use elf_load::Page;
 use std::alloc::{AllocError, Global};
 
-/// A page for each of `pages`, with the same number, rights and bytes.
-pub(crate) fn copies(alloc: Global, pages: &[Page]) -> Result<Vec<Page>, AllocError>
-    ensures cells { IfOk result (λ made. cells_of made.items ≡ cells_of pages.now) }
-    ensures numbered { IfOk result (λ made. numbers made.items ≡ numbers pages.now) }
-    ensures len { IfOk result (λ made. vec_len made ≡ length pages.now) }
+/// A page for each of `image`, with the same number, rights and bytes, and room for `more` pages.
+pub(crate) fn copies(alloc: Global, image: &[Page], more: usize) -> Result<Pages, AllocError>
+    requires { length image.now + more ≤ 4096 }
+    ensures pages { IfOk result (λ made. shown made ≡ map of_image image.now) }
+    ensures count { IfOk result (λ made. made.count ≡ length image.now) }
+    ensures room { IfOk result (λ made. HasRoom made (length image.now + more)) }
 {
-    let mut made = Vec::with_capacity(alloc, pages.len())?;
-    for page in pages {
-        made.push(Page {
-            number: page.number,
-            rights: page.rights,
-            bytes: Vec::from_slice(alloc, page.bytes.as_slice())?,
-        })?;
+    let mut made = Pages::new(alloc, image.len() + more)?;
+    for page in image {
+        copy(&mut made, page);
     }
     Ok(made)
+}
+
+/// A page more, with the number, the rights and the bytes of an image's page. Where all are 0, it takes no slot.
+fn copy(made: &mut Pages, page: &Page)
+    requires few { made.old.count < 4096 }
+    requires room { HasRoom made.old (made.old.count + 1) }
+    ensures copied { shown made.new ≡ shown made.old ++ of_image page.now ∷ [] }
+    ensures count { made.new.count ≡ made.old.count + 1 }
+    ensures room { (n : ℕ) → HasRoom made.old n → HasRoom made.new n }
+{
+    let place = made.len();
+    let bytes = page.bytes.as_slice();
+    made.push(page.number, page.rights);
+    if are_zeros(bytes) {
+        return;
+    }
+    made.write(place, 0, bytes);
+}
+
+/// Whether each byte is 0.
+fn are_zeros(bytes: &[u8]) -> bool
+    ensures { OnTrue result ((o : ℕ) → slice_index bytes.now o ≡ 0) }
+{
+    for &byte in bytes {
+        if byte != 0 {
+            return false;
+        }
+    }
+    true
 }

@@ -1,8 +1,8 @@
 //! The index of a guest's pages: two levels, from a page's number to its place.
 
-ghost use Rattle.std.specs.Prelude.{◌≡◌, ℕ, ◌^◌, ◌<◌, None, Some, IfOk, OnOk, [], length, vec_len, if◌then◌else◌, ◌==◌};
+ghost use Rattle.std.specs.Prelude.{◌≡◌, ℕ, ◌^◌, ◌<◌, None, Some, IfOk, OnOk, [], length, vec_len, if◌then◌else◌, ◌==◌, map};
 
-use elf_load::Page;
+use crate::entry::Entry;
 use std::alloc::{AllocError, Global};
 use std::mem;
 
@@ -23,12 +23,13 @@ pub(crate) struct PageIndex {
 
 impl PageIndex {
     ghost use Rattle.guest_mem.specs.PageIndex.{place_in, Finds};
-    ghost use Rattle.guest_mem.specs.Pages.{numbers, place_of};
+    ghost use Rattle.guest_mem.specs.Pages.{place_of};
+    ghost use Rattle.guest_mem.specs.Slots.{entry_numbers};
 
     /// The index of these pages: of pages with one number the first is found.
-    pub fn of(alloc: Global, pages: &[Page]) -> Result<PageIndex, AllocError>
+    pub fn of(alloc: Global, pages: &[Entry]) -> Result<PageIndex, AllocError>
         requires { length pages.now < 65535 }
-        ensures { IfOk result (λ index. Finds index (numbers pages.now)) }
+        ensures { IfOk result (λ index. Finds index (entry_numbers pages.now)) }
     {
         let mut index = PageIndex::new(alloc)?;
         for (place, page) in pages.iter().enumerate() {

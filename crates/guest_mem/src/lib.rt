@@ -3,13 +3,14 @@
 
 mod bad;
 mod copies;
+mod entry;
 mod index;
 mod mem;
+mod pages;
 mod right;
 mod table;
 #[cfg(test)]
 mod tests;
-mod zero_pages;
 
 pub use bad::Bad;
 pub use mem::Mem;

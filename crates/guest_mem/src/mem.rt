@@ -7,7 +7,6 @@ ghost use Rattle.guest_mem.specs.Opening.{opening};
 
 use crate::copies::copies;
 use crate::table::PageTable;
-use crate::zero_pages::zero_pages;
 use crate::{Bad, Right};
 use elf_load::Image;
 use sim_base::NoMemory;
@@ -33,24 +32,22 @@ const PAGE_LIMIT: usize = 4096;
 #[derive(Drop)]
 pub struct Mem {
     table: PageTable,
-    alloc: Global,
     start: u32,
     end: u32,
 }
 
 impl Model for Mem {
-    ghost use Rattle.std.specs.Prelude.{vec_len};
-    ghost use Rattle.elf_load.specs.Cells.{cells_of};
     ghost use Rattle.guest_mem.specs.Memory.{Memory, memory_code};
-    ghost use Rattle.guest_mem.specs.Pages.{IsLaidOut};
+    ghost use Rattle.guest_mem.specs.PageStore.{shown};
+    ghost use Rattle.guest_mem.specs.Pages.{IsLaidOut, mapped_cells};
 
     ghost Value = { Memory };
 
     ghost coded = { memory_code };
 
-    ghost view = { λ m. record { cells = cells_of m.table.pages.items; start = m.start; break = m.end; pages = vec_len m.table.pages } };
+    ghost view = { λ m. record { cells = mapped_cells (shown m.table.pages); start = m.start; break = m.end; pages = m.table.pages.count } };
 
-    ghost invariant = { λ m. IsLaidOut (vec_len m.table.pages) m.table.fixed m.table.heap m.start m.end };
+    ghost invariant = { λ m. IsLaidOut (m.table.pages.count) m.table.fixed m.table.heap m.start m.end };
 }
 
 impl Mem {
@@ -59,14 +56,12 @@ impl Mem {
     pub fn from_image(alloc: Global, image: &Image) -> Result<Mem, NoMemory>
         ensures { IfOk result (λ m. m ≡ opening image.now) }
     {
-        let mut pages = copies(alloc, image.pages())?;
-        let mut stack = zero_pages(alloc, STACK_FIRST, STACK_PAGES)?;
-        pages.append(&mut stack)?;
+        let mut pages = copies(alloc, image.pages(), STACK_PAGES as usize)?;
+        pages.push_zeros(STACK_FIRST, STACK_PAGES);
         let start = image.start();
         let table = PageTable::new(alloc, pages, pages_to(start))?;
         Ok(Mem {
             table,
-            alloc,
             start,
             end: start,
         })
@@ -182,7 +177,7 @@ impl Mem {
             if self.table.pages.len() + more as usize > PAGE_LIMIT {
                 return Ok(self.end);
             }
-            self.table.grow(self.alloc, more)?;
+            self.table.grow(more)?;
         }
         self.end = to;
         Ok(to)

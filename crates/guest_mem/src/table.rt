@@ -4,17 +4,16 @@ ghost use Rattle.std.specs.Prelude.{◌≡◌, ℕ, ◌+◌, ◌-◌, ◌*◌, �
 ghost use Rattle.std.specs.Bool.{OnTrue};
 ghost use Rattle.std.specs.Option.{option_map};
 ghost use Rattle.std.proofs.Props.{props};
-ghost use Rattle.elf_load.specs.Cells.{cells_of};
 ghost use Rattle.guest_mem.specs.Memory.{bytes_for, number, put_all};
 ghost use Rattle.guest_mem.specs.Break.{with_zeros, without};
 ghost use Rattle.guest_mem.specs.PageIndex.{place_in};
-ghost use Rattle.guest_mem.specs.Pages.{IsPageTable, Rewrites, numbers, place_of};
+ghost use Rattle.guest_mem.specs.PageStore.{shown};
+ghost use Rattle.guest_mem.specs.Pages.{IsPageTable, mapped_cells, numbers, place_of};
 
 use crate::Bad;
 use crate::index::PageIndex;
+use crate::pages::Pages;
 use crate::right::Right;
-use crate::zero_pages::zero_pages;
-use elf_load::Page;
 use std::alloc::{AllocError, Global};
 
 const PAGE_SIZE: u32 = 4096;
@@ -23,27 +22,27 @@ const PAGE_SIZE: u32 = 4096;
 /// rise from `heap` on. Of pages with one number the first counts.
 #[derive(Drop)]
 pub(crate) struct PageTable {
-    pub pages: Vec<Page>,
+    pub pages: Pages,
     pub fixed: usize,
     pub heap: u32,
     pub index: PageIndex,
-    ghost sound: { IsPageTable (place_in index) (numbers pages.items) fixed heap } by { Prim.hlevel props },
+    ghost sound: { IsPageTable (place_in index) (numbers (shown pages)) fixed heap } by { Prim.hlevel props },
 }
 
 impl PageTable {
     ghost use Rattle.guest_mem.specs.PageTable.{IsSameShape};
 
     /// A table of these pages, whose heap begins at page `heap` and is empty.
-    pub fn new(alloc: Global, pages: Vec<Page>, heap: u32) -> Result<PageTable, AllocError>
-        requires few { vec_len pages ≤ 4096 }
+    pub fn new(alloc: Global, pages: Pages, heap: u32) -> Result<PageTable, AllocError>
+        requires few { pages.count ≤ 4096 }
         requires bounded { heap ≤ 0xBF000 }
-        requires apart { (n : ℕ) → heap ≤ n → n < 0xBF000 → place_of (numbers pages.items) n ≡ None }
-        ensures pages { IfOk result (λ table. table.pages.items ≡ pages.items) }
-        ensures fixed { IfOk result (λ table. table.fixed ≡ vec_len pages) }
-        ensures count { IfOk result (λ table. vec_len table.pages ≡ vec_len pages) }
+        requires apart { (n : ℕ) → heap ≤ n → n < 0xBF000 → place_of (numbers (shown pages)) n ≡ None }
+        ensures pages { IfOk result (λ table. shown table.pages ≡ shown pages) }
+        ensures fixed { IfOk result (λ table. table.fixed ≡ pages.count) }
+        ensures count { IfOk result (λ table. table.pages.count ≡ pages.count) }
         ensures heap { IfOk result (λ table. table.heap ≡ heap) }
     {
-        let index = PageIndex::of(alloc, &pages)?;
+        let index = PageIndex::of(alloc, pages.entries())?;
         let fixed = pages.len();
         Ok(PageTable {
             pages,
@@ -57,7 +56,7 @@ impl PageTable {
     #[inline]
     fn place(&self, number: u32) -> Option<usize>
         requires { number < 2 ^ 20 }
-        ensures { result ≡ place_of (numbers self.now.pages.items) number }
+        ensures { result ≡ place_of (numbers (shown self.now.pages)) number }
     {
         let after = number.wrapping_sub(self.heap) as usize;
         if after < self.pages.len() - self.fixed {
@@ -72,15 +71,13 @@ impl PageTable {
     pub fn within(&self, right: Right, at: u32, len: usize) -> Option<&[u8]>
         requires some { 0 < len }
         requires in_page { at % 4096 + len ≤ 4096 }
-        ensures found { MatchOption result (bytes_for right len (cells_of self.now.pages.items) at ≡ None)
-            (λ bytes. bytes_for right len (cells_of self.now.pages.items) at ≡ Some bytes.now) }
+        ensures found { MatchOption result (bytes_for right len (mapped_cells (shown self.now.pages)) at ≡ None)
+            (λ bytes. bytes_for right len (mapped_cells (shown self.now.pages)) at ≡ Some bytes.now) }
         ensures whole { IfSome result (λ bytes. length bytes.now ≡ len) }
     {
         let place = self.place(at / PAGE_SIZE)?;
-        let page = &self.pages[place];
-        if right.is_among(page.rights) {
-            let offset = (at % PAGE_SIZE) as usize;
-            Some(&page.bytes[offset..offset + len])
+        if right.is_among(self.pages.rights(place)) {
+            Some(self.pages.part(place, (at % PAGE_SIZE) as usize, len))
         } else {
             None
         }
@@ -92,27 +89,27 @@ impl PageTable {
         requires some { 0 < length bytes.now }
         requires in_page { at % 4096 + length bytes.now ≤ 4096 }
         ensures put { OnOk result
-            (cells_of self.new.pages.items ≡ put_all (cells_of self.old.pages.items) at bytes.now) }
+            (mapped_cells (shown self.new.pages) ≡ put_all (mapped_cells (shown self.old.pages)) at bytes.now) }
         ensures may { OnOk result
-            (IsSome (bytes_for Right.Write (length bytes.now) (cells_of self.old.pages.items) at)) }
+            (IsSome (bytes_for Right.Write (length bytes.now) (mapped_cells (shown self.old.pages)) at)) }
         ensures bad { OnErr result
-            (bytes_for Right.Write (length bytes.now) (cells_of self.old.pages.items) at ≡ None) }
+            (bytes_for Right.Write (length bytes.now) (mapped_cells (shown self.old.pages)) at ≡ None) }
         ensures unchanged { OnErr result (self.new ≡ self.old) }
         ensures kept { IsSameShape self.old self.new }
     {
         let Some(place) = self.place(at / PAGE_SIZE) else {
             return Err(Bad);
         };
-        if !Right::Write.is_among(self.pages[place].rights) {
+        if !Right::Write.is_among(self.pages.rights(place)) {
             return Err(Bad);
         }
-        overwrite(&mut self.pages[place], (at % PAGE_SIZE) as usize, bytes);
+        self.pages.write(place, (at % PAGE_SIZE) as usize, bytes);
         Ok(())
     }
 
     /// Whether each of the `len` addresses from `at` on is mapped with the right.
     pub fn is_open(&self, right: Right, at: u32, len: usize) -> bool
-        ensures value { result ≡ is_some (bytes_for right len (cells_of self.now.pages.items) at) }
+        ensures value { result ≡ is_some (bytes_for right len (mapped_cells (shown self.now.pages)) at) }
         ensures in_range { OnTrue result (at + len ≤ 2 ^ 32) }
     {
         if len as u64 > (1 << 32) - u64::from(at) {
@@ -133,9 +130,9 @@ impl PageTable {
     /// Fills `into` with the bytes from `at` on, where each is mapped with the right.
     pub fn copy_out(&self, right: Right, at: u32, into: &mut [u8]) -> Result<(), Bad>
         ensures ok { OnOk result
-            (bytes_for right (length into.old) (cells_of self.now.pages.items) at ≡ Some into.new) }
+            (bytes_for right (length into.old) (mapped_cells (shown self.now.pages)) at ≡ Some into.new) }
         ensures bad { OnErr result
-            (bytes_for right (length into.old) (cells_of self.now.pages.items) at ≡ None) }
+            (bytes_for right (length into.old) (mapped_cells (shown self.now.pages)) at ≡ None) }
         ensures unchanged { OnErr result (into.new ≡ into.old) }
     {
         let len = into.len();
@@ -158,11 +155,11 @@ impl PageTable {
     /// Puts `bytes` at `at`, where each address may be written.
     pub fn copy_in(&mut self, at: u32, bytes: &[u8]) -> Result<(), Bad>
         ensures put { OnOk result
-            (cells_of self.new.pages.items ≡ put_all (cells_of self.old.pages.items) at bytes.now) }
+            (mapped_cells (shown self.new.pages) ≡ put_all (mapped_cells (shown self.old.pages)) at bytes.now) }
         ensures may { OnOk result
-            (IsSome (bytes_for Right.Write (length bytes.now) (cells_of self.old.pages.items) at)) }
+            (IsSome (bytes_for Right.Write (length bytes.now) (mapped_cells (shown self.old.pages)) at)) }
         ensures bad { OnErr result
-            (bytes_for Right.Write (length bytes.now) (cells_of self.old.pages.items) at ≡ None) }
+            (bytes_for Right.Write (length bytes.now) (mapped_cells (shown self.old.pages)) at ≡ None) }
         ensures unchanged { OnErr result (self.new ≡ self.old) }
         ensures kept { IsSameShape self.old self.new }
     {
@@ -186,8 +183,8 @@ impl PageTable {
     #[inline]
     pub fn byte(&self, right: Right, at: u32) -> Result<u8, Bad>
         ensures { MatchResult result
-            (λ value. option_map number (bytes_for right 1 (cells_of self.now.pages.items) at) ≡ Some value)
-            (λ _. option_map number (bytes_for right 1 (cells_of self.now.pages.items) at) ≡ None) }
+            (λ value. option_map number (bytes_for right 1 (mapped_cells (shown self.now.pages)) at) ≡ Some value)
+            (λ _. option_map number (bytes_for right 1 (mapped_cells (shown self.now.pages)) at) ≡ None) }
     {
         match self.within(right, at, 1) {
             Some(bytes) => Ok(bytes[0]),
@@ -199,8 +196,8 @@ impl PageTable {
     #[inline]
     pub fn half(&self, right: Right, at: u32) -> Result<u16, Bad>
         ensures { MatchResult result
-            (λ value. option_map number (bytes_for right 2 (cells_of self.now.pages.items) at) ≡ Some value)
-            (λ _. option_map number (bytes_for right 2 (cells_of self.now.pages.items) at) ≡ None) }
+            (λ value. option_map number (bytes_for right 2 (mapped_cells (shown self.now.pages)) at) ≡ Some value)
+            (λ _. option_map number (bytes_for right 2 (mapped_cells (shown self.now.pages)) at) ≡ None) }
     {
         if at % PAGE_SIZE > PAGE_SIZE - 2 {
             let mut bytes = [0; 2];
@@ -219,8 +216,8 @@ impl PageTable {
     #[inline]
     pub fn word(&self, right: Right, at: u32) -> Result<u32, Bad>
         ensures { MatchResult result
-            (λ value. option_map number (bytes_for right 4 (cells_of self.now.pages.items) at) ≡ Some value)
-            (λ _. option_map number (bytes_for right 4 (cells_of self.now.pages.items) at) ≡ None) }
+            (λ value. option_map number (bytes_for right 4 (mapped_cells (shown self.now.pages)) at) ≡ Some value)
+            (λ _. option_map number (bytes_for right 4 (mapped_cells (shown self.now.pages)) at) ≡ None) }
     {
         if at % PAGE_SIZE > PAGE_SIZE - 4 {
             let mut bytes = [0; 4];
@@ -240,11 +237,11 @@ impl PageTable {
     pub fn put(&mut self, at: u32, bytes: &[u8]) -> Result<(), Bad>
         requires some { 0 < length bytes.now }
         ensures put { OnOk result
-            (cells_of self.new.pages.items ≡ put_all (cells_of self.old.pages.items) at bytes.now) }
+            (mapped_cells (shown self.new.pages) ≡ put_all (mapped_cells (shown self.old.pages)) at bytes.now) }
         ensures may { OnOk result
-            (IsSome (bytes_for Right.Write (length bytes.now) (cells_of self.old.pages.items) at)) }
+            (IsSome (bytes_for Right.Write (length bytes.now) (mapped_cells (shown self.old.pages)) at)) }
         ensures bad { OnErr result
-            (bytes_for Right.Write (length bytes.now) (cells_of self.old.pages.items) at ≡ None) }
+            (bytes_for Right.Write (length bytes.now) (mapped_cells (shown self.old.pages)) at ≡ None) }
         ensures unchanged { OnErr result (self.new ≡ self.old) }
         ensures kept { IsSameShape self.old self.new }
     {
@@ -256,30 +253,31 @@ impl PageTable {
     }
 
     /// Maps `count` pages of zeros behind those of the heap. Where memory is wanting, nothing changes.
-    pub fn grow(&mut self, alloc: Global, count: u32) -> Result<(), AllocError>
-        requires { self.old.heap + (vec_len self.old.pages - self.old.fixed) + count ≤ 0xBF000 }
-        ensures mapped { let end = self.old.heap + (vec_len self.old.pages - self.old.fixed) in
+    pub fn grow(&mut self, count: u32) -> Result<(), AllocError>
+        requires few { self.old.pages.count + count ≤ 4096 }
+        requires low { self.old.heap + (self.old.pages.count - self.old.fixed) + count ≤ 0xBF000 }
+        ensures mapped { let end = self.old.heap + (self.old.pages.count - self.old.fixed) in
             OnOk result
-            (cells_of self.new.pages.items
-            ≡ with_zeros (cells_of self.old.pages.items) (4096 * end) (4096 * count)) }
-        ensures more { OnOk result (vec_len self.new.pages ≡ vec_len self.old.pages + count) }
-        ensures unchanged { OnErr result (self.new.pages.items ≡ self.old.pages.items) }
+            (mapped_cells (shown self.new.pages)
+            ≡ with_zeros (mapped_cells (shown self.old.pages)) (4096 * end) (4096 * count)) }
+        ensures more { OnOk result (self.new.pages.count ≡ self.old.pages.count + count) }
+        ensures unchanged { OnErr result (shown self.new.pages ≡ shown self.old.pages) }
         ensures same_heap { self.new.heap ≡ self.old.heap }
         ensures same_fixed { self.new.fixed ≡ self.old.fixed }
     {
         let end = self.heap + (self.pages.len() - self.fixed) as u32;
-        let mut fresh = zero_pages(alloc, end, count)?;
-        self.pages.append(&mut fresh)?;
+        self.pages.reserve(count as usize)?;
+        self.pages.push_zeros(end, count);
         Ok(())
     }
 
     /// Unmaps the last `count` pages of the heap.
     pub fn shrink(&mut self, count: u32)
-        requires { count ≤ vec_len self.old.pages - self.old.fixed }
-        ensures unmapped { let end = self.old.heap + (vec_len self.old.pages - self.old.fixed) in
-            cells_of self.new.pages.items
-            ≡ without (cells_of self.old.pages.items) (4096 * (end - count)) (4096 * end) }
-        ensures fewer { vec_len self.new.pages ≡ vec_len self.old.pages - count }
+        requires { count ≤ self.old.pages.count - self.old.fixed }
+        ensures unmapped { let end = self.old.heap + (self.old.pages.count - self.old.fixed) in
+            mapped_cells (shown self.new.pages)
+            ≡ without (mapped_cells (shown self.old.pages)) (4096 * (end - count)) (4096 * end) }
+        ensures fewer { self.new.pages.count ≡ self.old.pages.count - count }
         ensures same_heap { self.new.heap ≡ self.old.heap }
         ensures same_fixed { self.new.fixed ≡ self.old.fixed }
     {
@@ -293,13 +291,4 @@ fn len_in_page(at: u32, len: usize) -> usize
 {
     let left = (PAGE_SIZE - at % PAGE_SIZE) as usize;
     left.min(len)
-}
-
-/// Puts `bytes` into a page from an offset on.
-#[inline]
-fn overwrite(page: &mut Page, offset: usize, bytes: &[u8])
-    requires { offset + length bytes.now ≤ 4096 }
-    ensures { Rewrites page.old page.new offset bytes.now }
-{
-    page.bytes[offset..offset + bytes.len()].copy_from_slice(bytes);
 }

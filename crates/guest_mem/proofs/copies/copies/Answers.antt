@@ -1,12 +1,11 @@
-use Rattle.std.proofs.Common.{List, ap, ◌∙◌}
-use Rattle.std.proofs.lemmas.List.{take_all}
-use Rattle.std.specs.List.{flat_map}
-use Rattle.elf_load.specs.Cells.{cells_of_page}
-use Rattle.elf_load.specs.declared.page.Page.{Page}
-use Rattle.guest_mem.proofs.HeapLemmas.{cells_of-same}
+use Rattle.std.proofs.Common.{◌≡◌, ◌+◌, List, [], ◌∷◌, ◌++◌, sym, ap, ◌∙◌, arith}
+use Rattle.guest_mem.specs.Pages.{GuestPage, of_image}
+use Rattle.guest_mem.proofs.SlotLemmas.{images-more}
 use Rattle.guest_mem.proofs.copies.copies.Goals as goal
 
-pub returns-clause-cells : goal.returns-clause-cells
-returns-clause-cells c =
-    cells_of-same c.loop-page.made.items c.args.pages.now
-    (c.loop-page.invariant.0.cells ∙ ap (λ (ps : List Page). flat_map cells_of_page ps) (take_all c.loop-page.page-index c.args.pages.now c.loop-page-test.false))
+pub loop-page-preserved : goal.loop-page-preserved
+loop-page-preserved c =
+    (c.copy.ensures.copied ∙ ap (λ (ps : List GuestPage). ps ++ of_image c.page-item.result ∷ []) c.loop-page.invariant.0
+    ∙ sym (images-more c.args.image.now c.loop-page.page-index c.page-item.result c.loop-page-test.true c.page-item.is),
+    omega (arith, c.copy.ensures.count, c.loop-page.invariant.1),
+    c.copy.ensures.room _ c.loop-page.invariant.2)

@@ -1,14 +1,7 @@
-use Rattle.std.proofs.Common.{◌≡◌, List, take, vec_len}
-use Rattle.std.specs.List.{flat_map}
-use Rattle.elf_load.specs.Cells.{cells_of_page}
-use Rattle.elf_load.specs.declared.page.Page.{Page}
-use Rattle.guest_mem.specs.Pages.{numbers}
+use Rattle.std.proofs.Common.{◌≡◌, ◌+◌, List, length, map, take}
+use Rattle.guest_mem.specs.PageStore.{HasRoom, shown}
+use Rattle.guest_mem.specs.Pages.{of_image}
 use Rattle.guest_mem.proofs.copies.copies.Given as goal
 
--- the pages so far are copied
-pub record AreCopies (made pages : List Page) : Type 0 where
-  pub cells : flat_map cells_of_page made ≡ flat_map cells_of_page pages
-  pub numbered : numbers made ≡ numbers pages
-
 abbrev pub invariant-loop-page : goal.invariant-loop-page
-invariant-loop-page l = AreCopies l.made.items (take l.page-index l.pages) × (vec_len l.made ≡ l.page-index)
+invariant-loop-page l = (shown l.made ≡ map of_image (take l.page-index l.image)) × (l.made.count ≡ l.page-index) × HasRoom l.made (length l.image + l.more)

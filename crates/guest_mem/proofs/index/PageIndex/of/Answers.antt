@@ -1,7 +1,8 @@
 use Rattle.std.proofs.Common.{◌≡◌, ℕ, ◌+◌, ◌<◌, ◌^◌, Bool, true, false, not, cond, eqb, List, [], ◌∷◌, ◌++◌, length, take, Option, Some, None, refl, sym, ap, ◌∙◌, arith, is_some, subst}
-use Rattle.elf_load.specs.declared.page.Page.{Page}
+use Rattle.guest_mem.specs.declared.entry.Entry.{Entry}
 use Rattle.guest_mem.specs.PageIndex.{Finds}
-use Rattle.guest_mem.specs.Pages.{numbers, place_of}
+use Rattle.guest_mem.specs.Pages.{place_of}
+use Rattle.guest_mem.specs.Slots.{entry_numbers}
 use Rattle.guest_mem.specs.declared.index.PageIndex.{PageIndex}
 use Rattle.guest_mem.proofs.PageLemmas.{pushed_known, pushed_new, numbers-more, length-numbers_so_far}
 use Rattle.guest_mem.proofs.index.PageIndex.of.Goals as goal
@@ -19,20 +20,20 @@ something None false e f = cc
 
 pub loop-place-preserved : goal.loop-place-preserved
 loop-place-preserved c =
-    let ps : List Page = c.args.pages.now in
-    let page : Page = c.index-pages-place.result in
+    let ps : List Entry = c.args.pages.now in
+    let page : Entry = c.index-pages-place.result in
     let place : ℕ = c.loop-place.place in
-    let ns : List ℕ = numbers (take place ps) in
-    let all : numbers (take (place + 1) ps) ≡ ns ++ page.number ∷ [] = numbers-more ps place page c.loop-place-test.true c.index-pages-place.is in
+    let ns : List ℕ = entry_numbers (take place ps) in
+    let all : entry_numbers (take (place + 1) ps) ≡ ns ++ page.number ∷ [] = numbers-more ps place page c.loop-place-test.true c.index-pages-place.is in
     let long : length ns ≡ place = length-numbers_so_far ps place (omega arith) in
     let low : page.number < 2 ^ 20 = page.in_range in
     let was : place_of ns page.number ≡ c.find.result = sym (c.loop-place.invariant page.number low) ∙ sym c.find.ensures in
-    let so_far : (index : PageIndex) → Finds index (ns ++ page.number ∷ []) → Finds index (numbers (take (place + 1) ps)) =
+    let so_far : (index : PageIndex) → Finds index (ns ++ page.number ∷ []) → Finds index (entry_numbers (take (place + 1) ps)) =
     λ (index : PageIndex) finds. subst (λ (ms : List ℕ). Finds index ms) (sym all) finds in
     elim c.if-is_none.branch [
       | then-is_none+in_ok-set w ↦
           let none : place_of ns page.number ≡ None = was ∙ nothing c.find.result c.is_none.result c.is_none.ensures w.if-is_none.true in
-          subst (λ (index : PageIndex). Finds index (numbers (take (place + 1) ps))) (sym w.index-is)
+          subst (λ (index : PageIndex). Finds index (entry_numbers (take (place + 1) ps))) (sym w.index-is)
           (so_far w.set.new.self (λ n l.
           w.in_ok-set.ensures n l
           ∙ ap (λ (o : Option ℕ). cond (eqb n page.number) (Some place) o) (c.loop-place.invariant n l)
@@ -40,6 +41,6 @@ loop-place-preserved c =
           ∙ sym (pushed_new ns page.number none n)))
       | else-is_none w ↦
           let some : (j : ℕ) × (c.find.result ≡ Some j) = something c.find.result c.is_none.result c.is_none.ensures w.if-is_none.false in
-          subst (λ (index : PageIndex). Finds index (numbers (take (place + 1) ps))) (sym w.index-is)
+          subst (λ (index : PageIndex). Finds index (entry_numbers (take (place + 1) ps))) (sym w.index-is)
           (so_far c.loop-place.index (λ n l. c.loop-place.invariant n l ∙ sym (pushed_known ns page.number some.0 (was ∙ some.1) n)))
     ]

@@ -1,7 +1,7 @@
 use Rattle.std.proofs.Common.{take}
 use Rattle.guest_mem.specs.PageIndex.{Finds}
-use Rattle.guest_mem.specs.Pages.{numbers}
+use Rattle.guest_mem.specs.Slots.{entry_numbers}
 use Rattle.guest_mem.proofs.index.PageIndex.of.Given as goal
 
 abbrev pub invariant-loop-place : goal.invariant-loop-place
-invariant-loop-place l = Finds l.index (numbers (take l.place l.pages))
+invariant-loop-place l = Finds l.index (entry_numbers (take l.place l.pages))

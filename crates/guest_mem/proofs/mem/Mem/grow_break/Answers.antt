@@ -1,14 +1,15 @@
 use Rattle.std.proofs.Common.{◌≡◌, ℕ, ◌+◌, ◌-◌, ◌*◌, ◌≤◌, sym, ap, ◌∙◌, arith, vec_len, subst}
-use Rattle.elf_load.specs.Cells.{cells_of}
 use Rattle.guest_mem.specs.Memory.{Memory}
 use Rattle.guest_mem.specs.Break.{with_zeros, without, pages_to, grown}
 use Rattle.guest_mem.specs.declared.mem.Mem.TheInside.{Inside}
 use Rattle.guest_mem.proofs.BreakLemmas.{moved_down, moved_up}
 use Rattle.guest_mem.proofs.mem.Mem.grow_break.Goals as goal
+use Rattle.guest_mem.specs.Pages.{mapped_cells}
+use Rattle.guest_mem.specs.PageStore.{shown}
 use Rattle.guest_mem.proofs.mem.Mem.grow_break.Goals.{then-wanted-standing, else-wanted-standing+else-len-more-gt-PAGE_LIMIT+in_ok-grow}
 
-abbrev shown : Inside → ℕ → Memory
-shown m break = record { cells = cells_of m.table.pages.items; start = m.start; break = break; pages = vec_len m.table.pages }
+abbrev memory_of : Inside → ℕ → Memory
+memory_of m break = record { cells = mapped_cells (shown m.table.pages); start = m.start; break = break; pages = m.table.pages.count }
 
 pub returns-clause-moved : goal.returns-clause-moved
 returns-clause-moved c =
@@ -17,38 +18,38 @@ returns-clause-moved c =
     let start : ℕ = was.start in
     let old : ℕ = was.end in
     let heap : was.table.heap ≡ pages_to start = c.self.invariant.begins in
-    let counted : vec_len was.table.pages ≡ was.table.fixed + (pages_to old - was.table.heap) = c.self.invariant.counted in
+    let counted : was.table.pages.count ≡ was.table.fixed + (pages_to old - was.table.heap) = c.self.invariant.counted in
     let ordered : start ≤ old = c.self.invariant.ordered in
-    let few : vec_len was.table.pages ≤ 4096 = c.self.invariant.few in
+    let few : was.table.pages.count ≤ 4096 = c.self.invariant.few in
     let standing : c.pages_to-standing.result ≡ pages_to old = c.pages_to-standing.ensures in
     let wanted : c.pages_to-wanted.result ≡ pages_to to = c.pages_to-wanted.ensures in
     let above : start ≤ to = c.if-to-self.false in
     let low : c.pages_to-wanted.result ≤ 0xBF000 = c.if-wanted-gt-HEAP_LIMIT.false in
-    let end : was.table.heap + (vec_len was.table.pages - was.table.fixed) ≡ pages_to old = omega arith in
+    let end : was.table.heap + (was.table.pages.count - was.table.fixed) ≡ pages_to old = omega arith in
     let low_to : pages_to to ≤ 0xBF000 = subst (λ (n : ℕ). n ≤ 0xBF000) wanted low in
     let first_low : pages_to start ≤ pages_to to = omega arith in
-    subst (λ (m : Memory). shown c.if-wanted-standing.self-inside to ≡ grown m to) c.self.view_is
+    subst (λ (m : Memory). memory_of c.if-wanted-standing.self-inside to ≡ grown m to) c.self.view_is
     (elim c.if-wanted-standing.branch [
       | then-wanted-standing w ↦
           let falls : pages_to to ≤ pages_to old = omega (arith, w.if-wanted-standing.true) in
-          let fewer : vec_len w.shrink.new.self.pages ≡ vec_len was.table.pages - (c.pages_to-standing.result - c.pages_to-wanted.result) = w.shrink.ensures.fewer in
-          let from : was.table.heap + (vec_len was.table.pages - was.table.fixed) - (c.pages_to-standing.result - c.pages_to-wanted.result) ≡ pages_to to = omega arith in
-          let cells : cells_of w.shrink.new.self.pages.items ≡ without (cells_of was.table.pages.items) (4096 * pages_to to) (4096 * pages_to old) =
+          let fewer : w.shrink.new.self.pages.count ≡ was.table.pages.count - (c.pages_to-standing.result - c.pages_to-wanted.result) = w.shrink.ensures.fewer in
+          let from : was.table.heap + (was.table.pages.count - was.table.fixed) - (c.pages_to-standing.result - c.pages_to-wanted.result) ≡ pages_to to = omega arith in
+          let cells : mapped_cells (shown w.shrink.new.self.pages) ≡ without (mapped_cells (shown was.table.pages)) (4096 * pages_to to) (4096 * pages_to old) =
           w.shrink.ensures.unmapped
-          ∙ ap (λ (x : ℕ). without (cells_of was.table.pages.items) (4096 * x) (4096 * (was.table.heap + (vec_len was.table.pages - was.table.fixed)))) from
-          ∙ ap (λ (x : ℕ). without (cells_of was.table.pages.items) (4096 * pages_to to) (4096 * x)) end in
-          subst (λ (x : Inside). shown x to ≡ grown (shown was old) to) (sym w.self-inside-is)
-          (moved_down (shown was old) to (vec_len w.shrink.new.self.pages) (cells_of w.shrink.new.self.pages.items) above low_to (omega arith) falls cells (omega arith))
+          ∙ ap (λ (x : ℕ). without (mapped_cells (shown was.table.pages)) (4096 * x) (4096 * (was.table.heap + (was.table.pages.count - was.table.fixed)))) from
+          ∙ ap (λ (x : ℕ). without (mapped_cells (shown was.table.pages)) (4096 * pages_to to) (4096 * x)) end in
+          subst (λ (x : Inside). memory_of x to ≡ grown (memory_of was old) to) (sym w.self-inside-is)
+          (moved_down (memory_of was old) to (w.shrink.new.self.pages.count) (mapped_cells (shown w.shrink.new.self.pages)) above low_to (omega arith) falls cells (omega arith))
       | else-wanted-standing+else-len-more-gt-PAGE_LIMIT+in_ok-grow w ↦
           let rises : pages_to old ≤ pages_to to = omega (arith, w.if-wanted-standing.false) in
           let room : w.len.result + (c.pages_to-wanted.result - c.pages_to-standing.result) ≤ 4096 = w.if-len-more-gt-PAGE_LIMIT.false in
-          let len : w.len.result ≡ vec_len was.table.pages = w.len.ensures in
-          let more : vec_len w.grow.new.self.pages ≡ vec_len was.table.pages + (c.pages_to-wanted.result - c.pages_to-standing.result) = w.in_ok-grow.ensures.more in
+          let len : w.len.result ≡ was.table.pages.count = w.len.ensures in
+          let more : w.grow.new.self.pages.count ≡ was.table.pages.count + (c.pages_to-wanted.result - c.pages_to-standing.result) = w.in_ok-grow.ensures.more in
           let count : c.pages_to-wanted.result - c.pages_to-standing.result ≡ pages_to to - pages_to old = omega arith in
-          let cells : cells_of w.grow.new.self.pages.items ≡ with_zeros (cells_of was.table.pages.items) (4096 * pages_to old) (4096 * (pages_to to - pages_to old)) =
+          let cells : mapped_cells (shown w.grow.new.self.pages) ≡ with_zeros (mapped_cells (shown was.table.pages)) (4096 * pages_to old) (4096 * (pages_to to - pages_to old)) =
           w.in_ok-grow.ensures.mapped
-          ∙ ap (λ (x : ℕ). with_zeros (cells_of was.table.pages.items) (4096 * x) (4096 * (c.pages_to-wanted.result - c.pages_to-standing.result))) end
-          ∙ ap (λ (x : ℕ). with_zeros (cells_of was.table.pages.items) (4096 * pages_to old) (4096 * x)) count in
-          subst (λ (x : Inside). shown x to ≡ grown (shown was old) to) (sym w.self-inside-is)
-          (moved_up (shown was old) to (vec_len w.grow.new.self.pages) (cells_of w.grow.new.self.pages.items) above low_to (omega arith) rises cells (omega arith))
+          ∙ ap (λ (x : ℕ). with_zeros (mapped_cells (shown was.table.pages)) (4096 * x) (4096 * (c.pages_to-wanted.result - c.pages_to-standing.result))) end
+          ∙ ap (λ (x : ℕ). with_zeros (mapped_cells (shown was.table.pages)) (4096 * pages_to old) (4096 * x)) count in
+          subst (λ (x : Inside). memory_of x to ≡ grown (memory_of was old) to) (sym w.self-inside-is)
+          (moved_up (memory_of was old) to (w.grow.new.self.pages.count) (mapped_cells (shown w.grow.new.self.pages)) above low_to (omega arith) rises cells (omega arith))
     ])

@@ -1,15 +1,16 @@
 use Rattle.std.proofs.Common.{◌≡◌, ◌+◌, ◌-◌, ◌^◌, ◌≤◌, ℕ, List, length, take}
-use Rattle.elf_load.specs.Cells.{cells_of}
 use Rattle.guest_mem.specs.Memory.{put_all}
 use Rattle.guest_mem.specs.PageTable.{IsSameShape}
 use Rattle.guest_mem.specs.declared.table.PageTable.{PageTable}
+use Rattle.guest_mem.specs.Pages.{mapped_cells}
+use Rattle.guest_mem.specs.PageStore.{shown}
 use Rattle.guest_mem.proofs.table.PageTable.copy_in.Given as goal
 
 -- the bytes so far are put
 pub record IsPutSoFar (old now : PageTable) (a done : ℕ) (bytes : List ℕ) : Type 0 where
   pub within : done ≤ length bytes
   pub in_range : a + length bytes ≤ 2 ^ 32
-  pub put_so_far : cells_of now.pages.items ≡ put_all (cells_of old.pages.items) a (take done bytes)
+  pub put_so_far : mapped_cells (shown now.pages) ≡ put_all (mapped_cells (shown old.pages)) a (take done bytes)
   pub kept : IsSameShape old now
 
 abbrev pub invariant-loop-done : goal.invariant-loop-done

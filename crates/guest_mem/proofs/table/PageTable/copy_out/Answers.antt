@@ -1,17 +1,19 @@
 use Rattle.std.proofs.Common.{◌≡◌, ℕ, ◌+◌, ◌-◌, ◌≤◌, ◌++◌, List, length, take, Some, sym, ap, ◌∙◌, arith}
 use Rattle.std.proofs.lemmas.Slice.{take-put_mid}
-use Rattle.elf_load.specs.Cells.{Cells, cells_of}
+use Rattle.elf_load.specs.Cells.{Cells}
 use Rattle.guest_mem.proofs.CellLemmas.{bytes_for-append, part_open, length-put_mid}
+use Rattle.guest_mem.specs.Pages.{mapped_cells}
+use Rattle.guest_mem.specs.PageStore.{shown}
 use Rattle.guest_mem.proofs.table.PageTable.copy_out.Goals as goal
 
 pub unreachable-requires : goal.unreachable-requires
 unreachable-requires c =
     let fits : c.loop-done.done + c.len_in_page-count.result ≤ length c.args.into.now = omega arith in
-    part_open c.args.right (cells_of c.args.self.now.pages.items) c.args.at (length c.args.into.now) c.loop-done.done c.len_in_page-count.result c.if-not-is_open.ensures.value fits c.in_default.ensures.found
+    part_open c.args.right (mapped_cells (shown c.args.self.now.pages)) c.args.at (length c.args.into.now) c.loop-done.done c.len_in_page-count.result c.if-not-is_open.ensures.value fits c.in_default.ensures.found
 
 pub loop-done-preserved : goal.loop-done-preserved
 loop-done-preserved c =
-    let cells : Cells = cells_of c.args.self.now.pages.items in
+    let cells : Cells = mapped_cells (shown c.args.self.now.pages) in
     let done : ℕ = c.loop-done.done in
     let count : ℕ = c.len_in_page-count.result in
     let into : List ℕ = c.loop-done.into in

@@ -1,7 +1,9 @@
 use Rattle.std.proofs.Common.{◌≡◌, ◌+◌, ◌-◌, ◌^◌, ◌≤◌, ℕ, List, length, take, Some}
-use Rattle.elf_load.specs.Cells.{Cells, cells_of}
+use Rattle.elf_load.specs.Cells.{Cells}
 use Rattle.guest_mem.specs.declared.right.Right.{Right}
 use Rattle.guest_mem.specs.Memory.{bytes_for}
+use Rattle.guest_mem.specs.Pages.{mapped_cells}
+use Rattle.guest_mem.specs.PageStore.{shown}
 use Rattle.guest_mem.proofs.table.PageTable.copy_out.Given as goal
 
 -- the bytes so far are those of the cells
@@ -11,7 +13,7 @@ pub record IsReadSoFar (right : Right) (cells : Cells) (a done : ℕ) (into : Li
   pub read_so_far : bytes_for right done cells a ≡ Some (take done into)
 
 abbrev pub invariant-loop-done : goal.invariant-loop-done
-invariant-loop-done l = IsReadSoFar l.right (cells_of l.self.pages.items) l.at l.done l.into
+invariant-loop-done l = IsReadSoFar l.right (mapped_cells (shown l.self.pages)) l.at l.done l.into
 
 abbrev pub decreases-loop-done : goal.decreases-loop-done
 decreases-loop-done l = length l.initial.into - l.done

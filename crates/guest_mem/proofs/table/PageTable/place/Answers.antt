@@ -2,7 +2,9 @@ use Rattle.std.proofs.Common.{◌≡◌, ℕ, ◌+◌, ◌-◌, ◌%◌, ◌^◌
 use Rattle.std.proofs.lemmas.Bool.{cases_lt}
 use Rattle.guest_mem.specs.PageIndex.{place_in}
 use Rattle.guest_mem.specs.Pages.{numbers}
-use Rattle.guest_mem.proofs.PageLemmas.{place_of-heap, place_of-fixed, length-numbers}
+use Rattle.guest_mem.proofs.PageLemmas.{place_of-heap, place_of-fixed}
+use Rattle.guest_mem.specs.PageStore.{shown}
+use Rattle.guest_mem.proofs.SlotLemmas.{length-numbers}
 use Rattle.guest_mem.proofs.table.PageTable.place.Goals as goal
 
 -- a page's distance from the heap's first, which wraps below it
@@ -15,7 +17,7 @@ not_in_heap n heap count low bounded far = ⊎_elim (λ (below : n < heap). inl 
 pub returns-then-after-len : goal.returns-then-after-len
 returns-then-after-len c =
     let t = c.args.self.now in
-    let ns : List ℕ = numbers t.pages.items in
+    let ns : List ℕ = numbers (shown t.pages) in
     let count : c.len.result ≡ length ns = c.len.ensures ∙ sym (length-numbers t.pages) in
     let near : (c.args.number + (2 ^ 32 - t.heap)) % 2 ^ 32 < length ns - t.fixed = omega (arith, c.if-after-len.true) in
     sym (place_of-heap (place_in t.index) ns t.fixed t.heap t.sound c.args.number _ (in_heap c.args.number t.heap (length ns - t.fixed) c.requires t.sound.bounded near) near)
@@ -23,7 +25,7 @@ returns-then-after-len c =
 pub returns-else-after-len : goal.returns-else-after-len
 returns-else-after-len c =
     let t = c.args.self.now in
-    let ns : List ℕ = numbers t.pages.items in
+    let ns : List ℕ = numbers (shown t.pages) in
     let count : c.len.result ≡ length ns = c.len.ensures ∙ sym (length-numbers t.pages) in
     let far : length ns - t.fixed ≤ (c.args.number + (2 ^ 32 - t.heap)) % 2 ^ 32 = omega (arith, c.if-after-len.false) in
     c.find.ensures ∙ sym (place_of-fixed (place_in t.index) ns t.fixed t.heap t.sound c.args.number (not_in_heap c.args.number t.heap (length ns - t.fixed) c.requires t.sound.bounded far) c.requires)

@@ -1,0 +1,14 @@
+-- What the pages of a guest are, and how many more there is room for.
+use Rattle.std.specs.Prelude.{ℕ, ◌+◌, ◌*◌, ◌≤◌, List, map, take, vec_capacity}
+use Rattle.guest_mem.specs.declared.pages.Pages.{Pages}
+use Rattle.guest_mem.specs.Pages.{GuestPage}
+use Rattle.guest_mem.specs.Slots.{page_of}
+
+-- the pages by place; entries past their count are of pages that were unmapped
+abbrev pub shown : Pages → List GuestPage
+shown p = take p.count (map (page_of p.bytes.items) p.entries.items)
+
+-- room for n pages in all
+pub record HasRoom (p : Pages) (n : ℕ) : Type 0 where
+  pub entries : n ≤ vec_capacity p.entries
+  pub bytes : 4096 * (n + 1) ≤ vec_capacity p.bytes

@@ -1,0 +1,241 @@
+//! The pages of a guest by place: their rights, and slots with the bytes of those that were written.
+
+ghost use Rattle.std.specs.Prelude.{◌≡◌, ℕ, ◌+◌, ◌*◌, ◌^◌, ◌<◌, ◌≤◌, ◌⊎◌, [], ◌∷◌, ◌++◌, IfOk, OnOk, length, take, drop, slice_index, slice_index_or, vec_len, vec_capacity};
+ghost use Rattle.std.proofs.Props.{props};
+ghost use Rattle.guest_mem.specs.Pages.{GuestPage, IsRewritten, zero_page, zero_pages};
+ghost use Rattle.guest_mem.specs.Slots.{AreSlots, slots};
+
+use crate::entry::Entry;
+use elf_load::{PAGE_SIZE, Rights};
+use std::alloc::{AllocError, Global};
+
+/// The slot that is all zeros and no page's own: it has the bytes of each page that was never written.
+const ZEROS: u16 = 0;
+
+/// The pages of a guest, each at its place. A page takes a slot when it is first written, and all bytes lie in one
+/// vector, whose room is reserved before there is a page that may need it. An entry past `count` is of a page that was
+/// unmapped, and its slot is the next page's at its place.
+#[derive(Drop)]
+pub(crate) struct Pages {
+    entries: Vec<Entry>,
+    count: usize,
+    bytes: Vec<u8>,
+    ghost sound: { AreSlots (slots entries.items) count bytes.items (vec_capacity bytes) } by { Prim.hlevel props },
+}
+
+impl Pages {
+    ghost use Rattle.guest_mem.specs.PageStore.{HasRoom, shown};
+
+    /// No pages, and room for this many.
+    pub fn new(alloc: Global, room: usize) -> Result<Pages, AllocError>
+        requires { room ≤ 4096 }
+        ensures none { IfOk result (λ pages. shown pages ≡ []) }
+        ensures count { IfOk result (λ pages. pages.count ≡ 0) }
+        ensures room { IfOk result (λ pages. HasRoom pages room) }
+    {
+        let mut bytes = Vec::with_capacity(alloc, (room + 1) * PAGE_SIZE)?;
+        bytes.resize(PAGE_SIZE, 0)?;
+        Ok(Pages {
+            entries: Vec::with_capacity(alloc, room)?,
+            count: 0,
+            bytes,
+        })
+    }
+
+    /// How many pages there are.
+    #[inline]
+    pub fn len(&self) -> usize
+        ensures { result ≡ self.now.count }
+    {
+        self.count
+    }
+
+    /// The pages by place.
+    pub fn entries(&self) -> &[Entry]
+        ensures { result.now ≡ take self.now.count self.now.entries.items }
+    {
+        &self.entries[..self.count]
+    }
+
+    /// The rights to a page.
+    #[inline]
+    pub fn rights(&self, place: usize) -> Rights
+        requires { place < self.now.count }
+        ensures { (d : GuestPage) → result ≡ (slice_index_or (shown self.now) place d).rights }
+    {
+        self.entries[place].rights
+    }
+
+    /// The `len` bytes of a page from an offset on.
+    #[inline]
+    pub fn part(&self, place: usize, offset: usize, len: usize) -> &[u8]
+        requires place { place < self.now.count }
+        requires in_page { offset + len ≤ 4096 }
+        ensures value { (d : GuestPage) → result.now ≡ take len (drop offset (slice_index_or (shown self.now) place d).bytes) }
+        ensures len { length result.now ≡ len }
+    {
+        let from = self.entries[place].slot as usize * PAGE_SIZE + offset;
+        &self.bytes[from..from + len]
+    }
+
+    /// Puts `part` into a page from an offset on.
+    #[inline]
+    pub fn write(&mut self, place: usize, offset: usize, part: &[u8])
+        requires place { place < self.old.count }
+        requires in_page { offset + length part.now ≤ 4096 }
+        ensures written { IsRewritten (shown self.old) (shown self.new) place offset part.now }
+        ensures count { self.new.count ≡ self.old.count }
+        ensures room { (n : ℕ) → HasRoom self.old n → HasRoom self.new n }
+    {
+        let slot = self.own_slot(place);
+        overwrite(&mut self.bytes, slot * PAGE_SIZE + offset, part);
+    }
+
+    /// The slot of a page that is to be written, which takes one where it has none.
+    #[inline]
+    fn own_slot(&mut self, place: usize) -> usize
+        requires { place < self.old.count }
+        ensures same { shown self.new ≡ shown self.old }
+        ensures own { 0 < result }
+        ensures slot { slice_index (slots self.new.entries.items) place ≡ result }
+        ensures count { self.new.count ≡ self.old.count }
+        ensures room { (n : ℕ) → HasRoom self.old n → HasRoom self.new n }
+    {
+        let slot = self.entries[place].slot;
+        if slot == ZEROS {
+            self.take_slot(place)
+        } else {
+            slot as usize
+        }
+    }
+
+    /// A slot for a page that has none. Its bytes stay 0.
+    fn take_slot(&mut self, place: usize) -> usize
+        requires place { place < self.old.count }
+        requires none { slice_index (slots self.old.entries.items) place ≡ 0 }
+        ensures same { shown self.new ≡ shown self.old }
+        ensures own { 0 < result }
+        ensures slot { slice_index (slots self.new.entries.items) place ≡ result }
+        ensures count { self.new.count ≡ self.old.count }
+        ensures room { (n : ℕ) → HasRoom self.old n → HasRoom self.new n }
+    {
+        let slot = self.bytes.len() / PAGE_SIZE;
+        let Ok(()) = self.bytes.resize((slot + 1) * PAGE_SIZE, 0) else {
+            unreachable!()
+        };
+        self.entries[place] = Entry {
+            number: self.entries[place].number,
+            rights: self.entries[place].rights,
+            slot: slot as u16,
+        };
+        slot
+    }
+
+    /// Makes room for `more` pages.
+    pub fn reserve(&mut self, more: usize) -> Result<(), AllocError>
+        requires { self.old.count + more ≤ 4096 }
+        ensures room { OnOk result (HasRoom self.new (self.old.count + more)) }
+        ensures same { shown self.new ≡ shown self.old }
+        ensures count { self.new.count ≡ self.old.count }
+    {
+        let wanted = self.count + more;
+        self.entries
+            .reserve(wanted.saturating_sub(self.entries.len()))?;
+        self.bytes
+            .reserve(((wanted + 1) * PAGE_SIZE).saturating_sub(self.bytes.len()))?;
+        Ok(())
+    }
+
+    /// A page more, whose bytes are 0.
+    pub fn push(&mut self, number: u32, rights: Rights)
+        requires in_range { number < 2 ^ 20 }
+        requires few { self.old.count < 4096 }
+        requires room { HasRoom self.old (self.old.count + 1) }
+        ensures pushed { shown self.new ≡ shown self.old ++ zero_page rights number ∷ [] }
+        ensures count { self.new.count ≡ self.old.count + 1 }
+        ensures room { (n : ℕ) → HasRoom self.old n → HasRoom self.new n }
+    {
+        if self.count < self.entries.len() {
+            self.push_again(number, rights);
+        } else {
+            self.entries.push_reserved(Entry {
+                number,
+                rights,
+                slot: ZEROS,
+            });
+            self.count += 1;
+        }
+    }
+
+    /// A page more at a place that an unmapped page had: its slot is cleared, where it has one.
+    fn push_again(&mut self, number: u32, rights: Rights)
+        requires in_range { number < 2 ^ 20 }
+        requires behind { self.old.count < vec_len self.old.entries }
+        ensures pushed { shown self.new ≡ shown self.old ++ zero_page rights number ∷ [] }
+        ensures count { self.new.count ≡ self.old.count + 1 }
+        ensures room { (n : ℕ) → HasRoom self.old n → HasRoom self.new n }
+    {
+        let slot = self.entries[self.count].slot;
+        clear(&mut self.bytes, slot as usize * PAGE_SIZE);
+        self.entries[self.count] = Entry {
+            number,
+            rights,
+            slot,
+        };
+        self.count += 1;
+    }
+
+    /// `count` pages more of zeros with the rights to read and to write, whose numbers rise from `first` on.
+    pub fn push_zeros(&mut self, first: u32, count: u32)
+        requires in_range { first + count ≤ 2 ^ 20 }
+        requires few { self.old.count + count ≤ 4096 }
+        requires room { HasRoom self.old (self.old.count + count) }
+        ensures pushed { shown self.new ≡ shown self.old ++ zero_pages first count }
+        ensures count { self.new.count ≡ self.old.count + count }
+    {
+        for number in first..first + count {
+            self.push(
+                number,
+                Rights {
+                    read: true,
+                    write: true,
+                    execute: false,
+                },
+            );
+        }
+    }
+
+    /// The first `count` pages alone.
+    pub fn truncate(&mut self, count: usize)
+        requires { count ≤ self.old.count }
+        ensures shown { shown self.new ≡ take count (shown self.old) }
+        ensures count { self.new.count ≡ count }
+    {
+        self.count = count;
+    }
+}
+
+/// Puts `part` into `bytes` from a place on.
+#[inline]
+fn overwrite(bytes: &mut Vec<u8>, from: usize, part: &[u8])
+    requires { from + length part.now ≤ vec_len bytes.old }
+    ensures inside { (k : ℕ) → k < length part.now → slice_index bytes.new.items (from + k) ≡ slice_index part.now k }
+    ensures outside { (k : ℕ) → (k < from) ⊎ (from + length part.now ≤ k)
+        → slice_index bytes.new.items k ≡ slice_index bytes.old.items k }
+    ensures len { vec_len bytes.new ≡ vec_len bytes.old }
+    ensures room { vec_capacity bytes.new ≡ vec_capacity bytes.old }
+{
+    bytes[from..from + part.len()].copy_from_slice(part);
+}
+
+/// Makes the bytes of a page from a place on 0.
+fn clear(bytes: &mut Vec<u8>, from: usize)
+    requires { from + 4096 ≤ vec_len bytes.old }
+    ensures inside { (k : ℕ) → k < 4096 → slice_index bytes.new.items (from + k) ≡ 0 }
+    ensures outside { (k : ℕ) → (k < from) ⊎ (from + 4096 ≤ k)
+        → slice_index bytes.new.items k ≡ slice_index bytes.old.items k }
+    ensures len { vec_len bytes.new ≡ vec_len bytes.old }
+    ensures room { vec_capacity bytes.new ≡ vec_capacity bytes.old }
+{
+    bytes[from..from + PAGE_SIZE].fill(0);
+}
