@@ -1,9 +1,11 @@
--- The size of a self-load is in its range.
-use Rattle.std.proofs.Common.{◌≡◌, ◌≤◌, ℕ, Bool, true, false, List, refl, ap, subst}
+-- The size of a self-load, and what words override, are in their ranges.
+use Rattle.std.proofs.Common.{◌≡◌, ◌≤◌, ◌^◌, ℕ, Bool, true, false, List, Option, IfSome, length, nat_lt, option_map, option_and_then, refl, ap, subst}
 use Rattle.std.specs.Prelude.{Result, Ok, Err, Some, None, if◌then◌else◌, nat_le, ◌&&◌}
-use Rattle.std.proofs.lemmas.Bool.{leb-true}
+use Rattle.std.proofs.lemmas.Bool.{leb-true, ltb-true}
+use Rattle.sim_base.specs.Quantity.{time_of_text}
+use Rattle.sim_base.specs.declared.time.Time.{Time}
 use Rattle.sim_base.specs.Refusals.{◌>>=◌, or_refuse}
-use Rattle.command_line.specs.Asked.{asked, Chosen, chosen, subject_of, seed_of, parallelism_of, data_directory_of, stop_of, budget_of, number_within, is_decimal, if_within}
+use Rattle.command_line.specs.Asked.{asked, Chosen, chosen, subject_of, seed_of, parallelism_of, data_directory_of, stop_of, budget_of, number_within, is_decimal, if_within, read_option, some_text, stop_time_of}
 use Rattle.command_line.specs.Asked.Chosen.{config, self_load}
 use Rattle.command_line.specs.Command.{found, config_of, value_of}
 use Rattle.command_line.specs.declared.name.OptionName.TheVariants as option
@@ -11,8 +13,11 @@ use Rattle.command_line.specs.declared.asked.Asked.{Asked}
 use Rattle.command_line.specs.declared.asked.Subject.{Subject}
 use Rattle.command_line.specs.declared.asked.Subject.TheVariants.{File, SelfLoad}
 use Rattle.command_line.specs.declared.fault.WordsFault.{WordsFault}
+use Rattle.command_line.specs.declared.fault.WordsFault.TheVariants.{BadOption}
+use Rattle.command_line.specs.declared.name.OptionName.{OptionName}
+use Rattle.shd_config.specs.Limits.{IsSomeText, MayStop, MayOverride}
 use Rattle.std.specs.Str.Parse.{digits_value}
-use Rattle.run_plan.specs.InRange.{IsInRange}
+use Rattle.run_plan.specs.InRange.{IsInRange, overrides_of}
 
 -- what a step gave that was gone on from
 then_ok : {A B E : Type 0} (first : Result A E) (next : A → Result B E) (b : B) (P : Type 0) → ((a : A) → first ≡ Ok a → next a ≡ Ok b → P) → (first >>= next) ≡ Ok b → P
@@ -34,20 +39,72 @@ subject_range (config name) s e = let same : File name ≡ s = cc in subst IsInR
 subject_range (self_load size) s e = then_ok (or_refuse (number_within 2 4096 size) _) (λ hosts. Ok (SelfLoad hosts)) s (IsInRange s)
     (λ hosts h k. let same : SelfLoad hosts ≡ s = cc in subst IsInRange same (number_range size hosts _ (is_decimal size) refl h)) e
 
+-- ---- what is overridden
+
+abbrev Text : Type 0
+Text = List ℕ
+
+option_range : {A : Type 0} (P : A → Type 0) (fault : WordsFault) (r : Option A) (o : Option A) → IfSome r P → or_refuse (option_map (λ a. Some a) r) fault ≡ Ok o → IfSome o P
+option_range {A} P fault None o h e = cc
+option_range {A} P fault (Some a) o h e = let same : Some a ≡ o = cc in subst (λ (x : Option A). IfSome x P) same h
+
+read_range : {A : Type 0} (P : A → Type 0) (name : OptionName) (read : Text → Option A) (given : Option Text) (o : Option A) → ((t : Text) → IfSome (read t) P) → read_option name read given ≡ Ok o → IfSome o P
+read_range {A} P name read None o h e = let same : None ≡ o = cc in subst (λ (x : Option A). IfSome x P) same tt
+read_range {A} P name read (Some text) o h e = option_range P (BadOption name) (read text) o (h text) e
+
+some_text_by : (text : Text) (b : Bool) → nat_lt 0 (length text) ≡ b → IfSome (if b then Some text else None) IsSomeText
+some_text_by text true e = ltb-true 0 (length text) e
+some_text_by text false e = tt
+
+abbrev as_time : Option ℕ → Option Time
+as_time o = option_map (λ (n : ℕ). record { nanos = n }) o
+
+time_by : (n : ℕ) (low high : Bool) → nat_le 1 n ≡ low → nat_le n (2 ^ 61) ≡ high → IfSome (as_time (if low && high then Some n else None)) MayStop
+time_by n true true l h = (leb-true 1 n l, leb-true n (2 ^ 61) h)
+time_by n true false l h = tt
+time_by n false high l h = tt
+
+stop_by : (o : Option ℕ) → IfSome (as_time (option_and_then (if_within 1 (2 ^ 61)) o)) MayStop
+stop_by None = tt
+stop_by (Some n) = time_by n (nat_le 1 n) (nat_le n (2 ^ 61)) refl refl
+
+-- ---- what is asked
+
 abbrev subject_in : Subject → Result Asked WordsFault → Subject
 subject_in other (Ok a) = a.subject
 subject_in other (Err fault) = other
 
-pub asked_in_range : (words : List (List ℕ)) (a : Asked) → asked words ≡ Ok a → IsInRange a.subject
+abbrev directory_in : Option Text → Result Asked WordsFault → Option Text
+directory_in other (Ok a) = a.data_directory
+directory_in other (Err fault) = other
+
+abbrev stop_in : Option Time → Result Asked WordsFault → Option Time
+stop_in other (Ok a) = a.stop_time
+stop_in other (Err fault) = other
+
+pub record AreInRange (a : Asked) : Type 0 where
+  pub subject : IsInRange a.subject
+  pub overrides : MayOverride (overrides_of a)
+
+pub asked_in_range : (words : List (List ℕ)) (a : Asked) → asked words ≡ Ok a → AreInRange a
 unfolding asked
 asked_in_range words a e =
-    then_ok (found words) _ a (IsInRange a.subject) (λ rows r0 e0.
-    then_ok (chosen (config_of rows) (value_of option.SelfLoad rows)) _ a (IsInRange a.subject) (λ choice r1 e1.
-    then_ok (seed_of rows) _ a (IsInRange a.subject) (λ seed r2 e2.
-    then_ok (parallelism_of rows) _ a (IsInRange a.subject) (λ parallelism r3 e3.
-    then_ok (data_directory_of rows) _ a (IsInRange a.subject) (λ directory r4 e4.
-    then_ok (stop_of rows) _ a (IsInRange a.subject) (λ stop r5 e5.
-    then_ok (budget_of rows) _ a (IsInRange a.subject) (λ budget r6 e6.
-    then_ok (subject_of choice) _ a (IsInRange a.subject) (λ subject r7 e7.
-    let same : subject ≡ a.subject = ap (λ (r : Result Asked WordsFault). subject_in subject r) e7 in subst IsInRange same (subject_range choice subject r7))
+    then_ok (found words) _ a (AreInRange a) (λ rows r0 e0.
+    then_ok (chosen (config_of rows) (value_of option.SelfLoad rows)) _ a (AreInRange a) (λ choice r1 e1.
+    then_ok (seed_of rows) _ a (AreInRange a) (λ seed r2 e2.
+    then_ok (parallelism_of rows) _ a (AreInRange a) (λ parallelism r3 e3.
+    then_ok (data_directory_of rows) _ a (AreInRange a) (λ directory r4 e4.
+    then_ok (stop_of rows) _ a (AreInRange a) (λ stop r5 e5.
+    then_ok (budget_of rows) _ a (AreInRange a) (λ budget r6 e6.
+    then_ok (subject_of choice) _ a (AreInRange a) (λ subject r7 e7.
+    let same_subject : subject ≡ a.subject = ap (λ (r : Result Asked WordsFault). subject_in subject r) e7 in
+    let same_directory : directory ≡ a.data_directory = ap (λ (r : Result Asked WordsFault). directory_in directory r) e7 in
+    let same_stop : stop ≡ a.stop_time = ap (λ (r : Result Asked WordsFault). stop_in stop r) e7 in
+    record {
+      subject = subst IsInRange same_subject (subject_range choice subject r7);
+      overrides = record {
+        directory = subst (λ (o : Option Text). IfSome o IsSomeText) same_directory (read_range IsSomeText option.DataDirectory some_text (value_of option.DataDirectory rows) directory (λ t. some_text_by t (nat_lt 0 (length t)) refl) r4);
+        stop = subst (λ (o : Option Time). IfSome o MayStop) same_stop (read_range MayStop option.StopTime stop_time_of (value_of option.StopTime rows) stop (λ t. stop_by (time_of_text t)) r5);
+      };
+    })
     e6) e5) e4) e3) e2) e1) e0) e

@@ -2,10 +2,13 @@ pub mod AddressLemmas
 pub mod ConfiguredLemmas
 pub mod ImageLemmas
 pub mod InRangeLemmas
+pub mod LimitLemmas
 pub mod OrderLemmas
 pub mod PlanLemmas
 pub mod PlannedLemmas
 pub mod RateLemmas
 pub mod RowLemmas
+pub mod SameLemmas
 pub mod SelfLoadLemmas
+pub mod StableLemmas
 pub mod StepLemmas

@@ -1,6 +1,6 @@
 -- The rows of hosts: in byte order of their names, each with its rates, its address and the images of its processes.
 use Rattle.std.specs.Prelude.{ℕ, List, [], ◌∷◌, map, Ok}
-use Rattle.std.specs.List.Sorted.{IsPermutation, IsSortedByKey}
+use Rattle.std.specs.List.Sorted.{IsPermutation, IsSortedByKey, IsStableByKey}
 use Rattle.std.specs.Cmp.Lexicographic.{slice_cmp}
 use Rattle.std.specs.Ordering.{nat_cmp}
 use Rattle.sim_base.specs.declared.address.Ip.{Ip}
@@ -13,10 +13,11 @@ use Rattle.run_plan.specs.Rates.{all_rates}
 use Rattle.run_plan.specs.declared.host_row.HostRow.{HostRow}
 use Rattle.run_plan.specs.declared.rates.Rates.{Rates}
 
--- the hosts in the byte order of their names
+-- the hosts in the byte order of their names; hosts of one name, which no configuration has, in document order
 pub record AreInOrder (hosts ordered : List HostConfig) : Type 0 where
   pub same : IsPermutation hosts ordered
   pub order : IsSortedByKey (λ (h : HostConfig). h.name) (slice_cmp nat_cmp) ordered
+  pub stable : IsStableByKey (λ (h : HostConfig). h.name) (slice_cmp nat_cmp) hosts ordered
 
 -- the addresses of hosts, of which some are given
 abbrev pub HaveAddresses : List HostConfig → List Ip → Type 0

@@ -1,9 +1,15 @@
--- The size of a self-load that the words of a call may ask for.
+-- What the words of a call may ask for: the size of a self-load, and what they override.
 use Rattle.std.specs.Prelude.{◌≤◌}
+use Rattle.command_line.specs.declared.asked.Asked.{Asked}
 use Rattle.command_line.specs.declared.asked.Subject.{Subject}
 use Rattle.command_line.specs.declared.asked.Subject.TheVariants.{File, SelfLoad}
+use Rattle.shd_config.specs.declared.overrides.Overrides.{Overrides}
 
 -- a self-load has 2 to 4,096 hosts
 abbrev pub IsInRange : Subject → Type 0
 IsInRange (File name) = Unit {0}
 IsInRange (SelfLoad hosts) = (2 ≤ hosts) × (hosts ≤ 4096)
+
+-- what the words override
+abbrev pub overrides_of : Asked → Overrides
+overrides_of a = record { seed = a.seed; parallelism = a.parallelism; data_directory = a.data_directory; stop_time = a.stop_time }

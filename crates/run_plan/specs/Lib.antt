@@ -3,6 +3,7 @@ pub mod Configured
 pub mod File
 pub mod HostRows
 pub mod InRange
+pub mod Limits
 pub mod Line
 pub mod Network
 pub mod Outcomes
@@ -13,4 +14,5 @@ pub mod Programs
 pub mod Rates
 pub mod Ring
 pub mod Room
+pub mod Same
 pub mod SelfLoad

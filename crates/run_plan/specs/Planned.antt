@@ -8,6 +8,7 @@ use Rattle.command_line.specs.declared.asked.Subject.TheVariants.{File, SelfLoad
 use Rattle.command_line.specs.declared.fault.WordsFault.{WordsFault}
 use Rattle.shd_config.specs.declared.config.Config.{Config}
 use Rattle.run_plan.specs.Configured.{configured}
+use Rattle.run_plan.specs.InRange.{overrides_of}
 use Rattle.run_plan.specs.File.{read}
 use Rattle.run_plan.specs.Outcomes.{Outcomes, gives, ◌>>=◌}
 use Rattle.run_plan.specs.Plan.{plan_of, run_of}
@@ -27,7 +28,7 @@ or_words_fault (Err f) = Err (Words f)
 -- what the words override, and how a configuration is used
 abbrev pub manner_of : Asked → Manner
 manner_of a = record {
-  overrides = record { seed = a.seed; parallelism = a.parallelism; data_directory = a.data_directory; stop_time = a.stop_time };
+  overrides = overrides_of a;
   budget = a.budget;
   shows_config = a.shows_config;
 }

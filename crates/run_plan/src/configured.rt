@@ -7,6 +7,7 @@ ghost use Rattle.yaml_tree.specs.Tree.{IsTreeOf, is_empty_document};
 ghost use Rattle.yaml_tree.specs.Trees.{Holds, is_empty};
 ghost use Rattle.yaml_merge.specs.SaidAt.{said_of};
 ghost use Rattle.shd_config.specs.Config.{config};
+ghost use Rattle.shd_config.specs.Limits.{MayOverride, IsWithinLimits};
 ghost use Rattle.run_plan.specs.Configured.{tree_of, or_config_fault, configured};
 ghost use Rattle.run_plan.specs.Outcomes.{gives, Meets};
 
@@ -39,7 +40,9 @@ fn config_of_tree(
     tree: &Tree,
     overrides: &Overrides,
 ) -> Result<Config, ReadStop>
-    ensures { Meets (λ c. c) (gives (or_config_fault file.now (config overrides.now (is_empty tree.now) (said_of tree.now)))) result }
+    requires { MayOverride overrides.now }
+    ensures told { Meets (λ c. c) (gives (or_config_fault file.now (config overrides.now (is_empty tree.now) (said_of tree.now)))) result }
+    ensures limits { IfOk result IsWithinLimits }
 {
     match config_of(alloc, tree, overrides) {
         Ok(config) => Ok(config),
@@ -59,7 +62,9 @@ pub fn configure(
     text: &[u8],
     overrides: &Overrides,
 ) -> Result<Config, ReadStop>
-    ensures { Meets (λ c. c) (configured file.now text.now overrides.now) result }
+    requires { MayOverride overrides.now }
+    ensures told { Meets (λ c. c) (configured file.now text.now overrides.now) result }
+    ensures limits { IfOk result IsWithinLimits }
 {
     let tree = parse_tree(alloc, file, text)?;
     config_of_tree(alloc, file, &tree, overrides)

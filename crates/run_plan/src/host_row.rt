@@ -95,9 +95,6 @@ impl From<Vec<HostRow>> for HostRows {
     }
 }
 
-/// The most hosts of a configuration.
-const MOST_HOSTS: usize = 16_384;
-
 /// The hosts in the byte order of their names.
 fn in_order(hosts: Hosts) -> Result<Vec<HostConfig>, NoMemory>
     ensures order { IfOk result (λ ordered. AreInOrder hosts ordered.items) }
@@ -119,13 +116,11 @@ fn given_of(alloc: Global, hosts: &[HostConfig]) -> Result<Vec<Option<Ip>>, NoMe
     Ok(given)
 }
 
-/// The addresses of hosts in their order. There is room for those of each configuration.
+/// The addresses of hosts in their order.
 fn host_addresses(alloc: Global, hosts: &[HostConfig]) -> Result<Vec<Ip>, NoMemory>
+    requires { length hosts.now ≤ 16384 }
     ensures { IfOk result (λ v. HaveAddresses hosts.now v.items) }
 {
-    if hosts.len() > MOST_HOSTS {
-        return Err(NoMemory);
-    }
     let given = given_of(alloc, hosts)?;
     addresses_of(alloc, &given)
 }
@@ -192,7 +187,8 @@ pub fn host_rows(
     programs: &[Name],
     hosts: Hosts,
 ) -> Result<HostRows, ReadStop>
-    requires { programs.now ≡ programs_of hosts }
+    requires programs { programs.now ≡ programs_of hosts }
+    requires few { length hosts ≤ 16384 }
     ensures { Meets (λ r. r) (host_rows file.now graph.now hosts) result }
 {
     let ordered = in_order(hosts)?;

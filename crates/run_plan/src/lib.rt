@@ -6,6 +6,7 @@ mod configured;
 mod fault;
 mod file;
 mod host_row;
+pub mod laws;
 mod line;
 mod network;
 mod one_file;

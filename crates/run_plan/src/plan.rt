@@ -4,6 +4,8 @@ ghost use Rattle.std.specs.Prelude.{◌≡◌, ◌≤◌, length, map, option_ma
 ghost use Rattle.net_routes.specs.Routes.{AreRoutes, HasRoutes};
 ghost use Rattle.net_routes.specs.Least.{IsLookahead};
 ghost use Rattle.out_text.specs.Hosts.{hosts_text};
+ghost use Rattle.shd_config.specs.Limits.{IsWithinLimits};
+ghost use Rattle.run_plan.specs.Limits.{KeepsToLimits};
 ghost use Rattle.run_plan.specs.Network.{network};
 ghost use Rattle.run_plan.specs.Outcomes.{gives, Meets, CountsSource};
 ghost use Rattle.run_plan.specs.Plan.{nodes_of, routed, nanos_of, line_of_host, settings_of, run_of, plan_of};
@@ -160,7 +162,9 @@ pub fn read_run<S: Source>(
     graph: &Graph,
     config: Config,
 ) -> Result<Plan, ReadStop>
+    requires { IsWithinLimits config }
     ensures told { IfSome (S.held source.old) (λ held. Meets (λ p. p) (run_of held name.now graph.now config) result) }
+    ensures limits { IfOk result KeepsToLimits }
     ensures same { S.held source.new ≡ S.held source.old }
     ensures count { CountsSource result (S.faults source.old) (S.faults source.new) }
 {
@@ -209,7 +213,9 @@ pub fn read_plan_of<S: Source>(
     name: &str,
     config: Config,
 ) -> Result<Plan, ReadStop>
+    requires { IsWithinLimits config }
     ensures told { IfSome (S.held source.old) (λ held. Meets (λ p. p) (plan_of held name.now config) result) }
+    ensures limits { IfOk result KeepsToLimits }
     ensures same { S.held source.new ≡ S.held source.old }
     ensures count { CountsSource result (S.faults source.old) (S.faults source.new) }
 {

@@ -4,7 +4,9 @@ ghost use Rattle.std.specs.Prelude.{◌≡◌, ◌<◌, ◌≤◌, map, string_b
 ghost use Rattle.command_line.specs.Asked.{asked};
 ghost use Rattle.run_plan.specs.Outcomes.{gives, Meets, CountsSource};
 ghost use Rattle.run_plan.specs.Planned.{or_words_fault, shown_or_run, file_planned, self_load_planned, planned_of, planned};
-ghost use Rattle.run_plan.specs.InRange.{IsInRange};
+ghost use Rattle.run_plan.specs.InRange.{IsInRange, overrides_of};
+ghost use Rattle.run_plan.specs.Limits.{AreLimitsKept};
+ghost use Rattle.shd_config.specs.Limits.{MayOverride};
 
 use crate::configured::configure;
 use crate::fault::{Fault, ReadStop};
@@ -41,6 +43,7 @@ pub enum Planned {
 fn parse_words(alloc: Global, words: &[String]) -> Result<Asked, ReadStop>
     ensures told { Meets (λ a. a) (gives (or_words_fault (asked (map string_bytes words.now)))) result }
     ensures range { IfOk result (λ a. IsInRange a.subject) }
+    ensures overrides { IfOk result (λ a. MayOverride (overrides_of a)) }
 {
     match read_words(alloc, words) {
         Ok(asked) => Ok(asked),
@@ -65,7 +68,9 @@ fn plan_file<S: Source>(
     manner: &Manner,
     name: &Name,
 ) -> Result<Planned, ReadStop>
+    requires { MayOverride manner.now.overrides }
     ensures told { IfSome (S.held source.old) (λ held. Meets (λ p. p) (file_planned manner.now held name.now) result) }
+    ensures limits { IfOk result AreLimitsKept }
     ensures same { S.held source.new ≡ S.held source.old }
     ensures count { CountsSource result (S.faults source.old) (S.faults source.new) }
 {
@@ -87,7 +92,9 @@ fn plan_file<S: Source>(
 fn plan_self_load(alloc: Global, manner: &Manner, hosts: u32) -> Result<Planned, ReadStop>
     requires some { 0 < hosts }
     requires few { hosts ≤ 4096 }
+    requires overrides { MayOverride manner.now.overrides }
     ensures told { Meets (λ p. p) (self_load_planned manner.now hosts) result }
+    ensures limits { IfOk result AreLimitsKept }
     ensures count { CountsSource result 0 0 }
 {
     let config = self_load_config(alloc, &manner.overrides, hosts)?;
@@ -115,6 +122,7 @@ pub fn read_plan<S: Source>(
     source: &mut S,
 ) -> Result<Planned, ReadStop>
     ensures told { IfSome (S.held source.old) (λ held. Meets (λ p. p) (planned (map string_bytes words.now) held) result) }
+    ensures limits { IfOk result AreLimitsKept }
     ensures same { S.held source.new ≡ S.held source.old }
     ensures count { CountsSource result (S.faults source.old) (S.faults source.new) }
 {

@@ -2,6 +2,7 @@
 
 ghost use Rattle.std.specs.Prelude.{◌≡◌, ◌≤◌, ◌<◌, map, unwrap_or, codes, IfOk};
 ghost use Rattle.std.specs.List.{range_with_len};
+ghost use Rattle.shd_config.specs.Limits.{MayOverride, IsWithinLimits};
 ghost use Rattle.run_plan.specs.SelfLoad.{host_name, next_host, address_number, ring_process, ring_host, self_load_config, ring_node, ring_edge, self_load_graph};
 
 use gml_graph::{Edge, Edges, Graph, Node, Nodes};
@@ -115,13 +116,9 @@ fn directory_of(alloc: Global, overrides: &Overrides) -> Result<Name, NoMemory>
     }
 }
 
-/// The configuration of a self-load.
+/// The configuration of a ring of hosts.
 #[tactic(auto, unfolding(crate::specs::SelfLoad::self_load_config))]
-pub fn self_load_config(
-    alloc: Global,
-    overrides: &Overrides,
-    hosts: u32,
-) -> Result<Config, NoMemory>
+fn ring_config(alloc: Global, overrides: &Overrides, hosts: u32) -> Result<Config, NoMemory>
     requires some { 0 < hosts }
     requires few { hosts ≤ 4096 }
     ensures { IfOk result (λ c. c ≡ self_load_config overrides.now hosts) }
@@ -140,6 +137,21 @@ pub fn self_load_config(
         hosts: ring_hosts(alloc, hosts)?,
         notes: Texts::new(alloc),
     })
+}
+
+/// The configuration of a self-load, which is within the limits of configurations.
+pub fn self_load_config(
+    alloc: Global,
+    overrides: &Overrides,
+    hosts: u32,
+) -> Result<Config, NoMemory>
+    requires some { 0 < hosts }
+    requires few { hosts ≤ 4096 }
+    requires overrides { MayOverride overrides.now }
+    ensures config { IfOk result (λ c. c ≡ self_load_config overrides.now hosts) }
+    ensures limits { IfOk result IsWithinLimits }
+{
+    ring_config(alloc, overrides, hosts)
 }
 
 fn ring_nodes(alloc: Global, hosts: u32) -> Result<Vec<Node>, NoMemory>

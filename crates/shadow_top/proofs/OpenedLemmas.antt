@@ -4,12 +4,13 @@ use Rattle.std.proofs.lemmas.List.Elements.{All-head, All-tail}
 use Rattle.host_state.specs.declared.net.Net.{Net}
 use Rattle.host_state.specs.declared.row.Row.{Row}
 use Rattle.net_run.specs.World.{AreRows}
+use Rattle.run_plan.specs.Limits.{KeepsToLimits}
 use Rattle.run_plan.specs.declared.host_row.HostRow.{HostRow}
 use Rattle.run_plan.specs.declared.plan.Settings.{Settings}
 use Rattle.run_plan.specs.declared.planned.Run.{Run}
 use Rattle.sim_base.specs.declared.address.Ip.{Ip}
 use Rattle.shd_config.specs.declared.config.ProcessConfig.{ProcessConfig}
-use Rattle.shadow_top.specs.Opened.{Host, said_process, said_host, processes_of, host_of, hosts_from, IsWithinLimits, IsNetOf, AreRowsOf}
+use Rattle.shadow_top.specs.Opened.{Host, said_process, said_host, processes_of, host_of, hosts_from, IsNetOf, AreRowsOf}
 
 length-map : {A B : Type 0} (f : A → B) (xs : List A) → length (map f xs) ≡ length xs
 length-map f [] = refl
@@ -61,7 +62,7 @@ slice_within [] i x at = absurd (cc)
 slice_within (y ∷ ys) zero x at = omega arith
 slice_within (y ∷ ys) (suc i) x at = let rest = slice_within ys i x at in omega (arith, rest)
 
-pub rows_fit : (run : Run) (net : Net) (rows : List Row) → IsWithinLimits run.plan → AreRowsOf run rows → IsNetOf run net → AreRows net rows
+pub rows_fit : (run : Run) (net : Net) (rows : List Row) → KeepsToLimits run.plan → AreRowsOf run rows → IsNetOf run net → AreRows net rows
 rows_fit run net rows within same net_is =
     let hs : List HostRow = run.plan.rows in
     let count : length rows ≡ length net.known.book =
@@ -75,5 +76,11 @@ rows_fit run net rows within same net_is =
         within = (let here = slice_within rows i row is in let number = (at i row is).number_is in omega (arith, here, count, number));
         few = (at i row is).few;
       };
-      stop = (let same_stop = ap (λ t. t.nanos) net_is.stop in let early = within.stop in omega (arith, same_stop, early));
+      stop = (let same_stop = ap (λ t. t.nanos) net_is.stop in let early = within.stop.1 in omega (arith, same_stop, early));
     }
+
+-- as many rows as the plan has
+pub few_opened : (run : Run) (rows : List Row) → length run.plan.rows ≤ 16384 → AreRowsOf run rows → length rows ≤ 16384
+few_opened run rows few same =
+    let count : length rows ≡ length run.plan.rows = sym (length-map said_host rows) ∙ ap (λ (xs : List Host). length xs) same ∙ length-hosts run.plan.settings 0 run.plan.rows in
+    omega (arith, count, few)

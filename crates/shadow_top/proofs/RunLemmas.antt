@@ -1,14 +1,24 @@
 -- What a run leaves, from what its steps leave.
-use Rattle.std.proofs.Common.{◌≡◌, ℕ, Bool, List, Option, Some, None, option_map, Result, Ok, Err, IfSome, refl}
+use Rattle.std.specs.Prelude.{if◌then◌else◌}
+use Rattle.std.proofs.Common.{◌≡◌, ◌≤◌, ℕ, suc, Bool, true, false, nat_lt, List, [], ◌∷◌, length, Option, Some, None, option_map, Result, Ok, Err, IfSome, refl, sym, ap, ◌∙◌, arith}
+use Rattle.sim_base.specs.declared.event.Event.{Event}
 use Rattle.sim_base.specs.Sink.{Content}
 use Rattle.sim_base.specs.declared.outside.sink.WriteError.{WriteError}
 use Rattle.sim_base.specs.declared.outside.sink.WriteError.TheVariants as write
 use Rattle.host_state.specs.declared.net.Net.{Net}
 use Rattle.host_state.specs.declared.row.Row.{Row}
+use Rattle.host_state.specs.Fits.{model}
+use Rattle.world_order.specs.EventOrder.{take_least}
+use Rattle.world_order.specs.Model.{fires}
+use Rattle.world_order.specs.World.{after_firing, by_least, next, is_over, goes_on}
+use Rattle.world_order.proofs.Homes.{length-fires}
 use Rattle.world_order.proofs.Results.{at_least_one}
 use Rattle.net_run.specs.Pieces.{with_pieces, PutsFront}
 use Rattle.net_run.specs.Shown.{note_puts, run_pieces}
+use Rattle.net_run.specs.StandsFor.{RanStands}
 use Rattle.net_run.specs.World.{World, IsResult, AreRows, opening_world}
+use Rattle.net_run.specs.declared.engine.Ran.{Ran}
+use Rattle.net_run.proofs.FiringLemmas.{stand-length}
 use Rattle.net_run.proofs.OpeningLemmas.{opened-settled}
 use Rattle.net_run.proofs.TurnLemmas.{simulation}
 use Rattle.shadow_top.specs.Contract.{Reports, RunsNoted, PutsSome, RunsOpened}
@@ -22,6 +32,36 @@ use Rattle.shadow_top.proofs.PutLemmas.{nothing_put, first_put, then_put, all_pu
 pub ran_exists : (net : Net) (rows : List Row) → AreRows net rows → (w : World) × IsResult net w (opening_world rows)
 ran_exists net rows are =
     let r = at_least_one (simulation net) net.stop.nanos (opening_world rows) (opened-settled net rows are) in (r.0, r.1)
+
+-- ---- as many hosts as rows
+
+next_count : (net : Net) (w v : World) (o : Option (Event × List Event)) → by_least (model net) net.stop.nanos w o ≡ Some v → length v.hosts ≡ length w.hosts
+next_count net w v None is = absurd (cc)
+next_count net w v (Some (e, rest)) is = by (nat_lt e.key.due.nanos net.stop.nanos) is
+  where
+    by : (b : Bool) → (if b then Some (after_firing w e rest (fires (model net) w.hosts e)) else None) ≡ Some v → length v.hosts ≡ length w.hosts
+    by true same = let fired : after_firing w e rest (fires (model net) w.hosts e) ≡ v = cc in ap (λ (x : World). length x.hosts) (sym fired) ∙ length-fires (model net) w.hosts e
+    by false same = absurd (cc)
+
+step_count : (net : Net) (w v : World) → next (model net) net.stop.nanos w ≡ Some v → length v.hosts ≡ length w.hosts
+unfolding next
+step_count net w v is = next_count net w v (take_least w.events) is
+
+result_count : (net : Net) (r w : World) → IsResult net r w → length r.hosts ≡ length w.hosts
+result_count net r w (is_over w' over same) = ap (λ (x : World). length x.hosts) (sym same)
+result_count net r w (goes_on w' v is rest) = result_count net r v rest ∙ step_count net w v is
+
+opening_count : (rows : List Row) → length (opening_world rows).hosts ≡ length rows
+opening_count [] = refl
+opening_count (row ∷ rows) = ap suc (opening_count rows)
+
+-- a run leaves its hosts
+pub few_ran : (net : Net) (rows : List Row) (ran : Ran) → length rows ≤ 16384 → (w : World) × IsResult net w (opening_world rows) × RanStands ran w → length ran.hosts.items ≤ 16384
+few_ran net rows ran few (w, result, stands) =
+    let hosts = stand-length ran.hosts.items w.hosts stands.hosts in
+    let count = result_count net w (opening_world rows) result in
+    let opened = opening_count rows in
+    omega (arith, hosts, count, opened, few)
 
 -- no memory for the run: nothing was put
 pub not_run : (net : Net) (rows : List Row) (load : Bool) (old : Option Content) → AreRows net rows → RunsNoted net rows load old old (Err NoMemory)

@@ -1,5 +1,5 @@
 -- The rows of hosts and the net that a run begins with.
-use Rattle.std.specs.Prelude.{◌≡◌, ℕ, ◌+◌, ◌≤◌, ◌^◌, List, [], ◌∷◌, ◌++◌, length, map, All, Option, codes}
+use Rattle.std.specs.Prelude.{◌≡◌, ℕ, ◌+◌, List, [], ◌∷◌, ◌++◌, map, Option, codes}
 use Rattle.sim_base.specs.declared.address.Ip.{Ip}
 use Rattle.sim_base.specs.declared.signal.Signal.{Signal}
 use Rattle.sim_base.specs.declared.time.Time.{Time}
@@ -12,7 +12,6 @@ use Rattle.net_iface.specs.declared.lane.QueueRule.{QueueRule}
 use Rattle.net_iface.specs.declared.lane.QueueRule.TheVariants as lane
 use Rattle.run_plan.specs.Plan.{nodes_of}
 use Rattle.run_plan.specs.declared.host_row.HostRow.{HostRow}
-use Rattle.run_plan.specs.declared.plan.Plan.{Plan}
 use Rattle.run_plan.specs.declared.plan.Settings.{Settings}
 use Rattle.run_plan.specs.declared.planned.Run.{Run}
 use Rattle.shd_config.specs.declared.config.FinalState as config_state
@@ -130,12 +129,6 @@ pub record IsNetOf (run : Run) (net : Net) : Type 0 where
   pub stop : net.stop ≡ run.plan.settings.stop_time
   pub budget : net.budget ≡ run.budget
   pub images : net.images.items ≡ run.plan.images
-
--- the limits of configurations
-pub record IsWithinLimits (plan : Plan) : Type 0 where
-  pub stop : plan.settings.stop_time.nanos ≤ 2 ^ 61
-  pub hosts : length plan.rows ≤ 16384
-  pub processes : All (λ (h : HostRow). length h.config.processes ≤ 64) plan.rows
 
 -- a run is opened
 pub record Opens (run : Run) (opened : Opened) : Type 0 where

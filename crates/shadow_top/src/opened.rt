@@ -1,9 +1,10 @@
 //! The rows of hosts and the net that a run begins with.
 
-ghost use Rattle.std.specs.Prelude.{◌≡◌, ◌+◌, ◌≤◌, ◌<◌, ◌^◌, ◌∷◌, map, length, All, IfOk, IsTrue, codes};
+ghost use Rattle.std.specs.Prelude.{◌≡◌, ◌+◌, ◌≤◌, ◌<◌, ◌∷◌, map, length, IfOk, codes};
 ghost use Rattle.net_run.specs.World.{AreRows};
+ghost use Rattle.run_plan.specs.Limits.{KeepsToLimits};
 ghost use Rattle.run_plan.specs.Plan.{nodes_of};
-ghost use Rattle.shadow_top.specs.Opened.{variable_text, state_of, lane_rule, said_process, process_of, processes_of, said_host, host_of, hosts_from, IsWithinLimits, Opens};
+ghost use Rattle.shadow_top.specs.Opened.{variable_text, state_of, lane_rule, said_process, process_of, processes_of, said_host, host_of, hosts_from, Opens};
 
 use host_calls::Known;
 use host_state::{FinalState, Net, ProcessRow, Row};
@@ -13,15 +14,6 @@ use shd_config::{ProcessConfig, Variable};
 use shd_values::Texts;
 use sim_base::{Book, Bytes, HostId, Ip, Name, NoMemory, Text};
 use std::alloc::Global;
-
-/// The most hosts of a configuration.
-pub const MOST_HOSTS: usize = 16_384;
-
-/// The most processes of a host.
-const MOST_PROCESSES: usize = 64;
-
-/// The latest stop time, 2^61 ns.
-const LATEST_STOP: u64 = 1 << 61;
 
 /// A run before its first event.
 #[derive(Drop)]
@@ -189,32 +181,13 @@ fn known_of(alloc: Global, hosts: &[HostRow], text: Text) -> Result<Known, NoMem
     })
 }
 
-/// Whether each host has at most as many processes as a configuration may give it.
-fn have_few_processes(hosts: &[HostRow]) -> bool
-    ensures { IsTrue result → All (λ h. length h.config.processes ≤ 64) hosts.now }
-{
-    hosts
-        .iter()
-        .all(|host| host.config.processes.len() <= MOST_PROCESSES)
-}
-
-/// Whether a plan is within the limits of configurations, as each is that was read.
-fn is_within_limits(plan: &Plan) -> bool
-    ensures { IsTrue result → IsWithinLimits plan.now }
-{
-    plan.settings.stop_time.nanos <= LATEST_STOP
-        && plan.rows.as_slice().len() <= MOST_HOSTS
-        && have_few_processes(plan.rows.as_slice())
-}
-
-/// What a run begins with. There is room for the limits of configurations, and for no more.
+/// What a run begins with.
 pub fn open(alloc: Global, run: Run) -> Result<Opened, NoMemory>
+    requires { KeepsToLimits run.plan }
     ensures opens { IfOk result (Opens run) }
     ensures rows { IfOk result (λ o. AreRows o.net o.rows.items) }
+    ensures few { IfOk result (λ o. length o.rows.items ≤ 16384) }
 {
-    if !is_within_limits(&run.plan) {
-        return Err(NoMemory);
-    }
     let Run {
         plan,
         budget,

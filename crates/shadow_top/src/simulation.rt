@@ -1,19 +1,20 @@
 //! The top call.
 
-ghost use Rattle.std.specs.Prelude.{◌≡◌, ◌≢◌, ◌<◌, ◌≤◌, ◌⊎◌, map, string_bytes, not, IfSome, IfOk, OnOk, OnErr, IfErr, option_map};
+ghost use Rattle.std.specs.Prelude.{◌≡◌, ◌≢◌, ◌<◌, ◌≤◌, ◌⊎◌, length, map, string_bytes, not, IfSome, IfOk, OnOk, OnErr, IfErr, option_map};
 ghost use Rattle.sim_base.specs.Faults.{Rose};
 ghost use Rattle.sim_base.specs.Sink.{begun, add, AddsFront};
 ghost use Rattle.sim_base.specs.declared.outside.sink.Place.TheVariants as place;
 ghost use Rattle.net_run.specs.StandsFor.{RanStands};
 ghost use Rattle.net_run.specs.World.{World, AreRows};
 ghost use Rattle.shadow_top.specs.Opened.{Opens};
+ghost use Rattle.run_plan.specs.Limits.{KeepsToLimits, AreLimitsKept};
 ghost use Rattle.run_plan.specs.Line.{line_of};
 ghost use Rattle.shadow_top.specs.Contract.{Shows, TellsReadFailed, ShowsPart, TellsPart, Runs, CarriesOut, RunsPlan, ShowsConfig, RunsOpened, RunsNoted, Reports, TellsLine, Tells, BeginsSo, read_failed_line};
 ghost use Rattle.shadow_top.specs.Input.{input};
 ghost use Rattle.shadow_top.specs.Outcome.{Outcome};
 ghost use Rattle.shadow_top.specs.Stop.{CountsSource, CountsSink, NoReadFailed};
 
-use crate::opened::{MOST_HOSTS, Opened, open};
+use crate::opened::{Opened, open};
 use crate::stop::Stop;
 use host_state::{Net, Row};
 use net_run::{Ran, put_notes, report};
@@ -111,14 +112,12 @@ fn report_run<K: Sink>(
     is_self_load: bool,
     sink: &mut K,
 ) -> Result<u8, Stop>
+    requires { length ran.hosts.items ≤ 16384 }
     ensures told { (w : World) → RanStands ran w → Reports is_self_load w (K.content sink.old) (K.content sink.new) result }
     ensures status { (w : World) → RanStands ran w → IfOk result (λ status. status ≤ 1) }
     ensures reads { NoReadFailed result }
     ensures count { CountsSink result (K.faults sink.old) (K.faults sink.new) }
 {
-    if ran.hosts.len() > MOST_HOSTS {
-        return Err(Stop::NoMemory);
-    }
     match report(alloc, sink, ran, is_self_load) {
         Ok(status) => Ok(status),
         Err(error) => Err(Stop::from(error)),
@@ -133,7 +132,8 @@ fn run_noted<K: Sink>(
     is_self_load: bool,
     sink: &mut K,
 ) -> Result<u8, Stop>
-    requires { AreRows net.now rows.items }
+    requires rows { AreRows net.now rows.items }
+    requires few { length rows.items ≤ 16384 }
     ensures told { RunsNoted net.now rows.items is_self_load (K.content sink.old) (K.content sink.new) result }
     ensures status { IfOk result (λ status. status ≤ 1) }
     ensures reads { NoReadFailed result }
@@ -147,7 +147,8 @@ fn run_noted<K: Sink>(
 
 /// Makes a run whose data directory was made, and writes what it shows.
 fn run_begun<K: Sink>(alloc: Global, opened: Opened, sink: &mut K) -> Result<u8, Stop>
-    requires { AreRows opened.net opened.rows.items }
+    requires rows { AreRows opened.net opened.rows.items }
+    requires few { length opened.rows.items ≤ 16384 }
     ensures told { IfSome (K.content sink.old) (λ c. RunsOpened opened c (K.content sink.new) result) }
     ensures status { IfOk result (λ status. status ≤ 1) }
     ensures reads { NoReadFailed result }
@@ -168,8 +169,10 @@ fn run_begun<K: Sink>(alloc: Global, opened: Opened, sink: &mut K) -> Result<u8,
 
 /// What a run begins with, and the name of its directory.
 fn prepare(alloc: Global, run: Run) -> Result<(Opened, Name), NoMemory>
+    requires { KeepsToLimits run.plan }
     ensures opens { IfOk result (λ p. Opens run p.0) }
     ensures rows { IfOk result (λ p. AreRows p.0.net p.0.rows.items) }
+    ensures few { IfOk result (λ p. length p.0.rows.items ≤ 16384) }
     ensures directory { IfOk result (λ p. p.1 ≡ p.0.directory) }
 {
     let opened = open(alloc, run)?;
@@ -179,6 +182,7 @@ fn prepare(alloc: Global, run: Run) -> Result<(Opened, Name), NoMemory>
 
 /// Makes a run, and writes what it shows.
 fn run_plan<K: Sink>(alloc: Global, run: Run, sink: &mut K) -> Result<u8, Stop>
+    requires { KeepsToLimits run.plan }
     ensures told { IfSome (K.content sink.old) (λ c. RunsPlan run c (K.content sink.new) result) }
     ensures status { IfOk result (λ status. status ≤ 1) }
     ensures reads { NoReadFailed result }
@@ -195,6 +199,7 @@ fn run_plan<K: Sink>(alloc: Global, run: Run, sink: &mut K) -> Result<u8, Stop>
 
 /// Does what was planned, and writes what it shows.
 fn carry_out<K: Sink>(alloc: Global, planned: Planned, sink: &mut K) -> Result<u8, Stop>
+    requires { AreLimitsKept planned }
     ensures told { IfSome (K.content sink.old) (λ c. CarriesOut planned c (K.content sink.new) result) }
     ensures status { IfOk result (λ status. status ≤ 1) }
     ensures reads { NoReadFailed result }

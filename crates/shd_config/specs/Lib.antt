@@ -4,6 +4,7 @@ pub mod Values
 pub mod General
 pub mod Network
 pub mod Process
+pub mod Limits
 pub mod Host
 pub mod Notes
 pub mod Config

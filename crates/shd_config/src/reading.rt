@@ -1,11 +1,12 @@
 //! The configuration of a tree.
 
-ghost use Rattle.std.specs.Prelude.{◌≡◌, is_some};
+ghost use Rattle.std.specs.Prelude.{◌≡◌, All, IfOk, is_some};
 ghost use Rattle.shd_config.specs.Steps.{Gives, Passes, optional, given, mapping_line, through};
 ghost use Rattle.yaml_tree.specs.Trees.{is_empty};
 ghost use Rattle.yaml_merge.specs.SaidAt.{said_of};
 ghost use Rattle.yaml_merge.specs.Merge.{merged};
 ghost use Rattle.shd_config.specs.General.{general_at};
+ghost use Rattle.shd_config.specs.Limits.{MayOverride, MayStop, IsSomeText, AreFewHosts, HasFewProcesses, HaveFewBytes};
 ghost use Rattle.shd_config.specs.Config.{experimental_at, new_root, root_key, root_row, general_or, finished_root, root_of, is_passed_over, kept, wrong_merge, merged_config, config};
 
 use crate::config::Config;
@@ -239,7 +240,15 @@ fn merged_tree(alloc: Global, tree: &Tree) -> Result<Plain, ConfigError>
 /// The configuration of a tree, or its first fault in document order.
 #[tactic(auto, unfolding(crate::specs::Config::config))]
 pub fn config_of(alloc: Global, tree: &Tree, overrides: &Overrides) -> Result<Config, ConfigError>
-    ensures { Gives result (config overrides.now (is_empty tree.now) (said_of tree.now)) }
+    requires { MayOverride overrides.now }
+    ensures told { Gives result (config overrides.now (is_empty tree.now) (said_of tree.now)) }
+
+    // A configuration keeps to its limits.
+    ensures few { IfOk result (λ c. AreFewHosts c.hosts) }
+    ensures processes { IfOk result (λ c. All HasFewProcesses c.hosts) }
+    ensures texts { IfOk result (λ c. All HaveFewBytes c.hosts) }
+    ensures stop { IfOk result (λ c. MayStop c.stop_time) }
+    ensures directory { IfOk result (λ c. IsSomeText c.data_directory) }
 {
     let merged = merged_tree(alloc, tree)?;
     merged_config(alloc, overrides, tree.is_empty(), merged)

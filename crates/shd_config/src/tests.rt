@@ -1,5 +1,7 @@
 //! Texts with their configuration or their first fault.
 
+ghost use Rattle.shd_config.specs.Limits.{MayOverride};
+
 use crate::{
     Config, ConfigError, ConfigFault, ConfigKind, FinalState, GraphSource, Overrides, QueueRule,
     config_of,
@@ -10,7 +12,9 @@ use std::process::Abort;
 use std::test::Fail;
 use yaml_tree::read_tree;
 
-fn overrides() -> Overrides {
+fn overrides() -> Overrides
+    ensures { MayOverride result }
+{
     Overrides {
         seed: None,
         parallelism: None,
@@ -30,7 +34,9 @@ fn fault(alloc: Global, text: &str) -> Result<ConfigFault, Fail> {
     fault_under(alloc, text, &overrides())
 }
 
-fn fault_under(alloc: Global, text: &str, given: &Overrides) -> Result<ConfigFault, Fail> {
+fn fault_under(alloc: Global, text: &str, given: &Overrides) -> Result<ConfigFault, Fail>
+    requires { MayOverride given.now }
+{
     let tree = read_tree(alloc, text.as_bytes())?;
     match config_of(alloc, &tree, given) {
         Err(ConfigError::Fault(fault)) => Ok(fault),

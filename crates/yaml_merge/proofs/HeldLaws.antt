@@ -1,12 +1,12 @@
 -- A tree that holds what is said says it.
-use Rattle.std.proofs.Common.{◌≡◌, ℕ, zero, suc, ◌+◌, ◌≤◌, Bool, true, false, ◌||◌, cond, List, [], ◌∷◌, ◌++◌, Option, Some, None, slice_get, is_some, max, refl, sym, ap, ◌∙◌, arith, ◌==◌}
+use Rattle.std.proofs.Common.{◌≡◌, ℕ, zero, suc, ◌+◌, ◌≤◌, Bool, true, false, ◌||◌, cond, List, [], ◌∷◌, ◌++◌, Some, slice_get, is_some, refl, sym, ap, ◌∙◌, arith, ◌==◌}
 use Rattle.std.specs.Cmp.Lexicographic.{pointwise}
 use Rattle.std.specs.Map.{lookup}
 use Rattle.std.proofs.lemmas.Bool.{false≢true}
 use Rattle.indexmap.specs.IndexMap.{insert_entry}
 use Rattle.yaml_tree.specs.Said.{Said, has_key, levels}
 use Rattle.yaml_tree.specs.Said.Said.{null, text, unknown, sequence, mapping, with_item, with_pair}
-use Rattle.yaml_tree.specs.Holds.{HoldsSaid, HoldsRows, Rows, no_rows, begins_on}
+use Rattle.yaml_tree.specs.Holds.{HoldsSaid, HoldsRows, Rows, begins_on}
 use Rattle.yaml_tree.specs.Trees.{Holds}
 use Rattle.yaml_tree.specs.declared.entries.Child.{Child}
 use Rattle.yaml_tree.specs.declared.node.Node.{Node}

@@ -1,8 +1,8 @@
 -- What is seen of an owned node is what it says.
-use Rattle.std.proofs.Common.{◌≡◌, ℕ, Bool, true, false, List, [], ◌∷◌, ◌++◌, Option, Some, None, refl, sym, ap, ◌∙◌, append_assoc}
+use Rattle.std.proofs.Common.{◌≡◌, ℕ, false, List, [], ◌∷◌, ◌++◌, Some, None, refl, sym, ap, ◌∙◌, append_assoc}
 use Rattle.std.specs.Option.{option_map}
 use Rattle.yaml_tree.specs.Said.{Said}
-use Rattle.yaml_tree.specs.Said.Said.{null, text, sequence, mapping, with_item, with_pair}
+use Rattle.yaml_tree.specs.Said.Said.{sequence, mapping, with_item, with_pair}
 use Rattle.yaml_merge.specs.declared.plain.Inner.{Inner}
 use Rattle.yaml_merge.specs.declared.plain.Inner.TheVariants.{Null, Text, Sequence, Mapping}
 use Rattle.yaml_merge.specs.declared.plain.Pair.{Pair}

@@ -2,3 +2,5 @@ pub mod InnerLaws
 pub mod SaidAtLaws
 pub mod MergingLaws
 pub mod HeldLaws
+pub mod MergeLaws
+pub mod SameLaws

@@ -1,17 +1,14 @@
 -- What is found of a node is what it says.
-use Rattle.std.proofs.Common.{◌≡◌, ℕ, zero, suc, ◌+◌, ◌-◌, Bool, true, false, ◌||◌, cond, List, [], ◌∷◌, ◌++◌, Option, Some, None, Result, Ok, Err, drop, map, slice_get, length, ◌<◌, get_or, add-one, drop-cons, refl, sym, ap, ◌∙◌, append_assoc, arith, ◌==◌, eq-eqb}
+use Rattle.std.proofs.Common.{◌≡◌, ℕ, ◌+◌, ◌-◌, Bool, true, false, ◌||◌, cond, List, [], ◌∷◌, ◌++◌, Some, None, Result, Ok, Err, drop, map, length, ◌<◌, get_or, add-one, drop-cons, refl, sym, ap, ◌∙◌, append_assoc, ◌==◌}
 use Rattle.std.specs.Cmp.Lexicographic.{pointwise}
 use Rattle.std.specs.Result.{IfOk}
-use Rattle.std.specs.List.{list_any}
 use Rattle.sim_base.specs.Refusals.{◌>>=◌}
 use Rattle.yaml_tree.specs.Said.{Said}
 use Rattle.yaml_tree.specs.Said.Said.{null, text, sequence, mapping, with_item, with_pair}
 use Rattle.yaml_tree.specs.Holds.{is_mapping}
 use Rattle.yaml_tree.specs.declared.entries.Child.{Child}
-use Rattle.yaml_tree.specs.declared.node.Value.{Value}
-use Rattle.yaml_tree.specs.declared.node.Value.TheVariants.{Null, Text, Sequence, Mapping}
 use Rattle.yaml_tree.specs.declared.node.Node.{Node}
-use Rattle.yaml_merge.specs.SaidAt.{valid_text, with_nodes, with_entries, value_said, node_at, said_at, is_mapping_value, may_merge_value}
+use Rattle.yaml_merge.specs.SaidAt.{valid_text, with_nodes, with_entries, node_at, said_at, is_mapping_value, may_merge_value}
 use Rattle.yaml_merge.specs.Rows.{with_items, with_pairs}
 use Rattle.yaml_merge.specs.Sources.{sources}
 use Rattle.yaml_merge.specs.Merge.{may_merge, has, keys_of, new_pairs, is_merge_key, put_value, fault_below, below, item_count, item_place, with_merged, merged_rows, merged}

@@ -1,11 +1,11 @@
 -- What is said at a node.
-use Rattle.std.proofs.Common.{◌≡◌, ℕ, zero, suc, ◌-◌, Bool, true, false, ◌&&◌, ◌||◌, List, [], ◌∷◌, ◌++◌, Option, Some, None, cond, map, refl, sym, ap, ◌∙◌, append_assoc, arith, subst}
+use Rattle.std.proofs.Common.{◌≡◌, ℕ, zero, suc, ◌-◌, Bool, true, false, ◌&&◌, ◌||◌, List, [], ◌∷◌, ◌++◌, Some, None, cond, map, refl, sym, ap, ◌∙◌, append_assoc, arith}
 use Rattle.std.specs.List.{list_all}
 use Rattle.std.specs.Str.{IsUtf8, is_utf8}
 use Rattle.std.proofs.lemmas.Str.{is_utf8-from_IsUtf8, IsUtf8-from_is_utf8}
 use Rattle.std.proofs.lemmas.Option.{none-some}
 use Rattle.yaml_tree.specs.Said.{Said}
-use Rattle.yaml_tree.specs.Said.Said.{null, text, sequence, mapping, with_item, with_pair}
+use Rattle.yaml_tree.specs.Said.Said.{null, sequence, mapping, with_item, with_pair}
 use Rattle.yaml_tree.specs.Holds.{is_mapping}
 use Rattle.yaml_tree.specs.declared.entries.Child.{Child}
 use Rattle.yaml_tree.specs.declared.node.Node.{Node}

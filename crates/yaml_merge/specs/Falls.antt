@@ -3,7 +3,7 @@ use Rattle.std.specs.Prelude.{ℕ, ◌+◌, ◌≤◌, max, List, [], ◌∷◌}
 use Rattle.std.proofs.Common.{arith}
 use denote.Param.Weighed.{most}
 use Rattle.yaml_tree.specs.Said.{Said}
-use Rattle.yaml_tree.specs.Said.Said.{null, text, unknown, sequence, mapping, with_item, with_pair}
+use Rattle.yaml_tree.specs.Said.Said.{sequence, mapping, with_item, with_pair}
 use Rattle.yaml_merge.specs.declared.plain.Inner.{Inner}
 use Rattle.yaml_merge.specs.declared.plain.Inner.TheVariants.{Null, Text, Sequence, Mapping}
 use Rattle.yaml_merge.specs.declared.plain.Pair.{Pair}

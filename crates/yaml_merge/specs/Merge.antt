@@ -31,6 +31,12 @@ may_merge value = is_mapping value || are_mappings value
 abbrev pub has : List ℕ → List (List ℕ) → Bool
 has key keys = list_any (pointwise ◌==◌ key) keys
 
+-- whether a merge key stands anywhere in a tree
+abbrev pub has_merge_key : Said → Bool
+has_merge_key (with_item before value) = has_merge_key before || has_merge_key value
+has_merge_key (with_pair before line key value) = has_merge_key before || (is_merge_key key || has_merge_key value)
+has_merge_key _ = false
+
 -- the keys that a mapping has itself
 abbrev pub keys_of : Said → List (List ℕ)
 keys_of (with_pair before line key value) = keys_of before ++ key ∷ []

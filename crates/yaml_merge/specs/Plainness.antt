@@ -1,5 +1,5 @@
 -- What holds of each tree that a text has.
-use Rattle.std.specs.Prelude.{◌≡◌, ℕ, Bool, true, false, List}
+use Rattle.std.specs.Prelude.{◌≡◌, Bool, true, false}
 use Rattle.std.specs.Str.{IsUtf8}
 use Rattle.yaml_tree.specs.Said.{Said, has_key}
 use Rattle.yaml_tree.specs.Said.Said.{null, text, unknown, sequence, mapping, with_item, with_pair}

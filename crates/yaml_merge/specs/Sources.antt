@@ -1,5 +1,5 @@
 -- The pairs that a value gives where it is merged.
-use Rattle.std.specs.Prelude.{ℕ, List, [], ◌∷◌, ◌++◌}
+use Rattle.std.specs.Prelude.{List, [], ◌∷◌, ◌++◌}
 use Rattle.yaml_tree.specs.Said.{Said}
 use Rattle.yaml_tree.specs.Said.Said.{with_item, with_pair}
 use Rattle.yaml_merge.specs.declared.plain.Pair.{Pair}

@@ -1,8 +1,8 @@
 use Rattle.run_plan.proofs.ConfiguredLemmas.{config_told}
 use Rattle.run_plan.proofs.configured.configure.Goals as goal
 
-pub returns : goal.returns
-returns c =
+pub returns-clause-told : goal.returns-clause-told
+returns-clause-told c =
     let s = c.in_ok-tree.ensures.tree in
     config_told c.args.file.now c.args.text.now c.args.overrides.now c.in_ok-tree.tree c.config_of_tree.result
-    (record { said = s.0; is = s.1; holds = s.2; empty = c.in_ok-tree.ensures.empty }) c.config_of_tree.ensures
+    (record { said = s.0; is = s.1; holds = s.2; empty = c.in_ok-tree.ensures.empty }) c.config_of_tree.ensures.told

@@ -1,10 +1,11 @@
-use Rattle.std.proofs.Common.{◌≡◌, ◌∙◌, List, ℕ, ap, subst}
+use Rattle.std.proofs.Common.{◌≡◌, ◌∙◌, List, ℕ, refl, ap, subst}
 use Rattle.std.specs.Prelude.{Ok, Err}
 use Rattle.std.proofs.lemmas.Result.{err_from_is_err_and}
 use Rattle.net_routes.specs.Least.{IsLookahead}
 use Rattle.run_plan.specs.Plan.{nodes_of, routed, nanos_of}
 use Rattle.run_plan.specs.Programs.{programs_of, images}
 use Rattle.run_plan.specs.declared.plan.Plan.{Plan}
+use Rattle.run_plan.proofs.LimitLemmas.{plan_within}
 use Rattle.run_plan.proofs.PlanLemmas.{rows_stop, images_stop, run_done}
 use Rattle.run_plan.proofs.RowLemmas.{rows_lack_memory, rows_counted}
 use Rattle.run_plan.proofs.StepLemmas.{when_told, always_told}
@@ -46,3 +47,6 @@ returns-clause-told g c =
     (λ held h. run_done held c.args.name.now c.args.graph.now c.args.config c.in_ok-rows.rows c.in_ok-rows.ensures c.in_ok-routes.routes found c.in_ok-images.images.items c.least_between-lookahead.result
     (subst (λ (ps : List (List ℕ)). images held ps (Ok c.in_ok-images.images.items)) e h) least)
     c.in_ok-images.ensures.told)
+
+pub returns-clause-limits : goal.returns-clause-limits
+returns-clause-limits g c = plan_within c.args.name.now c.args.graph.now c.args.config _ c.requires c.in_ok-rows.ensures refl

@@ -13,12 +13,12 @@ use Rattle.run_plan.proofs.planned.plan_file.Goals as goal
 pub returns-in_err-config-clause-count : goal.returns-in_err-config-clause-count
 returns-in_err-config-clause-count g c =
     let p = err_from_is_err_and c.from_residual-in_err-config.result c.from_residual-in_err-config.ensures.1 in rw (p.1, p.2, c.in_ok-text.ensures.count)
-    (config_counted Planned c.as_str-2.result.now c.deref.result.now c.args.manner.now.overrides c.in_err-config.field-0.0 _ c.in_err-config.ensures)
+    (config_counted Planned c.as_str-2.result.now c.deref.result.now c.args.manner.now.overrides c.in_err-config.field-0.0 _ c.in_err-config.ensures.told)
 
 pub returns-clause-told : goal.returns-clause-told
 returns-clause-told g c =
     let name : configured c.args.name.now c.deref.result.now c.args.manner.now.overrides (Ok c.in_ok-config.config) =
-    subst (λ (n : List ℕ). configured n c.deref.result.now c.args.manner.now.overrides (Ok c.in_ok-config.config)) c.as_str-2.ensures c.in_ok-config.ensures in
+    subst (λ (n : List ℕ). configured n c.deref.result.now c.args.manner.now.overrides (Ok c.in_ok-config.config)) c.as_str-2.ensures c.in_ok-config.ensures.told in
     let said : configured c.args.name.now c.in_ok-text.text.items c.args.manner.now.overrides (Ok c.in_ok-config.config) =
     subst (λ (t : List ℕ). configured c.args.name.now t c.args.manner.now.overrides (Ok c.in_ok-config.config)) c.deref.ensures.value name in
     when_both (g.S.Source.held c.args.source.now)

@@ -20,4 +20,4 @@ returns-in_err-ring_bytes-clause-told c =
 pub returns-clause-told : goal.returns-clause-told
 returns-clause-told c =
     self_load_run c.args.manner.now c.args.hosts c.in_ok-plan.plan c.in_ok-ring_bytes.field-0.items c.in_ok-graph.graph c.in_ok-config.config c.if-manner.false c.in_ok-ring_bytes.ensures
-    c.in_ok-graph.ensures c.in_ok-config.ensures c.in_ok-plan.ensures.told
+    c.in_ok-graph.ensures c.in_ok-config.ensures.config c.in_ok-plan.ensures.told

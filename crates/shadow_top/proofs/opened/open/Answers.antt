@@ -1,7 +1,7 @@
 use Rattle.std.proofs.Common.{rules}
 use Rattle.host_state.specs.declared.net.Net.{Net}
-use Rattle.shadow_top.specs.Opened.{AreRowsOf, IsNetOf, IsWithinLimits}
-use Rattle.shadow_top.proofs.OpenedLemmas.{rows_fit}
+use Rattle.shadow_top.specs.Opened.{AreRowsOf, IsNetOf}
+use Rattle.shadow_top.proofs.OpenedLemmas.{rows_fit, few_opened}
 use Rattle.shadow_top.proofs.opened.open.Goals as goal
 
 pub returns-clause-rows : goal.returns-clause-rows
@@ -15,7 +15,11 @@ returns-clause-rows c =
       budget = c.from.result;
       images = c.into_vec.result;
     } in
-    let within : IsWithinLimits c.args.run.plan = search rules in
     let same : AreRowsOf c.args.run c.in_ok-rows.rows.items = search rules in
     let net_is : IsNetOf c.args.run net = search rules in
-    rows_fit c.args.run net c.in_ok-rows.rows.items within same net_is
+    rows_fit c.args.run net c.in_ok-rows.rows.items c.requires same net_is
+
+pub returns-clause-few : goal.returns-clause-few
+returns-clause-few c =
+    let same : AreRowsOf c.args.run c.in_ok-rows.rows.items = search rules in
+    few_opened c.args.run c.in_ok-rows.rows.items c.requires.few same

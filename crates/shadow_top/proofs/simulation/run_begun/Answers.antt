@@ -18,5 +18,5 @@ returns-clause-told g c =
     let old : Option Content = g.K.Sink.content c.args.sink.now in
     let new : Option Content = g.K.Sink.content c.put_notes.new.sink in
     subst (λ (s : Stop). IfSome old (λ d. RunsOpened c.args.opened d new (Err s))) (sym c.from.ensures)
-    (notes_stopped c.args.opened old new c.in-Err.error c.requires
+    (notes_stopped c.args.opened old new c.in-Err.error c.requires.rows
     (subst (λ (ns : List (List ℕ)). PutsFront (note_puts ns) old new) c.as_slice.ensures c.in-Err.ensures.err))

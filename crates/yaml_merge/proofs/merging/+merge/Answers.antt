@@ -1,5 +1,5 @@
 use Rattle.std.proofs.Common.{Ok, sym, ap, ◌∙◌}
-use Rattle.yaml_tree.specs.Said.Said.{sequence, mapping}
+use Rattle.yaml_tree.specs.Said.Said.{sequence}
 use Rattle.yaml_tree.specs.Trees.{nodes_of}
 use Rattle.yaml_merge.specs.SaidAt.{value_said, said_at}
 use Rattle.yaml_merge.specs.Merge.{merged}

@@ -1,0 +1,21 @@
+//! Laws of the definitions: two answers for one input agree, so that it has one plan or one first fault.
+
+ghost use Rattle.std.specs.Prelude.{◌≡◌, ℕ, List, Result, Ok, Err};
+ghost use Rattle.sim_base.specs.Files.{Held};
+ghost use Rattle.run_plan.specs.Planned.{planned};
+ghost use Rattle.run_plan.specs.Same.{Agree, AreSame};
+ghost use Rattle.run_plan.specs.declared.fault.Fault.{Fault};
+ghost use Rattle.run_plan.specs.declared.fault.ReadStop.{ReadStop};
+ghost use Rattle.run_plan.specs.declared.fault.ReadStop.TheVariants.{Refused};
+ghost use Rattle.run_plan.specs.declared.planned.Planned.{Planned};
+
+/// Two answers for one input agree.
+pub fn one_plan()
+    ensures { (words : List (List ℕ)) (held : Held) (r s : Result Planned ReadStop) → planned words held r → planned words held s → Agree AreSame r s }
+{}
+
+/// An input has one first fault, and a refused one has no plan.
+pub fn one_fault()
+    ensures same { (words : List (List ℕ)) (held : Held) (f g : Fault) → planned words held (Err (Refused f)) → planned words held (Err (Refused g)) → f ≡ g }
+    ensures none { (words : List (List ℕ)) (held : Held) (p : Planned) (f : Fault) → planned words held (Ok p) → planned words held (Err (Refused f)) → ⊥ }
+{}
