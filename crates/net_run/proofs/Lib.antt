@@ -1,5 +1,5 @@
 mod QueueLemmas
-mod FiringLemmas
+pub mod FiringLemmas
 pub mod TurnLemmas
 pub mod OpeningLemmas
 mod PieceLemmas

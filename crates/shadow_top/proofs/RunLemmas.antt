@@ -31,7 +31,7 @@ use Rattle.shadow_top.proofs.PutLemmas.{nothing_put, first_put, then_put, all_pu
 -- a run has a result
 pub ran_exists : (net : Net) (rows : List Row) → AreRows net rows → (w : World) × IsResult net w (opening_world rows)
 ran_exists net rows are =
-    let r = at_least_one (simulation net) net.stop.nanos (opening_world rows) (opened-settled net rows are) in (r.0, r.1)
+    let r = at_least_one (simulation net are.stop) net.stop.nanos (opening_world rows) (opened-settled net rows are) in (r.0, r.1)
 
 -- ---- as many hosts as rows
 
