@@ -1,2 +1,3 @@
 pub mod Datagrams
+pub mod Records
 pub mod Sums

@@ -1,3 +1,5 @@
 pub mod Checksum
 pub mod Datagram
+pub mod Fault
+pub mod Reading
 pub mod Writing

@@ -1,8 +1,14 @@
 //! Captures of packets as bytes, in the pcap format with LINKTYPE_RAW, and their reader.
 #![tactic(auto)]
 
+mod capture;
 mod checksum;
 mod datagram;
+mod fault;
+mod reading;
 mod writing;
 
+pub use capture::{Capture, Record};
+pub use fault::{PcapError, PcapFault, PcapKind};
+pub use reading::read_pcap;
 pub use writing::{head, record};

@@ -49,7 +49,7 @@ fn record_front(time: Time, kept: u32, whole: u32) -> [u8; 16]
 }
 
 /// The first bytes of a list, at most so many.
-fn front(bytes: &[u8], size: u32) -> &[u8]
+pub(crate) fn front(bytes: &[u8], size: u32) -> &[u8]
     ensures { result.now ≡ take size bytes.now }
 {
     let size = bytes.len().min(size as usize);
