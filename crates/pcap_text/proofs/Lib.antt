@@ -1,3 +1,4 @@
 pub mod Datagrams
 pub mod Records
 pub mod Sums
+pub mod Written

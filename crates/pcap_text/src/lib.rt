@@ -5,10 +5,14 @@ mod capture;
 mod checksum;
 mod datagram;
 mod fault;
+mod laws;
+mod packets;
 mod reading;
 mod writing;
 
 pub use capture::{Capture, Record};
 pub use fault::{PcapError, PcapFault, PcapKind};
+pub use laws::{one_datagram, reads_back};
+pub use packets::packet_of;
 pub use reading::read_pcap;
 pub use writing::{head, record};
