@@ -12,7 +12,7 @@ mod writing;
 
 pub use capture::{Capture, Record};
 pub use fault::{PcapError, PcapFault, PcapKind};
-pub use laws::{one_datagram, reads_back};
+pub use laws::{checksums_verify, one_datagram, reads_back};
 pub use packets::packet_of;
 pub use reading::read_pcap;
 pub use writing::{head, record};
