@@ -8,6 +8,8 @@ mod fault;
 mod laws;
 mod packets;
 mod reading;
+#[cfg(test)]
+mod tests;
 mod writing;
 
 pub use capture::{Capture, Record};
