@@ -1,0 +1,10 @@
+use Rattle.std.proofs.Common.{ap, ◌∙◌}
+use Rattle.pcap_text.specs.Checksum.{sum_on}
+use Rattle.pcap_text.proofs.Sums.{udp_checked}
+use Rattle.pcap_text.proofs.datagram.udp_check.Goals as goal
+
+pub returns : goal.returns
+returns c = c.udp_sent.ensures ∙ udp_checked c.args.packet.now c.args.text.now c.sum_on-sum.result c.sum_on-sum-2.result c.sum_on.result c.requires.load
+    (c.sum_on-sum.ensures ∙ ap (sum_on 0) c.pseudo_header.ensures)
+    (c.sum_on-sum-2.ensures ∙ ap (sum_on c.sum_on-sum.result) c.udp_front.ensures)
+    (c.sum_on.ensures ∙ ap (sum_on c.sum_on-sum-2.result) c.as_slice.ensures)

@@ -1,0 +1,24 @@
+-- The internet checksum (RFC 1071, section 1).
+use Rattle.std.specs.Prelude.{◌≡◌, ℕ, ◌+◌, ◌-◌, ◌*◌, List, [], ◌∷◌, nat_lt, if◌then◌else◌}
+
+-- the ones' complement sum of two words of 16 bits: what is carried out at the top is added at the bottom
+unfoldable pub carried : ℕ → ℕ → ℕ
+carried a b = if nat_lt (a + b) 65536 then a + b else a + b - 65535
+
+-- the ones' complement sum of some bytes on top of a sum: each two are a word, the first of them its high byte,
+-- and an odd last byte is a word with a low byte of 0
+unfoldable pub sum_on : ℕ → List ℕ → ℕ
+sum_on sum [] = sum
+sum_on sum (high ∷ []) = carried sum (256 * high)
+sum_on sum (high ∷ low ∷ rest) = sum_on (carried sum (256 * high + low)) rest
+
+abbrev pub ones_sum : List ℕ → ℕ
+ones_sum bytes = sum_on 0 bytes
+
+-- the checksum of some bytes, among which its own field has 0: the ones' complement of their sum
+abbrev pub checksum : List ℕ → ℕ
+checksum bytes = 65535 - ones_sum bytes
+
+-- bytes with their checksum in its field have the sum FFFF
+abbrev pub Verifies : List ℕ → Type 0
+Verifies bytes = ones_sum bytes ≡ 65535
