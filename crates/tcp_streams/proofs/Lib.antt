@@ -1,0 +1,17 @@
+pub mod Ears
+pub mod Verdicts
+pub mod Fronts
+pub mod Receiving
+pub mod Ends
+pub mod Stages
+pub mod Texts
+pub mod Hearing
+pub mod Quiet
+pub mod Members
+pub mod Soundness
+pub mod Steps
+pub mod Nets
+pub mod Promise
+pub mod Frames
+pub mod Slots
+pub mod Listening
