@@ -15,3 +15,4 @@ pub mod Promise
 pub mod Frames
 pub mod Slots
 pub mod Listening
+pub mod Values
