@@ -1,0 +1,105 @@
+-- the promise on streams
+use Rattle.std.proofs.Common.{◌≡◌, ℕ, ⊎_elim, Bool, true, false, List, [], length, take, Contains, Option, Some, None, refl, sym, ap, subst, ◌∙◌, arith}
+use Rattle.std.proofs.lemmas.List.{take_all}
+use Rattle.sim_base.specs.declared.address.Addr.{Addr}
+use Rattle.sock_tcp.specs.connection.Tcb.{Tcb}
+use Rattle.tcp_streams.specs.Net.{Net, empty_net, AreSteps, last_net}
+use Rattle.tcp_streams.specs.Sound.{IsSound}
+use Rattle.tcp_streams.specs.Heard.{IsFront, HearsFrom, IsHeard, AreHonest}
+use Rattle.tcp_streams.specs.Stream.{is_at, IsOnce, IsSimple, record_at, written_by, read_by, end_seen_by, stream_of, IsFaithful}
+use Rattle.tcp_streams.proofs.Fronts.{empty_of, nothing_front, IsFront-take, whole_front}
+use Rattle.tcp_streams.proofs.Members.{IsIn-from_Contains, Contains-from_IsIn, found, missing, sole}
+use Rattle.tcp_streams.proofs.Ends.{ends_of, is_at-ends}
+use Rattle.tcp_streams.proofs.Steps.{AllSound}
+use Rattle.tcp_streams.proofs.Nets.{HeardAt, steps_sound, steps_honest, steps_heard}
+
+-- the empty net
+empty_sound : AllSound empty_net.records
+empty_sound r c = absurd (IsIn-from_Contains r [] c)
+
+empty_honest : (scope : Addr → Addr → Bool) → AreHonest scope empty_net
+empty_honest scope p c = absurd (IsIn-from_Contains p [] c)
+
+empty_heard : (own other : Addr) → HeardAt own other empty_net.records
+empty_heard own other r c at = absurd (IsIn-from_Contains r [] c)
+
+-- of every net
+pub net_sound : (scope : Addr → Addr → Bool) (nets : List Net) → AreSteps scope empty_net nets → AllSound (last_net empty_net nets).records
+net_sound scope nets steps = steps_sound scope empty_net nets steps empty_sound
+
+pub net_honest : (scope : Addr → Addr → Bool) (nets : List Net) → AreSteps scope empty_net nets → AreHonest scope (last_net empty_net nets)
+net_honest scope nets steps = steps_honest scope empty_net nets steps empty_sound (empty_honest scope)
+
+pub net_heard : (scope : Addr → Addr → Bool) (nets : List Net) (own other : Addr) → scope other own ≡ true → AreSteps scope empty_net nets → IsOnce other own (last_net empty_net nets).records → HeardAt own other (last_net empty_net nets).records
+net_heard scope nets own other in_scope steps once =
+    steps_heard scope own other empty_net nets in_scope steps empty_sound (empty_honest scope) (empty_heard own other) once
+
+-- what a record that heard nothing gives, and one that heard of another
+take_none : (n : ℕ) (xs : List ℕ) → length xs ≡ 0 → take n xs ≡ []
+take_none n xs e = take_all n xs (omega (arith, e)) ∙ empty_of xs e
+
+record Reads (r : Tcb) (written : List ℕ) : Type 0 where
+  front : IsFront (take r.read r.received) written
+  whole : r.control.saw_end ≡ true → take r.read r.received ≡ written
+
+silent : (r : Tcb) (written : List ℕ) → IsSound r → r.rcv ≡ 0 → Reads r written
+silent r written s z =
+    let nothing = s.counted.nothing z in
+    let none = take_none r.read r.received (omega (arith, nothing.0)) in
+    record {
+      front = subst (λ (xs : List ℕ). IsFront xs written) (sym none) (nothing_front written);
+      whole = λ e.
+          let taken = (s.counted.seen e).0 in
+          let no : true ≡ false = sym taken ∙ nothing.1 in
+          absurd (cc);
+    }
+
+heard_whole : (w r : Tcb) → IsSound r → HearsFrom w r → Reads r w.written
+heard_whole w r s h = record {
+  front = IsFront-take r.read r.received w.written h.front;
+  whole = λ e.
+      let seen = s.counted.seen e in
+      let ended = h.ended seen.0 in
+      take_all r.read r.received (omega (arith, seen.1))
+      ∙ whole_front r.received w.written h.front (omega (arith, ended.1, seen.2));
+}
+
+-- the record at the writing end is the one that was heard
+written_at : (from to : Addr) (records : List Tcb) (w : Tcb) (o : Option Tcb) → record_at from to records ≡ o → IsOnce from to records → Contains records w → is_at from to w ≡ true → written_by o ≡ w.written
+written_at from to records w None e once c at =
+    absurd (missing (is_at from to) records w e (IsIn-from_Contains w records c) at)
+written_at from to records w (Some x) e once c at =
+    let f = found (is_at from to) records x e in
+    ap (λ (y : Tcb). y.written) (sole (is_at from to) records x w once.once f.0 (IsIn-from_Contains w records c) f.1 at)
+
+reads_as : (r : Tcb) (a b : List ℕ) → a ≡ b → Reads r a → Reads r b
+reads_as r a b e h = subst (Reads r) e h
+
+reads_of : (from to : Addr) (records : List Tcb) (r : Tcb) → IsOnce from to records → IsSound r → is_at to from r ≡ true → IsHeard records r → Reads r (written_by (record_at from to records))
+reads_of from to records r once s at h =
+    ⊎_elim
+    (λ z. silent r (written_by (record_at from to records)) s z)
+    (λ w.
+    let e = ends_of to from r at in
+    let there = is_at-ends from to w.writer (w.peer.0 ∙ e.1) (w.peer.1 ∙ e.0) in
+    let same = written_at from to records w.writer (record_at from to records) refl once w.among there in
+    reads_as r w.writer.written (written_by (record_at from to records)) (sym same) (heard_whole w.writer r s w.hears))
+    h
+
+faithful : (from to : Addr) (records : List Tcb) (o : Option Tcb) → record_at to from records ≡ o → IsOnce from to records → AllSound records → HeardAt to from records → IsFaithful (record {
+  written = written_by (record_at from to records);
+  read = read_by o;
+  ended = end_seen_by o;
+})
+faithful from to records None e once sound heard =
+    record { front = nothing_front (written_by (record_at from to records)); whole = λ t. absurd (cc) }
+faithful from to records (Some r) e once sound heard =
+    let f = found (is_at to from) records r e in
+    let c = Contains-from_IsIn r records f.0 in
+    let k = reads_of from to records r once (sound r c) f.1 (heard r c f.1) in
+    record { front = k.front; whole = k.whole }
+
+pub streams : (scope : Addr → Addr → Bool) (nets : List Net) (from to : Addr) → scope from to ≡ true → AreSteps scope empty_net nets → IsSimple from to (last_net empty_net nets).records → IsFaithful (stream_of from to (last_net empty_net nets).records)
+streams scope nets from to in_scope steps simple =
+    let records = (last_net empty_net nets).records in
+    faithful from to records (record_at to from records) refl simple.0 (net_sound scope nets steps) (net_heard scope nets to from in_scope steps simple.0)

@@ -1,0 +1,5 @@
+pub mod Net
+pub mod Sound
+pub mod Heard
+pub mod Stream
+pub mod Frame

@@ -1,0 +1,116 @@
+//! Laws of records that send to one another, over every list of steps.
+
+ghost use Rattle.std.specs.Prelude.{◌≡◌, ◌⊎◌, ℕ, ◌+◌, ◌-◌, ◌<◌, ◌≤◌, ◌^◌, List, ◌∷◌, ◌++◌, length, Bool, true, false, Contains, Some};
+ghost use Rattle.sim_base.specs.Addresses.{loopback, is_same_ip};
+ghost use Rattle.sim_base.specs.declared.address.Addr.{Addr};
+ghost use Rattle.sim_base.specs.declared.packet.Packet.{Packet};
+ghost use Rattle.sock_tcp.specs.declared.segment.header.Header.{Header};
+ghost use Rattle.sock_tcp.specs.declared.segment.number.Distance.TheVariants.{Ahead, Behind};
+ghost use Rattle.sock_tcp.specs.segment.Number.{wire, distance};
+ghost use Rattle.sock_tcp.specs.segment.Refusal.{refusal_of};
+ghost use Rattle.sock_tcp.specs.connection.Tcb.{Tcb};
+ghost use Rattle.sock_tcp.specs.listener.Listen.{Listen, hears, hears_timer, accepts, hears_close};
+ghost use Rattle.sock_tcp.specs.laws.Acts.{Start, IsStart, begun_by, Act, acted};
+ghost use Rattle.sock_tcp.specs.laws.Growth.{GrowsTo};
+ghost use Rattle.sock_tcp.specs.laws.Sending.{AreOf, Carries};
+ghost use Rattle.tcp_streams.specs.Net.{Net, empty_net, IsVoid, Comes, Flies, Step, AreSteps, last_net};
+ghost use Rattle.tcp_streams.specs.Sound.{IsSound, ReceivesOn};
+ghost use Rattle.tcp_streams.specs.Heard.{HearsFrom, IsHeard, AreHonest};
+ghost use Rattle.tcp_streams.specs.Frame.{everywhere, inside, IsPart, MovesOn, beside};
+ghost use Rattle.tcp_streams.specs.Stream.{is_at, IsOnce, IsSimple, stream_of, IsFaithful};
+
+/// The number of a segment names its own offset, seen from a record that has heard of its sender, which
+/// has written fewer than 2^30 bytes.
+pub fn segments_named()
+    ensures ahead { (w r : Tcb) (h : Header) (text : List ℕ) (c : Carries w.iss w.written w.control.fin_wanted h text)
+        → length w.written < 2 ^ 30 → HearsFrom w r → r.rcv ≤ c.offset
+        → distance (wire r.irs r.rcv) h.seq ≡ Ahead (c.offset - r.rcv) }
+    ensures behind { (w r : Tcb) (h : Header) (text : List ℕ) (c : Carries w.iss w.written w.control.fin_wanted h text)
+        → length w.written < 2 ^ 30 → HearsFrom w r → c.offset < r.rcv
+        → distance (wire r.irs r.rcv) h.seq ≡ Behind (r.rcv - c.offset) }
+{}
+
+/// A record begins sound, and every act keeps it so.
+pub fn records_sound()
+    ensures begun { (start : Start) → IsStart start → IsSound (begun_by start).tcb }
+    ensures kept { (r : Tcb) (act : Act) → IsSound r → IsSound (acted act r).tcb }
+{}
+
+/// Every segment that a sound record sends is honest.
+pub fn segments_honest()
+    ensures first { (start : Start) → IsStart start → AreOf (begun_by start).tcb (begun_by start).sent }
+    ensures others { (r : Tcb) (act : Act) → IsSound r → AreOf (acted act r).tcb (acted act r).sent }
+{}
+
+/// A record only grows: what was written, and what was received.
+pub fn records_grow()
+    ensures written { (r : Tcb) (act : Act) → IsSound r → GrowsTo r (acted act r).tcb }
+    ensures received { (r : Tcb) (act : Act) → ReceivesOn r (acted act r).tcb }
+{}
+
+/// In every net each record is sound, and each packet on its way is honest or comes from elsewhere.
+pub fn nets_honest()
+    ensures records { (scope : Addr → Addr → Bool) (nets : List Net) → AreSteps scope empty_net nets
+        → (r : Tcb) → Contains (last_net empty_net nets).records r → IsSound r }
+    ensures packets { (scope : Addr → Addr → Bool) (nets : List Net) → AreSteps scope empty_net nets
+        → AreHonest scope (last_net empty_net nets) }
+{}
+
+/// In every net a record has heard nothing, or of the record at the other end, where that end had one
+/// record at most, to which fewer than 2^30 bytes were written.
+pub fn peers_heard()
+    ensures { (scope : Addr → Addr → Bool) (nets : List Net) (own other : Addr) → AreSteps scope empty_net nets
+        → scope other own ≡ true → IsOnce other own (last_net empty_net nets).records
+        → (r : Tcb) → Contains (last_net empty_net nets).records r → is_at own other r ≡ true
+        → IsHeard (last_net empty_net nets).records r }
+{}
+
+/// In every net what was read at one end is a front of what was written at the other, and all of it where
+/// the reader saw the end, for ends that had one record each at most, with fewer than 2^30 bytes each way.
+pub fn streams()
+    ensures { (scope : Addr → Addr → Bool) (nets : List Net) (from to : Addr) → AreSteps scope empty_net nets
+        → scope from to ≡ true → IsSimple from to (last_net empty_net nets).records
+        → IsFaithful (stream_of from to (last_net empty_net nets).records) }
+{}
+
+/// The calls of a listener are steps of a net that has its records: a segment that arrives, an expiry, an
+/// accept, after which the record stands outside, and a close, after which all do. Records that the
+/// listener lets go stay in the net.
+pub fn listeners_step()
+    ensures arrival { (scope : Addr → Addr → Bool) (l : Listen) (p : Packet) (word : ℕ) (others : List Tcb) (flying after : List Packet)
+        → Contains flying p → Flies scope flying (hears p word l).sent after
+        → (gone : List Tcb) × Step scope (beside l.records others flying) (beside (hears p word l).listen.records (gone ++ others) after) }
+    ensures expiry { (scope : Addr → Addr → Bool) (l : Listen) (own other : Addr) (others : List Tcb) (flying after : List Packet)
+        → Flies scope flying (hears_timer own other l).sent after
+        → (gone : List Tcb) × Step scope (beside l.records others flying) (beside (hears_timer own other l).listen.records (gone ++ others) after) }
+    ensures accept { (scope : Addr → Addr → Bool) (l rest : Listen) (r : Tcb) (others : List Tcb) (flying : List Packet)
+        → accepts l ≡ Some (r, rest)
+        → Step scope (beside l.records others flying) (beside rest.records (r ∷ others) flying) }
+    ensures close { (scope : Addr → Addr → Bool) (l : Listen) (others : List Tcb) (flying after : List Packet)
+        → Flies scope flying (hears_close l).sent after
+        → Step scope (beside l.records others flying) (beside (hears_close l).listen.records (l.records ++ others) after) }
+{}
+
+/// What answers a segment of no connection tells nothing of a stream.
+pub fn refusals_void()
+    ensures { (p q : Packet) → refusal_of p ≡ Some q → IsVoid q.load }
+{}
+
+/// Steps of a part of a net, as of one host among others, are steps of the whole; lists of steps join; what
+/// others do is a step of the part too, where their packets come; in a net of the ends of 127.0.0.1 packets
+/// without that address do; and steps of a net of every two ends are steps of a net of fewer.
+pub fn parts_step()
+    ensures part { (scope : Addr → Addr → Bool) (part : Net) (nets : List Net) (others : List Tcb) (before after : Net)
+        → IsPart part others before → AreSteps scope part nets → MovesOn scope (last_net part nets) others before after
+        → (more : List Net) × AreSteps scope before more × (last_net before more ≡ after) }
+    ensures joined { (scope : Addr → Addr → Bool) (m : Net) (nets more : List Net)
+        → AreSteps scope m nets → AreSteps scope (last_net m nets) more
+        → AreSteps scope m (nets ++ more) × (last_net m (nets ++ more) ≡ last_net (last_net m nets) more) }
+    ensures others { (scope : Addr → Addr → Bool) (part : Net) (flying : List Packet)
+        → ((p : Packet) → Contains flying p → Contains part.flying p ⊎ Comes scope p)
+        → Step scope part (record { records = part.records; flying = flying }) }
+    ensures outside { (p : Packet) → is_same_ip p.from.ip loopback ≡ false → is_same_ip p.to.ip loopback ≡ false
+        → Comes inside p }
+    ensures narrowed { (scope : Addr → Addr → Bool) (m : Net) (nets : List Net)
+        → AreSteps everywhere m nets → AreSteps scope m nets }
+{}
