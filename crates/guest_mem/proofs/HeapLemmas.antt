@@ -175,12 +175,12 @@ length-zeros n = length-replicate n 0
 -- new pages of zeros
 pub zero_pages-are : (first count : ℕ) → AreZeroPages (zero_pages first count) first count
 zero_pages-are first count = record {
-      numbered = map-map (λ (p : GuestPage). p.number) (zero_page zero_cell.rights) (range_with_len first count) ∙ map-same (range_with_len first count);
-      zero = λ k o d l within.
-          let there : get_or (zero_pages first count) k d ≡ zero_page zero_cell.rights (get_or (range_with_len first count) k 0) =
-          get_or-map (zero_page zero_cell.rights) (range_with_len first count) k 0 d (omega (arith, length-range_with_len first count)) in
-          ap (λ (p : GuestPage). cell_in p o) there ∙ ap (λ (b : ℕ). record { byte = b; rights = zero_cell.rights }) (get_or-zeros 4096 o);
-    }
+  numbered = map-map (λ (p : GuestPage). p.number) (zero_page zero_cell.rights) (range_with_len first count) ∙ map-same (range_with_len first count);
+  zero = λ k o d l within.
+      let there : get_or (zero_pages first count) k d ≡ zero_page zero_cell.rights (get_or (range_with_len first count) k 0) =
+      get_or-map (zero_page zero_cell.rights) (range_with_len first count) k 0 d (omega (arith, length-range_with_len first count)) in
+      ap (λ (p : GuestPage). cell_in p o) there ∙ ap (λ (b : ℕ). record { byte = b; rights = zero_cell.rights }) (get_or-zeros 4096 o);
+}
   where
     map-same : (ns : List ℕ) → map (λ (n : ℕ). n) ns ≡ ns
     map-same [] = refl

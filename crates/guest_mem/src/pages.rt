@@ -141,8 +141,7 @@ impl Pages {
         let wanted = self.count + more;
         self.entries
             .reserve(wanted.saturating_sub(self.entries.len()))?;
-        self.bytes
-            .reserve(((wanted + 1) * PAGE_SIZE).saturating_sub(self.bytes.len()))?;
+        self.bytes.reserve(((wanted + 1) * PAGE_SIZE).saturating_sub(self.bytes.len()))?;
         Ok(())
     }
 

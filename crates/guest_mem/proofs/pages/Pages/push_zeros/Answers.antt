@@ -11,10 +11,11 @@ loop-number-preserved c =
     let k : ℕ = c.loop-number.number - c.args.first in
     let at : c.loop-number.number ≡ c.args.first + k = omega arith in
     let next : k + 1 ≡ c.loop-number.number + 1 - c.args.first = omega arith in
-    let old : List GuestPage = shown c.args.self.now in
-    (c.push.ensures.pushed ∙ ap (λ (ps : List GuestPage). ps ++ zero_page zero_cell.rights c.loop-number.number ∷ []) c.loop-number.invariant.0
-    ∙ append_assoc old (zero_pages c.args.first k) (zero_page zero_cell.rights c.loop-number.number ∷ [])
-    ∙ ap (λ (n : ℕ). old ++ (zero_pages c.args.first k ++ zero_page zero_cell.rights n ∷ [])) at
-    ∙ ap (λ (ps : List GuestPage). old ++ ps) (sym (zero_pages-more c.args.first k)) ∙ ap (λ (n : ℕ). old ++ zero_pages c.args.first n) next,
-    omega (arith, c.push.ensures.count, c.loop-number.invariant.1),
-    c.push.ensures.room _ c.loop-number.invariant.2)
+    let old : List GuestPage = shown c.args.self.now in (
+      c.push.ensures.pushed ∙ ap (λ (ps : List GuestPage). ps ++ zero_page zero_cell.rights c.loop-number.number ∷ []) c.loop-number.invariant.0
+          ∙ append_assoc old (zero_pages c.args.first k) (zero_page zero_cell.rights c.loop-number.number ∷ [])
+          ∙ ap (λ (n : ℕ). old ++ (zero_pages c.args.first k ++ zero_page zero_cell.rights n ∷ [])) at
+          ∙ ap (λ (ps : List GuestPage). old ++ ps) (sym (zero_pages-more c.args.first k)) ∙ ap (λ (n : ℕ). old ++ zero_pages c.args.first n) next,
+      omega (arith, c.push.ensures.count, c.loop-number.invariant.1),
+      c.push.ensures.room _ c.loop-number.invariant.2,
+    )
