@@ -1,6 +1,8 @@
 //! Whole runs over a source and a sink in memory.
 
+mod failures;
 mod networks;
+mod rows;
 mod script;
 
 use crate::{OpenGate, shadow};
@@ -21,6 +23,26 @@ const GML: &str =
 /// The same with a program that is not there.
 const GONE: &str =
     "general:\n  stop_time: 1s\nnetwork:\n  graph:\n    type: 1_gbit_switch\nhosts:\n  a:\n    network_node_id: 0\n    processes:\n    - path: gone\n";
+
+/// The first with a key given twice.
+const TWICE: &str =
+    "general:\n  stop_time: 1s\nnetwork:\n  graph:\n    type: 1_gbit_switch\nnetwork:\nhosts:\n  a:\n    network_node_id: 0\n";
+
+/// A node that is not there.
+const ELSEWHERE: &str =
+    "general:\n  stop_time: 1s\nnetwork:\n  graph:\n    type: 1_gbit_switch\nhosts:\n  a:\n    network_node_id: 3\n";
+
+/// A merge key without a mapping.
+const MERGED: &str =
+    "general:\n  stop_time: 1s\nnetwork:\n  graph:\n    type: 1_gbit_switch\nhosts:\n  a:\n    network_node_id: 0\n    processes:\n    - path: hi\n    <<: 5\n";
+
+/// An edge that takes no time, on the fifth line of the graph.
+const ZERO: &str =
+    "general:\n  stop_time: 1s\nnetwork:\n  graph:\n    type: gml\n    inline: |\n      graph [\n      node [ id 0 ]\n      node [ id 1 ]\n      edge [ source 0 target 1\n      latency \"0 ms\" ]\n      ]\nhosts:\n  a:\n    network_node_id: 0\n";
+
+/// Two nodes with a way over a third one, which may not be taken.
+const APART: &str =
+    "general:\n  stop_time: 1s\nnetwork:\n  use_shortest_path: false\n  graph:\n    type: gml\n    inline: |\n      graph [\n      node [ id 0 host_bandwidth_up \"1 bit\" host_bandwidth_down \"1 bit\" ]\n      node [ id 1 host_bandwidth_up \"1 bit\" host_bandwidth_down \"1 bit\" ]\n      node [ id 2 ]\n      edge [ source 0 target 2 latency \"10 ms\" ]\n      edge [ source 2 target 1 latency \"10 ms\" ]\n      ]\nhosts:\n  a:\n    network_node_id: 0\n  b:\n    network_node_id: 1\n";
 
 /// write(1, "hi\n", 3); exit(0)
 const HI: [u32; 9] = [
@@ -225,6 +247,33 @@ fn refuses_each_input_with_its_line(rt: HostRuntime) -> Result<(), Fail> {
         Vec::from_slice(alloc, b"abc")?,
         "shadow: hi: ELF truncated\n",
     )?;
+    for (text, err) in [
+        (TWICE, "shadow: t.yaml:6: duplicate key\n"),
+        (ELSEWHERE, "shadow: t.yaml:7: hosts.a: unknown node\n"),
+        (MERGED, "shadow: t.yaml:11: hosts.a.<<: wrong type\n"),
+        (ZERO, "shadow: t.yaml: graph:5: zero latency\n"),
+        (APART, "shadow: no route from node 0 to node 1\n"),
+    ] {
+        refuses(&rt, &CONFIG, text, Vec::new(alloc), err)?;
+    }
+    for (words, err) in [
+        (
+            ["shadow", "-p", "x", "t.yaml"],
+            "shadow: --parallelism: bad value\n",
+        ),
+        (
+            ["shadow", "--seed", "4294967296", "t.yaml"],
+            "shadow: --seed: bad value\n",
+        ),
+        (
+            ["shadow", "--self-load", "1", "--show-config"],
+            "shadow: --self-load: bad value\n",
+        ),
+        (["shadow", "--self-load", "4", "t.yaml"], USAGE),
+        (["shadow", "--help", "--seed=1", "t.yaml"], USAGE),
+    ] {
+        refuses(&rt, &words, TEXT, Vec::new(alloc), err)?;
+    }
     refuses(
         &rt,
         &["shadow", "other.yaml"],

@@ -100,7 +100,7 @@ hosts:
 "#;
 
 /// A run of a configuration over the script guest.
-fn ran(
+pub fn ran(
     rt: &(impl Abort + Threads + AllocGlobal),
     line: &[&str],
     text: &str,
@@ -122,7 +122,7 @@ fn ran(
 }
 
 /// What a file holds, as text.
-fn text<'a>(sink: &'a MemSink, name: &str) -> &'a str {
+pub fn text<'a>(sink: &'a MemSink, name: &str) -> &'a str {
     match std::str::from_utf8(sink.file(name).unwrap_or(b"none")) {
         Ok(text) => text,
         Err(_) => "no text",
@@ -177,13 +177,16 @@ fn tells_a_connect_that_is_never_answered(rt: HostRuntime) -> Result<(), Fail> {
 #[test]
 fn loads_itself_and_shows_what_is_configured(rt: HostRuntime) -> Result<(), Fail> {
     for workers in ["1", "8"] {
-        let (status, sink) = ran(&rt, &["shadow", "--self-load", "8", "-p", workers], "")?;
+        let (status, sink) = ran(&rt, &["shadow", "--self-load", "64", "-p", workers], "")?;
         assert_eq!(rt;
             sink.out(),
-            b"hosts 8 sent 80 lost 20 received 60\n".as_slice()
+            b"hosts 64 sent 640 lost 160 received 480\n".as_slice()
         );
-        assert_eq!(rt; text(&sink, "hosts/h0000/ring.1000.stdout"), "got 0\n");
-        assert_eq!(rt; text(&sink, "hosts/h0003/ring.1000.stdout"), "got 10\n");
+        for host in 0..64 {
+            let name = format!(in rt.alloc(); "hosts/h{host:04}/ring.1000.stdout")?;
+            let got = if host % 4 == 0 { "got 0\n" } else { "got 10\n" };
+            assert_eq!(rt; text(&sink, name.as_str()), got);
+        }
         assert_eq!(rt; status, 0);
     }
     let (status, sink) = ran(&rt, &["shadow", "--show-config", "t.yaml"], LOOP)?;
