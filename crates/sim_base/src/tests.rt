@@ -121,6 +121,24 @@ fn a_failed_put_adds_nothing(rt: HostRuntime) -> Result<(), Fail> {
 }
 
 #[test]
+fn short_ends_move_few_bytes_at_a_call(rt: HostRuntime) -> Result<(), Fail> {
+    let mut source = held(rt.alloc())?;
+    source.short(2);
+    let mut buffer = [0u8; 5];
+    assert_eq!(rt; source.read("a", 1, &mut buffer)?, 2);
+    assert_eq!(rt;
+        read_all(rt.alloc(), &mut source, "a", 5)?.as_slice(),
+        b"hello".as_slice()
+    );
+    let mut sink = MemSink::new(rt.alloc());
+    sink.short(2);
+    assert_eq!(rt; sink.put(&Place::Out, b"out")?, 2);
+    put_all(&mut sink, &Place::Out, b"t of it")?;
+    assert_eq!(rt; sink.out(), b"out of it".as_slice());
+    Ok(())
+}
+
+#[test]
 fn texts_and_bytes_give_back_what_they_hold(rt: HostRuntime) -> Result<(), Fail> {
     let mut text = Text::from_str(rt.alloc(), "exited ")?;
     text.push_str("0")?;

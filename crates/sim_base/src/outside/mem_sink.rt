@@ -21,6 +21,7 @@ pub struct MemSink {
     err: Vec<u8>,
     files: BTreeMap<String, Vec<u8>>,
     calls: Calls,
+    most: usize,
     alloc: Global,
 }
 
@@ -37,6 +38,7 @@ impl MemSink {
             err: Vec::new(alloc),
             files: BTreeMap::new(alloc),
             calls: Calls::new(alloc),
+            most: usize::MAX,
             alloc,
         }
     }
@@ -48,6 +50,14 @@ impl MemSink {
         ensures content { sink_content self.new ≡ sink_content self.old }
     {
         self.calls.fail_at(call)
+    }
+
+    /// Has each later put take at most this many bytes, and one where it is 0.
+    pub fn short(&mut self, most: usize)
+        ensures content { sink_content self.new ≡ sink_content self.old }
+        ensures calls { sink_calls self.new ≡ sink_calls self.old }
+    {
+        self.most = most;
     }
 
     /// Whether the directory is there.
@@ -135,11 +145,13 @@ impl Sink for MemSink {
         if self.calls.next_fails() {
             return Err(WriteError::Failed);
         }
+        let taken = piece.len().min(self.most.max(1));
+        let (front, _) = piece.split_at(taken);
         match place {
-            Place::Out => self.out.extend_from_slice(piece)?,
-            Place::Err => self.err.extend_from_slice(piece)?,
-            Place::File(name) => add_to_file(self.alloc, &mut self.files, name, piece)?,
+            Place::Out => self.out.extend_from_slice(front)?,
+            Place::Err => self.err.extend_from_slice(front)?,
+            Place::File(name) => add_to_file(self.alloc, &mut self.files, name, front)?,
         }
-        Ok(piece.len())
+        Ok(taken)
     }
 }

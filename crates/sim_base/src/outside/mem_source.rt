@@ -1,6 +1,6 @@
 //! A source in memory.
 
-ghost use Rattle.std.specs.Prelude.{◌≡◌, ◌≤◌, ◌++◌, ◌∷◌, [], length, OnOk, OnErr, string_bytes};
+ghost use Rattle.std.specs.Prelude.{◌≡◌, ◌<◌, ◌≤◌, ◌++◌, ◌∷◌, [], length, OnOk, OnErr, string_bytes};
 ghost use Rattle.sim_base.specs.Calls.{no_calls};
 ghost use Rattle.sim_base.specs.Files.{no_files, with_file};
 ghost use Rattle.sim_base.specs.Source.{IsPiece};
@@ -17,16 +17,19 @@ use std::collections::BTreeMap;
 pub struct MemSource {
     files: BTreeMap<String, Vec<u8>>,
     calls: Calls,
+    most: usize,
 }
 
-/// Copies the bytes from the place `at` on, as many as there are and have room.
-fn copy_piece(bytes: &[u8], at: u64, into: &mut [u8]) -> usize
+/// Copies the bytes from the place `at` on, as many as there are and have room, up to `most`.
+fn copy_piece(bytes: &[u8], at: u64, into: &mut [u8], most: usize) -> usize
+    requires { 0 < most }
     ensures fits { result ≤ length into.old }
+    ensures most { result ≤ most }
     ensures piece { IsPiece bytes.now at result into.new }
 {
     let start = (at as usize).min(bytes.len());
     let (_, rest) = bytes.split_at(start);
-    let n = rest.len().min(into.len());
+    let n = rest.len().min(into.len()).min(most);
     into[..n].copy_from_slice(&rest[..n]);
     n
 }
@@ -41,6 +44,7 @@ impl MemSource {
         MemSource {
             files: BTreeMap::new(alloc),
             calls: Calls::new(alloc),
+            most: usize::MAX,
         }
     }
 
@@ -61,6 +65,14 @@ impl MemSource {
         ensures files { mem_files self.new ≡ mem_files self.old }
     {
         self.calls.fail_at(call)
+    }
+
+    /// Has each later read move at most this many bytes, and one where it is 0.
+    pub fn short(&mut self, most: usize)
+        ensures files { mem_files self.new ≡ mem_files self.old }
+        ensures calls { mem_calls self.new ≡ mem_calls self.old }
+    {
+        self.most = most;
     }
 }
 
@@ -87,7 +99,7 @@ impl Source for MemSource {
             return Err(ReadError::Failed);
         }
         match self.files.get(name) {
-            Some(bytes) => Ok(copy_piece(bytes.as_slice(), at, into)),
+            Some(bytes) => Ok(copy_piece(bytes.as_slice(), at, into, self.most.max(1))),
             None => Ok(0),
         }
     }
