@@ -24,6 +24,22 @@ weigh_none : {X : Type 0} (h : X → ℕ) (xs : List X) → length xs ≡ 0 → 
 weigh_none h [] e = refl
 weigh_none h (x ∷ xs) e = absurd (omega arith)
 
+module _ {X : Type 0} where
+  -- an entry of that number
+  pub find_entry : (P : Entry X → Type 0) (host number : ℕ) (es : List (Entry X)) → 0 < weigh (entry_weight host (is_number number)) es → Each P es
+      → (e : Entry X) × P e × (e.host ≡ host) × (e.number ≡ number)
+  find_entry P host number [] some_there p = absurd (omega arith)
+  find_entry P host number (e ∷ es) some_there p = dite (ℕ_discrete e.host host)
+      (λ (same : e.host ≡ host). dite (ℕ_discrete e.number number)
+      (λ (is : e.number ≡ number). (e, p.0, same, is))
+      (λ (ne : e.number ≢ number).
+      let one : only (e.host == host) (is_number number e.number) ≡ is_number number e.number = ap (λ b. only b (is_number number e.number)) (eq-eqb e.host host same) in
+      let nothing = is_other number e.number ne in
+      find_entry P host number es (omega arith) p.1))
+      (λ (ne : e.host ≢ host).
+      let nothing : only (e.host == host) (is_number number e.number) ≡ 0 = ap (λ b. only b (is_number number e.number)) (ne_eqb e.host host ne) in
+      find_entry P host number es (omega arith) p.1)
+
 module _ {T : Type 0} where
   -- the numbers of a host weigh what its entries do
   by_test : (b : Bool) (e : Entry T) (es : List (Entry T)) (h : ℕ → ℕ) → weigh h (map (λ (x : Entry T). x.number) (Rattle.std.proofs.Common.cond b (e ∷ es) es)) ≡ only b (h e.number) + weigh h (map (λ (x : Entry T). x.number) es)
@@ -37,21 +53,6 @@ module _ {T : Type 0} where
   filed_weigh : (host : ℕ) (h : ℕ → ℕ) (es : List (Entry T)) → weigh (entry_weight host h) (map filed es) ≡ weigh (entry_weight host h) es
   filed_weigh host h [] = refl
   filed_weigh host h (e ∷ es) = ap (λ n. only (e.host == host) (h e.number) + n) (filed_weigh host h es)
-
-  -- an entry of that number
-  find_entry : (P : Entry (Option T) → Type 0) (host number : ℕ) (es : List (Entry (Option T))) → 0 < weigh (entry_weight host (is_number number)) es → Each P es
-      → (e : Entry (Option T)) × P e × (e.host ≡ host) × (e.number ≡ number)
-  find_entry P host number [] some_there p = absurd (omega arith)
-  find_entry P host number (e ∷ es) some_there p = dite (ℕ_discrete e.host host)
-      (λ (same : e.host ≡ host). dite (ℕ_discrete e.number number)
-      (λ (is : e.number ≡ number). (e, p.0, same, is))
-      (λ (ne : e.number ≢ number).
-      let one : only (e.host == host) (is_number number e.number) ≡ is_number number e.number = ap (λ b. only b (is_number number e.number)) (eq-eqb e.host host same) in
-      let nothing = is_other number e.number ne in
-      find_entry P host number es (omega arith) p.1))
-      (λ (ne : e.host ≢ host).
-      let nothing : only (e.host == host) (is_number number e.number) ≡ 0 = ap (λ b. only b (is_number number e.number)) (ne_eqb e.host host ne) in
-      find_entry P host number es (omega arith) p.1)
 
   -- a seat with no share knows nothing
   idle : (hosts : ℕ) (homes : List (Place (Option T))) (host : ℕ) (h : ℕ → ℕ) (u : Known T) → Fits hosts homes u → u.share ≡ 0 → known_weight host h u ≡ 0

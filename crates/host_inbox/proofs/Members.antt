@@ -55,6 +55,10 @@ pub each_map : {X Y : Type 0} (P : Y → Type 0) (f : X → Y) (xs : List X) →
 each_map P f [] p = tt
 each_map P f (x ∷ xs) p = (p.0, each_map P f xs p.1)
 
+pub each_all : {X : Type 0} (P : X → Type 0) (xs : List X) → All P xs → Each P xs
+each_all P [] all = tt
+each_all P (x ∷ xs) all = (all 0 x (omega arith), each_all P xs (λ k d within. all (suc k) d (omega arith)))
+
 pub all_each : {X : Type 0} (P : X → Type 0) (xs : List X) → Each P xs → All P xs
 all_each P [] p k d within = absurd (omega arith)
 all_each P (x ∷ xs) p zero d within = p.0

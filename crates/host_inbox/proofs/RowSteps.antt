@@ -1,17 +1,23 @@
 -- The row of a host has the parcels of its places.
-use Rattle.std.proofs.Common.{◌≡◌, ◌≢◌, ℕ, zero, suc, ◌+◌, ◌*◌, ◌<◌, ◌≤◌, List, [], ◌∷◌, ◌++◌, length, min, get_or, Option, Some, None, Vec, sym, refl, ap, ◌∙◌, subst, length-append, lt_of_not-le, arith}
+use Rattle.std.proofs.Common.{◌≡◌, ◌≢◌, ℕ, zero, suc, ◌+◌, ◌*◌, ◌<◌, ◌≤◌, List, [], ◌∷◌, ◌++◌, length, min, get_or, All, Option, Some, None, Vec, sym, refl, ap, ◌∙◌, subst, length-append, lt_of_not-le, arith}
 use mathlib.Core.Option.{some}
 use mathlib.Core.Logic.{dite}
 use native.Mathlib.Decide.{dec_le, ℕ_discrete}
 use lib.ListN.{get_elem?}
 use Rattle.std.specs.List.{slice_get}
 use Rattle.std.specs.declared.alloc.Global.{Global}
+use Rattle.std.proofs.lemmas.Option.{get_or_from_slice_get}
 use Rattle.host_inbox.specs.declared.entry.Entry.{Entry}
+use Rattle.list_weights.specs.Weights.{numbers_below}
 use Rattle.host_inbox.specs.Entries.{place_of}
-use Rattle.host_inbox.specs.Drains.{EachAt, IsInboxOf, IsDrained}
+use Rattle.host_inbox.specs.Drains.{EachAt, numbers_of, IsInboxOf, IsDrained}
 use Rattle.host_inbox.specs.Slots.{listed, parcels_from, row_of, AreLaid, AreClosed}
-use Rattle.host_inbox.proofs.Members.{each_also, all_each}
+use Rattle.list_weights.proofs.Weights.{is_number}
+use Rattle.list_weights.proofs.Permutations.{weigh-permutation}
+use Rattle.host_inbox.proofs.Weights.{just_once}
+use Rattle.host_inbox.proofs.Members.{each_also, all_each, each_all}
 use Rattle.host_inbox.proofs.DrainSteps.{read_at}
+use Rattle.host_inbox.proofs.CloseSteps.{find_entry, numbers_weigh}
 
 min_above : (a b : ℕ) → a ≤ b → min a b ≡ a
 min_above a b le = omega arith
@@ -104,3 +110,24 @@ module _ {T : Type 0} where
     hosts_of = all_each (λ (e : Entry T). e.host < hosts) entries closed.hosts_of;
     each = λ host row within. subst (IsInboxOf host entries) (sym (each host row within)) (inbox host entries slots (closed.each host (omega arith)));
   }
+
+  -- each parcel of an inbox has an entry of its host
+  inbox_holds : (P : ℕ → T → Type 0) (host : ℕ) (es : List (Entry T)) (row : List T) → IsInboxOf host es row → All (λ (e : Entry T). P e.host e.parcel) es → All (P host) row
+  inbox_holds P host es row is holds k d within =
+      let count = is.count in
+      let here : k < is.claimed = omega arith in
+      let small : k < 16 = omega arith in
+      let one = just_once k is.claimed here in
+      let same = weigh-permutation (is_number k) (numbers_of host es) (numbers_below is.claimed) is.once in
+      let sum = numbers_weigh host (is_number k) es in
+      let Q : Entry T → Type 0 = λ e. P e.host e.parcel × (e.host ≡ host → e.number < 16 → slice_get row e.number ≡ Some e.parcel) in
+      let found = find_entry Q host k es (omega arith) (each_all Q es (λ i e w. (holds i e w, is.placed i e w))) in
+      let e : Entry T = found.0 in
+      let number : e.number ≡ k = found.3 in
+      let there : slice_get row k ≡ Some e.parcel = subst (λ (n : ℕ). slice_get row n ≡ Some e.parcel) number (found.1.1 found.2 (omega arith)) in
+      subst (P host) (sym (get_or_from_slice_get row k e.parcel d there)) (subst (λ (n : ℕ). P n e.parcel) found.2 found.1.0)
+
+  -- what holds of each entry with its host holds of each parcel of that host's row
+  pub rows_hold : (P : ℕ → T → Type 0) (hosts : ℕ) (es : List (Entry T)) (rows : List (Vec T Global)) → IsDrained hosts es rows → All (λ (e : Entry T). P e.host e.parcel) es
+      → EachAt (λ host row. All (P host) row.items) rows
+  rows_hold P hosts es rows is holds host row within = inbox_holds P host es (get_or rows host row).items (is.each host row within) holds

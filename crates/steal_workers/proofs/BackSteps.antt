@@ -1,51 +1,23 @@
 -- Taking back what is left of a deque.
-use Rattle.std.proofs.Common.{◌≡◌, ℕ, ◌+◌, ◌<◌, ◌≤◌, true, List, [], ◌∷◌, ◌++◌, length, All, sym, refl, ap, ◌∙◌, subst, append_assoc, length-append, arith}
-use mathlib.Core.Option.{some}
-use lib.ListN.{get_elem?}
+use Rattle.std.proofs.Common.{◌≡◌, ℕ, ◌+◌, ◌<◌, ◌≤◌, List, [], ◌∷◌, ◌++◌, length, All, sym, refl, ap, ◌∙◌, subst, append_assoc, length-append, arith}
 use Rattle.std.proofs.lemmas.List.{length-map}
 use Rattle.std.proofs.lemmas.List.Elements.{All-nil, All-cons, All-append}
-use Rattle.crossbeam_deque.specs.Tasks.{Takes}
 use Rattle.steal_workers.specs.declared.item.Item.{Item}
 use Rattle.steal_workers.specs.declared.item.Item.TheVariants.{Task, Mark}
 use Rattle.steal_workers.specs.declared.item.Numbered.{Numbered}
 use Rattle.steal_workers.specs.declared.hand.Hand.{Hand}
 use Rattle.list_weights.specs.Weights.{weigh}
 use Rattle.steal_workers.specs.Items.{marks, number_weight, Stands, MarksLast}
-use Rattle.steal_workers.specs.OneDeque.{hand, IsOneDeque, after_take}
-use Rattle.steal_workers.specs.TookBack.{TookBack, kept, numbers_of}
-use Rattle.list_weights.proofs.Weights.{weigh-append, weigh_alone}
-use Rattle.steal_workers.proofs.Steps.{takes_back, marks-append}
+use Rattle.steal_workers.specs.OneDeque.{hand, after_take, Took}
+use Rattle.steal_workers.specs.TookBack.{kept, numbers_of}
+use Rattle.list_weights.proofs.Weights.{weigh-append}
+use Rattle.steal_workers.proofs.Steps.{marks-append}
 
 pub weigh-ones : {X : Type 0} (xs : List X) → weigh (λ (x : X). 1) xs ≡ length xs
 weigh-ones [] = refl
 weigh-ones (x ∷ xs) = omega (arith, weigh-ones xs)
 
 module _ {T : Type 0} where
-  -- who has all shares has taken all that is out
-  all_out : (port : ℕ) (v : Hand T) (items : List (Item T)) (views : List (Hand T)) → v.deals ≡ true → v.share ≡ marks v.dealt
-      → (h : IsOneDeque items views) → get_elem? views port ≡ some v → (g : Item T → ℕ) → weigh g v.taken ≡ weigh g h.1
-  all_out port v items views deals all h at g =
-      let known : v.dealt ≡ h.2 = ((h.6 port v at).deals deals).1 in
-      let same : marks v.dealt ≡ marks h.2 = ap marks known in
-      let total : weigh (λ (u : Hand T). u.share) views ≡ marks h.2 = h.4 in
-      sym (weigh_alone (λ (u : Hand T). weigh g u.taken) (λ (u : Hand T). u.share) views port v at (omega arith) (λ j u e none. ap (weigh g) ((h.6 j u e).idle none))) ∙ h.5 g
-
-  pub takes_all : (port : ℕ) (v : Hand T) → v.deals ≡ true → v.share ≡ marks v.dealt → 0 < v.share → Takes IsOneDeque port v 1 (TookBack v)
-  takes_all port v deals all some_share xs items views nonempty short h at =
-      let r = takes_back port v deals all some_share xs items views nonempty short h at in
-      let known : v.dealt ≡ h.2 = ((h.6 port v at).deals deals).1 in (
-        r.0,
-        r.1,
-        (
-          r.2,
-          λ g.
-              let out = all_out port v (xs ++ items) views deals all h at g in
-              let cut : weigh g v.dealt ≡ weigh g (h.1 ++ (xs ++ items)) = ap (weigh g) (known ∙ h.3) in
-              let now : weigh g (r.0).taken ≡ weigh g (v.taken ++ xs) = ap (λ (u : Hand T). weigh g u.taken) r.2.0 in
-              omega (arith, weigh-append g v.taken xs, weigh-append g h.1 (xs ++ items), weigh-append g xs items),
-        ),
-      )
-
   -- what was taken since v0, into a list that began as old
   abbrev pub More : Hand T → Hand T → List (Numbered T) → List (Numbered T) → Type 0
   More v0 v old now =
@@ -74,10 +46,10 @@ module _ {T : Type 0} where
   numbers_of-append [] ys = refl
   numbers_of-append (x ∷ xs) ys = ap (λ l. x.number ∷ l) (numbers_of-append xs ys)
 
-  pub more_taken : (v0 v w : Hand T) (item : Item T) (old now : List (Numbered T)) → More v0 v old now → IsSince v0 v → MarksLast v0.dealt → TookBack v (item ∷ []) w → More v0 w old (now ++ kept item)
+  pub more_taken : (v0 v w : Hand T) (item : Item T) (old now : List (Numbered T)) → More v0 v old now → IsSince v0 v → MarksLast v0.dealt → Took v (item ∷ []) w → More v0 w old (now ++ kept item)
   more_taken v0 v w item old now m is last took =
       let dealt : v.dealt ≡ v0.dealt = ap (λ (u : Hand T). u.dealt) is in
-      let taken : w.taken ≡ v.taken ++ item ∷ [] = ap (λ (u : Hand T). u.taken) took.0.0 in (
+      let taken : w.taken ≡ v.taken ++ item ∷ [] = ap (λ (u : Hand T). u.taken) took.0 in (
         m.0 ++ kept item,
         ap (λ l. l ++ kept item) m.1 ∙ append_assoc old m.0 (kept item),
         (λ h.
@@ -86,32 +58,34 @@ module _ {T : Type 0} where
             let n : weigh h (numbers_of (m.0 ++ kept item)) ≡ weigh h (numbers_of m.0 ++ numbers_of (kept item)) = ap (weigh h) (numbers_of-append m.0 (kept item)) in
             omega (arith, weigh-append (number_weight h) v.taken (item ∷ []), weigh-append h (numbers_of m.0) (numbers_of (kept item)), kept_weight h item)),
         All-append (λ (entry : Numbered T). Stands v0.dealt (Task entry.number entry.task)) m.0 (kept item) m.3
-            (kept_stands v0.dealt item (subst (λ (l : List (Item T)). Stands l item) dealt (took.0.1 item (0, refl)))),
+            (kept_stands v0.dealt item (subst (λ (l : List (Item T)). Stands l item) dealt (took.1 item (0, refl)))),
         (λ some_mark.
             let had = m.4 some_mark in
-            let is_mark : item ≡ Mark = took.0.2 item (0, refl) (subst MarksLast (sym dealt) last) had.0 in
+            let is_mark : item ≡ Mark = took.2 item (0, refl) (subst MarksLast (sym dealt) last) had.0 in
             let e : marks w.taken ≡ marks (v.taken ++ item ∷ []) = ap marks taken in
             ((let a = marks-append v.taken (item ∷ []) in let had_mark = had.0 in omega arith), (λ i. had.1 i ++ kept (is_mark i)))),
       )
 
   -- there is room for one more
-  pub room_for : (v0 v w : Hand T) (item : Item T) (old now : List (Numbered T)) → More v0 v old now → IsSince v0 v → TookBack v (item ∷ []) w
+  pub room_for : (v0 v w : Hand T) (item : Item T) (old now : List (Numbered T)) → More v0 v old now → IsSince v0 v → Took v (item ∷ []) w
       → length now ≤ length old + weigh (number_weight (λ _. 1)) v0.dealt
   room_for v0 v w item old now m is took =
-      let below = took.1 (number_weight (λ _. 1)) in
+      let below = took.3 (number_weight (λ _. 1)) in
+      let same : weigh (number_weight (λ _. 1)) w.dealt ≡ weigh (number_weight (λ _. 1)) v.dealt = ap (λ (u : Hand T). weigh (number_weight (λ _. 1)) u.dealt) took.0 in
       let dealt : weigh (number_weight (λ _. 1)) v.dealt ≡ weigh (number_weight (λ _. 1)) v0.dealt = ap (λ (u : Hand T). weigh (number_weight (λ _. 1)) u.dealt) is in
-      let taken : weigh (number_weight (λ _. 1)) w.taken ≡ weigh (number_weight (λ _. 1)) (v.taken ++ item ∷ []) = ap (λ (u : Hand T). weigh (number_weight (λ _. 1)) u.taken) took.0.0 in
+      let taken : weigh (number_weight (λ _. 1)) w.taken ≡ weigh (number_weight (λ _. 1)) (v.taken ++ item ∷ []) = ap (λ (u : Hand T). weigh (number_weight (λ _. 1)) u.taken) took.0 in
       let a = weigh-append (number_weight (λ _. 1)) v.taken (item ∷ []) in
       let so_far = m.2 (λ _. 1) in
       let count : weigh (λ (n : ℕ). 1) (numbers_of m.0) ≡ length (numbers_of m.0) = weigh-ones (numbers_of m.0) in
       let long : length now ≡ length (old ++ m.0) = ap length m.1 in
       omega (arith, length-append old m.0, length-map m.0 (λ (entry : Numbered T). entry.number))
 
-  pub nearer : (v w : Hand T) (item : Item T) → TookBack v (item ∷ []) w → (length w.taken ≡ length v.taken + 1) × (length w.taken ≤ length v.dealt) × (length w.dealt ≡ length v.dealt)
+  pub nearer : (v w : Hand T) (item : Item T) → Took v (item ∷ []) w → (length w.taken ≡ length v.taken + 1) × (length w.taken ≤ length v.dealt) × (length w.dealt ≡ length v.dealt)
   nearer v w item took =
-      let taken : length w.taken ≡ length (v.taken ++ item ∷ []) = ap (λ (u : Hand T). length u.taken) took.0.0 in
-      let below = took.1 (λ _. 1) in (
+      let taken : length w.taken ≡ length (v.taken ++ item ∷ []) = ap (λ (u : Hand T). length u.taken) took.0 in
+      let same : length w.dealt ≡ length v.dealt = ap (λ (u : Hand T). length u.dealt) took.0 in
+      let below = took.3 (λ _. 1) in (
         omega (arith, length-append v.taken (item ∷ [])),
-        omega (arith, weigh-ones w.taken, weigh-ones v.dealt),
-        ap (λ (u : Hand T). length u.dealt) took.0.0,
+        omega (arith, weigh-ones w.taken, weigh-ones w.dealt),
+        same,
       )

@@ -1,5 +1,5 @@
 -- The shares of one deque.
-use Rattle.std.proofs.Common.{◌≡◌, ◌≢◌, ℕ, zero, suc, ◌+◌, ◌-◌, ◌<◌, ◌==◌, true, false, List, [], ◌∷◌, ◌++◌, length, get_or, set, sym, refl, ap, ◌∙◌, subst, eq-eqb, ne_eqb, length-append, arith}
+use Rattle.std.proofs.Common.{◌≡◌, ◌≢◌, ℕ, zero, suc, ◌+◌, ◌-◌, ◌<◌, ◌≤◌, ◌==◌, true, false, List, [], ◌∷◌, ◌++◌, length, get_or, set, sym, refl, ap, ◌∙◌, subst, eq-eqb, ne_eqb, length-append, arith}
 use mathlib.Core.Logic.{dite}
 use native.Mathlib.Decide.{ℕ_discrete}
 use Rattle.std.proofs.lemmas.List.{get_or-set_other, get_or-set_same}
@@ -17,6 +17,7 @@ use Rattle.steal_workers.specs.declared.hand.Hand.{Hand}
 use Rattle.steal_workers.specs.declared.hand.OneDeque.{OneDeque}
 use Rattle.steal_workers.specs.declared.share.Share.{Share}
 use Rattle.steal_workers.specs.declared.end.End.TheVariants.{Own, Other}
+use Rattle.list_weights.specs.Weights.{weigh}
 use Rattle.steal_workers.specs.Items.{marks}
 use Rattle.steal_workers.specs.OneDeque.{hand}
 use Rattle.steal_workers.specs.Ends.{is_own}
@@ -60,10 +61,13 @@ module _ {T : Type 0} where
   pub marks_closed : (queue : List (Item T)) (n : ℕ) → marks queue ≡ 0 → marks (queue ++ mark_list n) ≡ n
   marks_closed queue n none = omega (arith, marks-append queue (mark_list n), marks-mark_list T n)
 
+  nothing_taken : (v : Hand T) → v.taken ≡ [] → (h : Item T → ℕ) → weigh h v.taken ≤ weigh h v.dealt
+  nothing_taken v none h = let nothing : weigh h v.taken ≡ 0 = ap (weigh h) none in omega arith
+
   pub fresh_other : (deque : RowsId × Global) (items : List (Item T)) (thief : Stealer (Item T) Global (Hand T) OneDeque) (claim : Pass (Item T) (Hand T) Global)
       → IsThiefOf deque thief → IsPassOf deque claim → view claim ≡ hand false 1 items [] → IsFresh deque items (record { end = Other thief claim; marked = false })
   fresh_other deque items thief claim t p v = record {
-    sound = ((t.1, subst (λ (d : RowsId × Global). IsPassOf d claim) (sym t.0) p), ap (λ (h : Hand T). h.share) v, ap (λ (h : Hand T). marks h.taken) v);
+    sound = ((t.1, subst (λ (d : RowsId × Global). IsPassOf d claim) (sym t.0) p), ap (λ (h : Hand T). h.share) v, ap (λ (h : Hand T). marks h.taken) v, nothing_taken (view claim) (ap (λ (h : Hand T). h.taken) v));
     same_deque = t.0;
     dealt = ap (λ (h : Hand T). h.dealt) v;
     taken = ap (λ (h : Hand T). h.taken) v;
@@ -73,7 +77,7 @@ module _ {T : Type 0} where
   pub fresh_own : (deque : RowsId × Global) (items : List (Item T)) (worker : Worker (Item T) Global (Hand T) OneDeque)
       → worker_deque worker ≡ deque → worker_flavor worker ≡ 0 → worker_view worker ≡ hand true 1 items [] → IsFresh deque items (record { end = Own worker; marked = false })
   fresh_own deque items worker same fifo v = record {
-    sound = ((fifo, ap (λ (h : Hand T). h.deals) v), ap (λ (h : Hand T). h.share) v, ap (λ (h : Hand T). marks h.taken) v);
+    sound = ((fifo, ap (λ (h : Hand T). h.deals) v), ap (λ (h : Hand T). h.share) v, ap (λ (h : Hand T). marks h.taken) v, nothing_taken (worker_view worker) (ap (λ (h : Hand T). h.taken) v));
     same_deque = same;
     dealt = ap (λ (h : Hand T). h.dealt) v;
     taken = ap (λ (h : Hand T). h.taken) v;

@@ -36,13 +36,14 @@ module _ {T : Type 0} where
   same_seats-step old seats k r s before is same =
       same_seats-trans old seats (set seats k s) before (same_seats-set seats k r s (subst (λ (u : SeatView T). IsSameSeat u s) is same))
 
-  same_places : (old new : List (SeatView T)) → AreSameSeats old new → map (λ (s : SeatView T). s.place) new ≡ map (λ (s : SeatView T). s.place) old
+  -- places and the deal stay
+  pub same_places : (old new : List (SeatView T)) → AreSameSeats old new → map (λ (s : SeatView T). s.place) new ≡ map (λ (s : SeatView T). s.place) old
   same_places [] [] same = refl
   same_places [] (y ∷ new) same = absurd (let l = same.0 in omega arith)
   same_places (x ∷ old) [] same = absurd (let l = same.0 in omega arith)
   same_places (x ∷ old) (y ∷ new) same = λ i. (same.1 0 x (omega arith)).place i ∷ same_places old new ((let l = same.0 in omega arith), λ k e within. same.1 (suc k) e (omega arith)) i
 
-  same_deal : (old new : List (SeatView T)) → AreSameSeats old new → common_deal new ≡ common_deal old
+  pub same_deal : (old new : List (SeatView T)) → AreSameSeats old new → common_deal new ≡ common_deal old
   same_deal [] [] same = refl
   same_deal [] (y ∷ new) same = absurd (let l = same.0 in omega arith)
   same_deal (x ∷ old) [] same = absurd (let l = same.0 in omega arith)

@@ -1,19 +1,20 @@
 -- A seat after a step.
-use Rattle.std.proofs.Common.{◌≡◌, ◌≢◌, ℕ, ◌+◌, ◌<◌, ◌==◌, Bool, true, false, true≢false, List, [], ◌∷◌, ◌++◌, map, length, get_or, sym, ap, ◌∙◌, subst, arith}
+use Rattle.std.proofs.Common.{◌≡◌, ◌≢◌, ℕ, ◌+◌, ◌<◌, ◌≤◌, ◌==◌, Bool, true, false, true≢false, List, [], ◌∷◌, ◌++◌, map, length, get_or, All, sym, ap, ◌∙◌, subst, arith}
 use Rattle.std.proofs.lemmas.List.{length-map}
 use Rattle.steal_workers.specs.declared.share.Share.{Share}
 use Rattle.steal_workers.specs.declared.seat.Seat.TheInside.{Inside}
 use Rattle.steal_workers.specs.declared.seat.Next.TheVariants.{Task, Empty, Lost}
 use Rattle.steal_workers.specs.declared.item.Item.{Item}
-use Rattle.list_weights.specs.Weights.{weigh}
+use Rattle.list_weights.specs.Weights.{weigh, numbers_below}
+use Rattle.steal_workers.specs.Items.{number_weight}
 use Rattle.steal_workers.specs.Ends.{deque_of}
-use Rattle.steal_workers.specs.Shares.{dealt_to, is_own_share, is_marked, Moves, taken_weights, Found, AllMarked}
+use Rattle.steal_workers.specs.Shares.{IsShare, dealt_to, is_own_share, is_marked, Moves, taken_weights, Found, AllMarked}
 use Rattle.steal_workers.specs.Deals.{IsDealt}
-use Rattle.steal_workers.specs.SeatViews.{IsSameSeat}
+use Rattle.steal_workers.specs.SeatViews.{IsSameSeat, seat_count}
 use Rattle.steal_workers.specs.Seats.{seat_view, IsSound}
 use Rattle.steal_workers.specs.Answers.{Answers}
 use Rattle.list_weights.proofs.Weights.{weigh-append}
-use Rattle.steal_workers.proofs.ShareLists.{moves_sound, moves_map, moves_length, moves_marked}
+use Rattle.steal_workers.proofs.ShareLists.{all_tail, moves_sound, moves_map, moves_length, moves_marked}
 
 module _ {T : Type 0} where
   same_queues : (xs ys : List (Share T)) → Moves xs ys → map dealt_to ys ≡ map dealt_to xs
@@ -52,6 +53,23 @@ module _ {T : Type 0} where
       let b = before h in
       let now : weigh h trail ≡ weigh h (numbers ++ number ∷ []) = ap (weigh h) is in
       omega (arith, weigh-append h numbers (number ∷ []))
+
+  pub place_within : (s : Inside T) → IsSound s → s.place < seat_count (seat_view s).deal
+  place_within s sound = (let within = sound.place in omega (arith, length-map s.shares.items (λ (share : Share T). deque_of share.end)))
+
+  shares_once : (h : ℕ → ℕ) (xs : List (Share T)) → All IsShare xs → taken_weights h xs ≤ weigh (λ (queue : List (Item T)). weigh (number_weight h) queue) (map dealt_to xs)
+  shares_once h [] each = omega arith
+  shares_once h (x ∷ xs) each =
+      let here = (each 0 x (omega arith)).3 (number_weight h) in
+      omega (arith, shares_once h xs (all_tail IsShare x xs each))
+
+  -- the seat's numbers are dealt ones, each once
+  pub numbers_once : (s : Inside T) → IsSound s → (h : ℕ → ℕ) → weigh h s.trail ≤ weigh h (numbers_below (length s.tasks.value.items))
+  numbers_once s sound h =
+      let taken = sound.numbers h in
+      let below = shares_once h s.shares.items sound.shares in
+      let dealt = sound.dealt.once h in
+      omega arith
 
   pub answers_task : (s t : Inside T) (number : ℕ) (task : T) → IsSound s → Found s.shares.items t.shares.items number task
       → t.trail ≡ s.trail ++ number ∷ [] → Answers (seat_view s) (Task task) (seat_view t)

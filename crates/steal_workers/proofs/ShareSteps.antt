@@ -1,5 +1,5 @@
 -- A seat's step on one deque keeps its share.
-use Rattle.std.proofs.Common.{◌≡◌, ℕ, ◌+◌, false, true≢false, ◌||◌, [], ◌∷◌, ◌++◌, sym, refl, ap, ◌∙◌, arith}
+use Rattle.std.proofs.Common.{◌≡◌, ℕ, ◌+◌, ◌≤◌, false, true≢false, ◌||◌, [], ◌∷◌, ◌++◌, sym, refl, ap, ◌∙◌, subst, arith}
 use Rattle.steal_workers.specs.declared.item.Item.{Item}
 use Rattle.steal_workers.specs.declared.item.Item.TheVariants.{Task as task_item, Mark as mark_item}
 use Rattle.steal_workers.specs.declared.hand.Hand.{Hand}
@@ -26,6 +26,7 @@ module _ {T : Type 0} where
         same.0,
         ap (λ (v : Hand T). v.share) hand ∙ sound.1,
         ap (λ (v : Hand T). marks v.taken) hand ∙ sound.2 ∙ ap mark_count (sym marked),
+        λ h. subst (λ (v : Hand T). weigh h v.taken ≤ weigh h v.dealt) (sym hand) (sound.3 h),
       );
       same_deque = same.1;
       same_items = ap (λ (v : Hand T). v.dealt) hand;
@@ -56,6 +57,7 @@ module _ {T : Type 0} where
             same.0,
             ap (λ (v : Hand T). v.share) took.0 ∙ sound.1,
             (let count = sound.2 in omega (arith, weigh-append mark_weight (taken_from old) (item ∷ []), taken_mark item)),
+            took.3,
           );
           same_deque = same.1;
           same_items = ap (λ (v : Hand T). v.dealt) took.0;

@@ -126,6 +126,11 @@ module _ {T : Type 0} where
           (λ item s last some_mark. IsAllMarks-at (xs ++ items) s.0 item
               (marks_behind h.1 (xs ++ items) (subst MarksLast (known ∙ h.3) last) (let p : marks v.taken ≤ weigh (λ (u : Hand T). marks u.taken) views = part in omega arith))
               (at_longer xs items s.0 item s.1)),
+          (λ g.
+              let once = h.5 g in
+              let taken = weigh_part (λ (u : Hand T). weigh g u.taken) views port v at in
+              let cut : weigh g v.dealt ≡ weigh g (h.1 ++ (xs ++ items)) = ap (weigh g) (known ∙ h.3) in
+              omega (arith, weigh-append g v.taken xs, weigh-append g h.1 (xs ++ items), weigh-append g xs items)),
         ),
       )
 

@@ -46,9 +46,11 @@ module _ {T : Type 0} where
   abbrev pub taken_back : Hand T → Hand T → Hand T
   taken_back v u = hand v.deals (v.share + u.share) v.dealt (v.taken ++ u.taken)
 
-  -- what a pop or steal that found an item tells: each item was dealt, and behind a mark that was taken there are only marks
+  -- What a pop or steal that found an item tells: each item was dealt, behind a mark that was taken there are only marks,
+  -- and nothing was taken more often than it was dealt.
   abbrev pub Took : Hand T → List (Item T) → Hand T → Type 0
   Took v items w =
       (w ≡ after_take v items)
       × ((item : Item T) → Stands items item → Stands v.dealt item)
       × ((item : Item T) → Stands items item → MarksLast v.dealt → 0 < marks v.taken → item ≡ Mark)
+      × ((h : Item T → ℕ) → weigh h w.taken ≤ weigh h w.dealt)

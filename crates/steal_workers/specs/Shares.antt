@@ -1,5 +1,5 @@
 -- What is said of a seat's shares, one in each deque of the deal.
-use Rattle.std.specs.Prelude.{◌≡◌, ℕ, ◌+◌, ◌<◌, Bool, true, false, List, [], ◌∷◌, map, length, slice_index_or}
+use Rattle.std.specs.Prelude.{◌≡◌, ℕ, ◌+◌, ◌<◌, ◌≤◌, Bool, true, false, List, [], ◌∷◌, map, length, slice_index_or}
 use Rattle.steal_workers.specs.declared.item.Item.{Item}
 use Rattle.steal_workers.specs.declared.item.Item.TheVariants.{Task as task_item, Mark as mark_item}
 use Rattle.steal_workers.specs.declared.share.Share.{Share}
@@ -27,9 +27,9 @@ module _ {T : Type 0} where
   abbrev pub is_marked : Share T → Bool
   is_marked s = s.marked
 
-  -- the share of one seat, which has taken one mark of the deque or none
+  -- the share of one seat, which has taken one mark of the deque or none, and nothing more often than it was dealt
   abbrev pub IsShare : Share T → Type 0
-  IsShare s = IsFit s.end × ((hand_of s.end).share ≡ 1) × (marks (taken_from s) ≡ mark_count s.marked)
+  IsShare s = IsFit s.end × ((hand_of s.end).share ≡ 1) × (marks (taken_from s) ≡ mark_count s.marked) × ((h : Item T → ℕ) → weigh h (taken_from s) ≤ weigh h (dealt_to s))
 
   -- how much the numbers of the tasks weigh that were taken
   abbrev pub taken_weight : (ℕ → ℕ) → Share T → ℕ

@@ -1,18 +1,13 @@
--- What the dealer learns where it has all shares.
-use Rattle.std.specs.Prelude.{◌≡◌, ℕ, ◌+◌, ◌<◌, ◌≤◌, List, [], ◌∷◌, ◌++◌, map, All}
+-- What the dealer takes back where it has all shares.
+use Rattle.std.specs.Prelude.{◌≡◌, ℕ, ◌+◌, ◌<◌, List, [], ◌∷◌, ◌++◌, map, All}
 use Rattle.steal_workers.specs.declared.item.Item.{Item}
 use Rattle.steal_workers.specs.declared.item.Item.TheVariants.{Task, Mark}
 use Rattle.steal_workers.specs.declared.item.Numbered.{Numbered}
 use Rattle.steal_workers.specs.declared.hand.Hand.{Hand}
 use Rattle.list_weights.specs.Weights.{weigh}
 use Rattle.steal_workers.specs.Items.{marks, number_weight, Stands}
-use Rattle.steal_workers.specs.OneDeque.{Took}
 
 module _ {T : Type 0} where
-  -- nothing was taken that wasn't dealt
-  abbrev pub TookBack : Hand T → List (Item T) → Hand T → Type 0
-  TookBack v items w = Took v items w × ((h : Item T → ℕ) → weigh h w.taken ≤ weigh h v.dealt)
-
   -- a task as it is left, and no mark
   abbrev pub kept : Item T → List (Numbered T)
   kept (Task number task) = record { number = number; task = task } ∷ []

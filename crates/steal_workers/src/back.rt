@@ -10,9 +10,9 @@ impl<T> Outcome<Item<T>, Hand<T>> for TakeAll {
     ghost use Rattle.std.specs.Prelude.{◌≡◌, ℕ};
     ghost use Rattle.steal_workers.specs.declared.item.Item.{Item};
     ghost use Rattle.list_weights.specs.Weights.{weigh};
-    ghost use Rattle.steal_workers.specs.TookBack.{TookBack};
+    ghost use Rattle.steal_workers.specs.OneDeque.{Took};
 
-    ghost then = { TookBack };
+    ghost then = { Took };
 
     ghost empty = { λ v. (h : Item T → ℕ) → weigh h v.taken ≡ weigh h v.dealt };
 }

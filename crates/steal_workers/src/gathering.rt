@@ -1,6 +1,7 @@
 //! Gathering the seats of a deal.
 ghost use Rattle.std.specs.Prelude.{◌≡◌, ℕ, ◌+◌, ◌<◌, ◌≤◌, ◌^◌, ◌++◌, [], ◌∷◌, false, All, IfOk, IfErr, length, map, slice_get, slice_index_or, Some, true, vec_len, vec_capacity};
 ghost use Rattle.crossbeam_deque.specs.Handles.{view, IsPassOf, worker_deque, worker_flavor, worker_view};
+ghost use Rattle.steal_workers.specs.Answers.{FoundNone};
 ghost use Rattle.steal_workers.specs.Backs.{own_weight, IsWholeColumn, IsBack};
 ghost use Rattle.steal_workers.specs.Deals.{Deal, IsDealt};
 ghost use Rattle.steal_workers.specs.Decks.{EachAt};
@@ -253,11 +254,13 @@ fn dealt<T>(seats: &Vec<Seat<T>>) -> usize
     }
 }
 
-/// Gathers all seats of one deal, each once, in whatever order, and gives what they left in the deques.
+/// Gathers all seats of one deal, each once, in whatever order, and gives what they left in the deques: nothing, where each
+/// seat's last answer was no task.
 /// Fails for want of memory alone.
 pub fn gather<T: Drop>(alloc: Global, seats: Vec<Seat<T>>) -> Result<Gathered<T>, GatherRefused<T>>
     requires { IsWholeDeal seats.items }
     ensures gathered { IfOk result (λ gathered. IsGathered seats.items gathered.left.items) }
+    ensures none { IfOk result (λ gathered. All FoundNone seats.items → gathered.left.items ≡ []) }
     ensures refused { IfErr result (λ refused. refused.seats.items ≡ seats.items) }
 {
     match reserved(alloc, seats.len(), dealt(&seats)) {

@@ -3,7 +3,7 @@ ghost use Rattle.std.specs.Prelude.{◌≡◌, ℕ, ◌<◌, ◌≤◌, MatchOpt
 ghost use Rattle.steal_workers.specs.Answers.{Answers};
 ghost use Rattle.steal_workers.specs.Deals.{IsDealt};
 ghost use Rattle.steal_workers.specs.Gathers.{IsStack};
-ghost use Rattle.list_weights.specs.Weights.{weigh};
+ghost use Rattle.list_weights.specs.Weights.{weigh, numbers_below};
 ghost use Rattle.steal_workers.specs.SeatViews.{IsSameSeat, HasMark, seat_count};
 ghost use Rattle.steal_workers.specs.Shares.{is_marked, dealt_to, taken_weights, AllMarked};
 ghost use Rattle.steal_workers.specs.Unused.{IsUnused, unused_view};
@@ -95,9 +95,12 @@ impl<T> Seat<T> {
         }
     }
 
-    /// The next task: of the seat's own deque, or else of the others from the next place on.
+    /// The next task: of the seat's own deque, or else of the others from the next place on. No seat takes a task twice, so it
+    /// takes no more tasks than were dealt.
     pub fn next(&mut self) -> Next<T>
         ensures same { IsSameSeat self.old self.new }
+        ensures place { self.new.place < seat_count self.new.deal }
+        ensures once { (h : ℕ → ℕ) → weigh h self.new.numbers ≤ weigh h (numbers_below (length self.new.deal.tasks)) }
         ensures answer { Answers self.old result self.new }
     {
         let place = self.place as usize;

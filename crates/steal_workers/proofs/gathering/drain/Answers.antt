@@ -3,8 +3,8 @@ use Rattle.std.proofs.lemmas.List.Elements.{All-nil}
 use Rattle.crossbeam_deque.specs.Handles.{worker_view}
 use Rattle.steal_workers.specs.declared.hand.Hand.{Hand}
 use Rattle.steal_workers.specs.Items.{marks}
-use Rattle.steal_workers.proofs.Steps.{finds_all}
-use Rattle.steal_workers.proofs.BackSteps.{More, takes_all, since_take, more_taken, room_for, nearer}
+use Rattle.steal_workers.proofs.Steps.{takes_back, finds_all}
+use Rattle.steal_workers.proofs.BackSteps.{More, since_take, more_taken, room_for, nearer}
 use Rattle.steal_workers.proofs.gathering.drain.Goals as goal
 
 pub loop-item-init : goal.loop-item-init
@@ -19,7 +19,7 @@ pub pop_as-requires-clause-fifo : goal.pop_as-requires-clause-fifo
 pop_as-requires-clause-fifo g c =
     let since = c.loop-item.invariant.since in
     let share = ap (λ (v : Hand g.row.T.Denot). v.share) since in
-    λ _. takes_all _ _ (ap (λ (v : Hand g.row.T.Denot). v.deals) since ∙ c.requires.deals)
+    λ _. takes_back _ _ (ap (λ (v : Hand g.row.T.Denot). v.deals) since ∙ c.requires.deals)
     (share ∙ c.requires.share ∙ sym (ap (λ (v : Hand g.row.T.Denot). marks v.dealt) since))
     (let s = c.requires.some in omega arith)
 
@@ -47,7 +47,7 @@ loop-item-preserved g c =
     let inv = c.loop-item.invariant in
     record {
       fifo = c.pop_as.ensures.same.0.1 ∙ inv.fifo;
-      since = since_take (worker_view c.args.deque) (worker_view c.loop-item.deque) (worker_view c.pop_as.new.self) c.in-Some.item inv.since c.in-Some.ensures.rule.0.0;
+      since = since_take (worker_view c.args.deque) (worker_view c.loop-item.deque) (worker_view c.pop_as.new.self) c.in-Some.item inv.since c.in-Some.ensures.rule.0;
       capacity = c.keep.ensures.capacity ∙ inv.capacity;
       more = subst (More (worker_view c.args.deque) (worker_view c.pop_as.new.self) c.args.left.now.items) (sym c.keep.ensures.items)
           (more_taken (worker_view c.args.deque) (worker_view c.loop-item.deque) (worker_view c.pop_as.new.self) c.in-Some.item c.args.left.now.items c.loop-item.left.items inv.more inv.since c.requires.last c.in-Some.ensures.rule);

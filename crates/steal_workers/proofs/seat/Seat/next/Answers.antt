@@ -3,7 +3,7 @@ use Rattle.steal_workers.specs.declared.share.Share.{Share}
 use Rattle.steal_workers.specs.declared.seat.Seat.TheInside.{Inside}
 use Rattle.steal_workers.specs.Shares.{is_marked, AllMarked}
 use Rattle.steal_workers.proofs.ShareLists.{moves_length}
-use Rattle.steal_workers.proofs.SeatSteps.{sound_after, same_after, numbers_after, answers_task, answers_empty, answers_lost}
+use Rattle.steal_workers.proofs.SeatSteps.{sound_after, same_after, numbers_after, place_within, numbers_once, answers_task, answers_empty, answers_lost}
 use Rattle.steal_workers.proofs.seat.Seat.next.Goals as goal
 use Rattle.steal_workers.proofs.seat.Seat.next.Goals.{in-Some-unmarked, in-None-unmarked}
 
@@ -27,6 +27,16 @@ pub returns-in-Some-clause-answer : goal.returns-in-Some-clause-answer
 returns-in-Some-clause-answer g c =
     let t : Inside g.row.T.Denot = record { place = c.self.inside.place; dealt = c.self.inside.dealt; shares = c.find_among.new.shares; trail = c.then.new.self; tasks = c.self.inside.tasks } in
     rw (← c.self.view_is) (answers_task c.self.inside t c.in-Some.number c.in-Some.task c.self.invariant c.in-Some.ensures.found c.then.ensures)
+
+pub returns-in-Some-clause-place : goal.returns-in-Some-clause-place
+returns-in-Some-clause-place g c =
+    let t : Inside g.row.T.Denot = record { place = c.self.inside.place; dealt = c.self.inside.dealt; shares = c.find_among.new.shares; trail = c.then.new.self; tasks = c.self.inside.tasks } in
+    place_within t (invariant_of-self g c)
+
+pub returns-in-Some-clause-once : goal.returns-in-Some-clause-once
+returns-in-Some-clause-once g c =
+    let t : Inside g.row.T.Denot = record { place = c.self.inside.place; dealt = c.self.inside.dealt; shares = c.find_among.new.shares; trail = c.then.new.self; tasks = c.self.inside.tasks } in
+    numbers_once t (invariant_of-self g c)
 
 pub overflow_cast-result : goal.overflow_cast-result
 overflow_cast-result g c =
@@ -53,3 +63,13 @@ returns-after-unmarked-clause-answer g c =
           (subst (λ (l : List (Share g.row.T.Denot)). (w.in-Some-unmarked.deque < length l) × (get_or (map is_marked l) w.in-Some-unmarked.deque false ≡ false)) read w.in-Some-unmarked.ensures))
       | in-None-unmarked w ↦ rw w.result-is (answers_empty c.self.inside t refl (subst AllMarked read w.in-None-unmarked.ensures))
     ])
+
+pub returns-after-unmarked-clause-place : goal.returns-after-unmarked-clause-place
+returns-after-unmarked-clause-place g c =
+    let t : Inside g.row.T.Denot = record { place = c.self.inside.place; dealt = c.self.inside.dealt; shares = c.find_among.new.shares; trail = c.self.inside.trail; tasks = c.self.inside.tasks } in
+    place_within t (invariant_of-self-in-None g c)
+
+pub returns-after-unmarked-clause-once : goal.returns-after-unmarked-clause-once
+returns-after-unmarked-clause-once g c =
+    let t : Inside g.row.T.Denot = record { place = c.self.inside.place; dealt = c.self.inside.dealt; shares = c.find_among.new.shares; trail = c.self.inside.trail; tasks = c.self.inside.tasks } in
+    numbers_once t (invariant_of-self-in-None g c)
