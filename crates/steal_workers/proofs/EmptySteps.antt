@@ -40,7 +40,7 @@ first_of_list : {X : Type 0} (xs : List X) → 0 < length xs → X
 first_of_list [] w = absurd (omega arith)
 first_of_list (x ∷ xs) w = x
 
-length-numbers_below : (n : ℕ) → length (numbers_below n) ≡ n
+pub length-numbers_below : (n : ℕ) → length (numbers_below n) ≡ n
 length-numbers_below zero = refl
 length-numbers_below (suc n) = omega (arith, length-append (numbers_below n) (n ∷ []), length-numbers_below n)
 
