@@ -10,8 +10,8 @@ use Rattle.atomic_table.proofs.Lists.{at_set, set_here, set_else}
 use Rattle.host_inbox.specs.declared.entry.Entry.{Entry}
 use Rattle.host_inbox.specs.declared.rule.Known.{Known}
 use Rattle.host_inbox.specs.declared.rule.Size.{Size}
-use Rattle.list_weights.specs.Weights.{weigh, numbers_below}
-use Rattle.host_inbox.specs.Entries.{only, place_of, claim, entry}
+use Rattle.list_weights.specs.Weights.{weigh, numbers_below, only}
+use Rattle.host_inbox.specs.Entries.{place_of, claim, entry}
 use Rattle.host_inbox.specs.Inboxes.{IsSettled, IsPending, Fits, AreInboxes, known_weight}
 use Rattle.host_inbox.specs.Steps.{after_claim, after_full, Claimed}
 use Rattle.list_weights.proofs.Weights.{weigh-set}

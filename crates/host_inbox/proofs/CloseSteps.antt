@@ -9,8 +9,8 @@ use Rattle.atomic_table.specs.Table.{State, Me, Final, Seen}
 use Rattle.host_inbox.specs.declared.entry.Entry.{Entry}
 use Rattle.host_inbox.specs.declared.rule.Known.{Known}
 use Rattle.host_inbox.specs.declared.rule.Size.{Size}
-use Rattle.list_weights.specs.Weights.{weigh, numbers_below}
-use Rattle.host_inbox.specs.Entries.{only, place_of, claim_weight, entry_weight}
+use Rattle.list_weights.specs.Weights.{weigh, numbers_below, only}
+use Rattle.host_inbox.specs.Entries.{place_of, claim_weight, entry_weight}
 use Rattle.host_inbox.specs.Inboxes.{Each, IsSettled, Fits, AreInboxes, known, known_weight}
 use Rattle.host_inbox.specs.Carriers.{filed, kept_if}
 use Rattle.host_inbox.specs.Drains.{numbers_of}

@@ -7,9 +7,10 @@ use Rattle.std.specs.declared.alloc.Global.{Global}
 use Rattle.std.proofs.lemmas.Bool.Decides.{nat_tests}
 use Rattle.std.proofs.lemmas.Option.{slice_get_past}
 use Rattle.host_inbox.specs.declared.entry.Entry.{Entry}
-use Rattle.list_weights.specs.Weights.{weigh, numbers_below}
-use Rattle.host_inbox.specs.Entries.{only, entry_weight}
-use Rattle.host_inbox.specs.Drains.{EachAt, numbers_of, IsInboxOf, IsDrained}
+use Rattle.list_weights.specs.Places.{EachAt}
+use Rattle.list_weights.specs.Weights.{weigh, numbers_below, only}
+use Rattle.host_inbox.specs.Entries.{entry_weight}
+use Rattle.host_inbox.specs.Drains.{numbers_of, IsInboxOf, IsDrained}
 use Rattle.host_inbox.specs.Kept.{back_weight, AreKept}
 use Rattle.list_weights.proofs.Weights.{weigh-append, weigh_only}
 use Rattle.list_weights.proofs.Permutations.{weigh-permutation}

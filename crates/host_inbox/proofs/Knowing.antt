@@ -7,8 +7,8 @@ use Rattle.host_inbox.specs.declared.entry.Entry.{Entry}
 use Rattle.host_inbox.specs.declared.entry.Claim.{Claim}
 use Rattle.host_inbox.specs.declared.rule.Known.{Known}
 use Rattle.host_inbox.specs.declared.rule.Size.{Size}
-use Rattle.list_weights.specs.Weights.{weigh}
-use Rattle.host_inbox.specs.Entries.{only, place_of, claim, entry, claim_weight, entry_weight}
+use Rattle.list_weights.specs.Weights.{weigh, only}
+use Rattle.host_inbox.specs.Entries.{place_of, claim, entry, claim_weight, entry_weight}
 use Rattle.host_inbox.specs.Inboxes.{IsSettled, IsPending, Fits, AreInboxes, known_weight}
 use Rattle.host_inbox.specs.Steps.{after_claim, after_full, after_settle}
 use Rattle.list_weights.proofs.Weights.{weigh-append, weigh_below}

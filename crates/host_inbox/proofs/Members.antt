@@ -2,8 +2,8 @@
 use Rattle.std.proofs.Common.{◌≡◌, ℕ, zero, suc, ◌<◌, List, [], ◌∷◌, ◌++◌, map, length, All, sym, arith}
 use mathlib.Core.Option.{some, some-injective, some-ne-none}
 use lib.ListN.{get_elem?}
+use Rattle.list_weights.specs.Places.{EachAt}
 use Rattle.host_inbox.specs.Inboxes.{Each}
-use Rattle.host_inbox.specs.Drains.{EachAt}
 
 module _ {X : Type 0} where
   pub each-append : (P : X → Type 0) (xs ys : List X) → Each P xs → Each P ys → Each P (xs ++ ys)

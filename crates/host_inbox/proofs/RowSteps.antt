@@ -8,9 +8,10 @@ use Rattle.std.specs.List.{slice_get}
 use Rattle.std.specs.declared.alloc.Global.{Global}
 use Rattle.std.proofs.lemmas.Option.{get_or_from_slice_get}
 use Rattle.host_inbox.specs.declared.entry.Entry.{Entry}
+use Rattle.list_weights.specs.Places.{EachAt}
 use Rattle.list_weights.specs.Weights.{numbers_below}
 use Rattle.host_inbox.specs.Entries.{place_of}
-use Rattle.host_inbox.specs.Drains.{EachAt, numbers_of, IsInboxOf, IsDrained}
+use Rattle.host_inbox.specs.Drains.{numbers_of, IsInboxOf, IsDrained}
 use Rattle.host_inbox.specs.Slots.{listed, parcels_from, row_of, AreLaid, AreClosed}
 use Rattle.list_weights.proofs.Weights.{is_number}
 use Rattle.list_weights.proofs.Permutations.{weigh-permutation}

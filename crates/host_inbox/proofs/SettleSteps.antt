@@ -9,8 +9,8 @@ use Rattle.host_inbox.specs.declared.entry.Entry.{Entry}
 use Rattle.host_inbox.specs.declared.entry.Claim.{Claim}
 use Rattle.host_inbox.specs.declared.rule.Known.{Known}
 use Rattle.host_inbox.specs.declared.rule.Size.{Size}
-use Rattle.list_weights.specs.Weights.{weigh, numbers_below}
-use Rattle.host_inbox.specs.Entries.{only, place_of, claim, entry, claim_weight}
+use Rattle.list_weights.specs.Weights.{weigh, numbers_below, only}
+use Rattle.host_inbox.specs.Entries.{place_of, claim, entry, claim_weight}
 use Rattle.host_inbox.specs.Inboxes.{Each, IsSettled, IsPending, Fits, AreInboxes, known_weight}
 use Rattle.host_inbox.specs.Steps.{after_settle, Settled}
 use Rattle.list_weights.proofs.Weights.{weigh-set, weigh_two, is_number, is_itself}

@@ -1,19 +1,16 @@
 -- What is drained when boards are closed.
-use Rattle.std.specs.Prelude.{◌≡◌, ℕ, ◌<◌, ◌==◌, List, [], ◌∷◌, ◌++◌, map, filter, length, min, slice_get, slice_index_or, All, IsPermutation, Some, Vec}
+use Rattle.std.specs.Prelude.{◌≡◌, ℕ, ◌<◌, ◌==◌, List, map, filter, length, min, slice_get, All, IsPermutation, Some, Vec}
+use Rattle.std.specs.List.{flat_map}
 use Rattle.std.specs.declared.alloc.Global.{Global}
 use Rattle.host_inbox.specs.declared.entry.Entry.{Entry}
+pub use Rattle.list_weights.specs.Places.{EachAt}
 use Rattle.list_weights.specs.Weights.{numbers_below}
 use Rattle.host_inbox.specs.CarrierViews.{CarrierView}
-
--- F of each place and the member there
-abbrev pub EachAt : {X : Type 0} → (ℕ → X → Type 0) → List X → Type 0
-EachAt {X} F xs = (i : ℕ) (d : X) → i < length xs → F i (slice_index_or xs i d)
 
 module _ {T : Type 0} where
   -- the entries of all carriers
   abbrev pub all_entries : List (CarrierView T) → List (Entry T)
-  all_entries [] = []
-  all_entries (carrier ∷ carriers) = carrier.entries ++ all_entries carriers
+  all_entries carriers = flat_map (λ carrier. carrier.entries) carriers
 
   -- the numbers that were claimed of a host
   abbrev pub numbers_of : ℕ → List (Entry T) → List ℕ

@@ -1,12 +1,8 @@
 -- What was put, and the numbers that were claimed.
-use Rattle.std.specs.Prelude.{ℕ, ◌+◌, ◌*◌, ◌==◌, Bool, true, false}
+use Rattle.std.specs.Prelude.{ℕ, ◌+◌, ◌*◌, ◌==◌}
+pub use Rattle.list_weights.specs.Weights.{only}
 use Rattle.host_inbox.specs.declared.entry.Entry.{Entry}
 use Rattle.host_inbox.specs.declared.entry.Claim.{Claim}
-
--- n, if the test holds
-abbrev pub only : Bool → ℕ → ℕ
-only true n = n
-only false n = 0
 
 -- a host's inbox has 16 places, in the order of the numbers that are claimed for them
 abbrev pub place_of : ℕ → ℕ → ℕ

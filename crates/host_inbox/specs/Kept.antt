@@ -2,8 +2,7 @@
 use Rattle.std.specs.Prelude.{◌≡◌, ℕ, ◌+◌, List, nat_le, Vec}
 use Rattle.std.specs.declared.alloc.Global.{Global}
 use Rattle.host_inbox.specs.declared.entry.Entry.{Entry}
-use Rattle.list_weights.specs.Weights.{weigh}
-use Rattle.host_inbox.specs.Entries.{only}
+use Rattle.list_weights.specs.Weights.{weigh, only}
 
 module _ {T : Type 0} where
   -- a parcel that was given back, because its number has no place, weighs what it does, and another nothing

@@ -1,7 +1,7 @@
 //! What lies in the places of boards that are closed is taken out.
 ghost use Rattle.std.specs.Prelude.{◌≡◌, ◌+◌, ◌*◌, ◌<◌, ◌≤◌, [], IfOk, All, length, vec_capacity};
 ghost use Rattle.std.specs.Mem.Slots.{slots_items, slots_filled, slots_len, IsFull};
-ghost use Rattle.host_inbox.specs.Drains.{EachAt};
+ghost use Rattle.list_weights.specs.Places.{EachAt};
 ghost use Rattle.host_inbox.specs.Slots.{IsRoom, IsTakenTo, row_of};
 
 use atomic_table::Closed;

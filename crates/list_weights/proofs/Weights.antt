@@ -1,10 +1,10 @@
 -- Weights of lists.
-use Rattle.std.proofs.Common.{◌≡◌, ◌≢◌, ℕ, zero, suc, ◌+◌, ◌<◌, ◌≤◌, ◌==◌, Bool, true, false, List, [], ◌∷◌, ◌++◌, set, sym, refl, ap, eq-eqb, ne_eqb, arith}
+use Rattle.std.proofs.Common.{◌≡◌, ◌≢◌, ℕ, zero, suc, ◌+◌, ◌<◌, ◌≤◌, ◌==◌, List, [], ◌∷◌, ◌++◌, set, sym, refl, ap, eq-eqb, ne_eqb, arith}
 use mathlib.Core.Option.{some, some-injective, some-ne-none}
 use lib.ListN.{get_elem?}
 use mathlib.Core.Logic.{dite}
 use native.Mathlib.Decide.{ℕ_discrete}
-use Rattle.list_weights.specs.Weights.{weigh, numbers_below}
+use Rattle.list_weights.specs.Weights.{weigh, numbers_below, only}
 
 module _ {X : Type 0} where
   pub weigh-append : (h : X → ℕ) (xs ys : List X) → weigh h (xs ++ ys) ≡ weigh h xs + weigh h ys
@@ -54,22 +54,17 @@ module _ {X : Type 0} where
   weigh_below f g [] below = omega arith
   weigh_below f g (x ∷ xs) below = let here = below 0 x refl in omega (arith, weigh_below f g xs (λ j u to. below (suc j) u to))
 
--- 1 where the test holds
-abbrev one : Bool → ℕ
-one true = 1
-one false = 0
-
 -- counts a number
 pub is_number : ℕ → ℕ → ℕ
-is_number n m = one (m == n)
+is_number n m = only (m == n) 1
 
 pub is_itself : (n : ℕ) → is_number n n ≡ 1
 unfolding is_number
-is_itself n = ap one (eq-eqb n n refl)
+is_itself n = ap (λ b. only b 1) (eq-eqb n n refl)
 
 pub is_other : (n m : ℕ) → m ≢ n → is_number n m ≡ 0
 unfolding is_number
-is_other n m ne = ap one (ne_eqb m n ne)
+is_other n m ne = ap (λ b. only b 1) (ne_eqb m n ne)
 
 -- where every number but one weighs nothing, so do the numbers below n of which it is none
 pub weigh_past : (f : ℕ → ℕ) (d n : ℕ) → n ≤ d → ((p : ℕ) → d ≢ p → f p ≡ 0) → weigh f (numbers_below n) ≡ 0

@@ -17,11 +17,12 @@ use Rattle.steal_workers.specs.declared.hand.Hand.{Hand}
 use Rattle.steal_workers.specs.declared.hand.OneDeque.{OneDeque}
 use Rattle.steal_workers.specs.declared.share.Share.{Share}
 use Rattle.steal_workers.specs.declared.end.End.TheVariants.{Own, Other}
+use Rattle.list_weights.specs.Places.{EachAt}
 use Rattle.list_weights.specs.Weights.{weigh}
 use Rattle.steal_workers.specs.Items.{marks}
 use Rattle.steal_workers.specs.OneDeque.{hand}
 use Rattle.steal_workers.specs.Ends.{is_own}
-use Rattle.steal_workers.specs.Decks.{EachAt, IsThiefOf, mark_list}
+use Rattle.steal_workers.specs.Decks.{IsThiefOf, mark_list}
 use Rattle.steal_workers.specs.Columns.{IsFresh, IsColumn}
 use Rattle.steal_workers.proofs.Steps.{marks-append}
 

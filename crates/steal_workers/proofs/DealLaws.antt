@@ -1,16 +1,18 @@
 -- What the clauses on the seats of a deal say together.
-use Rattle.std.proofs.Common.{◌≡◌, ◌⊎◌, inl, inr, ℕ, zero, suc, ◌<◌, List, [], ◌∷◌, map, get_or, All, refl, ap, sym, subst, arith}
+use Rattle.std.proofs.Common.{◌≡◌, ◌⊎◌, inl, inr, ℕ, zero, suc, ◌<◌, ◌≤◌, List, [], ◌∷◌, map, length, get_or, All, refl, ap, sym, subst, arith}
 use Rattle.std.proofs.lemmas.List.{length-map, get_or-map}
 use Rattle.std.proofs.lemmas.List.Elements.{All-append}
 use Rattle.std.proofs.lemmas.List.Sorted.{All-permutation, IsPermutation-sym}
 use Rattle.steal_workers.specs.declared.item.Numbered.{Numbered}
 use Rattle.steal_workers.specs.declared.seat.Next.{Next}
 use Rattle.steal_workers.specs.declared.seat.Next.TheVariants.{Task, Empty, Lost}
-use Rattle.list_weights.specs.Weights.{numbers_below}
+use Rattle.list_weights.specs.Weights.{weigh, numbers_below}
 use Rattle.steal_workers.specs.SeatViews.{SeatView, seat_count, HasMark, HasEveryMark}
 use Rattle.steal_workers.specs.Answers.{Answers, FoundNone}
 use Rattle.steal_workers.specs.WholeDeals.{common_deal, IsWholeDeal}
 use Rattle.steal_workers.specs.Gathers.{IsGathered}
+use Rattle.steal_workers.proofs.BackSteps.{weigh-ones}
+use Rattle.steal_workers.proofs.EmptySteps.{length-numbers_below}
 use Rattle.steal_workers.proofs.ShareLists.{all_none, all_cons}
 
 numbers_below-within : (n : ℕ) → All (λ (k : ℕ). k < n) (numbers_below n)
@@ -27,6 +29,13 @@ module _ {T : Type 0} where
 
   pub one_seat-never_lost : (old new : SeatView T) (deque : ℕ) → seat_count new.deal ≡ 1 → Answers old (Lost deque) new → ⊥
   one_seat-never_lost old new deque one answer = (let more = answer.4 in omega arith)
+
+  -- a seat takes no more tasks than were dealt
+  pub numbers-few : (seat : SeatView T) → ((h : ℕ → ℕ) → weigh h seat.numbers ≤ weigh h (numbers_below (length seat.deal.tasks))) → length seat.numbers ≤ length seat.deal.tasks
+  numbers-few seat once =
+      let all : List ℕ = numbers_below (length seat.deal.tasks) in
+      let count = once (λ _. 1) in
+      omega (arith, weigh-ones seat.numbers, weigh-ones all, length-numbers_below (length seat.deal.tasks))
 
   -- each seat's place is below the number of the seats
   pub place-within : (seats : List (SeatView T)) → IsWholeDeal seats → All (λ (seat : SeatView T). seat.place < seat_count seat.deal) seats

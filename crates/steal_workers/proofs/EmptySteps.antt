@@ -13,14 +13,14 @@ use Rattle.steal_workers.specs.declared.item.Numbered.{Numbered}
 use Rattle.steal_workers.specs.declared.hand.Hand.{Hand}
 use Rattle.steal_workers.specs.declared.share.Share.{Share}
 use Rattle.steal_workers.specs.declared.seat.Stack.{Stack}
-use Rattle.list_weights.specs.Weights.{weigh, numbers_below}
+use Rattle.list_weights.specs.Weights.{weigh, numbers_below, only}
 use Rattle.steal_workers.specs.Items.{marks, mark_weight, number_weight, Stands}
 use Rattle.steal_workers.specs.Ends.{deque_of, is_own}
-use Rattle.steal_workers.specs.Shares.{dealt_to, taken_from, mark_count}
+use Rattle.steal_workers.specs.Shares.{dealt_to, taken_from}
 use Rattle.steal_workers.specs.Deals.{Deal, IsDealt}
 use Rattle.steal_workers.specs.SeatViews.{SeatView, seat_count}
 use Rattle.steal_workers.specs.WholeDeals.{common_deal, IsWholeDeal}
-use Rattle.steal_workers.specs.Backs.{one_if, own_weight, IsWholeColumn, IsBack}
+use Rattle.steal_workers.specs.Backs.{own_weight, IsWholeColumn, IsBack}
 use Rattle.steal_workers.specs.TookBack.{numbers_of, Drains}
 use Rattle.steal_workers.specs.Gathers.{joined, IsShareAt, IsStack, PopsEach, IsGathered, AreOwnMarked, share_taken, stack_taken, all_taken, places}
 use Rattle.steal_workers.specs.Emptying.{IsEmptying, queue_weights, seat_weights}
@@ -40,7 +40,7 @@ first_of_list : {X : Type 0} (xs : List X) → 0 < length xs → X
 first_of_list [] w = absurd (omega arith)
 first_of_list (x ∷ xs) w = x
 
-length-numbers_below : (n : ℕ) → length (numbers_below n) ≡ n
+pub length-numbers_below : (n : ℕ) → length (numbers_below n) ≡ n
 length-numbers_below zero = refl
 length-numbers_below (suc n) = omega (arith, length-append (numbers_below n) (n ∷ []), length-numbers_below n)
 
@@ -51,7 +51,7 @@ module _ {T : Type 0} where
   by_own : (x : Share T) (xs : List (Share T)) (b : Bool) → is_own x.end ≡ b → 0 < weigh own_weight (x ∷ xs) → (0 < weigh own_weight xs → FindsOwn xs) → FindsOwn (x ∷ xs)
   by_own x xs true own there rest = (0, x, refl, own)
   by_own x xs false own there rest =
-      let none : own_weight x ≡ 0 = ap one_if own in
+      let none : own_weight x ≡ 0 = ap (λ b. only b 1) own in
       let r = rest (omega arith) in
       (suc r.0, r.1, r.2, r.3)
 
@@ -65,8 +65,8 @@ module _ {T : Type 0} where
       let at = get_of_at column r.0 r.1 r.1 r.2 in
       let top = subst (λ (s : Share T). IsShareAt P deal d (get_or (places old) r.0 0) s) at.0 (popped.tops r.0 r.1 at.1) in
       let marked : r.1.marked ≡ true = top.4 p r.3 in
-      let count : marks (taken_from r.1) ≡ mark_count r.1.marked = top.0.2 in
-      let one_mark : mark_count r.1.marked ≡ 1 = ap mark_count marked in
+      let count : marks (taken_from r.1) ≡ only r.1.marked 1 = top.0.2 in
+      let one_mark : only r.1.marked 1 ≡ 1 = ap (λ b. only b 1) marked in
       let part = weigh_part (share_taken mark_weight) column r.0 r.1 r.2 in
       omega arith
 
@@ -131,7 +131,7 @@ module _ {T : Type 0} where
       let count = e.counts.1 in
       let inside : d < length deal.queues = omega arith in
       record {
-        once = λ j w. ap (weigh (λ p. one_if (j == p))) popped.same_places ∙ e.once j (omega arith);
+        once = λ j w. ap (weigh (λ p. only (j == p) 1)) popped.same_places ∙ e.once j (omega arith);
         stacks_left = popped.stacks;
         counts = (long ∙ counts, count);
         taken = λ h.
@@ -180,8 +180,8 @@ module _ {T : Type 0} where
       let facts = go seats dealt in
       let whole_queues : take (length stacks) deal.queues ≡ deal.queues = ap (λ n. take n deal.queues) (all ∙ sym facts.1) ∙ take_whole deal.queues in
       record {
-        once = λ d w. ap (weigh (λ p. one_if (d == p))) place
-            ∙ sym (weigh-permutation (λ p. one_if (d == p)) (map (λ (s : SeatView T). s.place) seats) (numbers_below (seat_count deal)) whole.each_once)
+        once = λ d w. ap (weigh (λ p. only (d == p) 1)) place
+            ∙ sym (weigh-permutation (λ p. only (d == p) 1) (map (λ (s : SeatView T). s.place) seats) (numbers_below (seat_count deal)) whole.each_once)
             ∙ once_below d (seat_count deal) (omega arith);
         stacks_left = subst (λ n. All (IsStack (AreOwnMarked seats) deal n) stacks) (sym all) each;
         counts = (all, facts.1);

@@ -7,10 +7,10 @@ use Rattle.crossbeam_deque.proofs.Lists.{at_index}
 use Rattle.steal_workers.specs.declared.item.Item.{Item}
 use Rattle.steal_workers.specs.declared.share.Share.{Share}
 use Rattle.steal_workers.specs.declared.seat.Stack.{Stack}
-use Rattle.list_weights.specs.Weights.{weigh, numbers_below}
+use Rattle.list_weights.specs.Weights.{weigh, numbers_below, only}
 use Rattle.steal_workers.specs.Ends.{is_own}
 use Rattle.steal_workers.specs.Deals.{Deal}
-use Rattle.steal_workers.specs.Backs.{one_if, own_weight}
+use Rattle.steal_workers.specs.Backs.{own_weight}
 use Rattle.steal_workers.specs.Gathers.{joined, IsShareAt, IsStack, PopsEach, share_taken, stack_taken, all_taken, places}
 use Rattle.list_weights.proofs.Weights.{weigh-append, weigh-set, weigh_only}
 use Rattle.steal_workers.proofs.ShareLists.{all_head, all_tail, all_cons, all_none}
@@ -35,8 +35,8 @@ module _ {X : Type 0} where
       omega arith
 
 -- each number below n stands there once
-pub once_below : (d n : ℕ) → d < n → weigh (λ p. one_if (d == p)) (numbers_below n) ≡ 1
-once_below d n within = weigh_only (λ p. one_if (d == p)) d n within (λ p ne. ap one_if (ne_eqb d p ne)) ∙ ap one_if (eq-eqb d d refl)
+pub once_below : (d n : ℕ) → d < n → weigh (λ p. only (d == p) 1) (numbers_below n) ≡ 1
+once_below d n within = weigh_only (λ p. only (d == p) 1) d n within (λ p ne. ap (λ b. only b 1) (ne_eqb d p ne)) ∙ ap (λ b. only b 1) (eq-eqb d d refl)
 
 pub weigh-joined : {X : Type 0} (h : X → ℕ) (xss : List (List X)) → weigh h (joined xss) ≡ weigh (weigh h) xss
 weigh-joined h [] = refl
@@ -46,7 +46,7 @@ pub weigh-map : {X Y : Type 0} (f : X → Y) (h : Y → ℕ) (xs : List X) → w
 weigh-map f h [] = refl
 weigh-map f h (x ∷ xs) = omega (arith, weigh-map f h xs)
 
-not_own : (b : Bool) → one_if b ≡ 0 → b ≡ false
+not_own : (b : Bool) → only b 1 ≡ 0 → b ≡ false
 not_own true e = absurd (omega arith)
 not_own false e = refl
 
@@ -55,7 +55,7 @@ module _ {T : Type 0} where
   pub no_owner : (column : List (Share T)) → ((k : ℕ) (e : Share T) → k < length column → is_own (get_or column k e).end ≡ false) → weigh own_weight column ≡ 0
   no_owner [] none = refl
   no_owner (x ∷ xs) none =
-      let here : own_weight x ≡ 0 = ap one_if (none 0 x (omega arith)) in
+      let here : own_weight x ≡ 0 = ap (λ b. only b 1) (none 0 x (omega arith)) in
       omega (arith, no_owner xs (λ k e w. none (suc k) e (omega arith)))
 
   -- once the owner's share is out, the others are not owners'
@@ -114,11 +114,11 @@ module _ {T : Type 0} where
       default (x ∷ xs) (suc d) e f within = default xs d e f (omega arith)
 
   -- the column of one deque has one owner
-  pub one_owner : (P : Type 0) (deal : Deal T) (d n : ℕ) (old new : List (Stack T)) (column : List (Share T)) → PopsEach P deal d old new column → d < n → weigh (λ p. one_if (d == p)) (places old) ≡ 1
+  pub one_owner : (P : Type 0) (deal : Deal T) (d n : ℕ) (old new : List (Stack T)) (column : List (Share T)) → PopsEach P deal d old new column → d < n → weigh (λ p. only (d == p) 1) (places old) ≡ 1
       → weigh own_weight column ≡ 1
   one_owner P deal d n old new column popped within once =
-      weigh_alike own_weight (λ p. one_if (d == p)) column (places old) (popped.count ∙ sym (length-map old (λ (stack : Stack T). stack.place)))
-      (λ i e k w. ap one_if ((popped.tops i e w).3) ∙ ap (λ p. one_if (d == p)) (number (places old) i k (let c = popped.count in omega (arith, length-map old (λ (stack : Stack T). stack.place))))) ∙ once
+      weigh_alike own_weight (λ p. only (d == p) 1) column (places old) (popped.count ∙ sym (length-map old (λ (stack : Stack T). stack.place)))
+      (λ i e k w. ap (λ b. only b 1) ((popped.tops i e w).3) ∙ ap (λ p. only (d == p) 1) (number (places old) i k (let c = popped.count in omega (arith, length-map old (λ (stack : Stack T). stack.place))))) ∙ once
     where
       number : (xs : List ℕ) (i k : ℕ) → i < length xs → get_or xs i 0 ≡ get_or xs i k
       number [] i k w = absurd (omega arith)

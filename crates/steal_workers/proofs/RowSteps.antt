@@ -4,12 +4,12 @@ use Rattle.std.proofs.lemmas.List.{get_or-map, length-map, take_more}
 use Rattle.std.proofs.Math.ListN.{length-set}
 use Rattle.std.specs.declared.alloc.Global.{Global}
 use Rattle.atomic_blocks.specs.Lent.{RowsId}
+use Rattle.list_weights.specs.Places.{EachAt}
 use Rattle.steal_workers.specs.declared.item.Item.{Item}
 use Rattle.steal_workers.specs.declared.deck.Deck.{Deck}
 use Rattle.steal_workers.specs.declared.share.Share.{Share}
 use Rattle.steal_workers.specs.Ends.{deque_of, is_own}
 use Rattle.steal_workers.specs.Shares.{IsShare, dealt_to, taken_from}
-use Rattle.steal_workers.specs.Decks.{EachAt}
 use Rattle.steal_workers.specs.Columns.{IsFresh, IsColumn, AreColumns, IsRow, closed, deck_deque}
 use Rattle.steal_workers.proofs.DeckSteps.{each_at_set}
 use Rattle.steal_workers.proofs.ColumnSteps.{eq_same, each_at_snoc}

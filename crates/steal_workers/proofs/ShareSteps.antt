@@ -5,16 +5,16 @@ use Rattle.steal_workers.specs.declared.item.Item.TheVariants.{Task as task_item
 use Rattle.steal_workers.specs.declared.hand.Hand.{Hand}
 use Rattle.steal_workers.specs.declared.share.Share.{Share}
 use Rattle.steal_workers.specs.declared.share.Step.TheVariants.{Lost}
-use Rattle.list_weights.specs.Weights.{weigh}
+use Rattle.list_weights.specs.Weights.{weigh, only}
 use Rattle.steal_workers.specs.Items.{marks, mark_weight, number_weight, Stands}
 use Rattle.steal_workers.specs.OneDeque.{Took}
 use Rattle.steal_workers.specs.Ends.{hand_of, is_own, CanTake, IsSameEnd}
-use Rattle.steal_workers.specs.Shares.{mark_count, IsShare, Follows, Steps, step_of, is_mark, dealt_to, taken_from, taken_weight}
+use Rattle.steal_workers.specs.Shares.{IsShare, Follows, Steps, step_of, is_mark, dealt_to, taken_from, taken_weight}
 use Rattle.list_weights.proofs.Weights.{weigh-append}
 
 module _ {T : Type 0} where
   pub can_take : (s : Share T) → IsShare s → s.marked ≡ false → CanTake s.end
-  can_take s sound unmarked = let none : mark_count s.marked ≡ 0 = ap mark_count unmarked in (sound.0, (let one = sound.1 in let count = sound.2 in omega arith))
+  can_take s sound unmarked = let none : only s.marked 1 ≡ 0 = ap (λ b. only b 1) unmarked in (sound.0, (let one = sound.1 in let count = sound.2 in omega arith))
 
   pub stays : (old : Share T) → IsShare old → Follows old old
   stays old sound = record { sound = sound; same_deque = refl; same_items = refl; same_owner = refl; mark_stays = λ m. m }
@@ -25,7 +25,7 @@ module _ {T : Type 0} where
       sound = (
         same.0,
         ap (λ (v : Hand T). v.share) hand ∙ sound.1,
-        ap (λ (v : Hand T). marks v.taken) hand ∙ sound.2 ∙ ap mark_count (sym marked),
+        ap (λ (v : Hand T). marks v.taken) hand ∙ sound.2 ∙ ap (λ b. only b 1) (sym marked),
         λ h. subst (λ (v : Hand T). weigh h v.taken ≤ weigh h v.dealt) (sym hand) (sound.3 h),
       );
       same_deque = same.1;
@@ -36,7 +36,7 @@ module _ {T : Type 0} where
     (other, λ h. ap (λ (v : Hand T). weigh (number_weight h) v.taken) hand),
   )
 
-  taken_mark : (item : Item T) → mark_weight item ≡ mark_count (is_mark item)
+  taken_mark : (item : Item T) → mark_weight item ≡ only (is_mark item) 1
   taken_mark (task_item number task) = refl
   taken_mark mark_item = refl
 
@@ -50,8 +50,8 @@ module _ {T : Type 0} where
   noted old new item sound unmarked marked same took =
       let now : new.marked ≡ is_mark item = marked ∙ ap (λ b. b || is_mark item) unmarked in
       let all : marks (taken_from new) ≡ marks (taken_from old ++ item ∷ []) = ap (λ (v : Hand T). marks v.taken) took.0 in
-      let before : mark_count old.marked ≡ 0 = ap mark_count unmarked in
-      let after : mark_count new.marked ≡ mark_count (is_mark item) = ap mark_count now in (
+      let before : only old.marked 1 ≡ 0 = ap (λ b. only b 1) unmarked in
+      let after : only new.marked 1 ≡ only (is_mark item) 1 = ap (λ b. only b 1) now in (
         record {
           sound = (
             same.0,

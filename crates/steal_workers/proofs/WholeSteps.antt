@@ -6,10 +6,10 @@ use Rattle.std.proofs.lemmas.List.Sorted.{IsPermutation-swap_remove, length_perm
 use Rattle.steal_workers.specs.declared.item.Item.{Item}
 use Rattle.steal_workers.specs.declared.hand.Hand.{Hand}
 use Rattle.steal_workers.specs.declared.share.Share.{Share}
-use Rattle.list_weights.specs.Weights.{weigh}
+use Rattle.list_weights.specs.Weights.{weigh, only}
 use Rattle.steal_workers.specs.Ends.{deque_of, hand_of, is_own}
 use Rattle.steal_workers.specs.Shares.{IsShare, dealt_to, taken_from}
-use Rattle.steal_workers.specs.Backs.{one_if, own_weight, IsWholeColumn, IsBack}
+use Rattle.steal_workers.specs.Backs.{own_weight, IsWholeColumn, IsBack}
 use Rattle.steal_workers.specs.Gathers.{share_taken}
 use Rattle.steal_workers.proofs.ShareLists.{all_tail}
 use Rattle.list_weights.proofs.Permutations.{weigh-permutation}
@@ -28,7 +28,7 @@ module _ {T : Type 0} where
       → IsOwnerOut xs rest x
   owner_out xs rest x place whole one within is own removed =
       let moved : IsPermutation xs (x ∷ rest) = subst (λ (l : List (Share T)). IsPermutation xs (x ∷ l)) (sym removed) (IsPermutation-swap_remove xs place x within is) in
-      let mine : own_weight x ≡ 1 = ap one_if own in
+      let mine : own_weight x ≡ 1 = ap (λ b. only b 1) own in
       let all = weigh-permutation own_weight xs (x ∷ rest) moved in
       let here = whole.2 place x within in
       let same : deque_of x.end ≡ whole.0 = ap (λ (s : Share T). deque_of s.end) is ∙ here.1 in

@@ -1,21 +1,17 @@
 -- All shares of one deque, and what comes back of them.
-use Rattle.std.specs.Prelude.{◌≡◌, ℕ, Bool, true, false, List, length, All}
+use Rattle.std.specs.Prelude.{◌≡◌, ℕ, true, List, length, All}
 use Rattle.std.specs.declared.alloc.Global.{Global}
 use Rattle.atomic_blocks.specs.Lent.{RowsId}
 use Rattle.steal_workers.specs.declared.item.Item.{Item}
 use Rattle.steal_workers.specs.declared.hand.Hand.{Hand}
 use Rattle.steal_workers.specs.declared.share.Share.{Share}
-use Rattle.list_weights.specs.Weights.{weigh}
+use Rattle.list_weights.specs.Weights.{weigh, only}
 use Rattle.steal_workers.specs.Ends.{deque_of, is_own}
 use Rattle.steal_workers.specs.Shares.{IsShare, dealt_to, taken_from}
 
-abbrev pub one_if : Bool → ℕ
-one_if true = 1
-one_if false = 0
-
 module _ {T : Type 0} where
   abbrev pub own_weight : Share T → ℕ
-  own_weight share = one_if (is_own share.end)
+  own_weight share = only (is_own share.end) 1
 
   -- shares of one deque, to which one list was dealt
   abbrev pub IsWholeColumn : List (Share T) → Type 0

@@ -1,18 +1,15 @@
 -- The deques of a deal while it is made.
-use Rattle.std.specs.Prelude.{◌≡◌, ℕ, zero, suc, ◌+◌, ◌*◌, ◌<◌, ◌≤◌, true, List, [], ◌∷◌, ◌++◌, map, length, slice_get, slice_index_or, Some, All, vec_len, vec_capacity}
+use Rattle.std.specs.Prelude.{◌≡◌, ℕ, zero, suc, ◌+◌, ◌*◌, ◌≤◌, true, List, [], ◌∷◌, ◌++◌, map, length, slice_get, slice_index_or, Some, All, vec_len, vec_capacity}
 use Rattle.atomic_blocks.specs.Lent.{RowsId}
 use Rattle.crossbeam_deque.specs.Handles.{worker_deque, worker_flavor, worker_view, worker_capacity, worker_index, stealer_deque, stealer_flavor}
 use Rattle.steal_workers.specs.declared.item.Item.{Item}
 use Rattle.steal_workers.specs.declared.item.Item.TheVariants.{Task, Mark}
 use Rattle.steal_workers.specs.declared.deck.Deck.{Deck}
 use Rattle.crossbeam_deque.specs.declared.handles.Stealer.{Stealer}
+use Rattle.list_weights.specs.Places.{EachAt}
 use Rattle.list_weights.specs.Weights.{weigh, numbers_below}
 use Rattle.steal_workers.specs.Items.{marks, number_weight, Stands}
 use Rattle.steal_workers.specs.OneDeque.{after_push}
-
--- F of each place and the member there
-abbrev pub EachAt : {X : Type 0} → (ℕ → X → Type 0) → List X → Type 0
-EachAt {X} F xs = (d : ℕ) (e : X) → d < length xs → F d (slice_index_or xs d e)
 
 -- it steals from that deque, which is first in first out
 abbrev pub IsThiefOf : {X A V P : Type 0} → RowsId × A → Stealer X A V P → Type 0

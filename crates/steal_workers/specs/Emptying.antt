@@ -3,11 +3,10 @@ use Rattle.std.specs.Prelude.{◌≡◌, ℕ, ◌+◌, ◌<◌, ◌≤◌, ◌==
 use Rattle.steal_workers.specs.declared.item.Item.{Item}
 use Rattle.steal_workers.specs.declared.item.Numbered.{Numbered}
 use Rattle.steal_workers.specs.declared.seat.Stack.{Stack}
-use Rattle.list_weights.specs.Weights.{weigh, numbers_below}
+use Rattle.list_weights.specs.Weights.{weigh, numbers_below, only}
 use Rattle.steal_workers.specs.Items.{number_weight}
 use Rattle.steal_workers.specs.SeatViews.{SeatView, seat_count}
 use Rattle.steal_workers.specs.WholeDeals.{common_deal}
-use Rattle.steal_workers.specs.Backs.{one_if}
 use Rattle.steal_workers.specs.TookBack.{numbers_of}
 use Rattle.steal_workers.specs.Gathers.{IsStack, AreOwnMarked, all_taken, places}
 
@@ -20,7 +19,7 @@ module _ {T : Type 0} where
 
   -- The first m deques are still to be emptied.
   pub record IsEmptying (seats : List (SeatView T)) (m : ℕ) (stacks : List (Stack T)) (left : List (Numbered T)) : Type 0 where
-    pub once : (d : ℕ) → d < length stacks → weigh (λ p. one_if (d == p)) (places stacks) ≡ 1
+    pub once : (d : ℕ) → d < length stacks → weigh (λ p. only (d == p) 1) (places stacks) ≡ 1
     pub stacks_left : All (IsStack (AreOwnMarked seats) (common_deal seats) m) stacks
     pub counts : (length stacks ≡ seat_count (common_deal seats)) × (length (common_deal seats).queues ≡ seat_count (common_deal seats))
     pub taken : (h : ℕ → ℕ) → weigh h (numbers_of left) + seat_weights h seats + queue_weights h (take m (common_deal seats).queues) ≡ all_taken (number_weight h) stacks + weigh h (numbers_below (length (common_deal seats).tasks))

@@ -1,24 +1,24 @@
 -- Gathering the seats of a deal.
-use Rattle.std.specs.Prelude.{◌≡◌, ℕ, ◌+◌, ◌==◌, true, List, [], ◌∷◌, ◌++◌, map, length, slice_get, slice_index, slice_index_or, Some, All, IsPermutation}
+use Rattle.std.specs.Prelude.{◌≡◌, ℕ, ◌+◌, ◌==◌, true, List, [], ◌++◌, map, length, slice_get, slice_index, slice_index_or, Some, All, IsPermutation}
+use Rattle.std.specs.List.{flat_map}
 use Rattle.std.specs.declared.alloc.Global.{Global}
 use Rattle.atomic_blocks.specs.Lent.{RowsId}
 use Rattle.steal_workers.specs.declared.item.Item.{Item}
 use Rattle.steal_workers.specs.declared.item.Numbered.{Numbered}
 use Rattle.steal_workers.specs.declared.share.Share.{Share}
 use Rattle.steal_workers.specs.declared.seat.Stack.{Stack}
+use Rattle.list_weights.specs.Places.{EachAt}
 use Rattle.list_weights.specs.Weights.{weigh, numbers_below}
 use Rattle.steal_workers.specs.Ends.{deque_of, is_own}
 use Rattle.steal_workers.specs.Shares.{IsShare, dealt_to, taken_from}
 use Rattle.steal_workers.specs.Deals.{Deal}
 use Rattle.steal_workers.specs.SeatViews.{SeatView, HasMark}
 use Rattle.steal_workers.specs.WholeDeals.{common_deal}
-use Rattle.steal_workers.specs.Decks.{EachAt}
 use Rattle.steal_workers.specs.TookBack.{numbers_of}
 
 -- the lists, one behind the other
 abbrev pub joined : {X : Type 0} → List (List X) → List X
-joined [] = []
-joined (xs ∷ rest) = xs ++ joined rest
+joined xss = flat_map (λ xs. xs) xss
 
 module _ {T : Type 0} where
   -- each seat has the end mark of its own deque

@@ -1,13 +1,14 @@
 -- What a deal needs memory for, and what is made of it.
 use Rattle.std.specs.Prelude.{◌≡◌, ℕ, ◌+◌, ◌≤◌, List, [], map, length, All, vec_capacity}
 use Rattle.crossbeam_deque.specs.Handles.{worker_capacity, worker_index}
+use Rattle.list_weights.specs.Places.{EachAt}
 use Rattle.steal_workers.specs.declared.deck.Deck.{Deck}
 use Rattle.steal_workers.specs.declared.dealing.Row.{Row}
 use Rattle.steal_workers.specs.Items.{marks}
 use Rattle.steal_workers.specs.Deals.{Deal}
 use Rattle.steal_workers.specs.SeatViews.{SeatView}
 use Rattle.steal_workers.specs.WholeDeals.{IsNewSeat}
-use Rattle.steal_workers.specs.Decks.{EachAt, IsDeck, IsFilling, queue_of}
+use Rattle.steal_workers.specs.Decks.{IsDeck, IsFilling, queue_of}
 use Rattle.steal_workers.specs.Columns.{closed, deck_deque}
 
 module _ {T : Type 0} where

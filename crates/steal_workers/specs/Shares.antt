@@ -5,13 +5,9 @@ use Rattle.steal_workers.specs.declared.item.Item.TheVariants.{Task as task_item
 use Rattle.steal_workers.specs.declared.share.Share.{Share}
 use Rattle.steal_workers.specs.declared.share.Step.{Step}
 use Rattle.steal_workers.specs.declared.share.Step.TheVariants.{Task, Marked, Lost}
-use Rattle.list_weights.specs.Weights.{weigh}
+use Rattle.list_weights.specs.Weights.{weigh, only}
 use Rattle.steal_workers.specs.Items.{marks, number_weight, Stands}
 use Rattle.steal_workers.specs.Ends.{deque_of, hand_of, is_own, IsFit}
-
-abbrev pub mark_count : Bool → ℕ
-mark_count true = 1
-mark_count false = 0
 
 module _ {T : Type 0} where
   -- what was dealt to the deque
@@ -29,7 +25,7 @@ module _ {T : Type 0} where
 
   -- the share of one seat, which has taken one mark of the deque or none, and nothing more often than it was dealt
   abbrev pub IsShare : Share T → Type 0
-  IsShare s = IsFit s.end × ((hand_of s.end).share ≡ 1) × (marks (taken_from s) ≡ mark_count s.marked) × ((h : Item T → ℕ) → weigh h (taken_from s) ≤ weigh h (dealt_to s))
+  IsShare s = IsFit s.end × ((hand_of s.end).share ≡ 1) × (marks (taken_from s) ≡ only s.marked 1) × ((h : Item T → ℕ) → weigh h (taken_from s) ≤ weigh h (dealt_to s))
 
   -- how much the numbers of the tasks weigh that were taken
   abbrev pub taken_weight : (ℕ → ℕ) → Share T → ℕ

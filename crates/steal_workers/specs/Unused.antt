@@ -1,10 +1,10 @@
 -- A seat that has taken nothing.
 use Rattle.std.specs.Prelude.{◌≡◌, ℕ, ◌==◌, false, List, [], map}
+use Rattle.list_weights.specs.Places.{EachAt}
 use Rattle.steal_workers.specs.declared.share.Share.{Share}
 use Rattle.steal_workers.specs.Ends.{deque_of, is_own}
 use Rattle.steal_workers.specs.Shares.{IsShare, dealt_to, taken_from, is_marked}
 use Rattle.steal_workers.specs.SeatViews.{SeatView}
-use Rattle.steal_workers.specs.Decks.{EachAt}
 
 module _ {T : Type 0} where
   -- of no deque was anything taken, and the one at the seat's place is its own

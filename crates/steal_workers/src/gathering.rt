@@ -4,9 +4,9 @@ ghost use Rattle.crossbeam_deque.specs.Handles.{view, IsPassOf, worker_deque, wo
 ghost use Rattle.steal_workers.specs.Answers.{FoundNone};
 ghost use Rattle.steal_workers.specs.Backs.{own_weight, IsWholeColumn, IsBack};
 ghost use Rattle.steal_workers.specs.Deals.{Deal, IsDealt};
-ghost use Rattle.steal_workers.specs.Decks.{EachAt};
 ghost use Rattle.steal_workers.specs.Emptying.{IsEmptying, seat_weights};
 ghost use Rattle.steal_workers.specs.Gathers.{IsGathered, IsStack, PopsEach, AreOwnMarked, places, all_taken};
+ghost use Rattle.list_weights.specs.Places.{EachAt};
 ghost use Rattle.list_weights.specs.Weights.{weigh};
 ghost use Rattle.steal_workers.specs.Items.{marks, number_weight, Stands, MarksLast};
 ghost use Rattle.steal_workers.specs.Ends.{deque_of, hand_of, is_own, IsFit};

@@ -1,7 +1,7 @@
 use Rattle.std.proofs.Common.{◌≡◌, ◌+◌, ◌*◌, ℕ, List, [], ◌∷◌, All, Option, Vec, length, vec_len, sym, subst, ap, ◌∙◌, arith}
 use Rattle.std.specs.Mem.Slots.{slots_items, slots_filled}
 use Rattle.std.specs.declared.alloc.Global.{Global}
-use Rattle.host_inbox.specs.Drains.{EachAt}
+use Rattle.list_weights.specs.Places.{EachAt}
 use Rattle.host_inbox.specs.Slots.{IsRoom, IsTakenTo, row_of}
 use Rattle.host_inbox.proofs.Members.{all_front, each_at_snoc}
 use Rattle.host_inbox.proofs.draining.drained_rows.Goals as goal

@@ -3,11 +3,12 @@ use Rattle.std.specs.Vec.Iter.{into_iter_items}
 use Rattle.std.specs.declared.alloc.Global.{Global}
 use Rattle.atomic_blocks.specs.Lent.{RowsId}
 use Rattle.crossbeam_deque.specs.Handles.{worker_deque, worker_view, IsPassOf}
+use Rattle.list_weights.specs.Places.{EachAt}
 use Rattle.steal_workers.specs.declared.hand.Hand.{Hand}
 use Rattle.steal_workers.specs.declared.share.Share.{Share}
 use Rattle.steal_workers.specs.OneDeque.{hand, less_one_share, one_share}
 use Rattle.steal_workers.specs.Ends.{is_own}
-use Rattle.steal_workers.specs.Decks.{EachAt, IsThiefOf}
+use Rattle.steal_workers.specs.Decks.{IsThiefOf}
 use Rattle.steal_workers.specs.Columns.{IsFresh}
 use Rattle.steal_workers.proofs.Steps.{forks}
 use Rattle.steal_workers.proofs.ShareLists.{all_head, all_tail}

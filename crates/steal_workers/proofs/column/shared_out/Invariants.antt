@@ -1,8 +1,9 @@
 use Rattle.std.proofs.Common.{◌≡◌, ◌≤◌, ◌+◌, true, false, [], All, length, vec_len, vec_capacity}
 use Rattle.std.specs.Vec.Iter.{into_iter_items}
 use Rattle.crossbeam_deque.specs.Handles.{worker_deque, worker_flavor, worker_view}
+use Rattle.list_weights.specs.Places.{EachAt}
 use Rattle.steal_workers.specs.Columns.{IsFresh}
-use Rattle.steal_workers.specs.Decks.{IsThiefOf, EachAt}
+use Rattle.steal_workers.specs.Decks.{IsThiefOf}
 use Rattle.steal_workers.specs.Ends.{is_own}
 use Rattle.steal_workers.specs.OneDeque.{hand}
 use Rattle.steal_workers.proofs.column.shared_out.Given as goal

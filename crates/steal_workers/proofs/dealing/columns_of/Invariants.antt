@@ -1,7 +1,7 @@
 use Rattle.std.proofs.Common.{◌≡◌, ◌≤◌, ◌++◌, List, length, get_or, vec_len, vec_capacity}
 use Rattle.std.specs.Vec.Iter.{into_iter_items}
+use Rattle.list_weights.specs.Places.{EachAt}
 use Rattle.steal_workers.specs.declared.deck.Deck.{Deck}
-use Rattle.steal_workers.specs.Decks.{EachAt}
 use Rattle.steal_workers.specs.Columns.{IsColumn, closed, deck_deque}
 use Rattle.steal_workers.proofs.dealing.columns_of.Given as goal
 

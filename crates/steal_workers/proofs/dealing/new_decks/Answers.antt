@@ -1,6 +1,7 @@
 use Rattle.std.proofs.Common.{◌≡◌, ℕ, [], length, sym, subst, arith}
+use Rattle.list_weights.specs.Places.{EachAt}
 use Rattle.steal_workers.specs.declared.deck.Deck.{Deck}
-use Rattle.steal_workers.specs.Decks.{EachAt, IsFilling, queue_of}
+use Rattle.steal_workers.specs.Decks.{IsFilling, queue_of}
 use Rattle.steal_workers.proofs.ColumnSteps.{each_at_snoc}
 use Rattle.steal_workers.proofs.dealing.new_decks.Goals as goal
 

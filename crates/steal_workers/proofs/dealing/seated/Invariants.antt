@@ -1,6 +1,6 @@
 use Rattle.std.proofs.Common.{◌≡◌, ◌≤◌, ◌+◌, All, length, vec_len, vec_capacity}
 use Rattle.std.specs.Vec.Iter.{into_iter_items}
-use Rattle.steal_workers.specs.Decks.{EachAt}
+use Rattle.list_weights.specs.Places.{EachAt}
 use Rattle.steal_workers.specs.Columns.{AreColumns}
 use Rattle.steal_workers.specs.Layouts.{IsEmptyRow, AreSeated, planned}
 use Rattle.steal_workers.proofs.dealing.seated.Given as goal

@@ -3,10 +3,10 @@ use Rattle.std.proofs.lemmas.List.{get_or-map, length-map}
 use Rattle.std.proofs.Math.Seq.{map-set_same}
 use Rattle.steal_workers.specs.declared.share.Share.{Share}
 use Rattle.steal_workers.specs.declared.seat.Stack.{Stack}
+use Rattle.list_weights.specs.Places.{EachAt}
 use Rattle.list_weights.specs.Weights.{weigh}
 use Rattle.steal_workers.specs.Deals.{Deal}
 use Rattle.steal_workers.specs.WholeDeals.{common_deal}
-use Rattle.steal_workers.specs.Decks.{EachAt}
 use Rattle.steal_workers.specs.Gathers.{IsStack, IsShareAt, AreOwnMarked, places, share_taken}
 use Rattle.list_weights.proofs.Weights.{weigh-append}
 use Rattle.steal_workers.proofs.DeckSteps.{each_at_set}

@@ -1,8 +1,8 @@
 use Rattle.std.proofs.Common.{◌≡◌, ◌+◌, ◌<◌, ◌≤◌, ℕ, length, get_or, vec_capacity}
 use Rattle.steal_workers.specs.declared.item.Item.{Item}
+use Rattle.list_weights.specs.Places.{EachAt}
 use Rattle.list_weights.specs.Weights.{weigh}
 use Rattle.steal_workers.specs.WholeDeals.{common_deal}
-use Rattle.steal_workers.specs.Decks.{EachAt}
 use Rattle.steal_workers.specs.Gathers.{IsStack, IsShareAt, AreOwnMarked, places, all_taken, share_taken}
 use Rattle.steal_workers.proofs.gathering.pop_each.Given as goal
 
