@@ -2,6 +2,7 @@
 
 use crate::tests::{memory, ran};
 use crate::{Cpu, Insn, TurnEnd, decode};
+use guest_mem::FetchHint;
 use sim_base::Signal;
 use std::test::Fail;
 
@@ -222,6 +223,7 @@ fn start(row: &Row) -> Cpu {
 
 #[test]
 fn atomics_do_as_the_rows_say(rt: HostRuntime) -> Result<(), Fail> {
+    let mut hint = FetchHint::new();
     for row in &ROWS {
         let mut mem = memory(rt.alloc(), row.rights, &row.words)?;
         let mut cpu = start(row);
@@ -231,7 +233,7 @@ fn atomics_do_as_the_rows_say(rt: HostRuntime) -> Result<(), Fail> {
         assert_eq!(rt; end, TurnEnd::Trap(row.end));
         assert_eq!(rt; cpu.x[11], row.a1);
         assert_eq!(rt; cpu.x[12], row.a2);
-        assert_eq!(rt; mem.fetch(ADDRESS), Ok(row.word));
+        assert_eq!(rt; mem.fetch(ADDRESS, &mut hint), Ok(row.word));
         assert_eq!(rt; cpu.reservation, row.reservation);
     }
     assert_eq!(rt; decode(0x1005_25af), Some(Insn::LrW));

@@ -14,16 +14,24 @@ use crate::word::{
     b_immediate, byte_extended, half_extended, i_immediate, is_aligned, j_immediate, rd, rs1, rs2,
     s_immediate, u_immediate,
 };
-use guest_mem::{Bad, Mem};
+use guest_mem::{Bad, FetchHint, Mem};
 use sim_base::Signal;
 
 /// Runs the instruction at the program counter.
-#[tactic(auto, unfolding(crate::specs::Table::insn))]
-#[inline(always)]
 pub fn step(cpu: &mut Cpu, mem: &mut Mem) -> Outcome
     ensures { insn (state cpu.old mem.old) ≡ after cpu.new mem.new result }
 {
-    match mem.fetch(cpu.pc) {
+    let mut hint = FetchHint::new();
+    step_on(cpu, mem, &mut hint)
+}
+
+/// The same after other steps, which left a hint of where the instruction is.
+#[tactic(auto, unfolding(crate::specs::Table::insn))]
+#[inline(always)]
+pub(crate) fn step_on(cpu: &mut Cpu, mem: &mut Mem, hint: &mut FetchHint) -> Outcome
+    ensures { insn (state cpu.old mem.old) ≡ after cpu.new mem.new result }
+{
+    match mem.fetch(cpu.pc, hint) {
         Ok(word) => match decode(word) {
             Some(insn) => execute(insn, word, cpu, mem),
             None => Outcome::Trap(Signal::SigIll),
