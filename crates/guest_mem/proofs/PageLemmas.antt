@@ -15,7 +15,7 @@ use Rattle.guest_mem.specs.declared.right.Right.{Right}
 use Rattle.guest_mem.specs.Memory.{permits, permitted, byte_for, bytes_for, put_all}
 use Rattle.guest_mem.specs.declared.entry.Entry.{Entry}
 use Rattle.guest_mem.specs.Slots.{entry_numbers}
-use Rattle.guest_mem.specs.Pages.{GuestPage, cell_in, cells_within, mapped_cells, numbers, place_of, Rewrites, IsPageTable}
+use Rattle.guest_mem.specs.Pages.{GuestPage, cell_in, cells_within, mapped_cells, numbers, place_of, Rewrites, AreKnown, IsPageTable}
 use Rattle.guest_mem.proofs.CellLemmas.{get-put_all_in, get-put_all_out, get-put_all_none, bytes_for-all, bytes_for-none}
 
 abbrev pub Entries : Type 0
@@ -397,3 +397,20 @@ numbers-more es i e l is =
 
 pub length-numbers_so_far : (es : List Entry) (i : ℕ) → i ≤ length es → length (entry_numbers (take i es)) ≡ i
 length-numbers_so_far es i l = length-map (take i es) (λ (x : Entry). x.number) ∙ length-take-le i es l
+
+-- a page of a table that is found where it stands is the first with its number
+pub known-place : (found : ℕ → Option ℕ) (ns : List ℕ) (fixed heap known : ℕ) → IsPageTable found ns fixed heap → AreKnown found (take fixed ns) known
+    → (i n : ℕ) → i < known → get_or ns i 0 ≡ n → n < 2 ^ 20 → place_of ns n ≡ Some i
+known-place found ns fixed heap known table are i n below is low =
+    let long : length (take fixed ns) ≡ fixed = length-take-le fixed ns table.fixed_in in
+    let at : get_or (take fixed ns) i 0 ≡ n = get_or-take fixed ns i 0 (omega (arith, are.within)) ∙ is in
+    let among : place_of (take fixed ns) n ≡ Some i = sym (table.indexed n low) ∙ ap found (sym at) ∙ are.where_they_stand i below in
+    subst (λ (ms : List ℕ). place_of ms n ≡ Some i) (take-append-drop fixed ns) (place_of-append_some (take fixed ns) (drop fixed ns) n i among)
+
+-- one more page that is found where it stands
+pub known-more : (found : ℕ → Option ℕ) (ns : List ℕ) (known : ℕ) → AreKnown found ns known → known < length ns → found (get_or ns known 0) ≡ Some known → AreKnown found ns (known + 1)
+known-more found ns known are l is = record {
+  within = omega arith;
+  where_they_stand = λ i below. ⊎_elim (λ (less : i < known). are.where_they_stand i less)
+      (λ (above : known ≤ i). let same : known ≡ i = omega arith in subst (λ (x : ℕ). found (get_or ns x 0) ≡ Some x) same is) (cases_lt i known);
+}

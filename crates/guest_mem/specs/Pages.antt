@@ -65,6 +65,11 @@ pub record IsPageTable (found : ℕ → Option ℕ) (ns : List ℕ) (fixed heap 
   pub apart : (n : ℕ) → heap ≤ n → n < 0xBF000 → place_of (take fixed ns) n ≡ None
   pub bounded : heap + (length ns - fixed) ≤ 0xBF000
 
+-- of pages with these numbers, the first `known` are found where they stand
+pub record AreKnown (found : ℕ → Option ℕ) (ns : List ℕ) (known : ℕ) : Type 0 where
+  pub within : known ≤ length ns
+  pub where_they_stand : (i : ℕ) → i < known → found (slice_index ns i) ≡ Some i
+
 -- a page with other bytes from an offset on
 pub record Rewrites (old new : GuestPage) (o : ℕ) (bytes : List ℕ) : Type 0 where
   pub number : new.number ≡ old.number

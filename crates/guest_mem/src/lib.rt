@@ -4,6 +4,7 @@
 mod bad;
 mod copies;
 mod entry;
+mod hint;
 mod index;
 mod mem;
 mod pages;
@@ -13,5 +14,6 @@ mod table;
 mod tests;
 
 pub use bad::Bad;
+pub use hint::FetchHint;
 pub use mem::Mem;
 pub use right::Right;

@@ -6,6 +6,7 @@ ghost use Rattle.guest_mem.specs.Break.{grown, pages_to};
 ghost use Rattle.guest_mem.specs.Opening.{opening};
 
 use crate::copies::copies;
+use crate::hint::FetchHint;
 use crate::table::PageTable;
 use crate::{Bad, Right};
 use elf_load::Image;
@@ -94,13 +95,14 @@ impl Mem {
         self.table.word(Right::Read, at)
     }
 
-    /// The number in the 4 bytes from `at` on, low byte first, in pages that may be executed.
+    /// The number in the 4 bytes from `at` on, low byte first, in pages that may be executed. The page that the hint names is
+    /// tried first; the answer is the same for every hint.
     #[inline]
-    pub fn fetch(&self, at: u32) -> Result<u32, Bad>
+    pub fn fetch(&self, at: u32, hint: &mut FetchHint) -> Result<u32, Bad>
         ensures { MatchResult result (λ value. load Right.Execute 4 self.now at ≡ Some value)
             (λ _. load Right.Execute 4 self.now at ≡ None) }
     {
-        self.table.word(Right::Execute, at)
+        self.table.fetch(at, hint)
     }
 
     /// Puts the 1 byte of `value` at `at`.

@@ -66,6 +66,15 @@ impl Pages {
         self.entries[place].rights
     }
 
+    /// A page's number.
+    #[inline]
+    pub fn number(&self, place: usize) -> u32
+        requires { place < self.now.count }
+        ensures { (d : GuestPage) → result ≡ (slice_index_or (shown self.now) place d).number }
+    {
+        self.entries[place].number
+    }
+
     /// The `len` bytes of a page from an offset on.
     #[inline]
     pub fn part(&self, place: usize, offset: usize, len: usize) -> &[u8]

@@ -1,6 +1,6 @@
 //! The pages of a guest.
 
-ghost use Rattle.std.specs.Prelude.{◌≡◌, ℕ, ◌+◌, ◌-◌, ◌*◌, ◌/◌, ◌%◌, ◌^◌, ◌<◌, ◌≤◌, Some, None, MatchOption, MatchResult, IfOk, IfSome, IsSome, OnOk, OnErr, is_some, length, min, vec_len};
+ghost use Rattle.std.specs.Prelude.{◌≡◌, ℕ, ◌+◌, ◌-◌, ◌*◌, ◌/◌, ◌%◌, ◌^◌, ◌<◌, ◌≤◌, Some, None, MatchOption, MatchResult, IfOk, IfSome, IsSome, OnOk, OnErr, is_some, length, min, slice_index_or, take, vec_len};
 ghost use Rattle.std.specs.Bool.{OnTrue};
 ghost use Rattle.std.specs.Option.{option_map};
 ghost use Rattle.std.proofs.Props.{props};
@@ -8,9 +8,12 @@ ghost use Rattle.guest_mem.specs.Memory.{bytes_for, number, put_all};
 ghost use Rattle.guest_mem.specs.Break.{with_zeros, without};
 ghost use Rattle.guest_mem.specs.PageIndex.{place_in};
 ghost use Rattle.guest_mem.specs.PageStore.{shown};
-ghost use Rattle.guest_mem.specs.Pages.{IsPageTable, mapped_cells, numbers, place_of};
+ghost use Rattle.guest_mem.specs.Pages.{AreKnown, IsPageTable, mapped_cells, numbers, place_of};
+ghost use Rattle.guest_mem.specs.Slots.{entry_numbers};
 
 use crate::Bad;
+use crate::entry::Entry;
+use crate::hint::FetchHint;
 use crate::index::PageIndex;
 use crate::pages::Pages;
 use crate::right::Right;
@@ -26,7 +29,10 @@ pub(crate) struct PageTable {
     pub fixed: usize,
     pub heap: u32,
     pub index: PageIndex,
+    /// How many pages, from the first on, the index finds at their places: no other page has their numbers.
+    known: usize,
     ghost sound: { IsPageTable (place_in index) (numbers (shown pages)) fixed heap } by { Prim.hlevel props },
+    ghost known_sound: { AreKnown (place_in index) (take fixed (numbers (shown pages))) known } by { Prim.hlevel props },
 }
 
 impl PageTable {
@@ -42,13 +48,16 @@ impl PageTable {
         ensures count { IfOk result (λ table. table.pages.count ≡ pages.count) }
         ensures heap { IfOk result (λ table. table.heap ≡ heap) }
     {
-        let index = PageIndex::of(alloc, pages.entries())?;
+        let entries = pages.entries();
+        let index = PageIndex::of(alloc, entries)?;
+        let known = known_places(&index, entries);
         let fixed = pages.len();
         Ok(PageTable {
             pages,
             fixed,
             heap,
             index,
+            known,
         })
     }
 
@@ -75,7 +84,22 @@ impl PageTable {
             (λ bytes. bytes_for right len (mapped_cells (shown self.now.pages)) at ≡ Some bytes.now) }
         ensures whole { IfSome result (λ bytes. length bytes.now ≡ len) }
     {
-        let place = self.place(at / PAGE_SIZE)?;
+        self.within_page(right, self.place(at / PAGE_SIZE), at, len)
+    }
+
+    /// The same, where the place of the page was found.
+    #[inline]
+    fn within_page(&self, right: Right, found: Option<usize>, at: u32, len: usize) -> Option<&[u8]>
+        requires some { 0 < len }
+        requires in_page { at % 4096 + len ≤ 4096 }
+        requires there { found ≡ place_of (numbers (shown self.now.pages)) (at / 4096) }
+        ensures found { MatchOption result (bytes_for right len (mapped_cells (shown self.now.pages)) at ≡ None)
+            (λ bytes. bytes_for right len (mapped_cells (shown self.now.pages)) at ≡ Some bytes.now) }
+        ensures whole { IfSome result (λ bytes. length bytes.now ≡ len) }
+    {
+        let Some(place) = found else {
+            return None;
+        };
         if right.is_among(self.pages.rights(place)) {
             Some(self.pages.part(place, (at % PAGE_SIZE) as usize, len))
         } else {
@@ -226,10 +250,63 @@ impl PageTable {
                 Err(Bad) => Err(Bad),
             };
         }
-        match self.within(right, at, 4) {
+        self.word_in_page(right, self.place(at / PAGE_SIZE), at)
+    }
+
+    /// The same within one page, whose place was found.
+    #[inline]
+    fn word_in_page(&self, right: Right, found: Option<usize>, at: u32) -> Result<u32, Bad>
+        requires in_page { at % 4096 + 4 ≤ 4096 }
+        requires there { found ≡ place_of (numbers (shown self.now.pages)) (at / 4096) }
+        ensures { MatchResult result
+            (λ value. option_map number (bytes_for right 4 (mapped_cells (shown self.now.pages)) at) ≡ Some value)
+            (λ _. option_map number (bytes_for right 4 (mapped_cells (shown self.now.pages)) at) ≡ None) }
+    {
+        match self.within_page(right, found, at, 4) {
             Some(bytes) => Ok(u32::from_le_bytes([bytes[0], bytes[1], bytes[2], bytes[3]])),
             None => Err(Bad),
         }
+    }
+
+    /// The little-endian number in the 4 bytes from `at` on, where each may be executed. The page at the hint's place is
+    /// tried first, and the hint is the page's that was found.
+    #[inline]
+    pub fn fetch(&self, at: u32, hint: &mut FetchHint) -> Result<u32, Bad>
+        ensures { MatchResult result
+            (λ value. option_map number (bytes_for Right.Execute 4 (mapped_cells (shown self.now.pages)) at) ≡ Some value)
+            (λ _. option_map number (bytes_for Right.Execute 4 (mapped_cells (shown self.now.pages)) at) ≡ None) }
+    {
+        if at % PAGE_SIZE <= PAGE_SIZE - 4 {
+            let found = self.hinted_place(at / PAGE_SIZE, hint);
+            self.word_in_page(Right::Execute, found, at)
+        } else {
+            self.word(Right::Execute, at)
+        }
+    }
+
+    /// The place of the first page with this number, which is the hint's where it is right.
+    #[inline]
+    fn hinted_place(&self, number: u32, hint: &mut FetchHint) -> Option<usize>
+        requires { number < 2 ^ 20 }
+        ensures { result ≡ place_of (numbers (shown self.now.pages)) number }
+    {
+        if self.is_known_at(hint.place, number) {
+            return Some(hint.place);
+        }
+        let found = self.place(number);
+        if let Some(place) = found {
+            hint.place = place;
+        }
+        found
+    }
+
+    /// Whether the page at this place is known to be the only one with this number.
+    #[inline]
+    fn is_known_at(&self, place: usize, number: u32) -> bool
+        requires { number < 2 ^ 20 }
+        ensures { OnTrue result (place_of (numbers (shown self.now.pages)) number ≡ Some place) }
+    {
+        place < self.known && self.pages.number(place) == number
     }
 
     /// Puts `bytes` at `at`, in one page or over several, where each address may be written.
@@ -283,6 +360,20 @@ impl PageTable {
     {
         self.pages.truncate(self.pages.len() - count as usize);
     }
+}
+
+/// How many of the pages, from the first on, the index finds at their own places.
+fn known_places(index: &PageIndex, pages: &[Entry]) -> usize
+    ensures { AreKnown (place_in index.now) (entry_numbers pages.now) result }
+{
+    let mut known = 0;
+    while known < pages.len() {
+        match index.find(pages[known].number) {
+            Some(place) if place == known => known += 1,
+            _ => return known,
+        }
+    }
+    known
 }
 
 /// How many of `len` bytes from `at` on lie in the page of the first.

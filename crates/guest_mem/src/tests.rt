@@ -1,6 +1,6 @@
 //! What loads, stores, fetches, copies and the break answer, in turn.
 
-use crate::Mem;
+use crate::{FetchHint, Mem};
 use elf_load::load;
 use std::alloc::{AllocError, Global};
 use std::test::Fail;
@@ -116,12 +116,12 @@ fn file(alloc: Global) -> Result<Vec<u8>, AllocError> {
 }
 
 /// Whether the call answers so. A span that is read begins as dots, and stays so where it is bad.
-fn holds(mem: &mut Mem, call: Call) -> Result<bool, Fail> {
+fn holds(mem: &mut Mem, hint: &mut FetchHint, call: Call) -> Result<bool, Fail> {
     Ok(match call {
         Call::Load8(at, wanted) => mem.load8(at).ok() == wanted,
         Call::Load16(at, wanted) => mem.load16(at).ok() == wanted,
         Call::Load32(at, wanted) => mem.load32(at).ok() == wanted,
-        Call::Fetch(at, wanted) => mem.fetch(at).ok() == wanted,
+        Call::Fetch(at, wanted) => mem.fetch(at, hint).ok() == wanted,
         Call::Store8(at, value, good) => mem.store8(at, value).is_ok() == good,
         Call::Store16(at, value, good) => mem.store16(at, value).is_ok() == good,
         Call::Store32(at, value, good) => mem.store32(at, value).is_ok() == good,
@@ -146,8 +146,9 @@ fn holds(mem: &mut Mem, call: Call) -> Result<bool, Fail> {
 fn answers_in_turn(rt: HostRuntime) -> Result<(), Fail> {
     let image = load(rt.alloc(), &file(rt.alloc())?)?;
     let mut mem = Mem::from_image(rt.alloc(), &image)?;
+    let mut hint = FetchHint::new();
     for call in CALLS {
-        assert!(rt; holds(&mut mem, call)?, "{call:?}");
+        assert!(rt; holds(&mut mem, &mut hint, call)?, "{call:?}");
     }
     Ok(())
 }

@@ -1,6 +1,6 @@
 -- How many bytes and words a stack holds at first.
 use Rattle.std.proofs.Common.{◌≡◌, ℕ, ◌+◌, ◌*◌, ◌≤◌, List, [], ◌∷◌, ◌++◌, length, refl, ap, ◌∙◌, sym, length-append, append_assoc, arith}
-use Rattle.std.proofs.Common.{◌-◌, replicate, slice_set}
+use Rattle.std.proofs.Common.{◌-◌, replicate, slice_set, None}
 use Rattle.elf_load.specs.ProgramImage.{ProgramImage}
 use Rattle.guest_mem.specs.Memory.{Memory, low_bytes}
 use Rattle.guest_mem.specs.Opening.{opening}
@@ -51,7 +51,7 @@ pub made_started : (image : ProgramImage) (arguments environment : List (List �
     → texts ≡ texts_bytes (arguments ++ environment) → entry ≡ image.entry → at ≡ rounded_down (0xC0000000 - length texts)
     → words ≡ words_at at arguments environment → sp ≡ rounded_down (at - 4 * length words)
     → m0 ≡ opening image → m1 ≡ filled m0 at texts → m2 ≡ filled m1 sp (word_bytes words)
-    → IsStarted image arguments environment (record { pc = entry; x = slice_set (replicate 32 0) 2 sp }) m2
+    → IsStarted image arguments environment (record { pc = entry; x = slice_set (replicate 32 0) 2 sp; reservation = None }) m2
 unfolding start_memory
 made_started image arguments environment texts words entry at sp m0 m1 m2 texts_is entry_is at_is words_is sp_is m0_is m1_is m2_is =
     let all : List (List ℕ) = arguments ++ environment in
@@ -63,8 +63,8 @@ made_started image arguments environment texts words entry at sp m0 m1 m2 texts_
     m1_is ∙ (ap (λ (m : Memory). filled m at texts) m0_is ∙ (ap (λ (n : ℕ). filled (opening image) n texts) at_now
     ∙ ap (λ (t : List ℕ). filled (opening image) (texts_at all) t) texts_is)) in
     record {
-      cpu = ap (λ (n : ℕ). record { pc = n; x = slice_set (replicate 32 0) 2 sp }) entry_is
-          ∙ ap (λ (n : ℕ). record { pc = image.entry; x = slice_set (replicate 32 0) 2 n }) sp_now;
+      cpu = ap (λ (n : ℕ). record { pc = n; x = slice_set (replicate 32 0) 2 sp; reservation = None }) entry_is
+          ∙ ap (λ (n : ℕ). record { pc = image.entry; x = slice_set (replicate 32 0) 2 n; reservation = None }) sp_now;
       memory = m2_is ∙ (ap (λ (m : Memory). filled m sp (word_bytes words)) m1_now
           ∙ (ap (λ (n : ℕ). filled (filled (opening image) (texts_at all) (texts_bytes all)) n (word_bytes words)) sp_now
           ∙ ap (λ (ws : List ℕ). filled (filled (opening image) (texts_at all) (texts_bytes all)) (stack_pointer arguments environment) (word_bytes ws)) words_now));

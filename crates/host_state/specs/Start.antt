@@ -1,5 +1,5 @@
 -- What a process starts with (System V ABI: the process stack).
-use Rattle.std.specs.Prelude.{◌≡◌, ℕ, ◌+◌, ◌-◌, ◌*◌, ◌/◌, Bool, nat_le, List, [], ◌∷◌, ◌++◌, length, replicate, slice_set, flat_map}
+use Rattle.std.specs.Prelude.{◌≡◌, ℕ, ◌+◌, ◌-◌, ◌*◌, ◌/◌, Bool, nat_le, List, [], ◌∷◌, ◌++◌, length, replicate, slice_set, flat_map, None}
 use Rattle.elf_load.specs.ProgramImage.{ProgramImage}
 use Rattle.guest_mem.specs.Memory.{Memory, low_bytes, put_all}
 use Rattle.guest_mem.specs.Opening.{opening}
@@ -44,9 +44,9 @@ texts_fit arguments environment = nat_le (length (texts_bytes (arguments ++ envi
 abbrev pub filled : Memory → ℕ → List ℕ → Memory
 filled m at bytes = record m { cells = put_all m.cells at bytes }
 
--- pc is the entry, and all registers are 0 but the stack pointer (x2)
+-- pc is the entry, all registers are 0 but the stack pointer (x2), and no address is reserved
 abbrev pub start_cpu : ProgramImage → List (List ℕ) → List (List ℕ) → Cpu
-start_cpu image arguments environment = record { pc = image.entry; x = slice_set (replicate 32 0) 2 (stack_pointer arguments environment) }
+start_cpu image arguments environment = record { pc = image.entry; x = slice_set (replicate 32 0) 2 (stack_pointer arguments environment); reservation = None }
 
 -- the image, and the stack with texts and words
 unfoldable pub start_memory : ProgramImage → List (List ℕ) → List (List ℕ) → Memory

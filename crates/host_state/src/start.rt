@@ -164,6 +164,7 @@ pub(crate) fn start_guest(
         cpu: Cpu {
             pc: image.entry(),
             x,
+            reservation: None,
         },
         memory,
     })

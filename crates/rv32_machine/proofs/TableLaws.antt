@@ -1,22 +1,24 @@
--- Laws of the table: a trap leaves the state as it was, and a call only moves pc behind itself.
+-- Laws of the table: a trap leaves the state as it was, a call only moves pc behind itself and ends the reservation, and
+-- of the other instructions LR.W and SC.W alone touch the reservation.
 use Rattle.std.proofs.Common.{◌≡◌, ℕ, Bool, true, false, Option, Some, None, ◌*◌, ◌/◌, refl, subst, if◌then◌else◌}
 use Rattle.sim_base.specs.declared.signal.Signal.{Signal}
 use Rattle.sim_base.specs.declared.signal.Signal.TheVariants.{SigBus}
-use Rattle.guest_mem.specs.Memory.{Memory, load}
+use Rattle.guest_mem.specs.Memory.{Memory, load, store}
 use Rattle.guest_mem.specs.declared.right.Right.TheVariants as right
-use Rattle.rv32_machine.specs.Word.{i_immediate, b_immediate, j_immediate}
-use Rattle.rv32_machine.specs.Arithmetic.{sum, is_taken}
-use Rattle.rv32_machine.specs.Table.{State, After, source1, source2, traps, goes_on, advanced, at, is_aligned, jumps, load_ends, store_ends, effect, executed, fetched, insn}
+use Rattle.rv32_machine.specs.Word.{i_immediate, b_immediate, j_immediate, is_aligned}
+use Rattle.rv32_machine.specs.Arithmetic.{sum, is_taken, modified}
+use Rattle.rv32_machine.specs.Table.{State, After, source1, source2, traps, goes_on, advanced, at, with_reservation, is_reserved, jumps, load_ends, store_ends, where_aligned, reserves, answers, conditional_ends, modify_ends, modifies, effect, executed, fetched, insn}
 use Rattle.rv32_machine.specs.declared.cpu.Cpu.{Cpu}
 use Rattle.rv32_machine.specs.declared.outcome.Outcome.{Outcome}
 use Rattle.rv32_machine.specs.declared.outcome.Outcome.TheVariants as outcome
+use Rattle.rv32_machine.specs.declared.instruction.Amo.{Amo as AmoKind}
 use Rattle.rv32_machine.specs.declared.instruction.Insn.{Insn}
-use Rattle.rv32_machine.specs.declared.instruction.Insn.TheVariants.{Lui, Auipc, Jal, Jalr, Branch, Load, Store, Immediate, Register, Fence, FenceI, Ecall, Ebreak}
+use Rattle.rv32_machine.specs.declared.instruction.Insn.TheVariants.{Lui, Auipc, Jal, Jalr, Branch, Load, Store, Immediate, Register, Fence, FenceI, Ecall, Ebreak, LrW, ScW, Amo}
 
 -- what an instruction leaves, by how it ends
 pub LeavesBy : Outcome → State → State → Type 0
 LeavesBy outcome.Next s t = Unit {0}
-LeavesBy outcome.Call s t = t ≡ record s { cpu = advanced s.cpu }
+LeavesBy outcome.Call s t = t ≡ record s { cpu = advanced (with_reservation None s.cpu) }
 LeavesBy (outcome.Trap g) s t = t ≡ s
 
 IsKept : State → After → Type 0
@@ -43,6 +45,32 @@ unfolding IsKept LeavesBy
 store_kept s None = refl
 store_kept s (Some m) = tt
 
+aligned_kept : (s : State) (b : Bool) (a : After) → IsKept s a → IsKept s (if b then a else traps SigBus s)
+unfolding IsKept LeavesBy
+aligned_kept s true a is = is
+aligned_kept s false a is = refl
+
+reserve_kept : (s : State) (word : ℕ) (o : Option ℕ) → IsKept s (reserves o word s)
+unfolding IsKept LeavesBy
+reserve_kept s word None = refl
+reserve_kept s word (Some n) = tt
+
+conditional_kept : (s : State) (word : ℕ) (b : Bool) (o : Option Memory) → IsKept s (if b then conditional_ends o word s else answers 1 word s)
+unfolding IsKept LeavesBy
+conditional_kept s word true None = refl
+conditional_kept s word true (Some m) = tt
+conditional_kept s word false o = tt
+
+modified_kept : (s : State) (word old : ℕ) (o : Option Memory) → IsKept s (modify_ends o old word s)
+unfolding IsKept LeavesBy
+modified_kept s word old None = refl
+modified_kept s word old (Some m) = tt
+
+modify_kept : (s : State) (amo : AmoKind) (word : ℕ) (o : Option ℕ) → IsKept s (modifies o amo word s)
+unfolding IsKept LeavesBy
+modify_kept s amo word None = refl
+modify_kept s amo word (Some old) = modified_kept s word old (store 4 s.memory (source1 word s) (modified amo old (source2 word s)))
+
 effect_kept : (i : Insn) (word : ℕ) (s : State) → IsKept s (effect i word s)
 unfolding IsKept LeavesBy
 effect_kept (Immediate operation) word s = tt
@@ -58,6 +86,11 @@ effect_kept Fence word s = tt
 effect_kept FenceI word s = tt
 effect_kept Ecall word s = refl
 effect_kept Ebreak word s = refl
+effect_kept LrW word s = aligned_kept s (is_aligned (source1 word s)) _ (reserve_kept s word (load right.Read 4 s.memory (source1 word s)))
+effect_kept ScW word s =
+    aligned_kept s (is_aligned (source1 word s)) _
+    (conditional_kept s word (is_reserved (source1 word s) s.cpu) (store 4 s.memory (source1 word s) (source2 word s)))
+effect_kept (Amo amo) word s = aligned_kept s (is_aligned (source1 word s)) _ (modify_kept s amo word (load right.Read 4 s.memory (source1 word s)))
 
 executed_kept : (o : Option Insn) (word : ℕ) (s : State) → IsKept s (executed o word s)
 unfolding IsKept LeavesBy
@@ -78,7 +111,7 @@ pub insn-trap : (s : State) (g : Signal) → (insn s).outcome ≡ outcome.Trap g
 unfolding IsKept LeavesBy
 insn-trap s g is = let P : Outcome → Type 0 = λ o. LeavesBy o s (insn s).state in subst P is (kept s)
 
--- an instruction that calls leaves the state as it was, but for pc, which stands behind it
-pub insn-call : (s : State) → (insn s).outcome ≡ outcome.Call → (insn s).state ≡ record s { cpu = advanced s.cpu }
+-- an instruction that calls leaves the state as it was, but for pc, which stands behind it, and the reservation, which ends
+pub insn-call : (s : State) → (insn s).outcome ≡ outcome.Call → (insn s).state ≡ record s { cpu = advanced (with_reservation None s.cpu) }
 unfolding IsKept LeavesBy
 insn-call s is = let P : Outcome → Type 0 = λ o. LeavesBy o s (insn s).state in subst P is (kept s)

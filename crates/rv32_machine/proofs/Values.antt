@@ -4,7 +4,7 @@ use Rattle.std.specs.Option.{option_map}
 use Rattle.guest_mem.specs.Memory.{Memory, load}
 use Rattle.guest_mem.specs.declared.right.Right.TheVariants as right
 use Rattle.rv32_machine.specs.Word.{i_immediate, s_immediate, b_immediate, u_immediate, j_immediate, sign_extended}
-use Rattle.rv32_machine.specs.Arithmetic.{value}
+use Rattle.rv32_machine.specs.Arithmetic.{value, modified}
 use Rattle.rv32_machine.specs.Encoding.{decoded}
 use Rattle.rv32_machine.specs.Table.{State, state, effect, goes_on, at, traps, loaded}
 use Rattle.rv32_machine.specs.Turn.{turn, state_after, outcome_of, GoesOn}
@@ -14,6 +14,7 @@ use Rattle.rv32_machine.specs.declared.instruction.Load.TheVariants.{Lb}
 use Rattle.rv32_machine.specs.declared.outcome.Outcome.TheVariants as outcome
 use Rattle.rv32_machine.specs.declared.outcome.TurnEnd.TheVariants as end
 use Rattle.rv32_machine.specs.declared.instruction.Insn.TheVariants as insn
+use Rattle.rv32_machine.specs.declared.instruction.Amo.TheVariants.{AmoAdd, AmoMin, AmoMax, AmoMinu, AmoMaxu}
 use Rattle.rv32_machine.specs.declared.instruction.Operation.TheVariants.{Sub, Sll, Slt, Sltu, Sra, Mul, Mulh, Mulhsu, Mulhu, Div, Divu, Rem, Remu}
 
 -- ---- division: -2 ^ 31 by -1, and by zero
@@ -183,10 +184,48 @@ zero_word = refl
 ones_word : decoded 0xffffffff ≡ None
 ones_word = refl
 
+-- LR.W x11, (x10), with another register in it, and with the bits aq and rl
+lr_word : decoded 0x100525af ≡ Some insn.LrW
+lr_word = refl
+
+lr_other : decoded 0x101525af ≡ None
+lr_other = refl
+
+lr_ordered : decoded 0x160525af ≡ Some insn.LrW
+lr_ordered = refl
+
+-- SC.W x12, x13, (x10)
+sc_word : decoded 0x18d5262f ≡ Some insn.ScW
+sc_word = refl
+
+-- AMOMIN.W x11, x13, (x10), and as AMOMIN.D would be
+amomin_word : decoded 0x80d525af ≡ Some (insn.Amo AmoMin)
+amomin_word = refl
+
+amomin_double : decoded 0x80d535af ≡ None
+amomin_double = refl
+
+-- ---- the atomic memory operations
+
+amomin_signs : modified AmoMin 0xffffffff 1 ≡ 0xffffffff
+amomin_signs = refl
+
+amominu_signs : modified AmoMinu 0xffffffff 1 ≡ 1
+amominu_signs = refl
+
+amomax_signs : modified AmoMax 0xffffffff 1 ≡ 1
+amomax_signs = refl
+
+amomaxu_signs : modified AmoMaxu 0xffffffff 1 ≡ 0xffffffff
+amomaxu_signs = refl
+
+amoadd_wraps : modified AmoAdd 0xffffffff 2 ≡ 1
+amoadd_wraps = refl
+
 -- ---- jumps: JALR x0, 0(x1), where only registers 0 and 1 are of interest
 
 with_x1 : ℕ → Memory → State
-with_x1 n m = state (record { pc = 0x10000; x = 0 ∷ n ∷ [] }) m
+with_x1 n m = state (record { pc = 0x10000; x = 0 ∷ n ∷ []; reservation = None }) m
 
 -- bit 0 is cleared
 jalr_odd : (m : Memory) → effect insn.Jalr 0x00008067 (with_x1 0x12345 m) ≡ goes_on (at 0x12344 (with_x1 0x12345 m).cpu) (with_x1 0x12345 m)

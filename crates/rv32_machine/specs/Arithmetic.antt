@@ -1,10 +1,12 @@
 -- What the instructions compute of two words. A word is a number below 2 ^ 32, and sums wrap there.
 -- RISC-V unprivileged manual, 2.4 Integer Computational Instructions, 2.5.2 Conditional Branches, and
--- the chapter on the extension M.
+-- the chapters on the extensions M and A.
 use Rattle.std.specs.Prelude.{ℕ, ◌+◌, ◌-◌, ◌*◌, ◌/◌, ◌%◌, ◌^◌, ◌==◌, nat_lt, nat_le, Bool, not, if◌then◌else◌, ℤ, pos, ◌*ℤ◌, int_lt, int_div, int_rem, bit_and, bit_or, bit_xor}
 use Rattle.std.specs.Int.{w32, w64, cast_signed, cast_unsigned, int_shr}
 use Rattle.rv32_machine.specs.declared.instruction.Operation.{Operation}
 use Rattle.rv32_machine.specs.declared.instruction.Operation.TheVariants.{Add, Sub, Sll, Slt, Sltu, Xor, Srl, Sra, Or, And, Mul, Mulh, Mulhsu, Mulhu, Div, Divu, Rem, Remu}
+use Rattle.rv32_machine.specs.declared.instruction.Amo.{Amo}
+use Rattle.rv32_machine.specs.declared.instruction.Amo.TheVariants.{AmoSwap, AmoAdd, AmoXor, AmoAnd, AmoOr, AmoMin, AmoMax, AmoMinu, AmoMaxu}
 use Rattle.rv32_machine.specs.declared.instruction.Branch.{Branch}
 use Rattle.rv32_machine.specs.declared.instruction.Branch.TheVariants.{Beq, Bne, Blt, Bge, Bltu, Bgeu}
 
@@ -56,3 +58,15 @@ is_taken Blt a b = int_lt (signed a) (signed b)
 is_taken Bge a b = not (int_lt (signed a) (signed b))
 is_taken Bltu a b = nat_lt a b
 is_taken Bgeu a b = nat_le b a
+
+-- the word that an atomic memory operation leaves: a is the word that stood there, b is rs2
+abbrev pub modified : Amo → ℕ → ℕ → ℕ
+modified AmoSwap a b = b
+modified AmoAdd a b = sum a b
+modified AmoXor a b = bit_xor a b
+modified AmoAnd a b = bit_and a b
+modified AmoOr a b = bit_or a b
+modified AmoMin a b = if int_lt (signed a) (signed b) then a else b
+modified AmoMax a b = if int_lt (signed a) (signed b) then b else a
+modified AmoMinu a b = if nat_lt a b then a else b
+modified AmoMaxu a b = if nat_lt a b then b else a

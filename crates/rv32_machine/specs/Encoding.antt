@@ -1,7 +1,7 @@
 -- Which instruction a word is, or none. RISC-V unprivileged manual, the chapter RV32/64G Instruction
--- Set Listings: the tables of RV32I, of RV32M and of Zifencei.
+-- Set Listings: the tables of RV32I, of RV32M, of RV32A and of Zifencei.
 use Rattle.std.specs.Prelude.{ℕ, ◌==◌, if◌then◌else◌, Option, None, Some, option_map}
-use Rattle.rv32_machine.specs.Word.{opcode, funct3, funct7}
+use Rattle.rv32_machine.specs.Word.{opcode, funct3, funct5, funct7, rs2}
 use Rattle.rv32_machine.specs.declared.instruction.Insn.{Insn}
 use Rattle.rv32_machine.specs.declared.instruction.Insn.TheVariants as insn
 use Rattle.rv32_machine.specs.declared.instruction.Branch.{Branch}
@@ -10,6 +10,8 @@ use Rattle.rv32_machine.specs.declared.instruction.Load.{Load}
 use Rattle.rv32_machine.specs.declared.instruction.Load.TheVariants.{Lb, Lh, Lw, Lbu, Lhu}
 use Rattle.rv32_machine.specs.declared.instruction.Store.{Store}
 use Rattle.rv32_machine.specs.declared.instruction.Store.TheVariants.{Sb, Sh, Sw}
+use Rattle.rv32_machine.specs.declared.instruction.Amo.{Amo}
+use Rattle.rv32_machine.specs.declared.instruction.Amo.TheVariants.{AmoSwap, AmoAdd, AmoXor, AmoAnd, AmoOr, AmoMin, AmoMax, AmoMinu, AmoMaxu}
 use Rattle.rv32_machine.specs.declared.instruction.Operation.{Operation}
 use Rattle.rv32_machine.specs.declared.instruction.Operation.TheVariants.{Add, Sub, Sll, Slt, Sltu, Xor, Srl, Sra, Or, And, Mul, Mulh, Mulhsu, Mulhu, Div, Divu, Rem, Remu}
 
@@ -107,6 +109,27 @@ system_of word =
     else if word == 0x00100073 then Some insn.Ebreak
     else None
 
+-- opcode AMO with the width of a word, by funct5: the operations
+abbrev pub amo_of : ℕ → Option Amo
+amo_of f5 =
+    if f5 == 0x00 then Some AmoAdd
+    else if f5 == 0x01 then Some AmoSwap
+    else if f5 == 0x04 then Some AmoXor
+    else if f5 == 0x08 then Some AmoOr
+    else if f5 == 0x0c then Some AmoAnd
+    else if f5 == 0x10 then Some AmoMin
+    else if f5 == 0x14 then Some AmoMax
+    else if f5 == 0x18 then Some AmoMinu
+    else if f5 == 0x1c then Some AmoMaxu
+    else None
+
+-- opcode AMO with the width of a word, by funct5, for LR.W also by rs2; the bits aq and rl are left aside
+abbrev pub atomic_of : ℕ → ℕ → Option Insn
+atomic_of f5 r2 =
+    if f5 == 0x02 then (if r2 == 0 then Some insn.LrW else None)
+    else if f5 == 0x03 then Some insn.ScW
+    else option_map insn.Amo (amo_of f5)
+
 abbrev pub decoded : ℕ → Option Insn
 decoded word =
     if opcode word == 0x37 then Some insn.Lui
@@ -120,4 +143,5 @@ decoded word =
     else if opcode word == 0x33 then option_map insn.Register (register_of (funct3 word) (funct7 word))
     else if opcode word == 0x0f then fence_of (funct3 word)
     else if opcode word == 0x73 then system_of word
+    else if opcode word == 0x2f then (if funct3 word == 2 then atomic_of (funct5 word) (rs2 word) else None)
     else None

@@ -1,26 +1,27 @@
 -- The table of instructions: what each makes of the registers and the memory. A row an instruction, in the
--- order of the RISC-V unprivileged manual, 2.4 to 2.8; `value` and `is_taken` have the rows of the
--- operations and the branches.
-use Rattle.std.specs.Prelude.{ℕ, ◌*◌, ◌/◌, ◌%◌, ◌^◌, ◌==◌, Bool, if◌then◌else◌, Option, None, Some, slice_index, slice_set}
+-- order of the RISC-V unprivileged manual, 2.4 to 2.8 and the extension A; `value`, `is_taken` and `modified` have
+-- the rows of the operations, the branches and the atomic memory operations.
+use Rattle.std.specs.Prelude.{ℕ, ◌*◌, ◌/◌, ◌%◌, ◌^◌, ◌==◌, Bool, false, if◌then◌else◌, Option, None, Some, slice_index, slice_set}
 use Rattle.std.specs.Option.{option_map}
 use Rattle.sim_base.specs.declared.signal.Signal.{Signal}
 use Rattle.sim_base.specs.declared.signal.Signal.TheVariants.{SigIll, SigTrap, SigBus, SigSegv}
 use Rattle.guest_mem.specs.Memory.{Memory, load, store}
 use Rattle.guest_mem.specs.declared.right.Right.TheVariants as right
-use Rattle.rv32_machine.specs.Word.{rd, rs1, rs2, sign_extended, i_immediate, s_immediate, b_immediate, u_immediate, j_immediate}
-use Rattle.rv32_machine.specs.Arithmetic.{sum, value, is_taken}
+use Rattle.rv32_machine.specs.Word.{rd, rs1, rs2, sign_extended, i_immediate, s_immediate, b_immediate, u_immediate, j_immediate, is_aligned}
+use Rattle.rv32_machine.specs.Arithmetic.{sum, value, is_taken, modified}
 use Rattle.rv32_machine.specs.Encoding.{decoded}
 use Rattle.rv32_machine.specs.declared.cpu.Cpu.{Cpu}
 use Rattle.rv32_machine.specs.declared.outcome.Outcome.{Outcome}
 use Rattle.rv32_machine.specs.declared.outcome.Outcome.TheVariants as outcome
 use Rattle.rv32_machine.specs.declared.instruction.Insn.{Insn}
-use Rattle.rv32_machine.specs.declared.instruction.Insn.TheVariants.{Lui, Auipc, Jal, Jalr, Branch, Load, Store, Immediate, Register, Fence, FenceI, Ecall, Ebreak}
+use Rattle.rv32_machine.specs.declared.instruction.Insn.TheVariants.{Lui, Auipc, Jal, Jalr, Branch, Load, Store, Immediate, Register, Fence, FenceI, Ecall, Ebreak, LrW, ScW, Amo}
+use Rattle.rv32_machine.specs.declared.instruction.Amo.{Amo as AmoKind}
 use Rattle.rv32_machine.specs.declared.instruction.Load.{Load as LoadKind}
 use Rattle.rv32_machine.specs.declared.instruction.Load.TheVariants.{Lb, Lh, Lw, Lbu, Lhu}
 use Rattle.rv32_machine.specs.declared.instruction.Store.{Store as StoreKind}
 use Rattle.rv32_machine.specs.declared.instruction.Store.TheVariants.{Sb, Sh, Sw}
 
--- the registers and the memory
+-- the registers with the reservation, and the memory
 pub record State : Type 0 where
   pub cpu : Cpu
   pub memory : Memory
@@ -77,9 +78,6 @@ computes word n s = goes_on (advanced (sets word n s.cpu)) s
 
 -- 2.5: instructions stand at multiples of 4; for a jump or a taken branch to any other target this project's own
 -- profile has SIGBUS
-abbrev pub is_aligned : ℕ → Bool
-is_aligned target = target % 4 == 0
-
 abbrev pub jumps : ℕ → Cpu → State → After
 jumps target cpu s = if is_aligned target then goes_on (at target cpu) s else traps SigBus s
 
@@ -107,6 +105,46 @@ abbrev pub store_ends : Option Memory → State → After
 store_ends None s = traps SigSegv s
 store_ends (Some m) s = goes_on (advanced s.cpu) (record s { memory = m })
 
+-- ---- the extension A: this project's own profile has SIGBUS for an address that isn't a multiple of 4, and after that
+-- SIGSEGV for one that isn't mapped with the rights. A trap leaves the reservation as it was
+
+-- whether the address is the reserved one
+abbrev pub is_at : ℕ → Option ℕ → Bool
+is_at address None = false
+is_at address (Some reserved) = reserved == address
+
+abbrev pub is_reserved : ℕ → Cpu → Bool
+is_reserved address cpu = is_at address cpu.reservation
+
+-- the reservation is this one from now on
+abbrev pub with_reservation : Option ℕ → Cpu → Cpu
+with_reservation reserved cpu = record cpu { reservation = reserved }
+
+abbrev pub where_aligned : ℕ → After → State → After
+where_aligned address a s = if is_aligned address then a else traps SigBus s
+
+-- LR.W: rd is the word, and its address is reserved
+abbrev pub reserves : Option ℕ → ℕ → State → After
+reserves None word s = traps SigSegv s
+reserves (Some n) word s = goes_on (advanced (sets word n (with_reservation (Some (source1 word s)) s.cpu))) s
+
+-- SC.W: rd is 0 where the word was stored and 1 where it wasn't, and the reservation ends either way
+abbrev pub answers : ℕ → ℕ → State → After
+answers n word s = computes word n (record s { cpu = with_reservation None s.cpu })
+
+abbrev pub conditional_ends : Option Memory → ℕ → State → After
+conditional_ends None word s = traps SigSegv s
+conditional_ends (Some m) word s = answers 0 word (record s { memory = m })
+
+-- an atomic memory operation: rd is the word that stood there
+abbrev pub modify_ends : Option Memory → ℕ → ℕ → State → After
+modify_ends None old word s = traps SigSegv s
+modify_ends (Some m) old word s = computes word old (record s { memory = m })
+
+abbrev pub modifies : Option ℕ → AmoKind → ℕ → State → After
+modifies None amo word s = traps SigSegv s
+modifies (Some old) amo word s = modify_ends (store 4 s.memory (source1 word s) (modified amo old (source2 word s))) old word s
+
 -- ---- the table
 
 abbrev pub effect : Insn → ℕ → State → After
@@ -128,8 +166,14 @@ effect (Store kind) word s = store_ends (stored kind s.memory (sum (source1 word
 effect Fence word s = goes_on (advanced s.cpu) s
 effect FenceI word s = goes_on (advanced s.cpu) s
 -- 2.8 Environment Call and Breakpoints
-effect Ecall word s = record (goes_on (advanced s.cpu) s) { outcome = outcome.Call }
+effect Ecall word s = record (goes_on (advanced (with_reservation None s.cpu)) s) { outcome = outcome.Call }
 effect Ebreak word s = traps SigTrap s
+-- the extension A
+effect LrW word s = where_aligned (source1 word s) (reserves (load right.Read 4 s.memory (source1 word s)) word s) s
+effect ScW word s =
+    where_aligned (source1 word s)
+    (if is_reserved (source1 word s) s.cpu then conditional_ends (store 4 s.memory (source1 word s) (source2 word s)) word s else answers 1 word s) s
+effect (Amo amo) word s = where_aligned (source1 word s) (modifies (load right.Read 4 s.memory (source1 word s)) amo word s) s
 
 -- ---- one instruction
 

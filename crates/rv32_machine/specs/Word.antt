@@ -1,6 +1,6 @@
 -- Words of 32 bits as numbers: their fields, and the immediates that are built from them.
 -- RISC-V unprivileged manual, 2.2 Base Instruction Formats and 2.3 Immediate Encoding Variants.
-use Rattle.std.specs.Prelude.{ℕ, ◌+◌, ◌-◌, ◌*◌, ◌/◌, ◌%◌, ◌^◌, nat_lt, if◌then◌else◌}
+use Rattle.std.specs.Prelude.{ℕ, ◌+◌, ◌-◌, ◌*◌, ◌/◌, ◌%◌, ◌^◌, ◌==◌, Bool, nat_lt, if◌then◌else◌}
 
 -- inst[high:low]
 abbrev pub bits : ℕ → ℕ → ℕ → ℕ
@@ -25,6 +25,14 @@ rs2 word = bits word 24 20
 
 abbrev pub funct7 : ℕ → ℕ
 funct7 word = bits word 31 25
+
+-- in the chapter on the extension A
+abbrev pub funct5 : ℕ → ℕ
+funct5 word = bits word 31 27
+
+-- whether the address is that of a word
+abbrev pub is_aligned : ℕ → Bool
+is_aligned address = address % 4 == 0
 
 -- ---- 2.3: the immediates, each as the word that it stands for
 

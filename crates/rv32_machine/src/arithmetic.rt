@@ -1,12 +1,12 @@
 //! What the instructions compute of two words.
 //!
 //! RISC-V unprivileged manual, 2.4 Integer Computational Instructions, 2.5.2 Conditional Branches,
-//! and the chapter on the extension M.
+//! and the chapters on the extensions M and A.
 
 ghost use Rattle.std.specs.Prelude.{◌≡◌, ◌*◌, ◌/◌, ◌%◌, ◌^◌, ℤ, pos, ◌*ℤ◌};
-ghost use Rattle.rv32_machine.specs.Arithmetic.{value, is_taken, signed, upper_word};
+ghost use Rattle.rv32_machine.specs.Arithmetic.{value, is_taken, modified, signed, upper_word};
 
-use crate::instruction::{Branch, Operation};
+use crate::instruction::{Amo, Branch, Operation};
 
 /// What the operation puts into rd, of rs1 and the second operand.
 #[inline(always)]
@@ -112,5 +112,30 @@ pub fn is_taken(branch: Branch, a: u32, b: u32) -> bool
         Branch::Bge => a.cast_signed() >= b.cast_signed(),
         Branch::Bltu => a < b,
         Branch::Bgeu => a >= b,
+    }
+}
+
+/// The word that the atomic memory operation leaves, of the word that stood there and rs2.
+pub fn modified(amo: Amo, old: u32, b: u32) -> u32
+    ensures { result ≡ modified amo old b }
+{
+    match amo {
+        Amo::AmoSwap => b,
+        Amo::AmoAdd => old.wrapping_add(b),
+        Amo::AmoXor => old ^ b,
+        Amo::AmoAnd => old & b,
+        Amo::AmoOr => old | b,
+        Amo::AmoMin => if old.cast_signed() < b.cast_signed() {
+            old
+        } else {
+            b
+        },
+        Amo::AmoMax => if old.cast_signed() < b.cast_signed() {
+            b
+        } else {
+            old
+        },
+        Amo::AmoMinu => if old < b { old } else { b },
+        Amo::AmoMaxu => if old < b { b } else { old },
     }
 }

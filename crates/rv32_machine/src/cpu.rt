@@ -2,17 +2,21 @@
 
 ghost use Rattle.std.specs.Prelude.{◌≡◌, ◌<◌};
 
-/// The registers of a guest.
+use crate::word::rd;
+
+/// The registers of a guest, and its reservation.
 #[derive(Clone, Copy, Debug, PartialEq, Eq)]
 pub struct Cpu {
     /// The address of the next instruction.
     pub pc: u32,
     /// The registers by number. Register 0 reads 0, whatever stands in its place, and takes nothing.
     pub x: [u32; 32],
+    /// The address that `LR.W` reserved last, until an `SC.W` or `ECALL`.
+    pub reservation: Option<u32>,
 }
 
 impl Cpu {
-    ghost use Rattle.rv32_machine.specs.Table.{register, with_register};
+    ghost use Rattle.rv32_machine.specs.Table.{register, with_register, is_reserved, advanced, sets};
 
     pub(crate) fn register(&self, number: usize) -> u32
         requires { number < 32 }
@@ -28,5 +32,26 @@ impl Cpu {
         if number != 0 {
             self.x[number] = value;
         }
+    }
+
+    pub(crate) fn is_reserved(&self, address: u32) -> bool
+        ensures { result ≡ is_reserved address self.now }
+    {
+        self.reservation == Some(address)
+    }
+
+    /// The next instruction follows.
+    pub(crate) fn go_on(&mut self)
+        ensures { self.new ≡ advanced self.old }
+    {
+        self.pc = self.pc.wrapping_add(4);
+    }
+
+    /// The word's rd is `n`, and the next instruction follows.
+    pub(crate) fn compute(&mut self, word: u32, n: u32)
+        ensures { self.new ≡ advanced (sets word n self.old) }
+    {
+        self.set_register(rd(word), n);
+        self.go_on();
     }
 }

@@ -3,12 +3,12 @@
 //! RISC-V unprivileged manual, the chapter RV32/64G Instruction Set Listings.
 
 ghost use Rattle.std.specs.Prelude.{◌≡◌, ◌<◌};
-ghost use Rattle.rv32_machine.specs.Encoding.{branch_of, load_of, store_of, immediate_of, base_of, multiply_of, subtract_of, register_of, fence_of, system_of, decoded};
+ghost use Rattle.rv32_machine.specs.Encoding.{branch_of, load_of, store_of, immediate_of, base_of, multiply_of, subtract_of, register_of, fence_of, system_of, amo_of, atomic_of, decoded};
 
-use crate::instruction::{Branch, Insn, Load, Operation, Store};
-use crate::word::{funct3, funct7, opcode};
+use crate::instruction::{Amo, Branch, Insn, Load, Operation, Store};
+use crate::word::{funct3, funct5, funct7, opcode, rs2};
 
-/// The instruction that the word is, or `None` where it is none of RV32I, M and Zifencei.
+/// The instruction that the word is, or `None` where it is none of RV32I, M, A and Zifencei.
 // Inlined into the one loop that runs it, so that no `Insn` is made at run time.
 #[inline(always)]
 pub fn decode(word: u32) -> Option<Insn>
@@ -29,6 +29,10 @@ pub fn decode(word: u32) -> Option<Insn>
         0x33 => Some(Insn::Register(register_of(funct3(word), funct7(word))?)),
         0x0f => fence_of(funct3(word)),
         0x73 => system_of(word),
+        0x2f => match funct3(word) {
+            2 => atomic_of(funct5(word), rs2(word)),
+            _ => None,
+        },
         _ => None,
     }
 }
@@ -160,6 +164,36 @@ fn system_of(word: u32) -> Option<Insn>
     match word {
         0x0000_0073 => Some(Insn::Ecall),
         0x0010_0073 => Some(Insn::Ebreak),
+        _ => None,
+    }
+}
+
+fn atomic_of(funct5: u32, rs2: usize) -> Option<Insn>
+    ensures { result ≡ atomic_of funct5 rs2 }
+{
+    match funct5 {
+        0x02 => match rs2 {
+            0 => Some(Insn::LrW),
+            _ => None,
+        },
+        0x03 => Some(Insn::ScW),
+        _ => Some(Insn::Amo(amo_of(funct5)?)),
+    }
+}
+
+fn amo_of(funct5: u32) -> Option<Amo>
+    ensures { result ≡ amo_of funct5 }
+{
+    match funct5 {
+        0x00 => Some(Amo::AmoAdd),
+        0x01 => Some(Amo::AmoSwap),
+        0x04 => Some(Amo::AmoXor),
+        0x08 => Some(Amo::AmoOr),
+        0x0c => Some(Amo::AmoAnd),
+        0x10 => Some(Amo::AmoMin),
+        0x14 => Some(Amo::AmoMax),
+        0x18 => Some(Amo::AmoMinu),
+        0x1c => Some(Amo::AmoMaxu),
         _ => None,
     }
 }

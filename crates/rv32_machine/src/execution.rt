@@ -2,27 +2,36 @@
 
 ghost use Rattle.std.specs.Prelude.{◌≡◌, Some, None, MatchResult, OnOk, OnErr};
 ghost use Rattle.guest_mem.specs.Memory.{Memory};
-ghost use Rattle.rv32_machine.specs.Table.{insn, effect, state, after, traps, advanced, is_aligned, jumps, sets, following, loaded, stored};
+ghost use Rattle.rv32_machine.specs.Table.{insn, effect, state, after, jumps, sets, following, loaded, stored};
 
 use crate::arithmetic::{is_taken, value};
+use crate::atomics::{load_reserved, modify, store_conditional};
 use crate::cpu::Cpu;
 use crate::encoding::decode;
 use crate::instruction::{Insn, Load, Store};
 use crate::outcome::Outcome;
 use crate::word::{
-    b_immediate, byte_extended, half_extended, i_immediate, j_immediate, rd, rs1, rs2, s_immediate,
-    u_immediate,
+    b_immediate, byte_extended, half_extended, i_immediate, is_aligned, j_immediate, rd, rs1, rs2,
+    s_immediate, u_immediate,
 };
-use guest_mem::{Bad, Mem};
+use guest_mem::{Bad, FetchHint, Mem};
 use sim_base::Signal;
 
 /// Runs the instruction at the program counter.
-#[tactic(auto, unfolding(crate::specs::Table::insn))]
-#[inline(always)]
 pub fn step(cpu: &mut Cpu, mem: &mut Mem) -> Outcome
     ensures { insn (state cpu.old mem.old) ≡ after cpu.new mem.new result }
 {
-    match mem.fetch(cpu.pc) {
+    let mut hint = FetchHint::new();
+    step_on(cpu, mem, &mut hint)
+}
+
+/// The same after other steps, which left a hint of where the instruction is.
+#[tactic(auto, unfolding(crate::specs::Table::insn))]
+#[inline(always)]
+pub(crate) fn step_on(cpu: &mut Cpu, mem: &mut Mem, hint: &mut FetchHint) -> Outcome
+    ensures { insn (state cpu.old mem.old) ≡ after cpu.new mem.new result }
+{
+    match mem.fetch(cpu.pc, hint) {
         Ok(word) => match decode(word) {
             Some(insn) => execute(insn, word, cpu, mem),
             None => Outcome::Trap(Signal::SigIll),
@@ -38,21 +47,21 @@ fn execute(insn: Insn, word: u32, cpu: &mut Cpu, mem: &mut Mem) -> Outcome
     match insn {
         Insn::Immediate(operation) => {
             let n = value(operation, cpu.register(rs1(word)), i_immediate(word));
-            compute(cpu, word, n);
+            cpu.compute(word, n);
             Outcome::Next
         }
         Insn::Lui => {
-            compute(cpu, word, u_immediate(word));
+            cpu.compute(word, u_immediate(word));
             Outcome::Next
         }
         Insn::Auipc => {
             let n = cpu.pc.wrapping_add(u_immediate(word));
-            compute(cpu, word, n);
+            cpu.compute(word, n);
             Outcome::Next
         }
         Insn::Register(operation) => {
             let n = value(operation, cpu.register(rs1(word)), cpu.register(rs2(word)));
-            compute(cpu, word, n);
+            cpu.compute(word, n);
             Outcome::Next
         }
         Insn::Jal => {
@@ -68,7 +77,7 @@ fn execute(insn: Insn, word: u32, cpu: &mut Cpu, mem: &mut Mem) -> Outcome
                 let target = cpu.pc.wrapping_add(b_immediate(word));
                 jump(cpu, target)
             } else {
-                go_on(cpu);
+                cpu.go_on();
                 Outcome::Next
             }
         }
@@ -76,7 +85,7 @@ fn execute(insn: Insn, word: u32, cpu: &mut Cpu, mem: &mut Mem) -> Outcome
             let address = cpu.register(rs1(word)).wrapping_add(i_immediate(word));
             match load(kind, mem, address) {
                 Ok(n) => {
-                    compute(cpu, word, n);
+                    cpu.compute(word, n);
                     Outcome::Next
                 }
                 Err(_) => Outcome::Trap(Signal::SigSegv),
@@ -86,42 +95,26 @@ fn execute(insn: Insn, word: u32, cpu: &mut Cpu, mem: &mut Mem) -> Outcome
             let address = cpu.register(rs1(word)).wrapping_add(s_immediate(word));
             match store(kind, mem, address, cpu.register(rs2(word))) {
                 Ok(()) => {
-                    go_on(cpu);
+                    cpu.go_on();
                     Outcome::Next
                 }
                 Err(_) => Outcome::Trap(Signal::SigSegv),
             }
         }
         Insn::Fence | Insn::FenceI => {
-            go_on(cpu);
+            cpu.go_on();
             Outcome::Next
         }
         Insn::Ecall => {
-            go_on(cpu);
+            cpu.reservation = None;
+            cpu.go_on();
             Outcome::Call
         }
         Insn::Ebreak => Outcome::Trap(Signal::SigTrap),
+        Insn::LrW => load_reserved(word, cpu, mem),
+        Insn::ScW => store_conditional(word, cpu, mem),
+        Insn::Amo(amo) => modify(amo, word, cpu, mem),
     }
-}
-
-fn go_on(cpu: &mut Cpu)
-    ensures { cpu.new ≡ advanced cpu.old }
-{
-    cpu.pc = cpu.pc.wrapping_add(4);
-}
-
-fn compute(cpu: &mut Cpu, word: u32, n: u32)
-    ensures { cpu.new ≡ advanced (sets word n cpu.old) }
-{
-    cpu.set_register(rd(word), n);
-    go_on(cpu);
-}
-
-// This project's own profile: a target that isn't a multiple of 4 is refused at the jump.
-fn is_aligned(target: u32) -> bool
-    ensures { result ≡ is_aligned target }
-{
-    target % 4 == 0
 }
 
 fn jump(cpu: &mut Cpu, target: u32) -> Outcome

@@ -1,6 +1,6 @@
 //! The instructions by the manual's names. Their operands stay in the word.
 
-/// An instruction of RV32I, of the extension M or of Zifencei, without its operands.
+/// An instruction of RV32I, of the extensions M and A or of Zifencei, without its operands.
 #[derive(Clone, Copy, Debug, PartialEq, Eq)]
 pub enum Insn {
     Lui,
@@ -18,6 +18,9 @@ pub enum Insn {
     FenceI,
     Ecall,
     Ebreak,
+    LrW,
+    ScW,
+    Amo(Amo),
 }
 
 /// The conditional branches, opcode BRANCH.
@@ -47,6 +50,20 @@ pub enum Store {
     Sb,
     Sh,
     Sw,
+}
+
+/// The atomic memory operations, opcode AMO with the width of a word.
+#[derive(Clone, Copy, Debug, PartialEq, Eq)]
+pub enum Amo {
+    AmoSwap,
+    AmoAdd,
+    AmoXor,
+    AmoAnd,
+    AmoOr,
+    AmoMin,
+    AmoMax,
+    AmoMinu,
+    AmoMaxu,
 }
 
 /// What the opcodes OP-IMM and OP compute of two words.

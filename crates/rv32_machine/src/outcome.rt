@@ -9,7 +9,7 @@ pub enum Outcome {
     Next,
     /// It was `ECALL`. The program counter stands behind it.
     Call,
-    /// It may not run: the state is as it was before it.
+    /// It traps: the state is as it was before it.
     Trap(Signal),
 }
 
@@ -18,7 +18,7 @@ pub enum Outcome {
 pub enum TurnEnd {
     /// An instruction was `ECALL`. The program counter stands behind it.
     Call,
-    /// An instruction may not run: the state is as it was before it.
+    /// An instruction traps: the state is as it was before it.
     Trap(Signal),
     /// The budget ran, and no instruction called or trapped.
     Spent,

@@ -128,16 +128,21 @@ const ROWS: [Row; 11] = [
     },
 ];
 
-fn file(alloc: Global, words: &[u32; 8]) -> Result<Vec<u8>, AllocError> {
-    let mut bytes = Vec::from_slice(alloc, &HEADER)?;
+// where the header gives the segment's rights: 1 to execute, 2 to write, 4 to read
+const RIGHTS: usize = 76;
+
+fn file(alloc: Global, rights: u8, words: &[u32; 8]) -> Result<Vec<u8>, AllocError> {
+    let mut header = HEADER;
+    header[RIGHTS] = rights;
+    let mut bytes = Vec::from_slice(alloc, &header)?;
     for word in words {
         bytes.extend_from_slice(&word.to_le_bytes())?;
     }
     Ok(bytes)
 }
 
-fn memory(alloc: Global, words: &[u32; 8]) -> Result<Mem, Fail> {
-    let bytes = file(alloc, words)?;
+pub(crate) fn memory(alloc: Global, rights: u8, words: &[u32; 8]) -> Result<Mem, Fail> {
+    let bytes = file(alloc, rights, words)?;
     let image = load(alloc, &bytes)?;
     Ok(Mem::from_image(alloc, &image)?)
 }
@@ -146,6 +151,7 @@ fn start() -> Cpu {
     Cpu {
         pc: 0x10000,
         x: [0; 32],
+        reservation: None,
     }
 }
 
@@ -158,14 +164,14 @@ fn counted<L: Ledger>(cpu: &mut Cpu, mem: &mut Mem, budget: u64, blank: Blank) -
     turn(cpu, mem, budget, &mut steps)
 }
 
-fn ran(cpu: &mut Cpu, mem: &mut Mem, budget: u64) -> TurnEnd {
+pub(crate) fn ran(cpu: &mut Cpu, mem: &mut Mem, budget: u64) -> TurnEnd {
     counted::<Brand>(cpu, mem, budget, Blank::new(1))
 }
 
 #[test]
 fn turns_end_as_the_rows_say(rt: HostRuntime) -> Result<(), Fail> {
     for row in &ROWS {
-        let mut mem = memory(rt.alloc(), &row.words)?;
+        let mut mem = memory(rt.alloc(), 7, &row.words)?;
         let mut cpu = start();
         let end = ran(&mut cpu, &mut mem, row.budget);
         assert_eq!(rt; end, row.end);
@@ -178,7 +184,7 @@ fn turns_end_as_the_rows_say(rt: HostRuntime) -> Result<(), Fail> {
 #[test]
 fn one_instruction_runs(rt: HostRuntime) -> Result<(), Fail> {
     // ADDI x10, x0, 7
-    let mut mem = memory(rt.alloc(), &[0x00700513, 0, 0, 0, 0, 0, 0, 0])?;
+    let mut mem = memory(rt.alloc(), 7, &[0x00700513, 0, 0, 0, 0, 0, 0, 0])?;
     let mut cpu = start();
     let outcome = step(&mut cpu, &mut mem);
     assert_eq!(rt; outcome, Outcome::Next);

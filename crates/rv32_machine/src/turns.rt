@@ -5,10 +5,10 @@ ghost use Rattle.rv32_machine.specs.Table.{state};
 ghost use Rattle.rv32_machine.specs.Turn.{turn, IsTurn};
 
 use crate::cpu::Cpu;
-use crate::execution::step;
+use crate::execution::step_on;
 use crate::outcome::{Outcome, TurnEnd};
 use crate::steps::Steps;
-use guest_mem::Mem;
+use guest_mem::{FetchHint, Mem};
 use std::sync::ledger::Ledger;
 
 /// Runs instructions up to the first one that calls or traps, and at most `budget` of them. A budget of 0 is
@@ -22,9 +22,10 @@ pub fn turn<L: Ledger>(cpu: &mut Cpu, mem: &mut Mem, budget: u64, steps: &mut St
         (record { state = state cpu.new mem.new; end = result; ran = steps.new - steps.old }) }
     ensures within { steps.new ≤ steps.old + budget }
 {
+    let mut hint = FetchHint::new();
     for _ in 0..budget {
         steps.tick();
-        match step(cpu, mem) {
+        match step_on(cpu, mem, &mut hint) {
             Outcome::Next => {}
             Outcome::Call => return TurnEnd::Call,
             Outcome::Trap(signal) => return TurnEnd::Trap(signal),

@@ -3,7 +3,7 @@
 //! RISC-V unprivileged manual, 2.2 Base Instruction Formats and 2.3 Immediate Encoding Variants.
 
 ghost use Rattle.std.specs.Prelude.{◌≡◌, ◌<◌};
-ghost use Rattle.rv32_machine.specs.Word.{opcode, sign_extended, rd, funct3, rs1, rs2, funct7, i_immediate, s_immediate, b_immediate, u_immediate, j_immediate};
+ghost use Rattle.rv32_machine.specs.Word.{is_aligned, opcode, sign_extended, rd, funct3, rs1, rs2, funct7, funct5, i_immediate, s_immediate, b_immediate, u_immediate, j_immediate};
 
 pub fn opcode(word: u32) -> u32
     ensures value { result ≡ opcode word }
@@ -44,6 +44,12 @@ pub fn funct7(word: u32) -> u32
     word >> 25
 }
 
+pub fn funct5(word: u32) -> u32
+    ensures value { result ≡ funct5 word }
+{
+    word >> 27
+}
+
 pub fn i_immediate(word: u32) -> u32
     ensures { result ≡ i_immediate word }
 {
@@ -78,6 +84,13 @@ pub fn j_immediate(word: u32) -> u32
         + ((word >> 12 & 0xff) << 12u32)
         + ((word >> 20 & 0x1) << 11u32)
         + ((word >> 21 & 0x3ff) << 1u32)
+}
+
+/// Whether the address is that of a word. This project's own profile refuses a jump to any other, and an atomic access.
+pub fn is_aligned(address: u32) -> bool
+    ensures { result ≡ is_aligned address }
+{
+    address % 4 == 0
 }
 
 /// A byte as a signed number, as a word.

@@ -10,38 +10,38 @@ use Rattle.rv32_machine.proofs.turns.turn.Goals as goal
 pub returns-in-Call-clause-state : goal.returns-in-Call-clause-state
 returns-in-Call-clause-state g c =
     ap (λ (t : Turn). t.state)
-    (turn-whole _ _ _ _ _ _ outcome.Call end.Call c.loop-test.true c.loop.invariant.same (c.step.ensures ∙ ap (after _ _) c.in-Call.is) refl)
+    (turn-whole _ _ _ _ _ _ outcome.Call end.Call c.loop-test.true c.loop.invariant.same (c.step_on.ensures ∙ ap (after _ _) c.in-Call.is) refl)
 
 pub returns-in-Call-clause-end : goal.returns-in-Call-clause-end
 returns-in-Call-clause-end g c =
     ap (λ (t : Turn). t.end)
-    (turn-whole _ _ _ _ _ _ outcome.Call end.Call c.loop-test.true c.loop.invariant.same (c.step.ensures ∙ ap (after _ _) c.in-Call.is) refl)
+    (turn-whole _ _ _ _ _ _ outcome.Call end.Call c.loop-test.true c.loop.invariant.same (c.step_on.ensures ∙ ap (after _ _) c.in-Call.is) refl)
 
 pub returns-in-Call-clause-ledger : goal.returns-in-Call-clause-ledger
 returns-in-Call-clause-ledger g c =
     let whole = ap (λ (t : Turn). t.ran)
-    (turn-whole _ _ _ _ _ _ outcome.Call end.Call c.loop-test.true c.loop.invariant.same (c.step.ensures ∙ ap (after _ _) c.in-Call.is) refl) in
+    (turn-whole _ _ _ _ _ _ outcome.Call end.Call c.loop-test.true c.loop.invariant.same (c.step_on.ensures ∙ ap (after _ _) c.in-Call.is) refl) in
     omega (arith, whole)
 
 pub returns-in-Trap-clause-state : goal.returns-in-Trap-clause-state
 returns-in-Trap-clause-state g c =
     ap (λ (t : Turn). t.state)
-    (turn-whole _ _ _ _ _ _ (outcome.Trap c.in-Trap.signal) (end.Trap c.in-Trap.signal) c.loop-test.true c.loop.invariant.same (c.step.ensures ∙ ap (after _ _) c.in-Trap.is) refl)
+    (turn-whole _ _ _ _ _ _ (outcome.Trap c.in-Trap.signal) (end.Trap c.in-Trap.signal) c.loop-test.true c.loop.invariant.same (c.step_on.ensures ∙ ap (after _ _) c.in-Trap.is) refl)
 
 pub returns-in-Trap-clause-end : goal.returns-in-Trap-clause-end
 returns-in-Trap-clause-end g c =
     ap (λ (t : Turn). t.end)
-    (turn-whole _ _ _ _ _ _ (outcome.Trap c.in-Trap.signal) (end.Trap c.in-Trap.signal) c.loop-test.true c.loop.invariant.same (c.step.ensures ∙ ap (after _ _) c.in-Trap.is) refl)
+    (turn-whole _ _ _ _ _ _ (outcome.Trap c.in-Trap.signal) (end.Trap c.in-Trap.signal) c.loop-test.true c.loop.invariant.same (c.step_on.ensures ∙ ap (after _ _) c.in-Trap.is) refl)
 
 pub returns-in-Trap-clause-ledger : goal.returns-in-Trap-clause-ledger
 returns-in-Trap-clause-ledger g c =
     let whole = ap (λ (t : Turn). t.ran)
-    (turn-whole _ _ _ _ _ _ (outcome.Trap c.in-Trap.signal) (end.Trap c.in-Trap.signal) c.loop-test.true c.loop.invariant.same (c.step.ensures ∙ ap (after _ _) c.in-Trap.is) refl) in
+    (turn-whole _ _ _ _ _ _ (outcome.Trap c.in-Trap.signal) (end.Trap c.in-Trap.signal) c.loop-test.true c.loop.invariant.same (c.step_on.ensures ∙ ap (after _ _) c.in-Trap.is) refl) in
     omega (arith, whole)
 
 pub loop-preserved : goal.loop-preserved
 loop-preserved g c = record {
-  same = c.loop.invariant.same ∙ turn-next _ _ _ _ _ c.loop-test.true (c.step.ensures ∙ ap (after _ _) c.in-Next.is);
+  same = c.loop.invariant.same ∙ turn-next _ _ _ _ _ c.loop-test.true (c.step_on.ensures ∙ ap (after _ _) c.in-Next.is);
   counted = omega arith;
 }
 
@@ -59,13 +59,13 @@ returns-clause-ledger g c =
 pub returns-in-Call-clause-least : goal.returns-in-Call-clause-least
 returns-in-Call-clause-least g c =
     turn_as _ _ _ _
-    (turn-whole _ _ _ _ _ _ outcome.Call end.Call c.loop-test.true c.loop.invariant.same (c.step.ensures ∙ ap (after _ _) c.in-Call.is) refl)
+    (turn-whole _ _ _ _ _ _ outcome.Call end.Call c.loop-test.true c.loop.invariant.same (c.step_on.ensures ∙ ap (after _ _) c.in-Call.is) refl)
     (omega arith)
 
 pub returns-in-Trap-clause-least : goal.returns-in-Trap-clause-least
 returns-in-Trap-clause-least g c =
     turn_as _ _ _ _
-    (turn-whole _ _ _ _ _ _ (outcome.Trap c.in-Trap.signal) (end.Trap c.in-Trap.signal) c.loop-test.true c.loop.invariant.same (c.step.ensures ∙ ap (after _ _) c.in-Trap.is) refl)
+    (turn-whole _ _ _ _ _ _ (outcome.Trap c.in-Trap.signal) (end.Trap c.in-Trap.signal) c.loop-test.true c.loop.invariant.same (c.step_on.ensures ∙ ap (after _ _) c.in-Trap.is) refl)
     (omega arith)
 
 pub returns-clause-least : goal.returns-clause-least

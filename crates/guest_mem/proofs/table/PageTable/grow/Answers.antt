@@ -1,7 +1,8 @@
-use Rattle.std.proofs.Common.{◌≡◌, ℕ, ◌+◌, ◌-◌, List, ◌++◌, length, sym, ap, ◌∙◌, arith, subst}
+use Rattle.std.proofs.Common.{◌≡◌, ℕ, ◌+◌, ◌-◌, List, ◌++◌, length, take, sym, ap, ◌∙◌, arith, subst}
+use Rattle.std.proofs.lemmas.List.{map-append, take-append-le}
 use Rattle.guest_mem.specs.PageIndex.{place_in}
 use Rattle.guest_mem.specs.PageStore.{shown}
-use Rattle.guest_mem.specs.Pages.{GuestPage, IsPageTable, mapped_cells, numbers, zero_pages}
+use Rattle.guest_mem.specs.Pages.{GuestPage, AreKnown, IsPageTable, mapped_cells, numbers, zero_pages}
 use Rattle.guest_mem.proofs.HeapLemmas.{table-with_zeros, place_of-above, cells-grown, zero_pages-are}
 use Rattle.guest_mem.proofs.SlotLemmas.{length-numbers}
 use Rattle.guest_mem.proofs.table.PageTable.grow.Goals as goal
@@ -28,4 +29,10 @@ invariant_of-self-2 c =
     let is : shown c.push_zeros.new.self ≡ ps ++ zero_pages end c.args.count =
     c.push_zeros.ensures.pushed ∙ ap (λ (qs : List GuestPage). qs ++ zero_pages (t.heap + (c.len.result - t.fixed)) c.args.count) c.in_ok-reserve.ensures.same
     ∙ ap (λ (n : ℕ). ps ++ zero_pages (t.heap + (n - t.fixed)) c.args.count) (c.len.ensures ∙ sym same) in
-    record { sound = table-with_zeros (place_in t.index) ps (shown c.push_zeros.new.self) t.fixed t.heap c.args.count is t.sound (omega (arith, c.requires.low, same)) }
+    let front : take t.fixed (numbers (shown c.push_zeros.new.self)) ≡ take t.fixed (numbers ps) =
+    ap (λ (qs : List GuestPage). take t.fixed (numbers qs)) is ∙ ap (take t.fixed) (map-append (λ (p : GuestPage). p.number) ps (zero_pages end c.args.count))
+    ∙ take-append-le t.fixed (numbers ps) (numbers (zero_pages end c.args.count)) t.sound.fixed_in in
+    record {
+      sound = table-with_zeros (place_in t.index) ps (shown c.push_zeros.new.self) t.fixed t.heap c.args.count is t.sound (omega (arith, c.requires.low, same));
+      known_sound = subst (λ (ns : List ℕ). AreKnown (place_in t.index) ns t.known) (sym front) t.known_sound;
+    }

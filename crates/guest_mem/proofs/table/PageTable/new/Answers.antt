@@ -1,7 +1,8 @@
-use Rattle.std.proofs.Common.{◌≡◌, ℕ, List, sym, ap, ◌∙◌, arith}
+use Rattle.std.proofs.Common.{◌≡◌, ℕ, List, length, take, sym, ap, subst, ◌∙◌, arith}
+use Rattle.std.proofs.lemmas.List.{take_all}
 use Rattle.guest_mem.specs.PageIndex.{place_in}
 use Rattle.guest_mem.specs.PageStore.{shown}
-use Rattle.guest_mem.specs.Pages.{numbers, place_of}
+use Rattle.guest_mem.specs.Pages.{AreKnown, numbers, place_of}
 use Rattle.guest_mem.specs.Slots.{entry_numbers}
 use Rattle.guest_mem.proofs.HeapLemmas.{table-new}
 use Rattle.guest_mem.proofs.SlotLemmas.{length-numbers, numbers-entries}
@@ -9,7 +10,12 @@ use Rattle.guest_mem.proofs.table.PageTable.new.Goals as goal
 
 pub invariant_of-result : goal.invariant_of-result
 invariant_of-result c =
+    let ns : List ℕ = numbers (shown c.args.pages) in
+    let long : c.len-fixed.result ≡ length ns = c.len-fixed.ensures ∙ sym (length-numbers c.args.pages) in
+    let listed : entry_numbers c.entries-entries.result.now ≡ ns = ap entry_numbers c.entries-entries.ensures ∙ sym (numbers-entries c.args.pages) in
     record {
-      sound = table-new (place_in c.in_ok-index.index) (numbers (shown c.args.pages)) c.len-fixed.result c.args.heap (c.len-fixed.ensures ∙ sym (length-numbers c.args.pages))
-          (λ n l. c.in_ok-index.ensures n l ∙ ap (λ es. place_of (entry_numbers es) n) c.entries.ensures ∙ ap (λ (ns : List ℕ). place_of ns n) (sym (numbers-entries c.args.pages))) c.requires.apart c.requires.bounded;
+      sound = table-new (place_in c.in_ok-index.index) ns c.len-fixed.result c.args.heap long
+          (λ n l. c.in_ok-index.ensures n l ∙ ap (λ (ms : List ℕ). place_of ms n) listed) c.requires.apart c.requires.bounded;
+      known_sound = subst (λ (ms : List ℕ). AreKnown (place_in c.in_ok-index.index) ms c.known_places-known.result)
+          (listed ∙ sym (take_all c.len-fixed.result ns (omega (arith, long)))) c.known_places-known.ensures;
     }

@@ -1,9 +1,9 @@
-use Rattle.std.proofs.Common.{◌≡◌, ℕ, ◌/◌, ◌%◌, ◌<◌, true, false, List, length, get_or, set, Some, None, refl, sym, ap, ◌∙◌, arith, subst}
+use Rattle.std.proofs.Common.{◌≡◌, ℕ, ◌/◌, ◌%◌, ◌<◌, true, false, List, length, get_or, set, take, Some, None, refl, sym, ap, ◌∙◌, arith, subst}
 use Rattle.guest_mem.specs.declared.right.Right.TheVariants.{Write}
 use Rattle.guest_mem.specs.Memory.{permits}
 use Rattle.guest_mem.specs.PageIndex.{place_in}
 use Rattle.guest_mem.specs.PageStore.{shown}
-use Rattle.guest_mem.specs.Pages.{GuestPage, IsPageTable, IsRewritten, numbers, place_of, mapped_cells}
+use Rattle.guest_mem.specs.Pages.{GuestPage, AreKnown, IsPageTable, IsRewritten, numbers, place_of, mapped_cells}
 use Rattle.guest_mem.proofs.PageLemmas.{place_of-in, within-some, within-denied, within-none, numbers-put, cells-put}
 use Rattle.guest_mem.proofs.SlotLemmas.{length-numbers, blank, length-shown_page, rewritten-set}
 use Rattle.guest_mem.proofs.table.PageTable.put_within.Goals as goal
@@ -44,7 +44,10 @@ invariant_of-self c =
     let found : place_of (numbers ps) (c.args.at / 4096) ≡ Some place = sym c.in-Some.ensures in
     let is : now ≡ set ps place (get_or now place d) = rewritten-set ps now place (c.args.at % 4096) c.args.bytes.now d c.write.ensures.written in
     let same : numbers now ≡ numbers ps = ap numbers is ∙ numbers-put ps (c.args.at / 4096) place (c.args.at % 4096) c.args.bytes.now (get_or now place d) d found (c.write.ensures.written.here d) in
-    record { sound = subst (λ (ns : List ℕ). IsPageTable (place_in t.index) ns t.fixed t.heap) (sym same) t.sound }
+    record {
+      sound = subst (λ (ns : List ℕ). IsPageTable (place_in t.index) ns t.fixed t.heap) (sym same) t.sound;
+      known_sound = subst (λ (ns : List ℕ). AreKnown (place_in t.index) (take t.fixed ns) t.known) (sym same) t.known_sound;
+    }
 
 pub returns-clause-put : goal.returns-clause-put
 returns-clause-put c =

@@ -1,8 +1,8 @@
 use Rattle.std.proofs.Common.{◌≡◌, ℕ, ◌+◌, ◌-◌, ◌*◌, ◌≤◌, List, length, take, sym, ap, ◌∙◌, arith, vec_len, subst}
-use Rattle.std.proofs.lemmas.List.{take-map}
+use Rattle.std.proofs.lemmas.List.{take-map, take-take}
 use Rattle.guest_mem.specs.Break.{without}
 use Rattle.guest_mem.specs.PageIndex.{place_in}
-use Rattle.guest_mem.specs.Pages.{mapped_cells, GuestPage, IsPageTable, numbers}
+use Rattle.guest_mem.specs.Pages.{mapped_cells, GuestPage, AreKnown, IsPageTable, numbers}
 use Rattle.guest_mem.proofs.HeapLemmas.{table-shrunk, cells-shrunk}
 use Rattle.guest_mem.specs.PageStore.{shown}
 use Rattle.guest_mem.proofs.SlotLemmas.{length-numbers, length-shown}
@@ -15,7 +15,10 @@ invariant_of-self c =
     let k : ℕ = c.len.result - c.args.count in
     let fixed_in : t.fixed ≤ length (numbers ps) = t.sound.fixed_in in
     let kept : numbers (shown c.truncate.new.self) ≡ take k (numbers ps) = ap numbers c.truncate.ensures.shown ∙ sym (take-map (λ (p : GuestPage). p.number) k ps) in
+    let above : t.fixed ≤ k = omega (arith, c.requires, c.len.ensures, length-numbers t.pages) in
+    let front : take t.fixed (numbers (shown c.truncate.new.self)) ≡ take t.fixed (numbers ps) = ap (take t.fixed) kept ∙ take-take t.fixed k (numbers ps) above in
     record {
+      known_sound = subst (λ (ns : List ℕ). AreKnown (place_in t.index) ns t.known) (sym front) t.known_sound;
       sound = subst (λ (ns : List ℕ). IsPageTable (place_in t.index) ns t.fixed t.heap) (sym kept)
           (table-shrunk (place_in t.index) (numbers ps) t.fixed t.heap t.sound k (omega (arith, c.requires, c.len.ensures, length-numbers t.pages)) (omega (arith, c.len.ensures, length-numbers t.pages)));
     }

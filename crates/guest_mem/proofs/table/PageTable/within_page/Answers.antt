@@ -1,34 +1,34 @@
-use Rattle.std.proofs.Common.{◌≡◌, ◌+◌, ◌-◌, ◌/◌, ◌%◌, ◌<◌, true, false, List, length, get_or, take, drop, Some, None, sym, ap, ◌∙◌, arith}
+use Rattle.std.proofs.Common.{◌≡◌, ◌/◌, ◌<◌, true, false, List, get_or, Some, None, sym, ap, ◌∙◌, arith}
 use Rattle.guest_mem.specs.Memory.{permits}
 use Rattle.guest_mem.specs.PageStore.{shown}
 use Rattle.guest_mem.specs.Pages.{GuestPage, numbers, place_of}
 use Rattle.guest_mem.proofs.PageLemmas.{place_of-in, within-some, within-denied, within-none}
 use Rattle.guest_mem.proofs.SlotLemmas.{length-numbers, blank, length-shown_page}
-use Rattle.guest_mem.proofs.table.PageTable.within.Goals as goal
+use Rattle.guest_mem.proofs.table.PageTable.within_page.Goals as goal
 
-pub returns-in_err-place-clause-found : goal.returns-in_err-place-clause-found
-returns-in_err-place-clause-found c =
+pub returns-in_default-clause-found : goal.returns-in_default-clause-found
+returns-in_default-clause-found c =
     let ps : List GuestPage = shown c.args.self.now.pages in
-    let none : place_of (numbers ps) (c.args.at / 4096) ≡ None = sym c.in_err-place.ensures in
-    rw c.from_residual.ensures (within-none c.args.right ps c.args.at c.args.len c.requires.some none)
+    let none : place_of (numbers ps) (c.args.at / 4096) ≡ None = sym c.requires.there ∙ c.in_default.is in
+    within-none c.args.right ps c.args.at c.args.len c.requires.some none
 
 pub rights-requires : goal.rights-requires
 rights-requires c =
     let ps : List GuestPage = shown c.args.self.now.pages in
-    let found : place_of (numbers ps) (c.args.at / 4096) ≡ Some c.in_ok-place.place = sym c.in_ok-place.ensures in
-    omega (arith, (place_of-in (numbers ps) (c.args.at / 4096) c.in_ok-place.place found).0, length-numbers c.args.self.now.pages)
+    let found : place_of (numbers ps) (c.args.at / 4096) ≡ Some c.in-Some.place = sym c.requires.there ∙ c.in-Some.is in
+    omega (arith, (place_of-in (numbers ps) (c.args.at / 4096) c.in-Some.place found).0, length-numbers c.args.self.now.pages)
 
 pub part-requires-clause-place : goal.part-requires-clause-place
 part-requires-clause-place c =
     let ps : List GuestPage = shown c.args.self.now.pages in
-    let found : place_of (numbers ps) (c.args.at / 4096) ≡ Some c.in_ok-place.place = sym c.in_ok-place.ensures in
-    omega (arith, (place_of-in (numbers ps) (c.args.at / 4096) c.in_ok-place.place found).0, length-numbers c.args.self.now.pages)
+    let found : place_of (numbers ps) (c.args.at / 4096) ≡ Some c.in-Some.place = sym c.requires.there ∙ c.in-Some.is in
+    omega (arith, (place_of-in (numbers ps) (c.args.at / 4096) c.in-Some.place found).0, length-numbers c.args.self.now.pages)
 
 pub returns-then-is_among-clause-found : goal.returns-then-is_among-clause-found
 returns-then-is_among-clause-found c =
     let ps : List GuestPage = shown c.args.self.now.pages in
-    let place = c.in_ok-place.place in
-    let found : place_of (numbers ps) (c.args.at / 4096) ≡ Some place = sym c.in_ok-place.ensures in
+    let place = c.in-Some.place in
+    let found : place_of (numbers ps) (c.args.at / 4096) ≡ Some place = sym c.requires.there ∙ c.in-Some.is in
     let within : place < c.args.self.now.pages.count = omega (arith, (place_of-in (numbers ps) (c.args.at / 4096) place found).0, length-numbers c.args.self.now.pages) in
     let page : GuestPage = blank in
     let may : permits c.args.right (get_or ps place page).rights ≡ true = ap (permits c.args.right) (sym (c.rights.ensures page)) ∙ sym c.if-is_among.ensures in
@@ -38,8 +38,8 @@ returns-then-is_among-clause-found c =
 pub returns-else-is_among-clause-found : goal.returns-else-is_among-clause-found
 returns-else-is_among-clause-found c =
     let ps : List GuestPage = shown c.args.self.now.pages in
-    let place = c.in_ok-place.place in
-    let found : place_of (numbers ps) (c.args.at / 4096) ≡ Some place = sym c.in_ok-place.ensures in
+    let place = c.in-Some.place in
+    let found : place_of (numbers ps) (c.args.at / 4096) ≡ Some place = sym c.requires.there ∙ c.in-Some.is in
     let page : GuestPage = blank in
     let may_not : permits c.args.right (get_or ps place page).rights ≡ false = ap (permits c.args.right) (sym (c.rights.ensures page)) ∙ sym c.if-is_among.ensures in
     within-denied c.args.right ps c.args.at place c.args.len page c.requires.some found may_not
