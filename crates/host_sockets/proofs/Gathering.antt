@@ -8,7 +8,7 @@ drop_at [] place x e = cc
 drop_at {A} (y ∷ xs) zero x e = let same : y ≡ x = cc in ap (λ (z : A). z ∷ xs) same
 drop_at (y ∷ xs) (suc place) x e = drop_at xs place x e
 
-drop_past : {A : Type 0} (xs : List A) (place : ℕ) → length xs ≤ place → drop place xs ≡ []
+pub drop_past : {A : Type 0} (xs : List A) (place : ℕ) → length xs ≤ place → drop place xs ≡ []
 drop_past [] zero b = refl
 drop_past [] (suc place) b = refl
 drop_past (x ∷ xs) zero b = absurd (omega arith)

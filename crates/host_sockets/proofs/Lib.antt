@@ -24,3 +24,8 @@ pub mod LivePairs
 pub mod HistoryPairs
 pub mod Sources
 pub mod HistoryKeeps
+pub mod Indexed
+pub mod EndsFound
+pub mod Turning
+pub mod FirstAmong
+pub mod AnyPlace

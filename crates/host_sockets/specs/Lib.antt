@@ -15,7 +15,10 @@ pub mod Arriving
 pub mod Alarms
 pub mod Ready
 pub mod Names
+pub mod SocketsStand
+pub mod Ends
 pub mod StandsFor
+pub mod Indexing
 pub mod Waiting
 pub mod Histories
 pub mod Pairs

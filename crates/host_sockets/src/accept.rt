@@ -107,6 +107,7 @@ impl Sockets {
         if k >= self.tcp.len() {
             return None;
         }
+        self.turn_to(k);
         let sock = &mut self.tcp[k];
         sock.take_conn()
     }

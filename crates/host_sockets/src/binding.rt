@@ -110,6 +110,7 @@ impl Sockets {
         if k >= self.tcp.len() {
             return;
         }
+        self.turn_to(k);
         let sock = &mut self.tcp[k];
         sock.bind(at);
     }
@@ -156,6 +157,7 @@ impl Sockets {
             return;
         }
         let alloc = self.alloc();
+        self.turn_to(k);
         let sock = &mut self.tcp[k];
         sock.listen(alloc, at, backlog);
     }

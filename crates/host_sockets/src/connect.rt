@@ -27,6 +27,7 @@ impl Sockets {
         if k >= self.tcp.len() {
             return Ok(());
         }
+        self.turn_to(k);
         let sock = &mut self.tcp[k];
         sock.take_error(outlet, now, k)?;
         Ok(())
@@ -100,6 +101,7 @@ impl Sockets {
         if k >= self.tcp.len() {
             return Ok(());
         }
+        self.turn_to(k);
         let sock = &mut self.tcp[k];
         sock.open(outlet, now, k, own, other)?;
         Ok(())

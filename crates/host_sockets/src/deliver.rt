@@ -4,7 +4,7 @@ ghost use Rattle.std.specs.Prelude.{◌≡◌};
 ghost use Rattle.sock_tcp.specs.listener.Listen.{asks_in, load_header};
 
 use crate::outlet::Outlet;
-use crate::slots::{Sought, place_in};
+use crate::slots::Sought;
 use crate::sockets::Sockets;
 use crate::turned::place_of;
 use sim_base::{Act, Load, NoMemory, ObjectId, Packet, Time};
@@ -40,11 +40,11 @@ impl Sockets {
     ghost use Rattle.host_sockets.specs.StandsFor.{Stand, Leaves, Delivers};
 
     /// The number of the first TCP socket that is looked for.
-    fn place_of(&self, sought: Sought) -> Option<usize>
+    pub(crate) fn place_of(&self, sought: Sought) -> Option<usize>
         ensures place { (t : SocketsRecord) → Stand self.now t → result ≡ position (is_sought sought) t.tcp }
         ensures within { IfSome result (λ place. place < length self.now.tcp.items) }
     {
-        place_in(self.tcp.as_slice(), sought)
+        self.index.place_of(self.tcp.as_slice(), sought)
     }
 
     /// The connection of the socket with a number takes a segment.
@@ -61,6 +61,7 @@ impl Sockets {
         if k >= self.tcp.len() {
             return Ok(());
         }
+        self.turn_to(k);
         let sock = &mut self.tcp[k];
         sock.arrive(outlet, now, k, packet)?;
         Ok(())
@@ -80,6 +81,7 @@ impl Sockets {
         if k >= self.tcp.len() {
             return Ok(());
         }
+        self.turn_to(k);
         let sock = &mut self.tcp[k];
         sock.hear(outlet, now, k, packet)?;
         Ok(())
@@ -193,6 +195,7 @@ impl Sockets {
         if k >= self.tcp.len() {
             return Ok(());
         }
+        self.turn_to(k);
         let sock = &mut self.tcp[k];
         sock.expire(outlet, now, k, serial)?;
         Ok(())

@@ -51,6 +51,7 @@ impl Sockets {
         if k >= self.tcp.len() {
             return Ok(0);
         }
+        self.turn_to(k);
         let sock = &mut self.tcp[k];
         let count = sock.write(outlet, now, k, bytes)?;
         Ok(count)
@@ -144,6 +145,7 @@ impl Sockets {
         if k >= self.tcp.len() {
             return Ok(Bytes::new(self.alloc()));
         }
+        self.turn_to(k);
         let sock = &mut self.tcp[k];
         let bytes = sock.read(outlet, now, k, count)?;
         Ok(bytes)
@@ -225,6 +227,7 @@ impl Sockets {
         if k >= self.tcp.len() {
             return Ok(());
         }
+        self.turn_to(k);
         let sock = &mut self.tcp[k];
         sock.shut(outlet, now, k, how)?;
         Ok(())
@@ -260,6 +263,7 @@ impl Sockets {
         if k >= self.tcp.len() {
             return Ok(());
         }
+        self.turn_to(k);
         let sock = &mut self.tcp[k];
         sock.close(outlet, now, k)?;
         Ok(())

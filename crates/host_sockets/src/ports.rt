@@ -1,6 +1,7 @@
 //! The ends that the sockets of a host have.
 
 use crate::error::{CallError, Refusal};
+use crate::slots::Sought;
 use crate::sockets::Sockets;
 use crate::tcp_sock::TcpSock;
 use sim_base::{Addr, Errno, Ip, NoMemory, at_free_port};
@@ -9,13 +10,6 @@ impl TcpSock {
     ghost use Rattle.std.specs.Prelude.{◌≡◌, ◌||◌, ◌++◌, OnOk};
     ghost use Rattle.host_sockets.specs.TcpSocket.{TcpSocket, has_record, keeps_record, bound_end, record_end, ends_of};
     ghost use Rattle.host_sockets.specs.StandsFor.{SocketStands};
-
-    /// Whether it has the live connection of two ends, or its listener keeps it.
-    fn has_pair(&self, own: Addr, other: Addr) -> bool
-        ensures { (s : TcpSocket) → SocketStands self.now s → result ≡ (has_record own other s || keeps_record own other s) }
-    {
-        self.has_record(own, other) || self.keeps_record(own, other)
-    }
 
     /// Adds the end that it is bound to, if it is.
     fn add_bound(&self, ends: &mut Vec<Addr>) -> Result<(), NoMemory>
@@ -57,12 +51,8 @@ impl Sockets {
     pub(crate) fn has_pair(&self, own: Addr, other: Addr) -> bool
         ensures { (t : SocketsRecord) → Stand self.now t → result ≡ has_pair own other t }
     {
-        for sock in &self.tcp {
-            if sock.has_pair(own, other) {
-                return true;
-            }
-        }
-        false
+        self.place_of(Sought::Record { own, other }).is_some()
+            || self.place_of(Sought::Keeper { own, other }).is_some()
     }
 
     /// The ends that TCP sockets are bound to.

@@ -1,5 +1,9 @@
 //! The sockets of a host.
 
+ghost use Rattle.std.proofs.Props.{props};
+ghost use Rattle.host_sockets.specs.Indexing.{Indexes};
+
+use crate::index::Index;
 use crate::slots::{Sought, place_in};
 use crate::tcp_sock::TcpSock;
 use sim_base::{Ip, NoMemory};
@@ -13,10 +17,12 @@ pub struct Sockets {
     pub(crate) own: Ip,
     pub(crate) udp: Vec<Option<UdpSock>>,
     pub(crate) tcp: Vec<TcpSock>,
+    pub(crate) index: Index,
+    ghost indexed: { Indexes index tcp.items } by { Prim.hlevel props },
 }
 
 impl Sockets {
-    ghost use Rattle.std.specs.Prelude.{◌≡◌, IfOk, OnOk};
+    ghost use Rattle.std.specs.Prelude.{◌≡◌, ◌<◌, ◌≤◌, ℕ, length, IfOk, OnOk};
     ghost use Rattle.host_sockets.specs.TcpSocket.{TcpSocket};
     ghost use Rattle.host_sockets.specs.Sockets.{SocketsRecord, no_sockets, put_at, tcp_place, put_tcp, new_tcp};
     ghost use Rattle.host_sockets.specs.StandsFor.{SocketStands, Stand};
@@ -29,6 +35,7 @@ impl Sockets {
             own,
             udp: Vec::new(alloc),
             tcp: Vec::new(alloc),
+            index: Index::new(alloc),
         }
     }
 
@@ -43,11 +50,43 @@ impl Sockets {
         *self.tcp.allocator()
     }
 
+    /// The TCP socket with a number acts from now on.
+    pub(crate) fn turn_to(&mut self, k: usize)
+        ensures own { self.new.own ≡ self.old.own }
+        ensures udp { self.new.udp ≡ self.old.udp }
+        ensures tcp { self.new.tcp ≡ self.old.tcp }
+        ensures acts { self.new.index.last ≡ k }
+        ensures stands { (t : SocketsRecord) → Stand self.old t → Stand self.new t }
+    {
+        self.index.turn_to(self.tcp.as_slice(), k);
+    }
+
     /// The least number that a new TCP socket may take.
     fn tcp_place(&self) -> usize
         ensures { (t : SocketsRecord) → Stand self.now t → result ≡ tcp_place t }
     {
         place_in(self.tcp.as_slice(), Sought::Free).unwrap_or(self.tcp.len())
+    }
+
+    /// Puts a TCP socket at a place of the list.
+    fn set_tcp(&mut self, place: usize, sock: TcpSock)
+        requires { place < length self.old.tcp.items }
+        ensures { (t : SocketsRecord) (s : TcpSocket) → Stand self.old t → SocketStands sock s
+            → Stand self.new (record t { tcp = put_at place s t.tcp }) }
+    {
+        self.turn_to(place);
+        self.tcp[place] = sock;
+    }
+
+    /// Puts a TCP socket behind the list.
+    fn push_tcp(&mut self, sock: TcpSock) -> Result<(), NoMemory>
+        ensures { OnOk result ((t : SocketsRecord) (s : TcpSocket) (place : ℕ) → length self.old.tcp.items ≤ place → Stand self.old t → SocketStands sock s
+            → Stand self.new (record t { tcp = put_at place s t.tcp })) }
+    {
+        let behind = self.tcp.len();
+        self.turn_to(behind);
+        self.tcp.push(sock)?;
+        Ok(())
     }
 
     /// Puts a TCP socket at a place of the list, or behind it.
@@ -56,10 +95,10 @@ impl Sockets {
             → Stand self.new (record t { tcp = put_at place s t.tcp })) }
     {
         if place < self.tcp.len() {
-            self.tcp[place] = sock;
+            self.set_tcp(place, sock);
             return Ok(());
         }
-        self.tcp.push(sock)?;
+        self.push_tcp(sock)?;
         Ok(())
     }
 
