@@ -1,6 +1,8 @@
 //! Connections of a host with itself.
 
-use super::Step::{self, Acts, Answers, Call, Ends, Has, Idle, Loops, Put, Waits};
+use super::stage::Step::{
+    self, Acts, Answers, At, Call, Ends, GiveUp, Has, Loops, Put, Rings, Waits,
+};
 use super::{
     ANY_7000, LOCAL_0, LOCAL_7000, LOCAL_10000, NOWHERE_0, OTHER_FAMILY, OWN_0, OWN_7000,
     STRANGER_7000,
@@ -8,7 +10,7 @@ use super::{
 use sim_base::{Signal, State};
 
 /// A listener at 127.0.0.1, port 7000, and what connects to it.
-pub(super) static CONNECTIONS: [Step; 157] = [
+pub(super) static CONNECTIONS: [Step; 158] = [
     Put(0x10000, &LOCAL_7000),
     Put(0x10010, &OTHER_FAMILY),
     Put(0x10020, &NOWHERE_0),
@@ -58,13 +60,12 @@ pub(super) static CONNECTIONS: [Step; 157] = [
     Call(201, [3, 0xFFFF_FFFF, 0, 0, 0, 0], 0),
     Waits(414, [0x10400, 1, 0, 0, 0, 0], None),
     Answers(false),
-    Call(172, [0; 6], 1000),
+    GiveUp,
     Call(202, [3, 0x10310, 1, 0, 0, 0], -14),
     Call(202, [3, 0x30000, 0x10300, 0, 0, 0], -14),
     Waits(202, [3, 0, 1, 0, 0, 0], None),
     Answers(false),
-    Call(202, [3, 0x10310, 1, 0, 0, 0], -14),
-    Idle,
+    GiveUp,
     Call(203, [3, 0x10010, 16, 0, 0, 0], -97),
     Call(203, [3, 0x10020, 16, 0, 0, 0], -95),
     Call(206, [3, 0x10100, 1, 0, 0, 0], -107),
@@ -151,6 +152,7 @@ pub(super) static CONNECTIONS: [Step; 157] = [
     Call(207, [5, 0x10200, 9, 0x40, 0, 0], -11),
     Waits(207, [5, 0x10200, 9, 0x4000, 0, 0], None),
     Answers(false),
+    GiveUp,
     // A send buffer holds 65,535 bytes.
     Call(64, [4, 0x12000, 65_537, 0, 0, 0], 65_535),
     Call(64, [4, 0, 1, 0, 0, 0], -14),
@@ -172,6 +174,7 @@ pub(super) static CONNECTIONS: [Step; 157] = [
     Call(207, [4, 0, 9, 0, 0, 0], -14),
     Call(207, [4, 0x10200, 9, 0, 0x10310, 1], -14),
     Call(206, [4, 0x10100, 1, 0, 0x10020, 16], -101),
+    Call(206, [4, 0x10100, 1, 0, 0x10050, 16], -22),
     Call(207, [4, 0x10200, 9, 0, 0, 0], -104),
     Call(207, [4, 0x10200, 9, 0, 0, 0], 0),
     Call(203, [4, 0x10020, 16, 0, 0, 0], -106),
@@ -185,7 +188,7 @@ pub(super) static CONNECTIONS: [Step; 157] = [
 ];
 
 /// Connections that are refused, halves that are closed, and a pair that is taken.
-pub(super) static ENDS: [Step; 80] = [
+pub(super) static ENDS: [Step; 81] = [
     Put(0x10000, &LOCAL_7000),
     Put(0x10020, &NOWHERE_0),
     Put(0x10040, &LOCAL_0),
@@ -250,6 +253,7 @@ pub(super) static ENDS: [Step; 80] = [
     Call(63, [5, 0x10200, 9, 0, 0, 0], 0),
     Waits(63, [4, 0x10200, 9, 0, 0, 0], None),
     Answers(false),
+    GiveUp,
     // Reading that was ended has nothing to wait for.
     Call(210, [4, 0, 0, 0, 0, 0], 0),
     Call(63, [4, 0x10200, 9, 0, 0, 0], 0),
@@ -282,4 +286,53 @@ pub(super) static ENDS: [Step; 80] = [
         [1, 0x10100, 1, 0, 0, 0],
         State::Signaled(Signal::SigPipe),
     ),
+];
+
+/// A connect whose SYN is dropped, first and again, since the listener's queue is full. It is made
+/// again once there is room.
+pub(super) static SILENCE: [Step; 44] = [
+    Put(0x10000, &LOCAL_7000),
+    Call(198, [2, 1, 0, 0, 0, 0], 3),
+    Call(200, [3, 0x10000, 16, 0, 0, 0], 0),
+    Call(201, [3, 1, 0, 0, 0, 0], 0),
+    Call(198, [2, 1 + 2048, 0, 0, 0, 0], 4),
+    Call(203, [4, 0x10000, 16, 0, 0, 0], -115),
+    Loops(3),
+    Call(198, [2, 1, 0, 0, 0, 0], 5),
+    Waits(203, [5, 0x10000, 16, 0, 0, 0], None),
+    Acts(40, 1, 0, 0),
+    At(999_999_999),
+    Rings,
+    Acts(0, 0, 0, 0),
+    At(1_000_000_000),
+    Rings,
+    Acts(40, 1, 0, 0),
+    At(3_000_000_000),
+    Rings,
+    Acts(40, 1, 0, 0),
+    At(7_000_000_000),
+    Rings,
+    Acts(40, 1, 0, 0),
+    At(15_000_000_000),
+    Rings,
+    Acts(40, 1, 0, 0),
+    At(31_000_000_000),
+    Rings,
+    Acts(40, 1, 0, 0),
+    At(63_000_000_000),
+    Rings,
+    Acts(40, 1, 0, 0),
+    At(122_999_999_999),
+    Rings,
+    Answers(false),
+    At(123_000_000_000),
+    Rings,
+    Acts(0, 0, 0, 0),
+    Answers(true),
+    Call(203, [5, 0x10000, 16, 0, 0, 0], -110),
+    Call(202, [3, 0, 0, 0, 0, 0], 6),
+    Waits(203, [5, 0x10000, 16, 0, 0, 0], None),
+    Loops(3),
+    Call(203, [5, 0x10000, 16, 0, 0, 0], 0),
+    Call(202, [3, 0, 0, 0, 0, 0], 7),
 ];

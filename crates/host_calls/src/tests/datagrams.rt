@@ -1,11 +1,11 @@
 //! Sockets of every kind: addresses, options, and datagrams over 127.0.0.1.
 
-use super::Step::{self, Acts, Answers, Call, Has, Idle, Loops, Put, Repeat, Waits};
+use super::stage::Step::{self, Acts, Answers, Call, GiveUp, Has, Loops, Put, Repeat, Waits};
 use super::{
     ANY_7000, LOCAL_0, LOCAL_7000, NOWHERE_0, OTHER_FAMILY, OWN_0, OWN_7000, STRANGER_7000,
 };
 
-pub(super) static DATAGRAMS: [Step; 195] = [
+pub(super) static DATAGRAMS: [Step; 196] = [
     Put(0x10000, &LOCAL_7000),
     Put(0x10010, &OTHER_FAMILY),
     Put(0x10020, &NOWHERE_0),
@@ -96,9 +96,10 @@ pub(super) static DATAGRAMS: [Step; 195] = [
     Call(207, [3, 0x10200, 9, 0, 1, 0], -11),
     Waits(207, [4, 0x10200, 9, 0x4000, 0, 0], None),
     Answers(false),
+    GiveUp,
     Call(207, [4, 0x10200, 9, 0x40, 0, 0], -11),
-    Idle,
     Waits(63, [4, 0x10200, 9, 0, 0, 0], None),
+    GiveUp,
     Call(63, [4, 0, 9, 0, 0, 0], -14),
     Acts(33, 1, 0, 0),
     // It is cut at 4 bytes. The address of its sender at lengths 0, 15, 16 and 17.

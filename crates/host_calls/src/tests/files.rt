@@ -1,10 +1,10 @@
 //! Files, pipes and descriptors.
 
-use super::Step::{self, Answers, Call, Ends, Has, Idle, Put, Repeat, Waits};
+use super::stage::Step::{self, Answers, Call, Ends, GiveUp, Has, Put, Repeat, Waits};
 use sim_base::{Signal, State};
 
 /// The first process ends by SIGPIPE; what it does then has none of its descriptors.
-pub(super) static FILES: [Step; 119] = [
+pub(super) static FILES: [Step; 121] = [
     // A descriptor that is free, and a command that there isn't.
     Call(25, [7, 5, 0, 0, 0, 0], -9),
     Call(25, [256, 5, 0, 0, 0, 0], -9),
@@ -71,8 +71,8 @@ pub(super) static FILES: [Step; 119] = [
     Put(0x10400, &[5, 0, 0, 0, 5, 0, 9, 9]),
     Waits(414, [0x10400, 1, 0, 0, 0, 0], None),
     Answers(false),
+    GiveUp,
     Call(63, [4, 0x10300, 10, 0, 0, 0], 10),
-    Idle,
     Call(414, [0x10400, 1, 0, 0, 0, 0], 1),
     Has(0x10400, &[5, 0, 0, 0, 5, 0, 4, 0]),
     Call(64, [5, 0x10000, 65_536, 0, 0, 0], 10),
@@ -107,13 +107,15 @@ pub(super) static FILES: [Step; 119] = [
     Call(414, [0x10400, 1, 0, 0, 0, 0], 1),
     Has(0x10406, &[16, 0]),
     Call(63, [4, 0x10000, 1, 0, 0, 0], 0),
-    // A pipe that waits: one refused call, and nothing is kept.
+    // A pipe that waits.
     Call(59, [0x10200, 0x80000, 0, 0, 0, 0], 0),
     Has(0x10200, &[5, 0, 0, 0, 6, 0, 0, 0]),
     Waits(63, [5, 0x10000, 1, 0, 0, 0], None),
     Answers(false),
-    Call(63, [9, 0x10000, 1, 0, 0, 0], -9),
-    Idle,
+    GiveUp,
+    Waits(63, [5, 0x10000, 0, 0, 0, 0], None),
+    Answers(false),
+    GiveUp,
     // What each kind of file is ready for.
     Put(
         0x10400,

@@ -1,9 +1,9 @@
 //! The id, the break, random bytes, polls, numbers that no call has.
 
-use super::Step::{self, Answers, At, Call, Close, Ends, Has, Idle, Put, Waits};
+use super::stage::Step::{self, Answers, At, Call, Close, Ends, GiveUp, Has, Put, Waits};
 use sim_base::State;
 
-pub(super) static OTHERS: [Step; 71] = [
+pub(super) static OTHERS: [Step; 70] = [
     Call(172, [0; 6], 1000),
     Call(173, [0; 6], -38),
     Call(0, [0; 6], -38),
@@ -88,8 +88,7 @@ pub(super) static OTHERS: [Step; 71] = [
     Waits(414, [0x10100, 1, 0, 0, 0, 0], None),
     Answers(false),
     Has(0x10106, &[9, 9]),
-    Call(414, [0, 257, 0, 0, 0, 0], -22),
-    Idle,
+    GiveUp,
     Waits(414, [0x10100, 1, 0x10000, 0, 0, 0], Some(10)),
     At(10),
     Call(414, [0x10100, 1, 0x10000, 0, 0, 0], 0),

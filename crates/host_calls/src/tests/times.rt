@@ -1,6 +1,6 @@
 //! Clocks, sleeps and timers.
 
-use super::Step::{self, Answers, At, Call, Has, Idle, Put, Waits};
+use super::stage::Step::{self, Answers, At, Call, GiveUp, Has, Idle, Put, Waits};
 
 /// Times in the guest's memory are `struct timespec`: seconds, then nanoseconds, 8 bytes each.
 pub(super) static TIMES: [Step; 58] = [
@@ -43,8 +43,7 @@ pub(super) static TIMES: [Step; 58] = [
     Call(407, [0, 1, 0x10040, 0, 0, 0], -22),
     Put(0x10028, &[0xFF, 0xC9, 0x9A, 0x3B, 0, 0, 0, 0]),
     Waits(407, [1, 0, 0x10020, 0x30000, 0, 0], Some(999_999_999)),
-    Call(172, [0; 6], 1000),
-    Idle,
+    GiveUp,
     Put(0x10028, &[0; 8]),
     Call(407, [1, 0, 0x10020, 0x30000, 0, 0], 0),
     Put(
@@ -54,10 +53,12 @@ pub(super) static TIMES: [Step; 58] = [
         ],
     ),
     Waits(407, [1, 0, 0x10040, 0, 0, 0], Some(1 << 62)),
-    Call(407, [2, 0, 0x10040, 0, 0, 0], -22),
-    Idle,
+    GiveUp,
     Waits(407, [0, 1, 0x10040, 0, 0, 0], Some(1 << 62)),
-    Call(173, [0; 6], -38),
+    // One that is made again and refused is kept no longer.
+    Put(0x10048, &[0xFF; 8]),
+    Answers(true),
+    Call(407, [0, 1, 0x10040, 0, 0, 0], -22),
     Idle,
     // Unix time before the simulation began, and a second behind its beginning.
     Put(
@@ -134,7 +135,7 @@ pub(super) static TIMERS: [Step; 86] = [
     Call(63, [3, 0x21FF8, 9, 0, 0, 0], -14),
     Waits(63, [3, 0x10300, 8, 0, 0, 0], None),
     Answers(false),
-    Call(172, [0; 6], 1000),
+    GiveUp,
     Waits(407, [1, 0, 0x10020, 0, 0, 0], Some(3_000_000)),
     At(3_000_001),
     Call(407, [1, 0, 0x10020, 0, 0, 0], 0),
