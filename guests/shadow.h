@@ -2,7 +2,8 @@
  *
  * The number of a call is in a7, its arguments are in a0 to a5, its answer comes in a0. There is no errno: a call that
  * is refused answers the negative error number, so `if (fd < 0)` is the test and `fd == -EMFILE` the cause.
- * docs/GUIDE.md has each call with its refusals in order. A call that isn't here answers -ENOSYS. */
+ * Above each call stand its refusals in the order in which they are tried; docs/GUIDE.md says when each applies. EFAULT
+ * is an argument in memory that may not be read or written. A call that isn't here answers -ENOSYS. */
 #ifndef SHADOW_H
 #define SHADOW_H
 
@@ -84,33 +85,38 @@ static inline long shadow_call(long number, long a, long b, long c)
 #define F_GETFL 3
 #define F_SETFL 4
 
+/* EBADF; EINVAL: another command. */
 static inline int fcntl(int fd, int command, long argument)
 {
     return shadow_call(25, fd, command, argument);
 }
 
-/* Opens "/etc/hosts", the one file that there is, to be read. */
+/* Opens "/etc/hosts", the one file that there is, to be read. EFAULT; EINVAL: no end within 4,096 bytes; ENOENT: another
+ * path; EACCES: not to be read alone; EMFILE. */
 static inline int openat(int directory, const char *path, int flags)
 {
     return shadow_call6(56, directory, (long)path, flags, 0, 0, 0);
 }
 
+/* EBADF. */
 static inline int close(int fd)
 {
     return shadow_call(57, fd, 0, 0);
 }
 
-/* Makes a pipe: ends[0] is read from, ends[1] is written to. */
+/* Makes a pipe: ends[0] is read from, ends[1] is written to. EINVAL: flags; EFAULT; EMFILE. */
 static inline int pipe2(int ends[2], int flags)
 {
     return shadow_call(59, (long)ends, flags, 0);
 }
 
+/* EBADF; EINVAL: a timer and a size below 8; EFAULT; EAGAIN. Of a socket: as recvfrom. */
 static inline ssize_t read(int fd, void *into, size_t size)
 {
     return shadow_call(63, fd, (long)into, (long)size);
 }
 
+/* EBADF; EINVAL: a timer; EFAULT; EAGAIN. A pipe without a reader ends the process by SIGPIPE. To a socket: as sendto. */
 static inline ssize_t write(int fd, const void *bytes, size_t size)
 {
     return shadow_call(64, fd, (long)bytes, (long)size);
@@ -140,6 +146,7 @@ static inline void *brk(void *to)
     return (void *)shadow_call(214, (long)to, 0, 0);
 }
 
+/* At most 256 bytes. EINVAL: flags above 3; EFAULT. */
 static inline ssize_t getrandom(void *into, size_t size, unsigned flags)
 {
     return shadow_call(278, (long)into, (long)size, (long)flags);
@@ -163,21 +170,25 @@ struct itimerspec {
 #define TFD_NONBLOCK O_NONBLOCK
 #define TFD_CLOEXEC O_CLOEXEC
 
+/* EINVAL; EFAULT. */
 static inline int clock_gettime(int clock, struct timespec *now)
 {
     return shadow_call(403, clock, (long)now, 0);
 }
 
+/* EINVAL: clock, flags; EFAULT; EINVAL: the time. */
 static inline int clock_nanosleep(int clock, int flags, const struct timespec *time, struct timespec *rest)
 {
     return shadow_call6(407, clock, flags, (long)time, (long)rest, 0, 0);
 }
 
+/* EINVAL: clock, flags; EMFILE. */
 static inline int timerfd_create(int clock, int flags)
 {
     return shadow_call(85, clock, flags, 0);
 }
 
+/* EBADF; EINVAL: no timer, flags; EFAULT; EINVAL: a time. */
 static inline int timerfd_settime(int fd, int flags, const struct itimerspec *time, struct itimerspec *old)
 {
     return shadow_call6(411, fd, flags, (long)time, (long)old, 0, 0);
@@ -196,7 +207,7 @@ struct pollfd {
     short revents;
 };
 
-/* A null time waits without limit. */
+/* A null time waits without limit. EINVAL: more than 256 entries; EFAULT; EINVAL: the time. */
 static inline int ppoll(struct pollfd *entries, unsigned count, const struct timespec *time)
 {
     return shadow_call6(414, (long)entries, (long)count, (long)time, 0, 0, 0);
@@ -248,41 +259,53 @@ static inline uint32_t htonl(uint32_t n)
 #define ntohs htons
 #define ntohl htonl
 
+/* EAFNOSUPPORT; EINVAL: the type; EPROTONOSUPPORT; EMFILE. */
 static inline int socket(int family, int type, int protocol)
 {
     return shadow_call(198, family, type, protocol);
 }
 
+/* EBADF; ENOTSOCK; EFAULT; EINVAL: the size, or it is bound; EAFNOSUPPORT; EADDRNOTAVAIL; EADDRINUSE. */
 static inline int bind(int fd, const struct sockaddr_in *at, socklen_t size)
 {
     return shadow_call(200, fd, (long)at, (long)size);
 }
 
+/* EBADF; ENOTSOCK; EOPNOTSUPP: UDP; EINVAL: connected or connecting; EADDRNOTAVAIL. */
 static inline int listen(int fd, int backlog)
 {
     return shadow_call(201, fd, backlog, 0);
 }
 
+/* EBADF; ENOTSOCK; EOPNOTSUPP: UDP; EINVAL: it doesn't listen; EFAULT; EMFILE; EAGAIN. */
 static inline int accept(int fd, struct sockaddr_in *peer, socklen_t *size)
 {
     return shadow_call(202, fd, (long)peer, (long)size);
 }
 
+/* EBADF; ENOTSOCK; EFAULT; EINVAL: the size; EAFNOSUPPORT; TCP: EALREADY, the error of an earlier connect, EISCONN,
+ * EOPNOTSUPP: it listens; ENETUNREACH; EINVAL: bound to 127.0.0.1, another destination; EADDRNOTAVAIL. A TCP socket that
+ * is nonblocking answers EINPROGRESS; else ECONNREFUSED or ETIMEDOUT where it fails. */
 static inline int connect(int fd, const struct sockaddr_in *to, socklen_t size)
 {
     return shadow_call(203, fd, (long)to, (long)size);
 }
 
+/* EBADF; ENOTSOCK; EFAULT. */
 static inline int getsockname(int fd, struct sockaddr_in *at, socklen_t *size)
 {
     return shadow_call(204, fd, (long)at, (long)size);
 }
 
+/* EBADF; ENOTSOCK; ENOTCONN; EFAULT. */
 static inline int getpeername(int fd, struct sockaddr_in *peer, socklen_t *size)
 {
     return shadow_call(205, fd, (long)peer, (long)size);
 }
 
+/* EBADF; ENOTSOCK; EINVAL: flags; UDP: EMSGSIZE: above 1,472, EDESTADDRREQ; EFAULT; of the address: EINVAL, EAFNOSUPPORT,
+ * ENETUNREACH, EINVAL: bound to 127.0.0.1, another destination; EADDRNOTAVAIL: no free port; TCP: the kept error, as
+ * ECONNRESET; ENOTCONN; EPIPE after the end of writing with MSG_NOSIGNAL, and SIGPIPE without; EAGAIN. */
 static inline ssize_t sendto(int fd, const void *bytes, size_t size, int flags, const struct sockaddr_in *to,
                              socklen_t to_size)
 {
@@ -294,6 +317,7 @@ static inline ssize_t send(int fd, const void *bytes, size_t size, int flags)
     return sendto(fd, bytes, size, flags, 0, 0);
 }
 
+/* EBADF; ENOTSOCK; EINVAL: flags; EFAULT; TCP: the kept error, as ECONNRESET; ENOTCONN; EAGAIN. */
 static inline ssize_t recvfrom(int fd, void *into, size_t size, int flags, struct sockaddr_in *from,
                                socklen_t *from_size)
 {
@@ -305,16 +329,19 @@ static inline ssize_t recv(int fd, void *into, size_t size, int flags)
     return recvfrom(fd, into, size, flags, 0, 0);
 }
 
+/* SO_REUSEADDR, SO_KEEPALIVE and TCP_NODELAY, without effect. EBADF; ENOTSOCK; ENOPROTOOPT; EINVAL: a size below 4; EFAULT. */
 static inline int setsockopt(int fd, int level, int option, const void *value, socklen_t size)
 {
     return shadow_call6(208, fd, level, option, (long)value, (long)size, 0);
 }
 
+/* SO_ERROR and SO_TYPE. EBADF; ENOTSOCK; ENOPROTOOPT; EFAULT; EINVAL: a size below 4. */
 static inline int getsockopt(int fd, int level, int option, void *value, socklen_t *size)
 {
     return shadow_call6(209, fd, level, option, (long)value, (long)size, 0);
 }
 
+/* EBADF; ENOTSOCK; EINVAL: how; ENOTCONN. */
 static inline int shutdown(int fd, int how)
 {
     return shadow_call(210, fd, how, 0);
