@@ -9,8 +9,11 @@ pub mod Lanes
 pub mod Link
 pub mod Opening
 pub mod Outbox
+pub mod Parcels
+pub mod Running
 pub mod Sending
 pub mod Slice
 pub mod StandsFor
 pub mod Stack
 pub mod Start
+pub mod Stretches

@@ -11,6 +11,7 @@ mod net;
 mod outbox;
 mod process;
 mod row;
+mod running;
 mod sending;
 mod slice;
 mod start;
