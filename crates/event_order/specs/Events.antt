@@ -1,16 +1,27 @@
 -- lists of events, least key first
-use Rattle.std.specs.Prelude.{◌≡◌, Bool, List, [], ◌∷◌, map, if◌then◌else◌}
-use Rattle.std.specs.List.{list_any}
+use Rattle.std.specs.Prelude.{◌≡◌, ◌≤◌, Bool, List, [], ◌∷◌, All, Option, Some, None, map, if◌then◌else◌}
+use Rattle.std.specs.List.{Any, list_any}
 use Rattle.std.specs.Ordering.{is_eq, is_lt}
 use Rattle.std.specs.declared.cmp.Ordering.TheVariants.{Less}
 use Rattle.sim_base.specs.declared.event.Event.{Event}
 use Rattle.sim_base.specs.declared.event.What.{What}
 use Rattle.sim_base.specs.declared.key.Key.{Key}
+use Rattle.sim_base.specs.declared.time.Time.{Time}
 use Rattle.sim_base.specs.Key.{key_order}
 
 -- the one event's key comes before the other's
 abbrev pub IsBefore : Event → Event → Type 0
 IsBefore a b = key_order a.key b.key ≡ Less
+
+-- each event's key comes before those of all behind it
+abbrev pub IsOrdered : List Event → Type 0
+IsOrdered [] = Unit {0}
+IsOrdered (e ∷ es) = All (IsBefore e) es × IsOrdered es
+
+-- there is no event, or this is when the first of them is due
+abbrev pub IsLeastDue : List Event → Option Time → Type 0
+IsLeastDue events None = events ≡ []
+IsLeastDue events (Some due) = Any (λ (e : Event). e.key.due ≡ due) events × All (λ (e : Event). due.nanos ≤ e.key.due.nanos) events
 
 -- some event has the key
 abbrev pub has_key : Key → List Event → Bool

@@ -1,7 +1,7 @@
 //! A queue of events.
 
 ghost use Rattle.std.specs.Prelude.{◌≡◌, ◌∷◌, ◌↔◌, [], false, length, option_map, slice_get, All, IfSome, IfNone, IfErr, OnOk, OnErr, IsTrue};
-ghost use Rattle.event_order.specs.Events.{IsBefore, has_key, with_event};
+ghost use Rattle.event_order.specs.Events.{IsBefore, IsLeastDue, IsOrdered, has_key, with_event};
 
 use sim_base::{Event, Key, NoMemory, Time, What};
 use std::alloc::{AllocFailed, Global};
@@ -74,8 +74,9 @@ impl Queue {
         }
     }
 
-    /// Takes the event of least key out.
+    /// Takes the event of least key out. The list is in order.
     pub fn take_least(&mut self) -> Option<Event>
+        ensures ordered { IsOrdered self.old }
         ensures taken { IfSome result (λ event. self.old ≡ event ∷ self.new) }
         ensures least { IfSome result (λ event. All (IsBefore event) self.new) }
         ensures none { IfNone result (self.old ≡ []) }
@@ -87,7 +88,8 @@ impl Queue {
 
     /// When the event of least key is due.
     pub fn least_due(&self) -> Option<Time>
-        ensures { result ≡ option_map (λ event. event.key.due) (slice_get self.now 0) }
+        ensures first { result ≡ option_map (λ event. event.key.due) (slice_get self.now 0) }
+        ensures least { IsLeastDue self.now result }
     {
         match self.events.first_key_value() {
             Some((key, _)) => Some(key.due),

@@ -9,3 +9,7 @@ pub mod Growth
 pub mod HostGrowth
 pub mod Simulations
 pub mod Openings
+pub mod Queues
+pub mod Runs
+pub mod Beginnings
+pub mod Stretches

@@ -1,5 +1,5 @@
 -- What a host begins with fits.
-use Rattle.std.proofs.Common.{◌≡◌, ℕ, ◌+◌, ◌-◌, ◌^◌, ◌<◌, ◌≤◌, true, List, [], ◌∷◌, ◌++◌, length, All, Option, Some, None, nat_lt, refl, arith}
+use Rattle.std.proofs.Common.{◌≡◌, ℕ, ◌+◌, ◌-◌, ◌^◌, ◌<◌, ◌≤◌, true, List, [], ◌∷◌, ◌++◌, length, All, Option, Some, None, nat_lt, refl, ◌∙◌, arith}
 use Rattle.std.proofs.lemmas.Bool.Decides.{nat_tests}
 use Rattle.std.proofs.lemmas.List.{length_push}
 use Rattle.std.proofs.lemmas.List.Elements.{All-push}
@@ -12,6 +12,7 @@ use Rattle.host_state.specs.declared.net.Net.{Net}
 use Rattle.host_state.specs.declared.row.ProcessRow.{ProcessRow}
 use Rattle.host_state.specs.declared.row.Row.{Row}
 use Rattle.host_state.specs.Fits.{FitsWhat, FitsNet, IsEventOf, OpensFit}
+use Rattle.host_state.specs.Home.{home, home_of}
 use Rattle.host_state.specs.Link.{LinkState, new_link, event_of, numbers}
 use Rattle.host_state.specs.Opening.{begins_shutdown, begins_process, begins_all, host_begins, opening}
 use Rattle.world_order.specs.Premises.{AreNumbered}
@@ -36,13 +37,14 @@ record Opens (net : Net) (n : ℕ) (link : LinkState) : Type 0 where
   counted : link.next ≡ length link.made
   limited : link.next ≤ 2 ^ 64 - 1
   events : All (IsEventOf net) link.made
+  own : All (λ (e : Event). home net e ≡ n) link.made
   up : AllFit link.up.waiting
   down : AllFit link.down.waiting
 
 module _ (net : Net) (n : ℕ) where
-  numbers-opens : (at : Time) (w : What) (link : LinkState) → Opens net n link → FitsWhat net w → Opens net n (numbers at w link)
+  numbers-opens : (at : Time) (w : What) (link : LinkState) → Opens net n link → FitsWhat net w → home_of net link.number w ≡ link.number → Opens net n (numbers at w link)
   unfolding numbers
-  numbers-opens at w link k fits = by_if (Opens net n) (nat_lt link.next (2 ^ 64 - 1)) _ _
+  numbers-opens at w link k fits here = by_if (Opens net n) (nat_lt link.next (2 ^ 64 - 1)) _ _
       (λ more. record {
         number = k.number;
         within = k.within;
@@ -51,6 +53,7 @@ module _ (net : Net) (n : ℕ) where
         counted = omega (arith, k.counted, length_push link.made (event_of link at w));
         limited = below link.next (2 ^ 64 - 1) more;
         events = All-push (IsEventOf net) link.made (event_of link at w) k.events (record { source = rw k.number k.within; what = fits });
+        own = All-push (λ (e : Event). home net e ≡ n) link.made (event_of link at w) k.own (here ∙ k.number);
         up = k.up;
         down = k.down;
       })
@@ -58,10 +61,10 @@ module _ (net : Net) (n : ℕ) where
 
   shutdown-opens : (p : ℕ) (due : Option Time) (link : LinkState) → Opens net n link → Opens net n (begins_shutdown p due link)
   shutdown-opens p None link k = k
-  shutdown-opens p (Some due) link k = numbers-opens due (what.Shutdown p) link k tt
+  shutdown-opens p (Some due) link k = numbers-opens due (what.Shutdown p) link k tt refl
 
   process-opens : (p : ℕ) (row : ProcessRow) (link : LinkState) → Opens net n link → Opens net n (begins_process p row link)
-  process-opens p row link k = shutdown-opens p row.shutdown _ (numbers-opens row.start (what.Start p) link k tt)
+  process-opens p row link k = shutdown-opens p row.shutdown _ (numbers-opens row.start (what.Start p) link k tt refl)
 
   all-opens : (p : ℕ) (rows : List ProcessRow) (link : LinkState) → Opens net n link → Opens net n (begins_all p rows link)
   unfolding begins_all
@@ -77,6 +80,7 @@ new-opens net row within = record {
   counted = refl;
   limited = omega arith;
   events = λ k d h. absurd (omega (arith, h));
+  own = λ k d h. absurd (omega (arith, h));
   up = tt;
   down = tt;
 }
@@ -91,4 +95,5 @@ opens-fit net row fits =
       counted = k.counted;
       written = refl;
       events = k.events;
+      own = k.own;
     }

@@ -64,6 +64,7 @@ pub record OpensFit (net : Net) (i : ℕ) (f : Fired HostRecord Line) : Type 0 w
   pub counted : f.host.link.next ≡ length f.made
   pub written : f.host.written ≡ []
   pub events : All (IsEventOf net) f.made
+  pub own : All (λ (e : Event). home net e ≡ i) f.made
 
 -- each route from one host to another takes as long as the lookahead at least; without one there is none
 abbrev pub IsLatency : Option ℕ → ℕ → Type 0

@@ -9,8 +9,13 @@ pub mod Lanes
 pub mod Link
 pub mod Opening
 pub mod Outbox
+pub mod Parcels
+pub mod Ran
+pub mod Running
 pub mod Sending
 pub mod Slice
-pub mod StandsFor
 pub mod Stack
+pub mod StandsFor
 pub mod Start
+pub mod Stretches
+pub mod World

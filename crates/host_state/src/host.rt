@@ -1,7 +1,7 @@
 //! What a host is.
 
 ghost use Rattle.std.specs.Prelude.{◌≡◌, ◌≤◌, ◌<◌, ◌∷◌, ◌^◌, [], false, length, replicate, option_map, slice_get, IfOk, IfErr, IfSome, IfNone, OnOk, OnErr, All, vec_len};
-ghost use Rattle.event_order.specs.Events.{IsBefore, has_key, with_event};
+ghost use Rattle.event_order.specs.Events.{IsBefore, IsLeastDue, IsOrdered, has_key, with_event};
 ghost use Rattle.host_state.specs.HostRecord.{HostRecord, process_state};
 ghost use Rattle.host_state.specs.HostStands.{Stands, Fires, Begins, IsSameBody, with_events};
 ghost use Rattle.host_state.specs.Opening as opening;
@@ -74,12 +74,20 @@ fn queue_of(alloc: Global, events: Vec<Event>) -> Result<Queue, NoMemory>
     ensures { IfOk result (λ queue. queue ≡ with_events events.items []) }
 {
     let mut queue = Queue::new(alloc);
+    add_events(&mut queue, events)?;
+    Ok(queue)
+}
+
+/// Adds events to a queue, each key once.
+pub(crate) fn add_events(queue: &mut Queue, events: Vec<Event>) -> Result<(), NoMemory>
+    ensures { OnOk result (queue.new ≡ with_events events.items queue.old) }
+{
     for event in events {
         if !queue.has_key(&event.key) {
             queue.add(event)?;
         }
     }
-    Ok(queue)
+    Ok(())
 }
 
 impl Host {
@@ -131,8 +139,9 @@ impl Host {
         self.queue.add(event)
     }
 
-    /// Takes out the event of least key that the host holds.
+    /// Takes out the event of least key that the host holds. It holds them in order.
     pub fn take_least(&mut self) -> Option<Event>
+        ensures ordered { IsOrdered self.old.queue }
         ensures taken { IfSome result (λ event. self.old.queue ≡ event ∷ self.new.queue) }
         ensures least { IfSome result (λ event. All (IsBefore event) self.new.queue) }
         ensures none { IfNone result (self.old.queue ≡ []) }
@@ -142,9 +151,10 @@ impl Host {
         self.queue.take_least()
     }
 
-    /// When the event of least key that the host holds is due.
+    /// When the event of least key that the host holds is due; none where it holds no event.
     pub fn next_due(&self) -> Option<Time>
-        ensures { result ≡ option_map (λ event. event.key.due) (slice_get self.now.queue 0) }
+        ensures first { result ≡ option_map (λ event. event.key.due) (slice_get self.now.queue 0) }
+        ensures least { IsLeastDue self.now.queue result }
     {
         self.queue.least_due()
     }

@@ -31,7 +31,7 @@ use Rattle.world_order.proofs.Members.{Each, Each-from_All}
 use Rattle.net_run.specs.StandsFor.{RunStands, AllStand, lines_of, kept_lines, EngineStands, FiredSo, MayFireAt, with_fired}
 use Rattle.net_run.specs.World.{World}
 use Rattle.net_run.specs.declared.engine.Engine.{Engine}
-use Rattle.net_run.specs.declared.engine.HostRun.{HostRun}
+use Rattle.host_state.specs.declared.ran.HostRun.{HostRun}
 use Rattle.net_run.specs.declared.engine.Made.{Made}
 
 -- ---- what is handed out in two parts is what was made

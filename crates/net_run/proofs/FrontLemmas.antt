@@ -5,7 +5,7 @@ use Rattle.sim_base.specs.Sink.{Content, add, AddsFront}
 use Rattle.host_state.specs.HostRecord.{HostRecord}
 use Rattle.net_run.specs.Pieces.{Put, with_pieces, PutsFront}
 use Rattle.net_run.specs.StandsFor.{RunStands, AllStand}
-use Rattle.net_run.specs.declared.engine.HostRun.{HostRun}
+use Rattle.host_state.specs.declared.ran.HostRun.{HostRun}
 use Rattle.net_run.proofs.PieceLemmas.{with_pieces_told}
 
 with_append : (ps qs : List Put) (c : Content) → with_pieces (ps ++ qs) c ≡ with_pieces qs (with_pieces ps c)

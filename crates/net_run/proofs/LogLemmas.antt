@@ -7,7 +7,7 @@ use Rattle.net_run.specs.Shown.{name_of, named}
 use Rattle.net_run.specs.StandsFor.{RunStands, AllStand}
 use Rattle.net_run.specs.Telling.{TellsLog, named_in}
 use Rattle.host_state.specs.declared.line.Logged.{Logged as LoggedLine}
-use Rattle.net_run.specs.declared.engine.HostRun.{HostRun}
+use Rattle.host_state.specs.declared.ran.HostRun.{HostRun}
 use Rattle.net_run.specs.declared.log.LogText.{LogText}
 
 pub get_at : {X : Type 0} (xs : List X) (i : ℕ) (x : X) → i < length xs → x ≡ get_or xs i x → slice_get xs i ≡ Some x

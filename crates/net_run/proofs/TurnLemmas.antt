@@ -29,10 +29,10 @@ use Rattle.world_order.proofs.Orders.{take_least-permutation, turn-next}
 use Rattle.world_order.proofs.Turns.{turn_known, turn_settled, next-none}
 use Rattle.net_run.specs.StandsFor.{RunStands, AllStand, kept_lines, EngineStands, RanStands, MayFire, MayFireIn, with_fired}
 use Rattle.net_run.specs.World.{World, IsResult}
-use Rattle.net_run.specs.declared.engine.Ran.{Ran}
+use Rattle.host_state.specs.declared.ran.Ran.{Ran}
 use Rattle.std.proofs.Common.{Vec, Global}
 use Rattle.net_run.specs.declared.engine.Engine.{Engine}
-use Rattle.net_run.specs.declared.engine.HostRun.{HostRun}
+use Rattle.host_state.specs.declared.ran.HostRun.{HostRun}
 use Rattle.net_run.proofs.QueueLemmas.{first-taken}
 
 -- numbers end at 2^64 - 1

@@ -8,45 +8,21 @@ use Rattle.host_state.specs.declared.line.Logged.{Logged as LoggedLine}
 use Rattle.host_state.specs.Home.{home}
 use Rattle.host_state.specs.Fits.{model}
 use Rattle.host_state.specs.HostRecord.{HostRecord}
+use Rattle.host_state.specs.declared.ran.HostRun.{HostRun}
+pub use Rattle.host_state.specs.Ran.{RunStands, AllStand, lines_of, kept_lines, RanStands}
 use Rattle.host_state.specs.HostStands.{Stands}
 use Rattle.world_order.specs.EventOrder.{AreApart}
 use Rattle.world_order.specs.Model.{Fired, fires}
 use Rattle.world_order.specs.World.{Logged, after_firing}
 use Rattle.net_run.specs.World.{World}
 use Rattle.net_run.specs.declared.engine.Engine.{Engine}
-use Rattle.net_run.specs.declared.engine.HostRun.{HostRun}
 use Rattle.net_run.specs.declared.engine.Made.{Made}
-use Rattle.net_run.specs.declared.engine.Ran.{Ran}
-
--- a host stands for its record, and what its processes wrote is the record's
-pub record RunStands (r : HostRun) (h : HostRecord) : Type 0 where
-  pub host : Stands r.host h
-  pub written : r.written.items ≡ h.written
-
--- the hosts stand for the records, each for that of its place
-abbrev pub AllStand : List HostRun → List HostRecord → Type 0
-AllStand [] [] = Unit {0}
-AllStand [] (h ∷ hs) = ⊥
-AllStand (r ∷ rs) [] = ⊥
-AllStand (r ∷ rs) (h ∷ hs) = RunStands r h × AllStand rs hs
-
--- the lines of a log, without their keys
-abbrev pub lines_of : List (Logged Line) → List Line
-lines_of log = map (λ (l : Logged Line). l.line) log
-
-abbrev pub kept_lines : List LoggedLine → List Line
-kept_lines log = map (λ (l : LoggedLine). l.line) log
 
 -- the hosts stand for the world's, the queue has its events, each once, and the log is its log
 pub record EngineStands (e : Engine) (w : World) : Type 0 where
   pub hosts : AllStand e.hosts.items w.hosts
   pub events : IsPermutation e.queue w.events
   pub log : kept_lines e.log.items ≡ lines_of w.log
-
--- the same of what a run leaves, which keeps no events
-pub record RanStands (ran : Ran) (w : World) : Type 0 where
-  pub hosts : AllStand ran.hosts.items w.hosts
-  pub log : kept_lines ran.log.items ≡ lines_of w.log
 
 -- ---- firing
 

@@ -9,17 +9,9 @@ ghost use Rattle.net_run.specs.World.{World};
 
 use crate::queueing::{add_events, move_all};
 use event_order::Queue;
-use host_calls::Output;
-use host_state::{Host, Logged, Net, Outbox};
+use host_state::{HostRun, Logged, Net, Outbox, Ran};
 use sim_base::{Event, NoMemory, Parcel, What};
 use std::alloc::Global;
-
-/// A host, and what its processes wrote, in order.
-#[derive(Drop)]
-pub struct HostRun {
-    pub host: Host,
-    pub written: Vec<Output>,
-}
 
 /// What a firing hands out: the events that it made, and its lines of the log.
 #[derive(Drop)]
@@ -34,13 +26,6 @@ pub struct Engine {
     pub(crate) hosts: Vec<HostRun>,
     pub(crate) queue: Queue,
     pub(crate) log: Vec<Logged>,
-}
-
-/// What a run leaves: all hosts, and the packet log.
-#[derive(Drop)]
-pub struct Ran {
-    pub hosts: Vec<HostRun>,
-    pub log: Vec<Logged>,
 }
 
 /// The event that a parcel is at its host.
@@ -64,26 +49,24 @@ fn add_parcels(events: &mut Vec<Event>, parcels: Vec<Parcel>) -> Result<(), NoMe
     Ok(())
 }
 
-impl HostRun {
-    /// An event fires at the host, and what its processes write is kept.
-    fn fire(&mut self, alloc: Global, net: &Net, event: Event) -> Result<Made, NoMemory>
-        requires stop { net.now.stop.nanos ≤ 2 ^ 61 }
-        requires before { event.key.due.nanos < net.now.stop.nanos }
-        ensures { IfOk result (λ made. (h : HostRecord) → RunStands self.old h → MayFireAt net.now h event → FiredSo (fire net.now h event) self.new made) }
-    {
-        let mut out = Outbox::new(alloc);
-        self.host.fire(net, event, &mut out)?;
-        let Outbox {
-            own,
-            parcels,
-            lines,
-            outputs,
-        } = out;
-        let mut events = own;
-        add_parcels(&mut events, parcels)?;
-        move_all(&mut self.written, outputs)?;
-        Ok(Made { events, lines })
-    }
+/// An event fires at a host, and what its processes write is kept.
+fn fire_at(run: &mut HostRun, alloc: Global, net: &Net, event: Event) -> Result<Made, NoMemory>
+    requires stop { net.now.stop.nanos ≤ 2 ^ 61 }
+    requires before { event.key.due.nanos < net.now.stop.nanos }
+    ensures { IfOk result (λ made. (h : HostRecord) → RunStands run.old h → MayFireAt net.now h event → FiredSo (fire net.now h event) run.new made) }
+{
+    let mut out = Outbox::new(alloc);
+    run.host.fire(net, event, &mut out)?;
+    let Outbox {
+        own,
+        parcels,
+        lines,
+        outputs,
+    } = out;
+    let mut events = own;
+    add_parcels(&mut events, parcels)?;
+    move_all(&mut run.written, outputs)?;
+    Ok(Made { events, lines })
 }
 
 impl Engine {
@@ -93,7 +76,7 @@ impl Engine {
         ensures { OnOk result ((w : World) → EngineStands self.old w → MayFireIn net.now w event → EngineStands self.new (with_fired net.now event w)) }
     {
         let home = net.home(&event);
-        let made = self.hosts[home as usize].fire(alloc, net, event)?;
+        let made = fire_at(&mut self.hosts[home as usize], alloc, net, event)?;
         let Made { events, lines } = made;
         add_events(&mut self.queue, events)?;
         move_all(&mut self.log, lines)?;

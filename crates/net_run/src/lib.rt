@@ -11,7 +11,6 @@ mod queueing;
 mod reporting;
 mod turns;
 
-pub use engine::{HostRun, Ran};
 pub use notes::put_notes;
 pub use reporting::report;
 pub use turns::run;

@@ -8,10 +8,9 @@ ghost use Rattle.net_run.specs.Pieces.{put_of};
 ghost use Rattle.net_run.specs.Shown as spec;
 ghost use Rattle.net_run.specs.StandsFor.{RunStands};
 
-use crate::engine::HostRun;
 use crate::output::Piece;
 use host_calls::Output;
-use host_state::{FinalState, ProcessRow};
+use host_state::{FinalState, HostRun, ProcessRow};
 use out_text::{FaultText, FileKind};
 use sim_base::{Bytes, Name, NoMemory, Place, State, Text};
 use std::alloc::Global;

@@ -7,8 +7,7 @@ ghost use Rattle.net_run.specs.Shown as spec;
 ghost use Rattle.net_run.specs.StandsFor.{AllStand};
 ghost use Rattle.net_run.specs.Telling.{TellsLog, named_in};
 
-use crate::engine::HostRun;
-use host_state::{Line, Logged};
+use host_state::{HostRun, Line, Logged};
 use out_text::{LogLine, Summary};
 use sim_base::{Name, NoMemory, Text};
 use std::alloc::Global;

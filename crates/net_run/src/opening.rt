@@ -8,9 +8,9 @@ ghost use Rattle.world_order.specs.EventOrder.{AreApart};
 ghost use Rattle.net_run.specs.StandsFor.{EngineStands};
 ghost use Rattle.net_run.specs.World.{World, AreRows, opening_world, with_opened, no_world};
 
-use crate::engine::{Engine, HostRun};
+use crate::engine::Engine;
 use event_order::Queue;
-use host_state::{Host, Net, Row};
+use host_state::{Host, HostRun, Net, Row};
 use sim_base::NoMemory;
 use std::alloc::Global;
 

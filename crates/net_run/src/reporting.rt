@@ -10,12 +10,11 @@ ghost use Rattle.net_run.specs.StandsFor.{AllStand, RanStands, kept_lines, lines
 ghost use Rattle.net_run.specs.Telling.{IsRest};
 ghost use Rattle.net_run.specs.World.{World};
 
-use crate::engine::{HostRun, Ran};
 use crate::listing::{host_files, push_host_unmet};
 use crate::log::log_text;
 use crate::output::{Piece, put_pieces};
 use crate::queueing::move_all;
-use host_state::Logged;
+use host_state::{HostRun, Logged, Ran};
 use out_text::Summary;
 use sim_base::{Bytes, Name, NoMemory, Place, Sink, Text, WriteError};
 use std::alloc::Global;

@@ -4,10 +4,9 @@ ghost use Rattle.std.specs.Prelude.{IfOk};
 ghost use Rattle.net_run.specs.StandsFor.{RanStands};
 ghost use Rattle.net_run.specs.World.{World, AreRows, IsResult, opening_world};
 
-use crate::engine::Ran;
 use crate::opening::open;
 use crate::queueing::take_due;
-use host_state::{Net, Row};
+use host_state::{Net, Ran, Row};
 use sim_base::NoMemory;
 use std::alloc::Global;
 

@@ -17,7 +17,7 @@ use Rattle.net_run.specs.Pieces.{with_pieces, PutsFront}
 use Rattle.net_run.specs.Shown.{note_puts, run_pieces}
 use Rattle.net_run.specs.StandsFor.{RanStands}
 use Rattle.net_run.specs.World.{World, IsResult, AreRows, opening_world}
-use Rattle.net_run.specs.declared.engine.Ran.{Ran}
+use Rattle.host_state.specs.declared.ran.Ran.{Ran}
 use Rattle.net_run.proofs.FiringLemmas.{stand-length}
 use Rattle.net_run.proofs.OpeningLemmas.{opened-settled}
 use Rattle.net_run.proofs.TurnLemmas.{simulation}

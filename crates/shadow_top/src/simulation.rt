@@ -16,8 +16,8 @@ ghost use Rattle.shadow_top.specs.Stop.{CountsSource, CountsSink, NoReadFailed};
 
 use crate::opened::{Opened, open};
 use crate::stop::Stop;
-use host_state::{Net, Row};
-use net_run::{Ran, put_notes, report};
+use host_state::{Net, Ran, Row};
+use net_run::{put_notes, report};
 use out_text::FaultText;
 use run_plan::{Fault, Planned, Run, read_plan, tell};
 use shd_config::Config;

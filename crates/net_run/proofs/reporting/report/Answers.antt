@@ -2,7 +2,7 @@ use Rattle.std.proofs.Common.{◌≡◌, List, map, sym, ap, subst, ◌∙◌}
 use Rattle.net_run.specs.Pieces.{put_of}
 use Rattle.net_run.specs.StandsFor.{AllStand, RanStands}
 use Rattle.net_run.specs.World.{World}
-use Rattle.net_run.specs.declared.engine.HostRun.{HostRun}
+use Rattle.host_state.specs.declared.ran.HostRun.{HostRun}
 use Rattle.net_run.proofs.PieceLemmas.{on_err}
 use Rattle.net_run.proofs.ReportLemmas.{part-first, part-between, part-second, whole}
 use Rattle.net_run.proofs.reporting.report.Goals as goal

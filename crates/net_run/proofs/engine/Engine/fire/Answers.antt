@@ -25,8 +25,8 @@ returns c = λ w s may.
     let r = c.requires in
     let same = stand-length c.args.self.now.hosts.items r.world.hosts r.stands.hosts in
     let below = below-get r.world.hosts (home c.args.net.now c.args.event) r.host r.there in
-    fired-stands c.args.net.now c.args.event w c.args.self.now _ c.fire.new.self c.in_ok-made.made r.before (omega arith) s
+    fired-stands c.args.net.now c.args.event w c.args.self.now _ c.fire_at.new.run c.in_ok-made.made r.before (omega arith) s
     (λ h there. c.in_ok-made.ensures h (stand-get c.args.self.now.hosts.items w.hosts c.home-home.result c.index_mut.result.now h s.hosts
     (ap (slice_get w.hosts) c.home-home.ensures ∙ there) c.index_mut.ensures.value) (may h there))
-    (ap (λ (i : ℕ). slice_set c.args.self.now.hosts.items i c.fire.new.self) c.home-home.ensures)
+    (ap (λ (i : ℕ). slice_set c.args.self.now.hosts.items i c.fire_at.new.run) c.home-home.ensures)
     c.in_ok-add_events.ensures c.in_ok-move_all.ensures

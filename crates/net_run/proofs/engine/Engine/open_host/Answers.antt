@@ -5,7 +5,7 @@ use Rattle.host_state.specs.Opening.{opening}
 use Rattle.host_state.specs.HostRecord.{HostRecord}
 use Rattle.world_order.proofs.Apart.{AreApart-permutation, apart_right}
 use Rattle.net_run.specs.StandsFor.{AllStand}
-use Rattle.net_run.specs.declared.engine.HostRun.{HostRun}
+use Rattle.host_state.specs.declared.ran.HostRun.{HostRun}
 use Rattle.net_run.proofs.FiringLemmas.{stand-more}
 use Rattle.net_run.proofs.QueueLemmas.{begun}
 use Rattle.net_run.proofs.engine.Engine.open_host.Goals as goal

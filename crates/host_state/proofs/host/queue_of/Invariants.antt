@@ -1,8 +1,0 @@
-use Rattle.std.proofs.Common.{◌≡◌, []}
-use Rattle.std.specs.Vec.Iter.{into_iter_items}
-use Rattle.host_state.specs.HostStands.{with_events}
-use Rattle.host_state.proofs.host.queue_of.Given as goal
-
--- what is left gives the whole
-abbrev pub invariant-loop-event : goal.invariant-loop-event
-invariant-loop-event l = with_events (into_iter_items l.event-iterator) l.queue ≡ with_events l.fn.events.items []
