@@ -1,12 +1,10 @@
 //! Runs of two hosts in which calls of the outside fail, or move one byte each.
 
-ghost use Rattle.std.specs.Prelude.{◌≡◌, ◌≤◌, length, take};
-
 use super::networks::text;
 use super::script::SCRIPT;
 use super::words;
 use crate::{OpenGate, shadow};
-use sim_base::{MemSink, MemSource, Place, ReadError, Sink, Source, WriteError};
+use sim_base::{MemSink, MemSource};
 use std::alloc::Global;
 use std::process::Abort;
 use std::test::Fail;
@@ -62,54 +60,6 @@ const FILES: [(&str, &str); 13] = [
         "0 a send udp 11.0.0.1:10000 11.0.0.2:7000 32\n1000000 b recv udp 11.0.0.1:10000 11.0.0.2:7000 32\n",
     ),
 ];
-
-/// A source that gives one byte at each read.
-#[derive(Drop)]
-struct ShortSource {
-    whole: MemSource,
-}
-
-impl Source for ShortSource {
-    ghost use Rattle.std.specs.Prelude.{Some};
-    ghost use Rattle.sim_base.specs.MemSource.{mem_files, mem_calls};
-
-    ghost held = { λ s. Some (mem_files s.whole) };
-
-    ghost faults = { λ s. (mem_calls s.whole).faults };
-
-    fn size(&mut self, name: &str) -> Result<Option<u64>, ReadError> {
-        self.whole.size(name)
-    }
-
-    fn read(&mut self, name: &str, at: u64, into: &mut [u8]) -> Result<usize, ReadError> {
-        let most = into.len().min(1);
-        self.whole.read(name, at, &mut into[..most])
-    }
-}
-
-/// A sink that takes one byte of each piece, and doesn't tell what stands there.
-#[derive(Drop)]
-struct ShortSink {
-    whole: MemSink,
-}
-
-impl Sink for ShortSink {
-    ghost use Rattle.std.specs.Prelude.{None};
-    ghost use Rattle.sim_base.specs.MemSink.{sink_calls};
-
-    ghost content = { λ _. None };
-
-    ghost faults = { λ s. (sink_calls s.whole).faults };
-
-    fn begin(&mut self, dir: &str) -> Result<bool, WriteError> {
-        self.whole.begin(dir)
-    }
-
-    fn put(&mut self, place: &Place, piece: &[u8]) -> Result<usize, WriteError> {
-        let most = piece.len().min(1);
-        self.whole.put(place, &piece[..most])
-    }
-}
 
 fn source(alloc: Global) -> Result<MemSource, Fail> {
     let mut source = MemSource::new(alloc);
@@ -190,13 +140,11 @@ fn shows_fronts_where_calls_fail_and_the_same_byte_by_byte(rt: HostRuntime) -> R
     assert_eq!(rt; status, 1);
     is_whole(&rt, &sink)?;
     let words = words(alloc, &["shadow", "t.yaml"])?;
-    let mut source = ShortSource {
-        whole: source(alloc)?,
-    };
-    let mut sink = ShortSink {
-        whole: MemSink::new(alloc),
-    };
+    let mut source = source(alloc)?;
+    source.short(1);
+    let mut sink = MemSink::new(alloc);
+    sink.short(1);
     let status = shadow(&rt, &words, 1, &mut source, &mut sink, &OpenGate);
     assert_eq!(rt; status, 1, "byte by byte");
-    is_whole(&rt, &sink.whole)
+    is_whole(&rt, &sink)
 }
