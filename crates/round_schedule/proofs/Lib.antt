@@ -1,0 +1,15 @@
+pub mod Pairs
+pub mod Packets
+pub mod Sound
+pub mod Dues
+pub mod Guarding
+pub mod Keeping
+pub mod Going
+pub mod Turning
+pub mod ScheduleLaws
+pub mod Openings
+pub mod Delivering
+pub mod Closings
+pub mod Clearing
+pub mod Adding
+pub mod MemberTurns

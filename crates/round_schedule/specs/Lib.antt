@@ -1,0 +1,9 @@
+pub mod Standing
+pub mod Opening
+pub mod Reaching
+pub mod Kinds
+pub mod Guards
+pub mod Turning
+pub mod Putting
+pub mod Closing
+pub mod Leaving
