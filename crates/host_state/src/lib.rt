@@ -16,6 +16,8 @@ mod running;
 mod sending;
 mod slice;
 mod start;
+#[cfg(test)]
+mod tests;
 
 pub use host::Host;
 pub use line::{Line, Logged};
