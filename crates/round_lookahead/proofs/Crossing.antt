@@ -1,0 +1,43 @@
+-- A worker's bench may go to another thread.
+use denote.RattleType.{RattleType}
+use denote.Param.Send.{IsSend, view_send, sendable}
+use denote.Param.SendFields.{as_row_send, declared_send}
+use Rattle.std.proofs.Crossing as heap
+use Rattle.atomic_table.proofs.shared.Seat.TheSendSync as places
+use Rattle.steal_workers.specs.contracts.seat.Seat as seat
+use Rattle.steal_workers.specs.contracts.seat.Seat.TheInside as seat_inside
+use Rattle.steal_workers.proofs.share.Share.TheSendSync as share
+use Rattle.steal_workers.proofs.trail.Trail.TheLaws.TheKnot as taken
+use Rattle.host_inbox.specs.contracts.carrier.Carrier as carrier
+use Rattle.host_inbox.specs.contracts.carrier.Carrier.TheInside as carrier_inside
+use Rattle.host_inbox.specs.contracts.trail.Trail as trail
+use Rattle.host_inbox.proofs.trail.Trail.TheLaws.TheKnot as made
+use Rattle.sim_base.specs.contracts.event.Parcel as parcel
+use Rattle.sim_base.proofs.event.Parcel.TheSendSync as parcels
+use Rattle.round_lookahead.specs.contracts.workers.task.Task as task
+use Rattle.round_lookahead.proofs.workers.task.Task.TheSendSync as tasks
+use Rattle.round_lookahead.proofs.workers.worked.Worked.TheSendSync as works
+use Rattle.round_lookahead.specs.contracts.workers.bench.Bench as bench
+
+module _ (T : RattleType) where
+  seat_fields-send : IsSend T → IsSend (seat_inside.the_row T)
+  seat_fields-send s =
+      declared_send (seat_inside.the_type T) (search sendable, (search sendable, (search (share.the_send, heap.Vec-send, sendable) depth 20, (search (taken.crosses, sendable) depth 20, (search (heap.crosses, sendable) depth 20, tt)))))
+
+  pub seat-send : IsSend T → IsSend (seat.the_row T)
+  seat-send s = let f = seat_fields-send s in search (view_send) depth 20
+
+  trail-send : IsSend T → IsSend (trail.the_row T)
+  trail-send s = made.send-Trail T (search (heap.crosses, sendable) depth 60 fits 100000)
+
+  carrier_fields-send : IsSend T → IsSend (carrier_inside.the_row T)
+  carrier_fields-send s =
+      declared_send (carrier_inside.the_type T) (search (places.the_send, sendable) depth 20, (as_row_send (trail.the_field T) (trail-send s), tt))
+
+  pub carrier-send : IsSend T → IsSend (carrier.the_row T)
+  carrier-send s = let f = carrier_fields-send s in search (view_send) depth 20
+
+pub bench-send : IsSend bench.the_row
+bench-send =
+    let s = seat-send task.the_row tasks.the_send in let c = carrier-send _ (heap.Box-send parcel.the_row parcels.the_send) in
+    declared_send bench.the_type (search sendable, (search sendable depth 20, (search sendable depth 20, (search (works.the_send, sendable) depth 20, tt))))

@@ -1,0 +1,228 @@
+-- What a round of the world leaves.
+use Rattle.std.proofs.Common.{◌≡◌, ℕ, zero, suc, ◌+◌, ◌<◌, ◌≤◌, inl, inr, ⊎_elim, List, [], ◌∷◌, ◌++◌, Option, Some, None, All, map, flat_map, length, slice_get, refl, sym, ap, subst, ◌∙◌, arith, IsPermutation, Vec, Contains, append_assoc}
+use Rattle.std.specs.List.{Any}
+use Rattle.std.specs.declared.alloc.Global.{Global}
+use Rattle.std.proofs.lemmas.List.{length-map}
+use Rattle.std.proofs.lemmas.List.Sorted.{IsPermutation-refl, IsPermutation-sym, IsPermutation-trans, IsPermutation-append, IsPermutation-append_left, IsPermutation-append_right, All-permutation}
+use Rattle.sim_base.specs.declared.event.Event.{Event}
+use Rattle.sim_base.specs.declared.event.Parcel.{Parcel}
+use Rattle.sim_base.specs.declared.host.HostId.{HostId}
+use Rattle.sim_base.specs.declared.key.Key.{Key}
+use Rattle.sim_base.specs.declared.time.Time.{Time}
+use Rattle.list_weights.specs.Weights.{weigh, numbers_below}
+use Rattle.event_order.specs.Events.{IsLeastDue}
+use Rattle.steal_workers.specs.Gathers.{joined}
+use Rattle.host_calls.specs.declared.parts.Output.{Output}
+use Rattle.host_state.specs.declared.host.Host.{Host}
+use Rattle.host_state.specs.declared.line.Line.{Line}
+use Rattle.host_state.specs.declared.line.Logged.{Logged}
+use Rattle.host_state.specs.declared.net.Net.{Net}
+use Rattle.host_state.specs.Fits.{model, IsEventOf}
+use Rattle.host_state.specs.Home.{home}
+use Rattle.host_state.specs.HostRecord.{HostRecord}
+use Rattle.host_state.specs.HostStands.{Stands}
+use Rattle.host_state.specs.Parcels.{parcel_event}
+use Rattle.host_state.specs.Running.{kept_line}
+use Rattle.host_state.proofs.Simulations as hosts
+use Rattle.world_order.specs.EventOrder.{AreApart, copies, same_key}
+use Rattle.world_order.specs.Premises.{Simulation}
+use Rattle.world_order.specs.Round.{Going, Closed, opened, in_order}
+use Rattle.world_order.specs.Rounds.{after_round, IsSameWorld}
+use Rattle.world_order.specs.Schedule.{after_all}
+use Rattle.world_order.specs.declared.step.Step.TheVariants.{Close}
+use Rattle.world_order.specs.Settled.{IsSettled, AreDueFrom}
+use Rattle.world_order.specs.Window.{window_end}
+use Rattle.world_order.specs.World as order
+use Rattle.world_order.specs.WholeTurns.{turn_of, job_steps}
+use Rattle.world_order.proofs.Apart.{copies-append, AreApart-permutation, apart_right, same_members}
+use Rattle.world_order.proofs.Homes.{some_is, get-below, below-get}
+use Rattle.world_order.proofs.Members.{IsIn, IsIn-left, IsIn-right, IsIn-either, IsIn-permutation, IsIn-from_Contains, Contains-from_IsIn, Each, Each-from_All, All-from_Each}
+use Rattle.round_lookahead.specs.declared.workers.task.Task.{Task}
+use Rattle.round_lookahead.specs.declared.workers.worked.Done.{Done}
+use Rattle.round_lookahead.specs.declared.workers.worked.Worked.{Worked}
+use Rattle.round_lookahead.specs.declared.world.settling.Settled.{Settled}
+use Rattle.round_lookahead.specs.declared.world.world_state.World.{World}
+use Rattle.round_lookahead.specs.Arrivals.{Boxed, arrivals}
+use Rattle.round_lookahead.specs.Backs.{all_done, all_spilled, lines_done, row_arrivals, AreAtHome}
+use Rattle.round_lookahead.specs.Rounds.{IsRound, all_parcels, parcel_weight}
+use Rattle.round_lookahead.specs.Settles.{done_numbers, CanSettle, IsBack, HasSettled}
+use Rattle.round_lookahead.specs.Tasks.{waiting}
+use Rattle.round_lookahead.specs.Works.{HostJob, parcels_made}
+use Rattle.round_lookahead.specs.WorldStands.{HostWorld, nanos_of, StandsAt, WorldStands}
+use Rattle.round_lookahead.proofs.RoundJobs as round_jobs
+use Rattle.round_lookahead.proofs.RoundOrders.{StartFrom, all_parts}
+use Rattle.round_lookahead.proofs.RunSteps.{IsRunBy, AreRun, works-run, workers-below, done-number, job-done, done-job, run-queues, run-lines, run-packets, run-starts, held}
+use Rattle.round_lookahead.proofs.SettleSteps.{done-of}
+use Rattle.round_lookahead.proofs.WholeRounds.{packets_in, lines_in}
+use Rattle.round_lookahead.proofs.WorldSteps.{simulation, between-settled, settled-between, in-map, of-map, host-at, rec, rec-is, made-to, key_weight, copies-weight, copies-rows, weigh-flat, map-both, unboxed-arrivals}
+
+module _ (c : World) (w : HostWorld) (stands : WorldStands c w) (least : Time) (due : IsLeastDue (flat_map waiting c.tasks.items) (Some least)) (workers : ℕ)
+    (works : List Worked) (rows : List (Vec Boxed Global)) (many : length works ≡ workers)
+    (round : IsRound c.net (window_end (nanos_of c.lookahead) c.net.stop.nanos least.nanos) c.tasks.items (rec c w stands) works rows) where
+  abbrev end : ℕ
+  end = window_end (nanos_of c.lookahead) c.net.stop.nanos least.nanos
+
+  abbrev sim : Simulation HostRecord Line
+  sim = simulation c.net (nanos_of c.lookahead) stands.rounds
+
+  abbrev tasks : List Task
+  tasks = c.tasks.items
+
+  abbrev jobs : List HostJob
+  jobs = joined round.jobs
+
+  abbrev ds : List Done
+  ds = all_done works
+
+  pub are-run : AreRun c.net end tasks (rec c w stands) jobs ds
+  are-run = works-run c.net end tasks (rec c w stands) 0 round.jobs works round.done
+
+  settled : IsSettled sim w
+  settled = between-settled c.net (nanos_of c.lookahead) stands.rounds w stands.between
+
+  pub from : AreDueFrom least.nanos w.events
+  from = All-permutation (λ (e : Event). least.nanos ≤ e.key.due.nanos) (flat_map waiting tasks) w.events stands.events due.1
+
+  of : Each (λ (j : HostJob). j.worker < workers) jobs
+  of j h = (let b = workers-below c.net end tasks (rec c w stands) 0 round.jobs works round.done j h in omega arith)
+
+  pub once : IsPermutation (round_jobs.numbers jobs) (numbers_below (length w.hosts))
+  once = subst (λ (n : ℕ). IsPermutation (round_jobs.numbers jobs) (numbers_below n)) stands.count round.each_once
+
+  held-all : IsPermutation (flat_map (held c.net end tasks (rec c w stands)) (numbers_below (length w.hosts))) w.events
+  held-all =
+      subst (λ (l : List Event). IsPermutation l w.events)
+      (sym (ap (λ (n : ℕ). flat_map (held c.net end tasks (rec c w stands)) (numbers_below n)) (sym stands.count) ∙ all_parts waiting tasks)) stands.events
+
+  starts : (ss : List (List Event)) × StartFrom (model c.net) end (rec c w stands) (held c.net end tasks (rec c w stands)) jobs ss
+  starts = run-starts c.net end tasks (rec c w stands)
+      (λ k t at. (let h = host-at c w stands k t at in Each-from_All (λ (e : Event). home c.net e ≡ k) (waiting t) (stands.hosts k t h.0 at h.1).home)) jobs ds are-run
+
+  pub next : HostWorld
+  next = round_jobs.next-world sim c.net.stop.nanos least.nanos workers w settled from jobs of once (rec c w stands) (rec-is c w stands) (held c.net end tasks (rec c w stands)) held-all starts.0 starts.1
+
+  pub next-result : order.IsResult (model c.net) end next w
+  unfolding next
+  next-result = round_jobs.next-result sim c.net.stop.nanos least.nanos workers w settled from jobs of once (rec c w stands) (rec-is c w stands) (held c.net end tasks (rec c w stands)) held-all starts.0 starts.1
+
+  pub next-settled : IsSettled sim next
+  unfolding next
+  next-settled = round_jobs.next-settled sim c.net.stop.nanos least.nanos workers w settled from jobs of once (rec c w stands) (rec-is c w stands) (held c.net end tasks (rec c w stands)) held-all starts.0 starts.1
+
+  pub next-count : length next.hosts ≡ length w.hosts
+  unfolding next
+  next-count = round_jobs.next-count sim c.net.stop.nanos least.nanos workers w settled from jobs of once (rec c w stands) (rec-is c w stands) (held c.net end tasks (rec c w stands)) held-all starts.0 starts.1
+
+  pub next-host : (j : HostJob) → IsIn j jobs → slice_get next.hosts j.number ≡ Some j.ran.host
+  unfolding next
+  next-host = round_jobs.next-host sim c.net.stop.nanos least.nanos workers w settled from jobs of once (rec c w stands) (rec-is c w stands) (held c.net end tasks (rec c w stands)) held-all starts.0 starts.1
+
+  pub next-log : next.log ≡ w.log ++ in_order (lines_in jobs)
+  unfolding next
+  next-log = round_jobs.next-log sim c.net.stop.nanos least.nanos workers w settled from jobs of once (rec c w stands) (rec-is c w stands) (held c.net end tasks (rec c w stands)) held-all starts.0 starts.1
+
+  pub next-events : (ts : List Task) → length ts ≡ length w.hosts → ((j : HostJob) → IsIn j jobs → (t : Task) → slice_get ts j.number ≡ Some t → IsPermutation t.host.queue j.ran.queue)
+      → IsPermutation (flat_map (λ (t : Task). t.host.queue) ts ++ packets_in jobs) next.events
+  unfolding next
+  next-events ts = round_jobs.next-events sim c.net.stop.nanos least.nanos workers w settled from jobs of once (rec c w stands) (rec-is c w stands) (held c.net end tasks (rec c w stands)) held-all starts.0 starts.1
+      (λ (t : Task). t.host.queue) ts
+
+  next-queues : IsPermutation (flat_map (λ (j : HostJob). j.ran.queue) jobs ++ packets_in jobs) next.events
+  unfolding next
+  next-queues = round_jobs.next-queues sim c.net.stop.nanos least.nanos workers w settled from jobs of once (rec c w stands) (rec-is c w stands) (held c.net end tasks (rec c w stands)) held-all starts.0 starts.1
+
+  pub next-over : AreDueFrom end next.events
+  unfolding next
+  next-over = round_jobs.next-over sim c.net.stop.nanos least.nanos workers w settled from jobs of once (rec c w stands) (rec-is c w stands) (held c.net end tasks (rec c w stands)) held-all starts.0 starts.1
+
+  -- ---- packets
+
+  abbrev made : List Parcel
+  made = parcels_made c.net jobs
+
+  abbrev laid : List Event
+  laid = map parcel_event (all_spilled works) ++ row_arrivals rows
+
+  packets-are : map parcel_event made ≡ packets_in jobs
+  packets-are = run-packets c.net end tasks (rec c w stands) jobs ds are-run
+
+  parcels-are : map parcel_event (all_parcels rows works) ≡ row_arrivals rows ++ map parcel_event (all_spilled works)
+  parcels-are =
+      map-both parcel_event (flat_map (λ (r : Vec Boxed Global). map (λ (b : Boxed). b.value) r.items) rows) (all_spilled works)
+      ∙ ap (λ (l : List Event). l ++ map parcel_event (all_spilled works)) (unboxed-arrivals rows)
+
+  packets-apart : AreApart (packets_in jobs)
+  packets-apart =
+      apart_right (flat_map (λ (j : HostJob). j.ran.queue) jobs) (packets_in jobs)
+      (AreApart-permutation next.events (flat_map (λ (j : HostJob). j.ran.queue) jobs ++ packets_in jobs)
+      (IsPermutation-sym (flat_map (λ (j : HostJob). j.ran.queue) jobs ++ packets_in jobs) next.events next-queues) next-settled.apart)
+
+  laid-apart : AreApart laid
+  laid-apart k =
+      let both = copies-append k (map parcel_event (all_spilled works)) (row_arrivals rows) in
+      let spilled : copies k (map parcel_event (all_spilled works)) ≡ weigh (λ (v : Worked). weigh (key_weight k) v.spill.items) works =
+      copies-weight k (all_spilled works) ∙ weigh-flat (key_weight k) (λ (v : Worked). v.spill.items) works in
+      let rowed = copies-rows k rows in
+      let same = round.parcels (key_weight k) in
+      let all : copies k (packets_in jobs) ≡ weigh (key_weight k) made = ap (copies k) (sym packets-are) ∙ copies-weight k made in
+      let most = packets-apart k in
+      omega arith
+
+  either-way : (e : Event) (a b : List Event) → IsIn e (a ++ b) → IsIn e (b ++ a)
+  either-way e a b h = ⊎_elim (λ (l : IsIn e a). IsIn-right e b a l) (λ (r : IsIn e b). IsIn-left e b a r) (IsIn-either e a b h)
+
+  into-packets : (e : Event) → IsIn e laid → IsIn e (packets_in jobs)
+  into-packets e h =
+      let p = of-map parcel_event (all_parcels rows works) e (subst (IsIn e) (sym parcels-are) (either-way e (map parcel_event (all_spilled works)) (row_arrivals rows) h)) in
+      let q : IsIn p.0 made = IsIn-from_Contains p.0 made (Each-from_All (λ (x : Parcel). Contains made x) (all_parcels rows works) round.into p.0 p.1) in
+      subst (λ (x : Event). IsIn x (packets_in jobs)) (sym p.2) (subst (IsIn (parcel_event p.0)) packets-are (in-map parcel_event made p.0 q))
+
+  back-packets : (e : Event) → IsIn e (packets_in jobs) → IsIn e laid
+  back-packets e h =
+      let p = of-map parcel_event made e (subst (IsIn e) (sym packets-are) h) in
+      let q : IsIn p.0 (all_parcels rows works) = IsIn-from_Contains p.0 (all_parcels rows works) (Each-from_All (λ (x : Parcel). Contains (all_parcels rows works) x) made round.back p.0 p.1) in
+      either-way e (row_arrivals rows) (map parcel_event (all_spilled works))
+      (subst (λ (x : Event). IsIn x (row_arrivals rows ++ map parcel_event (all_spilled works))) (sym p.2) (subst (IsIn (parcel_event p.0)) parcels-are (in-map parcel_event (all_parcels rows works) p.0 q)))
+
+  pub laid-packets : IsPermutation laid (packets_in jobs)
+  laid-packets = same_members laid (packets_in jobs) laid-apart packets-apart into-packets back-packets
+
+  -- each parcel that lies somewhere is for the host at which it fires
+  pub laid-home : Each (λ (p : Parcel). home c.net (parcel_event p) ≡ p.to.index) (all_parcels rows works)
+  laid-home p h = sym (made-to c.net jobs p (IsIn-from_Contains p made (Each-from_All (λ (x : Parcel). Contains made x) (all_parcels rows works) round.into p h)))
+
+  laid-below : Each (λ (p : Parcel). p.to.index < length tasks) (all_parcels rows works)
+  laid-below p h =
+      let q : IsIn p made = IsIn-from_Contains p made (Each-from_All (λ (x : Parcel). Contains made x) (all_parcels rows works) round.into p h) in
+      let e : Event = parcel_event p in
+      let there : IsIn e next.events = IsIn-permutation e (flat_map (λ (j : HostJob). j.ran.queue) jobs ++ packets_in jobs) next.events next-queues
+      (IsIn-right e (flat_map (λ (j : HostJob). j.ran.queue) jobs) (packets_in jobs) (subst (IsIn e) packets-are (in-map parcel_event made p q))) in
+      let good : IsEventOf c.net e = Each-from_All (IsEventOf c.net) next.events next-settled.events e there in
+      let within = hosts.home-within c.net e good in
+      let to = made-to c.net jobs p q in
+      let count = stands.count in
+      let whole = stands.between.count in
+      omega arith
+
+  pub in-spill : (p : Parcel) → IsIn p (all_spilled works) → IsIn p (all_parcels rows works)
+  in-spill p h = IsIn-right p (flat_map (λ (r : Vec Boxed Global). map (λ (b : Boxed). b.value) r.items) rows) (all_spilled works) h
+
+  pub can-settle : CanSettle (length tasks) works rows
+  can-settle = record {
+    once = subst (λ (ns : List ℕ). IsPermutation ns (numbers_below (length tasks))) (sym (done-number c.net end tasks (rec c w stands) jobs ds are-run)) round.each_once;
+    rows_count = round.rows_are.count;
+    to = All-from_Each (λ (p : Parcel). p.to.index < length tasks) (all_spilled works) (λ p h. laid-below p (in-spill p h));
+    apart =
+        AreApart-permutation next.events (flat_map (λ (d : Done). d.host.queue) ds ++ laid)
+        (IsPermutation-sym (flat_map (λ (d : Done). d.host.queue) ds ++ laid) next.events
+        (IsPermutation-trans (flat_map (λ (d : Done). d.host.queue) ds ++ laid) (flat_map (λ (j : HostJob). j.ran.queue) jobs ++ packets_in jobs) next.events
+        (IsPermutation-append (flat_map (λ (d : Done). d.host.queue) ds) (flat_map (λ (j : HostJob). j.ran.queue) jobs) laid (packets_in jobs)
+        (run-queues c.net end tasks (rec c w stands) jobs ds are-run) laid-packets)
+        next-queues))
+        next-settled.apart;
+  }
+
+  pub steps-taken : (js : List HostJob) × (closed : HostWorld) × (map turn_of js ≡ map turn_of jobs)
+      × (after_all (model c.net) (flat_map job_steps js ++ Close ∷ []) (Going (opened (model c.net) end workers w)) ≡ Some (Closed closed)) × IsSameWorld next (after_round w closed)
+  unfolding next
+  steps-taken = round_jobs.steps-taken sim c.net.stop.nanos least.nanos workers w settled from jobs of once (rec c w stands) (rec-is c w stands) (held c.net end tasks (rec c w stands)) held-all starts.0 starts.1

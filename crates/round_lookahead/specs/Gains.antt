@@ -1,0 +1,57 @@
+-- What a round of the world gains, and who took which host.
+use Rattle.std.specs.Prelude.{◌≡◌, ℕ, suc, List, [], ◌∷◌, ◌++◌, map, flat_map, length, Any, IsPermutation, Some, slice_get, Vec}
+use Rattle.std.specs.declared.alloc.Global.{Global}
+use Rattle.sim_base.specs.declared.event.Event.{Event}
+use Rattle.sim_base.specs.declared.host.HostId.{HostId}
+use Rattle.list_weights.specs.Weights.{numbers_below}
+use Rattle.host_calls.specs.declared.parts.Output.{Output}
+use Rattle.host_state.specs.declared.net.Net.{Net}
+use Rattle.host_state.specs.Fits.{model}
+use Rattle.host_state.specs.HostRecord.{HostRecord}
+use Rattle.host_state.specs.Running.{kept_line}
+use Rattle.world_order.specs.Round.{Going, Closed, opened}
+use Rattle.world_order.specs.Rounds.{after_round, IsSameWorld}
+use Rattle.world_order.specs.Schedule.{after_all}
+use Rattle.world_order.specs.Settled.{AreDueFrom}
+use Rattle.world_order.specs.WholeTurns.{Turn, turn_of, job_steps}
+use Rattle.world_order.specs.Window.{window_end}
+use Rattle.world_order.specs.World as order
+use Rattle.world_order.specs.declared.step.Step.TheVariants.{Close}
+use Rattle.round_lookahead.specs.declared.world.pieces.Pieces.{Pieces}
+use Rattle.round_lookahead.specs.declared.world.world_state.World.{World}
+use Rattle.round_lookahead.specs.Works.{HostJob}
+use Rattle.round_lookahead.specs.WorldStands.{HostWorld, WorldStands, nanos_of}
+
+-- the pieces have what the log and what processes wrote gained
+pub record IsGained (w v : HostWorld) (p : Pieces) : Type 0 where
+  pub lines : map kept_line v.log ≡ map kept_line w.log ++ p.lines.items
+  pub count : length p.outputs.items ≡ length w.hosts
+  pub outputs : (k : ℕ) (before after : HostRecord) (gained : Vec Output Global) → slice_get w.hosts k ≡ Some before → slice_get v.hosts k ≡ Some after
+      → slice_get p.outputs.items k ≡ Some gained → after.written ≡ before.written ++ gained.items
+
+-- the turns of workers, from that number on, each of which took these hosts
+abbrev pub turns_from : ℕ → List (Vec HostId Global) → List Turn
+turns_from worker [] = []
+turns_from worker (hosts ∷ more) = map (λ (h : HostId). record { worker = worker; number = h.index }) hosts.items ++ turns_from (suc worker) more
+
+-- each host was taken once; and its steps (for each worker in turn and each of its hosts Take, the Fires, the Puts to the spill, Back; at last
+-- Close) are allowed, each in its turn, and end in the world
+pub record IsTaken (net : Net) (end workers : ℕ) (w v : HostWorld) (took : List (Vec HostId Global)) : Type 0 where
+  pub workers_are : length took ≡ workers
+  pub once : IsPermutation (map (λ (t : Turn). t.number) (turns_from 0 took)) (numbers_below (length w.hosts))
+  pub jobs : List HostJob
+  pub turns : map turn_of jobs ≡ turns_from 0 took
+  pub closed : HostWorld
+  pub allowed : after_all (model net) (flat_map job_steps jobs ++ Close ∷ []) (Going (opened (model net) end workers w)) ≡ Some (Closed closed)
+  pub same : IsSameWorld v (after_round w closed)
+
+-- a round on a world whose least event is due at that time, and the world after all turns of the model that are due before the window's end
+pub record HasRound (old new : World) (workers : ℕ) (w v : HostWorld) (p : Pieces) : Type 0 where
+  pub least : ℕ
+  pub from : AreDueFrom least w.events
+  pub due : Any (λ (e : Event). e.key.due.nanos ≡ least) w.events
+  pub result : order.IsResult (model old.net) (window_end (nanos_of old.lookahead) old.net.stop.nanos least) v w
+  pub over : AreDueFrom (window_end (nanos_of old.lookahead) old.net.stop.nanos least) v.events
+  pub stands : WorldStands new v
+  pub gained : IsGained w v p
+  pub took : IsTaken old.net (window_end (nanos_of old.lookahead) old.net.stop.nanos least) workers w v p.took.items

@@ -1,0 +1,14 @@
+pub mod Arrivals
+pub mod Tasks
+pub mod Posts
+pub mod Works
+pub mod Benches
+pub mod Rounds
+pub mod Backs
+pub mod Retasks
+pub mod WorldStands
+pub mod Gains
+pub mod Dues
+pub mod Settles
+pub mod OpeningWorld
+pub mod Ran

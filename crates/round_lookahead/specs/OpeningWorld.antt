@@ -1,0 +1,36 @@
+-- Where a run begins.
+use Rattle.std.specs.Prelude.{◌≡◌, ℕ, ◌++◌, List, [], ◌∷◌, length, map, flat_map, Some, slice_get}
+use Rattle.host_state.specs.declared.net.Net.{Net}
+use Rattle.host_state.specs.declared.row.Row.{Row}
+use Rattle.host_state.specs.Opening.{opening}
+use Rattle.host_state.specs.Fits.{FitsNet}
+use Rattle.host_state.specs.HostStands.{Begins}
+use Rattle.round_lookahead.specs.declared.workers.task.Task.{Task}
+use Rattle.round_lookahead.specs.WorldStands.{HostWorld}
+
+-- each host as its row opens it, the events that the hosts begin with, and no line in the packet log
+abbrev pub opening_world : List Row → HostWorld
+opening_world rows = record {
+  hosts = map (λ (row : Row). (opening row).host) rows;
+  events = flat_map (λ (row : Row). (opening row).made) rows;
+  log = [];
+}
+
+-- the rows of a net: as many as its hosts, each that of the host of its place
+pub record AreHostRows (net : Net) (rows : List Row) : Type 0 where
+  pub count : length rows ≡ length net.known.book
+  pub places : (i : ℕ) (row : Row) → slice_get rows i ≡ Some row → row.host.index ≡ i
+  pub fit : (i : ℕ) (row : Row) → slice_get rows i ≡ Some row → FitsNet net row
+
+-- the host of a row at the beginning, for which no packet waits
+pub record IsOpened (row : Row) (t : Task) : Type 0 where
+  pub id : t.id ≡ row.host
+  pub host : Begins row t.host
+  pub parcels : t.parcels.items ≡ []
+
+-- row by row
+abbrev pub AreOpened : List Row → List Task → Type 0
+AreOpened [] [] = Unit {0}
+AreOpened [] (t ∷ ts) = ⊥
+AreOpened (row ∷ rows) [] = ⊥
+AreOpened (row ∷ rows) (t ∷ ts) = IsOpened row t × AreOpened rows ts

@@ -1,0 +1,29 @@
+-- The hosts of a round, before they are run.
+use Rattle.std.specs.Prelude.{◌≡◌, ℕ, ◌++◌, List, length, Some, slice_get}
+use Rattle.sim_base.specs.declared.event.Event.{Event}
+use Rattle.host_state.specs.declared.net.Net.{Net}
+use Rattle.host_state.specs.HostRecord.{HostRecord}
+use Rattle.host_state.specs.HostStands.{Stands}
+use Rattle.host_state.specs.Running.{Owns}
+use Rattle.round_lookahead.specs.declared.workers.task.Task.{Task}
+use Rattle.round_lookahead.specs.Arrivals.{arrivals}
+
+-- the events that the host holds, and its packets
+abbrev pub waiting : Task → List Event
+waiting t = t.host.queue ++ arrivals t.parcels.items
+
+-- the host of that number, which stands for this record, and all that waits is its own
+pub record IsTask (net : Net) (number : ℕ) (t : Task) (h : HostRecord) : Type 0 where
+  pub id : t.id.index ≡ number
+  pub numbered : h.link.number ≡ number
+  pub stands : Stands t.host h
+  pub owns : Owns net h.link (waiting t)
+
+-- the tasks' hosts stand for these records
+abbrev pub AreTasks : Net → List Task → (ℕ → HostRecord) → Type 0
+AreTasks net tasks rec = (number : ℕ) (t : Task) → slice_get tasks number ≡ Some t → IsTask net number t (rec number)
+
+-- a task for each host of the net, in order
+pub record AreTasksOf (net : Net) (tasks : List Task) : Type 0 where
+  pub count : length tasks ≡ length net.known.book
+  pub each : (number : ℕ) (t : Task) → slice_get tasks number ≡ Some t → (h : HostRecord) × IsTask net number t h

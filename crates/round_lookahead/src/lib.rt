@@ -1,0 +1,13 @@
+//! Rounds: all hosts are run up to the end of a window, by workers side by side.
+#![tactic(auto)]
+
+mod workers;
+mod world;
+
+pub use workers::task::Task;
+pub use workers::worked::{Done, Worked};
+pub use workers::working::work;
+pub use world::pieces::Pieces;
+pub use world::ran::{HostRun, Ran};
+pub use world::run::run;
+pub use world::world_state::World;

@@ -1,0 +1,10 @@
+//! The workers of a round.
+
+pub(crate) mod bench;
+pub(crate) mod fork;
+pub(crate) mod posting;
+pub(crate) mod round;
+pub(crate) mod running;
+pub(crate) mod task;
+pub(crate) mod worked;
+pub(crate) mod working;

@@ -1,0 +1,16 @@
+//! Workers at their benches.
+
+use crate::workers::task::Task;
+use crate::workers::worked::Worked;
+use host_inbox::Carrier;
+use sim_base::Parcel;
+use steal_workers::Seat;
+
+/// What one worker has in hand, and its work once it is done.
+#[derive(Drop)]
+pub(crate) struct Bench {
+    pub(crate) worker: u32,
+    pub(crate) seat: Seat<Task>,
+    pub(crate) carrier: Carrier<Box<Parcel>>,
+    pub(crate) worked: Option<Worked>,
+}

@@ -1,0 +1,66 @@
+//! Workers side by side.
+ghost use Rattle.std.specs.Prelude.{◌≡◌, ◌≤◌, ◌^◌, All, length};
+ghost use Rattle.round_lookahead.specs.Benches.{IsReady, HasWorked, HaveWorked};
+
+use crate::workers::bench::Bench;
+use crate::workers::working::work;
+use host_inbox::Boards;
+use host_state::Net;
+use sim_base::{Parcel, Time};
+use std::alloc::Global;
+use std::thread::{Threads, for_each_mut};
+use steal_workers::Gate;
+
+/// A worker's whole round at its bench.
+fn work_at<G: Gate>(
+    alloc: Global,
+    net: &Net,
+    end: Time,
+    boards: &Boards<Box<Parcel>>,
+    gate: &G,
+    bench: &mut Bench,
+)
+    requires stop { net.now.stop.nanos ≤ 2 ^ 61 }
+    requires until { end.nanos ≤ net.now.stop.nanos }
+    requires hosts { boards.now.hosts ≡ length net.now.known.book }
+    requires few { length net.now.known.book ≤ 65536 }
+    requires ready { IsReady net.now boards.now bench.old }
+    ensures { HasWorked net.now end.nanos bench.old bench.new }
+{
+    bench.worked = work(
+        alloc,
+        net,
+        end,
+        bench.worker,
+        &mut bench.seat,
+        boards,
+        &mut bench.carrier,
+        gate,
+    )
+    .ok();
+}
+
+/// All workers' rounds, side by side. Where no thread can be made, they come one after another.
+pub(crate) fn fork<R: Threads + Sync, G: Gate + Sync>(
+    rt: &R,
+    alloc: Global,
+    net: &Net,
+    end: Time,
+    boards: &Boards<Box<Parcel>>,
+    gate: &G,
+    benches: &mut [Bench],
+)
+    requires stop { net.now.stop.nanos ≤ 2 ^ 61 }
+    requires until { end.nanos ≤ net.now.stop.nanos }
+    requires hosts { boards.now.hosts ≡ length net.now.known.book }
+    requires few { length net.now.known.book ≤ 65536 }
+    requires ready { All (IsReady net.now boards.now) benches.old }
+    ensures { HaveWorked net.now end.nanos benches.old benches.new }
+{
+    for_each_mut(
+        rt,
+        benches,
+        64,
+        &|_, bench| { work_at(alloc, net, end, boards, gate, bench) },
+    );
+}

@@ -1,0 +1,148 @@
+//! All workers' rounds.
+ghost use Rattle.std.specs.Prelude.{◌≡◌, ◌≤◌, ◌<◌, ◌^◌, ℕ, All, IfOk, length, vec_len};
+ghost use Rattle.host_state.specs.HostRecord.{HostRecord};
+ghost use Rattle.round_lookahead.specs.Benches.{AreBenches, AreParts, HaveWorked, IsReady};
+ghost use Rattle.round_lookahead.specs.Rounds.{IsRound};
+ghost use Rattle.round_lookahead.specs.Tasks.{AreTasks, AreTasksOf};
+
+use crate::workers::bench::Bench;
+use crate::workers::fork::fork;
+use crate::workers::task::Task;
+use crate::workers::worked::Worked;
+use host_inbox::{Boards, Carrier};
+use host_state::Net;
+use sim_base::{NoMemory, Parcel, Time};
+use std::alloc::Global;
+use std::thread::Threads;
+use steal_workers::{Gate, Seat, deal, gather};
+
+/// What a round's workers leave: each one's work, and for each host the parcels in its inbox.
+#[derive(Drop)]
+pub(crate) struct RoundLeft {
+    pub(crate) works: Vec<Worked>,
+    pub(crate) rows: Vec<Vec<Box<Parcel>>>,
+}
+
+/// What was at the benches.
+#[derive(Drop)]
+struct Parts {
+    seats: Vec<Seat<Task>>,
+    carriers: Vec<Carrier<Box<Parcel>>>,
+    works: Vec<Worked>,
+}
+
+/// A bench for each seat, with a carrier.
+fn benches_of(
+    alloc: Global,
+    seats: Vec<Seat<Task>>,
+    mut carriers: Vec<Carrier<Box<Parcel>>>,
+) -> Result<Vec<Bench>, NoMemory>
+    requires count { (vec_len carriers ≡ vec_len seats) × (vec_len seats ≤ 64) }
+    ensures { IfOk result (λ benches. AreBenches seats.items carriers.items benches.items) }
+{
+    let mut benches = Vec::with_capacity(alloc, seats.len())?;
+    for seat in seats {
+        let worker = benches.len() as u32;
+        let Some(carrier) = carriers.pop() else {
+            unreachable!()
+        };
+        benches.push_reserved(Bench {
+            worker,
+            seat,
+            carrier,
+            worked: None,
+        });
+    }
+    Ok(benches)
+}
+
+/// Starts all workers, and waits for them.
+fn fork_all<R: Threads + Sync, G: Gate + Sync>(
+    rt: &R,
+    alloc: Global,
+    net: &Net,
+    end: Time,
+    boards: &Boards<Box<Parcel>>,
+    gate: &G,
+    benches: &mut Vec<Bench>,
+)
+    requires stop { net.now.stop.nanos ≤ 2 ^ 61 }
+    requires until { end.nanos ≤ net.now.stop.nanos }
+    requires hosts { boards.now.hosts ≡ length net.now.known.book }
+    requires few { length net.now.known.book ≤ 65536 }
+    requires ready { All (IsReady net.now boards.now) benches.old.items }
+    ensures { HaveWorked net.now end.nanos benches.old.items benches.new.items }
+{
+    fork(rt, alloc, net, end, boards, gate, benches.as_mut_slice());
+}
+
+/// Takes the benches apart. Some worker may have found no memory.
+fn parts_of(alloc: Global, benches: Vec<Bench>) -> Result<Parts, NoMemory>
+    ensures { IfOk result (λ parts. AreParts benches.items parts.seats.items parts.carriers.items parts.works.items) }
+{
+    let mut seats = Vec::new(alloc);
+    let mut carriers = Vec::new(alloc);
+    let mut works = Vec::new(alloc);
+    for bench in benches {
+        let Bench {
+            seat,
+            carrier,
+            worked,
+            ..
+        } = bench;
+        let Some(worked) = worked else {
+            return Err(NoMemory);
+        };
+        seats.push(seat)?;
+        carriers.push(carrier)?;
+        works.push(worked)?;
+    }
+    Ok(Parts {
+        seats,
+        carriers,
+        works,
+    })
+}
+
+/// Runs the hosts of all tasks up to `end`, on so many workers side by side. Fails for want of memory alone.
+pub(crate) fn run_all<R: Threads + Sync, G: Gate + Sync>(
+    rt: &R,
+    alloc: Global,
+    net: &Net,
+    end: Time,
+    tasks: Vec<Task>,
+    workers: u32,
+    gate: &G,
+) -> Result<RoundLeft, NoMemory>
+    requires stop { net.now.stop.nanos ≤ 2 ^ 61 }
+    requires until { end.nanos ≤ net.now.stop.nanos }
+    requires workers { (0 < workers) × (workers ≤ 64) }
+    requires few { (0 < length tasks.items) × (length tasks.items ≤ 65536) }
+    requires tasks { AreTasksOf net.now tasks.items }
+    ensures works { IfOk result (λ left. length left.works.items ≡ workers) }
+    ensures rows { IfOk result (λ left. length left.rows.items ≡ length tasks.items) }
+    ensures round { IfOk result (λ left. (rec : ℕ → HostRecord) → AreTasks net.now tasks.items rec → IsRound net.now end.nanos tasks.items rec left.works.items left.rows.items) }
+{
+    let hosts = tasks.len() as u32;
+    let Ok(seats) = deal(alloc, tasks, workers) else {
+        return Err(NoMemory);
+    };
+    let (boards, carriers) = Boards::open(alloc, hosts, workers)?;
+    let mut benches = benches_of(alloc, seats, carriers)?;
+    fork_all(rt, alloc, net, end, &boards, gate, &mut benches);
+    let Parts {
+        seats,
+        carriers,
+        works,
+    } = parts_of(alloc, benches)?;
+    let Ok(_) = gather(alloc, seats) else {
+        return Err(NoMemory);
+    };
+    let Ok(drained) = boards.close(carriers) else {
+        return Err(NoMemory);
+    };
+    Ok(RoundLeft {
+        works,
+        rows: drained.rows,
+    })
+}

@@ -1,0 +1,82 @@
+//! A task's host is run up to the end of a round.
+ghost use Rattle.std.specs.Prelude.{◌≡◌, ◌≤◌, ◌<◌, ◌^◌, ◌++◌, All, IfOk, OnOk, IsPermutation, length};
+ghost use Rattle.host_state.specs.HostRecord.{HostRecord};
+ghost use Rattle.host_state.specs.HostStands.{IsSameBody};
+ghost use Rattle.host_state.specs.Parcels.{parcel_event};
+ghost use Rattle.world_order.specs.EventOrder.{AreApart};
+ghost use Rattle.round_lookahead.specs.Arrivals.{arrivals};
+ghost use Rattle.round_lookahead.specs.Tasks.{IsTask};
+ghost use Rattle.round_lookahead.specs.Works.{HasRun};
+
+use crate::workers::task::Task;
+use crate::workers::worked::Done;
+use host_state::{Host, Net, Outbox};
+use sim_base::{Event, NoMemory, Parcel, Time, What};
+use std::alloc::Global;
+
+/// A task that was run, and the parcels that it made for other hosts.
+#[derive(Drop)]
+pub(crate) struct Finished {
+    pub(crate) done: Done,
+    pub(crate) parcels: Vec<Parcel>,
+}
+
+/// The event that a parcel is at its host.
+fn arrival(parcel: Parcel) -> Event
+    ensures { result ≡ parcel_event parcel }
+{
+    let Parcel { key, packet, .. } = parcel;
+    Event {
+        key,
+        what: What::Packet(packet),
+    }
+}
+
+/// The parcels that wait for a host join the events that it holds.
+fn join_parcels(host: &mut Host, parcels: Vec<Box<Parcel>>) -> Result<(), NoMemory>
+    requires { AreApart (host.old.queue ++ arrivals parcels.items) }
+    ensures queue { OnOk result (IsPermutation host.new.queue (host.old.queue ++ arrivals parcels.items)) }
+    ensures body { OnOk result (IsSameBody host.old host.new) }
+{
+    for parcel in parcels {
+        host.add(arrival(Box::into_inner(parcel)))?;
+    }
+    Ok(())
+}
+
+/// Runs the task's host, with its parcels, up to the end.
+pub(crate) fn run_task(
+    alloc: Global,
+    net: &Net,
+    end: Time,
+    task: Task,
+) -> Result<Finished, NoMemory>
+    requires stop { net.now.stop.nanos ≤ 2 ^ 61 }
+    requires until { end.nanos ≤ net.now.stop.nanos }
+    requires task { (h : HostRecord) × IsTask net.now task.id.index task h }
+    ensures to { IfOk result (λ f. All (λ parcel. parcel.to.index < length net.now.known.book) f.parcels.items) }
+    ensures run { IfOk result (λ f. (h : HostRecord) → IsTask net.now task.id.index task h → HasRun net.now end.nanos task h f.done f.parcels.items) }
+{
+    let Task {
+        id,
+        mut host,
+        parcels,
+        ..
+    } = task;
+    join_parcels(&mut host, parcels)?;
+    let mut out = Outbox::new(alloc);
+    host.run_until(net, end, &mut out)?;
+    let Outbox {
+        parcels,
+        lines,
+        outputs,
+        ..
+    } = out;
+    let done = Done {
+        id,
+        host,
+        lines,
+        outputs,
+    };
+    Ok(Finished { done, parcels })
+}

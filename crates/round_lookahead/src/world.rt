@@ -1,0 +1,14 @@
+//! The world, round by round.
+
+pub(crate) mod backs;
+pub(crate) mod delivery;
+pub(crate) mod due;
+pub(crate) mod merging;
+pub(crate) mod opening;
+pub(crate) mod pieces;
+pub(crate) mod ran;
+pub(crate) mod retasking;
+pub(crate) mod rounds;
+pub(crate) mod run;
+pub(crate) mod settling;
+pub(crate) mod world_state;

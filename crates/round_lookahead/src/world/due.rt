@@ -1,0 +1,51 @@
+//! When the next event of the world is due.
+ghost use Rattle.std.specs.Prelude.{◌≡◌, flat_map};
+ghost use Rattle.event_order.specs.Events.{IsLeastDue};
+ghost use Rattle.round_lookahead.specs.Arrivals.{arrivals};
+ghost use Rattle.round_lookahead.specs.Dues.{lesser_due};
+ghost use Rattle.round_lookahead.specs.Tasks.{waiting};
+
+use crate::workers::task::Task;
+use sim_base::{Parcel, Time};
+
+/// The earlier of two times, either of which may be missing.
+fn earlier(a: Option<Time>, b: Option<Time>) -> Option<Time>
+    ensures { result ≡ lesser_due a b }
+{
+    match (a, b) {
+        (Some(x), Some(y)) => { if y.nanos < x.nanos { b } else { a } }
+        (Some(_), None) => a,
+        (None, _) => b,
+    }
+}
+
+/// When the first of the packets is due.
+fn first_arrival(parcels: &[Box<Parcel>]) -> Option<Time>
+    ensures { IsLeastDue (arrivals parcels.now) result }
+{
+    let mut least = None;
+    for parcel in parcels {
+        least = earlier(least, Some(parcel.key.due));
+    }
+    least
+}
+
+impl Task {
+    /// When the first event that the host holds or that waits for it is due.
+    fn next_due(&self) -> Option<Time>
+        ensures { IsLeastDue (waiting self.now) result }
+    {
+        earlier(self.host.next_due(), first_arrival(self.parcels.as_slice()))
+    }
+}
+
+/// When the first event of all hosts is due; none where there is no event.
+pub(crate) fn least_due(tasks: &[Task]) -> Option<Time>
+    ensures { IsLeastDue (flat_map waiting tasks.now) result }
+{
+    let mut least = None;
+    for task in tasks {
+        least = earlier(least, task.next_due());
+    }
+    least
+}

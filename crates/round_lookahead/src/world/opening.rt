@@ -1,0 +1,57 @@
+//! The world before its first round.
+ghost use Rattle.std.specs.Prelude.{◌≡◌, IfOk};
+ghost use Rattle.host_state.specs.Fits.{FitsNet};
+ghost use Rattle.round_lookahead.specs.OpeningWorld.{AreHostRows, AreOpened, IsOpened, opening_world};
+ghost use Rattle.round_lookahead.specs.WorldStands.{HasRounds, WorldStands, nanos_of};
+
+use crate::workers::task::Task;
+use crate::world::retasking::task_of;
+use crate::world::world_state::World;
+use host_state::{Host, Net, Row};
+use sim_base::{NoMemory, Time};
+use std::alloc::Global;
+
+/// The host of a row at the beginning.
+fn open_host(alloc: Global, row: Row, net: &Net) -> Result<Task, NoMemory>
+    requires { FitsNet net.now row }
+    ensures { IfOk result (IsOpened row) }
+{
+    let id = row.host;
+    let host = Host::new(row, net)?;
+    Ok(task_of(id, host, Vec::new(alloc)))
+}
+
+/// The hosts of all rows.
+fn open_hosts(alloc: Global, rows: Vec<Row>, net: &Net) -> Result<Vec<Task>, NoMemory>
+    requires { AreHostRows net.now rows.items }
+    ensures { IfOk result (λ tasks. AreOpened rows.items tasks.items) }
+{
+    let mut tasks = Vec::with_capacity(alloc, rows.len())?;
+    for row in rows {
+        tasks.push(open_host(alloc, row, net)?)?;
+    }
+    Ok(tasks)
+}
+
+impl World {
+    /// The world in which all hosts of a net begin. The lookahead is the least latency from one host
+    /// to another; with one host there is none. Fails for want of memory alone.
+    pub fn start(
+        alloc: Global,
+        rows: Vec<Row>,
+        net: Net,
+        lookahead: Option<Time>,
+    ) -> Result<World, NoMemory>
+        requires rows { AreHostRows net rows.items }
+        requires rounds { HasRounds net (nanos_of lookahead) }
+        ensures net { IfOk result (λ world. world.net ≡ net) }
+        ensures stands { IfOk result (λ world. WorldStands world (opening_world rows.items)) }
+    {
+        let tasks = open_hosts(alloc, rows, &net)?;
+        Ok(World {
+            net,
+            lookahead,
+            tasks,
+        })
+    }
+}

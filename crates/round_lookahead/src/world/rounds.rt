@@ -1,0 +1,100 @@
+//! The world goes on, round by round.
+ghost use Rattle.std.specs.Prelude.{◌≡◌, ◌≤◌, ◌<◌, ◌↔◌, true, Some, All, Any, IfOk, IfSome, IfNone, flat_map};
+ghost use Rattle.event_order.specs.Events.{IsLeastDue};
+ghost use Rattle.round_lookahead.specs.Gains.{HasRound};
+ghost use Rattle.round_lookahead.specs.Tasks.{waiting};
+ghost use Rattle.round_lookahead.specs.WorldStands.{HostWorld, WorldStands};
+
+use crate::workers::round::{RoundLeft, run_all};
+use crate::world::due::least_due;
+use crate::world::pieces::Pieces;
+use crate::world::settling::{Settled, settle};
+use crate::world::world_state::World;
+use sim_base::{NoMemory, Time};
+use std::alloc::Global;
+use std::mem;
+use std::thread::Threads;
+use steal_workers::Gate;
+use world_order::Window;
+
+impl World {
+    /// When the next event is due; none where there is no event.
+    pub(crate) fn next_due(&self) -> Option<Time>
+        ensures { IsLeastDue (flat_map waiting self.now.tasks.items) result }
+    {
+        least_due(self.tasks.as_slice())
+    }
+
+    /// Whether no event is due before the net's stop.
+    pub fn finished(&self) -> bool
+        ensures { (result ≡ true) ↔ All (λ event. self.now.net.stop.nanos ≤ event.key.due.nanos) (flat_map waiting self.now.tasks.items) }
+    {
+        match self.next_due() {
+            None => true,
+            Some(due) => due.nanos >= self.net.stop.nanos,
+        }
+    }
+
+    /// When the next event is due, if that is before the net's stop.
+    pub(crate) fn due(&self) -> Option<Time>
+        ensures some { IfSome result (λ least. IsLeastDue (flat_map waiting self.now.tasks.items) (Some least)) }
+        ensures before { IfSome result (λ least. least.nanos < self.now.net.stop.nanos) }
+        ensures none { IfNone result (All (λ event. self.now.net.stop.nanos ≤ event.key.due.nanos) (flat_map waiting self.now.tasks.items)) }
+    {
+        let least = self.next_due()?;
+        if least.nanos < self.net.stop.nanos {
+            Some(least)
+        } else {
+            None
+        }
+    }
+
+    /// The round whose least event is due at `least`.
+    pub(crate) fn advance<R: Threads + Sync, G: Gate + Sync>(
+        &mut self,
+        rt: &R,
+        alloc: Global,
+        least: Time,
+        workers: u32,
+        gate: &G,
+    ) -> Result<Pieces, NoMemory>
+        requires stands { (w : HostWorld) × WorldStands self.old w }
+        requires least { IsLeastDue (flat_map waiting self.old.tasks.items) (Some least) }
+        requires workers { (0 < workers) × (workers ≤ 64) }
+        ensures net { self.new.net ≡ self.old.net }
+        ensures lookahead { self.new.lookahead ≡ self.old.lookahead }
+        ensures round { IfOk result (λ pieces. (w : HostWorld) → WorldStands self.old w → (v : HostWorld) × HasRound self.old self.new workers w v pieces) }
+    {
+        let window = Window::of(least, self.lookahead, self.net.stop);
+        let count = self.tasks.len();
+        let tasks = mem::replace(&mut self.tasks, Vec::new(alloc));
+        let RoundLeft { works, rows } = run_all(
+            rt, alloc, &self.net, window.end, tasks, workers, gate,
+        )?;
+        let Settled { tasks, pieces } = settle(alloc, count, works, rows)?;
+        self.tasks = tasks;
+        Ok(pieces)
+    }
+
+    /// Runs a round: all hosts are run up to the end of the window that begins with the next event,
+    /// by so many workers side by side, each of which tells the gate before it runs a host. The
+    /// world then stands for the one after all turns that are due before that end. Fails for want of
+    /// memory alone; the world isn't used after that.
+    pub fn round<R: Threads + Sync, G: Gate + Sync>(
+        &mut self,
+        rt: &R,
+        alloc: Global,
+        workers: u32,
+        gate: &G,
+    ) -> Result<Pieces, NoMemory>
+        requires stands { (w : HostWorld) × WorldStands self.old w }
+        requires unfinished { Any (λ event. event.key.due.nanos < self.old.net.stop.nanos) (flat_map waiting self.old.tasks.items) }
+        requires workers { (0 < workers) × (workers ≤ 64) }
+        ensures { IfOk result (λ pieces. (w : HostWorld) → WorldStands self.old w → (v : HostWorld) × HasRound self.old self.new workers w v pieces) }
+    {
+        let Some(least) = self.next_due() else {
+            unreachable!()
+        };
+        self.advance(rt, alloc, least, workers, gate)
+    }
+}

@@ -1,0 +1,50 @@
+//! What all workers leave is put back.
+ghost use Rattle.std.specs.Prelude.{IfOk};
+ghost use Rattle.round_lookahead.specs.Settles.{CanSettle, HasSettled};
+
+use crate::workers::task::Task;
+use crate::workers::worked::Worked;
+use crate::world::backs::{Returned, all_back, put_back};
+use crate::world::delivery::deliver;
+use crate::world::merging::merge;
+use crate::world::pieces::Pieces;
+use crate::world::retasking::{Retasked, retask};
+use sim_base::{NoMemory, Parcel};
+use std::alloc::Global;
+
+/// The hosts of the next round, and what the last one gained.
+#[derive(Drop)]
+pub(crate) struct Settled {
+    pub(crate) tasks: Vec<Task>,
+    pub(crate) pieces: Pieces,
+}
+
+/// Puts hosts back by their numbers, each with the packets for it, and lines in the order of their keys.
+pub(crate) fn settle(
+    alloc: Global,
+    count: usize,
+    works: Vec<Worked>,
+    mut rows: Vec<Vec<Box<Parcel>>>,
+) -> Result<Settled, NoMemory>
+    requires { CanSettle count works.items rows.items }
+    ensures { IfOk result (λ s. HasSettled count works.items rows.items s) }
+{
+    let Returned {
+        slots,
+        mut lines,
+        took,
+        spill,
+    } = put_back(alloc, count, works)?;
+    merge(&mut lines)?;
+    deliver(alloc, &mut rows, spill)?;
+    let backs = all_back(alloc, slots)?;
+    let Retasked { tasks, outputs } = retask(alloc, backs, rows)?;
+    Ok(Settled {
+        tasks,
+        pieces: Pieces {
+            outputs,
+            lines,
+            took,
+        },
+    })
+}
