@@ -28,9 +28,9 @@ use Rattle.world_order.proofs.Orders.{window-upto, run-goes_on}
 use Rattle.world_order.proofs.Turns.{next-none}
 use Rattle.round_lookahead.specs.declared.workers.task.Task.{Task}
 use Rattle.round_lookahead.specs.declared.world.pieces.Pieces.{Pieces}
-use Rattle.round_lookahead.specs.declared.world.ran.HostRun.{HostRun}
+use Rattle.host_state.specs.declared.ran.HostRun.{HostRun}
 use Rattle.round_lookahead.specs.declared.world.ran.Kept.{Kept}
-use Rattle.round_lookahead.specs.declared.world.ran.Ran.{Ran}
+use Rattle.host_state.specs.declared.ran.Ran.{Ran}
 use Rattle.round_lookahead.specs.declared.world.world_state.World.{World}
 use Rattle.round_lookahead.specs.Backs.{lists_of}
 use Rattle.round_lookahead.specs.Gains.{HasRound}

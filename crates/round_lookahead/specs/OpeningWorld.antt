@@ -1,20 +1,11 @@
 -- Where a run begins.
-use Rattle.std.specs.Prelude.{◌≡◌, ℕ, ◌++◌, List, [], ◌∷◌, length, map, flat_map, Some, slice_get}
+use Rattle.std.specs.Prelude.{◌≡◌, ℕ, List, [], ◌∷◌, length, Some, slice_get}
 use Rattle.host_state.specs.declared.net.Net.{Net}
 use Rattle.host_state.specs.declared.row.Row.{Row}
-use Rattle.host_state.specs.Opening.{opening}
 use Rattle.host_state.specs.Fits.{FitsNet}
 use Rattle.host_state.specs.HostStands.{Begins}
+pub use Rattle.host_state.specs.World.{opening_world}
 use Rattle.round_lookahead.specs.declared.workers.task.Task.{Task}
-use Rattle.round_lookahead.specs.WorldStands.{HostWorld}
-
--- each host as its row opens it, the events that the hosts begin with, and no line in the packet log
-abbrev pub opening_world : List Row → HostWorld
-opening_world rows = record {
-  hosts = map (λ (row : Row). (opening row).host) rows;
-  events = flat_map (λ (row : Row). (opening row).made) rows;
-  log = [];
-}
 
 -- the rows of a net: as many as its hosts, each that of the host of its place
 pub record AreHostRows (net : Net) (rows : List Row) : Type 0 where

@@ -8,6 +8,5 @@ pub use workers::task::Task;
 pub use workers::worked::{Done, Worked};
 pub use workers::working::work;
 pub use world::pieces::Pieces;
-pub use world::ran::{HostRun, Ran};
 pub use world::run::run;
 pub use world::world_state::World;

@@ -1,4 +1,4 @@
-//! What a run keeps, and what it leaves.
+//! What a run keeps.
 ghost use Rattle.std.specs.Prelude.{◌≡◌, ◌++◌, [], IfOk, OnOk, length, map, replicate};
 ghost use Rattle.round_lookahead.specs.Backs.{lists_of};
 ghost use Rattle.round_lookahead.specs.Ran.{joined_each};
@@ -6,24 +6,10 @@ ghost use Rattle.round_lookahead.specs.Ran.{joined_each};
 use crate::workers::task::Task;
 use crate::world::pieces::Pieces;
 use host_calls::Output;
-use host_state::{Host, Logged};
+use host_state::{HostRun, Logged};
 use sim_base::NoMemory;
 use std::alloc::Global;
 use std::mem;
-
-/// A host, and what its processes wrote, in order.
-#[derive(Drop)]
-pub struct HostRun {
-    pub host: Host,
-    pub written: Vec<Output>,
-}
-
-/// What a run leaves: all hosts, and the packet log.
-#[derive(Drop)]
-pub struct Ran {
-    pub hosts: Vec<HostRun>,
-    pub log: Vec<Logged>,
-}
 
 /// What was written so far, by host, and the log so far.
 #[derive(Drop)]

@@ -6,9 +6,9 @@ ghost use Rattle.round_lookahead.specs.OpeningWorld.{AreHostRows, opening_world}
 ghost use Rattle.round_lookahead.specs.Ran.{KeepsAll, RanStands};
 ghost use Rattle.round_lookahead.specs.WorldStands.{HostWorld, HasRounds, WorldStands, nanos_of};
 
-use crate::world::ran::{Kept, Ran, host_runs};
+use crate::world::ran::{Kept, host_runs};
 use crate::world::world_state::World;
-use host_state::{Net, Row};
+use host_state::{Net, Ran, Row};
 use sim_base::{NoMemory, Time};
 use std::alloc::Global;
 use std::thread::Threads;

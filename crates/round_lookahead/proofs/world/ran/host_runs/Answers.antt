@@ -2,7 +2,7 @@ use Rattle.std.proofs.Common.{◌≡◌, ◌++◌, ◌∷◌, [], List, length, 
 use Rattle.std.specs.Vec.Iter.{into_iter_items}
 use Rattle.host_calls.specs.declared.parts.Output.{Output}
 use Rattle.round_lookahead.specs.declared.workers.task.Task.{Task}
-use Rattle.round_lookahead.specs.declared.world.ran.HostRun.{HostRun}
+use Rattle.host_state.specs.declared.ran.HostRun.{HostRun}
 use Rattle.round_lookahead.proofs.BackSteps.{maps-more, seen-more}
 use Rattle.round_lookahead.proofs.world.ran.host_runs.Goals as goal
 
