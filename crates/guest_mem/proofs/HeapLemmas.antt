@@ -2,7 +2,7 @@
 use Rattle.std.proofs.Common.{◌≡◌, ℕ, zero, suc, ◌+◌, ◌-◌, ◌*◌, ◌^◌, ◌<◌, ◌≤◌, ◌⊎◌, inl, inr, Bool, true, false, cond, not, ◌&&◌, List, [], ◌∷◌, ◌++◌, length, get_or, take, drop, Option, Some, None, map, replicate, vec_len, refl, sym, ap, subst, ◌∙◌, arith, ⊎_elim, ltb, leb, Equal}
 use Rattle.std.proofs.lemmas.Bool.{cases_lt, lt-ltb, le-ltb, le-leb}
 use Rattle.std.proofs.lemmas.Bool.Decides.{leb_tells}
-use Rattle.std.proofs.lemmas.List.{length-map, length-append, length-take-le, get_or_append_left, get_or-append-add, get_or-take, map-append, take-map, take-take, take-append-le, drop-append-le, take-append-drop, drop-take, drop-drop, get_or_push, get_or-map, get_or-replicate, get_or_past, length-replicate, take_all}
+use Rattle.std.proofs.lemmas.List.{length-map, length-append, length-take-le, get_or_append_left, get_or-append-add, get_or-take, map-append, take-map, take-take, take-append-le, drop-append-le, take-append-drop, drop-take, drop-drop, get_or-map, get_or-replicate, get_or_past, length-replicate, take_all}
 use Rattle.std.proofs.Math.ListN.{drop_of_length-le}
 use Rattle.std.proofs.lemmas.Simd.{map-map}
 use Rattle.std.proofs.lemmas.List.FromFn.{length-range_with_len}
@@ -12,8 +12,6 @@ use Rattle.std.specs.FinMap.{from_entries, get-retain_keys, same_map, nat_cmp-Is
 use Rattle.std.specs.Cmp.{nat_cmp_total, ranked}
 use Rattle.elf_load.specs.Cells.{Cell, Cells, cells_from, cells_of_page, cells_of}
 use Rattle.elf_load.specs.declared.page.Page.{Page}
-use Rattle.elf_load.specs.declared.rights.Rights.{Rights}
-use Rattle.std.specs.List.{slice_index}
 use Rattle.guest_mem.specs.Break.{zero_cell, with_zeros, without}
 use Rattle.guest_mem.specs.Pages.{GuestPage, of_image, zeros, zero_page, zero_pages, cell_in, cells_within, mapped_cells, numbers, place_of, AreZeroPages, IsPageTable}
 use Rattle.guest_mem.proofs.CellLemmas.{get-insert_same, get-insert_other}

@@ -1,6 +1,5 @@
 pub mod BreakLemmas
 pub mod CellLemmas
 pub mod HeapLemmas
-pub mod IndexLemmas
 pub mod PageLemmas
 pub mod SlotLemmas

@@ -1,7 +1,7 @@
 -- The pages that entries and slots stand for, and what stays of them.
-use Rattle.std.proofs.Common.{◌≡◌, ℕ, zero, suc, ◌+◌, ◌-◌, ◌*◌, ◌^◌, ◌<◌, ◌≤◌, ◌≢◌, ◌⊎◌, inl, inr, List, [], ◌∷◌, ◌++◌, length, get_or, set, take, drop, map, None, vec_len, true, false, refl, sym, ap, subst, ◌∙◌, arith, ⊎_elim}
+use Rattle.std.proofs.Common.{◌≡◌, ℕ, zero, suc, ◌+◌, ◌-◌, ◌*◌, ◌^◌, ◌<◌, ◌≤◌, ◌≢◌, ◌⊎◌, inl, inr, List, [], ◌∷◌, ◌++◌, length, get_or, set, take, drop, map, None, vec_len, false, refl, sym, ap, subst, ◌∙◌, arith, ⊎_elim}
 use Rattle.std.proofs.lemmas.Bool.{cases_eq, cases_lt}
-use Rattle.std.proofs.lemmas.List.{length-map, length-set, length-take-le, length-drop, length-append, get_or-take, get_or-drop, get_or-map, get_or-set_same, get_or-set_other, get_or_append_left, get_or_push, get_or_past, get_or_default, set-get_or, map-set, same_lists, take_more, take_more_set, take-append-le, map-append, take_all, take-map, drop-take, drop-drop, take-take}
+use Rattle.std.proofs.lemmas.List.{length-map, length-set, length-take-le, length-drop, length-append, get_or-take, get_or-drop, get_or-map, get_or-set_same, get_or-set_other, get_or_append_left, get_or_push, get_or_past, get_or_default, set-get_or, map-set, same_lists, take_more, take_more_set, map-append, take_all, take-map, drop-take, drop-drop, take-take}
 use Rattle.std.proofs.lemmas.Grind.{same_number_lists}
 use Rattle.std.proofs.lemmas.Simd.{map-map}
 use Rattle.elf_load.specs.declared.page.Page.{Page}

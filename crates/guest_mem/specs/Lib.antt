@@ -6,4 +6,5 @@ pub mod PageStore
 pub mod PageTable
 pub mod Pages
 pub mod Slots
+pub mod Tables
 pub mod Vectors

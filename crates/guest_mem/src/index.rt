@@ -1,29 +1,34 @@
 //! The index of a guest's pages: two levels, from a page's number to its place.
 
-ghost use Rattle.std.specs.Prelude.{◌≡◌, ℕ, ◌^◌, ◌<◌, None, Some, IfOk, OnOk, [], length, vec_len, if◌then◌else◌, ◌==◌, map};
+ghost use Rattle.std.specs.Prelude.{◌≡◌, ℕ, ◌+◌, ◌*◌, ◌^◌, ◌<◌, ◌≤◌, None, Some, IfOk, OnOk, [], length, vec_len, slice_index, if◌then◌else◌, ◌==◌};
+ghost use Rattle.std.proofs.Props.{props};
+ghost use Rattle.guest_mem.specs.Tables.{AreTables};
 
 use crate::entry::Entry;
 use std::alloc::{AllocError, Global};
-use std::mem;
 
 /// The entry of a page number that no page has.
 const NO_PAGE: u16 = u16::MAX;
 
-/// How many tables there are, and how many entries a table has that is made.
+/// The table without pages, which all numbers have for which no other was made.
+const BLANK: u16 = 0;
+
+/// How many tables the numbers below 2^20 take, and how many entries a table has.
 const TABLES: usize = 1024;
 
 const TABLE_LEN: usize = 1024;
 
-/// The place of each page by its number, below 2^20, in up to 1,024 tables of 1,024 entries, made as needed.
+/// The place of each page by its number, below 2^20. The root has the table of each 1,024 numbers, and the tables stand
+/// one behind another: first the blank one, then those that were needed.
 #[derive(Drop)]
 pub(crate) struct PageIndex {
-    tables: Vec<Vec<u16>>,
-    ghost is_whole: { vec_len tables ≡ 1024 },
+    root: Vec<u16>,
+    places: Vec<u16>,
+    ghost sound: { AreTables root.items places.items } by { Prim.hlevel props },
 }
 
 impl PageIndex {
     ghost use Rattle.guest_mem.specs.PageIndex.{place_in, Finds};
-    ghost use Rattle.guest_mem.specs.Pages.{place_of};
     ghost use Rattle.guest_mem.specs.Slots.{entry_numbers};
 
     /// The index of these pages: of pages with one number the first is found.
@@ -34,7 +39,7 @@ impl PageIndex {
         let mut index = PageIndex::new(alloc)?;
         for (place, page) in pages.iter().enumerate() {
             if index.find(page.number).is_none() {
-                index.set(alloc, page.number, place as u16)?;
+                index.set(page.number, place as u16)?;
             }
         }
         Ok(index)
@@ -42,29 +47,48 @@ impl PageIndex {
 
     /// An index without pages.
     fn new(alloc: Global) -> Result<PageIndex, AllocError>
-        ensures { IfOk result (λ index. Finds index []) }
+        ensures none { IfOk result (λ index. Finds index []) }
+        ensures blank { IfOk result (λ index. vec_len index.places ≡ 1024) }
     {
-        let mut tables = Vec::with_capacity(alloc, TABLES)?;
-        'made: while tables.len() < TABLES {
-            tables.push(Vec::new(alloc))?;
-        }
-        Ok(PageIndex { tables })
+        let mut root = Vec::new(alloc);
+        root.resize(TABLES, BLANK)?;
+        let mut places = Vec::new(alloc);
+        places.resize(TABLE_LEN, NO_PAGE)?;
+        Ok(PageIndex { root, places })
     }
 
     /// Notes the place of the page with this number.
-    fn set(&mut self, alloc: Global, number: u32, place: u16) -> Result<(), AllocError>
+    fn set(&mut self, number: u32, place: u16) -> Result<(), AllocError>
         requires in_range { number < 2 ^ 20 }
         requires is_place { place < 65535 }
-        ensures { OnOk result
+        requires few { vec_len self.old.places ≤ 1024 * 65535 }
+        ensures set { OnOk result
             ((n : ℕ) → n < 2 ^ 20
             → place_in self.new n ≡ (if n == number then Some place else place_in self.old n)) }
+        ensures len { OnOk result (vec_len self.new.places ≤ vec_len self.old.places + 1024) }
     {
-        let at = number as usize / TABLE_LEN;
-        let mut table = mem::replace(&mut self.tables[at], Vec::new(alloc));
-        table.resize(TABLE_LEN, NO_PAGE)?;
-        table[number as usize % TABLE_LEN] = place;
-        self.tables[at] = table;
+        let table = self.own_table(number as usize / TABLE_LEN)?;
+        self.places[table * TABLE_LEN + number as usize % TABLE_LEN] = place;
         Ok(())
+    }
+
+    /// The table at a place of the root, which is made where there is only the blank one.
+    fn own_table(&mut self, at: usize) -> Result<usize, AllocError>
+        requires in_root { at < 1024 }
+        requires few { vec_len self.old.places ≤ 1024 * 65535 }
+        ensures table { IfOk result (λ table. slice_index self.new.root.items at ≡ table) }
+        ensures own { IfOk result (λ table. 0 < table) }
+        ensures same { OnOk result ((n : ℕ) → n < 2 ^ 20 → place_in self.new n ≡ place_in self.old n) }
+        ensures len { OnOk result (vec_len self.new.places ≤ vec_len self.old.places + 1024) }
+    {
+        let table = self.root[at];
+        if table != BLANK {
+            return Ok(table as usize);
+        }
+        let table = self.places.len() / TABLE_LEN;
+        self.places.resize((table + 1) * TABLE_LEN, NO_PAGE)?;
+        self.root[at] = table as u16;
+        Ok(table)
     }
 
     /// The place of the page with this number.
@@ -73,9 +97,12 @@ impl PageIndex {
         requires { number < 2 ^ 20 }
         ensures { result ≡ place_in self.now number }
     {
-        match self.tables[number as usize / TABLE_LEN].get(number as usize % TABLE_LEN) {
-            Some(&place) if place != NO_PAGE => Some(place as usize),
-            _ => None,
+        let table = self.root[number as usize / TABLE_LEN] as usize;
+        let place = self.places[table * TABLE_LEN + number as usize % TABLE_LEN];
+        if place == NO_PAGE {
+            None
+        } else {
+            Some(place as usize)
         }
     }
 }

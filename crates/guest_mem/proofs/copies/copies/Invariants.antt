@@ -1,4 +1,4 @@
-use Rattle.std.proofs.Common.{◌≡◌, ◌+◌, List, length, map, take}
+use Rattle.std.proofs.Common.{◌≡◌, ◌+◌, length, map, take}
 use Rattle.guest_mem.specs.PageStore.{HasRoom, shown}
 use Rattle.guest_mem.specs.Pages.{of_image}
 use Rattle.guest_mem.proofs.copies.copies.Given as goal

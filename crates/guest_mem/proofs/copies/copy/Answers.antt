@@ -1,4 +1,4 @@
-use Rattle.std.proofs.Common.{◌≡◌, ℕ, List, [], ◌∷◌, ◌++◌, length, get_or, sym, ap, ◌∙◌, subst}
+use Rattle.std.proofs.Common.{ℕ, List, [], ◌∷◌, ◌++◌, length, get_or, sym, ap, ◌∙◌, subst}
 use Rattle.elf_load.specs.declared.page.Page.{Page}
 use Rattle.guest_mem.specs.PageStore.{shown}
 use Rattle.guest_mem.specs.Pages.{GuestPage, IsRewritten, zero_page}

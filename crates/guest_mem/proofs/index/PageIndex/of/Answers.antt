@@ -1,4 +1,5 @@
-use Rattle.std.proofs.Common.{◌≡◌, ℕ, ◌+◌, ◌<◌, ◌^◌, Bool, true, false, not, cond, eqb, List, [], ◌∷◌, ◌++◌, length, take, Option, Some, None, refl, sym, ap, ◌∙◌, arith, is_some, subst}
+use Rattle.std.proofs.Common.{◌≡◌, ℕ, ◌+◌, ◌<◌, ◌^◌, Bool, true, false, not, cond, eqb, List, [], ◌∷◌, ◌++◌, length, take, Option, Some, None, refl, sym, ap, ◌∙◌, arith, is_some, subst, vec_len}
+use Rattle.std.proofs.lemmas.List.{take_all}
 use Rattle.guest_mem.specs.declared.entry.Entry.{Entry}
 use Rattle.guest_mem.specs.PageIndex.{Finds}
 use Rattle.guest_mem.specs.Pages.{place_of}
@@ -27,20 +28,30 @@ loop-place-preserved c =
     let all : entry_numbers (take (place + 1) ps) ≡ ns ++ page.number ∷ [] = numbers-more ps place page c.loop-place-test.true c.index-pages-place.is in
     let long : length ns ≡ place = length-numbers_so_far ps place (omega arith) in
     let low : page.number < 2 ^ 20 = page.in_range in
-    let was : place_of ns page.number ≡ c.find.result = sym (c.loop-place.invariant page.number low) ∙ sym c.find.ensures in
+    let was : place_of ns page.number ≡ c.find.result = sym (c.loop-place.invariant.found page.number low) ∙ sym c.find.ensures in
     let so_far : (index : PageIndex) → Finds index (ns ++ page.number ∷ []) → Finds index (entry_numbers (take (place + 1) ps)) =
     λ (index : PageIndex) finds. subst (λ (ms : List ℕ). Finds index ms) (sym all) finds in
     elim c.if-is_none.branch [
       | then-is_none+in_ok-set w ↦
           let none : place_of ns page.number ≡ None = was ∙ nothing c.find.result c.is_none.result c.is_none.ensures w.if-is_none.true in
-          subst (λ (index : PageIndex). Finds index (entry_numbers (take (place + 1) ps))) (sym w.index-is)
-          (so_far w.set.new.self (λ n l.
-          w.in_ok-set.ensures n l
-          ∙ ap (λ (o : Option ℕ). cond (eqb n page.number) (Some place) o) (c.loop-place.invariant n l)
-          ∙ ap (λ (x : ℕ). cond (eqb n page.number) (Some x) (place_of ns n)) (sym long)
-          ∙ sym (pushed_new ns page.number none n)))
+          record {
+            found = subst (λ (index : PageIndex). Finds index (entry_numbers (take (place + 1) ps))) (sym w.index-is)
+                (so_far w.set.new.self (λ n l.
+                w.in_ok-set.ensures.set n l
+                ∙ ap (λ (o : Option ℕ). cond (eqb n page.number) (Some place) o) (c.loop-place.invariant.found n l)
+                ∙ ap (λ (x : ℕ). cond (eqb n page.number) (Some x) (place_of ns n)) (sym long)
+                ∙ sym (pushed_new ns page.number none n)));
+            few = omega (arith, c.loop-place.invariant.few, w.in_ok-set.ensures.len, ap (λ (index : PageIndex). vec_len index.places) w.index-is);
+          }
       | else-is_none w ↦
           let some : (j : ℕ) × (c.find.result ≡ Some j) = something c.find.result c.is_none.result c.is_none.ensures w.if-is_none.false in
-          subst (λ (index : PageIndex). Finds index (entry_numbers (take (place + 1) ps))) (sym w.index-is)
-          (so_far c.loop-place.index (λ n l. c.loop-place.invariant n l ∙ sym (pushed_known ns page.number some.0 (was ∙ some.1) n)))
+          record {
+            found = subst (λ (index : PageIndex). Finds index (entry_numbers (take (place + 1) ps))) (sym w.index-is)
+                (so_far c.loop-place.index (λ n l. c.loop-place.invariant.found n l ∙ sym (pushed_known ns page.number some.0 (was ∙ some.1) n)));
+            few = omega (arith, c.loop-place.invariant.few, ap (λ (index : PageIndex). vec_len index.places) w.index-is);
+          }
     ]
+
+pub returns : goal.returns
+returns c = λ n l.
+    c.loop-place.invariant.found n l ∙ ap (λ (ps : List Entry). place_of (entry_numbers ps) n) (take_all c.loop-place.place c.args.pages.now c.loop-place-test.false)

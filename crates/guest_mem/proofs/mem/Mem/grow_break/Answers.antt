@@ -1,4 +1,4 @@
-use Rattle.std.proofs.Common.{◌≡◌, ℕ, ◌+◌, ◌-◌, ◌*◌, ◌≤◌, sym, ap, ◌∙◌, arith, vec_len, subst}
+use Rattle.std.proofs.Common.{◌≡◌, ℕ, ◌+◌, ◌-◌, ◌*◌, ◌≤◌, sym, ap, ◌∙◌, arith, subst}
 use Rattle.guest_mem.specs.Memory.{Memory}
 use Rattle.guest_mem.specs.Break.{with_zeros, without, pages_to, grown}
 use Rattle.guest_mem.specs.declared.mem.Mem.TheInside.{Inside}

@@ -1,4 +1,4 @@
-use Rattle.std.proofs.Common.{◌≡◌, ◌+◌, ◌-◌, ◌≤◌, ◌++◌}
+use Rattle.std.proofs.Common.{◌≡◌, ◌+◌, ◌-◌, ◌++◌}
 use Rattle.guest_mem.specs.PageStore.{HasRoom, shown}
 use Rattle.guest_mem.specs.Pages.{zero_pages}
 use Rattle.guest_mem.proofs.pages.Pages.push_zeros.Given as goal

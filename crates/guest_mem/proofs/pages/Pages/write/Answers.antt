@@ -1,6 +1,6 @@
 use Rattle.std.proofs.Common.{◌≡◌, ℕ, ◌+◌, ◌*◌, ◌<◌, ◌≤◌, ◌⊎◌, inl, inr, List, length, map, take, get_or, ap, sym, ◌∙◌, arith, subst, ⊎_elim}
 use Rattle.guest_mem.specs.declared.pages.Pages.{Pages}
-use Rattle.guest_mem.specs.PageStore.{HasRoom, shown}
+use Rattle.guest_mem.specs.PageStore.{HasRoom}
 use Rattle.guest_mem.specs.Pages.{GuestPage, IsRewritten}
 use Rattle.guest_mem.specs.Slots.{page_of}
 use Rattle.guest_mem.proofs.SlotLemmas.{written}

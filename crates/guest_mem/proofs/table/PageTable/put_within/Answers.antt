@@ -3,7 +3,7 @@ use Rattle.guest_mem.specs.declared.right.Right.TheVariants.{Write}
 use Rattle.guest_mem.specs.Memory.{permits}
 use Rattle.guest_mem.specs.PageIndex.{place_in}
 use Rattle.guest_mem.specs.PageStore.{shown}
-use Rattle.guest_mem.specs.Pages.{GuestPage, AreKnown, IsPageTable, IsRewritten, numbers, place_of, mapped_cells}
+use Rattle.guest_mem.specs.Pages.{GuestPage, AreKnown, IsPageTable, numbers, place_of, mapped_cells}
 use Rattle.guest_mem.proofs.PageLemmas.{place_of-in, within-some, within-denied, within-none, numbers-put, cells-put}
 use Rattle.guest_mem.proofs.SlotLemmas.{length-numbers, blank, length-shown_page, rewritten-set}
 use Rattle.guest_mem.proofs.table.PageTable.put_within.Goals as goal
