@@ -1,6 +1,7 @@
 //! Scripts over two hosts, 11.0.0.1 and 11.0.0.2: what each call answers, and what becomes of the
 //! packets that it wants to be sent.
 
+mod ports;
 mod tcp;
 mod udp;
 
@@ -313,11 +314,21 @@ fn carry(sites: &mut [Site; 2], from: usize) -> Result<Got, NoMemory> {
 fn first_wrong(alloc: Global, rows: &[Row]) -> Result<Option<(usize, Got)>, NoMemory> {
     let hosts = Book::new(alloc, [OWN, OTHER].to_vec(alloc)?)?;
     let mut sites = [new_site(alloc, OWN, 0), new_site(alloc, OTHER, 1)];
+    first_wrong_at(alloc, &hosts, &mut sites, rows)
+}
+
+/// The same at hosts that have some sockets.
+fn first_wrong_at(
+    alloc: Global,
+    hosts: &Book,
+    sites: &mut [Site; 2],
+    rows: &[Row],
+) -> Result<Option<(usize, Got)>, NoMemory> {
     for (place, row) in rows.iter().enumerate() {
         let Row(host, step, wanted) = *row;
         let found = match step {
-            Do::Carry => carry(&mut sites, host)?,
-            _ => act(alloc, &hosts, &mut sites[host.min(1)], step)?,
+            Do::Carry => carry(sites, host)?,
+            _ => act(alloc, hosts, &mut sites[host.min(1)], step)?,
         };
         if found != wanted {
             return Ok(Some((place, found)));
