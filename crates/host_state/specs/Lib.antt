@@ -1,4 +1,5 @@
 pub mod Arriving
+pub mod Extends
 pub mod Fire
 pub mod Fits
 pub mod Home

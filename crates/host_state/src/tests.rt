@@ -12,9 +12,10 @@ use host_calls::{Known, Output};
 use net_iface::QueueRule;
 use net_routes::routes;
 use sim_base::{Act, Book, Bytes, Event, HostId, Ip, Name, Parcel, Signal, State, Time, What};
-use std::alloc::Global;
+use std::alloc::{AllocGlobal, Global};
 use std::process::Abort;
 use std::test::Fail;
+use std::thread::Threads;
 
 /// A file of one segment at 0x10000, up to the sizes of its only program header.
 const HEAD: [u32; 17] = [
@@ -439,11 +440,12 @@ fn writes(alloc: Global, guest: &Guest) -> Result<Vec<u8>, Fail> {
 
 const ADDRESSES: [Ip; 2] = [Ip { bits: 0x0B00_0001 }, Ip { bits: 0x0B00_0002 }];
 
-fn net(alloc: Global, play: &Play) -> Result<Option<Net>, Fail> {
+fn net(rt: &(impl Threads + Sync + AllocGlobal), play: &Play) -> Result<Option<Net>, Fail> {
+    let alloc = rt.alloc();
     let Ok(graph) = read_gml(alloc, play.graph.as_bytes()) else {
         return Ok(None);
     };
-    let Ok(routes) = routes(alloc, &graph, &[0, 1], true) else {
+    let Ok(routes) = routes(rt, alloc, &graph, &[0, 1], true, 1) else {
         return Ok(None);
     };
     let mut images = Vec::new(alloc);
@@ -575,10 +577,10 @@ fn turn(
     Ok(true)
 }
 
-fn plays(rt: &(impl Abort + AllocGlobal), plays: &[Play]) -> Result<(), Fail> {
+fn plays(rt: &(impl Abort + Threads + Sync + AllocGlobal), plays: &[Play]) -> Result<(), Fail> {
     let alloc = rt.alloc();
     for play in plays {
-        let Some(net) = net(alloc, play)? else {
+        let Some(net) = net(rt, play)? else {
             return Err(Fail::new("no net"));
         };
         let mut hosts = Vec::new(alloc);
@@ -663,7 +665,7 @@ static PAUSE: Play = Play {
 #[test]
 fn a_host_runs_up_to_a_time(rt: HostRuntime) -> Result<(), Fail> {
     let alloc = rt.alloc();
-    let Some(net) = net(alloc, &PAUSE)? else {
+    let Some(net) = net(&rt, &PAUSE)? else {
         return Err(Fail::new("no net"));
     };
     let row = row(alloc, 0, ADDRESSES[0], &PAUSES)?;
