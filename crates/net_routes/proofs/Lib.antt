@@ -1,5 +1,6 @@
 pub mod ListLemmas
 pub mod CostLemmas
+pub mod FoundLemmas
 pub mod SearchLemmas
 pub mod StepLemmas
 pub mod PlaceLemmas

@@ -8,3 +8,4 @@ pub mod Search
 pub mod Lines
 pub mod Routes
 pub mod Least
+pub mod Found

@@ -1,26 +1,156 @@
 //! Finds the routes that hosts need.
 
-ghost use Rattle.std.specs.Prelude.{IfOk, IfErr};
+ghost use Rattle.std.specs.Prelude.{◌≡◌, ◌<◌, All, Contains, IfOk, IfErr, Ok, map};
+ghost use Rattle.net_routes.specs.Found.{IsReady, AreStops, IsToSearch, IsFound, IsSearched, AreSearched, lines_found, IsStopped};
 ghost use Rattle.net_routes.specs.Routes.{HasRoutes, AreRoutes, IsRefusal};
 
 use crate::error::RouteError;
-use crate::line::line_from;
+use crate::line::{Line, line_from};
 use crate::net::Net;
 use crate::places::Places;
 use crate::step::steps_of;
 use crate::table::Routes;
 use gml_graph::Graph;
+use sim_base::NoMemory;
 use std::alloc::Global;
+use std::thread::{Threads, for_each_mut};
 
-/// The routes that hosts on these nodes need, one entry for each host. With `shortest` a route
-/// between two nodes is the best walk, of any length; otherwise, and from a node to itself, it is
-/// the best edge. The best one takes the least time, and of those that do most arrives.
-pub fn routes(
+/// A node, and the costs of the routes from it once they are found.
+#[derive(Drop)]
+pub(crate) struct Search {
+    pub(crate) from: u32,
+    pub(crate) line: Result<Line, RouteError>,
+}
+
+/// The costs of the routes from a node, or the first that hosts need and that isn't there.
+fn find_line(
+    alloc: Global,
+    net: &Net,
+    nodes: &[u32],
+    stops: &[u32],
+    shortest: bool,
+    from: u32,
+) -> Result<Line, RouteError>
+    requires net { IsReady net.now }
+    requires from { Contains nodes.now from }
+    requires stops { AreStops nodes.now stops.now }
+    ensures { IsFound net.now nodes.now stops.now shortest from result }
+{
+    let costs = net.costs_from(alloc, from, shortest)?;
+    line_from(alloc, net, costs.as_slice(), nodes, stops, from)
+}
+
+/// Makes a search.
+fn make_search(
+    alloc: Global,
+    net: &Net,
+    nodes: &[u32],
+    stops: &[u32],
+    shortest: bool,
+    each: &mut Search,
+)
+    requires net { IsReady net.now }
+    requires from { IsToSearch nodes.now each.old }
+    requires stops { AreStops nodes.now stops.now }
+    ensures { IsSearched net.now nodes.now stops.now shortest each.old each.new }
+{
+    each.line = find_line(alloc, net, nodes, stops, shortest, each.from);
+}
+
+/// Makes all searches, in so many threads side by side. Where no thread can be made, they come one
+/// after another.
+fn make_searches<R: Threads + Sync>(
+    rt: &R,
+    alloc: Global,
+    net: &Net,
+    nodes: &[u32],
+    stops: &[u32],
+    shortest: bool,
+    workers: u32,
+    searches: &mut [Search],
+)
+    requires net { IsReady net.now }
+    requires stops { AreStops nodes.now stops.now }
+    requires workers { 0 < workers }
+    requires from { All (IsToSearch nodes.now) searches.old }
+    ensures { AreSearched net.now nodes.now stops.now shortest searches.old searches.new }
+{
+    for_each_mut(
+        rt,
+        searches,
+        workers as usize,
+        &|_, each| { make_search(alloc, net, nodes, stops, shortest, each) },
+    );
+}
+
+/// The same for a vector of searches.
+fn search_all<R: Threads + Sync>(
+    rt: &R,
+    alloc: Global,
+    net: &Net,
+    nodes: &[u32],
+    stops: &[u32],
+    shortest: bool,
+    workers: u32,
+    searches: &mut Vec<Search>,
+)
+    requires net { IsReady net.now }
+    requires stops { AreStops nodes.now stops.now }
+    requires workers { 0 < workers }
+    requires from { All (IsToSearch nodes.now) searches.old.items }
+    ensures { AreSearched net.now nodes.now stops.now shortest searches.old.items searches.new.items }
+{
+    make_searches(
+        rt,
+        alloc,
+        net,
+        nodes,
+        stops,
+        shortest,
+        workers,
+        searches.as_mut_slice(),
+    );
+}
+
+/// The searches from these nodes before they begin.
+fn searches_from(alloc: Global, stops: &[u32]) -> Result<Vec<Search>, NoMemory>
+    ensures { IfOk result (λ v. map (λ s. s.from) v.items ≡ stops.now) }
+{
+    let mut searches = Vec::with_capacity(alloc, stops.len())?;
+    for from in stops {
+        searches.push(Search {
+            from: *from,
+            line: Err(RouteError::NoMemory),
+        })?;
+    }
+    Ok(searches)
+}
+
+/// The lines that were found, or the first error.
+fn lines_of(alloc: Global, searches: Vec<Search>) -> Result<Vec<Line>, RouteError>
+    ensures ok { IfOk result (λ lines. map Ok lines.items ≡ lines_found searches.items) }
+    ensures err { IfErr result (IsStopped (lines_found searches.items)) }
+{
+    let mut lines = Vec::with_capacity(alloc, searches.len())?;
+    for each in searches {
+        lines.push(each.line?)?;
+    }
+    Ok(lines)
+}
+
+/// The routes that hosts on these nodes need, one entry for each host, found by so many workers
+/// side by side. With `shortest` a route between two nodes is the best walk, of any length;
+/// otherwise, and from a node to itself, it is the best edge. The best one takes the least time,
+/// and of those that do most arrives.
+pub fn routes<R: Threads + Sync>(
+    rt: &R,
     alloc: Global,
     graph: &Graph,
     nodes: &[u32],
     shortest: bool,
+    workers: u32,
 ) -> Result<Routes, RouteError>
+    requires { 0 < workers }
     ensures ok { IfOk result (AreRoutes graph.now shortest nodes.now) }
     ensures whole { IfOk result (HasRoutes nodes.now) }
     ensures err { IfErr result (IsRefusal graph.now shortest nodes.now) }
@@ -28,12 +158,18 @@ pub fn routes(
     let steps = steps_of(alloc, graph)?;
     let net = Net::new(alloc, steps.as_slice())?;
     let stops = Places::from(Vec::from_slice(alloc, nodes)?);
-    let mut lines = Vec::with_capacity(alloc, stops.len())?;
     let ids = stops.as_slice();
-    for from in ids {
-        let costs = net.costs_from(alloc, *from, shortest)?;
-        let line = line_from(alloc, &net, costs.as_slice(), nodes, ids, *from)?;
-        lines.push(line)?;
-    }
+    let mut searches = searches_from(alloc, ids)?;
+    search_all(
+        rt,
+        alloc,
+        &net,
+        nodes,
+        ids,
+        shortest,
+        workers,
+        &mut searches,
+    );
+    let lines = lines_of(alloc, searches)?;
     Ok(Routes { stops, lines })
 }

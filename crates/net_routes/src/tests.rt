@@ -1,8 +1,9 @@
 use super::*;
 use gml_graph::read_gml;
 use sim_base::Time;
-use std::alloc::{AllocError, Global};
+use std::alloc::{AllocError, AllocGlobal, Global};
 use std::test::Fail;
+use std::thread::Threads;
 
 /// Source, target, latency in nanoseconds, and what arrives of 10^9.
 type EdgeRow = (u32, u32, u64, u32);
@@ -37,17 +38,17 @@ fn text_of(alloc: Global, directed: u8, edges: &[EdgeRow]) -> Result<String, All
 }
 
 fn outcome_of(
-    alloc: Global,
+    rt: &(impl Threads + Sync + AllocGlobal),
     text: &str,
     shortest: bool,
     nodes: &[u32],
     from: u32,
     to: u32,
 ) -> Found {
-    let Ok(graph) = read_gml(alloc, text.as_bytes()) else {
+    let Ok(graph) = read_gml(rt.alloc(), text.as_bytes()) else {
         return Found::NoMemory;
     };
-    match routes(alloc, &graph, nodes, shortest) {
+    match routes(rt, rt.alloc(), &graph, nodes, shortest, 2) {
         Ok(all) => match all.find(from, to) {
             Some((time, reliability)) => Found::Route(time.nanos, reliability),
             None => Found::Nothing,
@@ -366,7 +367,7 @@ fn the_best_of_all_walks_is_found(rt: HostRuntime) -> Result<(), Fail> {
     for (directed, edges, shortest, nodes, from, to, expected) in CASES {
         let text = text_of(rt.alloc(), directed, edges)?;
         assert_eq!(rt;
-            outcome_of(rt.alloc(), text.as_str(), shortest, nodes, from, to),
+            outcome_of(&rt, text.as_str(), shortest, nodes, from, to),
             expected
         );
     }
@@ -385,16 +386,16 @@ fn the_least_latency_is_that_of_all_hosts(rt: HostRuntime) -> Result<(), Fail> {
     let text = text_of(rt.alloc(), 1, &THREE)?;
     let graph = read_gml(rt.alloc(), text.as_bytes())?;
     let nodes = [7, 5];
-    let all = routes(rt.alloc(), &graph, &nodes, true)?;
+    let all = routes(&rt, rt.alloc(), &graph, &nodes, true, 1)?;
     assert_eq!(rt; all.least_between(&nodes), Some(Time { nanos: 2_000_000 }));
     if all.find(7, 5).is_some() {
         assert_eq!(rt; all.get(7, 5), (Time { nanos: 3_000_000 }, 750_000_000));
     }
     let lone = [5];
-    let none = routes(rt.alloc(), &graph, &lone, true)?;
+    let none = routes(&rt, rt.alloc(), &graph, &lone, true, 64)?;
     assert_eq!(rt; none.least_between(&lone), None);
     let shared = [7, 7, 5];
-    let more = routes(rt.alloc(), &graph, &shared, false)?;
+    let more = routes(&rt, rt.alloc(), &graph, &shared, false, 3)?;
     assert_eq!(rt;
         more.least_between(&shared),
         Some(Time { nanos: 1_000_000 })
