@@ -2,11 +2,11 @@
 use Rattle.std.proofs.Common.{◌≡◌, ◌≢◌, ℕ, ◌+◌, ◌*◌, ◌/◌, ◌%◌, ◌^◌, ◌<◌, ◌≤◌, List, [], ◌∷◌, length, map, All, get_or, sum_by, decimal, suc, Result, Ok, Err, unwrap_or, IfSome, IfOk, Option, Some, None, refl, sym, ap, subst, ◌∙◌, arith, div-le_self, mod-lt, inl, inr, codes}
 use Rattle.std.specs.List.{range_with_len}
 use Rattle.std.specs.List.Sorted.{IsPermutation}
+use Rattle.std.proofs.lemmas.List.{length-map}
 use Rattle.std.proofs.lemmas.List.Elements.{All-nil, All-cons, All-head, All-tail}
 use Rattle.std.proofs.lemmas.List.FromFn.{length-map-range_with_len, get_or-map-range_with_len}
 use Rattle.std.proofs.lemmas.List.Sorted.{All-permutation, length_permutation}
 use Rattle.std.proofs.lemmas.Fmt.{length-decimal-le}
-use Rattle.sim_base.specs.declared.address.Ip.{Ip}
 use Rattle.gml_graph.specs.declared.graph.Graph.{Graph}
 use Rattle.shd_config.specs.Limits.{MayStop, IsSomeText, HasFewProcesses, HasFewBytes, HaveFewBytes, MayOverride, IsWithinLimits}
 use Rattle.shd_config.specs.Process.{texts_size}
@@ -14,54 +14,31 @@ use Rattle.shd_config.specs.declared.config.Config.{Config}
 use Rattle.shd_config.specs.declared.config.HostConfig.{HostConfig}
 use Rattle.shd_config.specs.declared.config.ProcessConfig.{ProcessConfig}
 use Rattle.shd_config.specs.declared.overrides.Overrides.{Overrides}
-use Rattle.run_plan.specs.HostRows.{AreInOrder, rows_of, host_rows}
+use Rattle.run_plan.specs.HostRows.{host_rows}
 use Rattle.run_plan.specs.Limits.{KeepsToLimits}
-use Rattle.run_plan.specs.Programs.{programs_of}
 use Rattle.run_plan.specs.SelfLoad.{next_host, address_number, ring_process, ring_host, self_load_config}
 use Rattle.run_plan.specs.declared.host_row.HostRow.{HostRow}
 use Rattle.run_plan.specs.declared.plan.Plan.{Plan}
-use Rattle.run_plan.specs.declared.rates.Rates.{Rates}
+use Rattle.run_plan.proofs.RowLengthLemmas.{rows_moved}
 
 -- ---- rows
 
-few_rows : (programs : List (List ℕ)) (hosts : List HostConfig) (rates : List Rates) (addresses : List Ip) → length (rows_of programs hosts rates addresses) ≤ length hosts
-few_rows programs [] rates addresses = omega arith
-few_rows programs (h ∷ hs) [] addresses = omega arith
-few_rows programs (h ∷ hs) (r ∷ rs) [] = omega arith
-few_rows programs (h ∷ hs) (r ∷ rs) (a ∷ addresses) = let rest = few_rows programs hs rs addresses in omega (arith, rest)
-
-each_row : (P : HostConfig → Type 0) (programs : List (List ℕ)) (hosts : List HostConfig) (rates : List Rates) (addresses : List Ip) → All P hosts
-    → All (λ (r : HostRow). P r.config) (rows_of programs hosts rates addresses)
-each_row P programs [] rates addresses h = All-nil (λ (r : HostRow). P r.config)
-each_row P programs (x ∷ hs) [] addresses h = All-nil (λ (r : HostRow). P r.config)
-each_row P programs (x ∷ hs) (r ∷ rs) [] h = All-nil (λ (r : HostRow). P r.config)
-each_row P programs (x ∷ hs) (r ∷ rs) (a ∷ addresses) h =
-    All-cons (λ (r : HostRow). P r.config) _ (rows_of programs hs rs addresses) (All-head P x hs h) (each_row P programs hs rs addresses (All-tail P x hs h))
-
--- what rows have of the hosts of a configuration
-pub record AreRowsWithin (hosts : List HostConfig) (rows : List HostRow) : Type 1 where
-  pub count : length rows ≤ length hosts
-  pub each : (P : HostConfig → Type 0) → All P hosts → All (λ (r : HostRow). P r.config) rows
-
-rows_by : (programs : List (List ℕ)) (hosts ordered : List HostConfig) (rates : List Rates) (addresses : List Ip) (rows : List HostRow) → IsPermutation hosts ordered
-    → rows_of programs ordered rates addresses ≡ rows → AreRowsWithin hosts rows
-rows_by programs hosts ordered rates addresses rows moved e = record {
-  count = (let same = length_permutation hosts ordered moved in let few = few_rows programs ordered rates addresses in let l = ap (λ (rs : List HostRow). length rs) e in omega (arith, same, few, l));
-  each = λ P h. subst (All (λ (r : HostRow). P r.config)) e (each_row P programs ordered rates addresses (All-permutation P hosts ordered moved h));
-}
-
-pub rows_within : (name : List ℕ) (graph : Graph) (hosts : List HostConfig) (rows : List HostRow) → host_rows name graph hosts (Ok rows) → AreRowsWithin hosts rows
-unfolding host_rows
-rows_within name graph hosts rows (ordered, order, (rates, r, (addresses, a, e))) = rows_by (programs_of hosts) hosts ordered rates addresses rows order.same (let same : rows_of (programs_of hosts) ordered rates addresses ≡ rows = cc in same)
+each_row : (P : HostConfig → Type 0) (rows : List HostRow) → All P (map (λ (r : HostRow). r.config) rows) → All (λ (r : HostRow). P r.config) rows
+each_row P [] h = All-nil (λ (r : HostRow). P r.config)
+each_row P (r ∷ rows) h =
+    All-cons (λ (row : HostRow). P row.config) r rows (All-head P r.config (map (λ (row : HostRow). row.config) rows) h) (each_row P rows (All-tail P r.config (map (λ (row : HostRow). row.config) rows) h))
 
 -- a plan of a configuration within its limits
 pub plan_within : (name : List ℕ) (graph : Graph) (config : Config) (plan : Plan) → IsWithinLimits config → host_rows name graph config.hosts (Ok plan.rows) → plan.settings.stop_time ≡ config.stop_time → KeepsToLimits plan
 plan_within name graph config plan within h stop =
-    let rows = rows_within name graph config.hosts plan.rows h in
+    let configs = map (λ (r : HostRow). r.config) plan.rows in
+    let moved : IsPermutation config.hosts configs = rows_moved name graph config.hosts plan.rows h in
+    let count : length plan.rows ≡ length config.hosts = sym (length-map plan.rows (λ (r : HostRow). r.config)) ∙ length_permutation config.hosts configs moved in
     record {
-      few = (let count = rows.count in let few = within.few.1 in omega (arith, count, few));
-      processes = rows.each HasFewProcesses within.processes;
-      texts = rows.each HaveFewBytes within.texts;
+      some = (let some = within.few.0 in omega (arith, count, some));
+      few = (let few = within.few.1 in omega (arith, count, few));
+      processes = each_row HasFewProcesses plan.rows (All-permutation HasFewProcesses config.hosts configs moved within.processes);
+      texts = each_row HaveFewBytes plan.rows (All-permutation HaveFewBytes config.hosts configs moved within.texts);
       stop = subst MayStop (sym stop) within.stop;
     }
 

@@ -5,6 +5,7 @@ pub mod HostRows
 pub mod InRange
 pub mod Limits
 pub mod Line
+pub mod Names
 pub mod Network
 pub mod Outcomes
 pub mod Plan
@@ -14,5 +15,7 @@ pub mod Programs
 pub mod Rates
 pub mod Ring
 pub mod Room
+pub mod Routed
 pub mod Same
 pub mod SelfLoad
+pub mod Workers

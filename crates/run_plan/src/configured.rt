@@ -9,6 +9,7 @@ ghost use Rattle.yaml_merge.specs.SaidAt.{said_of};
 ghost use Rattle.shd_config.specs.Config.{config};
 ghost use Rattle.shd_config.specs.Limits.{MayOverride, IsWithinLimits};
 ghost use Rattle.run_plan.specs.Configured.{tree_of, or_config_fault, configured};
+ghost use Rattle.run_plan.specs.Names.{AreHostsApart};
 ghost use Rattle.run_plan.specs.Outcomes.{gives, Meets};
 
 use crate::fault::{Fault, ReadStop};
@@ -65,6 +66,7 @@ pub fn configure(
     requires { MayOverride overrides.now }
     ensures told { Meets (λ c. c) (configured file.now text.now overrides.now) result }
     ensures limits { IfOk result IsWithinLimits }
+    ensures apart { IfOk result (λ c. AreHostsApart c.hosts) }
 {
     let tree = parse_tree(alloc, file, text)?;
     config_of_tree(alloc, file, &tree, overrides)

@@ -18,6 +18,7 @@ mod ring;
 mod self_load;
 #[cfg(test)]
 mod tests;
+mod workers;
 
 pub use addresses::addresses_of;
 pub use fault::{Fault, HostFault, ReadStop};
@@ -27,3 +28,4 @@ pub use plan::{Images, Plan, Settings};
 pub use planned::{Planned, Run, read_plan};
 pub use rates::Rates;
 pub use ring::RING;
+pub use workers::worker_count;

@@ -1,19 +1,22 @@
 //! The plan of a run.
 
-ghost use Rattle.std.specs.Prelude.{◌≡◌, ◌≤◌, length, map, option_map, string_bytes, IfSome, IfOk};
+ghost use Rattle.std.specs.Prelude.{◌≡◌, ◌<◌, ◌≤◌, length, map, option_map, string_bytes, IfSome, IfOk};
 ghost use Rattle.net_routes.specs.Routes.{AreRoutes, HasRoutes};
 ghost use Rattle.net_routes.specs.Least.{IsLookahead};
 ghost use Rattle.out_text.specs.Hosts.{hosts_text};
 ghost use Rattle.shd_config.specs.Limits.{IsWithinLimits};
 ghost use Rattle.run_plan.specs.Limits.{KeepsToLimits};
+ghost use Rattle.run_plan.specs.Names.{AreHostsApart, AreRowsApart};
 ghost use Rattle.run_plan.specs.Network.{network};
 ghost use Rattle.run_plan.specs.Outcomes.{gives, Meets, CountsSource};
+ghost use Rattle.run_plan.specs.Routed.{IsRouted, TakeTime};
 ghost use Rattle.run_plan.specs.Plan.{nodes_of, routed, nanos_of, line_of_host, settings_of, run_of, plan_of};
 
 use crate::fault::{Fault, ReadStop};
 use crate::host_row::{HostRow, HostRows, host_rows};
 use crate::network::read_network;
 use crate::programs::{programs_of, read_images};
+use crate::workers::worker_count;
 use elf_load::Image;
 use gml_graph::Graph;
 use net_routes::{RouteError, Routes, routes};
@@ -23,6 +26,7 @@ use shd_values::Texts;
 use sim_base::{Name, NoMemory, Source, Text, Time};
 use std::alloc::Global;
 use std::marker::Model;
+use std::thread::Threads;
 
 /// The images of programs, which contracts see as a list.
 #[derive(Debug, Drop)]
@@ -110,16 +114,21 @@ fn nodes_of(alloc: Global, rows: &[HostRow]) -> Result<Vec<u32>, NoMemory>
 }
 
 /// The routes that hosts on these nodes need.
-fn find_routes(
+fn find_routes<R: Threads + Sync>(
+    rt: &R,
     alloc: Global,
     graph: &Graph,
     nodes: &[u32],
     shortest: bool,
+    workers: u32,
 ) -> Result<Routes, ReadStop>
+    requires { 0 < workers }
     ensures told { Meets (λ r. r) (routed graph.now shortest nodes.now) result }
     ensures whole { IfOk result (HasRoutes nodes.now) }
+    ensures later { IfOk result (TakeTime nodes.now) }
 {
-    match routes(alloc, graph, nodes, shortest) {
+    let _edges = graph.edges.as_slice();
+    match routes(rt, alloc, graph, nodes, shortest, workers) {
         Ok(routes) => Ok(routes),
         Err(RouteError::NoRoute { from, to }) => {
             Err(ReadStop::Refused(Fault::NoRoute { from, to }))
@@ -155,16 +164,20 @@ fn text_of_hosts(alloc: Global, rows: &[HostRow]) -> Result<Text, NoMemory>
 
 /// What is run of a configuration in the file `name`, over a graph.
 #[tactic(auto, unfolding(crate::specs::Plan::run_of))]
-pub fn read_run<S: Source>(
+pub fn read_run<R: Threads + Sync, S: Source>(
+    rt: &R,
     alloc: Global,
     source: &mut S,
     name: &str,
     graph: &Graph,
     config: Config,
+    cores: u32,
 ) -> Result<Plan, ReadStop>
     requires { IsWithinLimits config }
     ensures told { IfSome (S.held source.old) (λ held. Meets (λ p. p) (run_of held name.now graph.now config) result) }
     ensures limits { IfOk result KeepsToLimits }
+    ensures routed { IfOk result IsRouted }
+    ensures apart { AreHostsApart config.hosts → IfOk result AreRowsApart }
     ensures same { S.held source.new ≡ S.held source.old }
     ensures count { CountsSource result (S.faults source.old) (S.faults source.new) }
 {
@@ -183,7 +196,9 @@ pub fn read_run<S: Source>(
     let programs = programs_of(alloc, hosts.as_slice())?;
     let rows = host_rows(alloc, name, graph, &programs, hosts)?;
     let nodes = nodes_of(alloc, rows.as_slice())?;
-    let routes = find_routes(alloc, graph, &nodes, use_shortest_path)?;
+    let count = u32::try_from(nodes.len()).unwrap_or(u32::MAX);
+    let workers = worker_count(parallelism, cores, count);
+    let routes = find_routes(rt, alloc, graph, &nodes, use_shortest_path, workers)?;
     let images = read_images(alloc, source, &programs)?;
     let lookahead = routes.least_between(&nodes);
     let hosts_text = text_of_hosts(alloc, rows.as_slice())?;
@@ -207,18 +222,22 @@ pub fn read_run<S: Source>(
 
 /// What is run of the configuration in the file `name`.
 #[tactic(auto, unfolding(crate::specs::Plan::plan_of))]
-pub fn read_plan_of<S: Source>(
+pub fn read_plan_of<R: Threads + Sync, S: Source>(
+    rt: &R,
     alloc: Global,
     source: &mut S,
     name: &str,
     config: Config,
+    cores: u32,
 ) -> Result<Plan, ReadStop>
     requires { IsWithinLimits config }
     ensures told { IfSome (S.held source.old) (λ held. Meets (λ p. p) (plan_of held name.now config) result) }
     ensures limits { IfOk result KeepsToLimits }
+    ensures routed { IfOk result IsRouted }
+    ensures apart { AreHostsApart config.hosts → IfOk result AreRowsApart }
     ensures same { S.held source.new ≡ S.held source.old }
     ensures count { CountsSource result (S.faults source.old) (S.faults source.new) }
 {
     let graph = read_network(alloc, source, name, &config.graph)?;
-    read_run(alloc, source, name, &graph, config)
+    read_run(rt, alloc, source, name, &graph, config, cores)
 }

@@ -6,6 +6,8 @@ ghost use Rattle.run_plan.specs.Outcomes.{gives, Meets, CountsSource};
 ghost use Rattle.run_plan.specs.Planned.{or_words_fault, shown_or_run, file_planned, self_load_planned, planned_of, planned};
 ghost use Rattle.run_plan.specs.InRange.{IsInRange, overrides_of};
 ghost use Rattle.run_plan.specs.Limits.{AreLimitsKept};
+ghost use Rattle.run_plan.specs.Names.{AreNamesApart};
+ghost use Rattle.run_plan.specs.Routed.{IsRoutedIfRun};
 ghost use Rattle.shd_config.specs.Limits.{MayOverride};
 
 use crate::configured::configure;
@@ -19,6 +21,7 @@ use command_line::{Asked, Subject, WordsError, read_words};
 use shd_config::{Config, Overrides};
 use sim_base::{Name, NoMemory, Source};
 use std::alloc::Global;
+use std::thread::Threads;
 
 /// A plan and how it is run.
 #[derive(Debug, Drop)]
@@ -62,15 +65,19 @@ pub struct Manner {
 
 /// The plan of the configuration in a file.
 #[tactic(auto, unfolding(crate::specs::Planned::file_planned))]
-fn plan_file<S: Source>(
+fn plan_file<R: Threads + Sync, S: Source>(
+    rt: &R,
     alloc: Global,
     source: &mut S,
     manner: &Manner,
     name: &Name,
+    cores: u32,
 ) -> Result<Planned, ReadStop>
     requires { MayOverride manner.now.overrides }
     ensures told { IfSome (S.held source.old) (λ held. Meets (λ p. p) (file_planned manner.now held name.now) result) }
     ensures limits { IfOk result AreLimitsKept }
+    ensures routed { IfOk result IsRoutedIfRun }
+    ensures apart { IfOk result AreNamesApart }
     ensures same { S.held source.new ≡ S.held source.old }
     ensures count { CountsSource result (S.faults source.old) (S.faults source.new) }
 {
@@ -79,7 +86,7 @@ fn plan_file<S: Source>(
     if manner.shows_config {
         return Ok(Planned::Shows(config));
     }
-    let plan = read_plan_of(alloc, source, name.as_str(), config)?;
+    let plan = read_plan_of(rt, alloc, source, name.as_str(), config, cores)?;
     Ok(Planned::Runs(Run {
         plan,
         budget: manner.budget,
@@ -89,12 +96,20 @@ fn plan_file<S: Source>(
 
 /// The plan of a self-load, of which only the guest is read, from memory.
 #[tactic(auto, unfolding(crate::specs::Planned::self_load_planned))]
-fn plan_self_load(alloc: Global, manner: &Manner, hosts: u32) -> Result<Planned, ReadStop>
+fn plan_self_load<R: Threads + Sync>(
+    rt: &R,
+    alloc: Global,
+    manner: &Manner,
+    hosts: u32,
+    cores: u32,
+) -> Result<Planned, ReadStop>
     requires some { 0 < hosts }
     requires few { hosts ≤ 4096 }
     requires overrides { MayOverride manner.now.overrides }
     ensures told { Meets (λ p. p) (self_load_planned manner.now hosts) result }
     ensures limits { IfOk result AreLimitsKept }
+    ensures routed { IfOk result IsRoutedIfRun }
+    ensures apart { IfOk result AreNamesApart }
     ensures count { CountsSource result 0 0 }
 {
     let config = self_load_config(alloc, &manner.overrides, hosts)?;
@@ -106,7 +121,7 @@ fn plan_self_load(alloc: Global, manner: &Manner, hosts: u32) -> Result<Planned,
         name: "ring",
         bytes: ring_bytes(alloc)?,
     };
-    let plan = read_run(alloc, &mut files, "self-load", &graph, config)?;
+    let plan = read_run(rt, alloc, &mut files, "self-load", &graph, config, cores)?;
     Ok(Planned::Runs(Run {
         plan,
         budget: manner.budget,
@@ -114,15 +129,20 @@ fn plan_self_load(alloc: Global, manner: &Manner, hosts: u32) -> Result<Planned,
     }))
 }
 
-/// The plan of a call with these words, or its first fault.
+/// The plan of a call with these words, or its first fault, on a machine of so many cores, which
+/// changes nothing of it.
 #[tactic(auto, unfolding(crate::specs::Planned::planned))]
-pub fn read_plan<S: Source>(
+pub fn read_plan<R: Threads + Sync, S: Source>(
+    rt: &R,
     alloc: Global,
     words: &[String],
     source: &mut S,
+    cores: u32,
 ) -> Result<Planned, ReadStop>
     ensures told { IfSome (S.held source.old) (λ held. Meets (λ p. p) (planned (map string_bytes words.now) held) result) }
     ensures limits { IfOk result AreLimitsKept }
+    ensures routed { IfOk result IsRoutedIfRun }
+    ensures apart { IfOk result AreNamesApart }
     ensures same { S.held source.new ≡ S.held source.old }
     ensures count { CountsSource result (S.faults source.old) (S.faults source.new) }
 {
@@ -146,7 +166,7 @@ pub fn read_plan<S: Source>(
         shows_config,
     };
     match subject {
-        Subject::File(name) => plan_file(alloc, source, &manner, &name),
-        Subject::SelfLoad(hosts) => plan_self_load(alloc, &manner, hosts),
+        Subject::File(name) => plan_file(rt, alloc, source, &manner, &name, cores),
+        Subject::SelfLoad(hosts) => plan_self_load(rt, alloc, &manner, hosts, cores),
     }
 }

@@ -3,6 +3,7 @@
 ghost use Rattle.std.specs.Prelude.{◌≡◌, ◌≤◌, ◌<◌, map, unwrap_or, codes, IfOk};
 ghost use Rattle.std.specs.List.{range_with_len};
 ghost use Rattle.shd_config.specs.Limits.{MayOverride, IsWithinLimits};
+ghost use Rattle.run_plan.specs.Names.{AreHostsApart};
 ghost use Rattle.run_plan.specs.SelfLoad.{host_name, next_host, address_number, ring_process, ring_host, self_load_config, ring_node, ring_edge, self_load_graph};
 
 use gml_graph::{Edge, Edges, Graph, Node, Nodes};
@@ -150,6 +151,7 @@ pub fn self_load_config(
     requires overrides { MayOverride overrides.now }
     ensures config { IfOk result (λ c. c ≡ self_load_config overrides.now hosts) }
     ensures limits { IfOk result IsWithinLimits }
+    ensures apart { IfOk result (λ c. AreHostsApart c.hosts) }
 {
     ring_config(alloc, overrides, hosts)
 }

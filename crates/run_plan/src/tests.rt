@@ -5,7 +5,9 @@ use crate::fault::ReadStop;
 use crate::line::tell;
 use crate::planned::{Planned, read_plan};
 use sim_base::{Ip, MemSource, Text, Time};
+use std::alloc::AllocGlobal;
 use std::test::Fail;
+use std::thread::Threads;
 
 /// 11.0.0.0.
 const NET: u32 = 0x0b00_0000;
@@ -37,13 +39,13 @@ fn a_given_address_is_not_given_again(rt: HostRuntime) -> Result<(), Fail> {
     Ok(())
 }
 
-fn plan(rt: &HostRuntime, words: &[&str]) -> Result<Planned, ReadStop> {
+fn plan(rt: &(impl Threads + Sync + AllocGlobal), words: &[&str]) -> Result<Planned, ReadStop> {
     let mut owned = Vec::new(rt.alloc());
     for word in words {
         owned.push(String::from_str(rt.alloc(), word)?)?;
     }
     let mut source = MemSource::new(rt.alloc());
-    read_plan(rt.alloc(), &owned, &mut source)
+    read_plan(rt, rt.alloc(), &owned, &mut source, 2)
 }
 
 #[test]

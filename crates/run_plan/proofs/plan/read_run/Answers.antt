@@ -2,10 +2,13 @@ use Rattle.std.proofs.Common.{◌≡◌, ◌∙◌, List, ℕ, refl, ap, subst}
 use Rattle.std.specs.Prelude.{Ok, Err}
 use Rattle.std.proofs.lemmas.Result.{err_from_is_err_and}
 use Rattle.net_routes.specs.Least.{IsLookahead}
+use Rattle.net_routes.specs.Routes.{HasRoutes}
 use Rattle.run_plan.specs.Plan.{nodes_of, routed, nanos_of}
 use Rattle.run_plan.specs.Programs.{programs_of, images}
+use Rattle.run_plan.specs.Routed.{TakeTime}
 use Rattle.run_plan.specs.declared.plan.Plan.{Plan}
 use Rattle.run_plan.proofs.LimitLemmas.{plan_within}
+use Rattle.run_plan.proofs.NameLemmas.{rows_apart}
 use Rattle.run_plan.proofs.PlanLemmas.{rows_stop, images_stop, run_done}
 use Rattle.run_plan.proofs.RowLemmas.{rows_lack_memory, rows_counted}
 use Rattle.run_plan.proofs.StepLemmas.{when_told, always_told}
@@ -50,3 +53,15 @@ returns-clause-told g c =
 
 pub returns-clause-limits : goal.returns-clause-limits
 returns-clause-limits g c = plan_within c.args.name.now c.args.graph.now c.args.config _ c.requires c.in_ok-rows.ensures refl
+
+pub returns-clause-routed : goal.returns-clause-routed
+returns-clause-routed g c =
+    let n : c.deref-2.result.now ≡ nodes_of c.in_ok-rows.rows = c.deref-2.ensures.value ∙ (c.in_ok-nodes.ensures ∙ ap nodes_of c.as_slice-2.ensures) in
+    let m : c.deref-4.result.now ≡ nodes_of c.in_ok-rows.rows = c.deref-4.ensures.value ∙ (c.in_ok-nodes.ensures ∙ ap nodes_of c.as_slice-2.ensures) in record {
+      routes = subst (λ (ns : List ℕ). HasRoutes ns c.in_ok-routes.routes) n c.in_ok-routes.ensures.whole;
+      later = subst (λ (ns : List ℕ). TakeTime ns c.in_ok-routes.routes) n c.in_ok-routes.ensures.later;
+      lookahead = subst (λ (ns : List ℕ). IsLookahead ns c.in_ok-routes.routes (nanos_of c.least_between-lookahead.result)) m c.least_between-lookahead.ensures;
+    }
+
+pub returns-clause-apart : goal.returns-clause-apart
+returns-clause-apart g c far = rows_apart c.args.name.now c.args.graph.now c.args.config.hosts c.in_ok-rows.rows c.in_ok-rows.ensures far

@@ -25,3 +25,6 @@ returns-clause-told g c =
     (λ held h k. file_run c.args.manner.now held c.args.name.now c.in_ok-text.text.items (subst (λ (n : List ℕ). read held n (Ok c.in_ok-text.text.items)) c.as_str.ensures h)
     c.in_ok-config.config said c.in_ok-plan.plan c.if-manner.false (subst (λ (n : List ℕ). plan_of held n c.in_ok-config.config (Ok c.in_ok-plan.plan)) c.as_str-3.ensures k))
     c.in_ok-text.ensures.told (rw c.in_ok-text.ensures.same at c.in_ok-plan.ensures.told)
+
+pub returns-clause-apart : goal.returns-clause-apart
+returns-clause-apart g c = c.in_ok-plan.ensures.apart c.in_ok-config.ensures.apart

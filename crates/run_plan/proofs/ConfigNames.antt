@@ -1,0 +1,251 @@
+-- No two hosts of a configuration have one name.
+use Rattle.std.proofs.Common.{◌≡◌, ◌≢◌, ◌∙◌, ℕ, ◌+◌, ◌≤◌, Bool, true, false, List, [], ◌∷◌, ◌++◌, length, map, Option, Some, None, is_some, Result, Ok, Err, IfOk, IfSome, refl, sym, ap, subst, append_assoc, append-nil, arith, codes}
+use Rattle.std.specs.Prelude.{if◌then◌else◌}
+use Rattle.std.specs.Option.{option_map}
+use Rattle.std.proofs.lemmas.Bool.{false≢true}
+use Rattle.sim_base.specs.Refusals.{◌>>=◌}
+use Rattle.yaml_tree.specs.Said.{Said}
+use Rattle.yaml_tree.specs.Said.Said.{null, text, unknown, sequence, mapping, with_item, with_pair}
+use Rattle.yaml_tree.specs.Trees.{Holds}
+use Rattle.yaml_tree.specs.declared.tree.Tree.{Tree}
+use Rattle.yaml_merge.specs.Merge.{keys_of, merged}
+use Rattle.yaml_merge.specs.Plain.{is_null, line_of, pairs_in}
+use Rattle.yaml_merge.specs.SaidAt.{said_of}
+use Rattle.yaml_merge.specs.declared.fault.MergeFault.{MergeFault}
+use Rattle.yaml_merge.specs.declared.plain.Pair.{Pair}
+use Rattle.shd_values.specs.Word.{is_name_of_host}
+use Rattle.shd_config.specs.Config.{root, new_root, experimental_at, root_key, root_row, general_or, finished_root, root_of, merged_config, wrong_merge, config, is_passed_over}
+use Rattle.shd_config.specs.General.{general_at}
+use Rattle.shd_config.specs.Host.{options_at, new_host, host_row, finished_host, host_of, host_at, hosts_row, hosts_at, settled}
+use Rattle.shd_config.specs.Keys.{key_of}
+use Rattle.shd_config.specs.Network.{network_at}
+use Rattle.shd_config.specs.Steps.{needed, valued, checked, below, through, given, optional}
+use Rattle.shd_config.specs.Values.{mapping_at, is_within}
+use Rattle.shd_config.specs.declared.config.Config.{Config}
+use Rattle.shd_config.specs.declared.config.HostConfig.{HostConfig}
+use Rattle.shd_config.specs.declared.fault.ConfigFault.{ConfigFault}
+use Rattle.shd_config.specs.declared.fault.ConfigKind.{ConfigKind}
+use Rattle.shd_config.specs.declared.fault.ConfigKind.TheVariants.{WrongType, OutOfRange, BadValue}
+use Rattle.shd_config.specs.declared.host.HostDraft.{HostDraft}
+use Rattle.shd_config.specs.declared.host.HostRead.{HostRead}
+use Rattle.shd_config.specs.declared.key.Key.{Key}
+use Rattle.shd_config.specs.declared.key.Key.TheVariants as keys
+use Rattle.shd_config.specs.declared.options.HostOptions.{HostOptions}
+use Rattle.shd_config.specs.declared.overrides.Overrides.{Overrides}
+use Rattle.shd_config.specs.declared.reading.RootDraft.{RootDraft}
+use Rattle.run_plan.proofs.NameCounts.{is_one, is_one-other, copies, copies-append}
+use Rattle.run_plan.proofs.TreeKeys.{IsOnce, tree_kind, tree_once}
+use Rattle.run_plan.proofs.MergedKeys.{merged_once}
+
+-- ---- steps
+
+abbrev Read : Type 0 → Type 0
+Read A = Result A ConfigFault
+
+-- what a step gives has this, and what follows has that
+then_has : {A B : Type 0} (P : A → Type 0) (Q : B → Type 0) (first : Read A) (next : A → Read B) → IfOk first P → ((a : A) → P a → IfOk (next a) Q) → IfOk (first >>= next) Q
+then_has P Q (Ok a) next h k = k a h
+then_has P Q (Err f) next h k = tt
+
+-- of a step nothing is known
+then_all : {A B : Type 0} (Q : B → Type 0) (first : Read A) (next : A → Read B) → ((a : A) → IfOk (next a) Q) → IfOk (first >>= next) Q
+then_all Q (Ok a) next k = k a
+then_all Q (Err f) next k = tt
+
+checked_has : {B : Type 0} (Q : B → Type 0) (kind : ConfigKind) (p : Pair) (t : Bool) (next : Unit {0} → Read B) → (t ≡ true → IfOk (next tt) Q) → IfOk (checked kind p t >>= next) Q
+checked_has Q kind p true next h = h refl
+checked_has Q kind p false next h = tt
+
+below_has : {A : Type 0} (P : A → Type 0) (p : Pair) (read : Read A) → IfOk read P → IfOk (below p read) P
+below_has P p (Ok a) h = h
+below_has P p (Err f) h = tt
+
+needed_has : {A : Type 0} (P : A → Type 0) (key : List ℕ) (line : ℕ) (o : Option A) → IfSome o P → IfOk (needed key line o) P
+needed_has P key line None h = tt
+needed_has P key line (Some a) h = h
+
+-- ---- the pairs of a mapping
+
+pairs_by : (key : List ℕ) (p : Pair) (o : Option (List Pair)) (ks : List (List ℕ)) → p.key ≡ key → IfSome o (λ ps. map (λ (q : Pair). q.key) ps ≡ ks)
+    → IfSome (option_map (λ ps. ps ++ p ∷ []) o) (λ ps. map (λ (q : Pair). q.key) ps ≡ ks ++ key ∷ [])
+pairs_by key p None ks same h = tt
+pairs_by key p (Some ps) ks same h = keys_push ps ∙ (λ j. h j ++ same j ∷ [])
+  where
+    keys_push : (qs : List Pair) → map (λ (q : Pair). q.key) (qs ++ p ∷ []) ≡ map (λ (q : Pair). q.key) qs ++ p.key ∷ []
+    keys_push [] = refl
+    keys_push (q ∷ qs) = ap (λ (ks : List (List ℕ)). q.key ∷ ks) (keys_push qs)
+
+keys_are : (s : Said) → IfSome (pairs_in s) (λ ps. map (λ (q : Pair). q.key) ps ≡ keys_of s)
+keys_are (null line) = tt
+keys_are (text line bytes) = tt
+keys_are (unknown line) = tt
+keys_are (sequence line) = tt
+keys_are (mapping line) = refl
+keys_are (with_item before value) = tt
+keys_are (with_pair before line key value) = pairs_by key (record { line = line; key = key; value = value }) (pairs_in before) (keys_of before) refl (keys_are before)
+
+-- ---- a host has the name of its key
+
+record HasName (key : List ℕ) (h : HostRead) : Type 0 where
+  same : h.name ≡ key
+  fits : is_name_of_host key ≡ true
+
+finished_named : (p : Pair) (line : ℕ) (d : HostDraft) → is_name_of_host p.key ≡ true → IfOk (finished_host p line d) (HasName p.key)
+finished_named p line d fits = then_all (HasName p.key) (needed (codes "network_node_id") line d.network_node_id) _ (λ node. record { same = refl; fits = fits })
+
+read_named : (p : Pair) (pairs : List Pair) → is_name_of_host p.key ≡ true → IfOk (host_of p pairs) (HasName p.key)
+unfolding host_of
+read_named p pairs fits = then_all (HasName p.key) (through host_row new_host pairs) _ (λ d. finished_named p _ d fits)
+
+host_named : (p : Pair) → IfOk (host_at p) (HasName p.key)
+unfolding host_at
+host_named p =
+    checked_has (HasName p.key) BadValue p (is_name_of_host p.key) _
+    (λ fits. then_all (HasName p.key) (mapping_at p) _ (λ pairs. below_has (HasName p.key) p (host_of p pairs) (read_named p pairs fits)))
+
+some_name : (key : List ℕ) → is_name_of_host key ≡ true → [] ≢ key
+some_name [] fits e = false≢true fits
+some_name (b ∷ rest) fits e = cc
+
+-- ---- the hosts
+
+abbrev names : List HostRead → List (List ℕ)
+names hs = map (λ (h : HostRead). h.name) hs
+
+abbrev keys_in : List Pair → List (List ℕ)
+keys_in ps = map (λ (p : Pair). p.key) ps
+
+names_push : (before : List HostRead) (h : HostRead) → names (before ++ h ∷ []) ≡ names before ++ h.name ∷ []
+names_push [] h = refl
+names_push (x ∷ before) h = ap (λ (ns : List (List ℕ)). x.name ∷ ns) (names_push before h)
+
+-- these have these names, none of which is empty
+record AreNamed (ns : List (List ℕ)) (all : List HostRead) : Type 0 where
+  same : names all ≡ ns
+  none : copies [] (names all) ≡ 0
+
+weaker : {A : Type 0} (P Q : A → Type 0) (read : Read A) → IfOk read P → ((a : A) → P a → Q a) → IfOk read Q
+weaker P Q (Ok a) h k = k a h
+weaker P Q (Err f) h k = tt
+
+one_named : (before : List HostRead) (p : Pair) → copies [] (names before) ≡ 0 → IfOk (hosts_row before p) (AreNamed (names before ++ p.key ∷ []))
+one_named before p none =
+    then_has (HasName p.key) (AreNamed (names before ++ p.key ∷ [])) (host_at p) _ (host_named p)
+    (λ host h.
+    let all : names (before ++ host ∷ []) ≡ names before ++ p.key ∷ [] = names_push before host ∙ ap (λ (k : List ℕ). names before ++ k ∷ []) h.same in
+    record { same = all; none = ap (copies []) all ∙ omega (arith, none, copies-append [] (names before) (p.key ∷ []), is_one-other [] p.key (some_name p.key h.fits)) })
+
+all_named : (before : List HostRead) (ps : List Pair) → copies [] (names before) ≡ 0 → IfOk (through hosts_row before ps) (AreNamed (names before ++ keys_in ps))
+all_named before [] none = record { same = sym (append-nil (names before)); none = none }
+all_named before (p ∷ ps) none =
+    then_has (AreNamed (names before ++ p.key ∷ [])) (AreNamed (names before ++ keys_in (p ∷ ps))) (hosts_row before p) (λ next. through hosts_row next ps) (one_named before p none)
+    (λ next h. subst (λ (ns : List (List ℕ)). IfOk (through hosts_row next ps) (AreNamed ns)) (ap (λ (ns : List (List ℕ)). ns ++ keys_in ps) h.same ∙ append_assoc (names before) (p.key ∷ []) (keys_in ps))
+    (all_named next ps h.none))
+
+valued_has : {A : Type 0} (P : A → Type 0) (kind : ConfigKind) (p : Pair) (o : Option A) → IfSome o P → IfOk (valued kind p o) P
+valued_has P kind p None h = tt
+valued_has P kind p (Some a) h = h
+
+keys_once : (name : List ℕ) (s : Said) → IsOnce name s → copies name (keys_of s) ≤ 1
+keys_once name (with_pair before line key value) h = h.0
+keys_once name _ h = omega arith
+
+-- the empty name doesn't stand in a mapping that must have it once
+abbrev MayStand : List ℕ → Said → Type 0
+MayStand name s = name ≢ [] → IsOnce name s
+
+few_named : (name : List ℕ) (s : Said) (ns : List (List ℕ)) → MayStand name s → ns ≡ keys_of s → copies [] ns ≡ 0 → copies name ns ≤ 1
+few_named [] s ns h e none = omega (arith, none)
+few_named (b ∷ rest) s ns h e none = subst (λ (ks : List (List ℕ)). copies (b ∷ rest) ks ≤ 1) (sym e) (keys_once (b ∷ rest) s (h (λ q. cc)))
+
+module _ (name : List ℕ) where
+  abbrev AreFew : List HostRead → Type 0
+  AreFew hs = copies name (names hs) ≤ 1
+
+  hosts_few : (p : Pair) → MayStand name p.value → IfOk (hosts_at p) AreFew
+  unfolding hosts_at
+  hosts_few p h =
+      then_has (λ ps. keys_in ps ≡ keys_of p.value) AreFew (mapping_at p) _ (valued_has (λ ps. keys_in ps ≡ keys_of p.value) WrongType p (pairs_in p.value) (keys_are p.value))
+      (λ ps same. checked_has AreFew OutOfRange p (is_within 1 16384 (length ps)) _
+      (λ fits. below_has AreFew p (through hosts_row [] ps)
+      (weaker (AreNamed (keys_in ps)) AreFew (through hosts_row [] ps) (all_named [] ps refl)
+      (λ all k. few_named name p.value (names all) h (k.same ∙ same) k.none))))
+
+  -- ---- the root
+
+  abbrev IsRoot : RootDraft → Type 0
+  IsRoot d = IfSome d.hosts AreFew
+
+  abbrev MayAllStand : List Pair → Type 0
+  MayAllStand [] = Unit {0}
+  MayAllStand (p ∷ ps) = MayStand name p.value × MayAllStand ps
+
+  all_push : (ps : List Pair) (p : Pair) → MayAllStand ps → MayStand name p.value → MayAllStand (ps ++ p ∷ [])
+  all_push [] p h k = (k, tt)
+  all_push (q ∷ ps) p h k = (h.0, all_push ps p h.1 k)
+
+  pushed : (p : Pair) (o : Option (List Pair)) → IfSome o MayAllStand → MayStand name p.value → IfSome (option_map (λ ps. ps ++ p ∷ []) o) MayAllStand
+  pushed p None h k = tt
+  pushed p (Some ps) h k = all_push ps p h k
+
+  values_stand : (s : Said) → MayStand name s → IfSome (pairs_in s) MayAllStand
+  values_stand (null line) h = tt
+  values_stand (text line bytes) h = tt
+  values_stand (unknown line) h = tt
+  values_stand (sequence line) h = tt
+  values_stand (mapping line) h = tt
+  values_stand (with_item before value) h = tt
+  values_stand (with_pair before line key value) h = pushed (record { line = line; key = key; value = value }) (pairs_in before) (values_stand before (λ some. (h some).1)) (λ some. (h some).2)
+
+  abbrev HasFew : Config → Type 0
+  HasFew c = copies name (map (λ (h : HostConfig). h.name) c.hosts) ≤ 1
+
+  names_settled : (all : HostOptions) (hs : List HostRead) → map (λ (h : HostConfig). h.name) (map (settled all) hs) ≡ names hs
+  names_settled all [] = refl
+  names_settled all (h ∷ hs) = ap (λ (ns : List (List ℕ)). h.name ∷ ns) (names_settled all hs)
+
+  module _ (o : Overrides) where
+    key_few : (key : Option Key) (d : RootDraft) (p : Pair) → MayStand name p.value → IsRoot d → IfOk (root_key o key d p) IsRoot
+    key_few (Some keys.General) d p s h = then_all IsRoot (given (is_some o.stop_time) p (general_at o p)) _ (λ v. h)
+    key_few (Some keys.Network) d p s h = then_all IsRoot (network_at p) _ (λ v. h)
+    key_few (Some keys.Hosts) d p s h = then_has AreFew IsRoot (hosts_at p) _ (hosts_few p s) (λ v k. k)
+    key_few (Some keys.HostOptionDefaults) d p s h = then_all IsRoot (optional p (options_at p)) _ (λ v. h)
+    key_few (Some keys.Experimental) d p s h = then_all IsRoot (optional p (experimental_at p)) _ (λ v. h)
+    key_few _ d p s h = tt
+
+    row_few : (passed : Bool) (d : RootDraft) (p : Pair) → MayStand name p.value → IsRoot d → IfOk (if passed then Ok d else root_key o (key_of p.key) d p) IsRoot
+    row_few true d p s h = h
+    row_few false d p s h = key_few (key_of p.key) d p s h
+
+    rows_few : (ps : List Pair) (d : RootDraft) → MayAllStand ps → IsRoot d → IfOk (through (root_row o) d ps) IsRoot
+    rows_few [] d s h = h
+    rows_few (p ∷ ps) d s h = then_has IsRoot IsRoot (root_row o d p) (λ next. through (root_row o) next ps) (row_few (is_passed_over p) d p s.0 h) (λ next k. rows_few ps next s.1 k)
+
+    finished_few : (told : List (List ℕ)) (line : ℕ) (d : RootDraft) → IsRoot d → IfOk (finished_root o told line d) HasFew
+    finished_few told line d h =
+        then_all HasFew (general_or o line d.general) _
+        (λ general. then_all HasFew (needed (codes "network") line d.network) _
+        (λ network. then_has AreFew HasFew (needed (codes "hosts") line d.hosts) _ (needed_has AreFew (codes "hosts") line d.hosts h)
+        (λ hosts k. subst (λ (ns : List (List ℕ)). copies name ns ≤ 1) (sym (names_settled d.options hosts)) k)))
+
+    root_few : (line : ℕ) (pairs : List Pair) → MayAllStand pairs → IfOk (root_of o line pairs) HasFew
+    unfolding root_of
+    root_few line pairs s = then_has IsRoot HasFew (through (root_row o) new_root pairs) _ (rows_few pairs new_root s tt) (λ d h. finished_few _ _ d h)
+
+    merged_few : (empty : Bool) (tree : Said) → MayStand name tree → IfOk (merged_config o empty tree) HasFew
+    merged_few true tree s = root_few 1 [] tt
+    merged_few false tree s =
+        then_has MayAllStand HasFew (mapping_at (root tree)) _ (valued_has MayAllStand WrongType (root tree) (pairs_in tree) (values_stand tree s)) (λ pairs k. root_few (line_of tree) pairs k)
+
+    config_few : (empty : Bool) (tree : Said) → (name ≢ [] → IfOk (merged tree) (IsOnce name)) → IfOk (config o empty tree) HasFew
+    unfolding config
+    config_few empty tree h = by (merged tree) h
+      where
+        by : (read : Result Said MergeFault) → (name ≢ [] → IfOk read (IsOnce name)) → IfOk (wrong_merge read >>= merged_config o empty) HasFew
+        by (Ok after) k = merged_few empty after k
+        by (Err f) k = tt
+
+  -- no name is that of two hosts of a configuration
+  pub config_names : (o : Overrides) (empty : Bool) (t : Tree) (said : Said) → Holds t said → IfOk (config o empty (said_of t)) HasFew
+  config_names o empty t said h =
+      config_few o empty (said_of t) (λ some. merged_once name (said_of t) (tree_kind t) (tree_once name some t said h) (tree_once (codes "<<") (λ e. cc) t said h))

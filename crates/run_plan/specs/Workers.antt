@@ -1,0 +1,6 @@
+-- How many workers there are.
+use Rattle.std.specs.Prelude.{ℕ, ◌==◌, if◌then◌else◌, min, max}
+
+-- as many as are asked for, or as there are cores where 0 are; at most 64 and one for each host, and one at least
+abbrev pub worker_count : ℕ → ℕ → ℕ → ℕ
+worker_count parallelism cores hosts = max 1 (min hosts (min 64 (if parallelism == 0 then cores else parallelism)))
