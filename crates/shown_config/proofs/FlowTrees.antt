@@ -1,0 +1,137 @@
+-- What a flow form of UTF-8 says is UTF-8, with rows of one kind in each collection.
+use Rattle.std.proofs.Common.{◌≡◌, ℕ, Bool, true, false, ◌==◌, cond, List, [], ◌∷◌, ◌++◌, Option, Some, None, IfSome, IsUtf8, unwrap_or, refl, sym, true≢false}
+use Rattle.std.specs.Cmp.Lexicographic.{pointwise}
+use Rattle.std.specs.List.{AllByRecursion}
+use Rattle.std.specs.Map.{lookup}
+use Rattle.yaml_marks.specs.declared.piece.Bracket.{Bracket}
+use Rattle.yaml_marks.specs.declared.piece.Bracket.TheVariants.{Square, Curly}
+use Rattle.yaml_marks.specs.declared.piece.Piece.{Piece}
+use Rattle.yaml_marks.specs.declared.piece.Piece.TheVariants.{Opening, Closing, Comma, CellKey, CellScalar, CellName, CellCopy, OddPiece}
+use Rattle.yaml_tree.specs.Flows.{Flow, spelling, comma_if, is_cell_word, is_cell_key, IsValue, AreCells, IsForm}
+use Rattle.yaml_tree.specs.Flows.Flow.{absent, word, called, item, pair, form}
+use Rattle.yaml_tree.specs.Said.{Said, Names, Meaning, copied, given, flow_said, begun_form, word_said, piece_text, scalar_said}
+use Rattle.yaml_tree.specs.Said.Said.{null, text, unknown, sequence, mapping, with_item, with_pair}
+use Rattle.yaml_merge.specs.Plainness.{are_items, are_pairs}
+use Rattle.shown_config.proofs.GoodPieces.{IsGoodPiece}
+
+-- the rows of each collection are of one kind, and each text is UTF-8
+abbrev pub IsSound : Said → Type 0
+IsSound (null line) = Unit {0}
+IsSound (text line bytes) = IsUtf8 bytes
+IsSound (unknown line) = Unit {0}
+IsSound (sequence line) = Unit {0}
+IsSound (mapping line) = Unit {0}
+IsSound (with_item before value) = (are_items before ≡ true) × IsSound before × IsSound value
+IsSound (with_pair before line key value) = (are_pairs before ≡ true) × IsUtf8 key × IsSound before × IsSound value
+
+abbrev pub AreSound : Names → Type 0
+AreSound names = AllByRecursion (λ n. IsSound n.1) names
+
+-- what is said, and the names behind it
+abbrev pub IsSoundMeaning : Meaning → Type 0
+IsSoundMeaning m = IsSound m.0 × AreSound m.1
+
+pub copied-sound : (line : ℕ) (n : List ℕ) (names : Names) → AreSound names → IsSound (copied line n names)
+copied-sound line n [] h = tt
+copied-sound line n (e ∷ names) h = by (pointwise ◌==◌ n e.0) (copied-sound line n names h.1)
+  where
+    by : (t : Bool) → IsSound (copied line n names) → IsSound (unwrap_or (cond t (Some e.1) (lookup (pointwise ◌==◌ n) names)) (unknown line))
+    by true more = h.0
+    by false more = more
+
+pub scalar-sound : (line : ℕ) (value : Option (List ℕ)) → IfSome value IsUtf8 → IsSound (scalar_said line value)
+scalar-sound line None h = tt
+scalar-sound line (Some bytes) h = h
+
+pub given-sound : (n : List ℕ) (m : Meaning) → IsSoundMeaning m → IsSoundMeaning (given n m)
+given-sound n m h = (h.0, (h.0, h.1))
+
+-- ---- flow forms
+
+-- rows of the kind of a bracket
+abbrev AreRowsOf : Bracket → Said → Type 0
+AreRowsOf Square tree = are_items tree ≡ true
+AreRowsOf Curly tree = are_pairs tree ≡ true
+
+abbrev pub AreGood : List Piece → Type 0
+AreGood pieces = AllByRecursion IsGoodPiece pieces
+
+good-front : (xs ys : List Piece) → AreGood (xs ++ ys) → AreGood xs
+good-front [] ys h = tt
+good-front (x ∷ xs) ys h = (h.0, good-front xs ys h.1)
+
+good-back : (xs ys : List Piece) → AreGood (xs ++ ys) → AreGood ys
+good-back [] ys h = h
+good-back (x ∷ xs) ys h = good-back xs ys h.1
+
+word-sound : (line : ℕ) (piece : Piece) (names : Names) → is_cell_word piece ≡ true → IsGoodPiece piece → AreSound names → IsSound (word_said line piece names)
+word-sound line (CellScalar value) names e g h = scalar-sound line value g
+word-sound line (CellCopy n) names e g h = copied-sound line n names h
+word-sound line (Opening bracket) names e g h = tt
+word-sound line (Closing bracket) names e g h = tt
+word-sound line Comma names e g h = tt
+word-sound line (CellKey bytes) names e g h = tt
+word-sound line (CellName n) names e g h = tt
+word-sound line (OddPiece why) names e g h = tt
+
+key-utf8 : (piece : Piece) → is_cell_key piece ≡ true → IsGoodPiece piece → IsUtf8 (piece_text piece)
+key-utf8 (CellKey bytes) e g = g
+key-utf8 (Opening bracket) e g = absurd (true≢false (sym e))
+key-utf8 (Closing bracket) e g = absurd (true≢false (sym e))
+key-utf8 Comma e g = absurd (true≢false (sym e))
+key-utf8 (CellScalar value) e g = absurd (true≢false (sym e))
+key-utf8 (CellName n) e g = absurd (true≢false (sym e))
+key-utf8 (CellCopy n) e g = absurd (true≢false (sym e))
+key-utf8 (OddPiece why) e g = absurd (true≢false (sym e))
+
+abbrev AreSoundRows : Bracket → Meaning → Type 0
+AreSoundRows bracket m = AreRowsOf bracket m.0 × IsSoundMeaning m
+
+begun-form : (bracket : Bracket) (line : ℕ) (names : Names) → AreSound names → AreSoundRows bracket (begun_form bracket line, names)
+begun-form Square line names h = (refl, (tt, h))
+begun-form Curly line names h = (refl, (tt, h))
+
+-- a bracket is of one kind
+square_or_curly : Curly ≡ Square → ⊥
+square_or_curly e = cc
+
+mutual
+  flow-value : (f : Flow) (line : ℕ) (none : Said) (names : Names) → IsValue f → AreGood (spelling f) → IsSound none → AreSound names → IsSoundMeaning (flow_said line none names f)
+  flow-value absent line none names v g n h = absurd v
+  flow-value (word piece) line none names v g n h = (word-sound line piece names v g.0 h, h)
+  flow-value (called piece absent) line none names v g n h = given-sound (piece_text piece) (none, names) (n, h)
+  flow-value (called piece (word other)) line none names v g n h = given-sound (piece_text piece) (flow_said line none names (word other)) (flow-value (word other) line none names v.2 g.1 n h)
+  flow-value (called piece (called other value)) line none names v g n h = given-sound (piece_text piece) (flow_said line none names (called other value)) (flow-value (called other value) line none names v.2 g.1 n h)
+  flow-value (called piece (item before value)) line none names v g n h = absurd v.2
+  flow-value (called piece (pair before key value)) line none names v g n h = absurd v.2
+  flow-value (called piece (form bracket cells last)) line none names v g n h = given-sound (piece_text piece) (flow_said line none names (form bracket cells last)) (flow-value (form bracket cells last) line none names v.2 g.1 n h)
+  flow-value (item before value) line none names v g n h = absurd v
+  flow-value (pair before key value) line none names v g n h = absurd v
+  flow-value (form bracket cells last) line none names v g n h = (flow-cells cells bracket line names v.0 (good-front (spelling cells) _ g.1) h).1
+
+  flow-cells : (f : Flow) (bracket : Bracket) (line : ℕ) (names : Names) → AreCells bracket f → AreGood (spelling f) → AreSound names → AreSoundRows bracket (flow_said line (begun_form bracket line) names f)
+  flow-cells absent bracket line names v g h = begun-form bracket line names h
+  flow-cells (word piece) bracket line names v g h = absurd v
+  flow-cells (called piece value) bracket line names v g h = absurd v
+  flow-cells (item before value) Square line names v g h =
+      let b = flow-cells before Square line names v.1 (good-front (spelling before) _ g) h in
+      let m = flow_said line (sequence line) names before in
+      let x = flow-value value line (null line) m.1 v.2 (good-back (comma_if _) (spelling value) (good-back (spelling before) _ g)) tt b.1.1 in
+      (b.0, ((b.0, b.1.0, x.0), x.1))
+  flow-cells (item before value) Curly line names v g h = absurd (square_or_curly v.0)
+  flow-cells (pair before key value) Square line names v g h = absurd (square_or_curly (sym v.0))
+  flow-cells (pair before key value) Curly line names v g h =
+      let b = flow-cells before Curly line names v.2 (good-front (spelling before) _ g) h in
+      let m = flow_said line (mapping line) names before in
+      let k = good-back (comma_if _) (key ∷ spelling value) (good-back (spelling before) _ g) in
+      let x = flow-value value line (null line) m.1 v.3 k.1 tt b.1.1 in
+      (b.0, ((b.0, key-utf8 key v.1 k.0, b.1.0, x.0), x.1))
+  flow-cells (form other cells last) bracket line names v g h = absurd v
+
+pub form-sound : (f : Flow) (line : ℕ) (none : Said) (names : Names) → IsForm f → AreGood (spelling f) → IsSound none → AreSound names → IsSoundMeaning (flow_said line none names f)
+form-sound absent line none names v g n h = absurd v
+form-sound (word piece) line none names v g n h = absurd v
+form-sound (called piece value) line none names v g n h = absurd v
+form-sound (item before value) line none names v g n h = absurd v
+form-sound (pair before key value) line none names v g n h = absurd v
+form-sound (form bracket cells last) line none names v g n h = flow-value (form bracket cells last) line none names v g n h

@@ -1,0 +1,137 @@
+-- The marks of lines of UTF-8 are UTF-8, and the lines of a literal block stand in it.
+use Rattle.std.proofs.Common.{◌≡◌, ℕ, ◌+◌, ◌≤◌, Bool, true, false, ◌||◌, ◌==◌, if◌then◌else◌, List, [], ◌∷◌, ◌++◌, drop, Option, Some, None, IfSome, IsUtf8, refl, sym, ap, subst, inl, inr, ◌⊎◌, eqb-true, leb-true, true≢false, not, one-add}
+use Rattle.std.specs.List.{AllByRecursion, prefix_len}
+use Rattle.std.proofs.lemmas.Bool.{or_cases}
+use Rattle.yaml_marks.specs.Lines.{begins_with}
+use Rattle.yaml_marks.specs.Literals.{is_blank, indent}
+use Rattle.yaml_marks.specs.Scalars.{is_space, is_nothing, after_spaces}
+use Rattle.yaml_marks.specs.Marks.{refused, named_node, is_dash, node_marks, has_content, is_marker, head_of, stands_in, is_body, bar_column, column_behind, place_inside, place_behind, line_marks, place_after, next_place, marks_from, marks_of}
+use Rattle.yaml_marks.specs.declared.odd.Odd.TheVariants as odd
+use Rattle.yaml_marks.specs.declared.mark.Mark.{Mark}
+use Rattle.yaml_marks.specs.declared.mark.Mark.TheVariants.{Dash, Key, Scalar, Name, Copy, Bar, Body, Form, OddMark}
+use Rattle.yaml_marks.specs.declared.place.Place.{Place}
+use Rattle.yaml_marks.specs.declared.place.Place.TheVariants.{Outside, Inside}
+use Rattle.shown_config.proofs.GoodPieces.{IsGoodPiece}
+use Rattle.shown_config.proofs.GoodMarks.{AreGood, node-good}
+
+-- ---- literal blocks
+
+-- a line of a block stands in it: it is blank, or not left of the block's column, if that is known
+abbrev pub StandsIn : Option ℕ → List ℕ → Type 0
+StandsIn column bytes = (is_blank bytes ≡ true) ⊎ IfSome column (λ n. n ≤ indent bytes)
+
+-- The marks are good, and each line of a literal block stands in it. In the first argument stands the block's column so far.
+-- Behind an odd mark, which no tree has, nothing is said.
+abbrev pub AreGoodFrom : Option ℕ → List Mark → Type 0
+AreGoodFrom column [] = Unit {0}
+AreGoodFrom column (Body line at bytes ∷ ms) = IsUtf8 bytes × StandsIn column bytes × AreGoodFrom (column_behind column bytes) ms
+AreGoodFrom column (Bar line at chomp ∷ ms) = AreGoodFrom None ms
+AreGoodFrom column (Dash line at ∷ ms) = AreGoodFrom column ms
+AreGoodFrom column (Key line at text ∷ ms) = IsUtf8 text × AreGoodFrom column ms
+AreGoodFrom column (Scalar line at text ∷ ms) = IfSome text IsUtf8 × AreGoodFrom column ms
+AreGoodFrom column (Name line at text ∷ ms) = AreGoodFrom column ms
+AreGoodFrom column (Copy line at text ∷ ms) = AreGoodFrom column ms
+AreGoodFrom column (Form line at pieces ∷ ms) = AllByRecursion IsGoodPiece pieces × AreGoodFrom column ms
+AreGoodFrom column (OddMark line at why ∷ ms) = Unit {0}
+
+-- the column so far is that of the place
+abbrev Fits : Place → Option ℕ → Type 0
+Fits (Outside head) column = Unit {0}
+Fits (Inside bar head own) column = own ≡ column
+
+good-then : (ms rest : List Mark) (place : Place) (column : Option ℕ) → AreGood ms → Fits place column → ((after : Option ℕ) → Fits (place_behind place ms) after → AreGoodFrom after rest) → AreGoodFrom column (ms ++ rest)
+good-then [] rest place column h f k = k column f
+good-then (Body line at bytes ∷ ms) rest place column h f k = absurd h.0
+good-then (Bar line at chomp ∷ ms) rest place column h f k = good-then ms rest (Inside at (head_of place) None) None h.1 refl k
+good-then (Dash line at ∷ ms) rest place column h f k = good-then ms rest (Outside (Some at)) column h.1 tt k
+good-then (Key line at text ∷ ms) rest place column h f k = (h.0, good-then ms rest (Outside (Some at)) column h.1 tt k)
+good-then (Scalar line at text ∷ ms) rest place column h f k = (h.0, good-then ms rest place column h.1 f k)
+good-then (Name line at text ∷ ms) rest place column h f k = good-then ms rest place column h.1 f k
+good-then (Copy line at text ∷ ms) rest place column h f k = good-then ms rest place column h.1 f k
+good-then (Form line at pieces ∷ ms) rest place column h f k = (h.0, good-then ms rest place column h.1 f k)
+good-then (OddMark line at why ∷ ms) rest place column h f k = tt
+
+-- ---- lines
+
+stands : (head column : Option ℕ) (bytes : List ℕ) → (is_blank bytes || stands_in head column (indent bytes)) ≡ true → StandsIn column bytes
+stands head column bytes h = by column (or_cases (is_blank bytes) (stands_in head column (indent bytes)) h)
+  where
+    by : (c : Option ℕ) → (is_blank bytes ≡ true) ⊎ (stands_in head c (indent bytes) ≡ true) → StandsIn c bytes
+    by c (inl blank) = inl blank
+    by None (inr deep) = inr tt
+    by (Some n) (inr deep) = inr (leb-true n (indent bytes) deep)
+
+-- a line without content has no mark
+abbrev is_quiet : List ℕ → Bool
+is_quiet bytes = is_nothing (after_spaces bytes) || begins_with 35 (after_spaces bytes)
+
+quiet-marks : (line column : ℕ) (bytes : List ℕ) → is_quiet bytes ≡ true → node_marks line column bytes ≡ []
+unfolding node_marks
+quiet-marks line column [] h = refl
+quiet-marks line column (b ∷ bytes) h = by (b == 32) refl h (quiet-marks line (1 + column) bytes)
+  where
+    comment : b ≡ 35 → (if false then node_marks line (1 + column) bytes else (if is_dash b bytes then Dash line column ∷ node_marks line (1 + column) bytes else named_node line column b bytes)) ≡ []
+    comment e = subst (λ (c : ℕ). (if is_dash c bytes then Dash line column ∷ node_marks line (1 + column) bytes else named_node line column c bytes) ≡ []) (sym e) refl
+
+    by : (t : Bool) → (b == 32) ≡ t → (is_nothing (drop (if t then 1 + prefix_len is_space bytes else 0) (b ∷ bytes)) || begins_with 35 (drop (if t then 1 + prefix_len is_space bytes else 0) (b ∷ bytes))) ≡ true
+        → (is_quiet bytes ≡ true → node_marks line (1 + column) bytes ≡ [])
+        → (if t then node_marks line (1 + column) bytes else (if is_dash b bytes then Dash line column ∷ node_marks line (1 + column) bytes else named_node line column b bytes)) ≡ []
+    by true e q more = more (subst (λ (n : ℕ). (is_nothing (drop n (b ∷ bytes)) || begins_with 35 (drop n (b ∷ bytes))) ≡ true) (one-add (prefix_len is_space bytes)) q)
+    by false e q more = comment (eqb-true b 35 q)
+
+abbrev IsOutside : Place → Type 0
+IsOutside (Outside head) = Unit {0}
+IsOutside (Inside bar head own) = ⊥
+
+-- before the first line with content no block is open
+abbrev Started : Bool → Place → Type 0
+Started begun place = begun ≡ false → IsOutside place
+
+quiet-place : (place : Place) (number : ℕ) (bytes : List ℕ) → IsOutside place → is_quiet bytes ≡ true → IsOutside (next_place false place number bytes)
+unfolding line_marks place_after
+quiet-place (Inside bar head own) number bytes o q = absurd o
+quiet-place (Outside head) number bytes o q = by (is_marker 45 bytes) (is_marker 46 bytes) (begins_with 37 bytes)
+  where
+    by : (a b c : Bool) → IsOutside (place_behind (Outside head) (if a then (if false then refused number 0 odd.Unsupported else []) else (if b then refused number 0 odd.Unsupported else (if false then Body number 0 bytes ∷ [] else (if c then refused number 0 odd.Unsupported else node_marks number 0 bytes)))))
+    by true b c = tt
+    by false true c = tt
+    by false false true = tt
+    by false false false = subst (λ (ms : List Mark). IsOutside (place_behind (Outside head) ms)) (sym (quiet-marks number 0 bytes q)) tt
+
+next-started : (begun : Bool) (place : Place) (number : ℕ) (bytes : List ℕ) → Started begun place → Started (begun || has_content bytes) (next_place begun place number bytes)
+next-started true place number bytes s e = absurd (true≢false e)
+next-started false place number bytes s e = quiet-place place number bytes (s refl) (not_false (is_quiet bytes) e)
+  where
+    not_false : (a : Bool) → not a ≡ false → a ≡ true
+    not_false true h = refl
+    not_false false h = absurd (true≢false h)
+
+-- the marks of a line before others
+line-by : (begun : Bool) (place : Place) (column : Option ℕ) (number : ℕ) (bytes : List ℕ) (rest : List Mark) (a b c d : Bool) → is_body place bytes ≡ c → IsUtf8 bytes → Fits place column → Started begun place
+    → ((after : Option ℕ) → Fits (if c then place_inside place bytes else place_behind (Outside (head_of place)) (if a then (if begun then refused number 0 odd.Unsupported else []) else (if b then refused number 0 odd.Unsupported else (if c then Body number (bar_column place) bytes ∷ [] else (if d then refused number 0 odd.Unsupported else node_marks number 0 bytes))))) after → AreGoodFrom after rest)
+    → AreGoodFrom column ((if a then (if begun then refused number 0 odd.Unsupported else []) else (if b then refused number 0 odd.Unsupported else (if c then Body number (bar_column place) bytes ∷ [] else (if d then refused number 0 odd.Unsupported else node_marks number 0 bytes)))) ++ rest)
+line-by true place column number bytes rest true b c d e u f s k = tt
+line-by false (Outside head) column number bytes rest true b true d e u f s k = absurd (true≢false (sym e))
+line-by false (Outside head) column number bytes rest true b false d e u f s k = k column tt
+line-by false (Inside bar head own) column number bytes rest true b c d e u f s k = absurd (s refl)
+line-by begun place column number bytes rest false true c d e u f s k = tt
+line-by begun (Outside head) column number bytes rest false false true d e u f s k = absurd (true≢false (sym e))
+line-by begun (Inside bar head own) column number bytes rest false false true d e u f s k = (u, subst (λ (o : Option ℕ). StandsIn o bytes) f (stands head own bytes e), k (column_behind column bytes) (ap (λ o. column_behind o bytes) f))
+line-by begun place column number bytes rest false false false true e u f s k = tt
+line-by begun place column number bytes rest false false false false e u f s k = good-then (node_marks number 0 bytes) rest (Outside (head_of place)) column (node-good number 0 bytes u) tt k
+
+line-good : (begun : Bool) (place : Place) (column : Option ℕ) (number : ℕ) (bytes : List ℕ) (rest : List Mark) → IsUtf8 bytes → Fits place column → Started begun place
+    → ((after : Option ℕ) → Fits (next_place begun place number bytes) after → AreGoodFrom after rest) → AreGoodFrom column (line_marks begun place number bytes ++ rest)
+unfolding line_marks place_after
+line-good begun place column number bytes rest u f s k = line-by begun place column number bytes rest (is_marker 45 bytes) (is_marker 46 bytes) (is_body place bytes) (begins_with 37 bytes) refl u f s k
+
+lines-good : (begun : Bool) (place : Place) (column : Option ℕ) (number : ℕ) (lines : List (List ℕ)) → AllByRecursion IsUtf8 lines → Fits place column → Started begun place → AreGoodFrom column (marks_from begun place number lines)
+unfolding marks_from
+lines-good begun place column number [] u f s = tt
+lines-good begun place column number (line ∷ lines) u f s =
+    line-good begun place column number line (marks_from (begun || has_content line) (next_place begun place number line) (1 + number) lines) u.0 f s
+    (λ after g. lines-good (begun || has_content line) (next_place begun place number line) after (1 + number) lines u.1 g (next-started begun place number line s))
+
+-- the marks of lines of UTF-8
+pub marks-good : (lines : List (List ℕ)) → AllByRecursion IsUtf8 lines → AreGoodFrom None (marks_of lines)
+marks-good lines u = lines-good false (Outside None) None 1 lines u tt (λ e. tt)

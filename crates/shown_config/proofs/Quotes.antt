@@ -1,0 +1,274 @@
+-- A text between double quotes is read as that text.
+use Rattle.std.proofs.Common.{◌≡◌, ℕ, suc, ◌+◌, ◌*◌, ◌/◌, ◌%◌, ◌<◌, ◌≤◌, Bool, true, false, cond, ◌&&◌, ◌||◌, not, ◌==◌, nat_lt, nat_le, List, [], ◌∷◌, ◌++◌, length, Some, IsUtf8, chars, encode_utf8, encode_utf8_all, codes, flat_map, refl, sym, ap, ◌∙◌, subst, append_assoc, append-nil, arith, length-append, take_at, eqb-true, ltb-true, ltb-false, if◌then◌else◌, ⊎_elim, add-zero}
+use Rattle.std.specs.List.{list_all}
+use Rattle.std.specs.Char.{IsScalar}
+use Rattle.std.proofs.Math.Utf8.{scalar, scalars, encode}
+use Rattle.std.proofs.lemmas.Bool.{and_parts, and_from, or_cases}
+use Rattle.std.proofs.lemmas.Bool.Decides.{nat_tests}
+use Rattle.std.proofs.lemmas.Str.{IsUtf8-append, IsUtf8-encode, IsUtf8-nil, IsUtf8-from_ascii, encodes-chars, scalars-chars}
+use Rattle.std.proofs.lemmas.Str.Ascii.{IsAscii-nil, IsAscii-cons}
+use Rattle.yaml_marks.specs.Scalars.{put_before, unescaped, double_len, hex_value, is_surrogate, double_text, double_scan}
+use Rattle.yaml_marks.specs.declared.scan.Scan.TheVariants.{Quoted}
+use Rattle.yaml_marks.specs.declared.escapes.Escape.TheVariants.{Outside}
+use Rattle.shd_config.specs.Quoted.{hex_digit, hex_escape, escaped, quoted}
+use Rattle.shown_config.proofs.Bytes.{is_inner, are_inner, all-append, all-weaker, not_same, is_known, IsText-known, put_before-nil, put_before-append, plus, plus-zero, plus-plus}
+
+-- a byte that stands for itself between quotes
+abbrev pub is_itself : ℕ → Bool
+is_itself b = is_inner b && (not (b == 34) && not (b == 92))
+
+itself-inner : (b : ℕ) → is_itself b ≡ true → is_inner b ≡ true
+itself-inner b h = (and_parts (is_inner b) _ h).0
+
+itself-open : (b : ℕ) → is_itself b ≡ true → ((b == 34) ≡ false) × ((b == 92) ≡ false)
+itself-open b h = let k = and_parts (not (b == 34)) _ (and_parts (is_inner b) _ h).1 in (not_same b 34 k.0, not_same b 92 k.1)
+
+pub unescaped-itself : (bs rest : List ℕ) → list_all is_itself bs ≡ true → unescaped Outside (bs ++ rest) ≡ put_before bs (unescaped Outside rest)
+unfolding unescaped
+unescaped-itself [] rest h = sym (put_before-nil (unescaped Outside rest))
+unescaped-itself (b ∷ bs) rest h =
+    let k = and_parts (is_itself b) (list_all is_itself bs) h in
+    rw ((itself-open b k.0).1) (ap (put_before (b ∷ [])) (unescaped-itself bs rest k.1) ∙ put_before-append (b ∷ []) bs (unescaped Outside rest))
+
+double_len-itself : (bs rest : List ℕ) → list_all is_itself bs ≡ true → double_len false (bs ++ rest) ≡ plus (length bs) (double_len false rest)
+unfolding double_len
+double_len-itself [] rest h = sym (plus-zero (double_len false rest))
+double_len-itself (b ∷ bs) rest h =
+    let k = and_parts (is_itself b) (list_all is_itself bs) h in
+    let e : 1 + length bs ≡ suc (length bs) = omega arith in
+    rw ((itself-open b k.0).0, (itself-open b k.0).1) (ap (plus 1) (double_len-itself bs rest k.1) ∙ plus-plus 1 (length bs) (double_len false rest) ∙ ap (λ n. plus n (double_len false rest)) e)
+
+-- these bytes stand for a character
+record Stands (c : ℕ) (bytes : List ℕ) : Type 0 where
+  reads : (rest : List ℕ) → unescaped Outside (bytes ++ rest) ≡ put_before (encode_utf8 c) (unescaped Outside rest)
+  spans : (rest : List ℕ) → double_len false (bytes ++ rest) ≡ plus (length bytes) (double_len false rest)
+  inner : are_inner bytes ≡ true
+  valid : IsUtf8 bytes
+
+-- ---- characters by themselves
+
+pub high-itself : (b : ℕ) → 128 ≤ b → is_itself b ≡ true
+high-itself b h = grind (arith, nat_tests)
+
+pub encode-itself : (c : ℕ) → is_itself c ≡ true → list_all is_itself (encode_utf8 c) ≡ true
+unfolding encode
+encode-itself c h = by (nat_lt c 128) (nat_lt c 2048) (nat_lt c 65536)
+  where
+    one : is_itself c && true ≡ true
+    one = and_from (is_itself c) true h refl
+
+    two : (a b : ℕ) → 128 ≤ a → 128 ≤ b → (is_itself a && (is_itself b && true)) ≡ true
+    two a b p q = and_from (is_itself a) _ (high-itself a p) (and_from (is_itself b) true (high-itself b q) refl)
+
+    by : (s t u : Bool) → list_all is_itself (cond s (c ∷ []) (cond t ((192 + c / 64) ∷ (128 + c % 64) ∷ []) (cond u ((224 + c / 4096) ∷ (128 + c / 64 % 64) ∷ (128 + c % 64) ∷ []) ((240 + c / 262144) ∷ (128 + c / 4096 % 64) ∷ (128 + c / 64 % 64) ∷ (128 + c % 64) ∷ [])))) ≡ true
+    by true t u = one
+    by false true u = two (192 + c / 64) (128 + c % 64) (omega arith) (omega arith)
+    by false false true = and_from (is_itself (224 + c / 4096)) _ (high-itself (224 + c / 4096) (omega arith)) (two (128 + c / 64 % 64) (128 + c % 64) (omega arith) (omega arith))
+    by false false false = and_from (is_itself (240 + c / 262144)) _ (high-itself (240 + c / 262144) (omega arith)) (and_from (is_itself (128 + c / 4096 % 64)) _ (high-itself (128 + c / 4096 % 64) (omega arith)) (two (128 + c / 64 % 64) (128 + c % 64) (omega arith) (omega arith)))
+
+itself-stands : (c : ℕ) → IsScalar c → is_itself c ≡ true → Stands c (encode_utf8 c)
+itself-stands c s h = let k = encode-itself c h in record {
+  reads = λ rest. unescaped-itself (encode_utf8 c) rest k;
+  spans = λ rest. double_len-itself (encode_utf8 c) rest k;
+  inner = all-weaker is_itself is_inner itself-inner (encode_utf8 c) k;
+  valid = IsUtf8-encode c s;
+}
+
+-- ---- escapes
+
+and_false : (a : Bool) → (a && false) ≡ false
+and_false true = refl
+and_false false = refl
+
+-- what stands behind a backslash is passed over
+double_len-behind : (b : ℕ) (rest : List ℕ) → double_len false (92 ∷ b ∷ rest) ≡ plus 2 (double_len false rest)
+unfolding double_len
+double_len-behind b rest = rw (and_false (b == 34), and_false (b == 92)) (plus-plus 1 1 (double_len false rest))
+
+pair-stands : (c b : ℕ) → ((rest : List ℕ) → unescaped Outside (92 ∷ b ∷ rest) ≡ put_before (encode_utf8 c) (unescaped Outside rest)) → list_all is_known (92 ∷ b ∷ []) ≡ true → Stands c (92 ∷ b ∷ [])
+pair-stands c b r h = let t = IsText-known (92 ∷ b ∷ []) h in record { reads = r; spans = double_len-behind b; inner = t.inner; valid = t.valid }
+
+reads-byte : (b : ℕ) (rest : List ℕ) → put_before [] (put_before (b ∷ []) (unescaped Outside rest)) ≡ put_before (b ∷ []) (unescaped Outside rest)
+reads-byte b rest = put_before-nil (put_before (b ∷ []) (unescaped Outside rest))
+
+quote-stands : Stands 34 (92 ∷ 34 ∷ [])
+unfolding unescaped encode
+quote-stands = pair-stands 34 34 (reads-byte 34) refl
+
+backslash-stands : Stands 92 (92 ∷ 92 ∷ [])
+unfolding unescaped encode
+backslash-stands = pair-stands 92 92 (reads-byte 92) refl
+
+feed-stands : Stands 10 (92 ∷ 110 ∷ [])
+unfolding unescaped encode
+feed-stands = pair-stands 10 110 (reads-byte 10) refl
+
+return-stands : Stands 13 (92 ∷ 114 ∷ [])
+unfolding unescaped encode
+return-stands = pair-stands 13 114 (reads-byte 13) refl
+
+tab-stands : Stands 9 (92 ∷ 116 ∷ [])
+unfolding unescaped encode
+tab-stands = pair-stands 9 116 (reads-byte 9) refl
+
+-- ---- digits of base 16
+
+hex_value-digit : (n : ℕ) → n < 16 → hex_value (hex_digit n) ≡ Some n
+hex_value-digit n h = by (nat_lt n 10) refl
+  where
+    low : n < 10 → hex_value (48 + n) ≡ Some n
+    low l = let a : nat_le 48 (48 + n) ≡ true = grind (arith, nat_tests) in let b : nat_le (48 + n) 57 ≡ true = grind (arith, nat_tests) in rw (a, b) (ap Some (omega arith))
+
+    high : 10 ≤ n → hex_value (55 + n) ≡ Some n
+    high l =
+        let a : nat_le (55 + n) 57 ≡ false = grind (arith, nat_tests) in
+        let b : nat_le 65 (55 + n) ≡ true = grind (arith, nat_tests) in
+        let d : nat_le (55 + n) 70 ≡ true = grind (arith, nat_tests) in
+        rw (a, and_false (nat_le 48 (55 + n)), b, d) (ap Some (omega arith))
+
+    by : (t : Bool) → nat_lt n 10 ≡ t → hex_value (if t then 48 + n else 55 + n) ≡ Some n
+    by true e = low (ltb-true n 10 e)
+    by false e = high (ltb-false n 10 e)
+
+hex_digit-itself : (n : ℕ) → n < 16 → is_itself (hex_digit n) ≡ true
+hex_digit-itself n h = by (nat_lt n 10) refl
+  where
+    low : n < 10 → is_itself (48 + n) ≡ true
+    low l = grind (arith, nat_tests)
+
+    high : 10 ≤ n → is_itself (55 + n) ≡ true
+    high l = grind (arith, nat_tests)
+
+    by : (t : Bool) → nat_lt n 10 ≡ t → is_itself (if t then 48 + n else 55 + n) ≡ true
+    by true e = low (ltb-true n 10 e)
+    by false e = high (ltb-false n 10 e)
+
+hex_digit-ascii : (n : ℕ) → n < 16 → hex_digit n < 128
+hex_digit-ascii n h = grind (arith, nat_tests)
+
+hex-stands : (c : ℕ) → c < 128 → Stands c (hex_escape c)
+unfolding unescaped
+hex-stands c h = record { reads = reads; spans = spans; inner = inner; valid = valid }
+  where
+    first : ℕ
+    first = hex_digit (c / 16)
+
+    second : ℕ
+    second = hex_digit (c % 16)
+
+    small : c / 16 < 16
+    small = omega arith
+
+    less : c % 16 < 16
+    less = omega arith
+
+    whole : (0 * 16 + c / 16) * 16 + c % 16 ≡ c
+    whole = omega arith
+
+    plain : is_surrogate c ≡ false
+    plain = grind (arith, nat_tests)
+
+    reads : (rest : List ℕ) → unescaped Outside (92 ∷ 120 ∷ first ∷ second ∷ rest) ≡ put_before (encode_utf8 c) (unescaped Outside rest)
+    reads rest = rw (hex_value-digit (c / 16) small, hex_value-digit (c % 16) less, whole, plain) (simp put_before-nil)
+
+    spans : (rest : List ℕ) → double_len false (92 ∷ 120 ∷ first ∷ second ∷ rest) ≡ plus 4 (double_len false rest)
+    spans rest = double_len-behind 120 (first ∷ second ∷ rest)
+        ∙ ap (plus 2) (double_len-itself (first ∷ second ∷ []) rest (and_from (is_itself first) _ (hex_digit-itself (c / 16) small) (and_from (is_itself second) true (hex_digit-itself (c % 16) less) refl)))
+        ∙ plus-plus 2 2 (double_len false rest)
+
+    inner : are_inner (92 ∷ 120 ∷ first ∷ second ∷ []) ≡ true
+    inner = and_from (is_inner first) _ (itself-inner first (hex_digit-itself (c / 16) small)) (and_from (is_inner second) true (itself-inner second (hex_digit-itself (c % 16) less)) refl)
+
+    valid : IsUtf8 (92 ∷ 120 ∷ first ∷ second ∷ [])
+    valid = IsUtf8-from_ascii (92 ∷ 120 ∷ first ∷ second ∷ []) (IsAscii-cons 92 (120 ∷ first ∷ second ∷ []) (omega arith) (IsAscii-cons 120 (first ∷ second ∷ []) (omega arith) (IsAscii-cons first (second ∷ []) (hex_digit-ascii (c / 16) small) (IsAscii-cons second [] (hex_digit-ascii (c % 16) less) IsAscii-nil))))
+
+escaped-stands : (c : ℕ) → IsScalar c → Stands c (escaped c)
+escaped-stands c s = by (c == 34) (c == 92) (c == 10) (c == 13) (c == 9) (nat_lt c 32 || c == 127) refl refl refl refl refl refl
+  where
+    at : (d : ℕ) (bytes : List ℕ) → (c == d) ≡ true → Stands d bytes → Stands c bytes
+    at d bytes e k = subst (λ (x : ℕ). Stands x bytes) (sym (eqb-true c d e)) k
+
+    low : (nat_lt c 32 || c == 127) ≡ true → c < 128
+    low e = ⊎_elim (λ k. let l = ltb-true c 32 k in omega arith) (λ k. let l = eqb-true c 127 k in omega arith) (or_cases (nat_lt c 32) (c == 127) e)
+
+    itself : (c == 34) ≡ false → (c == 92) ≡ false → (c == 10) ≡ false → (c == 13) ≡ false → is_itself c ≡ true
+    itself p q r t = rw (p, q, r, t) refl
+
+    by : (p q r t u v : Bool) → (c == 34) ≡ p → (c == 92) ≡ q → (c == 10) ≡ r → (c == 13) ≡ t → (c == 9) ≡ u → (nat_lt c 32 || c == 127) ≡ v
+        → Stands c (if p then codes "\\\"" else (if q then codes "\\\\" else (if r then codes "\\n" else (if t then codes "\\r" else (if u then codes "\\t" else (if v then hex_escape c else encode_utf8 c))))))
+    by true q r t u v a b d e f g = at 34 _ a quote-stands
+    by false true r t u v a b d e f g = at 92 _ b backslash-stands
+    by false false true t u v a b d e f g = at 10 _ d feed-stands
+    by false false false true u v a b d e f g = at 13 _ e return-stands
+    by false false false false true v a b d e f g = at 9 _ f tab-stands
+    by false false false false false true a b d e f g = hex-stands c (low g)
+    by false false false false false false a b d e f g = itself-stands c s (itself a b d e)
+
+-- ---- texts
+
+-- what stands between the quotes of a text
+abbrev pub body : List ℕ → List ℕ
+body text = flat_map escaped (chars text)
+
+module _ (rest : List ℕ) where
+  unescaped-body : (cs : List ℕ) → scalars cs ≡ true → unescaped Outside (flat_map escaped cs ++ rest) ≡ put_before (encode_utf8_all cs) (unescaped Outside rest)
+  unescaped-body [] h = sym (put_before-nil (unescaped Outside rest))
+  unescaped-body (c ∷ cs) h =
+      let k = and_parts (scalar c) (scalars cs) h in
+      ap (unescaped Outside) (append_assoc (escaped c) (flat_map escaped cs) rest)
+      ∙ (escaped-stands c k.0).reads (flat_map escaped cs ++ rest)
+      ∙ ap (put_before (encode_utf8 c)) (unescaped-body cs k.1)
+      ∙ put_before-append (encode_utf8 c) (encode_utf8_all cs) (unescaped Outside rest)
+
+  double_len-body : (cs : List ℕ) → scalars cs ≡ true → double_len false (flat_map escaped cs ++ rest) ≡ plus (length (flat_map escaped cs)) (double_len false rest)
+  double_len-body [] h = sym (plus-zero (double_len false rest))
+  double_len-body (c ∷ cs) h =
+      let k = and_parts (scalar c) (scalars cs) h in
+      ap (double_len false) (append_assoc (escaped c) (flat_map escaped cs) rest)
+      ∙ (escaped-stands c k.0).spans (flat_map escaped cs ++ rest)
+      ∙ ap (plus (length (escaped c))) (double_len-body cs k.1)
+      ∙ plus-plus (length (escaped c)) (length (flat_map escaped cs)) (double_len false rest)
+      ∙ ap (λ n. plus n (double_len false rest)) (sym (length-append (escaped c) (flat_map escaped cs)))
+
+body-inner : (cs : List ℕ) → scalars cs ≡ true → are_inner (flat_map escaped cs) ≡ true
+body-inner [] h = refl
+body-inner (c ∷ cs) h = let k = and_parts (scalar c) (scalars cs) h in all-append is_inner (escaped c) (flat_map escaped cs) (escaped-stands c k.0).inner (body-inner cs k.1)
+
+body-utf8 : (cs : List ℕ) → scalars cs ≡ true → IsUtf8 (flat_map escaped cs)
+body-utf8 [] h = IsUtf8-nil
+body-utf8 (c ∷ cs) h = let k = and_parts (scalar c) (scalars cs) h in IsUtf8-append (escaped c) (flat_map escaped cs) (escaped-stands c k.0).valid (body-utf8 cs k.1)
+
+-- a text between quotes, as it stands before what follows
+pub quoted-parts : (text rest : List ℕ) → quoted text ++ rest ≡ 34 ∷ (body text ++ (34 ∷ rest))
+unfolding quoted
+quoted-parts text rest = ap (λ l. 34 ∷ l) (append_assoc (body text) (34 ∷ []) rest)
+
+pub length-quoted : (text : List ℕ) → length (quoted text) ≡ 2 + length (body text)
+unfolding quoted
+length-quoted text = let e = length-append (body text) (34 ∷ []) in omega (arith, e)
+
+-- what is read of a text behind its first quote
+pub double_scan-body : (text rest : List ℕ) → IsUtf8 text → double_scan (body text ++ (34 ∷ rest)) (double_len false (body text ++ (34 ∷ rest))) ≡ Quoted text (length (quoted text))
+unfolding double_len unescaped
+double_scan-body text rest u =
+    ap (double_scan (body text ++ (34 ∷ rest))) len
+    ∙ ap (λ bytes. double_text (length (body text)) (unescaped Outside bytes)) (take_at (body text) (34 ∷ rest) (length (body text)) refl)
+    ∙ ap (double_text (length (body text))) says
+    ∙ ap (Quoted text) (sym (length-quoted text))
+  where
+    len : double_len false (body text ++ (34 ∷ rest)) ≡ Some (length (body text))
+    len = double_len-body (34 ∷ rest) (chars text) (scalars-chars text u) ∙ ap Some (add-zero (length (body text)))
+
+    says : unescaped Outside (body text) ≡ Some text
+    says = ap (unescaped Outside) (sym (append-nil (body text))) ∙ unescaped-body [] (chars text) (scalars-chars text u) ∙ ap Some (append-nil (encode_utf8_all (chars text)) ∙ encodes-chars text u)
+
+pub quoted-inner : (text : List ℕ) → IsUtf8 text → are_inner (quoted text) ≡ true
+unfolding quoted
+quoted-inner text u = all-append is_inner (body text) (34 ∷ []) (body-inner (chars text) (scalars-chars text u)) refl
+
+pub quoted-utf8 : (text : List ℕ) → IsUtf8 text → IsUtf8 (quoted text)
+unfolding quoted
+quoted-utf8 text u = IsUtf8-append (34 ∷ []) (body text ++ (34 ∷ [])) quote (IsUtf8-append (body text) (34 ∷ []) (body-utf8 (chars text) (scalars-chars text u)) quote)
+  where
+    quote : IsUtf8 (34 ∷ [])
+    quote = IsUtf8-from_ascii (34 ∷ []) (IsAscii-cons 34 [] (omega arith) IsAscii-nil)

@@ -1,0 +1,5 @@
+use Rattle.shown_config.proofs.PlainHosts.{config-plain}
+use Rattle.shown_config.proofs.laws.configurations_plain.Goals as goal
+
+pub returns : goal.returns
+returns c = config-plain

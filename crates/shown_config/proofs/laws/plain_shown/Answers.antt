@@ -1,0 +1,5 @@
+use Rattle.shown_config.proofs.ReadBack.{reads-back}
+use Rattle.shown_config.proofs.laws.plain_shown.Goals as goal
+
+pub returns : goal.returns
+returns c = reads-back
