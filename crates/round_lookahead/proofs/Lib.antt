@@ -1,3 +1,4 @@
+pub mod AloneSteps
 pub mod Packets
 pub mod TaskRuns
 pub mod WorkSteps

@@ -105,7 +105,7 @@ length_hosts [] = refl
 length_hosts (row ∷ rows) = ap suc (length_hosts rows)
 
 -- the opening world of a net's rows is one between rounds
-opened-between : (net : Net) (rows : List Row) (are : AreHostRows net rows) → IsBetweenRounds net (opening_world rows)
+pub opened-between : (net : Net) (rows : List Row) (are : AreHostRows net rows) → IsBetweenRounds net (opening_world rows)
 opened-between net rows are =
     let all : AllOpen net 0 rows = all_open net 0 rows (λ i row is. ((let p = are.places i row is in omega arith), are.fit i row is)) in
     record {

@@ -1,3 +1,4 @@
+pub mod Alone
 pub mod Arrivals
 pub mod Tasks
 pub mod Posts

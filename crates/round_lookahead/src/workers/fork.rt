@@ -1,5 +1,5 @@
 //! Workers side by side.
-ghost use Rattle.std.specs.Prelude.{◌≡◌, ◌≤◌, ◌^◌, All, length};
+ghost use Rattle.std.specs.Prelude.{◌≡◌, ◌≤◌, ◌<◌, ◌^◌, All, length};
 ghost use Rattle.round_lookahead.specs.Benches.{IsReady, HasWorked, HaveWorked};
 
 use crate::workers::bench::Bench;
@@ -40,7 +40,7 @@ fn work_at<G: Gate>(
     .ok();
 }
 
-/// All workers' rounds, side by side. Where no thread can be made, they come one after another.
+/// All workers' rounds, side by side in so many threads. Where no thread can be made, they come one after another.
 pub(crate) fn fork<R: Threads + Sync, G: Gate + Sync>(
     rt: &R,
     alloc: Global,
@@ -48,19 +48,21 @@ pub(crate) fn fork<R: Threads + Sync, G: Gate + Sync>(
     end: Time,
     boards: &Boards<Box<Parcel>>,
     gate: &G,
+    threads: u32,
     benches: &mut [Bench],
 )
     requires stop { net.now.stop.nanos ≤ 2 ^ 61 }
     requires until { end.nanos ≤ net.now.stop.nanos }
     requires hosts { boards.now.hosts ≡ length net.now.known.book }
     requires few { length net.now.known.book ≤ 65536 }
+    requires threads { 0 < threads }
     requires ready { All (IsReady net.now boards.now) benches.old }
     ensures { HaveWorked net.now end.nanos benches.old benches.new }
 {
     for_each_mut(
         rt,
         benches,
-        64,
+        threads as usize,
         &|_, bench| { work_at(alloc, net, end, boards, gate, bench) },
     );
 }

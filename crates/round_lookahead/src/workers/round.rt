@@ -5,7 +5,9 @@ ghost use Rattle.round_lookahead.specs.Benches.{AreBenches, AreParts, HaveWorked
 ghost use Rattle.round_lookahead.specs.Rounds.{IsRound};
 ghost use Rattle.round_lookahead.specs.Tasks.{AreTasks, AreTasksOf};
 
+use crate::workers::alone::run_alone;
 use crate::workers::bench::Bench;
+use crate::workers::busy::busy_count;
 use crate::workers::fork::fork;
 use crate::workers::task::Task;
 use crate::workers::worked::Worked;
@@ -56,7 +58,7 @@ fn benches_of(
     Ok(benches)
 }
 
-/// Starts all workers, and waits for them.
+/// Starts all workers in so many threads, and waits for them.
 fn fork_all<R: Threads + Sync, G: Gate + Sync>(
     rt: &R,
     alloc: Global,
@@ -64,16 +66,27 @@ fn fork_all<R: Threads + Sync, G: Gate + Sync>(
     end: Time,
     boards: &Boards<Box<Parcel>>,
     gate: &G,
+    threads: u32,
     benches: &mut Vec<Bench>,
 )
     requires stop { net.now.stop.nanos ≤ 2 ^ 61 }
     requires until { end.nanos ≤ net.now.stop.nanos }
     requires hosts { boards.now.hosts ≡ length net.now.known.book }
     requires few { length net.now.known.book ≤ 65536 }
+    requires threads { 0 < threads }
     requires ready { All (IsReady net.now boards.now) benches.old.items }
     ensures { HaveWorked net.now end.nanos benches.old.items benches.new.items }
 {
-    fork(rt, alloc, net, end, boards, gate, benches.as_mut_slice());
+    fork(
+        rt,
+        alloc,
+        net,
+        end,
+        boards,
+        gate,
+        threads,
+        benches.as_mut_slice(),
+    );
 }
 
 /// Takes the benches apart. Some worker may have found no memory.
@@ -104,7 +117,53 @@ fn parts_of(alloc: Global, benches: Vec<Bench>) -> Result<Parts, NoMemory>
     })
 }
 
-/// Runs the hosts of all tasks up to `end`, on so many workers side by side. Fails for want of memory alone.
+/// Runs the hosts of all tasks up to `end`, on so many workers in so many threads. Fails for want of memory alone.
+fn run_beside<R: Threads + Sync, G: Gate + Sync>(
+    rt: &R,
+    alloc: Global,
+    net: &Net,
+    end: Time,
+    tasks: Vec<Task>,
+    workers: u32,
+    threads: u32,
+    gate: &G,
+) -> Result<RoundLeft, NoMemory>
+    requires stop { net.now.stop.nanos ≤ 2 ^ 61 }
+    requires until { end.nanos ≤ net.now.stop.nanos }
+    requires workers { (0 < workers) × (workers ≤ 64) }
+    requires threads { 0 < threads }
+    requires few { (0 < length tasks.items) × (length tasks.items ≤ 65536) }
+    requires tasks { AreTasksOf net.now tasks.items }
+    ensures works { IfOk result (λ left. length left.works.items ≡ workers) }
+    ensures rows { IfOk result (λ left. length left.rows.items ≡ length tasks.items) }
+    ensures round { IfOk result (λ left. (rec : ℕ → HostRecord) → AreTasks net.now tasks.items rec → IsRound net.now end.nanos tasks.items rec left.works.items left.rows.items) }
+{
+    let hosts = tasks.len() as u32;
+    let Ok(seats) = deal(alloc, tasks, workers) else {
+        return Err(NoMemory);
+    };
+    let (boards, carriers) = Boards::open(alloc, hosts, workers)?;
+    let mut benches = benches_of(alloc, seats, carriers)?;
+    fork_all(rt, alloc, net, end, &boards, gate, threads, &mut benches);
+    let Parts {
+        seats,
+        carriers,
+        works,
+    } = parts_of(alloc, benches)?;
+    let Ok(_) = gather(alloc, seats) else {
+        return Err(NoMemory);
+    };
+    let Ok(drained) = boards.close(carriers) else {
+        return Err(NoMemory);
+    };
+    Ok(RoundLeft {
+        works,
+        rows: drained.rows,
+    })
+}
+
+/// Runs the hosts of all tasks up to `end`, on so many workers side by side. There are no more threads than hosts that have
+/// something to do; with one, the first worker runs all hosts. Fails for want of memory alone.
 pub(crate) fn run_all<R: Threads + Sync, G: Gate + Sync>(
     rt: &R,
     alloc: Global,
@@ -123,26 +182,9 @@ pub(crate) fn run_all<R: Threads + Sync, G: Gate + Sync>(
     ensures rows { IfOk result (λ left. length left.rows.items ≡ length tasks.items) }
     ensures round { IfOk result (λ left. (rec : ℕ → HostRecord) → AreTasks net.now tasks.items rec → IsRound net.now end.nanos tasks.items rec left.works.items left.rows.items) }
 {
-    let hosts = tasks.len() as u32;
-    let Ok(seats) = deal(alloc, tasks, workers) else {
-        return Err(NoMemory);
-    };
-    let (boards, carriers) = Boards::open(alloc, hosts, workers)?;
-    let mut benches = benches_of(alloc, seats, carriers)?;
-    fork_all(rt, alloc, net, end, &boards, gate, &mut benches);
-    let Parts {
-        seats,
-        carriers,
-        works,
-    } = parts_of(alloc, benches)?;
-    let Ok(_) = gather(alloc, seats) else {
-        return Err(NoMemory);
-    };
-    let Ok(drained) = boards.close(carriers) else {
-        return Err(NoMemory);
-    };
-    Ok(RoundLeft {
-        works,
-        rows: drained.rows,
-    })
+    let threads = busy_count(&tasks, end, workers);
+    if threads < 2 {
+        return run_alone(alloc, net, end, tasks, workers, gate);
+    }
+    run_beside(rt, alloc, net, end, tasks, workers, threads, gate)
 }

@@ -1,7 +1,7 @@
 use Rattle.std.proofs.Common.{◌≡◌, ℕ, length, subst, arith}
 use Rattle.host_inbox.specs.CarrierViews.{AreOpen}
 use Rattle.round_lookahead.proofs.RoundFacts.{ready, whole, all-carriers, works-count, is-round}
-use Rattle.round_lookahead.proofs.workers.round.run_all.Goals as goal
+use Rattle.round_lookahead.proofs.workers.round.run_beside.Goals as goal
 
 pub fork_all-requires-clause-ready : goal.fork_all-requires-clause-ready
 fork_all-requires-clause-ready g c κs within =
