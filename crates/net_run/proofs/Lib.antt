@@ -1,7 +1,4 @@
-mod QueueLemmas
-pub mod FiringLemmas
-pub mod TurnLemmas
-pub mod OpeningLemmas
+mod StandLemmas
 mod PieceLemmas
 mod PathLemmas
 mod ListingLemmas

@@ -3,4 +3,3 @@ pub mod StandsFor
 pub mod Pieces
 pub mod Shown
 pub mod Telling
-pub mod Parcels

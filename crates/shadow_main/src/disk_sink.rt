@@ -31,19 +31,34 @@ impl<'a, R: Files + AllocGlobal, O: Write, E: Write> DiskSink<'a, R, O, E> {
         }
     }
 
-    /// Adds bytes to a file of the directory, whose parents are made where they are not there.
+    /// Opens a file to write at its end; it is made where it is not there.
+    fn open(&self, path: &str) -> io::Result<R::File> {
+        let mut options = OpenOptions::new();
+        options.append(true).create(true);
+        options.open(self.files, path)
+    }
+
+    /// The same, and its parents are made where they are not there.
+    fn open_below(&self, path: &str) -> io::Result<R::File> {
+        match self.open(path) {
+            Err(error) if error.kind() == ErrorKind::NotFound => {
+                if let Some((parent, _)) = path.rsplit_once('/') {
+                    fs::create_dir_all(self.files, parent)?;
+                }
+                self.open(path)
+            }
+            opened => opened,
+        }
+    }
+
+    /// Adds bytes to a file of the directory.
     fn put_file(&self, name: &str, piece: &[u8]) -> io::Result<usize>
         ensures { IfOk result (λ n. n ≤ length piece.now) }
     {
         let alloc: Global = self.files.alloc();
         let directory = self.directory.as_str();
         let path = format!(in alloc; "{directory}{name}")?;
-        if let Some((parent, _)) = path.as_str().rsplit_once('/') {
-            fs::create_dir_all(self.files, parent)?;
-        }
-        let mut options = OpenOptions::new();
-        options.append(true).create(true);
-        let mut file = options.open(self.files, path.as_str())?;
+        let mut file = self.open_below(path.as_str())?;
         file.write(piece)
     }
 

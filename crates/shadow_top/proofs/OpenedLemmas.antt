@@ -1,16 +1,30 @@
 -- The rows of a run are those of its net.
-use Rattle.std.proofs.Common.{◌≡◌, ℕ, zero, suc, ◌+◌, ◌<◌, ◌≤◌, List, [], ◌∷◌, length, map, All, Some, slice_get, refl, sym, ap, subst, ◌∙◌, arith}
+use Rattle.std.proofs.Common.{◌≡◌, ◌≢◌, ℕ, zero, suc, ◌+◌, ◌^◌, ◌<◌, ◌≤◌, List, [], ◌∷◌, length, map, All, Option, Some, None, option_map, slice_get, refl, sym, ap, subst, ◌∙◌, arith}
+use Rattle.std.specs.Prelude.{option_and_then}
+use Rattle.std.proofs.lemmas.Option.{get_or_from_slice_get}
 use Rattle.std.proofs.lemmas.List.Elements.{All-head, All-tail}
 use Rattle.host_state.specs.declared.net.Net.{Net}
 use Rattle.host_state.specs.declared.row.Row.{Row}
-use Rattle.net_run.specs.World.{AreRows}
+use Rattle.host_state.specs.Fits.{IsLatency, IsShort}
+use Rattle.host_state.specs.Sending.{route_from, told}
+use Rattle.net_routes.specs.declared.cost.Cost.{Cost}
+use Rattle.net_routes.specs.declared.table.Routes.{Routes}
+use Rattle.net_routes.specs.Least.{IsLookahead}
+use Rattle.net_routes.specs.Needed.{IsAt, IsNeeded}
+use Rattle.net_routes.specs.Routes.{route_in}
+use Rattle.round_lookahead.specs.OpeningWorld.{AreHostRows}
+use Rattle.round_lookahead.specs.WorldStands.{HasRounds, IsAhead, nanos_of}
 use Rattle.run_plan.specs.Limits.{KeepsToLimits}
+use Rattle.run_plan.specs.Plan.{nodes_of}
+use Rattle.run_plan.specs.Plan as plan
+use Rattle.run_plan.specs.Routed.{TakeTime, IsRouted}
 use Rattle.run_plan.specs.declared.host_row.HostRow.{HostRow}
 use Rattle.run_plan.specs.declared.plan.Settings.{Settings}
 use Rattle.run_plan.specs.declared.planned.Run.{Run}
 use Rattle.sim_base.specs.declared.address.Ip.{Ip}
+use Rattle.sim_base.specs.declared.time.Time.{Time}
 use Rattle.shd_config.specs.declared.config.ProcessConfig.{ProcessConfig}
-use Rattle.shadow_top.specs.Opened.{Host, said_process, said_host, processes_of, host_of, hosts_from, IsNetOf, AreRowsOf}
+use Rattle.shadow_top.specs.Opened.{Host, said_process, said_host, processes_of, host_of, hosts_from, cut_lookahead, IsNetOf, AreRowsOf}
 
 length-map : {A B : Type 0} (f : A → B) (xs : List A) → length (map f xs) ≡ length xs
 length-map f [] = refl
@@ -62,12 +76,15 @@ slice_within [] i x at = absurd (cc)
 slice_within (y ∷ ys) zero x at = omega arith
 slice_within (y ∷ ys) (suc i) x at = let rest = slice_within ys i x at in omega (arith, rest)
 
-pub rows_fit : (run : Run) (net : Net) (rows : List Row) → KeepsToLimits run.plan → AreRowsOf run rows → IsNetOf run net → AreRows net rows
+-- each host has a name in the book
+length-book : (run : Run) (net : Net) → IsNetOf run net → length net.known.book ≡ length run.plan.rows
+length-book run net net_is = ap (λ (b : List Ip). length b) net_is.book ∙ length-map (λ (h : HostRow). h.address) run.plan.rows
+
+pub rows_fit : (run : Run) (net : Net) (rows : List Row) → KeepsToLimits run.plan → AreRowsOf run rows → IsNetOf run net → AreHostRows net rows
 rows_fit run net rows within same net_is =
     let hs : List HostRow = run.plan.rows in
     let count : length rows ≡ length net.known.book =
-    sym (length-map said_host rows) ∙ ap (λ (xs : List Host). length xs) same ∙ length-hosts run.plan.settings 0 hs
-    ∙ sym (length-map (λ (h : HostRow). h.address) hs) ∙ ap (λ (b : List Ip). length b) (sym net_is.book) in
+    sym (length-map said_host rows) ∙ ap (λ (xs : List Host). length xs) same ∙ length-hosts run.plan.settings 0 hs ∙ sym (length-book run net net_is) in
     let at : (i : ℕ) (row : Row) → slice_get rows i ≡ Some row → IsRowAt i row = λ i row is. subst (λ (k : ℕ). IsRowAt k row) (let e : 0 + i ≡ i = omega arith in e) (rows_at run.plan.settings 0 hs rows same within.processes i row is) in
     record {
       count = count;
@@ -76,11 +93,85 @@ rows_fit run net rows within same net_is =
         within = (let here = slice_within rows i row is in let number = (at i row is).number_is in omega (arith, here, count, number));
         few = (at i row is).few;
       };
-      stop = (let same_stop = ap (λ t. t.nanos) net_is.stop in let early = within.stop.1 in omega (arith, same_stop, early));
     }
 
--- as many rows as the plan has
-pub few_opened : (run : Run) (rows : List Row) → length run.plan.rows ≤ 16384 → AreRowsOf run rows → length rows ≤ 16384
-few_opened run rows few same =
-    let count : length rows ≡ length run.plan.rows = sym (length-map said_host rows) ∙ ap (λ (xs : List Host). length xs) same ∙ length-hosts run.plan.settings 0 run.plan.rows in
-    omega (arith, count, few)
+-- ---- rounds
+
+-- what is known of a route from a host to another one
+record IsRouteOf (nodes : List ℕ) (routes : Routes) (i j : ℕ) (route : Time × ℕ) : Type 0 where
+  from : ℕ
+  to : ℕ
+  cost : Cost
+  from_is : slice_get nodes i ≡ Some from
+  to_is : slice_get nodes j ≡ Some to
+  cost_is : route_in routes from to ≡ Some cost
+  route_is : told cost ≡ route
+
+route_costs : (nodes : List ℕ) (routes : Routes) (i j from to : ℕ) (route : Time × ℕ) (o : Option Cost) → slice_get nodes i ≡ Some from → slice_get nodes j ≡ Some to
+    → route_in routes from to ≡ o → option_map told o ≡ Some route → IsRouteOf nodes routes i j route
+route_costs nodes routes i j from to route None from_is to_is kept is = absurd (cc)
+route_costs nodes routes i j from to route (Some cost) from_is to_is kept is =
+    record { from = from; to = to; cost = cost; from_is = from_is; to_is = to_is; cost_is = kept; route_is = (let e : Some (told cost) ≡ Some route = is in cc) }
+
+route_leads : (net : Net) (i j from : ℕ) (route : Time × ℕ) (b : Option ℕ) → slice_get net.nodes.items i ≡ Some from → slice_get net.nodes.items j ≡ b
+    → option_and_then (λ (to : ℕ). option_map told (route_in net.routes from to)) b ≡ Some route → IsRouteOf net.nodes.items net.routes i j route
+route_leads net i j from route None from_is at is = absurd (cc)
+route_leads net i j from route (Some to) from_is at is = route_costs net.nodes.items net.routes i j from to route (route_in net.routes from to) from_is at refl is
+
+route_begins : (net : Net) (i j : ℕ) (route : Time × ℕ) (a : Option ℕ) → slice_get net.nodes.items i ≡ a
+    → option_and_then (λ (from : ℕ). option_and_then (λ (to : ℕ). option_map told (route_in net.routes from to)) (slice_get net.nodes.items j)) a ≡ Some route
+    → IsRouteOf net.nodes.items net.routes i j route
+route_begins net i j route None at is = absurd (cc)
+route_begins net i j route (Some from) at is = route_leads net i j from route (slice_get net.nodes.items j) at refl is
+
+route_found : (net : Net) (i j : ℕ) (route : Time × ℕ) → route_from net i j ≡ Some route → IsRouteOf net.nodes.items net.routes i j route
+unfolding route_from
+route_found net i j route is = route_begins net i j route (slice_get net.nodes.items i) refl is
+
+is_at : (xs : List ℕ) (i x : ℕ) → slice_get xs i ≡ Some x → IsAt xs i x
+is_at xs i x at = record { within = slice_within xs i x at; is = get_or_from_slice_get xs i x 0 at }
+
+-- with two hosts there is a lookahead, and no route between them takes less
+latency_is : (nodes : List ℕ) (routes : Routes) (lookahead : Option Time) (i j : ℕ) (latency : Time) (reliability : ℕ) → IsLookahead nodes routes (plan.nanos_of lookahead) → i ≢ j
+    → IsRouteOf nodes routes i j (latency, reliability) → IsLatency (nanos_of (cut_lookahead lookahead)) latency.nanos
+latency_is nodes routes None i j latency reliability few others route =
+    let one = slice_within nodes i route.from route.from_is in
+    let other = slice_within nodes j route.to route.to_is in
+    others (let e : i ≡ j = omega (arith, few, one, other) in e)
+latency_is nodes routes (Some time) i j latency reliability least others route =
+    let needed : IsNeeded nodes route.from route.to =
+    record { first = i; second = j; others = others; from = is_at nodes i route.from route.from_is; to = is_at nodes j route.to route.to_is } in
+    let bound = least.each route.from route.to route.cost.latency needed (ap (option_map (λ (c : Cost). c.latency)) route.cost_is) in
+    let same : route.cost.latency ≡ latency.nanos = ap (λ (r : Time × ℕ). r.0.nanos) route.route_is in
+    omega (arith, bound, same)
+
+-- the least latency is that of a route, which takes time
+some_latency : (P : ℕ → Type 0) (o : Option Cost) (t : ℕ) → option_map (λ (c : Cost). c.latency) o ≡ Some t → ((c : Cost) → o ≡ Some c → P c.latency) → P t
+some_latency P None t is each = absurd (cc)
+some_latency P (Some c) t is each = subst P (let e : Some c.latency ≡ Some t = is in cc) (each c refl)
+
+is_ahead : (nodes : List ℕ) (routes : Routes) (lookahead : Option Time) → IsLookahead nodes routes (plan.nanos_of lookahead) → TakeTime nodes routes → IsAhead (nanos_of (cut_lookahead lookahead))
+is_ahead nodes routes None few later = tt
+is_ahead nodes routes (Some time) least later =
+    let some : 0 < time.nanos = some_latency (λ (t : ℕ). 0 < t) (route_in routes least.from least.to) time.nanos least.is (λ c is. later least.from least.to c least.needed is) in
+    omega (arith, some)
+
+is_short : (lookahead : Option Time) → IsShort (nanos_of (cut_lookahead lookahead))
+is_short None = tt
+is_short (Some time) = omega arith
+
+pub rounds_fit : (run : Run) (net : Net) → KeepsToLimits run.plan → IsRouted run.plan → IsNetOf run net → HasRounds net (nanos_of (cut_lookahead run.plan.lookahead))
+rounds_fit run net within routed net_is =
+    let book = length-book run net net_is in
+    record {
+      stop = (let same_stop = ap (λ t. t.nanos) net_is.stop in let early = within.stop.1 in omega (arith, same_stop, early));
+      some = (let some = within.some in omega (arith, book, some));
+      few = (let few = within.few in omega (arith, book, few));
+      routes = λ i j latency reliability others is.
+          (let route = route_found net i j (latency, reliability) is in
+          latency_is (nodes_of run.plan.rows) run.plan.routes run.plan.lookahead i j latency reliability routed.lookahead others
+          (subst (λ (r : Routes). IsRouteOf (nodes_of run.plan.rows) r i j (latency, reliability)) net_is.routes
+          (subst (λ (ns : List ℕ). IsRouteOf ns net.routes i j (latency, reliability)) net_is.nodes route)));
+      short = is_short run.plan.lookahead;
+      ahead = is_ahead (nodes_of run.plan.rows) run.plan.routes run.plan.lookahead routed.lookahead routed.later;
+    }

@@ -1,9 +1,9 @@
 -- What a plan's run leaves, from what its steps leave.
 use Rattle.std.proofs.Common.{◌≡◌, ℕ, Bool, false, List, Option, Some, None, Result, Ok, Err, IfSome, refl, sym, ap, subst, ◌∙◌, inl, inr}
 use Rattle.sim_base.specs.Sink.{Content, begun}
+use Rattle.host_state.specs.World.{World, IsResult, opening_world}
 use Rattle.net_run.specs.Pieces.{Put, with_pieces, PutsFront}
 use Rattle.net_run.specs.Shown.{pieces}
-use Rattle.net_run.specs.World.{World, IsResult, opening_world}
 use Rattle.run_plan.specs.declared.fault.Fault.TheVariants.{Exists}
 use Rattle.run_plan.specs.declared.planned.Run.{Run}
 use Rattle.shadow_top.specs.Contract.{RunsOpened, RunsPlan, BeginsSo}

@@ -15,13 +15,16 @@ use Rattle.world_order.proofs.Homes.{length-fires}
 use Rattle.world_order.proofs.Results.{at_least_one}
 use Rattle.net_run.specs.Pieces.{with_pieces, PutsFront}
 use Rattle.net_run.specs.Shown.{note_puts, run_pieces}
-use Rattle.net_run.specs.StandsFor.{RanStands}
-use Rattle.net_run.specs.World.{World, IsResult, AreRows, opening_world}
+use Rattle.host_state.specs.HostRecord.{HostRecord}
+use Rattle.host_state.specs.Ran.{AllStand, RanStands}
+use Rattle.host_state.specs.World.{World, IsResult, opening_world}
+use Rattle.host_state.specs.declared.ran.HostRun.{HostRun}
 use Rattle.host_state.specs.declared.ran.Ran.{Ran}
-use Rattle.net_run.proofs.FiringLemmas.{stand-length}
-use Rattle.net_run.proofs.OpeningLemmas.{opened-settled}
-use Rattle.net_run.proofs.TurnLemmas.{simulation}
+use Rattle.round_lookahead.specs.WorldStands.{nanos_of}
+use Rattle.round_lookahead.proofs.WorldOpenings.{opened-between}
+use Rattle.round_lookahead.proofs.WorldSteps.{simulation, between-settled}
 use Rattle.shadow_top.specs.Contract.{Reports, RunsNoted, PutsSome, RunsOpened}
+use Rattle.shadow_top.specs.Opened.{HasOpened}
 use Rattle.shadow_top.specs.Stop.{of_writing}
 use Rattle.shadow_top.specs.declared.opened.Opened.{Opened}
 use Rattle.shadow_top.specs.declared.stop.Stop.{Stop}
@@ -29,9 +32,12 @@ use Rattle.shadow_top.specs.declared.stop.Stop.TheVariants.{Refused, ReadFailed,
 use Rattle.shadow_top.proofs.PutLemmas.{nothing_put, first_put, then_put, all_put}
 
 -- a run has a result
-pub ran_exists : (net : Net) (rows : List Row) → AreRows net rows → (w : World) × IsResult net w (opening_world rows)
-ran_exists net rows are =
-    let r = at_least_one (simulation net are.stop) net.stop.nanos (opening_world rows) (opened-settled net rows are) in (r.0, r.1)
+pub ran_exists : (opened : Opened) → HasOpened opened → (w : World) × IsResult opened.net w (opening_world opened.rows.items)
+ran_exists opened has =
+    let start : World = opening_world opened.rows.items in
+    let r = at_least_one (simulation opened.net (nanos_of opened.lookahead) has.rounds) opened.net.stop.nanos start
+    (between-settled opened.net (nanos_of opened.lookahead) has.rounds start (opened-between opened.net opened.rows.items has.rows)) in
+    (r.0, r.1)
 
 -- ---- as many hosts as rows
 
@@ -55,18 +61,26 @@ opening_count : (rows : List Row) → length (opening_world rows).hosts ≡ leng
 opening_count [] = refl
 opening_count (row ∷ rows) = ap suc (opening_count rows)
 
+stand-length : (rs : List HostRun) (hs : List HostRecord) → AllStand rs hs → length rs ≡ length hs
+stand-length [] [] all = refl
+stand-length [] (h ∷ hs) all = absurd all
+stand-length (r ∷ rs) [] all = absurd all
+stand-length (r ∷ rs) (h ∷ hs) all = ap suc (stand-length rs hs all.1)
+
 -- a run leaves its hosts
-pub few_ran : (net : Net) (rows : List Row) (ran : Ran) → length rows ≤ 16384 → (w : World) × IsResult net w (opening_world rows) × RanStands ran w → length ran.hosts.items ≤ 16384
-few_ran net rows ran few (w, result, stands) =
+pub few_ran : (opened : Opened) (ran : Ran) → HasOpened opened → (w : World) × IsResult opened.net w (opening_world opened.rows.items) × RanStands ran w → length ran.hosts.items ≤ 65536
+few_ran opened ran has (w, result, stands) =
     let hosts = stand-length ran.hosts.items w.hosts stands.hosts in
-    let count = result_count net w (opening_world rows) result in
-    let opened = opening_count rows in
-    omega (arith, hosts, count, opened, few)
+    let count = result_count opened.net w (opening_world opened.rows.items) result in
+    let start = opening_count opened.rows.items in
+    let rows = has.rows.count in
+    let few = has.rounds.few in
+    omega (arith, hosts, count, start, rows, few)
 
 -- no memory for the run: nothing was put
-pub not_run : (net : Net) (rows : List Row) (load : Bool) (old : Option Content) → AreRows net rows → RunsNoted net rows load old old (Err NoMemory)
-not_run net rows load old are =
-    let (w, result) = ran_exists net rows are in (w, result, nothing_put (run_pieces load w) old old refl)
+pub not_run : (opened : Opened) (old : Option Content) → HasOpened opened → RunsNoted opened old old (Err NoMemory)
+not_run opened old has =
+    let (w, result) = ran_exists opened has in (w, result, nothing_put (run_pieces opened.is_self_load w) old old refl)
 
 -- a write of the report failed
 pub report_stopped : (load : Bool) (w : World) (old new : Option Content) (e : WriteError) → PutsFront (run_pieces load w) old new → Reports load w old new (Err (of_writing e))
@@ -75,7 +89,7 @@ report_stopped load w old new write.NoMemory some = some
 
 -- the notes were put, and the run was made
 noted_by : (opened : Opened) (c : Content) (mid new : Option Content) (r : Result ℕ Stop) → mid ≡ option_map (with_pieces (note_puts opened.notes)) (Some c)
-    → RunsNoted opened.net opened.rows.items opened.is_self_load mid new r → RunsOpened opened c new r
+    → RunsNoted opened mid new r → RunsOpened opened c new r
 noted_by opened c mid new (Ok status) noted (w, result, told) =
     (w, result, all_put (note_puts opened.notes) (run_pieces opened.is_self_load w) (Some c) mid new noted told.0, told.1)
 noted_by opened c mid new (Err (Refused fault)) noted (w, result, told) = absurd told
@@ -86,7 +100,7 @@ noted_by opened c mid new (Err NoMemory) noted (w, result, some) =
     (w, result, then_put (note_puts opened.notes) (run_pieces opened.is_self_load w) (Some c) mid new noted some)
 
 pub noted : (opened : Opened) (old mid new : Option Content) (r : Result ℕ Stop) → mid ≡ option_map (with_pieces (note_puts opened.notes)) old
-    → RunsNoted opened.net opened.rows.items opened.is_self_load mid new r → IfSome old (λ c. RunsOpened opened c new r)
+    → RunsNoted opened mid new r → IfSome old (λ c. RunsOpened opened c new r)
 noted opened None mid new r is ran = tt
 noted opened (Some c) mid new r is ran = noted_by opened c mid new r is ran
 
@@ -95,9 +109,9 @@ stopped_by : (opened : Opened) (c : Content) (new : Option Content) (e : WriteEr
 stopped_by opened c new write.Failed some = some
 stopped_by opened c new write.NoMemory some = some
 
-pub notes_stopped : (opened : Opened) (old new : Option Content) (e : WriteError) → AreRows opened.net opened.rows.items → PutsFront (note_puts opened.notes) old new
+pub notes_stopped : (opened : Opened) (old new : Option Content) (e : WriteError) → HasOpened opened → PutsFront (note_puts opened.notes) old new
     → IfSome old (λ c. RunsOpened opened c new (Err (of_writing e)))
-notes_stopped opened None new e are some = tt
-notes_stopped opened (Some c) new e are some =
-    let (w, result) = ran_exists opened.net opened.rows.items are in
+notes_stopped opened None new e has some = tt
+notes_stopped opened (Some c) new e has some =
+    let (w, result) = ran_exists opened has in
     stopped_by opened c new e (w, result, first_put (note_puts opened.notes) (run_pieces opened.is_self_load w) (Some c) new some)

@@ -4,11 +4,9 @@ use Rattle.sim_base.specs.Faults.{Rose}
 use Rattle.sim_base.specs.Sink.{Content, add, begun, AddsFront}
 use Rattle.sim_base.specs.declared.outside.sink.Place.TheVariants as place
 use Rattle.out_text.specs.Faults.{file_line}
-use Rattle.host_state.specs.declared.net.Net.{Net}
-use Rattle.host_state.specs.declared.row.Row.{Row}
+use Rattle.host_state.specs.World.{World, IsResult, opening_world}
 use Rattle.net_run.specs.Pieces.{with_pieces, PutsFront}
 use Rattle.net_run.specs.Shown.{pieces, run_pieces, status_of}
-use Rattle.net_run.specs.World.{World, IsResult, opening_world}
 use Rattle.run_plan.specs.Line.{line_of}
 use Rattle.run_plan.specs.declared.fault.Fault.TheVariants.{Exists}
 use Rattle.run_plan.specs.declared.planned.Planned.{Planned}
@@ -87,8 +85,8 @@ Reports load w old new (Err WriteFailed) = PutsFront (run_pieces load w) old new
 Reports load w old new (Err NoMemory) = PutsFront (run_pieces load w) old new
 
 -- what a run leaves whose notes were put
-abbrev pub RunsNoted : Net → List Row → Bool → Option Content → Option Content → Result ℕ Stop → Type 0
-RunsNoted net rows load old new r = (w : World) × IsResult net w (opening_world rows) × Reports load w old new r
+abbrev pub RunsNoted : Opened → Option Content → Option Content → Result ℕ Stop → Type 0
+RunsNoted opened old new r = (w : World) × IsResult opened.net w (opening_world opened.rows.items) × Reports opened.is_self_load w old new r
 
 -- some of the pieces of an opened run's result were put
 abbrev pub PutsSome : Opened → Content → Option Content → Type 0

@@ -1,5 +1,5 @@
 -- The rows of hosts and the net that a run begins with.
-use Rattle.std.specs.Prelude.{◌≡◌, ℕ, ◌+◌, List, [], ◌∷◌, ◌++◌, map, Option, codes}
+use Rattle.std.specs.Prelude.{◌≡◌, ℕ, ◌+◌, ◌^◌, List, [], ◌∷◌, ◌++◌, map, Option, Some, None, codes, min}
 use Rattle.sim_base.specs.declared.address.Ip.{Ip}
 use Rattle.sim_base.specs.declared.signal.Signal.{Signal}
 use Rattle.sim_base.specs.declared.time.Time.{Time}
@@ -10,6 +10,8 @@ use Rattle.host_state.specs.declared.row.ProcessRow.{ProcessRow}
 use Rattle.host_state.specs.declared.row.Row.{Row}
 use Rattle.net_iface.specs.declared.lane.QueueRule.{QueueRule}
 use Rattle.net_iface.specs.declared.lane.QueueRule.TheVariants as lane
+use Rattle.round_lookahead.specs.OpeningWorld.{AreHostRows}
+use Rattle.round_lookahead.specs.WorldStands.{HasRounds, nanos_of}
 use Rattle.run_plan.specs.Plan.{nodes_of}
 use Rattle.run_plan.specs.declared.host_row.HostRow.{HostRow}
 use Rattle.run_plan.specs.declared.plan.Settings.{Settings}
@@ -130,10 +132,22 @@ pub record IsNetOf (run : Run) (net : Net) : Type 0 where
   pub budget : net.budget ≡ run.budget
   pub images : net.images.items ≡ run.plan.images
 
+-- a lookahead, cut at 2^62 ns, which is past every stop
+abbrev pub cut_lookahead : Option Time → Option Time
+cut_lookahead None = None
+cut_lookahead (Some time) = Some (record { nanos = min time.nanos (2 ^ 62) })
+
 -- a run is opened
 pub record Opens (run : Run) (opened : Opened) : Type 0 where
   pub directory : opened.directory ≡ run.plan.settings.data_directory
   pub notes : opened.notes ≡ run.plan.settings.notes
   pub self_load : opened.is_self_load ≡ run.is_self_load
+  pub parallelism : opened.parallelism ≡ run.plan.settings.parallelism
+  pub lookahead : opened.lookahead ≡ cut_lookahead run.plan.lookahead
   pub rows : AreRowsOf run opened.rows.items
   pub net : IsNetOf run opened.net
+
+-- its rows are those of its net, which can be run by rounds
+pub record HasOpened (opened : Opened) : Type 0 where
+  pub rows : AreHostRows opened.net opened.rows.items
+  pub rounds : HasRounds opened.net (nanos_of opened.lookahead)

@@ -1,10 +1,10 @@
 //! The rows of hosts and the net that a run begins with.
 
 ghost use Rattle.std.specs.Prelude.{◌≡◌, ◌+◌, ◌≤◌, ◌<◌, ◌∷◌, map, length, IfOk, codes};
-ghost use Rattle.net_run.specs.World.{AreRows};
 ghost use Rattle.run_plan.specs.Limits.{KeepsToLimits};
 ghost use Rattle.run_plan.specs.Plan.{nodes_of};
-ghost use Rattle.shadow_top.specs.Opened.{variable_text, state_of, lane_rule, said_process, process_of, processes_of, said_host, host_of, hosts_from, Opens};
+ghost use Rattle.run_plan.specs.Routed.{IsRouted};
+ghost use Rattle.shadow_top.specs.Opened.{variable_text, state_of, lane_rule, said_process, process_of, processes_of, said_host, host_of, hosts_from, cut_lookahead, Opens, HasOpened};
 
 use host_calls::Known;
 use host_state::{FinalState, Net, ProcessRow, Row};
@@ -12,8 +12,11 @@ use net_iface::QueueRule;
 use run_plan::{HostRow, Plan, Run, Settings};
 use shd_config::{ProcessConfig, Variable};
 use shd_values::Texts;
-use sim_base::{Book, Bytes, HostId, Ip, Name, NoMemory, Text};
+use sim_base::{Book, Bytes, HostId, Ip, Name, NoMemory, Text, Time};
 use std::alloc::Global;
+
+/// The longest lookahead, which is past every stop.
+const LONGEST: u64 = 1 << 62;
 
 /// A run before its first event.
 #[derive(Drop)]
@@ -24,6 +27,10 @@ pub struct Opened {
     pub notes: Texts,
     /// Whether the counts of packets are told at the end.
     pub is_self_load: bool,
+    /// How many workers are asked for; 0 stands for as many as there are cores.
+    pub parallelism: u32,
+    /// No packet from one host to another takes less time. With one host there is none.
+    pub lookahead: Option<Time>,
     /// The hosts in their order.
     pub rows: Vec<Row>,
     pub net: Net,
@@ -181,12 +188,22 @@ fn known_of(alloc: Global, hosts: &[HostRow], text: Text) -> Result<Known, NoMem
     })
 }
 
+/// A lookahead, cut at the longest.
+fn cut_lookahead(lookahead: Option<Time>) -> Option<Time>
+    ensures { result ≡ cut_lookahead lookahead }
+{
+    let time = lookahead?;
+    Some(Time {
+        nanos: time.nanos.min(LONGEST),
+    })
+}
+
 /// What a run begins with.
 pub fn open(alloc: Global, run: Run) -> Result<Opened, NoMemory>
-    requires { KeepsToLimits run.plan }
+    requires limits { KeepsToLimits run.plan }
+    requires routed { IsRouted run.plan }
     ensures opens { IfOk result (Opens run) }
-    ensures rows { IfOk result (λ o. AreRows o.net o.rows.items) }
-    ensures few { IfOk result (λ o. length o.rows.items ≤ 16384) }
+    ensures opened { IfOk result HasOpened }
 {
     let Run {
         plan,
@@ -197,7 +214,7 @@ pub fn open(alloc: Global, run: Run) -> Result<Opened, NoMemory>
         settings,
         rows: hosts,
         routes,
-        lookahead: _,
+        lookahead,
         images,
         hosts_text,
     } = plan;
@@ -209,8 +226,8 @@ pub fn open(alloc: Global, run: Run) -> Result<Opened, NoMemory>
         bootstrap_end_time,
         data_directory,
         notes,
+        parallelism,
         seed: _,
-        parallelism: _,
         router_queue: _,
     } = settings;
     let net = Net {
@@ -226,6 +243,8 @@ pub fn open(alloc: Global, run: Run) -> Result<Opened, NoMemory>
         directory: data_directory,
         notes,
         is_self_load,
+        parallelism,
+        lookahead: cut_lookahead(lookahead),
         rows,
         net,
     })

@@ -4,11 +4,12 @@ ghost use Rattle.std.specs.Prelude.{◌≡◌, ◌≢◌, ◌<◌, ◌≤◌, �
 ghost use Rattle.sim_base.specs.Faults.{Rose};
 ghost use Rattle.sim_base.specs.Sink.{begun, add, AddsFront};
 ghost use Rattle.sim_base.specs.declared.outside.sink.Place.TheVariants as place;
-ghost use Rattle.net_run.specs.StandsFor.{RanStands};
-ghost use Rattle.net_run.specs.World.{World, AreRows};
-ghost use Rattle.shadow_top.specs.Opened.{Opens};
+ghost use Rattle.host_state.specs.Ran.{RanStands};
+ghost use Rattle.host_state.specs.World.{World, IsResult, opening_world};
+ghost use Rattle.shadow_top.specs.Opened.{Opens, HasOpened};
 ghost use Rattle.run_plan.specs.Limits.{KeepsToLimits, AreLimitsKept};
 ghost use Rattle.run_plan.specs.Line.{line_of};
+ghost use Rattle.run_plan.specs.Routed.{IsRouted, IsRoutedIfRun};
 ghost use Rattle.shadow_top.specs.Contract.{Shows, TellsReadFailed, ShowsPart, TellsPart, Runs, CarriesOut, RunsPlan, ShowsConfig, RunsOpened, RunsNoted, Reports, TellsLine, Tells, BeginsSo, read_failed_line};
 ghost use Rattle.shadow_top.specs.Input.{input};
 ghost use Rattle.shadow_top.specs.Outcome.{Outcome};
@@ -16,10 +17,10 @@ ghost use Rattle.shadow_top.specs.Stop.{CountsSource, CountsSink, NoReadFailed};
 
 use crate::opened::{Opened, open};
 use crate::stop::Stop;
-use host_state::{Net, Ran, Row};
+use host_state::Ran;
 use net_run::{put_notes, report};
 use out_text::FaultText;
-use run_plan::{Fault, Planned, Run, read_plan, tell};
+use run_plan::{Fault, Planned, Run, read_plan, tell, worker_count};
 use shd_config::Config;
 use sim_base::{Name, NoMemory, Place, Sink, Source, Text, WriteError, put_all};
 use std::alloc::{AllocGlobal, Global};
@@ -112,7 +113,7 @@ fn report_run<K: Sink>(
     is_self_load: bool,
     sink: &mut K,
 ) -> Result<u8, Stop>
-    requires { length ran.hosts.items ≤ 16384 }
+    requires { length ran.hosts.items ≤ 65536 }
     ensures told { (w : World) → RanStands ran w → Reports is_self_load w (K.content sink.old) (K.content sink.new) result }
     ensures status { (w : World) → RanStands ran w → IfOk result (λ status. status ≤ 1) }
     ensures reads { NoReadFailed result }
@@ -124,55 +125,74 @@ fn report_run<K: Sink>(
     }
 }
 
+/// Makes a run, by workers that each tell the gate before they run a host.
+fn run_opened<G: Gate + Sync, R: Threads + Sync + AllocGlobal>(
+    rt: &R,
+    cores: u32,
+    gate: &G,
+    opened: Opened,
+) -> Result<Ran, NoMemory>
+    requires { HasOpened opened }
+    ensures { IfOk result (λ ran. (w : World) × IsResult opened.net w (opening_world opened.rows.items) × RanStands ran w) }
+{
+    let Opened {
+        parallelism,
+        lookahead,
+        rows,
+        net,
+        ..
+    } = opened;
+    let workers = worker_count(parallelism, cores, rows.len() as u32);
+    round_lookahead::run(rt, rt.alloc(), rows, net, lookahead, workers, gate)
+}
+
 /// Makes a run whose notes were written, and writes what it leaves.
-fn run_noted<K: Sink>(
-    alloc: Global,
-    rows: Vec<Row>,
-    net: &Net,
-    is_self_load: bool,
+fn run_noted<K: Sink, G: Gate + Sync, R: Threads + Sync + AllocGlobal>(
+    rt: &R,
+    cores: u32,
+    gate: &G,
+    opened: Opened,
     sink: &mut K,
 ) -> Result<u8, Stop>
-    requires rows { AreRows net.now rows.items }
-    requires few { length rows.items ≤ 16384 }
-    ensures told { RunsNoted net.now rows.items is_self_load (K.content sink.old) (K.content sink.new) result }
+    requires { HasOpened opened }
+    ensures told { RunsNoted opened (K.content sink.old) (K.content sink.new) result }
     ensures status { IfOk result (λ status. status ≤ 1) }
     ensures reads { NoReadFailed result }
     ensures count { CountsSink result (K.faults sink.old) (K.faults sink.new) }
 {
-    match net_run::run(alloc, rows, net) {
-        Ok(ran) => report_run(alloc, ran, is_self_load, sink),
+    let is_self_load = opened.is_self_load;
+    match run_opened(rt, cores, gate, opened) {
+        Ok(ran) => report_run(rt.alloc(), ran, is_self_load, sink),
         Err(NoMemory) => Err(Stop::NoMemory),
     }
 }
 
 /// Makes a run whose data directory was made, and writes what it shows.
-fn run_begun<K: Sink>(alloc: Global, opened: Opened, sink: &mut K) -> Result<u8, Stop>
-    requires rows { AreRows opened.net opened.rows.items }
-    requires few { length opened.rows.items ≤ 16384 }
+fn run_begun<K: Sink, G: Gate + Sync, R: Threads + Sync + AllocGlobal>(
+    rt: &R,
+    cores: u32,
+    gate: &G,
+    opened: Opened,
+    sink: &mut K,
+) -> Result<u8, Stop>
+    requires { HasOpened opened }
     ensures told { IfSome (K.content sink.old) (λ c. RunsOpened opened c (K.content sink.new) result) }
     ensures status { IfOk result (λ status. status ≤ 1) }
     ensures reads { NoReadFailed result }
     ensures count { CountsSink result (K.faults sink.old) (K.faults sink.new) }
 {
-    let Opened {
-        directory: _,
-        notes,
-        is_self_load,
-        rows,
-        net,
-    } = opened;
-    match put_notes(alloc, sink, notes.as_slice()) {
-        Ok(()) => run_noted(alloc, rows, &net, is_self_load, sink),
+    match put_notes(rt.alloc(), sink, opened.notes.as_slice()) {
+        Ok(()) => run_noted(rt, cores, gate, opened, sink),
         Err(error) => Err(Stop::from(error)),
     }
 }
 
 /// What a run begins with, and the name of its directory.
 fn prepare(alloc: Global, run: Run) -> Result<(Opened, Name), NoMemory>
-    requires { KeepsToLimits run.plan }
+    requires limits { KeepsToLimits run.plan }
+    requires routed { IsRouted run.plan }
     ensures opens { IfOk result (λ p. Opens run p.0) }
-    ensures rows { IfOk result (λ p. AreRows p.0.net p.0.rows.items) }
-    ensures few { IfOk result (λ p. length p.0.rows.items ≤ 16384) }
+    ensures opened { IfOk result (λ p. HasOpened p.0) }
     ensures directory { IfOk result (λ p. p.1 ≡ p.0.directory) }
 {
     let opened = open(alloc, run)?;
@@ -181,16 +201,23 @@ fn prepare(alloc: Global, run: Run) -> Result<(Opened, Name), NoMemory>
 }
 
 /// Makes a run, and writes what it shows.
-fn run_plan<K: Sink>(alloc: Global, run: Run, sink: &mut K) -> Result<u8, Stop>
-    requires { KeepsToLimits run.plan }
+fn run_plan<K: Sink, G: Gate + Sync, R: Threads + Sync + AllocGlobal>(
+    rt: &R,
+    cores: u32,
+    gate: &G,
+    run: Run,
+    sink: &mut K,
+) -> Result<u8, Stop>
+    requires limits { KeepsToLimits run.plan }
+    requires routed { IsRouted run.plan }
     ensures told { IfSome (K.content sink.old) (λ c. RunsPlan run c (K.content sink.new) result) }
     ensures status { IfOk result (λ status. status ≤ 1) }
     ensures reads { NoReadFailed result }
     ensures count { CountsSink result (K.faults sink.old) (K.faults sink.new) }
 {
-    match prepare(alloc, run) {
+    match prepare(rt.alloc(), run) {
         Ok((opened, directory)) => match begin(sink, directory) {
-            Ok(()) => run_begun(alloc, opened, sink),
+            Ok(()) => run_begun(rt, cores, gate, opened, sink),
             Err(stop) => Err(stop),
         },
         Err(NoMemory) => Err(Stop::NoMemory),
@@ -198,22 +225,31 @@ fn run_plan<K: Sink>(alloc: Global, run: Run, sink: &mut K) -> Result<u8, Stop>
 }
 
 /// Does what was planned, and writes what it shows.
-fn carry_out<K: Sink>(alloc: Global, planned: Planned, sink: &mut K) -> Result<u8, Stop>
-    requires { AreLimitsKept planned }
+fn carry_out<K: Sink, G: Gate + Sync, R: Threads + Sync + AllocGlobal>(
+    rt: &R,
+    cores: u32,
+    gate: &G,
+    planned: Planned,
+    sink: &mut K,
+) -> Result<u8, Stop>
+    requires limits { AreLimitsKept planned }
+    requires routed { IsRoutedIfRun planned }
     ensures told { IfSome (K.content sink.old) (λ c. CarriesOut planned c (K.content sink.new) result) }
     ensures status { IfOk result (λ status. status ≤ 1) }
     ensures reads { NoReadFailed result }
     ensures count { CountsSink result (K.faults sink.old) (K.faults sink.new) }
 {
     match planned {
-        Planned::Shows(config) => show_config(alloc, sink, &config),
-        Planned::Runs(run) => run_plan(alloc, run, sink),
+        Planned::Shows(config) => show_config(rt.alloc(), sink, &config),
+        Planned::Runs(run) => run_plan(rt, cores, gate, run, sink),
     }
 }
 
 /// Reads what is asked, does it, and writes what it shows.
-fn run<S: Source, K: Sink>(
-    alloc: Global,
+fn run<S: Source, K: Sink, G: Gate + Sync, R: Threads + Sync + AllocGlobal>(
+    rt: &R,
+    cores: u32,
+    gate: &G,
     words: &[String],
     source: &mut S,
     sink: &mut K,
@@ -224,15 +260,17 @@ fn run<S: Source, K: Sink>(
     ensures reads { CountsSource result (S.faults source.old) (S.faults source.new) }
     ensures writes { CountsSink result (K.faults sink.old) (K.faults sink.new) }
 {
-    match read_plan(alloc, words, source) {
-        Ok(planned) => carry_out(alloc, planned, sink),
+    match read_plan(rt, rt.alloc(), words, source, cores) {
+        Ok(planned) => carry_out(rt, cores, gate, planned, sink),
         Err(stop) => Err(Stop::from(stop)),
     }
 }
 
 /// The same, and tells why it stopped before its end.
-fn run_and_tell<S: Source, K: Sink>(
-    alloc: Global,
+fn run_and_tell<S: Source, K: Sink, G: Gate + Sync, R: Threads + Sync + AllocGlobal>(
+    rt: &R,
+    cores: u32,
+    gate: &G,
     words: &[String],
     source: &mut S,
     sink: &mut K,
@@ -240,18 +278,19 @@ fn run_and_tell<S: Source, K: Sink>(
     ensures { Outcome (map string_bytes words.now) (S.held source.old) (K.content sink.old) (K.content sink.new)
         (S.faults source.old) (S.faults source.new) (K.faults sink.old) (K.faults sink.new) result }
 {
-    match run(alloc, words, source, sink) {
+    match run(rt, cores, gate, words, source, sink) {
         Ok(status) => status,
-        Err(stop) => tell_stop(alloc, sink, &stop),
+        Err(stop) => tell_stop(rt.alloc(), sink, &stop),
     }
 }
 
 /// Runs the experiment that the words name, over the files of a source, and writes what it shows to a sink.
 ///
-/// `words[0]` is the program's name. Neither the number of cores nor the gate changes what is shown. The status is
+/// `words[0]` is the program's name. Where the configuration names no number of workers, there are as many as cores.
+/// Neither their number nor the gate, which each tells before it runs a host, changes what is shown. The status is
 /// 0 where the run was made and each expectation was met, 1 where one was not, 2 where the input was refused, 3 where
 /// a read failed, 4 where a write failed and 5 where memory ran out.
-pub fn shadow<S: Source, K: Sink, G: Gate + Sync, R: Threads + AllocGlobal>(
+pub fn shadow<S: Source, K: Sink, G: Gate + Sync, R: Threads + Sync + AllocGlobal>(
     rt: &R,
     words: &[String],
     cores: u32,
@@ -290,7 +329,5 @@ pub fn shadow<S: Source, K: Sink, G: Gate + Sync, R: Threads + AllocGlobal>(
     ensures after_write { K.faults sink.old < K.faults sink.new → result ≡ 4 }
     ensures within { result ≤ 5 }
 {
-    let _ = cores;
-    let _ = gate;
-    run_and_tell(rt.alloc(), words, source, sink)
+    run_and_tell(rt, cores, gate, words, source, sink)
 }

@@ -130,7 +130,7 @@ const USAGE: &str = "shadow: usage: shadow [options] CONFIG\n";
 
 /// A run over a configuration and a program.
 fn ran(
-    rt: &(impl Abort + Threads + AllocGlobal),
+    rt: &(impl Abort + Threads + Sync + AllocGlobal),
     line: &[&str],
     text: &str,
     file: Vec<u8>,
@@ -146,7 +146,7 @@ fn ran(
 
 /// The input is refused with this line.
 fn refuses(
-    rt: &(impl Abort + Threads + AllocGlobal),
+    rt: &(impl Abort + Threads + Sync + AllocGlobal),
     line: &[&str],
     text: &str,
     file: Vec<u8>,
@@ -162,7 +162,7 @@ fn refuses(
 
 /// The program ends in this state, having written so many bytes to descriptors 1 and 2.
 fn ends(
-    rt: &(impl Abort + Threads + AllocGlobal),
+    rt: &(impl Abort + Threads + Sync + AllocGlobal),
     file: Vec<u8>,
     exit: &str,
     out: usize,
@@ -296,7 +296,7 @@ fn refuses_each_input_with_its_line(rt: HostRuntime) -> Result<(), Fail> {
 
 /// The first run, with a call of the source or of the sink that fails, on an empty sink or over its own directory.
 fn faulty(
-    rt: &(impl Abort + Threads + AllocGlobal),
+    rt: &(impl Abort + Threads + Sync + AllocGlobal),
     read: u64,
     write: u64,
     again: bool,

@@ -99,7 +99,7 @@ fn is_front(rt: &impl Abort, sink: &MemSink) -> Result<(), Fail> {
 
 /// The run with a call of the source or of the sink that fails.
 fn faulty(
-    rt: &(impl Abort + Threads + AllocGlobal),
+    rt: &(impl Abort + Threads + Sync + AllocGlobal),
     read: u64,
     write: u64,
 ) -> Result<(u8, MemSink), Fail> {

@@ -101,7 +101,7 @@ hosts:
 
 /// A run of a configuration over the script guest.
 pub fn ran(
-    rt: &(impl Abort + Threads + AllocGlobal),
+    rt: &(impl Abort + Threads + Sync + AllocGlobal),
     line: &[&str],
     text: &str,
 ) -> Result<(u8, MemSink), Fail> {

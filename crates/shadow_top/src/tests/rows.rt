@@ -72,7 +72,7 @@ fn pair(
 }
 
 /// The run of a configuration meets all expectations; its packet log.
-fn logged(rt: &(impl Abort + Threads + AllocGlobal), config: &str) -> Result<MemSink, Fail> {
+fn logged(rt: &(impl Abort + Threads + Sync + AllocGlobal), config: &str) -> Result<MemSink, Fail> {
     let (status, sink) = ran(rt, &CONFIG, config)?;
     assert_eq!(rt; sink.err(), b"".as_slice());
     assert_eq!(rt; status, 0);

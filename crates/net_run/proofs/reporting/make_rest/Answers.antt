@@ -1,7 +1,7 @@
 use Rattle.std.proofs.Common.{◌≡◌, ℕ, List, length, map, refl, ap, ◌∙◌}
 use Rattle.net_run.specs.Pieces.{Put, put_of}
 use Rattle.net_run.specs.Shown.{unmet, status_by}
-use Rattle.net_run.proofs.FiringLemmas.{stand-length}
+use Rattle.net_run.proofs.StandLemmas.{stand-length}
 use Rattle.net_run.proofs.ReportLemmas.{rest-listed}
 use Rattle.net_run.proofs.reporting.make_rest.Goals as goal
 

@@ -13,10 +13,10 @@ returns-in-Ok-clause-told g c =
     noted c.args.opened old (g.K.Sink.content c.put_notes.new.sink) (g.K.Sink.content c.run_noted.new.sink) c.run_noted.result
     (c.in-Ok.ensures.ok ∙ ap (λ (ns : List (List ℕ)). option_map (with_pieces (note_puts ns)) old) c.as_slice.ensures) c.run_noted.ensures.told
 
-pub returns-clause-told : goal.returns-clause-told
-returns-clause-told g c =
+pub returns-in-Err-clause-told : goal.returns-in-Err-clause-told
+returns-in-Err-clause-told g c =
     let old : Option Content = g.K.Sink.content c.args.sink.now in
     let new : Option Content = g.K.Sink.content c.put_notes.new.sink in
     subst (λ (s : Stop). IfSome old (λ d. RunsOpened c.args.opened d new (Err s))) (sym c.from.ensures)
-    (notes_stopped c.args.opened old new c.in-Err.error c.requires.rows
+    (notes_stopped c.args.opened old new c.in-Err.error c.requires
     (subst (λ (ns : List (List ℕ)). PutsFront (note_puts ns) old new) c.as_slice.ensures c.in-Err.ensures.err))
