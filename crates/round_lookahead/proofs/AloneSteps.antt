@@ -1,79 +1,131 @@
--- A round on one worker is a round of all workers.
-use Rattle.std.proofs.Common.{◌≡◌, ℕ, zero, suc, ◌+◌, ◌<◌, ◌≤◌, List, [], ◌∷◌, ◌++◌, Some, map, flat_map, length, drop, replicate, slice_get, get_or, refl, sym, ap, subst, ◌∙◌, append-nil, Vec, arith, IsPermutation, All}
+-- A round in which each host is run in its place is a round of all workers.
+use Rattle.std.proofs.Common.{◌≡◌, ◌≢◌, ℕ, zero, suc, ◌<◌, ◌⊎◌, inl, inr, ⊎_elim, List, [], ◌∷◌, ◌++◌, Some, None, map, flat_map, length, replicate, slice_get, slice_set, get_or, refl, sym, ap, subst, ◌∙◌, append-nil, append_assoc, Vec, arith, IsPermutation, All, length-set}
 use Rattle.std.specs.Prelude.{Contains}
 use Rattle.std.specs.declared.alloc.Global.{Global}
+use Rattle.std.proofs.lemmas.List.{length_push}
 use Rattle.std.proofs.lemmas.List.Elements.{Contains-get_or}
 use Rattle.std.proofs.lemmas.List.Sorted.{IsPermutation-refl}
 use Rattle.sim_base.specs.declared.event.Parcel.{Parcel}
+use Rattle.sim_base.specs.declared.host.HostId.{HostId}
 use Rattle.list_weights.specs.Weights.{weigh, numbers_below}
 use Rattle.steal_workers.specs.Gathers.{joined}
+use Rattle.host_calls.specs.declared.parts.Output.{Output}
+use Rattle.host_state.specs.declared.line.Logged.{Logged}
 use Rattle.host_state.specs.declared.net.Net.{Net}
+use Rattle.host_state.specs.declared.outbox.Outbox.{Outbox}
 use Rattle.host_state.specs.HostRecord.{HostRecord}
+use Rattle.world_order.proofs.Homes.{some_is, get-set_same, get-set_other, below-get}
 use Rattle.round_lookahead.specs.declared.workers.task.Task.{Task}
 use Rattle.round_lookahead.specs.declared.workers.worked.Done.{Done}
 use Rattle.round_lookahead.specs.declared.workers.worked.Worked.{Worked}
-use Rattle.round_lookahead.specs.Alone.{HasRunFirst, HasWorkedAlone, AreIdle, IsFirst}
+use Rattle.round_lookahead.specs.declared.world.in_place.Alone.{Alone}
+use Rattle.round_lookahead.specs.Alone.{HasRunFirst, IsPlaced, HasKept, AreRunInPlace}
 use Rattle.round_lookahead.specs.Arrivals.{Boxed}
-use Rattle.round_lookahead.specs.Backs.{lists_of}
-use Rattle.round_lookahead.specs.Rounds.{AreWorks, AreRows, IsRound, parcel_weight, all_parcels}
-use Rattle.round_lookahead.specs.Tasks.{IsTask, AreTasks}
-use Rattle.round_lookahead.specs.Works.{HostJob, IsDone, AreDone, HasRun, numbers, parcels_made}
+use Rattle.round_lookahead.specs.Backs.{lists_of, lines_done}
+use Rattle.round_lookahead.specs.Rounds.{AreWorks, AreRows, IsRound, all_parcels}
+use Rattle.round_lookahead.specs.Tasks.{IsTask, AreTasksOf}
+use Rattle.round_lookahead.specs.Works.{HostJob, IsDone, AreDone, HasRun, done_of, numbers, parcels_made}
 use Rattle.round_lookahead.proofs.WorkSteps.{done-more, made-more}
 
--- ---- one task more
-
-pub at-rest : (tasks : List Task) (n : ℕ) (t : Task) (rest : List Task) → drop n tasks ≡ t ∷ rest → (slice_get tasks n ≡ Some t) × (drop (suc n) tasks ≡ rest)
-at-rest [] zero t rest h = absurd (let never : ⊥ = cc in never)
-at-rest [] (suc n) t rest h = absurd (let never : ⊥ = cc in never)
-at-rest (x ∷ tasks) zero t rest h = (cc, cc)
-at-rest (x ∷ tasks) (suc n) t rest h = at-rest tasks n t rest h
+-- ---- lists
 
 numbers-more : (jobs : List HostJob) (job : HostJob) → numbers (jobs ++ job ∷ []) ≡ numbers jobs ++ job.number ∷ []
 numbers-more [] job = refl
 numbers-more (j ∷ jobs) job = ap (λ (l : List ℕ). j.number ∷ l) (numbers-more jobs job)
 
-pub none-run : (net : Net) (end : ℕ) (tasks : List Task) (rec : ℕ → HostRecord) (w : Worked) → w.done.items ≡ [] → w.spill.items ≡ [] → HasRunFirst net end tasks rec 0 w
-none-run net end tasks rec w done spill = record {
-  jobs = [];
-  done = subst (AreDone net end 0 tasks rec []) (sym done) tt;
-  in_order = refl;
-  spilled = spill;
-}
+-- one more at the end
+at-more : {X : Type 0} (xs : List X) (x y : X) (i : ℕ) → slice_get (xs ++ x ∷ []) i ≡ Some y → (slice_get xs i ≡ Some y) ⊎ ((i ≡ length xs) × (x ≡ y))
+at-more [] x y zero at = inr (refl, some_is x y at)
+at-more [] x y (suc i) at = absurd (let e : None ≡ Some y = at in cc)
+at-more (z ∷ xs) x y zero at = inl at
+at-more (z ∷ xs) x y (suc i) at = ⊎_elim (λ (l : slice_get xs i ≡ Some y). inl l) (λ (r : (i ≡ length xs) × (x ≡ y)). inr (ap suc r.0, r.1)) (at-more xs x y i at)
 
-pub one-more : (net : Net) (end : ℕ) (tasks : List Task) (rec : ℕ → HostRecord) (count : ℕ) (old new : Worked) (t : Task) (d : Done) (parcels : List Parcel)
+map-more : {X Y : Type 0} (f : X → Y) (xs : List X) (x : X) → map f (xs ++ x ∷ []) ≡ map f xs ++ f x ∷ []
+map-more f [] x = refl
+map-more f (y ∷ xs) x = ap (λ (l : List _). f y ∷ l) (map-more f xs x)
+
+lines-more : (ds : List Done) (d : Done) → lines_done (ds ++ d ∷ []) ≡ lines_done ds ++ d.lines.items
+lines-more [] d = append-nil d.lines.items
+lines-more (e ∷ ds) d = ap (λ (l : List Logged). e.lines.items ++ l) (lines-more ds d) ∙ sym (append_assoc e.lines.items (lines_done ds) d.lines.items)
+
+-- ---- one host more
+
+none-run : (net : Net) (end : ℕ) (tasks : List Task) (rec : ℕ → HostRecord) (spill : List Parcel) → spill ≡ [] → HasRunFirst net end tasks rec 0 [] spill
+none-run net end tasks rec spill none = record { jobs = []; done = tt; in_order = refl; spilled = none }
+
+one-more : (net : Net) (end : ℕ) (tasks : List Task) (rec : ℕ → HostRecord) (count : ℕ) (ds : List Done) (old new : List Parcel) (t : Task) (d : Done) (parcels : List Parcel)
     → slice_get tasks count ≡ Some t → t.id.index ≡ count → HasRun net end t (rec t.id.index) d parcels
-    → new.done.items ≡ old.done.items ++ d ∷ [] → new.spill.items ≡ old.spill.items ++ parcels → HasRunFirst net end tasks rec count old → HasRunFirst net end tasks rec (suc count) new
-one-more net end tasks rec count old new t d parcels dealt is run done spill w =
+    → new ≡ old ++ parcels → HasRunFirst net end tasks rec count ds old → HasRunFirst net end tasks rec (suc count) (ds ++ d ∷ []) new
+one-more net end tasks rec count ds old new t d parcels dealt is run spill w =
     let job : HostJob = record { worker = 0; number = t.id.index; ran = run.ran } in
     let step : IsDone net end 0 tasks rec job d = record { by_worker = refl; task = t; dealt = ap (slice_get tasks) is ∙ dealt; run = run.run } in record {
       jobs = w.jobs ++ job ∷ [];
-      done = subst (AreDone net end 0 tasks rec (w.jobs ++ job ∷ [])) (sym done) (done-more net end 0 tasks rec w.jobs old.done.items job d w.done step);
+      done = done-more net end 0 tasks rec w.jobs ds job d w.done step;
       in_order = numbers-more w.jobs job ∙ ap (λ (l : List ℕ). l ++ t.id.index ∷ []) w.in_order ∙ ap (λ (n : ℕ). numbers_below count ++ n ∷ []) is;
       spilled = spill ∙ ap (λ (l : List Parcel). l ++ parcels) w.spilled ∙ ap (λ (l : List Parcel). parcels_made net w.jobs ++ l) run.made ∙ sym (made-more net w.jobs job);
     }
 
--- none is left
-none-left : (tasks : List Task) (n : ℕ) → length (drop n tasks) ≡ 0 → length tasks ≤ n
-none-left [] n h = omega arith
-none-left (t ∷ tasks) zero h = omega (arith, h)
-none-left (t ∷ tasks) (suc n) h = omega (arith, none-left tasks n h)
+-- ---- in their places
 
--- all tasks were run, where none is left
-pub all-run : (net : Net) (end : ℕ) (tasks rest : List Task) (rec : ℕ → HostRecord) (count : ℕ) (w : Worked) → rest ≡ drop count tasks → length rest ≡ 0 → count ≤ length tasks
-    → HasRunFirst net end tasks rec count w → HasWorkedAlone net end tasks rec w
-all-run net end tasks rest rec count w left none few h =
-    (let past = none-left tasks count (ap (λ (l : List Task). length l) (sym left) ∙ none) in
-    let same : count ≡ length tasks = omega (arith, past, few) in subst (λ (n : ℕ). HasRunFirst net end tasks rec n w) same h)
+pub none-placed : (net : Net) (end : ℕ) (tasks : List Task) (a : Alone) → a.outputs.items ≡ [] → a.lines.items ≡ [] → a.took.items ≡ [] → a.spill.items ≡ [] → AreRunInPlace net end tasks 0 tasks a
+none-placed net end tasks a outputs lines took spill = record {
+  ds = [];
+  many = refl;
+  all = refl;
+  places = λ place d at. absurd (let e : None ≡ Some d = at in cc);
+  later = λ place h. refl;
+  run = λ rec are. none-run net end tasks rec a.spill.items spill;
+  outputs = outputs;
+  lines = lines;
+  took = took;
+}
+
+module _ (net : Net) (end : ℕ) (old now : List Task) (i : ℕ) (a : Alone) (t : Task) (are : AreTasksOf net old) (here : slice_get now i ≡ Some t) (r : AreRunInPlace net end old i now a) where
+  -- it is the host of its place, as it was
+  before : slice_get old i ≡ Some t
+  before = sym (r.later i (omega arith)) ∙ here
+
+  numbered : t.id.index ≡ i
+  numbered = (are.each i t before).1.id
+
+  pub may-run-here : (h : HostRecord) × IsTask net t.id.index t h
+  may-run-here = let h = are.each i t before in (h.0, subst (λ (n : ℕ). IsTask net n t h.0) (sym numbered) h.1)
+
+  pub placed-more : (b : Alone) (t' : Task) (out : Outbox) → t'.id ≡ t.id → t'.parcels.items ≡ [] → ((h : HostRecord) → IsTask net t.id.index t h → HasRun net end t h (done_of t' out) out.parcels.items)
+      → HasKept t'.id out a b → AreRunInPlace net end old (suc i) (slice_set now i t') b
+  placed-more b t' out id emptied ran kept =
+      let d : Done = done_of t' out in
+      record {
+        ds = r.ds ++ d ∷ [];
+        many = (let long = length_push r.ds d in let many = r.many in omega arith);
+        all = length-set now i t' ∙ r.all;
+        places = λ place e at. ⊎_elim
+            (λ (l : slice_get r.ds place ≡ Some e).
+            let p = r.places place e l in
+            let below = below-get r.ds place e l in
+            let many = r.many in
+            let other : place ≢ i = omega arith in
+            record { task = p.task; at = get-set_other now i place t' other ∙ p.at; number = p.number; id = p.id; host = p.host; emptied = p.emptied })
+            (λ (q : (place ≡ length r.ds) × (d ≡ e)).
+            let is : place ≡ i = q.0 ∙ r.many in
+            subst (λ (x : Done). IsPlaced (slice_set now i t') place x) q.1
+            (record { task = t'; at = ap (slice_get (slice_set now i t')) is ∙ get-set_same now i t t' here; number = ap (λ (x : HostId). x.index) id ∙ numbered ∙ sym is; id = refl; host = refl; emptied = emptied }))
+            (at-more r.ds d e place at);
+        later = λ place h. (let other : place ≢ i = omega arith in get-set_other now i place t' other ∙ r.later place (omega arith));
+        run = λ rec tasks. one-more net end old rec i r.ds a.spill.items b.spill.items t d out.parcels.items before numbered
+            (ran (rec t.id.index) (subst (λ (n : ℕ). IsTask net n t (rec n)) (sym numbered) (tasks i t before)))
+            kept.spill (r.run rec tasks);
+        outputs = kept.outputs ∙ ap (λ (l : List (Vec Output Global)). l ++ out.outputs ∷ []) r.outputs ∙ sym (map-more (λ (x : Done). x.outputs) r.ds d);
+        lines = kept.lines ∙ ap (λ (l : List Logged). l ++ out.lines.items) r.lines ∙ sym (lines-more r.ds d);
+        took = kept.took ∙ ap (λ (l : List HostId). l ++ t'.id ∷ []) r.took ∙ sym (map-more (λ (x : Done). x.id) r.ds d);
+      }
 
 -- ---- idle workers
 
-pub idle-more : (works : List Worked) (w : Worked) → AreIdle works → w.done.items ≡ [] → w.spill.items ≡ [] → AreIdle (works ++ w ∷ [])
-idle-more [] w idle done spill = (done, spill, tt)
-idle-more (x ∷ works) w idle done spill = (idle.0, idle.1, idle-more works w idle.2 done spill)
-
-pub first-more : (first : Worked) (works : List Worked) (w : Worked) → IsFirst first works → w.done.items ≡ [] → w.spill.items ≡ [] → IsFirst first (works ++ w ∷ [])
-first-more first [] w is done spill = absurd is
-first-more first (x ∷ works) w is done spill = (is.0, idle-more works w is.1 done spill)
+-- workers that did nothing
+abbrev pub AreIdle : List Worked → Type 0
+AreIdle [] = Unit {0}
+AreIdle (w ∷ works) = (w.done.items ≡ []) × (w.spill.items ≡ []) × AreIdle works
 
 abbrev no-jobs : List Worked → List (List HostJob)
 no-jobs [] = []
@@ -91,7 +143,7 @@ idle-weight : (h : Parcel → ℕ) (works : List Worked) → AreIdle works → w
 idle-weight h [] idle = refl
 idle-weight h (w ∷ works) idle = (let none : weigh h w.spill.items ≡ 0 = ap (weigh h) idle.1 in let rest = idle-weight h works idle.2 in omega (arith, none, rest))
 
-idle-spills : (works : List Worked) → AreIdle works → flat_map (λ (w : Worked). w.spill.items) works ≡ []
+pub idle-spills : (works : List Worked) → AreIdle works → flat_map (λ (w : Worked). w.spill.items) works ≡ []
 idle-spills [] idle = refl
 idle-spills (w ∷ works) idle = ap (λ (l : List Parcel). l ++ flat_map (λ (x : Worked). x.spill.items) works) idle.1 ∙ idle-spills works idle.2
 
@@ -137,25 +189,23 @@ all-contained : (xs ys : List Parcel) → xs ≡ ys → All (λ (p : Parcel). Co
 all-contained xs ys same = subst (λ (l : List Parcel). All (λ (p : Parcel). Contains l p) xs) same (λ k d lt. Contains-get_or xs k d lt)
 
 pub alone-round : (net : Net) (end : ℕ) (tasks : List Task) (rec : ℕ → HostRecord) (first : Worked) (works : List Worked) (rows : List (Vec Boxed Global))
-    → HasWorkedAlone net end tasks rec first → IsFirst first works → lists_of rows ≡ replicate (length tasks) [] → IsRound net end tasks rec works rows
-alone-round net end tasks rec first [] rows worked is empty = absurd is
-alone-round net end tasks rec first (w ∷ works) rows worked is empty =
+    → HasRunFirst net end tasks rec (length tasks) first.done.items first.spill.items → AreIdle works → lists_of rows ≡ replicate (length tasks) [] → IsRound net end tasks rec (first ∷ works) rows
+alone-round net end tasks rec first works rows worked idle empty =
     let jobs : List (List HostJob) = worked.jobs ∷ no-jobs works in
     let all : joined jobs ≡ worked.jobs = ap (λ (l : List HostJob). worked.jobs ++ l) (joined-none works) ∙ append-nil worked.jobs in
-    let spill : w.spill.items ≡ parcels_made net worked.jobs = ap (λ (x : Worked). x.spill.items) is.0 ∙ worked.spilled in
     let made : parcels_made net (joined jobs) ≡ parcels_made net worked.jobs = ap (parcels_made net) all in
-    let parcels : all_parcels rows (w ∷ works) ≡ parcels_made net (joined jobs) =
-    ap (λ (l : List Parcel). l ++ (w.spill.items ++ flat_map (λ (x : Worked). x.spill.items) works)) (empty-parcels (length tasks) rows empty)
-    ∙ ap (λ (l : List Parcel). w.spill.items ++ l) (idle-spills works is.1) ∙ append-nil w.spill.items ∙ spill ∙ sym made in record {
+    let parcels : all_parcels rows (first ∷ works) ≡ parcels_made net (joined jobs) =
+    ap (λ (l : List Parcel). l ++ (first.spill.items ++ flat_map (λ (x : Worked). x.spill.items) works)) (empty-parcels (length tasks) rows empty)
+    ∙ ap (λ (l : List Parcel). first.spill.items ++ l) (idle-spills works idle) ∙ append-nil first.spill.items ∙ worked.spilled ∙ sym made in record {
       jobs = jobs;
-      done = (subst (λ (x : Worked). AreDone net end 0 tasks rec worked.jobs x.done.items) (sym is.0) worked.done, idle-works net end tasks rec 1 works is.1);
+      done = (worked.done, idle-works net end tasks rec 1 works idle);
       each_once = subst (λ (l : List ℕ). IsPermutation l (numbers_below (length tasks))) (sym (ap numbers all ∙ worked.in_order)) (IsPermutation-refl (numbers_below (length tasks)));
       parcels = λ h.
           (let none = empty-weight h (length tasks) rows empty in
-          let rest = idle-weight h works is.1 in
-          let here : weigh h w.spill.items ≡ weigh h (parcels_made net (joined jobs)) = ap (weigh h) (spill ∙ sym made) in
+          let rest = idle-weight h works idle in
+          let here : weigh h first.spill.items ≡ weigh h (parcels_made net (joined jobs)) = ap (weigh h) (worked.spilled ∙ sym made) in
           omega (arith, none, rest, here));
       rows_are = empty-rows (length tasks) rows empty;
-      into = all-contained (all_parcels rows (w ∷ works)) (parcels_made net (joined jobs)) parcels;
-      back = all-contained (parcels_made net (joined jobs)) (all_parcels rows (w ∷ works)) (sym parcels);
+      into = all-contained (all_parcels rows (first ∷ works)) (parcels_made net (joined jobs)) parcels;
+      back = all-contained (parcels_made net (joined jobs)) (all_parcels rows (first ∷ works)) (sym parcels);
     }

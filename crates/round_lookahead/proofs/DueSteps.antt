@@ -9,7 +9,7 @@ use Rattle.sim_base.specs.declared.time.Time.{Time}
 use Rattle.event_order.specs.Events.{IsLeastDue}
 use Rattle.round_lookahead.specs.Dues.{lesser_due}
 use Rattle.round_lookahead.proofs.BackSteps.{flat-append}
-use Rattle.world_order.proofs.Members.{IsIn, IsIn-left, IsIn-right, IsIn-from_Contains, Contains-from_IsIn, Each, Each-from_All, All-from_Each}
+use Rattle.world_order.proofs.Members.{IsIn, IsIn-left, IsIn-right, IsIn-from_Contains, Contains-from_IsIn, Each-from_All, All-from_Each}
 
 module _ {X : Type 0} (P : X → Type 0) where
   pub any-in : (xs : List X) → Any P xs → (x : X) × IsIn x xs × P x

@@ -1,7 +1,7 @@
-pub mod AloneSteps
 pub mod Packets
 pub mod TaskRuns
 pub mod WorkSteps
+pub mod AloneSteps
 pub mod Crossing
 pub mod Spreads
 pub mod RoundSteps
@@ -14,9 +14,9 @@ pub mod RoundJobs
 pub mod DueSteps
 pub mod BackSteps
 pub mod DeliverySteps
-pub mod RetaskSteps
 pub mod MergeSteps
 pub mod SettleSteps
+pub mod PlaceSteps
 pub mod RunSteps
 pub mod WorldSteps
 pub mod WorldRounds

@@ -1,5 +1,5 @@
 -- What hosts make for others: events of the net, for hosts of the net.
-use Rattle.std.proofs.Common.{◌≡◌, ℕ, ◌+◌, ◌-◌, ◌^◌, ◌<◌, ◌≤◌, inl, inr, Bool, true, false, ◌==◌, List, [], ◌∷◌, ◌++◌, All, Some, filter, length, refl, sym, ap, subst, ◌∙◌, arith, eqb-true}
+use Rattle.std.proofs.Common.{◌≡◌, ℕ, ◌-◌, ◌^◌, ◌<◌, ◌≤◌, inl, inr, Bool, true, false, ◌==◌, List, [], ◌∷◌, ◌++◌, All, Some, filter, length, refl, sym, subst, arith, eqb-true}
 use Rattle.std.specs.Prelude.{if◌then◌else◌, not}
 use Rattle.std.proofs.lemmas.List.Elements.{All-nil, All-cons}
 use Rattle.sim_base.specs.declared.event.Event.{Event}
@@ -18,7 +18,7 @@ use Rattle.world_order.specs.EventOrder.{take_least}
 use Rattle.world_order.specs.Model.{Fired}
 use Rattle.world_order.specs.Premises.{IsFit}
 use Rattle.world_order.specs.Round.{events_at}
-use Rattle.world_order.specs.WholeTurns.{Ran, unfired, fired_first, RunsTo, rests, goes}
+use Rattle.world_order.specs.WholeTurns.{Ran, RunsTo, rests, goes}
 use Rattle.world_order.proofs.Keys.{due_from}
 use Rattle.world_order.proofs.Least.{take_least-least, take_least-there, take_least-IsPermutation}
 use Rattle.world_order.proofs.Members.{IsIn, Each, Each-from_All, Each-append, IsIn-permutation, IsIn-filter_from}

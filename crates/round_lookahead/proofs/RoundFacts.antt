@@ -1,11 +1,8 @@
 -- The whole round, from the deal to the drained rows.
-use Rattle.std.proofs.Common.{◌≡◌, ℕ, zero, suc, ◌+◌, ◌<◌, ◌≤◌, List, [], ◌∷◌, ◌++◌, All, Some, map, length, get_or, refl, sym, ap, subst, ◌∙◌, arith, append-nil, IsPermutation, Vec}
+use Rattle.std.proofs.Common.{◌≡◌, ℕ, suc, ◌+◌, ◌<◌, List, [], ◌∷◌, ◌++◌, All, Some, map, length, get_or, refl, sym, ap, subst, ◌∙◌, arith, append-nil, IsPermutation, Vec}
 use Rattle.std.proofs.lemmas.List.Elements.{All-nil, All-cons, All-head, All-tail}
 use Rattle.std.specs.List.{flat_map}
 use Rattle.std.specs.declared.alloc.Global.{Global}
-use Rattle.atomic_table.specs.Seated.{TableId}
-use Rattle.sim_base.specs.declared.event.Parcel.{Parcel}
-use Rattle.list_weights.specs.Places.{EachAt}
 use Rattle.list_weights.specs.Weights.{weigh, numbers_below}
 use Rattle.host_inbox.specs.declared.entry.Entry.{Entry}
 use Rattle.host_inbox.specs.CarrierViews.{BoardsView, CarrierView, AreAllOf, AreOpen}
@@ -15,9 +12,9 @@ use Rattle.host_inbox.proofs.RowSteps.{rows_hold}
 use Rattle.steal_workers.specs.declared.item.Numbered.{Numbered}
 use Rattle.steal_workers.specs.Deals.{Deal}
 use Rattle.steal_workers.specs.Gathers.{joined, AreOwnMarked, IsGathered}
-use Rattle.steal_workers.specs.SeatViews.{SeatView, AreSameSeats, HasMark}
+use Rattle.steal_workers.specs.SeatViews.{SeatView, AreSameSeats}
 use Rattle.steal_workers.specs.TookBack.{numbers_of}
-use Rattle.steal_workers.specs.WholeDeals.{common_deal, IsWholeDeal, IsNewDeal, IsNewSeat}
+use Rattle.steal_workers.specs.WholeDeals.{common_deal, IsWholeDeal, IsNewDeal}
 use Rattle.steal_workers.proofs.SameSeats.{same_seats-whole, same_deal}
 use Rattle.host_state.specs.declared.net.Net.{Net}
 use Rattle.host_state.specs.HostRecord.{HostRecord}

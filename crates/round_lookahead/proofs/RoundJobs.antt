@@ -1,13 +1,13 @@
 -- What a round of jobs leaves on any world whose events the hosts held.
-use Rattle.std.proofs.Common.{◌≡◌, ◌≢◌, ℕ, zero, suc, ◌+◌, ◌<◌, ◌≤◌, ◌⊎◌, inl, inr, ⊎_elim, List, [], ◌∷◌, ◌++◌, Some, map, flat_map, length, slice_get, get_or, refl, sym, ap, subst, ◌∙◌, arith, IsPermutation, All, AllPairs}
+use Rattle.std.proofs.Common.{◌≡◌, ◌≢◌, ℕ, zero, suc, ◌<◌, ◌≤◌, inl, inr, ⊎_elim, List, [], ◌∷◌, ◌++◌, Some, map, flat_map, length, slice_get, get_or, refl, sym, ap, subst, ◌∙◌, arith, IsPermutation, AllPairs}
 use Rattle.std.proofs.lemmas.Bool.{cases_eq}
-use Rattle.std.proofs.lemmas.List.Sorted.{IsPermutation-refl, IsPermutation-append_left, IsPermutation-sym, IsPermutation-trans, All-permutation}
+use Rattle.std.proofs.lemmas.List.Sorted.{IsPermutation-append_left, IsPermutation-sym, IsPermutation-trans, All-permutation}
 use Rattle.sim_base.specs.declared.event.Event.{Event}
 use Rattle.list_weights.specs.Weights.{weigh, numbers_below}
 use Rattle.list_weights.proofs.Permutations.{weigh-permutation}
 use Rattle.list_weights.proofs.Weights.{is_number, is_itself, is_other, weigh_past, weigh-append}
 use Rattle.world_order.specs.Premises.{Simulation}
-use Rattle.world_order.specs.Round.{Member, Round, Going, Closed, opened, world_of, in_order, events_at}
+use Rattle.world_order.specs.Round.{Member, Round, Closed, opened, world_of, in_order, events_at}
 use Rattle.world_order.specs.Rounds.{end_of, after_round, round_on, IsSameWorld}
 use Rattle.world_order.specs.Schedule.{after_all}
 use Rattle.world_order.specs.Settled.{IsSettled, AreDueFrom, Leaves}
@@ -16,7 +16,7 @@ use Rattle.world_order.specs.World.{World, IsResult}
 use Rattle.world_order.specs.declared.step.Step.TheVariants.{Close}
 use Rattle.world_order.proofs.JobRuns.{whole-jobs}
 use Rattle.world_order.proofs.Jobs.{whole-round}
-use Rattle.world_order.proofs.Members.{IsIn, IsIn-left, IsIn-right, IsIn-either, IsIn-permutation, Each, Each-from_All, All-from_Each, Contains-from_IsIn}
+use Rattle.world_order.proofs.Members.{IsIn, IsIn-left, IsIn-right, IsIn-either, IsIn-permutation, Each, All-from_Each, Contains-from_IsIn}
 use Rattle.world_order.proofs.Orders.{settled-same, same-sym, result-same}
 use Rattle.world_order.proofs.Parts.{same_order}
 use Rattle.world_order.proofs.Results.{settled-result}

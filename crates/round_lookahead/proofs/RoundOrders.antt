@@ -1,19 +1,19 @@
 -- A round of jobs on a world whose events stand in the order of the jobs; the same round on the same world in another order.
-use Rattle.std.proofs.Common.{◌≡◌, ◌≢◌, ℕ, zero, suc, ◌+◌, ◌<◌, ◌≤◌, ◌⊎◌, inl, inr, ⊎_elim, Bool, true, false, not, ◌==◌, List, [], ◌∷◌, ◌++◌, Option, Some, None, map, flat_map, filter, drop, length, slice_get, refl, sym, ap, subst, ◌∙◌, arith, append_assoc, append-nil, eqb-true, eq-eqb, IsPermutation, All, AllPairs, Contains, get_or}
+use Rattle.std.proofs.Common.{◌≡◌, ◌≢◌, ℕ, zero, suc, ◌+◌, ◌<◌, ◌≤◌, inl, inr, ⊎_elim, Bool, true, false, ◌==◌, List, [], ◌∷◌, ◌++◌, Option, Some, None, map, flat_map, filter, drop, length, slice_get, refl, sym, ap, subst, ◌∙◌, arith, append_assoc, append-nil, eqb-true, eq-eqb, IsPermutation}
 use Rattle.std.specs.Prelude.{if◌then◌else◌}
 use Rattle.std.proofs.lemmas.List.Elements.{filter-append}
 use Rattle.std.proofs.lemmas.List.{nil_from_length}
-use Rattle.std.proofs.lemmas.List.Sorted.{IsPermutation-refl, IsPermutation-sym, IsPermutation-trans, IsPermutation-append, IsPermutation-append_left, IsPermutation-append_right, All-permutation, length_permutation}
+use Rattle.std.proofs.lemmas.List.Sorted.{IsPermutation-refl, IsPermutation-trans, IsPermutation-append, IsPermutation-append_right, length_permutation}
 use Rattle.sim_base.specs.declared.event.Event.{Event}
 use Rattle.list_weights.specs.Weights.{weigh, numbers_below}
 use Rattle.list_weights.proofs.Permutations.{weigh-permutation, same_weights}
 use Rattle.list_weights.proofs.Weights.{weigh-append}
 use Rattle.world_order.specs.Model.{Model}
 use Rattle.world_order.specs.Round.{events_at}
-use Rattle.world_order.specs.WholeTurns.{Ran, RunsTo, Job}
+use Rattle.world_order.specs.WholeTurns.{RunsTo, Job}
 use Rattle.world_order.proofs.Homes.{some_is, get-below}
 use Rattle.world_order.proofs.Members.{IsIn, Each, IsIn-either, IsIn-permutation, split_at}
-use Rattle.world_order.proofs.Parts.{second_first, same_order}
+use Rattle.world_order.proofs.Parts.{second_first}
 use Rattle.round_lookahead.proofs.WholeRounds.{NumbersApart}
 
 -- ---- lists of parts in another order

@@ -1,12 +1,10 @@
 -- From benches to what a round leaves.
-use Rattle.std.proofs.Common.{◌≡◌, ◌⊎◌, ℕ, zero, suc, ◌+◌, ◌-◌, ◌^◌, ◌<◌, ◌≤◌, ◌==◌, Bool, true, false, List, [], ◌∷◌, ◌++◌, All, Option, Some, None, map, filter, length, cond, get_or, nat_le, refl, sym, ap, subst, ◌∙◌, arith, append_assoc, IsPermutation, Vec}
+use Rattle.std.proofs.Common.{◌≡◌, ℕ, zero, suc, ◌+◌, ◌<◌, Bool, true, false, List, [], ◌∷◌, ◌++◌, All, Option, Some, map, length, cond, get_or, nat_le, refl, sym, ap, subst, ◌∙◌, arith}
 use Rattle.std.proofs.lemmas.List.Elements.{All-nil, All-cons, All-head, All-tail, All-append}
 use Rattle.std.specs.List.{flat_map}
-use Rattle.std.specs.declared.alloc.Global.{Global}
 use Rattle.atomic_table.specs.Seated.{TableId}
 use Rattle.sim_base.specs.declared.event.Parcel.{Parcel}
-use Rattle.list_weights.specs.Places.{EachAt}
-use Rattle.list_weights.specs.Weights.{weigh, only, numbers_below}
+use Rattle.list_weights.specs.Weights.{weigh, only}
 use Rattle.list_weights.proofs.Weights.{weigh-append}
 use Rattle.host_inbox.specs.declared.entry.Entry.{Entry}
 use Rattle.host_inbox.specs.CarrierViews.{CarrierView}

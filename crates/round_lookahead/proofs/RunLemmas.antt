@@ -1,6 +1,5 @@
 -- Rounds one after another make up the run.
-use Rattle.std.proofs.Common.{◌≡◌, ℕ, zero, suc, ◌+◌, ◌-◌, ◌<◌, ◌≤◌, min, inl, inr, List, [], ◌∷◌, ◌++◌, Option, Some, None, All, map, flat_map, length, replicate, slice_get, refl, sym, ap, subst, ◌∙◌, arith, IsPermutation, Vec}
-use Rattle.std.specs.List.{Any}
+use Rattle.std.proofs.Common.{◌≡◌, ℕ, zero, suc, ◌-◌, ◌<◌, ◌≤◌, min, inl, inr, List, [], ◌∷◌, ◌++◌, Option, Some, None, All, map, flat_map, length, replicate, slice_get, refl, sym, ap, subst, ◌∙◌, arith, Vec}
 use Rattle.std.specs.declared.alloc.Global.{Global}
 use Rattle.std.proofs.lemmas.List.{length-map}
 use Rattle.std.proofs.lemmas.List.Sorted.{IsPermutation-sym, All-permutation}
@@ -23,7 +22,7 @@ use Rattle.world_order.specs.Window.{window_end}
 use Rattle.world_order.specs.World as order
 use Rattle.world_order.proofs.Fires.{get-map}
 use Rattle.world_order.proofs.Homes.{some_is, get-below, below-get}
-use Rattle.world_order.proofs.Members.{IsIn, IsIn-permutation, Each, Each-from_All, All-from_Each}
+use Rattle.world_order.proofs.Members.{IsIn, IsIn-permutation, Each, Each-from_All}
 use Rattle.world_order.proofs.Orders.{window-upto, run-goes_on}
 use Rattle.world_order.proofs.Turns.{next-none}
 use Rattle.round_lookahead.specs.declared.workers.task.Task.{Task}
@@ -39,7 +38,6 @@ use Rattle.round_lookahead.specs.Ran.{joined_each, KeepsAll, RunStands, AllStand
 use Rattle.round_lookahead.specs.Tasks.{waiting}
 use Rattle.round_lookahead.specs.WorldStands.{HostWorld, nanos_of, IsAhead, WorldStands}
 use Rattle.round_lookahead.proofs.DueSteps.{any-in}
-use Rattle.round_lookahead.proofs.WorldSteps.{map-both}
 
 -- ---- lists joined at each place
 
@@ -190,17 +188,17 @@ lines-kept : (ls : List (order.Logged Line)) → kept_lines (map kept_line ls) �
 lines-kept [] = refl
 lines-kept (l ∷ ls) = ap (λ (k : List Line). l.line ∷ k) (lines-kept ls)
 
-pub ran-stands : (c : World) (kept : Kept) (ran : Ran) (w : HostWorld) → WorldStands c w → KeepsAll kept w → map (λ (r : HostRun). r.host) ran.hosts.items ≡ map (λ (t : Task). t.host) c.tasks.items
+pub ran-stands : (c : World) (kept : Kept) (ran : Ran) (w : HostWorld) → WorldStands c w → KeepsAll kept w → map (λ (r : HostRun). r.host) ran.hosts.items ≡ map (λ (t : Task). t.host.value) c.tasks.items
     → map (λ (r : HostRun). r.written) ran.hosts.items ≡ kept.written.items → ran.log ≡ kept.log → RanStands ran w
 ran-stands c kept ran w stands keeps hosts written log =
-    let long : length ran.hosts.items ≡ length c.tasks.items = sym (length-map ran.hosts.items (λ (r : HostRun). r.host)) ∙ ap length hosts ∙ length-map c.tasks.items (λ (t : Task). t.host) in
+    let long : length ran.hosts.items ≡ length c.tasks.items = sym (length-map ran.hosts.items (λ (r : HostRun). r.host)) ∙ ap length hosts ∙ length-map c.tasks.items (λ (t : Task). t.host.value) in
     record {
       hosts = all-stand ran.hosts.items w.hosts (long ∙ stands.count)
           (λ i r h at there.
           let below = below-get ran.hosts.items i r at in
           let t = get-below c.tasks.items i (omega arith) in
-          let host : r.host ≡ t.0.host = some_is r.host t.0.host
-          (sym (get-map (λ (x : HostRun). x.host) ran.hosts.items i r at) ∙ ap (λ (l : List Host). slice_get l i) hosts ∙ get-map (λ (x : Task). x.host) c.tasks.items i t.0 t.1) in
+          let host : r.host ≡ t.0.host.value = some_is r.host t.0.host.value
+          (sym (get-map (λ (x : HostRun). x.host) ran.hosts.items i r at) ∙ ap (λ (l : List Host). slice_get l i) hosts ∙ get-map (λ (x : Task). x.host.value) c.tasks.items i t.0 t.1) in
           let there_written : slice_get kept.written.items i ≡ Some r.written =
           ap (λ (l : List (Vec Output Global)). slice_get l i) (sym written) ∙ get-map (λ (x : HostRun). x.written) ran.hosts.items i r at in
           record {

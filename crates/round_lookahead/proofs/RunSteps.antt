@@ -1,17 +1,14 @@
 -- The jobs of all workers, each with what is done.
-use Rattle.std.proofs.Common.{◌≡◌, ℕ, zero, suc, ◌+◌, ◌<◌, ◌≤◌, ◌⊎◌, inl, inr, ⊎_elim, List, [], ◌∷◌, ◌++◌, Some, All, map, flat_map, length, slice_get, refl, sym, ap, subst, ◌∙◌, arith, append_assoc, IsPermutation}
+use Rattle.std.proofs.Common.{◌≡◌, ℕ, suc, ◌+◌, ◌<◌, inl, inr, ⊎_elim, List, [], ◌∷◌, ◌++◌, Some, map, flat_map, length, slice_get, refl, sym, ap, subst, ◌∙◌, arith, IsPermutation}
 use Rattle.std.proofs.lemmas.List.Sorted.{IsPermutation-refl, IsPermutation-append}
 use Rattle.sim_base.specs.declared.event.Event.{Event}
 use Rattle.steal_workers.specs.Gathers.{joined}
-use Rattle.host_state.specs.declared.line.Line.{Line}
-use Rattle.host_state.specs.declared.line.Logged.{Logged}
 use Rattle.host_state.specs.declared.net.Net.{Net}
 use Rattle.host_state.specs.Fits.{model}
 use Rattle.host_state.specs.Home.{home}
 use Rattle.host_state.specs.HostRecord.{HostRecord}
 use Rattle.host_state.specs.Parcels.{parcel_event}
 use Rattle.host_state.specs.Running.{kept_line}
-use Rattle.world_order.specs.World as order
 use Rattle.world_order.proofs.Members.{IsIn, IsIn-either, IsIn-permutation, Each}
 use Rattle.round_lookahead.specs.declared.workers.task.Task.{Task}
 use Rattle.round_lookahead.specs.declared.workers.worked.Done.{Done}
@@ -21,7 +18,6 @@ use Rattle.round_lookahead.specs.Rounds.{AreWorks}
 use Rattle.round_lookahead.specs.Settles.{done_numbers}
 use Rattle.round_lookahead.specs.Tasks.{waiting}
 use Rattle.round_lookahead.specs.Works.{HostJob, IsRunOf, AreDone, parcels_by, parcels_made}
-use Rattle.round_lookahead.proofs.BackSteps.{flat-append}
 use Rattle.round_lookahead.proofs.RoundJobs.{numbers}
 use Rattle.round_lookahead.proofs.RoundOrders.{StartFrom, part_in, part_at}
 use Rattle.round_lookahead.proofs.WholeRounds.{packets_in, lines_in}
@@ -95,12 +91,12 @@ module _ (net : Net) (end : ℕ) (tasks : List Task) (rec : ℕ → HostRecord) 
   done-job (i ∷ js) (d ∷ ds) a j (inl same) = (d, inl refl, subst (λ (x : HostJob). IsRunBy x d) (sym same) a.0)
   done-job (i ∷ js) (d ∷ ds) a j (inr h) = let r = done-job js ds a.1 j h in (r.0, inr r.1, r.2)
 
-  pub run-queues : (js : List HostJob) (ds : List Done) → AreRun js ds → IsPermutation (flat_map (λ (d : Done). d.host.queue) ds) (flat_map (λ (j : HostJob). j.ran.queue) js)
+  pub run-queues : (js : List HostJob) (ds : List Done) → AreRun js ds → IsPermutation (flat_map (λ (d : Done). d.host.value.queue) ds) (flat_map (λ (j : HostJob). j.ran.queue) js)
   run-queues [] [] a = IsPermutation-refl []
   run-queues [] (d ∷ ds) a = absurd a
   run-queues (j ∷ js) [] a = absurd a
   run-queues (j ∷ js) (d ∷ ds) a =
-      IsPermutation-append d.host.queue j.ran.queue (flat_map (λ (e : Done). e.host.queue) ds) (flat_map (λ (i : HostJob). i.ran.queue) js) a.0.run.queue (run-queues js ds a.1)
+      IsPermutation-append d.host.value.queue j.ran.queue (flat_map (λ (e : Done). e.host.value.queue) ds) (flat_map (λ (i : HostJob). i.ran.queue) js) a.0.run.queue (run-queues js ds a.1)
 
   pub run-lines : (js : List HostJob) (ds : List Done) → AreRun js ds → lines_done ds ≡ map kept_line (lines_in js)
   run-lines [] [] a = refl

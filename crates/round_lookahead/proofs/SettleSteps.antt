@@ -1,15 +1,11 @@
 -- What all workers leave, put back by number.
-use Rattle.std.proofs.Common.{◌≡◌, ◌≢◌, ℕ, zero, suc, ◌+◌, ◌<◌, ◌≤◌, inl, inr, ⊎_elim, List, [], ◌∷◌, ◌++◌, Option, Some, None, IsSome, All, map, flat_map, length, get_or, replicate, slice_get, refl, sym, ap, subst, ◌∙◌, arith, IsPermutation, Vec}
+use Rattle.std.proofs.Common.{◌≡◌, ℕ, zero, suc, ◌<◌, ◌≤◌, inl, inr, List, [], ◌∷◌, ◌++◌, Option, Some, None, IsSome, All, map, length, get_or, replicate, slice_get, refl, sym, ap, subst, ◌∙◌, arith, IsPermutation, Vec}
 use Rattle.std.specs.declared.alloc.Global.{Global}
 use Rattle.std.proofs.lemmas.List.{length-map}
-use Rattle.std.proofs.lemmas.List.Sorted.{IsPermutation-refl, IsPermutation-sym, IsPermutation-trans, IsPermutation-append}
-use Rattle.sim_base.specs.declared.event.Event.{Event}
+use Rattle.std.proofs.lemmas.List.Sorted.{IsPermutation-sym}
 use Rattle.sim_base.specs.declared.event.Parcel.{Parcel}
-use Rattle.sim_base.specs.declared.host.HostId.{HostId}
 use Rattle.host_calls.specs.declared.parts.Output.{Output}
-use Rattle.host_state.specs.declared.host.Host.{Host}
 use Rattle.host_state.specs.declared.line.Line.{Line}
-use Rattle.host_state.specs.declared.line.Logged.{Logged}
 use Rattle.host_state.specs.declared.net.Net.{Net}
 use Rattle.host_state.specs.Home.{home}
 use Rattle.host_state.specs.Parcels.{parcel_event}
@@ -17,27 +13,23 @@ use Rattle.host_state.specs.Running.{kept_line}
 use Rattle.list_weights.specs.Weights.{weigh, numbers_below}
 use Rattle.list_weights.proofs.Permutations.{weigh-permutation}
 use Rattle.list_weights.proofs.Weights.{is_number, is_itself}
-use Rattle.world_order.specs.EventOrder.{AreApart}
 use Rattle.world_order.specs.Round.{in_order}
 use Rattle.world_order.specs.World as order
-use Rattle.world_order.proofs.Apart.{AreApart-permutation}
 use Rattle.world_order.proofs.Fires.{get-map}
-use Rattle.world_order.proofs.Homes.{some_is, get-below, below-get}
+use Rattle.world_order.proofs.Homes.{some_is, get-below}
 use Rattle.world_order.proofs.Members.{IsIn, IsIn-permutation, Each, Each-from_All, All-from_Each}
 use Rattle.round_lookahead.specs.declared.workers.task.Task.{Task}
 use Rattle.round_lookahead.specs.declared.workers.worked.Done.{Done}
 use Rattle.round_lookahead.specs.declared.workers.worked.Worked.{Worked}
 use Rattle.round_lookahead.specs.declared.world.backs.Back.{Back}
-use Rattle.round_lookahead.specs.declared.world.backs.Returned.{Returned}
 use Rattle.round_lookahead.specs.declared.world.retasking.Retasked.{Retasked}
 use Rattle.round_lookahead.specs.declared.world.settling.Settled.{Settled}
 use Rattle.round_lookahead.specs.Arrivals.{Boxed}
-use Rattle.round_lookahead.specs.Backs.{back_of, with_done, all_done, all_spilled, lines_done, took_by, lists_of, AreReturned, row_arrivals, AreAtHome}
+use Rattle.round_lookahead.specs.Backs.{back_of, with_done, all_done, all_spilled, lines_done, took_by, lists_of, row_arrivals, AreAtHome}
 use Rattle.round_lookahead.specs.Retasks.{AreRetasked}
 use Rattle.round_lookahead.specs.Settles.{done_numbers, CanSettle, IsBack, HasSettled}
 use Rattle.round_lookahead.proofs.BackSteps.{IdsApart, in-slot, length-with_done}
 use Rattle.round_lookahead.proofs.RoundJobs.{below-number, number-below, there-once, once-below}
-use Rattle.round_lookahead.proofs.RoundOrders.{part_in, part_at, all_parts, parts-permutation}
 
 -- ---- lists
 
@@ -78,12 +70,6 @@ apart-once (d ∷ ds) once = (
 )
 
 -- ---- slots
-
-abbrev queue_of : Back → List Event
-queue_of b = b.host.queue
-
-abbrev queues_done : List Done → List Event
-queues_done ds = flat_map (λ (d : Done). d.host.queue) ds
 
 module _ (count : ℕ) (works : List Worked) (rows : List (Vec Boxed Global)) (can : CanSettle count works rows) where
   abbrev ds : List Done
@@ -126,28 +112,6 @@ module _ (count : ℕ) (works : List Worked) (rows : List (Vec Boxed Global)) (c
 
     back-of : Each (λ (d : Done). slice_get backs d.id.index ≡ Some (back_of d)) ds
     back-of d h = unmap-some backs d.id.index (back_of d) (ap (λ (l : List (Option Back)). slice_get l d.id.index) (backs_are ∙ slots_are) ∙ slot-of d h)
-
-    parts-done : (es : List Done) → Each (λ (d : Done). slice_get backs d.id.index ≡ Some (back_of d)) es → flat_map (part_at queue_of backs) (done_numbers es) ≡ queues_done es
-    parts-done [] each = refl
-    parts-done (e ∷ es) each =
-        ap (λ (l : List Event). l ++ flat_map (part_at queue_of backs) (done_numbers es)) (ap (part_in queue_of) (each e (inl refl)))
-        ∙ ap (λ (l : List Event). e.host.queue ++ l) (parts-done es (λ d h. each d (inr h)))
-
-    queues-back : IsPermutation (queues_done ds) (flat_map queue_of backs)
-    queues-back =
-        subst (λ (l : List Event). IsPermutation l (flat_map queue_of backs)) (parts-done ds back-of)
-        (subst (IsPermutation (flat_map (part_at queue_of backs) (done_numbers ds))) (all_parts queue_of backs)
-        (subst (λ (n : ℕ). IsPermutation (flat_map (part_at queue_of backs) (done_numbers ds)) (flat_map (part_at queue_of backs) (numbers_below n))) (sym length-backs)
-        (parts-permutation (part_at queue_of backs) (done_numbers ds) (numbers_below count) can.once)))
-
-    pub backs-apart : (spill : List Parcel) (new : List (Vec Boxed Global)) → spill ≡ all_spilled works → IsPermutation (row_arrivals new) (map parcel_event spill ++ row_arrivals rows)
-        → AreApart (flat_map queue_of backs ++ row_arrivals new)
-    backs-apart spill new is moved =
-        AreApart-permutation (queues_done ds ++ (map parcel_event (all_spilled works) ++ row_arrivals rows)) (flat_map queue_of backs ++ row_arrivals new)
-        (IsPermutation-append (queues_done ds) (flat_map queue_of backs) (map parcel_event (all_spilled works) ++ row_arrivals rows) (row_arrivals new) queues-back
-        (IsPermutation-sym (row_arrivals new) (map parcel_event (all_spilled works) ++ row_arrivals rows)
-        (subst (λ (ps : List Parcel). IsPermutation (row_arrivals new) (map parcel_event ps ++ row_arrivals rows)) is moved)))
-        can.apart
 
     module _ (new : List (Vec Boxed Global)) (r : Retasked) (retasked : AreRetasked backs new r) (s : Settled) (tasks_are : s.tasks ≡ r.tasks) (outputs_are : s.pieces.outputs ≡ r.outputs) where
       length-tasks : length s.tasks.items ≡ count

@@ -1,5 +1,5 @@
 -- Where the parcels of a round are: each that was made lies in a row or in a spill, and no others do.
-use Rattle.std.proofs.Common.{◌≡◌, ◌⊎◌, inl, inr, ⊎_elim, ℕ, zero, suc, ◌<◌, ◌≤◌, Bool, true, List, [], ◌∷◌, ◌++◌, All, Some, Contains, map, length, get_or, nat_le, refl, sym, ap, subst, ◌∙◌, arith, lt_of_not-le, Vec}
+use Rattle.std.proofs.Common.{◌≡◌, ◌⊎◌, inl, inr, ⊎_elim, ℕ, zero, suc, ◌<◌, ◌≤◌, true, List, [], ◌∷◌, ◌++◌, All, Some, Contains, map, length, get_or, nat_le, refl, sym, ap, subst, arith, lt_of_not-le, Vec}
 use Rattle.std.specs.List.{flat_map, slice_get}
 use mathlib.Core.Logic.{dite}
 use native.Mathlib.Decide.{dec_le}
@@ -9,7 +9,7 @@ use Rattle.std.proofs.lemmas.Option.{get_or_from_slice_get, slice_get_within}
 use Rattle.std.specs.declared.alloc.Global.{Global}
 use Rattle.sim_base.specs.declared.event.Parcel.{Parcel}
 use Rattle.host_inbox.specs.declared.entry.Entry.{Entry}
-use Rattle.host_inbox.specs.Drains.{IsInboxOf, IsDrained}
+use Rattle.host_inbox.specs.Drains.{IsDrained}
 use Rattle.host_inbox.proofs.RowSteps.{rows_hold}
 use Rattle.world_order.proofs.Members.{IsIn, Each, IsIn-left, IsIn-right, IsIn-either, Contains-from_IsIn, IsIn-from_Contains, Each-from_All, All-from_Each, Each-cons, Each-append, IsIn-filter, IsIn-filter_from}
 use Rattle.round_lookahead.specs.declared.workers.worked.Worked.{Worked}

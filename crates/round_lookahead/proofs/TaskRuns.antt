@@ -1,16 +1,15 @@
 -- A task's host that is run up to the end.
-use Rattle.std.proofs.Common.{◌≡◌, ℕ, ◌+◌, ◌-◌, ◌^◌, ◌<◌, ◌≤◌, List, [], ◌∷◌, ◌++◌, All, map, length, refl, sym, ap, subst, ◌∙◌, arith, IsPermutation}
+use Rattle.std.proofs.Common.{◌≡◌, ℕ, ◌^◌, ◌<◌, ◌≤◌, List, [], ◌++◌, All, map, length, refl, sym, ap, subst, ◌∙◌, IsPermutation}
 use Rattle.std.proofs.lemmas.List.Sorted.{All-permutation, IsPermutation-sym}
 use Rattle.sim_base.specs.declared.event.Event.{Event}
 use Rattle.sim_base.specs.declared.event.Parcel.{Parcel}
 use Rattle.sim_base.specs.declared.time.Time.{Time}
 use Rattle.host_calls.specs.declared.parts.Output.{Output}
 use Rattle.host_state.specs.declared.host.Host.{Host}
-use Rattle.host_state.specs.declared.line.Line.{Line}
 use Rattle.host_state.specs.declared.line.Logged.{Logged}
 use Rattle.host_state.specs.declared.net.Net.{Net}
 use Rattle.host_state.specs.declared.outbox.Outbox.{Outbox}
-use Rattle.host_state.specs.Fits.{model, IsHostOf, IsEventOf}
+use Rattle.host_state.specs.Fits.{model, IsEventOf}
 use Rattle.host_state.specs.Home.{home}
 use Rattle.host_state.specs.HostRecord.{HostRecord}
 use Rattle.host_state.specs.HostStands.{Stands}
@@ -18,12 +17,12 @@ use Rattle.host_state.specs.Link.{LinkState}
 use Rattle.host_state.specs.Outbox as out
 use Rattle.host_state.specs.Parcels.{parcel_event}
 use Rattle.host_state.specs.Running.{Owns, MayRun, RunsUntil, kept_line}
-use Rattle.world_order.specs.WholeTurns.{Ran, RunsTo}
+use Rattle.world_order.specs.WholeTurns.{RunsTo}
 use Rattle.world_order.proofs.Members.{Each-from_All, All-from_Each}
 use Rattle.round_lookahead.specs.declared.workers.task.Task.{Task}
 use Rattle.round_lookahead.specs.declared.workers.worked.Done.{Done}
 use Rattle.round_lookahead.specs.Tasks.{IsTask, waiting}
-use Rattle.round_lookahead.specs.Works.{IsRunOf, HasRun}
+use Rattle.round_lookahead.specs.Works.{IsRunOf}
 use Rattle.round_lookahead.proofs.Packets.{IsOwn, packets-events, parcels-within}
 
 pub owns-permutation : (net : Net) (link : LinkState) (q r : List Event) → IsPermutation q r → Owns net link q → Owns net link r
@@ -75,7 +74,7 @@ module _ (net : Net) (t : Task) (joined : Host) (moved : IsPermutation joined.qu
     pub to-within : out.IsEmpty before → All (λ (p : Parcel). p.to.index < length net.known.book) after.parcels.items
     to-within empty = subst (All (λ (p : Parcel). p.to.index < length net.known.book)) (sym (made after.parcels.items empty.parcels refl)) (parcels-within net number ran.ran.packets events)
 
-    pub run-of : out.IsEmpty before → MayRun net new → (d : Done) → d.id.index ≡ number → d.host ≡ new → d.lines.items ≡ after.lines.items → d.outputs.items ≡ after.outputs.items
+    pub run-of : out.IsEmpty before → MayRun net new → (d : Done) → d.id.index ≡ number → d.host.value ≡ new → d.lines.items ≡ after.lines.items → d.outputs.items ≡ after.outputs.items
         → IsRunOf net end.nanos number t h ran.ran d
     run-of empty may d id host_is lines_are outputs_are = record {
       id = id;

@@ -1,29 +1,26 @@
 -- A round in which each host is run up to the end in one go, where what each of them leaves is given.
-use Rattle.std.proofs.Common.{◌≡◌, ◌≢◌, ℕ, zero, suc, ◌+◌, ◌<◌, ◌⊎◌, inl, inr, ⊎_elim, true, List, [], ◌∷◌, ◌++◌, Some, None, map, flat_map, replicate, length, slice_get, slice_set, AllPairs, Contains, get_or, refl, sym, ap, subst, ◌∙◌, arith, append_assoc, append-nil, length-set, IsPermutation}
+use Rattle.std.proofs.Common.{◌≡◌, ◌≢◌, ℕ, zero, suc, ◌+◌, ◌<◌, inl, inr, ⊎_elim, true, List, [], ◌∷◌, ◌++◌, Some, map, flat_map, replicate, length, slice_get, slice_set, refl, sym, ap, subst, ◌∙◌, arith, append_assoc, append-nil, length-set, IsPermutation}
 use Rattle.std.proofs.lemmas.Bool.{cases_eq}
 use Rattle.std.proofs.lemmas.List.{length-map}
-use Rattle.std.proofs.lemmas.List.Sorted.{IsPermutation-refl, IsPermutation-sym, IsPermutation-trans, IsPermutation-append, IsPermutation-append_left, IsPermutation-append_right, IsPermutation-append_comm}
+use Rattle.std.proofs.lemmas.List.Sorted.{IsPermutation-refl, IsPermutation-sym, IsPermutation-trans, IsPermutation-append, IsPermutation-append_right, IsPermutation-append_comm}
 use Rattle.sim_base.specs.declared.event.Event.{Event}
 use Rattle.world_order.specs.Model.{Model}
 use Rattle.world_order.specs.Premises.{Simulation}
 use Rattle.world_order.specs.Round.{Done, Member, Worker, Round, Going, Closed, events_at, opened, opened_from, placed, events_of, world_of, in_order}
-use Rattle.world_order.specs.Rounds.{end_of, after_round, IsSameWorld}
+use Rattle.world_order.specs.Rounds.{end_of}
 use Rattle.world_order.specs.Schedule.{after_all}
 use Rattle.world_order.specs.Settled.{IsSettled, AreDueFrom, Leaves}
 use Rattle.world_order.specs.Steps.{is_waiting}
-use Rattle.world_order.specs.WholeTurns.{Ran, RunsTo, Job, job_steps, after_job, WorksTo, are_done, works, Turn, AreTurns}
+use Rattle.world_order.specs.WholeTurns.{RunsTo, Job, job_steps, after_job, WorksTo, are_done, works}
 use Rattle.world_order.specs.World.{World, Logged, IsResult}
-use Rattle.world_order.specs.declared.step.Step.{Step}
 use Rattle.world_order.specs.declared.step.Step.TheVariants.{Close}
 use Rattle.world_order.proofs.Fires.{get-map}
 use Rattle.world_order.proofs.Homes.{some_is, get-set_same, get-set_other, get-below, below-get}
-use Rattle.world_order.proofs.JobRuns.{Apart}
 use Rattle.world_order.proofs.Jobs.{whole-round}
-use Rattle.world_order.proofs.Members.{IsIn, IsIn-from_Contains, Contains-from_IsIn, Each, Each-cons, Each-from_All}
+use Rattle.world_order.proofs.Members.{IsIn, Contains-from_IsIn, Each, Each-cons}
 use Rattle.world_order.proofs.Openings.{member_opened, hosts_opened, opened-packets}
 use Rattle.world_order.proofs.Orders.{closed-model}
 use Rattle.world_order.proofs.Parts.{same_order, second_first, part-same, part-more}
-use Rattle.world_order.proofs.Results.{settled-result}
 use Rattle.world_order.proofs.RoundStates.{carried_of}
 
 -- ---- lists of jobs

@@ -1,19 +1,19 @@
 -- What the world stands for after a round, what it gained, and who took which host.
-use Rattle.std.proofs.Common.{◌≡◌, ℕ, zero, suc, ◌+◌, ◌<◌, ◌≤◌, inl, inr, ⊎_elim, List, [], ◌∷◌, ◌++◌, Option, Some, None, All, map, flat_map, length, get_or, slice_get, refl, sym, ap, subst, ◌∙◌, arith, IsPermutation, Vec, append_assoc}
+use Rattle.std.proofs.Common.{◌≡◌, ℕ, suc, ◌<◌, ⊎_elim, List, [], ◌∷◌, ◌++◌, Some, All, map, flat_map, length, get_or, slice_get, refl, sym, ap, subst, ◌∙◌, arith, IsPermutation, Vec, append_assoc, Result, Ok, Err, IfOk}
+use Rattle.std.specs.Prelude.{Box}
 use Rattle.std.specs.declared.alloc.Global.{Global}
 use Rattle.std.proofs.lemmas.List.{length-map}
-use Rattle.std.proofs.lemmas.List.Sorted.{IsPermutation-refl, IsPermutation-sym, IsPermutation-trans, IsPermutation-append, IsPermutation-append_left, IsPermutation-append_right}
+use Rattle.std.proofs.lemmas.List.Sorted.{IsPermutation-refl, IsPermutation-sym, IsPermutation-trans, IsPermutation-append_right}
 use Rattle.sim_base.specs.declared.event.Event.{Event}
 use Rattle.sim_base.specs.declared.event.Parcel.{Parcel}
 use Rattle.sim_base.specs.declared.host.HostId.{HostId}
+use Rattle.sim_base.specs.declared.memory.NoMemory.{NoMemory}
 use Rattle.sim_base.specs.declared.time.Time.{Time}
-use Rattle.list_weights.specs.Places.{EachAt}
 use Rattle.list_weights.specs.Weights.{numbers_below}
 use Rattle.event_order.specs.Events.{IsLeastDue}
 use Rattle.steal_workers.specs.Gathers.{joined}
 use Rattle.host_calls.specs.declared.parts.Output.{Output}
 use Rattle.host_state.specs.declared.host.Host.{Host}
-use Rattle.host_state.specs.declared.line.Line.{Line}
 use Rattle.host_state.specs.declared.line.Logged.{Logged}
 use Rattle.host_state.specs.declared.net.Net.{Net}
 use Rattle.host_state.specs.Home.{home}
@@ -24,19 +24,20 @@ use Rattle.host_state.specs.Running.{kept_line}
 use Rattle.world_order.specs.Round.{in_order}
 use Rattle.world_order.specs.Window.{window_end}
 use Rattle.world_order.specs.WholeTurns.{Turn, turn_of}
-use Rattle.world_order.specs.World as order
 use Rattle.world_order.proofs.Fires.{get-map}
 use Rattle.world_order.proofs.Homes.{some_is, get-below, below-get}
-use Rattle.world_order.proofs.Members.{IsIn, IsIn-left, IsIn-right, IsIn-either, IsIn-permutation, Each, Each-from_All, All-from_Each}
-use Rattle.world_order.proofs.Parts.{second_first, same_order}
+use Rattle.world_order.proofs.Members.{IsIn, IsIn-left, IsIn-either, IsIn-permutation, Each, Each-from_All, All-from_Each}
+use Rattle.world_order.proofs.Parts.{second_first}
 use Rattle.round_lookahead.specs.declared.workers.task.Task.{Task}
 use Rattle.round_lookahead.specs.declared.workers.worked.Done.{Done}
 use Rattle.round_lookahead.specs.declared.workers.worked.Worked.{Worked}
+use Rattle.round_lookahead.specs.declared.world.pieces.Pieces.{Pieces}
 use Rattle.round_lookahead.specs.declared.world.settling.Settled.{Settled}
 use Rattle.round_lookahead.specs.declared.world.world_state.World.{World}
 use Rattle.round_lookahead.specs.Arrivals.{Boxed, arrivals}
-use Rattle.round_lookahead.specs.Backs.{all_done, all_spilled, lines_done, took_by, lists_of, ids_of, row_arrivals, AreAtHome}
+use Rattle.round_lookahead.specs.Backs.{all_done, all_spilled, took_by, lists_of, ids_of, row_arrivals, AreAtHome}
 use Rattle.round_lookahead.specs.Gains.{IsGained, IsTaken, HasRound, turns_from}
+use Rattle.round_lookahead.specs.RoundsInPlace.{IsRoundInPlace}
 use Rattle.round_lookahead.specs.Rounds.{IsRound, AreWorks, all_parcels}
 use Rattle.round_lookahead.specs.Settles.{done_numbers, CanSettle, IsBack, HasSettled}
 use Rattle.round_lookahead.specs.Tasks.{waiting, AreTasks}
@@ -44,7 +45,7 @@ use Rattle.round_lookahead.specs.Works.{HostJob, AreDone}
 use Rattle.round_lookahead.specs.WorldStands.{HostWorld, nanos_of, StandsAt, WorldStands}
 use Rattle.round_lookahead.proofs.DueSteps.{any-in, in-any}
 use Rattle.round_lookahead.proofs.RoundJobs as round_jobs
-use Rattle.round_lookahead.proofs.RunSteps.{IsRunBy, AreRun, job-done, done-job, run-lines, held}
+use Rattle.round_lookahead.proofs.RunSteps.{IsRunBy, AreRun, job-done, done-job, run-lines}
 use Rattle.round_lookahead.proofs.SettleSteps.{done-of, get_or-is}
 use Rattle.round_lookahead.proofs.WholeRounds.{packets_in, lines_in}
 use Rattle.round_lookahead.proofs.WorldSteps.{settled-between, rec, rec-is, rec-tasks, of-map, in-part, map-both}
@@ -167,11 +168,11 @@ module _ (c : World) (w : HostWorld) (stands : WorldStands c w) (least : Time) (
   -- all that waits at a host fires there
   waits-home : (k : ℕ) (a : At k) → Each (λ (e : Event). home c.net e ≡ k) (waiting a.back.task)
   waits-home k a e h = ⊎_elim
-      (λ (q : IsIn e a.back.task.host.queue).
-      let d : IsIn e a.done.host.queue = subst (λ (x : Host). IsIn e x.queue) a.back.host q in
+      (λ (q : IsIn e a.back.task.host.value.queue).
+      let d : IsIn e a.done.host.value.queue = subst (λ (x : Box Host Global). IsIn e x.value.queue) a.back.host q in
       let host_good = (rounds.next-settled c w stands least due workers works rows many round).hosts a.job.number a.job.ran.host
       (rounds.next-host c w stands least due workers works rows many round a.job a.in_jobs) in
-      Each-from_All (λ (x : Event). home c.net x ≡ a.job.ran.host.link.number) a.done.host.queue a.run.run.owns.home e d ∙ host_good.number ∙ a.same)
+      Each-from_All (λ (x : Event). home c.net x ≡ a.job.ran.host.link.number) a.done.host.value.queue a.run.run.owns.home e d ∙ host_good.number ∙ a.same)
       (λ (p : IsIn e (arrivals a.back.task.parcels.items)).
       let b = of-map (λ (x : Boxed). parcel_event x.value) a.back.task.parcels.items e p in
       let below = below-get ts k a.back.task (task-at k a) in
@@ -181,7 +182,7 @@ module _ (c : World) (w : HostWorld) (stands : WorldStands c w) (least : Time) (
       let all : All (λ (x : Boxed). home c.net (parcel_event x.value) ≡ k) a.back.task.parcels.items =
       subst (λ (r : Vec Boxed Global). All (λ (x : Boxed). home c.net (parcel_event x.value) ≡ k) r.items) row (rows-home k a.back.task.parcels (omega arith)) in
       ap (home c.net) b.2 ∙ Each-from_All (λ (x : Boxed). home c.net (parcel_event x.value) ≡ k) a.back.task.parcels.items all b.0 b.1)
-      (IsIn-either e a.back.task.host.queue (arrivals a.back.task.parcels.items) h)
+      (IsIn-either e a.back.task.host.value.queue (arrivals a.back.task.parcels.items) h)
 
   stands-at : (k : ℕ) (t : Task) (h : HostRecord) → slice_get ts k ≡ Some t → slice_get next.hosts k ≡ Some h → StandsAt c.net k t h
   stands-at k t h at there =
@@ -193,19 +194,19 @@ module _ (c : World) (w : HostWorld) (stands : WorldStands c w) (least : Time) (
       subst (λ (x : Task). StandsAt c.net k x h) task
       (record {
         id = ap (λ (i : HostId). i.index) a.back.id ∙ a.number;
-        stands = subst (Stands a.back.task.host) host (subst (λ (x : Host). Stands x a.job.ran.host) (sym a.back.host) a.run.run.stands);
+        stands = subst (Stands a.back.task.host.value) host (subst (λ (x : Box Host Global). Stands x.value a.job.ran.host) (sym a.back.host) a.run.run.stands);
         home = All-from_Each (λ (e : Event). home c.net e ≡ k) (waiting a.back.task) (waits-home k a);
       })
 
   events-are : IsPermutation (flat_map waiting ts) next.events
   events-are =
-      let queues : List Event = flat_map (λ (t : Task). t.host.queue) ts in
+      let queues : List Event = flat_map (λ (t : Task). t.host.value.queue) ts in
       let arrived : List Event = flat_map (λ (t : Task). arrivals t.parcels.items) ts in
       let laid : List Event = map parcel_event (all_spilled works) ++ row_arrivals rows in
       let packets : IsPermutation arrived (packets_in jobs) =
       IsPermutation-trans arrived laid (packets_in jobs) (subst (λ (l : List Event). IsPermutation l laid) (rows-of ts) so.packets) (rounds.laid-packets c w stands least due workers works rows many round) in
       IsPermutation-trans (flat_map waiting ts) (queues ++ arrived) next.events
-      (split-parts (λ (t : Task). t.host.queue) (λ (t : Task). arrivals t.parcels.items) ts)
+      (split-parts (λ (t : Task). t.host.value.queue) (λ (t : Task). arrivals t.parcels.items) ts)
       (IsPermutation-trans (queues ++ arrived) (queues ++ packets_in jobs) next.events
       (IsPermutation-append_right queues arrived (packets_in jobs) packets)
       (rounds.next-events c w stands least due workers works rows many round ts (so.tasks_count ∙ stands.count)
@@ -213,7 +214,7 @@ module _ (c : World) (w : HostWorld) (stands : WorldStands c w) (least : Time) (
       let d = done-job c.net end c.tasks.items (rec c w stands) jobs ds are-run j h in
       let a : IsBack s d.0 = Each-from_All (IsBack s) ds so.hosts d.0 d.1 in
       let same : a.task ≡ t = some_is a.task t (sym a.at ∙ ap (slice_get ts) d.2.run.id ∙ at) in
-      subst (λ (x : Task). IsPermutation x.host.queue j.ran.queue) same (subst (λ (x : Host). IsPermutation x.queue j.ran.queue) (sym a.host) d.2.run.queue))))
+      subst (λ (x : Task). IsPermutation x.host.value.queue j.ran.queue) same (subst (λ (x : Box Host Global). IsPermutation x.value.queue j.ran.queue) (sym a.host) d.2.run.queue))))
 
   pub stands-new : WorldStands new next
   stands-new = record {
@@ -290,3 +291,11 @@ module _ (c : World) (w : HostWorld) (stands : WorldStands c w) (least : Time) (
     rounds.next c w stands least due workers works rows many the-round,
     has-round c w stands least due workers works rows many the-round s (subst (λ (n : ℕ). HasSettled n works rows s) count_is so),
   )
+
+-- a round in which each host is run in its place
+pub goes-on-here : (c : World) (least : Time) → IsLeastDue (flat_map waiting c.tasks.items) (Some least) → (workers : ℕ) (new : Vec Task Global)
+    (until : ℕ) → until ≡ window_end (nanos_of c.lookahead) c.net.stop.nanos least.nanos → (r : Result Pieces NoMemory) → IfOk r (λ p. IsRoundInPlace c.net until workers c.tasks.items new p)
+    → IfOk r (λ p. (w : HostWorld) → WorldStands c w → (v : HostWorld) × HasRound c (record c { tasks = new }) workers w v p)
+goes-on-here c least due workers new until until_is (Ok p) h = λ w stands.
+    goes-on c w stands least due workers h.works h.rows h.many c.tasks refl until until_is h.round (length c.tasks.items) refl (record { tasks = new; pieces = p }) h.settled
+goes-on-here c least due workers new until until_is (Err e) h = tt

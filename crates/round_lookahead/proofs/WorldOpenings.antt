@@ -1,8 +1,7 @@
 -- The world in which all hosts begin.
-use Rattle.std.proofs.Common.{◌≡◌, ◌≢◌, ℕ, zero, suc, ◌+◌, ◌-◌, ◌<◌, ◌≤◌, inl, inr, ⊎_elim, List, [], ◌∷◌, ◌++◌, All, length, map, Option, Some, None, slice_get, refl, sym, ap, subst, ◌∙◌, arith, IsPermutation, append_assoc, append-nil, Vec}
+use Rattle.std.proofs.Common.{◌≡◌, ℕ, zero, suc, ◌+◌, ◌-◌, ◌<◌, ◌≤◌, ⊎_elim, List, [], ◌∷◌, ◌++◌, length, map, Some, None, slice_get, refl, sym, ap, subst, ◌∙◌, arith, IsPermutation, append_assoc, append-nil}
 use Rattle.std.specs.Prelude.{flat_map}
-use Rattle.std.specs.declared.alloc.Global.{Global}
-use Rattle.std.proofs.lemmas.List.Sorted.{IsPermutation-refl, IsPermutation-sym, IsPermutation-append}
+use Rattle.std.proofs.lemmas.List.Sorted.{IsPermutation-refl, IsPermutation-append}
 use Rattle.sim_base.specs.declared.event.Event.{Event}
 use Rattle.sim_base.specs.declared.host.HostId.{HostId}
 use Rattle.sim_base.specs.declared.key.Key.{Key}
@@ -18,16 +17,16 @@ use Rattle.host_state.proofs.Openings.{opens-fit}
 use Rattle.host_state.proofs.Queues.{begun}
 use Rattle.world_order.specs.EventOrder.{AreApart}
 use Rattle.world_order.specs.Settled.{next_at}
-use Rattle.world_order.proofs.Apart.{apart_append, apart_left, AreApart-permutation}
+use Rattle.world_order.proofs.Apart.{apart_append}
 use Rattle.world_order.proofs.Firings.{numbered-apart, numbered-source, numbered-below}
-use Rattle.world_order.proofs.Homes.{some_is, get-below, below-get}
+use Rattle.world_order.proofs.Homes.{some_is}
 use Rattle.world_order.proofs.Members.{IsIn, Each, IsIn-either, IsIn-permutation, Each-from_All, All-from_Each, Each-append}
 use Rattle.round_lookahead.specs.declared.workers.task.Task.{Task}
 use Rattle.round_lookahead.specs.declared.world.world_state.World.{World}
 use Rattle.round_lookahead.specs.Arrivals.{Boxed, arrivals}
 use Rattle.round_lookahead.specs.OpeningWorld.{AreHostRows, IsOpened, AreOpened, opening_world}
 use Rattle.round_lookahead.specs.Tasks.{waiting}
-use Rattle.round_lookahead.specs.WorldStands.{HostWorld, nanos_of, HasRounds, IsBetweenRounds, StandsAt, WorldStands}
+use Rattle.round_lookahead.specs.WorldStands.{nanos_of, HasRounds, IsBetweenRounds, StandsAt, WorldStands}
 
 -- the hosts of rows, and what they begin with
 abbrev hosts_of : List Row → List HostRecord
@@ -128,16 +127,9 @@ module _ (net : Net) (row : Row) (fits : FitsNet net row) where
   pub opened-queue : (c : Host) → Begins row c → IsPermutation c.queue (opening row).made
   opened-queue c begins = subst (λ (q : List Event). IsPermutation q (opening row).made) (sym begins.queue) held-moved
 
-  pub opened-task-apart : (c : Host) (bs : List Boxed) → Begins row c → bs ≡ [] → AreApart (c.queue ++ arrivals bs)
-  opened-task-apart c bs begins none =
-      subst (λ (l : List Boxed). AreApart (c.queue ++ arrivals l)) (sym none)
-      (subst AreApart (sym (append-nil c.queue))
-      (AreApart-permutation (opening row).made c.queue (IsPermutation-sym c.queue (opening row).made (opened-queue c begins))
-      (numbered-apart row.host.index 0 (opening row).made (opens-fit net row fits).numbered)))
-
   opened-waiting : (t : Task) → IsOpened row t → IsPermutation (waiting t) (opening row).made
   opened-waiting t o =
-      subst (λ (l : List Event). IsPermutation l (opening row).made) (sym (ap (λ (bs : List Boxed). t.host.queue ++ arrivals bs) o.parcels ∙ append-nil t.host.queue)) (opened-queue t.host o.host)
+      subst (λ (l : List Event). IsPermutation l (opening row).made) (sym (ap (λ (bs : List Boxed). t.host.value.queue ++ arrivals bs) o.parcels ∙ append-nil t.host.value.queue)) (opened-queue t.host.value o.host)
 
   pub opened-stands : (t : Task) → IsOpened row t → StandsAt net row.host.index t (opening row).host
   opened-stands t o = record {

@@ -1,30 +1,20 @@
 -- What a round of the world leaves.
-use Rattle.std.proofs.Common.{◌≡◌, ℕ, zero, suc, ◌+◌, ◌<◌, ◌≤◌, inl, inr, ⊎_elim, List, [], ◌∷◌, ◌++◌, Option, Some, None, All, map, flat_map, length, slice_get, refl, sym, ap, subst, ◌∙◌, arith, IsPermutation, Vec, Contains, append_assoc}
-use Rattle.std.specs.List.{Any}
+use Rattle.std.proofs.Common.{◌≡◌, ℕ, ◌<◌, ◌≤◌, ⊎_elim, List, [], ◌∷◌, ◌++◌, Some, map, flat_map, length, slice_get, sym, ap, subst, ◌∙◌, arith, IsPermutation, Vec, Contains}
 use Rattle.std.specs.declared.alloc.Global.{Global}
-use Rattle.std.proofs.lemmas.List.{length-map}
-use Rattle.std.proofs.lemmas.List.Sorted.{IsPermutation-refl, IsPermutation-sym, IsPermutation-trans, IsPermutation-append, IsPermutation-append_left, IsPermutation-append_right, All-permutation}
+use Rattle.std.proofs.lemmas.List.Sorted.{IsPermutation-sym, All-permutation}
 use Rattle.sim_base.specs.declared.event.Event.{Event}
 use Rattle.sim_base.specs.declared.event.Parcel.{Parcel}
-use Rattle.sim_base.specs.declared.host.HostId.{HostId}
-use Rattle.sim_base.specs.declared.key.Key.{Key}
 use Rattle.sim_base.specs.declared.time.Time.{Time}
 use Rattle.list_weights.specs.Weights.{weigh, numbers_below}
 use Rattle.event_order.specs.Events.{IsLeastDue}
 use Rattle.steal_workers.specs.Gathers.{joined}
-use Rattle.host_calls.specs.declared.parts.Output.{Output}
-use Rattle.host_state.specs.declared.host.Host.{Host}
 use Rattle.host_state.specs.declared.line.Line.{Line}
-use Rattle.host_state.specs.declared.line.Logged.{Logged}
-use Rattle.host_state.specs.declared.net.Net.{Net}
 use Rattle.host_state.specs.Fits.{model, IsEventOf}
 use Rattle.host_state.specs.Home.{home}
 use Rattle.host_state.specs.HostRecord.{HostRecord}
-use Rattle.host_state.specs.HostStands.{Stands}
 use Rattle.host_state.specs.Parcels.{parcel_event}
-use Rattle.host_state.specs.Running.{kept_line}
 use Rattle.host_state.proofs.Simulations as hosts
-use Rattle.world_order.specs.EventOrder.{AreApart, copies, same_key}
+use Rattle.world_order.specs.EventOrder.{AreApart, copies}
 use Rattle.world_order.specs.Premises.{Simulation}
 use Rattle.world_order.specs.Round.{Going, Closed, opened, in_order}
 use Rattle.world_order.specs.Rounds.{after_round, IsSameWorld}
@@ -35,26 +25,23 @@ use Rattle.world_order.specs.Window.{window_end}
 use Rattle.world_order.specs.World as order
 use Rattle.world_order.specs.WholeTurns.{turn_of, job_steps}
 use Rattle.world_order.proofs.Apart.{copies-append, AreApart-permutation, apart_right, same_members}
-use Rattle.world_order.proofs.Homes.{some_is, get-below, below-get}
-use Rattle.world_order.proofs.Members.{IsIn, IsIn-left, IsIn-right, IsIn-either, IsIn-permutation, IsIn-from_Contains, Contains-from_IsIn, Each, Each-from_All, All-from_Each}
+use Rattle.world_order.proofs.Members.{IsIn, IsIn-left, IsIn-right, IsIn-either, IsIn-permutation, IsIn-from_Contains, Each, Each-from_All, All-from_Each}
 use Rattle.round_lookahead.specs.declared.workers.task.Task.{Task}
 use Rattle.round_lookahead.specs.declared.workers.worked.Done.{Done}
 use Rattle.round_lookahead.specs.declared.workers.worked.Worked.{Worked}
-use Rattle.round_lookahead.specs.declared.world.settling.Settled.{Settled}
 use Rattle.round_lookahead.specs.declared.world.world_state.World.{World}
-use Rattle.round_lookahead.specs.Arrivals.{Boxed, arrivals}
-use Rattle.round_lookahead.specs.Backs.{all_done, all_spilled, lines_done, row_arrivals, AreAtHome}
-use Rattle.round_lookahead.specs.Rounds.{IsRound, all_parcels, parcel_weight}
-use Rattle.round_lookahead.specs.Settles.{done_numbers, CanSettle, IsBack, HasSettled}
+use Rattle.round_lookahead.specs.Arrivals.{Boxed}
+use Rattle.round_lookahead.specs.Backs.{all_done, all_spilled, row_arrivals}
+use Rattle.round_lookahead.specs.Rounds.{IsRound, all_parcels}
+use Rattle.round_lookahead.specs.Settles.{CanSettle}
 use Rattle.round_lookahead.specs.Tasks.{waiting}
 use Rattle.round_lookahead.specs.Works.{HostJob, parcels_made}
-use Rattle.round_lookahead.specs.WorldStands.{HostWorld, nanos_of, StandsAt, WorldStands}
+use Rattle.round_lookahead.specs.WorldStands.{HostWorld, nanos_of, WorldStands}
 use Rattle.round_lookahead.proofs.RoundJobs as round_jobs
 use Rattle.round_lookahead.proofs.RoundOrders.{StartFrom, all_parts}
-use Rattle.round_lookahead.proofs.RunSteps.{IsRunBy, AreRun, works-run, workers-below, done-number, job-done, done-job, run-queues, run-lines, run-packets, run-starts, held}
-use Rattle.round_lookahead.proofs.SettleSteps.{done-of}
+use Rattle.round_lookahead.proofs.RunSteps.{AreRun, works-run, workers-below, done-number, run-packets, run-starts, held}
 use Rattle.round_lookahead.proofs.WholeRounds.{packets_in, lines_in}
-use Rattle.round_lookahead.proofs.WorldSteps.{simulation, between-settled, settled-between, in-map, of-map, host-at, rec, rec-is, made-to, key_weight, copies-weight, copies-rows, weigh-flat, map-both, unboxed-arrivals}
+use Rattle.round_lookahead.proofs.WorldSteps.{simulation, between-settled, in-map, of-map, host-at, rec, rec-is, made-to, key_weight, copies-weight, copies-rows, weigh-flat, map-both, unboxed-arrivals}
 
 module _ (c : World) (w : HostWorld) (stands : WorldStands c w) (least : Time) (due : IsLeastDue (flat_map waiting c.tasks.items) (Some least)) (workers : ℕ)
     (works : List Worked) (rows : List (Vec Boxed Global)) (many : length works ≡ workers)
@@ -121,11 +108,11 @@ module _ (c : World) (w : HostWorld) (stands : WorldStands c w) (least : Time) (
   unfolding next
   next-log = round_jobs.next-log sim c.net.stop.nanos least.nanos workers w settled from jobs of once (rec c w stands) (rec-is c w stands) (held c.net end tasks (rec c w stands)) held-all starts.0 starts.1
 
-  pub next-events : (ts : List Task) → length ts ≡ length w.hosts → ((j : HostJob) → IsIn j jobs → (t : Task) → slice_get ts j.number ≡ Some t → IsPermutation t.host.queue j.ran.queue)
-      → IsPermutation (flat_map (λ (t : Task). t.host.queue) ts ++ packets_in jobs) next.events
+  pub next-events : (ts : List Task) → length ts ≡ length w.hosts → ((j : HostJob) → IsIn j jobs → (t : Task) → slice_get ts j.number ≡ Some t → IsPermutation t.host.value.queue j.ran.queue)
+      → IsPermutation (flat_map (λ (t : Task). t.host.value.queue) ts ++ packets_in jobs) next.events
   unfolding next
   next-events ts = round_jobs.next-events sim c.net.stop.nanos least.nanos workers w settled from jobs of once (rec c w stands) (rec-is c w stands) (held c.net end tasks (rec c w stands)) held-all starts.0 starts.1
-      (λ (t : Task). t.host.queue) ts
+      (λ (t : Task). t.host.value.queue) ts
 
   next-queues : IsPermutation (flat_map (λ (j : HostJob). j.ran.queue) jobs ++ packets_in jobs) next.events
   unfolding next
@@ -212,14 +199,6 @@ module _ (c : World) (w : HostWorld) (stands : WorldStands c w) (least : Time) (
     once = subst (λ (ns : List ℕ). IsPermutation ns (numbers_below (length tasks))) (sym (done-number c.net end tasks (rec c w stands) jobs ds are-run)) round.each_once;
     rows_count = round.rows_are.count;
     to = All-from_Each (λ (p : Parcel). p.to.index < length tasks) (all_spilled works) (λ p h. laid-below p (in-spill p h));
-    apart =
-        AreApart-permutation next.events (flat_map (λ (d : Done). d.host.queue) ds ++ laid)
-        (IsPermutation-sym (flat_map (λ (d : Done). d.host.queue) ds ++ laid) next.events
-        (IsPermutation-trans (flat_map (λ (d : Done). d.host.queue) ds ++ laid) (flat_map (λ (j : HostJob). j.ran.queue) jobs ++ packets_in jobs) next.events
-        (IsPermutation-append (flat_map (λ (d : Done). d.host.queue) ds) (flat_map (λ (j : HostJob). j.ran.queue) jobs) laid (packets_in jobs)
-        (run-queues c.net end tasks (rec c w stands) jobs ds are-run) laid-packets)
-        next-queues))
-        next-settled.apart;
   }
 
   pub steps-taken : (js : List HostJob) × (closed : HostWorld) × (map turn_of js ≡ map turn_of jobs)

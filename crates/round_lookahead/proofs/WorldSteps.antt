@@ -1,20 +1,15 @@
 -- A round of the world: what it may be opened on, and what it leaves.
-use Rattle.std.proofs.Common.{◌≡◌, ℕ, zero, suc, ◌+◌, ◌==◌, ◌<◌, ◌≤◌, ◌^◌, inl, inr, ⊎_elim, Bool, true, false, List, [], ◌∷◌, ◌++◌, Option, Some, None, All, map, flat_map, length, get_or, slice_get, refl, sym, ap, subst, ◌∙◌, arith, IsPermutation, Vec, Contains, append_assoc}
+use Rattle.std.proofs.Common.{◌≡◌, ℕ, zero, suc, ◌+◌, ◌==◌, ◌<◌, ◌≤◌, inl, inr, ⊎_elim, Bool, true, false, List, [], ◌∷◌, ◌++◌, Option, Some, None, All, map, flat_map, length, get_or, slice_get, refl, sym, ap, subst, ◌∙◌, arith, Vec}
 use Rattle.std.specs.Prelude.{if◌then◌else◌}
-use Rattle.std.specs.List.{Any}
 use Rattle.std.specs.declared.alloc.Global.{Global}
-use Rattle.std.proofs.lemmas.List.Sorted.{IsPermutation-refl, IsPermutation-sym, IsPermutation-trans, IsPermutation-append, IsPermutation-append_left, IsPermutation-append_right, IsPermutation-append_comm, All-permutation}
+use Rattle.std.proofs.lemmas.List.Sorted.{IsPermutation-sym}
 use Rattle.sim_base.specs.declared.event.Event.{Event}
 use Rattle.sim_base.specs.declared.event.Parcel.{Parcel}
 use Rattle.sim_base.specs.declared.event.What.{What}
 use Rattle.sim_base.specs.declared.event.What.TheVariants as what
 use Rattle.sim_base.specs.declared.key.Key.{Key}
-use Rattle.sim_base.specs.declared.time.Time.{Time}
-use Rattle.list_weights.specs.Weights.{weigh, numbers_below}
+use Rattle.list_weights.specs.Weights.{weigh}
 use Rattle.list_weights.proofs.Weights.{weigh-append}
-use Rattle.event_order.specs.Events.{IsLeastDue}
-use Rattle.steal_workers.specs.Gathers.{joined}
-use Rattle.host_state.specs.declared.host.Host.{Host}
 use Rattle.host_state.specs.declared.line.Line.{Line}
 use Rattle.host_state.specs.declared.net.Net.{Net}
 use Rattle.host_state.specs.Fits.{model, IsEventOf, IsHostOf}
@@ -22,32 +17,21 @@ use Rattle.host_state.specs.Home.{home, home_of}
 use Rattle.host_state.specs.HostRecord.{HostRecord}
 use Rattle.host_state.specs.Outbox.{posted, parcels_of}
 use Rattle.host_state.specs.Parcels.{parcel_event}
-use Rattle.host_state.specs.Running.{Owns}
 use Rattle.host_state.proofs.Simulations as hosts
 use Rattle.world_order.specs.EventOrder.{AreApart, copies, same_key}
 use Rattle.world_order.specs.Premises.{Simulation}
-use Rattle.world_order.specs.Settled.{IsSettled, AreDueFrom, next_at, number_of}
-use Rattle.world_order.specs.Window.{window_end}
-use Rattle.world_order.specs.World as order
-use Rattle.world_order.proofs.Apart.{one_if, copies-append, AreApart-permutation, apart_right, same_members}
+use Rattle.world_order.specs.Settled.{IsSettled, next_at, number_of}
+use Rattle.world_order.proofs.Apart.{one_if, copies-append, AreApart-permutation, apart_left, apart_right}
 use Rattle.world_order.proofs.Homes.{some_is, get-below, below-get}
-use Rattle.world_order.proofs.Members.{IsIn, IsIn-left, IsIn-right, IsIn-either, IsIn-permutation, IsIn-from_Contains, Contains-from_IsIn, Each, Each-from_All, All-from_Each}
+use Rattle.world_order.proofs.Members.{IsIn, IsIn-left, IsIn-right, IsIn-either, IsIn-permutation, Each, Each-from_All, All-from_Each}
 use Rattle.round_lookahead.specs.declared.workers.task.Task.{Task}
-use Rattle.round_lookahead.specs.declared.workers.worked.Done.{Done}
-use Rattle.round_lookahead.specs.declared.workers.worked.Worked.{Worked}
 use Rattle.round_lookahead.specs.declared.world.world_state.World.{World}
 use Rattle.round_lookahead.specs.Arrivals.{Boxed, arrivals}
-use Rattle.round_lookahead.specs.Backs.{all_done, all_spilled, row_arrivals}
-use Rattle.round_lookahead.specs.Rounds.{IsRound, AreRows, all_parcels, parcel_weight}
-use Rattle.round_lookahead.specs.Settles.{done_numbers, CanSettle}
+use Rattle.round_lookahead.specs.Backs.{row_arrivals}
 use Rattle.round_lookahead.specs.Tasks.{waiting, IsTask, AreTasks, AreTasksOf}
 use Rattle.round_lookahead.specs.Works.{HostJob, parcels_made, parcels_by}
-use Rattle.round_lookahead.specs.WorldStands.{HostWorld, nanos_of, HasRounds, IsBetweenRounds, StandsAt, WorldStands}
-use Rattle.round_lookahead.proofs.RoundJobs as round_jobs
-use Rattle.round_lookahead.proofs.RoundOrders.{StartFrom, all_parts}
-use Rattle.round_lookahead.proofs.RunSteps.{IsRunBy, AreRun, works-run, workers-below, done-number, job-done, done-job, run-queues, run-lines, run-packets, run-starts, held}
+use Rattle.round_lookahead.specs.WorldStands.{HostWorld, HasRounds, IsBetweenRounds, StandsAt, WorldStands}
 use Rattle.round_lookahead.proofs.SettleSteps.{get_or-is}
-use Rattle.round_lookahead.proofs.WholeRounds.{packets_in, lines_in}
 
 -- the hosts of a net, as the laws of rounds want them
 abbrev pub simulation : (net : Net) (lookahead : Option ℕ) → HasRounds net lookahead → Simulation HostRecord Line
@@ -84,6 +68,12 @@ of-map f [] y h = absurd h
 of-map f (x ∷ xs) y (inl same) = (x, inl refl, same)
 of-map f (x ∷ xs) y (inr h) = let r = of-map f xs y h in (r.0, inr r.1, r.2)
 
+-- no two events of a part have the same key
+apart-part : {X : Type 0} (f : X → List Event) (xs : List X) (k : ℕ) (x : X) → slice_get xs k ≡ Some x → AreApart (flat_map f xs) → AreApart (f x)
+apart-part f [] k x at apart = absurd (let e : None ≡ Some x = at in cc)
+apart-part f (y ∷ ys) zero x at apart = subst (λ (z : _). AreApart (f z)) (some_is y x at) (apart_left (f y) (flat_map f ys) apart)
+apart-part f (y ∷ ys) (suc k) x at apart = apart-part f ys k x at (apart_right (f y) (flat_map f ys) apart)
+
 -- ---- before the round
 
 module _ (c : World) (w : HostWorld) (stands : WorldStands c w) where
@@ -113,6 +103,8 @@ module _ (c : World) (w : HostWorld) (stands : WorldStands c w) where
               (let all = Each-from_All (λ (x : Event). x.key.number < next_at (model c.net) w.hosts x.key.source.index) w.events b.below e (here-in k t e at g) in
               subst (λ (o : Option HostRecord). e.key.number < number_of (model c.net) o) (ap (slice_get w.hosts) (own ∙ good.number) ∙ there) all));
         };
+        apart = apart-part waiting c.tasks.items k t at
+            (AreApart-permutation w.events (flat_map waiting c.tasks.items) (IsPermutation-sym (flat_map waiting c.tasks.items) w.events stands.events) b.apart);
       }
 
   pub host-at : (k : ℕ) (t : Task) → slice_get c.tasks.items k ≡ Some t → (h : HostRecord) × (slice_get w.hosts k ≡ Some h)

@@ -1,29 +1,49 @@
--- A round on one worker.
-use Rattle.std.specs.Prelude.{◌≡◌, ℕ, List, [], ◌∷◌, length}
+-- A round on one worker, which runs each host in its place.
+use Rattle.std.specs.Prelude.{◌≡◌, ℕ, ◌≤◌, List, [], ◌∷◌, ◌++◌, map, length, Some, slice_get}
+use Rattle.sim_base.specs.declared.event.Parcel.{Parcel}
+use Rattle.sim_base.specs.declared.host.HostId.{HostId}
 use Rattle.list_weights.specs.Weights.{numbers_below}
 use Rattle.host_state.specs.declared.net.Net.{Net}
+use Rattle.host_state.specs.declared.outbox.Outbox.{Outbox}
 use Rattle.host_state.specs.HostRecord.{HostRecord}
 use Rattle.round_lookahead.specs.declared.workers.task.Task.{Task}
-use Rattle.round_lookahead.specs.declared.workers.worked.Worked.{Worked}
+use Rattle.round_lookahead.specs.declared.workers.worked.Done.{Done}
+use Rattle.round_lookahead.specs.declared.world.in_place.Alone.{Alone}
+use Rattle.round_lookahead.specs.Backs.{ids_of, lines_done}
+use Rattle.round_lookahead.specs.Tasks.{AreTasks}
 use Rattle.round_lookahead.specs.Works.{HostJob, AreDone, numbers, parcels_made}
 
--- the hosts of the first tasks were run, one after another, and the spill has all parcels that they made
-pub record HasRunFirst (net : Net) (end : ℕ) (tasks : List Task) (rec : ℕ → HostRecord) (count : ℕ) (w : Worked) : Type 0 where
+-- the hosts of the first tasks were run by the first worker, one after another, and the spill has all parcels that they made
+pub record HasRunFirst (net : Net) (end : ℕ) (tasks : List Task) (rec : ℕ → HostRecord) (count : ℕ) (ds : List Done) (spill : List Parcel) : Type 0 where
   pub jobs : List HostJob
-  pub done : AreDone net end 0 tasks rec jobs w.done.items
+  pub done : AreDone net end 0 tasks rec jobs ds
   pub in_order : numbers jobs ≡ numbers_below count
-  pub spilled : w.spill.items ≡ parcels_made net jobs
+  pub spilled : spill ≡ parcels_made net jobs
 
--- the hosts of all tasks were
-abbrev pub HasWorkedAlone : Net → ℕ → List Task → (ℕ → HostRecord) → Worked → Type 0
-HasWorkedAlone net end tasks rec w = HasRunFirst net end tasks rec (length tasks) w
+-- the host that was run is in the place of its number, and no packet waits for it
+pub record IsPlaced (tasks : List Task) (place : ℕ) (d : Done) : Type 0 where
+  pub task : Task
+  pub at : slice_get tasks place ≡ Some task
+  pub number : d.id.index ≡ place
+  pub id : task.id ≡ d.id
+  pub host : task.host ≡ d.host
+  pub emptied : task.parcels.items ≡ []
 
--- workers that did nothing
-abbrev pub AreIdle : List Worked → Type 0
-AreIdle [] = Unit {0}
-AreIdle (w ∷ works) = (w.done.items ≡ []) × (w.spill.items ≡ []) × AreIdle works
+-- a host was run, and what it handed out is kept behind the rest
+pub record HasKept (id : HostId) (out : Outbox) (old new : Alone) : Type 0 where
+  pub outputs : new.outputs.items ≡ old.outputs.items ++ out.outputs ∷ []
+  pub lines : new.lines.items ≡ old.lines.items ++ out.lines.items
+  pub took : new.took.items ≡ old.took.items ++ id ∷ []
+  pub spill : new.spill.items ≡ old.spill.items ++ out.parcels.items
 
--- the work of the first worker, and the others did nothing
-abbrev pub IsFirst : Worked → List Worked → Type 0
-IsFirst first [] = ⊥
-IsFirst first (w ∷ works) = (w ≡ first) × AreIdle works
+-- so many hosts were run in their places, and what they made is kept; the others are as before
+pub record AreRunInPlace (net : Net) (end : ℕ) (old : List Task) (count : ℕ) (new : List Task) (a : Alone) : Type 0 where
+  pub ds : List Done
+  pub many : length ds ≡ count
+  pub all : length new ≡ length old
+  pub places : (place : ℕ) (d : Done) → slice_get ds place ≡ Some d → IsPlaced new place d
+  pub later : (place : ℕ) → count ≤ place → slice_get new place ≡ slice_get old place
+  pub run : (rec : ℕ → HostRecord) → AreTasks net old rec → HasRunFirst net end old rec count ds a.spill.items
+  pub outputs : a.outputs.items ≡ map (λ (d : Done). d.outputs) ds
+  pub lines : a.lines.items ≡ lines_done ds
+  pub took : a.took.items ≡ ids_of ds

@@ -1,4 +1,3 @@
-pub mod Alone
 pub mod Arrivals
 pub mod Tasks
 pub mod Posts
@@ -6,10 +5,13 @@ pub mod Works
 pub mod Benches
 pub mod Rounds
 pub mod Backs
+pub mod Alone
+pub mod Waits
 pub mod Retasks
 pub mod WorldStands
 pub mod Gains
 pub mod Dues
 pub mod Settles
+pub mod RoundsInPlace
 pub mod OpeningWorld
 pub mod Ran

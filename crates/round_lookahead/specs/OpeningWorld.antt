@@ -16,7 +16,7 @@ pub record AreHostRows (net : Net) (rows : List Row) : Type 0 where
 -- the host of a row at the beginning, for which no packet waits
 pub record IsOpened (row : Row) (t : Task) : Type 0 where
   pub id : t.id ≡ row.host
-  pub host : Begins row t.host
+  pub host : Begins row t.host.value
   pub parcels : t.parcels.items ≡ []
 
 -- row by row

@@ -1,5 +1,5 @@
 -- What becomes of the parcels that a worker's hosts make.
-use Rattle.std.specs.Prelude.{◌≡◌, ◌⊎◌, ℕ, ◌-◌, ◌^◌, List, [], ◌++◌, map, filter, length, nat_le, All}
+use Rattle.std.specs.Prelude.{◌≡◌, ◌⊎◌, ◌-◌, ◌^◌, List, [], ◌++◌, map, filter, length, nat_le, All}
 use Rattle.sim_base.specs.declared.event.Parcel.{Parcel}
 use Rattle.host_inbox.specs.declared.entry.Entry.{Entry}
 use Rattle.round_lookahead.specs.Arrivals.{Boxed}

@@ -1,5 +1,5 @@
 -- What all workers leave is put back.
-use Rattle.std.specs.Prelude.{◌≡◌, ℕ, ◌<◌, List, ◌++◌, map, flat_map, length, All, IsPermutation, Some, slice_get, Vec}
+use Rattle.std.specs.Prelude.{◌≡◌, ℕ, ◌<◌, List, ◌++◌, map, length, All, IsPermutation, Some, slice_get, Vec}
 use Rattle.std.specs.declared.alloc.Global.{Global}
 use Rattle.sim_base.specs.declared.event.Parcel.{Parcel}
 use Rattle.list_weights.specs.Weights.{numbers_below}
@@ -8,7 +8,6 @@ use Rattle.host_state.specs.declared.net.Net.{Net}
 use Rattle.host_state.specs.Home.{home}
 use Rattle.host_state.specs.Parcels.{parcel_event}
 use Rattle.host_state.specs.Running.{kept_line}
-use Rattle.world_order.specs.EventOrder.{AreApart}
 use Rattle.world_order.specs.Round.{in_order}
 use Rattle.world_order.specs.World as order
 use Rattle.round_lookahead.specs.declared.workers.task.Task.{Task}
@@ -21,12 +20,11 @@ use Rattle.round_lookahead.specs.Backs.{all_done, all_spilled, lines_done, took_
 abbrev pub done_numbers : List Done → List ℕ
 done_numbers ds = map (λ (d : Done). d.id.index) ds
 
--- each of so many hosts came back once, each packet is for one of them, and no two events have the same key
+-- each of so many hosts came back once, and each packet is for one of them
 pub record CanSettle (count : ℕ) (works : List Worked) (rows : List (Vec Boxed Global)) : Type 0 where
   pub once : IsPermutation (done_numbers (all_done works)) (numbers_below count)
   pub rows_count : length rows ≡ count
   pub to : All (λ (p : Parcel). p.to.index < count) (all_spilled works)
-  pub apart : AreApart (flat_map (λ (d : Done). d.host.queue) (all_done works) ++ (map parcel_event (all_spilled works) ++ row_arrivals rows))
 
 -- the host that came back waits in the place of its number, and what its processes wrote stands there
 pub record IsBack (s : Settled) (d : Done) : Type 0 where

@@ -5,19 +5,21 @@ use Rattle.host_state.specs.declared.net.Net.{Net}
 use Rattle.host_state.specs.HostRecord.{HostRecord}
 use Rattle.host_state.specs.HostStands.{Stands}
 use Rattle.host_state.specs.Running.{Owns}
+use Rattle.world_order.specs.EventOrder.{AreApart}
 use Rattle.round_lookahead.specs.declared.workers.task.Task.{Task}
 use Rattle.round_lookahead.specs.Arrivals.{arrivals}
 
 -- the events that the host holds, and its packets
 abbrev pub waiting : Task → List Event
-waiting t = t.host.queue ++ arrivals t.parcels.items
+waiting t = t.host.value.queue ++ arrivals t.parcels.items
 
--- the host of that number, which stands for this record, and all that waits is its own
+-- the host of that number, which stands for this record; all that waits is its own, and no two events that wait have the same key
 pub record IsTask (net : Net) (number : ℕ) (t : Task) (h : HostRecord) : Type 0 where
   pub id : t.id.index ≡ number
   pub numbered : h.link.number ≡ number
-  pub stands : Stands t.host h
+  pub stands : Stands t.host.value h
   pub owns : Owns net h.link (waiting t)
+  pub apart : AreApart (waiting t)
 
 -- the tasks' hosts stand for these records
 abbrev pub AreTasks : Net → List Task → (ℕ → HostRecord) → Type 0

@@ -5,6 +5,7 @@ use Rattle.sim_base.specs.declared.event.Parcel.{Parcel}
 use Rattle.host_inbox.specs.declared.entry.Entry.{Entry}
 use Rattle.host_state.specs.declared.line.Line.{Line}
 use Rattle.host_state.specs.declared.net.Net.{Net}
+use Rattle.host_state.specs.declared.outbox.Outbox.{Outbox}
 use Rattle.host_state.specs.Fits.{model, IsEventOf}
 use Rattle.host_state.specs.HostRecord.{HostRecord}
 use Rattle.host_state.specs.HostStands.{Stands}
@@ -41,10 +42,10 @@ pub record IsRunOf (net : Net) (end number : ℕ) (t : Task) (h : HostRecord) (r
   pub start : List Event
   pub joined : IsPermutation start (waiting t)
   pub runs : RunsTo (model net) number end h start ran
-  pub stands : Stands d.host ran.host
-  pub queue : IsPermutation d.host.queue ran.queue
-  pub over : All (λ (e : Event). end ≤ e.key.due.nanos) d.host.queue
-  pub owns : Owns net ran.host.link d.host.queue
+  pub stands : Stands d.host.value ran.host
+  pub queue : IsPermutation d.host.value.queue ran.queue
+  pub over : All (λ (e : Event). end ≤ e.key.due.nanos) d.host.value.queue
+  pub owns : Owns net ran.host.link d.host.value.queue
   pub lines : d.lines.items ≡ map kept_line ran.lines
   pub written : ran.host.written ≡ h.written ++ d.outputs.items
   pub events : All (IsEventOf net) ran.packets
@@ -55,6 +56,10 @@ pub record HasRun (net : Net) (end : ℕ) (t : Task) (h : HostRecord) (d : Done)
   pub ran : Ran HostRecord Line
   pub run : IsRunOf net end t.id.index t h ran d
   pub made : parcels ≡ parcels_of net t.id.index ran.packets
+
+-- a host that was run where it was, and what it handed out
+abbrev pub done_of : Task → Outbox → Done
+done_of t out = record { id = t.id; host = t.host; lines = out.lines; outputs = out.outputs }
 
 -- the worker did the job: its host is that of a task
 pub record IsDone (net : Net) (end worker : ℕ) (tasks : List Task) (rec : ℕ → HostRecord) (job : HostJob) (d : Done) : Type 0 where

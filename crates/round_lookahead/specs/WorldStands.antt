@@ -1,5 +1,5 @@
 -- What a world of the code stands for.
-use Rattle.std.specs.Prelude.{◌≡◌, ℕ, ◌^◌, ◌<◌, ◌≤◌, List, length, flat_map, All, IsPermutation, Option, Some, None, option_map, slice_get}
+use Rattle.std.specs.Prelude.{◌≡◌, ℕ, ◌^◌, ◌<◌, ◌≤◌, length, flat_map, All, IsPermutation, Option, Some, None, option_map, slice_get}
 use Rattle.sim_base.specs.declared.event.Event.{Event}
 use Rattle.sim_base.specs.declared.time.Time.{Time}
 use Rattle.host_state.specs.declared.line.Line.{Line}
@@ -49,7 +49,7 @@ pub record IsBetweenRounds (net : Net) (w : HostWorld) : Type 0 where
 -- the host of that number, and what it holds and what waits for it fires there
 pub record StandsAt (net : Net) (number : ℕ) (t : Task) (host : HostRecord) : Type 0 where
   pub id : t.id.index ≡ number
-  pub stands : Stands t.host host
+  pub stands : Stands t.host.value host
   pub home : All (λ (e : Event). home net e ≡ number) (waiting t)
 
 -- the hosts stand for the world's, each for that of its place; what they hold and the packets that wait for them are together its events,

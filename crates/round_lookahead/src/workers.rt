@@ -1,6 +1,5 @@
 //! The workers of a round.
 
-pub(crate) mod alone;
 pub(crate) mod bench;
 pub(crate) mod busy;
 pub(crate) mod fork;

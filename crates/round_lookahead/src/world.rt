@@ -3,6 +3,7 @@
 pub(crate) mod backs;
 pub(crate) mod delivery;
 pub(crate) mod due;
+pub(crate) mod in_place;
 pub(crate) mod merging;
 pub(crate) mod opening;
 pub(crate) mod pieces;
@@ -11,4 +12,6 @@ pub(crate) mod retasking;
 pub(crate) mod rounds;
 pub(crate) mod run;
 pub(crate) mod settling;
+pub(crate) mod settling_in_place;
+pub(crate) mod waiting;
 pub(crate) mod world_state;

@@ -1,4 +1,4 @@
-//! How many hosts of a round have something to do.
+//! How many threads a round is worth.
 ghost use Rattle.std.specs.Prelude.{◌≤◌, ◌<◌};
 
 use crate::workers::task::Task;
@@ -17,15 +17,33 @@ impl Task {
     }
 }
 
-/// The number of tasks with something to do before the end, counted up to a number.
-pub(crate) fn busy_count(tasks: &[Task], end: Time, most: u32) -> u32
-    ensures { result ≤ most }
-{
+/// How many tasks have something to do before the end.
+fn busy_count(tasks: &[Task], end: Time) -> usize {
     let mut busy = 0;
     for task in tasks {
-        if busy < most && task.is_busy(end) {
+        if task.is_busy(end) {
             busy += 1;
         }
     }
     busy
+}
+
+/// In how many threads a round of so many workers is run: no more than there are hosts with something to do, and one where fewer
+/// than an eighth of the hosts have. A thread, and a move of all hosts to workers and back, cost more than such a round.
+pub(crate) fn thread_count(tasks: &[Task], end: Time, workers: u32) -> u32
+    requires { 0 < workers }
+    ensures { (0 < result) × (result ≤ workers) }
+{
+    if workers < 2 {
+        return 1;
+    }
+    let busy = busy_count(tasks, end);
+    if busy < 2 || busy < tasks.len() / 8 {
+        return 1;
+    }
+    if busy < workers as usize {
+        busy as u32
+    } else {
+        workers
+    }
 }

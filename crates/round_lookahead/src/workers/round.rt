@@ -5,9 +5,7 @@ ghost use Rattle.round_lookahead.specs.Benches.{AreBenches, AreParts, HaveWorked
 ghost use Rattle.round_lookahead.specs.Rounds.{IsRound};
 ghost use Rattle.round_lookahead.specs.Tasks.{AreTasks, AreTasksOf};
 
-use crate::workers::alone::run_alone;
 use crate::workers::bench::Bench;
-use crate::workers::busy::busy_count;
 use crate::workers::fork::fork;
 use crate::workers::task::Task;
 use crate::workers::worked::Worked;
@@ -118,7 +116,7 @@ fn parts_of(alloc: Global, benches: Vec<Bench>) -> Result<Parts, NoMemory>
 }
 
 /// Runs the hosts of all tasks up to `end`, on so many workers in so many threads. Fails for want of memory alone.
-fn run_beside<R: Threads + Sync, G: Gate + Sync>(
+pub(crate) fn run_beside<R: Threads + Sync, G: Gate + Sync>(
     rt: &R,
     alloc: Global,
     net: &Net,
@@ -160,31 +158,4 @@ fn run_beside<R: Threads + Sync, G: Gate + Sync>(
         works,
         rows: drained.rows,
     })
-}
-
-/// Runs the hosts of all tasks up to `end`, on so many workers side by side. There are no more threads than hosts that have
-/// something to do; with one, the first worker runs all hosts. Fails for want of memory alone.
-pub(crate) fn run_all<R: Threads + Sync, G: Gate + Sync>(
-    rt: &R,
-    alloc: Global,
-    net: &Net,
-    end: Time,
-    tasks: Vec<Task>,
-    workers: u32,
-    gate: &G,
-) -> Result<RoundLeft, NoMemory>
-    requires stop { net.now.stop.nanos ≤ 2 ^ 61 }
-    requires until { end.nanos ≤ net.now.stop.nanos }
-    requires workers { (0 < workers) × (workers ≤ 64) }
-    requires few { (0 < length tasks.items) × (length tasks.items ≤ 65536) }
-    requires tasks { AreTasksOf net.now tasks.items }
-    ensures works { IfOk result (λ left. length left.works.items ≡ workers) }
-    ensures rows { IfOk result (λ left. length left.rows.items ≡ length tasks.items) }
-    ensures round { IfOk result (λ left. (rec : ℕ → HostRecord) → AreTasks net.now tasks.items rec → IsRound net.now end.nanos tasks.items rec left.works.items left.rows.items) }
-{
-    let threads = busy_count(&tasks, end, workers);
-    if threads < 2 {
-        return run_alone(alloc, net, end, tasks, workers, gate);
-    }
-    run_beside(rt, alloc, net, end, tasks, workers, threads, gate)
 }

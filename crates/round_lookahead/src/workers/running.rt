@@ -1,18 +1,19 @@
 //! A task's host is run up to the end of a round.
-ghost use Rattle.std.specs.Prelude.{◌≡◌, ◌≤◌, ◌<◌, ◌^◌, ◌++◌, All, IfOk, OnOk, IsPermutation, length};
+ghost use Rattle.std.specs.Prelude.{◌≡◌, ◌≤◌, ◌<◌, ◌^◌, ◌++◌, [], All, IfOk, OnOk, IsPermutation, length};
 ghost use Rattle.host_state.specs.HostRecord.{HostRecord};
 ghost use Rattle.host_state.specs.HostStands.{IsSameBody};
 ghost use Rattle.host_state.specs.Parcels.{parcel_event};
 ghost use Rattle.world_order.specs.EventOrder.{AreApart};
 ghost use Rattle.round_lookahead.specs.Arrivals.{arrivals};
 ghost use Rattle.round_lookahead.specs.Tasks.{IsTask};
-ghost use Rattle.round_lookahead.specs.Works.{HasRun};
+ghost use Rattle.round_lookahead.specs.Works.{HasRun, done_of};
 
 use crate::workers::task::Task;
 use crate::workers::worked::Done;
 use host_state::{Host, Net, Outbox};
 use sim_base::{Event, NoMemory, Parcel, Time, What};
 use std::alloc::Global;
+use std::mem;
 
 /// A task that was run, and the parcels that it made for other hosts.
 #[derive(Drop)]
@@ -44,6 +45,30 @@ fn join_parcels(host: &mut Host, parcels: Vec<Box<Parcel>>) -> Result<(), NoMemo
     Ok(())
 }
 
+impl Task {
+    /// Runs the host, with the parcels that wait for it, up to the end. What it made is handed out.
+    pub(crate) fn run_here(
+        &mut self,
+        alloc: Global,
+        net: &Net,
+        end: Time,
+    ) -> Result<Outbox, NoMemory>
+        requires stop { net.now.stop.nanos ≤ 2 ^ 61 }
+        requires until { end.nanos ≤ net.now.stop.nanos }
+        requires task { (h : HostRecord) × IsTask net.now self.old.id.index self.old h }
+        ensures to { IfOk result (λ out. All (λ parcel. parcel.to.index < length net.now.known.book) out.parcels.items) }
+        ensures id { OnOk result (self.new.id ≡ self.old.id) }
+        ensures emptied { OnOk result (self.new.parcels.items ≡ []) }
+        ensures run { IfOk result (λ out. (h : HostRecord) → IsTask net.now self.old.id.index self.old h → HasRun net.now end.nanos self.old h (done_of self.new out) out.parcels.items) }
+    {
+        let parcels = mem::replace(&mut self.parcels, Vec::new(alloc));
+        join_parcels(&mut *self.host, parcels)?;
+        let mut out = Outbox::new(alloc);
+        self.host.run_until(net, end, &mut out)?;
+        Ok(out)
+    }
+}
+
 /// Runs the task's host, with its parcels, up to the end.
 pub(crate) fn run_task(
     alloc: Global,
@@ -57,21 +82,14 @@ pub(crate) fn run_task(
     ensures to { IfOk result (λ f. All (λ parcel. parcel.to.index < length net.now.known.book) f.parcels.items) }
     ensures run { IfOk result (λ f. (h : HostRecord) → IsTask net.now task.id.index task h → HasRun net.now end.nanos task h f.done f.parcels.items) }
 {
-    let Task {
-        id,
-        mut host,
-        parcels,
-        ..
-    } = task;
-    join_parcels(&mut host, parcels)?;
-    let mut out = Outbox::new(alloc);
-    host.run_until(net, end, &mut out)?;
+    let mut task = task;
     let Outbox {
         parcels,
         lines,
         outputs,
         ..
-    } = out;
+    } = task.run_here(alloc, net, end)?;
+    let Task { id, host, .. } = task;
     let done = Done {
         id,
         host,

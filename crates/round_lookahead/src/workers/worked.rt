@@ -8,7 +8,7 @@ use sim_base::{HostId, Parcel};
 #[derive(Drop)]
 pub struct Done {
     pub id: HostId,
-    pub host: Host,
+    pub host: Box<Host>,
     pub lines: Vec<Logged>,
     pub outputs: Vec<Output>,
 }

@@ -12,7 +12,7 @@ use std::alloc::Global;
 #[derive(Drop)]
 pub(crate) struct Back {
     pub(crate) id: HostId,
-    pub(crate) host: Host,
+    pub(crate) host: Box<Host>,
     pub(crate) outputs: Vec<Output>,
 }
 

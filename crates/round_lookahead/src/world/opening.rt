@@ -5,7 +5,6 @@ ghost use Rattle.round_lookahead.specs.OpeningWorld.{AreHostRows, AreOpened, IsO
 ghost use Rattle.round_lookahead.specs.WorldStands.{HasRounds, WorldStands, nanos_of};
 
 use crate::workers::task::Task;
-use crate::world::retasking::task_of;
 use crate::world::world_state::World;
 use host_state::{Host, Net, Row};
 use sim_base::{NoMemory, Time};
@@ -17,8 +16,9 @@ fn open_host(alloc: Global, row: Row, net: &Net) -> Result<Task, NoMemory>
     ensures { IfOk result (IsOpened row) }
 {
     let id = row.host;
-    let host = Host::new(row, net)?;
-    Ok(task_of(id, host, Vec::new(alloc)))
+    let host = Box::new(alloc, Host::new(row, net)?)?;
+    let parcels = Vec::new(alloc);
+    Ok(Task { id, host, parcels })
 }
 
 /// The hosts of all rows.

@@ -87,7 +87,7 @@ pub(crate) fn host_runs(
     written: Vec<Vec<Output>>,
 ) -> Result<Vec<HostRun>, NoMemory>
     requires { length written.items ≡ length tasks.items }
-    ensures hosts { IfOk result (λ runs. map (λ r. r.host) runs.items ≡ map (λ t. t.host) tasks.items) }
+    ensures hosts { IfOk result (λ runs. map (λ r. r.host) runs.items ≡ map (λ t. t.host.value) tasks.items) }
     ensures written { IfOk result (λ runs. map (λ r. r.written) runs.items ≡ written.items) }
 {
     let mut runs = Vec::with_capacity(alloc, tasks.len())?;
@@ -98,7 +98,7 @@ pub(crate) fn host_runs(
         };
         let Task { host, .. } = task;
         runs.push(HostRun {
-            host,
+            host: Box::into_inner(host),
             written: outputs,
         })?;
     }

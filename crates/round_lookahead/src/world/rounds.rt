@@ -5,10 +5,12 @@ ghost use Rattle.round_lookahead.specs.Gains.{HasRound};
 ghost use Rattle.round_lookahead.specs.Tasks.{waiting};
 ghost use Rattle.round_lookahead.specs.WorldStands.{HostWorld, WorldStands};
 
-use crate::workers::round::{RoundLeft, run_all};
+use crate::workers::busy::thread_count;
+use crate::workers::round::{RoundLeft, run_beside};
 use crate::world::due::least_due;
 use crate::world::pieces::Pieces;
 use crate::world::settling::{Settled, settle};
+use crate::world::settling_in_place::round_in_place;
 use crate::world::world_state::World;
 use sim_base::{NoMemory, Time};
 use std::alloc::Global;
@@ -66,10 +68,14 @@ impl World {
         ensures round { IfOk result (λ pieces. (w : HostWorld) → WorldStands self.old w → (v : HostWorld) × HasRound self.old self.new workers w v pieces) }
     {
         let window = Window::of(least, self.lookahead, self.net.stop);
+        let threads = thread_count(self.tasks.as_slice(), window.end, workers);
+        if threads < 2 {
+            return round_in_place(alloc, &self.net, window.end, &mut self.tasks, workers, gate);
+        }
         let count = self.tasks.len();
         let tasks = mem::replace(&mut self.tasks, Vec::new(alloc));
-        let RoundLeft { works, rows } = run_all(
-            rt, alloc, &self.net, window.end, tasks, workers, gate,
+        let RoundLeft { works, rows } = run_beside(
+            rt, alloc, &self.net, window.end, tasks, workers, threads, gate,
         )?;
         let Settled { tasks, pieces } = settle(alloc, count, works, rows)?;
         self.tasks = tasks;
@@ -77,7 +83,8 @@ impl World {
     }
 
     /// Runs a round: all hosts are run up to the end of the window that begins with the next event,
-    /// by so many workers side by side, each of which tells the gate before it runs a host. The
+    /// by so many workers side by side, each of which tells the gate before it runs a host; where few
+    /// hosts have something to do, all are run by the first worker, each in its place. The
     /// world then stands for the one after all turns that are due before that end. Fails for want of
     /// memory alone; the world isn't used after that.
     pub fn round<R: Threads + Sync, G: Gate + Sync>(

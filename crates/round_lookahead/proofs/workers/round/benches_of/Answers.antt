@@ -1,14 +1,12 @@
-use Rattle.std.proofs.Common.{◌≡◌, ℕ, ◌+◌, ◌<◌, ◌++◌, ◌∷◌, [], List, All, None, Some, map, length, vec_len, sym, ap, subst, ◌∙◌, arith, append_assoc, append-nil}
+use Rattle.std.proofs.Common.{◌≡◌, ◌++◌, ◌∷◌, [], List, All, None, map, length, sym, ap, subst, ◌∙◌, arith, append_assoc, append-nil}
 use Rattle.std.specs.Option.{IfSome}
 use Rattle.std.proofs.lemmas.List.Elements.{All-pop, All-push}
 use Rattle.std.specs.Vec.Iter.{into_iter_items}
 use Rattle.steal_workers.specs.SeatViews.{SeatView}
 use Rattle.steal_workers.proofs.GatherSteps.{nil_if}
-use Rattle.host_inbox.specs.CarrierViews.{CarrierView}
 use Rattle.list_weights.specs.Places.{EachAt}
 use Rattle.round_lookahead.specs.declared.workers.bench.Bench.{Bench}
 use Rattle.round_lookahead.specs.declared.workers.task.Task.{Task}
-use Rattle.round_lookahead.specs.Arrivals.{Boxed}
 use Rattle.round_lookahead.specs.Benches.{IsUnusedOf}
 use Rattle.round_lookahead.proofs.BenchSteps.{seats-more, workers-more}
 use Rattle.round_lookahead.proofs.workers.round.benches_of.Goals as goal

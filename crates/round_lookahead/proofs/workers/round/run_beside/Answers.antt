@@ -1,4 +1,4 @@
-use Rattle.std.proofs.Common.{◌≡◌, ℕ, length, subst, arith}
+use Rattle.std.proofs.Common.{ℕ, subst, arith}
 use Rattle.host_inbox.specs.CarrierViews.{AreOpen}
 use Rattle.round_lookahead.proofs.RoundFacts.{ready, whole, all-carriers, works-count, is-round}
 use Rattle.round_lookahead.proofs.workers.round.run_beside.Goals as goal

@@ -1,5 +1,4 @@
-use Rattle.std.proofs.Common.{◌≡◌, ℕ, ◌++◌, ◌∷◌, [], List, Some, slice_get, sym, subst, ◌∙◌}
-use Rattle.host_state.specs.HostRecord.{HostRecord}
+use Rattle.std.proofs.Common.{◌≡◌, ℕ, ◌++◌, ◌∷◌, [], Some, slice_get, sym, subst, ◌∙◌}
 use Rattle.round_lookahead.specs.Tasks.{IsTask}
 use Rattle.round_lookahead.proofs.WorkSteps.{gained-more, no_more}
 use Rattle.round_lookahead.proofs.workers.working.turn.Goals as goal

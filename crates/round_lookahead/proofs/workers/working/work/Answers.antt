@@ -1,5 +1,5 @@
 use Rattle.std.specs.Prelude.{MatchBool}
-use Rattle.std.proofs.Common.{◌≡◌, ◌+◌, ◌<◌, ℕ, Bool, true, List, length, subst, ◌∙◌, arith, rules}
+use Rattle.std.proofs.Common.{◌≡◌, ◌+◌, ◌<◌, Bool, true, length, subst, ◌∙◌, arith, rules}
 use Rattle.steal_workers.specs.Deals.{Deal}
 use Rattle.steal_workers.specs.SeatViews.{HasMark}
 use Rattle.steal_workers.proofs.SameSeats.{same_seat-trans}

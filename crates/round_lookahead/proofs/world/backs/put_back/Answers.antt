@@ -1,5 +1,5 @@
 use Rattle.std.specs.Vec.Iter.{into_iter_items}
-use Rattle.round_lookahead.proofs.BackSteps.{first-of, returned-more}
+use Rattle.round_lookahead.proofs.BackSteps.{returned-more}
 use Rattle.round_lookahead.proofs.world.backs.put_back.Goals as goal
 
 pub loop-worked-preserved : goal.loop-worked-preserved

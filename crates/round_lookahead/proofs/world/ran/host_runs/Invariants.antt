@@ -6,6 +6,6 @@ use Rattle.round_lookahead.proofs.world.ran.host_runs.Given as goal
 abbrev pub invariant-loop-task : goal.invariant-loop-task
 invariant-loop-task l = record {
   count : length (into_iter_items l.written) ≡ length (into_iter_items l.task-iterator);
-  hosts : map (λ r. r.host) l.runs.items ++ map (λ t. t.host) (into_iter_items l.task-iterator) ≡ map (λ t. t.host) l.fn.tasks.items;
+  hosts : map (λ r. r.host) l.runs.items ++ map (λ t. t.host.value) (into_iter_items l.task-iterator) ≡ map (λ t. t.host.value) l.fn.tasks.items;
   written : map (λ r. r.written) l.runs.items ++ into_iter_items l.written ≡ l.fn.written.items;
 }

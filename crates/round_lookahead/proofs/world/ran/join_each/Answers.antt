@@ -1,4 +1,4 @@
-use Rattle.std.proofs.Common.{◌≡◌, ◌++◌, ◌∷◌, [], List, length, map, sym, ap, ◌∙◌, arith, Vec, Global}
+use Rattle.std.proofs.Common.{◌≡◌, ◌++◌, ◌∷◌, List, length, sym, ap, ◌∙◌, arith, Vec, Global}
 use Rattle.std.specs.Vec.Iter.{into_iter_items}
 use Rattle.host_calls.specs.declared.parts.Output.{Output}
 use Rattle.round_lookahead.specs.Backs.{lists_of}

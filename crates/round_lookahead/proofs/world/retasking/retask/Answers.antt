@@ -1,19 +1,10 @@
-use Rattle.std.proofs.Common.{◌≡◌, ◌++◌, ◌∷◌, [], List, length, map, sym, ap, ◌∙◌, arith, Vec, Global}
+use Rattle.std.proofs.Common.{◌≡◌, ◌++◌, ◌∷◌, [], List, length, map, refl, sym, ap, ◌∙◌, arith, Vec, Global}
 use Rattle.std.specs.Vec.Iter.{into_iter_items}
-use Rattle.host_state.specs.declared.host.Host.{Host}
-use Rattle.host_calls.specs.declared.parts.Output.{Output}
-use Rattle.sim_base.specs.declared.host.HostId.{HostId}
 use Rattle.round_lookahead.specs.declared.workers.task.Task.{Task}
 use Rattle.round_lookahead.specs.declared.world.backs.Back.{Back}
 use Rattle.round_lookahead.specs.Arrivals.{Boxed}
 use Rattle.round_lookahead.proofs.BackSteps.{completes, maps-more, seen-more}
-use Rattle.round_lookahead.proofs.RetaskSteps.{apart-first, apart-rest}
 use Rattle.round_lookahead.proofs.world.retasking.retask.Goals as goal
-
-pub task_of-requires : goal.task_of-requires
-task_of-requires c =
-    apart-first c.in-Some.back (into_iter_items c.loop-back.back-iterator) (into_iter_items c.next.new.self) c.in-Some-next.parcels (into_iter_items c.loop-back.rows) (into_iter_items c.next-in-loop-back.new.self)
-    c.in-Some.ensures.steps.0 c.in-Some-next.ensures.items c.loop-back.invariant.apart
 
 pub loop-back-preserved : goal.loop-back-preserved
 loop-back-preserved c =
@@ -27,17 +18,15 @@ loop-back-preserved c =
     let rows_are : rows ≡ row ∷ more = c.in-Some-next.ensures.items in
     let old : List Task = c.loop-back.retasked.tasks.items in
     let new : List Task = c.push.new.self.items in
-    let t : Task = c.task_of.result in
+    let t : Task = record { id = b.id; host = b.host; parcels = row } in
     let pushed : new ≡ old ++ t ∷ [] = c.in_ok-push.ensures.items in
     let i = c.loop-back.invariant in
     record {
       count = (let long = i.count in let a : length left ≡ length (b ∷ rest) = ap length left_is in let e : length rows ≡ length (row ∷ more) = ap length rows_are in omega arith);
-      apart = apart-rest b left rest row rows more left_is rows_are i.apart;
-      ids = seen-more (λ (x : Task). x.id) (λ (x : Back). x.id) old new t left rest b (map (λ (x : Back). x.id) c.args.backs.items) pushed left_is c.task_of.ensures.id i.ids;
-      hosts = seen-more (λ (x : Task). x.host) (λ (x : Back). x.host) old new t left rest b (map (λ (x : Back). x.host) c.args.backs.items) pushed left_is c.task_of.ensures.host i.hosts;
+      ids = seen-more (λ (x : Task). x.id) (λ (x : Back). x.id) old new t left rest b (map (λ (x : Back). x.id) c.args.backs.items) pushed left_is refl i.ids;
+      hosts = seen-more (λ (x : Task). x.host) (λ (x : Back). x.host) old new t left rest b (map (λ (x : Back). x.host) c.args.backs.items) pushed left_is refl i.hosts;
       parcels = maps-more (λ (x : Task). x.parcels) old new t more c.args.rows.items pushed
-          (ap (λ (r : Vec Boxed Global). map (λ (x : Task). x.parcels) old ++ r ∷ more) c.task_of.ensures.parcels
-          ∙ ap (λ (l : List (Vec Boxed Global)). map (λ (x : Task). x.parcels) old ++ l) (sym rows_are) ∙ i.parcels);
+          (ap (λ (l : List (Vec Boxed Global)). map (λ (x : Task). x.parcels) old ++ l) (sym rows_are) ∙ i.parcels);
       outputs = completes c.loop-back.retasked.outputs.items c.push-in-loop-back.new.self.items (b.outputs ∷ []) (map (λ (x : Back). x.outputs) rest) (map (λ (x : Back). x.outputs) c.args.backs.items)
           c.in_ok-push-2.ensures.items
           (ap (λ (l : List Back). c.loop-back.retasked.outputs.items ++ map (λ (x : Back). x.outputs) l) (sym left_is) ∙ i.outputs);

@@ -1,6 +1,6 @@
 use Rattle.std.proofs.Common.{ℕ, ◌<◌, List, All, refl, sym, subst, ◌∙◌}
 use Rattle.sim_base.specs.declared.event.Parcel.{Parcel}
-use Rattle.round_lookahead.proofs.SettleSteps.{works-below, all-some, length-backs, backs-apart, has-settled}
+use Rattle.round_lookahead.proofs.SettleSteps.{works-below, all-some, length-backs, has-settled}
 use Rattle.round_lookahead.proofs.world.settling.settle.Goals as goal
 
 pub put_back-requires : goal.put_back-requires
@@ -14,15 +14,11 @@ deliver-requires c =
 pub all_back-requires : goal.all_back-requires
 all_back-requires c = all-some c.args.count c.args.works.items c.args.rows.items c.requires c.in_ok-slots.field-0.slots.items c.in_ok-slots.ensures.slots
 
-pub retask-requires-clause-count : goal.retask-requires-clause-count
-retask-requires-clause-count c =
-    c.in_ok-deliver.ensures.count ∙ c.requires.rows_count
-    ∙ sym (length-backs c.args.count c.args.works.items c.args.rows.items c.requires c.in_ok-slots.field-0.slots.items c.in_ok-slots.ensures.slots c.in_ok-backs.backs.items c.in_ok-backs.ensures)
-
-pub retask-requires-clause-apart : goal.retask-requires-clause-apart
-retask-requires-clause-apart c =
-    backs-apart c.args.count c.args.works.items c.args.rows.items c.requires c.in_ok-slots.field-0.slots.items c.in_ok-slots.ensures.slots c.in_ok-backs.backs.items c.in_ok-backs.ensures
-    c.in_ok-slots.field-0.spill.items c.deliver.new.rows.items c.in_ok-slots.ensures.spill c.in_ok-deliver.ensures.events
+pub retask-requires : goal.retask-requires
+retask-requires c = record {
+  count = c.in_ok-deliver.ensures.count ∙ c.requires.rows_count
+      ∙ sym (length-backs c.args.count c.args.works.items c.args.rows.items c.requires c.in_ok-slots.field-0.slots.items c.in_ok-slots.ensures.slots c.in_ok-backs.backs.items c.in_ok-backs.ensures);
+}
 
 pub returns : goal.returns
 returns c =

@@ -1,18 +1,18 @@
-use Rattle.std.proofs.Common.{◌≡◌, ℕ, ◌<◌, ◌≤◌, length, sym, ap, subst, ◌∙◌, arith, Vec, Global}
+use Rattle.std.proofs.Common.{◌≡◌, ℕ, ◌≤◌, length, sym, ap, subst, arith, Vec, Global}
 use Rattle.world_order.proofs.Orders.{window-upto}
 use Rattle.round_lookahead.specs.declared.workers.task.Task.{Task}
 use Rattle.round_lookahead.specs.Tasks.{AreTasksOf}
 use Rattle.round_lookahead.specs.WorldStands.{nanos_of}
-use Rattle.round_lookahead.proofs.WorldGains.{settles, goes-on}
+use Rattle.round_lookahead.proofs.WorldGains.{settles, goes-on, goes-on-here}
 use Rattle.round_lookahead.proofs.WorldSteps.{all-tasks}
 use Rattle.round_lookahead.proofs.world.world_state.World.advance.Goals as goal
 
-pub run_all-requires-clause-until : goal.run_all-requires-clause-until
-run_all-requires-clause-until g c κs lives =
+pub run_beside-requires-clause-until : goal.run_beside-requires-clause-until
+run_beside-requires-clause-until g c κs lives =
     subst (λ (n : ℕ). n ≤ c.args.self.now.net.stop.nanos) (sym c.of-window.ensures.end) (window-upto (nanos_of c.args.self.now.lookahead) c.args.self.now.net.stop.nanos c.args.least.nanos)
 
-pub run_all-requires-clause-few : goal.run_all-requires-clause-few
-run_all-requires-clause-few g c κs lives =
+pub run_beside-requires-clause-few : goal.run_beside-requires-clause-few
+run_beside-requires-clause-few g c κs lives =
     let s = c.requires.stands.1 in
     let count = s.count in
     let book = s.between.count in
@@ -21,8 +21,8 @@ run_all-requires-clause-few g c κs lives =
     let same : length c.replace-tasks.result.items ≡ length c.args.self.now.tasks.items = ap (λ (v : Vec Task Global). length v.items) c.replace-tasks.ensures.value in
     omega arith
 
-pub run_all-requires-clause-tasks : goal.run_all-requires-clause-tasks
-run_all-requires-clause-tasks g c κs lives =
+pub run_beside-requires-clause-tasks : goal.run_beside-requires-clause-tasks
+run_beside-requires-clause-tasks g c κs lives =
     subst (λ (v : Vec Task Global). AreTasksOf c.args.self.now.net v.items) (sym c.replace-tasks.ensures.value) (all-tasks c.args.self.now c.requires.stands.0 c.requires.stands.1)
 
 pub settle-requires : goal.settle-requires
@@ -36,3 +36,10 @@ returns-clause-round g c = λ w stands.
     goes-on c.args.self.now w stands c.args.least c.requires.least c.args.workers c.in_ok-works.field-0.works.items c.in_ok-works.field-0.rows.items
     c.in_ok-works.ensures.works c.replace-tasks.result c.replace-tasks.ensures.value c.of-window.result.end.nanos c.of-window.ensures.end c.in_ok-works.ensures.round
     c.len-count.result (let e = c.len-count.ensures in omega (arith, c.args.self.now.tasks.ok.0)) c.in_ok-tasks.field-0 c.in_ok-tasks.ensures
+
+pub round_in_place-requires-clause-tasks : goal.round_in_place-requires-clause-tasks
+round_in_place-requires-clause-tasks g c = all-tasks c.args.self.now c.requires.stands.0 c.requires.stands.1
+
+pub returns-then-threads-lt2-clause-round : goal.returns-then-threads-lt2-clause-round
+returns-then-threads-lt2-clause-round g c =
+    goes-on-here c.args.self.now c.args.least c.requires.least c.args.workers c.round_in_place.new.tasks c.of-window.result.end.nanos c.of-window.ensures.end c.round_in_place.result c.round_in_place.ensures

@@ -1,0 +1,275 @@
+-- Hosts that were run in their places, and the packets that then wait for them.
+use Rattle.std.proofs.Common.{◌≡◌, ◌≢◌, ⊎_elim, length-set, get_or-set_same, get_or-set_other, ℕ, zero, suc, ◌-◌, ◌<◌, ◌≤◌, ◌^◌, List, [], ◌∷◌, ◌++◌, Some, All, map, length, replicate, slice_get, slice_set, get_or, refl, sym, ap, subst, ◌∙◌, append-nil, Vec, arith, IsPermutation}
+use Rattle.std.specs.Prelude.{Box}
+use Rattle.std.specs.declared.alloc.Global.{Global}
+use Rattle.std.proofs.lemmas.Bool.{cases_eq}
+use Rattle.std.proofs.lemmas.List.{length-map, with_items_is}
+use Rattle.std.specs.Vec.{with_items}
+use Rattle.std.proofs.lemmas.List.Elements.{All-append, All-cons, All-nil}
+use Rattle.sim_base.specs.declared.event.Event.{Event}
+use Rattle.sim_base.specs.declared.event.Parcel.{Parcel}
+use Rattle.sim_base.specs.declared.host.HostId.{HostId}
+use Rattle.host_calls.specs.declared.parts.Output.{Output}
+use Rattle.host_state.specs.declared.host.Host.{Host}
+use Rattle.host_state.specs.declared.line.Line.{Line}
+use Rattle.host_state.specs.declared.net.Net.{Net}
+use Rattle.host_state.specs.Home.{home}
+use Rattle.host_state.specs.Parcels.{parcel_event}
+use Rattle.host_state.specs.Running.{kept_line}
+use Rattle.world_order.specs.Round.{in_order}
+use Rattle.world_order.specs.World as order
+use Rattle.world_order.proofs.Fires.{get-map}
+use Rattle.world_order.proofs.Homes.{some_is, get-below, below-get}
+use Rattle.round_lookahead.specs.declared.workers.task.Task.{Task}
+use Rattle.round_lookahead.specs.declared.workers.worked.Done.{Done}
+use Rattle.round_lookahead.specs.declared.workers.worked.Worked.{Worked}
+use Rattle.round_lookahead.specs.declared.world.in_place.Alone.{Alone}
+use Rattle.round_lookahead.specs.declared.world.pieces.Pieces.{Pieces}
+use Rattle.round_lookahead.specs.declared.world.settling.Settled.{Settled}
+use Rattle.round_lookahead.specs.Alone.{AreRunInPlace}
+use Rattle.round_lookahead.specs.Arrivals.{Boxed, arrivals}
+use Rattle.round_lookahead.specs.Backs.{all_done, all_spilled, ids_of, lines_done, lists_of, took_by, row_arrivals, AreAtHome}
+use Rattle.round_lookahead.specs.RoundsInPlace.{IsRoundInPlace}
+use Rattle.round_lookahead.specs.Settles.{IsBack, HasSettled}
+use Rattle.round_lookahead.specs.Waits.{IsSameHosts, rows_of}
+use Rattle.round_lookahead.proofs.AloneSteps.{AreIdle, alone-round, idle-spills}
+use Rattle.round_lookahead.proofs.DeliverySteps.{row-more}
+use Rattle.round_lookahead.proofs.SettleSteps.{get_or-is}
+
+-- ---- the same hosts
+
+pub same-length : (old new : List Task) → IsSameHosts old new → length new ≡ length old
+same-length old new same = sym (length-map new (λ (t : Task). t.id)) ∙ ap length same.ids ∙ length-map old (λ (t : Task). t.id)
+
+-- one place changes, and what is seen of it stays
+pub map-set : {X Y : Type 0} (f : X → Y) (xs : List X) (i : ℕ) (x y : X) → slice_get xs i ≡ Some x → f y ≡ f x → map f (slice_set xs i y) ≡ map f xs
+map-set f [] i x y at same = refl
+map-set f (z ∷ zs) zero x y at same = ap (λ (w : _). w ∷ map f zs) (same ∙ ap f (sym (some_is z x at)))
+map-set f (z ∷ zs) (suc i) x y at same = ap (λ (l : List _). f z ∷ l) (map-set f zs i x y at same)
+
+-- one place changes, also as seen
+pub set-map : {X Y : Type 0} (f : X → Y) (xs : List X) (i : ℕ) (y : X) → map f (slice_set xs i y) ≡ slice_set (map f xs) i (f y)
+set-map f [] i y = refl
+set-map f (z ∷ zs) zero y = refl
+set-map f (z ∷ zs) (suc i) y = ap (λ (l : List _). f z ∷ l) (set-map f zs i y)
+
+pub get-or-at : {X : Type 0} (xs : List X) (i : ℕ) (d : X) → i < length xs → slice_get xs i ≡ Some (get_or xs i d)
+get-or-at [] i d below = absurd (omega arith)
+get-or-at (x ∷ xs) zero d below = refl
+get-or-at (x ∷ xs) (suc i) d below = get-or-at xs i d (omega arith)
+
+-- ---- a packet waits
+
+pub same-hosts : (ts : List Task) (i : ℕ) (d t : Task) → i < length ts → t.id ≡ (get_or ts i d).id → t.host ≡ (get_or ts i d).host → IsSameHosts ts (slice_set ts i t)
+same-hosts ts i d t below id host = record {
+  ids = map-set (λ (x : Task). x.id) ts i (get_or ts i d) t (get-or-at ts i d below) id;
+  hosts = map-set (λ (x : Task). x.host) ts i (get_or ts i d) t (get-or-at ts i d below) host;
+}
+
+module _ (ts : List Task) (i : ℕ) (d t : Task) (boxed : Boxed) (below : i < length ts) (more : t.parcels.items ≡ (get_or ts i d).parcels.items ++ boxed ∷ []) where
+  abbrev row : Vec Boxed Global
+  row = (get_or ts i d).parcels
+
+  at-row : slice_get (rows_of ts) i ≡ Some row
+  at-row = get-map (λ (x : Task). x.parcels) ts i (get_or ts i d) (get-or-at ts i d below)
+
+  within : i < length (rows_of ts)
+  within = below-get (rows_of ts) i row at-row
+
+  set-is : rows_of (slice_set ts i t) ≡ slice_set (rows_of ts) i t.parcels
+  set-is = set-map (λ (x : Task). x.parcels) ts i t
+
+  pub waits-more : (p : Parcel) → boxed.value ≡ p → IsPermutation (row_arrivals (rows_of (slice_set ts i t))) (parcel_event p ∷ row_arrivals (rows_of ts))
+  waits-more p is = subst (λ (l : List (Vec Boxed Global)). IsPermutation (row_arrivals l) (parcel_event p ∷ row_arrivals (rows_of ts))) (sym set-is)
+      (row-more (rows_of ts) i row t.parcels boxed p within (sym (get_or-is (rows_of ts) i row row at-row)) more is)
+
+  pub waits-home : (p : Parcel) → boxed.value ≡ p → (net : Net) → home net (parcel_event p) ≡ i → AreAtHome net (rows_of ts) → AreAtHome net (rows_of (slice_set ts i t))
+  waits-home p is net to all = subst (AreAtHome net) (sym set-is)
+      (λ k r under.
+      let same = length-set (rows_of ts) i t.parcels in
+      ⊎_elim
+      (λ (e : k ≡ i).
+      let new : get_or (slice_set (rows_of ts) i t.parcels) k r ≡ t.parcels = ap (λ (n : ℕ). get_or (slice_set (rows_of ts) i t.parcels) n r) e ∙ get_or-set_same (rows_of ts) i t.parcels r within in
+      let theirs : All (λ (b : Boxed). home net (parcel_event b.value) ≡ i) row.items = subst (λ (v : Vec Boxed Global). All (λ (b : Boxed). home net (parcel_event b.value) ≡ i) v.items) (get_or-is (rows_of ts) i row row at-row) (all i row within) in
+      let mine : home net (parcel_event boxed.value) ≡ i = ap (λ (q : Parcel). home net (parcel_event q)) is ∙ to in
+      subst (λ (v : Vec Boxed Global). All (λ (b : Boxed). home net (parcel_event b.value) ≡ k) v.items) (sym new)
+      (subst (λ (n : ℕ). All (λ (b : Boxed). home net (parcel_event b.value) ≡ n) t.parcels.items) (sym e)
+      (subst (All (λ (b : Boxed). home net (parcel_event b.value) ≡ i)) (sym more)
+      (All-append (λ (b : Boxed). home net (parcel_event b.value) ≡ i) row.items (boxed ∷ []) theirs
+      (All-cons (λ (b : Boxed). home net (parcel_event b.value) ≡ i) boxed [] mine (All-nil (λ (b : Boxed). home net (parcel_event b.value) ≡ i)))))))
+      (λ (n : k ≢ i).
+      subst (λ (v : Vec Boxed Global). All (λ (b : Boxed). home net (parcel_event b.value) ≡ k) v.items) (sym (get_or-set_other (rows_of ts) i k t.parcels r n)) (all k r (omega (arith, under, same))))
+      (cases_eq k i))
+
+-- ---- no packet waits
+
+none-wait : (ts : List Task) → ((k : ℕ) (t : Task) → slice_get ts k ≡ Some t → t.parcels.items ≡ []) → row_arrivals (rows_of ts) ≡ []
+none-wait [] none = refl
+none-wait (t ∷ ts) none = ap (λ (l : List Boxed). arrivals l ++ row_arrivals (rows_of ts)) (none 0 t refl) ∙ none-wait ts (λ k u at. none (suc k) u at)
+
+none-away : (net : Net) (ts : List Task) → ((k : ℕ) (t : Task) → slice_get ts k ≡ Some t → t.parcels.items ≡ []) → AreAtHome net (rows_of ts)
+none-away net ts none i row below =
+    let long = length-map ts (λ (t : Task). t.parcels) in
+    let found = get-below ts i (omega arith) in
+    let is : get_or (rows_of ts) i row ≡ found.0.parcels = get_or-is (rows_of ts) i found.0.parcels row (get-map (λ (t : Task). t.parcels) ts i found.0 found.1) in
+    let empty : (get_or (rows_of ts) i row).items ≡ [] = ap (λ (v : Vec Boxed Global). v.items) is ∙ none i found.0 found.1 in
+    λ k b within. absurd (omega (arith, within, ap (λ (l : List Boxed). length l) empty))
+
+-- ---- vectors of the logic
+
+abbrev holding : {X Y : Type 0} → Vec X Global → (ys : List Y) → length ys < 2 ^ 63 → Vec Y Global
+holding v ys few = record { ptr = v.ptr; len = length ys; cap = length ys; alloc = v.alloc; items = ys; ok = (refl, omega arith); small = few }
+
+lists-replicate : {X : Type 0} (n : ℕ) (v : Vec X Global) → lists_of (replicate n v) ≡ replicate n v.items
+lists-replicate zero v = refl
+lists-replicate (suc n) v = ap (λ (l : List (List _)). v.items ∷ l) (lists-replicate n v)
+
+length-replicate : {X : Type 0} (n : ℕ) (x : X) → length (replicate n x) ≡ n
+length-replicate zero x = refl
+length-replicate (suc n) x = ap suc (length-replicate n x)
+
+idle-replicate : (n : ℕ) (w : Worked) → w.done.items ≡ [] → w.spill.items ≡ [] → AreIdle (replicate n w)
+idle-replicate zero w done spill = tt
+idle-replicate (suc n) w done spill = (done, spill, idle-replicate n w done spill)
+
+idle-done : (ws : List Worked) → AreIdle ws → all_done ws ≡ []
+idle-done [] idle = refl
+idle-done (w ∷ ws) idle = ap (λ (l : List Done). l ++ all_done ws) idle.0 ∙ idle-done ws idle.2
+
+took-idle : (n : ℕ) (w : Worked) → w.done.items ≡ [] → took_by (replicate n w) ≡ replicate n []
+took-idle zero w done = refl
+took-idle (suc n) w done = ap (λ (l : List Done). ids_of l ∷ took_by (replicate n w)) done ∙ ap (λ (l : List (List HostId)). [] ∷ l) (took-idle n w done)
+
+replicate-more : {X : Type 0} (n : ℕ) (x : X) → replicate n x ++ x ∷ [] ≡ replicate (suc n) x
+replicate-more zero x = refl
+replicate-more (suc n) x = ap (λ (l : List _). x ∷ l) (replicate-more n x)
+
+lists-more : {X : Type 0} (vs : List (Vec X Global)) (v : Vec X Global) → lists_of (vs ++ v ∷ []) ≡ lists_of vs ++ v.items ∷ []
+lists-more [] v = refl
+lists-more (w ∷ vs) v = ap (λ (l : List (List _)). w.items ∷ l) (lists-more vs v)
+
+-- one empty list more
+pub one-list-more : (first : List HostId) (old new : List (Vec HostId Global)) (v : Vec HostId Global) (n m : ℕ) → m ≡ suc n → new ≡ old ++ v ∷ [] → v.items ≡ []
+    → lists_of old ≡ first ∷ replicate n [] → lists_of new ≡ first ∷ replicate m []
+one-list-more first old new v n m next more empty are =
+    ap lists_of more ∙ lists-more old v ∙ ap (λ (l : List (List HostId)). l ++ v.items ∷ []) are ∙ ap (λ (l : List HostId). first ∷ (replicate n [] ++ l ∷ [])) empty
+    ∙ ap (λ (l : List (List HostId)). first ∷ l) (replicate-more n []) ∙ ap (λ (k : ℕ). first ∷ replicate k []) (sym next)
+
+-- ---- the round
+
+module _ (net : Net) (end : ℕ) (old now : List Task) (a : Alone) (r : AreRunInPlace net end old (length old) now a) (few : length old ≤ 65536) (others : ℕ)
+    (new : Vec Task Global) (p : Pieces) (same : IsSameHosts now new.items)
+    (moved : IsPermutation (row_arrivals (rows_of new.items)) (map parcel_event a.spill.items ++ row_arrivals (rows_of now)))
+    (theirs : (n : Net) → All (λ (q : Parcel). home n (parcel_event q) ≡ q.to.index) a.spill.items → AreAtHome n (rows_of now) → AreAtHome n (rows_of new.items))
+    (outputs_are : p.outputs ≡ a.outputs) (sorted : (all : List (order.Logged Line)) → a.lines.items ≡ map kept_line all → p.lines.items ≡ map kept_line (in_order all))
+    (took_are : lists_of p.took.items ≡ a.took.items ∷ replicate others []) where
+  done-few : length r.ds < 2 ^ 63
+  done-few = let many = r.many in omega arith
+
+  abbrev first : Worked
+  first = record { done = holding a.took r.ds done-few; spill = a.spill }
+
+  abbrev idle : Worked
+  idle = record { done = holding a.took [] (omega arith); spill = holding a.took [] (omega arith) }
+
+  abbrev works : List Worked
+  works = first ∷ replicate others idle
+
+  abbrev rows : List (Vec Boxed Global)
+  rows = replicate (length old) (holding a.took [] (omega arith))
+
+  idle-are : AreIdle (replicate others idle)
+  idle-are = idle-replicate others idle refl refl
+
+  done-are : all_done works ≡ r.ds
+  done-are = ap (λ (l : List Done). r.ds ++ l) (idle-done (replicate others idle) idle-are) ∙ append-nil r.ds
+
+  spilled-are : all_spilled works ≡ a.spill.items
+  spilled-are = ap (λ (l : List Parcel). a.spill.items ++ l) (idle-spills (replicate others idle) idle-are) ∙ append-nil a.spill.items
+
+  rows-empty : lists_of rows ≡ replicate (length old) []
+  rows-empty = lists-replicate (length old) (holding a.took [] (omega arith))
+
+  no-rows : (n : ℕ) → row_arrivals (replicate n (holding a.took [] (omega arith))) ≡ []
+  no-rows zero = refl
+  no-rows (suc n) = no-rows n
+
+  emptied : (k : ℕ) (t : Task) → slice_get now k ≡ Some t → t.parcels.items ≡ []
+  emptied k t at =
+      let below = below-get now k t at in
+      let all = r.all in
+      let many = r.many in
+      let d = get-below r.ds k (omega arith) in
+      let placed = r.places k d.0 d.1 in
+      ap (λ (x : Task). x.parcels.items) (some_is t placed.task (sym at ∙ placed.at)) ∙ placed.emptied
+
+  count : length new.items ≡ length old
+  count = same-length now new.items same ∙ r.all
+
+  abbrev settled : Settled
+  settled = record { tasks = new; pieces = p }
+
+  back-at : (k : ℕ) (d : Done) → slice_get r.ds k ≡ Some d → IsBack settled d
+  back-at k d at =
+      let placed = r.places k d at in
+      let below = below-get r.ds k d at in
+      let many = r.many in
+      let long = count in
+      let found = get-below new.items k (omega arith) in
+      let id : found.0.id ≡ placed.task.id = some_is found.0.id placed.task.id
+      (sym (get-map (λ (t : Task). t.id) new.items k found.0 found.1) ∙ ap (λ (l : List HostId). slice_get l k) same.ids ∙ get-map (λ (t : Task). t.id) now k placed.task placed.at) in
+      let host : found.0.host ≡ placed.task.host = some_is found.0.host placed.task.host
+      (sym (get-map (λ (t : Task). t.host) new.items k found.0 found.1) ∙ ap (λ (l : List (Box Host Global)). slice_get l k) same.hosts ∙ get-map (λ (t : Task). t.host) now k placed.task placed.at) in
+      record {
+        task = found.0;
+        at = ap (slice_get new.items) placed.number ∙ found.1;
+        id = id ∙ placed.id;
+        host = host ∙ placed.host;
+        outputs = ap (slice_get p.outputs.items) placed.number ∙ ap (λ (v : Vec (Vec Output Global) Global). slice_get v.items k) outputs_are
+            ∙ ap (λ (l : List (Vec Output Global)). slice_get l k) r.outputs ∙ get-map (λ (x : Done). x.outputs) r.ds k d at;
+      }
+
+  backs : All (IsBack settled) (all_done works)
+  backs = subst (All (IsBack settled)) (sym done-are)
+      (λ k d below. (let found = get-below r.ds k below in subst (IsBack settled) (sym (get_or-is r.ds k found.0 d found.1)) (back-at k found.0 found.1)))
+
+  has-settled : HasSettled (length old) works rows settled
+  has-settled = record {
+    tasks_count = count;
+    outputs_count = ap (λ (v : Vec (Vec Output Global) Global). length v.items) outputs_are ∙ ap length r.outputs ∙ length-map r.ds (λ (d : Done). d.outputs) ∙ r.many;
+    hosts = backs;
+    home = λ n to at. theirs n (subst (All (λ (q : Parcel). home n (parcel_event q) ≡ q.to.index)) spilled-are to) (none-away n now emptied);
+    packets = subst (λ (l : List Parcel). IsPermutation (row_arrivals (rows_of new.items)) (map parcel_event l ++ row_arrivals rows)) (sym spilled-are)
+        (subst (λ (l : List Event). IsPermutation (row_arrivals (rows_of new.items)) (map parcel_event a.spill.items ++ l)) (none-wait now emptied ∙ sym (no-rows (length old))) moved);
+    lines = λ all is. sorted all (r.lines ∙ sym (ap lines_done done-are) ∙ is);
+    took = took_are ∙ ap (λ (l : List HostId). l ∷ replicate others []) r.took ∙ ap (λ (l : List (List HostId)). ids_of r.ds ∷ l) (sym (took-idle others idle refl));
+  }
+
+  pub in-place : (workers : ℕ) → workers ≡ suc others → IsRoundInPlace net end workers old new p
+  in-place workers is = record {
+    works = works;
+    rows = rows;
+    many = ap suc (length-replicate others idle) ∙ sym is;
+    round = λ rec are. alone-round net end old rec first (replicate others idle) rows (r.run rec are) idle-are rows-empty;
+    settled = has-settled;
+  }
+
+-- as the code has it
+pub whole-round : (net : Net) (end workers : ℕ) (old : Vec Task Global) (opened : List Task) → opened ≡ old.items → (now : List Task) (a : Alone) → AreRunInPlace net end opened (length opened) now a → length old.items ≤ 65536
+    → (again : List Task) → again ≡ (with_items old now).items → (final : List Task) → IsSameHosts again final
+    → IsPermutation (row_arrivals (rows_of final)) (map parcel_event a.spill.items ++ row_arrivals (rows_of again))
+    → ((n : Net) → All (λ (q : Parcel). home n (parcel_event q) ≡ q.to.index) a.spill.items → AreAtHome n (rows_of again) → AreAtHome n (rows_of final))
+    → (p : Pieces) → p.outputs ≡ a.outputs → ((all : List (order.Logged Line)) → a.lines.items ≡ map kept_line all → p.lines.items ≡ map kept_line (in_order all))
+    → 0 < workers → lists_of p.took.items ≡ a.took.items ∷ replicate (workers - 1) [] → IsRoundInPlace net end workers old.items (with_items (with_items old now) final) p
+whole-round net end workers old opened opened_is now a ran few again again_is final same moved theirs p outputs sorted some took =
+    let r : AreRunInPlace net end old.items (length old.items) now a = subst (λ (l : List Task). AreRunInPlace net end l (length l) now a) opened_is ran in
+    let many : length now ≡ old.len = r.all ∙ sym old.ok.0 in
+    let again_now : again ≡ now = again_is ∙ with_items_is old now many in
+    let same_now : IsSameHosts now final = subst (λ (l : List Task). IsSameHosts l final) again_now same in
+    let last : (with_items (with_items old now) final).items ≡ final = with_items_is (with_items old now) final (same-length now final same_now ∙ many) in
+    in-place net end old.items now a r few (workers - 1) (with_items (with_items old now) final) p
+    (subst (IsSameHosts now) (sym last) same_now)
+    (subst (λ (l : List Task). IsPermutation (row_arrivals (rows_of l)) (map parcel_event a.spill.items ++ row_arrivals (rows_of now))) (sym last)
+    (subst (λ (l : List Task). IsPermutation (row_arrivals (rows_of final)) (map parcel_event a.spill.items ++ row_arrivals (rows_of l))) again_now moved))
+    (λ n to at. subst (λ (l : List Task). AreAtHome n (rows_of l)) (sym last) (theirs n to (subst (λ (l : List Task). AreAtHome n (rows_of l)) (sym again_now) at)))
+    outputs sorted took workers (omega arith)

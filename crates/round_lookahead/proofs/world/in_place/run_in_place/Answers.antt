@@ -1,0 +1,45 @@
+use Rattle.std.proofs.Common.{◌≡◌, ◌<◌, ◌+◌, ℕ, suc, List, All, length, get_or, slice_set, ap, sym, subst, arith}
+use Rattle.std.proofs.lemmas.List.Elements.{All-append}
+use Rattle.sim_base.specs.declared.event.Parcel.{Parcel}
+use Rattle.round_lookahead.specs.Alone.{AreRunInPlace}
+use Rattle.round_lookahead.proofs.AloneSteps.{none-placed, placed-more, may-run-here}
+use Rattle.round_lookahead.proofs.PlaceSteps.{get-or-at}
+use Rattle.round_lookahead.proofs.world.in_place.run_in_place.Goals as goal
+
+pub loop-task-init : goal.loop-task-init
+loop-task-init g c =
+    let alone = c.in_ok-alone.ensures in
+    record {
+      few = omega arith;
+      to = λ k d below. absurd (omega (arith, below, ap (λ (l : List Parcel). length l) alone.spill));
+      run = none-placed c.args.net.now c.args.end.nanos c.args.tasks.now c.in_ok-alone.alone alone.outputs alone.lines alone.took alone.spill;
+    }
+
+pub run_here-requires-clause-task : goal.run_here-requires-clause-task
+run_here-requires-clause-task g c =
+    let r = c.loop-task.invariant.run in
+    let within : c.loop-task.task-index < length c.loop-task.tasks = omega (arith, c.loop-task-test.true, r.all) in
+    may-run-here c.args.net.now c.args.end.nanos c.args.tasks.now c.loop-task.tasks c.loop-task.task-index c.loop-task.alone
+    (get_or c.loop-task.tasks c.loop-task.task-index c.task-item.result) c.requires.tasks (get-or-at c.loop-task.tasks c.loop-task.task-index c.task-item.result within) r
+
+pub loop-task-preserved : goal.loop-task-preserved
+loop-task-preserved g c =
+    let i : ℕ = c.loop-task.task-index in
+    let r = c.loop-task.invariant.run in
+    let within : i < length c.loop-task.tasks = omega (arith, c.loop-task-test.true, r.all) in
+    let next : suc i ≡ i + 1 = omega arith in
+    let kept = c.in_ok-keep.ensures in
+    let ran = c.in_ok-out.ensures in
+    record {
+      few = omega (arith, c.loop-task-test.true);
+      to = subst (All (λ (p : Parcel). p.to.index < length c.args.net.now.known.book)) (sym kept.spill)
+          (All-append (λ (p : Parcel). p.to.index < length c.args.net.now.known.book) c.loop-task.alone.spill.items c.in_ok-out.out.parcels.items c.loop-task.invariant.to ran.to);
+      run = subst (λ (n : ℕ). AreRunInPlace c.args.net.now c.args.end.nanos c.args.tasks.now n (slice_set c.loop-task.tasks i c.run_here.new.self) c.keep.new.self) next
+          (placed-more c.args.net.now c.args.end.nanos c.args.tasks.now c.loop-task.tasks i c.loop-task.alone (get_or c.loop-task.tasks i c.task-item.result) c.requires.tasks
+          (get-or-at c.loop-task.tasks i c.task-item.result within) r c.keep.new.self c.run_here.new.self c.in_ok-out.out ran.id ran.emptied ran.run kept);
+    }
+
+pub returns-clause-run : goal.returns-clause-run
+returns-clause-run g c =
+    let all : c.loop-task.task-index ≡ length c.args.tasks.now = omega (arith, c.loop-task-test.false, c.loop-task.invariant.few) in
+    subst (λ (n : ℕ). AreRunInPlace c.args.net.now c.args.end.nanos c.args.tasks.now n c.loop-task.tasks c.loop-task.alone) all c.loop-task.invariant.run

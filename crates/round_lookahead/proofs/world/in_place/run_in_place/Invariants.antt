@@ -1,0 +1,11 @@
+use Rattle.std.proofs.Common.{◌<◌, ◌≤◌, All, length}
+use Rattle.round_lookahead.specs.Alone.{AreRunInPlace}
+use Rattle.round_lookahead.proofs.world.in_place.run_in_place.Given as goal
+
+-- the hosts before the place were run
+abbrev pub invariant-loop-task : goal.invariant-loop-task
+invariant-loop-task g l = record {
+  few : l.task-index ≤ length l.fn.tasks;
+  to : All (λ parcel. parcel.to.index < length l.fn.net.known.book) l.alone.spill.items;
+  run : AreRunInPlace l.fn.net l.fn.end.nanos l.initial.tasks l.task-index l.tasks l.alone;
+}

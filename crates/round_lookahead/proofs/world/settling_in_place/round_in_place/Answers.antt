@@ -1,0 +1,15 @@
+use Rattle.std.proofs.Common.{◌≡◌, ◌<◌, ℕ, All, length, refl, subst, arith}
+use Rattle.sim_base.specs.declared.event.Parcel.{Parcel}
+use Rattle.round_lookahead.proofs.PlaceSteps.{whole-round}
+use Rattle.round_lookahead.proofs.world.settling_in_place.round_in_place.Goals as goal
+
+pub wait_all-requires : goal.wait_all-requires
+wait_all-requires g c =
+    let same : length c.args.net.now.known.book ≡ length c.as_mut_slice-2.result.now = omega (arith, c.requires.tasks.count, c.args.tasks.now.ok.0, c.as_mut_slice-2.ensures.len) in
+    subst (λ (n : ℕ). All (λ (p : Parcel). p.to.index < n) c.in_ok-outputs.field-0.spill.items) same c.in_ok-outputs.ensures.to
+
+pub returns : goal.returns
+returns g c =
+    whole-round c.args.net.now c.args.end.nanos c.args.workers c.args.tasks.now c.as_mut_slice.result.now c.as_mut_slice.ensures.value c.run_in_place.new.tasks c.in_ok-outputs.field-0
+    c.in_ok-outputs.ensures.run c.requires.few c.as_mut_slice-2.result.now c.as_mut_slice-2.ensures.value c.wait_all.new.tasks c.in_ok-wait_all.ensures.hosts c.in_ok-wait_all.ensures.events
+    c.in_ok-wait_all.ensures.theirs _ refl c.in_ok-merge.ensures c.requires.workers c.in_ok-took.ensures

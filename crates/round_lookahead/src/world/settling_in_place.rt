@@ -1,0 +1,61 @@
+//! A round in which each host is run in its place, whole.
+ghost use Rattle.std.specs.Prelude.{◌≡◌, ◌-◌, ◌≤◌, ◌<◌, ◌^◌, ◌∷◌, [], IfOk, length, replicate};
+ghost use Rattle.round_lookahead.specs.Backs.{lists_of};
+ghost use Rattle.round_lookahead.specs.RoundsInPlace.{IsRoundInPlace};
+ghost use Rattle.round_lookahead.specs.Tasks.{AreTasksOf};
+
+use crate::workers::task::Task;
+use crate::world::in_place::{Alone, run_in_place};
+use crate::world::merging::merge;
+use crate::world::pieces::Pieces;
+use crate::world::waiting::wait_all;
+use host_state::Net;
+use sim_base::{HostId, NoMemory, Time};
+use std::alloc::Global;
+use steal_workers::Gate;
+
+/// The hosts that the first of so many workers took; the others took none.
+fn took_first(alloc: Global, first: Vec<HostId>, workers: u32) -> Result<Vec<Vec<HostId>>, NoMemory>
+    requires { 0 < workers }
+    ensures { IfOk result (λ took. lists_of took.items ≡ first.items ∷ replicate (workers - 1) []) }
+{
+    let mut took = Vec::with_capacity(alloc, workers as usize)?;
+    took.push(first)?;
+    for _other in 1..workers {
+        took.push(Vec::new(alloc))?;
+    }
+    Ok(took)
+}
+
+/// Runs the hosts of all tasks up to `end`, each in its place, as the first of so many workers; the packets that they make then
+/// wait for their hosts. Fails for want of memory alone.
+pub(crate) fn round_in_place<G: Gate>(
+    alloc: Global,
+    net: &Net,
+    end: Time,
+    tasks: &mut Vec<Task>,
+    workers: u32,
+    gate: &G,
+) -> Result<Pieces, NoMemory>
+    requires stop { net.now.stop.nanos ≤ 2 ^ 61 }
+    requires until { end.nanos ≤ net.now.stop.nanos }
+    requires workers { 0 < workers }
+    requires few { length tasks.old.items ≤ 65536 }
+    requires tasks { AreTasksOf net.now tasks.old.items }
+    ensures { IfOk result (λ pieces. IsRoundInPlace net.now end.nanos workers tasks.old.items tasks.new pieces) }
+{
+    let Alone {
+        outputs,
+        mut lines,
+        took,
+        spill,
+    } = run_in_place(alloc, net, end, tasks.as_mut_slice(), gate)?;
+    merge(&mut lines)?;
+    wait_all(alloc, tasks.as_mut_slice(), spill)?;
+    let took = took_first(alloc, took, workers)?;
+    Ok(Pieces {
+        outputs,
+        lines,
+        took,
+    })
+}

@@ -1,0 +1,41 @@
+//! Packets wait for the hosts in their places.
+ghost use Rattle.std.specs.Prelude.{◌≡◌, ◌++◌, ◌∷◌, ◌<◌, [], All, OnOk, IsPermutation, length, map};
+ghost use Rattle.host_state.specs.Parcels.{parcel_event};
+ghost use Rattle.host_state.specs.Home.{home};
+ghost use Rattle.host_state.specs.declared.net.Net.{Net};
+ghost use Rattle.round_lookahead.specs.Backs.{row_arrivals, AreAtHome};
+ghost use Rattle.round_lookahead.specs.Waits.{IsSameHosts, rows_of};
+
+use crate::workers::task::Task;
+use sim_base::{NoMemory, Parcel};
+use std::alloc::Global;
+
+/// A packet joins those that wait for its host.
+fn wait_one(alloc: Global, tasks: &mut [Task], parcel: Parcel) -> Result<(), NoMemory>
+    requires { parcel.to.index < length tasks.old }
+    ensures hosts { OnOk result (IsSameHosts tasks.old tasks.new) }
+    ensures events { OnOk result (IsPermutation (row_arrivals (rows_of tasks.new)) (parcel_event parcel ∷ row_arrivals (rows_of tasks.old))) }
+    ensures theirs { OnOk result ((net : Net) → home net (parcel_event parcel) ≡ parcel.to.index → AreAtHome net (rows_of tasks.old) → AreAtHome net (rows_of tasks.new)) }
+{
+    let to = parcel.to.index as usize;
+    let boxed = Box::new(alloc, parcel)?;
+    tasks[to].parcels.push(boxed)?;
+    Ok(())
+}
+
+/// Packets join those that wait for their hosts.
+pub(crate) fn wait_all(
+    alloc: Global,
+    tasks: &mut [Task],
+    parcels: Vec<Parcel>,
+) -> Result<(), NoMemory>
+    requires { All (λ p. p.to.index < length tasks.old) parcels.items }
+    ensures hosts { OnOk result (IsSameHosts tasks.old tasks.new) }
+    ensures events { OnOk result (IsPermutation (row_arrivals (rows_of tasks.new)) (map parcel_event parcels.items ++ row_arrivals (rows_of tasks.old))) }
+    ensures theirs { OnOk result ((net : Net) → All (λ p. home net (parcel_event p) ≡ p.to.index) parcels.items → AreAtHome net (rows_of tasks.old) → AreAtHome net (rows_of tasks.new)) }
+{
+    for parcel in parcels {
+        wait_one(alloc, tasks, parcel)?;
+    }
+    Ok(())
+}
