@@ -4,7 +4,7 @@ use Rattle.std.proofs.Common.{◌-◌, replicate, slice_set, None}
 use Rattle.elf_load.specs.ProgramImage.{ProgramImage}
 use Rattle.guest_mem.specs.Memory.{Memory, low_bytes}
 use Rattle.guest_mem.specs.Opening.{opening}
-use Rattle.host_state.specs.Start.{texts_bytes, pointers, rounded_down, texts_at, words_at, start_words, stack_pointer, word_bytes, filled, start_memory, IsStarted}
+use Rattle.host_state.specs.Start.{texts_bytes, pointers, rounded_down, texts_at, auxiliary_vector, words_at, fixed_words, most_text, start_words, stack_pointer, word_bytes, filled, start_memory, IsStarted}
 
 pub texts_bytes-append : (xs ys : List (List ℕ)) → texts_bytes (xs ++ ys) ≡ texts_bytes xs ++ texts_bytes ys
 texts_bytes-append [] ys = refl
@@ -19,12 +19,12 @@ pub pointers_count : (at : ℕ) (xs : List (List ℕ)) → length (pointers at x
 pointers_count at [] = refl
 pointers_count at (x ∷ xs) = omega (arith, pointers_count (at + (length x + 1)) xs)
 
-pub words_count : (at : ℕ) (arguments environment : List (List ℕ)) → length (words_at at arguments environment) ≡ length arguments + length environment + 7
+pub words_count : (at : ℕ) (arguments environment : List (List ℕ)) → length (words_at at arguments environment) ≡ length arguments + length environment + fixed_words
 words_count at arguments environment =
     omega (
       arith,
-      length-append (pointers at arguments) (0 ∷ (pointers (at + length (texts_bytes arguments)) environment ++ (0 ∷ 6 ∷ 4096 ∷ 0 ∷ 0 ∷ []))),
-      length-append (pointers (at + length (texts_bytes arguments)) environment) (0 ∷ 6 ∷ 4096 ∷ 0 ∷ 0 ∷ []),
+      length-append (pointers at arguments) (0 ∷ (pointers (at + length (texts_bytes arguments)) environment ++ (0 ∷ auxiliary_vector))),
+      length-append (pointers (at + length (texts_bytes arguments)) environment) (0 ∷ auxiliary_vector),
       pointers_count at arguments,
       pointers_count (at + length (texts_bytes arguments)) environment,
     )
@@ -34,8 +34,8 @@ bytes_count [] = refl
 bytes_count (w ∷ ws) = omega (arith, bytes_count ws, length-append (low_bytes 4 w) (word_bytes ws))
 
 -- few texts make few words
-pub words_few : (at : ℕ) (arguments environment : List (List ℕ)) → length (texts_bytes (arguments ++ environment)) ≤ 65536
-    → length (words_at at arguments environment) ≤ 65543
+pub words_few : (at : ℕ) (arguments environment : List (List ℕ)) → length (texts_bytes (arguments ++ environment)) ≤ most_text
+    → length (words_at at arguments environment) ≤ most_text + fixed_words
 words_few at arguments environment few =
     omega (
       arith,

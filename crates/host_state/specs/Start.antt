@@ -21,10 +21,24 @@ rounded_down address = address / 16 * 16
 abbrev pub texts_at : List (List ℕ) → ℕ
 texts_at texts = rounded_down (0xC0000000 - length (texts_bytes texts))
 
--- with texts from an address on: argc, the pointers to the arguments, 0, those to the environment, 0, and two auxiliary pairs: the page size (6), the end (0)
+-- the auxiliary vector (elf.h): the size of a page (AT_PAGESZ), and its end (AT_NULL)
+abbrev pub at_pagesz : ℕ
+at_pagesz = 6
+
+abbrev pub at_null : ℕ
+at_null = 0
+
+abbrev pub auxiliary_vector : List ℕ
+auxiliary_vector = at_pagesz ∷ 4096 ∷ at_null ∷ 0 ∷ []
+
+-- with texts from an address on: argc, the pointers to the arguments, 0, those to the environment, 0, and the auxiliary vector
 abbrev pub words_at : ℕ → List (List ℕ) → List (List ℕ) → List ℕ
 words_at at arguments environment =
-    length arguments ∷ (pointers at arguments ++ (0 ∷ (pointers (at + length (texts_bytes arguments)) environment ++ (0 ∷ 6 ∷ 4096 ∷ 0 ∷ 0 ∷ []))))
+    length arguments ∷ (pointers at arguments ++ (0 ∷ (pointers (at + length (texts_bytes arguments)) environment ++ (0 ∷ auxiliary_vector))))
+
+-- how many words that are beside the pointers
+abbrev pub fixed_words : ℕ
+fixed_words = 7
 
 abbrev pub start_words : List (List ℕ) → List (List ℕ) → List ℕ
 start_words arguments environment = words_at (texts_at (arguments ++ environment)) arguments environment
@@ -36,9 +50,12 @@ stack_pointer arguments environment = rounded_down (texts_at (arguments ++ envir
 abbrev pub word_bytes : List ℕ → List ℕ
 word_bytes words = flat_map (low_bytes 4) words
 
--- arguments and environment take at most so many bytes, with a zero byte after each text
+-- how many bytes arguments and environment take at most, with a zero byte after each text
+abbrev pub most_text : ℕ
+most_text = 65536
+
 abbrev pub texts_fit : List (List ℕ) → List (List ℕ) → Bool
-texts_fit arguments environment = nat_le (length (texts_bytes (arguments ++ environment))) 65536
+texts_fit arguments environment = nat_le (length (texts_bytes (arguments ++ environment))) most_text
 
 -- the memory with these bytes from an address on
 abbrev pub filled : Memory → ℕ → List ℕ → Memory

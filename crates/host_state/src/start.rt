@@ -5,7 +5,7 @@ ghost use Rattle.guest_mem.specs.Opening.{stack_base};
 ghost use Rattle.host_state.specs.Stack.{IsWritable};
 ghost use Rattle.host_state.specs.Start as spec;
 
-use elf_load::Image;
+use elf_load::{Image, PAGE_SIZE};
 use guest_mem::Mem;
 use rv32_machine::Cpu;
 use sim_base::{Bytes, NoMemory};
@@ -23,6 +23,15 @@ const STACK_END: u32 = 0xC000_0000;
 
 /// How many bytes the texts of a process may take, with a zero byte after each.
 const MOST_TEXT: usize = 65_536;
+
+/// The entries of the auxiliary vector (elf.h): the size of a page, and its end.
+const AT_PAGESZ: u32 = 6;
+
+const AT_NULL: u32 = 0;
+
+/// How many words stand beside the pointers: argc, a 0 behind the pointers to the arguments and one behind those to the
+/// environment, and the auxiliary vector.
+const FIXED_WORDS: usize = 7;
 
 fn round_down(address: u32) -> u32
     ensures { result ≡ spec.rounded_down address }
@@ -105,12 +114,13 @@ fn words_at(
     requires { at + length (spec.texts_bytes (arguments.now ++ environment.now)) < 2 ^ 32 }
     ensures { IfOk result (λ words. words.items ≡ spec.words_at at arguments.now environment.now) }
 {
-    let mut words = Vec::new(alloc);
+    let count = arguments.len() + environment.len() + FIXED_WORDS;
+    let mut words = Vec::with_capacity(alloc, count)?;
     words.push(arguments.len() as u32)?;
     let end = add_pointers(&mut words, at, arguments)?;
     words.push(0)?;
     let _ = add_pointers(&mut words, end, environment)?;
-    words.extend_from_slice(&[0, 6, 4096, 0, 0])?;
+    words.extend_from_slice(&[0, AT_PAGESZ, PAGE_SIZE as u32, AT_NULL, 0])?;
     Ok(words)
 }
 
@@ -147,7 +157,7 @@ pub(crate) fn start_guest(
     arguments: &[Bytes],
     environment: &[Bytes],
 ) -> Result<Started, NoMemory>
-    requires { length (spec.texts_bytes (arguments.now ++ environment.now)) ≤ 65536 }
+    requires { length (spec.texts_bytes (arguments.now ++ environment.now)) ≤ spec.most_text }
     ensures { IfOk result (λ started. spec.IsStarted image.now arguments.now environment.now started.cpu started.memory) }
 {
     let texts = all_texts(alloc, arguments, environment)?;
