@@ -25,8 +25,8 @@ use Rattle.host_calls.specs.Events.{arrives, alarmed, ended}
 use Rattle.host_calls.specs.Starting.{task_starts}
 use Rattle.host_state.specs.declared.net.Net.{Net}
 use Rattle.host_state.specs.declared.process.Running.{Running}
-use Rattle.host_state.specs.declared.slice.Step.{Step}
-use Rattle.host_state.specs.declared.slice.Step.TheVariants as step
+use Rattle.host_state.specs.Step.{Step}
+use Rattle.host_state.specs.Step as step
 use Rattle.host_state.specs.declared.start.Started.{Started}
 use Rattle.host_state.specs.Arriving.{is_handed_over, are_handed_over, goes_in, comes_to_router, comes_in, down_comes}
 use Rattle.host_state.specs.Fire.{begins, starts, ready, running_in, is_not_started, kept_by, runs_on, goes_if, goes, is_shut, shutdown_signal, shuts_if, shuts, rings, acts, wakes_if, would_answer, wakes_in, wakes, wakes_from, wakes_all, at_time, has_acted}

@@ -27,8 +27,8 @@ use Rattle.host_state.specs.declared.net.Net.{Net}
 use Rattle.host_sockets.specs.declared.sockets.Sockets.{Sockets}
 use Rattle.host_sockets.specs.StandsFor.{Stand}
 use Rattle.host_state.specs.declared.process.Process.{Process}
-use Rattle.host_state.specs.declared.slice.Step.{Step}
-use Rattle.host_state.specs.declared.slice.Step.TheVariants as step
+use Rattle.host_state.specs.Step.{Step}
+use Rattle.host_state.specs.Step as step
 use Rattle.host_state.specs.HostRecord.{HostRecord}
 use Rattle.host_state.specs.Host.{with_link, with_parts, with_process, settles}
 use Rattle.host_state.specs.Slice.{has_task, number_in, arguments_in, step_of, has_called, calls, closes, is_killed, by_turn_end, turns, with_task, runs_to_call, rests, has_ended, after_step, slice, follows, calls_again, goes_later, pause}

@@ -8,8 +8,8 @@ use Rattle.rv32_machine.specs.Turn.{turn}
 use Rattle.rv32_machine.proofs.TurnLaws.{turn_is}
 use Rattle.host_calls.specs.declared.parts.Task.{Task}
 use Rattle.host_state.specs.declared.net.Net.{Net}
-use Rattle.host_state.specs.declared.slice.Step.{Step}
-use Rattle.host_state.specs.declared.slice.Step.TheVariants as step
+use Rattle.host_state.specs.Step.{Step}
+use Rattle.host_state.specs.Step as step
 use Rattle.host_state.specs.HostRecord.{HostRecord}
 use Rattle.host_state.specs.Slice.{slice, calls, calls_again, follows, after_step, runs_to_call}
 use Rattle.host_state.specs.Stretches.{instructions, stretch, IsSlice, pauses, blocks, ends, answers, IsShortSlice}

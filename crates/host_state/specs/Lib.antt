@@ -18,5 +18,6 @@ pub mod Slice
 pub mod Stack
 pub mod StandsFor
 pub mod Start
+pub mod Step
 pub mod Stretches
 pub mod World

@@ -18,8 +18,8 @@ use Rattle.host_calls.specs.Events.{ended}
 use Rattle.host_calls.specs.Parts.{PartsRecord}
 use Rattle.host_state.specs.declared.net.Net.{Net}
 use Rattle.host_state.specs.declared.process.Process.TheVariants as process
-use Rattle.host_state.specs.declared.slice.Step.{Step}
-use Rattle.host_state.specs.declared.slice.Step.TheVariants as step
+use Rattle.host_state.specs.Step.{Step}
+use Rattle.host_state.specs.Step as step
 use Rattle.host_state.specs.HostRecord.{HostRecord}
 use Rattle.host_state.specs.Link.{makes, later}
 use Rattle.host_state.specs.Host.{with_link, with_parts, with_process, settles}

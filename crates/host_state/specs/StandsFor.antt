@@ -12,7 +12,7 @@ use Rattle.host_calls.specs.Parts.{PartsStand}
 use Rattle.host_state.specs.declared.host.Body.{Body}
 use Rattle.host_state.specs.declared.firing.Made.{Made}
 use Rattle.host_state.specs.declared.line.Line.{Line}
-use Rattle.host_state.specs.declared.slice.Step.{Step}
+use Rattle.host_state.specs.Step.{Step}
 use Rattle.host_state.specs.HostRecord.{HostRecord}
 
 -- all is equal but the sockets; what was written before is not kept

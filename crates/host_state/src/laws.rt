@@ -6,7 +6,7 @@ ghost use Rattle.rv32_machine.specs.declared.cpu.Cpu.{Cpu};
 ghost use Rattle.host_state.specs.declared.host.Host.{Host};
 ghost use Rattle.host_state.specs.declared.net.Net.{Net};
 ghost use Rattle.host_state.specs.declared.row.Row.{Row};
-ghost use Rattle.host_state.specs.declared.slice.Step.TheVariants as step;
+ghost use Rattle.host_state.specs.Step as step;
 ghost use Rattle.host_state.specs.Fits.{FiringsFit, FitsNet, IsEventOf, IsLookaheadOf, IsShort, OpensFit};
 ghost use Rattle.host_state.specs.Home.{home};
 ghost use Rattle.host_state.specs.HostRecord.{HostRecord};

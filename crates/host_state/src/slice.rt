@@ -7,6 +7,8 @@ ghost use Rattle.rv32_machine.specs.Turn.{turn};
 ghost use Rattle.host_state.specs.StandsFor.{Does, DoesStep, TurnStands, SlotTurns};
 ghost use Rattle.host_state.specs.Host as acting;
 ghost use Rattle.host_state.specs.Slice as spec;
+ghost use Rattle.host_state.specs.Step.{step_with};
+ghost use Rattle.host_state.specs.Step as step;
 
 use crate::host::Body;
 use crate::link::later;
@@ -24,11 +26,11 @@ const CALLS: u32 = 100;
 /// How many nanoseconds a process pauses after them.
 const PAUSE: u64 = 100_000;
 
-/// How a process goes on after a call.
-#[derive(Drop)]
-pub enum Step {
-    GoesOn(Cpu),
-    Blocks(Cpu),
+/// How a process goes on after a call. Its registers stay where they stand.
+#[derive(Clone, Copy)]
+pub enum Next {
+    GoesOn,
+    Blocks,
     Ends(State),
 }
 
@@ -59,17 +61,17 @@ fn turn_slot(cpu: &mut Cpu, slot: &mut Option<Task>, budget: u64) -> Option<Turn
     }
 }
 
-/// How a process goes on after a call.
-fn step_of(answer: Answer, mut cpu: Cpu) -> Step
-    ensures { result ≡ spec.step_of answer cpu }
+/// How a process goes on after a call: the value of an answer goes to its registers.
+fn next_of(answer: Answer, cpu: &mut Cpu) -> Next
+    ensures { step_with result cpu.new ≡ spec.step_of answer cpu.old }
 {
     match answer {
         Answer::Value(value) => {
             cpu.x[10] = value;
-            Step::GoesOn(cpu)
+            Next::GoesOn
         }
-        Answer::Block(_) => Step::Blocks(cpu),
-        Answer::End(state) => Step::Ends(state),
+        Answer::Block(_) => Next::Blocks,
+        Answer::End(state) => Next::Ends(state),
     }
 }
 
@@ -89,17 +91,17 @@ impl Body {
         process: u32,
         number: u32,
         arguments: [u32; 6],
-        cpu: Cpu,
-    ) -> Result<Step, NoMemory>
-        ensures { IfOk result (λ step. DoesStep (spec.calls net.now process number arguments cpu) step self.old self.new) }
+        cpu: &mut Cpu,
+    ) -> Result<Next, NoMemory>
+        ensures { IfOk result (λ next. DoesStep (spec.calls net.now process number arguments cpu.old) (step_with next cpu.new) self.old self.new) }
     {
         if !self.has_task(process) {
-            return Ok(Step::Blocks(cpu));
+            return Ok(Next::Blocks);
         }
         let now = self.link.now();
         let answer = do_call(&mut self.parts, &net.known, now, process, number, arguments)?;
         self.settle(net)?;
-        Ok(step_of(answer, cpu))
+        Ok(next_of(answer, cpu))
     }
 
     /// The descriptors of a process are closed.
@@ -116,11 +118,16 @@ impl Body {
     }
 
     /// A process ends by a signal.
-    pub(crate) fn kill(&mut self, net: &Net, process: u32, signal: Signal) -> Result<Step, NoMemory>
-        ensures { IfOk result (λ step. DoesStep (spec.is_killed net.now process signal) step self.old self.new) }
+    pub(crate) fn kill(
+        &mut self,
+        net: &Net,
+        process: u32,
+        signal: Signal,
+    ) -> Result<State, NoMemory>
+        ensures { IfOk result (λ state. DoesStep (spec.is_killed net.now process signal) (step.Ends state) self.old self.new) }
     {
         self.close(net, process)?;
-        Ok(Step::Ends(State::Signaled(signal)))
+        Ok(State::Signaled(signal))
     }
 
     /// A turn of the machine has ended.
@@ -129,9 +136,9 @@ impl Body {
         net: &Net,
         process: u32,
         end: TurnEnd,
-        cpu: Cpu,
-    ) -> Result<Step, NoMemory>
-        ensures { IfOk result (λ step. DoesStep (spec.by_turn_end net.now process end cpu) step self.old self.new) }
+        cpu: &mut Cpu,
+    ) -> Result<Next, NoMemory>
+        ensures { IfOk result (λ next. DoesStep (spec.by_turn_end net.now process end cpu.old) (step_with next cpu.new) self.old self.new) }
     {
         match end {
             TurnEnd::Call => {
@@ -140,30 +147,31 @@ impl Body {
                 let arguments = [x[10], x[11], x[12], x[13], x[14], x[15]];
                 self.call(net, process, number, arguments, cpu)
             }
-            TurnEnd::Trap(signal) => self.kill(net, process, signal),
-            TurnEnd::Spent => self.kill(net, process, Signal::SigXcpu),
+            TurnEnd::Trap(signal) => {
+                let state = self.kill(net, process, signal)?;
+                Ok(Next::Ends(state))
+            }
+            TurnEnd::Spent => {
+                let state = self.kill(net, process, Signal::SigXcpu)?;
+                Ok(Next::Ends(state))
+            }
         }
     }
 
     /// A process runs up to its next call, and calls.
-    fn run_to_call(&mut self, net: &Net, process: u32, cpu: Cpu) -> Result<Step, NoMemory>
-        ensures { IfOk result (λ step. DoesStep (spec.runs_to_call net.now process cpu) step self.old self.new) }
+    fn run_to_call(&mut self, net: &Net, process: u32, cpu: &mut Cpu) -> Result<Next, NoMemory>
+        ensures { IfOk result (λ next. DoesStep (spec.runs_to_call net.now process cpu.old) (step_with next cpu.new) self.old self.new) }
     {
         if !self.has_task(process) {
-            return Ok(Step::Blocks(cpu));
+            return Ok(Next::Blocks);
         }
-        let mut cpu = cpu;
-        let turned = turn_slot(
-            &mut cpu,
-            &mut self.parts.tasks[process as usize],
-            net.budget,
-        );
+        let turned = turn_slot(cpu, &mut self.parts.tasks[process as usize], net.budget);
         match turned {
             Some(end) => {
-                let step = self.end_turn(net, process, end, cpu)?;
-                Ok(step)
+                let next = self.end_turn(net, process, end, cpu)?;
+                Ok(next)
             }
-            None => Ok(Step::Blocks(cpu)),
+            None => Ok(Next::Blocks),
         }
     }
 
@@ -194,7 +202,6 @@ impl Body {
     }
 
     /// A process has ended.
-
     fn end(&mut self, process: u32, state: State)
         ensures { Does (spec.has_ended process state) self.old self.new }
     {
@@ -224,13 +231,13 @@ impl Body {
     {
         let mut running = cpu;
         for _call in 0..calls {
-            match self.run_to_call(net, process, running)? {
-                Step::GoesOn(next) => running = next,
-                Step::Blocks(cpu) => {
-                    self.rest(process, cpu);
+            match self.run_to_call(net, process, &mut running)? {
+                Next::GoesOn => {}
+                Next::Blocks => {
+                    self.rest(process, running);
                     return Ok(());
                 }
-                Step::Ends(state) => {
+                Next::Ends(state) => {
                     self.end(process, state);
                     return Ok(());
                 }
@@ -241,19 +248,19 @@ impl Body {
     }
 
     /// A process goes on after its first call of a slice, or rests, or has ended.
-    fn follow(&mut self, net: &Net, process: u32, step: Step) -> Result<(), NoMemory>
-        ensures { OnOk result (Does (λ h. spec.follows net.now process (step, h)) self.old self.new) }
+    fn follow(&mut self, net: &Net, process: u32, next: Next, cpu: Cpu) -> Result<(), NoMemory>
+        ensures { OnOk result (Does (λ h. spec.follows net.now process (step_with next cpu, h)) self.old self.new) }
     {
-        match step {
-            Step::GoesOn(cpu) => {
+        match next {
+            Next::GoesOn => {
                 self.run(net, process, CALLS - 1, cpu)?;
                 Ok(())
             }
-            Step::Blocks(cpu) => {
+            Next::Blocks => {
                 self.rest(process, cpu);
                 Ok(())
             }
-            Step::Ends(state) => {
+            Next::Ends(state) => {
                 self.end(process, state);
                 Ok(())
             }
@@ -270,8 +277,9 @@ impl Body {
     ) -> Result<(), NoMemory>
         ensures { OnOk result (Does (spec.calls_again net.now process why.number why.args cpu) self.old self.new) }
     {
-        let step = self.call(net, process, why.number, why.args, cpu)?;
-        self.follow(net, process, step)?;
+        let mut running = cpu;
+        let next = self.call(net, process, why.number, why.args, &mut running)?;
+        self.follow(net, process, next, running)?;
         Ok(())
     }
 
@@ -279,8 +287,8 @@ impl Body {
     pub(crate) fn shut(&mut self, net: &Net, process: u32, signal: Signal) -> Result<(), NoMemory>
         ensures { OnOk result (Does (λ h. spec.follows net.now process (spec.is_killed net.now process signal h)) self.old self.new) }
     {
-        let step = self.kill(net, process, signal)?;
-        self.follow(net, process, step)?;
+        let state = self.kill(net, process, signal)?;
+        self.end(process, state);
         Ok(())
     }
 }

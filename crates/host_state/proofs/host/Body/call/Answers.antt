@@ -1,4 +1,5 @@
 use Rattle.std.proofs.Common.{◌≡◌, ◌∙◌, sym, length, nat_lt, true, false, rules}
+use Rattle.host_state.specs.Step.{step_with}
 use Rattle.host_state.proofs.Slices.{called, not_called}
 use Rattle.host_state.proofs.host.Body.call.Goals as goal
 
@@ -6,11 +7,11 @@ pub returns-then-not-has_task : goal.returns-then-not-has_task
 returns-then-not-has_task c =
     let there : nat_lt c.args.process (length c.args.self.now.parts.tasks.items) ≡ false =
     let r : c.has_task.result ≡ false = search rules in sym c.has_task.ensures.is ∙ r in
-    not_called c.args.net.now c.args.process c.args.number c.args.arguments c.args.cpu c.args.self.now there
+    not_called c.args.net.now c.args.process c.args.number c.args.arguments c.args.cpu.now c.args.self.now there
 
 pub returns : goal.returns
 returns c =
     let there : nat_lt c.args.process (length c.args.self.now.parts.tasks.items) ≡ true =
     let r : c.has_task.result ≡ true = search rules in sym c.has_task.ensures.is ∙ r in
-    called c.args.net.now c.args.process c.args.number c.args.arguments c.args.cpu c.args.self.now c.settle.new.self c.now-now.result c.in_ok-answer.answer c.do_call.new.parts
-    c.step_of.result there c.now-now.ensures.time c.in_ok-answer.ensures c.in_ok-settle.ensures c.step_of.ensures
+    called c.args.net.now c.args.process c.args.number c.args.arguments c.args.cpu.now c.args.self.now c.settle.new.self c.now-now.result c.in_ok-answer.answer c.do_call.new.parts
+    (step_with c.next_of.result c.next_of.new.cpu) there c.now-now.ensures.time c.in_ok-answer.ensures c.in_ok-settle.ensures c.next_of.ensures

@@ -1,5 +1,6 @@
 use Rattle.std.proofs.Common.{sym, subst}
-use Rattle.host_state.specs.declared.slice.Step.{Step}
+use Rattle.host_state.specs.declared.slice.Next.{Next}
+use Rattle.host_state.specs.Step.{step_with}
 use Rattle.host_state.specs.Slice.{follows}
 use Rattle.host_state.specs.StandsFor.{Does}
 use Rattle.host_state.specs.HostRecord.{HostRecord}
@@ -8,15 +9,15 @@ use Rattle.host_state.proofs.host.Body.follow.Goals as goal
 
 pub returns-in_ok-run-in-GoesOn : goal.returns-in_ok-run-in-GoesOn
 returns-in_ok-run-in-GoesOn c =
-    subst (λ (x : Step). Does (λ (h : HostRecord). follows c.args.net.now c.args.process (x, h)) c.args.self.now c.run.new.self) (sym c.in-GoesOn.is)
-    (followed_on c.args.net.now c.args.process c.in-GoesOn.cpu c.args.self.now c.run.new.self c.in_ok-run-in-GoesOn.ensures)
+    subst (λ (x : Next). Does (λ (h : HostRecord). follows c.args.net.now c.args.process (step_with x c.args.cpu, h)) c.args.self.now c.run.new.self) (sym c.in-GoesOn.is)
+    (followed_on c.args.net.now c.args.process c.args.cpu c.args.self.now c.run.new.self c.in_ok-run-in-GoesOn.ensures)
 
 pub returns-in-Blocks : goal.returns-in-Blocks
 returns-in-Blocks c =
-    subst (λ (x : Step). Does (λ (h : HostRecord). follows c.args.net.now c.args.process (x, h)) c.args.self.now c.rest.new.self) (sym c.in-Blocks.is)
-    (followed_blocked c.args.net.now c.args.process c.in-Blocks.cpu c.args.self.now c.rest.new.self c.rest.ensures)
+    subst (λ (x : Next). Does (λ (h : HostRecord). follows c.args.net.now c.args.process (step_with x c.args.cpu, h)) c.args.self.now c.rest.new.self) (sym c.in-Blocks.is)
+    (followed_blocked c.args.net.now c.args.process c.args.cpu c.args.self.now c.rest.new.self c.rest.ensures)
 
 pub returns-in-Ends : goal.returns-in-Ends
 returns-in-Ends c =
-    subst (λ (x : Step). Does (λ (h : HostRecord). follows c.args.net.now c.args.process (x, h)) c.args.self.now c.end.new.self) (sym c.in-Ends.is)
+    subst (λ (x : Next). Does (λ (h : HostRecord). follows c.args.net.now c.args.process (step_with x c.args.cpu, h)) c.args.self.now c.end.new.self) (sym c.in-Ends.is)
     (followed_ended c.args.net.now c.args.process c.in-Ends.state c.args.self.now c.end.new.self c.end.ensures)

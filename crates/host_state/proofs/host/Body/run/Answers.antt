@@ -1,8 +1,7 @@
 use Rattle.std.proofs.Common.{◌≡◌, ◌+◌, ◌-◌, ℕ, suc, sym, ap, ◌∙◌, arith}
-use Rattle.host_state.specs.declared.slice.Step.TheVariants as step
-use Rattle.host_state.specs.declared.slice.Step.{Step}
-use Rattle.host_state.specs.Slice.{slice, runs_to_call}
-use Rattle.host_state.specs.StandsFor.{DoesStep}
+use Rattle.host_state.specs.declared.slice.Next.{Next}
+use Rattle.host_state.specs.Slice.{slice}
+use Rattle.host_state.specs.Step.{step_with}
 use Rattle.host_state.proofs.Slices.{goes_on, slice_blocks, slice_ends, slice_pauses, same_step}
 use Rattle.host_state.proofs.host.Body.run.Goals as goal
 
@@ -14,20 +13,20 @@ loop-call-init c = λ h s.
 pub loop-call-preserved : goal.loop-call-preserved
 loop-call-preserved c = λ h s.
     let counted : c.args.calls - c.loop-call._call ≡ suc (c.args.calls - (c.loop-call._call + 1)) = omega arith in
-    goes_on c.args.net.now c.args.process _ _ c.loop-call.running c.in-GoesOn.next c.loop-call.self c.run_to_call.new.self _ counted (c.loop-call.invariant h s)
-    (same_step _ _ _ _ _ c.in-GoesOn.is c.in_ok-next.ensures)
+    goes_on c.args.net.now c.args.process _ _ c.loop-call.running c.run_to_call.new.cpu c.loop-call.self c.run_to_call.new.self _ counted (c.loop-call.invariant h s)
+    (same_step _ _ _ _ _ (ap (λ (n : Next). step_with n c.run_to_call.new.cpu) c.in-GoesOn.is) c.in_ok-run_to_call.ensures)
 
 pub returns-in-Blocks : goal.returns-in-Blocks
 returns-in-Blocks c = λ h s.
     let counted : c.args.calls - c.loop-call._call ≡ suc (c.args.calls - (c.loop-call._call + 1)) = omega arith in
-    slice_blocks c.args.net.now c.args.process _ _ c.loop-call.running c.in-Blocks.cpu c.loop-call.self c.run_to_call.new.self _ _ counted (c.loop-call.invariant h s)
-    (same_step _ _ _ _ _ c.in-Blocks.is c.in_ok-next.ensures) c.rest.ensures
+    slice_blocks c.args.net.now c.args.process _ _ c.loop-call.running c.run_to_call.new.cpu c.loop-call.self c.run_to_call.new.self _ _ counted (c.loop-call.invariant h s)
+    (same_step _ _ _ _ _ (ap (λ (n : Next). step_with n c.run_to_call.new.cpu) c.in-Blocks.is) c.in_ok-run_to_call.ensures) c.rest.ensures
 
 pub returns-in-Ends : goal.returns-in-Ends
 returns-in-Ends c = λ h s.
     let counted : c.args.calls - c.loop-call._call ≡ suc (c.args.calls - (c.loop-call._call + 1)) = omega arith in
     slice_ends c.args.net.now c.args.process _ _ c.loop-call.running c.in-Ends.state c.loop-call.self c.run_to_call.new.self _ _ counted (c.loop-call.invariant h s)
-    (same_step _ _ _ _ _ c.in-Ends.is c.in_ok-next.ensures) c.end.ensures
+    (same_step _ _ _ _ _ (ap (λ (n : Next). step_with n c.run_to_call.new.cpu) c.in-Ends.is) c.in_ok-run_to_call.ensures) c.end.ensures
 
 pub returns : goal.returns
 returns c = λ h s.

@@ -1,5 +1,6 @@
 use Rattle.std.proofs.Common.{◌≡◌, ◌∙◌, sym, refl, length, nat_lt, slice_get, slice_set, Some, true, false, ◌<◌, rules, tests}
 use Rattle.std.proofs.lemmas.Option.{slice_get_read}
+use Rattle.host_state.specs.Step.{step_with}
 use Rattle.host_state.proofs.Slices.{ran, not_ran, none_ran}
 use Rattle.host_state.proofs.host.Body.run_to_call.Goals as goal
 
@@ -7,17 +8,17 @@ pub returns-then-not-has_task : goal.returns-then-not-has_task
 returns-then-not-has_task c =
     let there : nat_lt c.args.process (length c.args.self.now.parts.tasks.items) ≡ false =
     let r : c.has_task.result ≡ false = search rules in sym c.has_task.ensures.is ∙ r in
-    none_ran c.args.net.now c.args.process c.args.cpu c.args.self.now there
+    none_ran c.args.net.now c.args.process c.args.cpu.now c.args.self.now there
 
-pub returns-in_ok-step-in-Some : goal.returns-in_ok-step-in-Some
-returns-in_ok-step-in-Some c =
+pub returns-in_ok-next-in-Some : goal.returns-in_ok-next-in-Some
+returns-in_ok-next-in-Some c =
     let known : nat_lt c.args.process (length c.args.self.now.parts.tasks.items) ≡ true =
     let r : c.has_task.result ≡ true = search rules in sym c.has_task.ensures.is ∙ r in
     let within : c.args.process < length c.args.self.now.parts.tasks.items = search (rules, tests) in
     let there : slice_get c.args.self.now.parts.tasks.items c.args.process ≡ Some c.index_mut.result.now =
     slice_get_read c.args.self.now.parts.tasks.items _ c.args.process c.index_mut.result.now refl within c.index_mut.ensures.value in
-    ran c.args.net.now c.args.process c.args.cpu c.turn_slot-turned.new.cpu c.args.self.now _ c.end_turn.new.self c.in-Some.end c.in_ok-step-in-Some.step
-    c.in_ok-step-in-Some.ensures refl refl refl refl refl c.index_mut.result.now c.turn_slot-turned.new.slot there refl c.in-Some.ensures
+    ran c.args.net.now c.args.process c.args.cpu.now c.turn_slot-turned.new.cpu c.args.self.now _ c.end_turn.new.self c.in-Some.end (step_with c.in_ok-next-in-Some.next c.end_turn.new.cpu)
+    c.in_ok-next-in-Some.ensures refl refl refl refl refl c.index_mut.result.now c.turn_slot-turned.new.slot there refl c.in-Some.ensures
 
 pub returns-in-None : goal.returns-in-None
 returns-in-None c =
@@ -26,5 +27,5 @@ returns-in-None c =
     let within : c.args.process < length c.args.self.now.parts.tasks.items = search (rules, tests) in
     let there : slice_get c.args.self.now.parts.tasks.items c.args.process ≡ Some c.index_mut.result.now =
     slice_get_read c.args.self.now.parts.tasks.items _ c.args.process c.index_mut.result.now refl within c.index_mut.ensures.value in
-    not_ran c.args.net.now c.args.process c.args.cpu c.turn_slot-turned.new.cpu c.args.self.now _
+    not_ran c.args.net.now c.args.process c.args.cpu.now c.turn_slot-turned.new.cpu c.args.self.now _
     refl refl refl refl refl c.index_mut.result.now c.turn_slot-turned.new.slot there refl c.in-None.ensures
