@@ -53,7 +53,11 @@ fn all_descriptors_taken(rt: HostRuntime) -> Result<(), Fail> {
 
 #[test]
 fn times_and_timers(rt: HostRuntime) -> Result<(), Fail> {
-    for script in [times::TIMES.as_slice(), times::TIMERS.as_slice()] {
+    for script in [
+        times::TIMES.as_slice(),
+        times::TIMERS.as_slice(),
+        times::POLLED.as_slice(),
+    ] {
         let failed = failed(rt.alloc(), 0, script)?;
         assert!(rt; failed.is_none(), "{failed:?}");
     }

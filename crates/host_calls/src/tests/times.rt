@@ -223,3 +223,40 @@ pub(super) static TIMERS: [Step; 86] = [
     At(1_000_000_001),
     Call(63, [4, 0x10300, 8, 0, 0, 0], 8),
 ];
+
+/// A timer in polls, whose entry asks for `POLLIN` and `POLLOUT`.
+pub(super) static POLLED: [Step; 28] = [
+    Call(85, [1, 0, 0, 0, 0, 0], 3),
+    Put(0x10100, &[3, 0, 0, 0, 5, 0, 9, 9]),
+    // It is off. The time of this poll is 0.
+    Call(414, [0x10100, 1, 0x10040, 0, 0, 0], 0),
+    Has(0x10104, &[5, 0, 0, 0]),
+    // It expires at 1 ms, and from then on can be read.
+    Put(0x10018, &[0x40, 0x42, 0x0F]),
+    Call(411, [3, 0, 0x10000, 0, 0, 0], 0),
+    Waits(414, [0x10100, 1, 0, 0, 0, 0], None),
+    Answers(false),
+    At(999_999),
+    Answers(false),
+    At(1_000_000),
+    Answers(true),
+    Call(414, [0x10100, 1, 0, 0, 0, 0], 1),
+    Has(0x10104, &[5, 0, 1, 0]),
+    At(2_000_000),
+    Call(414, [0x10100, 1, 0x10040, 0, 0, 0], 1),
+    // Its count is taken.
+    Call(63, [3, 0x10300, 8, 0, 0, 0], 8),
+    Call(414, [0x10100, 1, 0x10040, 0, 0, 0], 0),
+    Has(0x10104, &[5, 0, 0, 0]),
+    // It expires at 3 ms, and setting it clears its count.
+    Call(411, [3, 0, 0x10000, 0, 0, 0], 0),
+    At(3_000_000),
+    Call(414, [0x10100, 1, 0x10040, 0, 0, 0], 1),
+    Call(411, [3, 0, 0x10000, 0, 0, 0], 0),
+    Call(414, [0x10100, 1, 0x10040, 0, 0, 0], 0),
+    // It can't be written.
+    Put(0x10104, &[4]),
+    Waits(414, [0x10100, 1, 0, 0, 0, 0], None),
+    At(4_000_000),
+    Answers(false),
+];
