@@ -99,7 +99,7 @@ hosts:
     network_node_id: 3
 "#;
 
-/// A run of a configuration over the script guest.
+/// A run of a configuration over the script guest, which shows the same with 1, 2, 7 and 64 workers.
 pub fn ran(
     rt: &(impl Abort + Threads + Sync + AllocGlobal),
     line: &[&str],
@@ -118,6 +118,13 @@ pub fn ran(
     )?;
     let mut sink = MemSink::new(alloc);
     let status = shadow(rt, &line, 1, &mut source, &mut sink, &OpenGate);
+    let shown = format!(in alloc; "{sink:?}")?;
+    for workers in [2, 7, 64] {
+        let mut other = MemSink::new(alloc);
+        let told = shadow(rt, &line, workers, &mut source, &mut other, &OpenGate);
+        assert_eq!(rt; told, status, "{workers} workers");
+        assert_eq!(rt; format!(in alloc; "{other:?}")?, shown, "{workers} workers");
+    }
     Ok((status, sink))
 }
 
