@@ -5,8 +5,11 @@ ghost use Rattle.std.specs.Prelude.{◌≤◌, ◌^◌};
 ghost use Rattle.std.specs.Bool.{OnTrue};
 ghost use Rattle.host_state.specs.Fits.{FitsNet};
 
-use crate::{FinalState, Host, Logged, Net, Outbox, ProcessRow, Row};
+mod endless;
+
+use crate::{FinalState, Host, Logged, Net, Outbox, Process, ProcessRow, Row};
 use elf_load::load;
+use endless::ENDLESS;
 use gml_graph::read_gml;
 use host_calls::{Known, Output};
 use net_iface::QueueRule;
@@ -23,21 +26,33 @@ const HEAD: [u32; 17] = [
     1, 0, 0x10000, 0x10000,
 ];
 
-/// Makes the calls of a table at 0x10100, each a number and six arguments, and lays each answer in
-/// its number's place; at a number 0 it writes the table to 1 and exits with 0. The first call is
-/// its 11th instruction, each further one the 12th after the one before it, and the write behind the
+/// Where the table of calls begins.
+const TABLE: u32 = 0x10120;
+
+/// Makes the calls of the table, each a number and six arguments, and lays each answer in its
+/// number's place; at a number 0 it writes the table to 1 and exits with 0. The first call is its
+/// 11th instruction, each further one the 12th after the one before it, and the write behind the
 /// last call the 11th.
 const PLAYER: [u32; 23] = [
-    0x00010437, 0x10040413, 0x00042883, 0x02088663, 0x00442503, 0x00842583, 0x00c42603, 0x01042683,
-    0x01442703, 0x01842783, 0x00000073, 0x00a42023, 0x01c40413, 0xfd5ff06f, 0x000105b7, 0x10058593,
+    0x00010437, 0x12040413, 0x00042883, 0x02088663, 0x00442503, 0x00842583, 0x00c42603, 0x01042683,
+    0x01442703, 0x01842783, 0x00000073, 0x00a42023, 0x01c40413, 0xfd5ff06f, 0x000105b7, 0x12058593,
     0x40b40633, 0x00100513, 0x04000893, 0x00000073, 0x05d00893, 0x00000513, 0x00000073,
 ];
 
-/// From 0x100B0: addresses 11.0.0.2:7000 and 11.0.0.2:80, spans of 15 ms and of 10,000,001 ns, and
-/// an entry of `ppoll` that asks whether descriptor 3 can be read.
-const DATA: [u32; 20] = [
+/// Makes the calls of the table, and counts them in register 9; at a number 0 it goes on at the
+/// address behind that.
+const REPEATER: [u32; 23] = [
+    0x00010437, 0x12040413, 0x00042883, 0x02088663, 0x00442503, 0x00842583, 0x00c42603, 0x01042683,
+    0x01442703, 0x01842783, 0x00148493, 0x00000073, 0x01c40413, 0xfd5ff06f, 0x00442403, 0xfcdff06f,
+    0, 0, 0, 0, 0, 0, 0,
+];
+
+/// From 0x100B0: addresses 11.0.0.2:7000 and 11.0.0.2:80, spans of 15 ms and of 10,000,001 ns, an
+/// entry of `ppoll` that asks whether descriptor 3 can be read, and addresses 127.0.0.1:7001 and
+/// 127.0.0.1:7002.
+const DATA: [u32; 28] = [
     0x581b0002, 0x0200000b, 0, 0, 0x50000002, 0x0200000b, 0, 0, 0, 0, 15_000_000, 0, 0, 0,
-    10_000_001, 0, 3, 1, 0, 0,
+    10_000_001, 0, 3, 1, 0, 0, 0x591b0002, 0x0100007f, 0, 0, 0x5a1b0002, 0x0100007f, 0, 0,
 ];
 
 const PEER: u32 = 0x100B0;
@@ -49,6 +64,10 @@ const SHORT: u32 = 0x100D0;
 const MOMENT: u32 = 0x100E0;
 
 const READABLE: u32 = 0x100F0;
+
+const FIRST: u32 = 0x10100;
+
+const SECOND: u32 = 0x10110;
 
 /// Zero bytes, which may be written.
 const SCRATCH: u32 = 0x1F000;
@@ -83,29 +102,35 @@ const WRITE_CLOCK: Calls = (1, [64, 1, SCRATCH, 16, 0, 0, 0], 16);
 /// So many lines of this kind: a time, a host, an act and a size.
 type Lines = (u32, (u64, u32, Act, u64));
 
-/// A host with one process.
+/// A process, and the lane of its host.
 #[derive(Clone, Copy)]
 struct Guest {
-    /// Bits a second of its lane to the network.
+    /// Bits a second of the lane to the network.
     up: u64,
     shutdown: Option<u64>,
     calls: &'static [Calls],
+    /// The place of the call that follows the last, where the process makes calls for ever.
+    again: Option<u32>,
+    /// How many calls such a process has made in the end.
+    made: u32,
     /// What the process is in the end.
     state: State,
     /// The clock that it writes, in seconds and nanoseconds.
     clock: Option<(u64, u64)>,
 }
 
-/// A host whose process does nothing.
+/// A process that does nothing.
 const IDLE: Guest = Guest {
     up: 1_000_000_000,
     shutdown: None,
     calls: &[],
+    again: None,
+    made: 0,
     state: State::Exited(0),
     clock: None,
 };
 
-/// A host that sends one datagram at 0.
+/// A process that sends one datagram at 0.
 const SENDER: Guest = Guest {
     calls: &[UDP, (1, SEND, 4)],
     ..IDLE
@@ -114,12 +139,17 @@ const SENDER: Guest = Guest {
 /// Two hosts, 11.0.0.1 and 11.0.0.2, 10 ms apart.
 #[derive(Clone, Copy)]
 struct Play {
+    /// Processes of the first host and of the second one, in turn.
     guests: &'static [Guest],
     graph: &'static str,
     bootstrap_end: u64,
     stop: u64,
     budget: u64,
     lines: &'static [Lines],
+    /// How many times the lines come, and how much later each time.
+    rounds: (u64, u64),
+    /// The number of the first host's next event, behind those that start its processes.
+    next: Option<u64>,
 }
 
 const SURE: &str =
@@ -138,10 +168,12 @@ const PLAY: Play = Play {
     stop: 1_000_000_000,
     budget: 10_000_000,
     lines: &[],
+    rounds: (1, 0),
+    next: None,
 };
 
 /// What hosts do with packets.
-static NETWORK: [Play; 5] = [
+static NETWORK: [Play; 6] = [
     // The network is set up by 50,000 ns: of three packets before nothing is lost, and they spend
     // none of the lane's 1625 bytes. Of three after it the second and third wait for 125 bytes a ms.
     Play {
@@ -248,6 +280,22 @@ static NETWORK: [Play; 5] = [
             (1, (40_000_001, 0, Act::Send, 40)),
             (1, (50_000_001, 1, Act::Recv, 40)),
         ],
+        ..PLAY
+    },
+    // The first packet takes the last number, and for the second one there is none.
+    Play {
+        guests: &[
+            Guest {
+                calls: &[UDP, (2, SEND, 4)],
+                ..IDLE
+            },
+            IDLE,
+        ],
+        lines: &[
+            (2, (0, 0, Act::Send, 32)),
+            (1, (10_000_000, 1, Act::NoPort, 32)),
+        ],
+        next: Some(u64::MAX - 1),
         ..PLAY
     },
     // Where all packets are lost a connect sends seven times, and gives up.
@@ -409,13 +457,23 @@ fn table(alloc: Global, calls: &[Calls], is_answered: bool) -> Result<Vec<u8>, F
     Ok(table)
 }
 
-/// The file of the player with a table of calls.
-fn file(alloc: Global, calls: &[Calls]) -> Result<Vec<u8>, Fail> {
-    let mut table = table(alloc, calls, false)?;
+/// The program of a process, and the address of the call that follows the last.
+fn program(guest: &Guest) -> ([u32; 23], u32) {
+    match guest.again {
+        Some(place) => (REPEATER, place.wrapping_mul(28).wrapping_add(TABLE)),
+        None => (PLAYER, 0),
+    }
+}
+
+/// The file of a process, with its table of calls.
+fn file(alloc: Global, guest: &Guest) -> Result<Vec<u8>, Fail> {
+    let (code, next) = program(guest);
+    let mut table = table(alloc, guest.calls, false)?;
     table.extend_from_slice(&[0; 4])?;
-    let size = u32::try_from(table.len()).unwrap_or(0).wrapping_add(0x100);
+    table.extend_from_slice(&next.to_le_bytes())?;
+    let size = u32::try_from(table.len()).unwrap_or(0).wrapping_add(0x120);
     let mut file = Vec::new(alloc);
-    for words in [&HEAD[..], &[size, 0x10000, 7, 4096], &PLAYER, &DATA] {
+    for words in [&HEAD[..], &[size, 0x10000, 7, 4096], &code, &DATA] {
         for word in words {
             file.extend_from_slice(&word.to_le_bytes())?;
         }
@@ -450,7 +508,7 @@ fn net(rt: &(impl Threads + Sync + AllocGlobal), play: &Play) -> Result<Option<N
     };
     let mut images = Vec::new(alloc);
     for guest in play.guests {
-        let Ok(image) = load(alloc, &file(alloc, guest.calls)?) else {
+        let Ok(image) = load(alloc, &file(alloc, guest)?) else {
             return Ok(None);
         };
         images.push(image)?;
@@ -474,23 +532,35 @@ fn net(rt: &(impl Threads + Sync + AllocGlobal), play: &Play) -> Result<Option<N
     }))
 }
 
-fn row(alloc: Global, index: u32, address: Ip, guest: &Guest) -> Result<Row, Fail> {
-    let mut processes = Vec::new(alloc);
-    processes.push(ProcessRow {
+/// A process whose image is that at a place.
+fn process(alloc: Global, image: usize, guest: &Guest) -> Result<ProcessRow, Fail> {
+    Ok(ProcessRow {
         path: Name::from_str(alloc, "player")?,
-        image: index as usize,
+        image,
         arguments: Vec::new(alloc),
         environment: Vec::new(alloc),
         start: Time { nanos: 0 },
         shutdown: guest.shutdown.map(|nanos| Time { nanos }),
         shutdown_signal: Signal::SigTerm,
         expected: FinalState::Running,
-    })?;
+    })
+}
+
+/// The host with a number, with every second process.
+fn row(alloc: Global, index: u32, address: Ip, guests: &[Guest]) -> Result<Row, Fail> {
+    let mut processes = Vec::new(alloc);
+    let mut up = 0;
+    for (place, guest) in guests.iter().enumerate() {
+        if place % 2 == index as usize {
+            processes.push(process(alloc, place, guest)?)?;
+            up = guest.up;
+        }
+    }
     Ok(Row {
         host: HostId { index },
         name: Name::from_str(alloc, "host")?,
         address,
-        bandwidth_up: guest.up,
+        bandwidth_up: up,
         bandwidth_down: 1_000_000_000,
         router_queue: QueueRule::Fifo,
         seed: 1,
@@ -577,6 +647,29 @@ fn turn(
     Ok(true)
 }
 
+/// The lines of the log of a play.
+fn wanted(alloc: Global, play: &Play) -> Result<Vec<(u64, u32, Act, u64)>, Fail> {
+    let mut wanted = Vec::new(alloc);
+    let (rounds, later) = play.rounds;
+    for round in 0..rounds {
+        for (count, (time, host, act, size)) in play.lines {
+            let time = round.wrapping_mul(later).wrapping_add(*time);
+            for _time in 0..*count {
+                wanted.push((time, *host, *act, *size))?;
+            }
+        }
+    }
+    Ok(wanted)
+}
+
+/// How many calls a process has made that makes them for ever.
+fn made(seen: &Seen, process: u32) -> u32 {
+    match seen.host.body.processes.get(process as usize) {
+        Some(Process::Running(running)) => running.cpu.x[9],
+        _ => 0,
+    }
+}
+
 fn plays(rt: &(impl Abort + Threads + Sync + AllocGlobal), plays: &[Play]) -> Result<(), Fail> {
     let alloc = rt.alloc();
     for play in plays {
@@ -584,11 +677,14 @@ fn plays(rt: &(impl Abort + Threads + Sync + AllocGlobal), plays: &[Play]) -> Re
             return Err(Fail::new("no net"));
         };
         let mut hosts = Vec::new(alloc);
-        for ((guest, address), index) in play.guests.iter().zip(ADDRESSES).zip(0..) {
-            let row = row(alloc, index, address, guest)?;
+        for (index, address) in (0..2).zip(ADDRESSES) {
+            let row = row(alloc, index, address, play.guests)?;
             if let Some(seen) = open(alloc, &net, row)? {
                 hosts.push(seen)?;
             }
+        }
+        if let (Some(seen), Some(next)) = (hosts.first_mut(), play.next) {
+            seen.host.body.link.skip_to(next);
         }
         let mut lines = Vec::new(alloc);
         for _turn in 0..1_000_000 {
@@ -596,16 +692,15 @@ fn plays(rt: &(impl Abort + Threads + Sync + AllocGlobal), plays: &[Play]) -> Re
                 break;
             }
         }
-        let mut wanted = Vec::new(alloc);
-        for (count, line) in play.lines {
-            for _time in 0..*count {
-                wanted.push(*line)?;
+        assert_eq!(rt; lines, wanted(alloc, play)?);
+        assert_eq!(rt; hosts.len(), 2);
+        for (guest, place) in play.guests.iter().zip(0u32..) {
+            if let Some(seen) = hosts.get((place % 2) as usize) {
+                assert_eq!(rt; seen.host.state(place / 2), guest.state);
+                assert_eq!(rt; made(seen, place / 2), guest.made);
             }
         }
-        assert_eq!(rt; lines, wanted);
-        assert_eq!(rt; hosts.len(), 2);
         for (seen, guest) in hosts.iter().zip(play.guests) {
-            assert_eq!(rt; seen.host.state(0), guest.state);
             assert_eq!(rt; seen.written, writes(alloc, guest)?);
         }
     }
@@ -615,6 +710,11 @@ fn plays(rt: &(impl Abort + Threads + Sync + AllocGlobal), plays: &[Play]) -> Re
 #[test]
 fn packets_pass_lanes_and_routes(rt: HostRuntime) -> Result<(), Fail> {
     plays(&rt, &NETWORK)
+}
+
+#[test]
+fn processes_make_calls_for_ever(rt: HostRuntime) -> Result<(), Fail> {
+    plays(&rt, &ENDLESS)
 }
 
 #[test]
@@ -668,7 +768,7 @@ fn a_host_runs_up_to_a_time(rt: HostRuntime) -> Result<(), Fail> {
     let Some(net) = net(&rt, &PAUSE)? else {
         return Err(Fail::new("no net"));
     };
-    let row = row(alloc, 0, ADDRESSES[0], &PAUSES)?;
+    let row = row(alloc, 0, ADDRESSES[0], PAUSE.guests)?;
     let due = Time { nanos: 100_000 };
     let past = Time { nanos: 100_001 };
     assert_eq!(rt;
