@@ -71,3 +71,22 @@ parts-more f xs i x below is =
 
 pub events-more : {X : Type 0} (f : X → Event) (xs : List X) (i : ℕ) (x : X) → i < length xs → x ≡ get_or xs i x → map f (take (i + 1) xs) ≡ map f (take i xs) ++ f x ∷ []
 events-more f xs i x below is = map_more f xs i x below ∙ ap (λ y. map f (take i xs) ++ f y ∷ []) (sym is)
+
+-- ---- before a stop
+
+-- some event is due before the stop where the least is, and else none is
+pub some-before : (es : List Event) (least : Time) (stop : ℕ) → IsLeastDue es (Some least) → least.nanos < stop → Any (λ (e : Event). e.key.due.nanos < stop) es
+some-before es least stop due before =
+    let first = any-in (IsDue least) es due.0 in
+    let is : first.0.key.due.nanos ≡ least.nanos = ap (λ (t : Time). t.nanos) first.2 in
+    in-any (λ (e : Event). e.key.due.nanos < stop) es first.0 first.1 (omega arith)
+
+pub none-before : (es : List Event) (least : Time) (stop : ℕ) → IsLeastDue es (Some least) → stop ≤ least.nanos → Any (λ (e : Event). e.key.due.nanos < stop) es → ⊥
+none-before es least stop due late early =
+    let first = any-in (λ (e : Event). e.key.due.nanos < stop) es early in
+    let before : first.0.key.due.nanos < stop = first.2 in
+    let from : least.nanos ≤ first.0.key.due.nanos = Each-from_All (IsFrom least) es due.1 first.0 first.1 in
+    omega arith
+
+pub none-there : (es : List Event) (stop : ℕ) → es ≡ [] → Any (λ (e : Event). e.key.due.nanos < stop) es → ⊥
+none-there es stop none early = (any-in (λ (e : Event). e.key.due.nanos < stop) [] (subst (Any (λ (e : Event). e.key.due.nanos < stop)) none early)).1

@@ -19,7 +19,11 @@ pub mod SettleSteps
 pub mod PlaceSteps
 pub mod RunSteps
 pub mod WorldSteps
+pub mod CountSteps
+pub mod RowsKept
+pub mod Extending
 pub mod WorldRounds
 pub mod WorldGains
 pub mod WorldOpenings
+pub mod Reaching
 pub mod RunLemmas

@@ -1,14 +1,10 @@
 -- Rounds one after another make up the run.
-use Rattle.std.proofs.Common.{◌≡◌, ℕ, zero, suc, ◌-◌, ◌<◌, ◌≤◌, min, inl, inr, List, [], ◌∷◌, ◌++◌, Option, Some, None, All, map, flat_map, length, replicate, slice_get, refl, sym, ap, subst, ◌∙◌, arith, Vec}
+use Rattle.std.proofs.Common.{◌≡◌, ℕ, zero, suc, ◌+◌, ◌-◌, ◌≤◌, List, [], ◌∷◌, ◌++◌, Some, None, All, map, flat_map, length, replicate, slice_get, refl, sym, ap, subst, ◌∙◌, arith, Vec}
 use Rattle.std.specs.declared.alloc.Global.{Global}
 use Rattle.std.proofs.lemmas.List.{length-map}
-use Rattle.std.proofs.lemmas.List.Sorted.{IsPermutation-sym, All-permutation}
 use Rattle.sim_base.specs.declared.event.Event.{Event}
-use Rattle.sim_base.specs.declared.time.Time.{Time}
-use Rattle.event_order.specs.Events.{IsLeastDue}
 use Rattle.host_calls.specs.declared.parts.Output.{Output}
 use Rattle.host_state.specs.declared.host.Host.{Host}
-use Rattle.host_state.specs.declared.line.Line.{Line}
 use Rattle.host_state.specs.declared.line.Logged.{Logged}
 use Rattle.host_state.specs.declared.net.Net.{Net}
 use Rattle.host_state.specs.declared.row.Row.{Row}
@@ -16,15 +12,10 @@ use Rattle.host_state.specs.Fits.{model}
 use Rattle.host_state.specs.HostRecord.{HostRecord}
 use Rattle.host_state.specs.HostStands.{Stands}
 use Rattle.host_state.specs.Opening.{opening}
-use Rattle.host_state.specs.Running.{kept_line}
 use Rattle.host_state.proofs.Openings.{opens-fit}
-use Rattle.world_order.specs.Window.{window_end}
 use Rattle.world_order.specs.World as order
 use Rattle.world_order.proofs.Fires.{get-map}
 use Rattle.world_order.proofs.Homes.{some_is, get-below, below-get}
-use Rattle.world_order.proofs.Members.{IsIn, IsIn-permutation, Each, Each-from_All}
-use Rattle.world_order.proofs.Orders.{window-upto, run-goes_on}
-use Rattle.world_order.proofs.Turns.{next-none}
 use Rattle.round_lookahead.specs.declared.workers.task.Task.{Task}
 use Rattle.round_lookahead.specs.declared.world.pieces.Pieces.{Pieces}
 use Rattle.host_state.specs.declared.ran.HostRun.{HostRun}
@@ -34,10 +25,11 @@ use Rattle.round_lookahead.specs.declared.world.world_state.World.{World}
 use Rattle.round_lookahead.specs.Backs.{lists_of}
 use Rattle.round_lookahead.specs.Gains.{HasRound}
 use Rattle.round_lookahead.specs.OpeningWorld.{AreHostRows, opening_world}
-use Rattle.round_lookahead.specs.Ran.{joined_each, KeepsAll, RunStands, AllStand, lines_of, kept_lines, RanStands}
+use Rattle.round_lookahead.specs.Ran.{joined_each, KeepsAll, RunStands, AllStand, kept_lines, RanStands}
 use Rattle.round_lookahead.specs.Tasks.{waiting}
-use Rattle.round_lookahead.specs.WorldStands.{HostWorld, nanos_of, IsAhead, WorldStands}
-use Rattle.round_lookahead.proofs.DueSteps.{any-in}
+use Rattle.round_lookahead.specs.WorldStands.{HostWorld, WorldStands}
+use Rattle.round_lookahead.proofs.CountSteps.{lines-kept}
+use Rattle.round_lookahead.proofs.Reaching.{HasReached, reached-round, reached-end}
 
 -- ---- lists joined at each place
 
@@ -105,76 +97,26 @@ keeps-more c d workers w v p old new round keeps written log hosts =
 
 -- ---- so far
 
--- the world stands for one from which a result is one of the start
+-- the world stands for one that is reached from the start, and what is kept is all of that
 pub record HasGoneTo (net : Net) (start : HostWorld) (c : World) (kept : Kept) : Type 0 where
-  pub same : c.net ≡ net
   pub world : HostWorld
-  pub stands : WorldStands c world
+  pub reached : HasReached net start c world
   pub keeps : KeepsAll kept world
-  pub onward : (r : HostWorld) → order.IsResult (model net) net.stop.nanos r world → order.IsResult (model net) net.stop.nanos r start
 
 pub goes-further : (net : Net) (start : HostWorld) (c d : World) (workers : ℕ) (v : HostWorld) (p : Pieces) (old new : Kept) (so_far : HasGoneTo net start c old) → d.net ≡ c.net → HasRound c d workers so_far.world v p
     → lists_of new.written.items ≡ joined_each (lists_of old.written.items) (lists_of p.outputs.items) → new.log.items ≡ old.log.items ++ p.lines.items → HasGoneTo net start d new
 goes-further net start c d workers v p old new so_far same round written log =
-    let la : Option ℕ = nanos_of c.lookahead in
-    let result : order.IsResult (model net) (window_end la net.stop.nanos round.least) v so_far.world =
-    subst (λ (n : Net). order.IsResult (model n) (window_end la n.stop.nanos round.least) v so_far.world) so_far.same round.result in
-    let count_old = so_far.stands.between.count in
+    let count_old = so_far.reached.stands.between.count in
     let count_new = round.stands.between.count in
     let book : length d.net.known.book ≡ length c.net.known.book = ap (λ (n : Net). length n.known.book) same in
     record {
-      same = same ∙ so_far.same;
       world = v;
-      stands = round.stands;
+      reached = reached-round net start c d workers so_far.world v p so_far.reached same round;
       keeps = keeps-more c d workers so_far.world v p old new round so_far.keeps written log (omega arith);
-      onward = λ r h. so_far.onward r (run-goes_on (model net) (window_end la net.stop.nanos round.least) net.stop.nanos v so_far.world r (window-upto la net.stop.nanos round.least) result h);
     }
 
 pub gone-count : (net : Net) (start : HostWorld) (c : World) (kept : Kept) → HasGoneTo net start c kept → length kept.written.items ≡ length c.tasks.items
-gone-count net start c kept so_far = so_far.keeps.count ∙ sym so_far.stands.count
-
--- ---- each round ends later
-
-abbrev pub soonest : ℕ → List Event → ℕ
-soonest stop [] = stop
-soonest stop (e ∷ es) = min e.key.due.nanos (soonest stop es)
-
-abbrev pub world_left : World → ℕ
-world_left c = c.net.stop.nanos - soonest c.net.stop.nanos (flat_map waiting c.tasks.items)
-
-soonest-most : (stop : ℕ) (es : List Event) (e : Event) → IsIn e es → soonest stop es ≤ e.key.due.nanos
-soonest-most stop [] e h = absurd h
-soonest-most stop (x ∷ xs) e (inl same) = (let t : e.key.due.nanos ≡ x.key.due.nanos = ap (λ (y : Event). y.key.due.nanos) same in omega arith)
-soonest-most stop (x ∷ xs) e (inr h) = (let r = soonest-most stop xs e h in omega arith)
-
-soonest-least : (stop n : ℕ) (es : List Event) → n ≤ stop → Each (λ (e : Event). n ≤ e.key.due.nanos) es → n ≤ soonest stop es
-soonest-least stop n [] within each = within
-soonest-least stop n (x ∷ xs) within each = (let here = each x (inl refl) in let rest = soonest-least stop n xs within (λ e h. each e (inr h)) in omega arith)
-
-end-later : (la : Option ℕ) (stop least : ℕ) → IsAhead la → least < stop → least < window_end la stop least
-end-later None stop least ahead before = before
-end-later (Some l) stop least ahead before = (let a : 0 < l = ahead in omega arith)
-
-pub round-smaller : (c d : World) (workers : ℕ) (w v : HostWorld) (p : Pieces) (least : Time) → WorldStands c w → HasRound c d workers w v p → d.net ≡ c.net
-    → IsLeastDue (flat_map waiting c.tasks.items) (Some least) → least.nanos < c.net.stop.nanos → world_left d < world_left c
-round-smaller c d workers w v p least stands round same due before =
-    let la : Option ℕ = nanos_of c.lookahead in
-    let stop : ℕ = c.net.stop.nanos in
-    let end : ℕ = window_end la stop round.least in
-    let first = any-in (λ (e : Event). e.key.due ≡ least) (flat_map waiting c.tasks.items) due.0 in
-    let first_due : first.0.key.due.nanos ≡ least.nanos = ap (λ (t : Time). t.nanos) first.2 in
-    let from : round.least ≤ first.0.key.due.nanos =
-    Each-from_All (λ (e : Event). round.least ≤ e.key.due.nanos) w.events round.from first.0 (IsIn-permutation first.0 (flat_map waiting c.tasks.items) w.events stands.events first.1) in
-    let some = any-in (λ (e : Event). e.key.due.nanos ≡ round.least) w.events round.due in
-    let old : soonest stop (flat_map waiting c.tasks.items) ≤ some.0.key.due.nanos =
-    soonest-most stop (flat_map waiting c.tasks.items) some.0 (IsIn-permutation some.0 w.events (flat_map waiting c.tasks.items) (IsPermutation-sym (flat_map waiting c.tasks.items) w.events stands.events) some.1) in
-    let some_due = some.2 in
-    let later : round.least < end = end-later la stop round.least stands.rounds.ahead (omega arith) in
-    let upto : end ≤ stop = window-upto la stop round.least in
-    let new : end ≤ soonest stop (flat_map waiting d.tasks.items) =
-    soonest-least stop end (flat_map waiting d.tasks.items) upto
-    (λ e h. Each-from_All (λ (x : Event). end ≤ x.key.due.nanos) v.events round.over e (IsIn-permutation e (flat_map waiting d.tasks.items) v.events round.stands.events h)) in
-    subst (λ (s : ℕ). s - soonest s (flat_map waiting d.tasks.items) < stop - soonest stop (flat_map waiting c.tasks.items)) (sym (ap (λ (n : Net). n.stop.nanos) same)) (omega arith)
+gone-count net start c kept so_far = so_far.keeps.count ∙ sym so_far.reached.stands.count
 
 -- ---- the end
 
@@ -183,10 +125,6 @@ all-stand [] [] long each = tt
 all-stand [] (h ∷ hs) long each = absurd (omega arith)
 all-stand (r ∷ rs) [] long each = absurd (omega arith)
 all-stand (r ∷ rs) (h ∷ hs) long each = (each 0 r h refl refl, all-stand rs hs (omega arith) (λ i x y at there. each (suc i) x y at there))
-
-lines-kept : (ls : List (order.Logged Line)) → kept_lines (map kept_line ls) ≡ lines_of ls
-lines-kept [] = refl
-lines-kept (l ∷ ls) = ap (λ (k : List Line). l.line ∷ k) (lines-kept ls)
 
 pub ran-stands : (c : World) (kept : Kept) (ran : Ran) (w : HostWorld) → WorldStands c w → KeepsAll kept w → map (λ (r : HostRun). r.host) ran.hosts.items ≡ map (λ (t : Task). t.host.value) c.tasks.items
     → map (λ (r : HostRun). r.written) ran.hosts.items ≡ kept.written.items → ran.log ≡ kept.log → RanStands ran w
@@ -211,10 +149,4 @@ ran-stands c kept ran w stands keeps hosts written log =
 pub has-ended : (net : Net) (start : HostWorld) (c : World) (kept : Kept) (ran : Ran) (so_far : HasGoneTo net start c kept) → All (λ (e : Event). c.net.stop.nanos ≤ e.key.due.nanos) (flat_map waiting c.tasks.items)
     → ((w : HostWorld) → WorldStands c w → KeepsAll kept w → RanStands ran w) → (w : HostWorld) × order.IsResult (model net) net.stop.nanos w start × RanStands ran w
 has-ended net start c kept ran so_far late stands =
-    let late_all : All (λ (e : Event). net.stop.nanos ≤ e.key.due.nanos) so_far.world.events =
-    subst (λ (n : Net). All (λ (e : Event). n.stop.nanos ≤ e.key.due.nanos) so_far.world.events) so_far.same
-    (All-permutation (λ (e : Event). c.net.stop.nanos ≤ e.key.due.nanos) (flat_map waiting c.tasks.items) so_far.world.events so_far.stands.events late) in (
-      so_far.world,
-      so_far.onward so_far.world (order.is_over so_far.world (next-none (model net) net.stop.nanos so_far.world (Each-from_All (λ (e : Event). net.stop.nanos ≤ e.key.due.nanos) so_far.world.events late_all)) refl),
-      stands so_far.world so_far.stands so_far.keeps,
-    )
+    (so_far.world, reached-end net start c so_far.world so_far.reached late, stands so_far.world so_far.reached.stands so_far.keeps)

@@ -1,5 +1,5 @@
 -- What the world stands for after a round, what it gained, and who took which host.
-use Rattle.std.proofs.Common.{◌≡◌, ℕ, suc, ◌<◌, ⊎_elim, List, [], ◌∷◌, ◌++◌, Some, All, map, flat_map, length, get_or, slice_get, refl, sym, ap, subst, ◌∙◌, arith, IsPermutation, Vec, append_assoc, Result, Ok, Err, IfOk}
+use Rattle.std.proofs.Common.{◌≡◌, ℕ, suc, ◌<◌, ⊎_elim, List, [], ◌∷◌, ◌++◌, Some, All, map, flat_map, length, get_or, slice_get, refl, sym, ap, subst, ◌∙◌, arith, IsPermutation, Vec, append_assoc}
 use Rattle.std.specs.Prelude.{Box}
 use Rattle.std.specs.declared.alloc.Global.{Global}
 use Rattle.std.proofs.lemmas.List.{length-map}
@@ -7,19 +7,20 @@ use Rattle.std.proofs.lemmas.List.Sorted.{IsPermutation-refl, IsPermutation-sym,
 use Rattle.sim_base.specs.declared.event.Event.{Event}
 use Rattle.sim_base.specs.declared.event.Parcel.{Parcel}
 use Rattle.sim_base.specs.declared.host.HostId.{HostId}
-use Rattle.sim_base.specs.declared.memory.NoMemory.{NoMemory}
 use Rattle.sim_base.specs.declared.time.Time.{Time}
 use Rattle.list_weights.specs.Weights.{numbers_below}
 use Rattle.event_order.specs.Events.{IsLeastDue}
 use Rattle.steal_workers.specs.Gathers.{joined}
 use Rattle.host_calls.specs.declared.parts.Output.{Output}
 use Rattle.host_state.specs.declared.host.Host.{Host}
+use Rattle.host_state.specs.declared.line.Line.{Line}
 use Rattle.host_state.specs.declared.line.Logged.{Logged}
 use Rattle.host_state.specs.declared.net.Net.{Net}
 use Rattle.host_state.specs.Home.{home}
 use Rattle.host_state.specs.HostRecord.{HostRecord}
 use Rattle.host_state.specs.HostStands.{Stands}
 use Rattle.host_state.specs.Parcels.{parcel_event}
+use Rattle.host_state.specs.Ran.{lines_of, kept_lines}
 use Rattle.host_state.specs.Running.{kept_line}
 use Rattle.world_order.specs.Round.{in_order}
 use Rattle.world_order.specs.Window.{window_end}
@@ -31,11 +32,13 @@ use Rattle.world_order.proofs.Parts.{second_first}
 use Rattle.round_lookahead.specs.declared.workers.task.Task.{Task}
 use Rattle.round_lookahead.specs.declared.workers.worked.Done.{Done}
 use Rattle.round_lookahead.specs.declared.workers.worked.Worked.{Worked}
+use Rattle.round_lookahead.specs.declared.world.counts.Counts.{Counts}
 use Rattle.round_lookahead.specs.declared.world.pieces.Pieces.{Pieces}
 use Rattle.round_lookahead.specs.declared.world.settling.Settled.{Settled}
 use Rattle.round_lookahead.specs.declared.world.world_state.World.{World}
 use Rattle.round_lookahead.specs.Arrivals.{Boxed, arrivals}
 use Rattle.round_lookahead.specs.Backs.{all_done, all_spilled, took_by, lists_of, ids_of, row_arrivals, AreAtHome}
+use Rattle.round_lookahead.specs.Counts.{counts_of}
 use Rattle.round_lookahead.specs.Gains.{IsGained, IsTaken, HasRound, turns_from}
 use Rattle.round_lookahead.specs.RoundsInPlace.{IsRoundInPlace}
 use Rattle.round_lookahead.specs.Rounds.{IsRound, AreWorks, all_parcels}
@@ -43,6 +46,7 @@ use Rattle.round_lookahead.specs.Settles.{done_numbers, CanSettle, IsBack, HasSe
 use Rattle.round_lookahead.specs.Tasks.{waiting, AreTasks}
 use Rattle.round_lookahead.specs.Works.{HostJob, AreDone}
 use Rattle.round_lookahead.specs.WorldStands.{HostWorld, nanos_of, StandsAt, WorldStands}
+use Rattle.round_lookahead.proofs.CountSteps.{lines-gained}
 use Rattle.round_lookahead.proofs.DueSteps.{any-in, in-any}
 use Rattle.round_lookahead.proofs.RoundJobs as round_jobs
 use Rattle.round_lookahead.proofs.RunSteps.{IsRunBy, AreRun, job-done, done-job, run-lines}
@@ -100,7 +104,8 @@ turn-numbers (j ∷ js) = ap (λ (l : List ℕ). j.number ∷ l) (turn-numbers j
 module _ (c : World) (w : HostWorld) (stands : WorldStands c w) (least : Time) (due : IsLeastDue (flat_map waiting c.tasks.items) (Some least)) (workers : ℕ)
     (works : List Worked) (rows : List (Vec Boxed Global)) (many : length works ≡ workers)
     (round : IsRound c.net (window_end (nanos_of c.lookahead) c.net.stop.nanos least.nanos) c.tasks.items (rec c w stands) works rows)
-    (s : Settled) (so : HasSettled (length c.tasks.items) works rows s) where
+    (s : Settled) (so : HasSettled (length c.tasks.items) works rows s)
+    (n : Counts) (counted : (log : List Line) → c.counts ≡ counts_of log → n ≡ counts_of (log ++ kept_lines s.pieces.lines.items)) where
   abbrev next : HostWorld
   next = rounds.next c w stands least due workers works rows many round
 
@@ -117,7 +122,7 @@ module _ (c : World) (w : HostWorld) (stands : WorldStands c w) (least : Time) (
   ts = s.tasks.items
 
   abbrev new : World
-  new = record c { tasks = s.tasks }
+  new = record c { tasks = s.tasks; counts = n }
 
   are-run : AreRun c.net end c.tasks.items (rec c w stands) jobs ds
   are-run = rounds.are-run c w stands least due workers works rows many round
@@ -216,15 +221,6 @@ module _ (c : World) (w : HostWorld) (stands : WorldStands c w) (least : Time) (
       let same : a.task ≡ t = some_is a.task t (sym a.at ∙ ap (slice_get ts) d.2.run.id ∙ at) in
       subst (λ (x : Task). IsPermutation x.host.value.queue j.ran.queue) same (subst (λ (x : Box Host Global). IsPermutation x.value.queue j.ran.queue) (sym a.host) d.2.run.queue))))
 
-  pub stands-new : WorldStands new next
-  stands-new = record {
-    rounds = stands.rounds;
-    count = so.tasks_count ∙ stands.count ∙ sym (rounds.next-count c w stands least due workers works rows many round);
-    hosts = stands-at;
-    events = events-are;
-    between = settled-between c.net (nanos_of c.lookahead) stands.rounds next (rounds.next-settled c w stands least due workers works rows many round);
-  }
-
   pub gained : IsGained w next s.pieces
   gained = record {
     lines = ap (map kept_line) (rounds.next-log c w stands least due workers works rows many round) ∙ map-both kept_line w.log (in_order (lines_in jobs))
@@ -239,6 +235,16 @@ module _ (c : World) (w : HostWorld) (stands : WorldStands c w) (least : Time) (
         let outs : a.done.outputs ≡ got = some_is a.done.outputs got (sym a.back.outputs ∙ ap (slice_get s.pieces.outputs.items) a.number ∙ here) in
         ap (λ (x : HostRecord). x.written) (sym now) ∙ a.run.run.written
         ∙ ap (λ (x : HostRecord). x.written ++ a.done.outputs.items) (sym was) ∙ ap (λ (v : Vec Output Global). before.written ++ v.items) outs;
+  }
+
+  pub stands-new : WorldStands new next
+  stands-new = record {
+    rounds = stands.rounds;
+    count = so.tasks_count ∙ stands.count ∙ sym (rounds.next-count c w stands least due workers works rows many round);
+    hosts = stands-at;
+    events = events-are;
+    counts = counted (lines_of w.log) stands.counts ∙ ap counts_of (sym (lines-gained w.log next.log s.pieces.lines.items gained.lines));
+    between = settled-between c.net (nanos_of c.lookahead) stands.rounds next (rounds.next-settled c w stands least due workers works rows many round);
   }
 
   turns-are : turns_from 0 s.pieces.took.items ≡ map turn_of jobs
@@ -286,16 +292,17 @@ module _ (c : World) (w : HostWorld) (stands : WorldStands c w) (least : Time) (
   pub settles : CanSettle count works rows
   settles = subst (λ (n : ℕ). CanSettle n works rows) (sym count_is) (rounds.can-settle c w stands least due workers works rows many the-round)
 
-  pub goes-on : (s : Settled) → HasSettled count works rows s → (v : HostWorld) × HasRound c (record c { tasks = s.tasks }) workers w v s.pieces
-  goes-on s so = (
+  pub goes-on : (s : Settled) → HasSettled count works rows s → (n : Counts) → ((log : List Line) → c.counts ≡ counts_of log → n ≡ counts_of (log ++ kept_lines s.pieces.lines.items))
+      → (v : HostWorld) × HasRound c (record c { tasks = s.tasks; counts = n }) workers w v s.pieces
+  goes-on s so n counted = (
     rounds.next c w stands least due workers works rows many the-round,
-    has-round c w stands least due workers works rows many the-round s (subst (λ (n : ℕ). HasSettled n works rows s) count_is so),
+    has-round c w stands least due workers works rows many the-round s (subst (λ (k : ℕ). HasSettled k works rows s) count_is so) n counted,
   )
 
 -- a round in which each host is run in its place
-pub goes-on-here : (c : World) (least : Time) → IsLeastDue (flat_map waiting c.tasks.items) (Some least) → (workers : ℕ) (new : Vec Task Global)
-    (until : ℕ) → until ≡ window_end (nanos_of c.lookahead) c.net.stop.nanos least.nanos → (r : Result Pieces NoMemory) → IfOk r (λ p. IsRoundInPlace c.net until workers c.tasks.items new p)
-    → IfOk r (λ p. (w : HostWorld) → WorldStands c w → (v : HostWorld) × HasRound c (record c { tasks = new }) workers w v p)
-goes-on-here c least due workers new until until_is (Ok p) h = λ w stands.
-    goes-on c w stands least due workers h.works h.rows h.many c.tasks refl until until_is h.round (length c.tasks.items) refl (record { tasks = new; pieces = p }) h.settled
-goes-on-here c least due workers new until until_is (Err e) h = tt
+pub goes-on-here : (c : World) (w : HostWorld) → WorldStands c w → (least : Time) → IsLeastDue (flat_map waiting c.tasks.items) (Some least) → (workers : ℕ) (new : Vec Task Global)
+    (until : ℕ) → until ≡ window_end (nanos_of c.lookahead) c.net.stop.nanos least.nanos → (p : Pieces) → IsRoundInPlace c.net until workers c.tasks.items new p
+    → (n : Counts) → ((log : List Line) → c.counts ≡ counts_of log → n ≡ counts_of (log ++ kept_lines p.lines.items))
+    → (v : HostWorld) × HasRound c (record c { tasks = new; counts = n }) workers w v p
+goes-on-here c w stands least due workers new until until_is p h n counted =
+    goes-on c w stands least due workers h.works h.rows h.many c.tasks refl until until_is h.round (length c.tasks.items) refl (record { tasks = new; pieces = p }) h.settled n counted

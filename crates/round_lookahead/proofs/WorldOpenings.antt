@@ -24,6 +24,7 @@ use Rattle.world_order.proofs.Members.{IsIn, Each, IsIn-either, IsIn-permutation
 use Rattle.round_lookahead.specs.declared.workers.task.Task.{Task}
 use Rattle.round_lookahead.specs.declared.world.world_state.World.{World}
 use Rattle.round_lookahead.specs.Arrivals.{Boxed, arrivals}
+use Rattle.round_lookahead.specs.Counts.{counts_of}
 use Rattle.round_lookahead.specs.OpeningWorld.{AreHostRows, IsOpened, AreOpened, opening_world}
 use Rattle.round_lookahead.specs.Tasks.{waiting}
 use Rattle.round_lookahead.specs.WorldStands.{nanos_of, HasRounds, IsBetweenRounds, StandsAt, WorldStands}
@@ -199,8 +200,8 @@ events-opened net (r ∷ rows) (t ∷ ts) fit are =
     IsPermutation-append (waiting t) (opening r).made (flat_map waiting ts) (made_of rows) (opened-waiting net r (fit 0 r refl) t are.0)
     (events-opened net rows ts (λ i row at. fit (suc i) row at) are.1)
 
-pub starts-so : (c : World) (rows : List Row) → AreHostRows c.net rows → HasRounds c.net (nanos_of c.lookahead) → AreOpened rows c.tasks.items → WorldStands c (opening_world rows)
-starts-so c rows are rounds opened = record {
+pub starts-so : (c : World) (rows : List Row) → AreHostRows c.net rows → HasRounds c.net (nanos_of c.lookahead) → AreOpened rows c.tasks.items → c.counts ≡ counts_of [] → WorldStands c (opening_world rows)
+starts-so c rows are rounds opened counts = record {
   rounds = rounds;
   count = length-opened rows c.tasks.items opened ∙ sym (length_hosts rows);
   hosts = λ k t h at there.
@@ -208,5 +209,6 @@ starts-so c rows are rounds opened = record {
       let same : (opening o.0).host ≡ h = some_is (opening o.0).host h (sym (host-of rows k o.0 o.1) ∙ there) in
       subst (StandsAt c.net k t) same (subst (λ (n : ℕ). StandsAt c.net n t (opening o.0).host) (are.places k o.0 o.1) (opened-stands c.net o.0 (are.fit k o.0 o.1) t o.2)));
   events = events-opened c.net rows c.tasks.items are.fit opened;
+  counts = counts;
   between = opened-between c.net rows are;
 }

@@ -11,6 +11,7 @@ pub mod Retasks
 pub mod WorldStands
 pub mod Gains
 pub mod Dues
+pub mod Counts
 pub mod Settles
 pub mod RoundsInPlace
 pub mod OpeningWorld

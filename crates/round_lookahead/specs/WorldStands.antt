@@ -8,11 +8,13 @@ use Rattle.host_state.specs.Fits.{model, IsEventOf, IsHostOf, IsLookaheadOf, IsS
 use Rattle.host_state.specs.Home.{home}
 use Rattle.host_state.specs.HostRecord.{HostRecord}
 use Rattle.host_state.specs.HostStands.{Stands}
+use Rattle.host_state.specs.Ran.{lines_of}
 use Rattle.world_order.specs.EventOrder.{AreApart}
 use Rattle.world_order.specs.Settled.{next_at}
 use Rattle.world_order.specs.World as order
 use Rattle.round_lookahead.specs.declared.workers.task.Task.{Task}
 use Rattle.round_lookahead.specs.declared.world.world_state.World.{World}
+use Rattle.round_lookahead.specs.Counts.{counts_of}
 use Rattle.round_lookahead.specs.Tasks.{waiting}
 
 -- hosts by number, the events that wait, and the packet log
@@ -53,10 +55,11 @@ pub record StandsAt (net : Net) (number : ℕ) (t : Task) (host : HostRecord) : 
   pub home : All (λ (e : Event). home net e ≡ number) (waiting t)
 
 -- the hosts stand for the world's, each for that of its place; what they hold and the packets that wait for them are together its events,
--- each once and each at its host. Nothing of the log or of what processes wrote is kept.
+-- each once and each at its host. Of the log the counts alone are kept, and nothing of what processes wrote.
 pub record WorldStands (c : World) (w : HostWorld) : Type 0 where
   pub rounds : HasRounds c.net (nanos_of c.lookahead)
   pub count : length c.tasks.items ≡ length w.hosts
   pub hosts : (k : ℕ) (t : Task) (host : HostRecord) → slice_get c.tasks.items k ≡ Some t → slice_get w.hosts k ≡ Some host → StandsAt c.net k t host
   pub events : IsPermutation (flat_map waiting c.tasks.items) w.events
+  pub counts : c.counts ≡ counts_of (lines_of w.log)
   pub between : IsBetweenRounds c.net w

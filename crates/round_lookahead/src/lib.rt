@@ -7,6 +7,7 @@ mod world;
 pub use workers::task::Task;
 pub use workers::worked::{Done, Worked};
 pub use workers::working::work;
+pub use world::counts::Counts;
 pub use world::pieces::Pieces;
 pub use world::run::run;
 pub use world::world_state::World;

@@ -1,6 +1,7 @@
 //! The world, round by round.
 
 pub(crate) mod backs;
+pub(crate) mod counts;
 pub(crate) mod delivery;
 pub(crate) mod due;
 pub(crate) mod in_place;
@@ -13,5 +14,6 @@ pub(crate) mod rounds;
 pub(crate) mod run;
 pub(crate) mod settling;
 pub(crate) mod settling_in_place;
+pub(crate) mod showing;
 pub(crate) mod waiting;
 pub(crate) mod world_state;

@@ -5,6 +5,7 @@ ghost use Rattle.round_lookahead.specs.OpeningWorld.{AreHostRows, AreOpened, IsO
 ghost use Rattle.round_lookahead.specs.WorldStands.{HasRounds, WorldStands, nanos_of};
 
 use crate::workers::task::Task;
+use crate::world::counts::Counts;
 use crate::world::world_state::World;
 use host_state::{Host, Net, Row};
 use sim_base::{NoMemory, Time};
@@ -52,6 +53,7 @@ impl World {
             net,
             lookahead,
             tasks,
+            counts: Counts::new(),
         })
     }
 }

@@ -1,5 +1,5 @@
 //! The world goes on, round by round.
-ghost use Rattle.std.specs.Prelude.{◌≡◌, ◌≤◌, ◌<◌, ◌↔◌, true, Some, All, Any, IfOk, IfSome, IfNone, flat_map};
+ghost use Rattle.std.specs.Prelude.{◌≡◌, ◌≤◌, ◌<◌, ◌↔◌, true, false, Some, All, Any, IfOk, IfSome, IfNone, flat_map};
 ghost use Rattle.event_order.specs.Events.{IsLeastDue};
 ghost use Rattle.round_lookahead.specs.Gains.{HasRound};
 ghost use Rattle.round_lookahead.specs.Tasks.{waiting};
@@ -29,7 +29,8 @@ impl World {
 
     /// Whether no event is due before the net's stop.
     pub fn finished(&self) -> bool
-        ensures { (result ≡ true) ↔ All (λ event. self.now.net.stop.nanos ≤ event.key.due.nanos) (flat_map waiting self.now.tasks.items) }
+        ensures finished { (result ≡ true) ↔ All (λ event. self.now.net.stop.nanos ≤ event.key.due.nanos) (flat_map waiting self.now.tasks.items) }
+        ensures unfinished { (result ≡ false) ↔ Any (λ event. event.key.due.nanos < self.now.net.stop.nanos) (flat_map waiting self.now.tasks.items) }
     {
         match self.next_due() {
             None => true,
@@ -70,7 +71,9 @@ impl World {
         let window = Window::of(least, self.lookahead, self.net.stop);
         let threads = thread_count(self.tasks.as_slice(), window.end, workers);
         if threads < 2 {
-            return round_in_place(alloc, &self.net, window.end, &mut self.tasks, workers, gate);
+            let ran = round_in_place(alloc, &self.net, window.end, &mut self.tasks, workers, gate)?;
+            self.counts.count_round(&ran);
+            return Ok(ran);
         }
         let count = self.tasks.len();
         let tasks = mem::replace(&mut self.tasks, Vec::new(alloc));
@@ -79,6 +82,7 @@ impl World {
         )?;
         let Settled { tasks, pieces } = settle(alloc, count, works, rows)?;
         self.tasks = tasks;
+        self.counts.count_round(&pieces);
         Ok(pieces)
     }
 
@@ -97,7 +101,9 @@ impl World {
         requires stands { (w : HostWorld) × WorldStands self.old w }
         requires unfinished { Any (λ event. event.key.due.nanos < self.old.net.stop.nanos) (flat_map waiting self.old.tasks.items) }
         requires workers { (0 < workers) × (workers ≤ 64) }
-        ensures { IfOk result (λ pieces. (w : HostWorld) → WorldStands self.old w → (v : HostWorld) × HasRound self.old self.new workers w v pieces) }
+        ensures net { self.new.net ≡ self.old.net }
+        ensures lookahead { self.new.lookahead ≡ self.old.lookahead }
+        ensures round { IfOk result (λ pieces. (w : HostWorld) → WorldStands self.old w → (v : HostWorld) × HasRound self.old self.new workers w v pieces) }
     {
         let Some(least) = self.next_due() else {
             unreachable!()

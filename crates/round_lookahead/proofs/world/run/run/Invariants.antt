@@ -1,5 +1,6 @@
 use Rattle.round_lookahead.specs.OpeningWorld.{opening_world}
-use Rattle.round_lookahead.proofs.RunLemmas.{HasGoneTo, world_left}
+use Rattle.round_lookahead.proofs.Reaching.{world_left}
+use Rattle.round_lookahead.proofs.RunLemmas.{HasGoneTo}
 use Rattle.round_lookahead.proofs.world.run.run.Given as goal
 
 abbrev pub invariant-rounds : goal.invariant-rounds
