@@ -8,7 +8,7 @@ use Rattle.net_run.specs.StandsFor.{RunStands, AllStand}
 use Rattle.host_state.specs.declared.ran.HostRun.{HostRun}
 use Rattle.net_run.proofs.PieceLemmas.{with_pieces_told}
 
-with_append : (ps qs : List Put) (c : Content) → with_pieces (ps ++ qs) c ≡ with_pieces qs (with_pieces ps c)
+pub with_append : (ps qs : List Put) (c : Content) → with_pieces (ps ++ qs) c ≡ with_pieces qs (with_pieces ps c)
 with_append [] qs c = refl
 with_append (p ∷ ps) qs c = with_append ps qs (add p.0 p.1 c)
 
@@ -16,7 +16,7 @@ pub told_append : (ps qs : List Put) (o : Option Content) → option_map (with_p
 told_append ps qs None = refl
 told_append ps qs (Some c) = ap Some (with_append ps qs c)
 
-told_nothing : (o : Option Content) → option_map (with_pieces []) o ≡ o
+pub told_nothing : (o : Option Content) → option_map (with_pieces []) o ≡ o
 told_nothing None = refl
 told_nothing (Some c) = refl
 

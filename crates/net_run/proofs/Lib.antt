@@ -3,5 +3,19 @@ mod PieceLemmas
 mod PathLemmas
 mod ListingLemmas
 mod LogLemmas
-mod FrontLemmas
+pub mod FrontLemmas
 mod ReportLemmas
+mod ContentLemmas
+pub mod NameLemmas
+mod SplitLemmas
+mod FileLemmas
+mod GrowthLemmas
+mod HostLemmas
+mod WholeLemmas
+pub mod PartLemmas
+pub mod GrownLemmas
+pub mod StandingLemmas
+mod StepLemmas
+pub mod ToldLemmas
+pub mod ExtendsLemmas
+pub mod UnderwayLemmas

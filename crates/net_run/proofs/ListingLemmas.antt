@@ -71,7 +71,7 @@ unmet-step h place row rows old new whole below is new_is so_far =
     ap (λ (l : List Put). l ++ rest) new_is ∙ append_assoc old (process_unmet h place row) rest
     ∙ ap (λ (l : List ProcessRow). old ++ unmet_from h place l) (sym (drop_at rows place row below is)) ∙ so_far
 
-none_left : {X : Type 0} (xs : List X) (i : ℕ) → length xs ≤ i → drop i xs ≡ []
+pub none_left : {X : Type 0} (xs : List X) (i : ℕ) → length xs ≤ i → drop i xs ≡ []
 none_left [] zero end = refl
 none_left [] (suc i) end = refl
 none_left (x ∷ xs) zero end = absurd (omega arith)

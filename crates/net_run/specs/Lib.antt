@@ -3,3 +3,8 @@ pub mod StandsFor
 pub mod Pieces
 pub mod Shown
 pub mod Telling
+pub mod Listed
+pub mod Places
+pub mod Grown
+pub mod Rest
+pub mod Parts

@@ -19,7 +19,7 @@ use std::alloc::Global;
 const FIRST_ID: u32 = 1000;
 
 /// The part of a path behind its last slash.
-fn program(path: &str) -> &str
+pub(crate) fn program(path: &str) -> &str
     ensures { result.now ≡ spec.program_of path.now }
 {
     match path.rsplit_once('/') {
@@ -29,7 +29,7 @@ fn program(path: &str) -> &str
 }
 
 /// All that a process wrote to a descriptor.
-fn written_to(
+pub(crate) fn written_to(
     alloc: Global,
     process: u32,
     descriptor: u32,
@@ -46,7 +46,7 @@ fn written_to(
     Ok(bytes)
 }
 
-fn expected_state(expected: FinalState) -> State
+pub(crate) fn expected_state(expected: FinalState) -> State
     ensures { result ≡ spec.expected_state expected }
 {
     match expected {
@@ -70,7 +70,7 @@ pub(crate) fn meets(expected: State, state: State) -> bool
 }
 
 /// A file of a process.
-fn file(
+pub(crate) fn file(
     alloc: Global,
     host: &str,
     program: &str,
@@ -89,14 +89,14 @@ fn file(
 }
 
 /// A text's bytes, without a copy.
-fn bytes_of(text: Text) -> Bytes
+pub(crate) fn bytes_of(text: Text) -> Bytes
     ensures { result ≡ text }
 {
     Bytes::from(text.into_string().into_bytes())
 }
 
 /// The number of a process and its id, by its place. More processes than have ids have no room.
-fn numbers(place: usize) -> Result<(u32, u32), NoMemory>
+pub(crate) fn numbers(place: usize) -> Result<(u32, u32), NoMemory>
     ensures { IfOk result (λ n. (n.0 ≡ place) × (n.1 ≡ spec.first_id + place)) }
 {
     if place < 4_000_000_000 {
@@ -108,7 +108,7 @@ fn numbers(place: usize) -> Result<(u32, u32), NoMemory>
 }
 
 /// The three files of a process, behind other pieces.
-fn push_named(
+pub(crate) fn push_named(
     alloc: Global,
     pieces: &mut Vec<Piece>,
     host: &str,
@@ -172,7 +172,7 @@ pub(crate) fn host_files(alloc: Global, run: &HostRun) -> Result<Vec<Piece>, NoM
 }
 
 /// The line of a process if its final state is another one, behind other pieces.
-fn push_line(
+pub(crate) fn push_line(
     alloc: Global,
     pieces: &mut Vec<Piece>,
     host: &str,

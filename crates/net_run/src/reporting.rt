@@ -47,7 +47,7 @@ fn unmet(alloc: Global, hosts: &[HostRun]) -> Result<Vec<Piece>, NoMemory>
 }
 
 /// The file of the packet log.
-fn log_piece(alloc: Global, text: Text) -> Result<Piece, NoMemory>
+pub(crate) fn log_piece(alloc: Global, text: Text) -> Result<Piece, NoMemory>
     ensures { IfOk result (λ p. put_of p ≡ (place.File (spec.log_name), text)) }
 {
     Ok(Piece {
@@ -57,7 +57,7 @@ fn log_piece(alloc: Global, text: Text) -> Result<Piece, NoMemory>
 }
 
 /// The line of a self-load's summary, behind other pieces.
-fn push_summary(
+pub(crate) fn push_summary(
     alloc: Global,
     pieces: &mut Vec<Piece>,
     load: bool,
@@ -84,7 +84,7 @@ pub struct Rest {
     pub(crate) status: u8,
 }
 
-fn status(unmet: &[Piece]) -> u8
+pub(crate) fn status(unmet: &[Piece]) -> u8
     ensures { result ≡ spec.status_by (map put_of unmet.now) }
 {
     if unmet.is_empty() { 0 } else { 1 }

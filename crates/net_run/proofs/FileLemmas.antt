@@ -1,0 +1,58 @@
+-- The files of processes: each is of one host and one process.
+use Rattle.std.proofs.Common.{◌≡◌, ℕ, ◌+◌, ◌<◌, ◌≤◌, ◌^◌, Bool, true, false, List, refl, sym, ap, ◌∙◌, arith}
+use Rattle.std.specs.Prelude.{◌||◌}
+use Rattle.std.proofs.lemmas.Slice.Eq.{bytes_eq-Decides}
+use Rattle.sim_base.specs.declared.outside.sink.Place.{Place}
+use Rattle.sim_base.specs.declared.outside.sink.Place.TheVariants as place
+use Rattle.out_text.specs.Files.{file_name}
+use Rattle.out_text.specs.declared.files.FileKind.{FileKind}
+use Rattle.out_text.specs.declared.files.FileKind.TheVariants as kind
+use Rattle.out_text.specs.Laws.{lacks}
+use Rattle.net_run.specs.Places.{is_place, is_touched}
+use Rattle.net_run.specs.Shown.{first_id, files_named}
+use Rattle.net_run.proofs.NameLemmas.{same-file}
+
+-- ---- places
+
+pub place-of_file : (name : List ℕ) (at : Place) → is_place (place.File name) at ≡ true → at ≡ place.File name
+place-of_file name place.Out e = absurd (cc)
+place-of_file name place.Err e = absurd (cc)
+place-of_file name (place.File other) e = ap place.File (sym ((bytes_eq-Decides name other).0 e))
+
+-- one of these kinds of file of a process
+pub record IsNamed (host program : List ℕ) (pid : ℕ) (at : Place) : Type 0 where
+  pub kind : FileKind
+  pub is : at ≡ place.File (file_name host program pid kind)
+
+pub touched-named : (at : Place) (host program : List ℕ) (pid : ℕ) (x y z : List ℕ) → is_touched at (files_named host program pid x y z) ≡ true → IsNamed host program pid at
+touched-named at host program pid x y z e =
+    go (is_place (place.File (file_name host program pid kind.Stdout)) at) (is_place (place.File (file_name host program pid kind.Stderr)) at) (is_place (place.File (file_name host program pid kind.Exit)) at) refl refl refl e where
+      go : (i j k : Bool) → is_place (place.File (file_name host program pid kind.Stdout)) at ≡ i → is_place (place.File (file_name host program pid kind.Stderr)) at ≡ j
+          → is_place (place.File (file_name host program pid kind.Exit)) at ≡ k → (i || (j || (k || false))) ≡ true → IsNamed host program pid at
+      go true j k a b c t = record { kind = kind.Stdout; is = place-of_file (file_name host program pid kind.Stdout) at a }
+      go false true k a b c t = record { kind = kind.Stderr; is = place-of_file (file_name host program pid kind.Stderr) at b }
+      go false false true a b c t = record { kind = kind.Exit; is = place-of_file (file_name host program pid kind.Exit) at c }
+      go false false false a b c t = absurd (cc)
+
+-- a file of a host's process, of those from one number on and below another
+pub record IsFileOf (host : List ℕ) (from to : ℕ) (at : Place) : Type 0 where
+  pub number : ℕ
+  pub later : from ≤ number
+  pub below : number < to
+  pub program : List ℕ
+  pub plain : lacks 47 program ≡ true
+  pub named : IsNamed host program (first_id + number) at
+
+pub same-place : (a b : List ℕ) (at : Place) → at ≡ place.File a → at ≡ place.File b → a ≡ b
+same-place a b at x y = let e : place.File a ≡ place.File b = sym x ∙ y in cc
+
+-- two files are not at one place where the hosts differ, or the processes
+pub other-file : (h g : List ℕ) (a b c d : ℕ) (at : Place) → IsFileOf h a b at → IsFileOf g c d at → b ≤ 2 ^ 32 → d ≤ 2 ^ 32 → (h ≡ g) × (a < d) × (c < b)
+other-file h g a b c d at x y bs ds =
+    let name = same-place _ _ at x.named.is y.named.is in
+    let xb = x.below in let yb = y.below in let xl = x.later in let yl = y.later in
+    let first : first_id + x.number < 2 ^ 64 = omega arith in
+    let second : first_id + y.number < 2 ^ 64 = omega arith in
+    let same = same-file h g x.program y.program (first_id + x.number) (first_id + y.number) x.named.kind y.named.kind x.plain y.plain first second name in
+    let number : first_id + x.number ≡ first_id + y.number = same.2 in
+    (same.0, omega arith, omega arith)

@@ -1,0 +1,102 @@
+-- What stands while a run goes on is, place by place, a front of what the run shows.
+use Rattle.std.proofs.Common.{◌≡◌, ℕ, Bool, true, false, List, [], ◌++◌, Option, Some, None, refl, sym, ap, subst, ◌∙◌, append_assoc}
+use Rattle.std.specs.Option.{unwrap_or}
+use Rattle.sim_base.specs.Sink.{Content}
+use Rattle.sim_base.specs.declared.outside.sink.Place.{Place}
+use Rattle.sim_base.specs.declared.outside.sink.Place.TheVariants as place
+use Rattle.host_calls.specs.declared.parts.Output.{Output}
+use Rattle.host_state.specs.declared.line.Line.{Line}
+use Rattle.net_run.specs.Grown.{all_grown, grown_in, with_bytes, IsGrown, HaveOwnFiles, Gains}
+use Rattle.net_run.specs.Listed.{names_in}
+use Rattle.net_run.specs.Parts.{IsFrontOf, IsPrefix, Grows, Between}
+use Rattle.net_run.specs.Pieces.{Put, with_pieces, PutsFront}
+use Rattle.net_run.specs.Places.{bytes_at, is_touched}
+use Rattle.net_run.specs.Rest.{rest_in}
+use Rattle.net_run.specs.Shown.{run_pieces}
+use Rattle.net_run.specs.World.{World}
+use Rattle.net_run.proofs.ContentLemmas.{added, at_places, by_place}
+use Rattle.net_run.proofs.FrontLemmas.{with_append}
+use Rattle.net_run.proofs.GrownLemmas.{names-kept, splits-round, round-grown, end-whole}
+use Rattle.net_run.proofs.HostLemmas.{own-hosts}
+use Rattle.net_run.proofs.PartLemmas.{front-refl, Grows-trans, Grows-with_pieces, between-puts}
+use Rattle.net_run.proofs.WholeLemmas.{whole-run}
+
+-- ---- place by place
+
+behind : (was xs ys : List ℕ) → IsPrefix xs ys → IsPrefix (was ++ xs) (was ++ ys)
+behind was xs ys p = record { rest = p.rest; whole = ap (λ (l : List ℕ). was ++ l) p.whole ∙ sym (append_assoc was xs p.rest) }
+
+front-added : (here there : Bool) (was : Option (List ℕ)) (xs ys : List ℕ) → (here ≡ true → there ≡ true) → IsPrefix xs ys → IsFrontOf (added here was xs) (added there was ys)
+front-added true true was xs ys touched p = let q = behind (unwrap_or was []) xs ys p in (q.rest, ap Some q.whole)
+front-added true false was xs ys touched p = absurd (let e : false ≡ true = touched refl in cc)
+front-added false true None xs ys touched p = tt
+front-added false true (Some bytes) xs ys touched p = (ys, refl)
+front-added false false was xs ys touched p = front-refl was
+
+grows-places : (ps qs : List Put) (c : Content) → ((at : Place) → IsPrefix (bytes_at at ps) (bytes_at at qs)) → ((at : Place) → is_touched at ps ≡ true → is_touched at qs ≡ true)
+    → Grows (at_places ps c) (at_places qs c)
+grows-places ps qs c bytes touched = record {
+  there = refl;
+  out = behind c.out _ _ (bytes place.Out);
+  err = behind c.err _ _ (bytes place.Err);
+  files = λ name. front-added (is_touched (place.File name) ps) (is_touched (place.File name) qs) (c.files name) _ _ (touched (place.File name)) (bytes (place.File name));
+}
+
+grows-by_place : (ps qs : List Put) (c : Content) → ((at : Place) → IsPrefix (bytes_at at ps) (bytes_at at qs)) → ((at : Place) → is_touched at ps ≡ true → is_touched at qs ≡ true)
+    → Grows (with_pieces ps c) (with_pieces qs c)
+grows-by_place ps qs c bytes touched =
+    subst (λ (d : Content). Grows d (with_pieces qs c)) (sym (by_place ps c)) (subst (λ (d : Content). Grows (at_places ps c) d) (sym (by_place qs c)) (grows-places ps qs c bytes touched))
+
+-- ---- while a run goes on
+
+module _ (load : Bool) (w u : World) (outputs : List (List Output)) (lines : List Line) (own : HaveOwnFiles (names_in w)) (gains : Gains w u outputs lines) (puts : List Put) (grown : IsGrown w puts) (c : Content) where
+  own-later : HaveOwnFiles (names_in u)
+  own-later = subst HaveOwnFiles (sym (names-kept w u outputs lines gains)) own
+
+  bytes-later : (at : Place) → IsPrefix (bytes_at at puts) (bytes_at at (run_pieces load u))
+  bytes-later at =
+      let more = bytes_at at (all_grown (names_in w) outputs lines) in
+      let rest = bytes_at at (rest_in load u) in
+      record {
+        rest = more ++ rest;
+        whole = (whole-run at load u (own-hosts u.hosts own-later)).bytes ∙ ap (λ (l : List ℕ). l ++ rest) ((splits-round w u outputs lines own gains at).bytes)
+            ∙ append_assoc (bytes_at at (grown_in w)) more rest ∙ ap (λ (l : List ℕ). l ++ (more ++ rest)) (sym (grown.bytes at));
+      }
+
+  touched-later : (at : Place) → is_touched at puts ≡ true → is_touched at (run_pieces load u) ≡ true
+  touched-later at e = (whole-run at load u (own-hosts u.hosts own-later)).first ((splits-round w u outputs lines own gains at).first (grown.places at e))
+
+  pub grows-to_run : Grows (with_pieces puts c) (with_pieces (run_pieces load u) c)
+  grows-to_run = grows-by_place puts (run_pieces load u) c bytes-later touched-later
+
+  -- what was put so far is a front of the run of any world that comes later
+  pub part-so_far : Between c (Some (with_pieces puts c)) (with_pieces (run_pieces load u) c)
+  part-so_far = record { now = with_pieces puts c; now_is = refl; grown = Grows-with_pieces puts c; rest = grows-to_run }
+
+-- and so is what was put and a front of what a round gained
+pub part-round : (load : Bool) (w v u : World) (outputs : List (List Output)) (lines : List Line) (outputs' : List (List Output)) (lines' : List Line) → HaveOwnFiles (names_in w)
+    → Gains w v outputs lines → Gains v u outputs' lines' → (puts : List Put) → IsGrown w puts → (c : Content) (new : Option Content)
+    → PutsFront (with_bytes (all_grown (names_in w) outputs lines)) (Some (with_pieces puts c)) new → Between c new (with_pieces (run_pieces load u) c)
+part-round load w v u outputs lines outputs' lines' own gains later puts grown c new front =
+    let more = with_bytes (all_grown (names_in w) outputs lines) in
+    let between = between-puts more (with_pieces puts c) new front in
+    let own_v : HaveOwnFiles (names_in v) = subst HaveOwnFiles (sym (names-kept w v outputs lines gains)) own in
+    let whole = grows-to_run load v u outputs' lines' own_v later (puts ++ more) (round-grown w v outputs lines own gains puts grown) c in
+    record {
+      now = between.now;
+      now_is = between.now_is;
+      grown = Grows-trans _ _ _ (Grows-with_pieces puts c) between.grown;
+      rest = Grows-trans _ _ _ between.rest (subst (λ (d : Content). Grows d (with_pieces (run_pieces load u) c)) (with_append puts more c) whole);
+    }
+
+-- and what was put and a front of what is put at the end
+pub part-end : (load : Bool) (w : World) → HaveOwnFiles (names_in w) → (puts : List Put) → IsGrown w puts → (c : Content) (new : Option Content)
+    → PutsFront (rest_in load w) (Some (with_pieces puts c)) new → Between c new (with_pieces (run_pieces load w) c)
+part-end load w own puts grown c new front =
+    let between = between-puts (rest_in load w) (with_pieces puts c) new front in
+    record {
+      now = between.now;
+      now_is = between.now_is;
+      grown = Grows-trans _ _ _ (Grows-with_pieces puts c) between.grown;
+      rest = subst (λ (d : Content). Grows between.now d) (sym (with_append puts (rest_in load w) c) ∙ end-whole load w own puts grown c) between.rest;
+    }

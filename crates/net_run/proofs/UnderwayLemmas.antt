@@ -1,0 +1,83 @@
+-- A run that is under way: its files have grown as far as its world, round by round, and at the end they are those of the run.
+use Rattle.std.proofs.Common.{◌≡◌, ℕ, List, [], ◌++◌, length, map, slice_get, Bool, Option, Some, option_map, refl, sym, ap, subst, ◌∙◌}
+use Rattle.sim_base.specs.Sink.{Content}
+use Rattle.sim_base.specs.declared.state.State.{State}
+use Rattle.host_calls.specs.declared.parts.Output.{Output}
+use Rattle.host_state.specs.Extends.{Extends}
+use Rattle.host_state.specs.HostRecord.{HostRecord}
+use Rattle.host_state.specs.declared.line.Line.{Line}
+use Rattle.host_state.specs.declared.row.Row.{Row}
+use Rattle.net_run.specs.Grown.{all_grown, with_bytes, IsGrown, HaveOwnFiles, Gains, IsUnderway}
+use Rattle.net_run.specs.Listed.{HostNames, listed, names_in}
+use Rattle.net_run.specs.Parts.{Between}
+use Rattle.net_run.specs.Pieces.{Put, with_pieces, PutsFront}
+use Rattle.net_run.specs.Rest.{all_rest, rest_in, summary_in, unmet_of_hosts, TellsStates}
+use Rattle.net_run.specs.Shown.{run_pieces, status_by, status_of}
+use Rattle.net_run.specs.World.{World, opening_world}
+use Rattle.net_run.proofs.ExtendsLemmas.{gains-later}
+use Rattle.net_run.proofs.FrontLemmas.{with_append}
+use Rattle.net_run.proofs.GrownLemmas.{names-kept, opening-grown, round-grown, end-whole}
+use Rattle.net_run.proofs.StandingLemmas.{part-so_far, part-round, part-end}
+use Rattle.net_run.proofs.ToldLemmas.{opening-names, rest-told, status-told}
+
+pub underway-opening : (names : List HostNames) (rows : List Row) (begun : Content) → names ≡ map listed rows → HaveOwnFiles names → IsUnderway names begun (Some begun) (opening_world rows)
+underway-opening names rows begun names_are own =
+    record { names_are = names_are ∙ sym (opening-names rows); own = own; puts = []; grown = opening-grown rows; now_is = refl }
+
+module _ (names : List HostNames) (begun : Content) (now : Option Content) (w : World) (underway : IsUnderway names begun now w) where
+  own_files : HaveOwnFiles (names_in w)
+  own_files = subst HaveOwnFiles underway.names_are underway.own
+
+  -- ---- so far
+
+  -- it is a front of what is shown of a later world
+  pub underway-part : (load : Bool) (u : World) → Extends w u → Between begun now (with_pieces (run_pieces load u) begun)
+  underway-part load u later =
+      let gains = gains-later w u later in
+      subst (λ (o : Option Content). Between begun o (with_pieces (run_pieces load u) begun)) (sym underway.now_is)
+      (part-so_far load w u gains.0 gains.1 own_files gains.2 underway.puts underway.grown begun)
+
+  -- ---- a round
+
+  module _ (v : World) (outputs : List (List Output)) (lines : List Line) (gains : Gains w v outputs lines) (new : Option Content) where
+    -- what it gained was put
+    pub underway-round : new ≡ option_map (with_pieces (with_bytes (all_grown names outputs lines))) now → IsUnderway names begun new v
+    underway-round put = record {
+      names_are = underway.names_are ∙ sym (names-kept w v outputs lines gains);
+      own = underway.own;
+      puts = underway.puts ++ with_bytes (all_grown (names_in w) outputs lines);
+      grown = round-grown w v outputs lines own_files gains underway.puts underway.grown;
+      now_is = put ∙ ap (option_map (with_pieces (with_bytes (all_grown names outputs lines)))) underway.now_is
+          ∙ ap (λ (hosts : List HostNames). Some (with_pieces (with_bytes (all_grown hosts outputs lines)) (with_pieces underway.puts begun))) underway.names_are
+          ∙ ap Some (sym (with_append underway.puts (with_bytes (all_grown (names_in w) outputs lines)) begun));
+    }
+
+    -- a front of it was put
+    pub underway-round_part : (load : Bool) (u : World) → Extends v u → PutsFront (with_bytes (all_grown names outputs lines)) now new → Between begun new (with_pieces (run_pieces load u) begun)
+    underway-round_part load u later front =
+        let more = gains-later v u later in
+        part-round load w v u outputs lines more.0 more.1 own_files gains more.2 underway.puts underway.grown begun new
+        (subst (λ (hosts : List HostNames). PutsFront (with_bytes (all_grown hosts outputs lines)) (Some (with_pieces underway.puts begun)) new) underway.names_are
+        (subst (λ (o : Option Content). PutsFront (with_bytes (all_grown names outputs lines)) o new) underway.now_is front))
+
+  -- ---- the end
+
+  module _ (states : List (List State)) (count : length states ≡ length w.hosts)
+      (tells : (k : ℕ) (h : HostRecord) (told : List State) → slice_get w.hosts k ≡ Some h → slice_get states k ≡ Some told → TellsStates h told) where
+    rest-is : (load : Bool) → all_rest names states (summary_in load w) ≡ rest_in load w
+    rest-is load = ap (λ (hosts : List HostNames). all_rest hosts states (summary_in load w)) underway.names_are ∙ rest-told w states count tells load
+
+    -- the rest was put: what stands is what is shown
+    pub underway-end : (load : Bool) (new : Option Content) → new ≡ option_map (with_pieces (all_rest names states (summary_in load w))) now → new ≡ Some (with_pieces (run_pieces load w) begun)
+    underway-end load new put =
+        put ∙ ap (λ (l : List Put). option_map (with_pieces l) now) (rest-is load) ∙ ap (option_map (with_pieces (rest_in load w))) underway.now_is
+        ∙ ap Some (sym (with_append underway.puts (rest_in load w) begun) ∙ end-whole load w own_files underway.puts underway.grown begun)
+
+    -- a front of it was put
+    pub underway-end_part : (load : Bool) (new : Option Content) → PutsFront (all_rest names states (summary_in load w)) now new → Between begun new (with_pieces (run_pieces load w) begun)
+    underway-end_part load new front =
+        part-end load w own_files underway.puts underway.grown begun new
+        (subst (λ (o : Option Content). PutsFront (rest_in load w) o new) underway.now_is (subst (λ (l : List Put). PutsFront l now new) (rest-is load) front))
+
+    pub underway-status : status_by (unmet_of_hosts names states) ≡ status_of w
+    underway-status = ap (λ (hosts : List HostNames). status_by (unmet_of_hosts hosts states)) underway.names_are ∙ status-told w states count tells
