@@ -1,6 +1,7 @@
+pub mod EndLemmas
 pub mod OpenedLemmas
 pub mod PartLemmas
 pub mod PlanLemmas
-pub mod PutLemmas
+pub mod RoundLemmas
 pub mod RunLemmas
 pub mod ShadowLemmas

@@ -15,6 +15,7 @@ use Rattle.net_routes.specs.Routes.{route_in}
 use Rattle.round_lookahead.specs.OpeningWorld.{AreHostRows}
 use Rattle.round_lookahead.specs.WorldStands.{HasRounds, IsAhead, nanos_of}
 use Rattle.run_plan.specs.Limits.{KeepsToLimits}
+use Rattle.run_plan.specs.Names.{AreApart, AreRowsApart}
 use Rattle.run_plan.specs.Plan.{nodes_of}
 use Rattle.run_plan.specs.Plan as plan
 use Rattle.run_plan.specs.Routed.{TakeTime, IsRouted}
@@ -175,3 +176,18 @@ rounds_fit run net within routed net_is =
       short = is_short run.plan.lookahead;
       ahead = is_ahead (nodes_of run.plan.rows) run.plan.routes run.plan.lookahead routed.lookahead routed.later;
     }
+
+-- ---- names
+
+names_said : (rows : List Row) → map (λ (h : Host). h.name) (map said_host rows) ≡ map (λ (row : Row). row.name) rows
+names_said [] = refl
+names_said (row ∷ rows) = ap (λ (names : List (List ℕ)). row.name ∷ names) (names_said rows)
+
+names_from : (s : Settings) (n : ℕ) (hs : List HostRow) → map (λ (h : Host). h.name) (hosts_from s n hs) ≡ map (λ (h : HostRow). h.config.name) hs
+names_from s n [] = refl
+names_from s n (h ∷ hs) = ap (λ (names : List (List ℕ)). h.config.name ∷ names) (names_from s (n + 1) hs)
+
+-- no two rows have one name
+pub names_fit : (run : Run) (rows : List Row) → AreRowsApart run.plan → AreRowsOf run rows → AreApart (map (λ (row : Row). row.name) rows)
+names_fit run rows apart same =
+    subst AreApart (sym (sym (names_said rows) ∙ ap (map (λ (h : Host). h.name)) same ∙ names_from run.plan.settings 0 run.plan.rows)) apart

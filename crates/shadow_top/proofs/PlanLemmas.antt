@@ -2,7 +2,8 @@
 use Rattle.std.proofs.Common.{◌≡◌, ℕ, Bool, false, List, Option, Some, None, Result, Ok, Err, IfSome, refl, sym, ap, subst, ◌∙◌, inl, inr}
 use Rattle.sim_base.specs.Sink.{Content, begun}
 use Rattle.host_state.specs.World.{World, IsResult, opening_world}
-use Rattle.net_run.specs.Pieces.{Put, with_pieces, PutsFront}
+use Rattle.net_run.specs.Parts.{Between}
+use Rattle.net_run.specs.Pieces.{Put, with_pieces}
 use Rattle.net_run.specs.Shown.{pieces}
 use Rattle.run_plan.specs.declared.fault.Fault.TheVariants.{Exists}
 use Rattle.run_plan.specs.declared.planned.Run.{Run}
@@ -35,9 +36,9 @@ ran_by run opened c new (Ok status) opens free (w, result, new_is, status_is) = 
 ran_by run opened c new (Err (Refused fault)) opens free told = absurd told
 ran_by run opened c new (Err (ReadFailed file)) opens free told = absurd told
 ran_by run opened c new (Err WriteFailed) opens free (w, result, some) =
-    inr (free, w, run_to run opened w opens result, subst (λ (ps : List Put). PutsFront ps (Some (begun (directory_of run) c)) new) (same_pieces run opened w opens) some)
+    inr (free, w, run_to run opened w opens result, subst (λ (ps : List Put). Between (begun (directory_of run) c) new (with_pieces ps (begun (directory_of run) c))) (same_pieces run opened w opens) some)
 ran_by run opened c new (Err NoMemory) opens free (w, result, some) =
-    inr (free, w, run_to run opened w opens result, subst (λ (ps : List Put). PutsFront ps (Some (begun (directory_of run) c)) new) (same_pieces run opened w opens) some)
+    inr (free, w, run_to run opened w opens result, subst (λ (ps : List Put). Between (begun (directory_of run) c) new (with_pieces ps (begun (directory_of run) c))) (same_pieces run opened w opens) some)
 
 -- the directory was made, and the run
 pub plan_ran : (run : Run) (opened : Opened) (directory : List ℕ) (old mid new : Option Content) (done : Unit {0}) (r : Result ℕ Stop) → Opens run opened → directory ≡ opened.directory

@@ -1,35 +1,37 @@
 -- What a run leaves, from what its steps leave.
-use Rattle.std.specs.Prelude.{if◌then◌else◌}
-use Rattle.std.proofs.Common.{◌≡◌, ◌≤◌, ℕ, suc, Bool, true, false, nat_lt, List, [], ◌∷◌, length, Option, Some, None, option_map, Result, Ok, Err, IfSome, refl, sym, ap, ◌∙◌, arith}
-use Rattle.sim_base.specs.declared.event.Event.{Event}
+use Rattle.std.proofs.Common.{◌≡◌, ℕ, ◌≤◌, Bool, List, [], ◌∷◌, map, All, Option, Some, None, option_map, Result, Ok, Err, IfSome, refl, sym, ap, subst, ◌∙◌}
 use Rattle.sim_base.specs.Sink.{Content}
 use Rattle.sim_base.specs.declared.outside.sink.WriteError.{WriteError}
 use Rattle.sim_base.specs.declared.outside.sink.WriteError.TheVariants as write
+use Rattle.host_state.specs.World.{World, IsResult, opening_world}
 use Rattle.host_state.specs.declared.net.Net.{Net}
 use Rattle.host_state.specs.declared.row.Row.{Row}
-use Rattle.host_state.specs.Fits.{model}
-use Rattle.world_order.specs.EventOrder.{take_least}
-use Rattle.world_order.specs.Model.{fires}
-use Rattle.world_order.specs.World.{after_firing, by_least, next, is_over, goes_on}
-use Rattle.world_order.proofs.Homes.{length-fires}
-use Rattle.world_order.proofs.Results.{at_least_one}
+use Rattle.net_run.specs.Grown.{HaveOwnFiles, IsUnderway}
+use Rattle.net_run.specs.Listed.{HostNames, HasIds, listed, names_in, names_of}
+use Rattle.net_run.specs.Parts.{Between}
 use Rattle.net_run.specs.Pieces.{with_pieces, PutsFront}
-use Rattle.net_run.specs.Shown.{note_puts, run_pieces}
-use Rattle.host_state.specs.HostRecord.{HostRecord}
-use Rattle.host_state.specs.Ran.{AllStand, RanStands}
-use Rattle.host_state.specs.World.{World, IsResult, opening_world}
-use Rattle.host_state.specs.declared.ran.HostRun.{HostRun}
-use Rattle.host_state.specs.declared.ran.Ran.{Ran}
-use Rattle.round_lookahead.specs.WorldStands.{nanos_of}
+use Rattle.net_run.specs.Shown.{note_puts, run_pieces, unmet}
+use Rattle.net_run.specs.declared.listed.Listing.{Listing}
+use Rattle.net_run.proofs.FrontLemmas.{with_append}
+use Rattle.net_run.proofs.PartLemmas.{Grows-refl, Grows-with_pieces}
+use Rattle.net_run.proofs.ToldLemmas.{opening-names, own-files}
+use Rattle.net_run.proofs.UnderwayLemmas.{underway-opening}
+use Rattle.round_lookahead.specs.WorldStands.{nanos_of, WorldStands}
+use Rattle.round_lookahead.specs.declared.world.world_state.World as rounds
 use Rattle.round_lookahead.proofs.WorldOpenings.{opened-between}
 use Rattle.round_lookahead.proofs.WorldSteps.{simulation, between-settled}
+use Rattle.run_plan.specs.Names.{AreApart}
+use Rattle.world_order.proofs.Results.{at_least_one}
 use Rattle.shadow_top.specs.Contract.{Reports, RunsNoted, PutsSome, RunsOpened}
+use Rattle.shadow_top.specs.Ending.{PutsEnd}
 use Rattle.shadow_top.specs.Opened.{HasOpened}
+use Rattle.shadow_top.specs.Rounds.{IsAt, StandsAt, HasAllRounds, PutsInPart, PutsRounds}
 use Rattle.shadow_top.specs.Stop.{of_writing}
 use Rattle.shadow_top.specs.declared.opened.Opened.{Opened}
 use Rattle.shadow_top.specs.declared.stop.Stop.{Stop}
 use Rattle.shadow_top.specs.declared.stop.Stop.TheVariants.{Refused, ReadFailed, WriteFailed, NoMemory}
-use Rattle.shadow_top.proofs.PutLemmas.{nothing_put, first_put, then_put, all_put}
+use Rattle.shadow_top.proofs.EndLemmas.{small}
+use Rattle.shadow_top.proofs.PartLemmas.{between-after, between-first}
 
 -- a run has a result
 pub ran_exists : (opened : Opened) → HasOpened opened → (w : World) × IsResult opened.net w (opening_world opened.rows.items)
@@ -39,70 +41,99 @@ ran_exists opened has =
     (between-settled opened.net (nanos_of opened.lookahead) has.rounds start (opened-between opened.net opened.rows.items has.rows)) in
     (r.0, r.1)
 
--- ---- as many hosts as rows
-
-next_count : (net : Net) (w v : World) (o : Option (Event × List Event)) → by_least (model net) net.stop.nanos w o ≡ Some v → length v.hosts ≡ length w.hosts
-next_count net w v None is = absurd (cc)
-next_count net w v (Some (e, rest)) is = by (nat_lt e.key.due.nanos net.stop.nanos) is
-  where
-    by : (b : Bool) → (if b then Some (after_firing w e rest (fires (model net) w.hosts e)) else None) ≡ Some v → length v.hosts ≡ length w.hosts
-    by true same = let fired : after_firing w e rest (fires (model net) w.hosts e) ≡ v = cc in ap (λ (x : World). length x.hosts) (sym fired) ∙ length-fires (model net) w.hosts e
-    by false same = absurd (cc)
-
-step_count : (net : Net) (w v : World) → next (model net) net.stop.nanos w ≡ Some v → length v.hosts ≡ length w.hosts
-unfolding next
-step_count net w v is = next_count net w v (take_least w.events) is
-
-result_count : (net : Net) (r w : World) → IsResult net r w → length r.hosts ≡ length w.hosts
-result_count net r w (is_over w' over same) = ap (λ (x : World). length x.hosts) (sym same)
-result_count net r w (goes_on w' v is rest) = result_count net r v rest ∙ step_count net w v is
-
-opening_count : (rows : List Row) → length (opening_world rows).hosts ≡ length rows
-opening_count [] = refl
-opening_count (row ∷ rows) = ap suc (opening_count rows)
-
-stand-length : (rs : List HostRun) (hs : List HostRecord) → AllStand rs hs → length rs ≡ length hs
-stand-length [] [] all = refl
-stand-length [] (h ∷ hs) all = absurd all
-stand-length (r ∷ rs) [] all = absurd all
-stand-length (r ∷ rs) (h ∷ hs) all = ap suc (stand-length rs hs all.1)
-
--- a run leaves its hosts
-pub few_ran : (opened : Opened) (ran : Ran) → HasOpened opened → (w : World) × IsResult opened.net w (opening_world opened.rows.items) × RanStands ran w → length ran.hosts.items ≤ 65536
-few_ran opened ran has (w, result, stands) =
-    let hosts = stand-length ran.hosts.items w.hosts stands.hosts in
-    let count = result_count opened.net w (opening_world opened.rows.items) result in
-    let start = opening_count opened.rows.items in
-    let rows = has.rows.count in
-    let few = has.rounds.few in
-    omega (arith, hosts, count, start, rows, few)
-
 -- no memory for the run: nothing was put
-pub not_run : (opened : Opened) (old : Option Content) → HasOpened opened → RunsNoted opened old old (Err NoMemory)
-not_run opened old has =
-    let (w, result) = ran_exists opened has in (w, result, nothing_put (run_pieces opened.is_self_load w) old old refl)
+pub not_run : (opened : Opened) (old : Option Content) → HasOpened opened → IfSome old (λ c. RunsNoted opened c old (Err NoMemory))
+not_run opened None has = tt
+not_run opened (Some c) has =
+    let (w, result) = ran_exists opened has in
+    (w, result, record { now = c; now_is = refl; grown = Grows-refl c; rest = Grows-with_pieces (run_pieces opened.is_self_load w) c })
 
--- a write of the report failed
-pub report_stopped : (load : Bool) (w : World) (old new : Option Content) (e : WriteError) → PutsFront (run_pieces load w) old new → Reports load w old new (Err (of_writing e))
-report_stopped load w old new write.Failed some = some
-report_stopped load w old new write.NoMemory some = some
+-- ---- the beginning
+
+names_listed : (rows : List Row) → map (λ (h : HostNames). h.name) (map listed rows) ≡ map (λ (row : Row). row.name) rows
+names_listed [] = refl
+names_listed (row ∷ rows) = ap (λ (names : List (List ℕ)). row.name ∷ names) (names_listed rows)
+
+-- where a run begins, nothing was put
+pub stands-start : (rows : List Row) (listing : Listing) (old : Option Content) → AreApart (map (λ (row : Row). row.name) rows) → names_of listing ≡ map listed rows → All HasIds (names_of listing)
+    → StandsAt listing (opening_world rows) old old
+stands-start rows listing old apart names_are ids = λ begun is.
+    (let names : map (λ (h : HostNames). h.name) (names_of listing) ≡ map (λ (row : Row). row.name) rows = ap (map (λ (h : HostNames). h.name)) names_are ∙ names_listed rows in
+    subst (λ (o : Option Content). IsUnderway (names_of listing) begun o (opening_world rows)) (sym is)
+    (underway-opening (names_of listing) rows begun names_are (own-files (names_of listing) (subst AreApart (sym names) apart) ids)))
+
+pub at-start : (c : rounds.World) (rows : List Row) (listing : Listing) → WorldStands c (opening_world rows) → names_of listing ≡ map listed rows → IsAt c listing (opening_world rows)
+at-start c rows listing stands names_are = record { stands = stands; listed = names_are ∙ sym (opening-names rows) }
+
+pub at_begin : (opened : Opened) (c : rounds.World) (listing : Listing) → WorldStands c (opening_world opened.rows.items) → names_of listing ≡ map listed opened.rows.items
+    → IsAt c listing (opening_world opened.rows.items)
+at_begin opened c listing stands names_are = at-start c opened.rows.items listing stands names_are
+
+pub stands_begin : (opened : Opened) (listing : Listing) (old : Option Content) → HasOpened opened → names_of listing ≡ map listed opened.rows.items → All HasIds (names_of listing)
+    → StandsAt listing (opening_world opened.rows.items) old old
+stands_begin opened listing old has names_are ids = stands-start opened.rows.items listing old has.names names_are ids
+
+-- ---- rounds and the end
+
+pub ended_small : (load : Bool) (w : World) (old new : Option Content) (status : ℕ) → PutsEnd load w old new (let r : Result ℕ WriteError = Ok status in r) → status ≤ 1
+ended_small load w old new status told = subst (λ (s : ℕ). s ≤ 1) (sym told.1) (small (unmet w))
+
+module _ (opened : Opened) (c : rounds.World) (same : c.net ≡ opened.net) (old : Option Content) where
+  abbrev start : World
+  start = opening_world opened.rows.items
+
+  result_of : (w : World) → IsResult c.net w start → IsResult opened.net w start
+  result_of w result = subst (λ (n : Net). IsResult n w start) same result
+
+  part_of : (new : Option Content) → PutsInPart c start old new → (o : Option Content) → o ≡ old
+      → IfSome o (λ begun. (w : World) × IsResult opened.net w start × Between begun new (with_pieces (run_pieces opened.is_self_load w) begun))
+  part_of new part None is = tt
+  part_of new (w, result, stands) (Some begun) is = (w, result_of w result, stands begun (sym is) opened.is_self_load)
+
+  -- a round stopped
+  pub rounds_stopped : (d : rounds.World) (listing : Listing) (new : Option Content) (stop : Stop) → PutsRounds c d listing start old new (let r : Result (Unit {0}) Stop = Err stop in r)
+      → IfSome old (λ begun. RunsNoted opened begun new (Err stop))
+  rounds_stopped d listing new (Refused fault) told = absurd told
+  rounds_stopped d listing new (ReadFailed file) told = absurd told
+  rounds_stopped d listing new WriteFailed told = part_of new told old refl
+  rounds_stopped d listing new NoMemory told = part_of new told old refl
+
+  module _ (d : rounds.World) (listing : Listing) (mid new : Option Content) (all : HasAllRounds c d listing start old mid) where
+    ended_at : (status : ℕ) → PutsEnd opened.is_self_load all.world old new (let r : Result ℕ WriteError = Ok status in r) → (o : Option Content) → o ≡ old
+        → IfSome o (λ begun. RunsNoted opened begun new (Ok status))
+    ended_at status told None is = tt
+    ended_at status (told, status_is) (Some begun) is = (all.world, result_of all.world all.result, (told begun (sym is), status_is))
+
+    -- all was put
+    pub run_ended : (status : ℕ) → PutsEnd opened.is_self_load all.world old new (let r : Result ℕ WriteError = Ok status in r) → IfSome old (λ begun. RunsNoted opened begun new (Ok status))
+    run_ended status told = ended_at status told old refl
+
+    stopped_at : (error : WriteError) → PutsEnd opened.is_self_load all.world old new (let r : Result ℕ WriteError = Err error in r) → (o : Option Content) → o ≡ old
+        → IfSome o (λ begun. RunsNoted opened begun new (Err (of_writing error)))
+    stopped_at error told None is = tt
+    stopped_at write.Failed told (Some begun) is = (all.world, result_of all.world all.result, told begun (sym is))
+    stopped_at write.NoMemory told (Some begun) is = (all.world, result_of all.world all.result, told begun (sym is))
+
+    -- a write failed at the end
+    pub end_stopped : (error : WriteError) → PutsEnd opened.is_self_load all.world old new (let r : Result ℕ WriteError = Err error in r)
+        → IfSome old (λ begun. RunsNoted opened begun new (Err (of_writing error)))
+    end_stopped error told = stopped_at error told old refl
+
+-- ---- the notes
+
+noted_here : (opened : Opened) (c : Content) (new : Option Content) (r : Result ℕ Stop) → RunsNoted opened (with_pieces (note_puts opened.notes) c) new r → RunsOpened opened c new r
+noted_here opened c new (Ok status) (w, result, told) =
+    (w, result, told.0 ∙ ap Some (sym (with_append (note_puts opened.notes) (run_pieces opened.is_self_load w) c)), told.1)
+noted_here opened c new (Err (Refused fault)) (w, result, told) = absurd told
+noted_here opened c new (Err (ReadFailed file)) (w, result, told) = absurd told
+noted_here opened c new (Err WriteFailed) (w, result, part) = (w, result, between-after (note_puts opened.notes) (run_pieces opened.is_self_load w) c new part)
+noted_here opened c new (Err NoMemory) (w, result, part) = (w, result, between-after (note_puts opened.notes) (run_pieces opened.is_self_load w) c new part)
 
 -- the notes were put, and the run was made
-noted_by : (opened : Opened) (c : Content) (mid new : Option Content) (r : Result ℕ Stop) → mid ≡ option_map (with_pieces (note_puts opened.notes)) (Some c)
-    → RunsNoted opened mid new r → RunsOpened opened c new r
-noted_by opened c mid new (Ok status) noted (w, result, told) =
-    (w, result, all_put (note_puts opened.notes) (run_pieces opened.is_self_load w) (Some c) mid new noted told.0, told.1)
-noted_by opened c mid new (Err (Refused fault)) noted (w, result, told) = absurd told
-noted_by opened c mid new (Err (ReadFailed file)) noted (w, result, told) = absurd told
-noted_by opened c mid new (Err WriteFailed) noted (w, result, some) =
-    (w, result, then_put (note_puts opened.notes) (run_pieces opened.is_self_load w) (Some c) mid new noted some)
-noted_by opened c mid new (Err NoMemory) noted (w, result, some) =
-    (w, result, then_put (note_puts opened.notes) (run_pieces opened.is_self_load w) (Some c) mid new noted some)
-
 pub noted : (opened : Opened) (old mid new : Option Content) (r : Result ℕ Stop) → mid ≡ option_map (with_pieces (note_puts opened.notes)) old
-    → RunsNoted opened mid new r → IfSome old (λ c. RunsOpened opened c new r)
+    → IfSome mid (λ c. RunsNoted opened c new r) → IfSome old (λ c. RunsOpened opened c new r)
 noted opened None mid new r is ran = tt
-noted opened (Some c) mid new r is ran = noted_by opened c mid new r is ran
+noted opened (Some c) mid new r is ran = noted_here opened c new r (subst (λ (m : Option Content). IfSome m (λ d. RunsNoted opened d new r)) is ran)
 
 -- a write of the notes failed
 stopped_by : (opened : Opened) (c : Content) (new : Option Content) (e : WriteError) → PutsSome opened c new → RunsOpened opened c new (Err (of_writing e))
@@ -114,4 +145,4 @@ pub notes_stopped : (opened : Opened) (old new : Option Content) (e : WriteError
 notes_stopped opened None new e has some = tt
 notes_stopped opened (Some c) new e has some =
     let (w, result) = ran_exists opened has in
-    stopped_by opened c new e (w, result, first_put (note_puts opened.notes) (run_pieces opened.is_self_load w) (Some c) new some)
+    stopped_by opened c new e (w, result, between-first (note_puts opened.notes) (run_pieces opened.is_self_load w) c new some)

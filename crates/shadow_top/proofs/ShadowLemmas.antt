@@ -4,7 +4,8 @@ use Rattle.sim_base.specs.Faults.{Rose}
 use Rattle.sim_base.specs.Files.{Held}
 use Rattle.sim_base.specs.Sink.{Content, add, begun, AddsFront}
 use Rattle.sim_base.specs.declared.outside.sink.Place.TheVariants as place
-use Rattle.net_run.specs.Pieces.{with_pieces, PutsFront}
+use Rattle.net_run.specs.Parts.{Between}
+use Rattle.net_run.specs.Pieces.{with_pieces}
 use Rattle.net_run.specs.Shown.{status_of}
 use Rattle.net_run.specs.World.{World}
 use Rattle.run_plan.specs.Line.{line_of}
@@ -25,7 +26,7 @@ use Rattle.shadow_top.specs.Shown.{IsShown, IsRunTo, pieces_of, refused, configu
 use Rattle.shadow_top.specs.Stop.{CountsSource, CountsSink, of_reading}
 use Rattle.shadow_top.specs.declared.stop.Stop.{Stop}
 use Rattle.shadow_top.specs.declared.stop.Stop.TheVariants.{Refused, ReadFailed, WriteFailed, NoMemory}
-use Rattle.shadow_top.proofs.PartLemmas.{part-begun, part-line, part-text, between-puts}
+use Rattle.shadow_top.proofs.PartLemmas.{part-begun, part-line, part-text}
 
 -- ---- what is shown
 
@@ -51,11 +52,10 @@ part_of_config i old config new asked front =
     let (now, now_is, part) = part-text old (shown config) new front in
     inr (record { now = now; whole = add place.Out (shown config) old; status = 0; new_is = now_is; shown = config_shown i old config asked; part = part })
 
--- a front of the pieces of a run
+-- a front of the pieces of a run, place by place
 pub part_of_pieces : (i : Input) (old : Content) (run : Run) (w : World) (new : Option Content) → IsToRun i run → IsRunTo run w
-    → PutsFront (pieces_of run w) (Some (begun (directory_of run) old)) new → ShowsPart i old new
-part_of_pieces i old run w new asked result front =
-    let b = between-puts (pieces_of run w) (begun (directory_of run) old) new front in
+    → Between (begun (directory_of run) old) new (with_pieces (pieces_of run w) (begun (directory_of run) old)) → ShowsPart i old new
+part_of_pieces i old run w new asked result b =
     inr (record {
       now = b.now;
       whole = with_pieces (pieces_of run w) (begun (directory_of run) old);
@@ -102,7 +102,7 @@ in_part : (i : Input) (c : Content) (new : Option Content) (run : Run) → IsPla
 in_part i c new run asked there told =
     ⊎_elim
     (λ (same : new ≡ Some c). inl same)
-    (λ (some : (c.there (directory_of run) ≡ false) × (w : World) × IsRunTo run w × PutsFront (pieces_of run w) (Some (begun (directory_of run) c)) new).
+    (λ (some : (c.there (directory_of run) ≡ false) × (w : World) × IsRunTo run w × Between (begun (directory_of run) c) new (with_pieces (pieces_of run w) (begun (directory_of run) c))).
     part_of_pieces i c run some.1 new (record { asked = asked; free = ap (λ (t : List ℕ → Bool). t (directory_of run)) there ∙ some.0 }) some.2 some.3)
     told
 

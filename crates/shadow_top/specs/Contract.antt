@@ -5,7 +5,8 @@ use Rattle.sim_base.specs.Sink.{Content, add, begun, AddsFront}
 use Rattle.sim_base.specs.declared.outside.sink.Place.TheVariants as place
 use Rattle.out_text.specs.Faults.{file_line}
 use Rattle.host_state.specs.World.{World, IsResult, opening_world}
-use Rattle.net_run.specs.Pieces.{with_pieces, PutsFront}
+use Rattle.net_run.specs.Parts.{IsPart, Between}
+use Rattle.net_run.specs.Pieces.{with_pieces}
 use Rattle.net_run.specs.Shown.{pieces, run_pieces, status_of}
 use Rattle.run_plan.specs.Line.{line_of}
 use Rattle.run_plan.specs.declared.fault.Fault.TheVariants.{Exists}
@@ -13,7 +14,6 @@ use Rattle.run_plan.specs.declared.planned.Planned.{Planned}
 use Rattle.run_plan.specs.declared.planned.Planned.TheVariants as plan
 use Rattle.run_plan.specs.declared.planned.Run.{Run}
 use Rattle.shadow_top.specs.Input.{Input, IsFirstFault, IsReached, directory_of}
-use Rattle.shadow_top.specs.Parts.{IsPart}
 use Rattle.shadow_top.specs.Shown.{IsShown, IsRunTo, pieces_of}
 use Rattle.shadow_top.specs.declared.opened.Opened.{Opened}
 use Rattle.shd_config.specs.Shown.{shown}
@@ -76,21 +76,22 @@ ShowsConfig config c new (Err (ReadFailed file)) = ⊥
 ShowsConfig config c new (Err WriteFailed) = AddsFront place.Out (shown config) (Some c) new
 ShowsConfig config c new (Err NoMemory) = AddsFront place.Out (shown config) (Some c) new
 
--- what the report of a world leaves
-abbrev pub Reports : Bool → World → Option Content → Option Content → Result ℕ Stop → Type 0
-Reports load w old new (Ok status) = (new ≡ option_map (with_pieces (run_pieces load w)) old) × (status ≡ status_of w)
-Reports load w old new (Err (Refused fault)) = ⊥
-Reports load w old new (Err (ReadFailed file)) = ⊥
-Reports load w old new (Err WriteFailed) = PutsFront (run_pieces load w) old new
-Reports load w old new (Err NoMemory) = PutsFront (run_pieces load w) old new
+-- what stands is what a world shows; or each place holds a front of that
+abbrev pub Reports : Bool → World → Content → Option Content → Result ℕ Stop → Type 0
+Reports load w c new (Ok status) = (new ≡ Some (with_pieces (run_pieces load w) c)) × (status ≡ status_of w)
+Reports load w c new (Err (Refused fault)) = ⊥
+Reports load w c new (Err (ReadFailed file)) = ⊥
+Reports load w c new (Err WriteFailed) = Between c new (with_pieces (run_pieces load w) c)
+Reports load w c new (Err NoMemory) = Between c new (with_pieces (run_pieces load w) c)
 
 -- what a run leaves whose notes were put
-abbrev pub RunsNoted : Opened → Option Content → Option Content → Result ℕ Stop → Type 0
-RunsNoted opened old new r = (w : World) × IsResult opened.net w (opening_world opened.rows.items) × Reports opened.is_self_load w old new r
+abbrev pub RunsNoted : Opened → Content → Option Content → Result ℕ Stop → Type 0
+RunsNoted opened c new r = (w : World) × IsResult opened.net w (opening_world opened.rows.items) × Reports opened.is_self_load w c new r
 
--- some of the pieces of an opened run's result were put
+-- a front of the pieces of an opened run's result was put, place by place
 abbrev pub PutsSome : Opened → Content → Option Content → Type 0
-PutsSome opened c new = (w : World) × IsResult opened.net w (opening_world opened.rows.items) × PutsFront (pieces opened.notes opened.is_self_load w) (Some c) new
+PutsSome opened c new =
+    (w : World) × IsResult opened.net w (opening_world opened.rows.items) × Between c new (with_pieces (pieces opened.notes opened.is_self_load w) c)
 
 -- what a run leaves whose data directory was made
 abbrev pub RunsOpened : Opened → Content → Option Content → Result ℕ Stop → Type 0
@@ -102,10 +103,11 @@ RunsOpened opened c new (Err (ReadFailed file)) = ⊥
 RunsOpened opened c new (Err WriteFailed) = PutsSome opened c new
 RunsOpened opened c new (Err NoMemory) = PutsSome opened c new
 
--- nothing was put; or the directory was made, and some of the pieces of the run's result were put
+-- nothing was put; or the directory was made, and a front of the pieces of the run's result was put, place by place
 abbrev pub RunsInPart : Run → Content → Option Content → Type 0
 RunsInPart run c new = (new ≡ Some c)
-    ⊎ ((c.there (directory_of run) ≡ false) × (w : World) × IsRunTo run w × PutsFront (pieces_of run w) (Some (begun (directory_of run) c)) new)
+    ⊎ ((c.there (directory_of run) ≡ false) × (w : World) × IsRunTo run w
+    × Between (begun (directory_of run) c) new (with_pieces (pieces_of run w) (begun (directory_of run) c)))
 
 -- what a run leaves
 abbrev pub RunsPlan : Run → Content → Option Content → Result ℕ Stop → Type 0

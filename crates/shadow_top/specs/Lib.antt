@@ -1,7 +1,8 @@
 pub mod Contract
+pub mod Ending
 pub mod Input
 pub mod Opened
 pub mod Outcome
-pub mod Parts
+pub mod Rounds
 pub mod Shown
 pub mod Stop

@@ -12,6 +12,7 @@ use Rattle.net_iface.specs.declared.lane.QueueRule.{QueueRule}
 use Rattle.net_iface.specs.declared.lane.QueueRule.TheVariants as lane
 use Rattle.round_lookahead.specs.OpeningWorld.{AreHostRows}
 use Rattle.round_lookahead.specs.WorldStands.{HasRounds, nanos_of}
+use Rattle.run_plan.specs.Names.{AreApart}
 use Rattle.run_plan.specs.Plan.{nodes_of}
 use Rattle.run_plan.specs.declared.host_row.HostRow.{HostRow}
 use Rattle.run_plan.specs.declared.plan.Settings.{Settings}
@@ -147,7 +148,8 @@ pub record Opens (run : Run) (opened : Opened) : Type 0 where
   pub rows : AreRowsOf run opened.rows.items
   pub net : IsNetOf run opened.net
 
--- its rows are those of its net, which can be run by rounds
+-- its rows are those of its net, which can be run by rounds, and no two hosts have one name
 pub record HasOpened (opened : Opened) : Type 0 where
   pub rows : AreHostRows opened.net opened.rows.items
   pub rounds : HasRounds opened.net (nanos_of opened.lookahead)
+  pub names : AreApart (map (λ (row : Row). row.name) opened.rows.items)

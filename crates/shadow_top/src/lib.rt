@@ -1,7 +1,9 @@
 //! The simulator's top call.
 #![tactic(auto)]
 
+mod ending;
 mod opened;
+mod rounds;
 mod simulation;
 mod stop;
 #[cfg(test)]

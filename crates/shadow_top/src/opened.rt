@@ -2,6 +2,7 @@
 
 ghost use Rattle.std.specs.Prelude.{◌≡◌, ◌+◌, ◌≤◌, ◌<◌, ◌∷◌, map, length, IfOk, codes};
 ghost use Rattle.run_plan.specs.Limits.{KeepsToLimits};
+ghost use Rattle.run_plan.specs.Names.{AreRowsApart};
 ghost use Rattle.run_plan.specs.Plan.{nodes_of};
 ghost use Rattle.run_plan.specs.Routed.{IsRouted};
 ghost use Rattle.shadow_top.specs.Opened.{variable_text, state_of, lane_rule, said_process, process_of, processes_of, said_host, host_of, hosts_from, cut_lookahead, Opens, HasOpened};
@@ -202,6 +203,7 @@ fn cut_lookahead(lookahead: Option<Time>) -> Option<Time>
 pub fn open(alloc: Global, run: Run) -> Result<Opened, NoMemory>
     requires limits { KeepsToLimits run.plan }
     requires routed { IsRouted run.plan }
+    requires apart { AreRowsApart run.plan }
     ensures opens { IfOk result (Opens run) }
     ensures opened { IfOk result HasOpened }
 {

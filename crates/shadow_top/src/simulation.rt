@@ -4,22 +4,23 @@ ghost use Rattle.std.specs.Prelude.{◌≡◌, ◌≢◌, ◌<◌, ◌≤◌, �
 ghost use Rattle.sim_base.specs.Faults.{Rose};
 ghost use Rattle.sim_base.specs.Sink.{begun, add, AddsFront};
 ghost use Rattle.sim_base.specs.declared.outside.sink.Place.TheVariants as place;
-ghost use Rattle.host_state.specs.Ran.{RanStands};
-ghost use Rattle.host_state.specs.World.{World, IsResult, opening_world};
 ghost use Rattle.shadow_top.specs.Opened.{Opens, HasOpened};
 ghost use Rattle.run_plan.specs.Limits.{KeepsToLimits, AreLimitsKept};
 ghost use Rattle.run_plan.specs.Line.{line_of};
+ghost use Rattle.run_plan.specs.Names.{AreRowsApart, AreNamesApart};
 ghost use Rattle.run_plan.specs.Routed.{IsRouted, IsRoutedIfRun};
-ghost use Rattle.shadow_top.specs.Contract.{Shows, TellsReadFailed, ShowsPart, TellsPart, Runs, CarriesOut, RunsPlan, ShowsConfig, RunsOpened, RunsNoted, Reports, TellsLine, Tells, BeginsSo, read_failed_line};
+ghost use Rattle.shadow_top.specs.Contract.{Shows, TellsReadFailed, ShowsPart, TellsPart, Runs, CarriesOut, RunsPlan, ShowsConfig, RunsOpened, RunsNoted, TellsLine, Tells, BeginsSo, read_failed_line};
 ghost use Rattle.shadow_top.specs.Input.{input};
 ghost use Rattle.shadow_top.specs.Outcome.{Outcome};
 ghost use Rattle.shadow_top.specs.Stop.{CountsSource, CountsSink, NoReadFailed};
 
+use crate::ending::put_end;
 use crate::opened::{Opened, open};
+use crate::rounds::put_rounds;
 use crate::stop::Stop;
-use host_state::Ran;
-use net_run::{put_notes, report};
+use net_run::{Listing, put_notes};
 use out_text::FaultText;
+use round_lookahead::World;
 use run_plan::{Fault, Planned, Run, read_plan, tell, worker_count};
 use shd_config::Config;
 use sim_base::{Name, NoMemory, Place, Sink, Source, Text, WriteError, put_all};
@@ -106,47 +107,8 @@ fn show_config<K: Sink>(alloc: Global, sink: &mut K, config: &Config) -> Result<
     }
 }
 
-/// Writes what a run leaves.
-fn report_run<K: Sink>(
-    alloc: Global,
-    ran: Ran,
-    is_self_load: bool,
-    sink: &mut K,
-) -> Result<u8, Stop>
-    requires { length ran.hosts.items ≤ 65536 }
-    ensures told { (w : World) → RanStands ran w → Reports is_self_load w (K.content sink.old) (K.content sink.new) result }
-    ensures status { (w : World) → RanStands ran w → IfOk result (λ status. status ≤ 1) }
-    ensures reads { NoReadFailed result }
-    ensures count { CountsSink result (K.faults sink.old) (K.faults sink.new) }
-{
-    match report(alloc, sink, ran, is_self_load) {
-        Ok(status) => Ok(status),
-        Err(error) => Err(Stop::from(error)),
-    }
-}
-
-/// Makes a run, by workers that each tell the gate before they run a host.
-fn run_opened<G: Gate + Sync, R: Threads + Sync + AllocGlobal>(
-    rt: &R,
-    cores: u32,
-    gate: &G,
-    opened: Opened,
-) -> Result<Ran, NoMemory>
-    requires { HasOpened opened }
-    ensures { IfOk result (λ ran. (w : World) × IsResult opened.net w (opening_world opened.rows.items) × RanStands ran w) }
-{
-    let Opened {
-        parallelism,
-        lookahead,
-        rows,
-        net,
-        ..
-    } = opened;
-    let workers = worker_count(parallelism, cores, rows.len() as u32);
-    round_lookahead::run(rt, rt.alloc(), rows, net, lookahead, workers, gate)
-}
-
-/// Makes a run whose notes were written, and writes what it leaves.
+/// Makes a run whose notes were written, and writes what it shows: what a round gains as soon as the
+/// round is over, and the rest at the end.
 fn run_noted<K: Sink, G: Gate + Sync, R: Threads + Sync + AllocGlobal>(
     rt: &R,
     cores: u32,
@@ -155,16 +117,26 @@ fn run_noted<K: Sink, G: Gate + Sync, R: Threads + Sync + AllocGlobal>(
     sink: &mut K,
 ) -> Result<u8, Stop>
     requires { HasOpened opened }
-    ensures told { RunsNoted opened (K.content sink.old) (K.content sink.new) result }
+    ensures told { IfSome (K.content sink.old) (λ c. RunsNoted opened c (K.content sink.new) result) }
     ensures status { IfOk result (λ status. status ≤ 1) }
     ensures reads { NoReadFailed result }
     ensures count { CountsSink result (K.faults sink.old) (K.faults sink.new) }
 {
-    let is_self_load = opened.is_self_load;
-    match run_opened(rt, cores, gate, opened) {
-        Ok(ran) => report_run(rt.alloc(), ran, is_self_load, sink),
-        Err(NoMemory) => Err(Stop::NoMemory),
-    }
+    let alloc = rt.alloc();
+    let Opened {
+        is_self_load,
+        parallelism,
+        lookahead,
+        rows,
+        net,
+        ..
+    } = opened;
+    let workers = worker_count(parallelism, cores, rows.len() as u32);
+    let listing = Listing::new(alloc, rows.as_slice())?;
+    let mut world = World::start(alloc, rows, net, lookahead)?;
+    put_rounds(rt, workers, gate, &mut world, &listing, sink)?;
+    let status = put_end(alloc, &world, &listing, is_self_load, sink)?;
+    Ok(status)
 }
 
 /// Makes a run whose data directory was made, and writes what it shows.
@@ -191,6 +163,7 @@ fn run_begun<K: Sink, G: Gate + Sync, R: Threads + Sync + AllocGlobal>(
 fn prepare(alloc: Global, run: Run) -> Result<(Opened, Name), NoMemory>
     requires limits { KeepsToLimits run.plan }
     requires routed { IsRouted run.plan }
+    requires apart { AreRowsApart run.plan }
     ensures opens { IfOk result (λ p. Opens run p.0) }
     ensures opened { IfOk result (λ p. HasOpened p.0) }
     ensures directory { IfOk result (λ p. p.1 ≡ p.0.directory) }
@@ -210,6 +183,7 @@ fn run_plan<K: Sink, G: Gate + Sync, R: Threads + Sync + AllocGlobal>(
 ) -> Result<u8, Stop>
     requires limits { KeepsToLimits run.plan }
     requires routed { IsRouted run.plan }
+    requires apart { AreRowsApart run.plan }
     ensures told { IfSome (K.content sink.old) (λ c. RunsPlan run c (K.content sink.new) result) }
     ensures status { IfOk result (λ status. status ≤ 1) }
     ensures reads { NoReadFailed result }
@@ -234,6 +208,7 @@ fn carry_out<K: Sink, G: Gate + Sync, R: Threads + Sync + AllocGlobal>(
 ) -> Result<u8, Stop>
     requires limits { AreLimitsKept planned }
     requires routed { IsRoutedIfRun planned }
+    requires apart { AreNamesApart planned }
     ensures told { IfSome (K.content sink.old) (λ c. CarriesOut planned c (K.content sink.new) result) }
     ensures status { IfOk result (λ status. status ≤ 1) }
     ensures reads { NoReadFailed result }

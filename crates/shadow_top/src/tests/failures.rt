@@ -130,13 +130,14 @@ fn shows_fronts_where_calls_fail_and_the_same_byte_by_byte(rt: HostRuntime) -> R
         assert!(rt; !sink.has_directory("shadow.data"));
         assert_eq!(rt; sink.file_count(), 0);
     }
-    // The calls are the directory, the note, the files in order and the two lines.
-    for write in 1..18 {
+    // The calls are the directory and the note; three outputs and the log in the round of 0 ms, and one output and the
+    // log in that of 1 ms; and at the end the files in order and the two lines.
+    for write in 1..24 {
         let (status, sink) = faulty(&rt, 99, write)?;
         assert_eq!(rt; status, 4, "write {write}");
         is_front(&rt, &sink)?;
     }
-    let (status, sink) = faulty(&rt, 7, 18)?;
+    let (status, sink) = faulty(&rt, 7, 24)?;
     assert_eq!(rt; status, 1);
     is_whole(&rt, &sink)?;
     let words = words(alloc, &["shadow", "t.yaml"])?;

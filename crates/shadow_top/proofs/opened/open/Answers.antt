@@ -3,7 +3,7 @@ use Rattle.host_state.specs.declared.net.Net.{Net}
 use Rattle.sim_base.specs.declared.time.Time.{Time}
 use Rattle.round_lookahead.specs.WorldStands.{HasRounds, nanos_of}
 use Rattle.shadow_top.specs.Opened.{AreRowsOf, IsNetOf}
-use Rattle.shadow_top.proofs.OpenedLemmas.{rows_fit, rounds_fit}
+use Rattle.shadow_top.proofs.OpenedLemmas.{rows_fit, rounds_fit, names_fit}
 use Rattle.shadow_top.proofs.opened.open.Goals as goal
 
 pub returns-clause-opened : goal.returns-clause-opened
@@ -21,5 +21,6 @@ returns-clause-opened c =
     let net_is : IsNetOf c.args.run net = search rules in
     record {
       rows = rows_fit c.args.run net c.in_ok-rows.rows.items c.requires.limits same net_is;
+      names = names_fit c.args.run c.in_ok-rows.rows.items c.requires.apart same;
       rounds = subst (λ (l : Option Time). HasRounds net (nanos_of l)) (sym c.cut_lookahead.ensures) (rounds_fit c.args.run net c.requires.limits c.requires.routed net_is);
     }

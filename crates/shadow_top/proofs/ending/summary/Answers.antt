@@ -1,0 +1,10 @@
+use Rattle.std.proofs.Common.{◌≡◌, refl, sym, subst, Some}
+use Rattle.net_run.specs.Rest.{summary_in}
+use Rattle.shadow_top.proofs.EndLemmas.{no-summary, summary-told}
+use Rattle.shadow_top.proofs.ending.summary.Goals as goal
+
+pub returns-then-not-is_self_load : goal.returns-then-not-is_self_load
+returns-then-not-is_self_load c = λ w stands many. no-summary w c.args.is_self_load c.if-not-is_self_load.true
+
+pub returns : goal.returns
+returns c = λ w stands many. summary-told w c.args.is_self_load c.args.hosts c.counts-counts.result c.if-not-is_self_load.false many (c.counts-counts.ensures w stands)

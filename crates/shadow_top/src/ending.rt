@@ -1,0 +1,89 @@
+//! The end of a run: the final states, the unmet expectations and the summary.
+
+ghost use Rattle.std.specs.Prelude.{◌≡◌, ◌<◌, ◌≤◌, ◌^◌, All, IfOk, Option, length, slice_get};
+ghost use Rattle.sim_base.specs.Sink.{CountsWrites, Content};
+ghost use Rattle.host_state.specs.HostRecord.{HostRecord};
+ghost use Rattle.host_state.specs.World.{World as HostWorld};
+ghost use Rattle.net_run.specs.Listed.{HasIds, names_of};
+ghost use Rattle.net_run.specs.Rest.{summary_in, TellsStates};
+ghost use Rattle.round_lookahead.specs.WorldStands.{WorldStands};
+ghost use Rattle.shadow_top.specs.Ending.{TellsAll, PutsEnd};
+ghost use Rattle.shadow_top.specs.Rounds.{IsAt, StandsAt};
+
+use net_run::{Listing, put_rest};
+use out_text::Summary;
+use round_lookahead::World;
+use sim_base::{NoMemory, Sink, State, WriteError};
+use std::alloc::Global;
+
+/// The states of the processes of a host, in their order.
+fn host_states(
+    alloc: Global,
+    world: &World,
+    host: u32,
+    count: usize,
+) -> Result<Vec<State>, NoMemory>
+    requires host { host < length world.now.tasks.items }
+    requires few { count ≤ 2 ^ 32 }
+    ensures { IfOk result (λ states. (w : HostWorld) (h : HostRecord) → WorldStands world.now w → slice_get w.hosts host ≡ Some h → count ≡ length h.row.processes.items → TellsStates h states.items) }
+{
+    let mut states = Vec::new(alloc);
+    for process in 0..count {
+        states.push(world.state(host, process as u32))?;
+    }
+    Ok(states)
+}
+
+/// The states of all processes, those of each host at its place.
+fn all_states(alloc: Global, world: &World, listing: &Listing) -> Result<Vec<Vec<State>>, NoMemory>
+    requires at { (w : HostWorld) × IsAt world.now listing.now w }
+    requires ids { All HasIds (names_of listing.now) }
+    ensures { IfOk result (λ states. (w : HostWorld) → IsAt world.now listing.now w → TellsAll w states.items) }
+{
+    let mut states = Vec::new(alloc);
+    for host in 0..listing.host_count() {
+        let number = host as u32;
+        let count = listing.process_count(host);
+        let each = host_states(alloc, world, number, count)?;
+        states.push(each)?;
+    }
+    Ok(states)
+}
+
+/// For a self-load, what was sent, lost and received.
+fn summary(world: &World, hosts: u32, is_self_load: bool) -> Option<Summary>
+    ensures { (w : HostWorld) → WorldStands world.now w → hosts ≡ length w.hosts → result ≡ summary_in is_self_load w }
+{
+    if !is_self_load {
+        return None;
+    }
+    let counts = world.counts();
+    Some(Summary {
+        hosts,
+        sent: counts.sent,
+        lost: counts.lost,
+        received: counts.received,
+    })
+}
+
+/// Puts what is left when all rounds are made, and gives the status.
+pub(crate) fn put_end<K: Sink>(
+    alloc: Global,
+    world: &World,
+    listing: &Listing,
+    is_self_load: bool,
+    sink: &mut K,
+) -> Result<u8, WriteError>
+    requires at { (w : HostWorld) × IsAt world.now listing.now w }
+    requires ids { All HasIds (names_of listing.now) }
+    ensures told { (w : HostWorld) (old : Option Content) → IsAt world.now listing.now w → StandsAt listing.now w old (K.content sink.old) → PutsEnd is_self_load w old (K.content sink.new) result }
+    ensures count { CountsWrites result (K.faults sink.old) (K.faults sink.new) }
+{
+    let states = match all_states(alloc, world, listing) {
+        Ok(states) => states,
+        Err(NoMemory) => return Err(WriteError::NoMemory),
+    };
+    let hosts = listing.host_count() as u32;
+    let summary = summary(world, hosts, is_self_load);
+    put_rest(alloc, sink, listing, states.as_slice(), summary)
+}
