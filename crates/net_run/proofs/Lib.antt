@@ -1,10 +1,7 @@
-mod StandLemmas
 mod PieceLemmas
 mod PathLemmas
 mod ListingLemmas
-mod LogLemmas
 pub mod FrontLemmas
-mod ReportLemmas
 mod ContentLemmas
 pub mod NameLemmas
 mod SplitLemmas

@@ -2,7 +2,6 @@ pub mod World
 pub mod StandsFor
 pub mod Pieces
 pub mod Shown
-pub mod Telling
 pub mod Listed
 pub mod Places
 pub mod Grown

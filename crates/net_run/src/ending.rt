@@ -9,12 +9,11 @@ ghost use Rattle.net_run.specs.Rest as spec;
 ghost use Rattle.net_run.specs.Shown.{files_named, unmet_by, first_id, status_by};
 
 use crate::listed::{HostListing, Listing, ProcessListing};
-use crate::listing::{bytes_of, numbers, push_line, push_named};
 use crate::output::{Piece, put_pieces};
+use crate::process_pieces::{bytes_of, log_piece, numbers, push_line, push_named};
 use crate::queueing::move_all;
-use crate::reporting::{log_piece, push_summary, status};
 use out_text::Summary;
-use sim_base::{Bytes, NoMemory, Sink, State, Text, WriteError};
+use sim_base::{Bytes, NoMemory, Place, Sink, State, Text, WriteError};
 use std::alloc::Global;
 
 /// The state of the process at a place. One that isn't told has not started.
@@ -156,18 +155,30 @@ fn unmet(
     Ok(pieces)
 }
 
-/// The line of a summary, behind other pieces.
-fn push_total(
+/// The line of a summary, where there is one, behind other pieces.
+fn push_summary(
     alloc: Global,
     pieces: &mut Vec<Piece>,
     summary: Option<Summary>,
 ) -> Result<(), NoMemory>
     ensures { OnOk result (map put_of pieces.new.items ≡ map put_of pieces.old.items ++ spec.summary_rest summary) }
 {
-    match summary {
-        Some(summary) => push_summary(alloc, pieces, true, &summary),
-        None => Ok(()),
-    }
+    let Some(summary) = summary else {
+        return Ok(());
+    };
+    let mut line = Text::new(alloc);
+    out_text::summary_line(alloc, &mut line, &summary)?;
+    pieces.push(Piece {
+        place: Place::Out,
+        bytes: bytes_of(line),
+    })?;
+    Ok(())
+}
+
+fn status(unmet: &[Piece]) -> u8
+    ensures { result ≡ status_by (map put_of unmet.now) }
+{
+    if unmet.is_empty() { 0 } else { 1 }
 }
 
 /// The pieces behind the files of processes, and the status.
@@ -193,7 +204,7 @@ fn make_ending(
     let mut pieces = Vec::new(alloc);
     pieces.push(log_piece(alloc, Text::new(alloc))?)?;
     move_all(&mut pieces, unmet)?;
-    push_total(alloc, &mut pieces, summary)?;
+    push_summary(alloc, &mut pieces, summary)?;
     Ok(Ending { pieces, status })
 }
 

@@ -12,9 +12,8 @@ ghost use Rattle.net_run.specs.Shown.{log_name};
 ghost use Rattle.net_run.specs.StandsFor.{kept_lines};
 
 use crate::listed::{HostListing, Listing, ProcessListing};
-use crate::listing::{file, numbers, written_to};
 use crate::output::{Piece, put_pieces};
-use crate::reporting::log_piece;
+use crate::process_pieces::{file, log_piece, numbers, written_to};
 use host_calls::Output;
 use host_state::{Line, Logged};
 use out_text::{FileKind, LogLine};

@@ -4,15 +4,12 @@
 mod ending;
 mod growing;
 mod listed;
-mod listing;
-mod log;
 mod notes;
 mod output;
+mod process_pieces;
 mod queueing;
-mod reporting;
 
 pub use ending::put_rest;
 pub use growing::put_round;
 pub use listed::Listing;
 pub use notes::put_notes;
-pub use reporting::report;

@@ -4,7 +4,7 @@ ghost use Rattle.std.specs.Prelude.{◌≡◌, ◌<◌, ◌≤◌, All, IfOk, So
 ghost use Rattle.net_run.specs.Listed as spec;
 ghost use Rattle.net_run.specs.Listed.{HostNames};
 
-use crate::listing::{expected_state, program};
+use crate::process_pieces::{expected_state, program};
 use host_state::{ProcessRow, Row};
 use sim_base::{Name, NoMemory, State};
 use std::alloc::Global;

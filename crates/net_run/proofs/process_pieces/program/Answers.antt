@@ -1,7 +1,7 @@
 use Rattle.std.proofs.Common.{◌≡◌, ℕ, ◌∙◌, ap, sym, List, Option, option_map, Bor}
 use Rattle.net_run.specs.Shown.{last_part}
 use Rattle.net_run.proofs.PathLemmas.{program-split}
-use Rattle.net_run.proofs.listing.program.Goals as goal
+use Rattle.net_run.proofs.process_pieces.program.Goals as goal
 
 pub returns-in-Some : goal.returns-in-Some
 returns-in-Some c = let split = program-split c.args.path.now _ c.rsplit_once.ensures.cases in

@@ -1,16 +1,14 @@
-//! The pieces of one host.
+//! The pieces of one process.
 
 ghost use Rattle.std.specs.Prelude.{◌≡◌, ◌++◌, ◌+◌, ◌<◌, ◌^◌, List, IfOk, OnOk, map};
 ghost use Rattle.sim_base.specs.declared.outside.sink.Place.TheVariants as place;
-ghost use Rattle.host_state.specs.HostRecord.{HostRecord};
 ghost use Rattle.out_text.specs.Files.{file_name, state_line};
 ghost use Rattle.net_run.specs.Pieces.{put_of};
 ghost use Rattle.net_run.specs.Shown as spec;
-ghost use Rattle.net_run.specs.StandsFor.{RunStands};
 
 use crate::output::Piece;
 use host_calls::Output;
-use host_state::{FinalState, HostRun, ProcessRow};
+use host_state::FinalState;
 use out_text::{FaultText, FileKind};
 use sim_base::{Bytes, Name, NoMemory, Place, State, Text};
 use std::alloc::Global;
@@ -57,7 +55,7 @@ pub(crate) fn expected_state(expected: FinalState) -> State
 }
 
 /// Whether a process ended as it is expected to.
-pub(crate) fn meets(expected: State, state: State) -> bool
+fn meets(expected: State, state: State) -> bool
     ensures { result ≡ spec.meets expected state }
 {
     match (expected, state) {
@@ -95,6 +93,16 @@ pub(crate) fn bytes_of(text: Text) -> Bytes
     Bytes::from(text.into_string().into_bytes())
 }
 
+/// The file of the packet log, with a text.
+pub(crate) fn log_piece(alloc: Global, text: Text) -> Result<Piece, NoMemory>
+    ensures { IfOk result (λ p. put_of p ≡ (place.File (spec.log_name), text)) }
+{
+    Ok(Piece {
+        place: Place::File(Name::from_str(alloc, "packets.log")?),
+        bytes: bytes_of(text),
+    })
+}
+
 /// The number of a process and its id, by its place. More processes than have ids have no room.
 pub(crate) fn numbers(place: usize) -> Result<(u32, u32), NoMemory>
     ensures { IfOk result (λ n. (n.0 ≡ place) × (n.1 ≡ spec.first_id + place)) }
@@ -129,48 +137,6 @@ pub(crate) fn push_named(
     Ok(())
 }
 
-/// The files of a process, behind other pieces.
-fn push_files(
-    alloc: Global,
-    pieces: &mut Vec<Piece>,
-    run: &HostRun,
-    place: usize,
-    row: &ProcessRow,
-) -> Result<(), NoMemory>
-    ensures { OnOk result ((h : HostRecord) → RunStands run.now h → map put_of pieces.new.items ≡ map put_of pieces.old.items ++ spec.process_files h place row.now) }
-{
-    let (process, pid) = numbers(place)?;
-    let host = run.host.row();
-    let outputs = run.written.as_slice();
-    let stdout = written_to(alloc, process, 1, outputs)?;
-    let stderr = written_to(alloc, process, 2, outputs)?;
-    let mut exit = Text::new(alloc);
-    out_text::state_line(alloc, &mut exit, run.host.state(process))?;
-    push_named(
-        alloc,
-        pieces,
-        host.name.as_str(),
-        program(row.path.as_str()),
-        pid,
-        stdout,
-        stderr,
-        bytes_of(exit),
-    )?;
-    Ok(())
-}
-
-/// The files of all processes of a host.
-pub(crate) fn host_files(alloc: Global, run: &HostRun) -> Result<Vec<Piece>, NoMemory>
-    ensures { IfOk result (λ pieces. (h : HostRecord) → RunStands run.now h → map put_of pieces.items ≡ spec.host_files h) }
-{
-    let mut pieces = Vec::new(alloc);
-    let rows = run.host.row().processes.as_slice();
-    for place in 0..rows.len() {
-        push_files(alloc, &mut pieces, run, place, &rows[place])?;
-    }
-    Ok(pieces)
-}
-
 /// The line of a process if its final state is another one, behind other pieces.
 pub(crate) fn push_line(
     alloc: Global,
@@ -199,44 +165,5 @@ pub(crate) fn push_line(
         place: Place::Err,
         bytes: bytes_of(line),
     })?;
-    Ok(())
-}
-
-fn push_unmet(
-    alloc: Global,
-    pieces: &mut Vec<Piece>,
-    run: &HostRun,
-    place: usize,
-    row: &ProcessRow,
-) -> Result<(), NoMemory>
-    ensures { OnOk result ((h : HostRecord) → RunStands run.now h → map put_of pieces.new.items ≡ map put_of pieces.old.items ++ spec.process_unmet h place row.now) }
-{
-    let (process, pid) = numbers(place)?;
-    let state = run.host.state(process);
-    let host = run.host.row();
-    push_line(
-        alloc,
-        pieces,
-        host.name.as_str(),
-        program(row.path.as_str()),
-        pid,
-        expected_state(row.expected),
-        state,
-    )?;
-    Ok(())
-}
-
-/// The lines of all processes of a host whose final state is another one, behind other pieces.
-pub(crate) fn push_host_unmet(
-    alloc: Global,
-    pieces: &mut Vec<Piece>,
-    run: &HostRun,
-) -> Result<(), NoMemory>
-    ensures { OnOk result ((h : HostRecord) → RunStands run.now h → map put_of pieces.new.items ≡ map put_of pieces.old.items ++ spec.host_unmet h) }
-{
-    let rows = run.host.row().processes.as_slice();
-    for place in 0..rows.len() {
-        push_unmet(alloc, pieces, run, place, &rows[place])?;
-    }
     Ok(())
 }
