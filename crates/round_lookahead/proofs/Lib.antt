@@ -26,4 +26,3 @@ pub mod WorldRounds
 pub mod WorldGains
 pub mod WorldOpenings
 pub mod Reaching
-pub mod RunLemmas

@@ -25,7 +25,6 @@ use Rattle.round_lookahead.specs.declared.world.pieces.Pieces.{Pieces}
 use Rattle.round_lookahead.specs.declared.world.world_state.World.{World}
 use Rattle.round_lookahead.specs.Backs.{lists_of}
 use Rattle.round_lookahead.specs.Gains.{HasRound}
-use Rattle.round_lookahead.specs.Ran.{joined_each}
 use Rattle.round_lookahead.specs.Tasks.{waiting}
 use Rattle.round_lookahead.specs.WorldStands.{HostWorld, nanos_of, IsAhead, WorldStands}
 use Rattle.round_lookahead.proofs.CountSteps.{lines-gained}
@@ -124,23 +123,7 @@ reached-round net start c d workers w v p reached same round =
 pub round-extends : (c d : World) (workers : ℕ) (w v : HostWorld) (p : Pieces) → HasRound c d workers w v p → Extends w v
 round-extends c d workers w v p round = result-extends c.net (window_end (nanos_of c.lookahead) c.net.stop.nanos round.least) v w round.result
 
--- its hosts wrote what it gained, each at its place, and the log has its lines
-written-joined : (bs ks : List HostRecord) (gs : List (Vec Output Global)) → length ks ≡ length bs → length gs ≡ length bs
-    → ((i : ℕ) (b k : HostRecord) (g : Vec Output Global) → slice_get bs i ≡ Some b → slice_get ks i ≡ Some k → slice_get gs i ≡ Some g → k.written ≡ b.written ++ g.items)
-    → map (λ (h : HostRecord). h.written) ks ≡ joined_each (map (λ (h : HostRecord). h.written) bs) (lists_of gs)
-written-joined [] [] gs same long each = refl
-written-joined [] (k ∷ ks) gs same long each = absurd (omega arith)
-written-joined (b ∷ bs) [] gs same long each = absurd (omega arith)
-written-joined (b ∷ bs) (k ∷ ks) [] same long each = absurd (omega arith)
-written-joined (b ∷ bs) (k ∷ ks) (g ∷ gs) same long each =
-    let rest = written-joined bs ks gs (omega arith) (omega arith) (λ i x y z at there here. each (suc i) x y z at there here) in
-    λ i. each 0 b k g refl refl refl i ∷ rest i
-
-pub round-written : (c d : World) (workers : ℕ) (w v : HostWorld) (p : Pieces) → HasRound c d workers w v p
-    → map (λ (h : HostRecord). h.written) v.hosts ≡ joined_each (map (λ (h : HostRecord). h.written) w.hosts) (lists_of p.outputs.items)
-round-written c d workers w v p round =
-    written-joined w.hosts v.hosts p.outputs.items (later-count w.hosts v.hosts (round-extends c d workers w v p round).hosts) round.gained.count round.gained.outputs
-
+-- the log has the lines that it gained
 pub round-lines : (c d : World) (workers : ℕ) (w v : HostWorld) (p : Pieces) → HasRound c d workers w v p → lines_of v.log ≡ lines_of w.log ++ kept_lines p.lines.items
 round-lines c d workers w v p round = lines-gained w.log v.log p.lines.items round.gained.lines
 

@@ -15,4 +15,3 @@ pub mod Counts
 pub mod Settles
 pub mod RoundsInPlace
 pub mod OpeningWorld
-pub mod Ran

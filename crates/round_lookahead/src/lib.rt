@@ -9,5 +9,4 @@ pub use workers::worked::{Done, Worked};
 pub use workers::working::work;
 pub use world::counts::Counts;
 pub use world::pieces::Pieces;
-pub use world::run::run;
 pub use world::world_state::World;

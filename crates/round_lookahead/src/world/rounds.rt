@@ -1,5 +1,5 @@
 //! The world goes on, round by round.
-ghost use Rattle.std.specs.Prelude.{◌≡◌, ◌≤◌, ◌<◌, ◌↔◌, true, false, Some, All, Any, IfOk, IfSome, IfNone, flat_map};
+ghost use Rattle.std.specs.Prelude.{◌≡◌, ◌≤◌, ◌<◌, ◌↔◌, true, false, Some, All, Any, IfOk, flat_map};
 ghost use Rattle.event_order.specs.Events.{IsLeastDue};
 ghost use Rattle.round_lookahead.specs.Gains.{HasRound};
 ghost use Rattle.round_lookahead.specs.Tasks.{waiting};
@@ -35,20 +35,6 @@ impl World {
         match self.next_due() {
             None => true,
             Some(due) => due.nanos >= self.net.stop.nanos,
-        }
-    }
-
-    /// When the next event is due, if that is before the net's stop.
-    pub(crate) fn due(&self) -> Option<Time>
-        ensures some { IfSome result (λ least. IsLeastDue (flat_map waiting self.now.tasks.items) (Some least)) }
-        ensures before { IfSome result (λ least. least.nanos < self.now.net.stop.nanos) }
-        ensures none { IfNone result (All (λ event. self.now.net.stop.nanos ≤ event.key.due.nanos) (flat_map waiting self.now.tasks.items)) }
-    {
-        let least = self.next_due()?;
-        if least.nanos < self.net.stop.nanos {
-            Some(least)
-        } else {
-            None
         }
     }
 

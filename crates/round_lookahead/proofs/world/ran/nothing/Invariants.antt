@@ -1,6 +1,0 @@
-use Rattle.std.proofs.Common.{◌≡◌, [], replicate}
-use Rattle.round_lookahead.specs.Backs.{lists_of}
-use Rattle.round_lookahead.proofs.world.ran.nothing.Given as goal
-
-abbrev pub invariant-loop-host : goal.invariant-loop-host
-invariant-loop-host l = lists_of l.written.items ≡ replicate l._host []
