@@ -26,3 +26,4 @@ pub mod WorldRounds
 pub mod WorldGains
 pub mod WorldOpenings
 pub mod Reaching
+pub mod Lookaheads

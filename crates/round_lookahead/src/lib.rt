@@ -1,6 +1,8 @@
 //! Rounds: all hosts are run up to the end of a window, by workers side by side.
 #![tactic(auto)]
 
+#[cfg(test)]
+mod tests;
 mod workers;
 mod world;
 
