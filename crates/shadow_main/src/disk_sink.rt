@@ -8,15 +8,27 @@ use std::fs;
 use std::fs::{Files, OpenOptions};
 use std::io::{self, ErrorKind, Write};
 
+/// So many files are kept open.
+const MOST_OPEN: usize = 16;
+
+/// A file of the directory that is open.
+#[derive(Drop)]
+struct OpenFile<F> {
+    name: String,
+    file: F,
+}
+
 /// Writes to two streams and to the files of a directory that it makes. It tells no bytes, and counts each failure but
 /// want of memory.
 #[derive(Drop)]
-pub struct DiskSink<'a, R, O, E> {
+pub struct DiskSink<'a, R: Files, O, E> {
     files: &'a R,
     out: O,
     err: E,
     /// The directory that was begun, with a slash at its end.
     directory: String,
+    /// The files that were opened last, which grow round by round.
+    kept: Vec<OpenFile<R::File>>,
     faults: u64,
 }
 
@@ -27,12 +39,13 @@ impl<'a, R: Files + AllocGlobal, O: Write, E: Write> DiskSink<'a, R, O, E> {
             out,
             err,
             directory: String::new(files.alloc()),
+            kept: Vec::new(files.alloc()),
             faults: 0,
         }
     }
 
     /// Opens a file to write at its end; it is made where it is not there.
-    fn open(&self, path: &str) -> io::Result<R::File> {
+    fn open_at_end(&self, path: &str) -> io::Result<R::File> {
         let mut options = OpenOptions::new();
         options.append(true).create(true);
         options.open(self.files, path)
@@ -40,26 +53,48 @@ impl<'a, R: Files + AllocGlobal, O: Write, E: Write> DiskSink<'a, R, O, E> {
 
     /// The same, and its parents are made where they are not there.
     fn open_below(&self, path: &str) -> io::Result<R::File> {
-        match self.open(path) {
+        match self.open_at_end(path) {
             Err(error) if error.kind() == ErrorKind::NotFound => {
                 if let Some((parent, _)) = path.rsplit_once('/') {
                     fs::create_dir_all(self.files, parent)?;
                 }
-                self.open(path)
+                self.open_at_end(path)
             }
             opened => opened,
         }
     }
 
-    /// Adds bytes to a file of the directory.
-    fn put_file(&self, name: &str, piece: &[u8]) -> io::Result<usize>
-        ensures { IfOk result (λ n. n ≤ length piece.now) }
+    /// The place of a file of the directory among those that are open. Where it isn't open it is opened, and the one that
+    /// was opened first is closed where they are too many.
+    fn opened(&mut self, name: &str) -> io::Result<usize>
+        ensures place { IfOk result (λ place. place < length self.new.kept.items) }
+        ensures faults { self.new.faults ≡ self.old.faults }
     {
+        for (place, file) in self.kept.iter().enumerate() {
+            if file.name.as_str() == name {
+                return Ok(place);
+            }
+        }
         let alloc: Global = self.files.alloc();
         let directory = self.directory.as_str();
         let path = format!(in alloc; "{directory}{name}")?;
-        let mut file = self.open_below(path.as_str())?;
-        file.write(piece)
+        let file = self.open_below(path.as_str())?;
+        let name = String::from_str(alloc, name)?;
+        if self.kept.len() >= MOST_OPEN {
+            let _closed = self.kept.remove(0);
+        }
+        let place = self.kept.len();
+        self.kept.push(OpenFile { name, file })?;
+        Ok(place)
+    }
+
+    /// Adds bytes to a file of the directory.
+    fn put_file(&mut self, name: &str, piece: &[u8]) -> io::Result<usize>
+        ensures fits { IfOk result (λ n. n ≤ length piece.now) }
+        ensures faults { self.new.faults ≡ self.old.faults }
+    {
+        let place = self.opened(name)?;
+        self.kept[place].file.write(piece)
     }
 
     fn put_some(&mut self, place: &Place, piece: &[u8]) -> io::Result<usize>
