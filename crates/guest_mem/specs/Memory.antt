@@ -1,5 +1,5 @@
 -- The memory of a guest: what stands at each mapped address, and what a load, a store and a copy make of it.
-use Rattle.std.specs.Prelude.{ℕ, zero, suc, ◌+◌, ◌*◌, ◌/◌, ◌%◌, Bool, List, [], ◌∷◌, length, is_some, if◌then◌else◌, Option, Some, None, refl}
+use Rattle.std.specs.Prelude.{◌≡◌, ◌<◌, slice_index, ℕ, zero, suc, ◌+◌, ◌*◌, ◌/◌, ◌%◌, Bool, List, [], ◌∷◌, length, is_some, if◌then◌else◌, Option, Some, None, refl}
 use Rattle.std.specs.Option.{option_map}
 use Rattle.std.specs.FinMap as map
 use Rattle.std.specs.Coded.{Coded, code_by, coded×, coded_ℕ}
@@ -53,6 +53,11 @@ number (byte ∷ bytes) = byte + 256 * number bytes
 -- the number in the k bytes at a, where each is mapped with the right
 abbrev pub load : Right → ℕ → Memory → ℕ → Option ℕ
 load right k m a = option_map number (read right k m a)
+
+-- the 4,096 bytes of the page with this number, where each of its addresses is mapped with the right
+pub record IsPage (right : Right) (cells : Cells) (number : ℕ) (bytes : List ℕ) : Type 0 where
+  pub long : length bytes ≡ 4096
+  pub each : (o : ℕ) → o < 4096 → byte_for right cells (4096 * number + o) ≡ Some (slice_index bytes o)
 
 -- the cells with another byte in one of them, whose rights stay
 abbrev pub with_byte : Cells → ℕ → ℕ → Option Cell → Cells

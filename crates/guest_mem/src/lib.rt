@@ -2,6 +2,7 @@
 #![tactic(auto)]
 
 mod bad;
+mod code;
 mod copies;
 mod entry;
 mod hint;
@@ -14,6 +15,7 @@ mod table;
 mod tests;
 
 pub use bad::Bad;
+pub use code::word_in;
 pub use hint::FetchHint;
 pub use mem::Mem;
 pub use right::Right;

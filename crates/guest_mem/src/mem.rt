@@ -1,7 +1,7 @@
 //! Guest memory: bytes with rights at addresses, and the break.
 
-ghost use Rattle.std.specs.Prelude.{◌≡◌, Some, None, MatchResult, IfOk, OnOk, OnErr, is_some, length};
-ghost use Rattle.guest_mem.specs.Memory.{read, load, write, store};
+ghost use Rattle.std.specs.Prelude.{◌≡◌, ◌^◌, ◌<◌, ℕ, List, Some, None, MatchOption, MatchResult, IfOk, OnOk, OnErr, is_some, length};
+ghost use Rattle.guest_mem.specs.Memory.{IsPage, read, load, write, store};
 ghost use Rattle.guest_mem.specs.Break.{grown, pages_to};
 ghost use Rattle.guest_mem.specs.Opening.{opening};
 
@@ -103,6 +103,16 @@ impl Mem {
             (λ _. load Right.Execute 4 self.now at ≡ None) }
     {
         self.table.fetch(at, hint)
+    }
+
+    /// The bytes of the page with this number, which may be executed.
+    #[inline]
+    pub fn code(&self, number: u32) -> Option<&[u8]>
+        requires { number < 2 ^ 20 }
+        ensures { MatchOption result ((bytes : List ℕ) → ¬ (IsPage Right.Execute self.now.cells number bytes))
+            (λ page. IsPage Right.Execute self.now.cells number page.now) }
+    {
+        self.table.page(Right::Execute, number)
     }
 
     /// Puts the 1 byte of `value` at `at`.

@@ -1,10 +1,10 @@
 //! The pages of a guest.
 
-ghost use Rattle.std.specs.Prelude.{◌≡◌, ℕ, ◌+◌, ◌-◌, ◌*◌, ◌/◌, ◌%◌, ◌^◌, ◌<◌, ◌≤◌, Some, None, MatchOption, MatchResult, IfOk, IfSome, IsSome, OnOk, OnErr, is_some, length, min, slice_index_or, take, vec_len};
+ghost use Rattle.std.specs.Prelude.{◌≡◌, ℕ, List, ◌+◌, ◌-◌, ◌*◌, ◌/◌, ◌%◌, ◌^◌, ◌<◌, ◌≤◌, Some, None, MatchOption, MatchResult, IfOk, IfSome, IsSome, OnOk, OnErr, is_some, length, min, slice_index_or, take, vec_len};
 ghost use Rattle.std.specs.Bool.{OnTrue};
 ghost use Rattle.std.specs.Option.{option_map};
 ghost use Rattle.std.proofs.Props.{props};
-ghost use Rattle.guest_mem.specs.Memory.{bytes_for, number, put_all};
+ghost use Rattle.guest_mem.specs.Memory.{IsPage, bytes_for, number, put_all};
 ghost use Rattle.guest_mem.specs.Break.{with_zeros, without};
 ghost use Rattle.guest_mem.specs.PageIndex.{place_in};
 ghost use Rattle.guest_mem.specs.PageStore.{shown};
@@ -104,6 +104,19 @@ impl PageTable {
             Some(self.pages.part(place, (at % PAGE_SIZE) as usize, len))
         } else {
             None
+        }
+    }
+
+    /// The bytes of the page with this number, where it has the right.
+    #[inline]
+    pub fn page(&self, right: Right, number: u32) -> Option<&[u8]>
+        requires { number < 2 ^ 20 }
+        ensures { MatchOption result ((bytes : List ℕ) → ¬ (IsPage right (mapped_cells (shown self.now.pages)) number bytes))
+            (λ page. IsPage right (mapped_cells (shown self.now.pages)) number page.now) }
+    {
+        match self.within(right, PAGE_SIZE * number, PAGE_SIZE as usize) {
+            Some(page) => Some(page),
+            None => None,
         }
     }
 

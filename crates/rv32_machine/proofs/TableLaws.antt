@@ -7,7 +7,7 @@ use Rattle.guest_mem.specs.Memory.{Memory, load, store}
 use Rattle.guest_mem.specs.declared.right.Right.TheVariants as right
 use Rattle.rv32_machine.specs.Word.{i_immediate, b_immediate, j_immediate, is_aligned}
 use Rattle.rv32_machine.specs.Arithmetic.{sum, is_taken, modified}
-use Rattle.rv32_machine.specs.Table.{State, After, source1, source2, traps, goes_on, advanced, at, with_reservation, is_reserved, jumps, load_ends, store_ends, where_aligned, reserves, answers, conditional_ends, modify_ends, modifies, effect, executed, fetched, insn}
+use Rattle.rv32_machine.specs.Table.{State, After, source1, source2, traps, goes_on, advanced, at, with_reservation, is_reserved, jumps, load_ends, store_ends, reserves, answers, conditional_ends, modify_ends, modifies, effect, executed, fetched, insn}
 use Rattle.rv32_machine.specs.declared.cpu.Cpu.{Cpu}
 use Rattle.rv32_machine.specs.declared.outcome.Outcome.{Outcome}
 use Rattle.rv32_machine.specs.declared.outcome.Outcome.TheVariants as outcome

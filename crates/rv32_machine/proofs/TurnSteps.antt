@@ -1,17 +1,15 @@
 -- How a turn goes on by one instruction.
-use Rattle.std.proofs.Common.{◌≡◌, ℕ, suc, ◌+◌, ◌-◌, ◌<◌, ap, ◌∙◌, Some, arith}
-use Rattle.guest_mem.specs.Memory.{Memory}
-use Rattle.rv32_machine.specs.Table.{State, After, insn, state, after}
-use Rattle.rv32_machine.specs.Turn.{Turn, turn, turn_from, one_more, end_of}
+use Rattle.std.proofs.Common.{◌≡◌, ℕ, suc, ◌+◌, ◌-◌, ◌<◌, ap, ◌∙◌, Option, Some, arith}
+use Rattle.guest_mem.specs.Memory.{Memory, load}
+use Rattle.guest_mem.specs.declared.right.Right.TheVariants as right
+use Rattle.rv32_machine.specs.Encoding.{decoded}
+use Rattle.rv32_machine.specs.Table.{State, After, executed, fetched, insn, state, after}
+use Rattle.rv32_machine.specs.Turn.{Turn, turn, turn_from, one_more, end_of, ran_before}
 use Rattle.rv32_machine.specs.declared.cpu.Cpu.{Cpu}
 use Rattle.rv32_machine.specs.declared.outcome.Outcome.{Outcome}
 use Rattle.rv32_machine.specs.declared.outcome.Outcome.TheVariants as outcome
 use Rattle.rv32_machine.specs.declared.outcome.TurnEnd.{TurnEnd}
 use Rattle.rv32_machine.specs.declared.outcome.TurnEnd.TheVariants as end
-
--- the turn, before which k instructions ran
-abbrev pub ran_before : ℕ → Turn → Turn
-ran_before k t = record t { ran = k + t.ran }
 
 -- the turn that begins with this instruction
 turn_by : ℕ → After → Turn
@@ -57,3 +55,24 @@ turn-spent budget k s0 cpu m all same =
     let none : budget - k ≡ 0 = omega arith in
     let whole : k + 0 ≡ budget = omega arith in
     same ∙ ap (λ (n : ℕ). ran_before k (turn n (state cpu m))) none ∙ ap (λ (r : ℕ). record { state = state cpu m; end = end.Spent; ran = r }) whole
+
+-- the instruction whose word was fetched
+pub fetched-insn : (s : State) (word : ℕ) (a : After) → load right.Execute 4 s.memory s.cpu.pc ≡ Some word → executed (decoded word) word s ≡ a → insn s ≡ a
+unfolding insn
+fetched-insn s word a there is = ap (λ (w : Option ℕ). fetched w s) there ∙ is
+
+-- a turn of which first k and then j instructions ran
+pub ran-more : (budget k j : ℕ) (s0 s t : State) → turn budget s0 ≡ ran_before k (turn (budget - k) s) → turn (budget - k) s ≡ ran_before j (turn (budget - k - j) t) →
+    turn budget s0 ≡ ran_before (k + j) (turn (budget - (k + j)) t)
+ran-more budget k j s0 s t first then_ =
+    let rest : budget - k - j ≡ budget - (k + j) = omega arith in
+    let moved : (r : ℕ) → k + (j + r) ≡ k + j + r = λ r. omega arith in
+    first ∙ ap (ran_before k) then_ ∙ ap (λ (n : ℕ). ran_before k (ran_before j (turn n t))) rest
+    ∙ ap (λ (r : ℕ). record (turn (budget - (k + j)) t) { ran = r }) (moved _)
+
+-- a turn of which no instruction ran yet
+pub ran-none : (budget : ℕ) (s : State) → turn budget s ≡ ran_before 0 (turn (budget - 0) s)
+ran-none budget s =
+    let all : budget ≡ budget - 0 = omega arith in
+    let none : (r : ℕ) → r ≡ 0 + r = λ r. omega arith in
+    ap (λ (n : ℕ). turn n s) all ∙ ap (λ (r : ℕ). record (turn (budget - 0) s) { ran = r }) (none _)

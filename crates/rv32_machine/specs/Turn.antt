@@ -1,5 +1,5 @@
 -- A turn of the machine: instructions up to the first that calls or traps, or as many as a budget allows.
-use Rattle.std.specs.Prelude.{◌≡◌, ℕ, zero, suc, ◌-◌, ◌≤◌, ◌⊎◌, Option, None, Some}
+use Rattle.std.specs.Prelude.{◌≡◌, ℕ, zero, suc, ◌+◌, ◌-◌, ◌≤◌, ◌⊎◌, Option, None, Some}
 use Rattle.rv32_machine.specs.Table.{State, insn}
 use Rattle.rv32_machine.specs.declared.outcome.Outcome.{Outcome}
 use Rattle.rv32_machine.specs.declared.outcome.Outcome.TheVariants as outcome
@@ -60,3 +60,7 @@ turn_from s (outcome.Trap signal) rest = record { state = s; end = end.Trap sign
 unfoldable pub turn : ℕ → State → Turn
 turn zero s = record { state = s; end = end.Spent; ran = 0 }
 turn (suc n) s = turn_from (insn s).state (insn s).outcome (turn n (insn s).state)
+
+-- the turn, before which k instructions ran
+abbrev pub ran_before : ℕ → Turn → Turn
+ran_before k t = record t { ran = k + t.ran }

@@ -1,8 +1,10 @@
 //! One instruction.
 
-ghost use Rattle.std.specs.Prelude.{◌≡◌, Some, None, MatchResult, OnOk, OnErr};
-ghost use Rattle.guest_mem.specs.Memory.{Memory};
-ghost use Rattle.rv32_machine.specs.Table.{insn, effect, state, after, jumps, sets, following, loaded, stored};
+ghost use Rattle.std.specs.Prelude.{◌≡◌, Some, None, IfSome, MatchResult, OnOk, OnErr};
+ghost use Rattle.guest_mem.specs.Memory.{Memory, load as load_of};
+ghost use Rattle.guest_mem.specs.declared.right.Right.TheVariants as right;
+ghost use Rattle.rv32_machine.specs.Encoding.{decoded};
+ghost use Rattle.rv32_machine.specs.Table.{insn, effect, executed, state, after, jumps, sets, following, loaded, stored};
 
 use crate::arithmetic::{is_taken, value};
 use crate::atomics::{load_reserved, modify, store_conditional};
@@ -18,25 +20,37 @@ use guest_mem::{Bad, FetchHint, Mem};
 use sim_base::Signal;
 
 /// Runs the instruction at the program counter.
+#[tactic(auto, unfolding(crate::specs::Table::insn))]
 pub fn step(cpu: &mut Cpu, mem: &mut Mem) -> Outcome
     ensures { insn (state cpu.old mem.old) ≡ after cpu.new mem.new result }
 {
     let mut hint = FetchHint::new();
-    step_on(cpu, mem, &mut hint)
+    match mem.fetch(cpu.pc, &mut hint) {
+        Ok(word) => run_word(word, cpu, mem),
+        Err(_) => Outcome::Trap(Signal::SigSegv),
+    }
 }
 
-/// The same after other steps, which left a hint of where the instruction is.
+/// The same, where the word may have been fetched before.
 #[tactic(auto, unfolding(crate::specs::Table::insn))]
-#[inline(always)]
-pub(crate) fn step_on(cpu: &mut Cpu, mem: &mut Mem, hint: &mut FetchHint) -> Outcome
+pub(crate) fn step_fetched(fetched: Option<u32>, cpu: &mut Cpu, mem: &mut Mem) -> Outcome
+    requires { IfSome fetched (λ word. load_of right.Execute 4 mem.old cpu.old.pc ≡ Some word) }
     ensures { insn (state cpu.old mem.old) ≡ after cpu.new mem.new result }
 {
-    match mem.fetch(cpu.pc, hint) {
-        Ok(word) => match decode(word) {
-            Some(insn) => execute(insn, word, cpu, mem),
-            None => Outcome::Trap(Signal::SigIll),
-        },
-        Err(_) => Outcome::Trap(Signal::SigSegv),
+    match fetched {
+        Some(word) => run_word(word, cpu, mem),
+        None => step(cpu, mem),
+    }
+}
+
+/// Runs the instruction that the word is.
+#[inline(always)]
+fn run_word(word: u32, cpu: &mut Cpu, mem: &mut Mem) -> Outcome
+    ensures { executed (decoded word) word (state cpu.old mem.old) ≡ after cpu.new mem.new result }
+{
+    match decode(word) {
+        Some(insn) => execute(insn, word, cpu, mem),
+        None => Outcome::Trap(Signal::SigIll),
     }
 }
 
@@ -141,7 +155,7 @@ fn link(cpu: &mut Cpu, word: u32, target: u32) -> Outcome
     }
 }
 
-fn load(kind: Load, mem: &Mem, address: u32) -> Result<u32, Bad>
+pub(crate) fn load(kind: Load, mem: &Mem, address: u32) -> Result<u32, Bad>
     ensures { MatchResult result (λ n. loaded kind mem.now address ≡ Some n) (λ _. loaded kind mem.now address ≡ None) }
 {
     match kind {

@@ -6,6 +6,7 @@
 //! SIGILL. There is one hart: a reservation ends by `SC.W` and `ECALL` alone.
 #![tactic(auto)]
 
+mod ahead;
 mod arithmetic;
 #[cfg(test)]
 mod atomic_tests;
@@ -15,6 +16,7 @@ mod encoding;
 mod execution;
 mod instruction;
 mod outcome;
+mod quiet;
 mod steps;
 #[cfg(test)]
 mod tests;

@@ -4,11 +4,12 @@ ghost use Rattle.std.specs.Prelude.{◌≡◌, ◌+◌, ◌-◌, ◌≤◌};
 ghost use Rattle.rv32_machine.specs.Table.{state};
 ghost use Rattle.rv32_machine.specs.Turn.{turn, IsTurn};
 
+use crate::ahead::run_ahead;
 use crate::cpu::Cpu;
-use crate::execution::step_on;
+use crate::execution::step_fetched;
 use crate::outcome::{Outcome, TurnEnd};
 use crate::steps::Steps;
-use guest_mem::{FetchHint, Mem};
+use guest_mem::Mem;
 use std::sync::ledger::Ledger;
 
 /// Runs instructions up to the first one that calls or traps, and at most `budget` of them. A budget of 0 is
@@ -22,10 +23,16 @@ pub fn turn<L: Ledger>(cpu: &mut Cpu, mem: &mut Mem, budget: u64, steps: &mut St
         (record { state = state cpu.new mem.new; end = result; ran = steps.new - steps.old }) }
     ensures within { steps.new ≤ steps.old + budget }
 {
-    let mut hint = FetchHint::new();
-    for _ in 0..budget {
+    let mut ran = 0;
+    while ran < budget {
+        let ahead = run_ahead(cpu, mem, budget - ran, steps);
+        ran += ahead.ran;
+        if ran == budget {
+            return TurnEnd::Spent;
+        }
         steps.tick();
-        match step_on(cpu, mem, &mut hint) {
+        ran += 1;
+        match step_fetched(ahead.next, cpu, mem) {
             Outcome::Next => {}
             Outcome::Call => return TurnEnd::Call,
             Outcome::Trap(signal) => return TurnEnd::Trap(signal),
