@@ -88,7 +88,7 @@ impl Pages {
     }
 
     /// Puts `part` into a page from an offset on.
-    #[inline]
+    #[inline(always)]
     pub fn write(&mut self, place: usize, offset: usize, part: &[u8])
         requires place { place < self.old.count }
         requires in_page { offset + length part.now ≤ 4096 }
@@ -101,7 +101,7 @@ impl Pages {
     }
 
     /// The slot of a page that is to be written, which takes one where it has none.
-    #[inline]
+    #[inline(always)]
     fn own_slot(&mut self, place: usize) -> usize
         requires { place < self.old.count }
         ensures same { shown self.new ≡ shown self.old }
@@ -224,7 +224,7 @@ impl Pages {
 }
 
 /// Puts `part` into `bytes` from a place on.
-#[inline]
+#[inline(always)]
 fn overwrite(bytes: &mut Vec<u8>, from: usize, part: &[u8])
     requires { from + length part.now ≤ vec_len bytes.old }
     ensures inside { (k : ℕ) → k < length part.now → slice_index bytes.new.items (from + k) ≡ slice_index part.now k }

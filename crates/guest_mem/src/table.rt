@@ -121,7 +121,7 @@ impl PageTable {
     }
 
     /// Puts `bytes` at `at`, which lie in one page, where the page may be written.
-    #[inline]
+    #[inline(always)]
     pub fn put_within(&mut self, at: u32, bytes: &[u8]) -> Result<(), Bad>
         requires some { 0 < length bytes.now }
         requires in_page { at % 4096 + length bytes.now ≤ 4096 }
@@ -323,7 +323,7 @@ impl PageTable {
     }
 
     /// Puts `bytes` at `at`, in one page or over several, where each address may be written.
-    #[inline]
+    #[inline(always)]
     pub fn put(&mut self, at: u32, bytes: &[u8]) -> Result<(), Bad>
         requires some { 0 < length bytes.now }
         ensures put { OnOk result

@@ -167,6 +167,7 @@ pub(crate) fn load(kind: Load, mem: &Mem, address: u32) -> Result<u32, Bad>
     }
 }
 
+#[inline(always)]
 fn store(kind: Store, mem: &mut Mem, address: u32, n: u32) -> Result<(), Bad>
     ensures ok { OnOk result (stored kind mem.old address n ≡ Some mem.new) }
     ensures bad { OnErr result (stored kind mem.old address n ≡ None) }
