@@ -13,3 +13,6 @@ pub mod Queues
 pub mod Runs
 pub mod Beginnings
 pub mod Stretches
+pub mod Paths
+pub mod Listings
+pub mod Gaining

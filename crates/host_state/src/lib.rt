@@ -2,6 +2,7 @@
 #![tactic(auto)]
 
 mod acting;
+mod files;
 mod firing;
 mod host;
 pub mod laws;
@@ -10,7 +11,6 @@ mod link;
 mod net;
 mod outbox;
 mod process;
-mod ran;
 mod row;
 mod running;
 mod sending;
@@ -19,10 +19,12 @@ mod start;
 #[cfg(test)]
 mod tests;
 
+pub use files::growing::round_pieces;
+pub use files::listed::{HostListing, Listing, ProcessListing};
+pub use files::piece::{Piece, bytes_of, file_piece, log_piece, numbers};
 pub use host::Host;
 pub use line::{Line, Logged};
 pub use net::Net;
 pub use outbox::Outbox;
 pub use process::{Process, Running};
-pub use ran::{HostRun, Ran};
 pub use row::{FinalState, ProcessRow, Row};

@@ -12,15 +12,18 @@ use Rattle.host_state.specs.declared.line.Line.{Line}
 use Rattle.host_state.specs.declared.row.Row.{Row}
 use Rattle.out_text.specs.Files.{file_name}
 use Rattle.out_text.specs.declared.files.FileKind.TheVariants as kind
-use Rattle.net_run.specs.Grown.{process_grown, host_grown, hosts_grown, all_grown, grown_in, with_bytes, IsGrown, HaveOwnFiles, Gains}
-use Rattle.net_run.specs.Listed.{HostNames, listed, names_in, by_process}
-use Rattle.net_run.specs.Pieces.{Put, with_pieces}
+use Rattle.host_state.proofs.Gaining.{names-kept}
+use Rattle.host_state.specs.Grown.{process_grown, host_grown, hosts_grown, all_grown, with_bytes, Gains}
+use Rattle.net_run.specs.Grown.{grown_in, IsGrown, HaveOwnFiles}
+use Rattle.host_state.specs.Listed.{HostNames, listed, names_in, by_process}
+use Rattle.host_state.specs.Files.{Put, first_id, log_name}
+use Rattle.net_run.specs.Pieces.{with_pieces}
 use Rattle.net_run.specs.Places.{is_place, bytes_at, is_touched}
 use Rattle.net_run.specs.Rest.{rest_in}
-use Rattle.net_run.specs.Shown.{first_id, log_name, run_pieces}
-use Rattle.net_run.specs.StandsFor.{lines_of}
+use Rattle.net_run.specs.Shown.{run_pieces}
+use Rattle.host_state.specs.Logs.{lines_of}
 use Rattle.net_run.specs.World.{World, opening_world}
-use Rattle.net_run.specs.declared.listed.ProcessListing.{ProcessListing}
+use Rattle.host_state.specs.declared.files.listed.ProcessListing.{ProcessListing}
 use Rattle.net_run.proofs.ContentLemmas.{same-content}
 use Rattle.net_run.proofs.GrowthLemmas.{empty}
 use Rattle.net_run.proofs.HostLemmas.{own-hosts, names_of_hosts, written_by}
@@ -54,13 +57,6 @@ opening-grown rows = record {
 }
 
 -- ---- a round
-
-names-by_rows : (hs : List HostRecord) → names_of_hosts hs ≡ map listed (map (λ (h : HostRecord). h.row) hs)
-names-by_rows [] = refl
-names-by_rows (h ∷ hs) = ap (λ (l : List HostNames). listed h.row ∷ l) (names-by_rows hs)
-
-pub names-kept : (w v : World) (outputs : List (List Output)) (lines : List Line) → Gains w v outputs lines → names_in v ≡ names_in w
-names-kept w v outputs lines gains = names-by_rows v.hosts ∙ ap (map listed) gains.rows ∙ sym (names-by_rows w.hosts)
 
 module _ (w v : World) (outputs : List (List Output)) (lines : List Line) (own : HaveOwnFiles (names_in w)) (gains : Gains w v outputs lines) where
   abbrev gained : List Put

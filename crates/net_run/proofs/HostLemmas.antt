@@ -13,13 +13,14 @@ use Rattle.host_state.specs.HostRecord.{HostRecord, state_of, state_in, process_
 use Rattle.host_state.specs.declared.process.Process.{Process}
 use Rattle.host_state.specs.declared.row.ProcessRow.{ProcessRow}
 use Rattle.out_text.specs.Files.{state_line}
-use Rattle.net_run.specs.Grown.{process_grown, host_grown, hosts_grown, AreGained, HaveOwnFiles}
-use Rattle.net_run.specs.Listed.{HostNames, HasIds, listed, listed_process, by_process, by_host}
-use Rattle.net_run.specs.Pieces.{Put}
+use Rattle.host_state.specs.Grown.{process_grown, host_grown, hosts_grown, AreGained}
+use Rattle.net_run.specs.Grown.{HaveOwnFiles}
+use Rattle.host_state.specs.Listed.{HostNames, HasIds, listed, listed_process, by_process, by_host}
+use Rattle.host_state.specs.Files.{Put, first_id, program_of, written_to}
 use Rattle.net_run.specs.Places.{is_touched}
 use Rattle.net_run.specs.Rest.{state_at, process_rest, host_rest, hosts_rest}
-use Rattle.net_run.specs.Shown.{first_id, program_of, written_to, files_named, files_from, host_files}
-use Rattle.net_run.specs.declared.listed.ProcessListing.{ProcessListing}
+use Rattle.net_run.specs.Shown.{files_named, files_from, host_files}
+use Rattle.host_state.specs.declared.files.listed.ProcessListing.{ProcessListing}
 use Rattle.net_run.proofs.FileLemmas.{IsFileOf, touched-named, other-file}
 use Rattle.net_run.proofs.GrowthLemmas.{HasNoSlash, whole-of_process, more-grown, touched-two, touched-processes, splits-processes}
 use Rattle.net_run.proofs.NameLemmas.{program-is_plain}

@@ -1,5 +1,4 @@
 mod PieceLemmas
-mod PathLemmas
 mod ListingLemmas
 pub mod FrontLemmas
 mod ContentLemmas

@@ -6,17 +6,20 @@ use Rattle.sim_base.specs.declared.outside.sink.Place.{Place}
 use Rattle.sim_base.specs.declared.outside.sink.Place.TheVariants as place
 use Rattle.host_calls.specs.declared.parts.Output.{Output}
 use Rattle.host_state.specs.declared.line.Line.{Line}
-use Rattle.net_run.specs.Grown.{all_grown, grown_in, with_bytes, IsGrown, HaveOwnFiles, Gains}
-use Rattle.net_run.specs.Listed.{names_in}
+use Rattle.host_state.specs.Grown.{all_grown, with_bytes, Gains}
+use Rattle.net_run.specs.Grown.{grown_in, IsGrown, HaveOwnFiles}
+use Rattle.host_state.specs.Listed.{names_in}
 use Rattle.net_run.specs.Parts.{IsFrontOf, IsPrefix, Grows, Between}
-use Rattle.net_run.specs.Pieces.{Put, with_pieces, PutsFront}
+use Rattle.host_state.specs.Files.{Put}
+use Rattle.net_run.specs.Pieces.{with_pieces, PutsFront}
 use Rattle.net_run.specs.Places.{bytes_at, is_touched}
 use Rattle.net_run.specs.Rest.{rest_in}
 use Rattle.net_run.specs.Shown.{run_pieces}
 use Rattle.net_run.specs.World.{World}
 use Rattle.net_run.proofs.ContentLemmas.{added, at_places, by_place}
 use Rattle.net_run.proofs.FrontLemmas.{with_append}
-use Rattle.net_run.proofs.GrownLemmas.{names-kept, splits-round, round-grown, end-whole}
+use Rattle.host_state.proofs.Gaining.{names-kept}
+use Rattle.net_run.proofs.GrownLemmas.{splits-round, round-grown, end-whole}
 use Rattle.net_run.proofs.HostLemmas.{own-hosts}
 use Rattle.net_run.proofs.PartLemmas.{front-refl, Grows-trans, Grows-with_pieces, between-puts}
 use Rattle.net_run.proofs.WholeLemmas.{whole-run}

@@ -16,14 +16,14 @@ use Rattle.out_text.specs.Files.{state_line}
 use Rattle.out_text.specs.Summary.{is_send, is_lost, is_recv, acts_counted, summary_of}
 use Rattle.out_text.specs.declared.log.LogLine.{LogLine}
 use Rattle.net_run.specs.Grown.{HaveOwnFiles}
-use Rattle.net_run.specs.Listed.{HostNames, HasIds, listed, listed_process, names_in, by_process, by_host}
-use Rattle.net_run.specs.Pieces.{Put}
+use Rattle.host_state.specs.Listed.{HostNames, HasIds, listed, listed_process, names_in, by_process, by_host}
+use Rattle.host_state.specs.Files.{Put, first_id, log_name}
 use Rattle.net_run.specs.Rest as rest
 use Rattle.net_run.specs.Rest.{state_at, states_in, TellsStates, all_rest, rest_in, ending, summary_in, summary_rest}
-use Rattle.net_run.specs.Shown.{first_id, files_named, unmet_by, named, named_log, log_name, status_by, status_of}
-use Rattle.net_run.specs.StandsFor.{lines_of}
+use Rattle.net_run.specs.Shown.{files_named, unmet_by, named, named_log, status_by, status_of}
+use Rattle.host_state.specs.Logs.{lines_of}
 use Rattle.net_run.specs.World.{World, opening_world}
-use Rattle.net_run.specs.declared.listed.ProcessListing.{ProcessListing}
+use Rattle.host_state.specs.declared.files.listed.ProcessListing.{ProcessListing}
 use Rattle.net_run.proofs.HostLemmas.{names_of_hosts, states_by, state-of_host}
 use Rattle.net_run.proofs.WholeLemmas.{unmet-of_world}
 

@@ -7,16 +7,19 @@ use Rattle.host_state.specs.Extends.{Extends}
 use Rattle.host_state.specs.HostRecord.{HostRecord}
 use Rattle.host_state.specs.declared.line.Line.{Line}
 use Rattle.host_state.specs.declared.row.Row.{Row}
-use Rattle.net_run.specs.Grown.{all_grown, with_bytes, IsGrown, HaveOwnFiles, Gains, IsUnderway}
-use Rattle.net_run.specs.Listed.{HostNames, listed, names_in}
+use Rattle.host_state.specs.Grown.{all_grown, with_bytes, Gains}
+use Rattle.net_run.specs.Grown.{IsGrown, HaveOwnFiles, IsUnderway}
+use Rattle.host_state.specs.Listed.{HostNames, listed, names_in}
 use Rattle.net_run.specs.Parts.{Between}
-use Rattle.net_run.specs.Pieces.{Put, with_pieces, PutsFront}
+use Rattle.host_state.specs.Files.{Put}
+use Rattle.net_run.specs.Pieces.{with_pieces, PutsFront}
 use Rattle.net_run.specs.Rest.{all_rest, rest_in, summary_in, unmet_of_hosts, TellsStates}
 use Rattle.net_run.specs.Shown.{run_pieces, status_by, status_of}
 use Rattle.net_run.specs.World.{World, opening_world}
 use Rattle.net_run.proofs.ExtendsLemmas.{gains-later}
 use Rattle.net_run.proofs.FrontLemmas.{with_append}
-use Rattle.net_run.proofs.GrownLemmas.{names-kept, opening-grown, round-grown, end-whole}
+use Rattle.host_state.proofs.Gaining.{names-kept}
+use Rattle.net_run.proofs.GrownLemmas.{opening-grown, round-grown, end-whole}
 use Rattle.net_run.proofs.StandingLemmas.{part-so_far, part-round, part-end}
 use Rattle.net_run.proofs.ToldLemmas.{opening-names, rest-told, status-told}
 

@@ -14,14 +14,15 @@ use Rattle.out_text.specs.Files.{state_text, process_text}
 use Rattle.out_text.specs.Faults.{unmet_line}
 use Rattle.out_text.specs.Log.{log_line}
 use Rattle.out_text.specs.declared.log.LogLine.{LogLine}
-use Rattle.net_run.specs.Grown.{AreGained, listed_name, told_line, log_grown, hosts_grown, all_grown, grown_in, host_grown}
-use Rattle.net_run.specs.Listed.{HostNames, listed_process, names_in, by_process}
-use Rattle.net_run.specs.Pieces.{Put}
+use Rattle.host_state.specs.Grown.{AreGained, listed_name, told_line, log_grown, hosts_grown, all_grown, host_grown}
+use Rattle.net_run.specs.Grown.{grown_in}
+use Rattle.host_state.specs.Listed.{HostNames, listed_process, names_in, by_process}
+use Rattle.host_state.specs.Files.{Put, first_id, program_of, log_name, expected_state}
 use Rattle.net_run.specs.Places.{is_place, bytes_at, is_touched}
 use Rattle.net_run.specs.Rest as rest
 use Rattle.net_run.specs.Rest.{ending, rest_in, states_in, summary_in, summary_rest}
-use Rattle.net_run.specs.Shown.{first_id, program_of, log_name, name_of, named, named_log, log_file, host_files, unmet, unmet_by, process_unmet, unmet_from, host_unmet, meets, expected_state, summary, run_pieces}
-use Rattle.net_run.specs.StandsFor.{lines_of}
+use Rattle.net_run.specs.Shown.{name_of, named, named_log, log_file, host_files, unmet, unmet_by, process_unmet, unmet_from, host_unmet, meets, summary, run_pieces}
+use Rattle.host_state.specs.Logs.{lines_of}
 use Rattle.net_run.specs.World.{World}
 use Rattle.net_run.proofs.FileLemmas.{IsFileOf, same-place, place-of_file}
 use Rattle.net_run.proofs.HostLemmas.{AreOwn, names_of_hosts, written_by, states_by, some-file, file-grown, file-rest, more-hosts, whole-hosts, state-of_host}

@@ -1,8 +1,6 @@
 pub mod World
-pub mod StandsFor
 pub mod Pieces
 pub mod Shown
-pub mod Listed
 pub mod Places
 pub mod Grown
 pub mod Rest

@@ -7,11 +7,11 @@ use Rattle.host_state.specs.HostRecord.{HostRecord, state_of, process_state}
 use Rattle.out_text.specs.Files.{state_line}
 use Rattle.out_text.specs.Summary.{summary_of, summary_line}
 use Rattle.out_text.specs.declared.summary.Summary.{Summary}
-use Rattle.net_run.specs.Listed.{HostNames, names_in, by_process, by_host}
-use Rattle.net_run.specs.Pieces.{Put}
-use Rattle.net_run.specs.Shown.{first_id, files_named, unmet_by, log_name, named_log}
+use Rattle.host_state.specs.Listed.{HostNames, names_in, by_process, by_host}
+use Rattle.host_state.specs.Files.{Put, first_id, log_name}
+use Rattle.net_run.specs.Shown.{files_named, unmet_by, named_log}
 use Rattle.net_run.specs.World.{World}
-use Rattle.net_run.specs.declared.listed.ProcessListing.{ProcessListing}
+use Rattle.host_state.specs.declared.files.listed.ProcessListing.{ProcessListing}
 
 abbrev pub state_at : List State → ℕ → State
 state_at states p = unwrap_or (slice_get states p) NotStarted

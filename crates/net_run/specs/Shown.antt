@@ -1,16 +1,12 @@
 -- What is shown of the result of a run.
-use Rattle.std.specs.Prelude.{◌≡◌, ℕ, ◌+◌, List, [], ◌∷◌, ◌++◌, length, map, flat_map, slice_get, Option, Some, None, Bool, true, false, ◌&&◌, if◌then◌else◌, codes, ◌==◌}
-use Rattle.std.specs.Path.{rsplit_once}
+use Rattle.std.specs.Prelude.{◌≡◌, ℕ, ◌+◌, List, [], ◌∷◌, ◌++◌, length, map, flat_map, slice_get, Option, Some, None, Bool, true, false, if◌then◌else◌, ◌==◌}
 use Rattle.sim_base.specs.Signal.{signal_number}
 use Rattle.sim_base.specs.declared.outside.sink.Place.TheVariants as place
 use Rattle.sim_base.specs.declared.state.State.{State}
 use Rattle.sim_base.specs.declared.state.State.TheVariants.{NotStarted, Running, Exited, Signaled}
-use Rattle.host_calls.specs.declared.parts.Output.{Output}
 use Rattle.host_state.specs.HostRecord.{HostRecord, process_state}
 use Rattle.host_state.specs.declared.line.Line.{Line}
 use Rattle.host_state.specs.declared.row.ProcessRow.{ProcessRow}
-use Rattle.host_state.specs.declared.row.FinalState.{FinalState}
-use Rattle.host_state.specs.declared.row.FinalState.TheVariants as final
 use Rattle.out_text.specs.Faults.{note_line, unmet_line}
 use Rattle.out_text.specs.Files.{file_name, state_line, state_text, process_text}
 use Rattle.out_text.specs.Log.{log_line}
@@ -18,27 +14,9 @@ use Rattle.out_text.specs.Summary.{summary_of, summary_line}
 use Rattle.out_text.specs.declared.files.FileKind.TheVariants as kind
 use Rattle.out_text.specs.declared.log.LogLine.{LogLine}
 use Rattle.out_text.specs.declared.summary.Summary.{Summary}
-use Rattle.net_run.specs.Pieces.{Put}
-use Rattle.net_run.specs.StandsFor.{lines_of}
+use Rattle.host_state.specs.Files.{Put, first_id, program_of, written_to, expected_state, log_name}
+use Rattle.host_state.specs.Logs.{lines_of}
 use Rattle.net_run.specs.World.{World}
-
--- ---- processes
-
--- processes have the ids 1000, 1001, .. in the order of their host's list
-abbrev pub first_id : ℕ
-first_id = 1000
-
-abbrev pub last_part : List ℕ → Option (List ℕ × List ℕ) → List ℕ
-last_part path None = path
-last_part path (Some split) = split.1
-
--- the program's name: the part of its path behind the last slash
-unfoldable pub program_of : List ℕ → List ℕ
-program_of path = last_part path (rsplit_once 47 path)
-
--- all that process p wrote to a descriptor
-abbrev pub written_to : ℕ → ℕ → List Output → List ℕ
-written_to p descriptor outputs = flat_map (λ (o : Output). if (o.process == p) && (o.descriptor == descriptor) then o.bytes else []) outputs
 
 -- ---- files
 
@@ -76,18 +54,10 @@ named hosts l = record { time = l.time; host = name_of (slice_get hosts l.host.i
 abbrev pub named_log : World → List LogLine
 named_log w = map (named w.hosts) (lines_of w.log)
 
-abbrev pub log_name : List ℕ
-log_name = codes "packets.log"
-
 abbrev pub log_file : World → Put
 log_file w = (place.File log_name, flat_map log_line (named_log w))
 
 -- ---- expectations
-
-abbrev pub expected_state : FinalState → State
-expected_state (final.Exited status) = Exited status
-expected_state (final.Signaled signal) = Signaled signal
-expected_state final.Running = Running
 
 -- the final state is the one that is expected; a process that has not started meets every expectation
 abbrev pub meets : State → State → Bool

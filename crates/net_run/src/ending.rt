@@ -3,15 +3,16 @@
 ghost use Rattle.std.specs.Prelude.{◌≡◌, ◌+◌, ◌++◌, ◌∷◌, [], IfOk, OnOk, OnErr, map, length, option_map};
 ghost use Rattle.sim_base.specs.Sink.{CountsWrites};
 ghost use Rattle.out_text.specs.Files.{state_line};
-ghost use Rattle.net_run.specs.Listed.{said, names_of};
-ghost use Rattle.net_run.specs.Pieces.{put_of, with_pieces, PutsFront};
+ghost use Rattle.host_state.specs.Listed.{said, names_of};
+ghost use Rattle.host_state.specs.Files.{put_of, first_id};
+ghost use Rattle.net_run.specs.Pieces.{with_pieces, PutsFront};
 ghost use Rattle.net_run.specs.Rest as spec;
-ghost use Rattle.net_run.specs.Shown.{files_named, unmet_by, first_id, status_by};
+ghost use Rattle.net_run.specs.Shown.{files_named, unmet_by, status_by};
 
-use crate::listed::{HostListing, Listing, ProcessListing};
-use crate::output::{Piece, put_pieces};
-use crate::process_pieces::{bytes_of, log_piece, numbers, push_line, push_named};
+use crate::output::put_pieces;
+use crate::process_pieces::{push_line, push_named};
 use crate::queueing::move_all;
+use host_state::{HostListing, Listing, Piece, ProcessListing, bytes_of, log_piece, numbers};
 use out_text::Summary;
 use sim_base::{Bytes, NoMemory, Place, Sink, State, Text, WriteError};
 use std::alloc::Global;

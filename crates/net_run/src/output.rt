@@ -2,16 +2,11 @@
 
 ghost use Rattle.std.specs.Prelude.{◌≡◌, map, option_map, OnOk, OnErr};
 ghost use Rattle.sim_base.specs.Sink.{CountsWrites};
-ghost use Rattle.net_run.specs.Pieces.{put_of, with_pieces, PutsFront};
+ghost use Rattle.host_state.specs.Files.{put_of};
+ghost use Rattle.net_run.specs.Pieces.{with_pieces, PutsFront};
 
-use sim_base::{Bytes, Place, Sink, WriteError, put_all};
-
-/// A place, and the bytes that are put there.
-#[derive(Drop)]
-pub struct Piece {
-    pub place: Place,
-    pub bytes: Bytes,
-}
+use host_state::Piece;
+use sim_base::{Sink, WriteError, put_all};
 
 /// Puts all pieces in order.
 pub fn put_pieces<K: Sink>(sink: &mut K, pieces: &[Piece]) -> Result<(), WriteError>

@@ -25,5 +25,6 @@ pub mod Extending
 pub mod WorldRounds
 pub mod WorldGains
 pub mod WorldOpenings
+pub mod RoundPieces
 pub mod Reaching
 pub mod Lookaheads

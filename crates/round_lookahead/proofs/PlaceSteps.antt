@@ -24,7 +24,7 @@ use Rattle.round_lookahead.specs.declared.workers.task.Task.{Task}
 use Rattle.round_lookahead.specs.declared.workers.worked.Done.{Done}
 use Rattle.round_lookahead.specs.declared.workers.worked.Worked.{Worked}
 use Rattle.round_lookahead.specs.declared.world.in_place.Alone.{Alone}
-use Rattle.round_lookahead.specs.declared.world.pieces.Pieces.{Pieces}
+use Rattle.round_lookahead.specs.declared.world.gained.Gained.{Gained}
 use Rattle.round_lookahead.specs.declared.world.settling.Settled.{Settled}
 use Rattle.round_lookahead.specs.Alone.{AreRunInPlace}
 use Rattle.round_lookahead.specs.Arrivals.{Boxed, arrivals}
@@ -158,7 +158,7 @@ one-list-more first old new v n m next more empty are =
 -- ---- the round
 
 module _ (net : Net) (end : ℕ) (old now : List Task) (a : Alone) (r : AreRunInPlace net end old (length old) now a) (few : length old ≤ 65536) (others : ℕ)
-    (new : Vec Task Global) (p : Pieces) (same : IsSameHosts now new.items)
+    (new : Vec Task Global) (p : Gained) (same : IsSameHosts now new.items)
     (moved : IsPermutation (row_arrivals (rows_of new.items)) (map parcel_event a.spill.items ++ row_arrivals (rows_of now)))
     (theirs : (n : Net) → All (λ (q : Parcel). home n (parcel_event q) ≡ q.to.index) a.spill.items → AreAtHome n (rows_of now) → AreAtHome n (rows_of new.items))
     (outputs_are : p.outputs ≡ a.outputs) (sorted : (all : List (order.Logged Line)) → a.lines.items ≡ map kept_line all → p.lines.items ≡ map kept_line (in_order all))
@@ -207,7 +207,7 @@ module _ (net : Net) (end : ℕ) (old now : List Task) (a : Alone) (r : AreRunIn
   count = same-length now new.items same ∙ r.all
 
   abbrev settled : Settled
-  settled = record { tasks = new; pieces = p }
+  settled = record { tasks = new; gained = p }
 
   back-at : (k : ℕ) (d : Done) → slice_get r.ds k ≡ Some d → IsBack settled d
   back-at k d at =
@@ -259,7 +259,7 @@ pub whole-round : (net : Net) (end workers : ℕ) (old : Vec Task Global) (opene
     → (again : List Task) → again ≡ (with_items old now).items → (final : List Task) → IsSameHosts again final
     → IsPermutation (row_arrivals (rows_of final)) (map parcel_event a.spill.items ++ row_arrivals (rows_of again))
     → ((n : Net) → All (λ (q : Parcel). home n (parcel_event q) ≡ q.to.index) a.spill.items → AreAtHome n (rows_of again) → AreAtHome n (rows_of final))
-    → (p : Pieces) → p.outputs ≡ a.outputs → ((all : List (order.Logged Line)) → a.lines.items ≡ map kept_line all → p.lines.items ≡ map kept_line (in_order all))
+    → (p : Gained) → p.outputs ≡ a.outputs → ((all : List (order.Logged Line)) → a.lines.items ≡ map kept_line all → p.lines.items ≡ map kept_line (in_order all))
     → 0 < workers → lists_of p.took.items ≡ a.took.items ∷ replicate (workers - 1) [] → IsRoundInPlace net end workers old.items (with_items (with_items old now) final) p
 whole-round net end workers old opened opened_is now a ran few again again_is final same moved theirs p outputs sorted some took =
     let r : AreRunInPlace net end old.items (length old.items) now a = subst (λ (l : List Task). AreRunInPlace net end l (length l) now a) opened_is ran in

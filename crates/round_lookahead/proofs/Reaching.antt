@@ -10,7 +10,6 @@ use Rattle.host_state.specs.declared.net.Net.{Net}
 use Rattle.host_state.specs.Extends.{Extends}
 use Rattle.host_state.specs.Fits.{model}
 use Rattle.host_state.specs.HostRecord.{HostRecord}
-use Rattle.host_state.specs.Ran.{lines_of, kept_lines}
 use Rattle.host_state.specs.World.{IsResult}
 use Rattle.round_lookahead.proofs.Extending.{result-extends, later-count}
 use Rattle.world_order.specs.Model.{Model}
@@ -27,7 +26,6 @@ use Rattle.round_lookahead.specs.Backs.{lists_of}
 use Rattle.round_lookahead.specs.Gains.{HasRound}
 use Rattle.round_lookahead.specs.Tasks.{waiting}
 use Rattle.round_lookahead.specs.WorldStands.{HostWorld, nanos_of, IsAhead, WorldStands}
-use Rattle.round_lookahead.proofs.CountSteps.{lines-gained}
 use Rattle.round_lookahead.proofs.DueSteps.{any-in}
 use Rattle.round_lookahead.proofs.WorldSteps.{simulation, between-settled}
 
@@ -122,10 +120,6 @@ reached-round net start c d workers w v p reached same round =
 -- a round extends its world
 pub round-extends : (c d : World) (workers : ℕ) (w v : HostWorld) (p : Pieces) → HasRound c d workers w v p → Extends w v
 round-extends c d workers w v p round = result-extends c.net (window_end (nanos_of c.lookahead) c.net.stop.nanos round.least) v w round.result
-
--- the log has the lines that it gained
-pub round-lines : (c d : World) (workers : ℕ) (w v : HostWorld) (p : Pieces) → HasRound c d workers w v p → lines_of v.log ≡ lines_of w.log ++ kept_lines p.lines.items
-round-lines c d workers w v p round = lines-gained w.log v.log p.lines.items round.gained.lines
 
 -- the start has a result, which extends the world that is reached
 pub reached-result : (net : Net) (start : HostWorld) (c : World) (w : HostWorld) → HasReached net start c w → (r : HostWorld) × IsResult net r start × Extends w r

@@ -113,13 +113,13 @@ module _ (count : ℕ) (works : List Worked) (rows : List (Vec Boxed Global)) (c
     back-of : Each (λ (d : Done). slice_get backs d.id.index ≡ Some (back_of d)) ds
     back-of d h = unmap-some backs d.id.index (back_of d) (ap (λ (l : List (Option Back)). slice_get l d.id.index) (backs_are ∙ slots_are) ∙ slot-of d h)
 
-    module _ (new : List (Vec Boxed Global)) (r : Retasked) (retasked : AreRetasked backs new r) (s : Settled) (tasks_are : s.tasks ≡ r.tasks) (outputs_are : s.pieces.outputs ≡ r.outputs) where
+    module _ (new : List (Vec Boxed Global)) (r : Retasked) (retasked : AreRetasked backs new r) (s : Settled) (tasks_are : s.tasks ≡ r.tasks) (outputs_are : s.gained.outputs ≡ r.outputs) where
       length-tasks : length s.tasks.items ≡ count
       length-tasks =
           ap (λ (v : Vec Task Global). length v.items) tasks_are ∙ sym (length-map r.tasks.items (λ (t : Task). t.host)) ∙ ap length retasked.hosts
           ∙ length-map backs (λ (b : Back). b.host) ∙ length-backs
 
-      outputs-is : s.pieces.outputs.items ≡ map (λ (b : Back). b.outputs) backs
+      outputs-is : s.gained.outputs.items ≡ map (λ (b : Back). b.outputs) backs
       outputs-is = ap (λ (v : Vec (Vec Output Global) Global). v.items) outputs_are ∙ retasked.outputs
 
       tasks-is : {Y : Type 0} (f : Task → Y) (g : Back → Y) → map f r.tasks.items ≡ map g backs → (k : ℕ) (t : Task) (b : Back) → slice_get s.tasks.items k ≡ Some t → slice_get backs k ≡ Some b → f t ≡ g b
@@ -143,7 +143,7 @@ module _ (count : ℕ) (works : List Worked) (rows : List (Vec Boxed Global)) (c
 
       pub has-settled : (spill : List Parcel) → spill ≡ all_spilled works → IsPermutation (row_arrivals new) (map parcel_event spill ++ row_arrivals rows)
           → ((net : Net) → All (λ (p : Parcel). home net (parcel_event p) ≡ p.to.index) spill → AreAtHome net rows → AreAtHome net new)
-          → ((all : List (order.Logged Line)) → lines_done ds ≡ map kept_line all → s.pieces.lines.items ≡ map kept_line (in_order all)) → lists_of s.pieces.took.items ≡ took_by works → HasSettled count works rows s
+          → ((all : List (order.Logged Line)) → lines_done ds ≡ map kept_line all → s.gained.lines.items ≡ map kept_line (in_order all)) → lists_of s.gained.took.items ≡ took_by works → HasSettled count works rows s
       has-settled spill is moved theirs lines took =
           let parcels : map (λ (t : Task). t.parcels) s.tasks.items ≡ new = ap (λ (v : Vec Task Global). map (λ (t : Task). t.parcels) v.items) tasks_are ∙ retasked.parcels in
           record {

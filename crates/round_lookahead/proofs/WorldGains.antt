@@ -20,8 +20,9 @@ use Rattle.host_state.specs.Home.{home}
 use Rattle.host_state.specs.HostRecord.{HostRecord}
 use Rattle.host_state.specs.HostStands.{Stands}
 use Rattle.host_state.specs.Parcels.{parcel_event}
-use Rattle.host_state.specs.Ran.{lines_of, kept_lines}
+use Rattle.host_state.specs.Logs.{lines_of, kept_lines}
 use Rattle.host_state.specs.Running.{kept_line}
+use Rattle.host_state.proofs.Gaining.{names-later}
 use Rattle.world_order.specs.Round.{in_order}
 use Rattle.world_order.specs.Window.{window_end}
 use Rattle.world_order.specs.WholeTurns.{Turn, turn_of}
@@ -33,19 +34,20 @@ use Rattle.round_lookahead.specs.declared.workers.task.Task.{Task}
 use Rattle.round_lookahead.specs.declared.workers.worked.Done.{Done}
 use Rattle.round_lookahead.specs.declared.workers.worked.Worked.{Worked}
 use Rattle.round_lookahead.specs.declared.world.counts.Counts.{Counts}
-use Rattle.round_lookahead.specs.declared.world.pieces.Pieces.{Pieces}
+use Rattle.round_lookahead.specs.declared.world.gained.Gained.{Gained}
 use Rattle.round_lookahead.specs.declared.world.settling.Settled.{Settled}
 use Rattle.round_lookahead.specs.declared.world.world_state.World.{World}
 use Rattle.round_lookahead.specs.Arrivals.{Boxed, arrivals}
 use Rattle.round_lookahead.specs.Backs.{all_done, all_spilled, took_by, lists_of, ids_of, row_arrivals, AreAtHome}
 use Rattle.round_lookahead.specs.Counts.{counts_of}
-use Rattle.round_lookahead.specs.Gains.{IsGained, IsTaken, HasRound, turns_from}
+use Rattle.round_lookahead.specs.Gains.{IsGained, IsTaken, HasTurns, turns_from}
 use Rattle.round_lookahead.specs.RoundsInPlace.{IsRoundInPlace}
 use Rattle.round_lookahead.specs.Rounds.{IsRound, AreWorks, all_parcels}
 use Rattle.round_lookahead.specs.Settles.{done_numbers, CanSettle, IsBack, HasSettled}
 use Rattle.round_lookahead.specs.Tasks.{waiting, AreTasks}
 use Rattle.round_lookahead.specs.Works.{HostJob, AreDone}
 use Rattle.round_lookahead.specs.WorldStands.{HostWorld, nanos_of, StandsAt, WorldStands}
+use Rattle.round_lookahead.proofs.Extending.{result-extends}
 use Rattle.round_lookahead.proofs.CountSteps.{lines-gained}
 use Rattle.round_lookahead.proofs.DueSteps.{any-in, in-any}
 use Rattle.round_lookahead.proofs.RoundJobs as round_jobs
@@ -105,7 +107,7 @@ module _ (c : World) (w : HostWorld) (stands : WorldStands c w) (least : Time) (
     (works : List Worked) (rows : List (Vec Boxed Global)) (many : length works ≡ workers)
     (round : IsRound c.net (window_end (nanos_of c.lookahead) c.net.stop.nanos least.nanos) c.tasks.items (rec c w stands) works rows)
     (s : Settled) (so : HasSettled (length c.tasks.items) works rows s)
-    (n : Counts) (counted : (log : List Line) → c.counts ≡ counts_of log → n ≡ counts_of (log ++ kept_lines s.pieces.lines.items)) where
+    (n : Counts) (counted : (log : List Line) → c.counts ≡ counts_of log → n ≡ counts_of (log ++ kept_lines s.gained.lines.items)) where
   abbrev next : HostWorld
   next = rounds.next c w stands least due workers works rows many round
 
@@ -221,7 +223,7 @@ module _ (c : World) (w : HostWorld) (stands : WorldStands c w) (least : Time) (
       let same : a.task ≡ t = some_is a.task t (sym a.at ∙ ap (slice_get ts) d.2.run.id ∙ at) in
       subst (λ (x : Task). IsPermutation x.host.value.queue j.ran.queue) same (subst (λ (x : Box Host Global). IsPermutation x.value.queue j.ran.queue) (sym a.host) d.2.run.queue))))
 
-  pub gained : IsGained w next s.pieces
+  pub gained : IsGained w next s.gained
   gained = record {
     lines = ap (map kept_line) (rounds.next-log c w stands least due workers works rows many round) ∙ map-both kept_line w.log (in_order (lines_in jobs))
         ∙ ap (λ (l : List Logged). map kept_line w.log ++ l) (sym (so.lines (lines_in jobs) (run-lines c.net end c.tasks.items (rec c w stands) jobs ds are-run)));
@@ -232,7 +234,7 @@ module _ (c : World) (w : HostWorld) (stands : WorldStands c w) (least : Time) (
         let a = at-number k (omega arith) in
         let now : a.job.ran.host ≡ after = some_is a.job.ran.host after (sym (next-host k a) ∙ there) in
         let was : before ≡ rec c w stands a.job.number = rec-is c w stands k before at ∙ ap (rec c w stands) (sym a.same) in
-        let outs : a.done.outputs ≡ got = some_is a.done.outputs got (sym a.back.outputs ∙ ap (slice_get s.pieces.outputs.items) a.number ∙ here) in
+        let outs : a.done.outputs ≡ got = some_is a.done.outputs got (sym a.back.outputs ∙ ap (slice_get s.gained.outputs.items) a.number ∙ here) in
         ap (λ (x : HostRecord). x.written) (sym now) ∙ a.run.run.written
         ∙ ap (λ (x : HostRecord). x.written ++ a.done.outputs.items) (sym was) ∙ ap (λ (v : Vec Output Global). before.written ++ v.items) outs;
   }
@@ -241,20 +243,21 @@ module _ (c : World) (w : HostWorld) (stands : WorldStands c w) (least : Time) (
   stands-new = record {
     rounds = stands.rounds;
     count = so.tasks_count ∙ stands.count ∙ sym (rounds.next-count c w stands least due workers works rows many round);
+    listed = stands.listed ∙ sym (names-later w next (result-extends c.net end next w (rounds.next-result c w stands least due workers works rows many round)));
     hosts = stands-at;
     events = events-are;
-    counts = counted (lines_of w.log) stands.counts ∙ ap counts_of (sym (lines-gained w.log next.log s.pieces.lines.items gained.lines));
+    counts = counted (lines_of w.log) stands.counts ∙ ap counts_of (sym (lines-gained w.log next.log s.gained.lines.items gained.lines));
     between = settled-between c.net (nanos_of c.lookahead) stands.rounds next (rounds.next-settled c w stands least due workers works rows many round);
   }
 
-  turns-are : turns_from 0 s.pieces.took.items ≡ map turn_of jobs
-  turns-are = turns-of c.net end c.tasks.items (rec c w stands) 0 round.jobs works s.pieces.took.items round.done so.took
+  turns-are : turns_from 0 s.gained.took.items ≡ map turn_of jobs
+  turns-are = turns-of c.net end c.tasks.items (rec c w stands) 0 round.jobs works s.gained.took.items round.done so.took
 
-  pub taken : IsTaken c.net end workers w next s.pieces.took.items
+  pub taken : IsTaken c.net end workers w next s.gained.took.items
   taken =
       let t = rounds.steps-taken c w stands least due workers works rows many round in
       record {
-        workers_are = sym (length-map s.pieces.took.items (λ (v : Vec HostId Global). v.items)) ∙ ap length so.took ∙ length-map works (λ (x : Worked). ids_of x.done.items) ∙ many;
+        workers_are = sym (length-map s.gained.took.items (λ (v : Vec HostId Global). v.items)) ∙ ap length so.took ∙ length-map works (λ (x : Worked). ids_of x.done.items) ∙ many;
         once = subst (λ (ns : List ℕ). IsPermutation ns (numbers_below (length w.hosts))) (sym (ap (map (λ (u : Turn). u.number)) turns-are ∙ turn-numbers jobs))
             (rounds.once c w stands least due workers works rows many round);
         jobs = t.0;
@@ -264,7 +267,7 @@ module _ (c : World) (w : HostWorld) (stands : WorldStands c w) (least : Time) (
         same = t.4;
       }
 
-  pub has-round : HasRound c new workers w next s.pieces
+  pub has-round : HasTurns c new workers w next s.gained
   has-round =
       let some = any-in (λ (e : Event). e.key.due ≡ least) (flat_map waiting c.tasks.items) due.0 in
       record {
@@ -292,8 +295,8 @@ module _ (c : World) (w : HostWorld) (stands : WorldStands c w) (least : Time) (
   pub settles : CanSettle count works rows
   settles = subst (λ (n : ℕ). CanSettle n works rows) (sym count_is) (rounds.can-settle c w stands least due workers works rows many the-round)
 
-  pub goes-on : (s : Settled) → HasSettled count works rows s → (n : Counts) → ((log : List Line) → c.counts ≡ counts_of log → n ≡ counts_of (log ++ kept_lines s.pieces.lines.items))
-      → (v : HostWorld) × HasRound c (record c { tasks = s.tasks; counts = n }) workers w v s.pieces
+  pub goes-on : (s : Settled) → HasSettled count works rows s → (n : Counts) → ((log : List Line) → c.counts ≡ counts_of log → n ≡ counts_of (log ++ kept_lines s.gained.lines.items))
+      → (v : HostWorld) × HasTurns c (record c { tasks = s.tasks; counts = n }) workers w v s.gained
   goes-on s so n counted = (
     rounds.next c w stands least due workers works rows many the-round,
     has-round c w stands least due workers works rows many the-round s (subst (λ (k : ℕ). HasSettled k works rows s) count_is so) n counted,
@@ -301,8 +304,8 @@ module _ (c : World) (w : HostWorld) (stands : WorldStands c w) (least : Time) (
 
 -- a round in which each host is run in its place
 pub goes-on-here : (c : World) (w : HostWorld) → WorldStands c w → (least : Time) → IsLeastDue (flat_map waiting c.tasks.items) (Some least) → (workers : ℕ) (new : Vec Task Global)
-    (until : ℕ) → until ≡ window_end (nanos_of c.lookahead) c.net.stop.nanos least.nanos → (p : Pieces) → IsRoundInPlace c.net until workers c.tasks.items new p
+    (until : ℕ) → until ≡ window_end (nanos_of c.lookahead) c.net.stop.nanos least.nanos → (p : Gained) → IsRoundInPlace c.net until workers c.tasks.items new p
     → (n : Counts) → ((log : List Line) → c.counts ≡ counts_of log → n ≡ counts_of (log ++ kept_lines p.lines.items))
-    → (v : HostWorld) × HasRound c (record c { tasks = new; counts = n }) workers w v p
+    → (v : HostWorld) × HasTurns c (record c { tasks = new; counts = n }) workers w v p
 goes-on-here c w stands least due workers new until until_is p h n counted =
-    goes-on c w stands least due workers h.works h.rows h.many c.tasks refl until until_is h.round (length c.tasks.items) refl (record { tasks = new; pieces = p }) h.settled n counted
+    goes-on c w stands least due workers h.works h.rows h.many c.tasks refl until until_is h.round (length c.tasks.items) refl (record { tasks = new; gained = p }) h.settled n counted

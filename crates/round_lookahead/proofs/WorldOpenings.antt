@@ -13,6 +13,7 @@ use Rattle.host_state.specs.Fits.{model, IsEventOf, IsHostOf, FitsNet, OpensFit}
 use Rattle.host_state.specs.Home.{home}
 use Rattle.host_state.specs.HostRecord.{HostRecord}
 use Rattle.host_state.specs.HostStands.{Begins, with_events}
+use Rattle.host_state.specs.Listed.{HostNames, listed, names_in, names_of}
 use Rattle.host_state.proofs.Openings.{opens-fit}
 use Rattle.host_state.proofs.Queues.{begun}
 use Rattle.world_order.specs.EventOrder.{AreApart}
@@ -200,10 +201,16 @@ events-opened net (r ∷ rows) (t ∷ ts) fit are =
     IsPermutation-append (waiting t) (opening r).made (flat_map waiting ts) (made_of rows) (opened-waiting net r (fit 0 r refl) t are.0)
     (events-opened net rows ts (λ i row at. fit (suc i) row at) are.1)
 
-pub starts-so : (c : World) (rows : List Row) → AreHostRows c.net rows → HasRounds c.net (nanos_of c.lookahead) → AreOpened rows c.tasks.items → c.counts ≡ counts_of [] → WorldStands c (opening_world rows)
-starts-so c rows are rounds opened counts = record {
+names-opened : (rows : List Row) → names_in (opening_world rows) ≡ map listed rows
+names-opened [] = refl
+names-opened (r ∷ rows) = ap (λ (l : List HostNames). listed r ∷ l) (names-opened rows)
+
+pub starts-so : (c : World) (rows : List Row) → AreHostRows c.net rows → HasRounds c.net (nanos_of c.lookahead) → AreOpened rows c.tasks.items → names_of c.listing ≡ map listed rows → c.counts ≡ counts_of []
+    → WorldStands c (opening_world rows)
+starts-so c rows are rounds opened names counts = record {
   rounds = rounds;
   count = length-opened rows c.tasks.items opened ∙ sym (length_hosts rows);
+  listed = names ∙ sym (names-opened rows);
   hosts = λ k t h at there.
       (let o = opened-at rows c.tasks.items opened k t at in
       let same : (opening o.0).host ≡ h = some_is (opening o.0).host h (sym (host-of rows k o.0 o.1) ∙ there) in

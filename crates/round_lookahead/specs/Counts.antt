@@ -1,21 +1,9 @@
 -- What the lines of a packet log come to.
-use Rattle.std.specs.Prelude.{ℕ, ◌-◌, ◌^◌, List, Bool, true, false, min, count_by}
+use Rattle.std.specs.Prelude.{ℕ, ◌-◌, ◌^◌, List, Bool, min, count_by}
 use Rattle.sim_base.specs.declared.act.Act.{Act}
-use Rattle.sim_base.specs.declared.act.Act.TheVariants.{Send, Lost, Recv}
 use Rattle.host_state.specs.declared.line.Line.{Line}
+use Rattle.out_text.specs.Summary.{is_send, is_lost, is_recv}
 use Rattle.round_lookahead.specs.declared.world.counts.Counts.{Counts}
-
-abbrev pub is_send : Act → Bool
-is_send Send = true
-is_send _ = false
-
-abbrev pub is_lost : Act → Bool
-is_lost Lost = true
-is_lost _ = false
-
-abbrev pub is_recv : Act → Bool
-is_recv Recv = true
-is_recv _ = false
 
 -- how many lines tell such an act, at most 2^64 - 1
 abbrev pub acts_counted : (Act → Bool) → List Line → ℕ

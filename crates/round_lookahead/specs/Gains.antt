@@ -5,7 +5,12 @@ use Rattle.sim_base.specs.declared.event.Event.{Event}
 use Rattle.sim_base.specs.declared.host.HostId.{HostId}
 use Rattle.list_weights.specs.Weights.{numbers_below}
 use Rattle.host_calls.specs.declared.parts.Output.{Output}
+use Rattle.host_state.specs.declared.files.piece.Piece.{Piece}
+use Rattle.host_state.specs.declared.line.Line.{Line}
 use Rattle.host_state.specs.declared.net.Net.{Net}
+use Rattle.host_state.specs.Files.{put_of}
+use Rattle.host_state.specs.Grown.{Gains, all_grown, with_bytes}
+use Rattle.host_state.specs.Listed.{names_in}
 use Rattle.host_state.specs.Fits.{model}
 use Rattle.host_state.specs.HostRecord.{HostRecord}
 use Rattle.host_state.specs.Running.{kept_line}
@@ -17,17 +22,25 @@ use Rattle.world_order.specs.WholeTurns.{Turn, turn_of, job_steps}
 use Rattle.world_order.specs.Window.{window_end}
 use Rattle.world_order.specs.World as order
 use Rattle.world_order.specs.declared.step.Step.TheVariants.{Close}
+use Rattle.round_lookahead.specs.declared.world.gained.Gained.{Gained}
 use Rattle.round_lookahead.specs.declared.world.pieces.Pieces.{Pieces}
 use Rattle.round_lookahead.specs.declared.world.world_state.World.{World}
 use Rattle.round_lookahead.specs.Works.{HostJob}
 use Rattle.round_lookahead.specs.WorldStands.{HostWorld, WorldStands, nanos_of}
 
--- the pieces have what the log and what processes wrote gained
-pub record IsGained (w v : HostWorld) (p : Pieces) : Type 0 where
-  pub lines : map kept_line v.log ≡ map kept_line w.log ++ p.lines.items
-  pub count : length p.outputs.items ≡ length w.hosts
+-- these outputs, each host's by its number, and these lines are what processes wrote and the log gained
+pub record IsGained (w v : HostWorld) (g : Gained) : Type 0 where
+  pub lines : map kept_line v.log ≡ map kept_line w.log ++ g.lines.items
+  pub count : length g.outputs.items ≡ length w.hosts
   pub outputs : (k : ℕ) (before after : HostRecord) (gained : Vec Output Global) → slice_get w.hosts k ≡ Some before → slice_get v.hosts k ≡ Some after
-      → slice_get p.outputs.items k ≡ Some gained → after.written ≡ before.written ++ gained.items
+      → slice_get g.outputs.items k ≡ Some gained → after.written ≡ before.written ++ gained.items
+
+-- the places and bytes that outputs and log gained: what each process wrote, and the text of the lines
+pub record ArePieces (w v : HostWorld) (files : List Piece) : Type 0 where
+  pub outputs : List (List Output)
+  pub lines : List Line
+  pub gained : Gains w v outputs lines
+  pub files_are : map put_of files ≡ with_bytes (all_grown (names_in w) outputs lines)
 
 -- the turns of workers, from that number on, each of which took these hosts
 abbrev pub turns_from : ℕ → List (Vec HostId Global) → List Turn
@@ -46,6 +59,17 @@ pub record IsTaken (net : Net) (end workers : ℕ) (w v : HostWorld) (took : Lis
   pub same : IsSameWorld v (after_round w closed)
 
 -- a round on a world whose least event is due at that time, and the world after all turns of the model that are due before the window's end
+pub record HasTurns (old new : World) (workers : ℕ) (w v : HostWorld) (g : Gained) : Type 0 where
+  pub least : ℕ
+  pub from : AreDueFrom least w.events
+  pub due : Any (λ (e : Event). e.key.due.nanos ≡ least) w.events
+  pub result : order.IsResult (model old.net) (window_end (nanos_of old.lookahead) old.net.stop.nanos least) v w
+  pub over : AreDueFrom (window_end (nanos_of old.lookahead) old.net.stop.nanos least) v.events
+  pub stands : WorldStands new v
+  pub gained : IsGained w v g
+  pub took : IsTaken old.net (window_end (nanos_of old.lookahead) old.net.stop.nanos least) workers w v g.took.items
+
+-- the same, with what was gained as places and bytes
 pub record HasRound (old new : World) (workers : ℕ) (w v : HostWorld) (p : Pieces) : Type 0 where
   pub least : ℕ
   pub from : AreDueFrom least w.events
@@ -53,5 +77,5 @@ pub record HasRound (old new : World) (workers : ℕ) (w v : HostWorld) (p : Pie
   pub result : order.IsResult (model old.net) (window_end (nanos_of old.lookahead) old.net.stop.nanos least) v w
   pub over : AreDueFrom (window_end (nanos_of old.lookahead) old.net.stop.nanos least) v.events
   pub stands : WorldStands new v
-  pub gained : IsGained w v p
+  pub files : ArePieces w v p.files.items
   pub took : IsTaken old.net (window_end (nanos_of old.lookahead) old.net.stop.nanos least) workers w v p.took.items

@@ -5,16 +5,16 @@ use Rattle.host_state.specs.declared.net.Net.{Net}
 use Rattle.host_state.specs.HostRecord.{HostRecord}
 use Rattle.round_lookahead.specs.declared.workers.task.Task.{Task}
 use Rattle.round_lookahead.specs.declared.workers.worked.Worked.{Worked}
-use Rattle.round_lookahead.specs.declared.world.pieces.Pieces.{Pieces}
+use Rattle.round_lookahead.specs.declared.world.gained.Gained.{Gained}
 use Rattle.round_lookahead.specs.Arrivals.{Boxed}
 use Rattle.round_lookahead.specs.Rounds.{IsRound}
 use Rattle.round_lookahead.specs.Settles.{HasSettled}
 use Rattle.round_lookahead.specs.Tasks.{AreTasks}
 
 -- some work of so many workers gives these tasks and pieces
-pub record IsRoundInPlace (net : Net) (end workers : ℕ) (old : List Task) (new : Vec Task Global) (p : Pieces) : Type 0 where
+pub record IsRoundInPlace (net : Net) (end workers : ℕ) (old : List Task) (new : Vec Task Global) (p : Gained) : Type 0 where
   pub works : List Worked
   pub rows : List (Vec Boxed Global)
   pub many : length works ≡ workers
   pub round : (rec : ℕ → HostRecord) → AreTasks net old rec → IsRound net end old rec works rows
-  pub settled : HasSettled (length old) works rows (record { tasks = new; pieces = p })
+  pub settled : HasSettled (length old) works rows (record { tasks = new; gained = p })

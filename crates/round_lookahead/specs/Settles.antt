@@ -32,14 +32,14 @@ pub record IsBack (s : Settled) (d : Done) : Type 0 where
   pub at : slice_get s.tasks.items d.id.index ≡ Some task
   pub id : task.id ≡ d.id
   pub host : task.host ≡ d.host
-  pub outputs : slice_get s.pieces.outputs.items d.id.index ≡ Some d.outputs
+  pub outputs : slice_get s.gained.outputs.items d.id.index ≡ Some d.outputs
 
 -- all hosts wait, each with the packets for it; the lines stand in the order of their keys
 pub record HasSettled (count : ℕ) (works : List Worked) (rows : List (Vec Boxed Global)) (s : Settled) : Type 0 where
   pub tasks_count : length s.tasks.items ≡ count
-  pub outputs_count : length s.pieces.outputs.items ≡ count
+  pub outputs_count : length s.gained.outputs.items ≡ count
   pub hosts : All (IsBack s) (all_done works)
   pub home : (net : Net) → All (λ (p : Parcel). home net (parcel_event p) ≡ p.to.index) (all_spilled works) → AreAtHome net rows → AreAtHome net (map (λ (t : Task). t.parcels) s.tasks.items)
   pub packets : IsPermutation (row_arrivals (map (λ (t : Task). t.parcels) s.tasks.items)) (map parcel_event (all_spilled works) ++ row_arrivals rows)
-  pub lines : (all : List (order.Logged Line)) → lines_done (all_done works) ≡ map kept_line all → s.pieces.lines.items ≡ map kept_line (in_order all)
-  pub took : lists_of s.pieces.took.items ≡ took_by works
+  pub lines : (all : List (order.Logged Line)) → lines_done (all_done works) ≡ map kept_line all → s.gained.lines.items ≡ map kept_line (in_order all)
+  pub took : lists_of s.gained.took.items ≡ took_by works

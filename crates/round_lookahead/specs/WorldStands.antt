@@ -8,7 +8,8 @@ use Rattle.host_state.specs.Fits.{model, IsEventOf, IsHostOf, IsLookaheadOf, IsS
 use Rattle.host_state.specs.Home.{home}
 use Rattle.host_state.specs.HostRecord.{HostRecord}
 use Rattle.host_state.specs.HostStands.{Stands}
-use Rattle.host_state.specs.Ran.{lines_of}
+use Rattle.host_state.specs.Listed.{names_in, names_of}
+use Rattle.host_state.specs.Logs.{lines_of}
 use Rattle.world_order.specs.EventOrder.{AreApart}
 use Rattle.world_order.specs.Settled.{next_at}
 use Rattle.world_order.specs.World as order
@@ -54,11 +55,12 @@ pub record StandsAt (net : Net) (number : ℕ) (t : Task) (host : HostRecord) : 
   pub stands : Stands t.host.value host
   pub home : All (λ (e : Event). home net e ≡ number) (waiting t)
 
--- the hosts stand for the world's, each for that of its place; what they hold and the packets that wait for them are together its events,
--- each once and each at its host. Of the log the counts alone are kept, and nothing of what processes wrote.
+-- the hosts stand for the world's, each for that of its place, and are listed by their names; what they hold and the packets that wait for
+-- them are together its events, each once and each at its host. Of the log the counts alone are kept, and nothing of what processes wrote.
 pub record WorldStands (c : World) (w : HostWorld) : Type 0 where
   pub rounds : HasRounds c.net (nanos_of c.lookahead)
   pub count : length c.tasks.items ≡ length w.hosts
+  pub listed : names_of c.listing ≡ names_in w
   pub hosts : (k : ℕ) (t : Task) (host : HostRecord) → slice_get c.tasks.items k ≡ Some t → slice_get w.hosts k ≡ Some host → StandsAt c.net k t host
   pub events : IsPermutation (flat_map waiting c.tasks.items) w.events
   pub counts : c.counts ≡ counts_of (lines_of w.log)

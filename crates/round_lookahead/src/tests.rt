@@ -11,11 +11,11 @@ ghost use Rattle.round_lookahead.specs.WorldStands.{HostWorld, HasRounds, WorldS
 use super::*;
 use elf_load::load;
 use gml_graph::read_gml;
-use host_calls::{Known, Output};
-use host_state::{FinalState, Logged, Net, ProcessRow, Row};
+use host_calls::Known;
+use host_state::{FinalState, Net, Piece, ProcessRow, Row};
 use net_iface::QueueRule;
 use net_routes::routes;
-use sim_base::{Act, Book, Bytes, HostId, Ip, Name, Signal, State, Time};
+use sim_base::{Book, Bytes, HostId, Ip, Name, Place, Signal, State, Time};
 use std::alloc::Global;
 use std::process::Abort;
 use std::sync::atomic::{AtomicU64, Ordering};
@@ -101,9 +101,11 @@ fn row(alloc: Global, index: u32, start: u64) -> Result<Row, Fail> {
         shutdown_signal: Signal::SigTerm,
         expected: FinalState::Exited(0),
     })?;
+    let number = index.wrapping_add(1);
+    let name = format!(in alloc; "h{number}")?;
     Ok(Row {
         host: HostId { index },
-        name: Name::from_str(alloc, "host")?,
+        name: Name::from_str(alloc, &name)?,
         address: address(index),
         bandwidth_up: 1_000_000_000,
         bandwidth_down: 1_000_000_000,
@@ -199,36 +201,25 @@ fn round<R: Threads + Sync, G: Gate + Sync>(
     Ok(world.round(rt, alloc, workers, gate)?)
 }
 
-/// What a line tells: a time, a host, an act and the last byte of the address that its packet is from.
-type Told = (u64, u32, Act, u32);
-
-fn told(alloc: Global, lines: &[Logged]) -> Result<Vec<Told>, Fail> {
+/// Each piece as its file's name and its bytes, one behind the other.
+fn told(alloc: Global, files: &[Piece]) -> Result<Vec<u8>, Fail> {
     let mut told = Vec::new(alloc);
-    for Logged { line, .. } in lines {
-        let from = line.packet.from.ip.bits & 0xff;
-        told.push((line.time.nanos, line.host.index, line.act, from))?;
+    for Piece { place, bytes } in files {
+        let Place::File(name) = place else {
+            return Err(Fail::new("no file"));
+        };
+        told.extend_from_slice(name.as_bytes())?;
+        told.push(b'=')?;
+        told.extend_from_slice(bytes.as_slice())?;
+        told.push(b';')?;
     }
     Ok(told)
-}
-
-/// How many bytes each host's processes wrote.
-fn sizes(alloc: Global, outputs: &[Vec<Output>]) -> Result<Vec<usize>, Fail> {
-    let mut sizes = Vec::new(alloc);
-    for outputs in outputs {
-        let mut size = 0usize;
-        for output in outputs {
-            size = size.wrapping_add(output.bytes.as_slice().len());
-        }
-        sizes.push(size)?;
-    }
-    Ok(sizes)
 }
 
 /// What a round of two hosts gains, and the states of their processes and how many packets were sent
 /// after it.
 struct Gain {
-    lines: &'static [Told],
-    sizes: [usize; 2],
+    files: &'static str,
     states: [State; 2],
     sent: u64,
 }
@@ -236,20 +227,17 @@ struct Gain {
 /// The second host starts at 25 ms.
 static GAINS: [Gain; 3] = [
     Gain {
-        lines: &[(0, 0, Act::Send, 1), (1, 0, Act::NoPort, 1)],
-        sizes: [4, 0],
+        files: "hosts/h1/sender.1000.stdout=\x7fELF;packets.log=0 h1 send udp 11.0.0.1:10000 11.0.0.1:7000 32\n1 h1 noport udp 11.0.0.1:10000 11.0.0.1:7000 32\n;",
         states: [State::Exited(0), State::NotStarted],
         sent: 1,
     },
     Gain {
-        lines: &[(25_000_000, 1, Act::Send, 2)],
-        sizes: [0, 4],
+        files: "hosts/h2/sender.1000.stdout=\x7fELF;packets.log=25000000 h2 send udp 11.0.0.2:10000 11.0.0.1:7000 32\n;",
         states: [State::Exited(0); 2],
         sent: 2,
     },
     Gain {
-        lines: &[(35_000_000, 0, Act::NoPort, 2)],
-        sizes: [0, 0],
+        files: "packets.log=35000000 h1 noport udp 11.0.0.2:10000 11.0.0.1:7000 32\n;",
         states: [State::Exited(0); 2],
         sent: 2,
     },
@@ -266,11 +254,8 @@ fn gains<R: Threads + Abort + Sync>(
     ensures { OnOk result ((w : HostWorld) × WorldStands world.new w) }
 {
     let pieces = round(rt, alloc, world, 1, &OpenGate)?;
-    assert_eq!(rt; told(alloc, &pieces.lines)?.as_slice(), gain.lines);
-    assert_eq!(rt;
-        sizes(alloc, &pieces.outputs)?.as_slice(),
-        gain.sizes.as_slice()
-    );
+    let files = told(alloc, &pieces.files)?;
+    assert_eq!(rt; files.as_slice(), gain.files.as_bytes());
     assert_eq!(rt; world.tasks.len(), 2);
     assert_eq!(rt; [world.state(0, 0), world.state(1, 0)], gain.states);
     let Counts {
@@ -326,15 +311,23 @@ fn holds<R: Threads + Abort + Sync>(rt: &R, alloc: Global, starts: &[u64]) -> Re
         met: &met,
         all: starts.len() as u64,
     };
-    let mut sent: Vec<Told> = Vec::new(alloc);
-    let mut came: Vec<Told> = Vec::new(alloc);
+    let mut outputs = String::new(alloc);
+    let mut sent = String::new(alloc);
+    let mut came = String::new(alloc);
     for (_start, number) in starts.iter().zip(1..) {
-        sent.push((0, u32::wrapping_sub(number, 1), Act::Send, number))?;
+        let file = format!(in alloc; "hosts/h{number}/sender.1000.stdout=\x7fELF;")?;
+        let packet = format!(in alloc; "udp 11.0.0.{number}:10000 11.0.0.1:7000 32\n")?;
+        let send = format!(in alloc; "0 h{number} send {packet}")?;
+        outputs.push_str(&file)?;
+        sent.push_str(&send)?;
         if number > 1 {
-            came.push((10_000_000, 0, Act::NoPort, number))?;
+            let noport = format!(in alloc; "10000000 h1 noport {packet}")?;
+            came.push_str(&noport)?;
         }
     }
-    sent.push((1, 0, Act::NoPort, 1))?;
+    let own = "1 h1 noport udp 11.0.0.1:10000 11.0.0.1:7000 32";
+    let in_first = format!(in alloc; "{outputs}packets.log={sent}{own}\n;")?;
+    let in_second = format!(in alloc; "packets.log={came};")?;
     let mut world = open(rt, alloc, starts)?;
     let first = round(rt, alloc, &mut world, 2, &gate)?;
     assert_eq!(rt; met.load(Ordering::SeqCst), 1);
@@ -347,9 +340,11 @@ fn holds<R: Threads + Abort + Sync>(rt: &R, alloc: Global, starts: &[u64]) -> Re
         took.as_slice(),
         [1, starts.len().wrapping_sub(1)].as_slice()
     );
-    assert_eq!(rt; told(alloc, &first.lines)?, sent);
+    let files = told(alloc, &first.files)?;
+    assert_eq!(rt; files.as_slice(), in_first.as_bytes());
     let second = round(rt, alloc, &mut world, 2, &OpenGate)?;
-    assert_eq!(rt; told(alloc, &second.lines)?, came);
+    let files = told(alloc, &second.files)?;
+    assert_eq!(rt; files.as_slice(), in_second.as_bytes());
     Ok(())
 }
 

@@ -4,6 +4,7 @@ pub(crate) mod backs;
 pub(crate) mod counts;
 pub(crate) mod delivery;
 pub(crate) mod due;
+pub(crate) mod gained;
 pub(crate) mod in_place;
 pub(crate) mod merging;
 pub(crate) mod opening;

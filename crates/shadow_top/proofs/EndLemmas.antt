@@ -6,16 +6,16 @@ use Rattle.sim_base.specs.Sink.{Content}
 use Rattle.sim_base.specs.declared.outside.sink.WriteError.{WriteError}
 use Rattle.sim_base.specs.declared.state.State.{State}
 use Rattle.host_state.specs.HostRecord.{HostRecord, process_state}
-use Rattle.host_state.specs.Ran.{lines_of}
+use Rattle.host_state.specs.Logs.{lines_of}
 use Rattle.host_state.specs.World.{World}
 use Rattle.out_text.specs.declared.summary.Summary.{Summary}
 use Rattle.net_run.specs.Grown.{HaveOwnFiles, IsUnderway}
-use Rattle.net_run.specs.Listed.{HostNames, HasIds, listed, listed_process, names_in, names_of}
+use Rattle.host_state.specs.Listed.{HostNames, HasIds, listed, listed_process, names_in, names_of}
 use Rattle.net_run.specs.Parts.{Between}
-use Rattle.net_run.specs.Pieces.{Put, with_pieces, PutsFront}
+use Rattle.host_state.specs.Files.{Put, first_id}
+use Rattle.net_run.specs.Pieces.{with_pieces, PutsFront}
 use Rattle.net_run.specs.Rest.{all_rest, rest_in, summary_in, unmet_of_hosts, TellsStates}
-use Rattle.net_run.specs.Shown.{first_id, run_pieces, status_by, status_of}
-use Rattle.net_run.specs.declared.listed.Listing.{Listing}
+use Rattle.net_run.specs.Shown.{run_pieces, status_by, status_of}
 use Rattle.net_run.proofs.FrontLemmas.{front_none}
 use Rattle.net_run.proofs.StandingLemmas.{part-end}
 use Rattle.net_run.proofs.ToldLemmas.{status-told, summary-of_lines}
@@ -27,7 +27,7 @@ use Rattle.round_lookahead.specs.declared.world.world_state.World as rounds
 use Rattle.world_order.proofs.Fires.{get-map}
 use Rattle.world_order.proofs.Homes.{get-below}
 use Rattle.shadow_top.specs.Ending.{TellsAll, PutsEnd}
-use Rattle.shadow_top.specs.Rounds.{IsAt, StandsAt}
+use Rattle.shadow_top.specs.Rounds.{StandsAt}
 use Rattle.shadow_top.proofs.RoundLemmas.{at-count}
 
 -- one more at the end
@@ -57,14 +57,14 @@ states-more old new state n h is count each here p s at =
 
 -- ---- the states of all hosts
 
-pub tasks-count : (c : rounds.World) (listing : Listing) (w : World) → IsAt c listing w → length c.tasks.items ≡ length (names_of listing)
-tasks-count c listing w at = at.stands.count ∙ sym (at-count c listing w at)
+pub tasks-count : (c : rounds.World) (w : World) → WorldStands c w → length c.tasks.items ≡ length (names_of c.listing)
+tasks-count c w at = at.count ∙ sym (at-count c w at)
 
-pub few-hosts : (c : rounds.World) (listing : Listing) (w : World) → IsAt c listing w → length (names_of listing) ≤ 65536
-few-hosts c listing w at =
-    let listed = at-count c listing w at in
-    let count = at.stands.between.count in
-    let few = at.stands.rounds.few in
+pub few-hosts : (c : rounds.World) (w : World) → WorldStands c w → length (names_of c.listing) ≤ 65536
+few-hosts c w at =
+    let listed = at-count c w at in
+    let count = at.between.count in
+    let few = at.rounds.few in
     omega arith
 
 -- a host has no more processes than ids
@@ -77,19 +77,19 @@ few-processes names i count below ids counted =
     omega arith
 
 -- one more host
-pub all-more : (c : rounds.World) (listing : Listing) (w : World) → IsAt c listing w → (old new : List (Vec State Global)) (v : Vec State Global) (n count : ℕ) → new ≡ old ++ v ∷ [] → length old ≡ n
+pub all-more : (c : rounds.World) (w : World) → WorldStands c w → (old new : List (Vec State Global)) (v : Vec State Global) (n count : ℕ) → new ≡ old ++ v ∷ [] → length old ≡ n
     → ((k : ℕ) (h : HostRecord) (states : Vec State Global) → slice_get w.hosts k ≡ Some h → slice_get old k ≡ Some states → TellsStates h states.items)
-    → ((names : HostNames) → slice_get (names_of listing) n ≡ Some names → count ≡ length names.processes)
+    → ((names : HostNames) → slice_get (names_of c.listing) n ≡ Some names → count ≡ length names.processes)
     → ((h : HostRecord) → WorldStands c w → slice_get w.hosts n ≡ Some h → count ≡ length h.row.processes.items → TellsStates h v.items)
     → (k : ℕ) (h : HostRecord) (states : Vec State Global) → slice_get w.hosts k ≡ Some h → slice_get new k ≡ Some states → TellsStates h states.items
-all-more c listing w at old new v n count is long each counted here k h states there told =
+all-more c w at old new v n count is long each counted here k h states there told =
     ⊎_elim
     (λ (l : slice_get old k ≡ Some states). each k h states there l)
     (λ (r : (k ≡ length old) × (v ≡ states)).
     (let at_n : slice_get w.hosts n ≡ Some h = subst (λ (i : ℕ). slice_get w.hosts i ≡ Some h) (r.0 ∙ long) there in
-    let listed_there : slice_get (names_of listing) n ≡ Some (listed h.row) =
+    let listed_there : slice_get (names_of c.listing) n ≡ Some (listed h.row) =
     ap (λ (ns : List HostNames). slice_get ns n) at.listed ∙ get-map (λ (x : HostRecord). listed x.row) w.hosts n h at_n in
-    subst (λ (s : Vec State Global). TellsStates h s.items) r.1 (here h at.stands at_n (counted (listed h.row) listed_there ∙ length-map h.row.processes.items listed_process))))
+    subst (λ (s : Vec State Global). TellsStates h s.items) r.1 (here h at at_n (counted (listed h.row) listed_there ∙ length-map h.row.processes.items listed_process))))
     (at-more old v states k (sym (ap (λ (l : List (Vec State Global)). slice_get l k) is) ∙ told))
 
 -- ---- the summary
@@ -122,14 +122,14 @@ small [] = omega arith
 small (p ∷ ps) = omega arith
 
 -- no memory for the states
-pub end-without : (load : Bool) (listing : Listing) (w : World) (old mid : Option Content) (error : WriteError) → StandsAt listing w old mid
+pub end-without : (load : Bool) (w : World) (old mid : Option Content) (error : WriteError) → StandsAt w old mid
     → PutsEnd load w old mid (let r : Result ℕ WriteError = Err error in r)
-end-without load listing w old mid error stands = λ begun is.
+end-without load w old mid error stands = λ begun is.
     (let u = stands begun is in
     subst (λ (o : Option Content). Between begun o (with_pieces (run_pieces load w) begun)) (sym u.now_is)
     (part-end load w (subst HaveOwnFiles u.names_are u.own) u.puts u.grown begun (Some (with_pieces u.puts begun)) (front_none (rest_in load w) (Some (with_pieces u.puts begun)))))
 
-module _ (load : Bool) (listing : Listing) (w : World) (old mid new : Option Content) (told : List (Vec State Global)) (all : TellsAll w told) (stands : StandsAt listing w old mid) (summary : Option Summary) (is : summary ≡ summary_in load w) where
+module _ (load : Bool) (w : World) (old mid new : Option Content) (told : List (Vec State Global)) (all : TellsAll w told) (stands : StandsAt w old mid) (summary : Option Summary) (is : summary ≡ summary_in load w) where
   abbrev states : List (List State)
   states = map (λ (v : Vec State Global). v.items) told
 
@@ -140,13 +140,13 @@ module _ (load : Bool) (listing : Listing) (w : World) (old mid new : Option Con
   tells k h s there at = (let (v, at_v, same) = told_list told k s at in subst (TellsStates h) same (all.each k h v there at_v))
 
   abbrev names : List HostNames
-  names = names_of listing
+  names = names_in w
 
   pub end-told : (r : Result ℕ WriteError) → IfOk r (λ s. s ≡ status_by (unmet_of_hosts names states)) → OnOk r (new ≡ option_map (with_pieces (all_rest names states summary)) mid)
-      → OnErr r (PutsFront (all_rest names states summary) mid new) → names ≡ names_in w → PutsEnd load w old new r
-  end-told (Ok status) status_is put front at = (
+      → OnErr r (PutsFront (all_rest names states summary) mid new) → PutsEnd load w old new r
+  end-told (Ok status) status_is put front = (
     λ begun e. underway-end names begun mid w (stands begun e) states count tells load new (put ∙ ap (λ (s : Option Summary). option_map (with_pieces (all_rest names states s)) mid) is),
-    status_is ∙ ap (λ (hosts : List HostNames). status_by (unmet_of_hosts hosts states)) at ∙ status-told w states count tells,
+    status_is ∙ status-told w states count tells,
   )
-  end-told (Err error) status_is put front at = λ begun e.
+  end-told (Err error) status_is put front = λ begun e.
       underway-end_part names begun mid w (stands begun e) states count tells load new (subst (λ (s : Option Summary). PutsFront (all_rest names states s) mid new) is front)

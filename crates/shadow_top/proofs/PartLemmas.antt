@@ -3,7 +3,8 @@ use Rattle.std.proofs.Common.{◌≡◌, ℕ, ◌≤◌, inl, inr, ⊎_elim, Lis
 use Rattle.sim_base.specs.Sink.{Content, add, begun, AddsFront}
 use Rattle.sim_base.specs.declared.outside.sink.Place.TheVariants as place
 use Rattle.net_run.specs.Parts.{IsBetween, IsPart, IsPrefix, Grows, Between}
-use Rattle.net_run.specs.Pieces.{Put, with_pieces, PutsFront}
+use Rattle.host_state.specs.Files.{Put}
+use Rattle.net_run.specs.Pieces.{with_pieces, PutsFront}
 use Rattle.net_run.proofs.FrontLemmas.{with_append}
 use Rattle.net_run.proofs.PartLemmas.{prefix-refl, prefix_of_added, Grows-trans, Grows-with_pieces, between-puts}
 

@@ -3,7 +3,8 @@ use Rattle.std.proofs.Common.{◌≡◌, ℕ, Bool, false, List, Option, Some, N
 use Rattle.sim_base.specs.Sink.{Content, begun}
 use Rattle.host_state.specs.World.{World, IsResult, opening_world}
 use Rattle.net_run.specs.Parts.{Between}
-use Rattle.net_run.specs.Pieces.{Put, with_pieces}
+use Rattle.host_state.specs.Files.{Put}
+use Rattle.net_run.specs.Pieces.{with_pieces}
 use Rattle.net_run.specs.Shown.{pieces}
 use Rattle.run_plan.specs.declared.fault.Fault.TheVariants.{Exists}
 use Rattle.run_plan.specs.declared.planned.Run.{Run}

@@ -7,11 +7,10 @@ use Rattle.host_state.specs.World.{World, IsResult, opening_world}
 use Rattle.host_state.specs.declared.net.Net.{Net}
 use Rattle.host_state.specs.declared.row.Row.{Row}
 use Rattle.net_run.specs.Grown.{HaveOwnFiles, IsUnderway}
-use Rattle.net_run.specs.Listed.{HostNames, HasIds, listed, names_in, names_of}
+use Rattle.host_state.specs.Listed.{HostNames, HasIds, listed, names_in, names_of}
 use Rattle.net_run.specs.Parts.{Between}
 use Rattle.net_run.specs.Pieces.{with_pieces, PutsFront}
 use Rattle.net_run.specs.Shown.{note_puts, run_pieces, unmet}
-use Rattle.net_run.specs.declared.listed.Listing.{Listing}
 use Rattle.net_run.proofs.FrontLemmas.{with_append}
 use Rattle.net_run.proofs.PartLemmas.{Grows-refl, Grows-with_pieces}
 use Rattle.net_run.proofs.ToldLemmas.{opening-names, own-files}
@@ -25,7 +24,7 @@ use Rattle.world_order.proofs.Results.{at_least_one}
 use Rattle.shadow_top.specs.Contract.{Reports, RunsNoted, PutsSome, RunsOpened}
 use Rattle.shadow_top.specs.Ending.{PutsEnd}
 use Rattle.shadow_top.specs.Opened.{HasOpened}
-use Rattle.shadow_top.specs.Rounds.{IsAt, StandsAt, HasAllRounds, PutsInPart, PutsRounds}
+use Rattle.shadow_top.specs.Rounds.{StandsAt, HasAllRounds, PutsInPart, PutsRounds}
 use Rattle.shadow_top.specs.Stop.{of_writing}
 use Rattle.shadow_top.specs.declared.opened.Opened.{Opened}
 use Rattle.shadow_top.specs.declared.stop.Stop.{Stop}
@@ -55,23 +54,14 @@ names_listed [] = refl
 names_listed (row ∷ rows) = ap (λ (names : List (List ℕ)). row.name ∷ names) (names_listed rows)
 
 -- where a run begins, nothing was put
-pub stands-start : (rows : List Row) (listing : Listing) (old : Option Content) → AreApart (map (λ (row : Row). row.name) rows) → names_of listing ≡ map listed rows → All HasIds (names_of listing)
-    → StandsAt listing (opening_world rows) old old
-stands-start rows listing old apart names_are ids = λ begun is.
-    (let names : map (λ (h : HostNames). h.name) (names_of listing) ≡ map (λ (row : Row). row.name) rows = ap (map (λ (h : HostNames). h.name)) names_are ∙ names_listed rows in
-    subst (λ (o : Option Content). IsUnderway (names_of listing) begun o (opening_world rows)) (sym is)
-    (underway-opening (names_of listing) rows begun names_are (own-files (names_of listing) (subst AreApart (sym names) apart) ids)))
-
-pub at-start : (c : rounds.World) (rows : List Row) (listing : Listing) → WorldStands c (opening_world rows) → names_of listing ≡ map listed rows → IsAt c listing (opening_world rows)
-at-start c rows listing stands names_are = record { stands = stands; listed = names_are ∙ sym (opening-names rows) }
-
-pub at_begin : (opened : Opened) (c : rounds.World) (listing : Listing) → WorldStands c (opening_world opened.rows.items) → names_of listing ≡ map listed opened.rows.items
-    → IsAt c listing (opening_world opened.rows.items)
-at_begin opened c listing stands names_are = at-start c opened.rows.items listing stands names_are
-
-pub stands_begin : (opened : Opened) (listing : Listing) (old : Option Content) → HasOpened opened → names_of listing ≡ map listed opened.rows.items → All HasIds (names_of listing)
-    → StandsAt listing (opening_world opened.rows.items) old old
-stands_begin opened listing old has names_are ids = stands-start opened.rows.items listing old has.names names_are ids
+pub stands_begin : (opened : Opened) (c : rounds.World) (old : Option Content) → HasOpened opened → WorldStands c (opening_world opened.rows.items) → All HasIds (names_of c.listing)
+    → StandsAt (opening_world opened.rows.items) old old
+stands_begin opened c old has stands ids = λ begun is.
+    (let rows : List Row = opened.rows.items in
+    let names : List HostNames = names_in (opening_world rows) in
+    let apart : map (λ (h : HostNames). h.name) names ≡ map (λ (row : Row). row.name) rows = ap (map (λ (h : HostNames). h.name)) (opening-names rows) ∙ names_listed rows in
+    subst (λ (o : Option Content). IsUnderway names begun o (opening_world rows)) (sym is)
+    (underway-opening names rows begun (opening-names rows) (own-files names (subst AreApart (sym apart) has.names) (subst (All HasIds) stands.listed ids))))
 
 -- ---- rounds and the end
 
@@ -91,14 +81,14 @@ module _ (opened : Opened) (c : rounds.World) (same : c.net ≡ opened.net) (old
   part_of new (w, result, stands) (Some begun) is = (w, result_of w result, stands begun (sym is) opened.is_self_load)
 
   -- a round stopped
-  pub rounds_stopped : (d : rounds.World) (listing : Listing) (new : Option Content) (stop : Stop) → PutsRounds c d listing start old new (let r : Result (Unit {0}) Stop = Err stop in r)
+  pub rounds_stopped : (d : rounds.World) (new : Option Content) (stop : Stop) → PutsRounds c d start old new (let r : Result (Unit {0}) Stop = Err stop in r)
       → IfSome old (λ begun. RunsNoted opened begun new (Err stop))
-  rounds_stopped d listing new (Refused fault) told = absurd told
-  rounds_stopped d listing new (ReadFailed file) told = absurd told
-  rounds_stopped d listing new WriteFailed told = part_of new told old refl
-  rounds_stopped d listing new NoMemory told = part_of new told old refl
+  rounds_stopped d new (Refused fault) told = absurd told
+  rounds_stopped d new (ReadFailed file) told = absurd told
+  rounds_stopped d new WriteFailed told = part_of new told old refl
+  rounds_stopped d new NoMemory told = part_of new told old refl
 
-  module _ (d : rounds.World) (listing : Listing) (mid new : Option Content) (all : HasAllRounds c d listing start old mid) where
+  module _ (d : rounds.World) (mid new : Option Content) (all : HasAllRounds c d start old mid) where
     ended_at : (status : ℕ) → PutsEnd opened.is_self_load all.world old new (let r : Result ℕ WriteError = Ok status in r) → (o : Option Content) → o ≡ old
         → IfSome o (λ begun. RunsNoted opened begun new (Ok status))
     ended_at status told None is = tt

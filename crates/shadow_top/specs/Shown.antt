@@ -5,7 +5,8 @@ use Rattle.sim_base.specs.declared.outside.sink.Place.TheVariants as place
 use Rattle.host_state.specs.declared.net.Net.{Net}
 use Rattle.host_state.specs.declared.row.Row.{Row}
 use Rattle.host_state.specs.World.{World, IsResult, opening_world}
-use Rattle.net_run.specs.Pieces.{Put, with_pieces}
+use Rattle.host_state.specs.Files.{Put}
+use Rattle.net_run.specs.Pieces.{with_pieces}
 use Rattle.net_run.specs.Shown.{pieces, status_of}
 use Rattle.run_plan.specs.Line.{line_of}
 use Rattle.run_plan.specs.declared.fault.Fault.{Fault}

@@ -4,13 +4,13 @@ ghost use Rattle.std.specs.Prelude.{◌≡◌, ◌<◌, ◌≤◌, ◌^◌, All,
 ghost use Rattle.sim_base.specs.Sink.{CountsWrites, Content};
 ghost use Rattle.host_state.specs.HostRecord.{HostRecord};
 ghost use Rattle.host_state.specs.World.{World as HostWorld};
-ghost use Rattle.net_run.specs.Listed.{HasIds, names_of};
+ghost use Rattle.host_state.specs.Listed.{HasIds, names_of};
 ghost use Rattle.net_run.specs.Rest.{summary_in, TellsStates};
 ghost use Rattle.round_lookahead.specs.WorldStands.{WorldStands};
 ghost use Rattle.shadow_top.specs.Ending.{TellsAll, PutsEnd};
-ghost use Rattle.shadow_top.specs.Rounds.{IsAt, StandsAt};
+ghost use Rattle.shadow_top.specs.Rounds.{StandsAt};
 
-use net_run::{Listing, put_rest};
+use net_run::put_rest;
 use out_text::Summary;
 use round_lookahead::World;
 use sim_base::{NoMemory, Sink, State, WriteError};
@@ -35,11 +35,12 @@ fn host_states(
 }
 
 /// The states of all processes, those of each host at its place.
-fn all_states(alloc: Global, world: &World, listing: &Listing) -> Result<Vec<Vec<State>>, NoMemory>
-    requires at { (w : HostWorld) × IsAt world.now listing.now w }
-    requires ids { All HasIds (names_of listing.now) }
-    ensures { IfOk result (λ states. (w : HostWorld) → IsAt world.now listing.now w → TellsAll w states.items) }
+fn all_states(alloc: Global, world: &World) -> Result<Vec<Vec<State>>, NoMemory>
+    requires stands { (w : HostWorld) × WorldStands world.now w }
+    requires ids { All HasIds (names_of world.now.listing) }
+    ensures { IfOk result (λ states. (w : HostWorld) → WorldStands world.now w → TellsAll w states.items) }
 {
+    let listing = world.listing();
     let mut states = Vec::new(alloc);
     for host in 0..listing.host_count() {
         let number = host as u32;
@@ -70,19 +71,19 @@ fn summary(world: &World, hosts: u32, is_self_load: bool) -> Option<Summary>
 pub(crate) fn put_end<K: Sink>(
     alloc: Global,
     world: &World,
-    listing: &Listing,
     is_self_load: bool,
     sink: &mut K,
 ) -> Result<u8, WriteError>
-    requires at { (w : HostWorld) × IsAt world.now listing.now w }
-    requires ids { All HasIds (names_of listing.now) }
-    ensures told { (w : HostWorld) (old : Option Content) → IsAt world.now listing.now w → StandsAt listing.now w old (K.content sink.old) → PutsEnd is_self_load w old (K.content sink.new) result }
+    requires stands { (w : HostWorld) × WorldStands world.now w }
+    requires ids { All HasIds (names_of world.now.listing) }
+    ensures told { (w : HostWorld) (old : Option Content) → WorldStands world.now w → StandsAt w old (K.content sink.old) → PutsEnd is_self_load w old (K.content sink.new) result }
     ensures count { CountsWrites result (K.faults sink.old) (K.faults sink.new) }
 {
-    let states = match all_states(alloc, world, listing) {
+    let states = match all_states(alloc, world) {
         Ok(states) => states,
         Err(NoMemory) => return Err(WriteError::NoMemory),
     };
+    let listing = world.listing();
     let hosts = listing.host_count() as u32;
     let summary = summary(world, hosts, is_self_load);
     put_rest(alloc, sink, listing, states.as_slice(), summary)

@@ -3,12 +3,13 @@
 ghost use Rattle.std.specs.Prelude.{◌≡◌, ◌<◌, ◌≤◌, Any, flat_map};
 ghost use Rattle.host_state.specs.World.{World as HostWorld};
 ghost use Rattle.round_lookahead.specs.Tasks.{waiting};
-ghost use Rattle.shadow_top.specs.Rounds.{IsAt, PutsRound, PutsRounds, StandsAt};
+ghost use Rattle.round_lookahead.specs.WorldStands.{WorldStands};
+ghost use Rattle.shadow_top.specs.Rounds.{PutsRound, PutsRounds, StandsAt};
 ghost use Rattle.shadow_top.specs.Stop.{CountsSink, NoReadFailed};
 
 use crate::stop::Stop;
-use net_run::{Listing, put_round};
-use round_lookahead::{Pieces, World};
+use net_run::put_pieces;
+use round_lookahead::World;
 use sim_base::Sink;
 use std::alloc::AllocGlobal;
 use std::thread::Threads;
@@ -20,21 +21,19 @@ fn put_next<K: Sink, G: Gate + Sync, R: Threads + Sync + AllocGlobal>(
     workers: u32,
     gate: &G,
     world: &mut World,
-    listing: &Listing,
     sink: &mut K,
 ) -> Result<(), Stop>
-    requires at { (w : HostWorld) × IsAt world.old listing.now w }
+    requires stands { (w : HostWorld) × WorldStands world.old w }
     requires unfinished { Any (λ event. event.key.due.nanos < world.old.net.stop.nanos) (flat_map waiting world.old.tasks.items) }
     requires workers { (0 < workers) × (workers ≤ 64) }
     ensures net { world.new.net ≡ world.old.net }
-    ensures told { (w : HostWorld) → IsAt world.old listing.now w → PutsRound world.old world.new workers listing.now w (K.content sink.old) (K.content sink.new) result }
+    ensures listing { world.new.listing ≡ world.old.listing }
+    ensures told { (w : HostWorld) → WorldStands world.old w → PutsRound world.old world.new workers w (K.content sink.old) (K.content sink.new) result }
     ensures reads { NoReadFailed result }
     ensures count { CountsSink result (K.faults sink.old) (K.faults sink.new) }
 {
-    let alloc = rt.alloc();
-    let pieces = world.round(rt, alloc, workers, gate)?;
-    let Pieces { outputs, lines, .. } = pieces;
-    put_round(alloc, sink, listing, outputs.as_slice(), lines)?;
+    let pieces = world.round(rt, rt.alloc(), workers, gate)?;
+    put_pieces(sink, &pieces.files)?;
     Ok(())
 }
 
@@ -44,17 +43,17 @@ pub(crate) fn put_rounds<K: Sink, G: Gate + Sync, R: Threads + Sync + AllocGloba
     workers: u32,
     gate: &G,
     world: &mut World,
-    listing: &Listing,
     sink: &mut K,
 ) -> Result<(), Stop>
-    requires at { (w : HostWorld) × IsAt world.old listing.now w }
+    requires stands { (w : HostWorld) × WorldStands world.old w }
     requires workers { (0 < workers) × (workers ≤ 64) }
-    ensures told { (w : HostWorld) → IsAt world.old listing.now w → StandsAt listing.now w (K.content sink.old) (K.content sink.old) → PutsRounds world.old world.new listing.now w (K.content sink.old) (K.content sink.new) result }
+    ensures listing { world.new.listing ≡ world.old.listing }
+    ensures told { (w : HostWorld) → WorldStands world.old w → StandsAt w (K.content sink.old) (K.content sink.old) → PutsRounds world.old world.new w (K.content sink.old) (K.content sink.new) result }
     ensures reads { NoReadFailed result }
     ensures count { CountsSink result (K.faults sink.old) (K.faults sink.new) }
 {
     'rounds: while !world.finished() {
-        put_next(rt, workers, gate, world, listing, sink)?;
+        put_next(rt, workers, gate, world, sink)?;
     }
     Ok(())
 }

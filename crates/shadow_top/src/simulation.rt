@@ -18,7 +18,7 @@ use crate::ending::put_end;
 use crate::opened::{Opened, open};
 use crate::rounds::put_rounds;
 use crate::stop::Stop;
-use net_run::{Listing, put_notes};
+use net_run::put_notes;
 use out_text::FaultText;
 use round_lookahead::World;
 use run_plan::{Fault, Planned, Run, read_plan, tell, worker_count};
@@ -132,10 +132,9 @@ fn run_noted<K: Sink, G: Gate + Sync, R: Threads + Sync + AllocGlobal>(
         ..
     } = opened;
     let workers = worker_count(parallelism, cores, rows.len() as u32);
-    let listing = Listing::new(alloc, rows.as_slice())?;
     let mut world = World::start(alloc, rows, net, lookahead)?;
-    put_rounds(rt, workers, gate, &mut world, &listing, sink)?;
-    let status = put_end(alloc, &world, &listing, is_self_load, sink)?;
+    put_rounds(rt, workers, gate, &mut world, sink)?;
+    let status = put_end(alloc, &world, is_self_load, sink)?;
     Ok(status)
 }
 

@@ -1,10 +1,10 @@
 //! What the packet log comes to.
 ghost use Rattle.std.specs.Prelude.{◌≡◌, ◌++◌, ◌∷◌, [], List};
 ghost use Rattle.host_state.specs.declared.line.Line.{Line as LineRecord};
-ghost use Rattle.host_state.specs.Ran.{kept_lines};
+ghost use Rattle.host_state.specs.Logs.{kept_lines};
 ghost use Rattle.round_lookahead.specs.Counts.{counts_of};
 
-use crate::world::pieces::Pieces;
+use crate::world::gained::Gained;
 use host_state::Logged;
 use sim_base::Act;
 
@@ -51,9 +51,9 @@ impl Counts {
     }
 
     /// Counts the lines that a round gained.
-    pub(crate) fn count_round(&mut self, pieces: &Pieces)
-        ensures { (log : List LineRecord) → self.old ≡ counts_of log → self.new ≡ counts_of (log ++ kept_lines pieces.now.lines.items) }
+    pub(crate) fn count_round(&mut self, gained: &Gained)
+        ensures { (log : List LineRecord) → self.old ≡ counts_of log → self.new ≡ counts_of (log ++ kept_lines gained.now.lines.items) }
     {
-        self.count_all(pieces.lines.as_slice());
+        self.count_all(gained.lines.as_slice());
     }
 }

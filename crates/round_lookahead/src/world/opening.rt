@@ -1,13 +1,14 @@
 //! The world before its first round.
-ghost use Rattle.std.specs.Prelude.{◌≡◌, IfOk};
+ghost use Rattle.std.specs.Prelude.{◌≡◌, All, IfOk};
 ghost use Rattle.host_state.specs.Fits.{FitsNet};
+ghost use Rattle.host_state.specs.Listed.{HasIds, names_of};
 ghost use Rattle.round_lookahead.specs.OpeningWorld.{AreHostRows, AreOpened, IsOpened, opening_world};
 ghost use Rattle.round_lookahead.specs.WorldStands.{HasRounds, WorldStands, nanos_of};
 
 use crate::workers::task::Task;
 use crate::world::counts::Counts;
 use crate::world::world_state::World;
-use host_state::{Host, Net, Row};
+use host_state::{Host, Listing, Net, Row};
 use sim_base::{NoMemory, Time};
 use std::alloc::Global;
 
@@ -36,7 +37,8 @@ fn open_hosts(alloc: Global, rows: Vec<Row>, net: &Net) -> Result<Vec<Task>, NoM
 
 impl World {
     /// The world in which all hosts of a net begin. The lookahead is the least latency from one host
-    /// to another; with one host there is none. Fails for want of memory alone.
+    /// to another; with one host there is none. Fails for want of memory alone, which a host with more
+    /// processes than there are ids lacks too.
     pub fn start(
         alloc: Global,
         rows: Vec<Row>,
@@ -47,11 +49,14 @@ impl World {
         requires rounds { HasRounds net (nanos_of lookahead) }
         ensures net { IfOk result (λ world. world.net ≡ net) }
         ensures stands { IfOk result (λ world. WorldStands world (opening_world rows.items)) }
+        ensures ids { IfOk result (λ world. All HasIds (names_of world.listing)) }
     {
+        let listing = Listing::new(alloc, rows.as_slice())?;
         let tasks = open_hosts(alloc, rows, &net)?;
         Ok(World {
             net,
             lookahead,
+            listing,
             tasks,
             counts: Counts::new(),
         })

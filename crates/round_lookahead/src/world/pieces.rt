@@ -1,15 +1,12 @@
 //! What a round of the world gains.
 
-use host_calls::Output;
-use host_state::Logged;
+use host_state::Piece;
 use sim_base::HostId;
 
-/// What a round gained: what each host's processes wrote, by the host's number, in order; the lines
-/// of the packet log, in the order of the events that they are from; and the hosts that each worker
-/// took, in order.
+/// What a round gained: the places and bytes that what processes wrote and the packet log gained, in
+/// order; and the hosts that each worker took, in order.
 #[derive(Drop)]
 pub struct Pieces {
-    pub outputs: Vec<Vec<Output>>,
-    pub lines: Vec<Logged>,
+    pub files: Vec<Piece>,
     pub took: Vec<Vec<HostId>>,
 }

@@ -1,17 +1,19 @@
 //! The world goes on, round by round.
 ghost use Rattle.std.specs.Prelude.{◌≡◌, ◌≤◌, ◌<◌, ◌↔◌, true, false, Some, All, Any, IfOk, flat_map};
 ghost use Rattle.event_order.specs.Events.{IsLeastDue};
-ghost use Rattle.round_lookahead.specs.Gains.{HasRound};
+ghost use Rattle.round_lookahead.specs.Gains.{HasRound, HasTurns};
 ghost use Rattle.round_lookahead.specs.Tasks.{waiting};
 ghost use Rattle.round_lookahead.specs.WorldStands.{HostWorld, WorldStands};
 
 use crate::workers::busy::thread_count;
 use crate::workers::round::{RoundLeft, run_beside};
 use crate::world::due::least_due;
+use crate::world::gained::Gained;
 use crate::world::pieces::Pieces;
 use crate::world::settling::{Settled, settle};
 use crate::world::settling_in_place::round_in_place;
 use crate::world::world_state::World;
+use host_state::round_pieces;
 use sim_base::{NoMemory, Time};
 use std::alloc::Global;
 use std::mem;
@@ -46,13 +48,14 @@ impl World {
         least: Time,
         workers: u32,
         gate: &G,
-    ) -> Result<Pieces, NoMemory>
+    ) -> Result<Gained, NoMemory>
         requires stands { (w : HostWorld) × WorldStands self.old w }
         requires least { IsLeastDue (flat_map waiting self.old.tasks.items) (Some least) }
         requires workers { (0 < workers) × (workers ≤ 64) }
         ensures net { self.new.net ≡ self.old.net }
         ensures lookahead { self.new.lookahead ≡ self.old.lookahead }
-        ensures round { IfOk result (λ pieces. (w : HostWorld) → WorldStands self.old w → (v : HostWorld) × HasRound self.old self.new workers w v pieces) }
+        ensures listing { self.new.listing ≡ self.old.listing }
+        ensures turns { IfOk result (λ gained. (w : HostWorld) → WorldStands self.old w → (v : HostWorld) × HasTurns self.old self.new workers w v gained) }
     {
         let window = Window::of(least, self.lookahead, self.net.stop);
         let threads = thread_count(self.tasks.as_slice(), window.end, workers);
@@ -66,10 +69,10 @@ impl World {
         let RoundLeft { works, rows } = run_beside(
             rt, alloc, &self.net, window.end, tasks, workers, threads, gate,
         )?;
-        let Settled { tasks, pieces } = settle(alloc, count, works, rows)?;
+        let Settled { tasks, gained } = settle(alloc, count, works, rows)?;
         self.tasks = tasks;
-        self.counts.count_round(&pieces);
-        Ok(pieces)
+        self.counts.count_round(&gained);
+        Ok(gained)
     }
 
     /// Runs a round: all hosts are run up to the end of the window that begins with the next event,
@@ -89,11 +92,18 @@ impl World {
         requires workers { (0 < workers) × (workers ≤ 64) }
         ensures net { self.new.net ≡ self.old.net }
         ensures lookahead { self.new.lookahead ≡ self.old.lookahead }
+        ensures listing { self.new.listing ≡ self.old.listing }
         ensures round { IfOk result (λ pieces. (w : HostWorld) → WorldStands self.old w → (v : HostWorld) × HasRound self.old self.new workers w v pieces) }
     {
         let Some(least) = self.next_due() else {
             unreachable!()
         };
-        self.advance(rt, alloc, least, workers, gate)
+        let Gained {
+            outputs,
+            lines,
+            took,
+        } = self.advance(rt, alloc, least, workers, gate)?;
+        let files = round_pieces(alloc, &self.listing, outputs.as_slice(), lines)?;
+        Ok(Pieces { files, took })
     }
 }

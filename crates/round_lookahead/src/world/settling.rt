@@ -6,8 +6,8 @@ use crate::workers::task::Task;
 use crate::workers::worked::Worked;
 use crate::world::backs::{Returned, all_back, put_back};
 use crate::world::delivery::deliver;
+use crate::world::gained::Gained;
 use crate::world::merging::merge;
-use crate::world::pieces::Pieces;
 use crate::world::retasking::{Retasked, retask};
 use sim_base::{NoMemory, Parcel};
 use std::alloc::Global;
@@ -16,7 +16,7 @@ use std::alloc::Global;
 #[derive(Drop)]
 pub(crate) struct Settled {
     pub(crate) tasks: Vec<Task>,
-    pub(crate) pieces: Pieces,
+    pub(crate) gained: Gained,
 }
 
 /// Puts hosts back by their numbers, each with the packets for it, and lines in the order of their keys.
@@ -41,7 +41,7 @@ pub(crate) fn settle(
     let Retasked { tasks, outputs } = retask(alloc, backs, rows)?;
     Ok(Settled {
         tasks,
-        pieces: Pieces {
+        gained: Gained {
             outputs,
             lines,
             took,

@@ -5,9 +5,9 @@ ghost use Rattle.round_lookahead.specs.RoundsInPlace.{IsRoundInPlace};
 ghost use Rattle.round_lookahead.specs.Tasks.{AreTasksOf};
 
 use crate::workers::task::Task;
+use crate::world::gained::Gained;
 use crate::world::in_place::{Alone, run_in_place};
 use crate::world::merging::merge;
-use crate::world::pieces::Pieces;
 use crate::world::waiting::wait_all;
 use host_state::Net;
 use sim_base::{HostId, NoMemory, Time};
@@ -36,13 +36,13 @@ pub(crate) fn round_in_place<G: Gate>(
     tasks: &mut Vec<Task>,
     workers: u32,
     gate: &G,
-) -> Result<Pieces, NoMemory>
+) -> Result<Gained, NoMemory>
     requires stop { net.now.stop.nanos ≤ 2 ^ 61 }
     requires until { end.nanos ≤ net.now.stop.nanos }
     requires workers { 0 < workers }
     requires few { length tasks.old.items ≤ 65536 }
     requires tasks { AreTasksOf net.now tasks.old.items }
-    ensures { IfOk result (λ pieces. IsRoundInPlace net.now end.nanos workers tasks.old.items tasks.new pieces) }
+    ensures { IfOk result (λ gained. IsRoundInPlace net.now end.nanos workers tasks.old.items tasks.new gained) }
 {
     let Alone {
         outputs,
@@ -53,7 +53,7 @@ pub(crate) fn round_in_place<G: Gate>(
     merge(&mut lines)?;
     wait_all(alloc, tasks.as_mut_slice(), spill)?;
     let took = took_first(alloc, took, workers)?;
-    Ok(Pieces {
+    Ok(Gained {
         outputs,
         lines,
         took,

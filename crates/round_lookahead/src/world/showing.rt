@@ -1,15 +1,23 @@
 //! What the world tells between rounds.
 ghost use Rattle.std.specs.Prelude.{◌≡◌, ◌<◌, Some, length, slice_get};
 ghost use Rattle.host_state.specs.HostRecord.{HostRecord, process_state};
-ghost use Rattle.host_state.specs.Ran.{lines_of};
+ghost use Rattle.host_state.specs.Logs.{lines_of};
 ghost use Rattle.round_lookahead.specs.Counts.{counts_of};
 ghost use Rattle.round_lookahead.specs.WorldStands.{HostWorld, WorldStands};
 
 use crate::world::counts::Counts;
 use crate::world::world_state::World;
+use host_state::Listing;
 use sim_base::State;
 
 impl World {
+    /// What is told of each host.
+    pub fn listing(&self) -> &Listing
+        ensures { result.now ≡ self.now.listing }
+    {
+        &self.listing
+    }
+
     /// The state of a process of a host, by their numbers; where the host has no such process, it has
     /// not started.
     pub fn state(&self, host: u32, process: u32) -> State

@@ -2,16 +2,17 @@
 
 use crate::workers::task::Task;
 use crate::world::counts::Counts;
-use host_state::Net;
+use host_state::{Listing, Net};
 use sim_base::Time;
 
-/// All hosts of a net, with the events that they hold and the packets that wait for them, and what
-/// the packet log so far comes to. The lookahead is the least latency from one host to another; with
+/// All hosts of a net, with the events that they hold and the packets that wait for them, what is told
+/// of each host, and what the packet log so far comes to. The lookahead is the least latency from one host to another; with
 /// one host there is none.
 #[derive(Drop)]
 pub struct World {
     pub(crate) net: Net,
     pub(crate) lookahead: Option<Time>,
+    pub(crate) listing: Listing,
     pub(crate) tasks: Vec<Task>,
     pub(crate) counts: Counts,
 }

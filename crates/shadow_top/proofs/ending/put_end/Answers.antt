@@ -7,18 +7,18 @@ use Rattle.shadow_top.proofs.RoundLemmas.{at-count}
 use Rattle.shadow_top.proofs.ending.put_end.Goals as goal
 
 pub returns-in-Err-clause-told : goal.returns-in-Err-clause-told
-returns-in-Err-clause-told g c = λ w old at stands. end-without c.args.is_self_load c.args.listing.now w old (g.K.Sink.content c.args.sink.now) write.NoMemory stands
+returns-in-Err-clause-told g c = λ w old at stands. end-without c.args.is_self_load w old (g.K.Sink.content c.args.sink.now) write.NoMemory stands
 
 pub overflow_cast-hosts : goal.overflow_cast-hosts
-overflow_cast-hosts g c = let e = c.host_count-hosts.ensures in let few = few-hosts c.args.world.now c.args.listing.now c.requires.at.0 c.requires.at.1 in omega arith
+overflow_cast-hosts g c = let e = c.host_count-hosts.ensures in let few = few-hosts c.args.world.now c.requires.stands.0 c.requires.stands.1 in omega arith
 
 pub put_rest-requires : goal.put_rest-requires
 put_rest-requires g c =
-    let at = c.requires.at in
-    ap length c.as_slice.ensures.value ∙ (c.in-Ok.ensures at.0 at.1).count ∙ sym (at-count c.args.world.now c.args.listing.now at.0 at.1)
+    let at = c.requires.stands in
+    ap length c.as_slice.ensures.value ∙ (c.in-Ok.ensures at.0 at.1).count ∙ sym (at-count c.args.world.now at.0 at.1)
 
 pub returns-clause-told : goal.returns-clause-told
 returns-clause-told g c = λ w old at stands.
     (let told : TellsAll w c.as_slice.result.now = subst (TellsAll w) (sym c.as_slice.ensures.value) (c.in-Ok.ensures w at) in
-    end-told c.args.is_self_load c.args.listing.now w old (g.K.Sink.content c.args.sink.now) (g.K.Sink.content c.put_rest.new.sink) c.as_slice.result.now told stands c.summary-summary.result
-    (c.summary-summary.ensures w at.stands (c.host_count-hosts.ensures ∙ at-count c.args.world.now c.args.listing.now w at)) c.put_rest.result c.put_rest.ensures.status c.put_rest.ensures.ok c.put_rest.ensures.err at.listed)
+    end-told c.args.is_self_load w old (g.K.Sink.content c.args.sink.now) (g.K.Sink.content c.put_rest.new.sink) c.as_slice.result.now told stands c.summary-summary.result
+    (c.summary-summary.ensures w at (c.host_count-hosts.ensures ∙ at-count c.args.world.now w at)) c.put_rest.result c.put_rest.ensures.status c.put_rest.ensures.ok c.put_rest.ensures.err)

@@ -1,13 +1,14 @@
 use Rattle.std.proofs.Common.{◌∙◌, refl}
 use Rattle.std.proofs.lemmas.Result.{err_from_is_err_and}
 use Rattle.round_lookahead.proofs.Reaching.{round-smaller}
-use Rattle.shadow_top.proofs.RoundLemmas.{come-start, come-at, come-further, come-stopped, come-end, at-further}
+use Rattle.shadow_top.proofs.RoundLemmas.{come-start, come-further, come-stopped, come-end}
 use Rattle.shadow_top.proofs.rounds.put_rounds.Goals as goal
 
 pub rounds-init : goal.rounds-init
 rounds-init g c = record {
-  at = c.requires.at;
-  come = λ w at stands. come-start c.args.world.now c.args.listing.now w (g.K.Sink.content c.args.sink.now) at stands;
+  at = c.requires.stands;
+  come = λ w at stands. come-start c.args.world.now w (g.K.Sink.content c.args.sink.now) at stands;
+  listing = refl;
   count = refl;
 }
 
@@ -16,16 +17,18 @@ rounds-preserved g c =
     let i = c.rounds.invariant in
     let d = c.rounds.world in
     let e = c.put_next.new.world in
+    let old = g.K.Sink.content c.args.sink.now in
     let mid = g.K.Sink.content c.rounds.sink in
     let new = g.K.Sink.content c.put_next.new.sink in
     let told = c.in_ok-put_next.ensures.told in
     let here = told i.at.0 i.at.1 in
     record {
-      at = (here.0, at-further d e c.args.workers c.args.listing.now i.at.0 here.0 here.1 i.at.1 here.2);
+      at = (here.0, here.2.stands);
       come = λ w at stands.
           (let come = i.come w at stands in
-          let r = told come.world (come-at c.args.world.now d c.args.listing.now w (g.K.Sink.content c.args.sink.now) mid come) in
-          come-further c.args.world.now d c.args.listing.now w (g.K.Sink.content c.args.sink.now) mid come e c.args.workers r.0 r.1 c.in_ok-put_next.ensures.net r.2 new r.3);
+          let r = told come.world come.reached.stands in
+          come-further c.args.world.now d w old mid come e c.args.workers r.0 r.1 c.in_ok-put_next.ensures.net r.2 new r.3);
+      listing = c.in_ok-put_next.ensures.listing ∙ i.listing;
       count = c.in_ok-put_next.ensures.count ∙ i.count;
     }
 
@@ -33,7 +36,7 @@ pub rounds-smaller : goal.rounds-smaller
 rounds-smaller g c =
     let i = c.rounds.invariant in
     let here = c.in_ok-put_next.ensures.told i.at.0 i.at.1 in
-    round-smaller c.rounds.world c.put_next.new.world c.args.workers i.at.0 here.0 here.1 i.at.1.stands here.2 c.in_ok-put_next.ensures.net (c.finished.ensures.unfinished.0 c.rounds-test.true)
+    round-smaller c.rounds.world c.put_next.new.world c.args.workers i.at.0 here.0 here.1 i.at.1 here.2 c.in_ok-put_next.ensures.net (c.finished.ensures.unfinished.0 c.rounds-test.true)
 
 pub returns-in_err-put_next-clause-told : goal.returns-in_err-put_next-clause-told
 returns-in_err-put_next-clause-told g c = λ w at stands.
@@ -41,10 +44,10 @@ returns-in_err-put_next-clause-told g c = λ w at stands.
     let old = g.K.Sink.content c.args.sink.now in
     let mid = g.K.Sink.content c.rounds.sink in
     let p = err_from_is_err_and c.from_residual.result c.from_residual.ensures.1 in
-    rw (p.1, p.2) (come-stopped c.args.world.now c.rounds.world c.args.listing.now w old mid come c.put_next.new.world c.args.workers (g.K.Sink.content c.put_next.new.sink) c.in_err-put_next.field-0.0
-    c.in_err-put_next.ensures.net (c.in_err-put_next.ensures.told come.world (come-at c.args.world.now c.rounds.world c.args.listing.now w old mid come))))
+    rw (p.1, p.2) (come-stopped c.args.world.now c.rounds.world w old mid come c.put_next.new.world c.args.workers (g.K.Sink.content c.put_next.new.sink) c.in_err-put_next.field-0.0
+    c.in_err-put_next.ensures.net (c.in_err-put_next.ensures.told come.world come.reached.stands)))
 
 pub returns-clause-told : goal.returns-clause-told
 returns-clause-told g c = λ w at stands.
-    come-end c.args.world.now c.rounds.world c.args.listing.now w (g.K.Sink.content c.args.sink.now) (g.K.Sink.content c.rounds.sink) (c.rounds.invariant.come w at stands)
+    come-end c.args.world.now c.rounds.world w (g.K.Sink.content c.args.sink.now) (g.K.Sink.content c.rounds.sink) (c.rounds.invariant.come w at stands)
     (c.finished.ensures.finished.0 c.rounds-test.false)

@@ -1,0 +1,52 @@
+-- What a later world gained, and that its hosts keep their names.
+use Rattle.std.proofs.Common.{◌≡◌, suc, List, [], ◌∷◌, ◌++◌, length, map, slice_get, Some, ℕ, Vec, Global, refl, sym, ap, ◌∙◌, arith}
+use Rattle.host_calls.specs.declared.parts.Output.{Output}
+use Rattle.host_state.specs.Extends.{AreLater, Extends}
+use Rattle.host_state.specs.Grown.{AreGained, Gains}
+use Rattle.host_state.specs.HostRecord.{HostRecord}
+use Rattle.host_state.specs.Listed.{HostNames, listed, names_in}
+use Rattle.host_state.specs.Logs.{lines_of}
+use Rattle.host_state.specs.World.{World}
+use Rattle.host_state.specs.declared.line.Line.{Line}
+use Rattle.host_state.specs.declared.row.Row.{Row}
+
+abbrev pub rows_of : List HostRecord → List Row
+rows_of hs = map (λ (h : HostRecord). h.row) hs
+
+pub rows-kept : (hs ks : List HostRecord) → AreLater hs ks → rows_of ks ≡ rows_of hs
+rows-kept [] [] later = refl
+rows-kept [] (k ∷ ks) later = absurd later
+rows-kept (h ∷ hs) [] later = absurd later
+rows-kept (h ∷ hs) (k ∷ ks) later = let first = later.0.row in let rest = rows-kept hs ks later.1 in λ i. first i ∷ rest i
+
+abbrev written_by : List HostRecord → List (List Output)
+written_by hs = map (λ (h : HostRecord). h.written) hs
+
+gained-at : (hs ks : List HostRecord) (outputs : List (Vec Output Global)) → AreLater hs ks → length outputs ≡ length hs
+    → ((i : ℕ) (before after : HostRecord) (gained : Vec Output Global) → slice_get hs i ≡ Some before → slice_get ks i ≡ Some after → slice_get outputs i ≡ Some gained → after.written ≡ before.written ++ gained.items)
+    → AreGained (written_by hs) (map (λ (v : Vec Output Global). v.items) outputs) (written_by ks)
+gained-at [] [] [] later count each = tt
+gained-at [] [] (o ∷ outputs) later count each = absurd (omega arith)
+gained-at [] (k ∷ ks) outputs later count each = absurd later
+gained-at (h ∷ hs) [] outputs later count each = absurd later
+gained-at (h ∷ hs) (k ∷ ks) [] later count each = absurd (omega arith)
+gained-at (h ∷ hs) (k ∷ ks) (o ∷ outputs) later count each =
+    (each 0 h k o refl refl refl, gained-at hs ks outputs later.1 (omega arith) (λ i b a g x y z. each (suc i) b a g x y z))
+
+-- a round gained these outputs, each host's by its place, and these lines
+pub gains-round : (w v : World) (outputs : List (Vec Output Global)) (lines : List Line) → Extends w v → length outputs ≡ length w.hosts
+    → ((i : ℕ) (before after : HostRecord) (gained : Vec Output Global) → slice_get w.hosts i ≡ Some before → slice_get v.hosts i ≡ Some after → slice_get outputs i ≡ Some gained
+    → after.written ≡ before.written ++ gained.items) → lines_of v.log ≡ lines_of w.log ++ lines → Gains w v (map (λ (o : Vec Output Global). o.items) outputs) lines
+gains-round w v outputs lines later count each log = record { rows = rows-kept w.hosts v.hosts later.hosts; written = gained-at w.hosts v.hosts outputs later.hosts count each; log = log }
+
+-- ---- names
+
+names-by_rows : (hs : List HostRecord) → map (λ (h : HostRecord). listed h.row) hs ≡ map listed (map (λ (h : HostRecord). h.row) hs)
+names-by_rows [] = refl
+names-by_rows (h ∷ hs) = ap (λ (l : List HostNames). listed h.row ∷ l) (names-by_rows hs)
+
+pub names-kept : (w v : World) (outputs : List (List Output)) (lines : List Line) → Gains w v outputs lines → names_in v ≡ names_in w
+names-kept w v outputs lines gains = names-by_rows v.hosts ∙ ap (map listed) gains.rows ∙ sym (names-by_rows w.hosts)
+
+pub names-later : (w v : World) → Extends w v → names_in v ≡ names_in w
+names-later w v later = names-by_rows v.hosts ∙ ap (map listed) (rows-kept w.hosts v.hosts later.hosts) ∙ sym (names-by_rows w.hosts)

@@ -1,0 +1,68 @@
+-- What outputs and lines put into the files that grow while a run goes on.
+use Rattle.std.specs.Prelude.{◌≡◌, ℕ, ◌+◌, List, [], ◌∷◌, ◌++◌, map, flat_map, slice_get, Option, Some, None, true, Bool, false}
+use Rattle.std.specs.List.{filter}
+use Rattle.sim_base.specs.declared.outside.sink.Place.TheVariants as place
+use Rattle.host_calls.specs.declared.parts.Output.{Output}
+use Rattle.host_state.specs.Files.{Put, first_id, written_to, log_name}
+use Rattle.host_state.specs.HostRecord.{HostRecord}
+use Rattle.host_state.specs.Listed.{HostNames, by_process, by_host}
+use Rattle.host_state.specs.Logs.{lines_of}
+use Rattle.host_state.specs.World.{World}
+use Rattle.host_state.specs.declared.files.listed.ProcessListing.{ProcessListing}
+use Rattle.host_state.specs.declared.line.Line.{Line}
+use Rattle.out_text.specs.Files.{file_name}
+use Rattle.out_text.specs.Log.{log_line}
+use Rattle.out_text.specs.declared.files.FileKind.TheVariants as kind
+use Rattle.out_text.specs.declared.log.LogLine.{LogLine}
+
+-- ---- what outputs and lines put
+
+-- what process p of a host wrote to descriptors 1 and 2, each in its file
+abbrev pub process_grown : List ℕ → List Output → ℕ → ProcessListing → List Put
+process_grown host outputs p process =
+    (place.File (file_name host process.program (first_id + p) kind.Stdout), written_to p 1 outputs)
+    ∷ (place.File (file_name host process.program (first_id + p) kind.Stderr), written_to p 2 outputs)
+    ∷ []
+
+abbrev pub host_grown : HostNames → List Output → List Put
+host_grown host outputs = by_process (process_grown host.name outputs) 0 host.processes
+
+abbrev pub hosts_grown : List HostNames → List (List Output) → List Put
+hosts_grown hosts outputs = by_host host_grown hosts outputs
+
+abbrev pub listed_name : Option HostNames → List ℕ
+listed_name None = []
+listed_name (Some host) = host.name
+
+-- a line tells its host by name
+abbrev pub told_line : List HostNames → Line → LogLine
+told_line hosts l = record { time = l.time; host = listed_name (slice_get hosts l.host.index); act = l.act; packet = l.packet }
+
+-- the text of lines, in the packet log
+abbrev pub log_grown : List HostNames → List Line → Put
+log_grown hosts lines = (place.File log_name, flat_map log_line (map (told_line hosts) lines))
+
+abbrev pub all_grown : List HostNames → List (List Output) → List Line → List Put
+all_grown hosts outputs lines = hosts_grown hosts outputs ++ (log_grown hosts lines ∷ [])
+
+abbrev pub is_some : List ℕ → Bool
+is_some [] = false
+is_some (byte ∷ bytes) = true
+
+-- nothing is put where there is no byte
+abbrev pub with_bytes : List Put → List Put
+with_bytes puts = filter (λ (put : Put). is_some put.1) puts
+
+-- ---- what a run gains
+
+-- each host's outputs later are those before, and behind them the gained
+abbrev pub AreGained : List (List Output) → List (List Output) → List (List Output) → Type 0
+AreGained [] [] [] = Unit {0}
+AreGained (before ∷ befores) (gained ∷ more) (later ∷ laters) = (later ≡ before ++ gained) × AreGained befores more laters
+AreGained _ _ _ = ⊥
+
+-- from one world to another the hosts wrote these outputs, and the log has these lines more
+pub record Gains (w v : World) (outputs : List (List Output)) (lines : List Line) : Type 0 where
+  pub rows : map (λ (h : HostRecord). h.row) v.hosts ≡ map (λ (h : HostRecord). h.row) w.hosts
+  pub written : AreGained (map (λ (h : HostRecord). h.written) w.hosts) outputs (map (λ (h : HostRecord). h.written) v.hosts)
+  pub log : lines_of v.log ≡ lines_of w.log ++ lines

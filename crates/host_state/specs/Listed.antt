@@ -1,0 +1,49 @@
+-- What a listing tells of each host: its name, and of its processes the programs and the expected final states.
+use Rattle.std.specs.Prelude.{ℕ, ◌+◌, ◌≤◌, ◌^◌, List, [], ◌∷◌, ◌++◌, length, map}
+use Rattle.host_state.specs.Files.{Put, first_id, program_of, expected_state}
+use Rattle.host_state.specs.HostRecord.{HostRecord}
+use Rattle.host_state.specs.World.{World}
+use Rattle.host_state.specs.declared.row.ProcessRow.{ProcessRow}
+use Rattle.host_state.specs.declared.row.Row.{Row}
+use Rattle.host_state.specs.declared.files.listed.HostListing.{HostListing}
+use Rattle.host_state.specs.declared.files.listed.Listing.{Listing}
+use Rattle.host_state.specs.declared.files.listed.ProcessListing.{ProcessListing}
+
+pub record HostNames : Type 0 where
+  pub name : List ℕ
+  pub processes : List ProcessListing
+
+abbrev pub listed_process : ProcessRow → ProcessListing
+listed_process row = record { program = program_of row.path; expected = expected_state row.expected }
+
+-- what a host's row says
+abbrev pub listed : Row → HostNames
+listed row = record { name = row.name; processes = map listed_process row.processes.items }
+
+-- the same of all hosts of a world
+abbrev pub names_in : World → List HostNames
+names_in w = map (λ (h : HostRecord). listed h.row) w.hosts
+
+-- what a listing says
+abbrev pub said : HostListing → HostNames
+said l = record { name = l.name; processes = l.processes.items }
+
+abbrev pub names_of : Listing → List HostNames
+names_of l = map said l.hosts.items
+
+-- each of the host's processes has an id
+abbrev pub HasIds : HostNames → Type 0
+HasIds host = first_id + length host.processes ≤ 2 ^ 32
+
+-- ---- host by host, and process by process
+
+-- what f puts for each of the processes from p on, in order
+abbrev pub by_process : (ℕ → ProcessListing → List Put) → ℕ → List ProcessListing → List Put
+by_process f p [] = []
+by_process f p (process ∷ processes) = f p process ++ by_process f (p + 1) processes
+
+-- what f puts for each host and what is told of the host of its place
+abbrev pub by_host : {X : Type 0} → (HostNames → X → List Put) → List HostNames → List X → List Put
+by_host f [] xs = []
+by_host f (host ∷ hosts) [] = []
+by_host f (host ∷ hosts) (x ∷ xs) = f host x ++ by_host f hosts xs
