@@ -1,8 +1,26 @@
-use Rattle.std.proofs.Common.{◌≡◌, ◌∙◌, sym}
+use Rattle.std.proofs.Common.{◌≡◌, ◌∙◌, List, Vec, Global, length, map, refl, sym, ap, subst}
+use Rattle.host_calls.specs.declared.parts.Output.{Output}
+use Rattle.host_state.specs.Grown.{all_grown, with_bytes}
+use Rattle.host_state.specs.Listed.{names_of}
+use Rattle.host_state.specs.Logs.{kept_lines}
+use Rattle.host_state.specs.declared.files.listed.Listing.{Listing}
+use Rattle.round_lookahead.proofs.RoundPieces.{outputs-fit, outputs_of, round-pieces}
 use Rattle.round_lookahead.proofs.world.world_state.World.round.Goals as goal
 
 pub round_pieces-requires : goal.round_pieces-requires
-round_pieces-requires g c = ?
+round_pieces-requires g c =
+    let (w, stands) = c.requires.stands in
+    let turns = c.in_ok-outputs.ensures.turns w stands in
+    ap length c.as_slice.ensures.value ∙ outputs-fit c.args.self.now c.advance.new.self c.args.workers w turns.0 c.in_ok-outputs.field-0 stands turns.1
+    ∙ ap (λ (l : Listing). length (names_of l)) (sym c.in_ok-outputs.ensures.listing)
 
 pub returns-clause-round : goal.returns-clause-round
-returns-clause-round g c = ?
+returns-clause-round g c = λ w stands.
+    (let turns = c.in_ok-outputs.ensures.turns w stands in
+    let gained = c.in_ok-outputs.field-0 in (
+      turns.0,
+      round-pieces c.args.self.now c.advance.new.self c.args.workers w turns.0 gained _ stands turns.1 refl
+          (c.in_ok-files.ensures
+          ∙ ap (λ (os : List (Vec Output Global)). with_bytes (all_grown (names_of c.advance.new.self.listing) (map (λ (o : Vec Output Global). o.items) os) (kept_lines gained.lines.items))) c.as_slice.ensures.value
+          ∙ ap (λ (l : Listing). with_bytes (all_grown (names_of l) (outputs_of gained) (kept_lines gained.lines.items))) c.in_ok-outputs.ensures.listing),
+    ))
