@@ -1,3 +1,4 @@
+pub mod Fault
 pub mod Number
 pub mod Token
 pub mod Tokens

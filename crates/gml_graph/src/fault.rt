@@ -2,6 +2,7 @@
 
 ghost use Rattle.std.specs.Prelude.{◌≡◌};
 ghost use Rattle.gml_graph.specs.declared.fault.GmlError.TheVariants as errors;
+ghost use Rattle.gml_graph.specs.Fault.{word_of};
 
 use std::alloc::{AllocError, AllocFailed};
 use std::error::Error;
@@ -46,19 +47,28 @@ pub enum GmlError {
     NoMemory,
 }
 
-impl fmt::Display for GmlKind {
-    fn fmt<W: fmt::Write>(&self, f: &mut fmt::Formatter<W>) -> fmt::Result {
-        f.write_str(match self {
+impl GmlKind {
+    /// The words for messages.
+    pub fn word(self) -> &'static str
+        ensures { result.now ≡ word_of self }
+    {
+        match self {
             GmlKind::NotUtf8 => "not UTF-8",
             GmlKind::Syntax => "syntax",
             GmlKind::Missing => "missing",
             GmlKind::Duplicate => "duplicate",
             GmlKind::UnknownNode => "unknown node",
             GmlKind::ZeroLatency => "zero latency",
-            GmlKind::Loss => "loss",
+            GmlKind::Loss => "loss out of range",
             GmlKind::BadValue => "bad value",
             GmlKind::TooMany => "too many",
-        })
+        }
+    }
+}
+
+impl fmt::Display for GmlKind {
+    fn fmt<W: fmt::Write>(&self, f: &mut fmt::Formatter<W>) -> fmt::Result {
+        f.write_str(self.word())
     }
 }
 
