@@ -17,24 +17,34 @@ cost_at e = record { latency = e.latency.0; reliability = e.reliability }
 abbrev pub IsSettled : List (Option Cost) → ℕ → Cost → Type 0
 IsSettled best place c = slice_index_or best place None ≡ Some c
 
--- the place was left as cheaply, or waits at this cost
+-- the place was left as cheaply, or waits to be
 abbrev pub IsReached : List (Option Cost) → List Entry → ℕ → Cost → Type 0
 IsReached best waiting place c =
-    ((d : Cost) × IsSettled best place d × IsAsGood d c) ⊎ ((e : Entry) × Contains waiting e × (e.place ≡ place) × (cost_at e ≡ c))
+    ((d : Cost) × IsSettled best place d × IsAsGood d c) ⊎ ((e : Entry) × Contains waiting e × (e.place ≡ place) × IsAsGood (cost_at e) c)
 
-pub record IsSearch (rows : List (List Arc)) (start : ℕ) (best : List (Option Cost)) (waiting : List Entry) : Type 0 where
+-- `best` has the cost of each place that was left, `known` of each that was seen.
+pub record IsSearch (rows : List (List Arc)) (start : ℕ) (best known : List (Option Cost)) (waiting : List Entry) : Type 0 where
   pub size : length best ≡ length rows
+  pub room : length known ≡ length rows
   pub settled : (v : ℕ) (c : Cost) → IsSettled best v c → HasPath rows start v c
   pub waits : (e : Entry) → Contains waiting e → (e.place < length rows) × HasPath rows start e.place (cost_at e)
   pub ordered : (v : ℕ) (c : Cost) (e : Entry) → IsSettled best v c → Contains waiting e → IsAsGood c (cost_at e)
+  pub seen : (v : ℕ) (c : Cost) → slice_index_or known v None ≡ Some c → IsReached best waiting v c
   pub closed : (u : ℕ) (c : Cost) (x : Arc) → IsSettled best u c → Leaves rows u x → IsReached best waiting x.to (then_arc c x)
   pub source : IsReached best waiting start nothing
   pub bounded : (e : Entry) → Contains waiting e → (e.latency.0 ≤ count_by is_some best * 3600000000000) × (e.reliability ≤ 1000000000)
 
--- what a settled place adds to those that wait
-pub record AddsArcs (best : List (Option Cost)) (c : Cost) (arcs : List Arc) (old new : List Entry) : Type 0 where
+-- a cost as good is known for the place
+abbrev pub IsKnown : List (Option Cost) → ℕ → Cost → Type 0
+IsKnown known place c = (d : Cost) × (slice_index_or known place None ≡ Some d) × IsAsGood d c
+
+-- what a settled place adds to what is known and to those that wait
+pub record AddsArcs (c : Cost) (arcs : List Arc) (known seen : List (Option Cost)) (old new : List Entry) : Type 0 where
+  pub size : length seen ≡ length known
   pub kept : (e : Entry) → Contains old e → Contains new e
-  pub added : (x : Arc) → Contains arcs x → ((d : Cost) × IsSettled best x.to d) ⊎ ((e : Entry) × Contains new e × (e.place ≡ x.to) × (cost_at e ≡ then_arc c x))
+  pub added : (x : Arc) → Contains arcs x → IsKnown seen x.to (then_arc c x)
+  pub lower : (v : ℕ) (d : Cost) → slice_index_or known v None ≡ Some d → IsKnown seen v d
+  pub from : (v : ℕ) (d : Cost) → slice_index_or seen v None ≡ Some d → (slice_index_or known v None ≡ Some d) ⊎ ((e : Entry) × Contains new e × (e.place ≡ v) × (cost_at e ≡ d))
   pub only : (e : Entry) → Contains new e → Contains old e ⊎ ((x : Arc) × Contains arcs x × (e.place ≡ x.to) × (cost_at e ≡ then_arc c x))
 
 -- the first to leave is as cheap as each other
@@ -48,6 +58,6 @@ entry_order a b =
     (ordering_then (nat_cmp a.reliability b.reliability) (nat_cmp a.place b.place))
 
 -- what the first entry to a place that wasn't left yet leaves behind; nothing waits where there is none
-abbrev pub IsNext : List (List Arc) → ℕ → List (Option Cost) → Option Entry → List Entry → Type 0
-IsNext rows start best None rest = IsSearch rows start best rest × (rest ≡ [])
-IsNext rows start best (Some e) rest = IsSearch rows start best (e ∷ rest) × IsFirst e rest × (slice_index_or best e.place None ≡ None)
+abbrev pub IsNext : List (List Arc) → ℕ → List (Option Cost) → List (Option Cost) → Option Entry → List Entry → Type 0
+IsNext rows start best known None rest = IsSearch rows start best known rest × (rest ≡ [])
+IsNext rows start best known (Some e) rest = IsSearch rows start best known (e ∷ rest) × IsFirst e rest × (slice_index_or best e.place None ≡ None)

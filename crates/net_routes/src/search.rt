@@ -1,10 +1,12 @@
 //! The search for the cheapest paths from a place to all others: the cheapest place that waits is
 //! left first.
 
-ghost use Rattle.std.specs.Prelude.{◌≡◌, ℕ, ◌+◌, ◌*◌, ◌<◌, ◌≤◌, ◌^◌, List, length, All, None, IfOk, OnOk};
+ghost use Rattle.std.specs.Prelude.{◌≡◌, ℕ, ◌+◌, ◌*◌, ◌<◌, ◌≤◌, ◌^◌, List, Option, length, All, None, IfOk, IfSome, IfNone, IsSomeAnd, OnOk};
 ghost use Rattle.std.specs.BinaryHeap.{IsHeap, heap_items, heap_len};
 ghost use Rattle.net_routes.specs.declared.arc.Arc.{Arc};
+ghost use Rattle.net_routes.specs.declared.cost.Cost.{Cost};
 ghost use Rattle.std.specs.List.{slice_index_or};
+ghost use Rattle.net_routes.specs.Cost.{and_then, IsAsGood};
 ghost use Rattle.net_routes.specs.Path.{AreArcs, IsArc, HasPath, IsBest};
 ghost use Rattle.net_routes.specs.Search.{cost_at, entry_order, IsSearch, IsNext, AddsArcs};
 
@@ -47,9 +49,9 @@ fn next_entry(waiting: &mut BinaryHeap<Entry>, best: &[Option<Cost>]) -> Option<
     requires heap { IsHeap entry_order (heap_items waiting.old) }
     requires places { All (λ e. e.place < length best.now) (heap_items waiting.old) }
     ensures heap { IsHeap entry_order (heap_items waiting.new) }
-    ensures next { (rows : List (List Arc)) (start : ℕ)
-        → IsSearch rows start best.now (heap_items waiting.old)
-        → IsNext rows start best.now result (heap_items waiting.new) }
+    ensures next { (rows : List (List Arc)) (start : ℕ) (known : List (Option Cost))
+        → IsSearch rows start best.now known (heap_items waiting.old)
+        → IsNext rows start best.now known result (heap_items waiting.new) }
 {
     while let Some(entry) = waiting.pop() {
         if best[entry.place].is_none() {
@@ -59,25 +61,48 @@ fn next_entry(waiting: &mut BinaryHeap<Entry>, best: &[Option<Cost>]) -> Option<
     None
 }
 
-/// Lets the ends of the arcs of a place that was left at this cost wait, but for those that were
-/// left.
+/// The cost of a walk and then of a step, if nothing as good is known.
+fn improved(known: Option<Cost>, cost: Cost, step: Cost) -> Option<Cost>
+    requires room { cost.latency + step.latency < 2 ^ 64 }
+    requires before { cost.reliability ≤ 1000000000 }
+    requires part { step.reliability ≤ 1000000000 }
+    ensures some { IfSome result (λ c. c ≡ and_then cost step) }
+    ensures better { IfSome result (λ c. IfSome known (IsAsGood c)) }
+    ensures none { IfNone result (IsSomeAnd known (λ c. IsAsGood c (and_then cost step))) }
+{
+    let Some(other) = known else {
+        return Some(extended(cost, step));
+    };
+    if other.latency < cost.latency + step.latency {
+        return None;
+    }
+    let found = extended(cost, step);
+    if other.latency == found.latency && found.reliability <= other.reliability {
+        return None;
+    }
+    Some(found)
+}
+
+/// Lets the ends of the arcs of a place that was left at this cost wait, but for those of which as
+/// good a cost is known.
 fn add_arcs(
     waiting: &mut BinaryHeap<Entry>,
-    best: &[Option<Cost>],
+    known: &mut [Option<Cost>],
     cost: Cost,
     arcs: &[Arc],
 ) -> Result<(), NoMemory>
-    requires ends { All (IsArc (length best.now)) arcs.now }
+    requires ends { All (IsArc (length known.old)) arcs.now }
     requires room { cost.latency < 2 ^ 62 }
     requires part { cost.reliability ≤ 1000000000 }
     ensures heap { IsHeap entry_order (heap_items waiting.old)
         → IsHeap entry_order (heap_items waiting.new) }
-    ensures adds { OnOk result
-        (AddsArcs best.now cost arcs.now (heap_items waiting.old) (heap_items waiting.new)) }
+    ensures adds { OnOk result (AddsArcs cost arcs.now known.old known.new
+        (heap_items waiting.old) (heap_items waiting.new)) }
 {
     for arc in arcs {
-        if best[arc.to].is_none() {
-            waiting.push(entry_at(extended(cost, arc.cost), arc.to))?;
+        if let Some(found) = improved(known[arc.to], cost, arc.cost) {
+            known[arc.to] = Some(found);
+            waiting.push(entry_at(found, arc.to))?;
         }
     }
     Ok(())
@@ -97,6 +122,7 @@ pub fn cheapest_paths(
         (λ best. IsBest (HasPath rows.now start) (λ place. slice_index_or best.items place None)) }
 {
     let mut best = vec![in alloc; None; rows.len()]?;
+    let mut known = vec![in alloc; None; rows.len()]?;
     let mut waiting = BinaryHeap::new(alloc);
     waiting.push(entry_at(no_cost(), start))?;
     for _ in 0..rows.len() {
@@ -105,7 +131,7 @@ pub fn cheapest_paths(
         };
         let cost = cost_of(entry);
         best[entry.place] = Some(cost);
-        add_arcs(&mut waiting, &best, cost, rows[entry.place].as_slice())?;
+        add_arcs(&mut waiting, &mut known, cost, rows[entry.place].as_slice())?;
     }
     Ok(best)
 }

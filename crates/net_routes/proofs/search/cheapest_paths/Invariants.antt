@@ -7,6 +7,6 @@ use Rattle.net_routes.proofs.search.cheapest_paths.Given as goal
 abbrev pub invariant-loop : goal.invariant-loop
 invariant-loop l = record {
   heap : IsHeap entry_order (heap_items l.waiting);
-  search : IsSearch l.rows l.start l.best.items (heap_items l.waiting);
+  search : IsSearch l.rows l.start l.best.items l.known.items (heap_items l.waiting);
   count : count_by is_some l.best.items ≡ l.counter;
 }
