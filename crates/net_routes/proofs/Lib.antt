@@ -10,4 +10,5 @@ pub mod LineLemmas
 pub mod RouteLemmas
 pub mod RouteLaws
 pub mod LeastLemmas
+pub mod StopLemmas
 pub mod Values

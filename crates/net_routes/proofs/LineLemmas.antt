@@ -39,7 +39,7 @@ at_first y xs = record { within = omega arith; is = refl }
 at_later : (y : ℕ) (xs : List ℕ) (i x : ℕ) → IsAt xs i x → IsAt (y ∷ xs) (suc i) x
 at_later y xs i x a = record { within = omega (arith, a.within); is = a.is }
 
-one_host : (xs : List ℕ) (x : ℕ) → 1 ≤ hosts_on xs x → (i : ℕ) × IsAt xs i x
+pub one_host : (xs : List ℕ) (x : ℕ) → 1 ≤ hosts_on xs x → (i : ℕ) × IsAt xs i x
 one_host [] x h = absurd (omega (arith, h))
 one_host (y ∷ xs) x h =
     ⊎_elim

@@ -44,6 +44,33 @@ pub record IsFromFirst (count hosts p q : ℕ) : Type 0 where
   pub to : q < hosts
   pub others : p ≢ q
 
+-- the latency from one node to another one, or nothing where no hosts need it
+abbrev pub IsNeededLatency : List ℕ → Routes → ℕ → ℕ → Option ℕ → Type 0
+IsNeededLatency nodes r a b None = IsNeeded nodes a b → ⊥
+IsNeededLatency nodes r a b (Some t) = IsNeeded nodes a b × (option_map (λ c. c.latency) (route_in r a b) ≡ Some t)
+
+-- places of two nodes between which hosts need a route
+abbrev pub IsNeededAt : List ℕ → List ℕ → ℕ → ℕ → Type 0
+IsNeededAt nodes stops p q = IsNeeded nodes (slice_index stops p) (slice_index stops q)
+
+-- such places, one alone
+pub record IsNeededPair (nodes stops : List ℕ) (i j p q : ℕ) : Type 0 where
+  pub from : p ≡ i
+  pub to : q ≡ j
+  pub needed : IsNeededAt nodes stops p q
+
+-- from one place to one of the first
+pub record IsNeededTo (nodes stops : List ℕ) (i count p q : ℕ) : Type 0 where
+  pub from : p ≡ i
+  pub to : q < count
+  pub needed : IsNeededAt nodes stops p q
+
+-- from one of the first
+pub record IsNeededFirst (nodes stops : List ℕ) (count all p q : ℕ) : Type 0 where
+  pub from : p < count
+  pub to : q < all
+  pub needed : IsNeededAt nodes stops p q
+
 -- the less of two numbers, each of which may be missing
 abbrev pub lesser : Option ℕ → Option ℕ → Option ℕ
 lesser None b = b

@@ -35,14 +35,14 @@ impl Line {
 }
 
 /// How many hosts are on a node.
-fn hosts_on(nodes: &[u32], node: u32) -> usize
+pub(crate) fn hosts_on(nodes: &[u32], node: u32) -> usize
     ensures { result ≡ count_by (λ n. n == node) nodes.now }
 {
     nodes.iter().filter(|other| **other == node).count()
 }
 
 /// Whether a host on the one node sends to another host on the other.
-fn is_needed(nodes: &[u32], from: u32, to: u32) -> bool
+pub(crate) fn is_needed(nodes: &[u32], from: u32, to: u32) -> bool
     requires from { Contains nodes.now from }
     requires to { Contains nodes.now to }
     ensures { MatchBool result (IsNeeded nodes.now from to) (¬ IsNeeded nodes.now from to) }

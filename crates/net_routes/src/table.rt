@@ -1,10 +1,10 @@
 //! The routes between the nodes of hosts.
 
-ghost use Rattle.std.specs.Prelude.{◌≡◌, ◌<◌, Some, IsSome, option_map, length};
+ghost use Rattle.std.specs.Prelude.{◌≡◌, ◌<◌, Some, IsSome, option_map, length, All, Contains, true};
 ghost use Rattle.net_routes.specs.Routes.{route_in, HasRoutes};
-ghost use Rattle.net_routes.specs.Least.{lesser, IsLatency, IsLeastIf, IsFromTo, IsLookahead};
+ghost use Rattle.net_routes.specs.Least.{lesser, IsLatency, IsLeastIf, IsFromTo, IsNeededLatency, IsNeededTo, IsLookahead};
 
-use crate::line::Line;
+use crate::line::{Line, hosts_on, is_needed};
 use crate::places::Places;
 use sim_base::Time;
 
@@ -33,7 +33,8 @@ impl Routes {
         ))
     }
 
-    /// The route from one node to another that is kept.
+    /// The route from one node to another that is kept: the caller knows that it is, as each that
+    /// hosts need.
     pub fn get(&self, from: u32, to: u32) -> (Time, u32)
         requires { IsSome (route_in self.now from to) }
         ensures { route_in self.now from to
@@ -72,9 +73,8 @@ impl Routes {
         least
     }
 
-    /// The least latency of all routes that hosts on these nodes need, one entry for each host;
-    /// none where there are fewer than two.
-    pub fn least_between(&self, nodes: &[u32]) -> Option<Time>
+    /// The least latency of all routes that hosts on these nodes need, host by host.
+    fn least_of_hosts(&self, nodes: &[u32]) -> Option<Time>
         requires { HasRoutes nodes.now self.now }
         ensures { IsLookahead nodes.now self.now (option_map (λ t. t.nanos) result) }
     {
@@ -87,6 +87,78 @@ impl Routes {
             None => None,
         }
     }
+
+    /// The latency from one node to another one, where hosts need it.
+    fn needed_latency(&self, nodes: &[u32], from: u32, to: u32) -> Option<u64>
+        requires from { Contains nodes.now from }
+        requires to { Contains nodes.now to }
+        requires routes { HasRoutes nodes.now self.now }
+        ensures { IsNeededLatency nodes.now self.now from to result }
+    {
+        if !is_needed(nodes, from, to) {
+            return None;
+        }
+        let (latency, _) = self.get(from, to);
+        Some(latency.nanos)
+    }
+
+    /// The least latency that hosts need from the node at a place.
+    fn least_from_stop(&self, nodes: &[u32], stops: &[u32], from: usize) -> Option<u64>
+        requires from { from < length stops.now }
+        requires stops { All (Contains nodes.now) stops.now }
+        requires routes { HasRoutes nodes.now self.now }
+        ensures { IsLeastIf (IsNeededTo nodes.now stops.now from (length stops.now)) stops.now
+            self.now result }
+    {
+        let mut least = None;
+        for to in 0..stops.len() {
+            least = lesser(least, self.needed_latency(nodes, stops[from], stops[to]));
+        }
+        least
+    }
+
+    /// The least latency of all routes that hosts on these nodes need, node by node.
+    fn least_of_stops(&self, nodes: &[u32], stops: &[u32]) -> Option<Time>
+        requires same { stops.now ≡ self.now.stops }
+        requires stops { All (Contains nodes.now) stops.now }
+        requires routes { HasRoutes nodes.now self.now }
+        ensures { IsLookahead nodes.now self.now (option_map (λ t. t.nanos) result) }
+    {
+        let mut least = None;
+        for from in 0..stops.len() {
+            least = lesser(least, self.least_from_stop(nodes, stops, from));
+        }
+        match least {
+            Some(nanos) => Some(Time { nanos }),
+            None => None,
+        }
+    }
+
+    /// The least latency of all routes that hosts on these nodes need, one entry for each host;
+    /// none where there are fewer than two. Each route that they need has to be kept: for the nodes
+    /// that `routes` was asked for, and for some of them, it is.
+    pub fn least_between(&self, nodes: &[u32]) -> Option<Time>
+        requires { HasRoutes nodes.now self.now }
+        ensures { IsLookahead nodes.now self.now (option_map (λ t. t.nanos) result) }
+    {
+        let stops = self.stops.as_slice();
+        if have_hosts(nodes, stops) {
+            return self.least_of_stops(nodes, stops);
+        }
+        self.least_of_hosts(nodes)
+    }
+}
+
+/// Whether there is a host on each of these nodes.
+fn have_hosts(nodes: &[u32], stops: &[u32]) -> bool
+    ensures { result ≡ true → All (Contains nodes.now) stops.now }
+{
+    for stop in stops {
+        if hosts_on(nodes, *stop) == 0 {
+            return false;
+        }
+    }
+    true
 }
 
 /// The less of two numbers, each of which may be missing.

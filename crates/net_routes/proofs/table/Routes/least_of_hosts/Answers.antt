@@ -1,7 +1,7 @@
 use Rattle.std.proofs.Common.{◌≡◌, ℕ, ◌+◌, length, Option, sym, subst, arith}
 use Rattle.net_routes.specs.Least.{IsLeastIf, IsFromFirst, IsLookahead}
 use Rattle.net_routes.proofs.LeastLemmas.{first_none, first_more, lookahead_least}
-use Rattle.net_routes.proofs.table.Routes.least_between.Goals as goal
+use Rattle.net_routes.proofs.table.Routes.least_of_hosts.Goals as goal
 
 pub loop-host-init : goal.loop-host-init
 loop-host-init c = first_none c.args.nodes.now c.args.self.now (length c.args.nodes.now)
