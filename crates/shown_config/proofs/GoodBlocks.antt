@@ -1,11 +1,11 @@
 -- The marks of lines of UTF-8 are UTF-8, and the lines of a literal block stand in it.
-use Rattle.std.proofs.Common.{◌≡◌, ℕ, ◌+◌, ◌≤◌, Bool, true, false, ◌||◌, ◌==◌, if◌then◌else◌, List, [], ◌∷◌, ◌++◌, drop, Option, Some, None, IfSome, IsUtf8, refl, sym, ap, subst, inl, inr, ◌⊎◌, eqb-true, leb-true, true≢false, not, one-add}
+use Rattle.std.proofs.Common.{◌≡◌, ℕ, ◌+◌, ◌≤◌, Bool, true, false, ◌||◌, ◌&&◌, ◌==◌, if◌then◌else◌, List, [], ◌∷◌, ◌++◌, drop, Option, Some, None, IfSome, IsUtf8, refl, sym, ap, ◌∙◌, subst, inl, inr, ◌⊎◌, eqb-true, leb-true, true≢false, not, one-add}
 use Rattle.std.specs.List.{AllByRecursion, prefix_len}
 use Rattle.std.proofs.lemmas.Bool.{or_cases}
 use Rattle.yaml_marks.specs.Lines.{begins_with}
 use Rattle.yaml_marks.specs.Literals.{is_blank, indent}
 use Rattle.yaml_marks.specs.Scalars.{is_space, is_nothing, after_spaces}
-use Rattle.yaml_marks.specs.Marks.{refused, named_node, is_dash, node_marks, has_content, is_marker, head_of, stands_in, is_body, bar_column, column_behind, place_inside, place_behind, line_marks, place_after, next_place, marks_from, marks_of}
+use Rattle.yaml_marks.specs.Marks.{refused, named_node, is_dash, node_marks, has_content, is_marker, is_late_marker, begins_document, head_of, stands_in, is_body, bar_column, column_behind, place_inside, place_behind, line_marks, place_after, next_place, marks_from, marks_of}
 use Rattle.yaml_marks.specs.declared.odd.Odd.TheVariants as odd
 use Rattle.yaml_marks.specs.declared.mark.Mark.{Mark}
 use Rattle.yaml_marks.specs.declared.mark.Mark.TheVariants.{Dash, Key, Scalar, Name, Copy, Bar, Body, Form, OddMark}
@@ -90,9 +90,9 @@ Started begun place = begun ≡ false → IsOutside place
 quiet-place : (place : Place) (number : ℕ) (bytes : List ℕ) → IsOutside place → is_quiet bytes ≡ true → IsOutside (next_place false place number bytes)
 unfolding line_marks place_after
 quiet-place (Inside bar head own) number bytes o q = absurd o
-quiet-place (Outside head) number bytes o q = by (is_marker 45 bytes) (is_marker 46 bytes) (begins_with 37 bytes)
+quiet-place (Outside head) number bytes o q = by (is_late_marker false bytes) (begins_document false bytes) (begins_with 37 bytes)
   where
-    by : (a b c : Bool) → IsOutside (place_behind (Outside head) (if a then (if false then refused number 0 odd.Unsupported else []) else (if b then refused number 0 odd.Unsupported else (if false then Body number 0 bytes ∷ [] else (if c then refused number 0 odd.Unsupported else node_marks number 0 bytes)))))
+    by : (a b c : Bool) → IsOutside (place_behind (Outside head) (if a then refused number 0 odd.Unsupported else (if b then [] else (if false then Body number 0 bytes ∷ [] else (if c then refused number 0 odd.Unsupported else node_marks number 0 bytes)))))
     by true b c = tt
     by false true c = tt
     by false false true = tt
@@ -106,24 +106,28 @@ next-started false place number bytes s e = quiet-place place number bytes (s re
     not_false true h = refl
     not_false false h = absurd (true≢false h)
 
+and_false : (a : Bool) → (a && false) ≡ false
+and_false true = refl
+and_false false = refl
+
 -- the marks of a line before others
-line-by : (begun : Bool) (place : Place) (column : Option ℕ) (number : ℕ) (bytes : List ℕ) (rest : List Mark) (a b c d : Bool) → is_body place bytes ≡ c → IsUtf8 bytes → Fits place column → Started begun place
-    → ((after : Option ℕ) → Fits (if c then place_inside place bytes else place_behind (Outside (head_of place)) (if a then (if begun then refused number 0 odd.Unsupported else []) else (if b then refused number 0 odd.Unsupported else (if c then Body number (bar_column place) bytes ∷ [] else (if d then refused number 0 odd.Unsupported else node_marks number 0 bytes))))) after → AreGoodFrom after rest)
-    → AreGoodFrom column ((if a then (if begun then refused number 0 odd.Unsupported else []) else (if b then refused number 0 odd.Unsupported else (if c then Body number (bar_column place) bytes ∷ [] else (if d then refused number 0 odd.Unsupported else node_marks number 0 bytes)))) ++ rest)
-line-by true place column number bytes rest true b c d e u f s k = tt
-line-by false (Outside head) column number bytes rest true b true d e u f s k = absurd (true≢false (sym e))
-line-by false (Outside head) column number bytes rest true b false d e u f s k = k column tt
-line-by false (Inside bar head own) column number bytes rest true b c d e u f s k = absurd (s refl)
-line-by begun place column number bytes rest false true c d e u f s k = tt
-line-by begun (Outside head) column number bytes rest false false true d e u f s k = absurd (true≢false (sym e))
-line-by begun (Inside bar head own) column number bytes rest false false true d e u f s k = (u, subst (λ (o : Option ℕ). StandsIn o bytes) f (stands head own bytes e), k (column_behind column bytes) (ap (λ o. column_behind o bytes) f))
-line-by begun place column number bytes rest false false false true e u f s k = tt
-line-by begun place column number bytes rest false false false false e u f s k = good-then (node_marks number 0 bytes) rest (Outside (head_of place)) column (node-good number 0 bytes u) tt k
+line-by : (begun : Bool) (place : Place) (column : Option ℕ) (number : ℕ) (bytes : List ℕ) (rest : List Mark) (a b c d : Bool) → begins_document begun bytes ≡ b → is_body place bytes ≡ c → IsUtf8 bytes → Fits place column → Started begun place
+    → ((after : Option ℕ) → Fits (if c then place_inside place bytes else place_behind (Outside (head_of place)) (if a then refused number 0 odd.Unsupported else (if b then [] else (if c then Body number (bar_column place) bytes ∷ [] else (if d then refused number 0 odd.Unsupported else node_marks number 0 bytes))))) after → AreGoodFrom after rest)
+    → AreGoodFrom column ((if a then refused number 0 odd.Unsupported else (if b then [] else (if c then Body number (bar_column place) bytes ∷ [] else (if d then refused number 0 odd.Unsupported else node_marks number 0 bytes)))) ++ rest)
+line-by begun place column number bytes rest true b c d m e u f s k = tt
+line-by true place column number bytes rest false true c d m e u f s k = absurd (true≢false (sym m ∙ and_false (is_marker 45 bytes)))
+line-by false (Outside head) column number bytes rest false true true d m e u f s k = absurd (true≢false (sym e))
+line-by false (Outside head) column number bytes rest false true false d m e u f s k = k column tt
+line-by false (Inside bar head own) column number bytes rest false true c d m e u f s k = absurd (s refl)
+line-by begun (Outside head) column number bytes rest false false true d m e u f s k = absurd (true≢false (sym e))
+line-by begun (Inside bar head own) column number bytes rest false false true d m e u f s k = (u, subst (λ (o : Option ℕ). StandsIn o bytes) f (stands head own bytes e), k (column_behind column bytes) (ap (λ o. column_behind o bytes) f))
+line-by begun place column number bytes rest false false false true m e u f s k = tt
+line-by begun place column number bytes rest false false false false m e u f s k = good-then (node_marks number 0 bytes) rest (Outside (head_of place)) column (node-good number 0 bytes u) tt k
 
 line-good : (begun : Bool) (place : Place) (column : Option ℕ) (number : ℕ) (bytes : List ℕ) (rest : List Mark) → IsUtf8 bytes → Fits place column → Started begun place
     → ((after : Option ℕ) → Fits (next_place begun place number bytes) after → AreGoodFrom after rest) → AreGoodFrom column (line_marks begun place number bytes ++ rest)
 unfolding line_marks place_after
-line-good begun place column number bytes rest u f s k = line-by begun place column number bytes rest (is_marker 45 bytes) (is_marker 46 bytes) (is_body place bytes) (begins_with 37 bytes) refl u f s k
+line-good begun place column number bytes rest u f s k = line-by begun place column number bytes rest (is_late_marker begun bytes) (begins_document begun bytes) (is_body place bytes) (begins_with 37 bytes) refl refl u f s k
 
 lines-good : (begun : Bool) (place : Place) (column : Option ℕ) (number : ℕ) (lines : List (List ℕ)) → AllByRecursion IsUtf8 lines → Fits place column → Started begun place → AreGoodFrom column (marks_from begun place number lines)
 unfolding marks_from

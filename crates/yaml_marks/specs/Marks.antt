@@ -137,9 +137,17 @@ node_marks line column (b ∷ bytes) = if is_space b then node_marks line (1 + c
 abbrev pub has_content : List ℕ → Bool
 has_content bytes = not (is_nothing (after_spaces bytes) || begins_with 35 (after_spaces bytes))
 
--- a line of three such bytes, with spaces or a comment behind them at most
+-- a marker: three such bytes at the line's start, before a space or the line's end
 abbrev pub is_marker : ℕ → List ℕ → Bool
-is_marker b bytes = (begins_with b bytes && begins_with b (drop 1 bytes)) && (begins_with b (drop 2 bytes) && at_end (drop 3 bytes))
+is_marker b bytes = (begins_with b bytes && begins_with b (drop 1 bytes)) && (begins_with b (drop 2 bytes) && at_gap (drop 3 bytes))
+
+-- `...`, and a `---` that isn't the first content line
+abbrev pub is_late_marker : Bool → List ℕ → Bool
+is_late_marker begun bytes = is_marker 46 bytes || (is_marker 45 bytes && begun)
+
+-- `---` as the first content line, with spaces or a comment behind it at most
+abbrev pub begins_document : Bool → List ℕ → Bool
+begins_document begun bytes = is_marker 45 bytes && (not begun && at_end (drop 3 bytes))
 
 -- A line stands outside of literal blocks, behind a last key or dash at some column, if any; or inside of the block
 -- of a bar, at the block's own column once a line of it isn't blank.
@@ -184,11 +192,12 @@ place_behind place (Key line column text ∷ marks) = place_behind (Outside (Som
 place_behind place (Bar line column chomp ∷ marks) = place_behind (Inside column (head_of place) None) marks
 place_behind place (_ ∷ marks) = place_behind place marks
 
--- The marks of a line. `---` may be the first content line; a later one, and `...`, are unsupported, in a literal
--- block too, and `%` at column 0 outside of one. In the first argument stands whether an earlier line has content.
+-- The marks of a line. `---` may be the first content line, and `--- x` there is a scalar; a later marker is
+-- unsupported, in a literal block too, and `%` at column 0 outside of one. In the first argument stands whether an
+-- earlier line has content.
 unfoldable pub line_marks : Bool → Place → ℕ → List ℕ → List Mark
-line_marks begun place line bytes = if is_marker 45 bytes then (if begun then refused line 0 odd.Unsupported else [])
-    else (if is_marker 46 bytes then refused line 0 odd.Unsupported
+line_marks begun place line bytes = if is_late_marker begun bytes then refused line 0 odd.Unsupported
+    else (if begins_document begun bytes then []
     else (if is_body place bytes then Body line (bar_column place) bytes ∷ []
     else (if begins_with 37 bytes then refused line 0 odd.Unsupported
     else node_marks line 0 bytes)))

@@ -3,7 +3,7 @@
 ghost use Rattle.std.specs.Prelude.{◌≡◌, ◌+◌, ◌<◌, ◌≤◌, ◌^◌, ◌∷◌, ◌++◌, IsTrue, [], Some, length, drop, IfOk, OnOk};
 ghost use Rattle.yaml_marks.specs.Scalars.{at_colon, plain_value, IsWithin};
 ghost use Rattle.yaml_marks.specs.Names.{name_len, name_at, after_name};
-ghost use Rattle.yaml_marks.specs.Marks.{behind_spaces, pair_marks, row_marks, row_marks_of, last_marks, last_node, named_node, is_name_mark, is_dash, node_marks, has_content, is_marker, line_marks};
+ghost use Rattle.yaml_marks.specs.Marks.{behind_spaces, pair_marks, row_marks, row_marks_of, last_marks, last_node, named_node, is_name_mark, is_dash, node_marks, has_content, is_marker, is_late_marker, begins_document, line_marks};
 ghost use Rattle.yaml_marks.specs.declared.mark.Mark.TheVariants as mark;
 
 use crate::mark::{Mark, Marks};
@@ -27,14 +27,28 @@ pub fn has_content(bytes: &[u8]) -> bool
     !rest.is_empty() && !begins_with(b'#', rest)
 }
 
-/// A line of three such bytes, with spaces or a comment behind them at most.
+/// A marker: three such bytes at the line's start, before a space or the line's end.
 fn is_marker(b: u8, bytes: &[u8]) -> bool
     ensures { result ≡ is_marker b bytes.now }
 {
     begins_with(b, bytes)
         && begins_with(b, past(bytes, 1))
         && begins_with(b, past(bytes, 2))
-        && at_end(past(bytes, 3))
+        && at_gap(past(bytes, 3))
+}
+
+/// `...`, and a `---` that isn't the first content line.
+fn is_late_marker(begun: bool, bytes: &[u8]) -> bool
+    ensures { result ≡ is_late_marker begun bytes.now }
+{
+    is_marker(b'.', bytes) || is_marker(b'-', bytes) && begun
+}
+
+/// `---` as the first content line, with spaces or a comment behind it at most.
+fn begins_document(begun: bool, bytes: &[u8]) -> bool
+    ensures { result ≡ begins_document begun bytes.now }
+{
+    is_marker(b'-', bytes) && !begun && at_end(past(bytes, 3))
 }
 
 fn is_dash(b: u8, behind: &[u8]) -> bool
@@ -237,14 +251,11 @@ impl Line {
         requires { length bytes.now < 2 ^ 62 }
         ensures { OnOk result (marks.new ≡ marks.old ++ line_marks begun place self.number bytes.now) }
     {
-        if is_marker(b'-', bytes) {
-            if begun {
-                return self.refuse(marks, 0, Odd::Unsupported);
-            }
-            return Ok(());
-        }
-        if is_marker(b'.', bytes) {
+        if is_late_marker(begun, bytes) {
             return self.refuse(marks, 0, Odd::Unsupported);
+        }
+        if begins_document(begun, bytes) {
+            return Ok(());
         }
         if place.is_body(bytes) {
             return self.add_body(marks, place.bar_column(), bytes);

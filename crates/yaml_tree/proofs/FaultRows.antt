@@ -70,6 +70,11 @@ end_marker_in_a_block : IsRefusedAt (codes "|\na\n...") 3 Unsupported
 unfolding split_lines marks_from line_marks place_after node_marks scalar_at scan_of bare_scan plain_len single_quoted double_len unescaped bare_cell cell_scan cell_len found_at fault_from begun cell_closed cell_copy cell_key cell_node cell_opened closed ended flushed headed judged next_row put_known put_node read_line read_lines settled_on take_mark take_marks take_piece take_pieces valued with_bar with_copy with_form with_line with_name with_node with_scalar
 end_marker_in_a_block = read-means (lines_of (codes "|\na\n..."))
 
+-- a marker before text, of which the first is a scalar
+marker_before_text : IsRefusedAt (codes "--- x\n--- y") 2 Unsupported
+unfolding split_lines marks_from line_marks place_after node_marks scalar_at scan_of bare_scan plain_len single_quoted double_len unescaped bare_cell cell_scan cell_len found_at fault_from begun cell_closed cell_copy cell_key cell_node cell_opened closed ended flushed headed judged next_row put_known put_node read_line read_lines settled_on take_mark take_marks take_piece take_pieces valued with_bar with_copy with_form with_line with_name with_node with_scalar
+marker_before_text = read-means (lines_of (codes "--- x\n--- y"))
+
 -- ---- flow forms
 
 -- the line's end inside a bracket

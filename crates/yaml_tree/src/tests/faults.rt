@@ -178,7 +178,7 @@ fn refuses_names_and_copies(rt: HostRuntime) {
     assert_eq!(rt; first_wrong(rt.alloc(), NAMES.as_slice()), None);
 }
 
-const OTHERS: [Row; 29] = [
+const OTHERS: [Row; 32] = [
     // what the profile leaves out
     ("a: !x", 1, FaultKind::Unsupported),
     ("- !x", 1, FaultKind::Unsupported),
@@ -200,6 +200,9 @@ const OTHERS: [Row; 29] = [
     ("...", 1, FaultKind::Unsupported),
     ("a: 1\n... # end", 2, FaultKind::Unsupported),
     ("|\n---", 2, FaultKind::Unsupported),
+    ("... x", 1, FaultKind::Unsupported),
+    ("--- x\n--- y", 2, FaultKind::Unsupported),
+    ("|\n  a\n--- b", 3, FaultKind::Unsupported),
     ("a: |\n  b\n...", 3, FaultKind::Unsupported),
     // a key twice in one mapping, and a fault before it
     ("a: 1\n'a': 2", 2, FaultKind::Duplicate),

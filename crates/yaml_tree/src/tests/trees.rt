@@ -66,7 +66,7 @@ fn first_wrong(alloc: Global, rows: &[Row]) -> Result<Option<&'static str>, Fail
     Ok(None)
 }
 
-const BLOCKS: [Row; 18] = [
+const BLOCKS: [Row; 20] = [
     // lines, and where comments and blank lines may stand
     ("", "1~"),
     ("\n# c\n   # d\n  \n", "1~"),
@@ -77,6 +77,8 @@ const BLOCKS: [Row; 18] = [
     ("Null", "1'Null'"),
     ("--- # first\n\n\n- b", "4[ 4'b' ]"),
     ("--- x", "1'--- x'"),
+    ("# c\n--- x: y", "2{ --- x@2=2'y' }"),
+    ("---x", "1'---x'"),
     (
         "# c\n\na: # d\n\n# e\n  # f\n  - b # g\n\n  # h\n  -\n   # i\n\n   c\n# j\n",
         "3{ a@3=7[ 7'b' 13'c' ] }",
@@ -171,7 +173,7 @@ const SCALARS: [Row; 24] = [
         "a: |+\n\n  b\n\n# c\n\nd: 1",
         "1{ a@1=1'\nb\n\n' d@7=7'1' }",
     ),
-    ("|\na: b\n\n# c\n%d\n--- e", "1'a: b\n\n# c\n%d\n--- e\n'"),
+    ("|\na: b\n\n# c\n%d\n---e", "1'a: b\n\n# c\n%d\n---e\n'"),
     (
         "- a: |\n   b\n  c:\n    |-\n   d\n- - |-\n   'e",
         "1[ 1{ a@1=1'b\n' c@3=4'd' } 6[ 6''e' ] ]",
