@@ -1,5 +1,5 @@
 -- What a flow form of UTF-8 says is UTF-8, with rows of one kind in each collection.
-use Rattle.std.proofs.Common.{◌≡◌, ℕ, Bool, true, false, ◌==◌, cond, List, [], ◌∷◌, ◌++◌, Option, Some, None, IfSome, IsUtf8, unwrap_or, refl, sym, true≢false}
+use Rattle.std.proofs.Common.{◌≡◌, ℕ, Bool, true, false, ◌==◌, cond, List, [], ◌∷◌, ◌++◌, Option, Some, None, IfSome, IsUtf8, unwrap_or, refl, sym, ◌∙◌, true≢false}
 use Rattle.std.specs.Cmp.Lexicographic.{pointwise}
 use Rattle.std.specs.List.{AllByRecursion}
 use Rattle.std.specs.Map.{lookup}
@@ -9,7 +9,7 @@ use Rattle.yaml_marks.specs.declared.piece.Piece.{Piece}
 use Rattle.yaml_marks.specs.declared.piece.Piece.TheVariants.{Opening, Closing, Comma, CellKey, CellScalar, CellName, CellCopy, OddPiece}
 use Rattle.yaml_tree.specs.Flows.{Flow, spelling, comma_if, is_cell_word, is_cell_key, IsValue, AreCells, IsForm}
 use Rattle.yaml_tree.specs.Flows.Flow.{absent, word, called, item, pair, form}
-use Rattle.yaml_tree.specs.Said.{Said, Names, Meaning, copied, given, flow_said, begun_form, word_said, piece_text, scalar_said}
+use Rattle.yaml_tree.specs.Said.{Said, Names, Meaning, copied, from_line, given, flow_said, begun_form, word_said, piece_text, scalar_said}
 use Rattle.yaml_tree.specs.Said.Said.{null, text, unknown, sequence, mapping, with_item, with_pair}
 use Rattle.yaml_merge.specs.Plainness.{are_items, are_pairs}
 use Rattle.shown_config.proofs.GoodPieces.{IsGoodPiece}
@@ -43,8 +43,36 @@ pub scalar-sound : (line : ℕ) (value : Option (List ℕ)) → IfSome value IsU
 scalar-sound line None h = tt
 scalar-sound line (Some bytes) h = h
 
-pub given-sound : (n : List ℕ) (m : Meaning) → IsSoundMeaning m → IsSoundMeaning (given n m)
-given-sound n m h = (h.0, (h.0, h.1))
+are_items-from_line : (n : ℕ) (tree : Said) → are_items (from_line n tree) ≡ are_items tree
+are_items-from_line n (null line) = refl
+are_items-from_line n (text line bytes) = refl
+are_items-from_line n (unknown line) = refl
+are_items-from_line n (sequence line) = refl
+are_items-from_line n (mapping line) = refl
+are_items-from_line n (with_item before value) = are_items-from_line n before
+are_items-from_line n (with_pair before line key value) = refl
+
+are_pairs-from_line : (n : ℕ) (tree : Said) → are_pairs (from_line n tree) ≡ are_pairs tree
+are_pairs-from_line n (null line) = refl
+are_pairs-from_line n (text line bytes) = refl
+are_pairs-from_line n (unknown line) = refl
+are_pairs-from_line n (sequence line) = refl
+are_pairs-from_line n (mapping line) = refl
+are_pairs-from_line n (with_item before value) = refl
+are_pairs-from_line n (with_pair before line key value) = are_pairs-from_line n before
+
+-- whichever line a tree begins on
+from_line-sound : (n : ℕ) (tree : Said) → IsSound tree → IsSound (from_line n tree)
+from_line-sound n (null line) h = h
+from_line-sound n (text line bytes) h = h
+from_line-sound n (unknown line) h = h
+from_line-sound n (sequence line) h = h
+from_line-sound n (mapping line) h = h
+from_line-sound n (with_item before value) h = (are_items-from_line n before ∙ h.0, from_line-sound n before h.1, h.2)
+from_line-sound n (with_pair before line key value) h = (are_pairs-from_line n before ∙ h.0, h.1, from_line-sound n before h.2, h.3)
+
+pub given-sound : (line : ℕ) (n : List ℕ) (m : Meaning) → IsSoundMeaning m → IsSoundMeaning (given line n m)
+given-sound line n m h = let node = from_line-sound line m.0 h.0 in (node, (node, h.1))
 
 -- ---- flow forms
 
@@ -99,12 +127,12 @@ mutual
   flow-value : (f : Flow) (line : ℕ) (none : Said) (names : Names) → IsValue f → AreGood (spelling f) → IsSound none → AreSound names → IsSoundMeaning (flow_said line none names f)
   flow-value absent line none names v g n h = absurd v
   flow-value (word piece) line none names v g n h = (word-sound line piece names v g.0 h, h)
-  flow-value (called piece absent) line none names v g n h = given-sound (piece_text piece) (none, names) (n, h)
-  flow-value (called piece (word other)) line none names v g n h = given-sound (piece_text piece) (flow_said line none names (word other)) (flow-value (word other) line none names v.2 g.1 n h)
-  flow-value (called piece (called other value)) line none names v g n h = given-sound (piece_text piece) (flow_said line none names (called other value)) (flow-value (called other value) line none names v.2 g.1 n h)
+  flow-value (called piece absent) line none names v g n h = given-sound line (piece_text piece) (none, names) (n, h)
+  flow-value (called piece (word other)) line none names v g n h = given-sound line (piece_text piece) (flow_said line none names (word other)) (flow-value (word other) line none names v.2 g.1 n h)
+  flow-value (called piece (called other value)) line none names v g n h = given-sound line (piece_text piece) (flow_said line none names (called other value)) (flow-value (called other value) line none names v.2 g.1 n h)
   flow-value (called piece (item before value)) line none names v g n h = absurd v.2
   flow-value (called piece (pair before key value)) line none names v g n h = absurd v.2
-  flow-value (called piece (form bracket cells last)) line none names v g n h = given-sound (piece_text piece) (flow_said line none names (form bracket cells last)) (flow-value (form bracket cells last) line none names v.2 g.1 n h)
+  flow-value (called piece (form bracket cells last)) line none names v g n h = given-sound line (piece_text piece) (flow_said line none names (form bracket cells last)) (flow-value (form bracket cells last) line none names v.2 g.1 n h)
   flow-value (item before value) line none names v g n h = absurd v
   flow-value (pair before key value) line none names v g n h = absurd v
   flow-value (form bracket cells last) line none names v g n h = (flow-cells cells bracket line names v.0 (good-front (spelling cells) _ g.1) h).1

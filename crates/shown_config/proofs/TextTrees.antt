@@ -160,7 +160,7 @@ said-read (literal mark lines) outer none names rest column s g n h = literal-re
 said-read (flowing mark value) outer none names rest column s g n h = flow-read mark value none rest names column s.1 g n h
 said-read (named mark value) outer none names rest column s g n h =
     let k = said-read value outer none names rest column s.3 (name-left mark (marks value ++ rest) column s.0 g) n h in
-    record { sound = given-sound (name_of mark) (said none names value) k.sound; left = k.left }
+    record { sound = given-sound (line_of mark) (name_of mark) (said none names value) k.sound; left = k.left }
 said-read (row before head value) outer none names rest column s g n h =
     let b = said-read before outer (begun_block head) names (head ∷ (marks value ++ rest)) column s.3 (subst (AreGoodFrom column) (append_assoc (marks before) (head ∷ marks value) rest) g) (begun-rows head s.0).1 h in
     let m = said (begun_block head) names before in

@@ -11,19 +11,20 @@ use Rattle.yaml_marks.specs.declared.piece.Piece.{Piece}
 use Rattle.yaml_marks.specs.declared.piece.Piece.TheVariants.{Closing, CellKey, CellScalar, CellName, CellCopy}
 use Rattle.yaml_tree.specs.Flows.{Flow, SpellsFlow, IsForm, IsValue, AreCells, spelling, comma_if, is_absent, is_cell_name, may_be_called}
 use Rattle.yaml_tree.specs.Flows.Flow.{absent, word, called, item, pair, form}
-use Rattle.yaml_tree.specs.Said.{Said, Names, Meaning, flow_said, scalar_said, copied, begun_form, item_behind, pair_behind, has_key, given}
+use Rattle.yaml_tree.specs.Said.{Said, Names, Meaning, flow_said, scalar_said, copied, begun_form, item_behind, pair_behind, has_key, from_line, given}
 use Rattle.yaml_tree.specs.Said.Said.{null, text, unknown, sequence, mapping, with_item, with_pair}
-use Rattle.yaml_tree.specs.Holds.{HoldsSaid, HoldsRows, Rows, IsNode, IsCollection, is_mapping, begins_on, scalar_value}
+use Rattle.yaml_tree.specs.Holds.{HoldsSaid, HoldsRows, Rows, IsNode, is_mapping, begins_on, scalar_value, with_row, rows_value}
 use Rattle.yaml_tree.specs.Stack.{measured, one_node, unknown_node, with_part, with_repeat, finished, collection, has_row, with_next_row}
-use Rattle.yaml_tree.specs.Builder.{find_name, named, next_known, with_node, put_in, put_known, cell_node, flushed, is_curly, new_open, cell_opened, cell_closed, cell_closed_on, cell_key, cell_copy, copy_found, take_piece, take_pieces}
+use Rattle.yaml_tree.specs.Builder.{find_name, named, begins_at, next_known, with_node, put_in, put_known, cell_node, flushed, is_curly, new_open, cell_opened, cell_closed, cell_closed_on, cell_key, cell_copy, copy_found, take_piece, take_pieces}
 use Rattle.yaml_tree.specs.declared.known.Measure.{Measure}
 use Rattle.yaml_tree.specs.declared.known.Known.{Known}
+use Rattle.yaml_tree.specs.declared.known.GivenName.{GivenName}
 use Rattle.yaml_tree.specs.declared.node.Node.{Node}
 use Rattle.yaml_tree.specs.declared.node.Value.{Value}
 use Rattle.yaml_tree.specs.declared.node.Value.TheVariants.{Null}
 use Rattle.yaml_tree.specs.declared.stack.Open.{Open}
 use Rattle.yaml_tree.specs.declared.builder.Builder.{Builder}
-use Rattle.yaml_tree.proofs.KnownLaws.{slice_get-last, HoldsRows-more, NamesAre-more, named_are, with_part-item, with_part-pair, mapping_has_key}
+use Rattle.yaml_tree.proofs.KnownLaws.{slice_get-last, HoldsRows-more, NamesAre-more, named_are, with_part-item, with_part-pair, mapping_has_key, begins_on-from_line, HoldsRows-from_line, node_is}
 use Rattle.yaml_tree.proofs.Stands.{KnownIs, NameIs, NamesAre, named_by, rows_of}
 
 -- ---- a value that is put
@@ -39,7 +40,7 @@ record Puts (b : Builder) (meaning : Meaning) (after : Builder) : Type 0 where
   known : Known
   entries : List (List ℕ × Known)
   is : after ≡ put_known known (behind more entries b)
-  says : KnownIs (b.nodes ++ more) known meaning.0
+  says : KnownIs (b.nodes ++ more) known (named_by b.name meaning).0
   names_are : NamesAre (b.nodes ++ more) entries (named_by b.name meaning).1
 
 name-put_in : (os : List Open) (known : Known) (b : Builder) → (put_in os known b).name ≡ b.name
@@ -55,11 +56,11 @@ flushed-unnamed : (line : ℕ) (b : Builder) → b.name ≡ None → flushed lin
 unfolding flushed
 flushed-unnamed line b e = ap (λ n. if is_some n then cell_node line Null one_node b else b) e
 
-flushed-named : (line : ℕ) (n : List ℕ) (b : Builder) → b.name ≡ Some n → flushed line b ≡ cell_node line Null one_node b
+flushed-named : (line : ℕ) (n : GivenName) (b : Builder) → b.name ≡ Some n → flushed line b ≡ cell_node line Null one_node b
 unfolding flushed
 flushed-named line n b e = ap (λ m. if is_some m then cell_node line Null one_node b else b) e
 
-name-flushed : (line : ℕ) (waits : Option (List ℕ)) (b : Builder) → b.name ≡ waits → (flushed line b).name ≡ None
+name-flushed : (line : ℕ) (waits : Option GivenName) (b : Builder) → b.name ≡ waits → (flushed line b).name ≡ None
 unfolding cell_node with_node
 name-flushed line None b e = ap (λ x. x.name) (flushed-unnamed line b e) ∙ e
 name-flushed line (Some n) b e = ap (λ x. x.name) (flushed-named line n b e) ∙ name-put_known _ _
@@ -79,11 +80,11 @@ flushed-puts line b meaning after p = record {
 
 -- ---- words
 
-node_puts : (line : ℕ) (value : Value) (m : Measure) (tree : Said) (names : Names) (b : Builder) → m ≡ measured tree → ((nodes : List Node) (n : ℕ) → IsNode nodes n line value → HoldsSaid nodes tree n) → NamesAre b.nodes b.names names → Puts b (tree, names) (cell_node line value m b)
+node_puts : (line : ℕ) (value : Value) (m : Measure) (tree : Said) (names : Names) (b : Builder) → m ≡ measured tree → line ≡ begins_on tree → ((nodes : List Node) (n l : ℕ) → IsNode nodes n l value → HoldsSaid nodes (from_line l tree) n) → NamesAre b.nodes b.names names → Puts b (tree, names) (cell_node line value m b)
 unfolding cell_node with_node
-node_puts line value m tree names b e holds are =
-    let node : Node = record { line = line; value = value } in
-    let is : KnownIs (b.nodes ++ (node ∷ [])) (next_known m b) tree = (e, holds _ _ (slice_get-last b.nodes node)) in
+node_puts line value m tree names b e begins holds are =
+    let node : Node = record { line = begins_at line b.name; value = value } in
+    let is : KnownIs (b.nodes ++ (node ∷ [])) (next_known m b) (named_by b.name (tree, names)).0 = node_is (b.nodes ++ (node ∷ [])) b.name line (tree, names) (next_known m b) e begins (holds _ _ (begins_at line b.name) (slice_get-last b.nodes node)) in
     record {
       more = node ∷ [];
       known = next_known m b;
@@ -97,18 +98,22 @@ measured-scalar : (line : ℕ) (value : Option (List ℕ)) → one_node ≡ meas
 measured-scalar line None = refl
 measured-scalar line (Some bytes) = refl
 
-holds-scalar : (line : ℕ) (value : Option (List ℕ)) (nodes : List Node) (n : ℕ) → IsNode nodes n line (scalar_value value) → HoldsSaid nodes (scalar_said line value) n
-holds-scalar line None nodes n h = h
-holds-scalar line (Some bytes) nodes n h = h
+holds-scalar : (line : ℕ) (value : Option (List ℕ)) (nodes : List Node) (n l : ℕ) → IsNode nodes n l (scalar_value value) → HoldsSaid nodes (from_line l (scalar_said line value)) n
+holds-scalar line None nodes n l h = h
+holds-scalar line (Some bytes) nodes n l h = h
+
+begins-scalar : (line : ℕ) (value : Option (List ℕ)) → line ≡ begins_on (scalar_said line value)
+begins-scalar line None = refl
+begins-scalar line (Some bytes) = refl
 
 copy_found-puts : (line : ℕ) (found : Option Known) (tree : Option Said) (names : Names) (b : Builder) → b.name ≡ None → NameIs b.nodes found tree → NamesAre b.nodes b.names names → Puts b (unwrap_or tree (unknown line), names) (copy_found line found b)
-copy_found-puts line None None names b e is are = node_puts line Null unknown_node (unknown line) names b refl (λ nodes n h. h) are
+copy_found-puts line None None names b e is are = node_puts line Null unknown_node (unknown line) names b refl refl (λ nodes n l h. h) are
 copy_found-puts line (Some k) (Some tree) names b e is are = record {
   more = [];
   known = k;
   entries = b.names;
   is = λ j. put_known k (record b { nodes = sym (append-nil b.nodes) j; name = e j });
-  says = subst (λ ns. KnownIs ns k tree) (sym (append-nil b.nodes)) is;
+  says = subst (λ w. KnownIs (b.nodes ++ []) k (named_by w (tree, names)).0) (sym e) (subst (λ ns. KnownIs ns k tree) (sym (append-nil b.nodes)) is);
   names_are = subst (λ w. NamesAre (b.nodes ++ []) b.names (named_by w (tree, names)).1) (sym e) (NamesAre-more b.nodes [] b.names names are);
 }
 copy_found-puts line None (Some tree) names b e is are = absurd is
@@ -120,17 +125,17 @@ copy_puts line n names b e are = copy_found-puts line (find_name b.names n) (loo
 
 -- ---- collections
 
-holds_collection : (nodes : List Node) (tree : Said) (rows : Rows) (n : ℕ) → HoldsRows nodes tree rows → IsCollection nodes tree rows n → HoldsSaid nodes tree n
-holds_collection nodes (null line) rows n h is = absurd h
-holds_collection nodes (text line bytes) rows n h is = absurd h
-holds_collection nodes (unknown line) rows n h is = absurd h
-holds_collection nodes (sequence line) rows n h is = subst (λ r. IsCollection nodes (sequence line) r n) h is
-holds_collection nodes (mapping line) rows n h is = subst (λ r. IsCollection nodes (mapping line) r n) h is
-holds_collection nodes (with_item before value) rows n h is = (h.0, h.1, h.2, h.3, subst (λ r. IsCollection nodes (with_item before value) r n) h.4 is)
-holds_collection nodes (with_pair before line k value) rows n h is = (h.0, h.1, h.2, h.3, subst (λ r. IsCollection nodes (with_pair before line k value) r n) h.4 is)
+holds_collection : (nodes : List Node) (tree : Said) (rows : Rows) (n l : ℕ) → HoldsRows nodes tree rows → IsNode nodes n l (rows_value (is_mapping tree) rows) → HoldsSaid nodes (from_line l tree) n
+holds_collection nodes (null line) rows n l h is = absurd h
+holds_collection nodes (text line bytes) rows n l h is = absurd h
+holds_collection nodes (unknown line) rows n l h is = absurd h
+holds_collection nodes (sequence line) rows n l h is = subst (λ r. IsNode nodes n l (rows_value false r)) h is
+holds_collection nodes (mapping line) rows n l h is = subst (λ r. IsNode nodes n l (rows_value true r)) h is
+holds_collection nodes (with_item before value) rows n l h is = (h.0, h.1, HoldsRows-from_line nodes l before h.0 h.2, h.3, subst (λ x. IsNode nodes n x (rows_value false (with_row false 0 [] h.1 h.0))) (sym (begins_on-from_line l before)) (subst (λ r. IsNode nodes n l (rows_value false r)) h.4 is))
+holds_collection nodes (with_pair before line k value) rows n l h is = (h.0, h.1, HoldsRows-from_line nodes l before h.0 h.2, h.3, subst (λ x. IsNode nodes n x (rows_value true (with_row true line k h.1 h.0))) (sym (begins_on-from_line l before)) (subst (λ r. IsNode nodes n l (rows_value true r)) h.4 is))
 
 -- the rows of the innermost bracket say this, and its name waits for it
-record CellsAre (nodes : List Node) (o : Open) (bracket : Bracket) (waits : Option (List ℕ)) (tree : Said) : Type 0 where
+record CellsAre (nodes : List Node) (o : Open) (bracket : Bracket) (waits : Option GivenName) (tree : Said) : Type 0 where
   has_kind : o.mapping ≡ is_curly bracket
   says_kind : is_mapping tree ≡ is_curly bracket
   has_first : o.first_line ≡ begins_on tree
@@ -150,7 +155,7 @@ record HasCells (b : Builder) (bracket : Bracket) (meaning : Meaning) (after : B
   cells_are : CellsAre (b.nodes ++ more) inner bracket b.name meaning.0
   names_are : NamesAre (b.nodes ++ more) entries meaning.1
 
-no_cells : (nodes : List Node) (line : ℕ) (bracket : Bracket) (waits : Option (List ℕ)) → CellsAre nodes (new_open 0 (is_curly bracket) line [] waits) bracket waits (begun_form bracket line)
+no_cells : (nodes : List Node) (line : ℕ) (bracket : Bracket) (waits : Option GivenName) → CellsAre nodes (new_open 0 (is_curly bracket) line [] waits) bracket waits (begun_form bracket line)
 no_cells nodes line Square waits = record { has_kind = refl; says_kind = refl; has_first = refl; has_name = refl; has_measure = refl; holds = refl }
 no_cells nodes line Curly waits = record { has_kind = refl; says_kind = refl; has_first = refl; has_name = refl; has_measure = refl; holds = refl }
 
@@ -165,7 +170,7 @@ opened line bracket names b are = let o : Open = new_open 0 (is_curly bracket) l
   names_are = NamesAre-more b.nodes [] b.names names are;
 }
 
-item_row : (nodes more : List Node) (o : Open) (k : Known) (waits : Option (List ℕ)) (before value : Said) → CellsAre nodes o Square waits before → KnownIs (nodes ++ more) k value → CellsAre (nodes ++ more) (finished o k) Square waits (with_item before value)
+item_row : (nodes more : List Node) (o : Open) (k : Known) (waits : Option GivenName) (before value : Said) → CellsAre nodes o Square waits before → KnownIs (nodes ++ more) k value → CellsAre (nodes ++ more) (finished o k) Square waits (with_item before value)
 item_row nodes more o k waits before value h is = record {
   has_kind = h.has_kind;
   says_kind = refl;
@@ -181,7 +186,7 @@ item_row nodes more o k waits before value h is = record {
   );
 }
 
-pair_row : (nodes more : List Node) (o : Open) (line : ℕ) (key : List ℕ) (k : Known) (waits : Option (List ℕ)) (before value : Said) → CellsAre nodes o Curly waits before → KnownIs (nodes ++ more) k value → CellsAre (nodes ++ more) (finished (with_next_row line key o) k) Curly waits (with_pair before line key value)
+pair_row : (nodes more : List Node) (o : Open) (line : ℕ) (key : List ℕ) (k : Known) (waits : Option GivenName) (before value : Said) → CellsAre nodes o Curly waits before → KnownIs (nodes ++ more) k value → CellsAre (nodes ++ more) (finished (with_next_row line key o) k) Curly waits (with_pair before line key value)
 pair_row nodes more o line key k waits before value h is =
     let again : has_row o key ≡ has_key key before = mapping_has_key nodes before (rows_of o) o.mapping key h.holds h.has_kind in
     record {
@@ -221,16 +226,18 @@ closed_puts b bracket meaning after h =
     let are = h.cells_are in
     let nodes : List Node = b.nodes ++ h.more in
     let known : Known = record { node = length nodes; measure = o.measure } in
-    let node : Node = record { line = o.first_line; value = collection o } in
-    let at : IsCollection (nodes ++ (node ∷ [])) meaning.0 (rows_of o) (length nodes) = slice_get-last nodes node ∙ (λ j. Some (record { line = are.has_first j; value = collection (record o { mapping = (are.has_kind ∙ sym are.says_kind) j }) })) in
-    let is : KnownIs (nodes ++ (node ∷ [])) known meaning.0 = (are.has_measure, holds_collection (nodes ++ (node ∷ [])) meaning.0 (rows_of o) (length nodes) (HoldsRows-more nodes (node ∷ []) meaning.0 (rows_of o) are.holds) at) in
+    let first : ℕ = begins_at o.first_line o.name in
+    let node : Node = record { line = first; value = collection o } in
+    let at : IsNode (nodes ++ (node ∷ [])) (length nodes) first (rows_value (is_mapping meaning.0) (rows_of o)) = slice_get-last nodes node ∙ (λ j. Some (record { line = first; value = collection (record o { mapping = (are.has_kind ∙ sym are.says_kind) j }) })) in
+    let holds : HoldsSaid (nodes ++ (node ∷ [])) (from_line first meaning.0) (length nodes) = holds_collection (nodes ++ (node ∷ [])) meaning.0 (rows_of o) (length nodes) first (HoldsRows-more nodes (node ∷ []) meaning.0 (rows_of o) are.holds) at in
+    let is : KnownIs (nodes ++ (node ∷ [])) known (named_by o.name meaning).0 = node_is (nodes ++ (node ∷ [])) o.name o.first_line meaning known are.has_measure are.has_first holds in
     let same = append_assoc b.nodes h.more (node ∷ []) in
     record {
       more = h.more ++ (node ∷ []);
       known = known;
       entries = named o.name known h.entries;
       is = ap (λ a. cell_closed_on a.cells a) h.is ∙ (λ j. put_known known (record b { nodes = same j; names = named o.name known h.entries; name = None }));
-      says = subst (λ ns. KnownIs ns known meaning.0) same is;
+      says = subst (λ w. KnownIs (b.nodes ++ (h.more ++ (node ∷ []))) known (named_by w meaning).0) are.has_name (subst (λ ns. KnownIs ns known (named_by o.name meaning).0) same is);
       names_are = subst (λ w. NamesAre (b.nodes ++ (h.more ++ (node ∷ []))) (named o.name known h.entries) (named_by w meaning).1) are.has_name
           (subst (λ ns. NamesAre ns (named o.name known h.entries) (named_by o.name meaning).1) same
           (named_are (nodes ++ (node ∷ [])) h.entries meaning.1 o.name known meaning.0 (NamesAre-more nodes (node ∷ []) h.entries meaning.1 h.names_are) is));
@@ -270,7 +277,7 @@ form_taken line bracket cells last b = sym (take_pieces-append line (spelling ce
 -- ---- the induction
 
 -- what may come: a value, and behind a name also nothing, but no copy or other name
-abbrev Comes : Option (List ℕ) → Flow → Type 0
+abbrev Comes : Option GivenName → Flow → Type 0
 Comes None v = IsValue v
 Comes (Some n) absent = Unit {0}
 Comes (Some n) v = (may_be_called v ≡ true) × IsValue v
@@ -278,27 +285,27 @@ Comes (Some n) v = (may_be_called v ≡ true) × IsValue v
 abbrev ValuePlayed : ℕ → Flow → Names → Builder → Type 0
 ValuePlayed line v names b = Puts b (flow_said line (null line) names v) (flushed line (take_pieces line (spelling v) b))
 
-nothing_played : (line : ℕ) (n : List ℕ) (names : Names) (b : Builder) → b.name ≡ Some n → NamesAre b.nodes b.names names → ValuePlayed line absent names b
+nothing_played : (line : ℕ) (n : GivenName) (names : Names) (b : Builder) → b.name ≡ Some n → NamesAre b.nodes b.names names → ValuePlayed line absent names b
 unfolding take_pieces
-nothing_played line n names b e are = subst (Puts b (null line, names)) (sym (flushed-named line n b e)) (node_puts line Null one_node (null line) names b refl (λ nodes m h. h) are)
+nothing_played line n names b e are = subst (Puts b (null line, names)) (sym (flushed-named line n b e)) (node_puts line Null one_node (null line) names b refl refl (λ nodes m l h. h) are)
 
 scalar_played : (line : ℕ) (value : Option (List ℕ)) (names : Names) (b : Builder) → NamesAre b.nodes b.names names → ValuePlayed line (word (CellScalar value)) names b
 unfolding take_pieces take_piece
 scalar_played line value names b are = flushed-puts line b (scalar_said line value, names) (cell_node line (scalar_value value) one_node b)
-    (node_puts line (scalar_value value) one_node (scalar_said line value) names b (measured-scalar line value) (holds-scalar line value) are)
+    (node_puts line (scalar_value value) one_node (scalar_said line value) names b (measured-scalar line value) (begins-scalar line value) (holds-scalar line value) are)
 
 copy_played : (line : ℕ) (n : List ℕ) (names : Names) (b : Builder) → b.name ≡ None → NamesAre b.nodes b.names names → ValuePlayed line (word (CellCopy n)) names b
 unfolding take_pieces take_piece
 copy_played line n names b e are = flushed-puts line b (copied line n names, names) (cell_copy line n b) (copy_puts line n names b e are)
 
-word_played : (line : ℕ) (waits : Option (List ℕ)) (piece : Piece) (names : Names) (b : Builder) → b.name ≡ waits → Comes waits (word piece) → NamesAre b.nodes b.names names → ValuePlayed line (word piece) names b
+word_played : (line : ℕ) (waits : Option GivenName) (piece : Piece) (names : Names) (b : Builder) → b.name ≡ waits → Comes waits (word piece) → NamesAre b.nodes b.names names → ValuePlayed line (word piece) names b
 word_played line waits (CellScalar value) names b e h are = scalar_played line value names b are
 word_played line None (CellCopy n) names b e h are = copy_played line n names b e are
 word_played line (Some m) (CellCopy n) names b e h are = absurd (false≢true h.0)
 word_played line None piece names b e h are = absurd (false≢true h)
 word_played line (Some m) piece names b e h are = absurd (false≢true h.1)
 
-comes_called : (name : Piece) (n : List ℕ) (value : Flow) → IsValue (called name value) → (is_cell_name name ≡ true) × Comes (Some n) value
+comes_called : (name : Piece) (n : GivenName) (value : Flow) → IsValue (called name value) → (is_cell_name name ≡ true) × Comes (Some n) value
 comes_called name n absent h = (h, tt)
 comes_called name n (word piece) h = (h.0, (h.1, h.2))
 comes_called name n (called piece value) h = (h.0, (h.1, h.2))
@@ -306,24 +313,24 @@ comes_called name n (item before value) h = (h.0, (h.1, h.2))
 comes_called name n (pair before key value) h = (h.0, (h.1, h.2))
 comes_called name n (form bracket cells last) h = (h.0, (h.1, h.2))
 
-abbrev waiting : List ℕ → Builder → Builder
+abbrev waiting : GivenName → Builder → Builder
 waiting n b = record b { name = Some n }
 
 -- behind a name its value takes it
-called_puts : (line : ℕ) (n : List ℕ) (value : Flow) (names : Names) (b : Builder) → b.name ≡ None → ValuePlayed line value names (waiting n b) → ValuePlayed line (called (CellName n) value) names b
+called_puts : (line : ℕ) (n : List ℕ) (value : Flow) (names : Names) (b : Builder) → b.name ≡ None → ValuePlayed line value names (waiting (record { line = line; text = n }) b) → ValuePlayed line (called (CellName n) value) names b
 unfolding take_pieces take_piece
 called_puts line n value names b e p = record {
   more = p.more;
   known = p.known;
   entries = p.entries;
   is = p.is;
-  says = p.says;
-  names_are = subst (λ w. NamesAre (b.nodes ++ p.more) p.entries (named_by w (given n (flow_said line (null line) names value))).1) (sym e) p.names_are;
+  says = subst (λ w. KnownIs (b.nodes ++ p.more) p.known (named_by w (given line n (flow_said line (null line) names value))).0) (sym e) p.says;
+  names_are = subst (λ w. NamesAre (b.nodes ++ p.more) p.entries (named_by w (given line n (flow_said line (null line) names value))).1) (sym e) p.names_are;
 }
 
-called_played : (line : ℕ) (waits : Option (List ℕ)) (name : Piece) (value : Flow) (names : Names) (b : Builder) → b.name ≡ waits → Comes waits (called name value) → ((n : List ℕ) → Comes (Some n) value → ValuePlayed line value names (waiting n b)) → ValuePlayed line (called name value) names b
-called_played line None (CellName n) value names b e h played = called_puts line n value names b e (played n (comes_called (CellName n) n value h).1)
-called_played line None name value names b e h played = absurd (false≢true (comes_called name [] value h).0)
+called_played : (line : ℕ) (waits : Option GivenName) (name : Piece) (value : Flow) (names : Names) (b : Builder) → b.name ≡ waits → Comes waits (called name value) → ((n : GivenName) → Comes (Some n) value → ValuePlayed line value names (waiting n b)) → ValuePlayed line (called name value) names b
+called_played line None (CellName n) value names b e h played = let name : GivenName = record { line = line; text = n } in called_puts line n value names b e (played name (comes_called (CellName n) name value h).1)
+called_played line None name value names b e h played = absurd (false≢true (comes_called name (record { line = line; text = [] }) value h).0)
 called_played line (Some m) name value names b e h played = absurd (false≢true h.0)
 
 abbrev CellsPlayed : ℕ → Bracket → Flow → Names → Builder → Type 0
@@ -363,12 +370,12 @@ form_played : (line : ℕ) (bracket : Bracket) (cells : Flow) (last : Bool) (nam
 form_played line bracket cells last names b h = subst (Puts b (flow_said line (begun_form bracket line) names cells)) (form_taken line bracket cells last b)
     (closed_puts b bracket (flow_said line (begun_form bracket line) names cells) (flushed line (take_pieces line (spelling cells) (cell_opened line bracket b))) h)
 
-are_cells : (waits : Option (List ℕ)) (bracket : Bracket) (cells : Flow) (last : Bool) → Comes waits (form bracket cells last) → AreCells bracket cells
+are_cells : (waits : Option GivenName) (bracket : Bracket) (cells : Flow) (last : Bool) → Comes waits (form bracket cells last) → AreCells bracket cells
 are_cells None bracket cells last h = h.0
 are_cells (Some n) bracket cells last h = h.1.0
 
 mutual
-  value_played : (line : ℕ) (waits : Option (List ℕ)) (v : Flow) (names : Names) (b : Builder) → b.name ≡ waits → Comes waits v → NamesAre b.nodes b.names names → ValuePlayed line v names b
+  value_played : (line : ℕ) (waits : Option GivenName) (v : Flow) (names : Names) (b : Builder) → b.name ≡ waits → Comes waits v → NamesAre b.nodes b.names names → ValuePlayed line v names b
   value_played line None absent names b e h are = absurd h
   value_played line (Some n) absent names b e h are = nothing_played line n names b e are
   value_played line waits (word piece) names b e h are = word_played line waits piece names b e h are
@@ -399,7 +406,7 @@ mutual
 abbrev pub Played : ℕ → Flow → Builder → Names → Builder → Type 0
 Played line f b names after = (more : List Node) × (k : Known) × (entries : List (List ℕ × Known))
     × (after ≡ record b { nodes = b.nodes ++ more; names = entries; value = Some k; name = None })
-    × KnownIs (b.nodes ++ more) k (flow_said line (null line) names f).0
+    × KnownIs (b.nodes ++ more) k (named_by b.name (flow_said line (null line) names f)).0
     × NamesAre (b.nodes ++ more) entries (named_by b.name (flow_said line (null line) names f)).1
 
 played : (line : ℕ) (f : Flow) (names : Names) (b : Builder) (after : Builder) → b.cells ≡ [] → Puts b (flow_said line (null line) names f) after → Played line f b names after

@@ -8,13 +8,14 @@ use Rattle.std.proofs.lemmas.Bool.{false≢true, leb-true, leb-false}
 use Rattle.indexmap.specs.IndexMap.{insert_entry}
 use Rattle.yaml_tree.specs.Entries as entries
 use Rattle.yaml_tree.specs.Entries.{with_entry}
-use Rattle.yaml_tree.specs.Said.{Said, Names, has_key, has_repeat, levels, size}
+use Rattle.yaml_tree.specs.Said.{Said, Names, Meaning, from_line, has_key, has_repeat, has_unknown, levels, size}
 use Rattle.yaml_tree.specs.Said.Said.{null, text, unknown, sequence, mapping, with_item, with_pair}
-use Rattle.yaml_tree.specs.Holds.{HoldsSaid, HoldsRows, Rows}
+use Rattle.yaml_tree.specs.Holds.{HoldsSaid, HoldsRows, Rows, begins_on}
 use Rattle.yaml_tree.specs.Stack.{cut, measured, one_node, unknown_node, no_row, with_part, with_repeat}
-use Rattle.yaml_tree.specs.Builder.{find_name, named}
+use Rattle.yaml_tree.specs.Builder.{find_name, named, begins_at}
 use Rattle.yaml_tree.specs.declared.entries.Child.{Child}
 use Rattle.yaml_tree.specs.declared.known.Known.{Known}
+use Rattle.yaml_tree.specs.declared.known.GivenName.{GivenName}
 use Rattle.yaml_tree.specs.declared.node.Node.{Node}
 use Rattle.yaml_tree.proofs.Lists.{both_true}
 use Rattle.yaml_tree.proofs.Stands.{KnownIs, NameIs, NamesAre, named_by}
@@ -93,11 +94,11 @@ lookup-insert_entry wanted name x (e ∷ es) = elim (pointwise ◌==◌ name e.0
     later q false u a b = refl
 
 -- a node that a name waits for is found by it from now on
-pub named_are : (nodes : List Node) (entries : List (List ℕ × Known)) (names : Names) (waits : Option (List ℕ)) (k : Known) (tree : Said) → NamesAre nodes entries names → KnownIs nodes k tree → NamesAre nodes (named waits k entries) (named_by waits (tree, names)).1
+pub named_are : (nodes : List Node) (entries : List (List ℕ × Known)) (names : Names) (waits : Option GivenName) (k : Known) (tree : Said) → NamesAre nodes entries names → KnownIs nodes k (named_by waits (tree, names)).0 → NamesAre nodes (named waits k entries) (named_by waits (tree, names)).1
 named_are nodes entries names None k tree h known = h
-named_are nodes entries names (Some name) k tree h known = λ n. subst (λ found. NameIs nodes found (cond (pointwise ◌==◌ n name) (Some tree) (lookup (pointwise ◌==◌ n) names))) (sym (lookup-insert_entry n name k entries)) (by (pointwise ◌==◌ n name) n)
+named_are nodes entries names (Some name) k tree h known = λ n. subst (λ found. NameIs nodes found (cond (pointwise ◌==◌ n name.text) (Some (from_line name.line tree)) (lookup (pointwise ◌==◌ n) names))) (sym (lookup-insert_entry n name.text k entries)) (by (pointwise ◌==◌ n name.text) n)
   where
-    by : (t : Bool) (n : List ℕ) → NameIs nodes (cond t (Some k) (lookup (pointwise ◌==◌ n) entries)) (cond t (Some tree) (lookup (pointwise ◌==◌ n) names))
+    by : (t : Bool) (n : List ℕ) → NameIs nodes (cond t (Some k) (lookup (pointwise ◌==◌ n) entries)) (cond t (Some (from_line name.line tree)) (lookup (pointwise ◌==◌ n) names))
     by true n = known
     by false n = h n
 
@@ -169,3 +170,93 @@ key_found nodes (with_pair before line other value) rows k h =
 -- the same, as the code asks it of a mapping
 pub mapping_has_key : (nodes : List Node) (tree : Said) (rows : Rows) (keyed : Bool) (k : List ℕ) → HoldsRows nodes tree rows → keyed ≡ true → (keyed && entries.has_key k rows.entries) ≡ has_key k tree
 mapping_has_key nodes tree rows keyed k h e = ap (λ t. t && entries.has_key k rows.entries) e ∙ key_found nodes tree rows k h
+
+-- ---- the line on which a node begins
+
+pub from_line-same : (tree : Said) → from_line (begins_on tree) tree ≡ tree
+from_line-same (null line) = refl
+from_line-same (text line bytes) = refl
+from_line-same (unknown line) = refl
+from_line-same (sequence line) = refl
+from_line-same (mapping line) = refl
+from_line-same (with_item before value) = ap (λ b. with_item b value) (from_line-same before)
+from_line-same (with_pair before line k value) = ap (λ b. with_pair b line k value) (from_line-same before)
+
+pub begins_on-from_line : (n : ℕ) (tree : Said) → begins_on (from_line n tree) ≡ n
+begins_on-from_line n (null line) = refl
+begins_on-from_line n (text line bytes) = refl
+begins_on-from_line n (unknown line) = refl
+begins_on-from_line n (sequence line) = refl
+begins_on-from_line n (mapping line) = refl
+begins_on-from_line n (with_item before value) = begins_on-from_line n before
+begins_on-from_line n (with_pair before line k value) = begins_on-from_line n before
+
+has_key-from_line : (n : ℕ) (k : List ℕ) (tree : Said) → has_key k (from_line n tree) ≡ has_key k tree
+has_key-from_line n k (null line) = refl
+has_key-from_line n k (text line bytes) = refl
+has_key-from_line n k (unknown line) = refl
+has_key-from_line n k (sequence line) = refl
+has_key-from_line n k (mapping line) = refl
+has_key-from_line n k (with_item before value) = has_key-from_line n k before
+has_key-from_line n k (with_pair before line other value) = ap (λ t. t || pointwise ◌==◌ k other) (has_key-from_line n k before)
+
+pub has_repeat-from_line : (n : ℕ) (tree : Said) → has_repeat (from_line n tree) ≡ has_repeat tree
+has_repeat-from_line n (null line) = refl
+has_repeat-from_line n (text line bytes) = refl
+has_repeat-from_line n (unknown line) = refl
+has_repeat-from_line n (sequence line) = refl
+has_repeat-from_line n (mapping line) = refl
+has_repeat-from_line n (with_item before value) = ap (λ t. t || has_repeat value) (has_repeat-from_line n before)
+has_repeat-from_line n (with_pair before line k value) = λ j. (has_repeat-from_line n before j || has_key-from_line n k before j) || has_repeat value
+
+pub has_unknown-from_line : (n : ℕ) (tree : Said) → has_unknown (from_line n tree) ≡ has_unknown tree
+has_unknown-from_line n (null line) = refl
+has_unknown-from_line n (text line bytes) = refl
+has_unknown-from_line n (unknown line) = refl
+has_unknown-from_line n (sequence line) = refl
+has_unknown-from_line n (mapping line) = refl
+has_unknown-from_line n (with_item before value) = ap (λ t. t || has_unknown value) (has_unknown-from_line n before)
+has_unknown-from_line n (with_pair before line k value) = ap (λ t. t || has_unknown value) (has_unknown-from_line n before)
+
+pub levels-from_line : (n : ℕ) (tree : Said) → levels (from_line n tree) ≡ levels tree
+levels-from_line n (null line) = refl
+levels-from_line n (text line bytes) = refl
+levels-from_line n (unknown line) = refl
+levels-from_line n (sequence line) = refl
+levels-from_line n (mapping line) = refl
+levels-from_line n (with_item before value) = ap (λ l. max l (1 + levels value)) (levels-from_line n before)
+levels-from_line n (with_pair before line k value) = ap (λ l. max l (1 + levels value)) (levels-from_line n before)
+
+pub size-from_line : (n : ℕ) (tree : Said) → size (from_line n tree) ≡ size tree
+size-from_line n (null line) = refl
+size-from_line n (text line bytes) = refl
+size-from_line n (unknown line) = refl
+size-from_line n (sequence line) = refl
+size-from_line n (mapping line) = refl
+size-from_line n (with_item before value) = ap (λ s. s + size value) (size-from_line n before)
+size-from_line n (with_pair before line k value) = ap (λ s. s + size value) (size-from_line n before)
+
+pub measured-from_line : (n : ℕ) (tree : Said) → measured (from_line n tree) ≡ measured tree
+measured-from_line n tree = λ j. record { size = cut 1_000_000 (size-from_line n tree j); levels = cut 64 (levels-from_line n tree j); repeated = has_repeat-from_line n tree j; unknown = has_unknown-from_line n tree j }
+
+pub measured-named_by : (waits : Option GivenName) (meaning : Meaning) → measured (named_by waits meaning).0 ≡ measured meaning.0
+measured-named_by None meaning = refl
+measured-named_by (Some name) meaning = measured-from_line name.line meaning.0
+
+pub HoldsRows-from_line : (nodes : List Node) (n : ℕ) (tree : Said) (rows : Rows) → HoldsRows nodes tree rows → HoldsRows nodes (from_line n tree) rows
+HoldsRows-from_line nodes n (null line) rows h = h
+HoldsRows-from_line nodes n (text line bytes) rows h = h
+HoldsRows-from_line nodes n (unknown line) rows h = h
+HoldsRows-from_line nodes n (sequence line) rows h = h
+HoldsRows-from_line nodes n (mapping line) rows h = h
+HoldsRows-from_line nodes n (with_item before value) rows h = (h.0, h.1, HoldsRows-from_line nodes n before h.0 h.2, h.3, h.4)
+HoldsRows-from_line nodes n (with_pair before line k value) rows h = (h.0, h.1, HoldsRows-from_line nodes n before h.0 h.2, h.3, h.4)
+
+-- a node that takes the name that waits, if any, begins on that name's line
+pub begun_by_name : (waits : Option GivenName) (line : ℕ) (meaning : Meaning) → line ≡ begins_on meaning.0 → (named_by waits meaning).0 ≡ from_line (begins_at line waits) meaning.0
+begun_by_name None line meaning e = sym (ap (λ l. from_line l meaning.0) e ∙ from_line-same meaning.0)
+begun_by_name (Some name) line meaning e = refl
+
+pub node_is : (nodes : List Node) (waits : Option GivenName) (line : ℕ) (meaning : Meaning) (k : Known) → k.measure ≡ measured meaning.0 → line ≡ begins_on meaning.0
+    → HoldsSaid nodes (from_line (begins_at line waits) meaning.0) k.node → KnownIs nodes k (named_by waits meaning).0
+node_is nodes waits line meaning k e begins holds = (e ∙ sym (measured-named_by waits meaning), subst (λ t. HoldsSaid nodes t k.node) (sym (begun_by_name waits line meaning begins)) holds)

@@ -255,24 +255,38 @@ name_of_the_root : Reads (codes "&x a: 1\n   b: 2")
 unfolding split_lines marks_from line_marks place_after node_marks scalar_at scan_of bare_scan plain_len single_quoted double_len unescaped bare_cell cell_scan cell_len found_at
 name_of_the_root = ((refl, (refl, omega arith, tt, (refl, omega arith, refl, (refl, omega arith, tt, tt, (refl, omega arith)), (refl, omega arith)))), refl)
 
--- a name on a line of its own, left of its value
+-- a name on a line of its own, left of its value, which begins on the name's line
 name_left_of_its_value : Reads (codes "a:\n &x\n   b\nc: *x")
     (row (row (nothing) (Key 1 0 (codes "a")) (named (Name 2 1 (codes "x")) (leaf (Scalar 3 3 (Some (codes "b")))))) (Key 4 0 (codes "c")) (leaf (Copy 4 3 (codes "x"))))
-    (with_pair (with_pair (mapping 1) 1 (codes "a") (text 3 (codes "b"))) 4 (codes "c") (text 3 (codes "b")))
+    (with_pair (with_pair (mapping 1) 1 (codes "a") (text 2 (codes "b"))) 4 (codes "c") (text 2 (codes "b")))
 unfolding split_lines marks_from line_marks place_after node_marks scalar_at scan_of bare_scan plain_len single_quoted double_len unescaped bare_cell cell_scan cell_len found_at
 name_left_of_its_value = ((refl, (refl, omega arith, refl, (refl, omega arith, tt, tt, (refl, omega arith, refl, (refl, omega arith))), (refl, omega arith))), refl)
 
 -- and right of it
 name_right_of_its_value : Reads (codes "a:\n   &x\n - b\nc: *x")
     (row (row (nothing) (Key 1 0 (codes "a")) (named (Name 2 3 (codes "x")) (row (nothing) (Dash 3 1) (leaf (Scalar 3 3 (Some (codes "b"))))))) (Key 4 0 (codes "c")) (leaf (Copy 4 3 (codes "x"))))
-    (with_pair (with_pair (mapping 1) 1 (codes "a") (with_item (sequence 3) (text 3 (codes "b")))) 4 (codes "c") (with_item (sequence 3) (text 3 (codes "b"))))
+    (with_pair (with_pair (mapping 1) 1 (codes "a") (with_item (sequence 2) (text 3 (codes "b")))) 4 (codes "c") (with_item (sequence 2) (text 3 (codes "b"))))
 unfolding split_lines marks_from line_marks place_after node_marks scalar_at scan_of bare_scan plain_len single_quoted double_len unescaped bare_cell cell_scan cell_len found_at
 name_right_of_its_value = ((refl, (refl, omega arith, refl, (refl, omega arith, tt, tt, (refl, omega arith, tt, (refl, omega arith, tt, tt, (refl, omega arith)))), (refl, omega arith))), refl)
+
+-- a null that has a name begins on the name's line
+name_behind_a_blank_line : Reads (codes "\n&x")
+    (named (Name 2 0 (codes "x")) (nothing))
+    (null 2)
+unfolding split_lines marks_from line_marks place_after node_marks scalar_at scan_of bare_scan plain_len single_quoted double_len unescaped bare_cell cell_scan cell_len found_at
+name_behind_a_blank_line = ((refl, (refl, omega arith, tt, tt)), refl)
+
+-- also below its dash
+name_below_its_dash : Reads (codes "-\n  &x")
+    (row (nothing) (Dash 1 0) (named (Name 2 2 (codes "x")) (nothing)))
+    (with_item (sequence 1) (null 2))
+unfolding split_lines marks_from line_marks place_after node_marks scalar_at scan_of bare_scan plain_len single_quoted double_len unescaped bare_cell cell_scan cell_len found_at
+name_below_its_dash = ((refl, (refl, omega arith, tt, tt, (refl, omega arith, tt, tt))), refl)
 
 -- a node is not known inside itself
 copy_inside_its_node : Reads (codes "a: &x\n  b: *x")
     (row (nothing) (Key 1 0 (codes "a")) (named (Name 1 3 (codes "x")) (row (nothing) (Key 2 2 (codes "b")) (leaf (Copy 2 5 (codes "x"))))))
-    (with_pair (mapping 1) 1 (codes "a") (with_pair (mapping 2) 2 (codes "b") (unknown 2)))
+    (with_pair (mapping 1) 1 (codes "a") (with_pair (mapping 1) 2 (codes "b") (unknown 2)))
 unfolding split_lines marks_from line_marks place_after node_marks scalar_at scan_of bare_scan plain_len single_quoted double_len unescaped bare_cell cell_scan cell_len found_at
 copy_inside_its_node = ((refl, (refl, omega arith, tt, tt, (refl, omega arith, tt, (refl, omega arith, tt, tt, (refl, omega arith))))), refl)
 

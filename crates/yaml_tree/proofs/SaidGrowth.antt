@@ -1,15 +1,16 @@
 -- What is said only grows with each mark: a repeated key and an unknown copy stay, and neither levels nor nodes get
 -- fewer.
-use Rattle.std.proofs.Common.{◌≡◌, ℕ, ◌≤◌, ◌<◌, Bool, true, false, ◌||◌, List, [], ◌∷◌, Some, refl, subst, arith, inl, inr}
+use Rattle.std.proofs.Common.{◌≡◌, ℕ, ◌≤◌, ◌<◌, Bool, true, false, ◌||◌, List, [], ◌∷◌, Some, refl, sym, ◌∙◌, subst, arith, inl, inr}
 use Rattle.std.proofs.lemmas.Option.{none-some, same_Some}
 use Rattle.std.proofs.lemmas.Bool.{false≢true}
 use Rattle.yaml_marks.specs.declared.mark.Mark.{Mark}
 use Rattle.yaml_marks.specs.declared.mark.Mark.TheVariants.{Dash, Key, Scalar, Name, Copy, Bar, Body, Form, OddMark}
 use Rattle.yaml_tree.specs.Written.{Written, line_of}
 use Rattle.yaml_tree.specs.Written.Written.{nothing, leaf, literal, flowing, named, row}
-use Rattle.yaml_tree.specs.Said.{Said, Names, Meaning, said, begun_block, row_behind, has_repeat, has_unknown, has_key, levels, size}
+use Rattle.yaml_tree.specs.Said.{Said, Names, Meaning, said, from_line, begun_block, row_behind, has_repeat, has_unknown, has_key, levels, size}
 use Rattle.yaml_tree.specs.Said.Said.{null, text, unknown, sequence, mapping, with_item, with_pair}
 use Rattle.yaml_tree.proofs.Lists.{chained}
+use Rattle.yaml_tree.proofs.KnownLaws.{has_repeat-from_line, has_unknown-from_line, levels-from_line, size-from_line}
 use Rattle.yaml_tree.proofs.WrittenLaws.{FlowReader, with_mark, with_marks, row_cases, literal_case, named_case}
 
 -- what doesn't shrink
@@ -43,6 +44,19 @@ or_grows false b c f h = f h
 or_left : (a b : Bool) → a ≡ true → (a || b) ≡ true
 or_left true b h = refl
 or_left false b h = absurd (false≢true h)
+
+-- whichever line they begin on
+from_line-grows : (n : ℕ) (old new : Said) → Grows old new → Grows (from_line n old) (from_line n new)
+from_line-grows n old new g =
+    let lev = g.no_fewer_levels in let siz = g.no_smaller in
+    let old_levels = levels-from_line n old in let new_levels = levels-from_line n new in
+    let old_size = size-from_line n old in let new_size = size-from_line n new in
+    record {
+      repeat_stays = λ h. has_repeat-from_line n new ∙ g.repeat_stays (sym (has_repeat-from_line n old) ∙ h);
+      unknown_stays = λ h. has_unknown-from_line n new ∙ g.unknown_stays (sym (has_unknown-from_line n old) ∙ h);
+      no_fewer_levels = omega (arith, lev, old_levels, new_levels);
+      no_smaller = omega (arith, siz, old_size, new_size);
+    }
 
 -- the last value grows
 item-grows : (before old new : Said) → Grows old new → Grows (with_item before old) (with_item before new)
@@ -100,7 +114,7 @@ with_mark-grows r m (leaf other) new e line names = absurd (none-some new e)
 with_mark-grows r m (literal head lines) new e line names = subst (SaidGrows line names (literal head lines)) (literal_case r m head lines new e).2 (text-grows (line_of head) _ _)
 with_mark-grows r m (flowing other value) new e line names = absurd (none-some new e)
 with_mark-grows r m (named head value) new e line names = let c = named_case r m head value new e in
-    subst (SaidGrows line names (named head value)) c.3 (with_mark-grows r m value c.1 c.2 line names)
+    subst (SaidGrows line names (named head value)) c.3 (from_line-grows (line_of head) (said (null line) names value).0 (said (null line) names c.1).0 (with_mark-grows r m value c.1 c.2 line names))
 with_mark-grows r m (row before head value) new e line names = elim (row_cases r m head before value new e) [
   | inl h ↦ (let b = said (begun_block head) names before in subst (SaidGrows line names (row before head value)) h.3
       (row-grows head b.0 (said (null (line_of head)) b.1 value) (said (null (line_of head)) b.1 h.1) (with_mark-grows r m value h.1 h.2 (line_of head) b.1)))

@@ -10,11 +10,11 @@ use Rattle.yaml_marks.specs.Pieces.{why_bracket}
 use Rattle.yaml_tree.specs.Flows.{Flow, IsForm, SpellsFlow, IsFlowMisfit}
 use Rattle.yaml_tree.specs.Flows.Flow.{absent, word, called as naming, item, pair, form}
 use Rattle.yaml_tree.specs.Outline.{flow_fault}
-use Rattle.yaml_tree.specs.Written.{Written, depth, is_head, is_body_line}
+use Rattle.yaml_tree.specs.Written.{Written, depth, line_of, is_head, is_body_line}
 use Rattle.yaml_tree.specs.Written.Written.{nothing, leaf, literal, flowing, named, row}
-use Rattle.yaml_tree.specs.Said.{Said, Names, Meaning, said, scalar_said, flow_said, body_of, bodies_of, tree_of}
+use Rattle.yaml_tree.specs.Said.{Said, Names, Meaning, said, from_line, scalar_said, flow_said, body_of, bodies_of, tree_of}
 use Rattle.yaml_tree.specs.Said.Said.{null, unknown}
-use Rattle.yaml_tree.specs.Holds.{HoldsSaid, IsNode, scalar_value}
+use Rattle.yaml_tree.specs.Holds.{HoldsSaid, IsNode, begins_on, scalar_value}
 use Rattle.yaml_tree.specs.Stack.{measured, one_node, unknown_node, with_part, measure_about}
 use Rattle.yaml_tree.specs.Tree.{kind_of}
 use Rattle.yaml_tree.specs.Trees.{root_number}
@@ -30,15 +30,16 @@ use Rattle.yaml_tree.specs.declared.fault.FaultKind.{FaultKind}
 use Rattle.yaml_tree.specs.declared.fault.FaultKind.TheVariants.{Syntax, Unsupported}
 use Rattle.yaml_tree.specs.declared.known.Measure.{Measure}
 use Rattle.yaml_tree.specs.declared.known.Known.{Known}
+use Rattle.yaml_tree.specs.declared.known.GivenName.{GivenName}
 use Rattle.yaml_tree.specs.declared.node.Node.{Node}
 use Rattle.yaml_tree.specs.declared.stack.Open.{Open}
 use Rattle.yaml_tree.specs.declared.builder.Builder.{Builder}
 use Rattle.yaml_tree.proofs.WrittenLaws.{FlowReader, begun_by, may_follow_name, with_mark, head_deep}
 use Rattle.yaml_tree.proofs.FlowJudged.{FlowJudged, Judges}
 use Rattle.yaml_tree.proofs.FlowPlay.{Played, flow_played}
-use Rattle.yaml_tree.proofs.KnownLaws.{slice_get-last}
+use Rattle.yaml_tree.proofs.KnownLaws.{slice_get-last, measured-from_line}
 use Rattle.yaml_tree.proofs.Stands.{KnownIs, NameIs, NamesAre, named_by, Frame, called, wrap, names_at, line_at, HasName, OpenIs, before_of, Chain, OpensAre, LiteralIs, ValueIs, StandsAt, IsShut, Between, StandsFor}
-use Rattle.yaml_tree.proofs.SimulationValues.{meaning_at, said-called, named_by-said, OpensAre-more, put_node-stands, Valued, NoneIs, none_is, valued-stands, row-measure, HasCome, AtMost, Settled, settled_on-stands, Ready, ended-ready}
+use Rattle.yaml_tree.proofs.SimulationValues.{meaning_at, said-called, OpensAre-more, put_node-stands, Valued, NoneIs, none_is, valued-stands, row-measure, HasCome, AtMost, Settled, settled_on-stands, Ready, ended-ready}
 use Rattle.yaml_tree.proofs.SimulationHeads.{with_mark-wrap, refused-wrap, called-begins, called-refuses, full-refuses, still_none, none-between, Taken, headed-taken}
 
 -- ---- where a value may come
@@ -79,9 +80,13 @@ shut-called (Some mark) value h = h
 
 -- ---- scalars
 
-scalar-holds : (nodes : List Node) (line : ℕ) (text : Option (List ℕ)) (n : ℕ) → IsNode nodes n line (scalar_value text) → HoldsSaid nodes (scalar_said line text) n
-scalar-holds nodes line None n h = h
-scalar-holds nodes line (Some bytes) n h = h
+scalar-holds : (nodes : List Node) (l line : ℕ) (text : Option (List ℕ)) (n : ℕ) → IsNode nodes n l (scalar_value text) → HoldsSaid nodes (from_line l (scalar_said line text)) n
+scalar-holds nodes l line None n h = h
+scalar-holds nodes l line (Some bytes) n h = h
+
+scalar-begins : (line : ℕ) (text : Option (List ℕ)) → line ≡ begins_on (scalar_said line text)
+scalar-begins line None = refl
+scalar-begins line (Some bytes) = refl
 
 scalar-measure : (line : ℕ) (text : Option (List ℕ)) → one_node ≡ measured (scalar_said line text)
 scalar-measure line None = refl
@@ -106,8 +111,8 @@ with_scalar-taken r line column text b fs value ready = by (can_hold (1 + 2 * co
       (
         fs,
         called none.0 (leaf m),
-        put_node-stands line (scalar_value text) one_node b fs none.0 (leaf m) ready.stands.flat ready.shut ready.stands.opens none.1 none.3 (scalar-measure line text)
-            (scalar-holds (b.nodes ++ (record { line = line; value = scalar_value text } ∷ [])) line text (length b.nodes) (slice_get-last b.nodes _)),
+        put_node-stands line (scalar_value text) one_node b fs none.0 (leaf m) ready.stands.flat ready.shut ready.stands.opens none.1 none.3 (scalar-measure line text) (scalar-begins line text)
+            (λ l. scalar-holds (b.nodes ++ (record { line = l; value = scalar_value text } ∷ [])) l line text (length b.nodes) (slice_get-last b.nodes _)),
         refl,
         put-between line b text (called none.0 (leaf m)) (shut-called none.0 (leaf m) tt),
       ),
@@ -120,13 +125,13 @@ abbrev CanName : FlowReader → Mark → Builder → List Frame → Written → 
 CanName r m b fs value true = (b.value ≡ None) × (b.name ≡ None) × (value ≡ nothing) × NamesAre b.nodes b.names (names_at fs) × Chain (depth m) fs
 CanName r m b fs value false = with_mark r m (wrap fs value) ≡ None
 
-no_name : (waits : Option (List ℕ)) (name : Option Mark) → HasName waits name → waits ≡ None → called name nothing ≡ nothing
+no_name : (waits : Option GivenName) (name : Option Mark) → HasName waits name → waits ≡ None → called name nothing ≡ nothing
 no_name None None h e = refl
 no_name None (Some mark) h e = absurd h
 no_name (Some n) name h e = absurd (none-some n (sym e))
 
 -- behind a name no other name may come, and no copy
-names-refuse : (r : FlowReader) (m : Mark) (waits : Option (List ℕ)) (n : List ℕ) (name : Option Mark) → may_follow_name m ≡ false → HasName waits name → waits ≡ Some n → with_mark r m (called name nothing) ≡ None
+names-refuse : (r : FlowReader) (m : Mark) (waits : Option GivenName) (n : GivenName) (name : Option Mark) → may_follow_name m ≡ false → HasName waits name → waits ≡ Some n → with_mark r m (called name nothing) ≡ None
 names-refuse r m None n name follows h e = absurd (none-some n e)
 names-refuse r m (Some other) n None follows h e = absurd h
 names-refuse r m (Some other) n (Some mark) follows h e = cond-false (may_follow_name m) _ _ follows
@@ -134,13 +139,13 @@ names-refuse r m (Some other) n (Some mark) follows h e = cond-false (may_follow
 can_name-means : (r : FlowReader) (m : Mark) (b : Builder) (fs : List Frame) (value : Written) → is_head m ≡ false → is_body_line m ≡ false → may_follow_name m ≡ false → Ready b fs value → CanName r m b fs value (can_name (depth m) b)
 can_name-means r m b fs value head line follows ready = by b.name (can_hold (depth m) b) refl (can_hold-means r (depth m) b fs value ready)
   where
-    by : (waits : Option (List ℕ)) (q : Bool) → b.name ≡ waits → CanHold r (depth m) b fs value q → CanName r m b fs value (is_none waits && q)
+    by : (waits : Option GivenName) (q : Bool) → b.name ≡ waits → CanHold r (depth m) b fs value q → CanName r m b fs value (is_none waits && q)
     by None true e h = (h.0, e, h.1.2 ∙ no_name b.name h.1.0 h.1.1 e, h.1.3, h.2)
     by None false e h = h m head line refl
     by (Some n) true e h = ap (λ v. with_mark r m (wrap fs v)) h.1.2 ∙ with_mark-wrap r m fs (called h.1.0 nothing) h.2 ∙ ap (option_map (wrap fs)) (names-refuse r m b.name n h.1.0 follows h.1.1 e)
     by (Some n) false e h = h m head line refl
 
-with_name-taken : (r : FlowReader) (line column : ℕ) (text : List ℕ) (b : Builder) (fs : List Frame) (value : Written) → Ready b fs value → Taken r (Name line column text) (wrap fs value) (with_name (1 + 2 * column) text b)
+with_name-taken : (r : FlowReader) (line column : ℕ) (text : List ℕ) (b : Builder) (fs : List Frame) (value : Written) → Ready b fs value → Taken r (Name line column text) (wrap fs value) (with_name (1 + 2 * column) line text b)
 unfolding with_name
 with_name-taken r line column text b fs value ready = by (can_name (1 + 2 * column) b) (can_name-means r (Name line column text) b fs value refl refl refl ready)
   where
@@ -148,7 +153,7 @@ with_name-taken r line column text b fs value ready = by (can_name (1 + 2 * colu
     m = Name line column text
 
     next : Builder
-    next = record b { name = Some text }
+    next = record b { name = Some (record { line = line; text = text }) }
 
     by : (q : Bool) → CanName r m b fs value q → Taken r m (wrap fs value) (cond q (Ok next) (Err Syntax))
     by false h = (h, refl)
@@ -158,7 +163,7 @@ with_name-taken r line column text b fs value ready = by (can_name (1 + 2 * colu
       (
         fs,
         named m nothing,
-        record { flat = ready.stands.flat; opens = ready.stands.opens; is = still_none b next fs (named m nothing) h.0 ready.shut (Some m, (refl, refl), refl, h.3) },
+        record { flat = ready.stands.flat; opens = ready.stands.opens; is = still_none b next fs (named m nothing) h.0 ready.shut (Some m, (refl, refl, refl), refl, h.3) },
         refl,
         none-between b.value (named m nothing) h.0,
       ),
@@ -183,7 +188,8 @@ copy-stands line column text b fs value ready e names = by (find_name b.names te
         let lost = sym (ap (λ o. unwrap_or o (unknown line)) q) in (
           put_node-stands line (scalar_value None) unknown_node b fs None (leaf m) ready.stands.flat ready.shut ready.stands.opens (subst (λ n. HasName n None) (sym e) tt) names
               (ap measured lost)
-              (subst (λ t. HoldsSaid (b.nodes ++ (record { line = line; value = scalar_value None } ∷ [])) t (length b.nodes)) lost (slice_get-last b.nodes _)),
+              (ap begins_on lost)
+              (λ l. subst (λ t. HoldsSaid (b.nodes ++ (record { line = l; value = scalar_value None } ∷ [])) (from_line l t) (length b.nodes)) lost (slice_get-last b.nodes _)),
           tt,
         )
 
@@ -340,7 +346,7 @@ form-stands line column pieces f b fs value spells ready none =
         is = (
           ready.shut,
           refl,
-          subst (λ tree. KnownIs nodes p.1 tree) (sym (named_by-said b.name meaning) ∙ ap (λ x. x.0) (sym e)) p.4,
+          subst (λ x. KnownIs nodes p.1 x.0) (sym e) p.4,
           subst (λ x. NamesAre nodes p.2 x.1) (sym e) p.5,
         );
       },
@@ -426,9 +432,9 @@ fresh-stands alloc = ([], nothing, record { flat = refl; opens = tt; is = (None,
 
 -- ---- the measure of the tree so far
 
-said-of-called : (name : Option Mark) (none : Said) (names : Names) (value : Written) → (said none names (called name value)).0 ≡ (said none names value).0
-said-of-called None none names value = refl
-said-of-called (Some mark) none names value = refl
+measured-called : (name : Option Mark) (none : Said) (names : Names) (value : Written) → measured (said none names (called name value)).0 ≡ measured (said none names value).0
+measured-called None none names value = refl
+measured-called (Some mark) none names value = measured-from_line (line_of mark) (said none names value).0
 
 measure-about : (nodes : List Node) (os : List Open) (fs : List Frame) (value : Written) (x : Measure) → OpensAre nodes os fs → x ≡ measured (meaning_at fs value).0 → measure_about os x ≡ measured (tree_of (wrap fs value))
 measure-about nodes [] [] value x h e = e
@@ -436,12 +442,12 @@ measure-about nodes [] (f ∷ fs) value x h e = absurd h
 measure-about nodes (o ∷ os) [] value x h e = absurd h
 measure-about nodes (o ∷ os) (f ∷ fs) value x h e = let before : Said = before_of f (names_at fs) in let is : OpenIs nodes o f before = h.0 in
     measure-about nodes os fs (called f.name (row f.before f.head value)) (with_part o.measure x) h.2
-    ((λ j. with_part (is.has_measure j) (e j)) ∙ row-measure f.head before (meaning_at (f ∷ fs) value) is.heads ∙ ap measured (sym (said-of-called f.name (null (line_at fs)) (names_at fs) (row f.before f.head value))))
+    ((λ j. with_part (is.has_measure j) (e j)) ∙ row-measure f.head before (meaning_at (f ∷ fs) value) is.heads ∙ sym (measured-called f.name (null (line_at fs)) (names_at fs) (row f.before f.head value)))
 
 value-measure : (b : Builder) (fs : List Frame) (value : Written) (v : Option Known) (l : Option Literal) → ValueIs v l b fs value → value_measure v ≡ measured (meaning_at fs value).0
 value-measure b fs value (Some k) l h = h.2.0
-value-measure b fs value None (Some l) h = ap measured (sym (said-of-called h.0 (null (line_at fs)) (names_at fs) (literal h.2 h.3)) ∙ ap (λ w. (meaning_at fs w).0) (sym h.6))
-value-measure b fs value None None h = ap measured (sym (said-of-called h.0 (null (line_at fs)) (names_at fs) nothing) ∙ ap (λ w. (meaning_at fs w).0) (sym h.2))
+value-measure b fs value None (Some l) h = sym (measured-called h.0 (null (line_at fs)) (names_at fs) (literal h.2 h.3)) ∙ ap (λ w. measured (meaning_at fs w).0) (sym h.6)
+value-measure b fs value None None h = sym (measured-called h.0 (null (line_at fs)) (names_at fs) nothing) ∙ ap (λ w. measured (meaning_at fs w).0) (sym h.2)
 
 pub measure-means : (b : Builder) (w : Written) → StandsFor b w → measure b ≡ measured (tree_of w)
 measure-means b w h = measure-about b.nodes b.open_rows h.0 h.1 (value_measure b.value) h.2.opens (value-measure b h.0 h.1 b.value b.literal h.2.is) ∙ ap (λ x. measured (tree_of x)) h.3

@@ -4,26 +4,27 @@ use Rattle.std.proofs.Common.{◌≡◌, ℕ, ◌<◌, ◌≤◌, Bool, true, fa
 use Rattle.std.proofs.lemmas.Option.{none-some}
 use Rattle.std.proofs.lemmas.Bool.{ltb-true, ltb-false, false≢true}
 use Rattle.yaml_marks.specs.Literals.{block_text}
-use Rattle.yaml_tree.specs.Said.{Said, Names, Meaning, said, given, row_behind, has_repeat}
+use Rattle.yaml_tree.specs.Said.{Said, Names, Meaning, said, from_line, given, row_behind, has_repeat}
 use Rattle.yaml_tree.specs.Said.Said.{null}
 use Rattle.yaml_tree.specs.Holds.{HoldsSaid, HoldsRows, Rows, IsNode, with_row, rows_value, begins_on}
 use Rattle.yaml_tree.specs.Written.{Written, depth, line_of, is_head}
 use Rattle.yaml_tree.specs.Written.Written.{nothing, leaf, literal, flowing, named, row}
 use Rattle.yaml_tree.specs.Stack.{measured, one_node, with_part, with_repeat, finished, collection}
-use Rattle.yaml_tree.specs.Builder.{next_known, with_node, put_node, valued, known_of, closed, settled_on, ended, ended_of}
+use Rattle.yaml_tree.specs.Builder.{begins_at, next_known, with_node, put_node, valued, known_of, closed, settled_on, ended, ended_of}
 use Rattle.yaml_tree.specs.Builder as steps
 use Rattle.yaml_marks.specs.declared.mark.Mark.{Mark}
 use Rattle.yaml_marks.specs.declared.mark.Mark.TheVariants.{Dash, Key, Scalar, Name, Copy, Bar, Body, Form, OddMark}
 use Rattle.yaml_tree.specs.declared.literal.Literal.{Literal}
 use Rattle.yaml_tree.specs.declared.known.Measure.{Measure}
 use Rattle.yaml_tree.specs.declared.known.Known.{Known}
+use Rattle.yaml_tree.specs.declared.known.GivenName.{GivenName}
 use Rattle.yaml_tree.specs.declared.node.Node.{Node}
 use Rattle.yaml_tree.specs.declared.node.Value.{Value}
 use Rattle.yaml_tree.specs.declared.node.Value.TheVariants.{Null, Text}
 use Rattle.yaml_tree.specs.declared.stack.Open.{Open}
 use Rattle.yaml_tree.specs.declared.builder.Builder.{Builder}
 use Rattle.yaml_tree.proofs.Stands.{KnownIs, NamesAre, named_by, Frame, called, wrap, names_at, line_at, is_key, key_of, repeats, HasName, rows_of, OpenIs, before_of, OpensAre, LiteralIs, ValueIs, StandsAt, IsShut, Between}
-use Rattle.yaml_tree.proofs.KnownLaws.{slice_get-last, HoldsSaid-more, HoldsRows-more, NamesAre-more, named_are, with_part-item, with_part-pair}
+use Rattle.yaml_tree.proofs.KnownLaws.{slice_get-last, HoldsSaid-more, HoldsRows-more, NamesAre-more, named_are, with_part-item, with_part-pair, begins_on-from_line, HoldsRows-from_line, node_is}
 
 -- ---- nodes more
 
@@ -42,34 +43,32 @@ OpensAre-more nodes more (o ∷ os) (f ∷ fs) h = (OpenIs-more nodes more o f (
 abbrev pub meaning_at : List Frame → Written → Meaning
 meaning_at fs value = said (null (line_at fs)) (names_at fs) value
 
-pub said-called : (waits : Option (List ℕ)) (name : Option Mark) (none : Said) (names : Names) (value : Written) → HasName waits name → said none names (called name value) ≡ named_by waits (said none names value)
+pub said-called : (waits : Option GivenName) (name : Option Mark) (none : Said) (names : Names) (value : Written) → HasName waits name → said none names (called name value) ≡ named_by waits (said none names value)
 said-called None None none names value h = refl
-said-called (Some n) (Some mark) none names value h = ap (λ k. given k (said none names value)) (sym h.1)
+said-called (Some n) (Some mark) none names value h = λ j. given (sym h.1 j) (sym h.2 j) (said none names value)
 said-called None (Some mark) none names value h = absurd h
 said-called (Some n) None none names value h = absurd h
 
-pub named_by-said : (waits : Option (List ℕ)) (meaning : Meaning) → (named_by waits meaning).0 ≡ meaning.0
-named_by-said None meaning = refl
-named_by-said (Some n) meaning = refl
-
 -- a node more, which takes the name that waits, is the value
 pub put_node-stands : (line : ℕ) (v : Value) (m : Measure) (b : Builder) (fs : List Frame) (name : Option Mark) (value : Written) → b.cells ≡ [] → b.literal ≡ None → OpensAre b.nodes b.open_rows fs → HasName b.name name
-    → NamesAre b.nodes b.names (meaning_at fs value).1 → m ≡ measured (meaning_at fs value).0 → HoldsSaid (b.nodes ++ (record { line = line; value = v } ∷ [])) (meaning_at fs value).0 (length b.nodes)
+    → NamesAre b.nodes b.names (meaning_at fs value).1 → m ≡ measured (meaning_at fs value).0 → line ≡ begins_on (meaning_at fs value).0
+    → ((l : ℕ) → HoldsSaid (b.nodes ++ (record { line = l; value = v } ∷ [])) (from_line l (meaning_at fs value).0) (length b.nodes))
     → StandsAt (put_node line v m b) fs (called name value)
 unfolding put_node with_node
-put_node-stands line v m b fs name value flat shut opens waits names is holds =
-    let more : List Node = record { line = line; value = v } ∷ [] in
+put_node-stands line v m b fs name value flat shut opens waits names is begins holds =
+    let more : List Node = record { line = begins_at line b.name; value = v } ∷ [] in
     let k : Known = next_known m b in
     let meaning : Meaning = meaning_at fs value in
     let e = said-called b.name name (null (line_at fs)) (names_at fs) value waits in
+    let known : KnownIs (b.nodes ++ more) k (named_by b.name meaning).0 = node_is (b.nodes ++ more) b.name line meaning k is begins (holds (begins_at line b.name)) in
     record {
       flat = flat;
       opens = OpensAre-more b.nodes more b.open_rows fs opens;
       is = (
         shut,
         refl,
-        subst (λ tree. KnownIs (b.nodes ++ more) k tree) (sym (named_by-said b.name meaning) ∙ ap (λ x. x.0) (sym e)) (is, holds),
-        subst (λ x. NamesAre (b.nodes ++ more) (steps.named b.name k b.names) x.1) (sym e) (named_are (b.nodes ++ more) b.names meaning.1 b.name k meaning.0 (NamesAre-more b.nodes more b.names meaning.1 names) (is, holds)),
+        subst (λ x. KnownIs (b.nodes ++ more) k x.0) (sym e) known,
+        subst (λ x. NamesAre (b.nodes ++ more) (steps.named b.name k b.names) x.1) (sym e) (named_are (b.nodes ++ more) b.names meaning.1 b.name k meaning.0 (NamesAre-more b.nodes more b.names meaning.1 names) known),
       );
     }
 
@@ -97,7 +96,7 @@ valued-stands line b fs value same shut s = by b.value refl
       next_known one_node b,
       record {
         stands = subst (λ x. StandsAt (put_node line Null one_node b) fs x) (sym i.2)
-            (put_node-stands line Null one_node b fs i.0 nothing s.flat shut s.opens i.1 i.3 refl (slice_get-last b.nodes _ ∙ ap (λ l. Some (record { line = l; value = Null })) same));
+            (put_node-stands line Null one_node b fs i.0 nothing s.flat shut s.opens i.1 i.3 refl same (λ l. slice_get-last b.nodes _));
         is = refl;
         shut = shut;
       },
@@ -130,6 +129,17 @@ row_behind-names (Body line column bytes) before meaning = refl
 row_behind-names (Form line column pieces) before meaning = refl
 row_behind-names (OddMark line column why) before meaning = refl
 
+row_behind-begins : (head : Mark) (before : Said) (meaning : Meaning) → begins_on (row_behind head before meaning).0 ≡ begins_on before
+row_behind-begins (Key line column text) before meaning = refl
+row_behind-begins (Dash line column) before meaning = refl
+row_behind-begins (Scalar line column text) before meaning = refl
+row_behind-begins (Name line column text) before meaning = refl
+row_behind-begins (Copy line column text) before meaning = refl
+row_behind-begins (Bar line column chomp) before meaning = refl
+row_behind-begins (Body line column bytes) before meaning = refl
+row_behind-begins (Form line column pieces) before meaning = refl
+row_behind-begins (OddMark line column why) before meaning = refl
+
 -- the measure that is kept is that of the rows with the value
 pub row-measure : (head : Mark) (before : Said) (meaning : Meaning) → is_head head ≡ true → with_part (with_repeat (repeats head before) (measured before)) (measured meaning.0) ≡ measured (row_behind head before meaning).0
 row-measure (Key line column text) before meaning h = with_part-pair before line text meaning.0
@@ -146,17 +156,17 @@ row-measure (OddMark line column why) before meaning h = absurd (false≢true h)
 abbrev pub rows_with : Mark → ℕ → Rows → Rows
 rows_with head m rows = with_row (is_key head) (line_of head) (key_of head) m rows
 
-row-holds : (nodes : List Node) (head : Mark) (before : Said) (meaning : Meaning) (rows : Rows) (m n : ℕ) → is_head head ≡ true → HoldsRows nodes before rows → HoldsSaid nodes meaning.0 m
-    → IsNode nodes n (begins_on before) (rows_value (is_key head) (rows_with head m rows)) → HoldsSaid nodes (row_behind head before meaning).0 n
-row-holds nodes (Key line column text) before meaning rows m n h held value e = (rows, m, held, value, e)
-row-holds nodes (Dash line column) before meaning rows m n h held value e = (rows, m, held, value, e)
-row-holds nodes (Scalar line column text) before meaning rows m n h held value e = absurd (false≢true h)
-row-holds nodes (Name line column text) before meaning rows m n h held value e = absurd (false≢true h)
-row-holds nodes (Copy line column text) before meaning rows m n h held value e = absurd (false≢true h)
-row-holds nodes (Bar line column chomp) before meaning rows m n h held value e = absurd (false≢true h)
-row-holds nodes (Body line column bytes) before meaning rows m n h held value e = absurd (false≢true h)
-row-holds nodes (Form line column pieces) before meaning rows m n h held value e = absurd (false≢true h)
-row-holds nodes (OddMark line column why) before meaning rows m n h held value e = absurd (false≢true h)
+row-holds : (nodes : List Node) (head : Mark) (before : Said) (meaning : Meaning) (rows : Rows) (m n l : ℕ) → is_head head ≡ true → HoldsRows nodes before rows → HoldsSaid nodes meaning.0 m
+    → IsNode nodes n l (rows_value (is_key head) (rows_with head m rows)) → HoldsSaid nodes (from_line l (row_behind head before meaning).0) n
+row-holds nodes (Key line column text) before meaning rows m n l h held value e = (rows, m, HoldsRows-from_line nodes l before rows held, value, subst (λ x. IsNode nodes n x (rows_value true (rows_with (Key line column text) m rows))) (sym (begins_on-from_line l before)) e)
+row-holds nodes (Dash line column) before meaning rows m n l h held value e = (rows, m, HoldsRows-from_line nodes l before rows held, value, subst (λ x. IsNode nodes n x (rows_value false (rows_with (Dash line column) m rows))) (sym (begins_on-from_line l before)) e)
+row-holds nodes (Scalar line column text) before meaning rows m n l h held value e = absurd (false≢true h)
+row-holds nodes (Name line column text) before meaning rows m n l h held value e = absurd (false≢true h)
+row-holds nodes (Copy line column text) before meaning rows m n l h held value e = absurd (false≢true h)
+row-holds nodes (Bar line column chomp) before meaning rows m n l h held value e = absurd (false≢true h)
+row-holds nodes (Body line column bytes) before meaning rows m n l h held value e = absurd (false≢true h)
+row-holds nodes (Form line column pieces) before meaning rows m n l h held value e = absurd (false≢true h)
+row-holds nodes (OddMark line column why) before meaning rows m n l h held value e = absurd (false≢true h)
 
 pub rows-hold : (nodes : List Node) (head : Mark) (before : Said) (meaning : Meaning) (rows : Rows) (m : ℕ) → is_head head ≡ true → HoldsRows nodes before rows → HoldsSaid nodes meaning.0 m → HoldsRows nodes (row_behind head before meaning).0 (rows_with head m rows)
 rows-hold nodes (Key line column text) before meaning rows m h held value = (rows, m, held, value, refl)
@@ -182,14 +192,15 @@ closing-stands o os b f fs value k s e =
     let come : ValueIs (Some k) b.literal b (f ∷ fs) value = subst (λ v. ValueIs v b.literal b (f ∷ fs) value) s.is s.stands.is in
     let before : Said = before_of f (names_at fs) in
     let meaning : Meaning = meaning_at (f ∷ fs) value in
-    let node : Node = record { line = o.first_line; value = collection (finished o k) } in
+    let node : ℕ → Node = λ l. record { line = l; value = collection (finished o k) } in
     put_node-stands o.first_line (collection (finished o k)) (with_part o.measure k.measure) (record b { open_rows = os; name = o.name }) fs f.name (row f.before f.head value) s.stands.flat s.shut opens.2 open_is.has_name
     (subst (NamesAre b.nodes b.names) (sym (row_behind-names f.head before meaning)) come.3)
     ((λ j. with_part (open_is.has_measure j) (come.2.0 j)) ∙ row-measure f.head before meaning open_is.heads)
-    (row-holds (b.nodes ++ (node ∷ [])) f.head before meaning (rows_of o) k.node (length b.nodes) open_is.heads
-    (HoldsRows-more b.nodes (node ∷ []) before (rows_of o) open_is.holds)
-    (HoldsSaid-more b.nodes (node ∷ []) meaning.0 k.node come.2.1)
-    (slice_get-last b.nodes node ∙ (λ j. Some (record { line = open_is.has_first j; value = rows_value (open_is.has_kind j) (with_row (open_is.has_kind j) (open_is.has_line j) (open_is.has_key j) k.node (rows_of o)) }))))
+    (open_is.has_first ∙ sym (row_behind-begins f.head before meaning))
+    (λ l. row-holds (b.nodes ++ (node l ∷ [])) f.head before meaning (rows_of o) k.node (length b.nodes) l open_is.heads
+    (HoldsRows-more b.nodes (node l ∷ []) before (rows_of o) open_is.holds)
+    (HoldsSaid-more b.nodes (node l ∷ []) meaning.0 k.node come.2.1)
+    (slice_get-last b.nodes (node l) ∙ (λ j. Some (record { line = l; value = rows_value (open_is.has_kind j) (with_row (open_is.has_kind j) (open_is.has_line j) (open_is.has_key j) k.node (rows_of o)) }))))
 
 pub closed-stands : (o : Open) (os : List Open) (b : Builder) (f : Frame) (fs : List Frame) (value : Written) → b.literal ≡ None → StandsAt b (f ∷ fs) value → b.open_rows ≡ o ∷ os → StandsAt (closed o (record b { open_rows = os })) fs (called f.name (row f.before f.head value))
 unfolding closed
@@ -300,8 +311,8 @@ ended-ready b fs value s between = by b.literal b.value refl refl
         let is : LiteralIs l i.2 i.3 = i.4 in
         record {
           stands = subst (λ x. StandsAt (put_node l.line (Text (block_text l.chomp l.lines)) one_node (record b { literal = None })) fs x) (sym i.6)
-              (put_node-stands l.line (Text (block_text l.chomp l.lines)) one_node (record b { literal = None }) fs i.0 (literal i.2 i.3) s.flat refl s.opens i.1 i.7 refl
-              (slice_get-last b.nodes _ ∙ (λ j. Some (record { line = is.has_line j; value = Text (block_text (is.has_chomp j) (is.has_lines j)) }))));
+              (put_node-stands l.line (Text (block_text l.chomp l.lines)) one_node (record b { literal = None }) fs i.0 (literal i.2 i.3) s.flat refl s.opens i.1 i.7 refl is.has_line
+              (λ n. slice_get-last b.nodes _ ∙ (λ j. Some (record { line = n; value = Text (block_text (is.has_chomp j) (is.has_lines j)) }))));
           shut = refl;
           come = λ d. subst (IsFull d) (sym i.6) (full-called d i.0 (literal i.2 i.3) tt);
         }

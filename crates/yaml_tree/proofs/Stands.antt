@@ -14,6 +14,7 @@ use Rattle.yaml_marks.specs.declared.mark.Mark.{Mark}
 use Rattle.yaml_marks.specs.declared.mark.Mark.TheVariants.{Key}
 use Rattle.yaml_tree.specs.declared.literal.Literal.{Literal}
 use Rattle.yaml_tree.specs.declared.known.Known.{Known}
+use Rattle.yaml_tree.specs.declared.known.GivenName.{GivenName}
 use Rattle.yaml_tree.specs.declared.node.Node.{Node}
 use Rattle.yaml_tree.specs.declared.stack.Open.{Open}
 use Rattle.yaml_tree.specs.declared.builder.Builder.{Builder}
@@ -35,9 +36,9 @@ abbrev pub NamesAre : List Node → List (List ℕ × Known) → Names → Type 
 NamesAre nodes entries names = (n : List ℕ) → NameIs nodes (find_name entries n) (lookup (pointwise ◌==◌ n) names)
 
 -- a meaning, named where a name waits for it
-abbrev pub named_by : Option (List ℕ) → Meaning → Meaning
+abbrev pub named_by : Option GivenName → Meaning → Meaning
 named_by None meaning = meaning
-named_by (Some n) meaning = given n meaning
+named_by (Some n) meaning = given n.line n.text meaning
 
 -- ---- frames
 
@@ -80,9 +81,9 @@ abbrev pub repeats : Mark → Said → Bool
 repeats (Key line column text) before = has_key text before
 repeats _ before = false
 
-abbrev pub HasName : Option (List ℕ) → Option Mark → Type 0
+abbrev pub HasName : Option GivenName → Option Mark → Type 0
 HasName None None = Unit {0}
-HasName (Some n) (Some mark) = (is_name mark ≡ true) × (n ≡ name_of mark)
+HasName (Some n) (Some mark) = (is_name mark ≡ true) × (n.line ≡ line_of mark) × (n.text ≡ name_of mark)
 HasName None (Some mark) = ⊥
 HasName (Some n) None = ⊥
 

@@ -21,6 +21,7 @@ use Rattle.yaml_tree.specs.declared.literal.Literal.{Literal}
 use Rattle.yaml_marks.specs.declared.place.Place.{Place}
 use Rattle.yaml_tree.specs.declared.known.Measure.{Measure}
 use Rattle.yaml_tree.specs.declared.known.Known.{Known}
+use Rattle.yaml_tree.specs.declared.known.GivenName.{GivenName}
 use Rattle.yaml_tree.specs.declared.node.Value.{Value}
 use Rattle.yaml_tree.specs.declared.node.Value.TheVariants.{Null, Text}
 use Rattle.yaml_tree.specs.declared.stack.Open.{Open}
@@ -46,16 +47,21 @@ abbrev pub find_name : List (List ℕ × Known) → List ℕ → Option Known
 find_name names name = lookup (pointwise ◌==◌ name) names
 
 -- a node that has a name is known by it from now on
-abbrev pub named : Option (List ℕ) → Known → List (List ℕ × Known) → List (List ℕ × Known)
+abbrev pub named : Option GivenName → Known → List (List ℕ × Known) → List (List ℕ × Known)
 named None known names = names
-named (Some name) known names = insert_entry (pointwise ◌==◌) names name known
+named (Some name) known names = insert_entry (pointwise ◌==◌) names name.text known
+
+-- a node with a name begins on the name's line
+abbrev pub begins_at : ℕ → Option GivenName → ℕ
+begins_at line None = line
+begins_at line (Some name) = name.line
 
 abbrev pub next_known : Measure → Builder → Known
 next_known m b = record { node = length b.nodes; measure = m }
 
 -- a node more, which takes the name that waits for a node
 unfoldable pub with_node : ℕ → Value → Measure → Builder → Builder
-with_node line value m b = record b { nodes = b.nodes ++ record { line = line; value = value } ∷ []; names = named b.name (next_known m b) b.names; name = None }
+with_node line value m b = record b { nodes = b.nodes ++ record { line = begins_at line b.name; value = value } ∷ []; names = named b.name (next_known m b) b.names; name = None }
 
 -- a node more, which is the value
 unfoldable pub put_node : ℕ → Value → Measure → Builder → Builder
@@ -84,7 +90,7 @@ settled_on depth (o ∷ os) b = if nat_lt depth o.depth then settled_on depth os
 abbrev pub settled : ℕ → Builder → Builder
 settled depth b = settled_on depth b.open_rows b
 
-abbrev pub new_open : ℕ → Bool → ℕ → List ℕ → Option (List ℕ) → Open
+abbrev pub new_open : ℕ → Bool → ℕ → List ℕ → Option GivenName → Open
 new_open depth mapping line key name = record { depth = depth; mapping = mapping; first_line = line; items = []; entries = []; line = line; key = key; name = name; measure = no_row }
 
 unfoldable pub begun : ℕ → Bool → ℕ → List ℕ → Builder → Result Builder FaultKind
@@ -119,8 +125,8 @@ can_name depth b = is_none b.name && can_hold depth b
 unfoldable pub with_scalar : ℕ → ℕ → Option (List ℕ) → Builder → Result Builder FaultKind
 with_scalar depth line text b = if can_hold depth b then Ok (put_node line (scalar_value text) one_node b) else Err Syntax
 
-unfoldable pub with_name : ℕ → List ℕ → Builder → Result Builder FaultKind
-with_name depth name b = if can_name depth b then Ok (record b { name = Some name }) else Err Syntax
+unfoldable pub with_name : ℕ → ℕ → List ℕ → Builder → Result Builder FaultKind
+with_name depth line name b = if can_name depth b then Ok (record b { name = Some (record { line = line; text = name }) }) else Err Syntax
 
 abbrev pub put_found : ℕ → Option Known → Builder → Builder
 put_found line (Some known) b = record b { value = Some known }
@@ -203,7 +209,7 @@ take_piece line (Closing bracket) b = cell_closed line b
 take_piece line Comma b = flushed line b
 take_piece line (CellKey key) b = cell_key line key b
 take_piece line (CellScalar text) b = cell_node line (scalar_value text) one_node b
-take_piece line (CellName name) b = record b { name = Some name }
+take_piece line (CellName name) b = record b { name = Some (record { line = line; text = name }) }
 take_piece line (CellCopy name) b = cell_copy line name b
 take_piece line (OddPiece why) b = b
 
@@ -241,7 +247,7 @@ unfoldable pub take_mark : Mark → Builder → Result Builder FaultKind
 take_mark (Dash line column) b = headed (2 + 2 * column) false line [] (ended b)
 take_mark (Key line column text) b = headed (1 + 2 * column) true line text (ended b)
 take_mark (Scalar line column text) b = with_scalar (1 + 2 * column) line text (ended b)
-take_mark (Name line column text) b = with_name (1 + 2 * column) text (ended b)
+take_mark (Name line column text) b = with_name (1 + 2 * column) line text (ended b)
 take_mark (Copy line column text) b = with_copy (1 + 2 * column) line text (ended b)
 take_mark (Bar line column chomp) b = with_bar (1 + 2 * column) line chomp (ended b)
 take_mark (Body line column bytes) b = with_line (1 + 2 * column) bytes b

@@ -43,9 +43,19 @@ scalar_said line (Some bytes) = text line bytes
 abbrev pub copied : ℕ → List ℕ → Names → Said
 copied line n names = unwrap_or (lookup (pointwise ◌==◌ n) names) (unknown line)
 
--- a node gets its name once it is complete
-abbrev pub given : List ℕ → Meaning → Meaning
-given n meaning = (meaning.0, (n, meaning.0) ∷ meaning.1)
+-- the tree, where it begins on this line
+abbrev pub from_line : ℕ → Said → Said
+from_line n (null line) = null n
+from_line n (text line bytes) = text n bytes
+from_line n (unknown line) = unknown n
+from_line n (sequence line) = sequence n
+from_line n (mapping line) = mapping n
+from_line n (with_item before value) = with_item (from_line n before) value
+from_line n (with_pair before line key value) = with_pair (from_line n before) line key value
+
+-- a node with a name begins on the name's line, and gets the name once it is complete
+abbrev pub given : ℕ → List ℕ → Meaning → Meaning
+given line n meaning = (from_line line meaning.0, (n, from_line line meaning.0) ∷ meaning.1)
 
 abbrev pub item_behind : Said → Meaning → Meaning
 item_behind before meaning = (with_item before meaning.0, meaning.1)
@@ -74,7 +84,7 @@ piece_text _ = []
 abbrev pub flow_said : ℕ → Said → Names → Flow → Meaning
 flow_said line none names absent = (none, names)
 flow_said line none names (word piece) = (word_said line piece names, names)
-flow_said line none names (called piece value) = given (piece_text piece) (flow_said line none names value)
+flow_said line none names (called piece value) = given line (piece_text piece) (flow_said line none names value)
 flow_said line none names (item before value) = let b = flow_said line none names before in item_behind b.0 (flow_said line (null line) b.1 value)
 flow_said line none names (pair before piece value) = let b = flow_said line none names before in pair_behind line (piece_text piece) b.0 (flow_said line (null line) b.1 value)
 flow_said line none names (form bracket cells last) = flow_said line (begun_form bracket line) names cells
@@ -118,7 +128,7 @@ said none names nothing = (none, names)
 said none names (leaf mark) = (leaf_said mark names, names)
 said none names (literal mark lines) = (text (line_of mark) (block_text (chomp_of mark) (bodies_of lines)), names)
 said none names (flowing mark value) = flow_said (line_of mark) none names value
-said none names (named mark value) = given (name_of mark) (said none names value)
+said none names (named mark value) = given (line_of mark) (name_of mark) (said none names value)
 said none names (row before head value) = let b = said (begun_block head) names before in row_behind head b.0 (said (null (line_of head)) b.1 value)
 
 -- the tree that is written; a null without text begins on line 1

@@ -8,7 +8,7 @@ ghost use Rattle.yaml_tree.specs.Holds.{scalar_value};
 ghost use Rattle.yaml_tree.specs.Tree.{kind_of};
 
 use crate::fault::{FaultKind, Stop};
-use crate::known::{Known, Measure, Names};
+use crate::known::{GivenName, Known, Measure, Names, begins_at};
 use crate::literal::{Literal, TextLines};
 use crate::node::{Node, Value};
 use crate::nodes::Nodes;
@@ -31,7 +31,7 @@ pub(crate) struct Builder {
     /// The value of the innermost open row, where it has come.
     pub value: Option<Known>,
     /// The name that waits for a node.
-    pub name: Option<Scalar>,
+    pub name: Option<GivenName>,
     /// The literal block that is open.
     pub literal: Option<Literal>,
     /// The nodes that have names.
@@ -68,9 +68,10 @@ impl Builder {
             return Err(NoMemory);
         };
         let known = Known { node, measure };
+        let line = begins_at(line, &self.name);
         self.nodes.push(Node { line, value })?;
         if let Some(name) = self.name.take() {
-            self.names.insert(name, known)?;
+            self.names.insert(name.text, known)?;
         }
         Ok(known)
     }
@@ -196,13 +197,13 @@ impl Builder {
 
     /// Takes a name.
     #[tactic(auto, unfolding(crate::specs::Builder::with_name))]
-    fn give_name(&mut self, depth: u128, name: Scalar) -> Result<(), Stop>
-        ensures { Steps result self.new (with_name depth name self.old) }
+    fn give_name(&mut self, depth: u128, line: usize, text: Scalar) -> Result<(), Stop>
+        ensures { Steps result self.new (with_name depth line text self.old) }
     {
         if !self.can_name(depth) {
             return Err(Stop::Fault(FaultKind::Syntax));
         }
-        self.name = Some(name);
+        self.name = Some(GivenName { line, text });
         Ok(())
     }
 
@@ -329,7 +330,7 @@ impl Builder {
             }
             Mark::Key(line, column, text) => self.head(key_depth(column), true, line, text),
             Mark::Scalar(line, column, text) => self.scalar(key_depth(column), line, text),
-            Mark::Name(_, column, text) => self.give_name(key_depth(column), text),
+            Mark::Name(line, column, text) => self.give_name(key_depth(column), line, text),
             Mark::Copy(line, column, text) => self.copy(key_depth(column), line, &text),
             Mark::Bar(line, column, chomp) => self.bar(key_depth(column), line, chomp),
             Mark::Form(line, column, pieces) => self.form(key_depth(column), line, pieces),

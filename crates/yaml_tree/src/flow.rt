@@ -4,7 +4,7 @@ ghost use Rattle.std.specs.Prelude.{◌≡◌, Some, None, OnOk, IfOk};
 ghost use Rattle.yaml_tree.specs.Builder.{put_known, cell_node, flushed, cell_opened, cell_closed, cell_key, copy_found, cell_copy, take_piece, take_pieces};
 
 use crate::builder::{Builder, scalar_value};
-use crate::known::{Known, Measure};
+use crate::known::{GivenName, Known, Measure};
 use crate::node::Value;
 use crate::stack::Open;
 use sim_base::NoMemory;
@@ -116,8 +116,8 @@ impl Builder {
             Piece::CellScalar(text) => {
                 self.cell_node(line, scalar_value(text), Measure::one_node())
             }
-            Piece::CellName(name) => {
-                self.name = Some(name);
+            Piece::CellName(text) => {
+                self.name = Some(GivenName { line, text });
                 Ok(())
             }
             Piece::CellCopy(name) => self.copy_cell(line, &name),

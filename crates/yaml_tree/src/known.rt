@@ -4,7 +4,7 @@ ghost use Rattle.std.specs.Prelude.{◌≡◌, ◌==◌, ◌+◌, List, ℕ, [],
 ghost use Rattle.std.specs.Cmp.Lexicographic.{pointwise};
 ghost use Rattle.indexmap.specs.IndexMap.{insert_entry};
 ghost use Rattle.yaml_tree.specs.Stack.{cut, one_node, unknown_node, no_row, with_part, with_repeat};
-ghost use Rattle.yaml_tree.specs.Builder.{find_name, fault_of};
+ghost use Rattle.yaml_tree.specs.Builder.{find_name, begins_at, fault_of};
 ghost use Rattle.yaml_tree.specs.declared.known.Known.{Known};
 
 use crate::fault::FaultKind;
@@ -139,6 +139,23 @@ fn levels_above(levels: usize) -> usize
 pub(crate) struct Known {
     pub node: u32,
     pub measure: Measure,
+}
+
+/// A name that waits for its node, and the line on which it stands.
+#[derive(Drop)]
+pub(crate) struct GivenName {
+    pub line: usize,
+    pub text: Scalar,
+}
+
+/// The line on which a node begins: that of its name, if it has one.
+pub(crate) fn begins_at(line: usize, name: &Option<GivenName>) -> usize
+    ensures { result ≡ begins_at line name.now }
+{
+    match name {
+        Some(name) => name.line,
+        None => line,
+    }
 }
 
 /// The nodes that have names, which contracts see as a list of pairs.

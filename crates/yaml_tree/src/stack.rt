@@ -6,7 +6,7 @@ ghost use Rattle.yaml_tree.specs.Builder.{new_open};
 ghost use Rattle.yaml_tree.specs.declared.stack.Open.{Open};
 
 use crate::entries::{Child, Entries};
-use crate::known::{Known, Measure};
+use crate::known::{GivenName, Known, Measure};
 use crate::node::Value;
 use crate::numbers::Numbers;
 use sim_base::NoMemory;
@@ -27,7 +27,7 @@ pub(crate) struct Open {
     pub line: usize,
     pub key: Scalar,
     /// The name that the collection takes once it is whole.
-    pub name: Option<Scalar>,
+    pub name: Option<GivenName>,
     /// The measure of the finished rows.
     pub measure: Measure,
 }
@@ -39,7 +39,7 @@ impl Open {
         mapping: bool,
         line: usize,
         key: Scalar,
-        name: Option<Scalar>,
+        name: Option<GivenName>,
     ) -> Open
         ensures { result ≡ new_open depth mapping line key name }
     {
@@ -127,7 +127,7 @@ impl Open {
     }
 
     /// The finished rows as a node's value, and the name.
-    pub fn into_value(self) -> (Value, Option<Scalar>)
+    pub fn into_value(self) -> (Value, Option<GivenName>)
         ensures { result ≡ (collection self, self.name) }
     {
         let Open {
