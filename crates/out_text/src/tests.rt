@@ -199,6 +199,9 @@ fn a_summary_is_one_line(rt: HostRuntime) -> Result<(), Fail> {
     };
     let mut text = Text::new(alloc);
     summary_line(alloc, &mut text, &summary)?;
-    assert_eq!(rt; text.as_str(), "hosts 4 sent 3 lost 1 received 18446744073709551615\n");
+    assert_eq!(rt;
+        text.as_str(),
+        "hosts 4 sent 3 lost 1 received 18446744073709551615\n"
+    );
     Ok(())
 }
