@@ -1,8 +1,7 @@
 -- The line of each fault of an input.
 use Rattle.std.specs.Prelude.{ℕ, List, ◌++◌, Some, codes}
 use Rattle.elf_load.specs.Fault.{word_of}
-use Rattle.gml_graph.specs.declared.fault.GmlKind.{GmlKind}
-use Rattle.gml_graph.specs.declared.fault.GmlKind.TheVariants as graph
+use Rattle.gml_graph.specs.Fault as graph
 use Rattle.yaml_tree.specs.declared.fault.FaultKind.{FaultKind}
 use Rattle.yaml_tree.specs.declared.fault.FaultKind.TheVariants as tree
 use Rattle.shd_config.specs.declared.fault.ConfigKind.{ConfigKind}
@@ -33,17 +32,6 @@ config_word config.OutOfRange = codes "out of range"
 config_word config.BadValue = codes "bad value"
 config_word config.Unsupported = codes "unsupported"
 
-abbrev pub graph_word : GmlKind → List ℕ
-graph_word graph.NotUtf8 = codes "not UTF-8"
-graph_word graph.Syntax = codes "syntax"
-graph_word graph.Missing = codes "missing"
-graph_word graph.Duplicate = codes "duplicate"
-graph_word graph.UnknownNode = codes "unknown node"
-graph_word graph.ZeroLatency = codes "zero latency"
-graph_word graph.Loss = codes "loss out of range"
-graph_word graph.BadValue = codes "bad value"
-graph_word graph.TooMany = codes "too many"
-
 abbrev pub host_word : HostFault → List ℕ
 host_word UnknownNode = codes "unknown node"
 host_word NoBandwidth = codes "no bandwidth"
@@ -60,7 +48,7 @@ line_of (NotFound file) = file_line file (codes "not found")
 line_of (TooLong file) = file_line file (codes "too long")
 line_of (Tree file fault) = at_line file fault.line (tree_word fault.kind)
 line_of (Config file fault) = at_line file fault.line (told_at (Some fault.path) (config_word fault.kind))
-line_of (Graph file inline fault) = at_line (text_name file inline) fault.line (graph_word fault.kind)
+line_of (Graph file inline fault) = at_line (text_name file inline) fault.line (graph.word_of fault.kind)
 line_of (Host file line host kind) = at_line file line (told_at (Some (codes "hosts." ++ host)) (host_word kind))
 line_of (NoRoute from to) = no_route_line from to
 line_of (Elf path fault) = file_line path (codes "ELF " ++ word_of fault)

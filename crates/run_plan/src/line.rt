@@ -2,13 +2,14 @@
 
 ghost use Rattle.std.specs.Prelude.{◌≡◌, ◌++◌, Some, OnOk, OnErr, IfOk, codes, string_bytes};
 ghost use Rattle.elf_load.specs.Fault.{word_of};
+ghost use Rattle.gml_graph.specs.Fault as graph;
 ghost use Rattle.out_text.specs.Faults.{at_line, text_name, told_at, file_line};
-ghost use Rattle.run_plan.specs.Line.{tree_word, config_word, graph_word, host_word, words_line, line_of};
+ghost use Rattle.run_plan.specs.Line.{tree_word, config_word, host_word, words_line, line_of};
 
 use crate::fault::{Fault, HostFault};
 use command_line::WordsFault;
 use elf_load::ElfFault;
-use gml_graph::{GmlFault, GmlKind};
+use gml_graph::GmlFault;
 use out_text::{FaultText, fault_line};
 use shd_config::{ConfigFault, ConfigKind};
 use sim_base::{Name, NoMemory, Text};
@@ -39,22 +40,6 @@ fn config_word(kind: ConfigKind) -> &'static str
         ConfigKind::OutOfRange => "out of range",
         ConfigKind::BadValue => "bad value",
         ConfigKind::Unsupported => "unsupported",
-    }
-}
-
-fn graph_word(kind: GmlKind) -> &'static str
-    ensures { result.now ≡ graph_word kind }
-{
-    match kind {
-        GmlKind::NotUtf8 => "not UTF-8",
-        GmlKind::Syntax => "syntax",
-        GmlKind::Missing => "missing",
-        GmlKind::Duplicate => "duplicate",
-        GmlKind::UnknownNode => "unknown node",
-        GmlKind::ZeroLatency => "zero latency",
-        GmlKind::Loss => "loss out of range",
-        GmlKind::BadValue => "bad value",
-        GmlKind::TooMany => "too many",
     }
 }
 
@@ -167,7 +152,7 @@ fn graph_line(
     inline: bool,
     fault: GmlFault,
 ) -> Result<(), NoMemory>
-    ensures ok { OnOk result (into.new ≡ into.old ++ at_line (text_name file.now inline) fault.line (graph_word fault.kind)) }
+    ensures ok { OnOk result (into.new ≡ into.old ++ at_line (text_name file.now inline) fault.line (graph.word_of fault.kind)) }
     ensures err { OnErr result (into.new ≡ into.old) }
 {
     let text = FaultText::At {
@@ -175,7 +160,7 @@ fn graph_line(
         inline,
         line: fault.line,
         path: None,
-        what: graph_word(fault.kind),
+        what: fault.kind.word(),
     };
     fault_line(alloc, into, &text)
 }
