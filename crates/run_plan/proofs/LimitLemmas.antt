@@ -44,13 +44,13 @@ plan_within name graph config plan within h stop =
 
 -- ---- a self-load
 
-small_address : (j : ℕ) → j < 4096 → address_number j < 10 ^ 10
+pub small_address : (j : ℕ) → j < 4096 → address_number j < 10 ^ 10
 small_address j lt = let a = div-le_self j 254 in let b : j % 254 < 254 = mod-lt j (omega arith) in omega (arith, a, b, lt)
 
-few_bytes : (j : ℕ) → j < 4096 → HasFewBytes (ring_process j)
+pub few_bytes : (j : ℕ) → j < 4096 → HasFewBytes (ring_process j)
 few_bytes j lt = let short = length-decimal-le 10 (address_number j) (omega arith) (small_address j lt) (omega (arith, small_address j lt)) in omega (arith, short)
 
-each_ring_host : (P : HostConfig → Type 0) (n : ℕ) → ((i : ℕ) → i < n → P (ring_host n i)) → All P (map (ring_host n) (range_with_len 0 n))
+pub each_ring_host : (P : HostConfig → Type 0) (n : ℕ) → ((i : ℕ) → i < n → P (ring_host n i)) → All P (map (ring_host n) (range_with_len 0 n))
 each_ring_host P n h k d lt =
     let i : k < n = omega (arith, lt, length-map-range_with_len (ring_host n) 0 n) in
     subst P (sym (get_or-map-range_with_len (ring_host n) 0 n k k d i (omega arith))) (h k i)

@@ -97,7 +97,7 @@ digits_same a b c d p q r s e =
 digit : (n : ℕ) → decimal (n % 10) ≡ (48 + n % 10) ∷ []
 digit n = decimal_digit (n % 10) (mod-lt n (omega arith))
 
-host_name_is : (i : ℕ) → host_name i ≡ 104 ∷ (48 + i / 1000 % 10) ∷ (48 + i / 100 % 10) ∷ (48 + i / 10 % 10) ∷ (48 + i % 10) ∷ []
+pub host_name_is : (i : ℕ) → host_name i ≡ 104 ∷ (48 + i / 1000 % 10) ∷ (48 + i / 100 % 10) ∷ (48 + i / 10 % 10) ∷ (48 + i % 10) ∷ []
 host_name_is i = rw (digit (i / 1000), digit (i / 100), digit (i / 10), digit i) refl
 
 -- a number below 10,000 by its digits
@@ -111,7 +111,7 @@ by_digits n few =
 one_number : (i j : ℕ) → i < 10000 → j < 10000 → i / 1000 % 10 ≡ j / 1000 % 10 → i / 100 % 10 ≡ j / 100 % 10 → i / 10 % 10 ≡ j / 10 % 10 → i % 10 ≡ j % 10 → i ≡ j
 one_number i j a b thousands hundreds tens ones = omega (arith, by_digits i a, by_digits j b, thousands, hundreds, tens, ones)
 
-host_names_differ : (i j : ℕ) → i < 10000 → j < 10000 → host_name i ≡ host_name j → i ≡ j
+pub host_names_differ : (i j : ℕ) → i < 10000 → j < 10000 → host_name i ≡ host_name j → i ≡ j
 host_names_differ i j a b e =
     let same = digits_same (i / 1000 % 10) (i / 100 % 10) (i / 10 % 10) (i % 10) (j / 1000 % 10) (j / 100 % 10) (j / 10 % 10) (j % 10) (sym (host_name_is i) ∙ (e ∙ host_name_is j)) in
     one_number i j a b same.0 same.1 same.2 same.3

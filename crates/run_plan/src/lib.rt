@@ -27,5 +27,6 @@ pub use line::tell;
 pub use plan::{Images, Plan, Settings};
 pub use planned::{Planned, Run, read_plan};
 pub use rates::Rates;
-pub use ring::RING;
+pub use ring::{RING, ring_bytes};
+pub use self_load::{self_load_config, self_load_graph};
 pub use workers::worker_count;
