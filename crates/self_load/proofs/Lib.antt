@@ -1,0 +1,11 @@
+pub mod AsciiTexts
+pub mod ConfigBack
+pub mod ConfigNotes
+pub mod ConfigPlain
+pub mod GraphBack
+pub mod GraphBlocks
+pub mod GraphPairs
+pub mod GraphRead
+pub mod GraphTokens
+pub mod Lines
+pub mod NumberWords

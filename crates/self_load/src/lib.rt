@@ -1,0 +1,12 @@
+//! The experiment of a self-load as files that a user can keep and change.
+#![tactic(auto)]
+
+mod config_text;
+mod files;
+mod generated;
+mod graph_text;
+#[cfg(test)]
+mod tests;
+
+pub use files::{File, Files};
+pub use generated::{SelfLoad, generate};
