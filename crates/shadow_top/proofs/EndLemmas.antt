@@ -8,6 +8,7 @@ use Rattle.sim_base.specs.declared.state.State.{State}
 use Rattle.host_state.specs.HostRecord.{HostRecord, process_state}
 use Rattle.host_state.specs.Logs.{lines_of}
 use Rattle.host_state.specs.World.{World}
+use Rattle.host_state.specs.declared.files.listed.Listing.{Listing}
 use Rattle.out_text.specs.declared.summary.Summary.{Summary}
 use Rattle.net_run.specs.Grown.{HaveOwnFiles, IsUnderway}
 use Rattle.host_state.specs.Listed.{HostNames, HasIds, listed, listed_process, names_in, names_of}
@@ -150,3 +151,11 @@ module _ (load : Bool) (w : World) (old mid new : Option Content) (told : List (
   )
   end-told (Err error) status_is put front = λ begun e.
       underway-end_part names begun mid w (stands begun e) states count tells load new (subst (λ (s : Option Summary). PutsFront (all_rest names states s) mid new) is front)
+
+  -- the same, by what the code lists
+  pub end-told_by : (listing : Listing) → names_of listing ≡ names_in w → (r : Result ℕ WriteError) → IfOk r (λ s. s ≡ status_by (unmet_of_hosts (names_of listing) states))
+      → OnOk r (new ≡ option_map (with_pieces (all_rest (names_of listing) states summary)) mid) → OnErr r (PutsFront (all_rest (names_of listing) states summary) mid new) → PutsEnd load w old new r
+  end-told_by listing same r status_is put front =
+      end-told r (subst (λ (ns : List HostNames). IfOk r (λ s. s ≡ status_by (unmet_of_hosts ns states))) same status_is)
+      (subst (λ (ns : List HostNames). OnOk r (new ≡ option_map (with_pieces (all_rest ns states summary)) mid)) same put)
+      (subst (λ (ns : List HostNames). OnErr r (PutsFront (all_rest ns states summary) mid new)) same front)
