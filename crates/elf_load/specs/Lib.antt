@@ -2,6 +2,7 @@ pub mod Build
 pub mod Cells
 pub mod Elf
 pub mod Fault
+pub mod File
 pub mod Image
 pub mod Layout
 pub mod Pages

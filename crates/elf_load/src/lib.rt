@@ -7,6 +7,7 @@ mod build;
 mod elf_header;
 mod fault;
 mod fields;
+mod file;
 mod image;
 mod layout;
 mod loader;
@@ -16,7 +17,9 @@ mod rights;
 mod segments;
 
 pub use fault::{ElfFault, LoadError};
+pub use file::executable;
 pub use image::Image;
 pub use loader::load;
 pub use page::{PAGE_SIZE, Page};
+pub use program_header::ProgramHeader;
 pub use rights::Rights;

@@ -9,7 +9,7 @@ use crate::rights::Rights;
 
 /// A program header (System V gABI, "Program Header").
 #[derive(Clone, Copy, Debug, PartialEq, Eq)]
-pub(crate) struct ProgramHeader {
+pub struct ProgramHeader {
     /// `p_type`
     pub kind: u32,
     /// `p_offset`, where the segment's bytes begin in the file

@@ -1,6 +1,6 @@
 //! Files by their parts: which fault is found first, and what a sound one lays where.
 
-use crate::{ElfFault, Image, LoadError, Rights, load};
+use crate::{ElfFault, Image, LoadError, ProgramHeader, Rights, executable, load};
 use std::alloc::{AllocError, Global};
 use std::test::Fail;
 
@@ -309,30 +309,19 @@ static ROWS: [Row; 40] = [
 
 /// The bytes of a row's file.
 fn file(alloc: Global, row: &Row) -> Result<Vec<u8>, AllocError> {
-    let mut bytes = Vec::new(alloc);
-    bytes.extend_from_slice(b"\x7fELF\x01\x01\x01\0\0\0\0\0\0\0\0\0")?;
-    bytes.extend_from_slice(b"\x02\0\xF3\0")?;
-    for word in [1, 0x10000, 52, 0, 0u32] {
-        bytes.extend_from_slice(&word.to_le_bytes())?;
-    }
-    let count = row.headers.len() % 256;
-    bytes.extend_from_slice(&[52, 0, 32, 0, count as u8, 0, 0, 0, 0, 0, 0, 0])?;
+    let mut headers = Vec::new(alloc);
     for header in row.headers {
         let [kind, offset, address, file_size, memory_size, flags] = *header;
-        for word in [
+        headers.push(ProgramHeader {
             kind,
             offset,
             address,
-            0,
             file_size,
             memory_size,
             flags,
-            4096,
-        ] {
-            bytes.extend_from_slice(&word.to_le_bytes())?;
-        }
+        })?;
     }
-    bytes.extend_from_slice(row.behind)?;
+    let mut bytes = executable(alloc, 0x10000, &headers, row.behind)?;
     for (at, value) in row.changed {
         if let Some(byte) = bytes.get_mut(*at) {
             *byte = *value;
