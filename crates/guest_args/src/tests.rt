@@ -4,7 +4,7 @@ use crate::{
     address_span, answer, block, counted, deadline_after, deadline_at, family_of, fill, four,
     sixteen, sockaddr, sockaddr_of, thirty_two, time_span, timespec, timespec_of, wanted_place,
 };
-use elf_load::load;
+use elf_load::{ProgramHeader, executable, load};
 use guest_mem::Mem;
 use host_timers::Moment;
 use sim_base::{Addr, Ip, Time};
@@ -21,20 +21,17 @@ const SEGMENTS: [[u32; 3]; 3] = [
 /// One past the stack, which can be read and written, and the last mapped address.
 const END: u32 = 0xC000_0000;
 
-/// A file of these segments, none of whose bytes stand in the file.
+/// A file of these segments, none of whose bytes stand in the file, and whose entry is 0x10000.
 fn file(alloc: Global) -> Result<Vec<u8>, AllocError> {
-    let mut bytes = Vec::new(alloc);
-    bytes.extend_from_slice(b"\x7fELF\x01\x01\x01\0\0\0\0\0\0\0\0\0\x02\0\xF3\0")?;
-    for word in [1, 0x10000, 52, 0, 0u32] {
-        bytes.extend_from_slice(&word.to_le_bytes())?;
-    }
-    bytes.extend_from_slice(&[52, 0, 32, 0, 3, 0, 0, 0, 0, 0, 0, 0])?;
-    for [address, size, flags] in SEGMENTS {
-        for word in [1, 0, address, 0, 0, size, flags, 4096] {
-            bytes.extend_from_slice(&word.to_le_bytes())?;
-        }
-    }
-    Ok(bytes)
+    let headers = SEGMENTS.map(|[address, memory_size, flags]| ProgramHeader {
+        kind: ProgramHeader::LOAD,
+        offset: 0,
+        address,
+        file_size: 0,
+        memory_size,
+        flags,
+    });
+    executable(alloc, 0x10000, &headers, &[])
 }
 
 #[test]

@@ -1,7 +1,7 @@
 //! What loads, stores, fetches, copies and the break answer, in turn.
 
 use crate::{FetchHint, Mem};
-use elf_load::load;
+use elf_load::{ProgramHeader, executable, load};
 use std::alloc::{AllocError, Global};
 use std::test::Fail;
 
@@ -99,20 +99,15 @@ static CALLS: [Call; 58] = [
 
 /// A file of these segments whose entry is 0x10000.
 fn file(alloc: Global) -> Result<Vec<u8>, AllocError> {
-    let mut bytes = Vec::new(alloc);
-    bytes.extend_from_slice(b"\x7fELF\x01\x01\x01\0\0\0\0\0\0\0\0\0\x02\0\xF3\0")?;
-    for word in [1, 0x10000, 52, 0, 0u32] {
-        bytes.extend_from_slice(&word.to_le_bytes())?;
-    }
-    bytes.extend_from_slice(&[52, 0, 32, 0, 5, 0, 0, 0, 0, 0, 0, 0])?;
-    for [address, size, flags] in SEGMENTS {
-        let in_file = if address == 0x10000 { 4 } else { 0 };
-        for word in [1, 212, address, 0, in_file, size, flags, 4096] {
-            bytes.extend_from_slice(&word.to_le_bytes())?;
-        }
-    }
-    bytes.extend_from_slice(&[1, 2, 3, 4])?;
-    Ok(bytes)
+    let headers = SEGMENTS.map(|[address, memory_size, flags]| ProgramHeader {
+        kind: ProgramHeader::LOAD,
+        offset: 212,
+        address,
+        file_size: if address == 0x10000 { 4 } else { 0 },
+        memory_size,
+        flags,
+    });
+    executable(alloc, 0x10000, &headers, &[1, 2, 3, 4])
 }
 
 /// Whether the call answers so. A span that is read begins as dots, and stays so where it is bad.
