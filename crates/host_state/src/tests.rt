@@ -8,7 +8,7 @@ ghost use Rattle.host_state.specs.Fits.{FitsNet};
 mod endless;
 
 use crate::{FinalState, Host, Logged, Net, Outbox, Process, ProcessRow, Row};
-use elf_load::load;
+use elf_load::{ProgramHeader, executable, load};
 use endless::ENDLESS;
 use gml_graph::read_gml;
 use host_calls::{Known, Output};
@@ -19,12 +19,6 @@ use std::alloc::{AllocGlobal, Global};
 use std::process::Abort;
 use std::test::Fail;
 use std::thread::Threads;
-
-/// A file of one segment at 0x10000, up to the sizes of its only program header.
-const HEAD: [u32; 17] = [
-    0x464c457f, 0x00010101, 0, 0, 0x00f30002, 1, 0x00010054, 52, 0, 0, 0x00200034, 0x00000001, 0,
-    1, 0, 0x10000, 0x10000,
-];
 
 /// Where the table of calls begins.
 const TABLE: u32 = 0x10120;
@@ -465,21 +459,27 @@ fn program(guest: &Guest) -> ([u32; 23], u32) {
     }
 }
 
-/// The file of a process, with its table of calls.
+/// The file of a process, with its table of calls: it is one segment at 0x10000.
 fn file(alloc: Global, guest: &Guest) -> Result<Vec<u8>, Fail> {
     let (code, next) = program(guest);
-    let mut table = table(alloc, guest.calls, false)?;
-    table.extend_from_slice(&[0; 4])?;
-    table.extend_from_slice(&next.to_le_bytes())?;
-    let size = u32::try_from(table.len()).unwrap_or(0).wrapping_add(0x120);
-    let mut file = Vec::new(alloc);
-    for words in [&HEAD[..], &[size, 0x10000, 7, 4096], &code, &DATA] {
+    let mut behind = Vec::new(alloc);
+    for words in [&code[..], &DATA] {
         for word in words {
-            file.extend_from_slice(&word.to_le_bytes())?;
+            behind.extend_from_slice(&word.to_le_bytes())?;
         }
     }
-    file.append(&mut table)?;
-    Ok(file)
+    behind.append(&mut table(alloc, guest.calls, false)?)?;
+    behind.extend_from_slice(&[0; 4])?;
+    behind.extend_from_slice(&next.to_le_bytes())?;
+    let segment = ProgramHeader {
+        kind: ProgramHeader::LOAD,
+        offset: 0,
+        address: 0x10000,
+        file_size: u32::try_from(behind.len()).unwrap_or(0).wrapping_add(84),
+        memory_size: 0x10000,
+        flags: 7,
+    };
+    Ok(executable(alloc, 0x10054, &[segment], &behind)?)
 }
 
 /// What a guest writes: the clock, and its calls with their answers.

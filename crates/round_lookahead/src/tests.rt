@@ -9,14 +9,14 @@ ghost use Rattle.round_lookahead.specs.OpeningWorld.{AreHostRows};
 ghost use Rattle.round_lookahead.specs.WorldStands.{HostWorld, HasRounds, WorldStands};
 
 use super::*;
-use elf_load::load;
+use elf_load::{ProgramHeader, executable, load};
 use gml_graph::read_gml;
 use host_calls::Known;
 use host_state::{FinalState, Net, Piece, ProcessRow, Row};
 use net_iface::QueueRule;
 use net_routes::routes;
 use sim_base::{Book, Bytes, HostId, Ip, Name, Place, Signal, State, Time};
-use std::alloc::Global;
+use std::alloc::{AllocError, Global};
 use std::process::Abort;
 use std::sync::atomic::{AtomicU64, Ordering};
 use std::test::Fail;
@@ -25,14 +25,29 @@ use std::thread::Threads;
 use steal_workers::{Gate, OpenGate};
 
 /// A program that sends 4 bytes to 11.0.0.1:7000, where no socket is, writes 4 bytes to its standard
-/// output and exits with 0.
-const PROGRAM: [u32; 43] = [
-    0x464c457f, 0x00010101, 0, 0, 0x00f30002, 1, 0x00010054, 52, 0, 0, 0x00200034, 0x00000001, 0,
-    1, 0, 0x10000, 0x10000, 172, 172, 7, 4096, 0x00200513, 0x00200593, 0x00000613, 0x0c600893,
-    0x00000073, 0x000105b7, 0x00400613, 0x00000693, 0x09c58713, 0x01000793, 0x0ce00893, 0x00000073,
-    0x00100513, 0x04000893, 0x00000073, 0x00000513, 0x05d00893, 0x00000073, 0x581b0002, 0x0100000b,
-    0, 0,
+/// output and exits with 0. The address stands behind it.
+const PROGRAM: [u32; 22] = [
+    0x00200513, 0x00200593, 0x00000613, 0x0c600893, 0x00000073, 0x000105b7, 0x00400613, 0x00000693,
+    0x09c58713, 0x01000793, 0x0ce00893, 0x00000073, 0x00100513, 0x04000893, 0x00000073, 0x00000513,
+    0x05d00893, 0x00000073, 0x581b0002, 0x0100000b, 0, 0,
 ];
+
+/// The bytes of a file with the program, which is one segment at 0x10000.
+fn file(alloc: Global) -> Result<Vec<u8>, AllocError> {
+    let mut code = Vec::new(alloc);
+    for word in &PROGRAM {
+        code.extend_from_slice(&word.to_le_bytes())?;
+    }
+    let segment = ProgramHeader {
+        kind: ProgramHeader::LOAD,
+        offset: 0,
+        address: 0x10000,
+        file_size: 172,
+        memory_size: 172,
+        flags: 7,
+    };
+    executable(alloc, 0x10054, &[segment], &code)
+}
 
 /// All hosts are on one node, 10 ms apart.
 const GRAPH: &str = "graph [ node [ id 0 ] edge [ source 0 target 0 latency \"10 ms\" ] ]";
@@ -48,11 +63,7 @@ fn address(index: u32) -> Ip {
 fn net<R: Threads + Sync>(rt: &R, alloc: Global, hosts: u32) -> Result<Net, Fail>
     ensures { IfOk result (λ net. HasRoutes net.nodes.items net.routes) }
 {
-    let mut file = Vec::new(alloc);
-    for word in &PROGRAM {
-        file.extend_from_slice(&word.to_le_bytes())?;
-    }
-    let Ok(image) = load(alloc, &file) else {
+    let Ok(image) = load(alloc, &file(alloc)?) else {
         return Err(Fail::new("no image"));
     };
     let mut images = Vec::new(alloc);

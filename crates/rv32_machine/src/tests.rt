@@ -3,23 +3,13 @@
 ghost use Rattle.std.specs.Prelude.{◌≡◌, ◌<◌};
 
 use crate::{Cpu, Insn, Outcome, Steps, TurnEnd, decode, step, turn};
-use elf_load::load;
+use elf_load::{ProgramHeader, executable, load};
 use guest_mem::Mem;
 use sim_base::Signal;
 use std::alloc::{AllocError, Global};
 use std::marker::Brand;
 use std::sync::ledger::{Blank, Ledger};
 use std::test::Fail;
-
-// The header of an ELF file with one segment at 0x10000: two pages with every right, of which the file gives 32 bytes.
-const HEADER: [u8; 84] = [
-    0x7f, 0x45, 0x4c, 0x46, 0x01, 0x01, 0x01, 0x00, 0x00, 0x00, 0x00, 0x00, 0x00, 0x00, 0x00, 0x00,
-    0x02, 0x00, 0xf3, 0x00, 0x01, 0x00, 0x00, 0x00, 0x00, 0x00, 0x01, 0x00, 0x34, 0x00, 0x00, 0x00,
-    0x00, 0x00, 0x00, 0x00, 0x00, 0x00, 0x00, 0x00, 0x34, 0x00, 0x20, 0x00, 0x01, 0x00, 0x00, 0x00,
-    0x00, 0x00, 0x00, 0x00, 0x01, 0x00, 0x00, 0x00, 0x54, 0x00, 0x00, 0x00, 0x00, 0x00, 0x01, 0x00,
-    0x00, 0x00, 0x01, 0x00, 0x20, 0x00, 0x00, 0x00, 0x00, 0x20, 0x00, 0x00, 0x07, 0x00, 0x00, 0x00,
-    0x00, 0x10, 0x00, 0x00,
-];
 
 struct Row {
     words: [u32; 8],
@@ -128,17 +118,22 @@ const ROWS: [Row; 11] = [
     },
 ];
 
-// where the header gives the segment's rights: 1 to execute, 2 to write, 4 to read
-const RIGHTS: usize = 76;
-
+/// An ELF file with one segment at 0x10000, of two pages with these rights (PF_X 1, PF_W 2, PF_R 4): it gives their
+/// first 32 bytes.
 fn file(alloc: Global, rights: u8, words: &[u32; 8]) -> Result<Vec<u8>, AllocError> {
-    let mut header = HEADER;
-    header[RIGHTS] = rights;
-    let mut bytes = Vec::from_slice(alloc, &header)?;
+    let mut code = Vec::new(alloc);
     for word in words {
-        bytes.extend_from_slice(&word.to_le_bytes())?;
+        code.extend_from_slice(&word.to_le_bytes())?;
     }
-    Ok(bytes)
+    let segment = ProgramHeader {
+        kind: ProgramHeader::LOAD,
+        offset: 84,
+        address: 0x10000,
+        file_size: 32,
+        memory_size: 0x2000,
+        flags: u32::from(rights),
+    };
+    executable(alloc, 0x10000, &[segment], &code)
 }
 
 pub(crate) fn memory(alloc: Global, rights: u8, words: &[u32; 8]) -> Result<Mem, Fail> {

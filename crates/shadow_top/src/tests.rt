@@ -6,6 +6,7 @@ mod rows;
 mod script;
 
 use crate::{OpenGate, shadow};
+use elf_load::{ProgramHeader, executable};
 use sim_base::{MemSink, MemSource};
 use std::alloc::Global;
 use std::process::Abort;
@@ -72,34 +73,23 @@ const WRITER: [u32; 41] = [
     0x00000013,
 ];
 
-/// The ELF header of a file with one program header, and that header up to its sizes.
-const HEAD: [u32; 17] = [
-    0x464c457f, 0x00010101, 0, 0, 0x00f30002, 1, 0x00010054, 52, 0, 0, 0x00200034, 0x00000001, 0,
-    1, 0, 0x10000, 0x10000,
-];
-
-fn count(length: usize) -> u32 {
-    u32::try_from(length).unwrap_or(0)
-}
-
 /// An ELF file of one segment at 0x10000, which is the file itself, with code at 0x10054 and bytes behind it.
 fn program(alloc: Global, code: &[u32], tail: &[u8]) -> Result<Vec<u8>, Fail> {
-    let mut file = Vec::new(alloc);
-    for word in &HEAD {
-        file.extend_from_slice(&word.to_le_bytes())?;
-    }
-    let size = count(code.len())
-        .wrapping_mul(4)
-        .wrapping_add(84)
-        .wrapping_add(count(tail.len()));
-    for word in [size, size, 5, 4096] {
-        file.extend_from_slice(&word.to_le_bytes())?;
-    }
+    let mut behind = Vec::new(alloc);
     for word in code {
-        file.extend_from_slice(&word.to_le_bytes())?;
+        behind.extend_from_slice(&word.to_le_bytes())?;
     }
-    file.extend_from_slice(tail)?;
-    Ok(file)
+    behind.extend_from_slice(tail)?;
+    let size = u32::try_from(behind.len()).unwrap_or(0).wrapping_add(84);
+    let segment = ProgramHeader {
+        kind: ProgramHeader::LOAD,
+        offset: 0,
+        address: 0x10000,
+        file_size: size,
+        memory_size: size,
+        flags: 5,
+    };
+    Ok(executable(alloc, 0x10054, &[segment], &behind)?)
 }
 
 fn words(alloc: Global, words: &[&str]) -> Result<Vec<String>, Fail> {

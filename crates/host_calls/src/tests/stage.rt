@@ -3,7 +3,7 @@
 use crate::{
     Answer, Known, Parts, Why, alarm, answers_now, close_all, deliver, do_call, start_task,
 };
-use elf_load::load;
+use elf_load::{ProgramHeader, executable, load};
 use guest_mem::Mem;
 use host_sockets::Want;
 use sim_base::{Act, Book, Bytes, Draws, Ip, ObjectId, State, Time};
@@ -61,18 +61,15 @@ const SEGMENTS: [[u32; 3]; 4] = [
 
 /// A file of these segments, of which no byte stands in the file, and whose entry is 0x8000.
 fn file(alloc: Global) -> Result<Vec<u8>, AllocError> {
-    let mut bytes = Vec::new(alloc);
-    bytes.extend_from_slice(b"\x7fELF\x01\x01\x01\0\0\0\0\0\0\0\0\0\x02\0\xF3\0")?;
-    for word in [1, 0x8000, 52, 0, 0u32] {
-        bytes.extend_from_slice(&word.to_le_bytes())?;
-    }
-    bytes.extend_from_slice(&[52, 0, 32, 0, 4, 0, 0, 0, 0, 0, 0, 0])?;
-    for [address, size, flags] in SEGMENTS {
-        for word in [1, 0, address, 0, 0, size, flags, 4096] {
-            bytes.extend_from_slice(&word.to_le_bytes())?;
-        }
-    }
-    Ok(bytes)
+    let headers = SEGMENTS.map(|[address, memory_size, flags]| ProgramHeader {
+        kind: ProgramHeader::LOAD,
+        offset: 0,
+        address,
+        file_size: 0,
+        memory_size,
+        flags,
+    });
+    executable(alloc, 0x8000, &headers, &[])
 }
 
 /// What became of packets that arrived: they came to their sockets, found the queue of theirs
