@@ -58,20 +58,20 @@ pub round-smaller : (c d : World) (workers : ℕ) (w v : HostWorld) (p : Pieces)
 round-smaller c d workers w v p stands round same unfinished =
     let la : Option ℕ = nanos_of c.lookahead in
     let stop : ℕ = c.net.stop.nanos in
-    let end : ℕ = window_end la stop round.least in
+    let end : ℕ = window_end la stop round.turns.least in
     let first = any-in (λ (e : Event). e.key.due.nanos < c.net.stop.nanos) (flat_map waiting c.tasks.items) unfinished in
     let before : first.0.key.due.nanos < stop = first.2 in
-    let from : round.least ≤ first.0.key.due.nanos =
-    Each-from_All (λ (e : Event). round.least ≤ e.key.due.nanos) w.events round.from first.0 (IsIn-permutation first.0 (flat_map waiting c.tasks.items) w.events stands.events first.1) in
-    let some = any-in (λ (e : Event). e.key.due.nanos ≡ round.least) w.events round.due in
+    let from : round.turns.least ≤ first.0.key.due.nanos =
+    Each-from_All (λ (e : Event). round.turns.least ≤ e.key.due.nanos) w.events round.turns.from first.0 (IsIn-permutation first.0 (flat_map waiting c.tasks.items) w.events stands.events first.1) in
+    let some = any-in (λ (e : Event). e.key.due.nanos ≡ round.turns.least) w.events round.turns.due in
     let old : soonest stop (flat_map waiting c.tasks.items) ≤ some.0.key.due.nanos =
     soonest-most stop (flat_map waiting c.tasks.items) some.0 (IsIn-permutation some.0 w.events (flat_map waiting c.tasks.items) (IsPermutation-sym (flat_map waiting c.tasks.items) w.events stands.events) some.1) in
     let some_due = some.2 in
-    let later : round.least < end = end-later la stop round.least stands.rounds.ahead (omega arith) in
-    let upto : end ≤ stop = window-upto la stop round.least in
+    let later : round.turns.least < end = end-later la stop round.turns.least stands.rounds.ahead (omega arith) in
+    let upto : end ≤ stop = window-upto la stop round.turns.least in
     let new : end ≤ soonest stop (flat_map waiting d.tasks.items) =
     soonest-least stop end (flat_map waiting d.tasks.items) upto
-    (λ e h. Each-from_All (λ (x : Event). end ≤ x.key.due.nanos) v.events round.over e (IsIn-permutation e (flat_map waiting d.tasks.items) v.events round.stands.events h)) in
+    (λ e h. Each-from_All (λ (x : Event). end ≤ x.key.due.nanos) v.events round.turns.over e (IsIn-permutation e (flat_map waiting d.tasks.items) v.events round.turns.stands.events h)) in
     subst (λ (s : ℕ). s - soonest s (flat_map waiting d.tasks.items) < stop - soonest stop (flat_map waiting c.tasks.items)) (sym (ap (λ (n : Net). n.stop.nanos) same)) (omega arith)
 
 -- ---- turns that lead to a world
@@ -107,19 +107,19 @@ pub reached-round : (net : Net) (start : HostWorld) (c d : World) (workers : ℕ
 reached-round net start c d workers w v p reached same round =
     let la : Option ℕ = nanos_of c.lookahead in
     let stop : ℕ = net.stop.nanos in
-    let end : ℕ = window_end la stop round.least in
-    let result : order.IsResult (model net) end v w = subst (λ (n : Net). order.IsResult (model n) (window_end la n.stop.nanos round.least) v w) reached.same round.result in
-    let upto : end ≤ stop = window-upto la stop round.least in
+    let end : ℕ = window_end la stop round.turns.least in
+    let result : order.IsResult (model net) end v w = subst (λ (n : Net). order.IsResult (model n) (window_end la n.stop.nanos round.turns.least) v w) reached.same round.turns.result in
+    let upto : end ≤ stop = window-upto la stop round.turns.least in
     record {
       same = same ∙ reached.same;
-      stands = round.stands;
+      stands = round.turns.stands;
       onward = λ r h. reached.onward r (run-goes_on (model net) end stop v w r upto result h);
       back = λ r h. comes-by (model net) end stop v w r upto result (reached.back r h);
     }
 
 -- a round extends its world
 pub round-extends : (c d : World) (workers : ℕ) (w v : HostWorld) (p : Pieces) → HasRound c d workers w v p → Extends w v
-round-extends c d workers w v p round = result-extends c.net (window_end (nanos_of c.lookahead) c.net.stop.nanos round.least) v w round.result
+round-extends c d workers w v p round = result-extends c.net (window_end (nanos_of c.lookahead) c.net.stop.nanos round.turns.least) v w round.turns.result
 
 -- the start has a result, which extends the world that is reached
 pub reached-result : (net : Net) (start : HostWorld) (c : World) (w : HostWorld) → HasReached net start c w → (r : HostWorld) × IsResult net r start × Extends w r

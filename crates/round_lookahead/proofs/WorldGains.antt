@@ -40,7 +40,7 @@ use Rattle.round_lookahead.specs.declared.world.world_state.World.{World}
 use Rattle.round_lookahead.specs.Arrivals.{Boxed, arrivals}
 use Rattle.round_lookahead.specs.Backs.{all_done, all_spilled, took_by, lists_of, ids_of, row_arrivals, AreAtHome}
 use Rattle.round_lookahead.specs.Counts.{counts_of}
-use Rattle.round_lookahead.specs.Gains.{IsGained, IsTaken, HasTurns, turns_from}
+use Rattle.round_lookahead.specs.Gains.{IsGained, IsTaken, HasTurns, HasGained, turns_from}
 use Rattle.round_lookahead.specs.RoundsInPlace.{IsRoundInPlace}
 use Rattle.round_lookahead.specs.Rounds.{IsRound, AreWorks, all_parcels}
 use Rattle.round_lookahead.specs.Settles.{done_numbers, CanSettle, IsBack, HasSettled}
@@ -267,8 +267,8 @@ module _ (c : World) (w : HostWorld) (stands : WorldStands c w) (least : Time) (
         same = t.4;
       }
 
-  pub has-round : HasTurns c new workers w next s.gained
-  has-round =
+  has-turns : HasTurns c new workers w next s.gained.took.items
+  has-turns =
       let some = any-in (λ (e : Event). e.key.due ≡ least) (flat_map waiting c.tasks.items) due.0 in
       record {
         least = least.nanos;
@@ -277,9 +277,11 @@ module _ (c : World) (w : HostWorld) (stands : WorldStands c w) (least : Time) (
         result = rounds.next-result c w stands least due workers works rows many round;
         over = rounds.next-over c w stands least due workers works rows many round;
         stands = stands-new;
-        gained = gained;
-        took = taken;
+        taken = taken;
       }
+
+  pub has-round : HasGained c new workers w next s.gained
+  has-round = record { turns = has-turns; gained = gained }
 
 -- ---- as the code has it
 
@@ -296,7 +298,7 @@ module _ (c : World) (w : HostWorld) (stands : WorldStands c w) (least : Time) (
   settles = subst (λ (n : ℕ). CanSettle n works rows) (sym count_is) (rounds.can-settle c w stands least due workers works rows many the-round)
 
   pub goes-on : (s : Settled) → HasSettled count works rows s → (n : Counts) → ((log : List Line) → c.counts ≡ counts_of log → n ≡ counts_of (log ++ kept_lines s.gained.lines.items))
-      → (v : HostWorld) × HasTurns c (record c { tasks = s.tasks; counts = n }) workers w v s.gained
+      → (v : HostWorld) × HasGained c (record c { tasks = s.tasks; counts = n }) workers w v s.gained
   goes-on s so n counted = (
     rounds.next c w stands least due workers works rows many the-round,
     has-round c w stands least due workers works rows many the-round s (subst (λ (k : ℕ). HasSettled k works rows s) count_is so) n counted,
@@ -306,6 +308,6 @@ module _ (c : World) (w : HostWorld) (stands : WorldStands c w) (least : Time) (
 pub goes-on-here : (c : World) (w : HostWorld) → WorldStands c w → (least : Time) → IsLeastDue (flat_map waiting c.tasks.items) (Some least) → (workers : ℕ) (new : Vec Task Global)
     (until : ℕ) → until ≡ window_end (nanos_of c.lookahead) c.net.stop.nanos least.nanos → (p : Gained) → IsRoundInPlace c.net until workers c.tasks.items new p
     → (n : Counts) → ((log : List Line) → c.counts ≡ counts_of log → n ≡ counts_of (log ++ kept_lines p.lines.items))
-    → (v : HostWorld) × HasTurns c (record c { tasks = new; counts = n }) workers w v p
+    → (v : HostWorld) × HasGained c (record c { tasks = new; counts = n }) workers w v p
 goes-on-here c w stands least due workers new until until_is p h n counted =
     goes-on c w stands least due workers h.works h.rows h.many c.tasks refl until until_is h.round (length c.tasks.items) refl (record { tasks = new; gained = p }) h.settled n counted

@@ -58,24 +58,22 @@ pub record IsTaken (net : Net) (end workers : ℕ) (w v : HostWorld) (took : Lis
   pub allowed : after_all (model net) (flat_map job_steps jobs ++ Close ∷ []) (Going (opened (model net) end workers w)) ≡ Some (Closed closed)
   pub same : IsSameWorld v (after_round w closed)
 
--- a round on a world whose least event is due at that time, and the world after all turns of the model that are due before the window's end
-pub record HasTurns (old new : World) (workers : ℕ) (w v : HostWorld) (g : Gained) : Type 0 where
+-- a round on a world whose least event is due at that time: the world after all turns of the model that are due before the window's end, and who took which host
+pub record HasTurns (old new : World) (workers : ℕ) (w v : HostWorld) (took : List (Vec HostId Global)) : Type 0 where
   pub least : ℕ
   pub from : AreDueFrom least w.events
   pub due : Any (λ (e : Event). e.key.due.nanos ≡ least) w.events
   pub result : order.IsResult (model old.net) (window_end (nanos_of old.lookahead) old.net.stop.nanos least) v w
   pub over : AreDueFrom (window_end (nanos_of old.lookahead) old.net.stop.nanos least) v.events
   pub stands : WorldStands new v
-  pub gained : IsGained w v g
-  pub took : IsTaken old.net (window_end (nanos_of old.lookahead) old.net.stop.nanos least) workers w v g.took.items
+  pub taken : IsTaken old.net (window_end (nanos_of old.lookahead) old.net.stop.nanos least) workers w v took
 
--- the same, with what was gained as places and bytes
+-- a round, and what outputs and log gained
+pub record HasGained (old new : World) (workers : ℕ) (w v : HostWorld) (g : Gained) : Type 0 where
+  pub turns : HasTurns old new workers w v g.took.items
+  pub gained : IsGained w v g
+
+-- a round, and what was gained as places and bytes
 pub record HasRound (old new : World) (workers : ℕ) (w v : HostWorld) (p : Pieces) : Type 0 where
-  pub least : ℕ
-  pub from : AreDueFrom least w.events
-  pub due : Any (λ (e : Event). e.key.due.nanos ≡ least) w.events
-  pub result : order.IsResult (model old.net) (window_end (nanos_of old.lookahead) old.net.stop.nanos least) v w
-  pub over : AreDueFrom (window_end (nanos_of old.lookahead) old.net.stop.nanos least) v.events
-  pub stands : WorldStands new v
+  pub turns : HasTurns old new workers w v p.took.items
   pub files : ArePieces w v p.files.items
-  pub took : IsTaken old.net (window_end (nanos_of old.lookahead) old.net.stop.nanos least) workers w v p.took.items

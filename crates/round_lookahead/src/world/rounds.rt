@@ -1,7 +1,7 @@
 //! The world goes on, round by round.
 ghost use Rattle.std.specs.Prelude.{◌≡◌, ◌≤◌, ◌<◌, ◌↔◌, true, false, Some, All, Any, IfOk, flat_map};
 ghost use Rattle.event_order.specs.Events.{IsLeastDue};
-ghost use Rattle.round_lookahead.specs.Gains.{HasRound, HasTurns};
+ghost use Rattle.round_lookahead.specs.Gains.{HasGained, HasRound};
 ghost use Rattle.round_lookahead.specs.Tasks.{waiting};
 ghost use Rattle.round_lookahead.specs.WorldStands.{HostWorld, WorldStands};
 
@@ -55,7 +55,7 @@ impl World {
         ensures net { self.new.net ≡ self.old.net }
         ensures lookahead { self.new.lookahead ≡ self.old.lookahead }
         ensures listing { self.new.listing ≡ self.old.listing }
-        ensures turns { IfOk result (λ gained. (w : HostWorld) → WorldStands self.old w → (v : HostWorld) × HasTurns self.old self.new workers w v gained) }
+        ensures turns { IfOk result (λ gained. (w : HostWorld) → WorldStands self.old w → (v : HostWorld) × HasGained self.old self.new workers w v gained) }
     {
         let window = Window::of(least, self.lookahead, self.net.stop);
         let threads = thread_count(self.tasks.as_slice(), window.end, workers);
