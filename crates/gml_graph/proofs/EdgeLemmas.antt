@@ -16,7 +16,8 @@ use Rattle.gml_graph.specs.declared.graph.Node.{Node}
 use Rattle.gml_graph.specs.declared.graph.Edge.{Edge}
 use Rattle.gml_graph.specs.declared.edge.EdgeDraft.{EdgeDraft}
 use Rattle.gml_graph.specs.declared.block.Part.TheVariants as parts
-use Rattle.gml_graph.specs.Steps.{◌>>=◌, through, refused}
+use Rattle.sim_base.specs.Refusals.{◌>>=◌}
+use Rattle.gml_graph.specs.Steps.{through, refused}
 use Rattle.gml_graph.specs.Edges.{IsEdge, AreEdges}
 use Rattle.gml_graph.specs.Graph.{Block, blocks, once, valued, needed, within, time_of, loss_of, list_at, latency_at, latency_of, known_id, edge_attribute, edge_row, new_edge, finished_edge, edge_of, add_edge, edges_of}
 

@@ -12,7 +12,8 @@ use Rattle.gml_graph.specs.declared.outline.Value.{Value}
 use Rattle.gml_graph.specs.declared.outline.Value.TheVariants as values
 use Rattle.gml_graph.specs.declared.outline.Waiting.{Waiting}
 use Rattle.gml_graph.specs.declared.outline.Row.{Row}
-use Rattle.gml_graph.specs.Steps.{◌>>=◌, through, refused}
+use Rattle.sim_base.specs.Refusals.{◌>>=◌}
+use Rattle.gml_graph.specs.Steps.{through, refused}
 use Rattle.gml_graph.specs.Token.{quoted}
 use Rattle.gml_graph.specs.Tokens.{lexeme}
 use Rattle.gml_graph.specs.Outline.{Shape, with_row, accept_at, accept, finish}

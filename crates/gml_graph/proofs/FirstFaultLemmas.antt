@@ -6,7 +6,8 @@ use Rattle.gml_graph.specs.declared.token.Token.TheVariants.{Name, Number, Text,
 use Rattle.gml_graph.specs.declared.token.Lexeme.{Lexeme}
 use Rattle.gml_graph.specs.declared.outline.Waiting.{Waiting}
 use Rattle.gml_graph.specs.declared.outline.Row.{Row}
-use Rattle.gml_graph.specs.Steps.{◌>>=◌, through}
+use Rattle.sim_base.specs.Refusals.{◌>>=◌}
+use Rattle.gml_graph.specs.Steps.{through}
 use Rattle.gml_graph.specs.Token.{quoted}
 use Rattle.gml_graph.specs.Tokens.{lexeme}
 use Rattle.gml_graph.specs.Outline.{Shape, accept_at, accept, finish}

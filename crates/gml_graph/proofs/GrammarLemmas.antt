@@ -15,7 +15,8 @@ use Rattle.gml_graph.specs.declared.token.Lexeme.{Lexeme}
 use Rattle.gml_graph.specs.declared.outline.Value.{Value}
 use Rattle.gml_graph.specs.declared.outline.Value.TheVariants as values
 use Rattle.gml_graph.specs.declared.outline.Row.{Row}
-use Rattle.gml_graph.specs.Steps.{◌>>=◌, through, refused}
+use Rattle.sim_base.specs.Refusals.{◌>>=◌}
+use Rattle.gml_graph.specs.Steps.{through, refused}
 use Rattle.gml_graph.specs.Tokens.{lexeme}
 use Rattle.gml_graph.specs.Outline.{Shape, with_row, accept, finish}
 use Rattle.gml_graph.specs.Grammar.{Pairs, no_pairs, with_number, with_text, with_list, spelled, height, rows_of, Spells}

@@ -5,7 +5,8 @@ use Rattle.std.specs.Str.Lossy.{utf8_valid_len}
 use Rattle.gml_graph.specs.declared.fault.GmlFault.{GmlFault}
 use Rattle.gml_graph.specs.declared.fault.GmlKind.TheVariants.{NotUtf8}
 use Rattle.gml_graph.specs.declared.graph.Graph.{Graph}
-use Rattle.gml_graph.specs.Steps.{◌>>=◌, refused}
+use Rattle.sim_base.specs.Refusals.{◌>>=◌}
+use Rattle.gml_graph.specs.Steps.{refused}
 use Rattle.gml_graph.specs.Tokens.{next_line}
 use Rattle.gml_graph.specs.Outline.{outline}
 use Rattle.gml_graph.specs.Graph.{graph_of}

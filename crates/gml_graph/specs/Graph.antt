@@ -17,7 +17,8 @@ use Rattle.gml_graph.specs.declared.block.Part.TheVariants as parts
 use Rattle.gml_graph.specs.declared.node.NodeDraft.{NodeDraft}
 use Rattle.gml_graph.specs.declared.edge.EdgeDraft.{EdgeDraft}
 use Rattle.gml_graph.specs.Number.{natural, is_part, units}
-use Rattle.gml_graph.specs.Steps.{◌>>=◌, through, refused}
+use Rattle.sim_base.specs.Refusals.{◌>>=◌}
+use Rattle.gml_graph.specs.Steps.{through, refused}
 
 -- BLOCKS: a pair with the rows that lie in it
 

@@ -10,7 +10,8 @@ use Rattle.gml_graph.specs.declared.outline.Value.{Value}
 use Rattle.gml_graph.specs.declared.outline.Value.TheVariants as values
 use Rattle.gml_graph.specs.declared.outline.Waiting.{Waiting}
 use Rattle.gml_graph.specs.declared.outline.Row.{Row}
-use Rattle.gml_graph.specs.Steps.{◌>>=◌, through, refused}
+use Rattle.sim_base.specs.Refusals.{◌>>=◌}
+use Rattle.gml_graph.specs.Steps.{through, refused}
 use Rattle.gml_graph.specs.Tokens.{next_line, tokens}
 
 -- What was read of a text: the rows, how many lists are open, and the key that waits for its value. `last` is the text's

@@ -1,15 +1,10 @@
 -- Reading step by step: a value, or the first fault.
 use Rattle.std.specs.Prelude.{◌≡◌, ℕ, List, [], ◌∷◌, Result, Ok, Err}
+use Rattle.sim_base.specs.Refusals.{◌>>=◌}
 use Rattle.gml_graph.specs.declared.fault.GmlKind.{GmlKind}
 use Rattle.gml_graph.specs.declared.fault.GmlFault.{GmlFault}
 use Rattle.gml_graph.specs.declared.fault.GmlError.{GmlError}
 use Rattle.gml_graph.specs.declared.fault.GmlError.TheVariants as errors
-
--- one reading, and then the other of what it gave
-infixl 10 ◌>>=◌
-abbrev pub ◌>>=◌ : {A B : Type 0} → Result A GmlFault → (A → Result B GmlFault) → Result B GmlFault
-(Ok x) >>= f = f x
-(Err e) >>= f = Err e
 
 -- a step for each item, from the left on, up to the first fault
 abbrev pub through : {S A : Type 0} → (S → A → Result S GmlFault) → S → List A → Result S GmlFault

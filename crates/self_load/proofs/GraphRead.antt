@@ -12,7 +12,8 @@ use Rattle.gml_graph.specs.declared.graph.Edge.{Edge}
 use Rattle.gml_graph.specs.declared.token.Key.TheVariants as keys
 use Rattle.gml_graph.specs.declared.outline.Value.TheVariants as values
 use Rattle.gml_graph.specs.Number.{natural, is_part, units}
-use Rattle.gml_graph.specs.Steps.{◌>>=◌, through}
+use Rattle.sim_base.specs.Refusals.{◌>>=◌}
+use Rattle.gml_graph.specs.Steps.{through}
 use Rattle.gml_graph.specs.Token.{quoted}
 use Rattle.gml_graph.specs.Grammar.{rows_of}
 use Rattle.gml_graph.specs.Graph.{id_of, latency_of, knows, node_row, node_of, add_node, nodes_of, edge_row, finished_edge, edge_of, add_edge, edges_of, is_directed, graph_of}
