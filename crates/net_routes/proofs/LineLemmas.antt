@@ -1,16 +1,15 @@
 -- which costs hosts need, and a list of them
-use Rattle.std.proofs.Common.{◌≡◌, ◌≢◌, ℕ, zero, suc, ◌+◌, ◌<◌, ◌≤◌, Bool, true, false, cond, ◌==◌, leb, List, [], ◌∷◌, ◌++◌, length, Option, Some, None, refl, sym, ap, ◌∙◌, subst, ⊎_elim, arith}
-use Rattle.std.specs.Prelude.{Contains, count_by, slice_get, is_some, MatchBool}
+use Rattle.std.proofs.Common.{◌≡◌, ◌≢◌, ℕ, zero, suc, ◌+◌, ◌<◌, ◌≤◌, Bool, true, false, cond, ◌==◌, leb, List, [], ◌∷◌, ◌++◌, length, get_or, Option, None, refl, sym, ap, ◌∙◌, subst, ⊎_elim, arith}
+use Rattle.std.specs.Prelude.{Contains, count_by, IsSome, MatchBool}
 use Rattle.std.proofs.lemmas.Bool.{cases_eq, cases_lt}
 use Rattle.std.proofs.lemmas.Bool.Decides.{nat_tests}
-use Rattle.std.proofs.lemmas.List.{get_or_append_left, get_or_push, length_push}
+use Rattle.std.proofs.lemmas.List.{get_or_append_left, get_or_push}
 use Rattle.std.proofs.lemmas.List.Sums.{sum_by-cons}
-use Rattle.std.proofs.lemmas.Option.{slice_get-get_or}
 use Rattle.net_routes.specs.declared.cost.Cost.{Cost}
 use Rattle.net_routes.specs.declared.error.RouteError.{RouteError}
 use Rattle.net_routes.specs.declared.error.RouteError.TheVariants as errors
 use Rattle.net_routes.specs.Needed.{IsAt, IsNeeded}
-use Rattle.net_routes.specs.Lines.{IsFirstLack, NamesLack}
+use Rattle.net_routes.specs.Lines.{IsLine, IsFirstLack, NamesLack}
 use Rattle.net_routes.proofs.PlaceLemmas.{at_is, at_contains}
 
 -- HOSTS ON A NODE
@@ -126,32 +125,48 @@ needed_tested nodes a b count same is = needed_either nodes a b count (leb 2 cou
 
 -- LINES
 
--- the needed costs up to an index
-abbrev pub IsLineBelow : ℕ → List ℕ → List ℕ → ℕ → (ℕ → Option Cost) → List Cost → Type 0
-IsLineBelow count nodes stops from found line = (k to : ℕ) → k < count → IsAt stops k to → IsNeeded nodes from to → (c : Cost) × (slice_get line k ≡ Some c) × (found to ≡ Some c)
+-- the costs up to an index
+pub record IsLineBelow (count : ℕ) (nodes stops : List ℕ) (from : ℕ) (found : ℕ → Option Cost) (line : List (Option Cost)) : Type 0 where
+  pub each : (k to : ℕ) → k < count → IsAt stops k to → get_or line k None ≡ found to
+  pub whole : (k to : ℕ) → k < count → IsAt stops k to → IsNeeded nodes from to → IsSome (found to)
 
-pub line_more : (nodes stops : List ℕ) (from : ℕ) (found : ℕ → Option Cost) (line : List Cost) (i node : ℕ) (c : Cost) → length line ≡ i → IsAt stops i node → (IsNeeded nodes from node → found node ≡ Some c)
+pub line_none : (nodes stops : List ℕ) (from : ℕ) (found : ℕ → Option Cost) (line : List (Option Cost)) → IsLineBelow 0 nodes stops from found line
+line_none nodes stops from found line = record {
+  each = λ k to lt at. absurd (omega (arith, lt));
+  whole = λ k to lt at need. absurd (omega (arith, lt));
+}
+
+pub line_more : (nodes stops : List ℕ) (from : ℕ) (found : ℕ → Option Cost) (line : List (Option Cost)) (i node : ℕ) (c : Option Cost) → length line ≡ i → IsAt stops i node → c ≡ found node → (IsNeeded nodes from node → IsSome c)
     → IsLineBelow i nodes stops from found line → IsLineBelow (i + 1) nodes stops from found (line ++ c ∷ [])
-line_more nodes stops from found line i node c size at is below k to lt there need =
-    ⊎_elim
-    (λ (before : k < i).
-    let w = below k to before there need in
-    let inside : k < length line = omega (arith, before, size) in
-    let inside_now : k < length (line ++ c ∷ []) = omega (arith, before, size, length_push line c) in
-    let same : slice_get (line ++ c ∷ []) k ≡ slice_get line k = slice_get-get_or (line ++ c ∷ []) k c inside_now ∙ ap (λ (x : Cost). Some x) (get_or_append_left line (c ∷ []) c k inside) ∙ sym (slice_get-get_or line k c inside) in
-    (w.0, same ∙ w.1, w.2))
-    (λ (ge : i ≤ k).
-    let now : k ≡ i = omega (arith, lt, ge) in
-    let P : ℕ → Type 0 = λ p. IsAt stops p to in
-    let ends : to ≡ node = at_is stops i to node (subst P now there) at in
-    let inside_now : k < length (line ++ c ∷ []) = omega (arith, now, size, length_push line c) in
-    let N : ℕ → Type 0 = λ p. IsNeeded nodes from p in
-    let F : ℕ → Type 0 = λ p. found p ≡ Some c in
-    (c, slice_get-get_or (line ++ c ∷ []) k c inside_now ∙ ap (λ (x : Cost). Some x) (get_or_push line c c k (size ∙ sym now)), subst F (sym ends) (is (subst N ends need))))
-    (cases_lt k i)
+line_more nodes stops from found line i node c size at is needed below = record {
+  each = λ k to lt there. ⊎_elim
+      (λ (before : k < i). get_or_append_left line (c ∷ []) None k (omega (arith, before, size)) ∙ below.each k to before there)
+      (λ (ge : i ≤ k).
+      let now : k ≡ i = omega (arith, lt, ge) in
+      let P : ℕ → Type 0 = λ p. IsAt stops p to in
+      let ends : to ≡ node = at_is stops i to node (subst P now there) at in
+      get_or_push line c None k (size ∙ sym now) ∙ is ∙ ap found (sym ends))
+      (cases_lt k i);
+  whole = λ k to lt there need. ⊎_elim
+      (λ (before : k < i). below.whole k to before there need)
+      (λ (ge : i ≤ k).
+      let now : k ≡ i = omega (arith, lt, ge) in
+      let P : ℕ → Type 0 = λ p. IsAt stops p to in
+      let ends : to ≡ node = at_is stops i to node (subst P now there) at in
+      let N : ℕ → Type 0 = λ p. IsNeeded nodes from p in
+      let S : Option Cost → Type 0 = λ o. IsSome o in
+      subst S (is ∙ ap found (sym ends)) (needed (subst N ends need)))
+      (cases_lt k i);
+}
+
+pub line_whole : (nodes stops : List ℕ) (from : ℕ) (found : ℕ → Option Cost) (line : List (Option Cost)) (i : ℕ) → length stops ≤ i → IsLineBelow i nodes stops from found line → IsLine nodes stops from found line
+line_whole nodes stops from found line i all below = record {
+  each = λ k to at. below.each k to (omega (arith, at.within, all)) at;
+  whole = λ k to at need. below.whole k to (omega (arith, at.within, all)) at need;
+}
 
 -- what stops a line
-pub names_lack : (nodes stops : List ℕ) (from : ℕ) (found : ℕ → Option Cost) (e : RouteError) (line : List Cost) (i to : ℕ) → e ≡ errors.NoRoute from to → IsAt stops i to → IsNeeded nodes from to → found to ≡ None
+pub names_lack : (nodes stops : List ℕ) (from : ℕ) (found : ℕ → Option Cost) (e : RouteError) (line : List (Option Cost)) (i to : ℕ) → e ≡ errors.NoRoute from to → IsAt stops i to → IsNeeded nodes from to → found to ≡ None
     → IsLineBelow i nodes stops from found line → NamesLack nodes stops from found e
 names_lack nodes stops from found e line i to which at need none below =
     let P : RouteError → Type 0 = λ o. NamesLack nodes stops from found o in
@@ -160,6 +175,6 @@ names_lack nodes stops from found e line i to which at need none below =
       at = at;
       needed = need;
       none = none;
-      first = λ k before lt there n. let w = below k before lt there n in ap (λ (o : Option Cost). is_some o) w.2;
+      first = λ k before lt there n. below.whole k before lt there n;
     } in
     subst P (sym which) (refl, lack)

@@ -1,6 +1,6 @@
 -- from what was found to routes
 use Rattle.std.proofs.Common.{◌≡◌, ℕ, ◌+◌, ◌<◌, ◌≤◌, Bool, true, List, [], ◌∷◌, ◌++◌, length, get_or, Option, Some, None, refl, sym, ap, ◌∙◌, subst, inl, inr, ⊎_elim, arith}
-use Rattle.std.specs.Prelude.{Contains, IsSome, IsSomeAnd, is_some, slice_get, option_and_then, ◌↔◌}
+use Rattle.std.specs.Prelude.{Contains, IsSome, IsSomeAnd, is_some, option_and_then, ◌↔◌}
 use Rattle.std.specs.List.Sorted.{IsStrictlyIncreasing}
 use Rattle.std.proofs.lemmas.Bool.{cases_lt}
 use Rattle.std.proofs.lemmas.List.{get_or_append_left, get_or_push}
@@ -16,14 +16,19 @@ use Rattle.net_routes.specs.declared.error.RouteError.TheVariants as errors
 use Rattle.net_routes.specs.Lines.{IsLine, IsFirstLack, NamesLack}
 use Rattle.net_routes.specs.Routes.{route_at, IsLeastLack, IsRefusal}
 use Rattle.net_routes.proofs.ListLemmas.{some_same}
-use Rattle.net_routes.proofs.PlaceLemmas.{at_rises, at_is, at_contains, contains_at, place_found}
+use Rattle.net_routes.proofs.PlaceLemmas.{place_at, at_rises, at_is, at_contains, contains_at, place_found}
 
 -- a line with the routes that hosts need from a node
-abbrev pub HasRoutesFrom : Graph → Bool → List ℕ → List ℕ → ℕ → List Cost → Type 0
-HasRoutesFrom g shortest nodes stops from line = (k to : ℕ) → IsAt stops k to → IsNeeded nodes from to → (c : Cost) × (slice_get line k ≡ Some c) × IsRoute g shortest from to c
+pub record HasRoutesFrom (g : Graph) (shortest : Bool) (nodes stops : List ℕ) (from : ℕ) (line : List (Option Cost)) : Type 0 where
+  pub each : (k to : ℕ) (c : Cost) → IsAt stops k to → get_or line k None ≡ Some c → IsRoute g shortest from to c
+  pub whole : (k to : ℕ) → IsAt stops k to → IsNeeded nodes from to → (c : Cost) × (get_or line k None ≡ Some c) × IsRoute g shortest from to c
+
+false_some : (o : Option Cost) → is_some o ≡ true → (c : Cost) × (o ≡ Some c)
+false_some (Some c) h = (c, refl)
+false_some None h = absurd (let never : ⊥ = cc in never)
 
 -- the lines of the first nodes
-abbrev pub HasRoutesBelow : ℕ → Graph → Bool → List ℕ → List ℕ → List (List Cost) → Type 0
+abbrev pub HasRoutesBelow : ℕ → Graph → Bool → List ℕ → List ℕ → List (List (Option Cost)) → Type 0
 HasRoutesBelow count g shortest nodes stops lines = (i from : ℕ) → i < count → IsAt stops i from → HasRoutesFrom g shortest nodes stops from (get_or lines i [])
 
 is_route : (g : Graph) (shortest : Bool) (a b : ℕ) (found : ℕ → Option Cost) (c : Cost) → IsBest (Goes (steps g) shortest a) found → found b ≡ Some c → IsRoute g shortest a b c
@@ -35,23 +40,26 @@ is_route g shortest a b found c k e = record {
       subst P (some_same w.0 c (sym w.1 ∙ e)) w.2;
 }
 
-pub routes_from : (g : Graph) (shortest : Bool) (nodes stops : List ℕ) (from : ℕ) (found : ℕ → Option Cost) (line : List Cost) → IsBest (Goes (steps g) shortest from) found → IsLine nodes stops from found line → HasRoutesFrom g shortest nodes stops from line
-routes_from g shortest nodes stops from found line k is i to at need =
-    let w = is i to at need in
-    (w.0, w.1, is_route g shortest from to found w.0 k w.2)
+pub routes_from : (g : Graph) (shortest : Bool) (nodes stops : List ℕ) (from : ℕ) (found : ℕ → Option Cost) (line : List (Option Cost)) → IsBest (Goes (steps g) shortest from) found → IsLine nodes stops from found line → HasRoutesFrom g shortest nodes stops from line
+routes_from g shortest nodes stops from found line best is = record {
+  each = λ k to c at e. is_route g shortest from to found c best (sym (is.each k to at) ∙ e);
+  whole = λ k to at need.
+      let w = false_some (found to) (is.whole k to at need) in
+      (w.0, is.each k to at ∙ w.1, is_route g shortest from to found w.0 best w.1);
+}
 
-pub routes_more : (g : Graph) (shortest : Bool) (nodes stops : List ℕ) (lines : List (List Cost)) (line : List Cost) (i from : ℕ) → length lines ≡ i → IsAt stops i from → HasRoutesFrom g shortest nodes stops from line
+pub routes_more : (g : Graph) (shortest : Bool) (nodes stops : List ℕ) (lines : List (List (Option Cost))) (line : List (Option Cost)) (i from : ℕ) → length lines ≡ i → IsAt stops i from → HasRoutesFrom g shortest nodes stops from line
     → HasRoutesBelow i g shortest nodes stops lines → HasRoutesBelow (i + 1) g shortest nodes stops (lines ++ line ∷ [])
 routes_more g shortest nodes stops lines line i from size at is below k node lt there =
     ⊎_elim
     (λ (before : k < i).
-    let P : List Cost → Type 0 = λ l. HasRoutesFrom g shortest nodes stops node l in
+    let P : List (Option Cost) → Type 0 = λ l. HasRoutesFrom g shortest nodes stops node l in
     subst P (sym (get_or_append_left lines (line ∷ []) [] k (omega (arith, before, size)))) (below k node before there))
     (λ (ge : i ≤ k).
     let now : k ≡ i = omega (arith, lt, ge) in
     let P : ℕ → Type 0 = λ p. IsAt stops p node in
     let here : node ≡ from = at_is stops i node from (subst P now there) at in
-    let Q : List Cost → Type 0 = λ l. HasRoutesFrom g shortest nodes stops node l in
+    let Q : List (Option Cost) → Type 0 = λ l. HasRoutesFrom g shortest nodes stops node l in
     let R : ℕ → Type 0 = λ p. HasRoutesFrom g shortest nodes stops p line in
     subst Q (sym (get_or_push lines line [] k (size ∙ sym now))) (subst R (sym here) is))
     (cases_lt k i)
@@ -64,23 +72,36 @@ needed_from nodes a b n = contains_at nodes n.first a n.from
 pub needed_to : (nodes : List ℕ) (a b : ℕ) → IsNeeded nodes a b → Contains nodes b
 needed_to nodes a b n = contains_at nodes n.second b n.to
 
-abbrev then_place : List ℕ → List (List Cost) → ℕ → ℕ → Option Cost
-then_place stops lines b i = option_and_then (λ j. slice_get (get_or lines i []) j) (place_of stops b)
+abbrev then_place : List ℕ → List (List (Option Cost)) → ℕ → ℕ → Option Cost
+then_place stops lines b i = option_and_then (λ j. get_or (get_or lines i []) j None) (place_of stops b)
 
-route_found : (stops : List ℕ) (lines : List (List Cost)) (a b i j : ℕ) (c : Cost) → place_of stops a ≡ Some i → place_of stops b ≡ Some j → slice_get (get_or lines i []) j ≡ Some c → route_at stops lines a b ≡ Some c
+route_found : (stops : List ℕ) (lines : List (List (Option Cost))) (a b i j : ℕ) (c : Cost) → place_of stops a ≡ Some i → place_of stops b ≡ Some j → get_or (get_or lines i []) j None ≡ Some c → route_at stops lines a b ≡ Some c
 route_found stops lines a b i j c p q e =
-    ap (λ (o : Option ℕ). option_and_then (then_place stops lines b) o) p ∙ ap (λ (o : Option ℕ). option_and_then (λ j. slice_get (get_or lines i []) j) o) q ∙ e
+    ap (λ (o : Option ℕ). option_and_then (then_place stops lines b) o) p ∙ ap (λ (o : Option ℕ). option_and_then (λ j. get_or (get_or lines i []) j None) o) q ∙ e
 
 some_and : (P : Cost → Type 0) (o : Option Cost) (c : Cost) → o ≡ Some c → P c → IsSomeAnd o P
 some_and P o c e h = let Q : Option Cost → Type 0 = λ q. IsSomeAnd q P in subst Q (sym e) h
 
-pub routes_whole : (g : Graph) (shortest : Bool) (nodes stops : List ℕ) (lines : List (List Cost)) (count : ℕ) → IsStrictlyIncreasing stops → ((id : ℕ) → Contains stops id ↔ Contains nodes id) → length stops ≤ count
+pub routes_whole : (g : Graph) (shortest : Bool) (nodes stops : List ℕ) (lines : List (List (Option Cost))) (count : ℕ) → IsStrictlyIncreasing stops → ((id : ℕ) → Contains stops id ↔ Contains nodes id) → length stops ≤ count
     → HasRoutesBelow count g shortest nodes stops lines → (a b : ℕ) → IsNeeded nodes a b → (c : Cost) × (route_at stops lines a b ≡ Some c) × IsRoute g shortest a b c
 routes_whole g shortest nodes stops lines count up same all below a b need =
     let p = at_contains stops a ((same a).1 (needed_from nodes a b need)) in
     let q = at_contains stops b ((same b).1 (needed_to nodes a b need)) in
-    let w = below p.0 a (omega (arith, p.1.within, all)) p.1 q.0 b q.1 need in
+    let w = (below p.0 a (omega (arith, p.1.within, all)) p.1).whole q.0 b q.1 need in
     (w.0, route_found stops lines a b p.0 q.0 w.0 (place_found stops p.0 a up p.1) (place_found stops q.0 b up q.1) w.1, w.2)
+
+sound_at : (g : Graph) (shortest : Bool) (nodes stops : List ℕ) (lines : List (List (Option Cost))) (count a b : ℕ) (c : Cost) (p q : Option ℕ) → length stops ≤ count → HasRoutesBelow count g shortest nodes stops lines → place_of stops a ≡ p → place_of stops b ≡ q
+    → option_and_then (λ i. option_and_then (λ j. get_or (get_or lines i []) j None) q) p ≡ Some c → IsRoute g shortest a b c
+sound_at g shortest nodes stops lines count a b c None q all below e f h = absurd (let never : ⊥ = cc in never)
+sound_at g shortest nodes stops lines count a b c (Some i) None all below e f h = absurd (let never : ⊥ = cc in never)
+sound_at g shortest nodes stops lines count a b c (Some i) (Some j) all below e f h =
+    let at = place_at stops a i e in
+    (below i a (omega (arith, at.within, all)) at).each j b c (place_at stops b j f) h
+
+-- each cost that is kept is a route
+pub routes_sound : (g : Graph) (shortest : Bool) (nodes stops : List ℕ) (lines : List (List (Option Cost))) (count : ℕ) → length stops ≤ count → HasRoutesBelow count g shortest nodes stops lines
+    → (a b : ℕ) (c : Cost) → route_at stops lines a b ≡ Some c → IsRoute g shortest a b c
+routes_sound g shortest nodes stops lines count all below a b c e = sound_at g shortest nodes stops lines count a b c (place_of stops a) (place_of stops b) all below refl refl e
 
 pub some_route : (g : Graph) (shortest : Bool) (a b : ℕ) (o : Option Cost) → (c : Cost) × (o ≡ Some c) × IsRoute g shortest a b c → IsSomeAnd o (IsRoute g shortest a b)
 some_route g shortest a b o w = some_and (IsRoute g shortest a b) o w.0 w.1 w.2
@@ -90,14 +111,10 @@ some_there o c e = ap (λ (q : Option Cost). is_some q) e
 
 -- REFUSALS
 
-false_some : (o : Option Cost) → is_some o ≡ true → (c : Cost) × (o ≡ Some c)
-false_some (Some c) h = (c, refl)
-false_some None h = absurd (let never : ⊥ = cc in never)
-
 none_found : (c : Cost) (o : Option Cost) → o ≡ None → o ≡ Some c → ⊥
 none_found c o n e = cc
 
-pub lack_least : (g : Graph) (shortest : Bool) (nodes stops : List ℕ) (lines : List (List Cost)) (i from to : ℕ) (found : ℕ → Option Cost) → IsStrictlyIncreasing stops → ((id : ℕ) → Contains stops id ↔ Contains nodes id) → IsAt stops i from
+pub lack_least : (g : Graph) (shortest : Bool) (nodes stops : List ℕ) (lines : List (List (Option Cost))) (i from to : ℕ) (found : ℕ → Option Cost) → IsStrictlyIncreasing stops → ((id : ℕ) → Contains stops id ↔ Contains nodes id) → IsAt stops i from
     → HasRoutesBelow i g shortest nodes stops lines → IsBest (Goes (steps g) shortest from) found → IsFirstLack nodes stops from found to → IsLeastLack g shortest nodes from to
 lack_least g shortest nodes stops lines i from to found up same at below k lack = record {
   lacks = record {
@@ -109,7 +126,7 @@ lack_least g shortest nodes stops lines i from to found up same at below k lack 
       let b = at_contains stops q ((same q).1 (needed_to nodes p q other.needed)) in
       ⊎_elim
       (λ (before : a.0 < i).
-      let w = below a.0 p before a.1 b.0 q b.1 other.needed in
+      let w = (below a.0 p before a.1).whole b.0 q b.1 other.needed in
       absurd (other.none w.0 w.2.goes))
       (λ (ge : i ≤ a.0). ⊎_elim
       (λ (behind : i < a.0). inl (at_rises stops i a.0 from p up at a.1 behind))
@@ -145,7 +162,7 @@ stops_of ids stops given nodes same copied all id =
     let Q : List ℕ → Type 0 = λ xs. Contains ids id ↔ Contains xs id in
     subst Q copied (subst P (sym same) (all id))
 
-pub refused : (g : Graph) (shortest : Bool) (nodes stops : List ℕ) (lines : List (List Cost)) (i from : ℕ) (found : ℕ → Option Cost) (e : RouteError) → IsStrictlyIncreasing stops → ((id : ℕ) → Contains stops id ↔ Contains nodes id) → IsAt stops i from
+pub refused : (g : Graph) (shortest : Bool) (nodes stops : List ℕ) (lines : List (List (Option Cost))) (i from : ℕ) (found : ℕ → Option Cost) (e : RouteError) → IsStrictlyIncreasing stops → ((id : ℕ) → Contains stops id ↔ Contains nodes id) → IsAt stops i from
     → HasRoutesBelow i g shortest nodes stops lines → IsBest (Goes (steps g) shortest from) found → NamesLack nodes stops from found e → IsRefusal g shortest nodes e
 refused g shortest nodes stops lines i from found (errors.NoRoute a b) up same at below k h =
     let P : ℕ → Type 0 = λ n. IsLeastLack g shortest nodes n b in

@@ -1,6 +1,6 @@
 -- the least latency, node by node
-use Rattle.std.proofs.Common.{◌≡◌, ℕ, ◌+◌, ◌<◌, ◌≤◌, true, List, [], length, Option, Some, None, refl, sym, ap, ◌∙◌, subst, inl, inr, ⊎_elim, arith}
-use Rattle.std.specs.Prelude.{IsSome, option_map, option_and_then, slice_get, slice_index, slice_index_or}
+use Rattle.std.proofs.Common.{◌≡◌, ℕ, ◌+◌, ◌<◌, ◌≤◌, List, [], length, Option, Some, None, refl, sym, ◌∙◌, subst, inl, inr, ⊎_elim, arith}
+use Rattle.std.specs.Prelude.{IsSome, option_map, option_and_then, slice_index, slice_index_or}
 use Rattle.std.proofs.lemmas.Bool.{cases_lt}
 use Rattle.net_routes.specs.declared.cost.Cost.{Cost}
 use Rattle.net_routes.specs.declared.table.Routes.{Routes}
@@ -70,8 +70,8 @@ pub record AreAt (stops : List ℕ) (a b : ℕ) : Type 0 where
   pub from : IsAt stops first a
   pub to : IsAt stops second b
 
-both_at : (stops : List ℕ) (lines : List (List Cost)) (a b : ℕ) (p q : Option ℕ) → place_of stops a ≡ p → place_of stops b ≡ q
-    → IsSome (option_and_then (λ i. option_and_then (λ j. slice_get (slice_index_or lines i []) j) q) p) → AreAt stops a b
+both_at : (stops : List ℕ) (lines : List (List (Option Cost))) (a b : ℕ) (p q : Option ℕ) → place_of stops a ≡ p → place_of stops b ≡ q
+    → IsSome (option_and_then (λ i. option_and_then (λ j. slice_index_or (slice_index_or lines i []) j None) q) p) → AreAt stops a b
 both_at stops lines a b None q e f h = absurd (let never : ⊥ = cc in never)
 both_at stops lines a b (Some i) None e f h = absurd (let never : ⊥ = cc in never)
 both_at stops lines a b (Some i) (Some j) e f h = record {

@@ -18,14 +18,14 @@ pub record IsReady (net : Net) : Type 0 where
   pub size : length net.rows.items ≡ length net.places
 
 -- the best costs of walks from a node, and the costs that hosts need of them, or the first that isn't there
-pub record IsLineOrLack (net : Net) (nodes stops : List ℕ) (shortest : Bool) (from : ℕ) (r : Result (List Cost) RouteError) : Type 0 where
+pub record IsLineOrLack (net : Net) (nodes stops : List ℕ) (shortest : Bool) (from : ℕ) (r : Result (List (Option Cost)) RouteError) : Type 0 where
   pub found : ℕ → Option Cost
   pub best : (ss : List Step) → IsNet ss net.places net.rows.items → IsBest (Goes ss shortest from) found
   pub ok : IfOk r (IsLine nodes stops from found)
   pub err : IfErr r (NamesLack nodes stops from found)
 
 -- memory ran out, or that
-abbrev pub IsFound : Net → List ℕ → List ℕ → Bool → ℕ → Result (List Cost) RouteError → Type 0
+abbrev pub IsFound : Net → List ℕ → List ℕ → Bool → ℕ → Result (List (Option Cost)) RouteError → Type 0
 IsFound net nodes stops shortest from r = (r ≡ Err errors.NoMemory) ⊎ IsLineOrLack net nodes stops shortest from r
 
 -- the nodes at which routes end
@@ -47,10 +47,10 @@ AreSearched net nodes stops shortest old new =
     (length new ≡ length old) × ((k : ℕ) (e : Search) → k < length old → IsSearched net nodes stops shortest (slice_index_or old k e) (slice_index_or new k e))
 
 -- what all searches found
-abbrev pub lines_found : List Search → List (Result (List Cost) RouteError)
+abbrev pub lines_found : List Search → List (Result (List (Option Cost)) RouteError)
 lines_found searches = map (λ (s : Search). s.line) searches
 
 -- memory ran out, or this is the error behind lines that were found
-pub data IsStopped (found : List (Result (List Cost) RouteError)) (e : RouteError) : Type 0 where
+pub data IsStopped (found : List (Result (List (Option Cost)) RouteError)) (e : RouteError) : Type 0 where
   want : e ≡ errors.NoMemory → IsStopped found e
-  behind : (lines : List (List Cost)) (rest : List (Result (List Cost) RouteError)) → map Ok lines ++ Err e ∷ rest ≡ found → IsStopped found e
+  behind : (lines : List (List (Option Cost))) (rest : List (Result (List (Option Cost)) RouteError)) → map Ok lines ++ Err e ∷ rest ≡ found → IsStopped found e

@@ -1,13 +1,14 @@
 -- The costs of the routes from a node, one for each node of a host.
-use Rattle.std.specs.Prelude.{◌≡◌, ℕ, ◌<◌, List, Option, Some, None, slice_get, IsSome}
+use Rattle.std.specs.Prelude.{◌≡◌, ℕ, ◌<◌, List, Option, None, slice_index_or, IsSome}
 use Rattle.net_routes.specs.declared.cost.Cost.{Cost}
 use Rattle.net_routes.specs.declared.error.RouteError.{RouteError}
 use Rattle.net_routes.specs.declared.error.RouteError.TheVariants as errors
 use Rattle.net_routes.specs.Needed.{IsAt, IsNeeded}
 
--- each needed cost at its place
-abbrev pub IsLine : List ℕ → List ℕ → ℕ → (ℕ → Option Cost) → List Cost → Type 0
-IsLine nodes stops from found line = (k to : ℕ) → IsAt stops k to → IsNeeded nodes from to → (c : Cost) × (slice_get line k ≡ Some c) × (found to ≡ Some c)
+-- what was found for each node, and each that hosts need
+pub record IsLine (nodes stops : List ℕ) (from : ℕ) (found : ℕ → Option Cost) (line : List (Option Cost)) : Type 0 where
+  pub each : (k to : ℕ) → IsAt stops k to → slice_index_or line k None ≡ found to
+  pub whole : (k to : ℕ) → IsAt stops k to → IsNeeded nodes from to → IsSome (found to)
 
 -- the first needed cost that isn't there
 pub record IsFirstLack (nodes stops : List ℕ) (from : ℕ) (found : ℕ → Option Cost) (to : ℕ) : Type 0 where

@@ -1,5 +1,5 @@
 -- The routes of all hosts.
-use Rattle.std.specs.Prelude.{◌≡◌, ℕ, ◌<◌, ◌≤◌, Bool, ◌⊎◌, List, [], Option, IsSome, IsSomeAnd, slice_get, option_and_then}
+use Rattle.std.specs.Prelude.{◌≡◌, ℕ, ◌<◌, ◌≤◌, Bool, ◌⊎◌, List, [], Option, IsSome, IsSomeAnd, None, Some, option_and_then}
 use Rattle.std.specs.List.{slice_index_or}
 use Rattle.gml_graph.specs.declared.graph.Graph.{Graph}
 use Rattle.net_routes.specs.declared.cost.Cost.{Cost}
@@ -11,8 +11,8 @@ use Rattle.net_routes.specs.Needed.{IsNeeded}
 use Rattle.net_routes.specs.Places.{place_of}
 
 -- the cost at the places of two nodes
-abbrev pub route_at : List ℕ → List (List Cost) → ℕ → ℕ → Option Cost
-route_at stops lines a b = option_and_then (λ i. option_and_then (λ j. slice_get (slice_index_or lines i []) j) (place_of stops b)) (place_of stops a)
+abbrev pub route_at : List ℕ → List (List (Option Cost)) → ℕ → ℕ → Option Cost
+route_at stops lines a b = option_and_then (λ i. option_and_then (λ j. slice_index_or (slice_index_or lines i []) j None) (place_of stops b)) (place_of stops a)
 
 -- the cost that is kept for a pair of nodes
 abbrev pub route_in : Routes → ℕ → ℕ → Option Cost
@@ -25,6 +25,10 @@ HasRoutes nodes r = (a b : ℕ) → IsNeeded nodes a b → IsSome (route_in r a 
 -- each needed pair has its route
 abbrev pub AreRoutes : Graph → Bool → List ℕ → Routes → Type 0
 AreRoutes g shortest nodes r = (a b : ℕ) → IsNeeded nodes a b → IsSomeAnd (route_in r a b) (IsRoute g shortest a b)
+
+-- and each that is kept is a route
+abbrev pub AreSound : Graph → Bool → Routes → Type 0
+AreSound g shortest r = (a b : ℕ) (c : Cost) → route_in r a b ≡ Some c → IsRoute g shortest a b c
 
 -- a pair that needs a route and has none
 pub record LacksRoute (g : Graph) (shortest : Bool) (nodes : List ℕ) (a b : ℕ) : Type 0 where

@@ -2,7 +2,7 @@
 
 ghost use Rattle.std.specs.Prelude.{◌≡◌, ◌<◌, All, Contains, IfOk, IfErr, Ok, map};
 ghost use Rattle.net_routes.specs.Found.{IsReady, AreStops, IsToSearch, IsFound, IsSearched, AreSearched, lines_found, IsStopped};
-ghost use Rattle.net_routes.specs.Routes.{HasRoutes, AreRoutes, IsRefusal};
+ghost use Rattle.net_routes.specs.Routes.{HasRoutes, AreRoutes, AreSound, IsRefusal};
 
 use crate::error::RouteError;
 use crate::line::{Line, line_from};
@@ -153,6 +153,7 @@ pub fn routes<R: Threads + Sync>(
     requires { 0 < workers }
     ensures ok { IfOk result (AreRoutes graph.now shortest nodes.now) }
     ensures whole { IfOk result (HasRoutes nodes.now) }
+    ensures sound { IfOk result (AreSound graph.now shortest) }
     ensures err { IfErr result (IsRefusal graph.now shortest nodes.now) }
 {
     let steps = steps_of(alloc, graph)?;

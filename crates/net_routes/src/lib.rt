@@ -6,6 +6,7 @@ mod arcs;
 mod cost;
 mod error;
 mod finding;
+mod kept;
 pub mod laws;
 mod line;
 mod net;

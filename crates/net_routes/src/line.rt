@@ -1,36 +1,43 @@
 //! The costs of the routes from one node.
 
-ghost use Rattle.std.specs.Prelude.{◌≡◌, count_by, ◌==◌, Contains, All, MatchBool, IfOk, IfErr, OnErr, Some, None};
+ghost use Rattle.std.specs.Prelude.{◌≡◌, count_by, ◌==◌, Contains, All, MatchBool, IfOk, IfErr, OnErr, IsSome, None, slice_index_or};
 ghost use Rattle.net_routes.specs.Needed.{IsNeeded};
 ghost use Rattle.net_routes.specs.Net.{cost_to};
 ghost use Rattle.net_routes.specs.Lines.{IsLine, NamesLack};
 
-use crate::cost::{Cost, no_cost};
+use crate::cost::Cost;
 use crate::error::RouteError;
+use crate::kept::Kept;
 use crate::net::Net;
 use std::alloc::Global;
 use std::marker::Model;
 
-/// The costs of the routes from a node to each of the nodes of hosts, in the order of their ids.
+/// The costs of the routes from a node to each of the nodes of hosts, in the order of their ids,
+/// where there are such.
 #[derive(Debug, Drop)]
 pub struct Line {
-    costs: Vec<Cost>,
+    costs: Vec<Kept>,
 }
 
 impl Model for Line {
-    ghost use Rattle.std.specs.Prelude.{List};
+    ghost use Rattle.std.specs.Prelude.{List, Option};
     ghost use Rattle.net_routes.specs.declared.cost.Cost.{Cost};
 
-    ghost Value = { List Cost };
+    ghost Value = { List (Option Cost) };
 
     ghost view = { λ l. l.costs.items };
 }
 
 impl Line {
-    pub fn as_slice(&self) -> &[Cost]
-        ensures { result.now ≡ self.now }
+    /// The cost at a place, if there is one.
+    pub fn get(&self, place: usize) -> Option<Cost>
+        ensures { result ≡ slice_index_or self.now place None }
     {
-        self.costs.as_slice()
+        if place < self.costs.len() {
+            self.costs[place].get()
+        } else {
+            None
+        }
     }
 }
 
@@ -50,29 +57,29 @@ pub(crate) fn is_needed(nodes: &[u32], from: u32, to: u32) -> bool
     from != to || hosts_on(nodes, from) >= 2
 }
 
-/// The cost that was found for a node, where hosts need one.
-fn needed_cost(
+/// The cost that was found for a node. One that hosts need has to be there.
+fn found_cost(
     net: &Net,
     costs: &[Option<Cost>],
     nodes: &[u32],
     from: u32,
     to: u32,
-) -> Result<Cost, RouteError>
+) -> Result<Option<Cost>, RouteError>
     requires from { Contains nodes.now from }
     requires to { Contains nodes.now to }
-    ensures ok { IfOk result
-        (λ c. IsNeeded nodes.now from to → cost_to net.now.places costs.now to ≡ Some c) }
+    ensures ok { IfOk result (λ c. c ≡ cost_to net.now.places costs.now to) }
+    ensures whole { IfOk result (λ c. IsNeeded nodes.now from to → IsSome c) }
     ensures which { IfErr result (λ e. e ≡ RouteError.NoRoute from to) }
     ensures needed { OnErr result (IsNeeded nodes.now from to) }
     ensures none { OnErr result (cost_to net.now.places costs.now to ≡ None) }
 {
     match net.cost_to(costs, to) {
-        Some(cost) => Ok(cost),
+        Some(cost) => Ok(Some(cost)),
         None => {
             if is_needed(nodes, from, to) {
                 return Err(RouteError::NoRoute { from, to });
             }
-            Ok(no_cost())
+            Ok(None)
         }
     }
 }
@@ -95,7 +102,7 @@ pub fn line_from(
 {
     let mut line = Vec::with_capacity(alloc, stops.len())?;
     for to in stops {
-        line.push(needed_cost(net, costs, nodes, from, *to)?)?;
+        line.push(Kept::from(found_cost(net, costs, nodes, from, *to)?))?;
     }
     Ok(Line { costs: line })
 }

@@ -18,13 +18,13 @@ pub struct Routes {
 
 impl Routes {
     /// The route from one node to another, if it is kept: its latency and its reliability in units
-    /// of 10^-9. Each that hosts need is kept. What is kept for other pairs is left open.
+    /// of 10^-9. Each that hosts need is kept, and each that is kept is a route.
     pub fn find(&self, from: u32, to: u32) -> Option<(Time, u32)>
         ensures { result ≡ option_map (λ c. (record { nanos = c.latency }, c.reliability))
             (route_in self.now from to) }
     {
         let line = self.lines.get(self.stops.find(from)?)?;
-        let cost = line.as_slice().get(self.stops.find(to)?)?;
+        let cost = line.get(self.stops.find(to)?)?;
         Some((
             Time {
                 nanos: cost.latency,

@@ -1,10 +1,7 @@
-use Rattle.std.proofs.Common.{◌≡◌, ◌++◌, ◌∷◌, List, Result, Ok, Err, map, sym, ap, ◌∙◌}
+use Rattle.std.proofs.Common.{◌≡◌, ◌∷◌, List, Err}
 use Rattle.std.proofs.lemmas.Result.{err_from_is_err_and}
 use Rattle.std.specs.Vec.Iter.{into_iter_items}
-use Rattle.net_routes.specs.declared.cost.Cost.{Cost}
-use Rattle.net_routes.specs.declared.error.RouteError.{RouteError}
 use Rattle.net_routes.specs.declared.finding.Search.{Search}
-use Rattle.net_routes.specs.Found.{IsStopped, lines_found}
 use Rattle.net_routes.proofs.FoundLemmas.{stopped}
 use Rattle.net_routes.proofs.finding.lines_of.Goals as goal
 

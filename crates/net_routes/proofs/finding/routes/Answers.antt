@@ -1,16 +1,13 @@
-use Rattle.std.proofs.Common.{◌≡◌, ℕ, ◌≤◌, List, length, map, refl, sym, ap, ◌∙◌, subst, append-nil, arith}
-use Rattle.std.proofs.lemmas.List.{length-map}
+use Rattle.std.proofs.Common.{ℕ, List, refl, sym, ◌∙◌, subst}
 use Rattle.std.proofs.lemmas.List.Elements.{Contains-get_or}
 use Rattle.std.proofs.lemmas.Result.{err_from_is_err_and}
 use Rattle.std.specs.List.Sorted.{IsStrictlyIncreasing}
-use Rattle.net_routes.specs.declared.cost.Cost.{Cost}
-use Rattle.net_routes.specs.declared.finding.Search.{Search}
 use Rattle.net_routes.specs.declared.step.Step.{Step}
 use Rattle.net_routes.specs.Walk.{steps}
 use Rattle.net_routes.specs.Net.{IsNet}
 use Rattle.net_routes.specs.Routes.{route_at}
-use Rattle.net_routes.proofs.RouteLemmas.{routes_whole, some_route, some_there, stops_of}
-use Rattle.net_routes.proofs.FoundLemmas.{all_made, to_search, refused_behind, whole_found}
+use Rattle.net_routes.proofs.RouteLemmas.{some_route, some_there, stops_of}
+use Rattle.net_routes.proofs.FoundLemmas.{all_made, to_search, refused_behind, whole_found, sound_found}
 use Rattle.net_routes.proofs.finding.routes.Goals as goal
 
 pub search_all-requires-clause-stops : goal.search_all-requires-clause-stops
@@ -68,3 +65,13 @@ returns-clause-whole g c a b need =
     let from = made.1 ∙ c.in_ok-searches.ensures in
     let w = whole_found graph c.in_ok-net.net nodes stops ids c.args.shortest _ lines c.as_slice-ids.ensures.ids c.as_slice-ids.ensures.rising all net made.0 from c.in_ok-lines.ensures.ok a b need in
     some_there (route_at stops lines a b) w.0 w.1
+
+pub returns-clause-sound : goal.returns-clause-sound
+returns-clause-sound g c =
+    let graph = c.args.graph.now in
+    let nodes = c.args.nodes.now in
+    let N : List Step → Type 0 = λ ss. IsNet ss c.in_ok-net.net.places c.in_ok-net.net.rows.items in
+    let net : IsNet (steps graph) c.in_ok-net.net.places c.in_ok-net.net.rows.items = subst N (c.as_slice.ensures.value ∙ c.in_ok-steps.ensures.steps) c.in_ok-net.ensures.net in
+    let made = all_made c.in_ok-net.net nodes c.as_slice-ids.result.now c.args.shortest _ _ c.search_all.ensures in
+    let from = made.1 ∙ c.in_ok-searches.ensures in
+    sound_found graph c.in_ok-net.net nodes c.from-stops.result c.as_slice-ids.result.now c.args.shortest _ c.in_ok-lines.lines.items c.as_slice-ids.ensures.ids net made.0 from c.in_ok-lines.ensures.ok

@@ -1,4 +1,4 @@
-use Rattle.std.proofs.Common.{◌≡◌, ℕ, map, take}
+use Rattle.std.proofs.Common.{◌≡◌, map, take}
 use Rattle.net_routes.specs.declared.finding.Search.{Search}
 use Rattle.net_routes.proofs.finding.searches_from.Given as goal
 

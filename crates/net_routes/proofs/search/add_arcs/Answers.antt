@@ -1,11 +1,11 @@
-use Rattle.std.proofs.Common.{◌≡◌, ◌+◌, ◌<◌, List, [], ◌∷◌, ◌++◌, length, take, get_or, set, Option, Some, None, refl, ◌∙◌, ap, sym, subst, arith}
+use Rattle.std.proofs.Common.{◌≡◌, ◌+◌, ◌<◌, List, [], ◌∷◌, ◌++◌, length, take, get_or, set, Option, Some, None, refl, ap, sym, subst, arith}
 use Rattle.std.specs.Prelude.{IfSome, IfNone, IsSomeAnd}
 use Rattle.std.specs.BinaryHeap.{IsHeap, heap_items}
 use Rattle.std.proofs.lemmas.List.{take_more}
 use Rattle.net_routes.specs.declared.arc.Arc.{Arc}
 use Rattle.net_routes.specs.declared.cost.Cost.{Cost}
 use Rattle.net_routes.specs.declared.search.Entry.{Entry}
-use Rattle.net_routes.specs.Cost.{and_then, IsAsGood}
+use Rattle.net_routes.specs.Cost.{IsAsGood}
 use Rattle.net_routes.specs.Path.{then_arc}
 use Rattle.net_routes.specs.Search.{entry_order, AddsArcs}
 use Rattle.net_routes.proofs.SearchLemmas.{adds_passed, adds_pushed, known_from, less_known}

@@ -1,4 +1,4 @@
-use Rattle.std.proofs.Common.{◌≡◌, List, [], ◌∷◌, length, get_or, set, replicate, Option, Some, ◌∙◌, ap, sym, refl, subst, arith, rules, length-set}
+use Rattle.std.proofs.Common.{◌≡◌, List, [], ◌∷◌, length, get_or, set, replicate, Option, Some, ◌∙◌, ap, sym, refl, subst, arith, rules}
 use Rattle.std.specs.Prelude.{is_some, count_by, IsPermutation}
 use Rattle.std.specs.BinaryHeap.{heap_items}
 use Rattle.std.proofs.lemmas.List.{get_or_read}

@@ -1,5 +1,4 @@
-use Rattle.std.proofs.Common.{◌≡◌, ℕ, ◌+◌, length, get_or, Option, sym, subst, arith}
-use Rattle.std.proofs.lemmas.List.Elements.{Contains-get_or}
+use Rattle.std.proofs.Common.{◌≡◌, ℕ, ◌+◌, length, Option, sym, subst, arith}
 use Rattle.net_routes.specs.Least.{IsLeastIf, IsNeededTo}
 use Rattle.net_routes.proofs.StopLemmas.{to_none, to_more}
 use Rattle.net_routes.proofs.table.Routes.least_from_stop.Goals as goal
