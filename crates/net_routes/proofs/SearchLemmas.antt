@@ -1,6 +1,6 @@
 -- how a search goes on
 use Rattle.std.proofs.Common.{◌≡◌, ℕ, zero, suc, ◌+◌, ◌*◌, ◌/◌, ◌<◌, ◌≤◌, true, false, cond, List, [], ◌∷◌, ◌++◌, length, get_or, set, fold, Option, Some, None, refl, sym, ap, ◌∙◌, subst, inl, inr, ⊎_elim, arith, length-set, replicate, take, drop, append-nil, length-drop}
-use Rattle.std.specs.Prelude.{Contains, All, IfSome, IsSomeAnd, is_some, count_by, ◌⊎◌}
+use Rattle.std.specs.Prelude.{Contains, All, IfSome, IsSome, IsSomeAnd, is_some, count_by, ◌⊎◌}
 use Rattle.std.specs.List.Sorted.{IsPermutation}
 use Rattle.std.proofs.lemmas.List.{nil_from_length, take_all, get_or-set_same, get_or-set_other, get_or_past, get_or-replicate, length-replicate}
 use Rattle.std.proofs.lemmas.List.Sorted.{Contains-permutation, IsPermutation-sym}
@@ -15,54 +15,61 @@ use Rattle.net_routes.specs.declared.arc.Arc.{Arc}
 use Rattle.net_routes.specs.declared.search.Entry.{Entry}
 use Rattle.net_routes.specs.Cost.{nothing, IsAsGood}
 use Rattle.net_routes.specs.Path.{Leaves, Leads, then_arc, HasPath, IsArc, AreArcs, IsBest}
-use Rattle.net_routes.specs.Search.{cost_at, entry_order, IsSettled, IsReached, IsKnown, IsSearch, AddsArcs, IsFirst, IsNext}
+use Rattle.net_routes.specs.Search.{entry_order, IsSettled, IsReached, IsKnown, IsWaiting, IsMade, IsSearch, AddsArcs, IsFirst, IsNext}
 use Rattle.net_routes.proofs.ListLemmas.{contains_cons, contains_head, contains_cases, some_same}
-use Rattle.net_routes.proofs.CostLemmas.{good_refl, good_trans, good_extend, good_before, path_more}
+use Rattle.net_routes.proofs.CostLemmas.{good_refl, good_trans, good_extend, path_more}
 
 -- the same entries in another order
+waiting_moved : (old new : List Entry) (v t : ℕ) → ((e : Entry) → Contains old e → Contains new e) → IsWaiting old v t → IsWaiting new v t
+waiting_moved old new v t kept w = (w.0, kept w.0 w.1, w.2, w.3)
+
 reached_moved : (best : List (Option Cost)) (old new : List Entry) (v : ℕ) (c : Cost) → IsPermutation old new → IsReached best old v c → IsReached best new v c
 reached_moved best old new v c p (inl s) = inl s
-reached_moved best old new v c p (inr w) = inr (w.0, Contains-permutation old new w.0 p w.1, w.2, w.3)
+reached_moved best old new v c p (inr w) = inr (w.0, waiting_moved old new v c.latency (λ e h. Contains-permutation old new e p h) w.1)
 
 pub search_moved : (rows : List (List Arc)) (start : ℕ) (best known : List (Option Cost)) (old new : List Entry) → IsPermutation old new → IsPermutation new old → IsSearch rows start best known old → IsSearch rows start best known new
 search_moved rows start best known old new p q s = record {
   size = s.size;
   room = s.room;
   settled = s.settled;
+  had = s.had;
   waits = λ e h. s.waits e (Contains-permutation new old e q h);
   ordered = λ v c e t h. s.ordered v c e t (Contains-permutation new old e q h);
   seen = λ v c t. reached_moved best old new v c p (s.seen v c t);
-  closed = λ u c x t l. reached_moved best old new x.to (then_arc c x) p (s.closed u c x t l);
-  source = reached_moved best old new start nothing p s.source;
-  bounded = λ e h. s.bounded e (Contains-permutation new old e q h);
+  closed = s.closed;
+  source = s.source;
+  bounded = s.bounded;
 }
 
+not_none : (best : List (Option Cost)) (p v : ℕ) (d : Cost) → IsSettled best p d → p ≡ v → get_or best v None ≡ None → ⊥
+not_none best p v d t same none =
+    let P : ℕ → Type 0 = λ q. get_or best q None ≡ Some d in
+    let there : get_or best v None ≡ Some d = subst P same t in
+    let never : ⊥ = cc in
+    never
+
 -- an entry of a place that was left is passed over
-passed : (best : List (Option Cost)) (e : Entry) (rest : List Entry) (d : Cost) (v : ℕ) (c : Cost) → IsSettled best e.place d → IsAsGood d (cost_at e) → IsReached best (e ∷ rest) v c → IsReached best rest v c
-passed best e rest d v c t g (inl s) = inl s
-passed best e rest d v c t g (inr w) =
+passed : (best : List (Option Cost)) (e : Entry) (rest : List Entry) (d : Cost) (v : ℕ) (c : Cost) → IsSettled best e.place d → IsReached best (e ∷ rest) v c → IsReached best rest v c
+passed best e rest d v c t (inl s) = inl s
+passed best e rest d v c t (inr w) =
     ⊎_elim
-    (λ (is : e ≡ w.0).
-    let there : IsSettled best v d = let P : ℕ → Type 0 = λ p. IsSettled best p d in subst P (ap (λ (o : Entry). o.place) is ∙ w.2) t in
-    let P : Entry → Type 0 = λ o. IsAsGood (cost_at o) c in
-    inl (d, there, good_trans d (cost_at e) c g (subst P (sym is) w.3)))
-    (λ (there : Contains rest w.0). inr (w.0, there, w.2, w.3))
-    (contains_cases e rest w.0 w.1)
+    (λ (is : e ≡ w.1.0). absurd (not_none best e.place v d t (ap (λ (o : Entry). o.place) is ∙ w.1.2) w.0))
+    (λ (there : Contains rest w.1.0). inr (w.0, (w.1.0, there, w.1.2, w.1.3)))
+    (contains_cases e rest w.1.0 w.1.1)
 
 pub search_passed : (rows : List (List Arc)) (start : ℕ) (best known : List (Option Cost)) (e : Entry) (rest : List Entry) (d : Cost) → IsSettled best e.place d → IsSearch rows start best known (e ∷ rest) → IsSearch rows start best known rest
-search_passed rows start best known e rest d t s =
-    let g = s.ordered e.place d e t (contains_head e rest) in
-    record {
-      size = s.size;
-      room = s.room;
-      settled = s.settled;
-      waits = λ o h. s.waits o (contains_cons e rest o h);
-      ordered = λ v c o u h. s.ordered v c o u (contains_cons e rest o h);
-      seen = λ v c u. passed best e rest d v c t g (s.seen v c u);
-      closed = λ u c x w l. passed best e rest d x.to (then_arc c x) t g (s.closed u c x w l);
-      source = passed best e rest d start nothing t g s.source;
-      bounded = λ o h. s.bounded o (contains_cons e rest o h);
-    }
+search_passed rows start best known e rest d t s = record {
+  size = s.size;
+  room = s.room;
+  settled = s.settled;
+  had = s.had;
+  waits = λ o h. s.waits o (contains_cons e rest o h);
+  ordered = λ v c o u h. s.ordered v c o u (contains_cons e rest o h);
+  seen = λ v c u. passed best e rest d v c t (s.seen v c u);
+  closed = s.closed;
+  source = s.source;
+  bounded = s.bounded;
+}
 
 -- LEAVING A PLACE
 
@@ -90,38 +97,57 @@ settled_still best v c u d open_ t =
     (λ (other : u ≡ v → ⊥). get_or-set_other best v u (Some c) None other ∙ t)
     (cases_eq u v)
 
--- what was reached is still reached
-reached_still : (best : List (Option Cost)) (e : Entry) (rest new : List Entry) (v : ℕ) (c : Cost)
-    → get_or best e.place None ≡ None → e.place < length best → ((o : Entry) → Contains rest o → Contains new o)
-    → IsReached best (e ∷ rest) v c → IsReached (set best e.place (Some (cost_at e))) new v c
-reached_still best e rest new v c none lt kept (inl s) = inl (s.0, settled_still best e.place (cost_at e) v s.0 none s.1, s.2)
-reached_still best e rest new v c none lt kept (inr w) =
-    ⊎_elim
-    (λ (is : e ≡ w.0).
-    let here : e.place ≡ v = ap (λ (o : Entry). o.place) is ∙ w.2 in
-    let P : ℕ → Type 0 = λ p. IsSettled (set best e.place (Some (cost_at e))) p (cost_at e) in
-    let Q : Entry → Type 0 = λ o. IsAsGood (cost_at o) c in
-    inl (cost_at e, subst P here (settled_now best e.place (cost_at e) lt), subst Q (sym is) w.3))
-    (λ (there : Contains rest w.0). inr (w.0, kept w.0 there, w.2, w.3))
-    (contains_cases e rest w.0 w.1)
-
 good_same : (c d : Cost) → c ≡ d → IsAsGood c d
 good_same c d is = let P : Cost → Type 0 = λ k. IsAsGood c k in subst P is (good_refl c)
 
--- and so is all that is no better
-reached_less : (best : List (Option Cost)) (waiting : List Entry) (v : ℕ) (c d : Cost) → IsAsGood c d → IsReached best waiting v c → IsReached best waiting v d
-reached_less best waiting v c d g (inl s) = inl (s.0, s.1, good_trans s.0 c d s.2 g)
-reached_less best waiting v c d g (inr w) = inr (w.0, w.1, w.2, good_trans (cost_at w.0) c d w.3 g)
+good_time : (c d : Cost) → IsAsGood c d → c.latency ≤ d.latency
+good_time c d (inl p) = omega (arith, p)
+good_time c d (inr p) = omega (arith, p.0)
 
--- what is known is reached, once the cheapest place is left
-seen_reached : (rows : List (List Arc)) (start : ℕ) (best known after : List (Option Cost)) (e : Entry) (rest new : List Entry) (arcs : List Arc) (v : ℕ) (c : Cost)
-    → get_or best e.place None ≡ None → e.place < length best → AddsArcs (cost_at e) arcs known after rest new
-    → IsSearch rows start best known (e ∷ rest) → get_or after v None ≡ Some c → IsReached (set best e.place (Some (cost_at e))) new v c
-seen_reached rows start best known after e rest new arcs v c none lt adds s t =
+-- the cheapest place waits no longer than its known cost
+pub time_known : (rows : List (List Arc)) (start : ℕ) (best known : List (Option Cost)) (e : Entry) (rest : List Entry) (c : Cost)
+    → get_or best e.place None ≡ None → IsFirst e rest → get_or known e.place None ≡ Some c → IsSearch rows start best known (e ∷ rest) → (c.latency ≤ e.latency.0) × (e.latency.0 ≤ c.latency)
+time_known rows start best known e rest c none first is s =
+    let w = s.waits e (contains_head e rest) in
+    let same : w.1 ≡ c = some_same w.1 c (sym w.2 ∙ is) in (
+      omega (arith, w.3, ap (λ (k : Cost). k.latency) same),
+      ⊎_elim
+          (λ (t : (d : Cost) × IsSettled best e.place d × IsAsGood d c). absurd (not_none best e.place e.place t.0 t.1 refl none))
+          (λ (t : (get_or best e.place None ≡ None) × IsWaiting (e ∷ rest) e.place c.latency).
+          ⊎_elim
+          (λ (here : e ≡ t.1.0). omega (arith, ap (λ (o : Entry). o.latency.0) here, t.1.3))
+          (λ (there : Contains rest t.1.0). omega (arith, first t.1.0 there, t.1.3))
+          (contains_cases e rest t.1.0 t.1.1))
+          (s.seen e.place c is),
+    )
+
+-- what was known is still reached
+reached_still : (rows : List (List Arc)) (start : ℕ) (best known : List (Option Cost)) (e : Entry) (rest new : List Entry) (c : Cost) (v : ℕ) (k : Cost)
+    → get_or best e.place None ≡ None → e.place < length best → get_or known e.place None ≡ Some c → ((o : Entry) → Contains rest o → Contains new o)
+    → get_or known v None ≡ Some k → IsReached best (e ∷ rest) v k → IsReached (set best e.place (Some c)) new v k
+reached_still rows start best known e rest new c v k none lt is kept t (inl s) = inl (s.0, settled_still best e.place c v s.0 none s.1, s.2)
+reached_still rows start best known e rest new c v k none lt is kept t (inr w) =
     ⊎_elim
-    (λ (was : get_or known v None ≡ Some c). reached_still best e rest new v c none lt adds.kept (s.seen v c was))
-    (λ (w : (o : Entry) × Contains new o × (o.place ≡ v) × (cost_at o ≡ c)). inr (w.0, w.1, w.2, good_same (cost_at w.0) c w.3))
-    (adds.from v c t)
+    (λ (same : v ≡ e.place).
+    let P : ℕ → Type 0 = λ p. get_or known p None ≡ Some k in
+    let Q : ℕ → Type 0 = λ p. IsSettled (set best e.place (Some c)) p c in
+    inl (c, subst Q (sym same) (settled_now best e.place c lt), good_same c k (some_same c k (sym is ∙ subst P same t))))
+    (λ (other : v ≡ e.place → ⊥).
+    ⊎_elim
+    (λ (here : e ≡ w.1.0). absurd (other (sym w.1.2 ∙ ap (λ (o : Entry). o.place) (sym here))))
+    (λ (there : Contains rest w.1.0). inr (get_or-set_other best e.place v (Some c) None other ∙ w.0, (w.1.0, kept w.1.0 there, w.1.2, w.1.3)))
+    (contains_cases e rest w.1.0 w.1.1))
+    (cases_eq v e.place)
+
+-- and so is a place to which an arc leads now
+reached_made : (best : List (Option Cost)) (new : List Entry) (v : ℕ) (k : Cost) (o : Option Cost) → get_or best v None ≡ o → ((d : Cost) → IsSettled best v d → d.latency < k.latency) → IsWaiting new v k.latency → IsReached best new v k
+reached_made best new v k (Some d) is less w = inl (d, is, inl (less d is))
+reached_made best new v k None is less w = inr (is, w)
+
+known_still : (c : Cost) (arcs : List Arc) (known seen : List (Option Cost)) (old new : List Entry) (v : ℕ) (k : Cost) → AddsArcs c arcs known seen old new → IsKnown known v k → IsKnown seen v k
+known_still c arcs known seen old new v k a w =
+    let t = a.lower v w.0 w.1 in
+    (t.0, t.1, good_trans t.0 w.0 k t.2 w.2)
 
 count_more : (best : List (Option Cost)) (v : ℕ) (c : Cost) → v < length best → get_or best v None ≡ None → count_by is_some (set best v (Some c)) ≡ count_by is_some best + 1
 count_more best v c lt none =
@@ -133,93 +159,112 @@ part_less : (r p : ℕ) → p ≤ 1000000000 → r * p / 1000000000 ≤ r
 part_less r p h = let le : r * p ≤ r * 1000000000 = mul-le-mul_left r h in omega arith
 
 -- everything that a search knows, once the cheapest place is left
-pub search_left : (rows : List (List Arc)) (start : ℕ) (best known after : List (Option Cost)) (e : Entry) (rest new : List Entry)
-    → AreArcs rows → get_or best e.place None ≡ None → IsFirst e rest
-    → AddsArcs (cost_at e) (get_or rows e.place []) known after rest new
-    → IsSearch rows start best known (e ∷ rest) → IsSearch rows start (set best e.place (Some (cost_at e))) after new
-search_left rows start best known after e rest new are none first adds s =
-    let b : List (Option Cost) = set best e.place (Some (cost_at e)) in
+pub search_left : (rows : List (List Arc)) (start : ℕ) (best known after : List (Option Cost)) (e : Entry) (rest new : List Entry) (c : Cost)
+    → AreArcs rows → get_or best e.place None ≡ None → IsFirst e rest → get_or known e.place None ≡ Some c
+    → AddsArcs c (get_or rows e.place []) known after rest new
+    → IsSearch rows start best known (e ∷ rest) → IsSearch rows start (set best e.place (Some c)) after new
+search_left rows start best known after e rest new c are none first is adds s =
+    let b : List (Option Cost) = set best e.place (Some c) in
+    let arcs : List Arc = get_or rows e.place [] in
     let head : Contains (e ∷ rest) e = contains_head e rest in
     let lt : e.place < length best = omega (arith, s.size, (s.waits e head).0) in
-    let arc_good : (x : Arc) → Leaves rows e.place x → IsAsGood (cost_at e) (then_arc (cost_at e) x) = λ x l. good_before (cost_at e) x (are e.place x l).step.some in
+    let time = time_known rows start best known e rest c none first is s in
+    let arc_time : (x : Arc) → Leaves rows e.place x → c.latency < (then_arc c x).latency = λ x l. omega (arith, (are e.place x l).step.some) in
+    let before : (v : ℕ) (d : Cost) → IsSettled b v d → d.latency ≤ c.latency = λ v d t. ⊎_elim
+    (λ (now : (v ≡ e.place) × (c ≡ d)). omega (arith, ap (λ (k : Cost). k.latency) now.1))
+    (λ (old : IsSettled best v d). omega (arith, s.ordered v d e old head, time.1))
+    (settled_cases best e.place c v d lt t) in
     record {
-      size = length-set best e.place (Some (cost_at e)) ∙ s.size;
+      size = length-set best e.place (Some c) ∙ s.size;
       room = adds.size ∙ s.room;
-      settled = λ v c t. ⊎_elim
-          (λ (now : (v ≡ e.place) × (cost_at e ≡ c)).
-          let P : ℕ → Type 0 = λ p. HasPath rows start p c in
-          let Q : Cost → Type 0 = λ k. HasPath rows start e.place k in
-          subst P (sym now.0) (subst Q now.1 (s.waits e head).1))
-          (λ (old : IsSettled best v c). s.settled v c old)
-          (settled_cases best e.place (cost_at e) v c lt t);
+      settled = λ v k t. ⊎_elim
+          (λ (now : (v ≡ e.place) × (c ≡ k)).
+          let P : ℕ → Type 0 = λ p. HasPath rows start p k in
+          let Q : Cost → Type 0 = λ q. HasPath rows start e.place q in
+          subst P (sym now.0) (subst Q now.1 (s.had e.place c is)))
+          (λ (old : IsSettled best v k). s.settled v k old)
+          (settled_cases best e.place c v k lt t);
+      had = λ v k t. ⊎_elim
+          (λ (was : get_or known v None ≡ Some k). s.had v k was)
+          (λ (m : IsMade c arcs new v k).
+          let P : ℕ → Type 0 = λ p. HasPath rows start p k in
+          let Q : Cost → Type 0 = λ q. HasPath rows start m.arc.to q in
+          subst P m.ends (subst Q m.costs (path_more rows start e.place c m.arc (s.had e.place c is) m.leaves)))
+          (adds.from v k t);
       waits = λ o h. ⊎_elim
-          (λ (old : Contains rest o). s.waits o (contains_cons e rest o old))
-          (λ (w : (x : Arc) × Contains (get_or rows e.place []) x × (o.place ≡ x.to) × (cost_at o ≡ then_arc (cost_at e) x)).
-          let P : ℕ → Type 0 = λ p. (p < length rows) × HasPath rows start p (cost_at o) in
-          let Q : Cost → Type 0 = λ k. HasPath rows start w.0.to k in
-          subst P (sym w.2) ((are e.place w.0 w.1).ends, subst Q (sym w.3) (path_more rows start e.place (cost_at e) w.0 (s.waits e head).1 w.1)))
-          (adds.only o h);
-      ordered = λ v c o t h. ⊎_elim
-          (λ (now : (v ≡ e.place) × (cost_at e ≡ c)).
-          let P : Cost → Type 0 = λ k. IsAsGood k (cost_at o) in
-          subst P now.1 (⊎_elim
-          (λ (old : Contains rest o). first o old)
-          (λ (w : (x : Arc) × Contains (get_or rows e.place []) x × (o.place ≡ x.to) × (cost_at o ≡ then_arc (cost_at e) x)).
-          let Q : Cost → Type 0 = λ k. IsAsGood (cost_at e) k in subst Q (sym w.3) (arc_good w.0 w.1))
-          (adds.only o h)))
-          (λ (was : IsSettled best v c). ⊎_elim
-          (λ (old : Contains rest o). s.ordered v c o was (contains_cons e rest o old))
-          (λ (w : (x : Arc) × Contains (get_or rows e.place []) x × (o.place ≡ x.to) × (cost_at o ≡ then_arc (cost_at e) x)).
-          let Q : Cost → Type 0 = λ k. IsAsGood c k in
-          subst Q (sym w.3) (good_trans c (cost_at e) (then_arc (cost_at e) w.0) (s.ordered v c e was head) (arc_good w.0 w.1)))
-          (adds.only o h))
-          (settled_cases best e.place (cost_at e) v c lt t);
-      seen = λ v c t. seen_reached rows start best known after e rest new (get_or rows e.place []) v c none lt adds s t;
-      closed = λ u c x t l. ⊎_elim
-          (λ (now : (u ≡ e.place) × (cost_at e ≡ c)).
-          let P : Cost → Type 0 = λ k. IsReached b new x.to (then_arc k x) in
-          let there : Leaves rows e.place x = (let L : ℕ → Type 0 = λ p. Leaves rows p x in subst L now.0 l) in
-          let k = adds.added x there in
-          subst P now.1 (reached_less b new x.to k.0 (then_arc (cost_at e) x) k.2 (seen_reached rows start best known after e rest new (get_or rows e.place []) x.to k.0 none lt adds s k.1)))
-          (λ (was : IsSettled best u c). reached_still best e rest new x.to (then_arc c x) none lt adds.kept (s.closed u c x was l))
-          (settled_cases best e.place (cost_at e) u c lt t);
-      source = reached_still best e rest new start nothing none lt adds.kept s.source;
-      bounded = λ o h. ⊎_elim
           (λ (old : Contains rest o).
-          let was = s.bounded o (contains_cons e rest o old) in
-          (omega (arith, was.0, count_more best e.place (cost_at e) lt none), was.1))
-          (λ (w : (x : Arc) × Contains (get_or rows e.place []) x × (o.place ≡ x.to) × (cost_at o ≡ then_arc (cost_at e) x)).
-          let was = s.bounded e head in
-          let x = are e.place w.0 w.1 in
-          let latency : o.latency.0 ≡ e.latency.0 + w.0.cost.latency = ap (λ (k : Cost). k.latency) w.3 in
-          let reliability : o.reliability ≡ e.reliability * w.0.cost.reliability / 1000000000 = ap (λ (k : Cost). k.reliability) w.3 in
-          (omega (arith, was.0, latency, x.step.within, count_more best e.place (cost_at e) lt none), omega (arith, reliability, was.1, part_less e.reliability w.0.cost.reliability x.step.part)))
+          let w = s.waits o (contains_cons e rest o old) in
+          let k = adds.lower o.place w.1 w.2 in
+          (w.0, k.0, k.1, omega (arith, good_time k.0 w.1 k.2, w.3)))
+          (λ (w : (x : Arc) × Contains arcs x × (o.place ≡ x.to) × (o.latency.0 ≡ (then_arc c x).latency)).
+          let k = adds.added w.0 w.1 in
+          let P : ℕ → Type 0 = λ p. (p < length rows) × (d : Cost) × (get_or after p None ≡ Some d) × (d.latency ≤ o.latency.0) in
+          subst P (sym w.2) ((are e.place w.0 w.1).ends, k.0, k.1, omega (arith, good_time k.0 (then_arc c w.0) k.2, w.3)))
           (adds.only o h);
+      ordered = λ v k o t h. ⊎_elim
+          (λ (old : Contains rest o). omega (arith, before v k t, time.0, first o old))
+          (λ (w : (x : Arc) × Contains arcs x × (o.place ≡ x.to) × (o.latency.0 ≡ (then_arc c x).latency)). omega (arith, before v k t, arc_time w.0 w.1, w.3))
+          (adds.only o h);
+      seen = λ v k t. ⊎_elim
+          (λ (was : get_or known v None ≡ Some k). reached_still rows start best known e rest new c v k none lt is adds.kept was (s.seen v k was))
+          (λ (m : IsMade c arcs new v k).
+          let more : c.latency < k.latency = omega (arith, arc_time m.arc m.leaves, ap (λ (q : Cost). q.latency) m.costs) in
+          reached_made b new v k (get_or b v None) refl (λ d u. omega (arith, before v d u, more)) m.waits)
+          (adds.from v k t);
+      closed = λ u k x t l. ⊎_elim
+          (λ (now : (u ≡ e.place) × (c ≡ k)).
+          let P : Cost → Type 0 = λ q. IsKnown after x.to (then_arc q x) in
+          let there : Leaves rows e.place x = (let L : ℕ → Type 0 = λ p. Leaves rows p x in subst L now.0 l) in
+          subst P now.1 (adds.added x there))
+          (λ (was : IsSettled best u k). known_still c arcs known after rest new x.to (then_arc k x) adds (s.closed u k x was l))
+          (settled_cases best e.place c u k lt t);
+      source = known_still c arcs known after rest new start nothing adds s.source;
+      bounded = λ v k t. ⊎_elim
+          (λ (old : get_or known v None ≡ Some k).
+          let was = s.bounded v k old in
+          (omega (arith, was.0, count_more best e.place c lt none), was.1))
+          (λ (m : IsMade c arcs new v k).
+          let was = s.bounded e.place c is in
+          let x = are e.place m.arc m.leaves in
+          let latency : c.latency + m.arc.cost.latency ≡ k.latency = ap (λ (q : Cost). q.latency) m.costs in
+          let reliability : c.reliability * m.arc.cost.reliability / 1000000000 ≡ k.reliability = ap (λ (q : Cost). q.reliability) m.costs in
+          (omega (arith, was.0, latency, x.step.within, count_more best e.place c lt none), omega (arith, reliability, was.1, part_less c.reliability m.arc.cost.reliability x.step.part)))
+          (adds.from v k t);
     }
 
 -- THE END
 
--- nothing waits that is cheaper than what was left
-abbrev pub IsDone : List (Option Cost) → List Entry → Type 0
-IsDone best waiting = (v : ℕ) (c : Cost) → IsReached best waiting v c → (d : Cost) × IsSettled best v d × IsAsGood d c
+-- what is known was left as cheaply
+abbrev pub IsDone : List (Option Cost) → List (Option Cost) → Type 0
+IsDone best known = (v : ℕ) (c : Cost) → get_or known v None ≡ Some c → (d : Cost) × IsSettled best v d × IsAsGood d c
 
-walk_done : (rows : List (List Arc)) (start : ℕ) (best known : List (Option Cost)) (waiting : List Entry) → IsSearch rows start best known waiting → IsDone best waiting
+known_done : (best known : List (Option Cost)) (v : ℕ) (c : Cost) → IsDone best known → IsKnown known v c → (d : Cost) × IsSettled best v d × IsAsGood d c
+known_done best known v c done w =
+    let t = done v w.0 w.1 in
+    (t.0, t.1, good_trans t.0 w.0 c t.2 w.2)
+
+walk_done : (rows : List (List Arc)) (start : ℕ) (best known : List (Option Cost)) (waiting : List Entry) → IsSearch rows start best known waiting → IsDone best known
     → (u v : ℕ) (path : List Arc) (c d : Cost) → IsSettled best u d → IsAsGood d c → Leads rows u v path → (k : Cost) × IsSettled best v k × IsAsGood k (fold then_arc c path)
 walk_done rows start best known waiting s done u v [] c d t g leads = (d, (let P : ℕ → Type 0 = λ p. IsSettled best p d in subst P leads t), g)
 walk_done rows start best known waiting s done u v (x ∷ path) c d t g leads =
-    let next = done x.to (then_arc d x) (s.closed u d x t leads.0) in
+    let next = known_done best known x.to (then_arc d x) done (s.closed u d x t leads.0) in
     walk_done rows start best known waiting s done x.to v path (then_arc c x) next.0 next.1 (good_trans next.0 (then_arc d x) (then_arc c x) next.2 (good_extend d c x g)) leads.1
 
-pub search_done : (rows : List (List Arc)) (start : ℕ) (best known : List (Option Cost)) (waiting : List Entry) → IsSearch rows start best known waiting → IsDone best waiting
+pub search_done : (rows : List (List Arc)) (start : ℕ) (best known : List (Option Cost)) (waiting : List Entry) → IsSearch rows start best known waiting → IsDone best known
     → (v : ℕ) (c : Cost) → HasPath rows start v c → (d : Cost) × IsSettled best v d × IsAsGood d c
 search_done rows start best known waiting s done v c p =
-    let first = done start nothing s.source in
+    let first = known_done best known start nothing done s.source in
     let end_ = walk_done rows start best known waiting s done start v p.path nothing first.0 first.1 first.2 p.leads in
     (end_.0, end_.1, (let P : Cost → Type 0 = λ k. IsAsGood end_.0 k in subst P p.costs end_.2))
 
-pub done_empty : (best : List (Option Cost)) → IsDone best []
-done_empty best v c (inl s) = s
-done_empty best v c (inr w) = absurd (omega (arith, w.1.1))
+nobody_waits : (v t : ℕ) → IsWaiting [] v t → ⊥
+nobody_waits v t w = omega (arith, w.1.1)
+
+pub done_empty : (rows : List (List Arc)) (start : ℕ) (best known : List (Option Cost)) → IsSearch rows start best known [] → IsDone best known
+done_empty rows start best known s v c t = ⊎_elim
+    (λ (left : (d : Cost) × IsSettled best v d × IsAsGood d c). left)
+    (λ (w : (get_or best v None ≡ None) × IsWaiting [] v c.latency). absurd (nobody_waits v c.latency w.1))
+    (s.seen v c t)
 
 settled_or : (best : List (Option Cost)) (v : ℕ) (o : Option Cost) → o ≡ get_or best v None → length best ≤ count_by is_some best → v < length best → (d : Cost) × IsSettled best v d
 settled_or best v (Some d) e full lt = (d, sym e)
@@ -229,28 +274,23 @@ settled_or best v None e full lt =
 all_settled : (best : List (Option Cost)) (v : ℕ) → length best ≤ count_by is_some best → v < length best → (d : Cost) × IsSettled best v d
 all_settled best v full lt = settled_or best v (get_or best v None) refl full lt
 
-pub done_full : (rows : List (List Arc)) (start : ℕ) (best known : List (Option Cost)) (waiting : List Entry) → IsSearch rows start best known waiting → length best ≤ count_by is_some best → IsDone best waiting
-done_full rows start best known waiting s full v c (inl t) = t
-done_full rows start best known waiting s full v c (inr w) =
-    let lt : w.0.place < length best = omega (arith, s.size, (s.waits w.0 w.1).0) in
-    let t = all_settled best w.0.place full lt in
-    let P : ℕ → Type 0 = λ p. IsSettled best p t.0 in
-    (t.0, subst P w.2 t.1, good_trans t.0 (cost_at w.0) c (s.ordered w.0.place t.0 w.0 t.1 w.1) w.3)
+pub done_full : (rows : List (List Arc)) (start : ℕ) (best known : List (Option Cost)) (waiting : List Entry) → IsSearch rows start best known waiting → length best ≤ count_by is_some best → IsDone best known
+done_full rows start best known waiting s full v c t = ⊎_elim
+    (λ (left : (d : Cost) × IsSettled best v d × IsAsGood d c). left)
+    (λ (w : (get_or best v None ≡ None) × IsWaiting waiting v c.latency).
+    let o = w.1.0 in
+    let lt : o.place < length best = omega (arith, s.size, (s.waits o w.1.1).0) in
+    let u = all_settled best o.place full lt in
+    absurd (not_none best o.place v u.0 u.1 w.1.2 w.0))
+    (s.seen v c t)
 
 -- WHAT WAITS
 
-greatest_good : (e o : Entry) → lt_by_cmp entry_order e o ≡ false → IsAsGood (cost_at e) (cost_at o)
-greatest_good e o h =
-    ⊎_elim
-    (λ (lt : e.latency.0 < o.latency.0). inl lt)
-    (λ (ge : o.latency.0 ≤ e.latency.0).
-    let same : e.latency.0 ≡ o.latency.0 = grind (arith, nat_tests, h) in
-    let more : o.reliability ≤ e.reliability = grind (arith, nat_tests, h, same) in
-    inr (same, more))
-    (cases_lt e.latency.0 o.latency.0)
+greatest_soon : (e o : Entry) → lt_by_cmp entry_order e o ≡ false → e.latency.0 ≤ o.latency.0
+greatest_soon e o h = grind (arith, nat_tests, h)
 
 pub first_of : (e : Entry) (others : List Entry) → IsUpperBound entry_order e others → IsFirst e others
-first_of e others h = λ o there. greatest_good e o (All-contains (λ (y : Entry). lt_by_cmp entry_order e y ≡ false) others o (All-from_recursion (λ (y : Entry). lt_by_cmp entry_order e y ≡ false) others h) there)
+first_of e others h = λ o there. greatest_soon e o (All-contains (λ (y : Entry). lt_by_cmp entry_order e y ≡ false) others o (All-from_recursion (λ (y : Entry). lt_by_cmp entry_order e y ≡ false) others h) there)
 
 pub adds_none : (c : Cost) (known : List (Option Cost)) (waiting : List Entry) → AddsArcs c [] known known waiting waiting
 adds_none c known waiting = record {
@@ -262,6 +302,15 @@ adds_none c known waiting = record {
   only = λ e h. inl h;
 }
 
+made_more : (c : Cost) (arcs : List Arc) (x : Arc) (old new : List Entry) (v : ℕ) (d : Cost) → ((e : Entry) → Contains old e → Contains new e) → IsMade c arcs old v d → IsMade c (arcs ++ x ∷ []) new v d
+made_more c arcs x old new v d kept m = record {
+  arc = m.arc;
+  leaves = Contains-append_left arcs (x ∷ []) m.arc m.leaves;
+  ends = m.ends;
+  costs = m.costs;
+  waits = waiting_moved old new v d.latency kept m.waits;
+}
+
 pub adds_passed : (c : Cost) (arcs : List Arc) (x : Arc) (known seen : List (Option Cost)) (old new : List Entry) → IsKnown seen x.to (then_arc c x) → AddsArcs c arcs known seen old new → AddsArcs c (arcs ++ x ∷ []) known seen old new
 adds_passed c arcs x known seen old new t a = record {
   size = a.size;
@@ -271,10 +320,13 @@ adds_passed c arcs x known seen old new t a = record {
       (λ (now : x ≡ y). let P : Arc → Type 0 = λ z. IsKnown seen z.to (then_arc c z) in subst P now t)
       (Contains-push_cases arcs x y h);
   lower = a.lower;
-  from = a.from;
+  from = λ v d u. ⊎_elim
+      (λ (was : get_or known v None ≡ Some d). inl was)
+      (λ (m : IsMade c arcs new v d). inr (made_more c arcs x new new v d (λ e h. h) m))
+      (a.from v d u);
   only = λ e h. ⊎_elim
       (λ (was : Contains old e). inl was)
-      (λ (w : (y : Arc) × Contains arcs y × (e.place ≡ y.to) × (cost_at e ≡ then_arc c y)). inr (w.0, Contains-append_left arcs (x ∷ []) w.0 w.1, w.2, w.3))
+      (λ (w : (y : Arc) × Contains arcs y × (e.place ≡ y.to) × (e.latency.0 ≡ (then_arc c y).latency)). inr (w.0, Contains-append_left arcs (x ∷ []) w.0 w.1, w.2, w.3))
       (a.only e h);
 }
 
@@ -297,12 +349,13 @@ known_more seen p d v k lt less w =
     (cases_eq v p)
 
 pub adds_pushed : (c : Cost) (arcs : List Arc) (x : Arc) (d : Cost) (o : Entry) (known seen : List (Option Cost)) (old mid new : List Entry)
-    → x.to < length seen → o.place ≡ x.to → cost_at o ≡ d → d ≡ then_arc c x → ((j : Cost) → get_or seen x.to None ≡ Some j → IsAsGood d j) → IsPermutation (o ∷ mid) new
+    → x.to < length seen → o.place ≡ x.to → o.latency.0 ≡ d.latency → d ≡ then_arc c x → ((j : Cost) → get_or seen x.to None ≡ Some j → IsAsGood d j) → IsPermutation (o ∷ mid) new
     → AddsArcs c arcs known seen old mid → AddsArcs c (arcs ++ x ∷ []) known (set seen x.to (Some d)) old new
-adds_pushed c arcs x d o known seen old mid new lt place cost same less p a =
+adds_pushed c arcs x d o known seen old mid new lt place time same less p a =
     let here : Contains new o = Contains-permutation (o ∷ mid) new o p (contains_head o mid) in
     let q = IsPermutation-sym (o ∷ mid) new p in
     let still : (e : Entry) → Contains mid e → Contains new e = λ e h. Contains-permutation (o ∷ mid) new e p (contains_cons o mid e h) in
+    let costs : o.latency.0 ≡ (then_arc c x).latency = time ∙ ap (λ (k : Cost). k.latency) same in
     record {
       size = length-set seen x.to (Some d) ∙ a.size;
       kept = λ e h. still e (a.kept e h);
@@ -314,17 +367,23 @@ adds_pushed c arcs x d o known seen old mid new lt place cost same less p a =
           (Contains-push_cases arcs x y h);
       lower = λ v k t. known_more seen x.to d v k lt less (a.lower v k t);
       from = λ v k t. ⊎_elim
-          (λ (now : (v ≡ x.to) × (d ≡ k)). inr (o, here, place ∙ sym now.0, cost ∙ now.1))
+          (λ (now : (v ≡ x.to) × (d ≡ k)). inr (record {
+            arc = x;
+            leaves = Contains-push arcs x;
+            ends = sym now.0;
+            costs = sym same ∙ now.1;
+            waits = (o, here, place ∙ sym now.0, omega (arith, time, ap (λ (z : Cost). z.latency) now.1));
+          }))
           (λ (was : IsSettled seen v k). ⊎_elim
-          (λ (old : get_or known v None ≡ Some k). inl old)
-          (λ (w : (e : Entry) × Contains mid e × (e.place ≡ v) × (cost_at e ≡ k)). inr (w.0, still w.0 w.1, w.2, w.3))
+          (λ (old_ : get_or known v None ≡ Some k). inl old_)
+          (λ (m : IsMade c arcs mid v k). inr (made_more c arcs x mid new v k still m))
           (a.from v k was))
           (settled_cases seen x.to d v k lt t);
       only = λ e h. ⊎_elim
-          (λ (is : o ≡ e). inr (x, Contains-push arcs x, (let P : Entry → Type 0 = λ z. z.place ≡ x.to in subst P is place), (let P : Entry → Type 0 = λ z. cost_at z ≡ then_arc c x in subst P is (cost ∙ same))))
+          (λ (is : o ≡ e). inr (x, Contains-push arcs x, (let P : Entry → Type 0 = λ z. z.place ≡ x.to in subst P is place), (let P : Entry → Type 0 = λ z. z.latency.0 ≡ (then_arc c x).latency in subst P is costs)))
           (λ (there : Contains mid e). ⊎_elim
           (λ (was : Contains old e). inl was)
-          (λ (w : (y : Arc) × Contains arcs y × (e.place ≡ y.to) × (cost_at e ≡ then_arc c y)). inr (w.0, Contains-append_left arcs (x ∷ []) w.0 w.1, w.2, w.3))
+          (λ (w : (y : Arc) × Contains arcs y × (e.place ≡ y.to) × (e.latency.0 ≡ (then_arc c y).latency)). inr (w.0, Contains-append_left arcs (x ∷ []) w.0 w.1, w.2, w.3))
           (a.only e there))
           (contains_cases o mid e (Contains-permutation new (o ∷ mid) e q h));
     }
@@ -347,30 +406,44 @@ none_settled n v c t = let e = unsettled n v in cc
 lone : (e o : Entry) → Contains (e ∷ []) o → e ≡ o
 lone e o h = ⊎_elim (λ (is : e ≡ o). is) (λ (there : Contains [] o). absurd (omega (arith, there.1))) (contains_cases e [] o h)
 
-pub search_begun : (rows : List (List Arc)) (start n : ℕ) (e : Entry) (waiting : List Entry) → n ≡ length rows → start < length rows → cost_at e ≡ nothing → e.place ≡ start → IsPermutation (e ∷ []) waiting
-    → IsSearch rows start (replicate n nobody) (replicate n nobody) waiting
-search_begun rows start n e waiting size lt cost place p =
+pub search_begun : (rows : List (List Arc)) (start n : ℕ) (first : Cost) (e : Entry) (waiting : List Entry) → n ≡ length rows → start < n → first ≡ nothing → e.latency.0 ≡ 0 → e.place ≡ start → IsPermutation (e ∷ []) waiting
+    → IsSearch rows start (replicate n nobody) (set (replicate n nobody) start (Some first)) waiting
+search_begun rows start n first e waiting size lt is time place p =
     let q = IsPermutation-sym (e ∷ []) waiting p in
+    let none : List (Option Cost) = replicate n nobody in
+    let room : start < length none = omega (arith, lt, length-replicate n nobody) in
     let only : (o : Entry) → Contains waiting o → e ≡ o = λ o h. lone e o (Contains-permutation waiting (e ∷ []) o q h) in
+    let here : IsWaiting waiting start 0 = (e, Contains-permutation (e ∷ []) waiting e p (contains_head e []), place, omega (arith, time)) in
     let whole : HasPath rows start start nothing = record { path = []; leads = refl; costs = refl } in
+    let now_known : get_or (set none start (Some first)) start None ≡ Some first = settled_now none start first room in
+    let all : (v : ℕ) (c : Cost) → get_or (set none start (Some first)) v None ≡ Some c → (v ≡ start) × (first ≡ c) = λ v c t. ⊎_elim
+    (λ (now : (v ≡ start) × (first ≡ c)). now)
+    (λ (old : IsSettled none v c). absurd (none_settled n v c old))
+    (settled_cases none start first v c room t) in
     record {
       size = length-replicate n nobody ∙ size;
-      room = length-replicate n nobody ∙ size;
+      room = length-set none start (Some first) ∙ length-replicate n nobody ∙ size;
       settled = λ v c t. absurd (none_settled n v c t);
+      had = λ v c t.
+          let w = all v c t in
+          let P : ℕ → Type 0 = λ v. HasPath rows start v c in
+          let Q : Cost → Type 0 = λ k. HasPath rows start start k in
+          subst P (sym w.0) (subst Q (sym is ∙ w.1) whole);
       waits = λ o h.
-          let P : Entry → Type 0 = λ z. (z.place < length rows) × HasPath rows start z.place (cost_at z) in
-          let Q : ℕ → Type 0 = λ v. (v < length rows) × HasPath rows start v (cost_at e) in
-          let R : Cost → Type 0 = λ c. HasPath rows start start c in
-          subst P (only o h) (subst Q (sym place) (lt, subst R (sym cost) whole));
+          let P : Entry → Type 0 = λ z. z.place ≡ start in
+          let there : o.place ≡ start = subst P (only o h) place in
+          let Q : ℕ → Type 0 = λ v. (v < length rows) × (c : Cost) × (get_or (set none start (Some first)) v None ≡ Some c) × (c.latency ≤ o.latency.0) in
+          subst Q (sym there) (omega (arith, lt, size), first, now_known, omega (arith, ap (λ (c : Cost). c.latency) is));
       ordered = λ v c o t h. absurd (none_settled n v c t);
-      seen = λ v c t. absurd (none_settled n v c t);
+      seen = λ v c t.
+          let w = all v c t in
+          inr (unsettled n v, (here.0, here.1, here.2 ∙ sym w.0, omega (arith, here.3)));
       closed = λ u c x t l. absurd (none_settled n u c t);
-      source = inr (e, Contains-permutation (e ∷ []) waiting e p (contains_head e []), place, good_same (cost_at e) nothing cost);
-      bounded = λ o h.
-          let P : Entry → Type 0 = λ z. (z.latency.0 ≤ count_by is_some (replicate n nobody) * 3600000000000) × (z.reliability ≤ 1000000000) in
-          let latency : e.latency.0 ≡ 0 = ap (λ (c : Cost). c.latency) cost in
-          let reliability : e.reliability ≡ 1000000000 = ap (λ (c : Cost). c.reliability) cost in
-          subst P (only o h) (omega (arith, latency), omega (arith, reliability));
+      source = (first, now_known, good_same first nothing is);
+      bounded = λ v c t.
+          let w = all v c t in
+          let same : c ≡ nothing = sym w.1 ∙ is in
+          (omega (arith, ap (λ (k : Cost). k.latency) same), omega (arith, ap (λ (k : Cost). k.reliability) same));
     }
 
 -- WHAT A TEST SAYS
@@ -387,16 +460,13 @@ settled_from None e = absurd (let never : ⊥ = cc in never)
 
 -- a place is left
 pub search_step : (rows : List (List Arc)) (start : ℕ) (best held known after : List (Option Cost)) (e : Entry) (rest new : List Entry) (cost : Cost) (row : List Arc)
-    → AreArcs rows → held ≡ best → cost ≡ cost_at e → row ≡ get_or rows e.place []
+    → AreArcs rows → held ≡ best → get_or known e.place None ≡ Some cost → row ≡ get_or rows e.place []
     → IsNext rows start held known (Some e) rest → AddsArcs cost row known after rest new → IsSearch rows start (set best e.place (Some cost)) after new
-search_step rows start best held known after e rest new cost row are same_held same_cost same_row next adds =
+search_step rows start best held known after e rest new cost row are same_held is same_row next adds =
     let N : List (Option Cost) → Type 0 = λ b. IsNext rows start b known (Some e) rest in
     let here : IsNext rows start best known (Some e) rest = subst N same_held next in
     let R : List Arc → Type 0 = λ r. AddsArcs cost r known after rest new in
-    let C : Cost → Type 0 = λ k. AddsArcs k (get_or rows e.place []) known after rest new in
-    let S : Cost → Type 0 = λ k. IsSearch rows start (set best e.place (Some k)) after new in
-    let more : AddsArcs (cost_at e) (get_or rows e.place []) known after rest new = subst C same_cost (subst R same_row adds) in
-    subst S (sym same_cost) (search_left rows start best known after e rest new are here.2 here.1 more here.0)
+    search_left rows start best known after e rest new cost are here.2 here.1 is (subst R same_row adds) here.0
 
 -- and one more place is left then
 pub left_counts : (rows : List (List Arc)) (start : ℕ) (best held known : List (Option Cost)) (e : Entry) (rest : List Entry) (cost : Cost)
@@ -416,18 +486,20 @@ written_back n new old same is =
 pub record IsPlace (rows : List (List Arc)) (known : List (Option Cost)) (e : Entry) : Type 0 where
   pub within : e.place < length rows
   pub room : length known ≡ length rows
-  pub soon : e.latency.0 ≤ length rows * 3600000000000
-  pub part : e.reliability ≤ 1000000000
+  pub some : IsSome (get_or known e.place None)
+  pub soon : (c : Cost) → get_or known e.place None ≡ Some c → c.latency ≤ length rows * 3600000000000
+  pub part : (c : Cost) → get_or known e.place None ≡ Some c → c.reliability ≤ 1000000000
 
 pub next_place : (rows : List (List Arc)) (start : ℕ) (held known : List (Option Cost)) (e : Entry) (rest : List Entry) → IsNext rows start held known (Some e) rest → IsPlace rows known e
 next_place rows start held known e rest next =
     let s = next.0 in
-    let bound = s.bounded e (contains_head e rest) in
+    let w = s.waits e (contains_head e rest) in
     record {
-      within = (s.waits e (contains_head e rest)).0;
+      within = w.0;
       room = s.room;
-      soon = omega (arith, bound.0, count_by-le-length is_some held, s.size);
-      part = bound.1;
+      some = ap (λ (o : Option Cost). is_some o) w.2;
+      soon = λ c is. omega (arith, (s.bounded e.place c is).0, count_by-le-length is_some held, s.size);
+      part = λ c is. (s.bounded e.place c is).1;
     }
 
 pub row_arcs : (rows : List (List Arc)) (place n : ℕ) (row : List Arc) → AreArcs rows → n ≡ length rows → row ≡ get_or rows place [] → All (IsArc n) row
@@ -436,14 +508,15 @@ row_arcs rows place n row are size is k d lt =
     let R : List Arc → Type 0 = λ r. Contains r (get_or row k d) in
     subst P (sym size) (are place (get_or row k d) (subst R is (Contains-get_or row k d lt)))
 
-best_done : (rows : List (List Arc)) (start : ℕ) (best known : List (Option Cost)) (waiting : List Entry) → IsSearch rows start best known waiting → IsDone best waiting → IsBest (HasPath rows start) (λ v. get_or best v None)
+best_done : (rows : List (List Arc)) (start : ℕ) (best known : List (Option Cost)) (waiting : List Entry) → IsSearch rows start best known waiting → IsDone best known → IsBest (HasPath rows start) (λ v. get_or best v None)
 best_done rows start best known waiting s done = record { goes = s.settled; least = search_done rows start best known waiting s done }
 
 pub best_empty : (rows : List (List Arc)) (start : ℕ) (best held known : List (Option Cost)) (rest : List Entry) → held ≡ best → IsNext rows start held known None rest → IsBest (HasPath rows start) (λ v. get_or best v None)
 best_empty rows start best held known rest same next =
-    let B : List (Option Cost) → Type 0 = λ b. IsSearch rows start b known rest in
-    let W : List Entry → Type 0 = λ w. IsDone best w in
-    best_done rows start best known rest (subst B same next.0) (subst W (sym next.1) (done_empty best))
+    let B : List (Option Cost) → Type 0 = λ b. IsSearch rows start b known [] in
+    let W : List Entry → Type 0 = λ w. IsSearch rows start held known w in
+    let s : IsSearch rows start best known [] = subst B same (subst W next.1 next.0) in
+    best_done rows start best known [] s (done_empty rows start best known s)
 
 pub best_full : (rows : List (List Arc)) (start : ℕ) (best known : List (Option Cost)) (waiting : List Entry) → IsSearch rows start best known waiting → length best ≤ count_by is_some best → IsBest (HasPath rows start) (λ v. get_or best v None)
 best_full rows start best known waiting s full = best_done rows start best known waiting s (done_full rows start best known waiting s full)

@@ -1,14 +1,14 @@
 //! The search for the cheapest paths from a place to all others: the cheapest place that waits is
 //! left first.
 
-ghost use Rattle.std.specs.Prelude.{◌≡◌, ℕ, ◌+◌, ◌*◌, ◌<◌, ◌≤◌, ◌^◌, List, Option, length, All, None, IfOk, IfSome, IfNone, IsSomeAnd, OnOk};
+ghost use Rattle.std.specs.Prelude.{◌≡◌, ℕ, ◌+◌, ◌*◌, ◌<◌, ◌≤◌, ◌^◌, List, Option, length, All, None, Some, IfOk, IfSome, IfNone, IsSome, IsSomeAnd, OnOk};
 ghost use Rattle.std.specs.BinaryHeap.{IsHeap, heap_items, heap_len};
 ghost use Rattle.net_routes.specs.declared.arc.Arc.{Arc};
 ghost use Rattle.net_routes.specs.declared.cost.Cost.{Cost};
 ghost use Rattle.std.specs.List.{slice_index_or};
 ghost use Rattle.net_routes.specs.Cost.{and_then, IsAsGood};
 ghost use Rattle.net_routes.specs.Path.{AreArcs, IsArc, HasPath, IsBest};
-ghost use Rattle.net_routes.specs.Search.{cost_at, entry_order, IsSearch, IsNext, AddsArcs};
+ghost use Rattle.net_routes.specs.Search.{entry_order, IsSearch, IsNext, AddsArcs};
 
 use crate::arc::{Arc, Row};
 use crate::cost::{Cost, extended, no_cost};
@@ -17,30 +17,32 @@ use std::alloc::Global;
 use std::cmp::Reverse;
 use std::collections::BinaryHeap;
 
-/// A place that waits to be left, at a cost. The greatest is the cheapest.
-#[derive(Clone, Copy, Debug, PartialEq, Eq, PartialOrd, Ord)]
+/// A place that waits to be left, after so many nanoseconds. The greatest is the soonest.
+#[derive_where(Clone, Copy, Debug, PartialEq, Eq, PartialOrd, Ord)]
 pub struct Entry {
     pub latency: Reverse<u64>,
-    pub reliability: u32,
+    #[derive_where(skip(EqHashOrd))]
     pub place: usize,
 }
 
-fn entry_at(cost: Cost, place: usize) -> Entry
-    ensures { (cost_at result ≡ cost) × (result.place ≡ place) }
+fn entry_at(latency: u64, place: usize) -> Entry
+    ensures { (result.latency.0 ≡ latency) × (result.place ≡ place) }
 {
     Entry {
-        latency: Reverse(cost.latency),
-        reliability: cost.reliability,
+        latency: Reverse(latency),
         place,
     }
 }
 
-fn cost_of(entry: Entry) -> Cost
-    ensures { result ≡ cost_at entry }
+/// The cost that is known of a place.
+fn known_cost(known: &[Option<Cost>], place: usize) -> Cost
+    requires within { place < length known.now }
+    requires known { IsSome (slice_index_or known.now place None) }
+    ensures { slice_index_or known.now place None ≡ Some result }
 {
-    Cost {
-        latency: entry.latency.0,
-        reliability: entry.reliability,
+    match known[place] {
+        Some(cost) => cost,
+        None => unreachable!(),
     }
 }
 
@@ -102,7 +104,7 @@ fn add_arcs(
     for arc in arcs {
         if let Some(found) = improved(known[arc.to], cost, arc.cost) {
             known[arc.to] = Some(found);
-            waiting.push(entry_at(found, arc.to))?;
+            waiting.push(entry_at(found.latency, arc.to))?;
         }
     }
     Ok(())
@@ -124,12 +126,13 @@ pub fn cheapest_paths(
     let mut best = vec![in alloc; None; rows.len()]?;
     let mut known = vec![in alloc; None; rows.len()]?;
     let mut waiting = BinaryHeap::new(alloc);
-    waiting.push(entry_at(no_cost(), start))?;
+    known[start] = Some(no_cost());
+    waiting.push(entry_at(0, start))?;
     for _ in 0..rows.len() {
         let Some(entry) = next_entry(&mut waiting, &best) else {
             return Ok(best);
         };
-        let cost = cost_of(entry);
+        let cost = known_cost(&known, entry.place);
         best[entry.place] = Some(cost);
         add_arcs(&mut waiting, &mut known, cost, rows[entry.place].as_slice())?;
     }
