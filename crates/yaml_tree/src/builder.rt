@@ -1,7 +1,7 @@
 //! The builder: nodes that are whole, their names, and what is still open.
 
 ghost use Rattle.std.specs.Prelude.{◌≡◌, ◌+◌, ◌*◌, Some, None, OnOk, IfOk};
-ghost use Rattle.yaml_tree.specs.Builder.{next_known, with_node, put_node, valued, closed, settled, begun, next_row, headed, can_hold, can_name, with_scalar, with_name, with_copy, put_found, with_bar, with_line, ended, with_form, odd_kind, take_mark, take_marks, Steps, judged, whole};
+ghost use Rattle.yaml_tree.specs.Builder.{next_known, with_node, put_node, valued, closed, settled, begun, next_row, headed, can_hold, can_name, with_scalar, with_name, with_copy, put_found, with_bar, with_line, ended, with_form, odd_kind, refused, take_mark, take_marks, Steps, judged, whole};
 ghost use Rattle.yaml_tree.specs.Trees.{root_number};
 ghost use Rattle.yaml_tree.specs.Builder as machine;
 ghost use Rattle.yaml_tree.specs.Holds.{scalar_value};
@@ -310,7 +310,21 @@ impl Builder {
                 }
             }
             Odd::Unsupported => FaultKind::Unsupported,
-            Odd::Syntax => FaultKind::Syntax,
+            Odd::Unkeyed | Odd::Syntax => FaultKind::Syntax,
+        }
+    }
+
+    /// Refuses a token that no rule admits. A scalar without its colon is tried as a key.
+    fn refuse(&mut self, depth: u128, line: usize, why: Odd) -> Result<(), Stop>
+        ensures { Steps result self.new (refused depth line why self.old) }
+    {
+        match why {
+            Odd::Unkeyed => {
+                let key = Scalar::new(self.alloc);
+                self.head(depth, true, line, key)?;
+                Err(Stop::Fault(FaultKind::Unsupported))
+            }
+            _ => Err(Stop::Fault(self.odd_kind(depth, why))),
         }
     }
 
@@ -334,9 +348,7 @@ impl Builder {
             Mark::Copy(line, column, text) => self.copy(key_depth(column), line, &text),
             Mark::Bar(line, column, chomp) => self.bar(key_depth(column), line, chomp),
             Mark::Form(line, column, pieces) => self.form(key_depth(column), line, pieces),
-            Mark::OddMark(_, column, why) => {
-                Err(Stop::Fault(self.odd_kind(key_depth(column), why)))
-            }
+            Mark::OddMark(line, column, why) => self.refuse(key_depth(column), line, why),
             Mark::Body(_, _, _) => Ok(()),
         }
     }
