@@ -38,7 +38,7 @@ use Rattle.yaml_tree.specs.declared.fault.Stop.TheVariants as stop
 use Rattle.std.specs.declared.alloc.Global.{Global}
 
 abbrev pub fresh : Global → Builder
-fresh alloc = record { alloc = alloc; nodes = []; open_rows = []; cells = []; value = None; name = None; literal = None; names = [] }
+fresh alloc = record { alloc = alloc; hashing = tt; nodes = []; open_rows = []; cells = []; value = None; name = None; literal = None; names = [] }
 
 -- ---- nodes and names
 

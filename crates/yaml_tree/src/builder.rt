@@ -8,6 +8,7 @@ ghost use Rattle.yaml_tree.specs.Holds.{scalar_value};
 ghost use Rattle.yaml_tree.specs.Tree.{kind_of};
 
 use crate::fault::{FaultKind, Stop};
+use crate::hashing::Hashing;
 use crate::known::{GivenName, Known, Measure, Names, begins_at};
 use crate::literal::{Literal, TextLines};
 use crate::node::{Node, Value};
@@ -22,6 +23,7 @@ use yaml_marks::{Chomp, Mark, Odd, Pieces, Scalar, why_bracket};
 #[derive(Drop)]
 pub(crate) struct Builder {
     pub alloc: Global,
+    pub hashing: Hashing,
     /// The nodes that are whole.
     pub nodes: Nodes,
     /// The block collections that are open.
@@ -39,18 +41,20 @@ pub(crate) struct Builder {
 }
 
 impl Builder {
-    pub fn new(alloc: Global) -> Builder
+    pub fn new(alloc: Global, hashing: Hashing) -> Builder
         ensures { result ≡ machine.fresh alloc }
     {
+        let names = Names::new(alloc, &hashing);
         Builder {
             alloc,
+            hashing,
             nodes: Nodes::new(alloc),
             open_rows: Stack::new(alloc),
             cells: Stack::new(alloc),
             value: None,
             name: None,
             literal: None,
-            names: Names::new(alloc),
+            names,
         }
     }
 
@@ -134,8 +138,8 @@ impl Builder {
             return Err(Stop::Fault(FaultKind::Syntax));
         }
         let name = self.name.take();
-        self.open_rows
-            .push(Open::new(self.alloc, depth, mapping, line, key, name))?;
+        let open = Open::new(self.alloc, &self.hashing, depth, mapping, line, key, name);
+        self.open_rows.push(open)?;
         Ok(())
     }
 
