@@ -6,7 +6,7 @@ use Rattle.yaml_marks.specs.Names.{is_name_byte, name_len, name_at, after_name, 
 use Rattle.yaml_marks.specs.Literals.{chomp_at, chomp_len, is_digit_first}
 use Rattle.yaml_marks.specs.Scalars.{is_space, at_gap, after_spaces, at_end, at_colon, scalar_at, plain_value}
 use Rattle.yaml_marks.specs.Pieces.{flow_at, is_bracket}
-use Rattle.yaml_marks.specs.Marks.{refused, why_behind, behind_value, copy_marks, bar_marks, flow_marks, begins_mark, marked, scalar_marks, value_marks_of, bare_value, behind_spaces, named_value, value_marks, pair_marks, row_marks, row_marks_of, last_marks, is_name_mark, last_node, named_node, is_dash, node_marks}
+use Rattle.yaml_marks.specs.Marks.{refused, why_behind, behind_value, copy_marks, bar_marks, flow_marks, begins_mark, marked, unkeyed, lone_marks, value_marks_of, bare_value, behind_spaces, named_value, value_marks, pair_marks, row_marks, row_marks_of, last_marks, is_name_mark, last_node, named_node, is_dash, node_marks}
 use Rattle.yaml_marks.specs.declared.odd.Odd.TheVariants as odd
 use Rattle.yaml_marks.specs.declared.mark.Mark.{Mark}
 use Rattle.yaml_marks.specs.declared.mark.Mark.TheVariants.{Dash, Key, Scalar, Name, Copy, Body, Form}
@@ -94,12 +94,19 @@ value-good line column bytes u = named-good line (column + prefix_len is_space b
 
 -- ---- nodes
 
+lone-good : (line column : ℕ) (value : Option (List ℕ)) (rest : List ℕ) → IfSome value IsUtf8 → AreGood (lone_marks line column value rest)
+lone-good line column value rest v = by (at_end rest)
+  where
+    by : (t : Bool) → AreGood (if t then Scalar line column value ∷ [] else refused line column (unkeyed (why_behind (after_spaces rest))))
+    by true = (v, tt)
+    by false = (tt, tt)
+
 row-good : (line column : ℕ) (text : List ℕ) (value : Option (List ℕ)) (bytes : List ℕ) (len : ℕ) → IsUtf8 text → IfSome value IsUtf8 → IsUtf8 (drop len bytes) → AreGood (row_marks line column text value bytes len)
 row-good line column text value bytes len t v r = by (at_colon (drop len bytes)) refl
   where
-    by : (c : Bool) → at_colon (drop len bytes) ≡ c → AreGood (if c then pair_marks line column text bytes len else scalar_marks line column value (drop len bytes))
+    by : (c : Bool) → at_colon (drop len bytes) ≡ c → AreGood (if c then pair_marks line column text bytes len else lone_marks line column value (drop len bytes))
     by true e = (t, value-good line _ (drop 1 (after_spaces (drop len bytes))) (colon-utf8 (drop len bytes) e r))
-    by false e = (v, behind_value-good line (drop len bytes))
+    by false e = lone-good line column value (drop len bytes) v
 
 row_of-good : (line column : ℕ) (bytes : List ℕ) (scan : Scan) → IsGoodScan bytes scan → AreGood (row_marks_of line column bytes scan)
 row_of-good line column bytes (Plain text len) h = row-good line column text (plain_value text) bytes len h.0 (plain_value-good text h.0) h.1

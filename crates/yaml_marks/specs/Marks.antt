@@ -91,10 +91,21 @@ value_marks line column bytes = behind_spaces (named_value line) column bytes
 abbrev pub pair_marks : ℕ → ℕ → List ℕ → List ℕ → ℕ → List Mark
 pair_marks line column text bytes len = Key line column text ∷ value_marks line (column + (len + (1 + prefix_len is_space (drop len bytes)))) (drop 1 (after_spaces (drop len bytes)))
 
+-- Why a scalar without its colon can't stand before this: where a key may stand, what stands behind it decides.
+abbrev pub unkeyed : Odd → Odd
+unkeyed odd.Unsupported = odd.Unkeyed
+unkeyed odd.Unkeyed = odd.Syntax
+unkeyed odd.Mark = odd.Syntax
+unkeyed odd.Syntax = odd.Syntax
+
+-- a scalar without a colon: with nothing behind it, or one that no layout has
+abbrev pub lone_marks : ℕ → ℕ → Option (List ℕ) → List ℕ → List Mark
+lone_marks line column text rest = if at_end rest then Scalar line column text ∷ [] else refused line column (unkeyed (why_behind (after_spaces rest)))
+
 -- a key with its value, or a lone scalar
 abbrev pub row_marks : ℕ → ℕ → List ℕ → Option (List ℕ) → List ℕ → ℕ → List Mark
 row_marks line column text value bytes len = if at_colon (drop len bytes) then pair_marks line column text bytes len
-    else scalar_marks line column value (drop len bytes)
+    else lone_marks line column value (drop len bytes)
 
 abbrev pub row_marks_of : ℕ → ℕ → List ℕ → Scan → List Mark
 row_marks_of line column bytes (Plain text len) = row_marks line column text (plain_value text) bytes len

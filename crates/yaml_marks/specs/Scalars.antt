@@ -197,5 +197,6 @@ abbrev pub why_not : Scan → Odd
 why_not (Plain text len) = odd.Syntax
 why_not (Quoted text len) = odd.Syntax
 why_not (Refused odd.Mark) = odd.Syntax
+why_not (Refused odd.Unkeyed) = odd.Syntax
 why_not (Refused odd.Unsupported) = odd.Unsupported
 why_not (Refused odd.Syntax) = odd.Syntax

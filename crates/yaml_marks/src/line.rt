@@ -100,7 +100,7 @@ impl Line {
         if at_colon(from(bytes, len)) {
             self.read_pair(marks, column, text, bytes, len)
         } else {
-            self.read_scalar(marks, column, plain_value(text), from(bytes, len))
+            self.read_lone(marks, column, plain_value(text), from(bytes, len))
         }
     }
 
@@ -120,7 +120,7 @@ impl Line {
         if at_colon(from(bytes, len)) {
             self.read_pair(marks, column, text, bytes, len)
         } else {
-            self.read_scalar(marks, column, Some(text), from(bytes, len))
+            self.read_lone(marks, column, Some(text), from(bytes, len))
         }
     }
 

@@ -6,6 +6,9 @@ pub enum Odd {
     /// A mark that would begin a value of YAML beyond the profile: unsupported where a value may
     /// begin.
     Mark,
+    /// A scalar before a quote or a bracket that isn't closed on its line, or before `? `:
+    /// unsupported where a key may stand, since what stands there is the first that can't.
+    Unkeyed,
     /// Unsupported wherever it stands.
     Unsupported,
     /// A fault of syntax wherever it stands.

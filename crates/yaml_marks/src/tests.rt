@@ -6,7 +6,7 @@ use std::alloc::Global;
 use std::test::Fail;
 
 /// Lines with the first letters of their tokens, those of a flow form behind it.
-const LINES: [(&str, &str); 8] = [
+const LINES: [(&str, &str); 10] = [
     ("- a: &x [b, *y] # c", "DKNF(s,c)"),
     ("- - 'b'", "DDS"),
     ("a: |-", "KB"),
@@ -14,6 +14,8 @@ const LINES: [(&str, &str); 8] = [
     ("{a: &x, b: [}", "F{kn,k(}"),
     ("  # b", ""),
     ("a: 'b", "KO"),
+    ("a: 'b' 'c", "KSO"),
+    ("'b' 'c", "O"),
     ("[!b]", "F(!s)"),
 ];
 

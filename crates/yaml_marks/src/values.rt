@@ -5,7 +5,7 @@ ghost use Rattle.yaml_marks.specs.Scalars.{is_null, plain_value, why_not, at_gap
 ghost use Rattle.yaml_marks.specs.Literals.{chomp_at, chomp_len, is_digit_first};
 ghost use Rattle.yaml_marks.specs.Names.{has_name, name_len, name_at, after_name};
 ghost use Rattle.yaml_marks.specs.Pieces.{is_bracket};
-ghost use Rattle.yaml_marks.specs.Marks.{refused, why_behind, behind_value, behind_bar, copy_marks, bar_marks, flow_marks, begins_mark, marked, scalar_marks, value_marks_of, bare_value, behind_spaces, named_value, value_marks};
+ghost use Rattle.yaml_marks.specs.Marks.{refused, why_behind, behind_value, behind_bar, copy_marks, bar_marks, flow_marks, begins_mark, marked, scalar_marks, unkeyed, lone_marks, value_marks_of, bare_value, behind_spaces, named_value, value_marks};
 ghost use Rattle.yaml_marks.specs.declared.mark.Mark.TheVariants as mark;
 
 use crate::brackets::why_bracket;
@@ -56,6 +56,16 @@ fn why_behind(alloc: Global, bytes: &[u8]) -> Result<Odd, NoMemory>
     }
     let scan = scalar_at(alloc, bytes)?;
     Ok(why_not(scan))
+}
+
+/// Why a scalar without its colon can't stand before this.
+fn unkeyed(why: Odd) -> Odd
+    ensures { result ≡ unkeyed why }
+{
+    match why {
+        Odd::Unsupported => Odd::Unkeyed,
+        _ => Odd::Syntax,
+    }
 }
 
 /// A name of a node, and behind it a space or the line's end.
@@ -187,7 +197,7 @@ impl Line {
     }
 
     /// Adds a scalar, and reads what stands behind it.
-    pub fn read_scalar(
+    fn read_scalar(
         self,
         marks: &mut Marks,
         column: usize,
@@ -199,6 +209,24 @@ impl Line {
     {
         marks.push(Mark::Scalar(self.number, column, text))?;
         self.read_behind_value(marks, rest)
+    }
+
+    /// Adds a scalar without a colon, if nothing stands behind it.
+    pub fn read_lone(
+        self,
+        marks: &mut Marks,
+        column: usize,
+        text: Option<Scalar>,
+        rest: &[u8],
+    ) -> Result<(), NoMemory>
+        requires { length rest.now < 2 ^ 62 }
+        ensures { OnOk result (marks.new ≡ marks.old ++ lone_marks self.number column text rest.now) }
+    {
+        if at_end(rest) {
+            return marks.push(Mark::Scalar(self.number, column, text));
+        }
+        let why = why_behind(self.alloc, after_spaces(rest))?;
+        self.refuse(marks, column, unkeyed(why))
     }
 
     fn read_value_of(

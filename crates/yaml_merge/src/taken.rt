@@ -9,13 +9,13 @@ use indexmap::IndexSet;
 use sim_base::NoMemory;
 use std::alloc::Global;
 use std::marker::Model;
-use yaml_tree::{Entries, Scalar};
+use yaml_tree::{Entries, Scalar, TextHashers};
 
 /// Keys, which contracts see as a list.
 #[derive(Drop)]
 pub(crate) struct Taken {
     alloc: Global,
-    keys: IndexSet<Scalar>,
+    keys: IndexSet<Scalar, TextHashers>,
 }
 
 impl Model for Taken {
@@ -27,12 +27,12 @@ impl Model for Taken {
 }
 
 impl Taken {
-    fn new(alloc: Global) -> Taken
+    fn new(alloc: Global, hashers: TextHashers) -> Taken
         ensures { result ≡ [] }
     {
         Taken {
             alloc,
-            keys: IndexSet::new(alloc),
+            keys: IndexSet::with_hasher(alloc, hashers),
         }
     }
 
@@ -50,7 +50,7 @@ impl Taken {
     pub fn of(alloc: Global, entries: &Entries) -> Result<Taken, NoMemory>
         ensures { IfOk result (λ taken. taken ≡ taken_of [] entries.now) }
     {
-        let mut taken = Taken::new(alloc);
+        let mut taken = Taken::new(alloc, *entries.as_map().hasher());
         for (key, _) in entries.as_map() {
             taken.take(valid_text(key.as_slice()))?;
         }

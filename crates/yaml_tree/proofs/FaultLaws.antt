@@ -9,7 +9,7 @@ use Rattle.yaml_marks.specs.Marks.{marks_of}
 use Rattle.yaml_tree.specs.Written.{Spells}
 use Rattle.yaml_tree.specs.Said.{Said, has_repeat, has_unknown, levels, size}
 use Rattle.yaml_tree.specs.Stack.{cut, measured}
-use Rattle.yaml_tree.specs.Tree.{Says, MayBegin, ValueMayBegin, IsKindAt, IsMisfit, IsRefused, IsFirstRefused, line_of_break, IsFaultOf}
+use Rattle.yaml_tree.specs.Tree.{Says, MayBegin, ValueMayBegin, KeyMayBegin, IsKindAt, IsMisfit, IsRefused, IsFirstRefused, line_of_break, IsFaultOf}
 use Rattle.yaml_tree.specs.Builder.{fault_of}
 use Rattle.yaml_marks.specs.declared.mark.Mark.{Mark}
 use Rattle.yaml_marks.specs.declared.mark.Mark.TheVariants.{Dash, Key, Scalar, Name, Copy, Bar, Body, Form, OddMark}
@@ -68,7 +68,11 @@ piece_kind-once front (Opening bracket) rest k l a b = a ∙ sym b
 piece_kind-once front (Closing bracket) rest k l a b = a ∙ sym b
 piece_kind-once front Comma rest k l a b = a ∙ sym b
 piece_kind-once front (CellKey bytes) rest k l a b = a ∙ sym b
-piece_kind-once front (CellScalar bytes) rest k l a b = a ∙ sym b
+piece_kind-once front (CellScalar bytes) rest k l (inl a) (inl b) = a.1 ∙ sym b.1
+piece_kind-once front (CellScalar bytes) rest k l (inl a) (inr b) = absurd (b.0 a.0)
+piece_kind-once front (CellScalar bytes) rest k l (inr a) (inl b) = absurd (a.0 b.0)
+piece_kind-once front (CellScalar bytes) rest k l (inr a) (inr b) = a.1 ∙ sym b.1
+piece_kind-once front (OddPiece odd.Unkeyed) rest k l a b = a ∙ sym b
 piece_kind-once front (CellName name) rest k l a b = a ∙ sym b
 piece_kind-once front (CellCopy name) rest k l a b = a ∙ sym b
 piece_kind-once front (OddPiece odd.Syntax) rest k l a b = a ∙ sym b
@@ -107,6 +111,15 @@ decided-mark front line column Alias h = absurd h
 decided-mark front line column TooDeep h = absurd h
 decided-mark front line column TooManyNodes h = absurd h
 
+decided-unkeyed : (front : List Mark) (line column : ℕ) (kind : FaultKind) → IsKindAt front (OddMark line column odd.Unkeyed) kind → Decided (KeyMayBegin front line column) kind
+decided-unkeyed front line column Unsupported h = inl (refl, h)
+decided-unkeyed front line column Syntax h = inr (refl, h)
+decided-unkeyed front line column NotUtf8 h = absurd h
+decided-unkeyed front line column Duplicate h = absurd h
+decided-unkeyed front line column Alias h = absurd h
+decided-unkeyed front line column TooDeep h = absurd h
+decided-unkeyed front line column TooManyNodes h = absurd h
+
 kind-once : (front : List Mark) (m : Mark) (k l : FaultKind) → IsKindAt front m k → IsKindAt front m l → k ≡ l
 kind-once front (Dash line column) k l a b = a ∙ sym b
 kind-once front (Key line column bytes) k l a b = a ∙ sym b
@@ -118,6 +131,7 @@ kind-once front (Body line column bytes) k l a b = a ∙ sym b
 kind-once front (OddMark line column odd.Syntax) k l a b = a ∙ sym b
 kind-once front (OddMark line column odd.Unsupported) k l a b = a ∙ sym b
 kind-once front (OddMark line column odd.Mark) k l a b = decided_once _ k l (decided-mark front line column k a) (decided-mark front line column l b)
+kind-once front (OddMark line column odd.Unkeyed) k l a b = decided_once _ k l (decided-unkeyed front line column k a) (decided-unkeyed front line column l b)
 kind-once front (Form line column pieces) k l (inl a) (inl b) = flow_misfit-once pieces k l a.1 b.1
 kind-once front (Form line column pieces) k l (inl a) (inr b) = absurd (b.0 a.0)
 kind-once front (Form line column pieces) k l (inr a) (inl b) = absurd (a.0 b.0)

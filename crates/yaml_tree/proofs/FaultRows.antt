@@ -230,3 +230,35 @@ repeated_key_and_unknown_copy = read-means (lines_of (codes "- {a: *x, a: 2}"))
 repeated_key_and_syntax : IsRefusedAt (codes "- {a: 1, a: 2} b") 1 Syntax
 unfolding split_lines marks_from line_marks place_after node_marks scalar_at scan_of bare_scan plain_len single_quoted double_len unescaped bare_cell cell_scan cell_len found_at fault_from begun cell_closed cell_copy cell_key cell_node cell_opened closed ended flushed headed judged next_row put_known put_node read_line read_lines settled_on take_mark take_marks take_piece take_pieces valued with_bar with_copy with_form with_line with_name with_node with_scalar
 repeated_key_and_syntax = read-means (lines_of (codes "- {a: 1, a: 2} b"))
+
+-- ---- keys without their colon
+
+-- a key whose colon doesn't come before the line's end
+key_before_the_lines_end : IsRefusedAt (codes "{a") 1 Unsupported
+unfolding split_lines marks_from line_marks place_after node_marks scalar_at scan_of bare_scan plain_len single_quoted double_len unescaped bare_cell cell_scan cell_len found_at fault_from begun cell_closed cell_copy cell_key cell_node cell_opened closed ended flushed headed judged next_row put_known put_node read_line read_lines settled_on take_mark take_marks take_piece take_pieces valued with_bar with_copy with_form with_line with_name with_node with_scalar
+key_before_the_lines_end = read-means (lines_of (codes "{a"))
+
+-- or before a quote that isn't closed
+key_before_an_open_quote : IsRefusedAt (codes "{'' '") 1 Unsupported
+unfolding split_lines marks_from line_marks place_after node_marks scalar_at scan_of bare_scan plain_len single_quoted double_len unescaped bare_cell cell_scan cell_len found_at fault_from begun cell_closed cell_copy cell_key cell_node cell_opened closed ended flushed headed judged next_row put_known put_node read_line read_lines settled_on take_mark take_marks take_piece take_pieces valued with_bar with_copy with_form with_line with_name with_node with_scalar
+key_before_an_open_quote = read-means (lines_of (codes "{'' '"))
+
+-- the same in a block mapping
+row_before_an_open_quote : IsRefusedAt (codes "a: 1\n'' '") 2 Unsupported
+unfolding split_lines marks_from line_marks place_after node_marks scalar_at scan_of bare_scan plain_len single_quoted double_len unescaped bare_cell cell_scan cell_len found_at fault_from begun cell_closed cell_copy cell_key cell_node cell_opened closed ended flushed headed judged next_row put_known put_node read_line read_lines settled_on take_mark take_marks take_piece take_pieces valued with_bar with_copy with_form with_line with_name with_node with_scalar
+row_before_an_open_quote = read-means (lines_of (codes "a: 1\n'' '"))
+
+-- also before a bracket
+row_before_an_open_bracket : IsRefusedAt (codes "k: 1\n'b' [") 2 Unsupported
+unfolding split_lines marks_from line_marks place_after node_marks scalar_at scan_of bare_scan plain_len single_quoted double_len unescaped bare_cell cell_scan cell_len found_at fault_from begun cell_closed cell_copy cell_key cell_node cell_opened closed ended flushed headed judged next_row put_known put_node read_line read_lines settled_on take_mark take_marks take_piece take_pieces valued with_bar with_copy with_form with_line with_name with_node with_scalar
+row_before_an_open_bracket = read-means (lines_of (codes "k: 1\n'b' ["))
+
+-- which is a fault of syntax where it is closed
+row_before_a_closed_bracket : IsRefusedAt (codes "k: 1\n'b' []") 2 Syntax
+unfolding split_lines marks_from line_marks place_after node_marks scalar_at scan_of bare_scan plain_len single_quoted double_len unescaped bare_cell cell_scan cell_len found_at fault_from begun cell_closed cell_copy cell_key cell_node cell_opened closed ended flushed headed judged next_row put_known put_node read_line read_lines settled_on take_mark take_marks take_piece take_pieces valued with_bar with_copy with_form with_line with_name with_node with_scalar
+row_before_a_closed_bracket = read-means (lines_of (codes "k: 1\n'b' []"))
+
+-- and so is the scalar where no key may stand
+scalar_where_no_key_may_stand : IsRefusedAt (codes "k: 1\n 'b' [") 2 Syntax
+unfolding split_lines marks_from line_marks place_after node_marks scalar_at scan_of bare_scan plain_len single_quoted double_len unescaped bare_cell cell_scan cell_len found_at fault_from begun cell_closed cell_copy cell_key cell_node cell_opened closed ended flushed headed judged next_row put_known put_node read_line read_lines settled_on take_mark take_marks take_piece take_pieces valued with_bar with_copy with_form with_line with_name with_node with_scalar
+scalar_where_no_key_may_stand = read-means (lines_of (codes "k: 1\n 'b' ["))

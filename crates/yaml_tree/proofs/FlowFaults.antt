@@ -12,8 +12,8 @@ use Rattle.yaml_tree.specs.declared.shape.Want.TheVariants as want
 use Rattle.yaml_tree.specs.declared.shape.Shape.{Shape as Outlined}
 use Rattle.yaml_tree.specs.declared.fault.FaultKind.TheVariants.{Syntax, Unsupported}
 use Rattle.yaml_marks.specs.declared.odd.Odd.TheVariants as odd
-use Rattle.yaml_tree.specs.Flows.{Flow, has_cells, FlowMayBegin, IsPieceKind, IsFirstMisfit, IsFlowMisfit}
-use Rattle.yaml_tree.specs.Outline.{closed as outlined, takes_piece, takes_value, behind, piece_fault, is_done, fault_from, flow_fault}
+use Rattle.yaml_tree.specs.Flows.{Flow, has_cells, kind_behind_key, FlowMayBegin, IsPieceKind, IsFirstMisfit, IsFlowMisfit}
+use Rattle.yaml_tree.specs.Outline.{closed as outlined, takes_piece, takes_value, takes_key, behind, piece_fault, is_done, fault_from, flow_fault}
 use Rattle.yaml_tree.proofs.Shapes.{Place, Slot, Shape, bracket_of, closed, closed_by, end_piece, named_piece, value_piece, cell_piece, begun_form, with_piece, with_pieces, filled}
 use Rattle.yaml_tree.specs.Flows.Flow.{absent, called, form}
 use Rattle.yaml_tree.proofs.Shapes.Place.{behind_key}
@@ -154,14 +154,25 @@ mark_kind front rest shape e = by (with_piece (CellScalar None) shape) (takes_va
     by None true step is = absurd (false≢true (sym step))
     by None false step is = may_not_go_on front (CellScalar None) shape e is
 
+-- a scalar where a key may stand is told by what stands behind it
+scalar_kind : (front : List Piece) (text : Option (List ℕ)) (rest : List Piece) (shape : Shape) → with_pieces front start ≡ Some shape → IsPieceKind front (CellScalar text) rest (piece_fault (CellScalar text) rest (erased shape))
+scalar_kind front text rest shape e = by (with_piece (CellKey []) shape) (takes_key (erased shape).want (erased shape).brackets) (piece_steps (CellKey []) shape) refl
+  where
+    by : (next : Option Shape) (takes : Bool) → Steps (CellKey []) shape next takes → with_piece (CellKey []) shape ≡ next → IsPieceKind front (CellScalar text) rest (if takes then kind_behind_key rest else Syntax)
+    by (Some new) true step is = inl (may_go_on front (CellKey []) shape new e is, refl)
+    by (Some new) false step is = absurd (false≢true step.0)
+    by None true step is = absurd (false≢true (sym step))
+    by None false step is = inr (may_not_go_on front (CellKey []) shape e is, refl)
+
 kind_of : (front : List Piece) (piece : Piece) (rest : List Piece) (shape : Shape) → with_pieces front start ≡ Some shape → IsPieceKind front piece rest (piece_fault piece rest (erased shape))
 kind_of front (Opening bracket) rest shape e = refl
 kind_of front (Closing bracket) rest shape e = refl
 kind_of front Comma rest shape e = refl
 kind_of front (CellKey text) rest shape e = refl
-kind_of front (CellScalar text) rest shape e = refl
+kind_of front (CellScalar text) rest shape e = scalar_kind front text rest shape e
 kind_of front (CellName text) rest shape e = refl
 kind_of front (CellCopy text) rest shape e = refl
+kind_of front (OddPiece odd.Unkeyed) rest shape e = refl
 kind_of front (OddPiece odd.Syntax) rest shape e = refl
 kind_of front (OddPiece odd.Unsupported) rest shape e = refl
 kind_of front (OddPiece odd.Mark) rest shape e = mark_kind front rest shape e

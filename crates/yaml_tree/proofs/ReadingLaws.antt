@@ -9,7 +9,7 @@ use Rattle.std.proofs.lemmas.Bool.{ltb-true, ltb-false, leb-false, lt-ltb, cases
 use Rattle.std.proofs.lemmas.List.{append-nil, length-drop, length-take-le, take_all, take_more, drop_more}
 use Rattle.yaml_marks.specs.Lines.{lines_of}
 use Rattle.yaml_marks.specs.Pieces.{why_bracket, closes_at}
-use Rattle.yaml_tree.specs.Flows.{IsPieceKind, IsFlowMisfit}
+use Rattle.yaml_tree.specs.Flows.{kind_behind_key, IsPieceKind, IsFlowMisfit}
 use Rattle.yaml_marks.specs.Marks.{has_content, line_marks, next_place, marks_from, marks_of}
 use Rattle.yaml_tree.specs.Written.{Written, Spells}
 use Rattle.yaml_tree.specs.Written.Written.{nothing}
@@ -17,7 +17,7 @@ use Rattle.yaml_tree.specs.Said.{Said, tree_of, has_repeat, has_unknown, levels,
 use Rattle.yaml_tree.specs.Said.Said.{null, text, unknown, sequence, mapping, with_item, with_pair}
 use Rattle.yaml_tree.specs.Holds.{HoldsSaid}
 use Rattle.yaml_tree.specs.Stack.{cut, measured}
-use Rattle.yaml_tree.specs.Tree.{Says, IsTree, HasTree, MayBegin, ValueMayBegin, kind_of, IsKindAt, IsMisfit, IsRefused, IsFirstRefused, IsTreeOf, IsFaultOf}
+use Rattle.yaml_tree.specs.Tree.{Says, IsTree, HasTree, MayBegin, ValueMayBegin, KeyMayBegin, kind_of, IsKindAt, IsMisfit, IsRefused, IsFirstRefused, IsTreeOf, IsFaultOf}
 use Rattle.yaml_tree.specs.Builder.{take_mark, take_marks, fault_of, judged_by, judged, read_line, read_lines, at_line, ReadsLine, ◌>>=◌, fresh}
 use Rattle.yaml_tree.specs.Trees.{Holds, RootIsIn, IsReading, IsErrorOf, root_number}
 use Rattle.yaml_tree.specs.declared.builder.Builder.{Builder}
@@ -66,6 +66,13 @@ value_may_begin r front line column w m e h = may_begin r (front ++ (Scalar line
 no_value_may_begin : (r : FlowReader) (front : List Mark) (line column : ℕ) (w : Written) → with_marks r front nothing ≡ Some w → with_mark r (Scalar line column None) w ≡ None → ValueMayBegin front line column → ⊥
 no_value_may_begin r front line column w e h = may_not_begin r (front ++ (Scalar line column None ∷ [])) (one_more r front (Scalar line column None) w e ∙ h)
 
+-- and a key where one would
+key_may_begin : (r : FlowReader) (front : List Mark) (line column : ℕ) (w m : Written) → with_marks r front nothing ≡ Some w → with_mark r (Key line column []) w ≡ Some m → KeyMayBegin front line column
+key_may_begin r front line column w m e h = may_begin r (front ++ (Key line column [] ∷ [])) m (one_more r front (Key line column []) w e ∙ h)
+
+no_key_may_begin : (r : FlowReader) (front : List Mark) (line column : ℕ) (w : Written) → with_marks r front nothing ≡ Some w → with_mark r (Key line column []) w ≡ None → KeyMayBegin front line column → ⊥
+no_key_may_begin r front line column w e h = may_not_begin r (front ++ (Key line column [] ∷ [])) (one_more r front (Key line column []) w e ∙ h)
+
 -- ---- marks
 
 kind_at : (r : FlowReader) (front : List Mark) (m : Mark) (w : Written) (kind : FaultKind) → with_marks r front nothing ≡ Some w → KindAfter r m w kind → IsKindAt front m kind
@@ -82,6 +89,10 @@ kind_at r front (Form line column pieces) w kind e k = elim k [
 ]
 kind_at r front (OddMark line column odd.Syntax) w kind e k = k
 kind_at r front (OddMark line column odd.Unsupported) w kind e k = k
+kind_at r front (OddMark line column odd.Unkeyed) w kind e k = elim k [
+  | inl h ↦ subst (IsKindAt front (OddMark line column odd.Unkeyed)) (sym h.0) (key_may_begin r front line column w h.1 e h.2)
+  | inr h ↦ subst (IsKindAt front (OddMark line column odd.Unkeyed)) (sym h.0) (no_key_may_begin r front line column w e h.1)
+]
 kind_at r front (OddMark line column odd.Mark) w kind e k = elim k [
   | inl h ↦ subst (IsKindAt front (OddMark line column odd.Mark)) (sym h.0) (value_may_begin r front line column w h.1 e h.2)
   | inr h ↦ subst (IsKindAt front (OddMark line column odd.Mark)) (sym h.0) (no_value_may_begin r front line column w e h.1)
@@ -181,18 +192,35 @@ one_of_two-chosen false = inr refl
 
 one_of_two-odd : (why : Odd) → IsOneOfTwo (kind_of why)
 one_of_two-odd odd.Mark = inl refl
+one_of_two-odd odd.Unkeyed = inl refl
 one_of_two-odd odd.Unsupported = inr refl
 one_of_two-odd odd.Syntax = inl refl
+
+one_of_two-behind_key : (rest : List Piece) → IsOneOfTwo (kind_behind_key rest)
+one_of_two-behind_key [] = inr refl
+one_of_two-behind_key (Opening bracket ∷ rest) = one_of_two-chosen (closes_at 0 rest)
+one_of_two-behind_key (Closing bracket ∷ rest) = inl refl
+one_of_two-behind_key (Comma ∷ rest) = inl refl
+one_of_two-behind_key (CellKey bytes ∷ rest) = inl refl
+one_of_two-behind_key (CellScalar bytes ∷ rest) = inl refl
+one_of_two-behind_key (CellName name ∷ rest) = inl refl
+one_of_two-behind_key (CellCopy name ∷ rest) = inl refl
+one_of_two-behind_key (OddPiece odd.Mark ∷ rest) = inl refl
+one_of_two-behind_key (OddPiece odd.Unkeyed ∷ rest) = inl refl
+one_of_two-behind_key (OddPiece odd.Unsupported ∷ rest) = inr refl
+one_of_two-behind_key (OddPiece odd.Syntax ∷ rest) = inl refl
 
 one_of_two-piece : (front : List Piece) (piece : Piece) (rest : List Piece) (kind : FaultKind) → IsPieceKind front piece rest kind → IsOneOfTwo kind
 one_of_two-piece front (Opening bracket) rest kind h = subst IsOneOfTwo (sym h) (one_of_two-chosen (closes_at 0 rest))
 one_of_two-piece front (Closing bracket) rest kind h = inl h
 one_of_two-piece front Comma rest kind h = inl h
 one_of_two-piece front (CellKey bytes) rest kind h = inl h
-one_of_two-piece front (CellScalar bytes) rest kind h = inl h
+one_of_two-piece front (CellScalar bytes) rest kind (inl h) = subst IsOneOfTwo (sym h.1) (one_of_two-behind_key rest)
+one_of_two-piece front (CellScalar bytes) rest kind (inr h) = inl h.1
 one_of_two-piece front (CellName name) rest kind h = inl h
 one_of_two-piece front (CellCopy name) rest kind h = inl h
 one_of_two-piece front (OddPiece odd.Syntax) rest kind h = inl h
+one_of_two-piece front (OddPiece odd.Unkeyed) rest kind h = inl h
 one_of_two-piece front (OddPiece odd.Unsupported) rest kind h = inr h
 one_of_two-piece front (OddPiece odd.Mark) rest NotUtf8 h = absurd h
 one_of_two-piece front (OddPiece odd.Mark) rest Syntax h = inl refl
@@ -222,6 +250,13 @@ one_of_two front (Form line column pieces) kind h = elim h [
 ]
 one_of_two front (OddMark line column odd.Syntax) kind h = inl h
 one_of_two front (OddMark line column odd.Unsupported) kind h = inr h
+one_of_two front (OddMark line column odd.Unkeyed) NotUtf8 h = absurd h
+one_of_two front (OddMark line column odd.Unkeyed) Syntax h = inl refl
+one_of_two front (OddMark line column odd.Unkeyed) Unsupported h = inr refl
+one_of_two front (OddMark line column odd.Unkeyed) Duplicate h = absurd h
+one_of_two front (OddMark line column odd.Unkeyed) Alias h = absurd h
+one_of_two front (OddMark line column odd.Unkeyed) TooDeep h = absurd h
+one_of_two front (OddMark line column odd.Unkeyed) TooManyNodes h = absurd h
 one_of_two front (OddMark line column odd.Mark) NotUtf8 h = absurd h
 one_of_two front (OddMark line column odd.Mark) Syntax h = inl refl
 one_of_two front (OddMark line column odd.Mark) Unsupported h = inr refl

@@ -204,12 +204,12 @@ unfolding split_lines marks_from line_marks place_after node_marks scalar_at sca
 text_behind_a_form = refl
 
 -- a form behind a scalar
-form_behind_a_scalar : marks_in (codes "\"a\" [b]") ≡ Scalar 1 0 (Some (codes "a")) ∷ OddMark 1 0 odd.Syntax ∷ []
+form_behind_a_scalar : marks_in (codes "\"a\" [b]") ≡ OddMark 1 0 odd.Syntax ∷ []
 unfolding split_lines marks_from line_marks place_after node_marks scalar_at scan_of bare_scan plain_len single_quoted double_len unescaped bare_cell cell_scan cell_len found_at
 form_behind_a_scalar = refl
 
 -- one that isn't closed there
-open_bracket_behind_a_scalar : marks_in (codes "\"a\" [b") ≡ Scalar 1 0 (Some (codes "a")) ∷ OddMark 1 0 odd.Unsupported ∷ []
+open_bracket_behind_a_scalar : marks_in (codes "\"a\" [b") ≡ OddMark 1 0 odd.Unkeyed ∷ []
 unfolding split_lines marks_from line_marks place_after node_marks scalar_at scan_of bare_scan plain_len single_quoted double_len unescaped bare_cell cell_scan cell_len found_at
 open_bracket_behind_a_scalar = refl
 

@@ -18,7 +18,7 @@ use Rattle.yaml_tree.specs.Holds.{HoldsSaid, IsNode, begins_on, scalar_value}
 use Rattle.yaml_tree.specs.Stack.{measured, one_node, unknown_node, with_part, measure_about}
 use Rattle.yaml_tree.specs.Tree.{kind_of}
 use Rattle.yaml_tree.specs.Trees.{root_number}
-use Rattle.yaml_tree.specs.Builder.{fresh, find_name, with_node, put_node, valued, known_of, settled, is_shallower, can_hold, can_name, with_scalar, with_name, put_found, with_copy, new_literal, with_bar, with_line_of, with_line, ended, take_pieces, formed, with_form, odd_kind, take_mark, value_measure, measure, whole}
+use Rattle.yaml_tree.specs.Builder.{fresh, find_name, with_node, put_node, valued, known_of, settled, is_shallower, can_hold, can_name, with_scalar, with_name, put_found, with_copy, new_literal, with_bar, with_line_of, with_line, ended, take_pieces, formed, with_form, headed, unkeyed, refused, take_mark, value_measure, measure, whole}
 use Rattle.yaml_marks.specs.declared.piece.Piece.{Piece}
 use Rattle.yaml_marks.specs.declared.mark.Mark.{Mark}
 use Rattle.yaml_marks.specs.declared.mark.Mark.TheVariants.{Dash, Key, Scalar, Name, Copy, Bar, Body, Form, OddMark}
@@ -313,6 +313,7 @@ abbrev pub KindAfter : FlowReader → Mark → Written → FaultKind → Type 0
 KindAfter r (OddMark line column odd.Syntax) w kind = kind ≡ Syntax
 KindAfter r (OddMark line column odd.Unsupported) w kind = kind ≡ Unsupported
 KindAfter r (OddMark line column odd.Mark) w kind = ((kind ≡ Unsupported) × (m : Written) × (with_mark r (Scalar line column None) w ≡ Some m)) ⊎ ((kind ≡ Syntax) × (with_mark r (Scalar line column None) w ≡ None))
+KindAfter r (OddMark line column odd.Unkeyed) w kind = ((kind ≡ Unsupported) × (m : Written) × (with_mark r (Key line column []) w ≡ Some m)) ⊎ ((kind ≡ Syntax) × (with_mark r (Key line column []) w ≡ None))
 KindAfter r (Form line column pieces) w kind = (((m : Written) × (with_mark r (Scalar line column None) w ≡ Some m)) × IsFlowMisfit pieces kind) ⊎ ((with_mark r (Scalar line column None) w ≡ None) × (kind ≡ kind_of (why_bracket pieces)))
 KindAfter r _ w kind = kind ≡ Syntax
 
@@ -402,8 +403,14 @@ mark-kind : (r : FlowReader) (line column : ℕ) (b : Builder) (fs : List Frame)
 mark-kind r line column b fs value true h = let m : Mark = Scalar line column None in inl (refl, wrap fs (called h.1.0 (leaf m)), value-begins r m b fs value (leaf m) refl refl h.1 h.2)
 mark-kind r line column b fs value false h = inr (refl, h (Scalar line column None) refl refl refl)
 
-odd-taken : (r : FlowReader) (line column : ℕ) (why : Odd) (b : Builder) (fs : List Frame) (value : Written) → Ready b fs value → TakenAny r (OddMark line column why) (wrap fs value) (Err (odd_kind (1 + 2 * column) why b))
+-- a scalar without its colon, tried as a key
+unkeyed-taken : (r : FlowReader) (line column : ℕ) (w : Written) (step : Result Builder FaultKind) → Taken r (Key line column []) w step → TakenAny r (OddMark line column odd.Unkeyed) w (unkeyed step)
+unkeyed-taken r line column w (Ok b) h = (odd-refused r line column odd.Unkeyed w, inl (refl, h.0, h.1))
+unkeyed-taken r line column w (Err kind) h = (odd-refused r line column odd.Unkeyed w, inr (h.1, h.0))
+
+odd-taken : (r : FlowReader) (line column : ℕ) (why : Odd) (b : Builder) (fs : List Frame) (value : Written) → Ready b fs value → TakenAny r (OddMark line column why) (wrap fs value) (refused (1 + 2 * column) line why b)
 odd-taken r line column odd.Mark b fs value ready = (odd-refused r line column odd.Mark (wrap fs value), mark-kind r line column b fs value (can_hold (1 + 2 * column) b) (can_hold-means r (1 + 2 * column) b fs value ready))
+odd-taken r line column odd.Unkeyed b fs value ready = unkeyed-taken r line column (wrap fs value) (headed (1 + 2 * column) true line [] b) (headed-taken r (Key line column []) b fs value refl ready)
 odd-taken r line column odd.Unsupported b fs value ready = (odd-refused r line column odd.Unsupported (wrap fs value), refl)
 odd-taken r line column odd.Syntax b fs value ready = (odd-refused r line column odd.Syntax (wrap fs value), refl)
 

@@ -38,7 +38,7 @@ use Rattle.yaml_tree.specs.declared.fault.Stop.TheVariants as stop
 use Rattle.std.specs.declared.alloc.Global.{Global}
 
 abbrev pub fresh : Global → Builder
-fresh alloc = record { alloc = alloc; nodes = []; open_rows = []; cells = []; value = None; name = None; literal = None; names = [] }
+fresh alloc = record { alloc = alloc; hashing = tt; nodes = []; open_rows = []; cells = []; value = None; name = None; literal = None; names = [] }
 
 -- ---- nodes and names
 
@@ -228,8 +228,21 @@ with_form depth line pieces b = if can_hold depth b then formed (flow_fault piec
 
 abbrev pub odd_kind : ℕ → Odd → Builder → FaultKind
 odd_kind depth odd.Mark b = if can_hold depth b then Unsupported else Syntax
+odd_kind depth odd.Unkeyed b = Syntax
 odd_kind depth odd.Unsupported b = Unsupported
 odd_kind depth odd.Syntax b = Syntax
+
+-- where a key is taken, what stands behind it is unsupported
+abbrev pub unkeyed : Result Builder FaultKind → Result Builder FaultKind
+unkeyed (Ok b) = Err Unsupported
+unkeyed (Err kind) = Err kind
+
+-- the fault of a token that no rule admits
+abbrev pub refused : ℕ → ℕ → Odd → Builder → Result Builder FaultKind
+refused depth line odd.Unkeyed b = unkeyed (headed depth true line [] b)
+refused depth line odd.Mark b = Err (odd_kind depth odd.Mark b)
+refused depth line odd.Unsupported b = Err (odd_kind depth odd.Unsupported b)
+refused depth line odd.Syntax b = Err (odd_kind depth odd.Syntax b)
 
 -- what a call left, or the fault that it answered, is what the step gives; want of memory aside
 abbrev pub Steps : Result (Unit {0}) Stop → Builder → Result Builder FaultKind → Type 0
@@ -252,7 +265,7 @@ take_mark (Copy line column text) b = with_copy (1 + 2 * column) line text (ende
 take_mark (Bar line column chomp) b = with_bar (1 + 2 * column) line chomp (ended b)
 take_mark (Body line column bytes) b = with_line (1 + 2 * column) bytes b
 take_mark (Form line column pieces) b = with_form (1 + 2 * column) line pieces (ended b)
-take_mark (OddMark line column why) b = Err (odd_kind (1 + 2 * column) why (ended b))
+take_mark (OddMark line column why) b = refused (1 + 2 * column) line why (ended b)
 
 unfoldable pub take_marks : List Mark → Builder → Result Builder FaultKind
 take_marks [] b = Ok b

@@ -92,9 +92,18 @@ SpellsFlow pieces flow = (spelling flow ≡ pieces) × IsForm flow
 abbrev pub FlowMayBegin : List Piece → Type 0
 FlowMayBegin pieces = (rest : List Piece) × (flow : Flow) × SpellsFlow (pieces ++ rest) flow
 
--- the kind of fault where this piece can't stand behind the front; behind it stands the rest
+-- the kind of fault of what stands behind a key without its colon
+abbrev pub kind_behind_key : List Piece → FaultKind
+kind_behind_key [] = Unsupported
+kind_behind_key (Opening bracket ∷ rest) = if closes_at 0 rest then Syntax else Unsupported
+kind_behind_key (OddPiece odd.Unsupported ∷ rest) = Unsupported
+kind_behind_key _ = Syntax
+
+-- The kind of fault where this piece can't stand behind the front; behind it stands the rest. A scalar where a key may
+-- stand is one without its colon: what stands behind it is the first that can't.
 abbrev pub IsPieceKind : List Piece → Piece → List Piece → FaultKind → Type 0
 IsPieceKind front (Opening bracket) rest kind = kind ≡ (if closes_at 0 rest then Syntax else Unsupported)
+IsPieceKind front (CellScalar text) rest kind = (FlowMayBegin (front ++ (CellKey [] ∷ [])) × (kind ≡ kind_behind_key rest)) ⊎ ((¬ FlowMayBegin (front ++ (CellKey [] ∷ []))) × (kind ≡ Syntax))
 IsPieceKind front (OddPiece odd.Syntax) rest kind = kind ≡ Syntax
 IsPieceKind front (OddPiece odd.Unsupported) rest kind = kind ≡ Unsupported
 IsPieceKind front (OddPiece odd.Mark) rest Unsupported = FlowMayBegin (front ++ (CellScalar None ∷ []))

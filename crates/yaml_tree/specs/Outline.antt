@@ -6,6 +6,7 @@ use Rattle.yaml_marks.specs.declared.piece.Bracket.{Bracket}
 use Rattle.yaml_marks.specs.declared.piece.Bracket.TheVariants.{Square, Curly}
 use Rattle.yaml_marks.specs.declared.piece.Piece.{Piece}
 use Rattle.yaml_marks.specs.declared.piece.Piece.TheVariants.{Opening, Closing, Comma, CellKey, CellScalar, CellName, CellCopy, OddPiece}
+use Rattle.yaml_tree.specs.Flows.{kind_behind_key}
 use Rattle.yaml_tree.specs.declared.shape.Want.{Want}
 use Rattle.yaml_tree.specs.declared.shape.Want.TheVariants as want
 use Rattle.yaml_tree.specs.declared.shape.Shape.{Shape}
@@ -93,6 +94,7 @@ behind (OddPiece why) shape = shape
 -- the kind of fault of a piece that may not come; behind it stands the rest
 abbrev pub piece_fault : Piece → List Piece → Shape → FaultKind
 piece_fault (Opening bracket) rest shape = if closes_at 0 rest then Syntax else Unsupported
+piece_fault (CellScalar text) rest shape = if takes_key shape.want shape.brackets then kind_behind_key rest else Syntax
 piece_fault (OddPiece odd.Unsupported) rest shape = Unsupported
 piece_fault (OddPiece odd.Mark) rest shape = if takes_value shape.want shape.brackets then Unsupported else Syntax
 piece_fault _ rest shape = Syntax

@@ -8,7 +8,7 @@ use Rattle.yaml_marks.specs.Pieces.{why_bracket}
 use Rattle.yaml_tree.specs.Flows.{IsFlowMisfit}
 use Rattle.yaml_marks.specs.Marks.{marks_of}
 use Rattle.yaml_marks.specs.declared.mark.Mark.{Mark}
-use Rattle.yaml_marks.specs.declared.mark.Mark.TheVariants.{Scalar, Form, OddMark}
+use Rattle.yaml_marks.specs.declared.mark.Mark.TheVariants.{Key, Scalar, Form, OddMark}
 use Rattle.yaml_tree.specs.Written.{Written, Spells, is_name}
 use Rattle.yaml_tree.specs.Said.{Said, tree_of, has_repeat, has_unknown, levels, size}
 use Rattle.yaml_tree.specs.declared.fault.FaultKind.{FaultKind}
@@ -42,8 +42,13 @@ MayBegin ms = (rest : List Mark) × (written : Written) × Spells (ms ++ rest) w
 abbrev pub ValueMayBegin : List Mark → ℕ → ℕ → Type 0
 ValueMayBegin front line column = MayBegin (front ++ (Scalar line column None ∷ []))
 
+-- behind the front a key may begin at this column
+abbrev pub KeyMayBegin : List Mark → ℕ → ℕ → Type 0
+KeyMayBegin front line column = MayBegin (front ++ (Key line column [] ∷ []))
+
 abbrev pub kind_of : Odd → FaultKind
 kind_of odd.Mark = Syntax
+kind_of odd.Unkeyed = Syntax
 kind_of odd.Unsupported = Unsupported
 kind_of odd.Syntax = Syntax
 
@@ -55,6 +60,9 @@ IsKindAt front (OddMark line column odd.Unsupported) kind = kind ≡ Unsupported
 IsKindAt front (OddMark line column odd.Mark) Unsupported = ValueMayBegin front line column
 IsKindAt front (OddMark line column odd.Mark) Syntax = ¬ ValueMayBegin front line column
 IsKindAt front (OddMark line column odd.Mark) _ = ⊥
+IsKindAt front (OddMark line column odd.Unkeyed) Unsupported = KeyMayBegin front line column
+IsKindAt front (OddMark line column odd.Unkeyed) Syntax = ¬ KeyMayBegin front line column
+IsKindAt front (OddMark line column odd.Unkeyed) _ = ⊥
 IsKindAt front (Form line column pieces) kind = (ValueMayBegin front line column × IsFlowMisfit pieces kind) ⊎ ((¬ ValueMayBegin front line column) × (kind ≡ kind_of (why_bracket pieces)))
 IsKindAt front _ kind = kind ≡ Syntax
 

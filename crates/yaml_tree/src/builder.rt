@@ -1,13 +1,14 @@
 //! The builder: nodes that are whole, their names, and what is still open.
 
 ghost use Rattle.std.specs.Prelude.{◌≡◌, ◌+◌, ◌*◌, Some, None, OnOk, IfOk};
-ghost use Rattle.yaml_tree.specs.Builder.{next_known, with_node, put_node, valued, closed, settled, begun, next_row, headed, can_hold, can_name, with_scalar, with_name, with_copy, put_found, with_bar, with_line, ended, with_form, odd_kind, take_mark, take_marks, Steps, judged, whole};
+ghost use Rattle.yaml_tree.specs.Builder.{next_known, with_node, put_node, valued, closed, settled, begun, next_row, headed, can_hold, can_name, with_scalar, with_name, with_copy, put_found, with_bar, with_line, ended, with_form, odd_kind, refused, take_mark, take_marks, Steps, judged, whole};
 ghost use Rattle.yaml_tree.specs.Trees.{root_number};
 ghost use Rattle.yaml_tree.specs.Builder as machine;
 ghost use Rattle.yaml_tree.specs.Holds.{scalar_value};
 ghost use Rattle.yaml_tree.specs.Tree.{kind_of};
 
 use crate::fault::{FaultKind, Stop};
+use crate::hashing::Hashing;
 use crate::known::{GivenName, Known, Measure, Names, begins_at};
 use crate::literal::{Literal, TextLines};
 use crate::node::{Node, Value};
@@ -22,6 +23,7 @@ use yaml_marks::{Chomp, Mark, Odd, Pieces, Scalar, why_bracket};
 #[derive(Drop)]
 pub(crate) struct Builder {
     pub alloc: Global,
+    pub hashing: Hashing,
     /// The nodes that are whole.
     pub nodes: Nodes,
     /// The block collections that are open.
@@ -39,18 +41,20 @@ pub(crate) struct Builder {
 }
 
 impl Builder {
-    pub fn new(alloc: Global) -> Builder
+    pub fn new(alloc: Global, hashing: Hashing) -> Builder
         ensures { result ≡ machine.fresh alloc }
     {
+        let names = Names::new(alloc, &hashing);
         Builder {
             alloc,
+            hashing,
             nodes: Nodes::new(alloc),
             open_rows: Stack::new(alloc),
             cells: Stack::new(alloc),
             value: None,
             name: None,
             literal: None,
-            names: Names::new(alloc),
+            names,
         }
     }
 
@@ -134,8 +138,8 @@ impl Builder {
             return Err(Stop::Fault(FaultKind::Syntax));
         }
         let name = self.name.take();
-        self.open_rows
-            .push(Open::new(self.alloc, depth, mapping, line, key, name))?;
+        let open = Open::new(self.alloc, &self.hashing, depth, mapping, line, key, name);
+        self.open_rows.push(open)?;
         Ok(())
     }
 
@@ -310,7 +314,21 @@ impl Builder {
                 }
             }
             Odd::Unsupported => FaultKind::Unsupported,
-            Odd::Syntax => FaultKind::Syntax,
+            Odd::Unkeyed | Odd::Syntax => FaultKind::Syntax,
+        }
+    }
+
+    /// Refuses a token that no rule admits. A scalar without its colon is tried as a key.
+    fn refuse(&mut self, depth: u128, line: usize, why: Odd) -> Result<(), Stop>
+        ensures { Steps result self.new (refused depth line why self.old) }
+    {
+        match why {
+            Odd::Unkeyed => {
+                let key = Scalar::new(self.alloc);
+                self.head(depth, true, line, key)?;
+                Err(Stop::Fault(FaultKind::Unsupported))
+            }
+            _ => Err(Stop::Fault(self.odd_kind(depth, why))),
         }
     }
 
@@ -334,9 +352,7 @@ impl Builder {
             Mark::Copy(line, column, text) => self.copy(key_depth(column), line, &text),
             Mark::Bar(line, column, chomp) => self.bar(key_depth(column), line, chomp),
             Mark::Form(line, column, pieces) => self.form(key_depth(column), line, pieces),
-            Mark::OddMark(_, column, why) => {
-                Err(Stop::Fault(self.odd_kind(key_depth(column), why)))
-            }
+            Mark::OddMark(line, column, why) => self.refuse(key_depth(column), line, why),
             Mark::Body(_, _, _) => Ok(()),
         }
     }

@@ -5,6 +5,7 @@ ghost use Rattle.std.specs.Cmp.Lexicographic.{pointwise};
 ghost use Rattle.yaml_tree.specs.declared.entries.Child.{Child};
 ghost use Rattle.yaml_tree.specs.Entries.{has_key, with_entry};
 
+use crate::hashing::{Hashing, TextHashers};
 use indexmap::IndexMap;
 use std::alloc::{AllocError, Global};
 use std::marker::Model;
@@ -20,7 +21,7 @@ pub struct Child {
 /// The entries of a mapping in the order of its keys, which contracts see as a list of pairs.
 #[derive(Drop)]
 pub struct Entries {
-    map: IndexMap<Scalar, Child>,
+    map: IndexMap<Scalar, Child, TextHashers>,
 }
 
 impl Model for Entries {
@@ -30,11 +31,11 @@ impl Model for Entries {
 }
 
 impl Entries {
-    pub fn new(alloc: Global) -> Entries
+    pub(crate) fn new(alloc: Global, hashing: &Hashing) -> Entries
         ensures { result ≡ [] }
     {
         Entries {
-            map: IndexMap::new(alloc),
+            map: IndexMap::with_hasher(alloc, hashing.hashers()),
         }
     }
 
@@ -51,7 +52,7 @@ impl Entries {
         Ok(())
     }
 
-    pub fn as_map(&self) -> &IndexMap<Scalar, Child>
+    pub fn as_map(&self) -> &IndexMap<Scalar, Child, TextHashers>
         ensures { result.now.entries ≡ self.now }
     {
         &self.map

@@ -55,8 +55,8 @@ impl Builder {
         let name = self.name.take();
         let none = Scalar::new(self.alloc);
         let curly = bracket == Bracket::Curly;
-        self.cells
-            .push(Open::new(self.alloc, 0, curly, line, none, name))
+        let open = Open::new(self.alloc, &self.hashing, 0, curly, line, none, name);
+        self.cells.push(open)
     }
 
     #[tactic(auto, unfolding(crate::specs::Builder::cell_closed))]

@@ -8,6 +8,7 @@ ghost use Rattle.yaml_tree.specs.Builder.{find_name, begins_at, fault_of};
 ghost use Rattle.yaml_tree.specs.declared.known.Known.{Known};
 
 use crate::fault::FaultKind;
+use crate::hashing::{Hashing, TextHashers};
 use indexmap::IndexMap;
 use sim_base::NoMemory;
 use std::alloc::Global;
@@ -161,7 +162,7 @@ pub(crate) fn begins_at(line: usize, name: &Option<GivenName>) -> usize
 /// The nodes that have names, which contracts see as a list of pairs.
 #[derive(Drop)]
 pub(crate) struct Names {
-    map: IndexMap<Scalar, Known>,
+    map: IndexMap<Scalar, Known, TextHashers>,
 }
 
 impl Model for Names {
@@ -174,11 +175,11 @@ impl Model for Names {
 }
 
 impl Names {
-    pub fn new(alloc: Global) -> Names
+    pub fn new(alloc: Global, hashing: &Hashing) -> Names
         ensures { result ≡ [] }
     {
         Names {
-            map: IndexMap::new(alloc),
+            map: IndexMap::with_hasher(alloc, hashing.hashers()),
         }
     }
 

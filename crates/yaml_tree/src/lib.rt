@@ -5,6 +5,7 @@ mod builder;
 mod entries;
 mod fault;
 mod flow;
+mod hashing;
 mod known;
 pub mod laws;
 mod literal;
@@ -20,6 +21,7 @@ mod tree;
 
 pub use entries::{Child, Entries};
 pub use fault::{FaultKind, TreeError, YamlFault};
+pub use hashing::TextHashers;
 pub use node::{Node, Value};
 pub use nodes::Nodes;
 pub use numbers::Numbers;

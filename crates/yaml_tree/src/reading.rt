@@ -13,6 +13,7 @@ ghost use Rattle.yaml_tree.specs.Trees.{Holds, RootIsIn, IsWhole, IsReading, IsE
 
 use crate::builder::Builder;
 use crate::fault::{FaultKind, Stop, TreeError, YamlFault};
+use crate::hashing::Hashing;
 use crate::tree::Tree;
 use sim_base::NoMemory;
 use std::alloc::Global;
@@ -131,6 +132,7 @@ fn finish(builder: Builder, empty: bool) -> Result<Tree, NoMemory>
     let root = builder.finish()?;
     let Builder {
         alloc: _,
+        hashing: _,
         nodes,
         open_rows: _,
         cells: _,
@@ -151,7 +153,7 @@ fn read_text(alloc: Global, text: &[u8]) -> Result<Tree, TreeError>
     if bytes.len() >= LONGEST {
         return Err(TreeError::NoMemory);
     }
-    let mut builder = Builder::new(alloc);
+    let mut builder = Builder::new(alloc, Hashing::of(bytes));
     let empty = read_lines(&mut builder, bytes)?;
     Ok(finish(builder, empty)?)
 }

@@ -2,6 +2,7 @@
 
 ghost use Rattle.std.specs.Prelude.{◌≡◌, ◌<◌, ◌∷◌, ◌↔◌, List, [], Some, IfOk, OnOk, IsTrue, length, drop};
 ghost use Rattle.yaml_tree.specs.Outline.{is_bracket_of, takes_value, takes_form, takes_name, takes_key, takes_comma, takes_closing, takes_piece, closed, behind, piece_fault, fault_from, flow_fault};
+ghost use Rattle.yaml_tree.specs.Flows.{kind_behind_key};
 ghost use Rattle.yaml_marks.specs.declared.piece.Bracket.{Bracket};
 ghost use Rattle.yaml_tree.specs.declared.shape.Want.TheVariants as want;
 
@@ -199,16 +200,12 @@ impl Shape {
     fn piece_fault(&self, piece: &Piece, rest: &[Piece]) -> FaultKind
         ensures { result ≡ piece_fault piece.now rest.now self.now }
     {
-        let unsupported = match piece {
-            Piece::Opening(_) => !closes_at(rest),
-            Piece::OddPiece(Odd::Unsupported) => true,
-            Piece::OddPiece(Odd::Mark) => self.takes_value(),
-            _ => false,
-        };
-        if unsupported {
-            FaultKind::Unsupported
-        } else {
-            FaultKind::Syntax
+        match piece {
+            Piece::Opening(_) if !closes_at(rest) => FaultKind::Unsupported,
+            Piece::CellScalar(_) if self.takes_key() => kind_behind_key(rest),
+            Piece::OddPiece(Odd::Unsupported) => FaultKind::Unsupported,
+            Piece::OddPiece(Odd::Mark) if self.takes_value() => FaultKind::Unsupported,
+            _ => FaultKind::Syntax,
         }
     }
 
@@ -221,6 +218,18 @@ impl Shape {
             Want::Nothing => None,
             _ => Some(FaultKind::Unsupported),
         }
+    }
+}
+
+/// The kind of fault of what stands behind a key without its colon.
+fn kind_behind_key(rest: &[Piece]) -> FaultKind
+    ensures { result ≡ kind_behind_key rest.now }
+{
+    match rest {
+        [] => FaultKind::Unsupported,
+        [Piece::Opening(_), behind @ ..] if !closes_at(behind) => FaultKind::Unsupported,
+        [Piece::OddPiece(Odd::Unsupported), ..] => FaultKind::Unsupported,
+        _ => FaultKind::Syntax,
     }
 }
 

@@ -6,6 +6,7 @@ ghost use Rattle.yaml_tree.specs.Builder.{new_open};
 ghost use Rattle.yaml_tree.specs.declared.stack.Open.{Open};
 
 use crate::entries::{Child, Entries};
+use crate::hashing::Hashing;
 use crate::known::{GivenName, Known, Measure};
 use crate::node::Value;
 use crate::numbers::Numbers;
@@ -35,6 +36,7 @@ pub(crate) struct Open {
 impl Open {
     pub fn new(
         alloc: Global,
+        hashing: &Hashing,
         depth: u128,
         mapping: bool,
         line: usize,
@@ -48,7 +50,7 @@ impl Open {
             mapping,
             first_line: line,
             items: Numbers::new(alloc),
-            entries: Entries::new(alloc),
+            entries: Entries::new(alloc, hashing),
             line,
             key,
             name,

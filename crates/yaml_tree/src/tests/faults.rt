@@ -19,7 +19,7 @@ fn first_wrong(alloc: Global, rows: &[Row]) -> Option<&'static str> {
     None
 }
 
-const BLOCKS: [Row; 36] = [
+const BLOCKS: [Row; 41] = [
     // block mappings and sequences
     ("a: b: c", 1, FaultKind::Syntax),
     ("a: - b", 1, FaultKind::Syntax),
@@ -36,6 +36,11 @@ const BLOCKS: [Row; 36] = [
     ("a:\n-b\n", 2, FaultKind::Syntax),
     ("x\ny", 2, FaultKind::Syntax),
     ("a: 1\nb", 2, FaultKind::Syntax),
+    ("a: 1\n'' '", 2, FaultKind::Unsupported),
+    ("k: 1\n'b' [", 2, FaultKind::Unsupported),
+    ("k: 1\n'b' []", 2, FaultKind::Syntax),
+    ("k: 1\n 'b' [", 2, FaultKind::Syntax),
+    ("- a\n'b' [", 2, FaultKind::Syntax),
     ("- a:\n - b", 2, FaultKind::Syntax),
     // scalars on one line
     ("a: \"\\q\"", 1, FaultKind::Syntax),
@@ -99,10 +104,15 @@ fn refuses_literal_blocks_and_brackets(rt: HostRuntime) {
     assert_eq!(rt; first_wrong(rt.alloc(), LITERALS.as_slice()), None);
 }
 
-const FLOWS: [Row; 32] = [
+const FLOWS: [Row; 37] = [
     // flow forms
     ("{a}", 1, FaultKind::Syntax),
-    ("{a", 1, FaultKind::Syntax),
+    ("{a", 1, FaultKind::Unsupported),
+    ("{'' '", 1, FaultKind::Unsupported),
+    ("{a: 1, 'b' [c", 1, FaultKind::Unsupported),
+    ("{'a' [b]}", 1, FaultKind::Syntax),
+    ("{'a' !b}", 1, FaultKind::Syntax),
+    ("{'a', b", 1, FaultKind::Syntax),
     ("{a: }", 1, FaultKind::Syntax),
     ("{a: , b: 1}", 1, FaultKind::Syntax),
     ("{a:b}", 1, FaultKind::Syntax),
