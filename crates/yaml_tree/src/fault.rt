@@ -7,7 +7,8 @@ use std::alloc::{AllocError, AllocFailed};
 use std::error::Error;
 use std::fmt;
 
-/// The kinds of fault. Where several stand in one line, an earlier kind comes first.
+/// The kinds of fault. Where a token of a line can't stand, the first such one is `Syntax` or
+/// `Unsupported`; where each can, the first that applies of the last four is told.
 #[derive(Clone, Copy, Debug, PartialEq, Eq)]
 pub enum FaultKind {
     /// The text isn't UTF-8.
