@@ -23,7 +23,7 @@ rounds-preserved g c =
     let told = c.in_ok-put_next.ensures.told in
     let here = told i.at.0 i.at.1 in
     record {
-      at = (here.0, here.2.stands);
+      at = (here.0, here.2.turns.stands);
       come = λ w at stands.
           (let come = i.come w at stands in
           let r = told come.world come.reached.stands in
