@@ -11,7 +11,7 @@ use Rattle.gml_graph.specs.declared.outline.Value.TheVariants as values
 use Rattle.gml_graph.specs.declared.token.Key.{Key}
 use Rattle.gml_graph.specs.declared.token.Key.TheVariants as keys
 use Rattle.gml_graph.specs.declared.outline.Value.{Value}
-use Rattle.gml_graph.specs.declared.outline.Row.{Row}
+use Rattle.gml_graph.specs.declared.outline.OutlineRow.{OutlineRow}
 use Rattle.gml_graph.specs.declared.graph.Node.{Node}
 use Rattle.gml_graph.specs.declared.graph.Edge.{Edge}
 use Rattle.gml_graph.specs.declared.edge.EdgeDraft.{EdgeDraft}
@@ -59,7 +59,7 @@ two (Ok u) (Ok a) g d e h f = as_before d e (g a) h (f a refl)
 two (Ok u) (Err x) g d e h f = absurd (let no : ⊥ = cc in no)
 two (Err x) k g d e h f = absurd (let no : ⊥ = cc in no)
 
-attribute_fits : (k : Key) (nodes : List Node) (d e : EdgeDraft) (r : Row) → Fits d → edge_attribute k nodes d r ≡ Ok e → Fits e
+attribute_fits : (k : Key) (nodes : List Node) (d e : EdgeDraft) (r : OutlineRow) → Fits d → edge_attribute k nodes d r ≡ Ok e → Fits e
 attribute_fits keys.Source nodes d e r f h = two (once (is_some d.source) r.line) (known_id nodes r.value r.line) (λ node. record d { source = Some node }) d e h (λ a _. f)
 attribute_fits keys.Target nodes d e r f h = two (once (is_some d.target) r.line) (known_id nodes r.value r.line) (λ node. record d { target = Some node }) d e h (λ a _. f)
 attribute_fits keys.Latency nodes d e r f h = two (once (is_some d.latency) r.line) (latency_of r.value r.line) (λ latency. record d { latency = Some latency }) d e h (λ t is. latency_cases (time_of r.value) r.line t is)
@@ -75,15 +75,15 @@ attribute_fits keys.HostBandwidthUp nodes d e r f h = as_before d e d h f
 attribute_fits keys.HostBandwidthDown nodes d e r f h = as_before d e d h f
 attribute_fits keys.Other nodes d e r f h = as_before d e d h f
 
-row_cases : (nodes : List Node) (d e : EdgeDraft) (r : Row) (b : Bool) → Fits d → (if b then edge_attribute r.key nodes d r else Ok d) ≡ Ok e → Fits e
+row_cases : (nodes : List Node) (d e : EdgeDraft) (r : OutlineRow) (b : Bool) → Fits d → (if b then edge_attribute r.key nodes d r else Ok d) ≡ Ok e → Fits e
 row_cases nodes d e r true f h = attribute_fits r.key nodes d e r f h
 row_cases nodes d e r false f h = as_before d e d h f
 
-row_fits : (nodes : List Node) (d e : EdgeDraft) (r : Row) → Fits d → edge_row nodes d r ≡ Ok e → Fits e
+row_fits : (nodes : List Node) (d e : EdgeDraft) (r : OutlineRow) → Fits d → edge_row nodes d r ≡ Ok e → Fits e
 unfolding edge_row
 row_fits nodes d e r f h = row_cases nodes d e r (r.depth == 2) f h
 
-rows_fit : (nodes : List Node) (d e : EdgeDraft) (rows : List Row) → Fits d → through (edge_row nodes) d rows ≡ Ok e → Fits e
+rows_fit : (nodes : List Node) (d e : EdgeDraft) (rows : List OutlineRow) → Fits d → through (edge_row nodes) d rows ≡ Ok e → Fits e
 rows_fit nodes d e [] f h = as_before d e d h f
 rows_fit nodes d e (r ∷ rows) f h =
     let p = bind_ok (edge_row nodes d r) (λ next. through (edge_row nodes) next rows) e h in
@@ -133,6 +133,6 @@ all_fit nodes before after (b ∷ bs) f h =
     let p = bind_ok (add_edge nodes before b) (λ next. through (add_edge nodes) next bs) after h in
     all_fit nodes p.0 after bs (add_fits nodes before p.0 b f p.1) p.2
 
-pub edges_fit : (nodes : List Node) (rows : List Row) (es : List Edge) → edges_of nodes rows ≡ Ok es → AreEdges es
+pub edges_fit : (nodes : List Node) (rows : List OutlineRow) (es : List Edge) → edges_of nodes rows ≡ Ok es → AreEdges es
 unfolding edges_of
 edges_fit nodes rows es h = all_fit nodes [] es (blocks parts.Edge rows) (record { few = omega arith; each = All-nil IsEdge }) h

@@ -11,7 +11,7 @@ use Rattle.gml_graph.specs.declared.token.Lexeme.{Lexeme}
 use Rattle.gml_graph.specs.declared.outline.Value.{Value}
 use Rattle.gml_graph.specs.declared.outline.Value.TheVariants as values
 use Rattle.gml_graph.specs.declared.outline.Waiting.{Waiting}
-use Rattle.gml_graph.specs.declared.outline.Row.{Row}
+use Rattle.gml_graph.specs.declared.outline.OutlineRow.{OutlineRow}
 use Rattle.sim_base.specs.Refusals.{◌>>=◌}
 use Rattle.gml_graph.specs.Steps.{through, refused}
 use Rattle.gml_graph.specs.Token.{quoted}
@@ -91,7 +91,7 @@ abbrev closes : ℕ → List Lexeme
 closes zero = []
 closes (suc n) = lexeme 0 Close ∷ closes n
 
-closes_read : (n last : ℕ) (done : List Row) → read (shape last n done) (closes n) ≡ Ok done
+closes_read : (n last : ℕ) (done : List OutlineRow) → read (shape last n done) (closes n) ≡ Ok done
 closes_read zero last done = refl
 closes_read (suc n) last done =
     let P : ℕ → Type 0 = λ m. read (shape last m done) (lexeme 0 Close ∷ closes n) ≡ Ok done in
@@ -99,14 +99,14 @@ closes_read (suc n) last done =
 
 record CanEnd (s : Shape) : Type 0 where
   rest : List Lexeme
-  out : List Row
+  out : List OutlineRow
   ends : read s rest ≡ Ok out
 
-can_end_at : (w : Option Waiting) (last depth : ℕ) (done : List Row) → CanEnd (record { last = last; depth = depth; waiting = w; rows = done })
+can_end_at : (w : Option Waiting) (last depth : ℕ) (done : List OutlineRow) → CanEnd (record { last = last; depth = depth; waiting = w; rows = done })
 unfolding accept
 can_end_at None last depth done = record { rest = closes depth; out = done; ends = closes_read depth last done }
 can_end_at (Some key) last depth done =
-    let row : Row = record { depth = depth; line = key.line; key = key.key; value = values.Text (quoted []) } in
+    let row : OutlineRow = record { depth = depth; line = key.line; key = key.key; value = values.Text (quoted []) } in
     record { rest = lexeme 0 (Text (quoted [])) ∷ closes depth; out = done ++ row ∷ []; ends = closes_read depth last (done ++ row ∷ []) }
 
 can_end : (s : Shape) → CanEnd s
@@ -193,7 +193,7 @@ reason (Some key) Unclosed s line f h = lacks_quote refl (with_row s key (values
 reason (Some key) Odd s line f h = misplaced f h (sym (err_same (fault_at line) f h))
 
 -- the end comes too early
-end_cases : (s : Shape) (f : GmlFault) (b : Bool) → (if b then Ok s.rows else refused {A = List Row} Syntax s.last) ≡ Err f → f ≡ fault_at s.last
+end_cases : (s : Shape) (f : GmlFault) (b : Bool) → (if b then Ok s.rows else refused {A = List OutlineRow} Syntax s.last) ≡ Err f → f ≡ fault_at s.last
 end_cases s f true h = absurd (let no : ⊥ = cc in no)
 end_cases s f false h = sym (err_same (fault_at s.last) f h)
 

@@ -5,7 +5,7 @@ use Rattle.gml_graph.specs.declared.token.Token.{Token}
 use Rattle.gml_graph.specs.declared.token.Token.TheVariants.{Name, Number, Text, Open, Close, Unclosed, Odd}
 use Rattle.gml_graph.specs.declared.token.Lexeme.{Lexeme}
 use Rattle.gml_graph.specs.declared.outline.Waiting.{Waiting}
-use Rattle.gml_graph.specs.declared.outline.Row.{Row}
+use Rattle.gml_graph.specs.declared.outline.OutlineRow.{OutlineRow}
 use Rattle.sim_base.specs.Refusals.{◌>>=◌}
 use Rattle.gml_graph.specs.Steps.{through}
 use Rattle.gml_graph.specs.Token.{quoted}
@@ -21,7 +21,7 @@ record IsAccepted (last : ℕ) (before : List Lexeme) : Type 0 where
   pub reached : Shape
   pub is_reached : through accept (shape last 0 []) before ≡ Ok reached
 
-accepted_cases : (last : ℕ) (before more : List Lexeme) (out : List Row) (r : Result Shape GmlFault) → through accept (shape last 0 []) before ≡ r
+accepted_cases : (last : ℕ) (before more : List Lexeme) (out : List OutlineRow) (r : Result Shape GmlFault) → through accept (shape last 0 []) before ≡ r
     → ((r >>= (λ t. through accept t more)) >>= finish) ≡ Ok out → IsAccepted last before
 accepted_cases last before more out (Ok s) e h = record { reached = s; is_reached = e }
 accepted_cases last before more out (Err f) e h = absurd (let no : ⊥ = cc in no)
@@ -106,13 +106,13 @@ lacks_quote_read last before line token behind e may =
     subst Q (sym e) (quote_read last before line behind (subst P e may))
 
 -- the end
-early_cases : (last : ℕ) (ts : List Lexeme) (reached : Shape) (r : Result (List Row) GmlFault) → through accept (shape last 0 []) ts ≡ Ok reached
-    → ((rows : List Row) → ¬ Spells ts rows) → finish reached ≡ r → read (shape last 0 []) ts ≡ Err (fault_at last)
+early_cases : (last : ℕ) (ts : List Lexeme) (reached : Shape) (r : Result (List OutlineRow) GmlFault) → through accept (shape last 0 []) ts ≡ Ok reached
+    → ((rows : List OutlineRow) → ¬ Spells ts rows) → finish reached ≡ r → read (shape last 0 []) ts ≡ Err (fault_at last)
 early_cases last ts reached (Ok rows) h not_whole e = absurd (not_whole rows (read_spells last ts rows (ap (λ r. r >>= finish) h ∙ e)))
 early_cases last ts reached (Err f) h not_whole e =
     ap (λ r. r >>= finish) h ∙ e ∙ ap (λ d. Err d) (end_reason reached f e ∙ ap fault_at (last_kept last ts reached h))
 
-pub early_read : (last : ℕ) (ts : List Lexeme) → Begins ts → ((rows : List Row) → ¬ Spells ts rows) → read (shape last 0 []) ts ≡ Err (fault_at last)
+pub early_read : (last : ℕ) (ts : List Lexeme) → Begins ts → ((rows : List OutlineRow) → ¬ Spells ts rows) → read (shape last 0 []) ts ≡ Err (fault_at last)
 early_read last ts may not_whole =
     let a = begins_read last ts may in
     early_cases last ts a.reached (finish a.reached) a.is_reached not_whole refl

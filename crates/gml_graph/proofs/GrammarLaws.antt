@@ -4,7 +4,7 @@ use Rattle.gml_graph.specs.declared.fault.GmlFault.{GmlFault}
 use Rattle.gml_graph.specs.declared.fault.GmlKind.{GmlKind}
 use Rattle.gml_graph.specs.declared.fault.GmlKind.TheVariants.{Syntax}
 use Rattle.gml_graph.specs.declared.token.Lexeme.{Lexeme}
-use Rattle.gml_graph.specs.declared.outline.Row.{Row}
+use Rattle.gml_graph.specs.declared.outline.OutlineRow.{OutlineRow}
 use Rattle.gml_graph.specs.Steps.{through}
 use Rattle.gml_graph.specs.Tokens.{tokens}
 use Rattle.gml_graph.specs.Outline.{Shape, accept, last_line, start, outline}
@@ -13,17 +13,17 @@ use Rattle.gml_graph.proofs.GrammarLemmas.{shape, read, spelled_read, read_spell
 use Rattle.gml_graph.proofs.FaultLemmas.{Fails, at_token, at_end, fails, Reason, misplaced, lacks_quote, reason, end_reason, last_kept, reached_begins, accepted_begins, refused_begins, fault_at}
 use Rattle.gml_graph.proofs.FirstFaultLemmas.{misplaced_read, lacks_quote_read, early_read}
 
-spells_read : (ts : List Lexeme) (rows : List Row) → Spells ts rows → (last : ℕ) → read (shape last 0 []) ts ≡ Ok rows
+spells_read : (ts : List Lexeme) (rows : List OutlineRow) → Spells ts rows → (last : ℕ) → read (shape last 0 []) ts ≡ Ok rows
 spells_read ts rows s last =
     ap (λ t. read (shape last 0 []) t) (sym s.as_tokens) ∙ spelled_read s.pairs last s.nested ∙ ap (λ r. Ok r) s.as_rows
 
 -- an outline has the rows of pairs that the tokens spell
-pub outline-Ok : (text : List ℕ) (rows : List Row) → outline text ≡ Ok rows → Spells (tokens text) rows
+pub outline-Ok : (text : List ℕ) (rows : List OutlineRow) → outline text ≡ Ok rows → Spells (tokens text) rows
 unfolding outline
 outline-Ok text rows h = read_spells (last_line text) (tokens text) rows h
 
 -- pairs that the tokens spell have their rows in the outline
-pub Spells-outline : (text : List ℕ) (rows : List Row) → Spells (tokens text) rows → outline text ≡ Ok rows
+pub Spells-outline : (text : List ℕ) (rows : List OutlineRow) → Spells (tokens text) rows → outline text ≡ Ok rows
 unfolding outline
 Spells-outline text rows s = spells_read (tokens text) rows s (last_line text)
 
@@ -64,7 +64,7 @@ first_fault last ts f e (at_token before reached x behind h t a) =
     token_fault last ts before reached x behind f h t (reason reached.waiting x.token reached x.line f a)
 first_fault last ts f e (at_end reached h a) =
     let is = end_reason reached f a in
-    let not_whole : (rows : List Row) → ¬ Spells ts rows = λ rows s.
+    let not_whole : (rows : List OutlineRow) → ¬ Spells ts rows = λ rows s.
     let whole = spells_read ts rows s last in
     let no : ⊥ = cc in no in
     (ap (λ d. d.kind) is, inr (ap (λ d. d.line) is ∙ last_kept last ts reached h, inr (record { may = reached_begins last ts reached h; not_whole = not_whole })))

@@ -14,7 +14,7 @@ use Rattle.gml_graph.specs.declared.token.Token.TheVariants.{Name, Number, Text,
 use Rattle.gml_graph.specs.declared.token.Lexeme.{Lexeme}
 use Rattle.gml_graph.specs.declared.outline.Value.{Value}
 use Rattle.gml_graph.specs.declared.outline.Value.TheVariants as values
-use Rattle.gml_graph.specs.declared.outline.Row.{Row}
+use Rattle.gml_graph.specs.declared.outline.OutlineRow.{OutlineRow}
 use Rattle.sim_base.specs.Refusals.{◌>>=◌}
 use Rattle.gml_graph.specs.Steps.{through, refused}
 use Rattle.gml_graph.specs.Tokens.{lexeme}
@@ -23,21 +23,21 @@ use Rattle.gml_graph.specs.Grammar.{Pairs, no_pairs, with_number, with_text, wit
 use Rattle.gml_graph.proofs.EdgeLemmas.{ok_same}
 
 -- what was read where no key waits
-abbrev pub shape : ℕ → ℕ → List Row → Shape
+abbrev pub shape : ℕ → ℕ → List OutlineRow → Shape
 shape last depth rows = record { last = last; depth = depth; waiting = None; rows = rows }
 
 -- and where one waits
-abbrev pub waits : ℕ → ℕ → ℕ → Key → List Row → Shape
+abbrev pub waits : ℕ → ℕ → ℕ → Key → List OutlineRow → Shape
 waits last depth line key rows = record { last = last; depth = depth; waiting = Some (record { line = line; key = key }); rows = rows }
 
-abbrev pub read : Shape → List Lexeme → Result (List Row) GmlFault
+abbrev pub read : Shape → List Lexeme → Result (List OutlineRow) GmlFault
 read s ts = through accept s ts >>= finish
 
-abbrev row : ℕ → ℕ → Key → Value → Row
+abbrev row : ℕ → ℕ → Key → Value → OutlineRow
 row depth line key value = record { depth = depth; line = line; key = key; value = value }
 
 -- the pairs that were spelled are read
-open_step : (last depth line at : ℕ) (key : Key) (rows : List Row) (rest : List Lexeme) → depth < 16
+open_step : (last depth line at : ℕ) (key : Key) (rows : List OutlineRow) (rest : List Lexeme) → depth < 16
     → through accept (shape last depth rows) (lexeme line (Name key) ∷ lexeme at Open ∷ rest)
     ≡ through accept (shape last (depth + 1) (rows ++ row depth line key values.List ∷ [])) rest
 unfolding accept
@@ -45,7 +45,7 @@ open_step last depth line at key rows rest h =
     let e : nat_le 16 depth ≡ false = grind (arith, nat_tests) in
     rw e refl
 
-pub close_step : (last depth line : ℕ) (rows : List Row) (rest : List Lexeme)
+pub close_step : (last depth line : ℕ) (rows : List OutlineRow) (rest : List Lexeme)
     → through accept (shape last (depth + 1) rows) (lexeme line Close ∷ rest) ≡ through accept (shape last depth rows) rest
 unfolding accept
 close_step last depth line rows rest =
@@ -53,7 +53,7 @@ close_step last depth line rows rest =
     let back : (depth + 1) - 1 ≡ depth = omega arith in
     rw (e, back) refl
 
-pub pairs_read : (ps : Pairs) (last depth : ℕ) (done : List Row) (rest : List Lexeme) → depth + height ps ≤ 16
+pub pairs_read : (ps : Pairs) (last depth : ℕ) (done : List OutlineRow) (rest : List Lexeme) → depth + height ps ≤ 16
     → through accept (shape last depth done) (spelled ps ++ rest) ≡ through accept (shape last depth (done ++ rows_of depth ps)) rest
 unfolding accept
 pairs_read no_pairs last depth done rest h = ap (λ r. through accept (shape last depth r) rest) (sym (append-nil done))
@@ -67,8 +67,8 @@ pairs_read (with_text line key at text ps) last depth done rest h =
     ∙ ap (λ r. through accept (shape last depth r) rest) (append_assoc done (new ∷ []) (rows_of depth ps))
 pairs_read (with_list line key at inner end ps) last depth done rest h =
     let new = row depth line key values.List in
-    let here : List Row = done ++ new ∷ [] in
-    let all : List Row = here ++ rows_of (depth + 1) inner in
+    let here : List OutlineRow = done ++ new ∷ [] in
+    let all : List OutlineRow = here ++ rows_of (depth + 1) inner in
     ap (λ t. through accept (shape last depth done) (lexeme line (Name key) ∷ lexeme at Open ∷ t)) (append_assoc (spelled inner) (lexeme end Close ∷ spelled ps) rest)
     ∙ open_step last depth line at key done (spelled inner ++ (lexeme end Close ∷ (spelled ps ++ rest))) (omega arith)
     ∙ pairs_read inner last (depth + 1) here (lexeme end Close ∷ (spelled ps ++ rest)) (omega arith)
@@ -94,7 +94,7 @@ abbrev spelled_ends : Ends → List Lexeme
 spelled_ends no_ends = []
 spelled_ends (with_end end behind outer) = lexeme end Close ∷ (spelled behind ++ spelled_ends outer)
 
-abbrev rows_behind : Ends → List Row
+abbrev rows_behind : Ends → List OutlineRow
 rows_behind no_ends = []
 rows_behind (with_end end behind outer) = rows_of (count outer) behind ++ rows_behind outer
 
@@ -103,7 +103,7 @@ Fit no_ends = Unit {0}
 Fit (with_end end behind outer) = (count outer + height behind ≤ 16) × Fit outer
 
 -- what the tokens spell where so many lists are open and these rows were read
-record IsRead (depth : ℕ) (done : List Row) (ts : List Lexeme) (out : List Row) : Type 0 where
+record IsRead (depth : ℕ) (done : List OutlineRow) (ts : List Lexeme) (out : List OutlineRow) : Type 0 where
   pairs : Pairs
   ends : Ends
   as_many : count ends ≡ depth
@@ -113,10 +113,10 @@ record IsRead (depth : ℕ) (done : List Row) (ts : List Lexeme) (out : List Row
   as_rows : done ++ (rows_of depth pairs ++ rows_behind ends) ≡ out
 
 abbrev Reads : ℕ → List Lexeme → Type 0
-Reads last ts = (depth : ℕ) (done out : List Row) → depth ≤ 16 → read (shape last depth done) ts ≡ Ok out → IsRead depth done ts out
+Reads last ts = (depth : ℕ) (done out : List OutlineRow) → depth ≤ 16 → read (shape last depth done) ts ≡ Ok out → IsRead depth done ts out
 
 abbrev ReadsBehind : ℕ → List Lexeme → Type 0
-ReadsBehind last ts = (line : ℕ) (key : Key) (depth : ℕ) (done out : List Row) → depth ≤ 16
+ReadsBehind last ts = (line : ℕ) (key : Key) (depth : ℕ) (done out : List OutlineRow) → depth ≤ 16
     → read (waits last depth line key done) ts ≡ Ok out → IsRead depth done (lexeme line (Name key) ∷ ts) out
 
 number_named : (n k : ℕ) → (n == k) ≡ true → n ≡ k
@@ -126,8 +126,8 @@ not_named : (n k : ℕ) → (n == k) ≡ false → n ≢ k
 not_named n k h = grind (arith, nat_tests)
 
 -- at the end of the tokens
-end_cases : (last depth : ℕ) (done out : List Row) (b : Bool) → b ≡ (depth == 0) → depth ≤ 16
-    → (if b then Ok done else refused {A = List Row} Syntax last) ≡ Ok out → IsRead depth done [] out
+end_cases : (last depth : ℕ) (done out : List OutlineRow) (b : Bool) → b ≡ (depth == 0) → depth ≤ 16
+    → (if b then Ok done else refused {A = List OutlineRow} Syntax last) ≡ Ok out → IsRead depth done [] out
 end_cases last depth done out true e deep h = record {
   pairs = no_pairs;
   ends = no_ends;
@@ -140,7 +140,7 @@ end_cases last depth done out true e deep h = record {
 end_cases last depth done out false e deep h = absurd (let no : ⊥ = cc in no)
 
 -- behind the end of a list
-closed_read : (line depth inner : ℕ) (done : List Row) (ts : List Lexeme) (out : List Row) → inner + 1 ≡ depth → depth ≤ 16
+closed_read : (line depth inner : ℕ) (done : List OutlineRow) (ts : List Lexeme) (out : List OutlineRow) → inner + 1 ≡ depth → depth ≤ 16
     → IsRead inner done ts out → IsRead depth done (lexeme line Close ∷ ts) out
 closed_read line depth inner done ts out e deep r = record {
   pairs = no_pairs;
@@ -152,7 +152,7 @@ closed_read line depth inner done ts out e deep r = record {
   as_rows = ap (λ n. done ++ (rows_of n r.pairs ++ rows_behind r.ends)) r.as_many ∙ r.as_rows;
 }
 
-close_cases : (last line depth : ℕ) (done : List Row) (ts : List Lexeme) (out : List Row) (b : Bool) → b ≡ (depth == 0) → depth ≤ 16 → Reads last ts
+close_cases : (last line depth : ℕ) (done : List OutlineRow) (ts : List Lexeme) (out : List OutlineRow) (b : Bool) → b ≡ (depth == 0) → depth ≤ 16 → Reads last ts
     → (((if b then refused {A = Shape} Syntax line else Ok (shape last (depth - 1) done)) >>= (λ next. through accept next ts)) >>= finish) ≡ Ok out
     → IsRead depth done (lexeme line Close ∷ ts) out
 close_cases last line depth done ts out true e deep reads h = absurd (let no : ⊥ = cc in no)
@@ -172,7 +172,7 @@ key_read last line Unclosed ts reads behind depth done out deep h = absurd (let 
 key_read last line Odd ts reads behind depth done out deep h = absurd (let no : ⊥ = cc in no)
 
 -- a pair more in front
-number_first : (line : ℕ) (key : Key) (at : ℕ) (number : Decimal) (depth : ℕ) (done : List Row) (ts : List Lexeme) (out : List Row)
+number_first : (line : ℕ) (key : Key) (at : ℕ) (number : Decimal) (depth : ℕ) (done : List OutlineRow) (ts : List Lexeme) (out : List OutlineRow)
     → IsRead depth (done ++ row depth line key (values.Number number) ∷ []) ts out
     → IsRead depth done (lexeme line (Name key) ∷ lexeme at (Number number) ∷ ts) out
 number_first line key at number depth done ts out r = record {
@@ -185,7 +185,7 @@ number_first line key at number depth done ts out r = record {
   as_rows = sym (append_assoc done (row depth line key (values.Number number) ∷ []) (rows_of depth r.pairs ++ rows_behind r.ends)) ∙ r.as_rows;
 }
 
-text_first : (line : ℕ) (key : Key) (at : ℕ) (text : Quoted) (depth : ℕ) (done : List Row) (ts : List Lexeme) (out : List Row)
+text_first : (line : ℕ) (key : Key) (at : ℕ) (text : Quoted) (depth : ℕ) (done : List OutlineRow) (ts : List Lexeme) (out : List OutlineRow)
     → IsRead depth (done ++ row depth line key (values.Text text) ∷ []) ts out
     → IsRead depth done (lexeme line (Name key) ∷ lexeme at (Text text) ∷ ts) out
 text_first line key at text depth done ts out r = record {
@@ -199,7 +199,7 @@ text_first line key at text depth done ts out r = record {
 }
 
 -- a list in front, whose end comes first
-list_first : (line : ℕ) (key : Key) (at depth : ℕ) (done : List Row) (ts : List Lexeme) (out : List Row) (inner : Pairs) (ends : Ends)
+list_first : (line : ℕ) (key : Key) (at depth : ℕ) (done : List OutlineRow) (ts : List Lexeme) (out : List OutlineRow) (inner : Pairs) (ends : Ends)
     → count ends ≡ depth + 1
     → spelled inner ++ spelled_ends ends ≡ ts
     → (depth + 1) + height inner ≤ 16
@@ -210,8 +210,8 @@ list_first line key at depth done ts out inner no_ends c t n f r = absurd (omega
 list_first line key at depth done ts out inner (with_end end behind outer) c t n f r =
     let new = row depth line key values.List in
     let as_many : count outer ≡ depth = omega arith in
-    let within : List Row = rows_of (depth + 1) inner in
-    let after : List Row = rows_of depth behind in
+    let within : List OutlineRow = rows_of (depth + 1) inner in
+    let after : List OutlineRow = rows_of depth behind in
     record {
       pairs = with_list line key at inner end behind;
       ends = outer;
@@ -226,7 +226,7 @@ list_first line key at depth done ts out inner (with_end end behind outer) c t n
           ∙ r;
     }
 
-open_cases : (last line : ℕ) (key : Key) (at depth : ℕ) (done : List Row) (ts : List Lexeme) (out : List Row) (b : Bool) → b ≡ nat_le 16 depth → Reads last ts
+open_cases : (last line : ℕ) (key : Key) (at depth : ℕ) (done : List OutlineRow) (ts : List Lexeme) (out : List OutlineRow) (b : Bool) → b ≡ nat_le 16 depth → Reads last ts
     → ((((if b then refused {A = Value} Syntax at else Ok values.List) >>= (λ value. Ok (with_row (waits last depth line key done) (record { line = line; key = key }) value))) >>= (λ next. through accept next ts)) >>= finish) ≡ Ok out
     → IsRead depth done (lexeme line (Name key) ∷ lexeme at Open ∷ ts) out
 open_cases last line key at depth done ts out true e reads h = absurd (let no : ⊥ = cc in no)
@@ -257,7 +257,7 @@ all_read last (x ∷ ts) =
     let rest = all_read last ts in
     (key_read last x.line x.token ts rest.0 rest.1, value_read last x.line x.token ts rest.0)
 
-whole : (ts : List Lexeme) (out : List Row) (pairs : Pairs) (ends : Ends) → count ends ≡ 0 → spelled pairs ++ spelled_ends ends ≡ ts
+whole : (ts : List Lexeme) (out : List OutlineRow) (pairs : Pairs) (ends : Ends) → count ends ≡ 0 → spelled pairs ++ spelled_ends ends ≡ ts
     → height pairs ≤ 16 → rows_of 0 pairs ++ rows_behind ends ≡ out → Spells ts out
 whole ts out pairs no_ends c t n r = record {
   pairs = pairs;
@@ -267,7 +267,7 @@ whole ts out pairs no_ends c t n r = record {
 }
 whole ts out pairs (with_end end behind outer) c t n r = absurd (omega arith)
 
-pub read_spells : (last : ℕ) (ts : List Lexeme) (out : List Row) → read (shape last 0 []) ts ≡ Ok out → Spells ts out
+pub read_spells : (last : ℕ) (ts : List Lexeme) (out : List OutlineRow) → read (shape last 0 []) ts ≡ Ok out → Spells ts out
 read_spells last ts out h =
     let r = (all_read last ts).0 0 [] out (omega arith) h in
     whole ts out r.pairs r.ends r.as_many r.as_tokens (omega (arith, r.nested)) r.as_rows

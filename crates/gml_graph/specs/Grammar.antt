@@ -10,7 +10,7 @@ use Rattle.gml_graph.specs.declared.token.Token.{Token}
 use Rattle.gml_graph.specs.declared.token.Token.TheVariants.{Name, Number, Text, Open, Close, Unclosed, Odd}
 use Rattle.gml_graph.specs.declared.token.Lexeme.{Lexeme}
 use Rattle.gml_graph.specs.declared.outline.Value.TheVariants as values
-use Rattle.gml_graph.specs.declared.outline.Row.{Row}
+use Rattle.gml_graph.specs.declared.outline.OutlineRow.{OutlineRow}
 use Rattle.gml_graph.specs.Token.{quoted}
 use Rattle.gml_graph.specs.Tokens.{lexeme}
 
@@ -36,14 +36,14 @@ height (with_text line key at text behind) = height behind
 height (with_list line key at inner end behind) = max (1 + height inner) (height behind)
 
 -- their rows, each pair at its depth, a list before its pairs
-abbrev pub rows_of : ℕ → Pairs → List Row
+abbrev pub rows_of : ℕ → Pairs → List OutlineRow
 rows_of depth no_pairs = []
 rows_of depth (with_number line key at number behind) = record { depth = depth; line = line; key = key; value = values.Number number } ∷ rows_of depth behind
 rows_of depth (with_text line key at text behind) = record { depth = depth; line = line; key = key; value = values.Text text } ∷ rows_of depth behind
 rows_of depth (with_list line key at inner end behind) = record { depth = depth; line = line; key = key; value = values.List } ∷ (rows_of (depth + 1) inner ++ rows_of depth behind)
 
 -- The tokens spell pairs that have these rows.
-pub record Spells (tokens : List Lexeme) (rows : List Row) : Type 0 where
+pub record Spells (tokens : List Lexeme) (rows : List OutlineRow) : Type 0 where
   pub pairs : Pairs
   pub as_tokens : spelled pairs ≡ tokens
   pub nested : height pairs ≤ 16
@@ -91,7 +91,7 @@ pub record LacksQuote (tokens : List Lexeme) : Type 0 where
 -- The tokens spell no pairs, but with more behind them they would.
 pub record EndsEarly (tokens : List Lexeme) : Type 0 where
   pub may : Begins tokens
-  pub not_whole : (rows : List Row) → ¬ Spells tokens rows
+  pub not_whole : (rows : List OutlineRow) → ¬ Spells tokens rows
 
 -- The first fault of the tokens of a text with this last line: a token that can't stand where it stands, or the text ends
 -- too early.

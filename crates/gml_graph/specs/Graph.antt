@@ -8,7 +8,7 @@ use Rattle.gml_graph.specs.declared.token.Key.{Key}
 use Rattle.gml_graph.specs.declared.token.Key.TheVariants as keys
 use Rattle.gml_graph.specs.declared.outline.Value.{Value}
 use Rattle.gml_graph.specs.declared.outline.Value.TheVariants as values
-use Rattle.gml_graph.specs.declared.outline.Row.{Row}
+use Rattle.gml_graph.specs.declared.outline.OutlineRow.{OutlineRow}
 use Rattle.gml_graph.specs.declared.graph.Node.{Node}
 use Rattle.gml_graph.specs.declared.graph.Edge.{Edge}
 use Rattle.gml_graph.specs.declared.graph.Graph.{Graph}
@@ -40,22 +40,22 @@ depth_of parts.Directed = 1
 depth_of parts.Node = 1
 depth_of parts.Edge = 1
 
-abbrev pub is_block : Part → Row → Bool
+abbrev pub is_block : Part → OutlineRow → Bool
 is_block part r = r.depth == depth_of part && names part r.key
 
 -- the rows at the front that lie deeper
-abbrev pub inside : ℕ → List Row → List Row
+abbrev pub inside : ℕ → List OutlineRow → List OutlineRow
 inside depth rows = take (prefix_len (λ r. nat_lt depth r.depth) rows) rows
 
 pub record Block : Type 0 where
   pub line : ℕ
   pub value : Value
-  pub rows : List Row
+  pub rows : List OutlineRow
 
-abbrev pub block : Row → List Row → Block
+abbrev pub block : OutlineRow → List OutlineRow → Block
 block r rest = record { line = r.line; value = r.value; rows = inside r.depth rest }
 
-abbrev pub blocks : Part → List Row → List Block
+abbrev pub blocks : Part → List OutlineRow → List Block
 blocks part [] = []
 blocks part (r ∷ rest) = (if is_block part r then block r rest ∷ [] else []) ++ blocks part rest
 
@@ -126,12 +126,12 @@ abbrev pub only : {A : Type 0} → A → List Block → Result A GmlFault
 only x [] = Ok x
 only x (b ∷ bs) = refused kinds.Duplicate b.line
 
-abbrev pub graph_in : List Block → Result (List Row) GmlFault
+abbrev pub graph_in : List Block → Result (List OutlineRow) GmlFault
 graph_in [] = refused kinds.Missing 1
 graph_in (b ∷ bs) = list_at b.value b.line >>= λ _. only b.rows bs
 
 -- the rows in the one graph of a text
-unfoldable pub graph_rows : List Row → Result (List Row) GmlFault
+unfoldable pub graph_rows : List OutlineRow → Result (List OutlineRow) GmlFault
 graph_rows rows = graph_in (blocks parts.Graph rows)
 
 abbrev pub directed_in : List Block → Result Bool GmlFault
@@ -139,7 +139,7 @@ directed_in [] = Ok false
 directed_in (b ∷ bs) = valued (truth_of b.value) b.line >>= λ d. only d bs
 
 -- whether edges go one way alone; they go both ways where nothing is said
-unfoldable pub is_directed : List Row → Result Bool GmlFault
+unfoldable pub is_directed : List OutlineRow → Result Bool GmlFault
 is_directed rows = directed_in (blocks parts.Directed rows)
 
 -- NODES
@@ -147,7 +147,7 @@ is_directed rows = directed_in (blocks parts.Directed rows)
 abbrev pub knows : List Node → ℕ → Bool
 knows nodes id = list_any (λ n. n.id == id) nodes
 
-abbrev pub node_attribute : Key → List Node → NodeDraft → Row → Result NodeDraft GmlFault
+abbrev pub node_attribute : Key → List Node → NodeDraft → OutlineRow → Result NodeDraft GmlFault
 node_attribute keys.Id before d r = do
   _ ← once (is_some d.id) r.line
   id ← valued (id_of r.value) r.line
@@ -167,7 +167,7 @@ node_attribute keys.Label before d r = do
 node_attribute k before d r = Ok d
 
 -- A row of a node; rows that lie deeper are parts of unknown attributes.
-unfoldable pub node_row : List Node → NodeDraft → Row → Result NodeDraft GmlFault
+unfoldable pub node_row : List Node → NodeDraft → OutlineRow → Result NodeDraft GmlFault
 node_row before d r = if r.depth == 2 then node_attribute r.key before d r else Ok d
 
 abbrev pub new_node : NodeDraft
@@ -195,7 +195,7 @@ add_node before b = do
   n ← node_of before b
   Ok (before ++ n ∷ [])
 
-unfoldable pub nodes_of : List Row → Result (List Node) GmlFault
+unfoldable pub nodes_of : List OutlineRow → Result (List Node) GmlFault
 nodes_of rows = through add_node [] (blocks parts.Node rows)
 
 -- EDGES
@@ -206,7 +206,7 @@ known_id nodes v line = do
   id ← valued (id_of v) line
   if knows nodes id then Ok id else refused kinds.UnknownNode line
 
-abbrev pub edge_attribute : Key → List Node → EdgeDraft → Row → Result EdgeDraft GmlFault
+abbrev pub edge_attribute : Key → List Node → EdgeDraft → OutlineRow → Result EdgeDraft GmlFault
 edge_attribute keys.Source nodes d r = do
   _ ← once (is_some d.source) r.line
   node ← known_id nodes r.value r.line
@@ -232,7 +232,7 @@ edge_attribute keys.Label nodes d r = do
   Ok (record d { labelled = true })
 edge_attribute k nodes d r = Ok d
 
-unfoldable pub edge_row : List Node → EdgeDraft → Row → Result EdgeDraft GmlFault
+unfoldable pub edge_row : List Node → EdgeDraft → OutlineRow → Result EdgeDraft GmlFault
 edge_row nodes d r = if r.depth == 2 then edge_attribute r.key nodes d r else Ok d
 
 abbrev pub new_edge : EdgeDraft
@@ -258,13 +258,13 @@ add_edge nodes before b = do
   e ← edge_of nodes (length before) b
   Ok (before ++ e ∷ [])
 
-unfoldable pub edges_of : List Node → List Row → Result (List Edge) GmlFault
+unfoldable pub edges_of : List Node → List OutlineRow → Result (List Edge) GmlFault
 edges_of nodes rows = through (add_edge nodes) [] (blocks parts.Edge rows)
 
 -- THE WHOLE
 
 -- the graph of the rows of a text
-unfoldable pub graph_of : List Row → Result Graph GmlFault
+unfoldable pub graph_of : List OutlineRow → Result Graph GmlFault
 graph_of rows = do
   inner ← graph_rows rows
   directed ← is_directed inner

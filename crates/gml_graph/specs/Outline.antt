@@ -9,7 +9,7 @@ use Rattle.gml_graph.specs.declared.token.Lexeme.{Lexeme}
 use Rattle.gml_graph.specs.declared.outline.Value.{Value}
 use Rattle.gml_graph.specs.declared.outline.Value.TheVariants as values
 use Rattle.gml_graph.specs.declared.outline.Waiting.{Waiting}
-use Rattle.gml_graph.specs.declared.outline.Row.{Row}
+use Rattle.gml_graph.specs.declared.outline.OutlineRow.{OutlineRow}
 use Rattle.sim_base.specs.Refusals.{◌>>=◌}
 use Rattle.gml_graph.specs.Steps.{through, refused}
 use Rattle.gml_graph.specs.Tokens.{next_line, tokens}
@@ -20,7 +20,7 @@ pub record Shape : Type 0 where
   pub last : ℕ
   pub depth : ℕ
   pub waiting : Option Waiting
-  pub rows : List Row
+  pub rows : List OutlineRow
 
 -- lists lie at most 16 deep
 abbrev pub value_of : Shape → ℕ → Token → Result Value GmlFault
@@ -67,7 +67,7 @@ unfoldable pub accept : Shape → Lexeme → Result Shape GmlFault
 accept s x = accept_at s.waiting s x.line x.token
 
 -- at the end no list is open and no key waits
-abbrev pub finish : Shape → Result (List Row) GmlFault
+abbrev pub finish : Shape → Result (List OutlineRow) GmlFault
 finish s = if is_none s.waiting && s.depth == 0 then Ok s.rows else refused Syntax s.last
 
 -- the line of the last byte
@@ -78,5 +78,5 @@ abbrev pub start : List ℕ → Shape
 start text = record { last = last_line text; depth = 0; waiting = None; rows = [] }
 
 -- the rows of a text, or its first token that can't stand where it stands
-unfoldable pub outline : List ℕ → Result (List Row) GmlFault
+unfoldable pub outline : List ℕ → Result (List OutlineRow) GmlFault
 outline text = through accept (start text) (tokens text) >>= finish

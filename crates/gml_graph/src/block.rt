@@ -5,7 +5,7 @@ ghost use Rattle.gml_graph.specs.Graph.{names, depth_of, is_block, inside, block
 ghost use Rattle.gml_graph.specs.Steps.{Sees};
 
 use crate::fault::{GmlFault, GmlKind};
-use crate::outline::Row;
+use crate::outline::OutlineRow;
 use crate::token::Key;
 use crate::value::{check_list, truth};
 
@@ -39,14 +39,14 @@ fn depth(part: Part) -> u8
     }
 }
 
-fn is_part_of(part: Part, row: &Row) -> bool
+fn is_part_of(part: Part, row: &OutlineRow) -> bool
     ensures { result ≡ is_block part row.now }
 {
     row.depth == depth(part) && is_named(part, row.key)
 }
 
 /// The first of the blocks, and the rows behind its row.
-pub fn next_block(part: Part, rows: &[Row]) -> Option<(&Row, &[Row])>
+pub fn next_block(part: Part, rows: &[OutlineRow]) -> Option<(&OutlineRow, &[OutlineRow])>
     ensures { MatchOption result (blocks part rows.now ≡ [])
         (λ x. (blocks part rows.now ≡ block x.0.now x.1.now ∷ blocks part x.1.now) × (length x.1.now < length rows.now)) }
 {
@@ -61,7 +61,7 @@ pub fn next_block(part: Part, rows: &[Row]) -> Option<(&Row, &[Row])>
 }
 
 /// The rows at the front that lie deeper.
-pub fn rows_inside(depth: u8, rows: &[Row]) -> &[Row]
+pub fn rows_inside(depth: u8, rows: &[OutlineRow]) -> &[OutlineRow]
     ensures { result.now ≡ inside depth rows.now }
 {
     let mut count = 0;
@@ -72,7 +72,7 @@ pub fn rows_inside(depth: u8, rows: &[Row]) -> &[Row]
 }
 
 /// No block follows.
-fn check_last(part: Part, rows: &[Row]) -> Result<(), GmlFault>
+fn check_last(part: Part, rows: &[OutlineRow]) -> Result<(), GmlFault>
     ensures { result ≡ only tt (blocks part rows.now) }
 {
     match next_block(part, rows) {
@@ -86,7 +86,7 @@ fn check_last(part: Part, rows: &[Row]) -> Result<(), GmlFault>
 
 /// The rows in the one graph.
 #[tactic(auto, unfolding(crate::specs::Graph::graph_rows))]
-pub fn read_graph_rows(rows: &[Row]) -> Result<&[Row], GmlFault>
+pub fn read_graph_rows(rows: &[OutlineRow]) -> Result<&[OutlineRow], GmlFault>
     ensures { Sees (λ found. found.now) result (graph_rows rows.now) }
 {
     match next_block(Part::Graph, rows) {
@@ -104,7 +104,7 @@ pub fn read_graph_rows(rows: &[Row]) -> Result<&[Row], GmlFault>
 
 /// Whether edges go one way alone.
 #[tactic(auto, unfolding(crate::specs::Graph::is_directed))]
-pub fn read_directed(rows: &[Row]) -> Result<bool, GmlFault>
+pub fn read_directed(rows: &[OutlineRow]) -> Result<bool, GmlFault>
     ensures { result ≡ is_directed rows.now }
 {
     match next_block(Part::Directed, rows) {

@@ -8,7 +8,7 @@ use crate::block::{Part, next_block, rows_inside};
 use crate::fault::{GmlError, GmlFault, GmlKind};
 use crate::graph::{Edge, Edges};
 use crate::node::NodeTable;
-use crate::outline::Row;
+use crate::outline::OutlineRow;
 use crate::token::Key;
 use crate::value::{
     check_list, check_once, check_room, id, latency, loss, required, required_time, time,
@@ -34,7 +34,7 @@ pub struct EdgeDraft {
 }
 
 /// The id of some node.
-fn id_of(nodes: &NodeTable, row: &Row) -> Result<u32, GmlFault>
+fn id_of(nodes: &NodeTable, row: &OutlineRow) -> Result<u32, GmlFault>
     ensures { result ≡ known_id nodes.now row.now.value row.now.line }
 {
     let id = id(row.value, row.line)?;
@@ -47,13 +47,17 @@ fn id_of(nodes: &NodeTable, row: &Row) -> Result<u32, GmlFault>
     Ok(id)
 }
 
-fn read_latency(row: &Row) -> Result<Time, GmlFault>
+fn read_latency(row: &OutlineRow) -> Result<Time, GmlFault>
     ensures { result ≡ latency_of row.now.value row.now.line }
 {
     latency(time(row.value, row.line)?, row.line)
 }
 
-fn read_attribute(nodes: &NodeTable, draft: EdgeDraft, row: &Row) -> Result<EdgeDraft, GmlFault>
+fn read_attribute(
+    nodes: &NodeTable,
+    draft: EdgeDraft,
+    row: &OutlineRow,
+) -> Result<EdgeDraft, GmlFault>
     ensures { result ≡ edge_attribute row.now.key nodes.now draft row.now }
 {
     let mut draft = draft;
@@ -89,7 +93,7 @@ fn read_attribute(nodes: &NodeTable, draft: EdgeDraft, row: &Row) -> Result<Edge
 }
 
 #[tactic(auto, unfolding(crate::specs::Graph::edge_row))]
-fn read_row(nodes: &NodeTable, draft: EdgeDraft, row: &Row) -> Result<EdgeDraft, GmlFault>
+fn read_row(nodes: &NodeTable, draft: EdgeDraft, row: &OutlineRow) -> Result<EdgeDraft, GmlFault>
     ensures { result ≡ edge_row nodes.now draft row.now }
 {
     if row.depth == 2 {
@@ -98,7 +102,7 @@ fn read_row(nodes: &NodeTable, draft: EdgeDraft, row: &Row) -> Result<EdgeDraft,
     Ok(draft)
 }
 
-fn read_rows(nodes: &NodeTable, rows: &[Row]) -> Result<EdgeDraft, GmlFault>
+fn read_rows(nodes: &NodeTable, rows: &[OutlineRow]) -> Result<EdgeDraft, GmlFault>
     ensures { result ≡ through (edge_row nodes.now) new_edge rows.now }
 {
     let mut draft = EdgeDraft {
@@ -132,7 +136,12 @@ fn finish(line: u64, draft: EdgeDraft) -> Result<Edge, GmlFault>
 
 /// Reads the edge of a row and of the rows inside it, behind `count` others.
 #[tactic(auto, unfolding(crate::specs::Graph::edge_of))]
-fn read_edge(nodes: &NodeTable, count: usize, row: &Row, behind: &[Row]) -> Result<Edge, GmlFault>
+fn read_edge(
+    nodes: &NodeTable,
+    count: usize,
+    row: &OutlineRow,
+    behind: &[OutlineRow],
+) -> Result<Edge, GmlFault>
     ensures { result ≡ edge_of nodes.now count (block row.now behind.now) }
 {
     check_list(row.value, row.line)?;
@@ -143,7 +152,7 @@ fn read_edge(nodes: &NodeTable, count: usize, row: &Row, behind: &[Row]) -> Resu
 
 /// Reads all edges.
 #[tactic(auto, unfolding(crate::specs::Graph::edges_of, crate::specs::Graph::add_edge))]
-pub fn read_edges(alloc: Global, nodes: &NodeTable, rows: &[Row]) -> Result<Edges, GmlError>
+pub fn read_edges(alloc: Global, nodes: &NodeTable, rows: &[OutlineRow]) -> Result<Edges, GmlError>
     ensures { Gives (λ edges. edges) result (edges_of nodes.now rows.now) }
 {
     let mut edges = Vec::new(alloc);

@@ -8,7 +8,7 @@ ghost use Rattle.gml_graph.specs.Graph.{Block, block, inside, knows, needed, wit
 use crate::block::{Part, next_block, rows_inside};
 use crate::fault::{GmlError, GmlFault};
 use crate::graph::{Node, Nodes};
-use crate::outline::Row;
+use crate::outline::OutlineRow;
 use crate::token::Key;
 use crate::value::{bandwidth, check_list, check_once, check_room, id, required};
 use std::alloc::Global;
@@ -88,7 +88,7 @@ impl NodeTable {
         Nodes::from(nodes)
     }
 
-    fn read_attribute(&self, draft: NodeDraft, row: &Row) -> Result<NodeDraft, GmlFault>
+    fn read_attribute(&self, draft: NodeDraft, row: &OutlineRow) -> Result<NodeDraft, GmlFault>
         ensures { result ≡ node_attribute row.now.key self.now draft row.now }
     {
         let mut draft = draft;
@@ -117,7 +117,7 @@ impl NodeTable {
     }
 
     #[tactic(auto, unfolding(crate::specs::Graph::node_row))]
-    fn read_row(&self, draft: NodeDraft, row: &Row) -> Result<NodeDraft, GmlFault>
+    fn read_row(&self, draft: NodeDraft, row: &OutlineRow) -> Result<NodeDraft, GmlFault>
         ensures { result ≡ node_row self.now draft row.now }
     {
         if row.depth == 2 {
@@ -126,7 +126,7 @@ impl NodeTable {
         Ok(draft)
     }
 
-    fn read_rows(&self, rows: &[Row]) -> Result<NodeDraft, GmlFault>
+    fn read_rows(&self, rows: &[OutlineRow]) -> Result<NodeDraft, GmlFault>
         ensures { result ≡ through (node_row self.now) new_node rows.now }
     {
         let mut draft = NodeDraft {
@@ -143,7 +143,7 @@ impl NodeTable {
 
     /// Reads the node of a row and of the rows inside it.
     #[tactic(auto, unfolding(crate::specs::Graph::node_of))]
-    fn read_node(&self, row: &Row, behind: &[Row]) -> Result<Node, GmlFault>
+    fn read_node(&self, row: &OutlineRow, behind: &[OutlineRow]) -> Result<Node, GmlFault>
         ensures { result ≡ node_of self.now (block row.now behind.now) }
     {
         check_list(row.value, row.line)?;
@@ -159,7 +159,7 @@ impl NodeTable {
 
 /// Reads all nodes.
 #[tactic(auto, unfolding(crate::specs::Graph::nodes_of, crate::specs::Graph::add_node))]
-pub fn read_nodes(alloc: Global, rows: &[Row]) -> Result<NodeTable, GmlError>
+pub fn read_nodes(alloc: Global, rows: &[OutlineRow]) -> Result<NodeTable, GmlError>
     ensures { Gives (λ table. table) result (nodes_of rows.now) }
 {
     let mut table = NodeTable::new(alloc);

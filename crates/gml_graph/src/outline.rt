@@ -25,7 +25,7 @@ pub enum Value {
 
 /// A pair: how many lists are open where it stands, its key with the key's line, and its value.
 #[derive(Clone, Copy, Debug, PartialEq, Eq)]
-pub struct Row {
+pub struct OutlineRow {
     pub depth: u8,
     pub line: u64,
     pub key: Key,
@@ -45,7 +45,7 @@ pub struct Outline {
     last: u64,
     depth: u8,
     waiting: Option<Waiting>,
-    rows: Vec<Row>,
+    rows: Vec<OutlineRow>,
 }
 
 impl Model for Outline {
@@ -150,7 +150,7 @@ impl Outline {
         ensures { Gives (λ _. self.new) result (accept_value self.old key lexeme.line lexeme.token) }
     {
         let value = self.value_of(lexeme)?;
-        self.rows.push(Row {
+        self.rows.push(OutlineRow {
             depth: self.depth,
             line: key.line,
             key: key.key,
@@ -161,7 +161,7 @@ impl Outline {
         Ok(())
     }
 
-    fn finish(self) -> Result<Vec<Row>, GmlError>
+    fn finish(self) -> Result<Vec<OutlineRow>, GmlError>
         ensures { Gives (λ rows. rows.items) result (finish self) }
     {
         if self.waiting.is_some() || self.depth != 0 {
@@ -190,7 +190,7 @@ fn behind(depth: u8, value: Value) -> u8
 
 /// The rows of a text.
 #[tactic(auto, unfolding(crate::specs::Outline::outline))]
-pub fn read_outline(alloc: Global, text: &str) -> Result<Vec<Row>, GmlError>
+pub fn read_outline(alloc: Global, text: &str) -> Result<Vec<OutlineRow>, GmlError>
     ensures { Gives (λ rows. rows.items) result (outline text.now) }
 {
     let mut outline = Outline::new(alloc, last_line_of(text.as_bytes()));

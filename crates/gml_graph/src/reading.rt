@@ -11,13 +11,13 @@ use crate::edge::read_edges;
 use crate::fault::{GmlError, GmlFault, GmlKind};
 use crate::graph::Graph;
 use crate::node::read_nodes;
-use crate::outline::{Row, read_outline};
+use crate::outline::{OutlineRow, read_outline};
 use crate::scanner::line_behind;
 use std::alloc::Global;
 
 /// The graph of the rows of a text.
 #[tactic(auto, unfolding(crate::specs::Graph::graph_of))]
-fn read_graph(alloc: Global, rows: &[Row]) -> Result<Graph, GmlError>
+fn read_graph(alloc: Global, rows: &[OutlineRow]) -> Result<Graph, GmlError>
     ensures { Gives (λ graph. graph) result (graph_of rows.now) }
 {
     let inner = read_graph_rows(rows)?;

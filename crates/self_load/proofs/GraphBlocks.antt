@@ -5,7 +5,7 @@ use Rattle.std.proofs.lemmas.Bool.{and_parts}
 use Rattle.gml_graph.specs.declared.token.Key.{Key}
 use Rattle.gml_graph.specs.declared.token.Key.TheVariants as keys
 use Rattle.gml_graph.specs.declared.outline.Value.TheVariants as values
-use Rattle.gml_graph.specs.declared.outline.Row.{Row}
+use Rattle.gml_graph.specs.declared.outline.OutlineRow.{OutlineRow}
 use Rattle.gml_graph.specs.declared.block.Part.TheVariants as parts
 use Rattle.gml_graph.specs.Token.{quoted}
 use Rattle.gml_graph.specs.Grammar.{Pairs, rows_of}
@@ -18,14 +18,14 @@ use Rattle.self_load.proofs.GraphPairs.{loss, ring_nodes, edge_pairs, ring_edges
 -- ---- the graph
 
 -- every row of them lies deeper
-abbrev deeper : Row → Bool
+abbrev deeper : OutlineRow → Bool
 deeper r = nat_lt 0 r.depth
 
-all_inside : (rows : List Row) → list_all deeper rows ≡ true → inside 0 rows ≡ rows
+all_inside : (rows : List OutlineRow) → list_all deeper rows ≡ true → inside 0 rows ≡ rows
 all_inside [] h = refl
 all_inside (r ∷ rows) h =
     let p = and_parts (deeper r) (list_all deeper rows) h in
-    rw (p.0, one-add) (ap (λ (rest : List Row). r ∷ rest) (all_inside rows p.1))
+    rw (p.0, one-add) (ap (λ (rest : List OutlineRow). r ∷ rest) (all_inside rows p.1))
 
 nodes_deeper : (k line i : ℕ) (behind : Pairs) → list_all deeper (rows_of 1 behind) ≡ true → list_all deeper (rows_of 1 (ring_nodes line i k behind)) ≡ true
 nodes_deeper zero line i behind h = h
@@ -50,11 +50,11 @@ ring_graph_rows n =
     let edges = ring_edges n (3 + n) 0 n in
     let all : inside 0 rows ≡ rows = all_inside rows (nodes_deeper n 3 0 edges (edges_deeper n n (3 + n) 0)) in
     let none : blocks parts.Graph rows ≡ [] = nodes_no_graph n 3 0 edges ∙ edges_no_graph n n (3 + n) 0 in
-    ap (λ (rs : List Row). graph_in (blocks parts.Graph (graph_row ∷ rs))) (append-nil rows)
-    ∙ ap (λ (own : List Row). graph_in (record { line = 1; value = values.List; rows = own } ∷ blocks parts.Graph rows)) all
+    ap (λ (rs : List OutlineRow). graph_in (blocks parts.Graph (graph_row ∷ rs))) (append-nil rows)
+    ∙ ap (λ (own : List OutlineRow). graph_in (record { line = 1; value = values.List; rows = own } ∷ blocks parts.Graph rows)) all
     ∙ ap (λ (bs : List Block). graph_in (record { line = 1; value = values.List; rows = rows } ∷ bs)) none
   where
-    graph_row : Row
+    graph_row : OutlineRow
     graph_row = record { depth = 0; line = 1; key = keys.Graph; value = values.List }
 
 -- ---- directed
@@ -72,10 +72,10 @@ no_directed n = nodes_no_directed n 3 0 (ring_edges n (3 + n) 0 n) ∙ edges_no_
 
 -- ---- nodes
 
-abbrev pub number_row : Key → ℕ → ℕ → Row
+abbrev pub number_row : Key → ℕ → ℕ → OutlineRow
 number_row key line n = record { depth = 2; line = line; key = key; value = values.Number (whole n) }
 
-abbrev pub list_block : ℕ → List Row → Block
+abbrev pub list_block : ℕ → List OutlineRow → Block
 list_block line rows = record { line = line; value = values.List; rows = rows }
 
 abbrev pub node_blocks : ℕ → ℕ → ℕ → List Block
@@ -91,8 +91,8 @@ edges_at_front : (n k line i : ℕ) → inside 1 (rows_of 1 (ring_edges n line i
 edges_at_front n zero line i = refl
 edges_at_front n (suc k) line i = refl
 
-one_inside : (r : Row) (rest : List Row) → nat_lt 1 r.depth ≡ true → inside 1 rest ≡ [] → inside 1 (r ∷ rest) ≡ r ∷ []
-one_inside r rest h e = rw (h, one-add) (ap (λ (rows : List Row). r ∷ rows) e)
+one_inside : (r : OutlineRow) (rest : List OutlineRow) → nat_lt 1 r.depth ≡ true → inside 1 rest ≡ [] → inside 1 (r ∷ rest) ≡ r ∷ []
+one_inside r rest h e = rw (h, one-add) (ap (λ (rows : List OutlineRow). r ∷ rows) e)
 
 edges_no_node : (n k line i : ℕ) → blocks parts.Node (rows_of 1 (ring_edges n line i k)) ≡ []
 edges_no_node n zero line i = refl
@@ -104,7 +104,7 @@ nodes_are zero line i behind h e = e
 nodes_are (suc k) line i behind h e =
     let rest = rows_of 1 (ring_nodes (line + 1) (i + 1) k behind) in
     let own : inside 1 (number_row keys.Id line i ∷ rest) ≡ number_row keys.Id line i ∷ [] = one_inside (number_row keys.Id line i) rest refl (nodes_at_front k (line + 1) (i + 1) behind h) in
-    ap (λ (rows : List Row). list_block line rows ∷ blocks parts.Node rest) own
+    ap (λ (rows : List OutlineRow). list_block line rows ∷ blocks parts.Node rest) own
     ∙ ap (λ (bs : List Block). list_block line (number_row keys.Id line i ∷ []) ∷ bs) (nodes_are k (line + 1) (i + 1) behind h e)
 
 pub ring_node_blocks : (n : ℕ) → blocks parts.Node (rows_of 1 (inner_pairs n)) ≡ node_blocks 3 0 n
@@ -112,7 +112,7 @@ ring_node_blocks n = nodes_are n 3 0 (ring_edges n (3 + n) 0 n) (edges_at_front 
 
 -- ---- edges
 
-abbrev pub edge_rows : ℕ → ℕ → ℕ → List Row
+abbrev pub edge_rows : ℕ → ℕ → ℕ → List OutlineRow
 edge_rows n line i = rows_of 2 (edge_pairs n line i)
 
 abbrev pub edge_blocks : ℕ → ℕ → ℕ → ℕ → List Block
@@ -123,23 +123,23 @@ nodes_no_edge : (k line i : ℕ) (behind : Pairs) → blocks parts.Edge (rows_of
 nodes_no_edge zero line i behind = refl
 nodes_no_edge (suc k) line i behind = nodes_no_edge k (line + 1) (i + 1) behind
 
-four_inside : (a b c d : Row) (rest : List Row) → nat_lt 1 a.depth ≡ true → nat_lt 1 b.depth ≡ true → nat_lt 1 c.depth ≡ true → nat_lt 1 d.depth ≡ true
+four_inside : (a b c d : OutlineRow) (rest : List OutlineRow) → nat_lt 1 a.depth ≡ true → nat_lt 1 b.depth ≡ true → nat_lt 1 c.depth ≡ true → nat_lt 1 d.depth ≡ true
     → inside 1 rest ≡ [] → inside 1 (a ∷ b ∷ c ∷ d ∷ rest) ≡ a ∷ b ∷ c ∷ d ∷ []
 four_inside a b c d rest ha hb hc hd e =
     more a (b ∷ c ∷ d ∷ rest) (b ∷ c ∷ d ∷ []) ha (more b (c ∷ d ∷ rest) (c ∷ d ∷ []) hb (more c (d ∷ rest) (d ∷ []) hc (one_inside d rest hd e)))
   where
-    more : (r : Row) (rows own : List Row) → nat_lt 1 r.depth ≡ true → inside 1 rows ≡ own → inside 1 (r ∷ rows) ≡ r ∷ own
-    more r rows own h k = rw (h, one-add) (ap (λ (xs : List Row). r ∷ xs) k)
+    more : (r : OutlineRow) (rows own : List OutlineRow) → nat_lt 1 r.depth ≡ true → inside 1 rows ≡ own → inside 1 (r ∷ rows) ≡ r ∷ own
+    more r rows own h k = rw (h, one-add) (ap (λ (xs : List OutlineRow). r ∷ xs) k)
 
 edges_are : (n k line i : ℕ) → blocks parts.Edge (rows_of 1 (ring_edges n line i k)) ≡ edge_blocks n line i k
 edges_are n zero line i = refl
 edges_are n (suc k) line i =
     let rest = rows_of 1 (ring_edges n (line + 1) (i + 1) k) in
-    let last : Row = record { depth = 2; line = line; key = keys.PacketLoss; value = values.Number (loss (i % 4 == 3)) } in
-    let latency : Row = record { depth = 2; line = line; key = keys.Latency; value = values.Text (quoted (latency_words i)) } in
+    let last : OutlineRow = record { depth = 2; line = line; key = keys.PacketLoss; value = values.Number (loss (i % 4 == 3)) } in
+    let latency : OutlineRow = record { depth = 2; line = line; key = keys.Latency; value = values.Text (quoted (latency_words i)) } in
     let own : inside 1 (edge_rows n line i ++ rest) ≡ edge_rows n line i =
     four_inside (number_row keys.Source line i) (number_row keys.Target line (next_host n i)) latency last rest refl refl refl refl (edges_at_front n k (line + 1) (i + 1)) in
-    ap (λ (rows : List Row). list_block line rows ∷ blocks parts.Edge rest) own
+    ap (λ (rows : List OutlineRow). list_block line rows ∷ blocks parts.Edge rest) own
     ∙ ap (λ (bs : List Block). list_block line (edge_rows n line i) ∷ bs) (edges_are n k (line + 1) (i + 1))
 
 pub ring_edge_blocks : (n : ℕ) → blocks parts.Edge (rows_of 1 (inner_pairs n)) ≡ edge_blocks n (3 + n) 0 n
