@@ -2,11 +2,11 @@ pub mod ListLemmas
 pub mod CostLemmas
 pub mod FoundLemmas
 pub mod SearchLemmas
-pub mod StepLemmas
+pub mod HopLemmas
 pub mod PlaceLemmas
 pub mod ArcLemmas
 pub mod NetLemmas
-pub mod LineLemmas
+pub mod RouteRowLemmas
 pub mod RouteLemmas
 pub mod RouteLaws
 pub mod LeastLemmas

@@ -1,4 +1,4 @@
--- walks along steps and paths along arcs
+-- walks along hops and paths along arcs
 use Rattle.std.proofs.Common.{◌≡◌, ℕ, suc, ◌<◌, ◌≤◌, Bool, false, List, [], ◌∷◌, ◌++◌, length, get_or, set, fold, Option, Some, None, refl, sym, ap, ◌∙◌, subst, inl, inr, ⊎_elim, arith, length-set}
 use Rattle.std.specs.Prelude.{Contains, All, ◌⊎◌, option_and_then}
 use Rattle.std.specs.List.Sorted.{IsStrictlyIncreasing}
@@ -6,11 +6,11 @@ use Rattle.std.proofs.lemmas.Bool.{cases_eq, cases_lt}
 use Rattle.std.proofs.lemmas.List.{get_or-set_same, get_or-set_other, get_or_past}
 use Rattle.std.proofs.lemmas.List.Elements.{Contains-push, Contains-push_cases, Contains-append_left}
 use Rattle.net_routes.specs.declared.cost.Cost.{Cost}
-use Rattle.net_routes.specs.declared.step.Step.{Step}
+use Rattle.net_routes.specs.declared.hop.Hop.{Hop}
 use Rattle.net_routes.specs.declared.arc.Arc.{Arc}
-use Rattle.net_routes.specs.Cost.{nothing, and_then, IsStepCost}
+use Rattle.net_routes.specs.Cost.{nothing, and_then, IsHopCost}
 use Rattle.net_routes.specs.Walk as walks
-use Rattle.net_routes.specs.Walk.{then_step, cost_of, MayGo, Goes, AreSteps}
+use Rattle.net_routes.specs.Walk.{then_hop, cost_of, MayGo, Goes, AreHops}
 use Rattle.net_routes.specs.Needed.{IsAt}
 use Rattle.net_routes.specs.Places.{place_of}
 use Rattle.net_routes.specs.Path.{Leaves, Leads, then_arc, HasWay, AreArcs, IsBest}
@@ -37,7 +37,7 @@ pub net_none : (ids : List ℕ) (rows : List (List Arc)) → length rows ≡ len
 net_none ids rows size none = record {
   size = size;
   arcs = λ place x l. absurd (none_leaves rows place x (empty_row rows place none) l);
-  steps = λ s h. absurd (omega (arith, h.1));
+  hops = λ s h. absurd (omega (arith, h.1));
 }
 
 more : List (List Arc) → ℕ → Arc → List (List Arc)
@@ -80,7 +80,7 @@ leaves_cases rows place x q y lt l =
     inl (subst R (get_or-set_other rows place q (get_or rows place [] ++ x ∷ []) [] other) l))
     (cases_eq q place)
 
-net_set : (ss : List Step) (ids : List ℕ) (rows : List (List Arc)) (s : Step) (place : ℕ) (x : Arc) → IsNet ss ids rows → IsArcOf ids place x s → IsNet (ss ++ s ∷ []) ids (more rows place x)
+net_set : (ss : List Hop) (ids : List ℕ) (rows : List (List Arc)) (s : Hop) (place : ℕ) (x : Arc) → IsNet ss ids rows → IsArcOf ids place x s → IsNet (ss ++ s ∷ []) ids (more rows place x)
 unfolding more
 net_set ss ids rows s place x net of =
     let lt : place < length rows = omega (arith, of.from.within, net.size) in
@@ -93,50 +93,50 @@ net_set ss ids rows s place x net of =
           let Q : Arc → Type 0 = λ z. IsArcOf ids place z s in
           (s, Contains-push ss s, subst P (sym now.0) (subst Q now.1 of)))
           (leaves_cases rows place x q y lt l);
-      steps = λ t h. ⊎_elim
-          (λ (old : Contains ss t). let w = net.steps t old in (w.0, w.1, leaves_still rows place x w.0 w.1 lt w.2, w.3))
-          (λ (now : s ≡ t). let P : Step → Type 0 = λ z. IsArcOf ids place x z in (place, x, leaves_now rows place x lt, subst P now of))
+      hops = λ t h. ⊎_elim
+          (λ (old : Contains ss t). let w = net.hops t old in (w.0, w.1, leaves_still rows place x w.0 w.1 lt w.2, w.3))
+          (λ (now : s ≡ t). let P : Hop → Type 0 = λ z. IsArcOf ids place x z in (place, x, leaves_now rows place x lt, subst P now of))
           (Contains-push_cases ss s t h);
     }
 
--- one step more
-pub net_more : (ss : List Step) (ids : List ℕ) (rows new : List (List Arc)) (s : Step) → IsNet ss ids rows → AddsArc ids s rows new → IsNet (ss ++ s ∷ []) ids new
+-- one hop more
+pub net_more : (ss : List Hop) (ids : List ℕ) (rows new : List (List Arc)) (s : Hop) → IsNet ss ids rows → AddsArc ids s rows new → IsNet (ss ++ s ∷ []) ids new
 unfolding more
 net_more ss ids rows new s net adds =
     let P : List (List Arc) → Type 0 = λ r. IsNet (ss ++ s ∷ []) ids r in
     subst P (sym adds.added) (net_set ss ids rows s adds.place adds.arc net adds.arc_of)
 
-pub net_arcs : (ss : List Step) (ids : List ℕ) (rows : List (List Arc)) → IsNet ss ids rows → AreSteps ss → AreArcs rows
+pub net_arcs : (ss : List Hop) (ids : List ℕ) (rows : List (List Arc)) → IsNet ss ids rows → AreHops ss → AreArcs rows
 net_arcs ss ids rows net sound place x l =
     let w = net.arcs place x l in
-    let P : Cost → Type 0 = λ c. IsStepCost c in
-    record { ends = omega (arith, w.2.to.within, net.size); step = subst P (sym w.2.cost) (sound.each w.0 w.1) }
+    let P : Cost → Type 0 = λ c. IsHopCost c in
+    record { ends = omega (arith, w.2.to.within, net.size); hop = subst P (sym w.2.cost) (sound.each w.0 w.1) }
 
 -- WALKS AND PATHS
 
--- the cost behind the same step
-same_step : (c : Cost) (x : Arc) (s : Step) → x.cost ≡ s.cost → then_step c s ≡ then_arc c x
-same_step c x s e = ap (λ (k : Cost). and_then c k) (sym e)
+-- the cost behind the same hop
+same_hop : (c : Cost) (x : Arc) (s : Hop) → x.cost ≡ s.cost → then_hop c s ≡ then_arc c x
+same_hop c x s e = ap (λ (k : Cost). and_then c k) (sym e)
 
-pub walk_of_path : (ss : List Step) (ids : List ℕ) (rows : List (List Arc)) → IsNet ss ids rows → (a b from : ℕ) (path : List Arc) (c : Cost) → IsAt ids a from → Leads rows a b path
-    → (to : ℕ) × (walk : List Step) × IsAt ids b to × walks.Leads ss from to walk × (length walk ≡ length path) × (fold then_step c walk ≡ fold then_arc c path)
+pub walk_of_path : (ss : List Hop) (ids : List ℕ) (rows : List (List Arc)) → IsNet ss ids rows → (a b from : ℕ) (path : List Arc) (c : Cost) → IsAt ids a from → Leads rows a b path
+    → (to : ℕ) × (walk : List Hop) × IsAt ids b to × walks.Leads ss from to walk × (length walk ≡ length path) × (fold then_hop c walk ≡ fold then_arc c path)
 walk_of_path ss ids rows net a b from [] c at l = (from, [], (let P : ℕ → Type 0 = λ p. IsAt ids p from in subst P l at), refl, refl, refl)
 walk_of_path ss ids rows net a b from (x ∷ path) c at l =
     let w = net.arcs a x l.0 in
     let r = walk_of_path ss ids rows net x.to b w.0.to path (then_arc c x) w.2.to l.1 in
     let starts : w.0.from ≡ from = at_is ids a w.0.from from w.2.from at in
-    (r.0, w.0 ∷ r.1, r.2, (w.1, starts, r.3), ap (λ (n : ℕ). suc n) r.4, ap (λ (k : Cost). fold then_step k r.1) (same_step c x w.0 w.2.cost) ∙ r.5)
+    (r.0, w.0 ∷ r.1, r.2, (w.1, starts, r.3), ap (λ (n : ℕ). suc n) r.4, ap (λ (k : Cost). fold then_hop k r.1) (same_hop c x w.0 w.2.cost) ∙ r.5)
 
-pub path_of_walk : (ss : List Step) (ids : List ℕ) (rows : List (List Arc)) → IsStrictlyIncreasing ids → IsNet ss ids rows → (a from to : ℕ) (walk : List Step) (c : Cost) → IsAt ids a from → walks.Leads ss from to walk
-    → (b : ℕ) × (path : List Arc) × IsAt ids b to × Leads rows a b path × (length path ≡ length walk) × (fold then_arc c path ≡ fold then_step c walk)
+pub path_of_walk : (ss : List Hop) (ids : List ℕ) (rows : List (List Arc)) → IsStrictlyIncreasing ids → IsNet ss ids rows → (a from to : ℕ) (walk : List Hop) (c : Cost) → IsAt ids a from → walks.Leads ss from to walk
+    → (b : ℕ) × (path : List Arc) × IsAt ids b to × Leads rows a b path × (length path ≡ length walk) × (fold then_arc c path ≡ fold then_hop c walk)
 path_of_walk ss ids rows up net a from to [] c at l = (a, [], (let P : ℕ → Type 0 = λ p. IsAt ids a p in subst P l at), refl, refl, refl)
 path_of_walk ss ids rows up net a from to (s ∷ walk) c at l =
-    let w = net.steps s l.0 in
+    let w = net.hops s l.0 in
     let F : ℕ → Type 0 = λ p. IsAt ids w.0 p in
     let same : w.0 ≡ a = at_once ids w.0 a from up (subst F l.1 w.3.from) at in
-    let r = path_of_walk ss ids rows up net w.1.to s.to to walk (then_step c s) w.3.to l.2 in
+    let r = path_of_walk ss ids rows up net w.1.to s.to to walk (then_hop c s) w.3.to l.2 in
     let L : ℕ → Type 0 = λ p. Leaves rows p w.1 in
-    (r.0, w.1 ∷ r.1, r.2, (subst L same w.2, r.3), ap (λ (n : ℕ). suc n) r.4, ap (λ (k : Cost). fold then_arc k r.1) (sym (same_step c w.1 s w.3.cost)) ∙ r.5)
+    (r.0, w.1 ∷ r.1, r.2, (subst L same w.2, r.3), ap (λ (n : ℕ). suc n) r.4, ap (λ (k : Cost). fold then_arc k r.1) (sym (same_hop c w.1 s w.3.cost)) ∙ r.5)
 
 -- WHAT IS FOUND FOR NODES
 
@@ -155,7 +155,7 @@ cost_or ids costs node c None e h =
     let gone : None ≡ Some c = sym (ap (at_place costs) e) ∙ h in
     absurd (none_some c gone)
 
-pub net_best : (ss : List Step) (ids : List ℕ) (rows : List (List Arc)) (shortest : Bool) (start from : ℕ) (costs : List (Option Cost)) → IsStrictlyIncreasing ids → IsNet ss ids rows → IsAt ids start from
+pub net_best : (ss : List Hop) (ids : List ℕ) (rows : List (List Arc)) (shortest : Bool) (start from : ℕ) (costs : List (Option Cost)) → IsStrictlyIncreasing ids → IsNet ss ids rows → IsAt ids start from
     → IsBest (HasWay rows shortest start) (found costs) → IsBest (Goes ss shortest from) (cost_to ids costs)
 net_best ss ids rows shortest start from costs up net at k = record {
   goes = λ to c t.
@@ -195,18 +195,18 @@ net_best ss ids rows shortest start from costs up net at k = record {
       (d.0, cost_found ids costs to w.0 (place_found ids w.0 to up w.2) ∙ d.1, d.2);
 }
 
-no_walk : (ss : List Step) (ids : List ℕ) (rows : List (List Arc)) (up : IsStrictlyIncreasing ids) (from to : ℕ) (walk : List Step) → IsNet ss ids rows → place_of ids from ≡ None → 0 < length walk → walks.Leads ss from to walk → ⊥
+no_walk : (ss : List Hop) (ids : List ℕ) (rows : List (List Arc)) (up : IsStrictlyIncreasing ids) (from to : ℕ) (walk : List Hop) → IsNet ss ids rows → place_of ids from ≡ None → 0 < length walk → walks.Leads ss from to walk → ⊥
 no_walk ss ids rows up from to [] net none some l = omega (arith, some)
 no_walk ss ids rows up from to (s ∷ walk) net none some l =
-    let w = net.steps s l.0 in
+    let w = net.hops s l.0 in
     let F : ℕ → Type 0 = λ p. IsAt ids w.0 p in
     let there = place_found ids w.0 from up (subst F l.1 w.3.from) in
     let gone : None ≡ Some w.0 = sym none ∙ there in
     let never : ⊥ = cc in
     never
 
--- no step joins a node without a place
-pub net_alone : (ss : List Step) (ids : List ℕ) (rows : List (List Arc)) (shortest : Bool) (from : ℕ) → IsStrictlyIncreasing ids → IsNet ss ids rows → place_of ids from ≡ None → IsBest (Goes ss shortest from) (cost_to ids [])
+-- no hop joins a node without a place
+pub net_alone : (ss : List Hop) (ids : List ℕ) (rows : List (List Arc)) (shortest : Bool) (from : ℕ) → IsStrictlyIncreasing ids → IsNet ss ids rows → place_of ids from ≡ None → IsBest (Goes ss shortest from) (cost_to ids [])
 net_alone ss ids rows shortest from up net none = record {
   goes = λ to c t. absurd (let p = cost_or ids [] to c (place_of ids to) refl t in none_some c p.2);
   least = λ to c h. absurd (no_walk ss ids rows up from to h.walk net none h.may.some h.leads);

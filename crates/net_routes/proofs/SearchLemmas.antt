@@ -169,7 +169,7 @@ search_left rows start best known after e rest new c are none first is adds s =
     let head : Contains (e ∷ rest) e = contains_head e rest in
     let lt : e.place < length best = omega (arith, s.size, (s.waits e head).0) in
     let time = time_known rows start best known e rest c none first is s in
-    let arc_time : (x : Arc) → Leaves rows e.place x → c.latency < (then_arc c x).latency = λ x l. omega (arith, (are e.place x l).step.some) in
+    let arc_time : (x : Arc) → Leaves rows e.place x → c.latency < (then_arc c x).latency = λ x l. omega (arith, (are e.place x l).hop.some) in
     let before : (v : ℕ) (d : Cost) → IsSettled b v d → d.latency ≤ c.latency = λ v d t. ⊎_elim
     (λ (now : (v ≡ e.place) × (c ≡ d)). omega (arith, ap (λ (k : Cost). k.latency) now.1))
     (λ (old : IsSettled best v d). omega (arith, s.ordered v d e old head, time.1))
@@ -228,7 +228,7 @@ search_left rows start best known after e rest new c are none first is adds s =
           let x = are e.place m.arc m.leaves in
           let latency : c.latency + m.arc.cost.latency ≡ k.latency = ap (λ (q : Cost). q.latency) m.costs in
           let reliability : c.reliability * m.arc.cost.reliability / 1000000000 ≡ k.reliability = ap (λ (q : Cost). q.reliability) m.costs in
-          (omega (arith, was.0, latency, x.step.within, count_more best e.place c lt none), omega (arith, reliability, was.1, part_less c.reliability m.arc.cost.reliability x.step.part)))
+          (omega (arith, was.0, latency, x.hop.within, count_more best e.place c lt none), omega (arith, reliability, was.1, part_less c.reliability m.arc.cost.reliability x.hop.part)))
           (adds.from v k t);
     }
 

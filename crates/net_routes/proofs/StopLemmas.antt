@@ -70,11 +70,11 @@ pub record AreAt (stops : List ℕ) (a b : ℕ) : Type 0 where
   pub from : IsAt stops first a
   pub to : IsAt stops second b
 
-both_at : (stops : List ℕ) (lines : List (List (Option Cost))) (a b : ℕ) (p q : Option ℕ) → place_of stops a ≡ p → place_of stops b ≡ q
-    → IsSome (option_and_then (λ i. option_and_then (λ j. slice_index_or (slice_index_or lines i []) j None) q) p) → AreAt stops a b
-both_at stops lines a b None q e f h = absurd (let never : ⊥ = cc in never)
-both_at stops lines a b (Some i) None e f h = absurd (let never : ⊥ = cc in never)
-both_at stops lines a b (Some i) (Some j) e f h = record {
+both_at : (stops : List ℕ) (rows : List (List (Option Cost))) (a b : ℕ) (p q : Option ℕ) → place_of stops a ≡ p → place_of stops b ≡ q
+    → IsSome (option_and_then (λ i. option_and_then (λ j. slice_index_or (slice_index_or rows i []) j None) q) p) → AreAt stops a b
+both_at stops rows a b None q e f h = absurd (let never : ⊥ = cc in never)
+both_at stops rows a b (Some i) None e f h = absurd (let never : ⊥ = cc in never)
+both_at stops rows a b (Some i) (Some j) e f h = record {
   first = i;
   second = j;
   from = place_at stops a i e;
@@ -84,7 +84,7 @@ both_at stops lines a b (Some i) (Some j) e f h = record {
 stops_of_route : (nodes stops : List ℕ) (r : Routes) (a b : ℕ) → stops ≡ r.stops → HasRoutes nodes r → IsNeeded nodes a b → AreAt stops a b
 stops_of_route nodes stops r a b same has need =
     let P : List ℕ → Type 0 = λ xs. AreAt xs a b in
-    subst P (sym same) (both_at r.stops r.lines.items a b (place_of r.stops a) (place_of r.stops b) refl refl (has a b need))
+    subst P (sym same) (both_at r.stops r.rows.items a b (place_of r.stops a) (place_of r.stops b) refl refl (has a b need))
 
 needed_at : (nodes stops : List ℕ) (a b : ℕ) (at : AreAt stops a b) → IsNeeded nodes a b → IsNeededAt nodes stops at.first at.second
 needed_at nodes stops a b at need =

@@ -5,11 +5,11 @@ use Rattle.net_routes.specs.declared.error.RouteError.{RouteError}
 use Rattle.net_routes.specs.declared.error.RouteError.TheVariants as errors
 use Rattle.net_routes.specs.declared.finding.Search.{Search}
 use Rattle.net_routes.specs.declared.net.Net.{Net}
-use Rattle.net_routes.specs.declared.step.Step.{Step}
+use Rattle.net_routes.specs.declared.hop.Hop.{Hop}
 use Rattle.net_routes.specs.Walk.{Goes}
 use Rattle.net_routes.specs.Path.{AreArcs, IsBest}
 use Rattle.net_routes.specs.Net.{IsNet}
-use Rattle.net_routes.specs.Lines.{IsLine, NamesLack}
+use Rattle.net_routes.specs.RouteRows.{IsRouteRow, NamesLack}
 
 -- arcs between at most 2^20 places
 pub record IsReady (net : Net) : Type 0 where
@@ -18,15 +18,15 @@ pub record IsReady (net : Net) : Type 0 where
   pub size : length net.rows.items ≡ length net.places
 
 -- the best costs of walks from a node, and the costs that hosts need of them, or the first that isn't there
-pub record IsLineOrLack (net : Net) (nodes stops : List ℕ) (shortest : Bool) (from : ℕ) (r : Result (List (Option Cost)) RouteError) : Type 0 where
+pub record IsRowOrLack (net : Net) (nodes stops : List ℕ) (shortest : Bool) (from : ℕ) (r : Result (List (Option Cost)) RouteError) : Type 0 where
   pub found : ℕ → Option Cost
-  pub best : (ss : List Step) → IsNet ss net.places net.rows.items → IsBest (Goes ss shortest from) found
-  pub ok : IfOk r (IsLine nodes stops from found)
+  pub best : (ss : List Hop) → IsNet ss net.places net.rows.items → IsBest (Goes ss shortest from) found
+  pub ok : IfOk r (IsRouteRow nodes stops from found)
   pub err : IfErr r (NamesLack nodes stops from found)
 
 -- memory ran out, or that
 abbrev pub IsFound : Net → List ℕ → List ℕ → Bool → ℕ → Result (List (Option Cost)) RouteError → Type 0
-IsFound net nodes stops shortest from r = (r ≡ Err errors.NoMemory) ⊎ IsLineOrLack net nodes stops shortest from r
+IsFound net nodes stops shortest from r = (r ≡ Err errors.NoMemory) ⊎ IsRowOrLack net nodes stops shortest from r
 
 -- the nodes at which routes end
 pub record AreStops (nodes stops : List ℕ) : Type 0 where
@@ -39,7 +39,7 @@ pub record IsToSearch (nodes : List ℕ) (s : Search) : Type 0 where
 -- a search that was made
 pub record IsSearched (net : Net) (nodes stops : List ℕ) (shortest : Bool) (old new : Search) : Type 0 where
   pub from : new.from ≡ old.from
-  pub found : IsFound net nodes stops shortest new.from new.line
+  pub found : IsFound net nodes stops shortest new.from new.row
 
 -- search by search
 abbrev pub AreSearched : Net → List ℕ → List ℕ → Bool → List Search → List Search → Type 0
@@ -47,10 +47,10 @@ AreSearched net nodes stops shortest old new =
     (length new ≡ length old) × ((k : ℕ) (e : Search) → k < length old → IsSearched net nodes stops shortest (slice_index_or old k e) (slice_index_or new k e))
 
 -- what all searches found
-abbrev pub lines_found : List Search → List (Result (List (Option Cost)) RouteError)
-lines_found searches = map (λ (s : Search). s.line) searches
+abbrev pub rows_found : List Search → List (Result (List (Option Cost)) RouteError)
+rows_found searches = map (λ (s : Search). s.row) searches
 
--- memory ran out, or this is the error behind lines that were found
+-- memory ran out, or this is the error behind rows that were found
 pub data IsStopped (found : List (Result (List (Option Cost)) RouteError)) (e : RouteError) : Type 0 where
   want : e ≡ errors.NoMemory → IsStopped found e
-  behind : (lines : List (List (Option Cost))) (rest : List (Result (List (Option Cost)) RouteError)) → map Ok lines ++ Err e ∷ rest ≡ found → IsStopped found e
+  behind : (rows : List (List (Option Cost))) (rest : List (Result (List (Option Cost)) RouteError)) → map Ok rows ++ Err e ∷ rest ≡ found → IsStopped found e

@@ -5,7 +5,7 @@ pub mod Places
 pub mod Path
 pub mod Net
 pub mod Search
-pub mod Lines
+pub mod RouteRows
 pub mod Routes
 pub mod Least
 pub mod Found

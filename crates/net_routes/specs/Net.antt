@@ -1,27 +1,27 @@
--- The places of nodes, and the arcs that stand for steps.
+-- The places of nodes, and the arcs that stand for hops.
 use Rattle.std.specs.Prelude.{◌≡◌, ℕ, ◌++◌, List, [], ◌∷◌, length, Contains, Option, None, option_and_then, slice_set}
 use Rattle.std.specs.List.{slice_index_or}
 use Rattle.net_routes.specs.declared.cost.Cost.{Cost}
-use Rattle.net_routes.specs.declared.step.Step.{Step}
+use Rattle.net_routes.specs.declared.hop.Hop.{Hop}
 use Rattle.net_routes.specs.declared.arc.Arc.{Arc}
 use Rattle.net_routes.specs.Needed.{IsAt}
 use Rattle.net_routes.specs.Places.{place_of}
 use Rattle.net_routes.specs.Path.{Leaves}
 
--- The arc leaves the place of the node that the step leaves, and so on.
-pub record IsArcOf (ids : List ℕ) (place : ℕ) (x : Arc) (s : Step) : Type 0 where
+-- The arc leaves the place of the node that the hop leaves, and so on.
+pub record IsArcOf (ids : List ℕ) (place : ℕ) (x : Arc) (s : Hop) : Type 0 where
   pub from : IsAt ids place s.from
   pub to : IsAt ids x.to s.to
   pub cost : x.cost ≡ s.cost
 
--- each arc for a step, and each step by an arc
-pub record IsNet (ss : List Step) (ids : List ℕ) (rows : List (List Arc)) : Type 0 where
+-- each arc for a hop, and each hop by an arc
+pub record IsNet (ss : List Hop) (ids : List ℕ) (rows : List (List Arc)) : Type 0 where
   pub size : length rows ≡ length ids
-  pub arcs : (place : ℕ) (x : Arc) → Leaves rows place x → (s : Step) × Contains ss s × IsArcOf ids place x s
-  pub steps : (s : Step) → Contains ss s → (place : ℕ) × (x : Arc) × Leaves rows place x × IsArcOf ids place x s
+  pub arcs : (place : ℕ) (x : Arc) → Leaves rows place x → (s : Hop) × Contains ss s × IsArcOf ids place x s
+  pub hops : (s : Hop) → Contains ss s → (place : ℕ) × (x : Arc) × Leaves rows place x × IsArcOf ids place x s
 
--- one arc more, for a step
-pub record AddsArc (ids : List ℕ) (s : Step) (old new : List (List Arc)) : Type 0 where
+-- one arc more, for a hop
+pub record AddsArc (ids : List ℕ) (s : Hop) (old new : List (List Arc)) : Type 0 where
   pub place : ℕ
   pub arc : Arc
   pub arc_of : IsArcOf ids place arc s

@@ -3,7 +3,7 @@ use Rattle.std.specs.Prelude.{◌≡◌, ℕ, ◌<◌, Bool, List, [], ◌∷◌
 use Rattle.std.specs.List.{slice_index_or}
 use Rattle.net_routes.specs.declared.cost.Cost.{Cost}
 use Rattle.net_routes.specs.declared.arc.Arc.{Arc}
-use Rattle.net_routes.specs.Cost.{nothing, and_then, IsAsGood, IsStepCost}
+use Rattle.net_routes.specs.Cost.{nothing, and_then, IsAsGood, IsHopCost}
 use Rattle.net_routes.specs.Walk.{MayGo}
 
 -- an arc leaves a place
@@ -37,10 +37,10 @@ pub record HasArc (arcs : List Arc) (b : ℕ) (c : Cost) : Type 0 where
   pub ends : arc.to ≡ b
   pub costs : then_arc nothing arc ≡ c
 
--- An arc ends at a place, and costs what a step may cost.
+-- An arc ends at a place, and costs what a hop may cost.
 pub record IsArc (places : ℕ) (x : Arc) : Type 0 where
   pub ends : x.to < places
-  pub step : IsStepCost x.cost
+  pub hop : IsHopCost x.cost
 
 abbrev pub AreArcs : List (List Arc) → Type 0
 AreArcs rows = (place : ℕ) (x : Arc) → Leaves rows place x → IsArc (length rows) x

@@ -6,17 +6,17 @@ use Rattle.net_routes.specs.declared.cost.Cost.{Cost}
 use Rattle.net_routes.specs.declared.error.RouteError.{RouteError}
 use Rattle.net_routes.specs.declared.error.RouteError.TheVariants as errors
 use Rattle.net_routes.specs.declared.table.Routes.{Routes}
-use Rattle.net_routes.specs.Walk.{Goes, IsRoute, steps}
+use Rattle.net_routes.specs.Walk.{Goes, IsRoute, hops}
 use Rattle.net_routes.specs.Needed.{IsNeeded}
 use Rattle.net_routes.specs.Places.{place_of}
 
 -- the cost at the places of two nodes
 abbrev pub route_at : List ℕ → List (List (Option Cost)) → ℕ → ℕ → Option Cost
-route_at stops lines a b = option_and_then (λ i. option_and_then (λ j. slice_index_or (slice_index_or lines i []) j None) (place_of stops b)) (place_of stops a)
+route_at stops rows a b = option_and_then (λ i. option_and_then (λ j. slice_index_or (slice_index_or rows i []) j None) (place_of stops b)) (place_of stops a)
 
 -- the cost that is kept for a pair of nodes
 abbrev pub route_in : Routes → ℕ → ℕ → Option Cost
-route_in r a b = route_at r.stops r.lines.items a b
+route_in r a b = route_at r.stops r.rows.items a b
 
 -- each needed pair has a cost
 abbrev pub HasRoutes : List ℕ → Routes → Type 0
@@ -33,7 +33,7 @@ AreSound g shortest r = (a b : ℕ) (c : Cost) → route_in r a b ≡ Some c →
 -- a pair that needs a route and has none
 pub record LacksRoute (g : Graph) (shortest : Bool) (nodes : List ℕ) (a b : ℕ) : Type 0 where
   pub needed : IsNeeded nodes a b
-  pub none : (c : Cost) → Goes (steps g) shortest a b c → ⊥
+  pub none : (c : Cost) → Goes (hops g) shortest a b c → ⊥
 
 -- the least of them, by its source and then by its target
 pub record IsLeastLack (g : Graph) (shortest : Bool) (nodes : List ℕ) (a b : ℕ) : Type 0 where

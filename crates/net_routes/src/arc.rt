@@ -16,11 +16,11 @@ pub struct Arc {
 
 /// The arcs that leave a place, which contracts see as a list.
 #[derive(Debug, Drop)]
-pub struct Row {
+pub struct Arcs {
     arcs: Vec<Arc>,
 }
 
-impl Model for Row {
+impl Model for Arcs {
     ghost use Rattle.std.specs.Prelude.{List};
     ghost use Rattle.net_routes.specs.declared.arc.Arc.{Arc};
 
@@ -29,11 +29,11 @@ impl Model for Row {
     ghost view = { λ r. r.arcs.items };
 }
 
-impl Row {
-    pub fn new(alloc: Global) -> Row
+impl Arcs {
+    pub fn new(alloc: Global) -> Arcs
         ensures { result ≡ [] }
     {
-        Row {
+        Arcs {
             arcs: Vec::new(alloc),
         }
     }

@@ -11,7 +11,7 @@ pub struct Cost {
     pub reliability: u32,
 }
 
-/// The cost of no step.
+/// The cost of no hop.
 pub fn no_cost() -> Cost
     ensures { result ≡ nothing }
 {
@@ -21,16 +21,16 @@ pub fn no_cost() -> Cost
     }
 }
 
-/// The cost of a walk and then of a step.
-pub fn extended(cost: Cost, step: Cost) -> Cost
-    requires room { cost.latency + step.latency < 2 ^ 64 }
+/// The cost of a walk and then of a hop.
+pub fn extended(cost: Cost, hop: Cost) -> Cost
+    requires room { cost.latency + hop.latency < 2 ^ 64 }
     requires before { cost.reliability ≤ 1000000000 }
-    requires part { step.reliability ≤ 1000000000 }
-    ensures { result ≡ and_then cost step }
+    requires part { hop.reliability ≤ 1000000000 }
+    ensures { result ≡ and_then cost hop }
 {
-    let arrived = u64::from(cost.reliability) * u64::from(step.reliability) / 1_000_000_000;
+    let arrived = u64::from(cost.reliability) * u64::from(hop.reliability) / 1_000_000_000;
     Cost {
-        latency: cost.latency + step.latency,
+        latency: cost.latency + hop.latency,
         reliability: arrived as u32,
     }
 }

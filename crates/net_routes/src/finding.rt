@@ -1,14 +1,14 @@
 //! Finds the routes that hosts need.
 
 ghost use Rattle.std.specs.Prelude.{◌≡◌, ◌<◌, All, Contains, IfOk, IfErr, Ok, map};
-ghost use Rattle.net_routes.specs.Found.{IsReady, AreStops, IsToSearch, IsFound, IsSearched, AreSearched, lines_found, IsStopped};
+ghost use Rattle.net_routes.specs.Found.{IsReady, AreStops, IsToSearch, IsFound, IsSearched, AreSearched, rows_found, IsStopped};
 ghost use Rattle.net_routes.specs.Routes.{HasRoutes, AreRoutes, AreSound, IsRefusal};
 
 use crate::error::RouteError;
-use crate::line::{Line, line_from};
+use crate::hop::hops_of;
 use crate::net::Net;
-use crate::places::Places;
-use crate::step::steps_of;
+use crate::node_ids::NodeIds;
+use crate::route_row::{RouteRow, row_from};
 use crate::table::Routes;
 use gml_graph::Graph;
 use sim_base::NoMemory;
@@ -19,25 +19,25 @@ use std::thread::{Threads, for_each_mut};
 #[derive(Drop)]
 pub(crate) struct Search {
     pub(crate) from: u32,
-    pub(crate) line: Result<Line, RouteError>,
+    pub(crate) row: Result<RouteRow, RouteError>,
 }
 
 /// The costs of the routes from a node, or the first that hosts need and that isn't there.
-fn find_line(
+fn find_row(
     alloc: Global,
     net: &Net,
     nodes: &[u32],
     stops: &[u32],
     shortest: bool,
     from: u32,
-) -> Result<Line, RouteError>
+) -> Result<RouteRow, RouteError>
     requires net { IsReady net.now }
     requires from { Contains nodes.now from }
     requires stops { AreStops nodes.now stops.now }
     ensures { IsFound net.now nodes.now stops.now shortest from result }
 {
     let costs = net.costs_from(alloc, from, shortest)?;
-    line_from(alloc, net, costs.as_slice(), nodes, stops, from)
+    row_from(alloc, net, costs.as_slice(), nodes, stops, from)
 }
 
 /// Makes a search.
@@ -54,7 +54,7 @@ fn make_search(
     requires stops { AreStops nodes.now stops.now }
     ensures { IsSearched net.now nodes.now stops.now shortest each.old each.new }
 {
-    each.line = find_line(alloc, net, nodes, stops, shortest, each.from);
+    each.row = find_row(alloc, net, nodes, stops, shortest, each.from);
 }
 
 /// Makes all searches, in so many threads side by side. Where no thread can be made, they come one
@@ -120,22 +120,22 @@ fn searches_from(alloc: Global, stops: &[u32]) -> Result<Vec<Search>, NoMemory>
     for from in stops {
         searches.push(Search {
             from: *from,
-            line: Err(RouteError::NoMemory),
+            row: Err(RouteError::NoMemory),
         })?;
     }
     Ok(searches)
 }
 
-/// The lines that were found, or the first error.
-fn lines_of(alloc: Global, searches: Vec<Search>) -> Result<Vec<Line>, RouteError>
-    ensures ok { IfOk result (λ lines. map Ok lines.items ≡ lines_found searches.items) }
-    ensures err { IfErr result (IsStopped (lines_found searches.items)) }
+/// The rows that were found, or the first error.
+fn found_rows(alloc: Global, searches: Vec<Search>) -> Result<Vec<RouteRow>, RouteError>
+    ensures ok { IfOk result (λ rows. map Ok rows.items ≡ rows_found searches.items) }
+    ensures err { IfErr result (IsStopped (rows_found searches.items)) }
 {
-    let mut lines = Vec::with_capacity(alloc, searches.len())?;
+    let mut rows = Vec::with_capacity(alloc, searches.len())?;
     for each in searches {
-        lines.push(each.line?)?;
+        rows.push(each.row?)?;
     }
-    Ok(lines)
+    Ok(rows)
 }
 
 /// The routes that hosts on these nodes need, one entry for each host, found by so many workers
@@ -156,9 +156,9 @@ pub fn routes<R: Threads + Sync>(
     ensures sound { IfOk result (AreSound graph.now shortest) }
     ensures err { IfErr result (IsRefusal graph.now shortest nodes.now) }
 {
-    let steps = steps_of(alloc, graph)?;
-    let net = Net::new(alloc, steps.as_slice())?;
-    let stops = Places::from(Vec::from_slice(alloc, nodes)?);
+    let hops = hops_of(alloc, graph)?;
+    let net = Net::new(alloc, hops.as_slice())?;
+    let stops = NodeIds::from(Vec::from_slice(alloc, nodes)?);
     let ids = stops.as_slice();
     let mut searches = searches_from(alloc, ids)?;
     search_all(
@@ -171,6 +171,6 @@ pub fn routes<R: Threads + Sync>(
         workers,
         &mut searches,
     );
-    let lines = lines_of(alloc, searches)?;
-    Ok(Routes { stops, lines })
+    let rows = found_rows(alloc, searches)?;
+    Ok(Routes { stops, rows })
 }

@@ -6,13 +6,13 @@ mod arcs;
 mod cost;
 mod error;
 mod finding;
+mod hop;
 mod kept;
 pub mod laws;
-mod line;
 mod net;
-mod places;
+mod node_ids;
+mod route_row;
 mod search;
-mod step;
 mod table;
 #[cfg(test)]
 mod tests;

@@ -2,76 +2,76 @@
 
 ghost use Rattle.std.specs.Prelude.{◌≡◌, ◌<◌, ◌≤◌, ◌+◌, ◌*◌, ◌^◌, ℕ, List, None, [], length, All, Contains, IfOk, OnOk};
 ghost use Rattle.std.specs.List.{slice_index_or};
-ghost use Rattle.net_routes.specs.declared.step.Step.{Step};
-ghost use Rattle.net_routes.specs.Walk.{AreSteps, Goes};
+ghost use Rattle.net_routes.specs.declared.hop.Hop.{Hop};
+ghost use Rattle.net_routes.specs.Walk.{AreHops, Goes};
 ghost use Rattle.net_routes.specs.Path.{AreArcs, HasWay, IsBest};
 ghost use Rattle.net_routes.specs.Net.{IsNet, AddsArc, cost_to};
 
-use crate::arc::{Arc, Row};
+use crate::arc::{Arc, Arcs};
 use crate::arcs::cheapest_arcs;
 use crate::cost::Cost;
-use crate::places::Places;
+use crate::hop::Hop;
+use crate::node_ids::NodeIds;
 use crate::search::cheapest_paths;
-use crate::step::Step;
 use sim_base::NoMemory;
 use std::alloc::Global;
 
-/// The places of the nodes that steps join, and the arcs that leave each.
+/// The places of the nodes that hops join, and the arcs that leave each.
 #[derive(Debug, Drop)]
 pub struct Net {
-    pub places: Places,
-    pub rows: Vec<Row>,
+    pub places: NodeIds,
+    pub rows: Vec<Arcs>,
 }
 
-/// The ids of the nodes that steps join.
-fn ends_of(alloc: Global, steps: &[Step]) -> Result<Vec<u32>, NoMemory>
-    ensures size { IfOk result (λ ends. length ends.items ≡ 2 * length steps.now) }
+/// The ids of the nodes that hops join.
+fn ends_of(alloc: Global, hops: &[Hop]) -> Result<Vec<u32>, NoMemory>
+    ensures size { IfOk result (λ ends. length ends.items ≡ 2 * length hops.now) }
     ensures ends { IfOk result (λ ends. All
-        (λ s. Contains ends.items s.from × Contains ends.items s.to) steps.now) }
+        (λ s. Contains ends.items s.from × Contains ends.items s.to) hops.now) }
 {
     let mut ends = Vec::new(alloc);
-    for step in steps {
-        ends.push(step.from)?;
-        ends.push(step.to)?;
+    for hop in hops {
+        ends.push(hop.from)?;
+        ends.push(hop.to)?;
     }
     Ok(ends)
 }
 
-fn empty_rows(alloc: Global, count: usize) -> Result<Vec<Row>, NoMemory>
+fn empty_rows(alloc: Global, count: usize) -> Result<Vec<Arcs>, NoMemory>
     ensures size { IfOk result (λ rows. length rows.items ≡ count) }
     ensures empty { IfOk result (λ rows. All (λ row. row ≡ []) rows.items) }
 {
     let mut rows = Vec::new(alloc);
     for _ in 0..count {
-        rows.push(Row::new(alloc))?;
+        rows.push(Arcs::new(alloc))?;
     }
     Ok(rows)
 }
 
-/// Adds the arc of a step.
-fn add_arc(rows: &mut Vec<Row>, places: &Places, step: &Step) -> Result<(), NoMemory>
-    requires from { Contains places.now step.now.from }
-    requires to { Contains places.now step.now.to }
+/// Adds the arc of a hop.
+fn add_arc(rows: &mut Vec<Arcs>, places: &NodeIds, hop: &Hop) -> Result<(), NoMemory>
+    requires from { Contains places.now hop.now.from }
+    requires to { Contains places.now hop.now.to }
     requires size { length rows.old.items ≡ length places.now }
-    ensures { OnOk result (AddsArc places.now step.now rows.old.items rows.new.items) }
+    ensures { OnOk result (AddsArc places.now hop.now rows.old.items rows.new.items) }
 {
-    let place = places.place(step.from);
+    let place = places.place(hop.from);
     let arc = Arc {
-        to: places.place(step.to),
-        cost: step.cost,
+        to: places.place(hop.to),
+        cost: hop.cost,
     };
     let row = &mut rows[place];
     row.push(arc)?;
     Ok(())
 }
 
-fn rows_of(alloc: Global, places: &Places, steps: &[Step]) -> Result<Vec<Row>, NoMemory>
-    requires { All (λ s. Contains places.now s.from × Contains places.now s.to) steps.now }
-    ensures { IfOk result (λ rows. IsNet steps.now places.now rows.items) }
+fn rows_of(alloc: Global, places: &NodeIds, hops: &[Hop]) -> Result<Vec<Arcs>, NoMemory>
+    requires { All (λ s. Contains places.now s.from × Contains places.now s.to) hops.now }
+    ensures { IfOk result (λ rows. IsNet hops.now places.now rows.items) }
 {
     let mut rows = empty_rows(alloc, places.len())?;
-    for step in steps {
-        add_arc(&mut rows, places, step)?;
+    for hop in hops {
+        add_arc(&mut rows, places, hop)?;
     }
     Ok(rows)
 }
@@ -79,7 +79,7 @@ fn rows_of(alloc: Global, places: &Places, steps: &[Step]) -> Result<Vec<Row>, N
 /// The best costs from a place to each place, of the walks by which a route may go.
 fn costs_of(
     alloc: Global,
-    rows: &[Row],
+    rows: &[Arcs],
     start: usize,
     shortest: bool,
 ) -> Result<Vec<Option<Cost>>, NoMemory>
@@ -99,15 +99,15 @@ fn costs_of(
 }
 
 impl Net {
-    pub fn new(alloc: Global, steps: &[Step]) -> Result<Net, NoMemory>
-        requires { AreSteps steps.now }
-        ensures net { IfOk result (λ net. IsNet steps.now net.places net.rows.items) }
+    pub fn new(alloc: Global, hops: &[Hop]) -> Result<Net, NoMemory>
+        requires { AreHops hops.now }
+        ensures net { IfOk result (λ net. IsNet hops.now net.places net.rows.items) }
         ensures arcs { IfOk result (λ net. AreArcs net.rows.items) }
         ensures few { IfOk result (λ net. length net.rows.items ≤ 2 ^ 20) }
         ensures size { IfOk result (λ net. length net.rows.items ≡ length net.places) }
     {
-        let places = Places::from(ends_of(alloc, steps)?);
-        let rows = rows_of(alloc, &places, steps)?;
+        let places = NodeIds::from(ends_of(alloc, hops)?);
+        let rows = rows_of(alloc, &places, hops)?;
         Ok(Net { places, rows })
     }
 
@@ -121,8 +121,8 @@ impl Net {
         requires arcs { AreArcs self.now.rows.items }
         requires few { length self.now.rows.items ≤ 2 ^ 20 }
         requires size { length self.now.rows.items ≡ length self.now.places }
-        ensures { (steps : List Step) → IsNet steps self.now.places self.now.rows.items →
-            IfOk result (λ costs. IsBest (Goes steps shortest node)
+        ensures { (hops : List Hop) → IsNet hops self.now.places self.now.rows.items →
+            IfOk result (λ costs. IsBest (Goes hops shortest node)
             (cost_to self.now.places costs.items)) }
     {
         match self.places.find(node) {

@@ -10,7 +10,7 @@ ghost use Rattle.net_routes.specs.Cost.{and_then, IsAsGood};
 ghost use Rattle.net_routes.specs.Path.{AreArcs, IsArc, HasPath, IsBest};
 ghost use Rattle.net_routes.specs.Search.{entry_order, IsSearch, IsNext, AddsArcs};
 
-use crate::arc::{Arc, Row};
+use crate::arc::{Arc, Arcs};
 use crate::cost::{Cost, extended, no_cost};
 use sim_base::NoMemory;
 use std::alloc::Global;
@@ -63,22 +63,22 @@ fn next_entry(waiting: &mut BinaryHeap<Entry>, best: &[Option<Cost>]) -> Option<
     None
 }
 
-/// The cost of a walk and then of a step, if nothing as good is known.
-fn improved(known: Option<Cost>, cost: Cost, step: Cost) -> Option<Cost>
-    requires room { cost.latency + step.latency < 2 ^ 64 }
+/// The cost of a walk and then of a hop, if nothing as good is known.
+fn improved(known: Option<Cost>, cost: Cost, hop: Cost) -> Option<Cost>
+    requires room { cost.latency + hop.latency < 2 ^ 64 }
     requires before { cost.reliability ≤ 1000000000 }
-    requires part { step.reliability ≤ 1000000000 }
-    ensures some { IfSome result (λ c. c ≡ and_then cost step) }
+    requires part { hop.reliability ≤ 1000000000 }
+    ensures some { IfSome result (λ c. c ≡ and_then cost hop) }
     ensures better { IfSome result (λ c. IfSome known (IsAsGood c)) }
-    ensures none { IfNone result (IsSomeAnd known (λ c. IsAsGood c (and_then cost step))) }
+    ensures none { IfNone result (IsSomeAnd known (λ c. IsAsGood c (and_then cost hop))) }
 {
     let Some(other) = known else {
-        return Some(extended(cost, step));
+        return Some(extended(cost, hop));
     };
-    if other.latency < cost.latency + step.latency {
+    if other.latency < cost.latency + hop.latency {
         return None;
     }
-    let found = extended(cost, step);
+    let found = extended(cost, hop);
     if other.latency == found.latency && found.reliability <= other.reliability {
         return None;
     }
@@ -113,7 +113,7 @@ fn add_arcs(
 /// The cheapest cost of a path from a place to each other, where there is one.
 pub fn cheapest_paths(
     alloc: Global,
-    rows: &[Row],
+    rows: &[Arcs],
     start: usize,
 ) -> Result<Vec<Option<Cost>>, NoMemory>
     requires start { start < length rows.now }

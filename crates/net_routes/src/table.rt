@@ -4,16 +4,16 @@ ghost use Rattle.std.specs.Prelude.{◌≡◌, ◌<◌, Some, IsSome, option_map
 ghost use Rattle.net_routes.specs.Routes.{route_in, HasRoutes};
 ghost use Rattle.net_routes.specs.Least.{lesser, IsLatency, IsLeastIf, IsFromTo, IsNeededLatency, IsNeededTo, IsLookahead};
 
-use crate::line::{Line, hosts_on, is_needed};
-use crate::places::Places;
+use crate::node_ids::NodeIds;
+use crate::route_row::{RouteRow, hosts_on, is_needed};
 use sim_base::Time;
 
 /// The routes between the nodes of hosts: of each the latency, and what arrives of 10^9 packets
 /// that are sent.
 #[derive(Debug, Drop)]
 pub struct Routes {
-    pub(crate) stops: Places,
-    pub(crate) lines: Vec<Line>,
+    pub(crate) stops: NodeIds,
+    pub(crate) rows: Vec<RouteRow>,
 }
 
 impl Routes {
@@ -23,8 +23,8 @@ impl Routes {
         ensures { result ≡ option_map (λ c. (record { nanos = c.latency }, c.reliability))
             (route_in self.now from to) }
     {
-        let line = self.lines.get(self.stops.find(from)?)?;
-        let cost = line.get(self.stops.find(to)?)?;
+        let row = self.rows.get(self.stops.find(from)?)?;
+        let cost = row.get(self.stops.find(to)?)?;
         Some((
             Time {
                 nanos: cost.latency,

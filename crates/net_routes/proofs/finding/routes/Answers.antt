@@ -2,8 +2,8 @@ use Rattle.std.proofs.Common.{ℕ, List, refl, sym, ◌∙◌, subst}
 use Rattle.std.proofs.lemmas.List.Elements.{Contains-get_or}
 use Rattle.std.proofs.lemmas.Result.{err_from_is_err_and}
 use Rattle.std.specs.List.Sorted.{IsStrictlyIncreasing}
-use Rattle.net_routes.specs.declared.step.Step.{Step}
-use Rattle.net_routes.specs.Walk.{steps}
+use Rattle.net_routes.specs.declared.hop.Hop.{Hop}
+use Rattle.net_routes.specs.Walk.{hops}
 use Rattle.net_routes.specs.Net.{IsNet}
 use Rattle.net_routes.specs.Routes.{route_at}
 use Rattle.net_routes.proofs.RouteLemmas.{some_route, some_there, stops_of}
@@ -22,19 +22,19 @@ search_all-requires-clause-from g c κs within =
     let all = stops_of ids c.from-stops.result c.in_ok-from_slice.field-0.items c.args.nodes.now c.as_slice-ids.ensures.ids c.in_ok-from_slice.ensures.items c.from-stops.ensures.ids in
     to_search c.args.nodes.now ids c.in_ok-searches.searches.items c.in_ok-searches.ensures all
 
-pub returns-in_err-lines-clause-err : goal.returns-in_err-lines-clause-err
-returns-in_err-lines-clause-err g c =
-    let p = err_from_is_err_and c.from_residual-in_err-lines.result c.from_residual-in_err-lines.ensures.1 in
+pub returns-in_err-rows-clause-err : goal.returns-in_err-rows-clause-err
+returns-in_err-rows-clause-err g c =
+    let p = err_from_is_err_and c.from_residual-in_err-rows.result c.from_residual-in_err-rows.ensures.1 in
     let graph = c.args.graph.now in
     let nodes = c.args.nodes.now in
     let ids = c.as_slice-ids.result.now in
     let all = stops_of ids c.from-stops.result c.in_ok-from_slice.field-0.items nodes c.as_slice-ids.ensures.ids c.in_ok-from_slice.ensures.items c.from-stops.ensures.ids in
     let U : List ℕ → Type 0 = λ xs. IsStrictlyIncreasing xs in
-    let N : List Step → Type 0 = λ ss. IsNet ss c.in_ok-net.net.places c.in_ok-net.net.rows.items in
-    let net : IsNet (steps graph) c.in_ok-net.net.places c.in_ok-net.net.rows.items = subst N (c.as_slice.ensures.value ∙ c.in_ok-steps.ensures.steps) c.in_ok-net.ensures.net in
+    let N : List Hop → Type 0 = λ ss. IsNet ss c.in_ok-net.net.places c.in_ok-net.net.rows.items in
+    let net : IsNet (hops graph) c.in_ok-net.net.places c.in_ok-net.net.rows.items = subst N (c.as_slice.ensures.value ∙ c.in_ok-hops.ensures.hops) c.in_ok-net.ensures.net in
     let made = all_made c.in_ok-net.net nodes ids c.args.shortest _ _ c.search_all.ensures in
     let from = made.1 ∙ c.in_ok-searches.ensures in
-    rw (p.1, p.2) (refused_behind graph c.in_ok-net.net nodes ids c.args.shortest _ c.in_err-lines.field-0.0 (subst U (sym c.as_slice-ids.ensures.ids) c.as_slice-ids.ensures.rising) all net made.0 from c.in_err-lines.ensures.err)
+    rw (p.1, p.2) (refused_behind graph c.in_ok-net.net nodes ids c.args.shortest _ c.in_err-rows.field-0.0 (subst U (sym c.as_slice-ids.ensures.ids) c.as_slice-ids.ensures.rising) all net made.0 from c.in_err-rows.ensures.err)
 
 pub returns-clause-ok : goal.returns-clause-ok
 returns-clause-ok g c a b need =
@@ -42,14 +42,14 @@ returns-clause-ok g c a b need =
     let nodes = c.args.nodes.now in
     let ids = c.as_slice-ids.result.now in
     let stops = c.from-stops.result in
-    let lines = c.in_ok-lines.lines.items in
+    let rows = c.in_ok-rows.rows.items in
     let all = stops_of stops stops c.in_ok-from_slice.field-0.items nodes refl c.in_ok-from_slice.ensures.items c.from-stops.ensures.ids in
-    let N : List Step → Type 0 = λ ss. IsNet ss c.in_ok-net.net.places c.in_ok-net.net.rows.items in
-    let net : IsNet (steps graph) c.in_ok-net.net.places c.in_ok-net.net.rows.items = subst N (c.as_slice.ensures.value ∙ c.in_ok-steps.ensures.steps) c.in_ok-net.ensures.net in
+    let N : List Hop → Type 0 = λ ss. IsNet ss c.in_ok-net.net.places c.in_ok-net.net.rows.items in
+    let net : IsNet (hops graph) c.in_ok-net.net.places c.in_ok-net.net.rows.items = subst N (c.as_slice.ensures.value ∙ c.in_ok-hops.ensures.hops) c.in_ok-net.ensures.net in
     let made = all_made c.in_ok-net.net nodes ids c.args.shortest _ _ c.search_all.ensures in
     let from = made.1 ∙ c.in_ok-searches.ensures in
-    some_route graph c.args.shortest a b (route_at stops lines a b)
-    (whole_found graph c.in_ok-net.net nodes stops ids c.args.shortest _ lines c.as_slice-ids.ensures.ids c.as_slice-ids.ensures.rising all net made.0 from c.in_ok-lines.ensures.ok a b need)
+    some_route graph c.args.shortest a b (route_at stops rows a b)
+    (whole_found graph c.in_ok-net.net nodes stops ids c.args.shortest _ rows c.as_slice-ids.ensures.ids c.as_slice-ids.ensures.rising all net made.0 from c.in_ok-rows.ensures.ok a b need)
 
 pub returns-clause-whole : goal.returns-clause-whole
 returns-clause-whole g c a b need =
@@ -57,21 +57,21 @@ returns-clause-whole g c a b need =
     let nodes = c.args.nodes.now in
     let ids = c.as_slice-ids.result.now in
     let stops = c.from-stops.result in
-    let lines = c.in_ok-lines.lines.items in
+    let rows = c.in_ok-rows.rows.items in
     let all = stops_of stops stops c.in_ok-from_slice.field-0.items nodes refl c.in_ok-from_slice.ensures.items c.from-stops.ensures.ids in
-    let N : List Step → Type 0 = λ ss. IsNet ss c.in_ok-net.net.places c.in_ok-net.net.rows.items in
-    let net : IsNet (steps graph) c.in_ok-net.net.places c.in_ok-net.net.rows.items = subst N (c.as_slice.ensures.value ∙ c.in_ok-steps.ensures.steps) c.in_ok-net.ensures.net in
+    let N : List Hop → Type 0 = λ ss. IsNet ss c.in_ok-net.net.places c.in_ok-net.net.rows.items in
+    let net : IsNet (hops graph) c.in_ok-net.net.places c.in_ok-net.net.rows.items = subst N (c.as_slice.ensures.value ∙ c.in_ok-hops.ensures.hops) c.in_ok-net.ensures.net in
     let made = all_made c.in_ok-net.net nodes ids c.args.shortest _ _ c.search_all.ensures in
     let from = made.1 ∙ c.in_ok-searches.ensures in
-    let w = whole_found graph c.in_ok-net.net nodes stops ids c.args.shortest _ lines c.as_slice-ids.ensures.ids c.as_slice-ids.ensures.rising all net made.0 from c.in_ok-lines.ensures.ok a b need in
-    some_there (route_at stops lines a b) w.0 w.1
+    let w = whole_found graph c.in_ok-net.net nodes stops ids c.args.shortest _ rows c.as_slice-ids.ensures.ids c.as_slice-ids.ensures.rising all net made.0 from c.in_ok-rows.ensures.ok a b need in
+    some_there (route_at stops rows a b) w.0 w.1
 
 pub returns-clause-sound : goal.returns-clause-sound
 returns-clause-sound g c =
     let graph = c.args.graph.now in
     let nodes = c.args.nodes.now in
-    let N : List Step → Type 0 = λ ss. IsNet ss c.in_ok-net.net.places c.in_ok-net.net.rows.items in
-    let net : IsNet (steps graph) c.in_ok-net.net.places c.in_ok-net.net.rows.items = subst N (c.as_slice.ensures.value ∙ c.in_ok-steps.ensures.steps) c.in_ok-net.ensures.net in
+    let N : List Hop → Type 0 = λ ss. IsNet ss c.in_ok-net.net.places c.in_ok-net.net.rows.items in
+    let net : IsNet (hops graph) c.in_ok-net.net.places c.in_ok-net.net.rows.items = subst N (c.as_slice.ensures.value ∙ c.in_ok-hops.ensures.hops) c.in_ok-net.ensures.net in
     let made = all_made c.in_ok-net.net nodes c.as_slice-ids.result.now c.args.shortest _ _ c.search_all.ensures in
     let from = made.1 ∙ c.in_ok-searches.ensures in
-    sound_found graph c.in_ok-net.net nodes c.from-stops.result c.as_slice-ids.result.now c.args.shortest _ c.in_ok-lines.lines.items c.as_slice-ids.ensures.ids net made.0 from c.in_ok-lines.ensures.ok
+    sound_found graph c.in_ok-net.net nodes c.from-stops.result c.as_slice-ids.result.now c.args.shortest _ c.in_ok-rows.rows.items c.as_slice-ids.ensures.ids net made.0 from c.in_ok-rows.ensures.ok

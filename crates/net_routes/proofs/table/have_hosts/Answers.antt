@@ -2,7 +2,7 @@ use Rattle.std.proofs.Common.{◌≡◌, ℕ, ◌<◌, List, length, take, get_o
 use Rattle.std.specs.Prelude.{All, Contains}
 use Rattle.std.proofs.lemmas.List.{take_all}
 use Rattle.std.proofs.lemmas.List.Elements.{All-more}
-use Rattle.net_routes.proofs.LineLemmas.{hosts_on, one_host}
+use Rattle.net_routes.proofs.RouteRowLemmas.{hosts_on, one_host}
 use Rattle.net_routes.proofs.PlaceLemmas.{contains_at}
 use Rattle.net_routes.proofs.table.have_hosts.Goals as goal
 

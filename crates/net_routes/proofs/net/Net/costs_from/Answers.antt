@@ -21,16 +21,16 @@ costs_of-requires-clause-arcs c =
     subst P (sym c.deref.ensures.value) c.requires.arcs
 
 pub returns-in-Some : goal.returns-in-Some
-returns-in-Some c steps net =
+returns-in-Some c hops net =
     let ids = c.args.self.now.places in
     let at = place_at ids c.args.node c.in-Some.start (sym c.find.ensures.place ∙ c.in-Some.is) in
-    let N : List (List Arc) → Type 0 = λ rows. IsNet steps ids rows in
-    let here : IsNet steps ids c.deref.result.now = subst N (sym c.deref.ensures.value) net in
-    IfOk-weaker c.costs_of.result _ _ (λ v k. net_best steps ids c.deref.result.now c.args.shortest c.in-Some.start c.args.node v.items c.find.ensures.rising here at k) c.costs_of.ensures
+    let N : List (List Arc) → Type 0 = λ rows. IsNet hops ids rows in
+    let here : IsNet hops ids c.deref.result.now = subst N (sym c.deref.ensures.value) net in
+    IfOk-weaker c.costs_of.result _ _ (λ v k. net_best hops ids c.deref.result.now c.args.shortest c.in-Some.start c.args.node v.items c.find.ensures.rising here at k) c.costs_of.ensures
 
 pub returns-in-None : goal.returns-in-None
-returns-in-None c steps net =
+returns-in-None c hops net =
     let ids = c.args.self.now.places in
     let none : place_of ids c.args.node ≡ None = sym c.find.ensures.place ∙ c.in-None.is in
-    let P : List (Option Cost) → Type 0 = λ costs. IsBest (Goes steps c.args.shortest c.args.node) (cost_to ids costs) in
-    subst P (sym c.new.ensures.items) (net_alone steps ids c.args.self.now.rows.items c.args.shortest c.args.node c.find.ensures.rising net none)
+    let P : List (Option Cost) → Type 0 = λ costs. IsBest (Goes hops c.args.shortest c.args.node) (cost_to ids costs) in
+    subst P (sym c.new.ensures.items) (net_alone hops ids c.args.self.now.rows.items c.args.shortest c.args.node c.find.ensures.rising net none)

@@ -4,7 +4,7 @@ use Rattle.net_routes.proofs.net.Net.new.Goals as goal
 
 pub rows_of-requires : goal.rows_of-requires
 rows_of-requires c k d lt =
-    let s = get_or c.args.steps.now k d in
+    let s = get_or c.args.hops.now k d in
     let h = c.in_ok-ends_of.ensures.ends k d lt in
     ((c.from-places.ensures.ids s.from).1 h.0, (c.from-places.ensures.ids s.to).1 h.1)
 

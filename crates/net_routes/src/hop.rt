@@ -1,7 +1,7 @@
-//! Steps: the ways along the edges of a graph.
+//! Hops: the ways along the edges of a graph.
 
 ghost use Rattle.std.specs.Prelude.{◌≡◌, ◌++◌, IfOk, OnOk};
-ghost use Rattle.net_routes.specs.Walk.{along, against, ways, steps, AreSteps};
+ghost use Rattle.net_routes.specs.Walk.{along, against, ways, hops, AreHops};
 
 use crate::cost::Cost;
 use gml_graph::{Edge, Graph};
@@ -10,7 +10,7 @@ use std::alloc::Global;
 
 /// A way along an edge, from one node to another.
 #[derive(Clone, Copy, Debug, PartialEq, Eq)]
-pub struct Step {
+pub struct Hop {
     pub from: u32,
     pub to: u32,
     pub cost: Cost,
@@ -25,11 +25,11 @@ fn cost_of(edge: Edge) -> Cost
     }
 }
 
-fn push_ways(steps: &mut Vec<Step>, directed: bool, edge: Edge) -> Result<(), NoMemory>
-    ensures { OnOk result (steps.new.items ≡ steps.old.items ++ ways directed edge) }
+fn push_ways(hops: &mut Vec<Hop>, directed: bool, edge: Edge) -> Result<(), NoMemory>
+    ensures { OnOk result (hops.new.items ≡ hops.old.items ++ ways directed edge) }
 {
     let cost = cost_of(edge);
-    steps.push(Step {
+    hops.push(Hop {
         from: edge.source,
         to: edge.target,
         cost,
@@ -37,7 +37,7 @@ fn push_ways(steps: &mut Vec<Step>, directed: bool, edge: Edge) -> Result<(), No
     if directed {
         return Ok(());
     }
-    steps.push(Step {
+    hops.push(Hop {
         from: edge.target,
         to: edge.source,
         cost,
@@ -45,10 +45,10 @@ fn push_ways(steps: &mut Vec<Step>, directed: bool, edge: Edge) -> Result<(), No
     Ok(())
 }
 
-/// The steps of a graph: along each edge, and against it too where the graph isn't directed.
-pub fn steps_of(alloc: Global, graph: &Graph) -> Result<Vec<Step>, NoMemory>
-    ensures steps { IfOk result (λ found. found.items ≡ steps graph.now) }
-    ensures sound { IfOk result (λ found. AreSteps found.items) }
+/// The hops of a graph: along each edge, and against it too where the graph isn't directed.
+pub fn hops_of(alloc: Global, graph: &Graph) -> Result<Vec<Hop>, NoMemory>
+    ensures hops { IfOk result (λ found. found.items ≡ hops graph.now) }
+    ensures sound { IfOk result (λ found. AreHops found.items) }
 {
     let directed = graph.directed;
     let edges = graph.edges.as_slice();

@@ -1,6 +1,6 @@
 use Rattle.std.proofs.Common.{sym, ◌∙◌}
 use Rattle.net_routes.proofs.PlaceLemmas.{place_there, place_at}
-use Rattle.net_routes.proofs.places.Places.place.Goals as goal
+use Rattle.net_routes.proofs.node_ids.NodeIds.place.Goals as goal
 
 pub unreachable-requires : goal.unreachable-requires
 unreachable-requires c =

@@ -9,7 +9,7 @@ use Rattle.net_routes.specs.declared.cost.Cost.{Cost}
 use Rattle.net_routes.specs.declared.error.RouteError.{RouteError}
 use Rattle.net_routes.specs.declared.error.RouteError.TheVariants as errors
 use Rattle.net_routes.specs.Needed.{IsAt, IsNeeded}
-use Rattle.net_routes.specs.Lines.{IsLine, IsFirstLack, NamesLack}
+use Rattle.net_routes.specs.RouteRows.{IsRouteRow, IsFirstLack, NamesLack}
 use Rattle.net_routes.proofs.PlaceLemmas.{at_is, at_contains}
 
 -- HOSTS ON A NODE
@@ -126,26 +126,26 @@ needed_tested nodes a b count same is = needed_either nodes a b count (leb 2 cou
 -- LINES
 
 -- the costs up to an index
-pub record IsLineBelow (count : ℕ) (nodes stops : List ℕ) (from : ℕ) (found : ℕ → Option Cost) (line : List (Option Cost)) : Type 0 where
-  pub each : (k to : ℕ) → k < count → IsAt stops k to → get_or line k None ≡ found to
+pub record IsRowBelow (count : ℕ) (nodes stops : List ℕ) (from : ℕ) (found : ℕ → Option Cost) (row : List (Option Cost)) : Type 0 where
+  pub each : (k to : ℕ) → k < count → IsAt stops k to → get_or row k None ≡ found to
   pub whole : (k to : ℕ) → k < count → IsAt stops k to → IsNeeded nodes from to → IsSome (found to)
 
-pub line_none : (nodes stops : List ℕ) (from : ℕ) (found : ℕ → Option Cost) (line : List (Option Cost)) → IsLineBelow 0 nodes stops from found line
-line_none nodes stops from found line = record {
+pub row_none : (nodes stops : List ℕ) (from : ℕ) (found : ℕ → Option Cost) (row : List (Option Cost)) → IsRowBelow 0 nodes stops from found row
+row_none nodes stops from found row = record {
   each = λ k to lt at. absurd (omega (arith, lt));
   whole = λ k to lt at need. absurd (omega (arith, lt));
 }
 
-pub line_more : (nodes stops : List ℕ) (from : ℕ) (found : ℕ → Option Cost) (line : List (Option Cost)) (i node : ℕ) (c : Option Cost) → length line ≡ i → IsAt stops i node → c ≡ found node → (IsNeeded nodes from node → IsSome c)
-    → IsLineBelow i nodes stops from found line → IsLineBelow (i + 1) nodes stops from found (line ++ c ∷ [])
-line_more nodes stops from found line i node c size at is needed below = record {
+pub row_more : (nodes stops : List ℕ) (from : ℕ) (found : ℕ → Option Cost) (row : List (Option Cost)) (i node : ℕ) (c : Option Cost) → length row ≡ i → IsAt stops i node → c ≡ found node → (IsNeeded nodes from node → IsSome c)
+    → IsRowBelow i nodes stops from found row → IsRowBelow (i + 1) nodes stops from found (row ++ c ∷ [])
+row_more nodes stops from found row i node c size at is needed below = record {
   each = λ k to lt there. ⊎_elim
-      (λ (before : k < i). get_or_append_left line (c ∷ []) None k (omega (arith, before, size)) ∙ below.each k to before there)
+      (λ (before : k < i). get_or_append_left row (c ∷ []) None k (omega (arith, before, size)) ∙ below.each k to before there)
       (λ (ge : i ≤ k).
       let now : k ≡ i = omega (arith, lt, ge) in
       let P : ℕ → Type 0 = λ p. IsAt stops p to in
       let ends : to ≡ node = at_is stops i to node (subst P now there) at in
-      get_or_push line c None k (size ∙ sym now) ∙ is ∙ ap found (sym ends))
+      get_or_push row c None k (size ∙ sym now) ∙ is ∙ ap found (sym ends))
       (cases_lt k i);
   whole = λ k to lt there need. ⊎_elim
       (λ (before : k < i). below.whole k to before there need)
@@ -159,16 +159,16 @@ line_more nodes stops from found line i node c size at is needed below = record 
       (cases_lt k i);
 }
 
-pub line_whole : (nodes stops : List ℕ) (from : ℕ) (found : ℕ → Option Cost) (line : List (Option Cost)) (i : ℕ) → length stops ≤ i → IsLineBelow i nodes stops from found line → IsLine nodes stops from found line
-line_whole nodes stops from found line i all below = record {
+pub row_whole : (nodes stops : List ℕ) (from : ℕ) (found : ℕ → Option Cost) (row : List (Option Cost)) (i : ℕ) → length stops ≤ i → IsRowBelow i nodes stops from found row → IsRouteRow nodes stops from found row
+row_whole nodes stops from found row i all below = record {
   each = λ k to at. below.each k to (omega (arith, at.within, all)) at;
   whole = λ k to at need. below.whole k to (omega (arith, at.within, all)) at need;
 }
 
--- what stops a line
-pub names_lack : (nodes stops : List ℕ) (from : ℕ) (found : ℕ → Option Cost) (e : RouteError) (line : List (Option Cost)) (i to : ℕ) → e ≡ errors.NoRoute from to → IsAt stops i to → IsNeeded nodes from to → found to ≡ None
-    → IsLineBelow i nodes stops from found line → NamesLack nodes stops from found e
-names_lack nodes stops from found e line i to which at need none below =
+-- what stops a row
+pub names_lack : (nodes stops : List ℕ) (from : ℕ) (found : ℕ → Option Cost) (e : RouteError) (row : List (Option Cost)) (i to : ℕ) → e ≡ errors.NoRoute from to → IsAt stops i to → IsNeeded nodes from to → found to ≡ None
+    → IsRowBelow i nodes stops from found row → NamesLack nodes stops from found e
+names_lack nodes stops from found e row i to which at need none below =
     let P : RouteError → Type 0 = λ o. NamesLack nodes stops from found o in
     let lack : IsFirstLack nodes stops from found to = record {
       place = i;

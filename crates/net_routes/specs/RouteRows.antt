@@ -6,8 +6,8 @@ use Rattle.net_routes.specs.declared.error.RouteError.TheVariants as errors
 use Rattle.net_routes.specs.Needed.{IsAt, IsNeeded}
 
 -- what was found for each node, and each that hosts need
-pub record IsLine (nodes stops : List ℕ) (from : ℕ) (found : ℕ → Option Cost) (line : List (Option Cost)) : Type 0 where
-  pub each : (k to : ℕ) → IsAt stops k to → slice_index_or line k None ≡ found to
+pub record IsRouteRow (nodes stops : List ℕ) (from : ℕ) (found : ℕ → Option Cost) (row : List (Option Cost)) : Type 0 where
+  pub each : (k to : ℕ) → IsAt stops k to → slice_index_or row k None ≡ found to
   pub whole : (k to : ℕ) → IsAt stops k to → IsNeeded nodes from to → IsSome (found to)
 
 -- the first needed cost that isn't there

@@ -3,7 +3,7 @@
 ghost use Rattle.std.specs.Prelude.{◌≡◌, count_by, ◌==◌, Contains, All, MatchBool, IfOk, IfErr, OnErr, IsSome, None, slice_index_or};
 ghost use Rattle.net_routes.specs.Needed.{IsNeeded};
 ghost use Rattle.net_routes.specs.Net.{cost_to};
-ghost use Rattle.net_routes.specs.Lines.{IsLine, NamesLack};
+ghost use Rattle.net_routes.specs.RouteRows.{IsRouteRow, NamesLack};
 
 use crate::cost::Cost;
 use crate::error::RouteError;
@@ -15,11 +15,11 @@ use std::marker::Model;
 /// The costs of the routes from a node to each of the nodes of hosts, in the order of their ids,
 /// where there are such.
 #[derive(Debug, Drop)]
-pub struct Line {
+pub struct RouteRow {
     costs: Vec<Kept>,
 }
 
-impl Model for Line {
+impl Model for RouteRow {
     ghost use Rattle.std.specs.Prelude.{List, Option};
     ghost use Rattle.net_routes.specs.declared.cost.Cost.{Cost};
 
@@ -28,7 +28,7 @@ impl Model for Line {
     ghost view = { λ l. l.costs.items };
 }
 
-impl Line {
+impl RouteRow {
     /// The cost at a place, if there is one.
     pub fn get(&self, place: usize) -> Option<Cost>
         ensures { result ≡ slice_index_or self.now place None }
@@ -85,24 +85,24 @@ fn found_cost(
 }
 
 /// The costs of the routes from a node, or the first that hosts need and that isn't there.
-pub fn line_from(
+pub fn row_from(
     alloc: Global,
     net: &Net,
     costs: &[Option<Cost>],
     nodes: &[u32],
     stops: &[u32],
     from: u32,
-) -> Result<Line, RouteError>
+) -> Result<RouteRow, RouteError>
     requires from { Contains nodes.now from }
     requires stops { All (Contains nodes.now) stops.now }
     ensures ok { IfOk result
-        (IsLine nodes.now stops.now from (cost_to net.now.places costs.now)) }
+        (IsRouteRow nodes.now stops.now from (cost_to net.now.places costs.now)) }
     ensures err { IfErr result
         (NamesLack nodes.now stops.now from (cost_to net.now.places costs.now)) }
 {
-    let mut line = Vec::with_capacity(alloc, stops.len())?;
+    let mut row = Vec::with_capacity(alloc, stops.len())?;
     for to in stops {
-        line.push(Kept::from(found_cost(net, costs, nodes, from, *to)?))?;
+        row.push(Kept::from(found_cost(net, costs, nodes, from, *to)?))?;
     }
-    Ok(Line { costs: line })
+    Ok(RouteRow { costs: row })
 }

@@ -9,11 +9,11 @@ use std::marker::Model;
 
 /// Ids of nodes in rising order, each once. Contracts see the list.
 #[derive(Debug, Drop)]
-pub struct Places {
+pub struct NodeIds {
     ids: Vec<u32>,
 }
 
-impl Model for Places {
+impl Model for NodeIds {
     ghost use Rattle.std.specs.Prelude.{ℕ, List};
     ghost use Rattle.std.specs.List.Sorted.{IsStrictlyIncreasing};
 
@@ -24,19 +24,19 @@ impl Model for Places {
     ghost invariant = { λ p. IsStrictlyIncreasing p.ids.items };
 }
 
-impl From<Vec<u32>> for Places {
-    fn from(ids: Vec<u32>) -> Places
+impl From<Vec<u32>> for NodeIds {
+    fn from(ids: Vec<u32>) -> NodeIds
         ensures ids { (id : ℕ) → Contains result id ↔ Contains ids.items id }
         ensures few { length result ≤ vec_len ids }
     {
         let mut ids = ids;
         ids.sort_unstable();
         ids.dedup();
-        Places { ids }
+        NodeIds { ids }
     }
 }
 
-impl Places {
+impl NodeIds {
     pub fn len(&self) -> usize
         ensures { result ≡ length self.now }
     {

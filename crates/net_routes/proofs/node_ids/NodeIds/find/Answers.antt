@@ -4,7 +4,7 @@ use Rattle.std.specs.Ordering.{nat_cmp}
 use Rattle.std.proofs.lemmas.List.{get_or_read}
 use Rattle.net_routes.specs.Places.{place_of}
 use Rattle.net_routes.proofs.PlaceLemmas.{place_found, searched_place}
-use Rattle.net_routes.proofs.places.Places.find.Goals as goal
+use Rattle.net_routes.proofs.node_ids.NodeIds.find.Goals as goal
 
 pub returns-then-index-id-clause-place : goal.returns-then-index-id-clause-place
 returns-then-index-id-clause-place c =

@@ -6,7 +6,7 @@ use Rattle.std.proofs.lemmas.List.Filters.{dedup_is}
 use Rattle.std.proofs.lemmas.List.Kept.{Contains-dedup_nat, Contains-from_dedup}
 use Rattle.std.proofs.lemmas.List.Sorted.{Contains-permutation, IsPermutation-sym}
 use Rattle.std.proofs.lemmas.Map.Keys.{IsStrictlyIncreasing-dedup}
-use Rattle.net_routes.proofs.places.PlacesFromVecU32.from.Goals as goal
+use Rattle.net_routes.proofs.node_ids.NodeIdsFromVecU32.from.Goals as goal
 
 pub invariant_of-result : goal.invariant_of-result
 invariant_of-result c =
