@@ -16,12 +16,12 @@ use Rattle.steal_workers.specs.declared.item.Item.TheVariants.{Mark}
 use Rattle.steal_workers.specs.declared.hand.Hand.{Hand}
 use Rattle.steal_workers.specs.declared.hand.OneDeque.{OneDeque}
 use Rattle.steal_workers.specs.declared.share.Share.{Share}
-use Rattle.steal_workers.specs.declared.end.End.TheVariants.{Own, Other}
+use Rattle.steal_workers.specs.declared.handle.Handle.TheVariants.{Own, Other}
 use Rattle.list_weights.specs.Places.{EachAt}
 use Rattle.list_weights.specs.Weights.{weigh}
 use Rattle.steal_workers.specs.Items.{marks}
 use Rattle.steal_workers.specs.OneDeque.{hand}
-use Rattle.steal_workers.specs.Ends.{is_own}
+use Rattle.steal_workers.specs.Handles.{is_own}
 use Rattle.steal_workers.specs.Decks.{IsThiefOf, mark_list}
 use Rattle.steal_workers.specs.Columns.{IsFresh, IsColumn}
 use Rattle.steal_workers.proofs.Steps.{marks-append}
@@ -66,7 +66,7 @@ module _ {T : Type 0} where
   nothing_taken v none h = let nothing : weigh h v.taken ≡ 0 = ap (weigh h) none in omega arith
 
   pub fresh_other : (deque : RowsId × Global) (items : List (Item T)) (thief : Stealer (Item T) Global (Hand T) OneDeque) (claim : Pass (Item T) (Hand T) Global)
-      → IsThiefOf deque thief → IsPassOf deque claim → view claim ≡ hand false 1 items [] → IsFresh deque items (record { end = Other thief claim; marked = false })
+      → IsThiefOf deque thief → IsPassOf deque claim → view claim ≡ hand false 1 items [] → IsFresh deque items (record { handle = Other thief claim; marked = false })
   fresh_other deque items thief claim t p v = record {
     sound = ((t.1, subst (λ (d : RowsId × Global). IsPassOf d claim) (sym t.0) p), ap (λ (h : Hand T). h.share) v, ap (λ (h : Hand T). marks h.taken) v, nothing_taken (view claim) (ap (λ (h : Hand T). h.taken) v));
     same_deque = t.0;
@@ -76,7 +76,7 @@ module _ {T : Type 0} where
   }
 
   pub fresh_own : (deque : RowsId × Global) (items : List (Item T)) (worker : Worker (Item T) Global (Hand T) OneDeque)
-      → worker_deque worker ≡ deque → worker_flavor worker ≡ 0 → worker_view worker ≡ hand true 1 items [] → IsFresh deque items (record { end = Own worker; marked = false })
+      → worker_deque worker ≡ deque → worker_flavor worker ≡ 0 → worker_view worker ≡ hand true 1 items [] → IsFresh deque items (record { handle = Own worker; marked = false })
   fresh_own deque items worker same fifo v = record {
     sound = ((fifo, ap (λ (h : Hand T). h.deals) v), ap (λ (h : Hand T). h.share) v, ap (λ (h : Hand T). marks h.taken) v, nothing_taken (worker_view worker) (ap (λ (h : Hand T). h.taken) v));
     same_deque = same;
@@ -86,19 +86,19 @@ module _ {T : Type 0} where
   }
 
   -- the others' shares, and the owner's behind them
-  pub own_last : (F : Share T → Type 0) (xs : List (Share T)) (y : Share T) (m : ℕ) → length xs ≡ m → EachAt (λ i share. F share × (is_own share.end ≡ false)) xs
-      → F y → is_own y.end ≡ true → (i : ℕ) (e : Share T) → i < m + 1 → F (get_or (xs ++ y ∷ []) i e) × (is_own (get_or (xs ++ y ∷ []) i e).end ≡ (i == m))
+  pub own_last : (F : Share T → Type 0) (xs : List (Share T)) (y : Share T) (m : ℕ) → length xs ≡ m → EachAt (λ i share. F share × (is_own share.handle ≡ false)) xs
+      → F y → is_own y.handle ≡ true → (i : ℕ) (e : Share T) → i < m + 1 → F (get_or (xs ++ y ∷ []) i e) × (is_own (get_or (xs ++ y ∷ []) i e).handle ≡ (i == m))
   own_last F xs y m long each fresh own i e within =
-      each_at_snoc (λ j share. F share × (is_own share.end ≡ (j == m))) xs y
+      each_at_snoc (λ j share. F share × (is_own share.handle ≡ (j == m))) xs y
       (λ j d w. ((each j d w).0, (each j d w).1 ∙ sym (ne_eqb j m (λ s. absurd (omega arith)))))
       (fresh, own ∙ sym (eq-eqb (length xs) m long)) i e (omega (arith, length-append xs (y ∷ [])))
 
   -- the owner's share moved to the owner's place
   pub column_swapped : (deque : RowsId × Global) (items : List (Item T)) (n place m : ℕ) (xs : List (Share T)) → place < n → m + 1 ≡ n → length xs ≡ n
-      → ((i : ℕ) (e : Share T) → i < n → IsFresh deque items (get_or xs i e) × (is_own (get_or xs i e).end ≡ (i == m)))
+      → ((i : ℕ) (e : Share T) → i < n → IsFresh deque items (get_or xs i e) × (is_own (get_or xs i e).handle ≡ (i == m)))
       → IsColumn deque items n place (swap xs (m - place) m)
   column_swapped deque items n place m xs within last long each i j e w sum =
-      get_swap (λ k share. k + j + 1 ≡ n → IsFresh deque items share × (is_own share.end ≡ (j == place))) xs (m - place) m i e (omega arith) (omega arith)
+      get_swap (λ k share. k + j + 1 ≡ n → IsFresh deque items share × (is_own share.handle ≡ (j == place))) xs (m - place) m i e (omega arith) (omega arith)
       (λ at s. ((each (m - place) e (omega arith)).0, (each (m - place) e (omega arith)).1 ∙ eq_same (m - place) m j place (λ q. omega arith) (λ q. omega arith)))
       (λ ne at s. ((each m e (omega arith)).0, (each m e (omega arith)).1 ∙ eq_same m m j place (λ q. omega arith) (λ q. omega arith)))
       (λ ne no s. ((each i e (omega arith)).0, (each i e (omega arith)).1 ∙ eq_same i m j place (λ q. absurd (ne q)) (λ q. absurd (no (omega arith)))))

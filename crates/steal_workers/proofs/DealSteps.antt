@@ -13,7 +13,7 @@ use Rattle.steal_workers.specs.declared.share.Share.{Share}
 use Rattle.list_weights.specs.Weights.{weigh, numbers_below}
 use Rattle.steal_workers.specs.Items.{marks, number_weight, Stands, IsAllMarks, MarksLast}
 use Rattle.steal_workers.specs.Shares.{is_marked, dealt_to}
-use Rattle.steal_workers.specs.Ends.{deque_of}
+use Rattle.steal_workers.specs.Handles.{deque_of}
 use Rattle.steal_workers.specs.Deals.{Deal, IsDealt}
 use Rattle.steal_workers.specs.SeatViews.{SeatView, seat_count}
 use Rattle.steal_workers.specs.WholeDeals.{common_deal, IsNewSeat, IsNewDeal}
@@ -148,7 +148,7 @@ module _ {T : Type 0} where
   pub row_queues : (decks : List (Deck T)) (n place : ℕ) (shares : List (Share T)) → length decks ≡ n → IsRow decks n n place shares → map dealt_to shares ≡ map (closed n) decks
   row_queues decks n place shares long row = row.queues ∙ ap (λ k. take k (map (closed n) decks)) (let l = length-map decks (closed {T = T} n) in let m : n ≡ length (map (closed n) decks) = omega arith in m) ∙ take_whole (map (closed n) decks)
 
-  pub row_deques : (decks : List (Deck T)) (n place : ℕ) (shares : List (Share T)) → length decks ≡ n → IsRow decks n n place shares → map (λ (share : Share T). deque_of share.end) shares ≡ map deck_deque decks
+  pub row_deques : (decks : List (Deck T)) (n place : ℕ) (shares : List (Share T)) → length decks ≡ n → IsRow decks n n place shares → map (λ (share : Share T). deque_of share.handle) shares ≡ map deck_deque decks
   row_deques decks n place shares long row = row.deques ∙ ap (λ k. take k (map deck_deque decks)) (let l = length-map decks (deck_deque {T = T}) in let m : n ≡ length (map deck_deque decks) = omega arith in m) ∙ take_whole (map deck_deque decks)
 
   -- a seat over a row

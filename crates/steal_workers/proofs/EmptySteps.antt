@@ -15,7 +15,7 @@ use Rattle.steal_workers.specs.declared.share.Share.{Share}
 use Rattle.steal_workers.specs.declared.seat.Stack.{Stack}
 use Rattle.list_weights.specs.Weights.{weigh, numbers_below, only}
 use Rattle.steal_workers.specs.Items.{marks, mark_weight, number_weight, Stands}
-use Rattle.steal_workers.specs.Ends.{deque_of, is_own}
+use Rattle.steal_workers.specs.Handles.{deque_of, is_own}
 use Rattle.steal_workers.specs.Shares.{dealt_to, taken_from}
 use Rattle.steal_workers.specs.Deals.{Deal, IsDealt}
 use Rattle.steal_workers.specs.SeatViews.{SeatView, seat_count}
@@ -46,9 +46,9 @@ length-numbers_below (suc n) = omega (arith, length-append (numbers_below n) (n 
 
 module _ {T : Type 0} where
   abbrev FindsOwn : List (Share T) → Type 0
-  FindsOwn column = (i : ℕ) × (x : Share T) × (get_elem? column i ≡ some x) × (is_own x.end ≡ true)
+  FindsOwn column = (i : ℕ) × (x : Share T) × (get_elem? column i ≡ some x) × (is_own x.handle ≡ true)
 
-  by_own : (x : Share T) (xs : List (Share T)) (b : Bool) → is_own x.end ≡ b → 0 < weigh own_weight (x ∷ xs) → (0 < weigh own_weight xs → FindsOwn xs) → FindsOwn (x ∷ xs)
+  by_own : (x : Share T) (xs : List (Share T)) (b : Bool) → is_own x.handle ≡ b → 0 < weigh own_weight (x ∷ xs) → (0 < weigh own_weight xs → FindsOwn xs) → FindsOwn (x ∷ xs)
   by_own x xs true own there rest = (0, x, refl, own)
   by_own x xs false own there rest =
       let none : own_weight x ≡ 0 = ap (λ b. only b 1) own in
@@ -57,7 +57,7 @@ module _ {T : Type 0} where
 
   find_own : (column : List (Share T)) → 0 < weigh own_weight column → FindsOwn column
   find_own [] there = absurd (omega arith)
-  find_own (x ∷ xs) there = by_own x xs (is_own x.end) refl there (λ more. find_own xs more)
+  find_own (x ∷ xs) there = by_own x xs (is_own x.handle) refl there (λ more. find_own xs more)
 
   own_mark : (P : Type 0) (deal : Deal T) (d : ℕ) (old new : List (Stack T)) (column : List (Share T)) → PopsEach P deal d old new column → P → weigh own_weight column ≡ 1 → 0 < weigh (share_taken mark_weight) column
   own_mark P deal d old new column popped p one =
@@ -76,7 +76,7 @@ module _ {T : Type 0} where
 
   pub whole_column : (P : Type 0) (deal : Deal T) (d : ℕ) (old new : List (Stack T)) (column : List (Share T)) → 0 < length column → PopsEach P deal d old new column → IsWholeColumn column
   whole_column P deal d old new column there popped =
-      let e0 : RowsId × Global = deque_of (first_of_list column there).end in
+      let e0 : RowsId × Global = deque_of (first_of_list column there).handle in
       (get_or deal.deques d e0, get_or deal.queues d [], λ k e w. let t = popped.tops k e w in (t.0, t.1 e0, t.2))
 
   pub popped_length : (P : Type 0) (deal : Deal T) (d : ℕ) (old new : List (Stack T)) (column : List (Share T)) → PopsEach P deal d old new column → length new ≡ length old

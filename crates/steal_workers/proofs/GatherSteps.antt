@@ -8,7 +8,7 @@ use Rattle.steal_workers.specs.declared.item.Item.{Item}
 use Rattle.steal_workers.specs.declared.share.Share.{Share}
 use Rattle.steal_workers.specs.declared.seat.Stack.{Stack}
 use Rattle.list_weights.specs.Weights.{weigh, numbers_below, only}
-use Rattle.steal_workers.specs.Ends.{is_own}
+use Rattle.steal_workers.specs.Handles.{is_own}
 use Rattle.steal_workers.specs.Deals.{Deal}
 use Rattle.steal_workers.specs.Backs.{own_weight}
 use Rattle.steal_workers.specs.Gathers.{joined, IsShareAt, IsStack, PopsEach, share_taken, stack_taken, all_taken, places}
@@ -52,16 +52,16 @@ not_own false e = refl
 
 module _ {T : Type 0} where
   -- a column has an owner
-  pub no_owner : (column : List (Share T)) → ((k : ℕ) (e : Share T) → k < length column → is_own (get_or column k e).end ≡ false) → weigh own_weight column ≡ 0
+  pub no_owner : (column : List (Share T)) → ((k : ℕ) (e : Share T) → k < length column → is_own (get_or column k e).handle ≡ false) → weigh own_weight column ≡ 0
   no_owner [] none = refl
   no_owner (x ∷ xs) none =
       let here : own_weight x ≡ 0 = ap (λ b. only b 1) (none 0 x (omega arith)) in
       omega (arith, no_owner xs (λ k e w. none (suc k) e (omega arith)))
 
   -- once the owner's share is out, the others are not owners'
-  pub others : (column : List (Share T)) → weigh own_weight column ≡ 0 → (k : ℕ) (e : Share T) → k < length column → is_own (get_or column k e).end ≡ false
+  pub others : (column : List (Share T)) → weigh own_weight column ≡ 0 → (k : ℕ) (e : Share T) → k < length column → is_own (get_or column k e).handle ≡ false
   others [] none k e w = absurd (omega arith)
-  others (x ∷ xs) none zero e w = not_own (is_own x.end) (omega arith)
+  others (x ∷ xs) none zero e w = not_own (is_own x.handle) (omega arith)
   others (x ∷ xs) none (suc k) e w = others xs (omega arith) k e (omega arith)
 
   -- one stack gives its last share

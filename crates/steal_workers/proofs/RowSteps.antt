@@ -8,7 +8,7 @@ use Rattle.list_weights.specs.Places.{EachAt}
 use Rattle.steal_workers.specs.declared.item.Item.{Item}
 use Rattle.steal_workers.specs.declared.deck.Deck.{Deck}
 use Rattle.steal_workers.specs.declared.share.Share.{Share}
-use Rattle.steal_workers.specs.Ends.{deque_of, is_own}
+use Rattle.steal_workers.specs.Handles.{deque_of, is_own}
 use Rattle.steal_workers.specs.Shares.{IsShare, dealt_to, taken_from}
 use Rattle.steal_workers.specs.Columns.{IsFresh, IsColumn, AreColumns, IsRow, closed, deck_deque}
 use Rattle.steal_workers.proofs.DeckSteps.{each_at_set}
@@ -32,14 +32,14 @@ module _ {T : Type 0} where
   column_front : (deque : RowsId × Global) (items : List (Item T)) (n d : ℕ) (xs ys : List (Share T)) (share : Share T) → xs ≡ ys ++ share ∷ [] → IsColumn deque items n d xs → IsColumn deque items n d ys
   column_front deque items n d xs ys share is h i j e within sum =
       let long = ap length is in
-      subst (λ (s : Share T). IsFresh deque items s × (is_own s.end ≡ (j == d))) (ap (λ (l : List (Share T)). get_or l i e) is ∙ get_or-front ys (share ∷ []) i e within)
+      subst (λ (s : Share T). IsFresh deque items s × (is_own s.handle ≡ (j == d))) (ap (λ (l : List (Share T)). get_or l i e) is ∙ get_or-front ys (share ∷ []) i e within)
       (h i j e (omega (arith, length-append ys (share ∷ []))) sum)
 
   column_end : (deque : RowsId × Global) (items : List (Item T)) (n d place : ℕ) (xs ys : List (Share T)) (share : Share T) → xs ≡ ys ++ share ∷ [] → length xs + place ≡ n → IsColumn deque items n d xs
-      → IsFresh deque items share × (is_own share.end ≡ (place == d))
+      → IsFresh deque items share × (is_own share.handle ≡ (place == d))
   column_end deque items n d place xs ys share is height h =
       let long = ap length is in
-      subst (λ (s : Share T). IsFresh deque items s × (is_own s.end ≡ (place == d))) (ap (λ (l : List (Share T)). get_or l (length ys) share) is ∙ get_or-end ys share share)
+      subst (λ (s : Share T). IsFresh deque items s × (is_own s.handle ≡ (place == d))) (ap (λ (l : List (Share T)). get_or l (length ys) share) is ∙ get_or-end ys share share)
       (h (length ys) place share (omega (arith, length-append ys (share ∷ []))) (omega (arith, length-append ys (share ∷ []))))
 
   -- one share leaves a column
@@ -76,11 +76,11 @@ module _ {T : Type 0} where
       let queues : List (List (Item T)) = map (closed n) decks in
       record {
         count = (let c = row.count in omega (arith, length-append shares (share ∷ [])));
-        deques = map-snoc (λ (s : Share T). deque_of s.end) shares share ∙ (λ i. row.deques i ++ ((fresh.0.same_deque ∙ sym (get_or-map deck_deque decks d k (deck_deque k) inside)) i ∷ []))
+        deques = map-snoc (λ (s : Share T). deque_of s.handle) shares share ∙ (λ i. row.deques i ++ ((fresh.0.same_deque ∙ sym (get_or-map deck_deque decks d k (deck_deque k) inside)) i ∷ []))
             ∙ sym (take_more deques d (deck_deque k) (omega (arith, length-map decks (deck_deque {T = T}))));
         queues = map-snoc dealt_to shares share ∙ (λ i. row.queues i ++ ((fresh.0.dealt ∙ sym (get_or-map (closed n) decks d k [] inside)) i ∷ []))
             ∙ sym (take_more queues d [] (omega (arith, length-map decks (closed {T = T} n))));
-        each = each_at_snoc (λ j (s : Share T). IsShare s × (taken_from s ≡ []) × (s.marked ≡ false) × (is_own s.end ≡ (j == place))) shares share row.each
+        each = each_at_snoc (λ j (s : Share T). IsShare s × (taken_from s ≡ []) × (s.marked ≡ false) × (is_own s.handle ≡ (j == place))) shares share row.each
             (fresh.0.sound, fresh.0.taken, fresh.0.unmarked, fresh.1 ∙ eq_same place d (length shares) place (λ q. let c = row.count in omega arith) (λ q. let c = row.count in omega arith));
       }
     where

@@ -7,7 +7,7 @@ use Rattle.steal_workers.specs.declared.seat.Next.TheVariants.{Task, Empty, Lost
 use Rattle.steal_workers.specs.declared.item.Item.{Item}
 use Rattle.list_weights.specs.Weights.{weigh, numbers_below}
 use Rattle.steal_workers.specs.Items.{number_weight}
-use Rattle.steal_workers.specs.Ends.{deque_of}
+use Rattle.steal_workers.specs.Handles.{deque_of}
 use Rattle.steal_workers.specs.Shares.{IsShare, dealt_to, is_own_share, is_marked, Moves, taken_weights, Found, AllMarked}
 use Rattle.steal_workers.specs.Deals.{IsDealt}
 use Rattle.steal_workers.specs.SeatViews.{IsSameSeat, seat_count}
@@ -38,7 +38,7 @@ module _ {T : Type 0} where
 
   pub same_after : (s t : Inside T) → Moves s.shares.items t.shares.items → t.place ≡ s.place → t.tasks.value.items ≡ s.tasks.value.items → IsSameSeat (seat_view s) (seat_view t)
   same_after s t p place tasks =
-      let deques = moves_map (λ (share : Share T). deque_of share.end) (λ r u f. f.same_deque) s.shares.items t.shares.items p in
+      let deques = moves_map (λ (share : Share T). deque_of share.handle) (λ r u f. f.same_deque) s.shares.items t.shares.items p in
       let queues = same_queues s.shares.items t.shares.items p in
       record {
         deal = λ i. record { deques = deques i; queues = queues i; tasks = tasks i };
@@ -55,7 +55,7 @@ module _ {T : Type 0} where
       omega (arith, weigh-append h numbers (number ∷ []))
 
   pub place_within : (s : Inside T) → IsSound s → s.place < seat_count (seat_view s).deal
-  place_within s sound = (let within = sound.place in omega (arith, length-map s.shares.items (λ (share : Share T). deque_of share.end)))
+  place_within s sound = (let within = sound.place in omega (arith, length-map s.shares.items (λ (share : Share T). deque_of share.handle)))
 
   shares_once : (h : ℕ → ℕ) (xs : List (Share T)) → All IsShare xs → taken_weights h xs ≤ weigh (λ (queue : List (Item T)). weigh (number_weight h) queue) (map dealt_to xs)
   shares_once h [] each = omega arith
@@ -75,11 +75,11 @@ module _ {T : Type 0} where
       → t.trail ≡ s.trail ++ number ∷ [] → Answers (seat_view s) (Task task) (seat_view t)
   answers_task s t number task sound found trail = (
     (number, trail, sound.dealt.numbered found.dealt.0 number task found.dealt.2),
-    λ every. true≢false (sym (every found.lacks.0 (let w = found.lacks.1 in omega (arith, length-map t.shares.items (λ (share : Share T). deque_of share.end)))) ∙ found.lacks.2),
+    λ every. true≢false (sym (every found.lacks.0 (let w = found.lacks.1 in omega (arith, length-map t.shares.items (λ (share : Share T). deque_of share.handle)))) ∙ found.lacks.2),
   )
 
   pub answers_empty : (s t : Inside T) → t.trail ≡ s.trail → AllMarked t.shares.items → Answers (seat_view s) Empty (seat_view t)
-  answers_empty s t trail marked = (trail, λ d within. marked d (omega (arith, length-map t.shares.items (λ (share : Share T). deque_of share.end))))
+  answers_empty s t trail marked = (trail, λ d within. marked d (omega (arith, length-map t.shares.items (λ (share : Share T). deque_of share.handle))))
 
   pub answers_lost : (s t : Inside T) (deque : ℕ) → t.place < length t.shares.items → t.trail ≡ s.trail → get_or (map is_marked t.shares.items) t.place false ≡ true
       → (deque < length t.shares.items) × (get_or (map is_marked t.shares.items) deque false ≡ false) → Answers (seat_view s) (Lost deque) (seat_view t)
@@ -88,8 +88,8 @@ module _ {T : Type 0} where
       let below = lacks.0 in (
         trail,
         own,
-        omega (arith, length-map t.shares.items (λ (share : Share T). deque_of share.end)),
+        omega (arith, length-map t.shares.items (λ (share : Share T). deque_of share.handle)),
         another,
-        omega (arith, length-map t.shares.items (λ (share : Share T). deque_of share.end)),
+        omega (arith, length-map t.shares.items (λ (share : Share T). deque_of share.handle)),
         λ m. true≢false (sym m ∙ lacks.1),
       )

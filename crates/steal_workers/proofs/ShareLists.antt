@@ -6,9 +6,9 @@ use Rattle.crossbeam_deque.proofs.Lists.{at_index}
 use Rattle.steal_workers.specs.declared.item.Item.{Item}
 use Rattle.steal_workers.specs.declared.item.Item.TheVariants.{Task as task_item}
 use Rattle.steal_workers.specs.declared.share.Share.{Share}
-use Rattle.steal_workers.specs.declared.share.Step.TheVariants.{Task}
+use Rattle.steal_workers.specs.declared.share.Finding.TheVariants.{Task}
 use Rattle.steal_workers.specs.Items.{Stands}
-use Rattle.steal_workers.specs.Shares.{IsShare, Follows, Steps, Moves, dealt_to, is_marked, taken_weight, taken_weights, Found, TookNone}
+use Rattle.steal_workers.specs.Shares.{IsShare, Follows, Finds, Moves, dealt_to, is_marked, taken_weight, taken_weights, Found, TookNone}
 use Rattle.list_weights.proofs.Weights.{weigh-set}
 use Rattle.steal_workers.proofs.ShareSteps.{stays}
 
@@ -99,7 +99,7 @@ module _ {T : Type 0} where
   pub marked_here : (xs : List (Share T)) (d : ℕ) (s : Share T) → d < length xs → s.marked ≡ true → get_or (map is_marked (set xs d s)) d false ≡ true
   marked_here xs d s within m = marked_set xs d s within ∙ m
 
-  pub found_set : (xs : List (Share T)) (d : ℕ) (e s : Share T) (number : ℕ) (task : T) → d < length xs → Steps (get_or xs d e) (Task number task) s → Found xs (set xs d s) number task
+  pub found_set : (xs : List (Share T)) (d : ℕ) (e s : Share T) (number : ℕ) (task : T) → d < length xs → Finds (get_or xs d e) (Task number task) s → Found xs (set xs d s) number task
   found_set xs d e s number task within step = record {
     taken = λ h. let w = weights-set h xs d e s within in let k = step.2 h in omega arith;
     dealt = (d, within, subst (λ (l : List (Item T)). Stands l (task_item number task)) (sym (get_or-map dealt_to xs d e [] within)) step.1);

@@ -4,22 +4,22 @@ use Rattle.steal_workers.specs.declared.item.Item.{Item}
 use Rattle.steal_workers.specs.declared.item.Item.TheVariants.{Task as task_item, Mark as mark_item}
 use Rattle.steal_workers.specs.declared.hand.Hand.{Hand}
 use Rattle.steal_workers.specs.declared.share.Share.{Share}
-use Rattle.steal_workers.specs.declared.share.Step.TheVariants.{Lost}
+use Rattle.steal_workers.specs.declared.share.Finding.TheVariants.{Lost}
 use Rattle.list_weights.specs.Weights.{weigh, only}
 use Rattle.steal_workers.specs.Items.{marks, mark_weight, number_weight, Stands}
 use Rattle.steal_workers.specs.OneDeque.{Took}
-use Rattle.steal_workers.specs.Ends.{hand_of, is_own, CanTake, IsSameEnd}
-use Rattle.steal_workers.specs.Shares.{IsShare, Follows, Steps, step_of, is_mark, dealt_to, taken_from, taken_weight}
+use Rattle.steal_workers.specs.Handles.{hand_of, is_own, CanTake, IsSameHandle}
+use Rattle.steal_workers.specs.Shares.{IsShare, Follows, Finds, finding_of, is_mark, dealt_to, taken_from, taken_weight}
 use Rattle.list_weights.proofs.Weights.{weigh-append}
 
 module _ {T : Type 0} where
-  pub can_take : (s : Share T) → IsShare s → s.marked ≡ false → CanTake s.end
+  pub can_take : (s : Share T) → IsShare s → s.marked ≡ false → CanTake s.handle
   can_take s sound unmarked = let none : only s.marked 1 ≡ 0 = ap (λ b. only b 1) unmarked in (sound.0, (let one = sound.1 in let count = sound.2 in omega arith))
 
   pub stays : (old : Share T) → IsShare old → Follows old old
   stays old sound = record { sound = sound; same_deque = refl; same_items = refl; same_owner = refl; mark_stays = λ m. m }
 
-  pub lost : (old new : Share T) → IsShare old → new.marked ≡ old.marked → IsSameEnd old.end new.end → hand_of new.end ≡ hand_of old.end → is_own old.end ≡ false → Follows old new × Steps old Lost new
+  pub lost : (old new : Share T) → IsShare old → new.marked ≡ old.marked → IsSameHandle old.handle new.handle → hand_of new.handle ≡ hand_of old.handle → is_own old.handle ≡ false → Follows old new × Finds old Lost new
   lost old new sound marked same hand other = (
     record {
       sound = (
@@ -41,12 +41,12 @@ module _ {T : Type 0} where
   taken_mark mark_item = refl
 
   steps : (old new : Share T) (item : Item T) → new.marked ≡ is_mark item → Stands (dealt_to old) item
-      → ((h : ℕ → ℕ) → taken_weight h new ≡ taken_weight h old + (number_weight h item + 0)) → Steps old (step_of item) new
+      → ((h : ℕ → ℕ) → taken_weight h new ≡ taken_weight h old + (number_weight h item + 0)) → Finds old (finding_of item) new
   steps old new (task_item number task) marked stands weights = (marked, stands, λ h. let w = weights h in omega arith)
   steps old new mark_item marked stands weights = (marked, λ h. let w = weights h in omega arith)
 
   pub noted : (old new : Share T) (item : Item T) → IsShare old → old.marked ≡ false → new.marked ≡ (old.marked || is_mark item)
-      → IsSameEnd old.end new.end → Took (hand_of old.end) (item ∷ []) (hand_of new.end) → Follows old new × Steps old (step_of item) new
+      → IsSameHandle old.handle new.handle → Took (hand_of old.handle) (item ∷ []) (hand_of new.handle) → Follows old new × Finds old (finding_of item) new
   noted old new item sound unmarked marked same took =
       let now : new.marked ≡ is_mark item = marked ∙ ap (λ b. b || is_mark item) unmarked in
       let all : marks (taken_from new) ≡ marks (taken_from old ++ item ∷ []) = ap (λ (v : Hand T). marks v.taken) took.0 in

@@ -3,7 +3,7 @@ use Rattle.std.proofs.Common.{◌≡◌, ℕ, zero, suc, ◌+◌, ◌<◌, ◌==
 use Rattle.steal_workers.specs.declared.share.Share.{Share}
 use Rattle.list_weights.specs.Weights.{weigh}
 use Rattle.steal_workers.specs.Items.{number_weight}
-use Rattle.steal_workers.specs.Ends.{is_own}
+use Rattle.steal_workers.specs.Handles.{is_own}
 use Rattle.steal_workers.specs.Shares.{IsShare, taken_from, is_own_share, taken_weight, taken_weights}
 use Rattle.steal_workers.specs.Unused.{IsUnused}
 
@@ -17,7 +17,7 @@ module _ {T : Type 0} where
   pub unused_shares : (place : ℕ) (xs : List (Share T)) → IsUnused place xs → All IsShare xs
   unused_shares place xs h = λ k d w. (h k d w).0
 
-  own_at : (place : ℕ) (xs : List (Share T)) (j d : ℕ) → ((k : ℕ) (e : Share T) → k < length xs → is_own (get_or xs k e).end ≡ (k + j == place)) → d < length xs
+  own_at : (place : ℕ) (xs : List (Share T)) (j d : ℕ) → ((k : ℕ) (e : Share T) → k < length xs → is_own (get_or xs k e).handle ≡ (k + j == place)) → d < length xs
       → get_or (map is_own_share xs) d false ≡ (d + j == place)
   own_at place [] j d h w = absurd (omega arith)
   own_at place (x ∷ xs) j zero h w = h 0 x w

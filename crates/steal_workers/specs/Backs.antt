@@ -6,16 +6,16 @@ use Rattle.steal_workers.specs.declared.item.Item.{Item}
 use Rattle.steal_workers.specs.declared.hand.Hand.{Hand}
 use Rattle.steal_workers.specs.declared.share.Share.{Share}
 use Rattle.list_weights.specs.Weights.{weigh, only}
-use Rattle.steal_workers.specs.Ends.{deque_of, is_own}
+use Rattle.steal_workers.specs.Handles.{deque_of, is_own}
 use Rattle.steal_workers.specs.Shares.{IsShare, dealt_to, taken_from}
 
 module _ {T : Type 0} where
   abbrev pub own_weight : Share T → ℕ
-  own_weight share = only (is_own share.end) 1
+  own_weight share = only (is_own share.handle) 1
 
   -- shares of one deque, to which one list was dealt
   abbrev pub IsWholeColumn : List (Share T) → Type 0
-  IsWholeColumn shares = (deque : RowsId × Global) × (items : List (Item T)) × All (λ share. IsShare share × (deque_of share.end ≡ deque) × (dealt_to share ≡ items)) shares
+  IsWholeColumn shares = (deque : RowsId × Global) × (items : List (Item T)) × All (λ share. IsShare share × (deque_of share.handle ≡ deque) × (dealt_to share ≡ items)) shares
 
   -- The view has all shares, and has taken what they had taken. It has a mark where the owner had one.
   pub record IsBack (shares : List (Share T)) (v : Hand T) : Type 0 where

@@ -9,7 +9,7 @@ use Rattle.steal_workers.specs.declared.share.Share.{Share}
 use Rattle.steal_workers.specs.declared.seat.Stack.{Stack}
 use Rattle.list_weights.specs.Places.{EachAt}
 use Rattle.list_weights.specs.Weights.{weigh, numbers_below}
-use Rattle.steal_workers.specs.Ends.{deque_of, is_own}
+use Rattle.steal_workers.specs.Handles.{deque_of, is_own}
 use Rattle.steal_workers.specs.Shares.{IsShare, dealt_to, taken_from}
 use Rattle.steal_workers.specs.Deals.{Deal}
 use Rattle.steal_workers.specs.SeatViews.{SeatView, HasMark}
@@ -34,8 +34,8 @@ module _ {T : Type 0} where
   -- a share in the deque at the place d, of the seat at `place`, which has its own mark if P
   abbrev pub IsShareAt : Type 0 → Deal T → ℕ → ℕ → Share T → Type 0
   IsShareAt P deal d place share =
-      IsShare share × ((e : RowsId × Global) → deque_of share.end ≡ slice_index_or deal.deques d e) × (dealt_to share ≡ slice_index_or deal.queues d [])
-      × (is_own share.end ≡ (d == place)) × (P → is_own share.end ≡ true → share.marked ≡ true)
+      IsShare share × ((e : RowsId × Global) → deque_of share.handle ≡ slice_index_or deal.deques d e) × (dealt_to share ≡ slice_index_or deal.queues d [])
+      × (is_own share.handle ≡ (d == place)) × (P → is_own share.handle ≡ true → share.marked ≡ true)
 
   -- the seat's shares in the first m deques
   pub record IsStack (P : Type 0) (deal : Deal T) (m : ℕ) (stack : Stack T) : Type 0 where

@@ -3,7 +3,7 @@ use Rattle.std.specs.Prelude.{◌≡◌, ℕ, ◌+◌, ◌≤◌, List, [], map,
 use Rattle.crossbeam_deque.specs.Handles.{worker_capacity, worker_index}
 use Rattle.list_weights.specs.Places.{EachAt}
 use Rattle.steal_workers.specs.declared.deck.Deck.{Deck}
-use Rattle.steal_workers.specs.declared.dealing.Row.{Row}
+use Rattle.steal_workers.specs.declared.dealing.SeatRow.{SeatRow}
 use Rattle.steal_workers.specs.Items.{marks}
 use Rattle.steal_workers.specs.Deals.{Deal}
 use Rattle.steal_workers.specs.SeatViews.{SeatView}
@@ -15,10 +15,10 @@ module _ {T : Type 0} where
   abbrev pub AreFresh : ℕ → ℕ → List (Deck T) → Type 0
   AreFresh n room decks = (length decks ≡ n) × EachAt (λ d deck. IsFilling n room 0 d deck × (queue_of deck ≡ [])) decks
 
-  abbrev pub IsEmptyRow : ℕ → List T → Row T → Type 0
+  abbrev pub IsEmptyRow : ℕ → List T → SeatRow T → Type 0
   IsEmptyRow n tasks row = (row.shares.items ≡ []) × (n ≤ vec_capacity row.shares) × (row.tasks.value.items ≡ tasks)
 
-  abbrev pub AreEmptyRows : ℕ → List T → List (Row T) → Type 0
+  abbrev pub AreEmptyRows : ℕ → List T → List (SeatRow T) → Type 0
   AreEmptyRows n tasks rows = (length rows ≡ n) × All (IsEmptyRow n tasks) rows
 
   -- all tasks are dealt to the decks, which have room for the end marks

@@ -4,8 +4,8 @@ pub mod Columns
 pub mod Deals
 pub mod Decks
 pub mod Emptying
-pub mod Ends
 pub mod Gathers
+pub mod Handles
 pub mod Items
 pub mod Layouts
 pub mod OneDeque

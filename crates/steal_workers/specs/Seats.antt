@@ -3,14 +3,14 @@ use Rattle.std.specs.Prelude.{◌≡◌, ℕ, ◌<◌, ◌≤◌, ◌==◌, fals
 use Rattle.steal_workers.specs.declared.share.Share.{Share}
 use Rattle.steal_workers.specs.declared.seat.Seat.TheInside.{Inside}
 use Rattle.list_weights.specs.Weights.{weigh}
-use Rattle.steal_workers.specs.Ends.{deque_of}
+use Rattle.steal_workers.specs.Handles.{deque_of}
 use Rattle.steal_workers.specs.Shares.{dealt_to, is_own_share, is_marked, IsShare, taken_weights}
 use Rattle.steal_workers.specs.Deals.{Deal, IsDealt}
 use Rattle.steal_workers.specs.SeatViews.{SeatView}
 
 module _ {T : Type 0} where
   abbrev pub deal_of : Inside T → Deal T
-  deal_of s = record { deques = map (λ (share : Share T). deque_of share.end) s.shares.items; queues = map dealt_to s.shares.items; tasks = s.tasks.value.items }
+  deal_of s = record { deques = map (λ (share : Share T). deque_of share.handle) s.shares.items; queues = map dealt_to s.shares.items; tasks = s.tasks.value.items }
 
   abbrev pub seat_view : Inside T → SeatView T
   seat_view s = record { deal = deal_of s; place = s.place; numbers = s.trail; marked = map is_marked s.shares.items }

@@ -3,13 +3,13 @@ ghost use Rattle.std.specs.Prelude.{◌≡◌, ℕ, true, ◌==◌, [], ◌∷�
 ghost use Rattle.crossbeam_deque.specs.Handles.{worker_deque, worker_flavor, worker_view, worker_capacity, worker_index};
 ghost use Rattle.steal_workers.specs.Columns.{IsFresh, IsColumn, closed, deck_deque};
 ghost use Rattle.steal_workers.specs.Decks.{IsDeck, IsThiefOf, mark_list, queue_of};
-ghost use Rattle.steal_workers.specs.Ends.{is_own};
+ghost use Rattle.steal_workers.specs.Handles.{is_own};
 ghost use Rattle.steal_workers.specs.Items.{marks};
 ghost use Rattle.steal_workers.specs.OneDeque.{hand};
 
 use crate::deck::{Deck, put};
-use crate::end::End;
 use crate::hand::{Deque, OneShare, Thief};
+use crate::handle::Handle;
 use crate::item::Item;
 use crate::share::Share;
 
@@ -38,17 +38,17 @@ fn shared_out<T: Drop>(
     requires empty { shares.items ≡ [] }
     requires room { vec_len thieves + 1 ≤ vec_capacity shares }
     ensures count { vec_len result ≡ vec_len thieves + 1 }
-    ensures each { (i : ℕ) (e : Share T) → i < vec_len thieves + 1 → IsFresh (worker_deque deque) (worker_view deque).dealt (slice_index_or result.items i e) × (is_own (slice_index_or result.items i e).end ≡ (i == vec_len thieves)) }
+    ensures each { (i : ℕ) (e : Share T) → i < vec_len thieves + 1 → IsFresh (worker_deque deque) (worker_view deque).dealt (slice_index_or result.items i e) × (is_own (slice_index_or result.items i e).handle ≡ (i == vec_len thieves)) }
 {
     for thief in thieves {
         let claim = deque.another::<OneShare>();
         shares.push_reserved(Share {
-            end: End::Other(thief, claim),
+            handle: Handle::Other(thief, claim),
             marked: false,
         });
     }
     shares.push_reserved(Share {
-        end: End::Own(deque),
+        handle: Handle::Own(deque),
         marked: false,
     });
     shares

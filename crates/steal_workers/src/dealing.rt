@@ -23,17 +23,17 @@ pub struct DealFailed<T> {
 
 /// Room for the shares of one seat.
 #[derive(Drop)]
-pub(crate) struct Row<T> {
+pub(crate) struct SeatRow<T> {
     pub shares: Vec<Share<T>>,
     pub tasks: Snapshot<Vec<T>>,
 }
 
-impl<T> Row<T> {
-    fn new(alloc: Global, seats: usize, tasks: &Vec<T>) -> Result<Row<T>, AllocError>
+impl<T> SeatRow<T> {
+    fn new(alloc: Global, seats: usize, tasks: &Vec<T>) -> Result<SeatRow<T>, AllocError>
         ensures { IfOk result (IsEmptyRow seats tasks.now.items) }
     {
         let shares = Vec::with_capacity(alloc, seats)?;
-        Ok(Row {
+        Ok(SeatRow {
             shares,
             tasks: Snapshot::of(tasks),
         })
@@ -52,7 +52,7 @@ struct Plan<T> {
 struct Layout<T> {
     decks: Vec<Deck<T>>,
     columns: Vec<Vec<Share<T>>>,
-    rows: Vec<Row<T>>,
+    rows: Vec<SeatRow<T>>,
     seats: Vec<Seat<T>>,
 }
 
@@ -67,12 +67,16 @@ fn new_decks<T: Drop>(alloc: Global, seats: usize, room: usize) -> Result<Vec<De
     Ok(decks)
 }
 
-fn new_rows<T: Drop>(alloc: Global, seats: usize, tasks: &Vec<T>) -> Result<Vec<Row<T>>, AllocError>
+fn new_rows<T: Drop>(
+    alloc: Global,
+    seats: usize,
+    tasks: &Vec<T>,
+) -> Result<Vec<SeatRow<T>>, AllocError>
     ensures { IfOk result (λ rows. AreEmptyRows seats tasks.now.items rows.items) }
 {
     let mut rows = Vec::with_capacity(alloc, seats)?;
     for _ in 0..seats {
-        rows.push_reserved(Row::new(alloc, seats, tasks)?);
+        rows.push_reserved(SeatRow::new(alloc, seats, tasks)?);
     }
     Ok(rows)
 }
@@ -120,7 +124,7 @@ fn columns_of<T: Drop>(decks: Vec<Deck<T>>, mut columns: Vec<Vec<Share<T>>>) -> 
 
 fn seated<T: Drop>(
     columns: &mut [Vec<Share<T>>],
-    rows: Vec<Row<T>>,
+    rows: Vec<SeatRow<T>>,
     mut seats: Vec<Seat<T>>,
     plan: &Plan<T>,
     dealt: u32,
@@ -135,7 +139,7 @@ fn seated<T: Drop>(
     ensures seats { AreSeated (planned (length columns.old) plan.now.decks.value.items plan.now.tasks.value.items) result.items }
 {
     for empty in rows {
-        let Row { shares, tasks } = empty;
+        let SeatRow { shares, tasks } = empty;
         let place = seats.len();
         let shares = row(columns, shares, place, &plan.decks);
         seats.push_reserved(Seat::new(place as u32, dealt, shares, tasks));

@@ -9,15 +9,15 @@ ghost use Rattle.steal_workers.specs.Gathers.{IsGathered, IsStack, PopsEach, Are
 ghost use Rattle.list_weights.specs.Places.{EachAt};
 ghost use Rattle.list_weights.specs.Weights.{weigh};
 ghost use Rattle.steal_workers.specs.Items.{marks, number_weight, Stands, MarksLast};
-ghost use Rattle.steal_workers.specs.Ends.{deque_of, hand_of, is_own, IsFit};
+ghost use Rattle.steal_workers.specs.Handles.{deque_of, hand_of, is_own, IsFit};
 ghost use Rattle.steal_workers.specs.OneDeque.{taken_back};
 ghost use Rattle.steal_workers.specs.TookBack.{Drains, kept};
 ghost use Rattle.steal_workers.specs.SeatViews.{seat_count};
 ghost use Rattle.steal_workers.specs.WholeDeals.{common_deal, IsWholeDeal};
 
 use crate::back::TakeAll;
-use crate::end::End;
 use crate::hand::{Claim, Deque, OneShare};
+use crate::handle::Handle;
 use crate::item::{Item, Numbered};
 use crate::seat::{Seat, Stack};
 use crate::share::Share;
@@ -64,23 +64,23 @@ fn drain<T: Drop>(mut deque: Deque<T>, left: &mut Vec<Numbered<T>>)
 }
 
 fn own<T: Drop>(share: Share<T>) -> Deque<T>
-    requires { IsFit share.end × (is_own share.end ≡ true) }
-    ensures deque { (worker_deque result ≡ deque_of share.end) × (worker_flavor result ≡ 0) }
-    ensures view { (worker_view result ≡ hand_of share.end) × ((worker_view result).deals ≡ true) }
+    requires { IsFit share.handle × (is_own share.handle ≡ true) }
+    ensures deque { (worker_deque result ≡ deque_of share.handle) × (worker_flavor result ≡ 0) }
+    ensures view { (worker_view result ≡ hand_of share.handle) × ((worker_view result).deals ≡ true) }
 {
-    match share.end {
-        End::Own(deque) => deque,
-        End::Other(_, _) => unreachable!(),
+    match share.handle {
+        Handle::Own(deque) => deque,
+        Handle::Other(_, _) => unreachable!(),
     }
 }
 
 fn claim<T: Drop>(share: Share<T>) -> Claim<T>
-    requires { IsFit share.end × (is_own share.end ≡ false) }
-    ensures { IsPassOf (deque_of share.end) result × (view result ≡ hand_of share.end) }
+    requires { IsFit share.handle × (is_own share.handle ≡ false) }
+    ensures { IsPassOf (deque_of share.handle) result × (view result ≡ hand_of share.handle) }
 {
-    match share.end {
-        End::Own(_) => unreachable!(),
-        End::Other(_, claim) => claim,
+    match share.handle {
+        Handle::Own(_) => unreachable!(),
+        Handle::Other(_, claim) => claim,
     }
 }
 
@@ -95,11 +95,11 @@ fn pop<T>(stack: &mut Stack<T>) -> Share<T>
 }
 
 fn is_owners<T>(share: &Share<T>) -> bool
-    ensures { result ≡ is_own share.now.end }
+    ensures { result ≡ is_own share.now.handle }
 {
-    match &share.end {
-        End::Own(_) => true,
-        End::Other(_, _) => false,
+    match &share.handle {
+        Handle::Own(_) => true,
+        Handle::Other(_, _) => false,
     }
 }
 
@@ -107,7 +107,7 @@ fn is_owners<T>(share: &Share<T>) -> bool
 fn owner_in<T>(column: &[Share<T>]) -> usize
     requires { weigh own_weight column.now ≡ 1 }
     ensures within { result < length column.now }
-    ensures owner { (e : Share T) → is_own (slice_index_or column.now result e).end ≡ true }
+    ensures owner { (e : Share T) → is_own (slice_index_or column.now result e).handle ≡ true }
 {
     for (place, share) in column.iter().enumerate() {
         if is_owners(share) {

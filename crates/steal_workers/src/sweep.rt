@@ -2,7 +2,7 @@
 ghost use Rattle.std.specs.Prelude.{◌≡◌, ◌<◌, ◌≤◌, All, map, length, slice_index_or, true, false, MatchOption, IfNone};
 ghost use Rattle.steal_workers.specs.Shares.{IsShare, Moves, Found, TookNone, is_own_share, is_marked};
 
-use crate::share::{Share, Step};
+use crate::share::{Finding, Share};
 
 // The first task that the deques from `from` on and before `to` give.
 fn sweep<T>(shares: &mut [Share<T>], from: usize, to: usize) -> Option<(u32, T)>
@@ -13,9 +13,9 @@ fn sweep<T>(shares: &mut [Share<T>], from: usize, to: usize) -> Option<(u32, T)>
 {
     for deque in from..to {
         match shares[deque].take() {
-            Step::Task(number, task) => return Some((number, task)),
-            Step::Marked => {}
-            Step::Lost => {}
+            Finding::Task(number, task) => return Some((number, task)),
+            Finding::Marked => {}
+            Finding::Lost => {}
         }
     }
     None
@@ -31,9 +31,9 @@ fn own<T>(shares: &mut [Share<T>], place: usize) -> Option<(u32, T)>
     ensures marked { IfNone result (slice_index_or (map is_marked shares.new) place false ≡ true) }
 {
     match shares[place].take() {
-        Step::Task(number, task) => Some((number, task)),
-        Step::Marked => None,
-        Step::Lost => unreachable!(),
+        Finding::Task(number, task) => Some((number, task)),
+        Finding::Marked => None,
+        Finding::Lost => unreachable!(),
     }
 }
 

@@ -7,7 +7,7 @@ use Rattle.list_weights.specs.Places.{EachAt}
 use Rattle.steal_workers.specs.declared.hand.Hand.{Hand}
 use Rattle.steal_workers.specs.declared.share.Share.{Share}
 use Rattle.steal_workers.specs.OneDeque.{hand, less_one_share, one_share}
-use Rattle.steal_workers.specs.Ends.{is_own}
+use Rattle.steal_workers.specs.Handles.{is_own}
 use Rattle.steal_workers.specs.Decks.{IsThiefOf}
 use Rattle.steal_workers.specs.Columns.{IsFresh}
 use Rattle.steal_workers.proofs.Steps.{forks}
@@ -41,8 +41,8 @@ loop-thief-preserved g c =
       thieves = all_tail (IsThiefOf deque) c.in-Some.thief rest thieves;
       count = (let n = inv.count in let p = c.push_reserved.ensures.len in omega arith);
       room = (let r = inv.room in let p = c.push_reserved.ensures.capacity in omega arith);
-      each = subst (EachAt (λ (i : ℕ) (share : Share T). IsFresh deque queue share × (is_own share.end ≡ false))) (sym c.push_reserved.ensures.items)
-          (each_at_snoc (λ (i : ℕ) (share : Share T). IsFresh deque queue share × (is_own share.end ≡ false)) c.loop-thief.shares.items _ inv.each
+      each = subst (EachAt (λ (i : ℕ) (share : Share T). IsFresh deque queue share × (is_own share.handle ≡ false))) (sym c.push_reserved.ensures.items)
+          (each_at_snoc (λ (i : ℕ) (share : Share T). IsFresh deque queue share × (is_own share.handle ≡ false)) c.loop-thief.shares.items _ inv.each
           (fresh_other deque queue c.in-Some.thief c.another-claim.result (all_head (IsThiefOf deque) c.in-Some.thief rest thieves) claim view, refl));
     }
 
@@ -56,6 +56,6 @@ returns-clause-each g c =
     let none : length (into_iter_items c.loop-thief.thief-iterator) ≡ 0 = (let e = c.in-None.ensures.steps.0 in omega (arith, c.loop-thief.thief-iterator.rest.ok.0)) in
     let view = inv.view ∙ ap (λ (n : ℕ). hand true (n + 1) queue []) none in
     λ i e within.
-    subst (λ (l : List (Share T)). IsFresh deque queue (get_or l i e) × (is_own (get_or l i e).end ≡ (i == m))) (sym c.push_reserved-2.ensures.items)
+    subst (λ (l : List (Share T)). IsFresh deque queue (get_or l i e) × (is_own (get_or l i e).handle ≡ (i == m))) (sym c.push_reserved-2.ensures.items)
     (own_last (IsFresh deque queue) c.loop-thief.shares.items _ m (let n = inv.count in omega (arith, c.loop-thief.shares.ok.0)) inv.each
     (fresh_own deque queue c.loop-thief.deque inv.same inv.fifo view) refl i e within)

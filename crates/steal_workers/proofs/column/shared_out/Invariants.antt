@@ -4,7 +4,7 @@ use Rattle.crossbeam_deque.specs.Handles.{worker_deque, worker_flavor, worker_vi
 use Rattle.list_weights.specs.Places.{EachAt}
 use Rattle.steal_workers.specs.Columns.{IsFresh}
 use Rattle.steal_workers.specs.Decks.{IsThiefOf}
-use Rattle.steal_workers.specs.Ends.{is_own}
+use Rattle.steal_workers.specs.Handles.{is_own}
 use Rattle.steal_workers.specs.OneDeque.{hand}
 use Rattle.steal_workers.proofs.column.shared_out.Given as goal
 
@@ -16,5 +16,5 @@ invariant-loop-thief g l = record {
   thieves : All (IsThiefOf (worker_deque l.initial.deque)) (into_iter_items l.thief-iterator);
   count : vec_len l.shares + length (into_iter_items l.thief-iterator) ≡ vec_len l.fn.thieves;
   room : vec_len l.fn.thieves + 1 ≤ vec_capacity l.shares;
-  each : EachAt (λ i share. IsFresh (worker_deque l.initial.deque) (worker_view l.initial.deque).dealt share × (is_own share.end ≡ false)) l.shares.items;
+  each : EachAt (λ i share. IsFresh (worker_deque l.initial.deque) (worker_view l.initial.deque).dealt share × (is_own share.handle ≡ false)) l.shares.items;
 }

@@ -1,6 +1,6 @@
 use Rattle.std.proofs.Common.{[], ◌∷◌, arith}
 use Rattle.std.proofs.lemmas.List.Elements.{All-nil, All-cons, All-append}
-use Rattle.steal_workers.specs.declared.dealing.Row.{Row}
+use Rattle.steal_workers.specs.declared.dealing.SeatRow.{SeatRow}
 use Rattle.steal_workers.specs.Layouts.{IsEmptyRow}
 use Rattle.steal_workers.proofs.dealing.new_rows.Goals as goal
 
@@ -13,7 +13,7 @@ loop-init g c = record {
 
 pub loop-preserved : goal.loop-preserved
 loop-preserved g c =
-    let P : Row g.row.T.Denot → Type 0 = IsEmptyRow c.args.seats c.args.tasks.now.items in
+    let P : SeatRow g.row.T.Denot → Type 0 = IsEmptyRow c.args.seats c.args.tasks.now.items in
     let count = c.loop.invariant.count in
     record {
       count = (let p = c.push_reserved.ensures.len in omega arith);

@@ -1,7 +1,7 @@
 use Rattle.std.proofs.Common.{◌≡◌, ℕ, ◌∷◌, All, length, ap, sym, ◌∙◌, subst, arith}
 use Rattle.std.specs.Vec.Iter.{into_iter_items}
 use Rattle.list_weights.specs.Places.{EachAt}
-use Rattle.steal_workers.specs.declared.dealing.Row.{Row}
+use Rattle.steal_workers.specs.declared.dealing.SeatRow.{SeatRow}
 use Rattle.steal_workers.specs.SeatViews.{SeatView}
 use Rattle.steal_workers.specs.WholeDeals.{IsNewSeat}
 use Rattle.steal_workers.specs.Columns.{AreColumns, IsRow}
@@ -42,7 +42,7 @@ loop-empty-preserved g c =
     let rest = into_iter_items c.next.new.self in
     let next = c.in-Some.ensures.steps.0 in
     let long = ap length next in
-    let P : Row g.row.T.Denot → Type 0 = IsEmptyRow n tasks in
+    let P : SeatRow g.row.T.Denot → Type 0 = IsEmptyRow n tasks in
     let rows : All P (c.in-Some.empty ∷ rest) = subst (All P) next inv.rows in
     let head = all_head P c.in-Some.empty rest rows in
     let wide : length c.loop-empty.columns ≡ n = inv.columns.count in

@@ -5,7 +5,7 @@ use Rattle.crossbeam_deque.specs.Handles.{IsPassOf, worker_deque, worker_view, v
 use Rattle.steal_workers.specs.declared.hand.Hand.{Hand}
 use Rattle.steal_workers.specs.declared.share.Share.{Share}
 use Rattle.list_weights.specs.Weights.{weigh}
-use Rattle.steal_workers.specs.Ends.{deque_of, is_own}
+use Rattle.steal_workers.specs.Handles.{deque_of, is_own}
 use Rattle.steal_workers.specs.Shares.{IsShare}
 use Rattle.steal_workers.specs.Gathers.{share_taken}
 use Rattle.list_weights.proofs.Weights.{weigh-append}
@@ -17,14 +17,14 @@ use Rattle.steal_workers.proofs.gathering.whole.Goals as goal
 pub claim-requires : goal.claim-requires
 claim-requires g c =
     let inv = c.loop-share.invariant in
-    let P : Share g.row.T.Denot → Type 0 = λ s. IsShare s × (deque_of s.end ≡ worker_deque c.own-deque.result) × (is_own s.end ≡ false) in
+    let P : Share g.row.T.Denot → Type 0 = λ s. IsShare s × (deque_of s.handle ≡ worker_deque c.own-deque.result) × (is_own s.handle ≡ false) in
     let last = (all_split P c.pop.new.self.items c.in-Some.share (subst (All P) c.in-Some.ensures.items inv.rest)).1 in
     (last.0.0, last.2)
 
 pub absorb-requires-clause-table : goal.absorb-requires-clause-table
 absorb-requires-clause-table g c =
     let inv = c.loop-share.invariant in
-    let P : Share g.row.T.Denot → Type 0 = λ s. IsShare s × (deque_of s.end ≡ worker_deque c.own-deque.result) × (is_own s.end ≡ false) in
+    let P : Share g.row.T.Denot → Type 0 = λ s. IsShare s × (deque_of s.handle ≡ worker_deque c.own-deque.result) × (is_own s.handle ≡ false) in
     let last = (all_split P c.pop.new.self.items c.in-Some.share (subst (All P) c.in-Some.ensures.items inv.rest)).1 in
     subst (λ (d : RowsId × Global). IsPassOf d c.claim.result) (last.1 ∙ sym inv.same) c.claim.ensures.0
 
@@ -34,7 +34,7 @@ absorb-requires-clause-rule g c = merges _ _ _ _ c.loop-share.invariant.deals
 pub loop-share-preserved : goal.loop-share-preserved
 loop-share-preserved g c =
     let inv = c.loop-share.invariant in
-    let P : Share g.row.T.Denot → Type 0 = λ s. IsShare s × (deque_of s.end ≡ worker_deque c.own-deque.result) × (is_own s.end ≡ false) in
+    let P : Share g.row.T.Denot → Type 0 = λ s. IsShare s × (deque_of s.handle ≡ worker_deque c.own-deque.result) × (is_own s.handle ≡ false) in
     let popped : c.loop-share.column.items ≡ c.pop.new.self.items ++ c.in-Some.share ∷ [] = c.in-Some.ensures.items in
     let split = all_split P c.pop.new.self.items c.in-Some.share (subst (All P) popped inv.rest) in
     let rule = c.absorb.ensures.rule in
@@ -68,7 +68,7 @@ loop-share-init g c =
     let x = c.swap_remove.result in
     let read = c.as_slice.ensures.value in
     let within : c.owner_in-place.result < length xs = (let w = c.owner_in-place.ensures.within in let l = ap length read in omega arith) in
-    let own : is_own x.end ≡ true = ap (λ (s : Share T). is_own s.end) c.swap_remove.ensures.value ∙ subst (λ (l : List (Share T)). is_own (get_or l c.owner_in-place.result x).end ≡ true) read (c.owner_in-place.ensures.owner x) in
+    let own : is_own x.handle ≡ true = ap (λ (s : Share T). is_own s.handle) c.swap_remove.ensures.value ∙ subst (λ (l : List (Share T)). is_own (get_or l c.owner_in-place.result x).handle ≡ true) read (c.owner_in-place.ensures.owner x) in
     let out : IsOwnerOut xs c.swap_remove.new.self.items x = owner_out xs c.swap_remove.new.self.items x c.owner_in-place.result c.requires.shares c.requires.owner within c.swap_remove.ensures.value own c.swap_remove.ensures.items in
     record {
       fifo = c.own-deque.ensures.deque.1;
@@ -89,7 +89,7 @@ returns-clause-back g c =
     let x = c.swap_remove.result in
     let read = c.as_slice.ensures.value in
     let within : c.owner_in-place.result < length xs = (let w = c.owner_in-place.ensures.within in let l = ap length read in omega arith) in
-    let own : is_own x.end ≡ true = ap (λ (s : Share T). is_own s.end) c.swap_remove.ensures.value ∙ subst (λ (l : List (Share T)). is_own (get_or l c.owner_in-place.result x).end ≡ true) read (c.owner_in-place.ensures.owner x) in
+    let own : is_own x.handle ≡ true = ap (λ (s : Share T). is_own s.handle) c.swap_remove.ensures.value ∙ subst (λ (l : List (Share T)). is_own (get_or l c.owner_in-place.result x).handle ≡ true) read (c.owner_in-place.ensures.owner x) in
     let out : IsOwnerOut xs c.swap_remove.new.self.items x = owner_out xs c.swap_remove.new.self.items x c.owner_in-place.result c.requires.shares c.requires.owner within c.swap_remove.ensures.value own c.swap_remove.ensures.items in
     let none : c.loop-share.column.items ≡ [] = nil_if c.loop-share.column.items (let e = c.in_default.ensures.cases.0 in omega (arith, c.loop-share.column.ok.0)) in
     let empty : length c.loop-share.column.items ≡ 0 = ap length none in

@@ -16,11 +16,11 @@ returns-in-Task-clause-same g c =
 
 pub returns-in-Task-clause-found : goal.returns-in-Task-clause-found
 returns-in-Task-clause-found g c =
-    found_after _ _ _ _ _ c.loop-deque.invariant.0 c.loop-deque.invariant.1 (found_set _ _ c.index-shares-deque.result _ _ _ (omega arith) c.in-Task.ensures.step)
+    found_after _ _ _ _ _ c.loop-deque.invariant.0 c.loop-deque.invariant.1 (found_set _ _ c.index-shares-deque.result _ _ _ (omega arith) c.in-Task.ensures.finding)
 
 pub loop-deque-preserved : goal.loop-deque-preserved
 loop-deque-preserved g c =
-    let none : (h : ℕ → ℕ) → taken_weight h c.take.new.self ≡ taken_weight h (get_or c.loop-deque.shares c.loop-deque.deque c.index-shares-deque.result) = elim c.match-take.branch [ in-Marked w ↦ w.in-Marked.ensures.step.1 | in-Lost w ↦ w.in-Lost.ensures.step.1 ] in (
+    let none : (h : ℕ → ℕ) → taken_weight h c.take.new.self ≡ taken_weight h (get_or c.loop-deque.shares c.loop-deque.deque c.index-shares-deque.result) = elim c.match-take.branch [ in-Marked w ↦ w.in-Marked.ensures.finding.1 | in-Lost w ↦ w.in-Lost.ensures.finding.1 ] in (
       moves_trans _ _ _ c.loop-deque.invariant.0 (moves_set _ _ c.index-shares-deque.result _ (moves_sound _ _ c.loop-deque.invariant.0) (omega arith) c.take.ensures.same),
       none_trans _ _ _ c.loop-deque.invariant.1 (none_set _ _ c.index-shares-deque.result _ (omega arith) none),
     )

@@ -1,5 +1,5 @@
 use Rattle.std.proofs.Common.{Option, Some, None, MatchOption, refl}
-use Rattle.steal_workers.proofs.end.End.take.Goals as goal
+use Rattle.steal_workers.proofs.handle.Handle.take.Goals as goal
 
 also_none : {X : Type 0} (o : Option X) (A B : Type 0) (Q : X → Type 0) → B → MatchOption o A Q → MatchOption o (A × B) Q
 also_none None A B Q b h = (h, b)

@@ -1,6 +1,6 @@
 use Rattle.std.proofs.Common.{arith}
 use Rattle.steal_workers.proofs.Steps.{takes, finds_few}
-use Rattle.steal_workers.proofs.end.steal.Goals as goal
+use Rattle.steal_workers.proofs.handle.steal.Goals as goal
 
 pub steal_as-requires-clause-takes : goal.steal_as-requires-clause-takes
 steal_as-requires-clause-takes g c = takes _ _ c.requires.unmarked

@@ -1,7 +1,7 @@
 //! One deque of a deal, as a seat holds it.
 ghost use Rattle.std.specs.Prelude.{◌≡◌, ◌<◌, ◌∷◌, [], MatchOption, false};
 ghost use Rattle.crossbeam_deque.specs.Handles.{view, IsPassOf, worker_deque, worker_flavor, worker_view, stealer_deque, stealer_flavor};
-ghost use Rattle.steal_workers.specs.Ends.{hand_of, is_own, CanTake, IsSameEnd};
+ghost use Rattle.steal_workers.specs.Handles.{hand_of, is_own, CanTake, IsSameHandle};
 ghost use Rattle.steal_workers.specs.Items.{marks};
 ghost use Rattle.steal_workers.specs.OneDeque.{Took};
 
@@ -11,7 +11,7 @@ use crossbeam_deque::Steal;
 
 /// A seat has its own deque, and of another's a handle to steal with.
 #[derive(Drop)]
-pub enum End<T> {
+pub enum Handle<T> {
     Own(Deque<T>),
     Other(Thief<T>, Claim<T>),
 }
@@ -44,16 +44,16 @@ fn steal<T>(thief: &Thief<T>, claim: &mut Claim<T>) -> Option<Item<T>>
     }
 }
 
-impl<T> End<T> {
+impl<T> Handle<T> {
     /// Takes the item at the front. `None` where another seat took it.
     pub fn take(&mut self) -> Option<Item<T>>
         requires { CanTake self.old }
-        ensures same { IsSameEnd self.old self.new }
+        ensures same { IsSameHandle self.old self.new }
         ensures took { MatchOption result ((hand_of self.new ≡ hand_of self.old) × (is_own self.old ≡ false)) (λ item. Took (hand_of self.old) (item ∷ []) (hand_of self.new)) }
     {
         match self {
-            End::Own(deque) => Some(pop(deque)),
-            End::Other(thief, claim) => steal(thief, claim),
+            Handle::Own(deque) => Some(pop(deque)),
+            Handle::Other(thief, claim) => steal(thief, claim),
         }
     }
 }
