@@ -6,3 +6,4 @@ pub mod Lookups
 pub mod Numbers
 pub mod Ranges
 pub mod Touched
+pub mod Written

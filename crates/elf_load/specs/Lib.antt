@@ -4,6 +4,7 @@ pub mod Elf
 pub mod Fault
 pub mod File
 pub mod Image
+pub mod Laws
 pub mod Layout
 pub mod Pages
 pub mod ProgramImage

@@ -3,3 +3,7 @@ pub mod LineLaws
 pub mod BracketSteps
 pub mod CellSteps
 pub mod MarkSteps
+pub mod SingleSpelling
+pub mod DoubleSpelling
+pub mod SpellingLaws
+pub mod SpellingRows

@@ -1,6 +1,7 @@
 pub mod Lines
 pub mod Escapes
 pub mod Scalars
+pub mod Spelling
 pub mod Literals
 pub mod Names
 pub mod Pieces

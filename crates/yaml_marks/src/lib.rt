@@ -5,6 +5,7 @@ mod brackets;
 mod cells;
 mod chomp;
 mod escapes;
+pub mod laws;
 mod line;
 mod lines;
 mod mark;
