@@ -15,13 +15,13 @@ use sim_base::{Ip, Name, NoMemory};
 use std::alloc::Global;
 use std::marker::Model;
 
-/// Places in a list, which contracts see as a list of numbers.
+/// The places of images among those of a plan, which contracts see as a list of numbers.
 #[derive(Debug, Drop)]
-pub struct Places {
+pub struct ImagePlaces {
     items: Vec<usize>,
 }
 
-impl Model for Places {
+impl Model for ImagePlaces {
     ghost use Rattle.std.specs.Prelude.{List, ℕ};
 
     ghost Value = { List ℕ };
@@ -29,7 +29,7 @@ impl Model for Places {
     ghost view = { λ p. p.items.items };
 }
 
-impl Places {
+impl ImagePlaces {
     pub fn as_slice(&self) -> &[usize]
         ensures { result.now ≡ self.now }
     {
@@ -37,11 +37,11 @@ impl Places {
     }
 }
 
-impl From<Vec<usize>> for Places {
+impl From<Vec<usize>> for ImagePlaces {
     ghost from_gives = { λ v p. p ≡ v.items };
 
-    fn from(items: Vec<usize>) -> Places {
-        Places { items }
+    fn from(items: Vec<usize>) -> ImagePlaces {
+        ImagePlaces { items }
     }
 }
 
@@ -53,7 +53,7 @@ pub struct HostRow {
     pub rates: Rates,
     pub address: Ip,
     /// For each of its processes, the place of its image among those of the plan.
-    pub images: Places,
+    pub images: ImagePlaces,
 }
 
 /// The rows of hosts in the order of the hosts, which contracts see as a list.
@@ -126,14 +126,14 @@ fn host_addresses(alloc: Global, hosts: &[HostConfig]) -> Result<Vec<Ip>, NoMemo
 }
 
 /// The places of the images of a host's processes.
-fn images_of(alloc: Global, programs: &[Name], host: &HostConfig) -> Result<Places, NoMemory>
+fn images_of(alloc: Global, programs: &[Name], host: &HostConfig) -> Result<ImagePlaces, NoMemory>
     ensures { IfOk result (λ p. p ≡ images_of programs.now host.now) }
 {
     let mut places = Vec::new(alloc);
     for process in host.processes.as_slice() {
         places.push(place_of(programs, &process.path))?;
     }
-    Ok(Places::from(places))
+    Ok(ImagePlaces::from(places))
 }
 
 /// The row of a host.

@@ -22,7 +22,7 @@ mod workers;
 
 pub use addresses::addresses_of;
 pub use fault::{Fault, HostFault, ReadStop};
-pub use host_row::{HostRow, HostRows, Places};
+pub use host_row::{HostRow, HostRows, ImagePlaces};
 pub use line::tell;
 pub use plan::{Images, Plan, Settings};
 pub use planned::{Planned, Run, read_plan};
