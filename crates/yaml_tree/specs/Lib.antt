@@ -6,5 +6,6 @@ pub mod Holds
 pub mod Tree
 pub mod Outline
 pub mod Stack
+pub mod Frames
 pub mod Builder
 pub mod Trees

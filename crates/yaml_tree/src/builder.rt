@@ -45,12 +45,14 @@ impl Builder {
         ensures { result ≡ machine.fresh alloc }
     {
         let names = Names::new(alloc, &hashing);
+        let open_rows = Stack::new(alloc, &hashing);
+        let cells = Stack::new(alloc, &hashing);
         Builder {
             alloc,
             hashing,
             nodes: Nodes::new(alloc),
-            open_rows: Stack::new(alloc),
-            cells: Stack::new(alloc),
+            open_rows,
+            cells,
             value: None,
             name: None,
             literal: None,

@@ -5,6 +5,7 @@ mod builder;
 mod entries;
 mod fault;
 mod flow;
+mod frame;
 mod hashing;
 mod known;
 pub mod laws;

@@ -1,11 +1,11 @@
 //! Collections that are still open.
 
-ghost use Rattle.std.specs.Prelude.{◌≡◌, ◌++◌, ◌∷◌, List, ℕ, [], OnOk, IfOk, length, reverse, true, nat_lt, ◌==◌};
-ghost use Rattle.yaml_tree.specs.Stack.{finished, collection, top_depth, has_row, with_next_row, measure_about, PopsWhere};
-ghost use Rattle.yaml_tree.specs.Builder.{new_open};
+ghost use Rattle.std.specs.Prelude.{◌≡◌, ◌++◌, ◌∷◌, ◌↔◌, List, ℕ, [], None, OnOk, IfOk, IsTrue, length, true, nat_lt, ◌==◌};
+ghost use Rattle.yaml_tree.specs.Stack.{new_open, finished, collection, top_depth, has_row, with_next_row, measure_about, PopsWhere};
 ghost use Rattle.yaml_tree.specs.declared.stack.Open.{Open};
 
 use crate::entries::{Child, Entries};
+use crate::frame::Frame;
 use crate::hashing::Hashing;
 use crate::known::{GivenName, Known, Measure};
 use crate::node::Value;
@@ -56,6 +56,17 @@ impl Open {
             name,
             measure: Measure::no_row(),
         }
+    }
+
+    /// Whether it stands as it began: it has no finished row and no name.
+    pub fn is_begun(&self) -> bool
+        ensures { IsTrue result ↔ self.now ≡ new_open self.now.depth self.now.mapping self.now.line self.now.key None }
+    {
+        self.name.is_none()
+            && self.first_line == self.line
+            && self.items.is_empty()
+            && self.entries.is_empty()
+            && self.measure == Measure::no_row()
     }
 
     /// Finishes the row with its value.
@@ -154,44 +165,47 @@ impl Open {
 /// The open collections, which contracts see as a list, the innermost first.
 #[derive(Drop)]
 pub(crate) struct Stack {
-    items: Vec<Open>,
+    frames: Vec<Frame>,
+    hashing: Hashing,
 }
 
 impl Model for Stack {
-    ghost use Rattle.std.specs.Prelude.{List, reverse};
+    ghost use Rattle.std.specs.Prelude.{List, map, reverse};
     ghost use Rattle.yaml_tree.specs.declared.stack.Open.{Open};
 
     ghost Value = { List Open };
 
-    ghost view = { λ s. reverse s.items.items };
+    ghost use Rattle.yaml_tree.specs.Frames.{open_of};
+
+    ghost view = { λ s. reverse (map open_of s.frames.items) };
 }
 
 impl Stack {
-    pub fn new(alloc: Global) -> Stack
+    pub fn new(alloc: Global, hashing: &Hashing) -> Stack
         ensures { result ≡ [] }
     {
         Stack {
-            items: Vec::new(alloc),
+            frames: Vec::new(alloc),
+            hashing: hashing.again(),
         }
-    }
-
-    pub fn len(&self) -> usize
-        ensures { result ≡ length self.now }
-    {
-        self.items.len()
     }
 
     pub fn push(&mut self, added: Open) -> Result<(), NoMemory>
         ensures { OnOk result (self.new ≡ added ∷ self.old) }
     {
-        self.items.push(added)?;
+        let frame = Frame::of(*self.frames.allocator(), added)?;
+        self.frames.push(frame)?;
         Ok(())
     }
 
     pub fn pop(&mut self) -> Option<Open>
         ensures { PopsWhere (λ _. true) self.old result self.new }
     {
-        self.items.pop()
+        let alloc = *self.frames.allocator();
+        match self.frames.pop() {
+            Some(frame) => Some(frame.into_open(alloc, &self.hashing)),
+            None => None,
+        }
     }
 
     /// Takes the innermost collection, if it is deeper.
@@ -218,8 +232,8 @@ impl Stack {
     pub fn top_depth(&self) -> Option<u128>
         ensures { result ≡ top_depth self.now }
     {
-        match self.items.last() {
-            Some(open) => Some(open.depth),
+        match self.frames.last() {
+            Some(frame) => Some(frame.depth()),
             None => None,
         }
     }
@@ -229,8 +243,8 @@ impl Stack {
         ensures { result ≡ measure_about self.now value }
     {
         let mut measure = value;
-        for open in self.items.iter().rev() {
-            measure = open.measure.with_part(measure);
+        for frame in self.frames.iter().rev() {
+            measure = frame.measure().with_part(measure);
         }
         measure
     }
