@@ -5,6 +5,7 @@ mod brackets;
 mod cells;
 mod chomp;
 mod escapes;
+mod kept;
 mod line;
 mod lines;
 mod mark;
@@ -16,6 +17,7 @@ mod scalar;
 mod scan;
 #[cfg(test)]
 mod tests;
+mod text_or_null;
 mod values;
 
 pub use brackets::{closes_at, why_bracket};
@@ -29,3 +31,4 @@ pub use piece::{Bracket, Piece, Pieces};
 pub use place::{Place, next_place};
 pub use scalar::Scalar;
 pub use scan::{Scan, is_blank, past, spaces};
+pub use text_or_null::TextOrNull;

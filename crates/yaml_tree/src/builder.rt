@@ -17,7 +17,7 @@ use crate::shape::flow_fault;
 use crate::stack::{Open, Stack};
 use sim_base::NoMemory;
 use std::alloc::Global;
-use yaml_marks::{Chomp, Mark, Odd, Pieces, Scalar, why_bracket};
+use yaml_marks::{Chomp, Mark, Odd, Pieces, Scalar, TextOrNull, why_bracket};
 
 /// The tree so far.
 #[derive(Drop)]
@@ -113,7 +113,7 @@ impl Builder {
         ensures { OnOk result (self.new ≡ closed last self.old) }
     {
         let value = self.take_value(last.line)?;
-        let rows = last.finish_row(self.alloc, value)?;
+        let rows = last.finish_row(value)?;
         let line = rows.first_line;
         let measure = rows.measure;
         let (collection, name) = rows.into_value();
@@ -151,7 +151,7 @@ impl Builder {
         ensures { OnOk result (self.new ≡ next_row last line key self.old) }
     {
         let value = self.take_value(last.line)?;
-        let rows = last.finish_row(self.alloc, value)?;
+        let rows = last.finish_row(value)?;
         self.open_rows.push(rows.with_next_row(line, key))?;
         self.value = None;
         Ok(())
@@ -191,7 +191,7 @@ impl Builder {
 
     /// Takes a scalar.
     #[tactic(auto, unfolding(crate::specs::Builder::with_scalar))]
-    fn scalar(&mut self, depth: u128, line: usize, text: Option<Scalar>) -> Result<(), Stop>
+    fn scalar(&mut self, depth: u128, line: usize, text: TextOrNull) -> Result<(), Stop>
         ensures { Steps result self.new (with_scalar depth line text self.old) }
     {
         if !self.can_hold(depth) {
@@ -326,7 +326,7 @@ impl Builder {
     {
         match why {
             Odd::Unkeyed => {
-                let key = Scalar::new(self.alloc);
+                let key = Scalar::new();
                 self.head(depth, true, line, key)?;
                 Err(Stop::Fault(FaultKind::Unsupported))
             }
@@ -345,7 +345,7 @@ impl Builder {
         self.end_literal()?;
         match mark {
             Mark::Dash(line, column) => {
-                let none = Scalar::new(self.alloc);
+                let none = Scalar::new();
                 self.head(dash_depth(column), false, line, none)
             }
             Mark::Key(line, column, text) => self.head(key_depth(column), true, line, text),
@@ -400,10 +400,10 @@ fn key_depth(column: usize) -> u128
     1 + 2 * (column as u128)
 }
 
-pub(crate) fn scalar_value(text: Option<Scalar>) -> Value
+pub(crate) fn scalar_value(text: TextOrNull) -> Value
     ensures { result ≡ scalar_value text }
 {
-    match text {
+    match text.into_text() {
         Some(text) => Value::Text(text),
         None => Value::Null,
     }

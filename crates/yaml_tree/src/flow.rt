@@ -18,7 +18,7 @@ impl Builder {
     {
         match self.cells.pop() {
             Some(open) => {
-                let rows = open.finish_row(self.alloc, known)?;
+                let rows = open.finish_row(known)?;
                 self.cells.push(rows)
             }
             None => {
@@ -53,7 +53,7 @@ impl Builder {
         ensures { OnOk result (self.new ≡ cell_opened line bracket self.old) }
     {
         let name = self.name.take();
-        let none = Scalar::new(self.alloc);
+        let none = Scalar::new();
         let curly = bracket == Bracket::Curly;
         let open = Open::new(self.alloc, &self.hashing, 0, curly, line, none, name);
         self.cells.push(open)

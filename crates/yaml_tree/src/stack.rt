@@ -70,7 +70,7 @@ impl Open {
     }
 
     /// Finishes the row with its value.
-    pub fn finish_row(self, alloc: Global, value: Known) -> Result<Open, NoMemory>
+    pub fn finish_row(self, value: Known) -> Result<Open, NoMemory>
         ensures { IfOk result (λ o. o ≡ finished self value) }
     {
         let Open {
@@ -97,7 +97,7 @@ impl Open {
             items,
             entries,
             line,
-            key: Scalar::new(alloc),
+            key: Scalar::new(),
             name,
             measure: measure.with_part(value.measure),
         })
