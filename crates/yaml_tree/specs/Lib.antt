@@ -1,4 +1,5 @@
 pub mod Entries
+pub mod Rows
 pub mod Flows
 pub mod Written
 pub mod Said
@@ -7,5 +8,6 @@ pub mod Tree
 pub mod Outline
 pub mod Stack
 pub mod Frames
+pub mod Gone
 pub mod Builder
 pub mod Trees

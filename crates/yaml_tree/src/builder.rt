@@ -11,8 +11,8 @@ use crate::fault::{FaultKind, Stop};
 use crate::hashing::Hashing;
 use crate::known::{GivenName, Known, Measure, Names, begins_at};
 use crate::literal::{Literal, TextLines};
+use crate::made::MadeNodes;
 use crate::node::{Node, Value};
-use crate::nodes::Nodes;
 use crate::shape::flow_fault;
 use crate::stack::{Open, Stack};
 use sim_base::NoMemory;
@@ -25,7 +25,7 @@ pub(crate) struct Builder {
     pub alloc: Global,
     pub hashing: Hashing,
     /// The nodes that are whole.
-    pub nodes: Nodes,
+    pub nodes: MadeNodes,
     /// The block collections that are open.
     pub open_rows: Stack,
     /// The flow collections that are open.
@@ -45,14 +45,12 @@ impl Builder {
         ensures { result ≡ machine.fresh alloc }
     {
         let names = Names::new(alloc, &hashing);
-        let open_rows = Stack::new(alloc, &hashing);
-        let cells = Stack::new(alloc, &hashing);
         Builder {
             alloc,
             hashing,
-            nodes: Nodes::new(alloc),
-            open_rows,
-            cells,
+            nodes: MadeNodes::new(alloc),
+            open_rows: Stack::new(alloc),
+            cells: Stack::new(alloc),
             value: None,
             name: None,
             literal: None,
@@ -70,7 +68,7 @@ impl Builder {
     ) -> Result<Known, NoMemory>
         ensures { IfOk result (λ k. (k ≡ next_known measure self.old) × (self.new ≡ with_node line value measure self.old)) }
     {
-        let Ok(node) = u32::try_from(self.nodes.len()) else {
+        let Some(node) = self.nodes.next_number() else {
             return Err(NoMemory);
         };
         let known = Known { node, measure };
@@ -113,10 +111,10 @@ impl Builder {
         ensures { OnOk result (self.new ≡ closed last self.old) }
     {
         let value = self.take_value(last.line)?;
-        let rows = last.finish_row(value)?;
+        let rows = last.finish_row(self.alloc, &self.hashing, value)?;
         let line = rows.first_line;
         let measure = rows.measure;
-        let (collection, name) = rows.into_value();
+        let (collection, name) = rows.into_value(self.alloc, &self.hashing)?;
         self.name = name;
         self.put_node(line, collection, measure)
     }
@@ -140,7 +138,7 @@ impl Builder {
             return Err(Stop::Fault(FaultKind::Syntax));
         }
         let name = self.name.take();
-        let open = Open::new(self.alloc, &self.hashing, depth, mapping, line, key, name);
+        let open = Open::new(self.alloc, depth, mapping, line, key, name);
         self.open_rows.push(open)?;
         Ok(())
     }
@@ -151,7 +149,7 @@ impl Builder {
         ensures { OnOk result (self.new ≡ next_row last line key self.old) }
     {
         let value = self.take_value(last.line)?;
-        let rows = last.finish_row(value)?;
+        let rows = last.finish_row(self.alloc, &self.hashing, value)?;
         self.open_rows.push(rows.with_next_row(line, key))?;
         self.value = None;
         Ok(())

@@ -4,7 +4,6 @@ ghost use Rattle.std.specs.Prelude.{◌≡◌, IfOk};
 ghost use Rattle.yaml_tree.specs.Frames.{open_of};
 ghost use Rattle.yaml_tree.specs.declared.frame.Frame.TheVariants.{Begun};
 
-use crate::hashing::Hashing;
 use crate::known::Measure;
 use crate::stack::Open;
 use sim_base::NoMemory;
@@ -59,7 +58,7 @@ impl Frame {
     }
 
     /// Gives the collection back.
-    pub fn into_open(self, alloc: Global, hashing: &Hashing) -> Open
+    pub fn into_open(self, alloc: Global) -> Open
         ensures { result ≡ open_of self }
     {
         match self {
@@ -68,7 +67,7 @@ impl Frame {
                 depth,
                 line,
                 key,
-            } => Open::new(alloc, hashing, depth as u128, mapping, line, key, None),
+            } => Open::new(alloc, depth as u128, mapping, line, key, None),
             Frame::Other(open) => Box::into_inner(open),
         }
     }

@@ -42,13 +42,6 @@ impl Hashing {
         }
     }
 
-    /// The same hashing.
-    pub fn again(&self) -> Hashing {
-        Hashing {
-            hashers: self.hashers,
-        }
-    }
-
     pub fn hashers(&self) -> TextHashers {
         self.hashers
     }

@@ -4,8 +4,9 @@ ghost use Rattle.std.specs.Prelude.{◌≡◌, ◌++◌, ◌∷◌, ◌↔◌, L
 ghost use Rattle.yaml_tree.specs.Stack.{new_open, finished, collection, top_depth, has_row, with_next_row, measure_about, PopsWhere};
 ghost use Rattle.yaml_tree.specs.declared.stack.Open.{Open};
 
-use crate::entries::{Child, Entries};
+use crate::entries::Child;
 use crate::frame::Frame;
+use crate::growing::Growing;
 use crate::hashing::Hashing;
 use crate::known::{GivenName, Known, Measure};
 use crate::node::Value;
@@ -23,7 +24,7 @@ pub(crate) struct Open {
     /// The line on which it begins.
     pub first_line: usize,
     pub items: Numbers,
-    pub entries: Entries,
+    pub entries: Growing,
     /// The row whose value comes.
     pub line: usize,
     pub key: Scalar,
@@ -36,7 +37,6 @@ pub(crate) struct Open {
 impl Open {
     pub fn new(
         alloc: Global,
-        hashing: &Hashing,
         depth: u128,
         mapping: bool,
         line: usize,
@@ -50,7 +50,7 @@ impl Open {
             mapping,
             first_line: line,
             items: Numbers::new(alloc),
-            entries: Entries::new(alloc, hashing),
+            entries: Growing::new(alloc),
             line,
             key,
             name,
@@ -70,7 +70,12 @@ impl Open {
     }
 
     /// Finishes the row with its value.
-    pub fn finish_row(self, value: Known) -> Result<Open, NoMemory>
+    pub fn finish_row(
+        self,
+        alloc: Global,
+        hashing: &Hashing,
+        value: Known,
+    ) -> Result<Open, NoMemory>
         ensures { IfOk result (λ o. o ≡ finished self value) }
     {
         let Open {
@@ -86,7 +91,7 @@ impl Open {
         } = self;
         let node = value.node;
         if mapping {
-            entries.insert(key, Child { line, node })?;
+            entries = entries.with(alloc, hashing, key, Child { line, node })?;
         } else {
             items.push(node)?;
         }
@@ -140,8 +145,12 @@ impl Open {
     }
 
     /// The finished rows as a node's value, and the name.
-    pub fn into_value(self) -> (Value, Option<GivenName>)
-        ensures { result ≡ (collection self, self.name) }
+    pub fn into_value(
+        self,
+        alloc: Global,
+        hashing: &Hashing,
+    ) -> Result<(Value, Option<GivenName>), NoMemory>
+        ensures { IfOk result (λ v. v ≡ (collection self, self.name)) }
     {
         let Open {
             depth: _,
@@ -155,9 +164,9 @@ impl Open {
             measure: _,
         } = self;
         if mapping {
-            (Value::Mapping(entries), name)
+            Ok((Value::Mapping(entries.into_entries(alloc, hashing)?), name))
         } else {
-            (Value::Sequence(items), name)
+            Ok((Value::Sequence(items), name))
         }
     }
 }
@@ -166,7 +175,6 @@ impl Open {
 #[derive(Drop)]
 pub(crate) struct Stack {
     frames: Vec<Frame>,
-    hashing: Hashing,
 }
 
 impl Model for Stack {
@@ -181,12 +189,11 @@ impl Model for Stack {
 }
 
 impl Stack {
-    pub fn new(alloc: Global, hashing: &Hashing) -> Stack
+    pub fn new(alloc: Global) -> Stack
         ensures { result ≡ [] }
     {
         Stack {
             frames: Vec::new(alloc),
-            hashing: hashing.again(),
         }
     }
 
@@ -203,7 +210,7 @@ impl Stack {
     {
         let alloc = *self.frames.allocator();
         match self.frames.pop() {
-            Some(frame) => Some(frame.into_open(alloc, &self.hashing)),
+            Some(frame) => Some(frame.into_open(alloc)),
             None => None,
         }
     }
