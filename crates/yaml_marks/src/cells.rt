@@ -17,6 +17,7 @@ use crate::scan::{
     Scan, asks, at_colon, before, begins_with, double_len, double_scan, from, is_unplain,
     plain_ends, plain_value, single_scan, spaces, trimmed_len,
 };
+use crate::text_or_null::TextOrNull;
 use sim_base::NoMemory;
 use std::alloc::Global;
 use std::marker::Model;
@@ -160,7 +161,7 @@ fn key_step(text: Scalar, len: usize, rest: &[u8]) -> Step
 }
 
 /// A scalar of so many bytes that is no key.
-fn scalar_step(value: Option<Scalar>, len: usize) -> Step
+fn scalar_step(value: TextOrNull, len: usize) -> Step
     ensures { result ≡ record { piece = Some (pieces.CellScalar value); skip = len - 1 } }
 {
     Step {
@@ -195,7 +196,7 @@ fn quoted_step(text: Scalar, bytes: &[u8], len: usize) -> Step
     if at_colon(rest) {
         key_step(text, len, rest)
     } else {
-        scalar_step(Some(text), len)
+        scalar_step(TextOrNull::text(text), len)
     }
 }
 
@@ -321,7 +322,7 @@ pub(crate) fn flow_at(alloc: Global, bytes: &[u8]) -> Result<(Pieces, usize), No
     ensures len { IfOk result (λ found. found.1 ≡ (flow_at bytes.now).len) }
     ensures within { IfOk result (λ found. found.1 ≤ length bytes.now) }
 {
-    let mut pieces = Pieces::new(alloc);
+    let mut pieces = Pieces::new(alloc)?;
     let mut depth = 0;
     let mut rest = bytes;
     while let Some((b, behind)) = rest.split_first() {

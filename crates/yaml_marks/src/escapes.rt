@@ -125,7 +125,7 @@ pub(crate) fn unescaped(alloc: Global, bytes: &[u8]) -> Result<Option<Scalar>, N
         add(&mut text, added)?;
     }
     match place {
-        Escape::Outside => Ok(Some(Scalar::from(text))),
+        Escape::Outside => Ok(Some(Scalar::from_vec(text)?)),
         _ => Ok(None),
     }
 }

@@ -5,6 +5,7 @@ mod brackets;
 mod cells;
 mod chomp;
 mod escapes;
+mod kept;
 pub mod laws;
 mod line;
 mod lines;
@@ -17,6 +18,7 @@ mod scalar;
 mod scan;
 #[cfg(test)]
 mod tests;
+mod text_or_null;
 mod values;
 
 pub use brackets::{closes_at, why_bracket};
@@ -30,3 +32,4 @@ pub use piece::{Bracket, Piece, Pieces};
 pub use place::{Place, next_place};
 pub use scalar::Scalar;
 pub use scan::{Scan, is_blank, past, spaces};
+pub use text_or_null::TextOrNull;

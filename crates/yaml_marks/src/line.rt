@@ -15,6 +15,7 @@ use crate::scan::{
     Scan, after_spaces, at_colon, at_end, at_gap, begins_with, from, past, plain_value, scalar_at,
     spaces,
 };
+use crate::text_or_null::TextOrNull;
 use crate::values::{Line, begins_mark, has_name};
 use sim_base::NoMemory;
 use std::alloc::Global;
@@ -120,7 +121,7 @@ impl Line {
         if at_colon(from(bytes, len)) {
             self.read_pair(marks, column, text, bytes, len)
         } else {
-            self.read_lone(marks, column, Some(text), from(bytes, len))
+            self.read_lone(marks, column, TextOrNull::text(text), from(bytes, len))
         }
     }
 

@@ -7,6 +7,7 @@ use crate::chomp::Chomp;
 use crate::odd::Odd;
 use crate::piece::Pieces;
 use crate::scalar::Scalar;
+use crate::text_or_null::TextOrNull;
 use sim_base::NoMemory;
 use std::alloc::Global;
 use std::marker::Model;
@@ -19,7 +20,7 @@ pub enum Mark {
     /// `KEY:`
     Key(usize, usize, Scalar),
     /// A scalar that is no key: a text, or none for plain `~` and `null`.
-    Scalar(usize, usize, Option<Scalar>),
+    Scalar(usize, usize, TextOrNull),
     /// `&NAME`
     Name(usize, usize, Scalar),
     /// `*NAME`

@@ -1,10 +1,11 @@
 //! The pieces of a flow form.
 
-ghost use Rattle.std.specs.Prelude.{◌≡◌, ◌++◌, ◌∷◌, List, [], OnOk};
+ghost use Rattle.std.specs.Prelude.{◌≡◌, ◌++◌, ◌∷◌, List, [], OnOk, IfOk};
 ghost use Rattle.yaml_marks.specs.declared.piece.Piece.{Piece};
 
 use crate::odd::Odd;
 use crate::scalar::Scalar;
+use crate::text_or_null::TextOrNull;
 use sim_base::NoMemory;
 use std::alloc::Global;
 use std::marker::Model;
@@ -26,7 +27,7 @@ pub enum Piece {
     /// `KEY:`
     CellKey(Scalar),
     /// A scalar that is no key: a text, or none for plain `~` and `null`.
-    CellScalar(Option<Scalar>),
+    CellScalar(TextOrNull),
     /// `&NAME`
     CellName(Scalar),
     /// `*NAME`
@@ -65,7 +66,7 @@ impl Piece {
 /// The pieces of a flow form in order, which contracts see as a list.
 #[derive(Drop)]
 pub struct Pieces {
-    items: Vec<Piece>,
+    items: Box<Vec<Piece>>,
 }
 
 impl Model for Pieces {
@@ -74,16 +75,16 @@ impl Model for Pieces {
 
     ghost Value = { List Piece };
 
-    ghost view = { λ p. p.items.items };
+    ghost view = { λ p. p.items.value.items };
 }
 
 impl Pieces {
-    pub fn new(alloc: Global) -> Pieces
-        ensures { result ≡ [] }
+    pub fn new(alloc: Global) -> Result<Pieces, NoMemory>
+        ensures { IfOk result (λ pieces. pieces ≡ []) }
     {
-        Pieces {
-            items: Vec::new(alloc),
-        }
+        Ok(Pieces {
+            items: Box::new(alloc, Vec::new(alloc))?,
+        })
     }
 
     pub fn push(&mut self, piece: Piece) -> Result<(), NoMemory>
@@ -104,6 +105,6 @@ impl Pieces {
         ensures { result.items ≡ self }
     {
         let Pieces { items } = self;
-        items
+        Box::into_inner(items)
     }
 }

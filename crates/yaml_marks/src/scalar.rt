@@ -1,11 +1,13 @@
 //! The text of a scalar or of a key.
 
-ghost use Rattle.std.specs.Prelude.{◌≡◌, ◌==◌, ◌↔◌, List, ℕ, [], length, IfOk, IsTrue};
+ghost use Rattle.std.specs.Prelude.{◌≡◌, ◌==◌, ◌↔◌, List, ℕ, [], Some, length, IfOk, IsTrue};
 ghost use Rattle.std.proofs.Common.{rules};
 ghost use Rattle.std.specs.Cmp.Lexicographic.{pointwise};
 ghost use Rattle.std.specs.Cmp.Rules.{comparing, hashing};
 ghost use Rattle.std.specs.Hash as fed;
+ghost use Rattle.yaml_marks.specs.Kept.{bytes_of, text_of};
 
+use crate::kept::Kept;
 use std::alloc::{AllocError, Global};
 use std::hash::{Hash, Hasher};
 use std::marker::Model;
@@ -13,52 +15,57 @@ use std::marker::Model;
 /// A text in UTF-8, which contracts see as the list of its bytes.
 #[derive(Debug, Drop)]
 pub struct Scalar {
-    bytes: Vec<u8>,
+    kept: Kept,
 }
 
 impl Model for Scalar {
+    ghost use Rattle.std.specs.Prelude.{List, ℕ};
+
     ghost Value = { List ℕ };
 
-    ghost view = { λ s. s.bytes.items };
+    ghost use Rattle.yaml_marks.specs.Kept.{bytes_of};
+
+    ghost view = { λ s. bytes_of s.kept };
 }
 
 impl Scalar {
-    pub fn new(alloc: Global) -> Scalar
+    pub fn new() -> Scalar
         ensures { result ≡ [] }
     {
         Scalar {
-            bytes: Vec::new(alloc),
+            kept: Kept::Nothing,
         }
     }
 
     pub fn from_slice(alloc: Global, bytes: &[u8]) -> Result<Scalar, AllocError>
         ensures { IfOk result (λ s. s ≡ bytes.now) }
     {
-        Ok(Scalar {
-            bytes: Vec::from_slice(alloc, bytes)?,
-        })
+        Ok(Scalar::of(Kept::from_slice(alloc, bytes)?))
+    }
+
+    pub fn from_vec(bytes: Vec<u8>) -> Result<Scalar, AllocError>
+        ensures { IfOk result (λ s. s ≡ bytes.items) }
+    {
+        Ok(Scalar::of(Kept::from_vec(bytes)?))
+    }
+
+    pub(crate) fn of(kept: Kept) -> Scalar
+        ensures { result ≡ bytes_of kept }
+    {
+        Scalar { kept }
     }
 
     pub fn as_slice(&self) -> &[u8]
         ensures { result.now ≡ self.now }
     {
-        self.bytes.as_slice()
+        self.kept.as_slice()
     }
 
-    /// Gives the bytes back without taking memory.
-    pub fn into_vec(self) -> Vec<u8>
-        ensures { result.items ≡ self }
+    pub(crate) fn into_kept(self) -> Kept
+        ensures { text_of result ≡ Some self }
     {
-        let Scalar { bytes } = self;
-        bytes
-    }
-}
-
-impl From<Vec<u8>> for Scalar {
-    ghost from_gives = { λ v s. s ≡ v.items };
-
-    fn from(bytes: Vec<u8>) -> Scalar {
-        Scalar { bytes }
+        let Scalar { kept } = self;
+        kept.or_empty()
     }
 }
 
@@ -67,7 +74,7 @@ impl Clone for Scalar {
 
     fn clone(&self) -> Result<Scalar, AllocError> {
         Ok(Scalar {
-            bytes: Vec::from_slice(*self.bytes.allocator(), self.bytes.as_slice())?,
+            kept: self.kept.again()?,
         })
     }
 }
@@ -78,7 +85,7 @@ impl PartialEq for Scalar {
     ghost laws = { Prim.search (comparing, rules) };
 
     fn eq(&self, other: &Scalar) -> bool {
-        self.bytes == other.bytes
+        self.as_slice() == other.as_slice()
     }
 }
 
@@ -92,6 +99,6 @@ impl Hash for Scalar {
     ghost respects_eq = { Prim.search (hashing, rules) };
 
     fn hash<H: Hasher>(&self, state: &mut H) {
-        self.bytes.hash(state);
+        self.as_slice().hash(state);
     }
 }

@@ -11,6 +11,7 @@ ghost use Rattle.yaml_marks.specs.declared.scan.Scan.TheVariants as scans;
 use crate::escapes::unescaped;
 use crate::odd::Odd;
 use crate::scalar::Scalar;
+use crate::text_or_null::TextOrNull;
 use sim_base::NoMemory;
 use std::alloc::Global;
 
@@ -151,13 +152,13 @@ fn is_null(text: &[u8]) -> bool
 }
 
 /// What a plain scalar says: a text, or null.
-pub(crate) fn plain_value(text: Scalar) -> Option<Scalar>
+pub(crate) fn plain_value(text: Scalar) -> TextOrNull
     ensures { result ≡ plain_value text }
 {
     if is_null(text.as_slice()) {
-        None
+        TextOrNull::null()
     } else {
-        Some(text)
+        TextOrNull::text(text)
     }
 }
 
@@ -194,13 +195,13 @@ fn single_quoted(alloc: Global, bytes: &[u8]) -> Result<Option<(Scalar, usize)>,
     for i in 0..bytes.len() {
         let b = bytes[i];
         if closes(held, b) {
-            return Ok(Some((Scalar::from(text), i)));
+            return Ok(Some((Scalar::from_vec(text)?, i)));
         }
         add_part(&mut text, held, b)?;
         held = holds_back(held, b);
     }
     if held {
-        Ok(Some((Scalar::from(text), bytes.len())))
+        Ok(Some((Scalar::from_vec(text)?, bytes.len())))
     } else {
         Ok(None)
     }

@@ -114,7 +114,7 @@ fn parts_lines(rt: HostRuntime) -> Result<(), Fail> {
 
 #[test]
 fn looks_for_closing_brackets(rt: HostRuntime) -> Result<(), Fail> {
-    let mut pieces = Pieces::new(rt.alloc());
+    let mut pieces = Pieces::new(rt.alloc())?;
     pieces.push(Piece::Opening(Bracket::Square))?;
     pieces.push(Piece::Opening(Bracket::Curly))?;
     pieces.push(Piece::Closing(Bracket::Square))?;
@@ -124,7 +124,7 @@ fn looks_for_closing_brackets(rt: HostRuntime) -> Result<(), Fail> {
     assert!(rt; closes_at(&pieces.as_slice()[1..]));
     assert_eq!(rt; pieces.into_vec().len(), 4);
     let text = Scalar::from_slice(rt.alloc(), b"a".as_slice())?;
-    assert_eq!(rt; text.clone()?.into_vec().len(), 1);
+    assert_eq!(rt; text.clone()?.as_slice().len(), 1);
     assert!(rt; text == text);
     Ok(())
 }

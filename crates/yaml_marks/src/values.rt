@@ -16,6 +16,7 @@ use crate::names::{after_name, name_at, name_len};
 use crate::odd::Odd;
 use crate::scalar::Scalar;
 use crate::scan::{Scan, after_spaces, at_end, at_gap, from, past, plain_value, scalar_at, spaces};
+use crate::text_or_null::TextOrNull;
 use sim_base::NoMemory;
 use std::alloc::Global;
 
@@ -201,7 +202,7 @@ impl Line {
         self,
         marks: &mut Marks,
         column: usize,
-        text: Option<Scalar>,
+        text: TextOrNull,
         rest: &[u8],
     ) -> Result<(), NoMemory>
         requires { length rest.now < 2 ^ 62 }
@@ -216,7 +217,7 @@ impl Line {
         self,
         marks: &mut Marks,
         column: usize,
-        text: Option<Scalar>,
+        text: TextOrNull,
         rest: &[u8],
     ) -> Result<(), NoMemory>
         requires { length rest.now < 2 ^ 62 }
@@ -245,7 +246,7 @@ impl Line {
                 self.read_scalar(marks, column, plain_value(text), from(bytes, len))
             }
             Scan::Quoted(text, len) => {
-                self.read_scalar(marks, column, Some(text), from(bytes, len))
+                self.read_scalar(marks, column, TextOrNull::text(text), from(bytes, len))
             }
             Scan::Refused(why) => self.refuse(marks, column, why),
         }

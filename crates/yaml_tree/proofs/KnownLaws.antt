@@ -146,7 +146,7 @@ or_false true = refl
 or_false false = refl
 
 -- whether a key is there once another is given a child
-has_key-with_entry : (k other : List ℕ) (es : List (List ℕ × Child)) (child : Child) → entries.has_key k (with_entry es other child) ≡ (entries.has_key k es || pointwise ◌==◌ k other)
+pub has_key-with_entry : (k other : List ℕ) (es : List (List ℕ × Child)) (child : Child) → entries.has_key k (with_entry es other child) ≡ (entries.has_key k es || pointwise ◌==◌ k other)
 has_key-with_entry k other es child = ap is_some (lookup-insert_entry k other child es) ∙ by (pointwise ◌==◌ k other) (lookup (pointwise ◌==◌ k) es)
   where
     by : (t : Bool) (found : Option Child) → is_some (cond t (Some child) found) ≡ (is_some found || t)

@@ -10,6 +10,7 @@ pub mod RuleLaws
 pub mod RuleRows
 pub mod Stands
 pub mod KnownLaws
+pub mod GrowingLaws
 pub mod BuilderSteps
 pub mod ReadSteps
 pub mod FlowPlay

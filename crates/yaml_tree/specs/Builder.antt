@@ -7,7 +7,7 @@ use Rattle.yaml_marks.specs.Literals.{block_text}
 use Rattle.yaml_marks.specs.Pieces.{why_bracket}
 use Rattle.yaml_marks.specs.Marks.{has_content, line_marks, next_place}
 use Rattle.yaml_tree.specs.Outline.{flow_fault}
-use Rattle.yaml_tree.specs.Stack.{one_node, unknown_node, no_row, finished, collection, with_next_row, measure_about}
+use Rattle.yaml_tree.specs.Stack.{one_node, unknown_node, new_open, finished, collection, with_next_row, measure_about}
 use Rattle.yaml_tree.specs.Holds.{scalar_value}
 use Rattle.yaml_tree.specs.Tree.{kind_of}
 use Rattle.yaml_marks.specs.declared.piece.Bracket.{Bracket}
@@ -89,9 +89,6 @@ settled_on depth (o ∷ os) b = if nat_lt depth o.depth then settled_on depth os
 
 abbrev pub settled : ℕ → Builder → Builder
 settled depth b = settled_on depth b.open_rows b
-
-abbrev pub new_open : ℕ → Bool → ℕ → List ℕ → Option GivenName → Open
-new_open depth mapping line key name = record { depth = depth; mapping = mapping; first_line = line; items = []; entries = []; line = line; key = key; name = name; measure = no_row }
 
 unfoldable pub begun : ℕ → Bool → ℕ → List ℕ → Builder → Result Builder FaultKind
 begun depth mapping line key b = if is_some b.value then Err Syntax

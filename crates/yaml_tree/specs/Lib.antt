@@ -1,4 +1,5 @@
 pub mod Entries
+pub mod Rows
 pub mod Flows
 pub mod Written
 pub mod Said
@@ -6,5 +7,7 @@ pub mod Holds
 pub mod Tree
 pub mod Outline
 pub mod Stack
+pub mod Frames
+pub mod Gone
 pub mod Builder
 pub mod Trees

@@ -6,6 +6,7 @@ use Rattle.yaml_tree.specs.declared.node.Value.{Value}
 use Rattle.yaml_tree.specs.declared.node.Value.TheVariants.{Sequence, Mapping}
 use Rattle.yaml_tree.specs.declared.known.Measure.{Measure}
 use Rattle.yaml_tree.specs.declared.known.Known.{Known}
+use Rattle.yaml_tree.specs.declared.known.GivenName.{GivenName}
 use Rattle.yaml_tree.specs.declared.stack.Open.{Open}
 
 -- counted to one more than the most
@@ -33,6 +34,10 @@ with_part rows value = record { size = cut 1_000_000 (rows.size + value.size); l
 
 abbrev pub with_repeat : Bool → Measure → Measure
 with_repeat repeated m = record m { repeated = m.repeated || repeated }
+
+-- a collection that begins, with its first row
+abbrev pub new_open : ℕ → Bool → ℕ → List ℕ → Option GivenName → Open
+new_open depth mapping line key name = record { depth = depth; mapping = mapping; first_line = line; items = []; entries = []; line = line; key = key; name = name; measure = no_row }
 
 abbrev pub top_depth : List Open → Option ℕ
 top_depth [] = None

@@ -11,13 +11,13 @@ use crate::fault::{FaultKind, Stop};
 use crate::hashing::Hashing;
 use crate::known::{GivenName, Known, Measure, Names, begins_at};
 use crate::literal::{Literal, TextLines};
+use crate::made::MadeNodes;
 use crate::node::{Node, Value};
-use crate::nodes::Nodes;
 use crate::shape::flow_fault;
 use crate::stack::{Open, Stack};
 use sim_base::NoMemory;
 use std::alloc::Global;
-use yaml_marks::{Chomp, Mark, Odd, Pieces, Scalar, why_bracket};
+use yaml_marks::{Chomp, Mark, Odd, Pieces, Scalar, TextOrNull, why_bracket};
 
 /// The tree so far.
 #[derive(Drop)]
@@ -25,7 +25,7 @@ pub(crate) struct Builder {
     pub alloc: Global,
     pub hashing: Hashing,
     /// The nodes that are whole.
-    pub nodes: Nodes,
+    pub nodes: MadeNodes,
     /// The block collections that are open.
     pub open_rows: Stack,
     /// The flow collections that are open.
@@ -48,7 +48,7 @@ impl Builder {
         Builder {
             alloc,
             hashing,
-            nodes: Nodes::new(alloc),
+            nodes: MadeNodes::new(alloc),
             open_rows: Stack::new(alloc),
             cells: Stack::new(alloc),
             value: None,
@@ -68,7 +68,7 @@ impl Builder {
     ) -> Result<Known, NoMemory>
         ensures { IfOk result (λ k. (k ≡ next_known measure self.old) × (self.new ≡ with_node line value measure self.old)) }
     {
-        let Ok(node) = u32::try_from(self.nodes.len()) else {
+        let Some(node) = self.nodes.next_number() else {
             return Err(NoMemory);
         };
         let known = Known { node, measure };
@@ -111,10 +111,10 @@ impl Builder {
         ensures { OnOk result (self.new ≡ closed last self.old) }
     {
         let value = self.take_value(last.line)?;
-        let rows = last.finish_row(self.alloc, value)?;
+        let rows = last.finish_row(self.alloc, &self.hashing, value)?;
         let line = rows.first_line;
         let measure = rows.measure;
-        let (collection, name) = rows.into_value();
+        let (collection, name) = rows.into_value(self.alloc, &self.hashing)?;
         self.name = name;
         self.put_node(line, collection, measure)
     }
@@ -138,7 +138,7 @@ impl Builder {
             return Err(Stop::Fault(FaultKind::Syntax));
         }
         let name = self.name.take();
-        let open = Open::new(self.alloc, &self.hashing, depth, mapping, line, key, name);
+        let open = Open::new(self.alloc, depth, mapping, line, key, name);
         self.open_rows.push(open)?;
         Ok(())
     }
@@ -149,7 +149,7 @@ impl Builder {
         ensures { OnOk result (self.new ≡ next_row last line key self.old) }
     {
         let value = self.take_value(last.line)?;
-        let rows = last.finish_row(self.alloc, value)?;
+        let rows = last.finish_row(self.alloc, &self.hashing, value)?;
         self.open_rows.push(rows.with_next_row(line, key))?;
         self.value = None;
         Ok(())
@@ -189,7 +189,7 @@ impl Builder {
 
     /// Takes a scalar.
     #[tactic(auto, unfolding(crate::specs::Builder::with_scalar))]
-    fn scalar(&mut self, depth: u128, line: usize, text: Option<Scalar>) -> Result<(), Stop>
+    fn scalar(&mut self, depth: u128, line: usize, text: TextOrNull) -> Result<(), Stop>
         ensures { Steps result self.new (with_scalar depth line text self.old) }
     {
         if !self.can_hold(depth) {
@@ -324,7 +324,7 @@ impl Builder {
     {
         match why {
             Odd::Unkeyed => {
-                let key = Scalar::new(self.alloc);
+                let key = Scalar::new();
                 self.head(depth, true, line, key)?;
                 Err(Stop::Fault(FaultKind::Unsupported))
             }
@@ -343,7 +343,7 @@ impl Builder {
         self.end_literal()?;
         match mark {
             Mark::Dash(line, column) => {
-                let none = Scalar::new(self.alloc);
+                let none = Scalar::new();
                 self.head(dash_depth(column), false, line, none)
             }
             Mark::Key(line, column, text) => self.head(key_depth(column), true, line, text),
@@ -398,10 +398,10 @@ fn key_depth(column: usize) -> u128
     1 + 2 * (column as u128)
 }
 
-pub(crate) fn scalar_value(text: Option<Scalar>) -> Value
+pub(crate) fn scalar_value(text: TextOrNull) -> Value
     ensures { result ≡ scalar_value text }
 {
-    match text {
+    match text.into_text() {
         Some(text) => Value::Text(text),
         None => Value::Null,
     }

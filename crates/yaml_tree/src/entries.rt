@@ -1,6 +1,6 @@
 //! The entries of a mapping.
 
-ghost use Rattle.std.specs.Prelude.{◌≡◌, ◌==◌, ◌++◌, ◌∷◌, List, ℕ, [], OnOk, IsTrue};
+ghost use Rattle.std.specs.Prelude.{◌≡◌, ◌==◌, ◌++◌, ◌∷◌, ◌↔◌, List, ℕ, [], OnOk, IsTrue};
 ghost use Rattle.std.specs.Cmp.Lexicographic.{pointwise};
 ghost use Rattle.yaml_tree.specs.declared.entries.Child.{Child};
 ghost use Rattle.yaml_tree.specs.Entries.{has_key, with_entry};
@@ -37,6 +37,12 @@ impl Entries {
         Entries {
             map: IndexMap::with_hasher(alloc, hashing.hashers()),
         }
+    }
+
+    pub(crate) fn is_empty(&self) -> bool
+        ensures { IsTrue result ↔ self.now ≡ [] }
+    {
+        self.map.is_empty()
     }
 
     pub fn contains(&self, key: &Scalar) -> bool

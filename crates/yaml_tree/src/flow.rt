@@ -18,7 +18,7 @@ impl Builder {
     {
         match self.cells.pop() {
             Some(open) => {
-                let rows = open.finish_row(self.alloc, known)?;
+                let rows = open.finish_row(self.alloc, &self.hashing, known)?;
                 self.cells.push(rows)
             }
             None => {
@@ -53,9 +53,9 @@ impl Builder {
         ensures { OnOk result (self.new ≡ cell_opened line bracket self.old) }
     {
         let name = self.name.take();
-        let none = Scalar::new(self.alloc);
+        let none = Scalar::new();
         let curly = bracket == Bracket::Curly;
-        let open = Open::new(self.alloc, &self.hashing, 0, curly, line, none, name);
+        let open = Open::new(self.alloc, 0, curly, line, none, name);
         self.cells.push(open)
     }
 
@@ -68,7 +68,7 @@ impl Builder {
             Some(open) => {
                 let first_line = open.first_line;
                 let measure = open.measure;
-                let (value, name) = open.into_value();
+                let (value, name) = open.into_value(self.alloc, &self.hashing)?;
                 self.name = name;
                 self.cell_node(first_line, value, measure)
             }

@@ -88,7 +88,7 @@ impl Literal {
         } = self;
         let column = lines.block_column();
         let text = lines.into_joined(alloc, column)?;
-        Ok(Scalar::from(chomped(chomp, text)?))
+        Ok(Scalar::from_vec(chomped(chomp, text)?)?)
     }
 }
 

@@ -1,6 +1,6 @@
 //! The items of a sequence.
 
-ghost use Rattle.std.specs.Prelude.{◌≡◌, ◌++◌, ◌∷◌, List, ℕ, [], OnOk};
+ghost use Rattle.std.specs.Prelude.{◌≡◌, ◌++◌, ◌∷◌, ◌↔◌, List, ℕ, [], IsTrue, OnOk};
 
 use std::alloc::{AllocError, Global};
 use std::marker::Model;
@@ -24,6 +24,12 @@ impl Numbers {
         Numbers {
             numbers: Vec::new(alloc),
         }
+    }
+
+    pub(crate) fn is_empty(&self) -> bool
+        ensures { IsTrue result ↔ self.now ≡ [] }
+    {
+        self.numbers.is_empty()
     }
 
     pub fn push(&mut self, number: u32) -> Result<(), AllocError>

@@ -141,7 +141,11 @@ fn finish(builder: Builder, empty: bool) -> Result<Tree, NoMemory>
         literal: _,
         names: _,
     } = builder;
-    Ok(Tree { nodes, root, empty })
+    Ok(Tree {
+        nodes: nodes.into_nodes()?,
+        root,
+        empty,
+    })
 }
 
 /// Reads a text that is UTF-8.

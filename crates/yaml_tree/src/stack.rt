@@ -1,11 +1,12 @@
 //! Collections that are still open.
 
-ghost use Rattle.std.specs.Prelude.{◌≡◌, ◌++◌, ◌∷◌, List, ℕ, [], OnOk, IfOk, length, reverse, true, nat_lt, ◌==◌};
-ghost use Rattle.yaml_tree.specs.Stack.{finished, collection, top_depth, has_row, with_next_row, measure_about, PopsWhere};
-ghost use Rattle.yaml_tree.specs.Builder.{new_open};
+ghost use Rattle.std.specs.Prelude.{◌≡◌, ◌++◌, ◌∷◌, ◌↔◌, List, ℕ, [], None, OnOk, IfOk, IsTrue, length, true, nat_lt, ◌==◌};
+ghost use Rattle.yaml_tree.specs.Stack.{new_open, finished, collection, top_depth, has_row, with_next_row, measure_about, PopsWhere};
 ghost use Rattle.yaml_tree.specs.declared.stack.Open.{Open};
 
-use crate::entries::{Child, Entries};
+use crate::entries::Child;
+use crate::frame::Frame;
+use crate::growing::Growing;
 use crate::hashing::Hashing;
 use crate::known::{GivenName, Known, Measure};
 use crate::node::Value;
@@ -23,7 +24,7 @@ pub(crate) struct Open {
     /// The line on which it begins.
     pub first_line: usize,
     pub items: Numbers,
-    pub entries: Entries,
+    pub entries: Growing,
     /// The row whose value comes.
     pub line: usize,
     pub key: Scalar,
@@ -36,7 +37,6 @@ pub(crate) struct Open {
 impl Open {
     pub fn new(
         alloc: Global,
-        hashing: &Hashing,
         depth: u128,
         mapping: bool,
         line: usize,
@@ -50,7 +50,7 @@ impl Open {
             mapping,
             first_line: line,
             items: Numbers::new(alloc),
-            entries: Entries::new(alloc, hashing),
+            entries: Growing::new(alloc),
             line,
             key,
             name,
@@ -58,8 +58,24 @@ impl Open {
         }
     }
 
+    /// Whether it stands as it began: it has no finished row and no name.
+    pub fn is_begun(&self) -> bool
+        ensures { IsTrue result ↔ self.now ≡ new_open self.now.depth self.now.mapping self.now.line self.now.key None }
+    {
+        self.name.is_none()
+            && self.first_line == self.line
+            && self.items.is_empty()
+            && self.entries.is_empty()
+            && self.measure == Measure::no_row()
+    }
+
     /// Finishes the row with its value.
-    pub fn finish_row(self, alloc: Global, value: Known) -> Result<Open, NoMemory>
+    pub fn finish_row(
+        self,
+        alloc: Global,
+        hashing: &Hashing,
+        value: Known,
+    ) -> Result<Open, NoMemory>
         ensures { IfOk result (λ o. o ≡ finished self value) }
     {
         let Open {
@@ -75,7 +91,7 @@ impl Open {
         } = self;
         let node = value.node;
         if mapping {
-            entries.insert(key, Child { line, node })?;
+            entries = entries.with(alloc, hashing, key, Child { line, node })?;
         } else {
             items.push(node)?;
         }
@@ -86,7 +102,7 @@ impl Open {
             items,
             entries,
             line,
-            key: Scalar::new(alloc),
+            key: Scalar::new(),
             name,
             measure: measure.with_part(value.measure),
         })
@@ -129,8 +145,12 @@ impl Open {
     }
 
     /// The finished rows as a node's value, and the name.
-    pub fn into_value(self) -> (Value, Option<GivenName>)
-        ensures { result ≡ (collection self, self.name) }
+    pub fn into_value(
+        self,
+        alloc: Global,
+        hashing: &Hashing,
+    ) -> Result<(Value, Option<GivenName>), NoMemory>
+        ensures { IfOk result (λ v. v ≡ (collection self, self.name)) }
     {
         let Open {
             depth: _,
@@ -144,9 +164,9 @@ impl Open {
             measure: _,
         } = self;
         if mapping {
-            (Value::Mapping(entries), name)
+            Ok((Value::Mapping(entries.into_entries(alloc, hashing)?), name))
         } else {
-            (Value::Sequence(items), name)
+            Ok((Value::Sequence(items), name))
         }
     }
 }
@@ -154,16 +174,18 @@ impl Open {
 /// The open collections, which contracts see as a list, the innermost first.
 #[derive(Drop)]
 pub(crate) struct Stack {
-    items: Vec<Open>,
+    frames: Vec<Frame>,
 }
 
 impl Model for Stack {
-    ghost use Rattle.std.specs.Prelude.{List, reverse};
+    ghost use Rattle.std.specs.Prelude.{List, map, reverse};
     ghost use Rattle.yaml_tree.specs.declared.stack.Open.{Open};
 
     ghost Value = { List Open };
 
-    ghost view = { λ s. reverse s.items.items };
+    ghost use Rattle.yaml_tree.specs.Frames.{open_of};
+
+    ghost view = { λ s. reverse (map open_of s.frames.items) };
 }
 
 impl Stack {
@@ -171,27 +193,26 @@ impl Stack {
         ensures { result ≡ [] }
     {
         Stack {
-            items: Vec::new(alloc),
+            frames: Vec::new(alloc),
         }
-    }
-
-    pub fn len(&self) -> usize
-        ensures { result ≡ length self.now }
-    {
-        self.items.len()
     }
 
     pub fn push(&mut self, added: Open) -> Result<(), NoMemory>
         ensures { OnOk result (self.new ≡ added ∷ self.old) }
     {
-        self.items.push(added)?;
+        let frame = Frame::of(*self.frames.allocator(), added)?;
+        self.frames.push(frame)?;
         Ok(())
     }
 
     pub fn pop(&mut self) -> Option<Open>
         ensures { PopsWhere (λ _. true) self.old result self.new }
     {
-        self.items.pop()
+        let alloc = *self.frames.allocator();
+        match self.frames.pop() {
+            Some(frame) => Some(frame.into_open(alloc)),
+            None => None,
+        }
     }
 
     /// Takes the innermost collection, if it is deeper.
@@ -218,8 +239,8 @@ impl Stack {
     pub fn top_depth(&self) -> Option<u128>
         ensures { result ≡ top_depth self.now }
     {
-        match self.items.last() {
-            Some(open) => Some(open.depth),
+        match self.frames.last() {
+            Some(frame) => Some(frame.depth()),
             None => None,
         }
     }
@@ -229,8 +250,8 @@ impl Stack {
         ensures { result ≡ measure_about self.now value }
     {
         let mut measure = value;
-        for open in self.items.iter().rev() {
-            measure = open.measure.with_part(measure);
+        for frame in self.frames.iter().rev() {
+            measure = frame.measure().with_part(measure);
         }
         measure
     }

@@ -188,7 +188,7 @@ fn refuses_names_and_copies(rt: HostRuntime) {
     assert_eq!(rt; first_wrong(rt.alloc(), NAMES.as_slice()), None);
 }
 
-const OTHERS: [Row; 32] = [
+const OTHERS: [Row; 34] = [
     // what the profile leaves out
     ("a: !x", 1, FaultKind::Unsupported),
     ("- !x", 1, FaultKind::Unsupported),
@@ -217,6 +217,16 @@ const OTHERS: [Row; 32] = [
     // a key twice in one mapping, and a fault before it
     ("a: 1\n'a': 2", 2, FaultKind::Duplicate),
     ("{a: 1, \"\\x61\": 2}", 1, FaultKind::Duplicate),
+    (
+        "{a: 1, b: 1, c: 1, d: 1, e: 1, f: 1, g: 1, h: 1, i: 1, j: 1, b: 1}",
+        1,
+        FaultKind::Duplicate,
+    ),
+    (
+        "a key of more bytes: 1\n'a key of more bytes': 2",
+        2,
+        FaultKind::Duplicate,
+    ),
     ("a: *x\na: 1", 1, FaultKind::Alias),
     ("{a: *x, a: 1}", 1, FaultKind::Duplicate),
     ("- a:\n  b:\n  a: c: d", 3, FaultKind::Syntax),

@@ -70,6 +70,40 @@ fn counts_levels_and_nodes(rt: HostRuntime) -> Result<(), Fail> {
     Ok(())
 }
 
+/// A flow form of this many items `a`, and what stands behind them.
+fn items(alloc: Global, times: usize, back: &str) -> Result<String, AllocError> {
+    let mut text = repeated(alloc, "a, ", times, back)?;
+    text.insert_str(0, "[")?;
+    Ok(text)
+}
+
+#[test]
+fn reads_a_line_to_its_end_behind_the_limits(rt: HostRuntime) -> Result<(), Fail> {
+    let levels = repeated(rt.alloc(), "- ", 100_000, "x")?;
+    assert_eq!(rt;
+        fault_of(rt.alloc(), levels.as_bytes()),
+        limit(1, FaultKind::TooDeep)
+    );
+    let levels = repeated(rt.alloc(), "- ", 100_000, "!x")?;
+    assert_eq!(rt;
+        fault_of(rt.alloc(), levels.as_bytes()),
+        limit(1, FaultKind::Unsupported)
+    );
+    let nodes = items(rt.alloc(), 999_999, "]\n")?;
+    assert_eq!(rt; fault_of(rt.alloc(), nodes.as_bytes()), None);
+    let nodes = items(rt.alloc(), 1_000_000, "]\n")?;
+    assert_eq!(rt;
+        fault_of(rt.alloc(), nodes.as_bytes()),
+        limit(1, FaultKind::TooManyNodes)
+    );
+    let nodes = items(rt.alloc(), 1_000_001, "*b]\n")?;
+    assert_eq!(rt;
+        fault_of(rt.alloc(), nodes.as_bytes()),
+        limit(1, FaultKind::Alias)
+    );
+    Ok(())
+}
+
 /// `a: &a [[..]]`, with this many brackets.
 fn nested(alloc: Global, brackets: usize) -> Result<String, AllocError> {
     let mut text = repeated(alloc, "[", brackets, "")?;

@@ -190,9 +190,17 @@ fn finds_the_tree_of_scalars(rt: HostRuntime) -> Result<(), Fail> {
     Ok(())
 }
 
-const FLOWS: [Row; 22] = [
+const FLOWS: [Row; 24] = [
     // flow forms
     ("[]", "1[ ]"),
+    (
+        "[fourteen bytes, fifteen bytes a]",
+        "1[ 1'fourteen bytes' 1'fifteen bytes a' ]",
+    ),
+    (
+        "{a: 1, b: 1, c: 1, d: 1, e: 1, f: 1, g: 1, h: 1, i: 1, j: []}",
+        "1{ a@1=1'1' b@1=1'1' c@1=1'1' d@1=1'1' e@1=1'1' f@1=1'1' g@1=1'1' h@1=1'1' i@1=1'1' j@1=1[ ] }",
+    ),
     ("{}", "1{ }"),
     (
         "a:\n - [b, c]\n - {d: e}",
