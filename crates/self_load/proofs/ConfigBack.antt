@@ -4,7 +4,7 @@ use Rattle.std.specs.List.{starts_with, list_all}
 use Rattle.std.proofs.lemmas.List.Elements.{recursion_from_All}
 use Rattle.sim_base.specs.Refusals.{◌>>=◌}
 use Rattle.yaml_marks.specs.Lines.{byte_order_mark, lines_of}
-use Rattle.yaml_marks.specs.Marks.{marks_of}
+use Rattle.yaml_marks.specs.Tokens.{tokens_of}
 use Rattle.yaml_tree.specs.Written.{is_name}
 use Rattle.yaml_tree.specs.Tree.{is_empty_document}
 use Rattle.yaml_merge.specs.Merge.{merged}
@@ -27,7 +27,7 @@ use Rattle.shown_config.specs.Plain.{IsPlainHost, IsPlain}
 use Rattle.shown_config.specs.Same.{no_overrides}
 use Rattle.shown_config.proofs.ReadSteps.{number-ok, time-ok, stop_time-ok, text-ok}
 use Rattle.shown_config.proofs.Blocks.{block_pairs, after_block}
-use Rattle.shown_config.proofs.BlockMarks.{block-marked}
+use Rattle.shown_config.proofs.BlockTokens.{block-has_tokens}
 use Rattle.shown_config.proofs.BlockText.{tree_of_block, block-is_tidy, block-lines, block-is_tree}
 use Rattle.shown_config.proofs.ConfigBlock.{general_block, network_block, config_block}
 use Rattle.shown_config.proofs.ConfigText.{shown-text}
@@ -130,11 +130,11 @@ no-mark : (c : Config) → starts_with nat_eq (shown c) byte_order_mark ≡ fals
 unfolding shown
 no-mark c = refl
 
--- its first mark is a key
+-- its first token is a key
 not-empty : (c : Config) → IsPlain c → is_empty_document (lines_of (shown c)) ≡ false
 not-empty c h =
     let b = config-is_block c h in
-    ap (list_all is_name) (ap marks_of (block-lines (shown c) (config_block c) b (shown-text c) (no-mark c)) ∙ block-marked false None 1 0 (config_block c) b.spelled)
+    ap (list_all is_name) (ap tokens_of (block-lines (shown c) (config_block c) b (shown-text c) (no-mark c)) ∙ block-has_tokens false None 1 0 (config_block c) b.spelled)
 
 -- ---- a self-load
 

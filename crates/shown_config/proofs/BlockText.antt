@@ -5,7 +5,7 @@ use Rattle.std.proofs.lemmas.Bool.{and_parts}
 use Rattle.std.proofs.lemmas.Str.{IsUtf8-append, IsUtf8-nil, IsUtf8-from_ascii}
 use Rattle.std.proofs.lemmas.Str.Ascii.{IsAscii-nil, IsAscii-cons}
 use Rattle.yaml_marks.specs.Lines.{byte_before, split_lines, byte_order_mark, lines_of}
-use Rattle.yaml_marks.specs.Marks.{marks_of}
+use Rattle.yaml_marks.specs.Tokens.{tokens_of}
 use Rattle.yaml_tree.specs.Written.{Spells}
 use Rattle.yaml_tree.specs.Written.Written.{nothing}
 use Rattle.yaml_tree.specs.Said.{Said, size}
@@ -15,7 +15,7 @@ use Rattle.shown_config.proofs.Bytes.{is_inner, are_inner, not_same, IsText, IsT
 use Rattle.shown_config.proofs.Rows.{spaces, pair_text, head_text, dash_text, spaces-text, pair-text, head-text, dash-text}
 use Rattle.shown_config.proofs.Blocks.{Leaf, Item, Block, is_done, leaf_lines, item_lines, block_lines, block_written, block_said}
 use Rattle.shown_config.proofs.Blocks.Block.{done, leaf_then, block_then, items_then}
-use Rattle.shown_config.proofs.BlockMarks.{AreLeaves, IsItem, AreItems, IsSpelled, block-marked}
+use Rattle.shown_config.proofs.BlockTokens.{AreLeaves, IsItem, AreItems, IsSpelled, block-has_tokens}
 use Rattle.shown_config.proofs.BlockWritten.{block-spells}
 use Rattle.shown_config.proofs.BlockSaid.{HasRows, block-tree}
 use Rattle.shown_config.proofs.Tidy.{IsTidy, HasNewRows, block-tidy}
@@ -109,7 +109,7 @@ module _ (text : List ℕ) (b : Block) (h : IsBlock b) (e : text ≡ ended (bloc
   pub block-says : Says (lines_of text) (tree_of_block b)
   block-says = record {
     written = block_written 1 0 nothing b;
-    spelled = subst (λ ms. Spells ms (block_written 1 0 nothing b)) (sym (ap marks_of block-lines ∙ block-marked false None 1 0 b h.spelled)) (block-spells 1 b);
+    spelled = subst (λ ms. Spells ms (block_written 1 0 nothing b)) (sym (ap tokens_of block-lines ∙ block-has_tokens false None 1 0 b h.spelled)) (block-spells 1 b);
     said = block-tree b h.some h.rows;
   }
 

@@ -1,83 +1,83 @@
--- A block as it is written has the marks of its lines, each where its rule admits it.
+-- A block as it is written has the tokens of its lines, each where its rule admits it.
 use Rattle.std.proofs.Common.{◌≡◌, ℕ, ◌+◌, ◌*◌, ◌<◌, true, List, [], ◌∷◌, ◌++◌, refl, sym, ap, ◌∙◌, append_assoc, append-nil, arith}
-use Rattle.yaml_marks.specs.declared.mark.Mark.{Mark}
-use Rattle.yaml_marks.specs.declared.mark.Mark.TheVariants.{Dash, Key}
-use Rattle.yaml_tree.specs.Written.{Written, marks, depth, is_head, SameRows, StandsBelow, Spells}
+use Rattle.yaml_marks.specs.declared.token.Token.{Token}
+use Rattle.yaml_marks.specs.declared.token.Token.TheVariants.{Dash, Key}
+use Rattle.yaml_tree.specs.Written.{Written, tokens, depth, is_head, SameRows, StandsBelow, Spells}
 use Rattle.yaml_tree.specs.Written.Written.{nothing, leaf, literal, flowing, named, row}
 use Rattle.shown_config.proofs.Words.{Word, says}
 use Rattle.shown_config.proofs.FormTexts.{list-spells, map-spells}
 use Rattle.shown_config.proofs.Cells as cells
-use Rattle.shown_config.proofs.Cells.{Cell, cell_mark}
-use Rattle.shown_config.proofs.Rows.{value_column, pair_marks_of}
-use Rattle.shown_config.proofs.Blocks.{Leaf, Item, Block, after_item, after_items, after_block, leaves_marks, item_marks, items_marks, block_marks, cell_written, leaf_written, leaves_written, item_written, items_written, block_written}
+use Rattle.shown_config.proofs.Cells.{Cell, cell_token}
+use Rattle.shown_config.proofs.Rows.{value_column, pair_tokens_of}
+use Rattle.shown_config.proofs.Blocks.{Leaf, Item, Block, after_item, after_items, after_block, leaves_tokens, item_tokens, items_tokens, block_tokens, cell_written, leaf_written, leaves_written, item_written, items_written, block_written}
 use Rattle.shown_config.proofs.Blocks.Block.{done, leaf_then, block_then, items_then}
 
--- ---- marks
+-- ---- tokens
 
-cell-marks : (n column : ℕ) (c : Cell) → marks (cell_written n column c) ≡ cell_mark c n column ∷ []
-cell-marks n column (cells.Cell.word w) = refl
-cell-marks n column (cells.Cell.items ws) = refl
-cell-marks n column (cells.Cell.entries ps) = refl
+cell-tokens : (n column : ℕ) (c : Cell) → tokens (cell_written n column c) ≡ cell_token c n column ∷ []
+cell-tokens n column (cells.Cell.word w) = refl
+cell-tokens n column (cells.Cell.items ws) = refl
+cell-tokens n column (cells.Cell.entries ps) = refl
 
-leaf-marks : (n column : ℕ) (before : Written) (w : Word) (c : Cell) → marks (leaf_written n column before w c) ≡ marks before ++ pair_marks_of n column w c
-leaf-marks n column before w c = ap (λ ms. marks before ++ (Key n column (says w) ∷ ms)) (cell-marks n (value_column column w) c)
+leaf-tokens : (n column : ℕ) (before : Written) (w : Word) (c : Cell) → tokens (leaf_written n column before w c) ≡ tokens before ++ pair_tokens_of n column w c
+leaf-tokens n column before w c = ap (λ ms. tokens before ++ (Key n column (says w) ∷ ms)) (cell-tokens n (value_column column w) c)
 
-leaves-marks : (n column : ℕ) (before : Written) (ls : List Leaf) → marks (leaves_written n column before ls) ≡ marks before ++ leaves_marks n column ls
-leaves-marks n column before [] = sym (append-nil (marks before))
-leaves-marks n column before (l ∷ ls) =
-    leaves-marks (1 + n) column (leaf_written n column before l.0 l.1) ls
-    ∙ ap (λ ms. ms ++ leaves_marks (1 + n) column ls) (leaf-marks n column before l.0 l.1)
-    ∙ append_assoc (marks before) (pair_marks_of n column l.0 l.1) (leaves_marks (1 + n) column ls)
+leaves-tokens : (n column : ℕ) (before : Written) (ls : List Leaf) → tokens (leaves_written n column before ls) ≡ tokens before ++ leaves_tokens n column ls
+leaves-tokens n column before [] = sym (append-nil (tokens before))
+leaves-tokens n column before (l ∷ ls) =
+    leaves-tokens (1 + n) column (leaf_written n column before l.0 l.1) ls
+    ∙ ap (λ ms. ms ++ leaves_tokens (1 + n) column ls) (leaf-tokens n column before l.0 l.1)
+    ∙ append_assoc (tokens before) (pair_tokens_of n column l.0 l.1) (leaves_tokens (1 + n) column ls)
 
-item-marks : (n column : ℕ) (i : Item) → Dash n column ∷ marks (item_written n (column + 2) i) ≡ item_marks n column i
-item-marks n column i =
+item-tokens : (n column : ℕ) (i : Item) → Dash n column ∷ tokens (item_written n (column + 2) i) ≡ item_tokens n column i
+item-tokens n column i =
     ap (λ ms. Dash n column ∷ ms)
-    (leaves-marks (1 + n) (column + 2) (leaf_written n (column + 2) nothing i.0.0 i.0.1) i.1
-    ∙ ap (λ ms. ms ++ leaves_marks (1 + n) (column + 2) i.1) (leaf-marks n (column + 2) nothing i.0.0 i.0.1))
+    (leaves-tokens (1 + n) (column + 2) (leaf_written n (column + 2) nothing i.0.0 i.0.1) i.1
+    ∙ ap (λ ms. ms ++ leaves_tokens (1 + n) (column + 2) i.1) (leaf-tokens n (column + 2) nothing i.0.0 i.0.1))
 
-items-marks : (n column : ℕ) (before : Written) (is : List Item) → marks (items_written n column before is) ≡ marks before ++ items_marks n column is
-items-marks n column before [] = sym (append-nil (marks before))
-items-marks n column before (i ∷ is) =
-    items-marks (after_item n i) column (row before (Dash n column) (item_written n (column + 2) i)) is
-    ∙ ap (λ ms. (marks before ++ ms) ++ items_marks (after_item n i) column is) (item-marks n column i)
-    ∙ append_assoc (marks before) (item_marks n column i) (items_marks (after_item n i) column is)
+items-tokens : (n column : ℕ) (before : Written) (is : List Item) → tokens (items_written n column before is) ≡ tokens before ++ items_tokens n column is
+items-tokens n column before [] = sym (append-nil (tokens before))
+items-tokens n column before (i ∷ is) =
+    items-tokens (after_item n i) column (row before (Dash n column) (item_written n (column + 2) i)) is
+    ∙ ap (λ ms. (tokens before ++ ms) ++ items_tokens (after_item n i) column is) (item-tokens n column i)
+    ∙ append_assoc (tokens before) (item_tokens n column i) (items_tokens (after_item n i) column is)
 
 -- a row of a key before the other rows
-headed : (before head value rest : List Mark) (mark : Mark) (inner : List Mark) → value ≡ inner → (before ++ (mark ∷ value)) ++ rest ≡ before ++ (mark ∷ (inner ++ rest))
-headed before head value rest mark inner e = append_assoc before (mark ∷ value) rest ∙ ap (λ ms. before ++ (mark ∷ (ms ++ rest))) e
+headed : (before head value rest : List Token) (token : Token) (inner : List Token) → value ≡ inner → (before ++ (token ∷ value)) ++ rest ≡ before ++ (token ∷ (inner ++ rest))
+headed before head value rest token inner e = append_assoc before (token ∷ value) rest ∙ ap (λ ms. before ++ (token ∷ (ms ++ rest))) e
 
-pub block-marks : (n column : ℕ) (before : Written) (b : Block) → marks (block_written n column before b) ≡ marks before ++ block_marks n column b
-block-marks n column before done = sym (append-nil (marks before))
-block-marks n column before (leaf_then w c rest) =
-    block-marks (1 + n) column (leaf_written n column before w c) rest
-    ∙ ap (λ ms. ms ++ block_marks (1 + n) column rest) (leaf-marks n column before w c)
-    ∙ append_assoc (marks before) (pair_marks_of n column w c) (block_marks (1 + n) column rest)
-block-marks n column before (block_then w inner rest) =
-    block-marks (after_block (1 + n) inner) column (row before (Key n column (says w)) (block_written (1 + n) (column + 2) nothing inner)) rest
-    ∙ headed (marks before) [] (marks (block_written (1 + n) (column + 2) nothing inner)) (block_marks (after_block (1 + n) inner) column rest) (Key n column (says w)) (block_marks (1 + n) (column + 2) inner) (block-marks (1 + n) (column + 2) nothing inner)
-block-marks n column before (items_then w item items rest) =
-    block-marks (after_items (1 + n) (item ∷ items)) column (row before (Key n column (says w)) (items_written (1 + n) column nothing (item ∷ items))) rest
-    ∙ headed (marks before) [] (marks (items_written (1 + n) column nothing (item ∷ items))) (block_marks (after_items (1 + n) (item ∷ items)) column rest) (Key n column (says w)) (items_marks (1 + n) column (item ∷ items)) (items-marks (1 + n) column nothing (item ∷ items))
+pub block-tokens : (n column : ℕ) (before : Written) (b : Block) → tokens (block_written n column before b) ≡ tokens before ++ block_tokens n column b
+block-tokens n column before done = sym (append-nil (tokens before))
+block-tokens n column before (leaf_then w c rest) =
+    block-tokens (1 + n) column (leaf_written n column before w c) rest
+    ∙ ap (λ ms. ms ++ block_tokens (1 + n) column rest) (leaf-tokens n column before w c)
+    ∙ append_assoc (tokens before) (pair_tokens_of n column w c) (block_tokens (1 + n) column rest)
+block-tokens n column before (block_then w inner rest) =
+    block-tokens (after_block (1 + n) inner) column (row before (Key n column (says w)) (block_written (1 + n) (column + 2) nothing inner)) rest
+    ∙ headed (tokens before) [] (tokens (block_written (1 + n) (column + 2) nothing inner)) (block_tokens (after_block (1 + n) inner) column rest) (Key n column (says w)) (block_tokens (1 + n) (column + 2) inner) (block-tokens (1 + n) (column + 2) nothing inner)
+block-tokens n column before (items_then w item items rest) =
+    block-tokens (after_items (1 + n) (item ∷ items)) column (row before (Key n column (says w)) (items_written (1 + n) column nothing (item ∷ items))) rest
+    ∙ headed (tokens before) [] (tokens (items_written (1 + n) column nothing (item ∷ items))) (block_tokens (after_items (1 + n) (item ∷ items)) column rest) (Key n column (says w)) (items_tokens (1 + n) column (item ∷ items)) (items-tokens (1 + n) column nothing (item ∷ items))
 
 -- ---- columns
 
 -- the earlier rows begin at the column of such a head
-record Before (outer : ℕ) (head : Mark) (before : Written) : Type 0 where
+record Before (outer : ℕ) (head : Token) (before : Written) : Type 0 where
   same : SameRows before head
   stands : StandsBelow outer before
 
-before-nothing : (outer : ℕ) (head : Mark) → Before outer head nothing
+before-nothing : (outer : ℕ) (head : Token) → Before outer head nothing
 before-nothing outer head = record { same = tt; stands = tt }
 
-same_rows : (before : Written) (head other : Mark) → depth head ≡ depth other → SameRows before head → SameRows before other
+same_rows : (before : Written) (head other : Token) → depth head ≡ depth other → SameRows before head → SameRows before other
 same_rows nothing head other e h = tt
-same_rows (leaf mark) head other e h = h
-same_rows (literal mark lines) head other e h = h
-same_rows (flowing mark value) head other e h = h
-same_rows (named mark value) head other e h = h
+same_rows (leaf token) head other e h = h
+same_rows (literal token lines) head other e h = h
+same_rows (flowing token value) head other e h = h
+same_rows (named token value) head other e h = h
 same_rows (row before first value) head other e h = h ∙ e
 
-row-before : (outer : ℕ) (head next : Mark) (before value : Written) → is_head head ≡ true → depth head ≡ depth next → outer < depth head → StandsBelow (depth head) value → Before outer head before → Before outer next (row before head value)
+row-before : (outer : ℕ) (head next : Token) (before value : Written) → is_head head ≡ true → depth head ≡ depth next → outer < depth head → StandsBelow (depth head) value → Before outer head before → Before outer next (row before head value)
 row-before outer head next before value i e lt v b = record { same = e; stands = (i, lt, b.same, b.stands, v) }
 
 cell-stands : (n column : ℕ) (w : Word) (c : Cell) → StandsBelow (1 + 2 * column) (cell_written n (value_column column w) c)
@@ -125,6 +125,6 @@ block-stands outer n column before (items_then w item items rest) lt h =
     (items-stand (1 + 2 * column) (1 + n) column nothing (item ∷ items) (omega arith) (before-nothing (1 + 2 * column) (Dash 0 column))).stands
     (other_key outer n column (says w) before h))
 
--- the marks of a block spell it
-pub block-spells : (n : ℕ) (b : Block) → Spells (block_marks n 0 b) (block_written n 0 nothing b)
-block-spells n b = (block-marks n 0 nothing b, (block-stands 0 n 0 nothing b (omega arith) (before-nothing 0 (Key 0 0 []))).stands)
+-- the tokens of a block spell it
+pub block-spells : (n : ℕ) (b : Block) → Spells (block_tokens n 0 b) (block_written n 0 nothing b)
+block-spells n b = (block-tokens n 0 nothing b, (block-stands 0 n 0 nothing b (omega arith) (before-nothing 0 (Key 0 0 []))).stands)

@@ -1,9 +1,9 @@
--- A block mapping of rows: its lines, its marks and the tree that is written. A row has a key, and behind it on the line a cell,
+-- A block mapping of rows: its lines, its tokens and the tree that is written. A row has a key, and behind it on the line a cell,
 -- or below it a block or items; an item is a mapping of leaves behind a dash. The first argument is mostly the number of the
 -- first line, the second the column.
 use Rattle.std.proofs.Common.{ℕ, ◌+◌, Bool, true, false, List, [], ◌∷◌, ◌++◌, map, flat_map}
-use Rattle.yaml_marks.specs.declared.mark.Mark.{Mark}
-use Rattle.yaml_marks.specs.declared.mark.Mark.TheVariants.{Dash, Key}
+use Rattle.yaml_marks.specs.declared.token.Token.{Token}
+use Rattle.yaml_marks.specs.declared.token.Token.TheVariants.{Dash, Key}
 use Rattle.yaml_tree.specs.Written.{Written}
 use Rattle.yaml_tree.specs.Written.Written.{nothing, leaf, flowing, row}
 use Rattle.yaml_tree.specs.Said.{Said}
@@ -12,8 +12,8 @@ use Rattle.yaml_merge.specs.declared.plain.Pair.{Pair}
 use Rattle.shown_config.proofs.Words.{Word, says}
 use Rattle.shown_config.proofs.Forms.{list_flow, map_flow}
 use Rattle.shown_config.proofs.Cells as cells
-use Rattle.shown_config.proofs.Cells.{Cell, cell_mark}
-use Rattle.shown_config.proofs.Rows.{spaces, pair_text, head_text, dash_text, value_column, pair_marks_of}
+use Rattle.shown_config.proofs.Cells.{Cell, cell_token}
+use Rattle.shown_config.proofs.Rows.{spaces, pair_text, head_text, dash_text, value_column, pair_tokens_of}
 
 -- a key with its cell
 abbrev pub Leaf : Type 0
@@ -66,31 +66,31 @@ after_block n (leaf_then w c rest) = after_block (1 + n) rest
 after_block n (block_then w inner rest) = after_block (after_block (1 + n) inner) rest
 after_block n (items_then w item items rest) = after_block (after_items (1 + n) (item ∷ items)) rest
 
--- ---- marks
+-- ---- tokens
 
-abbrev pub leaves_marks : ℕ → ℕ → List Leaf → List Mark
-leaves_marks n column [] = []
-leaves_marks n column (l ∷ ls) = pair_marks_of n column l.0 l.1 ++ leaves_marks (1 + n) column ls
+abbrev pub leaves_tokens : ℕ → ℕ → List Leaf → List Token
+leaves_tokens n column [] = []
+leaves_tokens n column (l ∷ ls) = pair_tokens_of n column l.0 l.1 ++ leaves_tokens (1 + n) column ls
 
-abbrev pub item_marks : ℕ → ℕ → Item → List Mark
-item_marks n column i = Dash n column ∷ (pair_marks_of n (column + 2) i.0.0 i.0.1 ++ leaves_marks (1 + n) (column + 2) i.1)
+abbrev pub item_tokens : ℕ → ℕ → Item → List Token
+item_tokens n column i = Dash n column ∷ (pair_tokens_of n (column + 2) i.0.0 i.0.1 ++ leaves_tokens (1 + n) (column + 2) i.1)
 
-abbrev pub items_marks : ℕ → ℕ → List Item → List Mark
-items_marks n column [] = []
-items_marks n column (i ∷ is) = item_marks n column i ++ items_marks (after_item n i) column is
+abbrev pub items_tokens : ℕ → ℕ → List Item → List Token
+items_tokens n column [] = []
+items_tokens n column (i ∷ is) = item_tokens n column i ++ items_tokens (after_item n i) column is
 
-abbrev pub block_marks : ℕ → ℕ → Block → List Mark
-block_marks n column done = []
-block_marks n column (leaf_then w c rest) = pair_marks_of n column w c ++ block_marks (1 + n) column rest
-block_marks n column (block_then w inner rest) = Key n column (says w) ∷ (block_marks (1 + n) (column + 2) inner ++ block_marks (after_block (1 + n) inner) column rest)
-block_marks n column (items_then w item items rest) = Key n column (says w) ∷ (items_marks (1 + n) column (item ∷ items) ++ block_marks (after_items (1 + n) (item ∷ items)) column rest)
+abbrev pub block_tokens : ℕ → ℕ → Block → List Token
+block_tokens n column done = []
+block_tokens n column (leaf_then w c rest) = pair_tokens_of n column w c ++ block_tokens (1 + n) column rest
+block_tokens n column (block_then w inner rest) = Key n column (says w) ∷ (block_tokens (1 + n) (column + 2) inner ++ block_tokens (after_block (1 + n) inner) column rest)
+block_tokens n column (items_then w item items rest) = Key n column (says w) ∷ (items_tokens (1 + n) column (item ∷ items) ++ block_tokens (after_items (1 + n) (item ∷ items)) column rest)
 
 -- ---- the tree as it is written, behind earlier rows
 
 abbrev pub cell_written : ℕ → ℕ → Cell → Written
-cell_written n column (cells.Cell.word w) = leaf (cell_mark (cells.Cell.word w) n column)
-cell_written n column (cells.Cell.items ws) = flowing (cell_mark (cells.Cell.items ws) n column) (list_flow ws)
-cell_written n column (cells.Cell.entries ps) = flowing (cell_mark (cells.Cell.entries ps) n column) (map_flow ps)
+cell_written n column (cells.Cell.word w) = leaf (cell_token (cells.Cell.word w) n column)
+cell_written n column (cells.Cell.items ws) = flowing (cell_token (cells.Cell.items ws) n column) (list_flow ws)
+cell_written n column (cells.Cell.entries ps) = flowing (cell_token (cells.Cell.entries ps) n column) (map_flow ps)
 
 abbrev pub leaf_written : ℕ → ℕ → Written → Word → Cell → Written
 leaf_written n column before w c = row before (Key n column (says w)) (cell_written n (value_column column w) c)

@@ -35,7 +35,7 @@ use Rattle.shown_config.proofs.Forms.{AreWords, AreEntries}
 use Rattle.shown_config.proofs.Cells.{Cell, IsCell}
 use Rattle.shown_config.proofs.Cells.Cell.{word}
 use Rattle.shown_config.proofs.Blocks.{Leaf, Block}
-use Rattle.shown_config.proofs.BlockMarks.{AreLeaves, IsItem, AreItems, IsSpelled}
+use Rattle.shown_config.proofs.BlockTokens.{AreLeaves, IsItem, AreItems, IsSpelled}
 use Rattle.shown_config.proofs.Decimals.{decimal-bare, unit-bare, address-bare}
 use Rattle.shown_config.proofs.ConfigBlock.{time_cell, general_block, graph_block, network_block, variable_words, state_cell, shutdown_leaves, process_item, processes_block, leaf_if, option_entries, rate_cell, host_block, hosts_block, config_block}
 

@@ -3,7 +3,7 @@ use Rattle.std.proofs.Common.{◌≡◌, ℕ, suc, ◌+◌, ◌-◌, false, List
 use Rattle.std.specs.List.{prefix_len}
 use Rattle.yaml_marks.specs.Lines.{begins_with}
 use Rattle.yaml_marks.specs.Scalars.{is_space, at_colon}
-use Rattle.yaml_marks.specs.Pieces.{cell_len, word_step, scan_step, Step, step_at, open_after, Found, found_at, with_step, flow_at}
+use Rattle.yaml_marks.specs.Pieces.{cell_len, word_step, scan_step, CellStep, step_at, open_after, Found, found_at, with_step, flow_at}
 use Rattle.yaml_marks.specs.declared.piece.Bracket.TheVariants.{Square, Curly}
 use Rattle.yaml_marks.specs.declared.piece.Piece.{Piece}
 use Rattle.yaml_marks.specs.declared.piece.Piece.TheVariants.{Opening, Closing, Comma, CellKey, CellScalar}

@@ -7,7 +7,7 @@ use Rattle.std.proofs.lemmas.Option.{same_Some}
 use Rattle.std.proofs.lemmas.Str.{IsUtf8-append, IsUtf8-encode, IsUtf8-nil, IsUtf8-past_char, encode_ascii, encodes-chars, scalars-chars}
 use Rattle.yaml_marks.specs.Lines.{begins_with, byte_before, split_lines, byte_order_mark, without_mark, lines_of}
 use Rattle.yaml_marks.specs.Literals.{is_blank, indent, block_column, line_from, joined, with_feed, without_feeds, chomped, block_text}
-use Rattle.yaml_marks.specs.Marks.{column_behind}
+use Rattle.yaml_marks.specs.Tokens.{column_behind}
 use Rattle.yaml_marks.specs.Scalars.{is_space, is_nothing}
 use Rattle.yaml_marks.specs.declared.chomp.Chomp.{Chomp}
 use Rattle.yaml_marks.specs.declared.chomp.Chomp.TheVariants.{Clip, Strip, Keep}

@@ -7,7 +7,7 @@ use Rattle.std.proofs.lemmas.Str.{IsUtf8-nil, IsUtf8-drop, IsCharBoundary-after_
 use Rattle.yaml_marks.specs.Lines.{begins_with}
 use Rattle.yaml_marks.specs.Names.{is_name_byte, name_len, name_at, has_name}
 use Rattle.yaml_marks.specs.Scalars.{is_space, after_spaces, at_colon, plain_value, is_null, double_len}
-use Rattle.yaml_marks.specs.Pieces.{cell_scan, closed_len, refused_len, Step, word_step, scan_step, at_cell_gap, one_byte, step_at, open_after, put_piece, is_last, found_at, flow_at}
+use Rattle.yaml_marks.specs.Pieces.{cell_scan, closed_len, refused_len, CellStep, word_step, scan_step, at_cell_gap, one_byte, step_at, open_after, put_piece, is_last, found_at, flow_at}
 use Rattle.yaml_marks.specs.declared.piece.Bracket.TheVariants.{Square, Curly}
 use Rattle.yaml_marks.specs.declared.piece.Piece.{Piece}
 use Rattle.yaml_marks.specs.declared.piece.Piece.TheVariants.{Opening, Closing, Comma, CellKey, CellScalar, CellName, CellCopy}

@@ -6,7 +6,7 @@ pub mod FormTexts
 pub mod Cells
 pub mod Rows
 pub mod Blocks
-pub mod BlockMarks
+pub mod BlockTokens
 pub mod BlockWritten
 pub mod BlockSaid
 pub mod Tidy
@@ -37,7 +37,7 @@ pub mod SingleQuotes
 pub mod Escapes
 pub mod Scans
 pub mod GoodPieces
-pub mod GoodMarks
+pub mod GoodTokens
 pub mod GoodBlocks
 pub mod GoodLines
 pub mod FlowTrees

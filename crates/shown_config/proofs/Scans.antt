@@ -2,9 +2,9 @@
 use Rattle.std.proofs.Common.{◌≡◌, ℕ, suc, ◌+◌, ◌<◌, ◌≤◌, Bool, true, false, ◌&&◌, ◌||◌, ◌==◌, if◌then◌else◌, List, [], ◌∷◌, length, get_or, take, drop, Option, Some, None, IfSome, IsUtf8, refl, sym, ap, subst, arith, one-add, inl, inr, ◌⊎◌, ⊎_elim, eqb-true}
 use Rattle.std.proofs.lemmas.Bool.{and_parts, or_cases, cases_lt, ne_eqb}
 use Rattle.std.proofs.lemmas.Str.{IsUtf8-drop, IsCharBoundary-after_ascii}
-use Rattle.yaml_marks.specs.Scalars.{at_gap, plain_ends, plain_len, plain_text, without_spaces, single_quoted, double_len, unescaped, single_scan, double_text, double_scan, bare_scan, scan_of, scalar_at, is_mark, asks, is_unplain}
+use Rattle.yaml_marks.specs.Scalars.{at_gap, plain_ends, plain_len, plain_text, without_spaces, single_quoted, double_len, unescaped, single_scan, double_text, double_scan, bare_scan, scan_of, scalar_at, is_indicator, asks, is_unplain}
 use Rattle.yaml_marks.specs.Lines.{begins_with}
-use Rattle.yaml_marks.specs.Pieces.{cell_ends, cell_len, cell_text, is_separator, bare_cell, cell_scan, is_foreign_mark, is_lone_mark}
+use Rattle.yaml_marks.specs.Pieces.{cell_ends, cell_len, cell_text, is_separator, bare_cell, cell_scan, is_foreign_indicator, is_lone_indicator}
 use Rattle.yaml_marks.specs.declared.escapes.Escape.TheVariants.{Outside}
 use Rattle.yaml_marks.specs.declared.odd.Odd.TheVariants as odd
 use Rattle.yaml_marks.specs.declared.scan.Scan.{Scan}
@@ -84,9 +84,9 @@ single-scanned bytes u = by (single_quoted false bytes) (text-single bytes u)
 
 bare-good : (b : ℕ) (bytes : List ℕ) → IsUtf8 (b ∷ bytes) → IsGoodScan (b ∷ bytes) (bare_scan b bytes)
 unfolding bare_scan
-bare-good b bytes u = by (is_mark b) (asks b bytes) (is_unplain b bytes)
+bare-good b bytes u = by (is_indicator b) (asks b bytes) (is_unplain b bytes)
   where
-    by : (p q r : Bool) → IsGoodScan (b ∷ bytes) (if p then Refused odd.Mark else (if q then Refused odd.Unsupported else (if r then Refused odd.Syntax else Plain (plain_text (b ∷ bytes)) (plain_len (b ∷ bytes)))))
+    by : (p q r : Bool) → IsGoodScan (b ∷ bytes) (if p then Refused odd.Indicator else (if q then Refused odd.Unsupported else (if r then Refused odd.Syntax else Plain (plain_text (b ∷ bytes)) (plain_len (b ∷ bytes)))))
     by true q r = tt
     by false true r = tt
     by false false true = tt
@@ -134,16 +134,16 @@ bare_cell-good b bytes u = ⊎_elim low high (cases_lt b 128)
     good : IsUtf8 (cell_text (b ∷ bytes)) × IsUtf8 (drop (cell_len (b ∷ bytes)) (b ∷ bytes))
     good = front-good (b ∷ bytes) (cell_len (b ∷ bytes)) u (cell_len-ends (b ∷ bytes))
 
-    low : b < 128 → IsGoodCell b bytes (if is_foreign_mark b then Refused odd.Mark else (if asks b bytes then Refused odd.Unsupported else (if is_lone_mark b || is_unplain b bytes then Refused odd.Syntax else Plain (cell_text (b ∷ bytes)) (cell_len (b ∷ bytes)))))
-    low lt = by (is_foreign_mark b) (asks b bytes) (is_lone_mark b || is_unplain b bytes)
+    low : b < 128 → IsGoodCell b bytes (if is_foreign_indicator b then Refused odd.Indicator else (if asks b bytes then Refused odd.Unsupported else (if is_lone_indicator b || is_unplain b bytes then Refused odd.Syntax else Plain (cell_text (b ∷ bytes)) (cell_len (b ∷ bytes)))))
+    low lt = by (is_foreign_indicator b) (asks b bytes) (is_lone_indicator b || is_unplain b bytes)
       where
-        by : (p q r : Bool) → IsGoodCell b bytes (if p then Refused odd.Mark else (if q then Refused odd.Unsupported else (if r then Refused odd.Syntax else Plain (cell_text (b ∷ bytes)) (cell_len (b ∷ bytes)))))
+        by : (p q r : Bool) → IsGoodCell b bytes (if p then Refused odd.Indicator else (if q then Refused odd.Unsupported else (if r then Refused odd.Syntax else Plain (cell_text (b ∷ bytes)) (cell_len (b ∷ bytes)))))
         by true q r = lt
         by false true r = lt
         by false false true = lt
         by false false false = (good.0, good.1, inr lt)
 
-    high : 128 ≤ b → IsGoodCell b bytes (if is_foreign_mark b then Refused odd.Mark else (if asks b bytes then Refused odd.Unsupported else (if is_lone_mark b || is_unplain b bytes then Refused odd.Syntax else Plain (cell_text (b ∷ bytes)) (cell_len (b ∷ bytes)))))
+    high : 128 ≤ b → IsGoodCell b bytes (if is_foreign_indicator b then Refused odd.Indicator else (if asks b bytes then Refused odd.Unsupported else (if is_lone_indicator b || is_unplain b bytes then Refused odd.Syntax else Plain (cell_text (b ∷ bytes)) (cell_len (b ∷ bytes)))))
     high ge =
         let n = λ (c : ℕ) (k : c < 128). ne_eqb b c (λ e. absurd (omega (arith, e, ge, k))) in
         rw (n 33 (omega arith), n 62 (omega arith), n 63 (omega arith), n 38 (omega arith), n 42 (omega arith), n 124 (omega arith), n 44 (omega arith), n 93 (omega arith), n 125 (omega arith), n 35 (omega arith), n 37 (omega arith), n 64 (omega arith), n 96 (omega arith), n 45 (omega arith), n 58 (omega arith))

@@ -1,38 +1,38 @@
 -- The tree of a text is plain.
 use Rattle.std.proofs.Common.{◌≡◌, ℕ, Bool, true, false, ◌||◌, List, [], ◌∷◌, ◌++◌, Option, None, refl, sym, ◌∙◌, subst, arith, append_assoc, append-nil, true≢false}
 use Rattle.yaml_marks.specs.Lines.{lines_of}
-use Rattle.yaml_marks.specs.Marks.{column_behind}
-use Rattle.yaml_marks.specs.declared.mark.Mark.{Mark}
-use Rattle.yaml_marks.specs.declared.mark.Mark.TheVariants.{Dash, Key, Scalar, Name, Copy, Bar, Body, Form, OddMark}
+use Rattle.yaml_marks.specs.Tokens.{column_behind}
+use Rattle.yaml_marks.specs.declared.token.Token.{Token}
+use Rattle.yaml_marks.specs.declared.token.Token.TheVariants.{Dash, Key, Scalar, Name, Copy, Bar, Body, Form, OddToken}
 use Rattle.yaml_tree.specs.Flows.{Flow}
-use Rattle.yaml_tree.specs.Written.{Written, marks, line_of, depth, is_head, is_leaf, is_bar, is_name, AreBodies, IsFlowOf, SameRows, StandsBelow}
+use Rattle.yaml_tree.specs.Written.{Written, tokens, line_of, depth, is_head, is_leaf, is_bar, is_name, AreBodies, IsFlowOf, SameRows, StandsBelow}
 use Rattle.yaml_tree.specs.Written.Written.{nothing, leaf, literal, flowing, named, row}
 use Rattle.yaml_tree.specs.Said.{Said, Names, Meaning, flow_said, bodies_of, leaf_said, name_of, begun_block, row_behind, said, has_key, has_repeat, has_unknown}
 use Rattle.yaml_tree.specs.Said.Said.{null, text, unknown, sequence, mapping, with_item, with_pair}
 use Rattle.yaml_tree.specs.Tree.{IsTreeOf}
 use Rattle.yaml_merge.specs.Plainness.{are_items, are_pairs, IsPlain}
-use Rattle.shown_config.proofs.GoodBlocks.{AreGoodFrom, marks-good}
+use Rattle.shown_config.proofs.GoodBlocks.{AreGoodFrom, tokens-good}
 use Rattle.shown_config.proofs.GoodLines.{lines-utf8, StandFrom, block-utf8}
 use Rattle.shown_config.proofs.FlowTrees.{AreGood, AreSound, IsSound, IsSoundMeaning, copied-sound, form-sound, given-sound, scalar-sound}
 
 -- ---- blocks
 
 -- rows of the kind of a head
-abbrev AreRowsBehind : Mark → Said → Type 0
+abbrev AreRowsBehind : Token → Said → Type 0
 AreRowsBehind (Dash line column) tree = are_items tree ≡ true
 AreRowsBehind (Key line column key) tree = are_pairs tree ≡ true
 AreRowsBehind _ tree = Unit {0}
 
--- what is left of good marks
-abbrev LeftGood : List Mark → Type 0
+-- what is left of good tokens
+abbrev LeftGood : List Token → Type 0
 LeftGood rest = (column : Option ℕ) × AreGoodFrom column rest
 
 -- what is said, and what is left
-record IsRead (m : Meaning) (rest : List Mark) : Type 0 where
+record IsRead (m : Meaning) (rest : List Token) : Type 0 where
   sound : IsSoundMeaning m
   left : LeftGood rest
 
-leaf-read : (mark : Mark) (names : Names) (rest : List Mark) (column : Option ℕ) → is_leaf mark ≡ true → AreGoodFrom column (mark ∷ rest) → AreSound names → IsRead (leaf_said mark names, names) rest
+leaf-read : (token : Token) (names : Names) (rest : List Token) (column : Option ℕ) → is_leaf token ≡ true → AreGoodFrom column (token ∷ rest) → AreSound names → IsRead (leaf_said token names, names) rest
 leaf-read (Scalar line at value) names rest column e g h = record { sound = (scalar-sound line value g.0, h); left = (column, g.1) }
 leaf-read (Copy line at n) names rest column e g h = record { sound = (copied-sound line n names h, h); left = (column, g) }
 leaf-read (Dash line at) names rest column e g h = absurd (true≢false (sym e))
@@ -41,10 +41,10 @@ leaf-read (Name line at n) names rest column e g h = absurd (true≢false (sym e
 leaf-read (Bar line at chomp) names rest column e g h = absurd (true≢false (sym e))
 leaf-read (Body line at bytes) names rest column e g h = absurd (true≢false (sym e))
 leaf-read (Form line at pieces) names rest column e g h = absurd (true≢false (sym e))
-leaf-read (OddMark line at why) names rest column e g h = absurd (true≢false (sym e))
+leaf-read (OddToken line at why) names rest column e g h = absurd (true≢false (sym e))
 
 -- the lines of a block stand in it
-bodies-stand : (bar : Mark) (lines rest : List Mark) (column : Option ℕ) → AreBodies bar lines → AreGoodFrom column (lines ++ rest) → StandFrom column (bodies_of lines) × LeftGood rest
+bodies-stand : (bar : Token) (lines rest : List Token) (column : Option ℕ) → AreBodies bar lines → AreGoodFrom column (lines ++ rest) → StandFrom column (bodies_of lines) × LeftGood rest
 bodies-stand bar [] rest column b g = (tt, (column, g))
 bodies-stand bar (Body line at bytes ∷ lines) rest column b g = let more = bodies-stand bar lines rest (column_behind column bytes) b.2 g.2 in ((g.0, g.1, more.0), more.1)
 bodies-stand bar (Dash line at ∷ lines) rest column b g = absurd (true≢false (sym b.0))
@@ -54,10 +54,10 @@ bodies-stand bar (Name line at n ∷ lines) rest column b g = absurd (true≢fal
 bodies-stand bar (Copy line at n ∷ lines) rest column b g = absurd (true≢false (sym b.0))
 bodies-stand bar (Bar line at chomp ∷ lines) rest column b g = absurd (true≢false (sym b.0))
 bodies-stand bar (Form line at pieces ∷ lines) rest column b g = absurd (true≢false (sym b.0))
-bodies-stand bar (OddMark line at why ∷ lines) rest column b g = absurd (true≢false (sym b.0))
+bodies-stand bar (OddToken line at why ∷ lines) rest column b g = absurd (true≢false (sym b.0))
 
-literal-read : (mark : Mark) (lines rest : List Mark) (names : Names) (column : Option ℕ) → is_bar mark ≡ true → AreBodies mark lines → AreGoodFrom column (mark ∷ (lines ++ rest)) → AreSound names
-    → IsRead (said (null 0) names (literal mark lines)) rest
+literal-read : (token : Token) (lines rest : List Token) (names : Names) (column : Option ℕ) → is_bar token ≡ true → AreBodies token lines → AreGoodFrom column (token ∷ (lines ++ rest)) → AreSound names
+    → IsRead (said (null 0) names (literal token lines)) rest
 literal-read (Bar line at chomp) lines rest names column e b g h = let k = bodies-stand (Bar line at chomp) lines rest None b g in record { sound = (block-utf8 chomp (bodies_of lines) k.0, h); left = k.1 }
 literal-read (Dash line at) lines rest names column e b g h = absurd (true≢false (sym e))
 literal-read (Key line at key) lines rest names column e b g h = absurd (true≢false (sym e))
@@ -66,10 +66,10 @@ literal-read (Name line at n) lines rest names column e b g h = absurd (true≢f
 literal-read (Copy line at n) lines rest names column e b g h = absurd (true≢false (sym e))
 literal-read (Body line at bytes) lines rest names column e b g h = absurd (true≢false (sym e))
 literal-read (Form line at pieces) lines rest names column e b g h = absurd (true≢false (sym e))
-literal-read (OddMark line at why) lines rest names column e b g h = absurd (true≢false (sym e))
+literal-read (OddToken line at why) lines rest names column e b g h = absurd (true≢false (sym e))
 
-flow-read : (mark : Mark) (f : Flow) (none : Said) (rest : List Mark) (names : Names) (column : Option ℕ) → IsFlowOf mark f → AreGoodFrom column (mark ∷ rest) → IsSound none → AreSound names
-    → IsRead (flow_said (line_of mark) none names f) rest
+flow-read : (token : Token) (f : Flow) (none : Said) (rest : List Token) (names : Names) (column : Option ℕ) → IsFlowOf token f → AreGoodFrom column (token ∷ rest) → IsSound none → AreSound names
+    → IsRead (flow_said (line_of token) none names f) rest
 flow-read (Form line at pieces) f none rest names column s g n h = record { sound = form-sound f line none names s.1 (subst AreGood (sym s.0) g.0) n h; left = (column, g.1) }
 flow-read (Dash line at) f none rest names column s g n h = absurd s
 flow-read (Key line at key) f none rest names column s g n h = absurd s
@@ -78,9 +78,9 @@ flow-read (Name line at n1) f none rest names column s g n h = absurd s
 flow-read (Copy line at n1) f none rest names column s g n h = absurd s
 flow-read (Bar line at chomp) f none rest names column s g n h = absurd s
 flow-read (Body line at bytes) f none rest names column s g n h = absurd s
-flow-read (OddMark line at why) f none rest names column s g n h = absurd s
+flow-read (OddToken line at why) f none rest names column s g n h = absurd s
 
-name-left : (mark : Mark) (rest : List Mark) (column : Option ℕ) → is_name mark ≡ true → AreGoodFrom column (mark ∷ rest) → AreGoodFrom column rest
+name-left : (token : Token) (rest : List Token) (column : Option ℕ) → is_name token ≡ true → AreGoodFrom column (token ∷ rest) → AreGoodFrom column rest
 name-left (Name line at n) rest column e g = g
 name-left (Dash line at) rest column e g = absurd (true≢false (sym e))
 name-left (Key line at key) rest column e g = absurd (true≢false (sym e))
@@ -89,9 +89,9 @@ name-left (Copy line at n) rest column e g = absurd (true≢false (sym e))
 name-left (Bar line at chomp) rest column e g = absurd (true≢false (sym e))
 name-left (Body line at bytes) rest column e g = absurd (true≢false (sym e))
 name-left (Form line at pieces) rest column e g = absurd (true≢false (sym e))
-name-left (OddMark line at why) rest column e g = absurd (true≢false (sym e))
+name-left (OddToken line at why) rest column e g = absurd (true≢false (sym e))
 
-begun-rows : (head : Mark) → is_head head ≡ true → AreRowsBehind head (begun_block head) × IsSound (begun_block head)
+begun-rows : (head : Token) → is_head head ≡ true → AreRowsBehind head (begun_block head) × IsSound (begun_block head)
 begun-rows (Dash line at) e = (refl, tt)
 begun-rows (Key line at key) e = (refl, tt)
 begun-rows (Scalar line at value) e = (tt, tt)
@@ -100,10 +100,10 @@ begun-rows (Copy line at n) e = (tt, tt)
 begun-rows (Bar line at chomp) e = (tt, tt)
 begun-rows (Body line at bytes) e = (tt, tt)
 begun-rows (Form line at pieces) e = (tt, tt)
-begun-rows (OddMark line at why) e = (tt, tt)
+begun-rows (OddToken line at why) e = (tt, tt)
 
 -- heads of one depth are of one kind
-same-kind : (first head : Mark) (tree : Said) → is_head first ≡ true → is_head head ≡ true → depth first ≡ depth head → AreRowsBehind first tree → AreRowsBehind head tree
+same-kind : (first head : Token) (tree : Said) → is_head first ≡ true → is_head head ≡ true → depth first ≡ depth head → AreRowsBehind first tree → AreRowsBehind head tree
 same-kind (Dash line at) (Dash other to) tree e f d h = h
 same-kind (Dash line at) (Key other to key) tree e f d h = absurd (omega (arith, d))
 same-kind (Dash line at) (Scalar other to value) tree e f d h = tt
@@ -117,32 +117,32 @@ same-kind (Copy line at n) head tree e f d h = absurd (true≢false (sym e))
 same-kind (Bar line at chomp) head tree e f d h = absurd (true≢false (sym e))
 same-kind (Body line at bytes) head tree e f d h = absurd (true≢false (sym e))
 same-kind (Form line at pieces) head tree e f d h = absurd (true≢false (sym e))
-same-kind (OddMark line at why) head tree e f d h = absurd (true≢false (sym e))
+same-kind (OddToken line at why) head tree e f d h = absurd (true≢false (sym e))
 
 -- a row more is of the kind of its head
-row-kind : (head : Mark) (before : Said) (m : Meaning) → is_head head ≡ true → AreRowsBehind head before → AreRowsBehind head (row_behind head before m).0
+row-kind : (head : Token) (before : Said) (m : Meaning) → is_head head ≡ true → AreRowsBehind head before → AreRowsBehind head (row_behind head before m).0
 row-kind (Dash line at) before m e h = h
 row-kind (Key line at key) before m e h = h
 row-kind (Scalar line at value) before m e h = tt
 row-kind _ before m e h = tt
 
-rows-kind : (before : Written) (outer : ℕ) (head : Mark) (names : Names) → SameRows before head → is_head head ≡ true → StandsBelow outer before → AreRowsBehind head (said (begun_block head) names before).0
+rows-kind : (before : Written) (outer : ℕ) (head : Token) (names : Names) → SameRows before head → is_head head ≡ true → StandsBelow outer before → AreRowsBehind head (said (begun_block head) names before).0
 rows-kind nothing outer head names s e b = (begun-rows head e).0
-rows-kind (leaf mark) outer head names s e b = absurd s
-rows-kind (literal mark lines) outer head names s e b = absurd s
-rows-kind (flowing mark value) outer head names s e b = absurd s
-rows-kind (named mark value) outer head names s e b = absurd s
+rows-kind (leaf token) outer head names s e b = absurd s
+rows-kind (literal token lines) outer head names s e b = absurd s
+rows-kind (flowing token value) outer head names s e b = absurd s
+rows-kind (named token value) outer head names s e b = absurd s
 rows-kind (row before first value) outer head names s e b =
     let m = said (begun_block first) names before in
     same-kind first head (row_behind first m.0 (said (null (line_of first)) m.1 value)).0 b.0 e s
     (row-kind first m.0 (said (null (line_of first)) m.1 value) b.0 (rows-kind before outer first names b.2 b.0 b.3))
 
--- a head before good marks
-record IsHead (head : Mark) (rest : List Mark) : Type 0 where
+-- a head before good tokens
+record IsHead (head : Token) (rest : List Token) : Type 0 where
   left : LeftGood rest
   put : (before value : Said) (names : Names) → AreRowsBehind head before → IsSound before → IsSound value → AreSound names → IsSoundMeaning (row_behind head before (value, names))
 
-head-read : (head : Mark) (rest : List Mark) (column : Option ℕ) → is_head head ≡ true → AreGoodFrom column (head ∷ rest) → IsHead head rest
+head-read : (head : Token) (rest : List Token) (column : Option ℕ) → is_head head ≡ true → AreGoodFrom column (head ∷ rest) → IsHead head rest
 head-read (Dash line at) rest column e g = record { left = (column, g); put = λ before value names k b v h. ((k, b, v), h) }
 head-read (Key line at key) rest column e g = record { left = (column, g.1); put = λ before value names k b v h. ((k, g.0, b, v), h) }
 head-read (Scalar line at value) rest column e g = absurd (true≢false (sym e))
@@ -151,20 +151,20 @@ head-read (Copy line at n) rest column e g = absurd (true≢false (sym e))
 head-read (Bar line at chomp) rest column e g = absurd (true≢false (sym e))
 head-read (Body line at bytes) rest column e g = absurd (true≢false (sym e))
 head-read (Form line at pieces) rest column e g = absurd (true≢false (sym e))
-head-read (OddMark line at why) rest column e g = absurd (true≢false (sym e))
+head-read (OddToken line at why) rest column e g = absurd (true≢false (sym e))
 
-said-read : (w : Written) (outer : ℕ) (none : Said) (names : Names) (rest : List Mark) (column : Option ℕ) → StandsBelow outer w → AreGoodFrom column (marks w ++ rest) → IsSound none → AreSound names → IsRead (said none names w) rest
+said-read : (w : Written) (outer : ℕ) (none : Said) (names : Names) (rest : List Token) (column : Option ℕ) → StandsBelow outer w → AreGoodFrom column (tokens w ++ rest) → IsSound none → AreSound names → IsRead (said none names w) rest
 said-read nothing outer none names rest column s g n h = record { sound = (n, h); left = (column, g) }
-said-read (leaf mark) outer none names rest column s g n h = leaf-read mark names rest column s.0 g h
-said-read (literal mark lines) outer none names rest column s g n h = literal-read mark lines rest names column s.0 s.2 g h
-said-read (flowing mark value) outer none names rest column s g n h = flow-read mark value none rest names column s.1 g n h
-said-read (named mark value) outer none names rest column s g n h =
-    let k = said-read value outer none names rest column s.3 (name-left mark (marks value ++ rest) column s.0 g) n h in
-    record { sound = given-sound (line_of mark) (name_of mark) (said none names value) k.sound; left = k.left }
+said-read (leaf token) outer none names rest column s g n h = leaf-read token names rest column s.0 g h
+said-read (literal token lines) outer none names rest column s g n h = literal-read token lines rest names column s.0 s.2 g h
+said-read (flowing token value) outer none names rest column s g n h = flow-read token value none rest names column s.1 g n h
+said-read (named token value) outer none names rest column s g n h =
+    let k = said-read value outer none names rest column s.3 (name-left token (tokens value ++ rest) column s.0 g) n h in
+    record { sound = given-sound (line_of token) (name_of token) (said none names value) k.sound; left = k.left }
 said-read (row before head value) outer none names rest column s g n h =
-    let b = said-read before outer (begun_block head) names (head ∷ (marks value ++ rest)) column s.3 (subst (AreGoodFrom column) (append_assoc (marks before) (head ∷ marks value) rest) g) (begun-rows head s.0).1 h in
+    let b = said-read before outer (begun_block head) names (head ∷ (tokens value ++ rest)) column s.3 (subst (AreGoodFrom column) (append_assoc (tokens before) (head ∷ tokens value) rest) g) (begun-rows head s.0).1 h in
     let m = said (begun_block head) names before in
-    let k = head-read head (marks value ++ rest) b.left.0 s.0 b.left.1 in
+    let k = head-read head (tokens value ++ rest) b.left.0 s.0 b.left.1 in
     let v = said-read value (depth head) (null (line_of head)) m.1 rest k.left.0 s.4 k.left.1 tt b.sound.1 in
     let x = said (null (line_of head)) m.1 value in
     record { sound = k.put m.0 x.0 x.1 (rows-kind before outer head names s.2 s.0 s.3) b.sound.0 v.sound.0 v.sound.1; left = v.left }
@@ -192,6 +192,6 @@ plain-from (with_pair before line key value) s r u =
 pub text-plain : (bytes : List ℕ) (tree : Said) → IsTreeOf bytes tree → IsPlain tree
 text-plain bytes tree t =
     let says = t.1.says in
-    let good = subst (AreGoodFrom None) (sym says.spelled.0 ∙ sym (append-nil (marks says.written))) (marks-good (lines_of bytes) (lines-utf8 bytes t.0)) in
+    let good = subst (AreGoodFrom None) (sym says.spelled.0 ∙ sym (append-nil (tokens says.written))) (tokens-good (lines_of bytes) (lines-utf8 bytes t.0)) in
     let read = said-read says.written 0 (null 1) [] [] None says.spelled.1 good tt tt in
     plain-from tree (subst IsSound says.said read.sound.0) t.1.distinct t.1.known

@@ -2,7 +2,7 @@
 use Rattle.std.proofs.Common.{◌≡◌, ℕ, ◌+◌, ◌<◌, ◌≤◌, Bool, true, false, cond, List, [], ◌∷◌, ◌++◌, Option, Some, None, length, get_or, drop, refl, sym, ap, ◌∙◌, append_assoc, arith, suc, zero}
 use Rattle.std.proofs.lemmas.Bool.{cond-true, cond-false}
 use Rattle.std.proofs.lemmas.List.{drop_more, at_drop_all, append-nil}
-use Rattle.yaml_marks.specs.Pieces.{cell_ends, cell_len, Step, step_at, open_after, put_piece, is_last, with_step, found_at}
+use Rattle.yaml_marks.specs.Pieces.{cell_ends, cell_len, CellStep, step_at, open_after, put_piece, is_last, with_step, found_at}
 use Rattle.yaml_marks.specs.declared.piece.Piece.{Piece}
 
 -- ---- plain
@@ -41,7 +41,7 @@ put_first None pieces = refl
 put_first (Some piece) pieces = refl
 
 -- the pieces behind a front, from a step on
-module _ (b : ℕ) (behind rest : List ℕ) (n : ℕ) (step : Step) (is : step ≡ step_at b behind) (whole : rest ≡ b ∷ behind) where
+module _ (b : ℕ) (behind rest : List ℕ) (n : ℕ) (step : CellStep) (is : step ≡ step_at b behind) (whole : rest ≡ b ∷ behind) where
   found_step : found_at 0 n rest ≡ with_step step n (found_at step.skip (open_after step.piece n) behind)
   unfolding found_at
   found_step = ap (found_at 0 n) whole ∙ ap (λ s. with_step s n (found_at s.skip (open_after s.piece n) behind)) (sym is)

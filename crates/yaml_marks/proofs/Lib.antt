@@ -2,7 +2,7 @@ pub mod ScanSteps
 pub mod LineLaws
 pub mod BracketSteps
 pub mod CellSteps
-pub mod MarkSteps
+pub mod TokenSteps
 pub mod SingleSpelling
 pub mod DoubleSpelling
 pub mod SpellingLaws

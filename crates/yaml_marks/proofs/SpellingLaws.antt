@@ -3,7 +3,7 @@ use Rattle.std.proofs.Common.{◌≡◌, ◌↔◌, inl, inr, ⊎_elim, ℕ, ◌
 use Rattle.std.proofs.lemmas.Bool.{eqb-true}
 use Rattle.std.proofs.lemmas.Option.{same_Some}
 use Rattle.std.proofs.Math.Seq.{take-append_seam}
-use Rattle.yaml_marks.specs.Scalars.{single_quoted, double_len, unescaped, single_scan, double_scan, double_text, scalar_at, scan_of, bare_scan, is_mark, asks, is_unplain}
+use Rattle.yaml_marks.specs.Scalars.{single_quoted, double_len, unescaped, single_scan, double_scan, double_text, scalar_at, scan_of, bare_scan, is_indicator, asks, is_unplain}
 use Rattle.yaml_marks.specs.Spelling.{single_spelling, IsSingleQuoted, spelling, IsDoubleQuoted, IsQuoted}
 use Rattle.yaml_marks.specs.declared.escapes.Escape.TheVariants.{Outside}
 use Rattle.yaml_marks.specs.declared.scan.Scan.{Scan}
@@ -30,7 +30,7 @@ neither false s t text len f g e = g e
 bare_unquoted : (b : ℕ) (bytes text : List ℕ) (len : ℕ) → bare_scan b bytes ≡ Quoted text len → ⊥
 unfolding bare_scan
 bare_unquoted b bytes text len =
-    neither (is_mark b) _ _ text len (λ e. cc) (neither (asks b bytes) _ _ text len (λ e. cc) (neither (is_unplain b bytes) _ _ text len (λ e. cc) (λ e. cc)))
+    neither (is_indicator b) _ _ text len (λ e. cc) (neither (asks b bytes) _ _ text len (λ e. cc) (neither (is_unplain b bytes) _ _ text len (λ e. cc) (λ e. cc)))
 
 is_single : (bytes text : List ℕ) (len : ℕ) → single_scan (single_quoted false bytes) ≡ Quoted text len → IsSingleQuoted (39 ∷ bytes) text len
 is_single bytes text len e =

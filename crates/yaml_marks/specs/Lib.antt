@@ -6,4 +6,4 @@ pub mod Spelling
 pub mod Literals
 pub mod Names
 pub mod Pieces
-pub mod Marks
+pub mod Tokens

@@ -30,17 +30,17 @@ abbrev pub cell_text : List ℕ → List ℕ
 cell_text bytes = without_spaces (take (cell_len bytes) bytes)
 
 -- `!` and `>`: values beyond the profile
-abbrev pub is_foreign_mark : ℕ → Bool
-is_foreign_mark b = (b == 33) || (b == 62)
+abbrev pub is_foreign_indicator : ℕ → Bool
+is_foreign_indicator b = (b == 33) || (b == 62)
 
 -- `&` and `*` without a name, and `|`
-abbrev pub is_lone_mark : ℕ → Bool
-is_lone_mark b = (b == 38) || ((b == 42) || (b == 124))
+abbrev pub is_lone_indicator : ℕ → Bool
+is_lone_indicator b = (b == 38) || ((b == 42) || (b == 124))
 
 unfoldable pub bare_cell : ℕ → List ℕ → Scan
-bare_cell b bytes = if is_foreign_mark b then Refused odd.Mark
+bare_cell b bytes = if is_foreign_indicator b then Refused odd.Indicator
     else (if asks b bytes then Refused odd.Unsupported
-    else (if is_lone_mark b || is_unplain b bytes then Refused odd.Syntax
+    else (if is_lone_indicator b || is_unplain b bytes then Refused odd.Syntax
     else Plain (cell_text (b ∷ bytes)) (cell_len (b ∷ bytes))))
 
 unfoldable pub cell_scan : ℕ → List ℕ → Scan
@@ -61,15 +61,15 @@ refused_len b bytes = if b == 34 then closed_len bytes (double_len false bytes)
     else (if b == 39 then length bytes else 0)
 
 -- A step over a line: a piece, or none for a space, and how many bytes are taken behind the first.
-pub record Step : Type 0 where
+pub record CellStep : Type 0 where
   pub piece : Option Piece
   pub skip : ℕ
 
 -- a key, or a scalar that is none
-abbrev pub word_step : List ℕ → Option (List ℕ) → List ℕ → ℕ → Step
+abbrev pub word_step : List ℕ → Option (List ℕ) → List ℕ → ℕ → CellStep
 word_step text value bytes len = record { piece = Some (if at_colon (drop len bytes) then CellKey text else CellScalar value); skip = (if at_colon (drop len bytes) then len + (prefix_len is_space (drop len bytes) + 1) else len) - 1 }
 
-abbrev pub scan_step : ℕ → List ℕ → Scan → Step
+abbrev pub scan_step : ℕ → List ℕ → Scan → CellStep
 scan_step b bytes (Plain text len) = word_step text (plain_value text) (b ∷ bytes) len
 scan_step b bytes (Quoted text len) = word_step text (Some text) (b ∷ bytes) len
 scan_step b bytes (Refused why) = record { piece = Some (OddPiece why); skip = refused_len b bytes }
@@ -79,11 +79,11 @@ abbrev pub at_cell_gap : List ℕ → Bool
 at_cell_gap [] = true
 at_cell_gap (b ∷ _) = (b == 32) || is_separator b
 
-abbrev pub one_byte : Piece → Step
+abbrev pub one_byte : Piece → CellStep
 one_byte piece = record { piece = Some piece; skip = 0 }
 
 -- The step at these bytes. A comment, `#` behind a space, goes to the line's end.
-abbrev pub step_at : ℕ → List ℕ → Step
+abbrev pub step_at : ℕ → List ℕ → CellStep
 step_at b bytes = if b == 32 then record { piece = None; skip = if begins_with 35 bytes then length bytes else 0 }
     else (if b == 91 then one_byte (Opening Square)
     else (if b == 93 then one_byte (Closing Square)
@@ -114,7 +114,7 @@ is_last (Some (Closing bracket)) n = nat_le n 1
 is_last _ n = false
 
 -- a step before what is found behind it, unless it closes the last bracket
-abbrev pub with_step : Step → ℕ → Found → Found
+abbrev pub with_step : CellStep → ℕ → Found → Found
 with_step step n found = record { pieces = put_piece step.piece (if is_last step.piece n then [] else found.pieces); len = if is_last step.piece n then 1 else 1 + found.len }
 
 abbrev pub one_longer : Found → Found

@@ -160,8 +160,8 @@ IsWithin (Quoted text len) n = len ≤ n
 IsWithin (Refused why) n = Unit {0}
 
 -- `! > [ { & * |`
-abbrev pub is_mark : ℕ → Bool
-is_mark b = (b == 33) || (b == 62) || (b == 91) || (b == 123) || (b == 38) || (b == 42) || (b == 124)
+abbrev pub is_indicator : ℕ → Bool
+is_indicator b = (b == 33) || (b == 62) || (b == 91) || (b == 123) || (b == 38) || (b == 42) || (b == 124)
 
 -- `, ] } # % @` and the backquote
 abbrev pub cannot_begin : ℕ → Bool
@@ -176,7 +176,7 @@ abbrev pub asks : ℕ → List ℕ → Bool
 asks b bytes = (b == 63) && begins_with 32 bytes
 
 unfoldable pub bare_scan : ℕ → List ℕ → Scan
-bare_scan b bytes = if is_mark b then Refused odd.Mark
+bare_scan b bytes = if is_indicator b then Refused odd.Indicator
     else (if asks b bytes then Refused odd.Unsupported
     else (if is_unplain b bytes then Refused odd.Syntax
     else Plain (plain_text (b ∷ bytes)) (plain_len (b ∷ bytes))))
@@ -196,7 +196,7 @@ scalar_at (b ∷ bytes) = scan_of b bytes
 abbrev pub why_not : Scan → Odd
 why_not (Plain text len) = odd.Syntax
 why_not (Quoted text len) = odd.Syntax
-why_not (Refused odd.Mark) = odd.Syntax
+why_not (Refused odd.Indicator) = odd.Syntax
 why_not (Refused odd.Unkeyed) = odd.Syntax
 why_not (Refused odd.Unsupported) = odd.Unsupported
 why_not (Refused odd.Syntax) = odd.Syntax

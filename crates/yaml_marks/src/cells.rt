@@ -6,7 +6,7 @@ ghost use Rattle.yaml_marks.specs.declared.piece.Piece.TheVariants as pieces;
 ghost use Rattle.std.specs.List.{prefix_len};
 ghost use Rattle.yaml_marks.specs.Scalars.{is_space, IsWithin, plain_value};
 ghost use Rattle.yaml_marks.specs.Names.{has_name, name_at};
-ghost use Rattle.yaml_marks.specs.Pieces.{is_separator, cell_ends, cell_len, cell_text, is_foreign_mark, is_lone_mark, bare_cell, cell_scan, refused_len, word_step, scan_step, at_cell_gap, one_byte, step_at, open_after, put_piece, is_last, flow_at};
+ghost use Rattle.yaml_marks.specs.Pieces.{is_separator, cell_ends, cell_len, cell_text, is_foreign_indicator, is_lone_indicator, bare_cell, cell_scan, refused_len, word_step, scan_step, at_cell_gap, one_byte, step_at, open_after, put_piece, is_last, flow_at};
 ghost use Rattle.yaml_marks.specs.declared.scan.Scan.TheVariants as scans;
 
 use crate::names::{after_name, name_at, name_len};
@@ -61,15 +61,15 @@ fn plain_cell(alloc: Global, bytes: &[u8]) -> Result<Scan, NoMemory>
 }
 
 /// `!` and `>`: values beyond the profile.
-fn is_foreign_mark(b: u8) -> bool
-    ensures { result ≡ is_foreign_mark b }
+fn is_foreign_indicator(b: u8) -> bool
+    ensures { result ≡ is_foreign_indicator b }
 {
     b == b'!' || b == b'>'
 }
 
 /// `&` and `*` without a name, and `|`.
-fn is_lone_mark(b: u8) -> bool
-    ensures { result ≡ is_lone_mark b }
+fn is_lone_indicator(b: u8) -> bool
+    ensures { result ≡ is_lone_indicator b }
 {
     b == b'&' || b == b'*' || b == b'|'
 }
@@ -81,13 +81,13 @@ fn bare_cell(alloc: Global, b: u8, rest: &[u8], bytes: &[u8]) -> Result<Scan, No
     ensures scan { IfOk result (λ s. s ≡ bare_cell b rest.now) }
     ensures within { IfOk result (λ s. IsWithin s (1 + length rest.now)) }
 {
-    if is_foreign_mark(b) {
-        return Ok(Scan::Refused(Odd::Mark));
+    if is_foreign_indicator(b) {
+        return Ok(Scan::Refused(Odd::Indicator));
     }
     if asks(b, rest) {
         return Ok(Scan::Refused(Odd::Unsupported));
     }
-    if is_lone_mark(b) || is_unplain(b, rest) {
+    if is_lone_indicator(b) || is_unplain(b, rest) {
         return Ok(Scan::Refused(Odd::Syntax));
     }
     plain_cell(alloc, bytes)
@@ -126,52 +126,52 @@ fn refused_len(b: u8, rest: &[u8]) -> usize
 
 /// A step over a line: a piece, or none for a space, and how many bytes are taken behind the first.
 #[derive(Drop)]
-struct Step {
+struct CellStep {
     piece: Option<Piece>,
     skip: usize,
 }
 
-impl Model for Step {
+impl Model for CellStep {
     ghost use Rattle.yaml_marks.specs.Pieces as pieces;
 
-    ghost Value = { pieces.Step };
+    ghost Value = { pieces.CellStep };
 
     ghost view = { λ s. record { piece = s.piece; skip = s.skip } };
 }
 
 /// The step over a piece of one byte.
-fn one_byte(piece: Piece) -> Step
+fn one_byte(piece: Piece) -> CellStep
     ensures { result ≡ one_byte piece }
 {
-    Step {
+    CellStep {
         piece: Some(piece),
         skip: 0,
     }
 }
 
 /// A key of so many bytes, before spaces and a colon.
-fn key_step(text: Scalar, len: usize, rest: &[u8]) -> Step
+fn key_step(text: Scalar, len: usize, rest: &[u8]) -> CellStep
     requires { len + length rest.now < 2 ^ 62 }
     ensures { result ≡ record { piece = Some (pieces.CellKey text); skip = (len + (prefix_len is_space rest.now + 1)) - 1 } }
 {
-    Step {
+    CellStep {
         piece: Some(Piece::CellKey(text)),
         skip: len + spaces(rest),
     }
 }
 
 /// A scalar of so many bytes that is no key.
-fn scalar_step(value: TextOrNull, len: usize) -> Step
+fn scalar_step(value: TextOrNull, len: usize) -> CellStep
     ensures { result ≡ record { piece = Some (pieces.CellScalar value); skip = len - 1 } }
 {
-    Step {
+    CellStep {
         piece: Some(Piece::CellScalar(value)),
         skip: len.saturating_sub(1),
     }
 }
 
 /// The step over a plain scalar, or a key that is one.
-fn plain_step(text: Scalar, bytes: &[u8], len: usize) -> Step
+fn plain_step(text: Scalar, bytes: &[u8], len: usize) -> CellStep
     requires small { length bytes.now < 2 ^ 62 }
     requires fits { len ≤ length bytes.now }
     ensures step { result ≡ word_step text (plain_value text) bytes.now len }
@@ -186,7 +186,7 @@ fn plain_step(text: Scalar, bytes: &[u8], len: usize) -> Step
 }
 
 /// The step over a scalar in quotes, or a key that is one.
-fn quoted_step(text: Scalar, bytes: &[u8], len: usize) -> Step
+fn quoted_step(text: Scalar, bytes: &[u8], len: usize) -> CellStep
     requires small { length bytes.now < 2 ^ 62 }
     requires fits { len ≤ length bytes.now }
     ensures step { result ≡ word_step text (Some text) bytes.now len }
@@ -201,7 +201,7 @@ fn quoted_step(text: Scalar, bytes: &[u8], len: usize) -> Step
 }
 
 /// The step over a scalar, a key, or what no form has.
-fn scan_step(scan: Scan, b: u8, rest: &[u8], bytes: &[u8]) -> Step
+fn scan_step(scan: Scan, b: u8, rest: &[u8], bytes: &[u8]) -> CellStep
     requires whole { bytes.now ≡ b ∷ rest.now }
     requires small { length bytes.now < 2 ^ 62 }
     requires fits { IsWithin scan (1 + length rest.now) }
@@ -211,7 +211,7 @@ fn scan_step(scan: Scan, b: u8, rest: &[u8], bytes: &[u8]) -> Step
     match scan {
         Scan::Plain(text, len) => plain_step(text, bytes, len),
         Scan::Quoted(text, len) => quoted_step(text, bytes, len),
-        Scan::Refused(why) => Step {
+        Scan::Refused(why) => CellStep {
             piece: Some(Piece::OddPiece(why)),
             skip: refused_len(b, rest),
         },
@@ -243,10 +243,10 @@ fn cell_name(alloc: Global, bytes: &[u8]) -> Result<Scalar, NoMemory>
 }
 
 /// The step over a space, or over a comment behind one, which goes to the line's end.
-fn space_step(rest: &[u8]) -> Step
+fn space_step(rest: &[u8]) -> CellStep
     ensures step { result ≡ record { piece = None; skip = if begins_with 35 rest.now then length rest.now else 0 } }
 {
-    Step {
+    CellStep {
         piece: None,
         skip: if begins_with(b'#', rest) {
             rest.len()
@@ -257,7 +257,7 @@ fn space_step(rest: &[u8]) -> Step
 }
 
 /// The step at these bytes.
-fn step_at(alloc: Global, b: u8, rest: &[u8], bytes: &[u8]) -> Result<Step, NoMemory>
+fn step_at(alloc: Global, b: u8, rest: &[u8], bytes: &[u8]) -> Result<CellStep, NoMemory>
     requires whole { bytes.now ≡ b ∷ rest.now }
     requires small { length bytes.now < 2 ^ 62 }
     ensures step { IfOk result (λ s. s ≡ step_at b rest.now) }
@@ -270,11 +270,11 @@ fn step_at(alloc: Global, b: u8, rest: &[u8], bytes: &[u8]) -> Result<Step, NoMe
         b'{' => Ok(one_byte(Piece::Opening(Bracket::Curly))),
         b'}' => Ok(one_byte(Piece::Closing(Bracket::Curly))),
         b',' => Ok(one_byte(Piece::Comma)),
-        b'&' if has_cell_name(rest) => Ok(Step {
+        b'&' if has_cell_name(rest) => Ok(CellStep {
             piece: Some(Piece::CellName(cell_name(alloc, rest)?)),
             skip: name_len(rest),
         }),
-        b'*' if has_cell_name(rest) => Ok(Step {
+        b'*' if has_cell_name(rest) => Ok(CellStep {
             piece: Some(Piece::CellCopy(cell_name(alloc, rest)?)),
             skip: name_len(rest),
         }),
@@ -326,7 +326,7 @@ pub(crate) fn flow_at(alloc: Global, bytes: &[u8]) -> Result<(Pieces, usize), No
     let mut depth = 0;
     let mut rest = bytes;
     while let Some((b, behind)) = rest.split_first() {
-        let Step { piece, skip } = step_at(alloc, *b, behind, rest)?;
+        let CellStep { piece, skip } = step_at(alloc, *b, behind, rest)?;
         let last = is_last(&piece, depth);
         depth = open_after(&piece, depth);
         put_piece(&mut pieces, piece)?;

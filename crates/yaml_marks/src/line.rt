@@ -3,20 +3,20 @@
 ghost use Rattle.std.specs.Prelude.{◌≡◌, ◌+◌, ◌<◌, ◌≤◌, ◌^◌, ◌∷◌, ◌++◌, IsTrue, [], Some, length, drop, IfOk, OnOk};
 ghost use Rattle.yaml_marks.specs.Scalars.{at_colon, plain_value, IsWithin};
 ghost use Rattle.yaml_marks.specs.Names.{name_len, name_at, after_name};
-ghost use Rattle.yaml_marks.specs.Marks.{behind_spaces, pair_marks, row_marks, row_marks_of, last_marks, last_node, named_node, is_name_mark, is_dash, node_marks, has_content, is_marker, is_late_marker, begins_document, line_marks};
-ghost use Rattle.yaml_marks.specs.declared.mark.Mark.TheVariants as mark;
+ghost use Rattle.yaml_marks.specs.Tokens.{behind_spaces, pair_tokens, row_tokens, row_tokens_of, last_tokens, last_node, named_node, is_name_indicator, is_dash, node_tokens, has_content, is_marker, is_late_marker, begins_document, line_tokens};
+ghost use Rattle.yaml_marks.specs.declared.token.Token.TheVariants as token;
 
-use crate::mark::{Mark, Marks};
 use crate::names::{after_name, name_len};
 use crate::odd::Odd;
-use crate::place::Place;
+use crate::place::LinePlace;
 use crate::scalar::Scalar;
 use crate::scan::{
     Scan, after_spaces, at_colon, at_end, at_gap, begins_with, from, past, plain_value, scalar_at,
     spaces,
 };
 use crate::text_or_null::TextOrNull;
-use crate::values::{Line, begins_mark, has_name};
+use crate::token::{Token, Tokens};
+use crate::values::{LineReader, has_name, is_node_indicator};
 use sim_base::NoMemory;
 use std::alloc::Global;
 
@@ -58,17 +58,17 @@ fn is_dash(b: u8, behind: &[u8]) -> bool
     b == b'-' && at_gap(behind)
 }
 
-fn is_name_mark(b: u8, behind: &[u8]) -> bool
-    ensures { result ≡ is_name_mark b behind.now }
+fn is_name_indicator(b: u8, behind: &[u8]) -> bool
+    ensures { result ≡ is_name_indicator b behind.now }
 {
     b == b'&' && has_name(behind)
 }
 
-impl Line {
+impl LineReader {
     /// Reads a key with the value behind its colon.
     fn read_pair(
         self,
-        marks: &mut Marks,
+        tokens: &mut Tokens,
         column: usize,
         text: Scalar,
         bytes: &[u8],
@@ -77,18 +77,26 @@ impl Line {
         requires column { column + length bytes.now < 2 ^ 62 }
         requires within { len ≤ length bytes.now }
         requires colon { IsTrue (at_colon (drop len bytes.now)) }
-        ensures { OnOk result (marks.new ≡ marks.old ++ pair_marks self.number column text bytes.now len) }
+        ensures { OnOk result (tokens.new ≡ tokens.old ++ pair_tokens self.number column text bytes.now len) }
     {
         let rest = from(bytes, len);
         let n = spaces(rest);
-        marks.push(Mark::Key(self.number, column, text))?;
-        self.read_value(marks, column + (len + (1 + n)), from(after_spaces(rest), 1))
+        tokens.push(Token::Key {
+            line: self.number,
+            column,
+            text,
+        })?;
+        self.read_value(
+            tokens,
+            column + (len + (1 + n)),
+            from(after_spaces(rest), 1),
+        )
     }
 
     /// Reads a key with its value, or a plain scalar.
     fn read_plain(
         self,
-        marks: &mut Marks,
+        tokens: &mut Tokens,
         column: usize,
         text: Scalar,
         bytes: &[u8],
@@ -96,19 +104,19 @@ impl Line {
     ) -> Result<(), NoMemory>
         requires column { column + length bytes.now < 2 ^ 62 }
         requires within { len ≤ length bytes.now }
-        ensures { OnOk result (marks.new ≡ marks.old ++ row_marks self.number column text (plain_value text) bytes.now len) }
+        ensures { OnOk result (tokens.new ≡ tokens.old ++ row_tokens self.number column text (plain_value text) bytes.now len) }
     {
         if at_colon(from(bytes, len)) {
-            self.read_pair(marks, column, text, bytes, len)
+            self.read_pair(tokens, column, text, bytes, len)
         } else {
-            self.read_lone(marks, column, plain_value(text), from(bytes, len))
+            self.read_lone(tokens, column, plain_value(text), from(bytes, len))
         }
     }
 
     /// Reads a key with its value, or a quoted scalar.
     fn read_quoted(
         self,
-        marks: &mut Marks,
+        tokens: &mut Tokens,
         column: usize,
         text: Scalar,
         bytes: &[u8],
@@ -116,37 +124,37 @@ impl Line {
     ) -> Result<(), NoMemory>
         requires column { column + length bytes.now < 2 ^ 62 }
         requires within { len ≤ length bytes.now }
-        ensures { OnOk result (marks.new ≡ marks.old ++ row_marks self.number column text (Some text) bytes.now len) }
+        ensures { OnOk result (tokens.new ≡ tokens.old ++ row_tokens self.number column text (Some text) bytes.now len) }
     {
         if at_colon(from(bytes, len)) {
-            self.read_pair(marks, column, text, bytes, len)
+            self.read_pair(tokens, column, text, bytes, len)
         } else {
-            self.read_lone(marks, column, TextOrNull::text(text), from(bytes, len))
+            self.read_lone(tokens, column, TextOrNull::text(text), from(bytes, len))
         }
     }
 
     fn read_row_of(
         self,
-        marks: &mut Marks,
+        tokens: &mut Tokens,
         column: usize,
         bytes: &[u8],
         scan: Scan,
     ) -> Result<(), NoMemory>
         requires column { column + length bytes.now < 2 ^ 62 }
         requires within { IsWithin scan (length bytes.now) }
-        ensures { OnOk result (marks.new ≡ marks.old ++ row_marks_of self.number column bytes.now scan) }
+        ensures { OnOk result (tokens.new ≡ tokens.old ++ row_tokens_of self.number column bytes.now scan) }
     {
         match scan {
-            Scan::Plain(text, len) => self.read_plain(marks, column, text, bytes, len),
-            Scan::Quoted(text, len) => self.read_quoted(marks, column, text, bytes, len),
-            Scan::Refused(why) => self.refuse(marks, column, why),
+            Scan::Plain(text, len) => self.read_plain(tokens, column, text, bytes, len),
+            Scan::Quoted(text, len) => self.read_quoted(tokens, column, text, bytes, len),
+            Scan::Refused(why) => self.refuse(tokens, column, why),
         }
     }
 
     /// Reads a row, or a value without a name.
     fn read_last(
         self,
-        marks: &mut Marks,
+        tokens: &mut Tokens,
         column: usize,
         b: u8,
         rest: &[u8],
@@ -154,25 +162,30 @@ impl Line {
     ) -> Result<(), NoMemory>
         requires whole { bytes.now ≡ b ∷ rest.now }
         requires column { column + length bytes.now < 2 ^ 62 }
-        ensures { OnOk result (marks.new ≡ marks.old ++ last_marks self.number column b rest.now) }
+        ensures { OnOk result (tokens.new ≡ tokens.old ++ last_tokens self.number column b rest.now) }
     {
         if b == b'#' {
             return Ok(());
         }
-        if begins_mark(b) {
-            return self.read_marked(marks, column, b, rest, bytes);
+        if is_node_indicator(b) {
+            return self.read_indicated(tokens, column, b, rest, bytes);
         }
         let scan = scalar_at(self.alloc, bytes)?;
-        self.read_row_of(marks, column, bytes, scan)
+        self.read_row_of(tokens, column, bytes, scan)
     }
 
     /// Reads a row, or a value without a name, if any.
-    fn read_last_node(self, marks: &mut Marks, column: usize, bytes: &[u8]) -> Result<(), NoMemory>
+    fn read_last_node(
+        self,
+        tokens: &mut Tokens,
+        column: usize,
+        bytes: &[u8],
+    ) -> Result<(), NoMemory>
         requires { column + length bytes.now < 2 ^ 62 }
-        ensures { OnOk result (marks.new ≡ marks.old ++ last_node self.number column bytes.now) }
+        ensures { OnOk result (tokens.new ≡ tokens.old ++ last_node self.number column bytes.now) }
     {
         match bytes.split_first() {
-            Some((b, rest)) => self.read_last(marks, column, *b, rest, bytes),
+            Some((b, rest)) => self.read_last(tokens, column, *b, rest, bytes),
             None => Ok(()),
         }
     }
@@ -180,23 +193,23 @@ impl Line {
     /// Reads a name, and behind it a row, a value or nothing.
     fn read_name_with_node(
         self,
-        marks: &mut Marks,
+        tokens: &mut Tokens,
         column: usize,
         rest: &[u8],
     ) -> Result<(), NoMemory>
         requires { column + (1 + length rest.now) < 2 ^ 62 }
-        ensures { OnOk result (marks.new ≡ marks.old ++ mark.Name self.number column (name_at rest.now) ∷ behind_spaces (last_node self.number) (column + (1 + name_len rest.now)) (after_name rest.now)) }
+        ensures { OnOk result (tokens.new ≡ tokens.old ++ token.Name self.number column (name_at rest.now) ∷ behind_spaces (last_node self.number) (column + (1 + name_len rest.now)) (after_name rest.now)) }
     {
         let behind = after_name(rest);
         let column_behind = column + (1 + name_len(rest)) + spaces(behind);
-        self.add_name(marks, column, rest)?;
-        self.read_last_node(marks, column_behind, after_spaces(behind))
+        self.add_name(tokens, column, rest)?;
+        self.read_last_node(tokens, column_behind, after_spaces(behind))
     }
 
     /// Reads a row or a value, or a name with a row, a value or nothing behind it.
     fn read_named_node(
         self,
-        marks: &mut Marks,
+        tokens: &mut Tokens,
         column: usize,
         b: u8,
         rest: &[u8],
@@ -204,19 +217,19 @@ impl Line {
     ) -> Result<(), NoMemory>
         requires whole { bytes.now ≡ b ∷ rest.now }
         requires column { column + length bytes.now < 2 ^ 62 }
-        ensures { OnOk result (marks.new ≡ marks.old ++ named_node self.number column b rest.now) }
+        ensures { OnOk result (tokens.new ≡ tokens.old ++ named_node self.number column b rest.now) }
     {
-        if is_name_mark(b, rest) {
-            self.read_name_with_node(marks, column, rest)
+        if is_name_indicator(b, rest) {
+            self.read_name_with_node(tokens, column, rest)
         } else {
-            self.read_last(marks, column, b, rest, bytes)
+            self.read_last(tokens, column, b, rest, bytes)
         }
     }
 
     /// Reads dashes, and behind them a row, a value or a name, if any.
-    fn read_node(self, marks: &mut Marks, bytes: &[u8]) -> Result<(), NoMemory>
+    fn read_node(self, tokens: &mut Tokens, bytes: &[u8]) -> Result<(), NoMemory>
         requires { length bytes.now < 2 ^ 62 }
-        ensures { OnOk result (marks.new ≡ marks.old ++ node_marks self.number 0 bytes.now) }
+        ensures { OnOk result (tokens.new ≡ tokens.old ++ node_tokens self.number 0 bytes.now) }
     {
         for column in 0..bytes.len() {
             let b = bytes[column];
@@ -225,65 +238,72 @@ impl Line {
             }
             let rest = from(bytes, column + 1);
             if !is_dash(b, rest) {
-                return self.read_named_node(marks, column, b, rest, from(bytes, column));
+                return self.read_named_node(tokens, column, b, rest, from(bytes, column));
             }
-            marks.push(Mark::Dash(self.number, column))?;
+            tokens.push(Token::Dash {
+                line: self.number,
+                column,
+            })?;
         }
         Ok(())
     }
 
     /// Adds a line of a literal block, whole.
-    fn add_body(self, marks: &mut Marks, bar: usize, bytes: &[u8]) -> Result<(), NoMemory>
-        ensures { OnOk result (marks.new ≡ marks.old ++ mark.Body self.number bar bytes.now ∷ []) }
+    fn add_body(self, tokens: &mut Tokens, bar: usize, bytes: &[u8]) -> Result<(), NoMemory>
+        ensures { OnOk result (tokens.new ≡ tokens.old ++ token.Body self.number bar bytes.now ∷ []) }
     {
         let text = Scalar::from_slice(self.alloc, bytes)?;
-        marks.push(Mark::Body(self.number, bar, text))
+        tokens.push(Token::Body {
+            line: self.number,
+            column: bar,
+            text,
+        })
     }
 
     /// Reads a line. `begun` says whether an earlier line has content.
-    #[tactic(auto, unfolding(crate::specs::Marks::line_marks))]
+    #[tactic(auto, unfolding(crate::specs::Tokens::line_tokens))]
     fn read(
         self,
-        marks: &mut Marks,
+        tokens: &mut Tokens,
         begun: bool,
-        place: Place,
+        place: LinePlace,
         bytes: &[u8],
     ) -> Result<(), NoMemory>
         requires { length bytes.now < 2 ^ 62 }
-        ensures { OnOk result (marks.new ≡ marks.old ++ line_marks begun place self.number bytes.now) }
+        ensures { OnOk result (tokens.new ≡ tokens.old ++ line_tokens begun place self.number bytes.now) }
     {
         if is_late_marker(begun, bytes) {
-            return self.refuse(marks, 0, Odd::Unsupported);
+            return self.refuse(tokens, 0, Odd::Unsupported);
         }
         if begins_document(begun, bytes) {
             return Ok(());
         }
         if place.is_body(bytes) {
-            return self.add_body(marks, place.bar_column(), bytes);
+            return self.add_body(tokens, place.bar_column(), bytes);
         }
         if begins_with(b'%', bytes) {
-            return self.refuse(marks, 0, Odd::Unsupported);
+            return self.refuse(tokens, 0, Odd::Unsupported);
         }
-        self.read_node(marks, bytes)
+        self.read_node(tokens, bytes)
     }
 }
 
 /// The tokens of a line. `begun` says whether an earlier line has content.
-pub fn line_marks(
+pub fn line_tokens(
     alloc: Global,
     begun: bool,
-    place: Place,
+    place: LinePlace,
     line: usize,
     bytes: &[u8],
-) -> Result<Marks, NoMemory>
+) -> Result<Tokens, NoMemory>
     requires { length bytes.now < 2 ^ 62 }
-    ensures { IfOk result (λ marks. marks ≡ line_marks begun place line bytes.now) }
+    ensures { IfOk result (λ tokens. tokens ≡ line_tokens begun place line bytes.now) }
 {
-    let mut marks = Marks::new(alloc);
-    Line {
+    let mut tokens = Tokens::new(alloc);
+    LineReader {
         alloc,
         number: line,
     }
-    .read(&mut marks, begun, place, bytes)?;
-    Ok(marks)
+    .read(&mut tokens, begun, place, bytes)?;
+    Ok(tokens)
 }

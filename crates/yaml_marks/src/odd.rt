@@ -3,9 +3,9 @@
 /// Why no rule admits a token.
 #[derive(Clone, Copy, Debug, PartialEq, Eq)]
 pub enum Odd {
-    /// A mark that would begin a value of YAML beyond the profile: unsupported where a value may
+    /// An indicator that would begin a value of YAML beyond the profile: unsupported where a value may
     /// begin.
-    Mark,
+    Indicator,
     /// A scalar before a quote or a bracket that isn't closed on its line, or before `? `:
     /// unsupported where a key may stand, since what stands there is the first that can't.
     Unkeyed,

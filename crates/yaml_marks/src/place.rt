@@ -2,19 +2,28 @@
 
 ghost use Rattle.std.specs.Prelude.{◌≡◌, ◌∷◌, List};
 ghost use Rattle.yaml_marks.specs.Literals.{is_blank};
-ghost use Rattle.yaml_marks.specs.Marks.{head_of, is_deeper, stands_in, is_body, bar_column, column_behind, place_inside, place_behind, place_after};
-ghost use Rattle.yaml_marks.specs.declared.mark.Mark.{Mark};
+ghost use Rattle.yaml_marks.specs.Tokens.{head_of, is_deeper, stands_in, is_body, bar_column, column_behind, place_inside, place_behind, place_after};
+ghost use Rattle.yaml_marks.specs.declared.token.Token.{Token};
 
-use crate::mark::{Mark, Marks};
 use crate::scan::{is_blank, spaces};
+use crate::token::{Token, Tokens};
 
 #[derive(Clone, Copy, Debug, PartialEq, Eq)]
-pub enum Place {
-    /// Outside of literal blocks, behind a last key or dash at this column, if any.
-    Outside(Option<usize>),
-    /// Inside of the block of a bar at this column, behind a last key or dash at the next, if any;
-    /// and the block's own column, once a line of it isn't blank.
-    Inside(usize, Option<usize>, Option<usize>),
+pub enum LinePlace {
+    /// Outside of literal blocks.
+    Outside {
+        /// The column of the last key or dash, if any.
+        head: Option<usize>,
+    },
+    /// Inside of a literal block.
+    Inside {
+        /// The column of its bar.
+        bar: usize,
+        /// The column of the last key or dash, if any.
+        head: Option<usize>,
+        /// The block's own column, once a line of it isn't blank.
+        block: Option<usize>,
+    },
 }
 
 /// A block stands deeper than the key or dash whose value it is; at the root it may stand at any
@@ -54,14 +63,14 @@ fn column_behind(block: Option<usize>, line: &[u8]) -> Option<usize>
     }
 }
 
-impl Place {
+impl LinePlace {
     /// The column of the last key or dash, if any.
     fn head(self) -> Option<usize>
         ensures { result ≡ head_of self }
     {
         match self {
-            Place::Outside(head) => head,
-            Place::Inside(_, head, _) => head,
+            LinePlace::Outside { head } => head,
+            LinePlace::Inside { head, .. } => head,
         }
     }
 
@@ -71,8 +80,9 @@ impl Place {
         ensures { result ≡ is_body self line.now }
     {
         match self {
-            Place::Outside(_) => false,
-            Place::Inside(_, head, block) => is_blank(line) || stands_in(head, block, spaces(line)),
+            LinePlace::Outside { .. } => false,
+            LinePlace::Inside { head, block, .. } => is_blank(line)
+                || stands_in(head, block, spaces(line)),
         }
     }
 
@@ -81,51 +91,63 @@ impl Place {
         ensures { result ≡ bar_column self }
     {
         match self {
-            Place::Outside(_) => 0,
-            Place::Inside(bar, _, _) => bar,
+            LinePlace::Outside { .. } => 0,
+            LinePlace::Inside { bar, .. } => bar,
         }
     }
 
     /// Behind a line of the block.
-    fn behind_line(self, line: &[u8]) -> Place
+    fn behind_line(self, line: &[u8]) -> LinePlace
         ensures { result ≡ place_inside self line.now }
     {
         match self {
-            Place::Outside(head) => Place::Outside(head),
-            Place::Inside(bar, head, block) => Place::Inside(bar, head, column_behind(block, line)),
+            LinePlace::Outside { head } => LinePlace::Outside { head },
+            LinePlace::Inside { bar, head, block } => LinePlace::Inside {
+                bar,
+                head,
+                block: column_behind(block, line),
+            },
         }
     }
 
-    fn behind_mark(self, mark: &Mark) -> Place
-        ensures { (marks : List Mark) → place_behind self (mark.now ∷ marks) ≡ place_behind result marks }
+    fn behind_token(self, token: &Token) -> LinePlace
+        ensures { (tokens : List Token) → place_behind self (token.now ∷ tokens) ≡ place_behind result tokens }
     {
-        match mark {
-            Mark::Dash(_, column) => Place::Outside(Some(*column)),
-            Mark::Key(_, column, _) => Place::Outside(Some(*column)),
-            Mark::Bar(_, column, _) => Place::Inside(*column, self.head(), None),
+        match token {
+            Token::Dash { column, .. } => LinePlace::Outside {
+                head: Some(*column),
+            },
+            Token::Key { column, .. } => LinePlace::Outside {
+                head: Some(*column),
+            },
+            Token::Bar { column, .. } => LinePlace::Inside {
+                bar: *column,
+                head: self.head(),
+                block: None,
+            },
             _ => self,
         }
     }
 
-    fn behind_marks(self, marks: &Marks) -> Place
-        ensures { result ≡ place_behind self marks.now }
+    fn behind_tokens(self, tokens: &Tokens) -> LinePlace
+        ensures { result ≡ place_behind self tokens.now }
     {
         let mut place = self;
-        for mark in marks.as_slice() {
-            place = place.behind_mark(mark);
+        for token in tokens.as_slice() {
+            place = place.behind_token(token);
         }
         place
     }
 }
 
 /// Where the next line stands, behind a line that has these tokens.
-#[tactic(auto, unfolding(crate::specs::Marks::place_after))]
-pub fn next_place(place: Place, bytes: &[u8], marks: &Marks) -> Place
-    ensures { result ≡ place_after place bytes.now marks.now }
+#[tactic(auto, unfolding(crate::specs::Tokens::place_after))]
+pub fn next_place(place: LinePlace, bytes: &[u8], tokens: &Tokens) -> LinePlace
+    ensures { result ≡ place_after place bytes.now tokens.now }
 {
     if place.is_body(bytes) {
         place.behind_line(bytes)
     } else {
-        Place::Outside(place.head()).behind_marks(marks)
+        LinePlace::Outside { head: place.head() }.behind_tokens(tokens)
     }
 }

@@ -5,7 +5,7 @@ ghost use Rattle.std.specs.Option.{ForSome};
 ghost use Rattle.std.specs.List.{prefix_len, suffix_len};
 ghost use Rattle.yaml_marks.specs.Lines.{begins_with};
 ghost use Rattle.yaml_marks.specs.Literals.{is_blank};
-ghost use Rattle.yaml_marks.specs.Scalars.{is_space, at_gap, after_spaces, at_end, at_colon, plain_ends, plain_len, plain_text, holds_back, closes, single_part, is_unplain, asks, is_null, plain_value, scan_of, bare_scan, single_quoted, double_len, single_scan, double_scan, IsWithin, is_mark, cannot_begin, scalar_at};
+ghost use Rattle.yaml_marks.specs.Scalars.{is_space, at_gap, after_spaces, at_end, at_colon, plain_ends, plain_len, plain_text, holds_back, closes, single_part, is_unplain, asks, is_null, plain_value, scan_of, bare_scan, single_quoted, double_len, single_scan, double_scan, IsWithin, is_indicator, cannot_begin, scalar_at};
 ghost use Rattle.yaml_marks.specs.declared.scan.Scan.TheVariants as scans;
 
 use crate::escapes::unescaped;
@@ -235,8 +235,8 @@ pub(crate) fn double_len(bytes: &[u8]) -> Option<usize>
     None
 }
 
-fn is_mark(b: u8) -> bool
-    ensures { result ≡ is_mark b }
+fn is_indicator(b: u8) -> bool
+    ensures { result ≡ is_indicator b }
 {
     b == b'!' || b == b'>' || b == b'[' || b == b'{' || b == b'&' || b == b'*' || b == b'|'
 }
@@ -309,8 +309,8 @@ fn bare_scan(alloc: Global, b: u8, rest: &[u8], bytes: &[u8]) -> Result<Scan, No
     ensures scan { IfOk result (λ s. s ≡ bare_scan b rest.now) }
     ensures within { IfOk result (λ s. IsWithin s (1 + length rest.now)) }
 {
-    if is_mark(b) {
-        return Ok(Scan::Refused(Odd::Mark));
+    if is_indicator(b) {
+        return Ok(Scan::Refused(Odd::Indicator));
     }
     if asks(b, rest) {
         return Ok(Scan::Refused(Odd::Unsupported));

@@ -1,6 +1,6 @@
 use crate::{
-    Bracket, Mark, Marks, Odd, Piece, Pieces, Place, Scalar, closes_at, has_content, is_blank,
-    line_marks, next_line, next_place, past, spaces, why_bracket, without_mark,
+    Bracket, LinePlace, Odd, Piece, Pieces, Scalar, Token, Tokens, closes_at, has_content,
+    is_blank, line_tokens, next_line, next_place, past, spaces, why_bracket, without_mark,
 };
 use std::alloc::Global;
 use std::test::Fail;
@@ -34,22 +34,22 @@ fn piece_letter(piece: &Piece) -> char {
     }
 }
 
-fn mark_letter(mark: &Mark) -> char {
-    match mark {
-        Mark::Dash(_, _) => 'D',
-        Mark::Key(_, _, _) => 'K',
-        Mark::Scalar(_, _, _) => 'S',
-        Mark::Name(_, _, _) => 'N',
-        Mark::Copy(_, _, _) => 'C',
-        Mark::Bar(_, _, _) => 'B',
-        Mark::Body(_, _, _) => 'L',
-        Mark::Form(_, _, _) => 'F',
-        Mark::OddMark(_, _, _) => 'O',
+fn token_letter(token: &Token) -> char {
+    match token {
+        Token::Dash { .. } => 'D',
+        Token::Key { .. } => 'K',
+        Token::Scalar { .. } => 'S',
+        Token::Name { .. } => 'N',
+        Token::Copy { .. } => 'C',
+        Token::Bar { .. } => 'B',
+        Token::Body { .. } => 'L',
+        Token::Form { .. } => 'F',
+        Token::OddToken { .. } => 'O',
     }
 }
 
-fn add_pieces(letters: &mut String, mark: &Mark) -> Result<(), Fail> {
-    if let Mark::Form(_, _, pieces) = mark {
+fn add_pieces(letters: &mut String, token: &Token) -> Result<(), Fail> {
+    if let Token::Form { pieces, .. } = token {
         for piece in pieces.as_slice() {
             letters.push(piece_letter(piece))?;
         }
@@ -57,11 +57,11 @@ fn add_pieces(letters: &mut String, mark: &Mark) -> Result<(), Fail> {
     Ok(())
 }
 
-fn letters_of(alloc: Global, marks: &Marks) -> Result<String, Fail> {
+fn letters_of(alloc: Global, tokens: &Tokens) -> Result<String, Fail> {
     let mut letters = String::new(alloc);
-    for mark in marks.as_slice() {
-        letters.push(mark_letter(mark))?;
-        add_pieces(&mut letters, mark)?;
+    for token in tokens.as_slice() {
+        letters.push(token_letter(token))?;
+        add_pieces(&mut letters, token)?;
     }
     Ok(letters)
 }
@@ -69,9 +69,15 @@ fn letters_of(alloc: Global, marks: &Marks) -> Result<String, Fail> {
 #[test]
 fn reads_the_tokens_of_lines(rt: HostRuntime) -> Result<(), Fail> {
     for (line, letters) in LINES {
-        let marks = line_marks(rt.alloc(), false, Place::Outside(None), 1, line.as_bytes())?;
+        let tokens = line_tokens(
+            rt.alloc(),
+            false,
+            LinePlace::Outside { head: None },
+            1,
+            line.as_bytes(),
+        )?;
         assert_eq!(rt;
-            letters_of(rt.alloc(), &marks)?.as_str(),
+            letters_of(rt.alloc(), &tokens)?.as_str(),
             letters,
             "{line:?}"
         );
@@ -81,18 +87,32 @@ fn reads_the_tokens_of_lines(rt: HostRuntime) -> Result<(), Fail> {
 
 #[test]
 fn tells_where_the_next_line_stands(rt: HostRuntime) -> Result<(), Fail> {
-    let outside = Place::Outside(None);
-    let bar = line_marks(rt.alloc(), false, outside, 1, b"a: |-".as_slice())?;
+    let outside = LinePlace::Outside { head: None };
+    let bar = line_tokens(rt.alloc(), false, outside, 1, b"a: |-".as_slice())?;
     let first = next_place(outside, b"a: |-".as_slice(), &bar);
-    assert_eq!(rt; first, Place::Inside(3, Some(0), None));
-    let body = line_marks(rt.alloc(), true, first, 2, b"  # b".as_slice())?;
+    assert_eq!(rt;
+        first,
+        LinePlace::Inside {
+            bar: 3,
+            head: Some(0),
+            block: None
+        }
+    );
+    let body = line_tokens(rt.alloc(), true, first, 2, b"  # b".as_slice())?;
     let second = next_place(first, b"  # b".as_slice(), &body);
-    assert_eq!(rt; second, Place::Inside(3, Some(0), Some(2)));
+    assert_eq!(rt;
+        second,
+        LinePlace::Inside {
+            bar: 3,
+            head: Some(0),
+            block: Some(2)
+        }
+    );
     assert_eq!(rt; body.into_vec().len(), 1);
-    let behind = line_marks(rt.alloc(), true, second, 3, b" # c".as_slice())?;
+    let behind = line_tokens(rt.alloc(), true, second, 3, b" # c".as_slice())?;
     assert_eq!(rt;
         next_place(second, b" # c".as_slice(), &behind),
-        Place::Outside(Some(0))
+        LinePlace::Outside { head: Some(0) }
     );
     Ok(())
 }

@@ -2,11 +2,11 @@
 use Rattle.std.proofs.Common.{◌≡◌, ℕ, ◌<◌, Bool, true, false, cond, List, [], ◌∷◌, Some, None, Result, Ok, Err, is_some, length, refl, sym, ap, ◌∙◌, arith, nat_lt}
 use Rattle.std.proofs.lemmas.Bool.{cond-true, cond-false}
 use Rattle.yaml_tree.specs.Stack.{PopsWhere, one_node}
-use Rattle.yaml_tree.specs.Builder.{settled_on, closed, valued, put_node, with_node, take_piece, take_pieces, take_mark, take_marks, Steps, ◌>>=◌}
+use Rattle.yaml_tree.specs.Builder.{settled_on, closed, valued, put_node, with_node, take_piece, take_pieces, take_token, take_tokens, Steps, ◌>>=◌}
 use Rattle.yaml_tree.specs.declared.node.Value.TheVariants.{Null}
 use Rattle.yaml_tree.specs.declared.stack.Open.{Open}
 use Rattle.yaml_tree.specs.declared.builder.Builder.{Builder}
-use Rattle.yaml_marks.specs.declared.mark.Mark.{Mark}
+use Rattle.yaml_marks.specs.declared.token.Token.{Token}
 use Rattle.yaml_marks.specs.declared.piece.Piece.{Piece}
 use Rattle.yaml_tree.specs.declared.fault.FaultKind.{FaultKind}
 use Rattle.yaml_tree.specs.declared.fault.Stop.{Stop}
@@ -53,25 +53,25 @@ unfolding take_pieces
 pieces_end line [] b w none so_far = so_far
 pieces_end line (p ∷ left) b w none so_far = absurd (omega (arith, none))
 
--- ---- marks
+-- ---- tokens
 
-module _ (left : List Mark) (b : Builder) (w : Result Builder FaultKind) (so_far : take_marks left b ≡ w) where
-  mark_at : (m : Mark) (rest : List Mark) → left ≡ m ∷ rest → (take_mark m b >>= take_marks rest) ≡ w
-  unfolding take_marks
-  mark_at m rest cut = ap (λ ms. take_marks ms b) (sym cut) ∙ so_far
+module _ (left : List Token) (b : Builder) (w : Result Builder FaultKind) (so_far : take_tokens left b ≡ w) where
+  token_at : (m : Token) (rest : List Token) → left ≡ m ∷ rest → (take_token m b >>= take_tokens rest) ≡ w
+  unfolding take_tokens
+  token_at m rest cut = ap (λ ms. take_tokens ms b) (sym cut) ∙ so_far
 
-  -- a mark more of those that are left
-  pub marks_go_on : (m : Mark) (rest : List Mark) (after : Builder) → left ≡ m ∷ rest → take_mark m b ≡ Ok after → take_marks rest after ≡ w
-  marks_go_on m rest after cut e = ap (λ r. r >>= take_marks rest) (sym e) ∙ mark_at m rest cut
+  -- a token more of those that are left
+  pub tokens_go_on : (m : Token) (rest : List Token) (after : Builder) → left ≡ m ∷ rest → take_token m b ≡ Ok after → take_tokens rest after ≡ w
+  tokens_go_on m rest after cut e = ap (λ r. r >>= take_tokens rest) (sym e) ∙ token_at m rest cut
 
-  pub mark_is_refused : (m : Mark) (rest : List Mark) (s : Stop) (new : Builder) → left ≡ m ∷ rest → Steps (Err s) new (take_mark m b) → Steps (Err s) new w
-  mark_is_refused m rest (stop.Fault kind) new cut e = sym (mark_at m rest cut) ∙ ap (λ r. r >>= take_marks rest) e
-  mark_is_refused m rest stop.NoMemory new cut e = tt
+  pub token_is_refused : (m : Token) (rest : List Token) (s : Stop) (new : Builder) → left ≡ m ∷ rest → Steps (Err s) new (take_token m b) → Steps (Err s) new w
+  token_is_refused m rest (stop.Fault kind) new cut e = sym (token_at m rest cut) ∙ ap (λ r. r >>= take_tokens rest) e
+  token_is_refused m rest stop.NoMemory new cut e = tt
 
-  none_left : (ms : List Mark) → length ms ≡ 0 → Ok b ≡ take_marks ms b
-  unfolding take_marks
+  none_left : (ms : List Token) → length ms ≡ 0 → Ok b ≡ take_tokens ms b
+  unfolding take_tokens
   none_left [] e = refl
   none_left (m ∷ ms) e = absurd (omega (arith, e))
 
-  pub marks_end : length left ≡ 0 → w ≡ Ok b
-  marks_end e = sym (none_left left e ∙ so_far)
+  pub tokens_end : length left ≡ 0 → w ≡ Ok b
+  tokens_end e = sym (none_left left e ∙ so_far)

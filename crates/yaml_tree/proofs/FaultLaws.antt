@@ -5,14 +5,14 @@ use Rattle.std.proofs.lemmas.Bool.{cond-true, cond-false, lt-ltb, le-ltb, cases_
 use Rattle.std.specs.Str.{IsUtf8}
 use Rattle.yaml_marks.specs.Lines.{lines_of}
 use Rattle.yaml_tree.specs.Flows.{SpellsFlow, FlowMayBegin, IsPieceKind, IsFirstMisfit, IsFlowMisfit}
-use Rattle.yaml_marks.specs.Marks.{marks_of}
+use Rattle.yaml_marks.specs.Tokens.{tokens_of}
 use Rattle.yaml_tree.specs.Written.{Spells}
 use Rattle.yaml_tree.specs.Said.{Said, has_repeat, has_unknown, levels, size}
 use Rattle.yaml_tree.specs.Stack.{cut, measured}
 use Rattle.yaml_tree.specs.Tree.{Says, MayBegin, ValueMayBegin, KeyMayBegin, IsKindAt, IsMisfit, IsRefused, IsFirstRefused, line_of_break, IsFaultOf}
 use Rattle.yaml_tree.specs.Builder.{fault_of}
-use Rattle.yaml_marks.specs.declared.mark.Mark.{Mark}
-use Rattle.yaml_marks.specs.declared.mark.Mark.TheVariants.{Dash, Key, Scalar, Name, Copy, Bar, Body, Form, OddMark}
+use Rattle.yaml_marks.specs.declared.token.Token.{Token}
+use Rattle.yaml_marks.specs.declared.token.Token.TheVariants.{Dash, Key, Scalar, Name, Copy, Bar, Body, Form, OddToken}
 use Rattle.yaml_marks.specs.declared.piece.Piece.{Piece}
 use Rattle.yaml_marks.specs.declared.piece.Piece.TheVariants.{Opening, Closing, Comma, CellKey, CellScalar, CellName, CellCopy, OddPiece}
 use Rattle.yaml_tree.specs.declared.fault.FaultKind.{FaultKind}
@@ -44,7 +44,7 @@ regrouped xs x more rest = append_assoc xs (x ∷ more) rest ∙ sym (append_ass
 
 -- ---- the kind of a misfit
 
--- a mark beyond the profile is unsupported exactly where a value may begin
+-- an indicator beyond the profile is unsupported exactly where a value may begin
 abbrev Decided : Type 0 → FaultKind → Type 0
 Decided P kind = ((kind ≡ Unsupported) × P) ⊎ ((kind ≡ Syntax) × (P → ⊥))
 
@@ -54,7 +54,7 @@ decided_once P k l (inl a) (inr b) = absurd (b.1 a.1)
 decided_once P k l (inr a) (inl b) = absurd (a.1 b.1)
 decided_once P k l (inr a) (inr b) = a.0 ∙ sym b.0
 
-decided-piece : (front rest : List Piece) (kind : FaultKind) → IsPieceKind front (OddPiece odd.Mark) rest kind → Decided (FlowMayBegin (front ++ (CellScalar None ∷ []))) kind
+decided-piece : (front rest : List Piece) (kind : FaultKind) → IsPieceKind front (OddPiece odd.Indicator) rest kind → Decided (FlowMayBegin (front ++ (CellScalar None ∷ []))) kind
 decided-piece front rest Unsupported h = inl (refl, h)
 decided-piece front rest Syntax h = inr (refl, h)
 decided-piece front rest NotUtf8 h = absurd h
@@ -77,7 +77,7 @@ piece_kind-once front (CellName name) rest k l a b = a ∙ sym b
 piece_kind-once front (CellCopy name) rest k l a b = a ∙ sym b
 piece_kind-once front (OddPiece odd.Syntax) rest k l a b = a ∙ sym b
 piece_kind-once front (OddPiece odd.Unsupported) rest k l a b = a ∙ sym b
-piece_kind-once front (OddPiece odd.Mark) rest k l a b = decided_once _ k l (decided-piece front rest k a) (decided-piece front rest l b)
+piece_kind-once front (OddPiece odd.Indicator) rest k l a b = decided_once _ k l (decided-piece front rest k a) (decided-piece front rest l b)
 
 flow-begins_shorter : (xs : List Piece) (x : Piece) (more : List Piece) → FlowMayBegin (xs ++ (x ∷ more)) → FlowMayBegin (xs ++ (x ∷ []))
 flow-begins_shorter xs x more h = (more ++ h.0, h.1, subst (λ ps. SpellsFlow ps h.1) (regrouped xs x more h.0) h.2)
@@ -102,16 +102,16 @@ flow_misfit-once pieces k l (inl a) (inr b) = absurd (misfit-begins_none pieces 
 flow_misfit-once pieces k l (inr a) (inl b) = absurd (misfit-begins_none pieces l b a.begins)
 flow_misfit-once pieces k l (inr a) (inr b) = a.kind_is ∙ sym b.kind_is
 
-decided-mark : (front : List Mark) (line column : ℕ) (kind : FaultKind) → IsKindAt front (OddMark line column odd.Mark) kind → Decided (ValueMayBegin front line column) kind
-decided-mark front line column Unsupported h = inl (refl, h)
-decided-mark front line column Syntax h = inr (refl, h)
-decided-mark front line column NotUtf8 h = absurd h
-decided-mark front line column Duplicate h = absurd h
-decided-mark front line column Alias h = absurd h
-decided-mark front line column TooDeep h = absurd h
-decided-mark front line column TooManyNodes h = absurd h
+decided-indicator : (front : List Token) (line column : ℕ) (kind : FaultKind) → IsKindAt front (OddToken line column odd.Indicator) kind → Decided (ValueMayBegin front line column) kind
+decided-indicator front line column Unsupported h = inl (refl, h)
+decided-indicator front line column Syntax h = inr (refl, h)
+decided-indicator front line column NotUtf8 h = absurd h
+decided-indicator front line column Duplicate h = absurd h
+decided-indicator front line column Alias h = absurd h
+decided-indicator front line column TooDeep h = absurd h
+decided-indicator front line column TooManyNodes h = absurd h
 
-decided-unkeyed : (front : List Mark) (line column : ℕ) (kind : FaultKind) → IsKindAt front (OddMark line column odd.Unkeyed) kind → Decided (KeyMayBegin front line column) kind
+decided-unkeyed : (front : List Token) (line column : ℕ) (kind : FaultKind) → IsKindAt front (OddToken line column odd.Unkeyed) kind → Decided (KeyMayBegin front line column) kind
 decided-unkeyed front line column Unsupported h = inl (refl, h)
 decided-unkeyed front line column Syntax h = inr (refl, h)
 decided-unkeyed front line column NotUtf8 h = absurd h
@@ -120,7 +120,7 @@ decided-unkeyed front line column Alias h = absurd h
 decided-unkeyed front line column TooDeep h = absurd h
 decided-unkeyed front line column TooManyNodes h = absurd h
 
-kind-once : (front : List Mark) (m : Mark) (k l : FaultKind) → IsKindAt front m k → IsKindAt front m l → k ≡ l
+kind-once : (front : List Token) (m : Token) (k l : FaultKind) → IsKindAt front m k → IsKindAt front m l → k ≡ l
 kind-once front (Dash line column) k l a b = a ∙ sym b
 kind-once front (Key line column bytes) k l a b = a ∙ sym b
 kind-once front (Scalar line column bytes) k l a b = a ∙ sym b
@@ -128,32 +128,32 @@ kind-once front (Name line column bytes) k l a b = a ∙ sym b
 kind-once front (Copy line column bytes) k l a b = a ∙ sym b
 kind-once front (Bar line column chomp) k l a b = a ∙ sym b
 kind-once front (Body line column bytes) k l a b = a ∙ sym b
-kind-once front (OddMark line column odd.Syntax) k l a b = a ∙ sym b
-kind-once front (OddMark line column odd.Unsupported) k l a b = a ∙ sym b
-kind-once front (OddMark line column odd.Mark) k l a b = decided_once _ k l (decided-mark front line column k a) (decided-mark front line column l b)
-kind-once front (OddMark line column odd.Unkeyed) k l a b = decided_once _ k l (decided-unkeyed front line column k a) (decided-unkeyed front line column l b)
+kind-once front (OddToken line column odd.Syntax) k l a b = a ∙ sym b
+kind-once front (OddToken line column odd.Unsupported) k l a b = a ∙ sym b
+kind-once front (OddToken line column odd.Indicator) k l a b = decided_once _ k l (decided-indicator front line column k a) (decided-indicator front line column l b)
+kind-once front (OddToken line column odd.Unkeyed) k l a b = decided_once _ k l (decided-unkeyed front line column k a) (decided-unkeyed front line column l b)
 kind-once front (Form line column pieces) k l (inl a) (inl b) = flow_misfit-once pieces k l a.1 b.1
 kind-once front (Form line column pieces) k l (inl a) (inr b) = absurd (b.0 a.0)
 kind-once front (Form line column pieces) k l (inr a) (inl b) = absurd (a.0 b.0)
 kind-once front (Form line column pieces) k l (inr a) (inr b) = a.1 ∙ sym b.1
 
-begins_shorter : (xs : List Mark) (x : Mark) (more : List Mark) → MayBegin (xs ++ (x ∷ more)) → MayBegin (xs ++ (x ∷ []))
+begins_shorter : (xs : List Token) (x : Token) (more : List Token) → MayBegin (xs ++ (x ∷ more)) → MayBegin (xs ++ (x ∷ []))
 begins_shorter xs x more h = (more ++ h.0, h.1, subst (λ ms. Spells ms h.1) (regrouped xs x more h.0) h.2)
 
--- one mark is the first that can't stand
-misfit-once : (ms : List Mark) (k l : FaultKind) → IsMisfit ms k → IsMisfit ms l → k ≡ l
-misfit-once ms k l a b = by (parted a.front a.mark a.rest b.front b.mark b.rest (sym a.parts ∙ b.parts))
+-- one token is the first that can't stand
+misfit-once : (ms : List Token) (k l : FaultKind) → IsMisfit ms k → IsMisfit ms l → k ≡ l
+misfit-once ms k l a b = by (parted a.front a.token a.rest b.front b.token b.rest (sym a.parts ∙ b.parts))
   where
-    by : Parted a.front a.mark a.rest b.front b.mark b.rest → k ≡ l
-    by (inl h) = kind-once a.front a.mark k l a.kind_is (subst (λ f. IsKindAt f a.mark l) (sym h.0) (subst (λ m. IsKindAt b.front m l) (sym h.1) b.kind_is))
-    by (inr (inl h)) = absurd (a.ends (begins_shorter a.front a.mark h.0 (subst MayBegin h.1 b.begins)))
-    by (inr (inr h)) = absurd (b.ends (begins_shorter b.front b.mark h.0 (subst MayBegin h.1 a.begins)))
+    by : Parted a.front a.token a.rest b.front b.token b.rest → k ≡ l
+    by (inl h) = kind-once a.front a.token k l a.kind_is (subst (λ f. IsKindAt f a.token l) (sym h.0) (subst (λ m. IsKindAt b.front m l) (sym h.1) b.kind_is))
+    by (inr (inl h)) = absurd (a.ends (begins_shorter a.front a.token h.0 (subst MayBegin h.1 b.begins)))
+    by (inr (inr h)) = absurd (b.ends (begins_shorter b.front b.token h.0 (subst MayBegin h.1 a.begins)))
 
 -- ---- the kind of a fault
 
 -- the lines fit no rule, or what they say passes a limit
 abbrev Told : List (List ℕ) → FaultKind → Type 0
-Told lines kind = IsMisfit (marks_of lines) kind ⊎ ((t : Said) × Says lines t × (fault_of (measured t) ≡ Some kind))
+Told lines kind = IsMisfit (tokens_of lines) kind ⊎ ((t : Said) × Says lines t × (fault_of (measured t) ≡ Some kind))
 
 told : (lines : List (List ℕ)) (kind : FaultKind) → IsRefused lines kind → Told lines kind
 told lines NotUtf8 h = absurd h
@@ -170,9 +170,9 @@ told lines TooManyNodes h = inr (
 )
 
 told-once : FlowReader → (lines : List (List ℕ)) (k l : FaultKind) → Told lines k → Told lines l → k ≡ l
-told-once r lines k l (inl a) (inl b) = misfit-once (marks_of lines) k l a b
-told-once r lines k l (inl a) (inr b) = absurd (misfit-no_tree (marks_of lines) k b.1.written a b.1.spelled)
-told-once r lines k l (inr a) (inl b) = absurd (misfit-no_tree (marks_of lines) l a.1.written b a.1.spelled)
+told-once r lines k l (inl a) (inl b) = misfit-once (tokens_of lines) k l a b
+told-once r lines k l (inl a) (inr b) = absurd (misfit-no_tree (tokens_of lines) k b.1.written a b.1.spelled)
+told-once r lines k l (inr a) (inl b) = absurd (misfit-no_tree (tokens_of lines) l a.1.written b a.1.spelled)
 told-once r lines k l (inr a) (inr b) = same_Some k l (sym a.2 ∙ ap (λ t. fault_of (measured t)) (one_tree r lines a.0 b.0 a.1 b.1) ∙ b.2)
 
 not_before : FlowReader → (lines : List (List ℕ)) (n m : ℕ) (k l : FaultKind) → IsFirstRefused lines n k → IsFirstRefused lines m l → n < m → ⊥

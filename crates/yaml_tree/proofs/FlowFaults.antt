@@ -14,9 +14,9 @@ use Rattle.yaml_tree.specs.declared.fault.FaultKind.TheVariants.{Syntax, Unsuppo
 use Rattle.yaml_marks.specs.declared.odd.Odd.TheVariants as odd
 use Rattle.yaml_tree.specs.Flows.{Flow, has_cells, kind_behind_key, FlowMayBegin, IsPieceKind, IsFirstMisfit, IsFlowMisfit}
 use Rattle.yaml_tree.specs.Outline.{closed as outlined, takes_piece, takes_value, takes_key, behind, piece_fault, is_done, fault_from, flow_fault}
-use Rattle.yaml_tree.proofs.Shapes.{Place, Slot, Shape, bracket_of, closed, closed_by, end_piece, named_piece, value_piece, cell_piece, begun_form, with_piece, with_pieces, filled}
+use Rattle.yaml_tree.proofs.Shapes.{CellPlace, Slot, Shape, bracket_of, closed, closed_by, end_piece, named_piece, value_piece, cell_piece, begun_form, with_piece, with_pieces, filled}
 use Rattle.yaml_tree.specs.Flows.Flow.{absent, called, form}
-use Rattle.yaml_tree.proofs.Shapes.Place.{behind_key}
+use Rattle.yaml_tree.proofs.Shapes.CellPlace.{behind_key}
 use Rattle.yaml_tree.proofs.Shapes.Slot.{slot}
 use Rattle.yaml_tree.proofs.Shapes.Shape.{start, cell_next, value_next, named_next, end_next, done}
 use Rattle.yaml_tree.proofs.FlowJudged.{FlowJudged}
@@ -58,13 +58,13 @@ end_steps (CellName text) bracket cells outer = refl
 end_steps (CellCopy text) bracket cells outer = refl
 end_steps (OddPiece why) bracket cells outer = refl
 
-named_closing : (other bracket : Bracket) (value : Flow) (place : Place) (name : List ℕ) (outer : List Slot) → bracket_of place ≡ bracket → Steps (Closing other) (named_next place name outer) (closed_by other bracket value outer) (takes_piece (Closing other) (record { want = want.Named; brackets = bracket ∷ brackets_of outer }))
+named_closing : (other bracket : Bracket) (value : Flow) (place : CellPlace) (name : List ℕ) (outer : List Slot) → bracket_of place ≡ bracket → Steps (Closing other) (named_next place name outer) (closed_by other bracket value outer) (takes_piece (Closing other) (record { want = want.Named; brackets = bracket ∷ brackets_of outer }))
 named_closing Square Square value place name outer e = (refl, ap (λ b. outlined (b ∷ brackets_of outer)) e ∙ outlined-closed Square value outer)
 named_closing Curly Curly value place name outer e = (refl, ap (λ b. outlined (b ∷ brackets_of outer)) e ∙ outlined-closed Curly value outer)
 named_closing Square Curly value place name outer e = refl
 named_closing Curly Square value place name outer e = refl
 
-named_steps : (piece : Piece) (place : Place) (name : List ℕ) (outer : List Slot) → Steps piece (named_next place name outer) (named_piece piece place name outer) (takes_piece piece (erased (named_next place name outer)))
+named_steps : (piece : Piece) (place : CellPlace) (name : List ℕ) (outer : List Slot) → Steps piece (named_next place name outer) (named_piece piece place name outer) (takes_piece piece (erased (named_next place name outer)))
 named_steps (Opening bracket) place name outer = (refl, refl)
 named_steps (CellScalar text) place name outer = (refl, refl)
 named_steps Comma place name outer = (refl, refl)
@@ -144,11 +144,11 @@ may_go_on front piece shape new e step = may_begin (front ++ (piece ∷ [])) new
 may_not_go_on : (front : List Piece) (piece : Piece) (shape : Shape) → with_pieces front start ≡ Some shape → with_piece piece shape ≡ None → ¬ FlowMayBegin (front ++ (piece ∷ []))
 may_not_go_on front piece shape e step h = let b = is_begun (front ++ (piece ∷ [])) h in none-some b.0 (sym (one_more front piece shape e ∙ ap (option_and_then (λ s. Some s)) step) ∙ b.1)
 
--- the scalar of a mark beyond the profile may come exactly where a value may
-mark_kind : (front rest : List Piece) (shape : Shape) → with_pieces front start ≡ Some shape → IsPieceKind front (OddPiece odd.Mark) rest (piece_fault (OddPiece odd.Mark) rest (erased shape))
-mark_kind front rest shape e = by (with_piece (CellScalar None) shape) (takes_value (erased shape).want (erased shape).brackets) (piece_steps (CellScalar None) shape) refl
+-- the scalar of an indicator beyond the profile may come exactly where a value may
+indicator_kind : (front rest : List Piece) (shape : Shape) → with_pieces front start ≡ Some shape → IsPieceKind front (OddPiece odd.Indicator) rest (piece_fault (OddPiece odd.Indicator) rest (erased shape))
+indicator_kind front rest shape e = by (with_piece (CellScalar None) shape) (takes_value (erased shape).want (erased shape).brackets) (piece_steps (CellScalar None) shape) refl
   where
-    by : (next : Option Shape) (takes : Bool) → Steps (CellScalar None) shape next takes → with_piece (CellScalar None) shape ≡ next → IsPieceKind front (OddPiece odd.Mark) rest (if takes then Unsupported else Syntax)
+    by : (next : Option Shape) (takes : Bool) → Steps (CellScalar None) shape next takes → with_piece (CellScalar None) shape ≡ next → IsPieceKind front (OddPiece odd.Indicator) rest (if takes then Unsupported else Syntax)
     by (Some new) true step is = may_go_on front (CellScalar None) shape new e is
     by (Some new) false step is = absurd (false≢true step.0)
     by None true step is = absurd (false≢true (sym step))
@@ -175,7 +175,7 @@ kind_of front (CellCopy text) rest shape e = refl
 kind_of front (OddPiece odd.Unkeyed) rest shape e = refl
 kind_of front (OddPiece odd.Syntax) rest shape e = refl
 kind_of front (OddPiece odd.Unsupported) rest shape e = refl
-kind_of front (OddPiece odd.Mark) rest shape e = mark_kind front rest shape e
+kind_of front (OddPiece odd.Indicator) rest shape e = indicator_kind front rest shape e
 
 misfit_here : (front : List Piece) (piece : Piece) (rest : List Piece) (shape : Shape) → with_pieces front start ≡ Some shape → with_piece piece shape ≡ None → IsFirstMisfit (front ++ (piece ∷ rest)) (piece_fault piece rest (erased shape))
 misfit_here front piece rest shape e step = record {

@@ -11,8 +11,8 @@ use Rattle.yaml_marks.specs.declared.piece.Piece.TheVariants.{Opening, Closing, 
 use Rattle.yaml_tree.specs.Flows.{Flow, spelling, comma_if, has_cells, is_cell_word, is_cell_key, is_cell_name, may_be_called, IsValue, AreCells, IsForm, SpellsFlow, FlowMayBegin}
 use Rattle.yaml_tree.specs.Flows.Flow.{absent, word, called, item, pair, form}
 use Rattle.yaml_tree.proofs.Lists.{chained}
-use Rattle.yaml_tree.proofs.Shapes.{Place, Slot, Shape, bracket_of, same_bracket, with_name, filled, put_value, closed, closed_by, end_piece, named_piece, value_piece, key_piece, inner_piece, cell_piece, begun_form, with_piece, with_pieces}
-use Rattle.yaml_tree.proofs.Shapes.Place.{behind_items, behind_key}
+use Rattle.yaml_tree.proofs.Shapes.{CellPlace, Slot, Shape, bracket_of, same_bracket, with_name, filled, put_value, closed, closed_by, end_piece, named_piece, value_piece, key_piece, inner_piece, cell_piece, begun_form, with_piece, with_pieces}
+use Rattle.yaml_tree.proofs.Shapes.CellPlace.{behind_items, behind_key}
 use Rattle.yaml_tree.proofs.Shapes.Slot.{slot}
 use Rattle.yaml_tree.proofs.Shapes.Shape.{start, cell_next, value_next, named_next, end_next, done}
 use Rattle.yaml_tree.proofs.WrittenLaws.{FlowReader}
@@ -22,7 +22,7 @@ use Rattle.yaml_tree.proofs.WrittenLaws.{FlowReader}
 abbrev pub before_cell : Flow → List Piece → List Piece
 before_cell cells rest = spelling cells ++ (comma_if (has_cells cells) ++ rest)
 
-abbrev pub before_value : Place → List Piece → List Piece
+abbrev pub before_value : CellPlace → List Piece → List Piece
 before_value (behind_items cells) rest = before_cell cells rest
 before_value (behind_key cells key) rest = before_cell cells (CellKey key ∷ rest)
 
@@ -44,7 +44,7 @@ so_far (done value) rest = spelling value ++ rest
 
 -- ---- what is read so far may stand in a form
 
-abbrev pub GoodPlace : Place → Type 0
+abbrev pub GoodPlace : CellPlace → Type 0
 GoodPlace (behind_items cells) = AreCells Square cells
 GoodPlace (behind_key cells key) = AreCells Curly cells
 
@@ -62,7 +62,7 @@ GoodShape (done value) = IsForm value
 
 -- ---- what is read is spelled so
 
-spelling-filled : (value : Flow) (place : Place) (rest : List Piece) → spelling (filled value place) ++ rest ≡ before_value place (spelling value ++ rest)
+spelling-filled : (value : Flow) (place : CellPlace) (rest : List Piece) → spelling (filled value place) ++ rest ≡ before_value place (spelling value ++ rest)
 spelling-filled value (behind_items cells) rest = append_assoc (spelling cells) (comma_if (has_cells cells) ++ spelling value) rest ∙ ap (λ l. spelling cells ++ l) (append_assoc (comma_if (has_cells cells)) (spelling value) rest)
 spelling-filled value (behind_key cells key) rest = append_assoc (spelling cells) (comma_if (has_cells cells) ++ (CellKey key ∷ spelling value)) rest ∙ ap (λ l. spelling cells ++ l) (append_assoc (comma_if (has_cells cells)) (CellKey key ∷ spelling value) rest)
 
@@ -70,7 +70,7 @@ spelling-with_name : (name : Option (List ℕ)) (value : Flow) (rest : List Piec
 spelling-with_name None value rest = refl
 spelling-with_name (Some name) value rest = refl
 
-so_far-put_value : (value : Flow) (place : Place) (outer : List Slot) (rest : List Piece) → so_far (put_value value place outer) rest ≡ before_inner outer (Opening (bracket_of place) ∷ before_value place (spelling value ++ rest))
+so_far-put_value : (value : Flow) (place : CellPlace) (outer : List Slot) (rest : List Piece) → so_far (put_value value place outer) rest ≡ before_inner outer (Opening (bracket_of place) ∷ before_value place (spelling value ++ rest))
 so_far-put_value value place outer rest = ap (λ l. before_inner outer (Opening (bracket_of place) ∷ l)) (spelling-filled value place rest)
 
 so_far-closed : (value : Flow) (outer : List Slot) (rest : List Piece) → so_far (closed value outer) rest ≡ before_inner outer (spelling value ++ rest)
@@ -80,7 +80,7 @@ so_far-closed value (slot place name ∷ outer) rest = so_far-put_value (with_na
 spelling-form : (bracket : Bracket) (cells : Flow) (last : Bool) (rest : List Piece) → spelling (form bracket cells last) ++ rest ≡ Opening bracket ∷ (spelling cells ++ (comma_if last ++ (Closing bracket ∷ rest)))
 spelling-form bracket cells last rest = ap (λ l. Opening bracket ∷ l) (append_assoc (spelling cells) (comma_if last ++ (Closing bracket ∷ [])) rest ∙ ap (λ l. spelling cells ++ l) (append_assoc (comma_if last) (Closing bracket ∷ []) rest))
 
-AreCells-filled : (value : Flow) (place : Place) → GoodPlace place → IsValue value → AreCells (bracket_of place) (filled value place)
+AreCells-filled : (value : Flow) (place : CellPlace) → GoodPlace place → IsValue value → AreCells (bracket_of place) (filled value place)
 AreCells-filled value (behind_items cells) good is = (refl, good, is)
 AreCells-filled value (behind_key cells key) good is = (refl, refl, good, is)
 
@@ -88,11 +88,11 @@ IsValue-named_form : (name : Option (List ℕ)) (bracket : Bracket) (cells : Flo
 IsValue-named_form None bracket cells last is = is
 IsValue-named_form (Some name) bracket cells last is = (refl, refl, is)
 
-has_cells-filled : (value : Flow) (place : Place) → has_cells (filled value place) ≡ true
+has_cells-filled : (value : Flow) (place : CellPlace) → has_cells (filled value place) ≡ true
 has_cells-filled value (behind_items cells) = refl
 has_cells-filled value (behind_key cells key) = refl
 
-good_put_value : (value : Flow) (place : Place) (outer : List Slot) → IsValue value → GoodPlace place → GoodSlots outer → GoodShape (put_value value place outer)
+good_put_value : (value : Flow) (place : CellPlace) (outer : List Slot) → IsValue value → GoodPlace place → GoodSlots outer → GoodShape (put_value value place outer)
 good_put_value value place outer is at around = (AreCells-filled value place at is, has_cells-filled value place, around)
 
 good_closed : (bracket : Bracket) (cells : Flow) (last : Bool) (outer : List Slot) → IsValue (form bracket cells last) → GoodSlots outer → GoodShape (closed (form bracket cells last) outer)
@@ -124,15 +124,15 @@ end_goes_on (CellName text) bracket cells outer new e good = absurd (none-some n
 end_goes_on (CellCopy text) bracket cells outer new e good = absurd (none-some new e)
 end_goes_on (OddPiece why) bracket cells outer new e good = absurd (none-some new e)
 
-put_goes_on : (value : Flow) (place : Place) (outer : List Slot) → IsValue value → GoodPlace place → GoodSlots outer → GoodShape (put_value value place outer) × ((rest : List Piece) → so_far (put_value value place outer) rest ≡ before_inner outer (Opening (bracket_of place) ∷ before_value place (spelling value ++ rest)))
+put_goes_on : (value : Flow) (place : CellPlace) (outer : List Slot) → IsValue value → GoodPlace place → GoodSlots outer → GoodShape (put_value value place outer) × ((rest : List Piece) → so_far (put_value value place outer) rest ≡ before_inner outer (Opening (bracket_of place) ∷ before_value place (spelling value ++ rest)))
 put_goes_on value place outer is at around = (good_put_value value place outer is at around, so_far-put_value value place outer)
 
-named_end_goes_on : (piece : Piece) (place : Place) (name : List ℕ) (outer : List Slot) (new : Shape) → end_piece piece (bracket_of place) (filled (called (CellName name) absent) place) outer ≡ Some new → GoodPlace place → GoodSlots outer → GoesOn piece (named_next place name outer) new
+named_end_goes_on : (piece : Piece) (place : CellPlace) (name : List ℕ) (outer : List Slot) (new : Shape) → end_piece piece (bracket_of place) (filled (called (CellName name) absent) place) outer ≡ Some new → GoodPlace place → GoodSlots outer → GoesOn piece (named_next place name outer) new
 named_end_goes_on piece place name outer new e at around = let v = called (CellName name) absent in
     let g = end_goes_on piece (bracket_of place) (filled v place) outer new e (good_put_value v place outer refl at around) in
     (g.0, λ rest. g.1 rest ∙ so_far-put_value v place outer (piece ∷ rest))
 
-named_goes_on : (piece : Piece) (place : Place) (name : List ℕ) (outer : List Slot) (new : Shape) → named_piece piece place name outer ≡ Some new → GoodShape (named_next place name outer) → GoesOn piece (named_next place name outer) new
+named_goes_on : (piece : Piece) (place : CellPlace) (name : List ℕ) (outer : List Slot) (new : Shape) → named_piece piece place name outer ≡ Some new → GoodShape (named_next place name outer) → GoesOn piece (named_next place name outer) new
 named_goes_on (Opening bracket) place name outer new e good = subst (GoesOn (Opening bracket) (named_next place name outer)) (same_Some _ _ e) ((tt, (good.0, good.1)), λ rest. refl)
 named_goes_on (CellScalar text) place name outer new e good = subst (GoesOn (CellScalar text) (named_next place name outer)) (same_Some _ _ e) (put_goes_on (called (CellName name) (word (CellScalar text))) place outer (refl, refl, refl) good.0 good.1)
 named_goes_on Comma place name outer new e good = named_end_goes_on Comma place name outer new e good.0 good.1
@@ -143,16 +143,16 @@ named_goes_on (CellCopy text) place name outer new e good = absurd (none-some ne
 named_goes_on (OddPiece why) place name outer new e good = absurd (none-some new e)
 
 -- where a value comes
-abbrev pub waiting : Place → List Slot → Shape
+abbrev pub waiting : CellPlace → List Slot → Shape
 waiting (behind_items cells) outer = cell_next Square cells outer
 waiting (behind_key cells key) outer = value_next cells key outer
 
-so_far-waiting : (place : Place) (outer : List Slot) (rest : List Piece) → so_far (waiting place outer) rest ≡ before_inner outer (Opening (bracket_of place) ∷ before_value place rest)
+so_far-waiting : (place : CellPlace) (outer : List Slot) (rest : List Piece) → so_far (waiting place outer) rest ≡ before_inner outer (Opening (bracket_of place) ∷ before_value place rest)
 so_far-waiting (behind_items cells) outer rest = refl
 so_far-waiting (behind_key cells key) outer rest = refl
 
 -- a value, or its name, comes
-value_goes_on : (piece : Piece) (place : Place) (outer : List Slot) (new : Shape) → value_piece piece place outer ≡ Some new → GoodPlace place → GoodSlots outer → GoodShape new × ((rest : List Piece) → so_far new rest ≡ before_inner outer (Opening (bracket_of place) ∷ before_value place (piece ∷ rest)))
+value_goes_on : (piece : Piece) (place : CellPlace) (outer : List Slot) (new : Shape) → value_piece piece place outer ≡ Some new → GoodPlace place → GoodSlots outer → GoodShape new × ((rest : List Piece) → so_far new rest ≡ before_inner outer (Opening (bracket_of place) ∷ before_value place (piece ∷ rest)))
 value_goes_on (Opening bracket) place outer new e at around = subst (λ s. GoodShape s × ((rest : List Piece) → so_far s rest ≡ before_inner outer (Opening (bracket_of place) ∷ before_value place (Opening bracket ∷ rest)))) (same_Some _ _ e) ((tt, (at, around)), λ rest. refl)
 value_goes_on (CellScalar text) place outer new e at around = subst (λ s. GoodShape s × ((rest : List Piece) → so_far s rest ≡ before_inner outer (Opening (bracket_of place) ∷ before_value place (CellScalar text ∷ rest)))) (same_Some _ _ e) (put_goes_on (word (CellScalar text)) place outer refl at around)
 value_goes_on (CellName name) place outer new e at around = subst (λ s. GoodShape s × ((rest : List Piece) → so_far s rest ≡ before_inner outer (Opening (bracket_of place) ∷ before_value place (CellName name ∷ rest)))) (same_Some _ _ e) ((at, around), λ rest. refl)
@@ -233,7 +233,7 @@ abbrev pub CellsAreRead : Bracket → Flow → Type 0
 CellsAreRead bracket cells = (outer : List Slot) (rest : List Piece) → Ends rest → with_pieces (spelling cells ++ rest) (cell_next bracket absent outer) ≡ with_pieces rest (behind_cells bracket cells outer)
 
 abbrev pub ValueIsRead : Flow → Type 0
-ValueIsRead value = (place : Place) (outer : List Slot) (rest : List Piece) → Ends rest → with_pieces (spelling value ++ rest) (waiting place outer) ≡ with_pieces rest (put_value value place outer)
+ValueIsRead value = (place : CellPlace) (outer : List Slot) (rest : List Piece) → Ends rest → with_pieces (spelling value ++ rest) (waiting place outer) ≡ with_pieces rest (put_value value place outer)
 
 then_comma : (bracket : Bracket) (cells : Flow) → CellsAreRead bracket cells → (outer : List Slot) (rest : List Piece) → with_pieces (before_cell cells rest) (cell_next bracket absent outer) ≡ with_pieces rest (cell_next bracket cells outer)
 then_comma bracket absent read outer rest = refl
@@ -302,7 +302,7 @@ word_read (OddPiece why) is place outer rest ends = absurd (false≢true is)
 
 -- a value behind its name
 abbrev pub NamedIsRead : Flow → Type 0
-NamedIsRead value = (name : List ℕ) (place : Place) (outer : List Slot) (rest : List Piece) → Ends rest → with_pieces (spelling value ++ rest) (named_next place name outer) ≡ with_pieces rest (put_value (called (CellName name) value) place outer)
+NamedIsRead value = (name : List ℕ) (place : CellPlace) (outer : List Slot) (rest : List Piece) → Ends rest → with_pieces (spelling value ++ rest) (named_next place name outer) ≡ with_pieces rest (put_value (called (CellName name) value) place outer)
 
 called_read : (name : Piece) (value : Flow) → is_cell_name name ≡ true → NamedIsRead value → ValueIsRead (called name value)
 called_read (CellName name) value is read (behind_items cells) outer rest ends = read name (behind_items cells) outer rest ends

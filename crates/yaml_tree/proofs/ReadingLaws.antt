@@ -10,7 +10,7 @@ use Rattle.std.proofs.lemmas.List.{append-nil, length-drop, length-take-le, take
 use Rattle.yaml_marks.specs.Lines.{lines_of}
 use Rattle.yaml_marks.specs.Pieces.{why_bracket, closes_at}
 use Rattle.yaml_tree.specs.Flows.{kind_behind_key, IsPieceKind, IsFlowMisfit}
-use Rattle.yaml_marks.specs.Marks.{has_content, line_marks, next_place, marks_from, marks_of}
+use Rattle.yaml_marks.specs.Tokens.{has_content, line_tokens, next_place, tokens_from, tokens_of}
 use Rattle.yaml_tree.specs.Written.{Written, Spells}
 use Rattle.yaml_tree.specs.Written.Written.{nothing}
 use Rattle.yaml_tree.specs.Said.{Said, tree_of, has_repeat, has_unknown, levels, size}
@@ -18,16 +18,16 @@ use Rattle.yaml_tree.specs.Said.Said.{null, text, unknown, sequence, mapping, wi
 use Rattle.yaml_tree.specs.Holds.{HoldsSaid}
 use Rattle.yaml_tree.specs.Stack.{cut, measured}
 use Rattle.yaml_tree.specs.Tree.{Says, IsTree, HasTree, MayBegin, ValueMayBegin, KeyMayBegin, kind_of, IsKindAt, IsMisfit, IsRefused, IsFirstRefused, IsTreeOf, IsFaultOf}
-use Rattle.yaml_tree.specs.Builder.{take_mark, take_marks, fault_of, judged_by, judged, read_line, read_lines, at_line, ReadsLine, ◌>>=◌, fresh}
+use Rattle.yaml_tree.specs.Builder.{take_token, take_tokens, fault_of, judged_by, judged, read_line, read_lines, at_line, ReadsLine, ◌>>=◌, fresh}
 use Rattle.yaml_tree.specs.Trees.{Holds, RootIsIn, IsReading, IsErrorOf, root_number}
 use Rattle.yaml_tree.specs.declared.builder.Builder.{Builder}
-use Rattle.yaml_marks.specs.declared.mark.Mark.{Mark}
-use Rattle.yaml_marks.specs.declared.mark.Mark.TheVariants.{Dash, Key, Scalar, Name, Copy, Bar, Body, Form, OddMark}
+use Rattle.yaml_marks.specs.declared.token.Token.{Token}
+use Rattle.yaml_marks.specs.declared.token.Token.TheVariants.{Dash, Key, Scalar, Name, Copy, Bar, Body, Form, OddToken}
 use Rattle.yaml_tree.specs.declared.node.Node.{Node}
 use Rattle.yaml_marks.specs.declared.piece.Piece.{Piece}
 use Rattle.yaml_marks.specs.declared.piece.Piece.TheVariants.{Opening, Closing, Comma, CellKey, CellScalar, CellName, CellCopy, OddPiece}
-use Rattle.yaml_marks.specs.declared.place.Place.{Place}
-use Rattle.yaml_marks.specs.declared.place.Place.TheVariants.{Outside}
+use Rattle.yaml_marks.specs.declared.place.LinePlace.{LinePlace}
+use Rattle.yaml_marks.specs.declared.place.LinePlace.TheVariants.{Outside}
 use Rattle.yaml_tree.specs.declared.fault.FaultKind.{FaultKind}
 use Rattle.yaml_tree.specs.declared.fault.FaultKind.TheVariants.{NotUtf8, Syntax, Unsupported, Duplicate, Alias, TooDeep, TooManyNodes}
 use Rattle.yaml_marks.specs.declared.odd.Odd.{Odd}
@@ -36,46 +36,46 @@ use Rattle.yaml_tree.specs.declared.fault.TreeError.{TreeError}
 use Rattle.yaml_tree.specs.declared.fault.TreeError.TheVariants as tree
 use Rattle.yaml_tree.specs.declared.fault.YamlFault.{YamlFault}
 use Rattle.yaml_tree.specs.declared.tree.Tree.{Tree}
-use Rattle.yaml_tree.proofs.WrittenLaws.{FlowReader, with_mark, with_marks, with_marks-append, Spells-from_read, read-from_Spells}
-use Rattle.yaml_tree.proofs.RuleLaws.{begun_after, place_of_next, marks_from-append}
+use Rattle.yaml_tree.proofs.WrittenLaws.{FlowReader, with_token, with_tokens, with_tokens-append, Spells-from_read, read-from_Spells}
+use Rattle.yaml_tree.proofs.RuleLaws.{begun_after, place_of_next, tokens_from-append}
 use Rattle.yaml_tree.proofs.Stands.{StandsFor}
 use Rattle.yaml_tree.proofs.FlowJudged.{Judges}
 use Rattle.yaml_tree.proofs.FlowLaws.{flow_reader}
 use Rattle.yaml_tree.proofs.FlowFaults.{flow_judged}
-use Rattle.yaml_tree.proofs.Simulation.{KindAfter, TakenAny, take_mark-taken, fresh-stands, measure-means, whole-holds}
+use Rattle.yaml_tree.proofs.Simulation.{KindAfter, TakenAny, take_token-taken, fresh-stands, measure-means, whole-holds}
 
 -- ---- what a tree as it is written may begin with
 
-may_begin : (r : FlowReader) (ms : List Mark) (w : Written) → with_marks r ms nothing ≡ Some w → MayBegin ms
+may_begin : (r : FlowReader) (ms : List Token) (w : Written) → with_tokens r ms nothing ≡ Some w → MayBegin ms
 may_begin r ms w e = ([], w, subst (λ ns. Spells ns w) (sym (append-nil ms)) (Spells-from_read r ms w e))
 
-one_more : (r : FlowReader) (ms : List Mark) (m : Mark) (w : Written) → with_marks r ms nothing ≡ Some w → with_marks r (ms ++ (m ∷ [])) nothing ≡ with_mark r m w
-one_more r ms m w e = with_marks-append r ms (m ∷ []) nothing ∙ ap (option_and_then (with_marks r (m ∷ []))) e ∙ back (with_mark r m w)
+one_more : (r : FlowReader) (ms : List Token) (m : Token) (w : Written) → with_tokens r ms nothing ≡ Some w → with_tokens r (ms ++ (m ∷ [])) nothing ≡ with_token r m w
+one_more r ms m w e = with_tokens-append r ms (m ∷ []) nothing ∙ ap (option_and_then (with_tokens r (m ∷ []))) e ∙ back (with_token r m w)
   where
-    back : (o : Option Written) → option_and_then (with_marks r []) o ≡ o
+    back : (o : Option Written) → option_and_then (with_tokens r []) o ≡ o
     back None = refl
     back (Some x) = refl
 
-may_not_begin : (r : FlowReader) (ms : List Mark) → with_marks r ms nothing ≡ None → MayBegin ms → ⊥
-may_not_begin r ms e h = none-some h.1 (sym (ap (option_and_then (with_marks r h.0)) e) ∙ sym (with_marks-append r ms h.0 nothing) ∙ read-from_Spells r (ms ++ h.0) h.1 h.2)
+may_not_begin : (r : FlowReader) (ms : List Token) → with_tokens r ms nothing ≡ None → MayBegin ms → ⊥
+may_not_begin r ms e h = none-some h.1 (sym (ap (option_and_then (with_tokens r h.0)) e) ∙ sym (with_tokens-append r ms h.0 nothing) ∙ read-from_Spells r (ms ++ h.0) h.1 h.2)
 
 -- a value may begin behind the front where a scalar would be read there
-value_may_begin : (r : FlowReader) (front : List Mark) (line column : ℕ) (w m : Written) → with_marks r front nothing ≡ Some w → with_mark r (Scalar line column None) w ≡ Some m → ValueMayBegin front line column
+value_may_begin : (r : FlowReader) (front : List Token) (line column : ℕ) (w m : Written) → with_tokens r front nothing ≡ Some w → with_token r (Scalar line column None) w ≡ Some m → ValueMayBegin front line column
 value_may_begin r front line column w m e h = may_begin r (front ++ (Scalar line column None ∷ [])) m (one_more r front (Scalar line column None) w e ∙ h)
 
-no_value_may_begin : (r : FlowReader) (front : List Mark) (line column : ℕ) (w : Written) → with_marks r front nothing ≡ Some w → with_mark r (Scalar line column None) w ≡ None → ValueMayBegin front line column → ⊥
+no_value_may_begin : (r : FlowReader) (front : List Token) (line column : ℕ) (w : Written) → with_tokens r front nothing ≡ Some w → with_token r (Scalar line column None) w ≡ None → ValueMayBegin front line column → ⊥
 no_value_may_begin r front line column w e h = may_not_begin r (front ++ (Scalar line column None ∷ [])) (one_more r front (Scalar line column None) w e ∙ h)
 
 -- and a key where one would
-key_may_begin : (r : FlowReader) (front : List Mark) (line column : ℕ) (w m : Written) → with_marks r front nothing ≡ Some w → with_mark r (Key line column []) w ≡ Some m → KeyMayBegin front line column
+key_may_begin : (r : FlowReader) (front : List Token) (line column : ℕ) (w m : Written) → with_tokens r front nothing ≡ Some w → with_token r (Key line column []) w ≡ Some m → KeyMayBegin front line column
 key_may_begin r front line column w m e h = may_begin r (front ++ (Key line column [] ∷ [])) m (one_more r front (Key line column []) w e ∙ h)
 
-no_key_may_begin : (r : FlowReader) (front : List Mark) (line column : ℕ) (w : Written) → with_marks r front nothing ≡ Some w → with_mark r (Key line column []) w ≡ None → KeyMayBegin front line column → ⊥
+no_key_may_begin : (r : FlowReader) (front : List Token) (line column : ℕ) (w : Written) → with_tokens r front nothing ≡ Some w → with_token r (Key line column []) w ≡ None → KeyMayBegin front line column → ⊥
 no_key_may_begin r front line column w e h = may_not_begin r (front ++ (Key line column [] ∷ [])) (one_more r front (Key line column []) w e ∙ h)
 
--- ---- marks
+-- ---- tokens
 
-kind_at : (r : FlowReader) (front : List Mark) (m : Mark) (w : Written) (kind : FaultKind) → with_marks r front nothing ≡ Some w → KindAfter r m w kind → IsKindAt front m kind
+kind_at : (r : FlowReader) (front : List Token) (m : Token) (w : Written) (kind : FaultKind) → with_tokens r front nothing ≡ Some w → KindAfter r m w kind → IsKindAt front m kind
 kind_at r front (Dash line column) w kind e k = k
 kind_at r front (Key line column bytes) w kind e k = k
 kind_at r front (Scalar line column bytes) w kind e k = k
@@ -87,40 +87,40 @@ kind_at r front (Form line column pieces) w kind e k = elim k [
   | inl h ↦ inl (value_may_begin r front line column w h.0.0 e h.0.1, h.1)
   | inr h ↦ inr (no_value_may_begin r front line column w e h.0, h.1)
 ]
-kind_at r front (OddMark line column odd.Syntax) w kind e k = k
-kind_at r front (OddMark line column odd.Unsupported) w kind e k = k
-kind_at r front (OddMark line column odd.Unkeyed) w kind e k = elim k [
-  | inl h ↦ subst (IsKindAt front (OddMark line column odd.Unkeyed)) (sym h.0) (key_may_begin r front line column w h.1 e h.2)
-  | inr h ↦ subst (IsKindAt front (OddMark line column odd.Unkeyed)) (sym h.0) (no_key_may_begin r front line column w e h.1)
+kind_at r front (OddToken line column odd.Syntax) w kind e k = k
+kind_at r front (OddToken line column odd.Unsupported) w kind e k = k
+kind_at r front (OddToken line column odd.Unkeyed) w kind e k = elim k [
+  | inl h ↦ subst (IsKindAt front (OddToken line column odd.Unkeyed)) (sym h.0) (key_may_begin r front line column w h.1 e h.2)
+  | inr h ↦ subst (IsKindAt front (OddToken line column odd.Unkeyed)) (sym h.0) (no_key_may_begin r front line column w e h.1)
 ]
-kind_at r front (OddMark line column odd.Mark) w kind e k = elim k [
-  | inl h ↦ subst (IsKindAt front (OddMark line column odd.Mark)) (sym h.0) (value_may_begin r front line column w h.1 e h.2)
-  | inr h ↦ subst (IsKindAt front (OddMark line column odd.Mark)) (sym h.0) (no_value_may_begin r front line column w e h.1)
+kind_at r front (OddToken line column odd.Indicator) w kind e k = elim k [
+  | inl h ↦ subst (IsKindAt front (OddToken line column odd.Indicator)) (sym h.0) (value_may_begin r front line column w h.1 e h.2)
+  | inr h ↦ subst (IsKindAt front (OddToken line column odd.Indicator)) (sym h.0) (no_value_may_begin r front line column w e h.1)
 ]
 
-abbrev MarksTaken : FlowReader → List Mark → List Mark → Written → Result Builder FaultKind → Type 0
-MarksTaken r front ms w (Ok b) = (new : Written) × (with_marks r ms w ≡ Some new) × StandsFor b new
-MarksTaken r front ms w (Err kind) = IsMisfit (front ++ ms) kind
+abbrev TokensTaken : FlowReader → List Token → List Token → Written → Result Builder FaultKind → Type 0
+TokensTaken r front ms w (Ok b) = (new : Written) × (with_tokens r ms w ≡ Some new) × StandsFor b new
+TokensTaken r front ms w (Err kind) = IsMisfit (front ++ ms) kind
 
-marks-taken : (r : FlowReader) → Judges → (front ms : List Mark) (b : Builder) (w : Written) → StandsFor b w → with_marks r front nothing ≡ Some w → MarksTaken r front ms w (take_marks ms b)
-unfolding take_marks
-marks-taken r j front [] b w s e = (w, refl, s)
-marks-taken r j front (m ∷ ms) b w s e = elim (take_mark m b) as (λ x. TakenAny r m w x → MarksTaken r front (m ∷ ms) w (x >>= take_marks ms)) [
-  | Ok after ↦ λ h. (let rest = marks-taken r j (front ++ (m ∷ [])) ms after h.0 h.2 (one_more r front m w e ∙ h.1) in
-      behind (take_marks ms after) h.0 h.1 rest)
+tokens-taken : (r : FlowReader) → Judges → (front ms : List Token) (b : Builder) (w : Written) → StandsFor b w → with_tokens r front nothing ≡ Some w → TokensTaken r front ms w (take_tokens ms b)
+unfolding take_tokens
+tokens-taken r j front [] b w s e = (w, refl, s)
+tokens-taken r j front (m ∷ ms) b w s e = elim (take_token m b) as (λ x. TakenAny r m w x → TokensTaken r front (m ∷ ms) w (x >>= take_tokens ms)) [
+  | Ok after ↦ λ h. (let rest = tokens-taken r j (front ++ (m ∷ [])) ms after h.0 h.2 (one_more r front m w e ∙ h.1) in
+      behind (take_tokens ms after) h.0 h.1 rest)
   | Err kind ↦ λ h. record {
     front = front;
-    mark = m;
+    token = m;
     rest = ms;
     parts = refl;
     begins = may_begin r front w e;
     ends = may_not_begin r (front ++ (m ∷ [])) (one_more r front m w e ∙ h.0);
     kind_is = kind_at r front m w kind e h.1;
   }
-] (take_mark-taken r j m b w s)
+] (take_token-taken r j m b w s)
   where
-    behind : (x : Result Builder FaultKind) (mid : Written) → with_mark r m w ≡ Some mid → MarksTaken r (front ++ (m ∷ [])) ms mid x → MarksTaken r front (m ∷ ms) w x
-    behind (Ok b') mid q h = (h.0, ap (option_and_then (with_marks r ms)) q ∙ h.1, h.2)
+    behind : (x : Result Builder FaultKind) (mid : Written) → with_token r m w ≡ Some mid → TokensTaken r (front ++ (m ∷ [])) ms mid x → TokensTaken r front (m ∷ ms) w x
+    behind (Ok b') mid q h = (h.0, ap (option_and_then (with_tokens r ms)) q ∙ h.1, h.2)
     behind (Err kind) mid q h = subst (λ ns. IsMisfit ns kind) (append_assoc front (m ∷ []) ms) h
 
 -- ---- limits
@@ -157,7 +157,7 @@ measured-means b lines t says = by (has_repeat t) refl
     by true e = (t, says, e)
     by false e = copied e (has_unknown t) refl
 
-judged-means : (b : Builder) (lines : List (List ℕ)) (w : Written) → StandsFor b w → Spells (marks_of lines) w → JudgedTo b lines (tree_of w) (judged b)
+judged-means : (b : Builder) (lines : List (List ℕ)) (w : Written) → StandsFor b w → Spells (tokens_of lines) w → JudgedTo b lines (tree_of w) (judged b)
 unfolding judged
 judged-means b lines w s spelled = subst (λ m. JudgedTo b lines (tree_of w) (judged_by (fault_of m) b)) (sym (measure-means b w s))
     (measured-means b lines (tree_of w) (record { written = w; spelled = spelled; said = refl }))
@@ -168,20 +168,20 @@ begun_after-push : (begun : Bool) (xs : List (List ℕ)) (y : List ℕ) → begu
 begun_after-push begun [] y = refl
 begun_after-push begun (x ∷ xs) y = begun_after-push (begun || has_content x) xs y
 
-place_of_next-push : (begun : Bool) (place : Place) (n : ℕ) (xs : List (List ℕ)) (y : List ℕ) → place_of_next begun place n (xs ++ (y ∷ [])) ≡ next_place (begun_after begun xs) (place_of_next begun place n xs) (n + length xs) y
+place_of_next-push : (begun : Bool) (place : LinePlace) (n : ℕ) (xs : List (List ℕ)) (y : List ℕ) → place_of_next begun place n (xs ++ (y ∷ [])) ≡ next_place (begun_after begun xs) (place_of_next begun place n xs) (n + length xs) y
 place_of_next-push begun place n [] y = let e : n ≡ n + 0 = omega arith in ap (λ k. next_place begun place k y) e
 place_of_next-push begun place n (x ∷ xs) y = let e : (1 + n) + length xs ≡ n + length (x ∷ xs) = omega arith in
     place_of_next-push (begun || has_content x) (next_place begun place n x) (1 + n) xs y
     ∙ ap (λ k. next_place (begun_after begun (x ∷ xs)) (place_of_next begun place n (x ∷ xs)) k y) e
 
 -- where the line behind these, which are all that came, stands
-abbrev place_behind_all : List (List ℕ) → Place
+abbrev place_behind_all : List (List ℕ) → LinePlace
 place_behind_all lines = place_of_next false (Outside None) 1 lines
 
-marks_of-push : (xs : List (List ℕ)) (y : List ℕ) (i : ℕ) → length xs ≡ i → marks_of (xs ++ (y ∷ [])) ≡ marks_of xs ++ line_marks (begun_after false xs) (place_behind_all xs) (1 + i) y
-unfolding marks_from
-marks_of-push xs y i e = marks_from-append false (Outside None) 1 xs (y ∷ []) ∙ ap (λ ms. marks_of xs ++ ms) (append-nil (line_marks (begun_after false xs) (place_behind_all xs) (1 + length xs) y))
-    ∙ ap (λ k. marks_of xs ++ line_marks (begun_after false xs) (place_behind_all xs) (1 + k) y) e
+tokens_of-push : (xs : List (List ℕ)) (y : List ℕ) (i : ℕ) → length xs ≡ i → tokens_of (xs ++ (y ∷ [])) ≡ tokens_of xs ++ line_tokens (begun_after false xs) (place_behind_all xs) (1 + i) y
+unfolding tokens_from
+tokens_of-push xs y i e = tokens_from-append false (Outside None) 1 xs (y ∷ []) ∙ ap (λ ms. tokens_of xs ++ ms) (append-nil (line_tokens (begun_after false xs) (place_behind_all xs) (1 + length xs) y))
+    ∙ ap (λ k. tokens_of xs ++ line_tokens (begun_after false xs) (place_behind_all xs) (1 + k) y) e
 
 abbrev IsOneOfTwo : FaultKind → Type 0
 IsOneOfTwo kind = (kind ≡ Syntax) ⊎ (kind ≡ Unsupported)
@@ -191,7 +191,7 @@ one_of_two-chosen true = inl refl
 one_of_two-chosen false = inr refl
 
 one_of_two-odd : (why : Odd) → IsOneOfTwo (kind_of why)
-one_of_two-odd odd.Mark = inl refl
+one_of_two-odd odd.Indicator = inl refl
 one_of_two-odd odd.Unkeyed = inl refl
 one_of_two-odd odd.Unsupported = inr refl
 one_of_two-odd odd.Syntax = inl refl
@@ -205,7 +205,7 @@ one_of_two-behind_key (CellKey bytes ∷ rest) = inl refl
 one_of_two-behind_key (CellScalar bytes ∷ rest) = inl refl
 one_of_two-behind_key (CellName name ∷ rest) = inl refl
 one_of_two-behind_key (CellCopy name ∷ rest) = inl refl
-one_of_two-behind_key (OddPiece odd.Mark ∷ rest) = inl refl
+one_of_two-behind_key (OddPiece odd.Indicator ∷ rest) = inl refl
 one_of_two-behind_key (OddPiece odd.Unkeyed ∷ rest) = inl refl
 one_of_two-behind_key (OddPiece odd.Unsupported ∷ rest) = inr refl
 one_of_two-behind_key (OddPiece odd.Syntax ∷ rest) = inl refl
@@ -222,13 +222,13 @@ one_of_two-piece front (CellCopy name) rest kind h = inl h
 one_of_two-piece front (OddPiece odd.Syntax) rest kind h = inl h
 one_of_two-piece front (OddPiece odd.Unkeyed) rest kind h = inl h
 one_of_two-piece front (OddPiece odd.Unsupported) rest kind h = inr h
-one_of_two-piece front (OddPiece odd.Mark) rest NotUtf8 h = absurd h
-one_of_two-piece front (OddPiece odd.Mark) rest Syntax h = inl refl
-one_of_two-piece front (OddPiece odd.Mark) rest Unsupported h = inr refl
-one_of_two-piece front (OddPiece odd.Mark) rest Duplicate h = absurd h
-one_of_two-piece front (OddPiece odd.Mark) rest Alias h = absurd h
-one_of_two-piece front (OddPiece odd.Mark) rest TooDeep h = absurd h
-one_of_two-piece front (OddPiece odd.Mark) rest TooManyNodes h = absurd h
+one_of_two-piece front (OddPiece odd.Indicator) rest NotUtf8 h = absurd h
+one_of_two-piece front (OddPiece odd.Indicator) rest Syntax h = inl refl
+one_of_two-piece front (OddPiece odd.Indicator) rest Unsupported h = inr refl
+one_of_two-piece front (OddPiece odd.Indicator) rest Duplicate h = absurd h
+one_of_two-piece front (OddPiece odd.Indicator) rest Alias h = absurd h
+one_of_two-piece front (OddPiece odd.Indicator) rest TooDeep h = absurd h
+one_of_two-piece front (OddPiece odd.Indicator) rest TooManyNodes h = absurd h
 
 one_of_two-flow : (pieces : List Piece) (kind : FaultKind) → IsFlowMisfit pieces kind → IsOneOfTwo kind
 one_of_two-flow pieces kind h = elim h [
@@ -236,7 +236,7 @@ one_of_two-flow pieces kind h = elim h [
   | inr open_still ↦ inr open_still.kind_is
 ]
 
-one_of_two : (front : List Mark) (m : Mark) (kind : FaultKind) → IsKindAt front m kind → IsOneOfTwo kind
+one_of_two : (front : List Token) (m : Token) (kind : FaultKind) → IsKindAt front m kind → IsOneOfTwo kind
 one_of_two front (Dash line column) kind h = inl h
 one_of_two front (Key line column bytes) kind h = inl h
 one_of_two front (Scalar line column bytes) kind h = inl h
@@ -248,32 +248,32 @@ one_of_two front (Form line column pieces) kind h = elim h [
   | inl may ↦ one_of_two-flow pieces kind may.1
   | inr may_not ↦ subst IsOneOfTwo (sym may_not.1) (one_of_two-odd (why_bracket pieces))
 ]
-one_of_two front (OddMark line column odd.Syntax) kind h = inl h
-one_of_two front (OddMark line column odd.Unsupported) kind h = inr h
-one_of_two front (OddMark line column odd.Unkeyed) NotUtf8 h = absurd h
-one_of_two front (OddMark line column odd.Unkeyed) Syntax h = inl refl
-one_of_two front (OddMark line column odd.Unkeyed) Unsupported h = inr refl
-one_of_two front (OddMark line column odd.Unkeyed) Duplicate h = absurd h
-one_of_two front (OddMark line column odd.Unkeyed) Alias h = absurd h
-one_of_two front (OddMark line column odd.Unkeyed) TooDeep h = absurd h
-one_of_two front (OddMark line column odd.Unkeyed) TooManyNodes h = absurd h
-one_of_two front (OddMark line column odd.Mark) NotUtf8 h = absurd h
-one_of_two front (OddMark line column odd.Mark) Syntax h = inl refl
-one_of_two front (OddMark line column odd.Mark) Unsupported h = inr refl
-one_of_two front (OddMark line column odd.Mark) Duplicate h = absurd h
-one_of_two front (OddMark line column odd.Mark) Alias h = absurd h
-one_of_two front (OddMark line column odd.Mark) TooDeep h = absurd h
-one_of_two front (OddMark line column odd.Mark) TooManyNodes h = absurd h
+one_of_two front (OddToken line column odd.Syntax) kind h = inl h
+one_of_two front (OddToken line column odd.Unsupported) kind h = inr h
+one_of_two front (OddToken line column odd.Unkeyed) NotUtf8 h = absurd h
+one_of_two front (OddToken line column odd.Unkeyed) Syntax h = inl refl
+one_of_two front (OddToken line column odd.Unkeyed) Unsupported h = inr refl
+one_of_two front (OddToken line column odd.Unkeyed) Duplicate h = absurd h
+one_of_two front (OddToken line column odd.Unkeyed) Alias h = absurd h
+one_of_two front (OddToken line column odd.Unkeyed) TooDeep h = absurd h
+one_of_two front (OddToken line column odd.Unkeyed) TooManyNodes h = absurd h
+one_of_two front (OddToken line column odd.Indicator) NotUtf8 h = absurd h
+one_of_two front (OddToken line column odd.Indicator) Syntax h = inl refl
+one_of_two front (OddToken line column odd.Indicator) Unsupported h = inr refl
+one_of_two front (OddToken line column odd.Indicator) Duplicate h = absurd h
+one_of_two front (OddToken line column odd.Indicator) Alias h = absurd h
+one_of_two front (OddToken line column odd.Indicator) TooDeep h = absurd h
+one_of_two front (OddToken line column odd.Indicator) TooManyNodes h = absurd h
 
-misfit-refused : (lines : List (List ℕ)) (kind : FaultKind) → IsMisfit (marks_of lines) kind → IsRefused lines kind
-misfit-refused lines kind h = elim (one_of_two h.front h.mark kind h.kind_is) [
-  | inl e ↦ subst (IsRefused lines) (sym e) (subst (IsMisfit (marks_of lines)) e h)
-  | inr e ↦ subst (IsRefused lines) (sym e) (subst (IsMisfit (marks_of lines)) e h)
+misfit-refused : (lines : List (List ℕ)) (kind : FaultKind) → IsMisfit (tokens_of lines) kind → IsRefused lines kind
+misfit-refused lines kind h = elim (one_of_two h.front h.token kind h.kind_is) [
+  | inl e ↦ subst (IsRefused lines) (sym e) (subst (IsMisfit (tokens_of lines)) e h)
+  | inr e ↦ subst (IsRefused lines) (sym e) (subst (IsMisfit (tokens_of lines)) e h)
 ]
 
 -- what the lines are written as, their tree, and the builder that stands for it
 abbrev LinesStand : List (List ℕ) → Builder → Type 0
-LinesStand lines b = (w : Written) × Spells (marks_of lines) w × IsTree lines (tree_of w) × StandsFor b w
+LinesStand lines b = (w : Written) × Spells (tokens_of lines) w × IsTree lines (tree_of w) × StandsFor b w
 
 abbrev pub ReadsTo : List (List ℕ) → Result Builder YamlFault → Type 0
 ReadsTo lines (Ok b) = LinesStand lines b
@@ -283,31 +283,31 @@ abbrev LineRead : List (List ℕ) → Result Builder FaultKind → Type 0
 LineRead lines (Ok b) = LinesStand lines b
 LineRead lines (Err kind) = IsRefused lines kind
 
-line-read : (done : List (List ℕ)) (line : List ℕ) (i : ℕ) (b : Builder) (w : Written) → length done ≡ i → StandsFor b w → Spells (marks_of done) w → LineRead (done ++ (line ∷ [])) (read_line (begun_after false done) (place_behind_all done) (1 + i) line b)
+line-read : (done : List (List ℕ)) (line : List ℕ) (i : ℕ) (b : Builder) (w : Written) → length done ≡ i → StandsFor b w → Spells (tokens_of done) w → LineRead (done ++ (line ∷ [])) (read_line (begun_after false done) (place_behind_all done) (1 + i) line b)
 unfolding read_line
-line-read done line i b w at s spelled = by (take_marks ms b) (marks-taken flow_reader flow_judged (marks_of done) ms b w s reads)
+line-read done line i b w at s spelled = by (take_tokens ms b) (tokens-taken flow_reader flow_judged (tokens_of done) ms b w s reads)
   where
-    ms : List Mark
-    ms = line_marks (begun_after false done) (place_behind_all done) (1 + i) line
+    ms : List Token
+    ms = line_tokens (begun_after false done) (place_behind_all done) (1 + i) line
 
     all : List (List ℕ)
     all = done ++ (line ∷ [])
 
-    pushed : marks_of all ≡ marks_of done ++ ms
-    pushed = marks_of-push done line i at
+    pushed : tokens_of all ≡ tokens_of done ++ ms
+    pushed = tokens_of-push done line i at
 
-    reads : with_marks flow_reader (marks_of done) nothing ≡ Some w
-    reads = read-from_Spells flow_reader (marks_of done) w spelled
+    reads : with_tokens flow_reader (tokens_of done) nothing ≡ Some w
+    reads = read-from_Spells flow_reader (tokens_of done) w spelled
 
-    spelled_behind : (new : Written) → with_marks flow_reader ms w ≡ Some new → Spells (marks_of all) new
-    spelled_behind new e = Spells-from_read flow_reader (marks_of all) new
-        (ap (λ ns. with_marks flow_reader ns nothing) pushed ∙ with_marks-append flow_reader (marks_of done) ms nothing ∙ ap (option_and_then (with_marks flow_reader ms)) reads ∙ e)
+    spelled_behind : (new : Written) → with_tokens flow_reader ms w ≡ Some new → Spells (tokens_of all) new
+    spelled_behind new e = Spells-from_read flow_reader (tokens_of all) new
+        (ap (λ ns. with_tokens flow_reader ns nothing) pushed ∙ with_tokens-append flow_reader (tokens_of done) ms nothing ∙ ap (option_and_then (with_tokens flow_reader ms)) reads ∙ e)
 
-    after : (b' : Builder) (new : Written) → StandsFor b' new → Spells (marks_of all) new → (r : Result Builder FaultKind) → JudgedTo b' all (tree_of new) r → LineRead all r
+    after : (b' : Builder) (new : Written) → StandsFor b' new → Spells (tokens_of all) new → (r : Result Builder FaultKind) → JudgedTo b' all (tree_of new) r → LineRead all r
     after b' new s' spelled' (Ok c) h = (new, spelled', h.0, subst (λ x. StandsFor x new) (sym h.1) s')
     after b' new s' spelled' (Err kind) h = h
 
-    by : (r : Result Builder FaultKind) → MarksTaken flow_reader (marks_of done) ms w r → LineRead all (r >>= judged)
+    by : (r : Result Builder FaultKind) → TokensTaken flow_reader (tokens_of done) ms w r → LineRead all (r >>= judged)
     by (Ok b') h = let now = spelled_behind h.0 h.1 in after b' h.0 h.2 now (judged b') (judged-means b' all h.0 h.2 now)
     by (Err kind) h = misfit-refused all kind (subst (λ ns. IsMisfit ns kind) (sym pushed) h)
 
@@ -353,11 +353,11 @@ lines-read lines (line ∷ rest) i b within at stand all =
 
 -- no lines say null
 empty-tree : IsTree [] (null 1)
-unfolding marks_from
+unfolding tokens_from
 empty-tree = record { says = record { written = nothing; spelled = (refl, tt); said = refl }; distinct = refl; known = refl; shallow = omega arith; small = omega arith }
 
 empty-stands : (alloc : Global) → LinesStand [] (fresh alloc)
-unfolding marks_from
+unfolding tokens_from
 empty-stands alloc = (nothing, (refl, tt), empty-tree, fresh-stands alloc)
 
 pub read-means : (lines : List (List ℕ)) (alloc : Global) → ReadsTo lines (read_lines false (Outside None) 1 lines (fresh alloc))

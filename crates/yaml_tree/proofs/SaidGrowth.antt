@@ -1,17 +1,17 @@
--- What is said only grows with each mark: a repeated key and an unknown copy stay, and neither levels nor nodes get
+-- What is said only grows with each token: a repeated key and an unknown copy stay, and neither levels nor nodes get
 -- fewer.
 use Rattle.std.proofs.Common.{◌≡◌, ℕ, ◌≤◌, ◌<◌, Bool, true, false, ◌||◌, List, [], ◌∷◌, Some, refl, sym, ◌∙◌, subst, arith, inl, inr}
 use Rattle.std.proofs.lemmas.Option.{none-some, same_Some}
 use Rattle.std.proofs.lemmas.Bool.{false≢true}
-use Rattle.yaml_marks.specs.declared.mark.Mark.{Mark}
-use Rattle.yaml_marks.specs.declared.mark.Mark.TheVariants.{Dash, Key, Scalar, Name, Copy, Bar, Body, Form, OddMark}
+use Rattle.yaml_marks.specs.declared.token.Token.{Token}
+use Rattle.yaml_marks.specs.declared.token.Token.TheVariants.{Dash, Key, Scalar, Name, Copy, Bar, Body, Form, OddToken}
 use Rattle.yaml_tree.specs.Written.{Written, line_of}
 use Rattle.yaml_tree.specs.Written.Written.{nothing, leaf, literal, flowing, named, row}
 use Rattle.yaml_tree.specs.Said.{Said, Names, Meaning, said, from_line, begun_block, row_behind, has_repeat, has_unknown, has_key, levels, size}
 use Rattle.yaml_tree.specs.Said.Said.{null, text, unknown, sequence, mapping, with_item, with_pair}
 use Rattle.yaml_tree.proofs.Lists.{chained}
 use Rattle.yaml_tree.proofs.KnownLaws.{has_repeat-from_line, has_unknown-from_line, levels-from_line, size-from_line}
-use Rattle.yaml_tree.proofs.WrittenLaws.{FlowReader, with_mark, with_marks, row_cases, literal_case, named_case}
+use Rattle.yaml_tree.proofs.WrittenLaws.{FlowReader, with_token, with_tokens, row_cases, literal_case, named_case}
 
 -- what doesn't shrink
 pub record Grows (old new : Said) : Type 0 where
@@ -75,7 +75,7 @@ pair-grows before line k old new g = let lev = g.no_fewer_levels in let siz = g.
   no_smaller = omega (arith, siz);
 }
 
-row-grows : (head : Mark) (before : Said) (old new : Meaning) → Grows old.0 new.0 → Grows (row_behind head before old).0 (row_behind head before new).0
+row-grows : (head : Token) (before : Said) (old new : Meaning) → Grows old.0 new.0 → Grows (row_behind head before old).0 (row_behind head before new).0
 row-grows (Key line column k) before old new g = pair-grows before line k old.0 new.0 g
 row-grows (Dash line column) before old new g = item-grows before old.0 new.0 g
 row-grows (Scalar line column value) before old new g = item-grows before old.0 new.0 g
@@ -84,7 +84,7 @@ row-grows (Copy line column n) before old new g = item-grows before old.0 new.0 
 row-grows (Bar line column chomp) before old new g = item-grows before old.0 new.0 g
 row-grows (Body line column bytes) before old new g = item-grows before old.0 new.0 g
 row-grows (Form line column pieces) before old new g = item-grows before old.0 new.0 g
-row-grows (OddMark line column why) before old new g = item-grows before old.0 new.0 g
+row-grows (OddToken line column why) before old new g = item-grows before old.0 new.0 g
 
 -- one row more
 with_item-grows : (before value : Said) → Grows before (with_item before value)
@@ -93,7 +93,7 @@ with_item-grows before value = record { repeat_stays = or_left (has_repeat befor
 with_pair-grows : (before : Said) (line : ℕ) (k : List ℕ) (value : Said) → Grows before (with_pair before line k value)
 with_pair-grows before line k value = record { repeat_stays = λ h. or_left (has_repeat before || has_key k before) (has_repeat value) (or_left (has_repeat before) (has_key k before) h); unknown_stays = or_left (has_unknown before) (has_unknown value); no_fewer_levels = omega arith; no_smaller = omega arith }
 
-row_behind-grows : (head : Mark) (before : Said) (meaning : Meaning) → Grows before (row_behind head before meaning).0
+row_behind-grows : (head : Token) (before : Said) (meaning : Meaning) → Grows before (row_behind head before meaning).0
 row_behind-grows (Key line column k) before meaning = with_pair-grows before line k meaning.0
 row_behind-grows (Dash line column) before meaning = with_item-grows before meaning.0
 row_behind-grows (Scalar line column value) before meaning = with_item-grows before meaning.0
@@ -102,29 +102,29 @@ row_behind-grows (Copy line column n) before meaning = with_item-grows before me
 row_behind-grows (Bar line column chomp) before meaning = with_item-grows before meaning.0
 row_behind-grows (Body line column bytes) before meaning = with_item-grows before meaning.0
 row_behind-grows (Form line column pieces) before meaning = with_item-grows before meaning.0
-row_behind-grows (OddMark line column why) before meaning = with_item-grows before meaning.0
+row_behind-grows (OddToken line column why) before meaning = with_item-grows before meaning.0
 
 -- what is said where a value stands, on this line and behind these names
 abbrev pub SaidGrows : ℕ → Names → Written → Written → Type 0
 SaidGrows line names old new = Grows (said (null line) names old).0 (said (null line) names new).0
 
-pub with_mark-grows : (r : FlowReader) (m : Mark) (old new : Written) → with_mark r m old ≡ Some new → (line : ℕ) (names : Names) → SaidGrows line names old new
-with_mark-grows r m nothing new e line names = null-grows line (said (null line) names new).0
-with_mark-grows r m (leaf other) new e line names = absurd (none-some new e)
-with_mark-grows r m (literal head lines) new e line names = subst (SaidGrows line names (literal head lines)) (literal_case r m head lines new e).2 (text-grows (line_of head) _ _)
-with_mark-grows r m (flowing other value) new e line names = absurd (none-some new e)
-with_mark-grows r m (named head value) new e line names = let c = named_case r m head value new e in
-    subst (SaidGrows line names (named head value)) c.3 (from_line-grows (line_of head) (said (null line) names value).0 (said (null line) names c.1).0 (with_mark-grows r m value c.1 c.2 line names))
-with_mark-grows r m (row before head value) new e line names = elim (row_cases r m head before value new e) [
+pub with_token-grows : (r : FlowReader) (m : Token) (old new : Written) → with_token r m old ≡ Some new → (line : ℕ) (names : Names) → SaidGrows line names old new
+with_token-grows r m nothing new e line names = null-grows line (said (null line) names new).0
+with_token-grows r m (leaf other) new e line names = absurd (none-some new e)
+with_token-grows r m (literal head lines) new e line names = subst (SaidGrows line names (literal head lines)) (literal_case r m head lines new e).2 (text-grows (line_of head) _ _)
+with_token-grows r m (flowing other value) new e line names = absurd (none-some new e)
+with_token-grows r m (named head value) new e line names = let c = named_case r m head value new e in
+    subst (SaidGrows line names (named head value)) c.3 (from_line-grows (line_of head) (said (null line) names value).0 (said (null line) names c.1).0 (with_token-grows r m value c.1 c.2 line names))
+with_token-grows r m (row before head value) new e line names = elim (row_cases r m head before value new e) [
   | inl h ↦ (let b = said (begun_block head) names before in subst (SaidGrows line names (row before head value)) h.3
-      (row-grows head b.0 (said (null (line_of head)) b.1 value) (said (null (line_of head)) b.1 h.1) (with_mark-grows r m value h.1 h.2 (line_of head) b.1)))
+      (row-grows head b.0 (said (null (line_of head)) b.1 value) (said (null (line_of head)) b.1 h.1) (with_token-grows r m value h.1 h.2 (line_of head) b.1)))
   | inr h ↦ (let b = said (begun_block m) names (row before head value) in subst (SaidGrows line names (row before head value)) h.2
       (row_behind-grows m b.0 (said (null (line_of m)) b.1 nothing)))
 ]
 
-pub with_marks-grows : (r : FlowReader) (ms : List Mark) (old new : Written) → with_marks r ms old ≡ Some new → (line : ℕ) (names : Names) → SaidGrows line names old new
-with_marks-grows r [] old new e line names = subst (SaidGrows line names old) (same_Some _ _ e) (record { repeat_stays = λ h. h; unknown_stays = λ h. h; no_fewer_levels = omega arith; no_smaller = omega arith })
-with_marks-grows r (m ∷ ms) old new e line names = let c = chained (with_marks r ms) (with_mark r m old) new e in
-    let first = with_mark-grows r m old c.0 c.1 line names in let rest = with_marks-grows r ms c.0 new c.2 line names in
+pub with_tokens-grows : (r : FlowReader) (ms : List Token) (old new : Written) → with_tokens r ms old ≡ Some new → (line : ℕ) (names : Names) → SaidGrows line names old new
+with_tokens-grows r [] old new e line names = subst (SaidGrows line names old) (same_Some _ _ e) (record { repeat_stays = λ h. h; unknown_stays = λ h. h; no_fewer_levels = omega arith; no_smaller = omega arith })
+with_tokens-grows r (m ∷ ms) old new e line names = let c = chained (with_tokens r ms) (with_token r m old) new e in
+    let first = with_token-grows r m old c.0 c.1 line names in let rest = with_tokens-grows r ms c.0 new c.2 line names in
     let a = first.no_fewer_levels in let b = rest.no_fewer_levels in let d = first.no_smaller in let f = rest.no_smaller in
     record { repeat_stays = λ h. rest.repeat_stays (first.repeat_stays h); unknown_stays = λ h. rest.unknown_stays (first.unknown_stays h); no_fewer_levels = omega (arith, a, b); no_smaller = omega (arith, d, f) }

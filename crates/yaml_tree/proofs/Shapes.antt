@@ -10,13 +10,13 @@ use Rattle.yaml_tree.specs.Flows.{Flow, has_cells}
 use Rattle.yaml_tree.specs.Flows.Flow.{absent, word, called, item, pair, form}
 
 -- where a value comes in its bracket: behind the items before it, or behind a key and the keys before that
-pub data Place : Type 0 where
-  behind_items : Flow → Place
-  behind_key : Flow → List ℕ → Place
+pub data CellPlace : Type 0 where
+  behind_items : Flow → CellPlace
+  behind_key : Flow → List ℕ → CellPlace
 
 -- a bracket that is open around another: where the inner one stands, and its name
 pub data Slot : Type 0 where
-  slot : Place → Option (List ℕ) → Slot
+  slot : CellPlace → Option (List ℕ) → Slot
 
 -- A form that is read so far: none; inside of a bracket, behind its opening or a comma, behind a key, behind a name,
 -- or behind a value; or whole. The brackets around it stand in a list, the innermost first.
@@ -24,11 +24,11 @@ pub data Shape : Type 0 where
   start : Shape
   cell_next : Bracket → Flow → List Slot → Shape
   value_next : Flow → List ℕ → List Slot → Shape
-  named_next : Place → List ℕ → List Slot → Shape
+  named_next : CellPlace → List ℕ → List Slot → Shape
   end_next : Bracket → Flow → List Slot → Shape
   done : Flow → Shape
 
-abbrev pub bracket_of : Place → Bracket
+abbrev pub bracket_of : CellPlace → Bracket
 bracket_of (behind_items cells) = Square
 bracket_of (behind_key cells key) = Curly
 
@@ -42,11 +42,11 @@ with_name None value = value
 with_name (Some name) value = called (CellName name) value
 
 -- the cells with the value that has come
-abbrev pub filled : Flow → Place → Flow
+abbrev pub filled : Flow → CellPlace → Flow
 filled value (behind_items cells) = item cells value
 filled value (behind_key cells key) = pair cells (CellKey key) value
 
-abbrev pub put_value : Flow → Place → List Slot → Shape
+abbrev pub put_value : Flow → CellPlace → List Slot → Shape
 put_value value place outer = end_next (bracket_of place) (filled value place) outer
 
 -- the form is closed
@@ -64,7 +64,7 @@ end_piece (Closing other) bracket cells outer = closed_by other bracket (form br
 end_piece _ bracket cells outer = None
 
 -- a piece behind a name
-abbrev pub named_piece : Piece → Place → List ℕ → List Slot → Option Shape
+abbrev pub named_piece : Piece → CellPlace → List ℕ → List Slot → Option Shape
 named_piece (Opening bracket) place name outer = Some (cell_next bracket absent (slot place (Some name) ∷ outer))
 named_piece (CellScalar text) place name outer = Some (put_value (called (CellName name) (word (CellScalar text))) place outer)
 named_piece Comma place name outer = end_piece Comma (bracket_of place) (filled (called (CellName name) absent) place) outer
@@ -72,7 +72,7 @@ named_piece (Closing other) place name outer = end_piece (Closing other) (bracke
 named_piece _ place name outer = None
 
 -- a piece where a value comes
-abbrev pub value_piece : Piece → Place → List Slot → Option Shape
+abbrev pub value_piece : Piece → CellPlace → List Slot → Option Shape
 value_piece (Opening bracket) place outer = Some (cell_next bracket absent (slot place None ∷ outer))
 value_piece (CellScalar text) place outer = Some (put_value (word (CellScalar text)) place outer)
 value_piece (CellName name) place outer = Some (named_next place name outer)

@@ -1,4 +1,4 @@
--- Each mark that the builder takes is one that the tree as it is written so far takes, and the builder goes on
+-- Each token that the builder takes is one that the tree as it is written so far takes, and the builder goes on
 -- standing for it.
 use Rattle.std.proofs.Common.{◌≡◌, ℕ, ◌+◌, ◌*◌, ◌<◌, ◌≤◌, Bool, true, false, ◌&&◌, cond, List, [], ◌∷◌, ◌++◌, Option, Some, None, option_map, unwrap_or, Result, Ok, Err, refl, sym, ap, ◌∙◌, subst, append_assoc, arith, ◌==◌, nat_lt, length, is_none, inl, inr, ◌⊎◌, eq-eqb, eqb-true}
 use Rattle.std.proofs.lemmas.Option.{none-some}
@@ -18,10 +18,10 @@ use Rattle.yaml_tree.specs.Holds.{HoldsSaid, IsNode, begins_on, scalar_value}
 use Rattle.yaml_tree.specs.Stack.{measured, one_node, unknown_node, with_part, measure_about}
 use Rattle.yaml_tree.specs.Tree.{kind_of}
 use Rattle.yaml_tree.specs.Trees.{root_number}
-use Rattle.yaml_tree.specs.Builder.{fresh, find_name, with_node, put_node, valued, known_of, settled, is_shallower, can_hold, can_name, with_scalar, with_name, put_found, with_copy, new_literal, with_bar, with_line_of, with_line, ended, take_pieces, formed, with_form, headed, unkeyed, refused, take_mark, value_measure, measure, whole}
+use Rattle.yaml_tree.specs.Builder.{fresh, find_name, with_node, put_node, valued, known_of, settled, is_shallower, can_hold, can_name, with_scalar, with_name, put_found, with_copy, new_literal, with_bar, with_line_of, with_line, ended, take_pieces, formed, with_form, headed, unkeyed, refused, take_token, value_measure, measure, whole}
 use Rattle.yaml_marks.specs.declared.piece.Piece.{Piece}
-use Rattle.yaml_marks.specs.declared.mark.Mark.{Mark}
-use Rattle.yaml_marks.specs.declared.mark.Mark.TheVariants.{Dash, Key, Scalar, Name, Copy, Bar, Body, Form, OddMark}
+use Rattle.yaml_marks.specs.declared.token.Token.{Token}
+use Rattle.yaml_marks.specs.declared.token.Token.TheVariants.{Dash, Key, Scalar, Name, Copy, Bar, Body, Form, OddToken}
 use Rattle.yaml_marks.specs.declared.chomp.Chomp.{Chomp}
 use Rattle.yaml_tree.specs.declared.literal.Literal.{Literal}
 use Rattle.yaml_marks.specs.declared.odd.Odd.{Odd}
@@ -34,25 +34,25 @@ use Rattle.yaml_tree.specs.declared.known.GivenName.{GivenName}
 use Rattle.yaml_tree.specs.declared.node.Node.{Node}
 use Rattle.yaml_tree.specs.declared.stack.Open.{Open}
 use Rattle.yaml_tree.specs.declared.builder.Builder.{Builder}
-use Rattle.yaml_tree.proofs.WrittenLaws.{FlowReader, begun_by, may_follow_name, with_mark, head_deep}
+use Rattle.yaml_tree.proofs.WrittenLaws.{FlowReader, begun_by, may_follow_name, with_token, head_deep}
 use Rattle.yaml_tree.proofs.FlowJudged.{FlowJudged, Judges}
 use Rattle.yaml_tree.proofs.FlowPlay.{Played, flow_played}
 use Rattle.yaml_tree.proofs.KnownLaws.{slice_get-last, measured-from_line}
 use Rattle.yaml_tree.proofs.Stands.{KnownIs, NameIs, NamesAre, named_by, Frame, called, wrap, names_at, line_at, HasName, OpenIs, before_of, Chain, OpensAre, LiteralIs, ValueIs, StandsAt, IsShut, Between, StandsFor}
 use Rattle.yaml_tree.proofs.SimulationValues.{meaning_at, said-called, OpensAre-more, put_node-stands, Valued, NoneIs, none_is, valued-stands, row-measure, HasCome, AtMost, Settled, settled_on-stands, Ready, ended-ready}
-use Rattle.yaml_tree.proofs.SimulationHeads.{with_mark-wrap, refused-wrap, called-begins, called-refuses, full-refuses, still_none, none-between, Taken, headed-taken}
+use Rattle.yaml_tree.proofs.SimulationHeads.{with_token-wrap, refused-wrap, called-begins, called-refuses, full-refuses, still_none, none-between, Taken, headed-taken}
 
 -- ---- where a value may come
 
 -- whether a value of this depth may come
 abbrev CanHold : FlowReader → ℕ → Builder → List Frame → Written → Bool → Type 0
 CanHold r d b fs value true = (b.value ≡ None) × NoneIs b fs value × Chain d fs
-CanHold r d b fs value false = (m : Mark) → is_head m ≡ false → is_body_line m ≡ false → depth m ≡ d → with_mark r m (wrap fs value) ≡ None
+CanHold r d b fs value false = (m : Token) → is_head m ≡ false → is_body_line m ≡ false → depth m ≡ d → with_token r m (wrap fs value) ≡ None
 
 can_hold-means : (r : FlowReader) (d : ℕ) (b : Builder) (fs : List Frame) (value : Written) → Ready b fs value → CanHold r d b fs value (can_hold d b)
 can_hold-means r d b fs value ready = by b.value refl
   where
-    shallow : (os : List Open) (gs : List Frame) → OpensAre b.nodes os gs → b.value ≡ None → NoneIs b fs value → ((m : Mark) → is_head m ≡ false → with_mark r m (wrap gs value) ≡ None → with_mark r m (wrap fs value) ≡ None) → (Chain d gs → Chain d fs) → CanHold r d b fs value (is_shallower d os)
+    shallow : (os : List Open) (gs : List Frame) → OpensAre b.nodes os gs → b.value ≡ None → NoneIs b fs value → ((m : Token) → is_head m ≡ false → with_token r m (wrap gs value) ≡ None → with_token r m (wrap fs value) ≡ None) → (Chain d gs → Chain d fs) → CanHold r d b fs value (is_shallower d os)
     shallow [] [] h e none out chain = (e, none, chain tt)
     shallow [] (g ∷ gs) h e none out chain = absurd h
     shallow (o ∷ os) [] h e none out chain = absurd h
@@ -68,15 +68,15 @@ can_hold-means r d b fs value ready = by b.value refl
     by (Some k) e = λ m head line deep. refused-wrap r m fs value head (full-refuses r m d value deep line (subst (λ v. HasCome d v value) e (ready.come d)))
     by None e = shallow b.open_rows fs ready.stands.opens e (none_is b fs value e ready.shut ready.stands) (λ m head h. h) (λ h. h)
 
--- a mark that begins a value where one may come
-value-begins : (r : FlowReader) (m : Mark) (b : Builder) (fs : List Frame) (value new : Written) → may_follow_name m ≡ true → begun_by r m ≡ Some new → (none : NoneIs b fs value) → Chain (depth m) fs → with_mark r m (wrap fs value) ≡ Some (wrap fs (called none.0 new))
+-- a token that begins a value where one may come
+value-begins : (r : FlowReader) (m : Token) (b : Builder) (fs : List Frame) (value new : Written) → may_follow_name m ≡ true → begun_by r m ≡ Some new → (none : NoneIs b fs value) → Chain (depth m) fs → with_token r m (wrap fs value) ≡ Some (wrap fs (called none.0 new))
 value-begins r m b fs value new follows begins none chain =
-    ap (λ v. with_mark r m (wrap fs v)) none.2 ∙ with_mark-wrap r m fs (called none.0 nothing) chain
+    ap (λ v. with_token r m (wrap fs v)) none.2 ∙ with_token-wrap r m fs (called none.0 nothing) chain
     ∙ ap (option_map (wrap fs)) (called-begins r m none.0 follows ∙ ap (option_map (called none.0)) begins)
 
-shut-called : (name : Option Mark) (value : Written) → IsShut value → IsShut (called name value)
+shut-called : (name : Option Token) (value : Written) → IsShut value → IsShut (called name value)
 shut-called None value h = h
-shut-called (Some mark) value h = h
+shut-called (Some token) value h = h
 
 -- ---- scalars
 
@@ -100,7 +100,7 @@ with_scalar-taken : (r : FlowReader) (line column : ℕ) (text : Option (List �
 unfolding with_scalar
 with_scalar-taken r line column text b fs value ready = by (can_hold (1 + 2 * column) b) (can_hold-means r (1 + 2 * column) b fs value ready)
   where
-    m : Mark
+    m : Token
     m = Scalar line column text
 
     by : (q : Bool) → CanHold r (1 + 2 * column) b fs value q → Taken r m (wrap fs value) (cond q (Ok (put_node line (scalar_value text) one_node b)) (Err Syntax))
@@ -121,35 +121,35 @@ with_scalar-taken r line column text b fs value ready = by (can_hold (1 + 2 * co
 -- ---- names and copies
 
 -- whether a name or a copy of this depth may come
-abbrev CanName : FlowReader → Mark → Builder → List Frame → Written → Bool → Type 0
+abbrev CanName : FlowReader → Token → Builder → List Frame → Written → Bool → Type 0
 CanName r m b fs value true = (b.value ≡ None) × (b.name ≡ None) × (value ≡ nothing) × NamesAre b.nodes b.names (names_at fs) × Chain (depth m) fs
-CanName r m b fs value false = with_mark r m (wrap fs value) ≡ None
+CanName r m b fs value false = with_token r m (wrap fs value) ≡ None
 
-no_name : (waits : Option GivenName) (name : Option Mark) → HasName waits name → waits ≡ None → called name nothing ≡ nothing
+no_name : (waits : Option GivenName) (name : Option Token) → HasName waits name → waits ≡ None → called name nothing ≡ nothing
 no_name None None h e = refl
-no_name None (Some mark) h e = absurd h
+no_name None (Some token) h e = absurd h
 no_name (Some n) name h e = absurd (none-some n (sym e))
 
 -- behind a name no other name may come, and no copy
-names-refuse : (r : FlowReader) (m : Mark) (waits : Option GivenName) (n : GivenName) (name : Option Mark) → may_follow_name m ≡ false → HasName waits name → waits ≡ Some n → with_mark r m (called name nothing) ≡ None
+names-refuse : (r : FlowReader) (m : Token) (waits : Option GivenName) (n : GivenName) (name : Option Token) → may_follow_name m ≡ false → HasName waits name → waits ≡ Some n → with_token r m (called name nothing) ≡ None
 names-refuse r m None n name follows h e = absurd (none-some n e)
 names-refuse r m (Some other) n None follows h e = absurd h
-names-refuse r m (Some other) n (Some mark) follows h e = cond-false (may_follow_name m) _ _ follows
+names-refuse r m (Some other) n (Some token) follows h e = cond-false (may_follow_name m) _ _ follows
 
-can_name-means : (r : FlowReader) (m : Mark) (b : Builder) (fs : List Frame) (value : Written) → is_head m ≡ false → is_body_line m ≡ false → may_follow_name m ≡ false → Ready b fs value → CanName r m b fs value (can_name (depth m) b)
+can_name-means : (r : FlowReader) (m : Token) (b : Builder) (fs : List Frame) (value : Written) → is_head m ≡ false → is_body_line m ≡ false → may_follow_name m ≡ false → Ready b fs value → CanName r m b fs value (can_name (depth m) b)
 can_name-means r m b fs value head line follows ready = by b.name (can_hold (depth m) b) refl (can_hold-means r (depth m) b fs value ready)
   where
     by : (waits : Option GivenName) (q : Bool) → b.name ≡ waits → CanHold r (depth m) b fs value q → CanName r m b fs value (is_none waits && q)
     by None true e h = (h.0, e, h.1.2 ∙ no_name b.name h.1.0 h.1.1 e, h.1.3, h.2)
     by None false e h = h m head line refl
-    by (Some n) true e h = ap (λ v. with_mark r m (wrap fs v)) h.1.2 ∙ with_mark-wrap r m fs (called h.1.0 nothing) h.2 ∙ ap (option_map (wrap fs)) (names-refuse r m b.name n h.1.0 follows h.1.1 e)
+    by (Some n) true e h = ap (λ v. with_token r m (wrap fs v)) h.1.2 ∙ with_token-wrap r m fs (called h.1.0 nothing) h.2 ∙ ap (option_map (wrap fs)) (names-refuse r m b.name n h.1.0 follows h.1.1 e)
     by (Some n) false e h = h m head line refl
 
 with_name-taken : (r : FlowReader) (line column : ℕ) (text : List ℕ) (b : Builder) (fs : List Frame) (value : Written) → Ready b fs value → Taken r (Name line column text) (wrap fs value) (with_name (1 + 2 * column) line text b)
 unfolding with_name
 with_name-taken r line column text b fs value ready = by (can_name (1 + 2 * column) b) (can_name-means r (Name line column text) b fs value refl refl refl ready)
   where
-    m : Mark
+    m : Token
     m = Name line column text
 
     next : Builder
@@ -159,7 +159,7 @@ with_name-taken r line column text b fs value ready = by (can_name (1 + 2 * colu
     by false h = (h, refl)
     by true h = (
       wrap fs (named m nothing),
-      ap (λ v. with_mark r m (wrap fs v)) h.2 ∙ with_mark-wrap r m fs nothing h.4,
+      ap (λ v. with_token r m (wrap fs v)) h.2 ∙ with_token-wrap r m fs nothing h.4,
       (
         fs,
         named m nothing,
@@ -170,14 +170,14 @@ with_name-taken r line column text b fs value ready = by (can_name (1 + 2 * colu
     )
 
 -- what a copy stands for, once it has come
-abbrev CopyStands : ℕ → Mark → Builder → List Frame → Option Known → Type 0
+abbrev CopyStands : ℕ → Token → Builder → List Frame → Option Known → Type 0
 CopyStands line m b fs found = StandsAt (put_found line found b) fs (leaf m) × Between (put_found line found b).value (leaf m)
 
 copy-stands : (line column : ℕ) (text : List ℕ) (b : Builder) (fs : List Frame) (value : Written) → Ready b fs value → b.name ≡ None → NamesAre b.nodes b.names (names_at fs) → CopyStands line (Copy line column text) b fs (find_name b.names text)
 unfolding put_node with_node
 copy-stands line column text b fs value ready e names = by (find_name b.names text) (lookup (pointwise ◌==◌ text) (names_at fs)) refl (names text)
   where
-    m : Mark
+    m : Token
     m = Copy line column text
 
     by : (found : Option Known) (tree : Option Said) → lookup (pointwise ◌==◌ text) (names_at fs) ≡ tree → NameIs b.nodes found tree → CopyStands line m b fs found
@@ -197,14 +197,14 @@ with_copy-taken : (r : FlowReader) (line column : ℕ) (text : List ℕ) (b : Bu
 unfolding with_copy
 with_copy-taken r line column text b fs value ready = by (can_name (1 + 2 * column) b) (can_name-means r (Copy line column text) b fs value refl refl refl ready)
   where
-    m : Mark
+    m : Token
     m = Copy line column text
 
     by : (q : Bool) → CanName r m b fs value q → Taken r m (wrap fs value) (cond q (Ok (put_found line (find_name b.names text) b)) (Err Syntax))
     by false h = (h, refl)
     by true h = let c = copy-stands line column text b fs value ready h.1 h.3 in (
       wrap fs (leaf m),
-      ap (λ v. with_mark r m (wrap fs v)) h.2 ∙ with_mark-wrap r m fs nothing h.4,
+      ap (λ v. with_token r m (wrap fs v)) h.2 ∙ with_token-wrap r m fs nothing h.4,
       (fs, leaf m, c.0, refl, c.1),
     )
 
@@ -214,7 +214,7 @@ with_bar-taken : (r : FlowReader) (line column : ℕ) (chomp : Chomp) (b : Build
 unfolding with_bar
 with_bar-taken r line column chomp b fs value ready = by (can_hold (1 + 2 * column) b) (can_hold-means r (1 + 2 * column) b fs value ready)
   where
-    m : Mark
+    m : Token
     m = Bar line column chomp
 
     l : Literal
@@ -242,35 +242,35 @@ with_bar-taken r line column chomp b fs value ready = by (can_hold (1 + 2 * colu
       ),
     )
 
-bodies_of-more : (lines : List Mark) (m : Mark) → bodies_of (lines ++ (m ∷ [])) ≡ bodies_of lines ++ (body_of m ∷ [])
+bodies_of-more : (lines : List Token) (m : Token) → bodies_of (lines ++ (m ∷ [])) ≡ bodies_of lines ++ (body_of m ∷ [])
 bodies_of-more [] m = refl
 bodies_of-more (line ∷ lines) m = ap (λ l. body_of line ∷ l) (bodies_of-more lines m)
 
 -- a line more of the literal block at the end of the frames, where it is as deep
-line-goes : (r : FlowReader) (line column : ℕ) (bytes : List ℕ) (name : Option Mark) (bar : Mark) (lines : List Mark) (q : Bool) → (1 + 2 * column == depth bar) ≡ q → with_mark r (Body line column bytes) (called name (literal bar lines)) ≡ cond q (Some (called name (literal bar (lines ++ (Body line column bytes ∷ []))))) None
+line-goes : (r : FlowReader) (line column : ℕ) (bytes : List ℕ) (name : Option Token) (bar : Token) (lines : List Token) (q : Bool) → (1 + 2 * column == depth bar) ≡ q → with_token r (Body line column bytes) (called name (literal bar lines)) ≡ cond q (Some (called name (literal bar (lines ++ (Body line column bytes ∷ []))))) None
 line-goes r line column bytes None bar lines true e = cond-true (1 + 2 * column == depth bar) _ _ e
 line-goes r line column bytes None bar lines false e = cond-false (1 + 2 * column == depth bar) _ _ e
-line-goes r line column bytes (Some mark) bar lines true e = ap (option_map (named mark)) (cond-true (1 + 2 * column == depth bar) _ _ e)
-line-goes r line column bytes (Some mark) bar lines false e = ap (option_map (named mark)) (cond-false (1 + 2 * column == depth bar) _ _ e)
+line-goes r line column bytes (Some token) bar lines true e = ap (option_map (named token)) (cond-true (1 + 2 * column == depth bar) _ _ e)
+line-goes r line column bytes (Some token) bar lines false e = ap (option_map (named token)) (cond-false (1 + 2 * column == depth bar) _ _ e)
 
 -- a line of a literal block where none is open
-no_bar : (r : FlowReader) (line column : ℕ) (bytes : List ℕ) (b : Builder) (fs : List Frame) (value : Written) (v : Option Known) → b.value ≡ v → b.literal ≡ None → StandsAt b fs value → Between b.value value → with_mark r (Body line column bytes) value ≡ None
-no_bar r line column bytes b fs value None e shut s between = let none = none_is b fs value e shut s in ap (with_mark r (Body line column bytes)) none.2 ∙ called-refuses r (Body line column bytes) none.0 nothing refl
+no_bar : (r : FlowReader) (line column : ℕ) (bytes : List ℕ) (b : Builder) (fs : List Frame) (value : Written) (v : Option Known) → b.value ≡ v → b.literal ≡ None → StandsAt b fs value → Between b.value value → with_token r (Body line column bytes) value ≡ None
+no_bar r line column bytes b fs value None e shut s between = let none = none_is b fs value e shut s in ap (with_token r (Body line column bytes)) none.2 ∙ called-refuses r (Body line column bytes) none.0 nothing refl
 no_bar r line column bytes b fs value (Some k) e shut s between = refuses value (subst (λ v. Between v value) e between)
   where
-    refuses : (w : Written) → IsShut w → with_mark r (Body line column bytes) w ≡ None
+    refuses : (w : Written) → IsShut w → with_token r (Body line column bytes) w ≡ None
     refuses nothing h = absurd h
-    refuses (leaf mark) h = refl
-    refuses (literal mark lines) h = absurd h
-    refuses (flowing mark v) h = refl
-    refuses (named mark w) h = called-refuses r (Body line column bytes) (Some mark) w (refuses w h)
+    refuses (leaf token) h = refl
+    refuses (literal token lines) h = absurd h
+    refuses (flowing token v) h = refl
+    refuses (named token w) h = called-refuses r (Body line column bytes) (Some token) w (refuses w h)
     refuses (row before head w) h = absurd h
 
 with_line-taken : (r : FlowReader) (line column : ℕ) (bytes : List ℕ) (b : Builder) (fs : List Frame) (value : Written) → StandsAt b fs value → Between b.value value → Taken r (Body line column bytes) (wrap fs value) (with_line (1 + 2 * column) bytes b)
 unfolding with_line
 with_line-taken r line column bytes b fs value s between = by b.literal b.value refl refl
   where
-    m : Mark
+    m : Token
     m = Body line column bytes
 
     by : (open_literal : Option Literal) (v : Option Known) → b.literal ≡ open_literal → b.value ≡ v → Taken r m (wrap fs value) (with_line_of open_literal (1 + 2 * column) bytes b)
@@ -285,7 +285,7 @@ with_line-taken r line column bytes b fs value s between = by b.literal b.value 
         elim (l.depth == 1 + 2 * column) as (λ t. (l.depth == 1 + 2 * column) ≡ t → Taken r m (wrap fs value) (cond t (Ok next) (Err Syntax))) [
           | true ↦ λ t. (let same : l.depth ≡ 1 + 2 * column = eqb-true l.depth (1 + 2 * column) t in let level : 1 + 2 * column ≡ depth i.2 = sym same ∙ is.has_depth in (
             wrap fs new,
-            ap (λ v. with_mark r m (wrap fs v)) i.6 ∙ with_mark-wrap r m fs (called i.0 (literal i.2 i.3)) (subst (λ d. Chain d fs) (sym level) i.5)
+            ap (λ v. with_token r m (wrap fs v)) i.6 ∙ with_token-wrap r m fs (called i.0 (literal i.2 i.3)) (subst (λ d. Chain d fs) (sym level) i.5)
                 ∙ ap (option_map (wrap fs)) (line-goes r line column bytes i.0 i.2 i.3 true (eq-eqb (1 + 2 * column) (depth i.2) level)),
             (
               fs,
@@ -300,7 +300,7 @@ with_line-taken r line column bytes b fs value s between = by b.literal b.value 
               none-between b.value new q,
             ),
           ))
-          | false ↦ λ t. (refused-wrap r m fs value refl (ap (with_mark r m) i.6 ∙ line-goes r line column bytes i.0 i.2 i.3 false (other l.depth (1 + 2 * column) (depth i.2) is.has_depth t)), refl)
+          | false ↦ λ t. (refused-wrap r m fs value refl (ap (with_token r m) i.6 ∙ line-goes r line column bytes i.0 i.2 i.3 false (other l.depth (1 + 2 * column) (depth i.2) is.has_depth t)), refl)
         ] refl
       where
         other : (a b c : ℕ) → a ≡ c → (a == b) ≡ false → (b == c) ≡ false
@@ -308,18 +308,18 @@ with_line-taken r line column bytes b fs value s between = by b.literal b.value 
 
 -- ---- flow forms
 
--- the kind of fault of a mark that the tree so far doesn't take
-abbrev pub KindAfter : FlowReader → Mark → Written → FaultKind → Type 0
-KindAfter r (OddMark line column odd.Syntax) w kind = kind ≡ Syntax
-KindAfter r (OddMark line column odd.Unsupported) w kind = kind ≡ Unsupported
-KindAfter r (OddMark line column odd.Mark) w kind = ((kind ≡ Unsupported) × (m : Written) × (with_mark r (Scalar line column None) w ≡ Some m)) ⊎ ((kind ≡ Syntax) × (with_mark r (Scalar line column None) w ≡ None))
-KindAfter r (OddMark line column odd.Unkeyed) w kind = ((kind ≡ Unsupported) × (m : Written) × (with_mark r (Key line column []) w ≡ Some m)) ⊎ ((kind ≡ Syntax) × (with_mark r (Key line column []) w ≡ None))
-KindAfter r (Form line column pieces) w kind = (((m : Written) × (with_mark r (Scalar line column None) w ≡ Some m)) × IsFlowMisfit pieces kind) ⊎ ((with_mark r (Scalar line column None) w ≡ None) × (kind ≡ kind_of (why_bracket pieces)))
+-- the kind of fault of a token that the tree so far doesn't take
+abbrev pub KindAfter : FlowReader → Token → Written → FaultKind → Type 0
+KindAfter r (OddToken line column odd.Syntax) w kind = kind ≡ Syntax
+KindAfter r (OddToken line column odd.Unsupported) w kind = kind ≡ Unsupported
+KindAfter r (OddToken line column odd.Indicator) w kind = ((kind ≡ Unsupported) × (m : Written) × (with_token r (Scalar line column None) w ≡ Some m)) ⊎ ((kind ≡ Syntax) × (with_token r (Scalar line column None) w ≡ None))
+KindAfter r (OddToken line column odd.Unkeyed) w kind = ((kind ≡ Unsupported) × (m : Written) × (with_token r (Key line column []) w ≡ Some m)) ⊎ ((kind ≡ Syntax) × (with_token r (Key line column []) w ≡ None))
+KindAfter r (Form line column pieces) w kind = (((m : Written) × (with_token r (Scalar line column None) w ≡ Some m)) × IsFlowMisfit pieces kind) ⊎ ((with_token r (Scalar line column None) w ≡ None) × (kind ≡ kind_of (why_bracket pieces)))
 KindAfter r _ w kind = kind ≡ Syntax
 
-abbrev pub TakenAny : FlowReader → Mark → Written → Result Builder FaultKind → Type 0
-TakenAny r m w (Ok b) = (new : Written) × (with_mark r m w ≡ Some new) × StandsFor b new
-TakenAny r m w (Err kind) = (with_mark r m w ≡ None) × KindAfter r m w kind
+abbrev pub TakenAny : FlowReader → Token → Written → Result Builder FaultKind → Type 0
+TakenAny r m w (Ok b) = (new : Written) × (with_token r m w ≡ Some new) × StandsFor b new
+TakenAny r m w (Err kind) = (with_token r m w ≡ None) × KindAfter r m w kind
 
 -- a form begins its own collection
 form-same : (f : Flow) (line : ℕ) (a b : Said) (names : Names) → IsForm f → flow_said line a names f ≡ flow_said line b names f
@@ -333,7 +333,7 @@ form-same (form bracket cells last) line a b names h = refl
 form-stands : (line column : ℕ) (pieces : List Piece) (f : Flow) (b : Builder) (fs : List Frame) (value : Written) → SpellsFlow pieces f → Ready b fs value → (none : NoneIs b fs value) → StandsFor (take_pieces line pieces b) (wrap fs (called none.0 (flowing (Form line column pieces) f)))
 form-stands line column pieces f b fs value spells ready none =
     let p : Played line f b (names_at fs) (take_pieces line pieces b) = flow_played line pieces f b (names_at fs) spells ready.stands.flat none.3 in
-    let m : Mark = Form line column pieces in
+    let m : Token = Form line column pieces in
     let new : Written = called none.0 (flowing m f) in
     let meaning : Meaning = flow_said line (null line) (names_at fs) f in
     let nodes : List Node = b.nodes ++ p.0 in
@@ -367,10 +367,10 @@ with_form-taken : (r : FlowReader) → Judges → (line column : ℕ) (pieces : 
 unfolding with_form
 with_form-taken r judges line column pieces b fs value ready = by (can_hold (1 + 2 * column) b) (can_hold-means r (1 + 2 * column) b fs value ready)
   where
-    m : Mark
+    m : Token
     m = Form line column pieces
 
-    scalar : Mark
+    scalar : Token
     scalar = Scalar line column None
 
     judged : (fault : Option FaultKind) → FlowJudged pieces fault → (none : NoneIs b fs value) → Chain (1 + 2 * column) fs → TakenAny r m (wrap fs value) (formed fault line pieces b)
@@ -380,7 +380,7 @@ with_form-taken r judges line column pieces b fs value ready = by (can_hold (1 +
       form-stands line column pieces j.0 b fs value j.1 ready none,
     )
     judged (Some kind) j none chain = (
-      ap (λ v. with_mark r m (wrap fs v)) none.2 ∙ with_mark-wrap r m fs (called none.0 nothing) chain
+      ap (λ v. with_token r m (wrap fs v)) none.2 ∙ with_token-wrap r m fs (called none.0 nothing) chain
           ∙ ap (option_map (wrap fs)) (called-begins r m none.0 refl ∙ ap (λ o. option_map (called none.0) (option_map (flowing m) o)) (misfit-unread r pieces kind j (r.read pieces) refl)),
       inl ((wrap fs (called none.0 (leaf scalar)), value-begins r scalar b fs value (leaf scalar) refl refl none chain), j),
     )
@@ -389,37 +389,37 @@ with_form-taken r judges line column pieces b fs value ready = by (can_hold (1 +
     by false h = (h m refl refl refl, inr (h scalar refl refl refl, refl))
     by true h = judged (flow_fault pieces) (judges pieces) h.1 h.2
 
--- ---- any mark
+-- ---- any token
 
-odd-refused : (r : FlowReader) (line column : ℕ) (why : Odd) (w : Written) → with_mark r (OddMark line column why) w ≡ None
+odd-refused : (r : FlowReader) (line column : ℕ) (why : Odd) (w : Written) → with_token r (OddToken line column why) w ≡ None
 odd-refused r line column why nothing = refl
 odd-refused r line column why (leaf other) = refl
 odd-refused r line column why (literal head lines) = refl
 odd-refused r line column why (flowing other v) = refl
-odd-refused r line column why (named head w) = called-refuses r (OddMark line column why) (Some head) w (odd-refused r line column why w)
+odd-refused r line column why (named head w) = called-refuses r (OddToken line column why) (Some head) w (odd-refused r line column why w)
 odd-refused r line column why (row before head w) = cond-false (nat_lt (depth head) 0) _ _ (le-ltb _ _ (omega arith))
 
-mark-kind : (r : FlowReader) (line column : ℕ) (b : Builder) (fs : List Frame) (value : Written) (q : Bool) → CanHold r (1 + 2 * column) b fs value q → KindAfter r (OddMark line column odd.Mark) (wrap fs value) (cond q Unsupported Syntax)
-mark-kind r line column b fs value true h = let m : Mark = Scalar line column None in inl (refl, wrap fs (called h.1.0 (leaf m)), value-begins r m b fs value (leaf m) refl refl h.1 h.2)
-mark-kind r line column b fs value false h = inr (refl, h (Scalar line column None) refl refl refl)
+indicator-kind : (r : FlowReader) (line column : ℕ) (b : Builder) (fs : List Frame) (value : Written) (q : Bool) → CanHold r (1 + 2 * column) b fs value q → KindAfter r (OddToken line column odd.Indicator) (wrap fs value) (cond q Unsupported Syntax)
+indicator-kind r line column b fs value true h = let m : Token = Scalar line column None in inl (refl, wrap fs (called h.1.0 (leaf m)), value-begins r m b fs value (leaf m) refl refl h.1 h.2)
+indicator-kind r line column b fs value false h = inr (refl, h (Scalar line column None) refl refl refl)
 
 -- a scalar without its colon, tried as a key
-unkeyed-taken : (r : FlowReader) (line column : ℕ) (w : Written) (step : Result Builder FaultKind) → Taken r (Key line column []) w step → TakenAny r (OddMark line column odd.Unkeyed) w (unkeyed step)
+unkeyed-taken : (r : FlowReader) (line column : ℕ) (w : Written) (step : Result Builder FaultKind) → Taken r (Key line column []) w step → TakenAny r (OddToken line column odd.Unkeyed) w (unkeyed step)
 unkeyed-taken r line column w (Ok b) h = (odd-refused r line column odd.Unkeyed w, inl (refl, h.0, h.1))
 unkeyed-taken r line column w (Err kind) h = (odd-refused r line column odd.Unkeyed w, inr (h.1, h.0))
 
-odd-taken : (r : FlowReader) (line column : ℕ) (why : Odd) (b : Builder) (fs : List Frame) (value : Written) → Ready b fs value → TakenAny r (OddMark line column why) (wrap fs value) (refused (1 + 2 * column) line why b)
-odd-taken r line column odd.Mark b fs value ready = (odd-refused r line column odd.Mark (wrap fs value), mark-kind r line column b fs value (can_hold (1 + 2 * column) b) (can_hold-means r (1 + 2 * column) b fs value ready))
+odd-taken : (r : FlowReader) (line column : ℕ) (why : Odd) (b : Builder) (fs : List Frame) (value : Written) → Ready b fs value → TakenAny r (OddToken line column why) (wrap fs value) (refused (1 + 2 * column) line why b)
+odd-taken r line column odd.Indicator b fs value ready = (odd-refused r line column odd.Indicator (wrap fs value), indicator-kind r line column b fs value (can_hold (1 + 2 * column) b) (can_hold-means r (1 + 2 * column) b fs value ready))
 odd-taken r line column odd.Unkeyed b fs value ready = unkeyed-taken r line column (wrap fs value) (headed (1 + 2 * column) true line [] b) (headed-taken r (Key line column []) b fs value refl ready)
 odd-taken r line column odd.Unsupported b fs value ready = (odd-refused r line column odd.Unsupported (wrap fs value), refl)
 odd-taken r line column odd.Syntax b fs value ready = (odd-refused r line column odd.Syntax (wrap fs value), refl)
 
-any-from : (r : FlowReader) (m : Mark) (w : Written) (step : Result Builder FaultKind) → ((kind : FaultKind) → kind ≡ Syntax → KindAfter r m w kind) → Taken r m w step → TakenAny r m w step
+any-from : (r : FlowReader) (m : Token) (w : Written) (step : Result Builder FaultKind) → ((kind : FaultKind) → kind ≡ Syntax → KindAfter r m w kind) → Taken r m w step → TakenAny r m w step
 any-from r m w (Ok b) k h = h
 any-from r m w (Err kind) k h = (h.0, k kind h.1)
 
-taken_at : (r : FlowReader) → Judges → (m : Mark) (b : Builder) (fs : List Frame) (value : Written) → StandsAt b fs value → Between b.value value → TakenAny r m (wrap fs value) (take_mark m b)
-unfolding take_mark
+taken_at : (r : FlowReader) → Judges → (m : Token) (b : Builder) (fs : List Frame) (value : Written) → StandsAt b fs value → Between b.value value → TakenAny r m (wrap fs value) (take_token m b)
+unfolding take_token
 taken_at r judges (Dash line column) b fs value s between = any-from r (Dash line column) (wrap fs value) _ (λ k e. e) (headed-taken r (Dash line column) (ended b) fs value refl (ended-ready b fs value s between))
 taken_at r judges (Key line column text) b fs value s between = any-from r (Key line column text) (wrap fs value) _ (λ k e. e) (headed-taken r (Key line column text) (ended b) fs value refl (ended-ready b fs value s between))
 taken_at r judges (Scalar line column text) b fs value s between = any-from r (Scalar line column text) (wrap fs value) _ (λ k e. e) (with_scalar-taken r line column text (ended b) fs value (ended-ready b fs value s between))
@@ -428,20 +428,20 @@ taken_at r judges (Copy line column text) b fs value s between = any-from r (Cop
 taken_at r judges (Bar line column chomp) b fs value s between = any-from r (Bar line column chomp) (wrap fs value) _ (λ k e. e) (with_bar-taken r line column chomp (ended b) fs value (ended-ready b fs value s between))
 taken_at r judges (Body line column bytes) b fs value s between = any-from r (Body line column bytes) (wrap fs value) _ (λ k e. e) (with_line-taken r line column bytes b fs value s between)
 taken_at r judges (Form line column pieces) b fs value s between = with_form-taken r judges line column pieces (ended b) fs value (ended-ready b fs value s between)
-taken_at r judges (OddMark line column why) b fs value s between = odd-taken r line column why (ended b) fs value (ended-ready b fs value s between)
+taken_at r judges (OddToken line column why) b fs value s between = odd-taken r line column why (ended b) fs value (ended-ready b fs value s between)
 
--- each mark that is taken is one that the tree so far takes
-pub take_mark-taken : (r : FlowReader) → Judges → (m : Mark) (b : Builder) (w : Written) → StandsFor b w → TakenAny r m w (take_mark m b)
-take_mark-taken r judges m b w h = subst (λ x. TakenAny r m x (take_mark m b)) h.3 (taken_at r judges m b h.0 h.1 h.2 h.4)
+-- each token that is taken is one that the tree so far takes
+pub take_token-taken : (r : FlowReader) → Judges → (m : Token) (b : Builder) (w : Written) → StandsFor b w → TakenAny r m w (take_token m b)
+take_token-taken r judges m b w h = subst (λ x. TakenAny r m x (take_token m b)) h.3 (taken_at r judges m b h.0 h.1 h.2 h.4)
 
 pub fresh-stands : (alloc : Global) → StandsFor (fresh alloc) nothing
 fresh-stands alloc = ([], nothing, record { flat = refl; opens = tt; is = (None, tt, refl, λ n. tt) }, refl, tt)
 
 -- ---- the measure of the tree so far
 
-measured-called : (name : Option Mark) (none : Said) (names : Names) (value : Written) → measured (said none names (called name value)).0 ≡ measured (said none names value).0
+measured-called : (name : Option Token) (none : Said) (names : Names) (value : Written) → measured (said none names (called name value)).0 ≡ measured (said none names value).0
 measured-called None none names value = refl
-measured-called (Some mark) none names value = measured-from_line (line_of mark) (said none names value).0
+measured-called (Some token) none names value = measured-from_line (line_of token) (said none names value).0
 
 measure-about : (nodes : List Node) (os : List Open) (fs : List Frame) (value : Written) (x : Measure) → OpensAre nodes os fs → x ≡ measured (meaning_at fs value).0 → measure_about os x ≡ measured (tree_of (wrap fs value))
 measure-about nodes [] [] value x h e = e

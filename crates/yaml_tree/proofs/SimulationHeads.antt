@@ -9,8 +9,8 @@ use Rattle.yaml_tree.specs.Holds.{HoldsRows, no_rows, with_row, begins_on}
 use Rattle.yaml_tree.specs.Entries as entries
 use Rattle.yaml_tree.specs.Stack.{new_open, measured, no_row, with_part, with_repeat, finished, has_row, with_next_row}
 use Rattle.yaml_tree.specs.Builder.{valued, known_of, begun, next_row, headed_on, headed, settled}
-use Rattle.yaml_marks.specs.declared.mark.Mark.{Mark}
-use Rattle.yaml_marks.specs.declared.mark.Mark.TheVariants.{Dash, Key, Scalar, Name, Copy, Bar, Body, Form, OddMark}
+use Rattle.yaml_marks.specs.declared.token.Token.{Token}
+use Rattle.yaml_marks.specs.declared.token.Token.TheVariants.{Dash, Key, Scalar, Name, Copy, Bar, Body, Form, OddToken}
 use Rattle.yaml_tree.specs.declared.fault.FaultKind.{FaultKind}
 use Rattle.yaml_tree.specs.declared.fault.FaultKind.TheVariants.{Syntax}
 use Rattle.yaml_tree.specs.declared.known.Known.{Known}
@@ -18,12 +18,12 @@ use Rattle.yaml_tree.specs.declared.node.Node.{Node}
 use Rattle.yaml_tree.specs.declared.stack.Open.{Open}
 use Rattle.yaml_tree.specs.declared.builder.Builder.{Builder}
 use Rattle.yaml_tree.proofs.Lists.{is_same}
-use Rattle.yaml_tree.proofs.WrittenLaws.{FlowReader, begun_by, may_follow_name, may_go_on, with_mark}
+use Rattle.yaml_tree.proofs.WrittenLaws.{FlowReader, begun_by, may_follow_name, may_go_on, with_token}
 use Rattle.yaml_tree.proofs.KnownLaws.{mapping_has_key}
 use Rattle.yaml_tree.proofs.Stands.{NamesAre, Frame, called, wrap, names_at, is_key, key_of, repeats, HasName, rows_of, OpenIs, before_of, Chain, OpensAre, ValueIs, StandsAt, Between, StandsFor}
 use Rattle.yaml_tree.proofs.SimulationValues.{meaning_at, Valued, NoneIs, none_is, valued-stands, valued-rows, row_behind-names, row-measure, rows-hold, IsFull, HasCome, AtMost, settled_on-stands, Ready}
 
--- ---- marks at the end of the frames
+-- ---- tokens at the end of the frames
 
 chain-weaker : (d e : ℕ) (fs : List Frame) → d ≤ e → Chain d fs → Chain e fs
 chain-weaker d e [] le h = tt
@@ -37,58 +37,58 @@ option_map-same : {A : Type 0} (o : Option A) → o ≡ option_map (λ x. x) o
 option_map-same None = refl
 option_map-same (Some x) = refl
 
--- a name before a collection takes each mark further
-with_mark-row : (r : FlowReader) (m : Mark) (name : Option Mark) (before : Written) (head : Mark) (value : Written) → with_mark r m (called name (row before head value)) ≡ option_map (called name) (with_mark r m (row before head value))
-with_mark-row r m None before head value = option_map-same (with_mark r m (row before head value))
-with_mark-row r m (Some mark) before head value = refl
+-- a name before a collection takes each token further
+with_token-row : (r : FlowReader) (m : Token) (name : Option Token) (before : Written) (head : Token) (value : Written) → with_token r m (called name (row before head value)) ≡ option_map (called name) (with_token r m (row before head value))
+with_token-row r m None before head value = option_map-same (with_token r m (row before head value))
+with_token-row r m (Some token) before head value = refl
 
--- a mark that is deeper than all frames goes to the innermost
-pub with_mark-wrap : (r : FlowReader) (m : Mark) (fs : List Frame) (value : Written) → Chain (depth m) fs → with_mark r m (wrap fs value) ≡ option_map (wrap fs) (with_mark r m value)
-with_mark-wrap r m [] value h = option_map-same (with_mark r m value)
-with_mark-wrap r m (f ∷ fs) value h =
-    with_mark-wrap r m fs (called f.name (row f.before f.head value)) (chain-weaker (depth f.head) (depth m) fs (omega (arith, h.0)) h.1)
-    ∙ ap (option_map (wrap fs)) (with_mark-row r m f.name f.before f.head value
+-- a token that is deeper than all frames goes to the innermost
+pub with_token-wrap : (r : FlowReader) (m : Token) (fs : List Frame) (value : Written) → Chain (depth m) fs → with_token r m (wrap fs value) ≡ option_map (wrap fs) (with_token r m value)
+with_token-wrap r m [] value h = option_map-same (with_token r m value)
+with_token-wrap r m (f ∷ fs) value h =
+    with_token-wrap r m fs (called f.name (row f.before f.head value)) (chain-weaker (depth f.head) (depth m) fs (omega (arith, h.0)) h.1)
+    ∙ ap (option_map (wrap fs)) (with_token-row r m f.name f.before f.head value
     ∙ ap (option_map (called f.name)) (cond-true (nat_lt (depth f.head) (depth m)) _ _ (lt-ltb _ _ h.0))
-    ∙ option_map-twice (row f.before f.head) (called f.name) (with_mark r m value))
-    ∙ option_map-twice (λ v. called f.name (row f.before f.head v)) (wrap fs) (with_mark r m value)
+    ∙ option_map-twice (row f.before f.head) (called f.name) (with_token r m value))
+    ∙ option_map-twice (λ v. called f.name (row f.before f.head v)) (wrap fs) (with_token r m value)
 
-level_again : (r : FlowReader) (m : Mark) (f : Frame) (value : Written) → depth f.head ≡ depth m → is_head m ≡ true → with_mark r m (row f.before f.head value) ≡ Some (row (row f.before f.head value) m nothing)
+level_again : (r : FlowReader) (m : Token) (f : Frame) (value : Written) → depth f.head ≡ depth m → is_head m ≡ true → with_token r m (row f.before f.head value) ≡ Some (row (row f.before f.head value) m nothing)
 level_again r m f value e h = is_same (depth f.head) (depth m) (is_head m) _ _ _ e h
 
 -- the next row of the innermost collection
-abbrev next_frame : Mark → Frame → Written → Frame
+abbrev next_frame : Token → Frame → Written → Frame
 next_frame m f value = record { before = row f.before f.head value; head = m; name = f.name }
 
 -- a head as deep as the innermost frame is that collection's next row
-with_mark-level : (r : FlowReader) (m : Mark) (f : Frame) (fs : List Frame) (value : Written) → depth f.head ≡ depth m → is_head m ≡ true → Chain (depth f.head) fs → with_mark r m (wrap (f ∷ fs) value) ≡ Some (wrap (next_frame m f value ∷ fs) nothing)
-with_mark-level r m f fs value e h chain =
-    with_mark-wrap r m fs (called f.name (row f.before f.head value)) (subst (λ d. Chain d fs) e chain)
-    ∙ ap (option_map (wrap fs)) (with_mark-row r m f.name f.before f.head value ∙ ap (option_map (called f.name)) (level_again r m f value e h))
+with_token-level : (r : FlowReader) (m : Token) (f : Frame) (fs : List Frame) (value : Written) → depth f.head ≡ depth m → is_head m ≡ true → Chain (depth f.head) fs → with_token r m (wrap (f ∷ fs) value) ≡ Some (wrap (next_frame m f value ∷ fs) nothing)
+with_token-level r m f fs value e h chain =
+    with_token-wrap r m fs (called f.name (row f.before f.head value)) (subst (λ d. Chain d fs) e chain)
+    ∙ ap (option_map (wrap fs)) (with_token-row r m f.name f.before f.head value ∙ ap (option_map (called f.name)) (level_again r m f value e h))
 
 -- what the value doesn't take no frame takes, but a head's
-pub refused-wrap : (r : FlowReader) (m : Mark) (fs : List Frame) (x : Written) → is_head m ≡ false → with_mark r m x ≡ None → with_mark r m (wrap fs x) ≡ None
+pub refused-wrap : (r : FlowReader) (m : Token) (fs : List Frame) (x : Written) → is_head m ≡ false → with_token r m x ≡ None → with_token r m (wrap fs x) ≡ None
 refused-wrap r m [] x h e = e
 refused-wrap r m (f ∷ fs) x h e = refused-wrap r m fs (called f.name (row f.before f.head x)) h
-    (with_mark-row r m f.name f.before f.head x ∙ ap (option_map (called f.name)) (inner (nat_lt (depth f.head) (depth m))))
+    (with_token-row r m f.name f.before f.head x ∙ ap (option_map (called f.name)) (inner (nat_lt (depth f.head) (depth m))))
   where
-    inner : (q : Bool) → cond q (option_map (row f.before f.head) (with_mark r m x)) (cond (is_head m && (depth f.head == depth m)) (Some (row (row f.before f.head x) m nothing)) None) ≡ None
+    inner : (q : Bool) → cond q (option_map (row f.before f.head) (with_token r m x)) (cond (is_head m && (depth f.head == depth m)) (Some (row (row f.before f.head x) m nothing)) None) ≡ None
     inner true = ap (option_map (row f.before f.head)) e
     inner false = ap (λ k. cond (k && (depth f.head == depth m)) (Some (row (row f.before f.head x) m nothing)) None) h
 
 -- where nothing has come behind a name, if any
-pub called-begins : (r : FlowReader) (m : Mark) (name : Option Mark) → may_follow_name m ≡ true → with_mark r m (called name nothing) ≡ option_map (called name) (begun_by r m)
+pub called-begins : (r : FlowReader) (m : Token) (name : Option Token) → may_follow_name m ≡ true → with_token r m (called name nothing) ≡ option_map (called name) (begun_by r m)
 called-begins r m None h = option_map-same (begun_by r m)
-called-begins r m (Some mark) h = cond-true (may_follow_name m) _ _ h
+called-begins r m (Some token) h = cond-true (may_follow_name m) _ _ h
 
-pub called-refuses : (r : FlowReader) (m : Mark) (name : Option Mark) (value : Written) → with_mark r m value ≡ None → with_mark r m (called name value) ≡ None
+pub called-refuses : (r : FlowReader) (m : Token) (name : Option Token) (value : Written) → with_token r m value ≡ None → with_token r m (called name value) ≡ None
 called-refuses r m None value e = e
-called-refuses r m (Some mark) value e = by (may_go_on value m)
+called-refuses r m (Some token) value e = by (may_go_on value m)
   where
-    by : (q : Bool) → cond q (option_map (named mark) (with_mark r m value)) None ≡ None
-    by true = ap (option_map (named mark)) e
+    by : (q : Bool) → cond q (option_map (named token) (with_token r m value)) None ≡ None
+    by true = ap (option_map (named token)) e
     by false = refl
 
-pub full-refuses : (r : FlowReader) (m : Mark) (d : ℕ) (value : Written) → depth m ≡ d → is_body_line m ≡ false → IsFull d value → with_mark r m value ≡ None
+pub full-refuses : (r : FlowReader) (m : Token) (d : ℕ) (value : Written) → depth m ≡ d → is_body_line m ≡ false → IsFull d value → with_token r m value ≡ None
 full-refuses r m d nothing e b full = absurd full
 full-refuses r m d (leaf other) e b full = refl
 full-refuses r m d (literal head lines) e b full = ap (λ k. cond (k && (depth m == depth head)) (Some (literal head (lines ++ (m ∷ [])))) None) b
@@ -105,7 +105,7 @@ full-refuses r m d (row before head value) e b full =
 -- ---- heads
 
 -- what a head is
-record HeadIs (r : FlowReader) (m : Mark) : Type 0 where
+record HeadIs (r : FlowReader) (m : Token) : Type 0 where
   begins : begun_by r m ≡ Some (row nothing m nothing)
   follows : may_follow_name m ≡ true
   no_line : is_body_line m ≡ false
@@ -113,7 +113,7 @@ record HeadIs (r : FlowReader) (m : Mark) : Type 0 where
   has_measure : no_row ≡ with_repeat (repeats m (begun_block m)) (measured (begun_block m))
   holds : (nodes : List Node) → HoldsRows nodes (begun_block m) no_rows
 
-head_is : (r : FlowReader) (m : Mark) → is_head m ≡ true → HeadIs r m
+head_is : (r : FlowReader) (m : Token) → is_head m ≡ true → HeadIs r m
 head_is r (Dash line column) h = record { begins = refl; follows = refl; no_line = refl; has_first = refl; has_measure = refl; holds = λ nodes. refl }
 head_is r (Key line column text) h = record { begins = refl; follows = refl; no_line = refl; has_first = refl; has_measure = refl; holds = λ nodes. refl }
 head_is r (Scalar line column text) h = absurd (false≢true h)
@@ -122,12 +122,12 @@ head_is r (Copy line column text) h = absurd (false≢true h)
 head_is r (Bar line column chomp) h = absurd (false≢true h)
 head_is r (Body line column bytes) h = absurd (false≢true h)
 head_is r (Form line column pieces) h = absurd (false≢true h)
-head_is r (OddMark line column why) h = absurd (false≢true h)
+head_is r (OddToken line column why) h = absurd (false≢true h)
 
--- what a step left stands for what is written with the mark, or the mark was refused as a fault of syntax
-abbrev pub Taken : FlowReader → Mark → Written → Result Builder FaultKind → Type 0
-Taken r m w (Ok b) = (new : Written) × (with_mark r m w ≡ Some new) × StandsFor b new
-Taken r m w (Err kind) = (with_mark r m w ≡ None) × (kind ≡ Syntax)
+-- what a step left stands for what is written with the token, or the token was refused as a fault of syntax
+abbrev pub Taken : FlowReader → Token → Written → Result Builder FaultKind → Type 0
+Taken r m w (Ok b) = (new : Written) × (with_token r m w ≡ Some new) × StandsFor b new
+Taken r m w (Err kind) = (with_token r m w ≡ None) × (kind ≡ Syntax)
 
 -- no value where none has come
 pub still_none : (b new : Builder) (fs : List Frame) (value : Written) → b.value ≡ None → b.literal ≡ None → NoneIs new fs value → ValueIs b.value b.literal new fs value
@@ -136,7 +136,7 @@ still_none b new fs value e shut h = subst (λ v. ValueIs v b.literal new fs val
 pub none-between : (v : Option Known) (value : Written) → v ≡ None → Between v value
 none-between v value e = subst (λ x. Between x value) (sym e) tt
 
-begun-taken : (r : FlowReader) (m : Mark) (b : Builder) (fs : List Frame) (value : Written) → is_head m ≡ true → StandsAt b fs value → b.literal ≡ None → Chain (depth m) fs → HasCome (depth m) b.value value → Taken r m (wrap fs value) (begun (depth m) (is_key m) (line_of m) (key_of m) b)
+begun-taken : (r : FlowReader) (m : Token) (b : Builder) (fs : List Frame) (value : Written) → is_head m ≡ true → StandsAt b fs value → b.literal ≡ None → Chain (depth m) fs → HasCome (depth m) b.value value → Taken r m (wrap fs value) (begun (depth m) (is_key m) (line_of m) (key_of m) b)
 unfolding begun
 begun-taken r m b fs value h s shut chain come = by b.value refl
   where
@@ -147,12 +147,12 @@ begun-taken r m b fs value h s shut chain come = by b.value refl
     next = record b { open_rows = new_open (depth m) (is_key m) (line_of m) (key_of m) b.name ∷ b.open_rows; name = None }
 
     by : (v : Option Known) → b.value ≡ v → Taken r m (wrap fs value) (cond (is_some v) (Err Syntax) (Ok next))
-    by (Some k) e = (with_mark-wrap r m fs value chain ∙ ap (option_map (wrap fs)) (full-refuses r m (depth m) value refl head.no_line (subst (λ v. HasCome (depth m) v value) e come)), refl)
+    by (Some k) e = (with_token-wrap r m fs value chain ∙ ap (option_map (wrap fs)) (full-refuses r m (depth m) value refl head.no_line (subst (λ v. HasCome (depth m) v value) e come)), refl)
     by None e =
         let i = none_is b fs value e shut s in
         let new : Frame = record { before = nothing; head = m; name = i.0 } in (
           wrap fs (called i.0 (row nothing m nothing)),
-          ap (λ v. with_mark r m (wrap fs v)) i.2 ∙ with_mark-wrap r m fs (called i.0 nothing) chain
+          ap (λ v. with_token r m (wrap fs v)) i.2 ∙ with_token-wrap r m fs (called i.0 nothing) chain
               ∙ ap (option_map (wrap fs)) (called-begins r m i.0 head.follows ∙ ap (option_map (called i.0)) head.begins),
           (
             new ∷ fs,
@@ -169,7 +169,7 @@ begun-taken r m b fs value h s shut chain come = by b.value refl
 
 -- ---- a collection's next row
 
-same_kind : (a b : Mark) → is_head a ≡ true → is_head b ≡ true → depth a ≡ depth b → is_key a ≡ is_key b
+same_kind : (a b : Token) → is_head a ≡ true → is_head b ≡ true → depth a ≡ depth b → is_key a ≡ is_key b
 same_kind (Dash line column) (Dash line' column') ha hb e = refl
 same_kind (Dash line column) (Key line' column' text') ha hb e = absurd (omega arith)
 same_kind (Key line column text) (Dash line' column') ha hb e = absurd (omega arith)
@@ -180,16 +180,16 @@ same_kind (Copy line column text) b ha hb e = absurd (false≢true ha)
 same_kind (Bar line column chomp) b ha hb e = absurd (false≢true ha)
 same_kind (Body line column bytes) b ha hb e = absurd (false≢true ha)
 same_kind (Form line column pieces) b ha hb e = absurd (false≢true ha)
-same_kind (OddMark line column why) b ha hb e = absurd (false≢true ha)
+same_kind (OddToken line column why) b ha hb e = absurd (false≢true ha)
 same_kind a (Scalar line column text) ha hb e = absurd (false≢true hb)
 same_kind a (Name line column text) ha hb e = absurd (false≢true hb)
 same_kind a (Copy line column text) ha hb e = absurd (false≢true hb)
 same_kind a (Bar line column chomp) ha hb e = absurd (false≢true hb)
 same_kind a (Body line column bytes) ha hb e = absurd (false≢true hb)
 same_kind a (Form line column pieces) ha hb e = absurd (false≢true hb)
-same_kind a (OddMark line column why) ha hb e = absurd (false≢true hb)
+same_kind a (OddToken line column why) ha hb e = absurd (false≢true hb)
 
-row_behind-begins : (head : Mark) (before : Said) (meaning : Meaning) → begins_on before ≡ begins_on (row_behind head before meaning).0
+row_behind-begins : (head : Token) (before : Said) (meaning : Meaning) → begins_on before ≡ begins_on (row_behind head before meaning).0
 row_behind-begins (Key line column text) before meaning = refl
 row_behind-begins (Dash line column) before meaning = refl
 row_behind-begins (Scalar line column text) before meaning = refl
@@ -198,10 +198,10 @@ row_behind-begins (Copy line column text) before meaning = refl
 row_behind-begins (Bar line column chomp) before meaning = refl
 row_behind-begins (Body line column bytes) before meaning = refl
 row_behind-begins (Form line column pieces) before meaning = refl
-row_behind-begins (OddMark line column why) before meaning = refl
+row_behind-begins (OddToken line column why) before meaning = refl
 
 -- whether a finished row has the key, as the code asks it
-has_row_is : (nodes : List Node) (tree : Said) (o : Open) (m : Mark) → HoldsRows nodes tree (rows_of o) → is_head m ≡ true → o.mapping ≡ is_key m → has_row o (key_of m) ≡ repeats m tree
+has_row_is : (nodes : List Node) (tree : Said) (o : Open) (m : Token) → HoldsRows nodes tree (rows_of o) → is_head m ≡ true → o.mapping ≡ is_key m → has_row o (key_of m) ≡ repeats m tree
 has_row_is nodes tree o (Dash line column) h head e = ap (λ t. t && entries.has_key [] o.entries) e
 has_row_is nodes tree o (Key line column text) h head e = mapping_has_key nodes tree (rows_of o) o.mapping text h e
 has_row_is nodes tree o (Scalar line column text) h head e = absurd (false≢true head)
@@ -210,13 +210,13 @@ has_row_is nodes tree o (Copy line column text) h head e = absurd (false≢true 
 has_row_is nodes tree o (Bar line column chomp) h head e = absurd (false≢true head)
 has_row_is nodes tree o (Body line column bytes) h head e = absurd (false≢true head)
 has_row_is nodes tree o (Form line column pieces) h head e = absurd (false≢true head)
-has_row_is nodes tree o (OddMark line column why) h head e = absurd (false≢true head)
+has_row_is nodes tree o (OddToken line column why) h head e = absurd (false≢true head)
 
 -- the row whose value is this node is finished, and the next one begins
 abbrev advancing : Open → Known → ℕ → List ℕ → Builder → Builder
 advancing o k line key b = record b { open_rows = with_next_row line key (finished o k) ∷ b.open_rows; value = None }
 
-advancing-stands : (m : Mark) (o : Open) (os : List Open) (b : Builder) (f : Frame) (fs : List Frame) (value : Written) (k : Known) → is_head m ≡ true → depth f.head ≡ depth m → Valued b (f ∷ fs) value k → b.open_rows ≡ o ∷ os
+advancing-stands : (m : Token) (o : Open) (os : List Open) (b : Builder) (f : Frame) (fs : List Frame) (value : Written) (k : Known) → is_head m ≡ true → depth f.head ≡ depth m → Valued b (f ∷ fs) value k → b.open_rows ≡ o ∷ os
     → StandsAt (advancing o k (line_of m) (key_of m) (record b { open_rows = os })) (next_frame m f value ∷ fs) nothing
 advancing-stands m o os b f fs value k head level s e =
     let opens : OpensAre b.nodes (o ∷ os) (f ∷ fs) = subst (λ l. OpensAre b.nodes l (f ∷ fs)) e s.stands.opens in
@@ -252,7 +252,7 @@ advancing-stands m o os b f fs value k head level s e =
           (None, subst (λ n. HasName n None) (sym come.1) tt, refl, subst (NamesAre b.nodes b.names) (sym (row_behind-names f.head before meaning)) come.3);
     }
 
-next_row-stands : (m : Mark) (o : Open) (os : List Open) (b : Builder) (f : Frame) (fs : List Frame) (value : Written) → is_head m ≡ true → depth f.head ≡ depth m → b.literal ≡ None → StandsAt b (f ∷ fs) value → b.open_rows ≡ o ∷ os
+next_row-stands : (m : Token) (o : Open) (os : List Open) (b : Builder) (f : Frame) (fs : List Frame) (value : Written) → is_head m ≡ true → depth f.head ≡ depth m → b.literal ≡ None → StandsAt b (f ∷ fs) value → b.open_rows ≡ o ∷ os
     → StandsAt (next_row o (line_of m) (key_of m) (record b { open_rows = os })) (next_frame m f value ∷ fs) nothing
 unfolding next_row
 next_row-stands m o os b f fs value head level shut s e =
@@ -263,11 +263,11 @@ next_row-stands m o os b f fs value head level shut s e =
     ∙ ap (λ x. advancing o (known_of x.value) (line_of m) (key_of m) x) (sym (valued-rows o.line b os)))
     (advancing-stands m o os (valued o.line b) f fs value v.0 head level v.1 (v.2 ∙ e))
 
-next_value : (m : Mark) (o : Open) (b : Builder) → Between (next_row o (line_of m) (key_of m) b).value nothing
+next_value : (m : Token) (o : Open) (b : Builder) → Between (next_row o (line_of m) (key_of m) b).value nothing
 unfolding next_row
 next_value m o b = tt
 
-headed_on-taken : (r : FlowReader) (m : Mark) (os : List Open) (b : Builder) (fs : List Frame) (value : Written) → is_head m ≡ true → b.open_rows ≡ os → StandsAt b fs value → b.literal ≡ None → AtMost (depth m) fs → HasCome (depth m) b.value value
+headed_on-taken : (r : FlowReader) (m : Token) (os : List Open) (b : Builder) (fs : List Frame) (value : Written) → is_head m ≡ true → b.open_rows ≡ os → StandsAt b fs value → b.literal ≡ None → AtMost (depth m) fs → HasCome (depth m) b.value value
     → Taken r m (wrap fs value) (headed_on (depth m) (is_key m) (line_of m) (key_of m) os b)
 headed_on-taken r m [] b [] value head e s shut most come = begun-taken r m b [] value head s shut tt come
 headed_on-taken r m [] b (f ∷ fs) value head e s shut most come = absurd (subst (λ l. OpensAre b.nodes l (f ∷ fs)) e s.opens)
@@ -278,12 +278,12 @@ headed_on-taken r m (o ∷ os) b (f ∷ fs) value head e s shut most come =
     let new : List Frame = next_frame m f value ∷ fs in
     elim (o.depth == depth m) as (λ q. (o.depth == depth m) ≡ q → Taken r m (wrap (f ∷ fs) value) (cond q (Ok (next_row o (line_of m) (key_of m) (record b { open_rows = os }))) (begun (depth m) (is_key m) (line_of m) (key_of m) b))) [
       | true ↦ λ q. (let level : depth f.head ≡ depth m = sym same ∙ eqb-true o.depth (depth m) q in
-          (wrap new nothing, with_mark-level r m f fs value level head opens.1, (new, nothing, next_row-stands m o os b f fs value head level shut s e, refl, next_value m o (record b { open_rows = os }))))
+          (wrap new nothing, with_token-level r m f fs value level head opens.1, (new, nothing, next_row-stands m o os b f fs value head level shut s e, refl, next_value m o (record b { open_rows = os }))))
       | false ↦ λ q. begun-taken r m b (f ∷ fs) value head s shut
           ((let other : (o.depth ≡ depth m → ⊥) = λ w. false≢true (sym q ∙ eq-eqb o.depth (depth m) w) in omega (arith, other, same, most)), opens.1) come
     ] refl
 
-pub headed-taken : (r : FlowReader) (m : Mark) (b : Builder) (fs : List Frame) (value : Written) → is_head m ≡ true → Ready b fs value → Taken r m (wrap fs value) (headed (depth m) (is_key m) (line_of m) (key_of m) b)
+pub headed-taken : (r : FlowReader) (m : Token) (b : Builder) (fs : List Frame) (value : Written) → is_head m ≡ true → Ready b fs value → Taken r m (wrap fs value) (headed (depth m) (is_key m) (line_of m) (key_of m) b)
 unfolding headed
 headed-taken r m b fs value head h =
     let st = settled_on-stands (depth m) b.open_rows b fs value refl h.stands h.shut (h.come (depth m)) in

@@ -12,8 +12,8 @@ use Rattle.yaml_tree.specs.Written.Written.{nothing, leaf, literal, flowing, nam
 use Rattle.yaml_tree.specs.Stack.{measured, one_node, with_part, with_repeat, finished, collection}
 use Rattle.yaml_tree.specs.Builder.{begins_at, next_known, with_node, put_node, valued, known_of, closed, settled_on, ended, ended_of}
 use Rattle.yaml_tree.specs.Builder as steps
-use Rattle.yaml_marks.specs.declared.mark.Mark.{Mark}
-use Rattle.yaml_marks.specs.declared.mark.Mark.TheVariants.{Dash, Key, Scalar, Name, Copy, Bar, Body, Form, OddMark}
+use Rattle.yaml_marks.specs.declared.token.Token.{Token}
+use Rattle.yaml_marks.specs.declared.token.Token.TheVariants.{Dash, Key, Scalar, Name, Copy, Bar, Body, Form, OddToken}
 use Rattle.yaml_tree.specs.declared.literal.Literal.{Literal}
 use Rattle.yaml_tree.specs.declared.known.Measure.{Measure}
 use Rattle.yaml_tree.specs.declared.known.Known.{Known}
@@ -43,14 +43,14 @@ OpensAre-more nodes more (o ∷ os) (f ∷ fs) h = (OpenIs-more nodes more o f (
 abbrev pub meaning_at : List Frame → Written → Meaning
 meaning_at fs value = said (null (line_at fs)) (names_at fs) value
 
-pub said-called : (waits : Option GivenName) (name : Option Mark) (none : Said) (names : Names) (value : Written) → HasName waits name → said none names (called name value) ≡ named_by waits (said none names value)
+pub said-called : (waits : Option GivenName) (name : Option Token) (none : Said) (names : Names) (value : Written) → HasName waits name → said none names (called name value) ≡ named_by waits (said none names value)
 said-called None None none names value h = refl
-said-called (Some n) (Some mark) none names value h = λ j. given (sym h.1 j) (sym h.2 j) (said none names value)
-said-called None (Some mark) none names value h = absurd h
+said-called (Some n) (Some token) none names value h = λ j. given (sym h.1 j) (sym h.2 j) (said none names value)
+said-called None (Some token) none names value h = absurd h
 said-called (Some n) None none names value h = absurd h
 
 -- a node more, which takes the name that waits, is the value
-pub put_node-stands : (line : ℕ) (v : Value) (m : Measure) (b : Builder) (fs : List Frame) (name : Option Mark) (value : Written) → b.cells ≡ [] → b.literal ≡ None → OpensAre b.nodes b.open_rows fs → HasName b.name name
+pub put_node-stands : (line : ℕ) (v : Value) (m : Measure) (b : Builder) (fs : List Frame) (name : Option Token) (value : Written) → b.cells ≡ [] → b.literal ≡ None → OpensAre b.nodes b.open_rows fs → HasName b.name name
     → NamesAre b.nodes b.names (meaning_at fs value).1 → m ≡ measured (meaning_at fs value).0 → line ≡ begins_on (meaning_at fs value).0
     → ((l : ℕ) → HoldsSaid (b.nodes ++ (record { line = l; value = v } ∷ [])) (from_line l (meaning_at fs value).0) (length b.nodes))
     → StandsAt (put_node line v m b) fs (called name value)
@@ -81,7 +81,7 @@ pub record Valued (b : Builder) (fs : List Frame) (value : Written) (k : Known) 
   pub shut : b.literal ≡ None
 
 abbrev pub NoneIs : Builder → List Frame → Written → Type 0
-NoneIs b fs value = (name : Option Mark) × HasName b.name name × (value ≡ called name nothing) × NamesAre b.nodes b.names (names_at fs)
+NoneIs b fs value = (name : Option Token) × HasName b.name name × (value ≡ called name nothing) × NamesAre b.nodes b.names (names_at fs)
 
 pub none_is : (b : Builder) (fs : List Frame) (value : Written) → b.value ≡ None → b.literal ≡ None → StandsAt b fs value → NoneIs b fs value
 none_is b fs value e shut s = subst (λ l. ValueIs None l b fs value) shut (subst (λ v. ValueIs v b.literal b fs value) e s.is)
@@ -118,7 +118,7 @@ or_false : (a : Bool) → (a || false) ≡ a
 or_false true = refl
 or_false false = refl
 
-pub row_behind-names : (head : Mark) (before : Said) (meaning : Meaning) → (row_behind head before meaning).1 ≡ meaning.1
+pub row_behind-names : (head : Token) (before : Said) (meaning : Meaning) → (row_behind head before meaning).1 ≡ meaning.1
 row_behind-names (Key line column text) before meaning = refl
 row_behind-names (Dash line column) before meaning = refl
 row_behind-names (Scalar line column text) before meaning = refl
@@ -127,9 +127,9 @@ row_behind-names (Copy line column text) before meaning = refl
 row_behind-names (Bar line column chomp) before meaning = refl
 row_behind-names (Body line column bytes) before meaning = refl
 row_behind-names (Form line column pieces) before meaning = refl
-row_behind-names (OddMark line column why) before meaning = refl
+row_behind-names (OddToken line column why) before meaning = refl
 
-row_behind-begins : (head : Mark) (before : Said) (meaning : Meaning) → begins_on (row_behind head before meaning).0 ≡ begins_on before
+row_behind-begins : (head : Token) (before : Said) (meaning : Meaning) → begins_on (row_behind head before meaning).0 ≡ begins_on before
 row_behind-begins (Key line column text) before meaning = refl
 row_behind-begins (Dash line column) before meaning = refl
 row_behind-begins (Scalar line column text) before meaning = refl
@@ -138,10 +138,10 @@ row_behind-begins (Copy line column text) before meaning = refl
 row_behind-begins (Bar line column chomp) before meaning = refl
 row_behind-begins (Body line column bytes) before meaning = refl
 row_behind-begins (Form line column pieces) before meaning = refl
-row_behind-begins (OddMark line column why) before meaning = refl
+row_behind-begins (OddToken line column why) before meaning = refl
 
 -- the measure that is kept is that of the rows with the value
-pub row-measure : (head : Mark) (before : Said) (meaning : Meaning) → is_head head ≡ true → with_part (with_repeat (repeats head before) (measured before)) (measured meaning.0) ≡ measured (row_behind head before meaning).0
+pub row-measure : (head : Token) (before : Said) (meaning : Meaning) → is_head head ≡ true → with_part (with_repeat (repeats head before) (measured before)) (measured meaning.0) ≡ measured (row_behind head before meaning).0
 row-measure (Key line column text) before meaning h = with_part-pair before line text meaning.0
 row-measure (Dash line column) before meaning h = ap (λ q. with_part (record (measured before) { repeated = q }) (measured meaning.0)) (or_false (has_repeat before)) ∙ with_part-item before meaning.0
 row-measure (Scalar line column text) before meaning h = absurd (false≢true h)
@@ -150,13 +150,13 @@ row-measure (Copy line column text) before meaning h = absurd (false≢true h)
 row-measure (Bar line column chomp) before meaning h = absurd (false≢true h)
 row-measure (Body line column bytes) before meaning h = absurd (false≢true h)
 row-measure (Form line column pieces) before meaning h = absurd (false≢true h)
-row-measure (OddMark line column why) before meaning h = absurd (false≢true h)
+row-measure (OddToken line column why) before meaning h = absurd (false≢true h)
 
 -- the rows with the value of node m
-abbrev pub rows_with : Mark → ℕ → Rows → Rows
+abbrev pub rows_with : Token → ℕ → Rows → Rows
 rows_with head m rows = with_row (is_key head) (line_of head) (key_of head) m rows
 
-row-holds : (nodes : List Node) (head : Mark) (before : Said) (meaning : Meaning) (rows : Rows) (m n l : ℕ) → is_head head ≡ true → HoldsRows nodes before rows → HoldsSaid nodes meaning.0 m
+row-holds : (nodes : List Node) (head : Token) (before : Said) (meaning : Meaning) (rows : Rows) (m n l : ℕ) → is_head head ≡ true → HoldsRows nodes before rows → HoldsSaid nodes meaning.0 m
     → IsNode nodes n l (rows_value (is_key head) (rows_with head m rows)) → HoldsSaid nodes (from_line l (row_behind head before meaning).0) n
 row-holds nodes (Key line column text) before meaning rows m n l h held value e = (rows, m, HoldsRows-from_line nodes l before rows held, value, subst (λ x. IsNode nodes n x (rows_value true (rows_with (Key line column text) m rows))) (sym (begins_on-from_line l before)) e)
 row-holds nodes (Dash line column) before meaning rows m n l h held value e = (rows, m, HoldsRows-from_line nodes l before rows held, value, subst (λ x. IsNode nodes n x (rows_value false (rows_with (Dash line column) m rows))) (sym (begins_on-from_line l before)) e)
@@ -166,9 +166,9 @@ row-holds nodes (Copy line column text) before meaning rows m n l h held value e
 row-holds nodes (Bar line column chomp) before meaning rows m n l h held value e = absurd (false≢true h)
 row-holds nodes (Body line column bytes) before meaning rows m n l h held value e = absurd (false≢true h)
 row-holds nodes (Form line column pieces) before meaning rows m n l h held value e = absurd (false≢true h)
-row-holds nodes (OddMark line column why) before meaning rows m n l h held value e = absurd (false≢true h)
+row-holds nodes (OddToken line column why) before meaning rows m n l h held value e = absurd (false≢true h)
 
-pub rows-hold : (nodes : List Node) (head : Mark) (before : Said) (meaning : Meaning) (rows : Rows) (m : ℕ) → is_head head ≡ true → HoldsRows nodes before rows → HoldsSaid nodes meaning.0 m → HoldsRows nodes (row_behind head before meaning).0 (rows_with head m rows)
+pub rows-hold : (nodes : List Node) (head : Token) (before : Said) (meaning : Meaning) (rows : Rows) (m : ℕ) → is_head head ≡ true → HoldsRows nodes before rows → HoldsSaid nodes meaning.0 m → HoldsRows nodes (row_behind head before meaning).0 (rows_with head m rows)
 rows-hold nodes (Key line column text) before meaning rows m h held value = (rows, m, held, value, refl)
 rows-hold nodes (Dash line column) before meaning rows m h held value = (rows, m, held, value, refl)
 rows-hold nodes (Scalar line column text) before meaning rows m h held value = absurd (false≢true h)
@@ -177,7 +177,7 @@ rows-hold nodes (Copy line column text) before meaning rows m h held value = abs
 rows-hold nodes (Bar line column chomp) before meaning rows m h held value = absurd (false≢true h)
 rows-hold nodes (Body line column bytes) before meaning rows m h held value = absurd (false≢true h)
 rows-hold nodes (Form line column pieces) before meaning rows m h held value = absurd (false≢true h)
-rows-hold nodes (OddMark line column why) before meaning rows m h held value = absurd (false≢true h)
+rows-hold nodes (OddToken line column why) before meaning rows m h held value = absurd (false≢true h)
 
 -- ---- closing a collection
 
@@ -211,18 +211,18 @@ closed-stands o os b f fs value shut s e =
     (ap (λ k. closing o k (record (valued o.line b) { open_rows = os })) (sym (ap known_of v.1.is)) ∙ ap (λ x. closing o (known_of x.value) x) (sym (valued-rows o.line b os)))
     (closing-stands o os (valued o.line b) f fs value v.0 v.1 (v.2 ∙ e))
 
--- a value that has come and takes no mark of this depth but a line of a literal block
+-- a value that has come and takes no token of this depth but a line of a literal block
 abbrev pub IsFull : ℕ → Written → Type 0
 IsFull d nothing = ⊥
-IsFull d (leaf mark) = Unit {0}
-IsFull d (literal mark lines) = Unit {0}
-IsFull d (flowing mark value) = Unit {0}
-IsFull d (named mark value) = IsFull d value
+IsFull d (leaf token) = Unit {0}
+IsFull d (literal token lines) = Unit {0}
+IsFull d (flowing token value) = Unit {0}
+IsFull d (named token value) = IsFull d value
 IsFull d (row before head value) = d < depth head
 
-full-called : (d : ℕ) (name : Option Mark) (value : Written) → IsFull d value → IsFull d (called name value)
+full-called : (d : ℕ) (name : Option Token) (value : Written) → IsFull d value → IsFull d (called name value)
 full-called d None value h = h
-full-called d (Some mark) value h = h
+full-called d (Some token) value h = h
 
 -- the same, where one has come
 abbrev pub HasCome : ℕ → Option Known → Written → Type 0
@@ -283,10 +283,10 @@ settled_on-stands d (o ∷ os) b (f ∷ fs) value e s shut come =
 
 full-shut : (d : ℕ) (value : Written) → IsShut value → IsFull d value
 full-shut d nothing h = h
-full-shut d (leaf mark) h = tt
-full-shut d (literal mark lines) h = absurd h
-full-shut d (flowing mark value) h = tt
-full-shut d (named mark value) h = full-shut d value h
+full-shut d (leaf token) h = tt
+full-shut d (literal token lines) h = absurd h
+full-shut d (flowing token value) h = tt
+full-shut d (named token value) h = full-shut d value h
 full-shut d (row before head value) h = absurd h
 
 -- no literal block is open, and a value that has come is full

@@ -10,8 +10,8 @@ use Rattle.yaml_tree.specs.Written.{Written, depth, line_of, is_head, is_name, i
 use Rattle.yaml_tree.specs.Written.Written.{nothing, leaf, literal, flowing, named, row}
 use Rattle.yaml_tree.specs.Stack.{measured, with_repeat}
 use Rattle.yaml_tree.specs.Builder.{find_name}
-use Rattle.yaml_marks.specs.declared.mark.Mark.{Mark}
-use Rattle.yaml_marks.specs.declared.mark.Mark.TheVariants.{Key}
+use Rattle.yaml_marks.specs.declared.token.Token.{Token}
+use Rattle.yaml_marks.specs.declared.token.Token.TheVariants.{Key}
 use Rattle.yaml_tree.specs.declared.literal.Literal.{Literal}
 use Rattle.yaml_tree.specs.declared.known.Known.{Known}
 use Rattle.yaml_tree.specs.declared.known.GivenName.{GivenName}
@@ -46,12 +46,12 @@ named_by (Some n) meaning = given n.line n.text meaning
 -- name of the collection.
 pub record Frame : Type 0 where
   pub before : Written
-  pub head : Mark
-  pub name : Option Mark
+  pub head : Token
+  pub name : Option Token
 
-abbrev pub called : Option Mark → Written → Written
+abbrev pub called : Option Token → Written → Written
 called None value = value
-called (Some mark) value = named mark value
+called (Some token) value = named token value
 
 -- what is written where the next value comes in the innermost of the frames, which stands first
 abbrev pub wrap : List Frame → Written → Written
@@ -68,23 +68,23 @@ abbrev pub line_at : List Frame → ℕ
 line_at [] = 1
 line_at (f ∷ fs) = line_of f.head
 
-abbrev pub is_key : Mark → Bool
+abbrev pub is_key : Token → Bool
 is_key (Key line column text) = true
 is_key _ = false
 
-abbrev pub key_of : Mark → List ℕ
+abbrev pub key_of : Token → List ℕ
 key_of (Key line column text) = text
 key_of _ = []
 
 -- whether the head's key is in the rows before it
-abbrev pub repeats : Mark → Said → Bool
+abbrev pub repeats : Token → Said → Bool
 repeats (Key line column text) before = has_key text before
 repeats _ before = false
 
-abbrev pub HasName : Option GivenName → Option Mark → Type 0
+abbrev pub HasName : Option GivenName → Option Token → Type 0
 HasName None None = Unit {0}
-HasName (Some n) (Some mark) = (is_name mark ≡ true) × (n.line ≡ line_of mark) × (n.text ≡ name_of mark)
-HasName None (Some mark) = ⊥
+HasName (Some n) (Some token) = (is_name token ≡ true) × (n.line ≡ line_of token) × (n.text ≡ name_of token)
+HasName None (Some token) = ⊥
 HasName (Some n) None = ⊥
 
 abbrev pub rows_of : Open → Rows
@@ -118,7 +118,7 @@ OpensAre nodes (o ∷ os) (f ∷ fs) = OpenIs nodes o f (before_of f (names_at f
 -- ---- the value
 
 -- the open literal block is this one
-pub record LiteralIs (l : Literal) (bar : Mark) (lines : List Mark) : Type 0 where
+pub record LiteralIs (l : Literal) (bar : Token) (lines : List Token) : Type 0 where
   pub is : is_bar bar ≡ true
   pub has_depth : l.depth ≡ depth bar
   pub has_line : l.line ≡ line_of bar
@@ -127,21 +127,21 @@ pub record LiteralIs (l : Literal) (bar : Mark) (lines : List Mark) : Type 0 whe
 
 abbrev pub ValueIs : Option Known → Option Literal → Builder → List Frame → Written → Type 0
 ValueIs (Some k) l b fs value = (l ≡ None) × (b.name ≡ None) × KnownIs b.nodes k (said (null (line_at fs)) (names_at fs) value).0 × NamesAre b.nodes b.names (said (null (line_at fs)) (names_at fs) value).1
-ValueIs None (Some l) b fs value = (name : Option Mark) × HasName b.name name × (bar : Mark) × (lines : List Mark) × LiteralIs l bar lines × Chain (depth bar) fs × (value ≡ called name (literal bar lines)) × NamesAre b.nodes b.names (names_at fs)
-ValueIs None None b fs value = (name : Option Mark) × HasName b.name name × (value ≡ called name nothing) × NamesAre b.nodes b.names (names_at fs)
+ValueIs None (Some l) b fs value = (name : Option Token) × HasName b.name name × (bar : Token) × (lines : List Token) × LiteralIs l bar lines × Chain (depth bar) fs × (value ≡ called name (literal bar lines)) × NamesAre b.nodes b.names (names_at fs)
+ValueIs None None b fs value = (name : Option Token) × HasName b.name name × (value ≡ called name nothing) × NamesAre b.nodes b.names (names_at fs)
 
 pub record StandsAt (b : Builder) (fs : List Frame) (value : Written) : Type 0 where
   pub flat : b.cells ≡ []
   pub opens : OpensAre b.nodes b.open_rows fs
   pub is : ValueIs b.value b.literal b fs value
 
--- between marks a value that has come is no block collection, and no literal block: one that is open has not come
+-- between tokens a value that has come is no block collection, and no literal block: one that is open has not come
 abbrev pub IsShut : Written → Type 0
 IsShut nothing = ⊥
-IsShut (leaf mark) = Unit {0}
-IsShut (literal mark lines) = ⊥
-IsShut (flowing mark value) = Unit {0}
-IsShut (named mark value) = IsShut value
+IsShut (leaf token) = Unit {0}
+IsShut (literal token lines) = ⊥
+IsShut (flowing token value) = Unit {0}
+IsShut (named token value) = IsShut value
 IsShut (row before head value) = ⊥
 
 abbrev pub Between : Option Known → Written → Type 0

@@ -5,7 +5,7 @@ use Rattle.std.specs.Map.{lookup}
 use Rattle.indexmap.specs.IndexMap.{insert_entry}
 use Rattle.yaml_marks.specs.Literals.{block_text}
 use Rattle.yaml_marks.specs.Pieces.{why_bracket}
-use Rattle.yaml_marks.specs.Marks.{has_content, line_marks, next_place}
+use Rattle.yaml_marks.specs.Tokens.{has_content, line_tokens, next_place}
 use Rattle.yaml_tree.specs.Outline.{flow_fault}
 use Rattle.yaml_tree.specs.Stack.{one_node, unknown_node, new_open, finished, collection, with_next_row, measure_about}
 use Rattle.yaml_tree.specs.Holds.{scalar_value}
@@ -14,11 +14,11 @@ use Rattle.yaml_marks.specs.declared.piece.Bracket.{Bracket}
 use Rattle.yaml_marks.specs.declared.piece.Bracket.TheVariants.{Square, Curly}
 use Rattle.yaml_marks.specs.declared.piece.Piece.{Piece}
 use Rattle.yaml_marks.specs.declared.piece.Piece.TheVariants.{Opening, Closing, Comma, CellKey, CellScalar, CellName, CellCopy, OddPiece}
-use Rattle.yaml_marks.specs.declared.mark.Mark.{Mark}
-use Rattle.yaml_marks.specs.declared.mark.Mark.TheVariants.{Dash, Key, Scalar, Name, Copy, Bar, Body, Form, OddMark}
+use Rattle.yaml_marks.specs.declared.token.Token.{Token}
+use Rattle.yaml_marks.specs.declared.token.Token.TheVariants.{Dash, Key, Scalar, Name, Copy, Bar, Body, Form, OddToken}
 use Rattle.yaml_marks.specs.declared.chomp.Chomp.{Chomp}
 use Rattle.yaml_tree.specs.declared.literal.Literal.{Literal}
-use Rattle.yaml_marks.specs.declared.place.Place.{Place}
+use Rattle.yaml_marks.specs.declared.place.LinePlace.{LinePlace}
 use Rattle.yaml_tree.specs.declared.known.Measure.{Measure}
 use Rattle.yaml_tree.specs.declared.known.Known.{Known}
 use Rattle.yaml_tree.specs.declared.known.GivenName.{GivenName}
@@ -221,10 +221,10 @@ formed (Some kind) line pieces b = Err kind
 unfoldable pub with_form : ℕ → ℕ → List Piece → Builder → Result Builder FaultKind
 with_form depth line pieces b = if can_hold depth b then formed (flow_fault pieces) line pieces b else Err (kind_of (why_bracket pieces))
 
--- ---- marks
+-- ---- tokens
 
 abbrev pub odd_kind : ℕ → Odd → Builder → FaultKind
-odd_kind depth odd.Mark b = if can_hold depth b then Unsupported else Syntax
+odd_kind depth odd.Indicator b = if can_hold depth b then Unsupported else Syntax
 odd_kind depth odd.Unkeyed b = Syntax
 odd_kind depth odd.Unsupported b = Unsupported
 odd_kind depth odd.Syntax b = Syntax
@@ -237,7 +237,7 @@ unkeyed (Err kind) = Err kind
 -- the fault of a token that no rule admits
 abbrev pub refused : ℕ → ℕ → Odd → Builder → Result Builder FaultKind
 refused depth line odd.Unkeyed b = unkeyed (headed depth true line [] b)
-refused depth line odd.Mark b = Err (odd_kind depth odd.Mark b)
+refused depth line odd.Indicator b = Err (odd_kind depth odd.Indicator b)
 refused depth line odd.Unsupported b = Err (odd_kind depth odd.Unsupported b)
 refused depth line odd.Syntax b = Err (odd_kind depth odd.Syntax b)
 
@@ -252,21 +252,21 @@ abbrev pub ◌>>=◌ : {A B E : Type 0} → Result A E → (A → Result B E) �
 (Ok x) >>= f = f x
 (Err e) >>= f = Err e
 
--- a mark more; a literal block has ended but where the mark is a line of one
-unfoldable pub take_mark : Mark → Builder → Result Builder FaultKind
-take_mark (Dash line column) b = headed (2 + 2 * column) false line [] (ended b)
-take_mark (Key line column text) b = headed (1 + 2 * column) true line text (ended b)
-take_mark (Scalar line column text) b = with_scalar (1 + 2 * column) line text (ended b)
-take_mark (Name line column text) b = with_name (1 + 2 * column) line text (ended b)
-take_mark (Copy line column text) b = with_copy (1 + 2 * column) line text (ended b)
-take_mark (Bar line column chomp) b = with_bar (1 + 2 * column) line chomp (ended b)
-take_mark (Body line column bytes) b = with_line (1 + 2 * column) bytes b
-take_mark (Form line column pieces) b = with_form (1 + 2 * column) line pieces (ended b)
-take_mark (OddMark line column why) b = refused (1 + 2 * column) line why (ended b)
+-- a token more; a literal block has ended but where the token is a line of one
+unfoldable pub take_token : Token → Builder → Result Builder FaultKind
+take_token (Dash line column) b = headed (2 + 2 * column) false line [] (ended b)
+take_token (Key line column text) b = headed (1 + 2 * column) true line text (ended b)
+take_token (Scalar line column text) b = with_scalar (1 + 2 * column) line text (ended b)
+take_token (Name line column text) b = with_name (1 + 2 * column) line text (ended b)
+take_token (Copy line column text) b = with_copy (1 + 2 * column) line text (ended b)
+take_token (Bar line column chomp) b = with_bar (1 + 2 * column) line chomp (ended b)
+take_token (Body line column bytes) b = with_line (1 + 2 * column) bytes b
+take_token (Form line column pieces) b = with_form (1 + 2 * column) line pieces (ended b)
+take_token (OddToken line column why) b = refused (1 + 2 * column) line why (ended b)
 
-unfoldable pub take_marks : List Mark → Builder → Result Builder FaultKind
-take_marks [] b = Ok b
-take_marks (m ∷ ms) b = take_mark m b >>= take_marks ms
+unfoldable pub take_tokens : List Token → Builder → Result Builder FaultKind
+take_tokens [] b = Ok b
+take_tokens (m ∷ ms) b = take_token m b >>= take_tokens ms
 
 -- ---- lines
 
@@ -292,19 +292,19 @@ judged_by (Some kind) b = Err kind
 unfoldable pub judged : Builder → Result Builder FaultKind
 judged b = judged_by (fault_of (measure b)) b
 
--- the marks of a line, and the limits at its end
-abbrev pub take_line : List Mark → Builder → Result Builder FaultKind
-take_line marks b = take_marks marks b >>= judged
+-- the tokens of a line, and the limits at its end
+abbrev pub take_line : List Token → Builder → Result Builder FaultKind
+take_line tokens b = take_tokens tokens b >>= judged
 
-unfoldable pub read_line : Bool → Place → ℕ → List ℕ → Builder → Result Builder FaultKind
-read_line begun place number line b = take_line (line_marks begun place number line) b
+unfoldable pub read_line : Bool → LinePlace → ℕ → List ℕ → Builder → Result Builder FaultKind
+read_line begun place number line b = take_line (line_tokens begun place number line) b
 
 abbrev pub at_line : ℕ → Result Builder FaultKind → Result Builder YamlFault
 at_line number (Ok b) = Ok b
 at_line number (Err kind) = Err (record { line = number; kind = kind })
 
 -- lines, of which the first has this number
-unfoldable pub read_lines : Bool → Place → ℕ → List (List ℕ) → Builder → Result Builder YamlFault
+unfoldable pub read_lines : Bool → LinePlace → ℕ → List (List ℕ) → Builder → Result Builder YamlFault
 read_lines begun place number [] b = Ok b
 read_lines begun place number (line ∷ lines) b = at_line number (read_line begun place number line b) >>= read_lines (begun || has_content line) (next_place begun place number line) (1 + number) lines
 

@@ -106,9 +106,9 @@ IsPieceKind front (Opening bracket) rest kind = kind ≡ (if closes_at 0 rest th
 IsPieceKind front (CellScalar text) rest kind = (FlowMayBegin (front ++ (CellKey [] ∷ [])) × (kind ≡ kind_behind_key rest)) ⊎ ((¬ FlowMayBegin (front ++ (CellKey [] ∷ []))) × (kind ≡ Syntax))
 IsPieceKind front (OddPiece odd.Syntax) rest kind = kind ≡ Syntax
 IsPieceKind front (OddPiece odd.Unsupported) rest kind = kind ≡ Unsupported
-IsPieceKind front (OddPiece odd.Mark) rest Unsupported = FlowMayBegin (front ++ (CellScalar None ∷ []))
-IsPieceKind front (OddPiece odd.Mark) rest Syntax = ¬ FlowMayBegin (front ++ (CellScalar None ∷ []))
-IsPieceKind front (OddPiece odd.Mark) rest _ = ⊥
+IsPieceKind front (OddPiece odd.Indicator) rest Unsupported = FlowMayBegin (front ++ (CellScalar None ∷ []))
+IsPieceKind front (OddPiece odd.Indicator) rest Syntax = ¬ FlowMayBegin (front ++ (CellScalar None ∷ []))
+IsPieceKind front (OddPiece odd.Indicator) rest _ = ⊥
 IsPieceKind front _ rest kind = kind ≡ Syntax
 
 -- the first piece that can't stand behind those before it tells the kind

@@ -96,7 +96,7 @@ abbrev pub piece_fault : Piece → List Piece → Shape → FaultKind
 piece_fault (Opening bracket) rest shape = if closes_at 0 rest then Syntax else Unsupported
 piece_fault (CellScalar text) rest shape = if takes_key shape.want shape.brackets then kind_behind_key rest else Syntax
 piece_fault (OddPiece odd.Unsupported) rest shape = Unsupported
-piece_fault (OddPiece odd.Mark) rest shape = if takes_value shape.want shape.brackets then Unsupported else Syntax
+piece_fault (OddPiece odd.Indicator) rest shape = if takes_value shape.want shape.brackets then Unsupported else Syntax
 piece_fault _ rest shape = Syntax
 
 abbrev pub is_done : Want → Bool

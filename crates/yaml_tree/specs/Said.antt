@@ -11,8 +11,8 @@ use Rattle.yaml_marks.specs.declared.piece.Piece.{Piece}
 use Rattle.yaml_marks.specs.declared.piece.Piece.TheVariants.{CellKey, CellScalar, CellName, CellCopy}
 use Rattle.yaml_tree.specs.Flows.{Flow}
 use Rattle.yaml_tree.specs.Flows.Flow.{absent, word, called, item, pair, form}
-use Rattle.yaml_marks.specs.declared.mark.Mark.{Mark}
-use Rattle.yaml_marks.specs.declared.mark.Mark.TheVariants.{Dash, Key, Scalar, Name, Copy, Bar, Body}
+use Rattle.yaml_marks.specs.declared.token.Token.{Token}
+use Rattle.yaml_marks.specs.declared.token.Token.TheVariants.{Dash, Key, Scalar, Name, Copy, Bar, Body}
 use Rattle.yaml_tree.specs.Written.{Written, line_of}
 use Rattle.yaml_tree.specs.Written.Written.{nothing, leaf, literal, flowing, named, row}
 
@@ -91,44 +91,44 @@ flow_said line none names (form bracket cells last) = flow_said line (begun_form
 
 -- ---- blocks
 
-abbrev pub body_of : Mark → List ℕ
+abbrev pub body_of : Token → List ℕ
 body_of (Body line column bytes) = bytes
 body_of _ = []
 
-abbrev pub bodies_of : List Mark → List (List ℕ)
+abbrev pub bodies_of : List Token → List (List ℕ)
 bodies_of [] = []
-bodies_of (mark ∷ ms) = body_of mark ∷ bodies_of ms
+bodies_of (token ∷ ms) = body_of token ∷ bodies_of ms
 
-abbrev pub chomp_of : Mark → Chomp
+abbrev pub chomp_of : Token → Chomp
 chomp_of (Bar line column chomp) = chomp
 chomp_of _ = Clip
 
-abbrev pub leaf_said : Mark → Names → Said
+abbrev pub leaf_said : Token → Names → Said
 leaf_said (Scalar line column value) names = scalar_said line value
 leaf_said (Copy line column n) names = copied line n names
-leaf_said mark names = null (line_of mark)
+leaf_said token names = null (line_of token)
 
-abbrev pub name_of : Mark → List ℕ
+abbrev pub name_of : Token → List ℕ
 name_of (Name line column n) = n
 name_of _ = []
 
 -- a collection that begins with this head
-abbrev pub begun_block : Mark → Said
+abbrev pub begun_block : Token → Said
 begun_block (Dash line column) = sequence line
-begun_block mark = mapping (line_of mark)
+begun_block token = mapping (line_of token)
 
 -- a row with this head, behind the earlier ones
-abbrev pub row_behind : Mark → Said → Meaning → Meaning
+abbrev pub row_behind : Token → Said → Meaning → Meaning
 row_behind (Key line column k) before meaning = pair_behind line k before meaning
-row_behind mark before meaning = item_behind before meaning
+row_behind token before meaning = item_behind before meaning
 
 -- What is said, behind these names. The first argument is what no value, or the place before the first row, says.
 abbrev pub said : Said → Names → Written → Meaning
 said none names nothing = (none, names)
-said none names (leaf mark) = (leaf_said mark names, names)
-said none names (literal mark lines) = (text (line_of mark) (block_text (chomp_of mark) (bodies_of lines)), names)
-said none names (flowing mark value) = flow_said (line_of mark) none names value
-said none names (named mark value) = given (line_of mark) (name_of mark) (said none names value)
+said none names (leaf token) = (leaf_said token names, names)
+said none names (literal token lines) = (text (line_of token) (block_text (chomp_of token) (bodies_of lines)), names)
+said none names (flowing token value) = flow_said (line_of token) none names value
+said none names (named token value) = given (line_of token) (name_of token) (said none names value)
 said none names (row before head value) = let b = said (begun_block head) names before in row_behind head b.0 (said (null (line_of head)) b.1 value)
 
 -- the tree that is written; a null without text begins on line 1

@@ -6,9 +6,9 @@ use Rattle.std.specs.Str.Lossy.{utf8_valid_len}
 use Rattle.yaml_marks.specs.Lines.{lines_of, line_feed}
 use Rattle.yaml_marks.specs.Pieces.{why_bracket}
 use Rattle.yaml_tree.specs.Flows.{IsFlowMisfit}
-use Rattle.yaml_marks.specs.Marks.{marks_of}
-use Rattle.yaml_marks.specs.declared.mark.Mark.{Mark}
-use Rattle.yaml_marks.specs.declared.mark.Mark.TheVariants.{Key, Scalar, Form, OddMark}
+use Rattle.yaml_marks.specs.Tokens.{tokens_of}
+use Rattle.yaml_marks.specs.declared.token.Token.{Token}
+use Rattle.yaml_marks.specs.declared.token.Token.TheVariants.{Key, Scalar, Form, OddToken}
 use Rattle.yaml_tree.specs.Written.{Written, Spells, is_name}
 use Rattle.yaml_tree.specs.Said.{Said, tree_of, has_repeat, has_unknown, levels, size}
 use Rattle.yaml_tree.specs.declared.fault.FaultKind.{FaultKind}
@@ -19,7 +19,7 @@ use Rattle.yaml_marks.specs.declared.odd.Odd.TheVariants as odd
 -- the lines say this tree by one of the six rules at each place
 pub record Says (lines : List (List ℕ)) (tree : Said) : Type 0 where
   pub written : Written
-  pub spelled : Spells (marks_of lines) written
+  pub spelled : Spells (tokens_of lines) written
   pub said : tree_of written ≡ tree
 
 -- the lines have this tree: they say it, no key is repeated, no copy is of an unknown node, and it is within the
@@ -34,54 +34,54 @@ pub record IsTree (lines : List (List ℕ)) (tree : Said) : Type 0 where
 abbrev pub HasTree : List (List ℕ) → Type 0
 HasTree lines = (tree : Said) × IsTree lines tree
 
--- a tree as it is written begins with these marks
-abbrev pub MayBegin : List Mark → Type 0
-MayBegin ms = (rest : List Mark) × (written : Written) × Spells (ms ++ rest) written
+-- a tree as it is written begins with these tokens
+abbrev pub MayBegin : List Token → Type 0
+MayBegin ms = (rest : List Token) × (written : Written) × Spells (ms ++ rest) written
 
 -- behind the front a value may begin at this column
-abbrev pub ValueMayBegin : List Mark → ℕ → ℕ → Type 0
+abbrev pub ValueMayBegin : List Token → ℕ → ℕ → Type 0
 ValueMayBegin front line column = MayBegin (front ++ (Scalar line column None ∷ []))
 
 -- behind the front a key may begin at this column
-abbrev pub KeyMayBegin : List Mark → ℕ → ℕ → Type 0
+abbrev pub KeyMayBegin : List Token → ℕ → ℕ → Type 0
 KeyMayBegin front line column = MayBegin (front ++ (Key line column [] ∷ []))
 
 abbrev pub kind_of : Odd → FaultKind
-kind_of odd.Mark = Syntax
+kind_of odd.Indicator = Syntax
 kind_of odd.Unkeyed = Syntax
 kind_of odd.Unsupported = Unsupported
 kind_of odd.Syntax = Syntax
 
--- The kind of fault where this mark can't stand behind the front. Of a flow form where a value may begin it is that
+-- The kind of fault where this token can't stand behind the front. Of a flow form where a value may begin it is that
 -- of its first piece which can't stand.
-abbrev pub IsKindAt : List Mark → Mark → FaultKind → Type 0
-IsKindAt front (OddMark line column odd.Syntax) kind = kind ≡ Syntax
-IsKindAt front (OddMark line column odd.Unsupported) kind = kind ≡ Unsupported
-IsKindAt front (OddMark line column odd.Mark) Unsupported = ValueMayBegin front line column
-IsKindAt front (OddMark line column odd.Mark) Syntax = ¬ ValueMayBegin front line column
-IsKindAt front (OddMark line column odd.Mark) _ = ⊥
-IsKindAt front (OddMark line column odd.Unkeyed) Unsupported = KeyMayBegin front line column
-IsKindAt front (OddMark line column odd.Unkeyed) Syntax = ¬ KeyMayBegin front line column
-IsKindAt front (OddMark line column odd.Unkeyed) _ = ⊥
+abbrev pub IsKindAt : List Token → Token → FaultKind → Type 0
+IsKindAt front (OddToken line column odd.Syntax) kind = kind ≡ Syntax
+IsKindAt front (OddToken line column odd.Unsupported) kind = kind ≡ Unsupported
+IsKindAt front (OddToken line column odd.Indicator) Unsupported = ValueMayBegin front line column
+IsKindAt front (OddToken line column odd.Indicator) Syntax = ¬ ValueMayBegin front line column
+IsKindAt front (OddToken line column odd.Indicator) _ = ⊥
+IsKindAt front (OddToken line column odd.Unkeyed) Unsupported = KeyMayBegin front line column
+IsKindAt front (OddToken line column odd.Unkeyed) Syntax = ¬ KeyMayBegin front line column
+IsKindAt front (OddToken line column odd.Unkeyed) _ = ⊥
 IsKindAt front (Form line column pieces) kind = (ValueMayBegin front line column × IsFlowMisfit pieces kind) ⊎ ((¬ ValueMayBegin front line column) × (kind ≡ kind_of (why_bracket pieces)))
 IsKindAt front _ kind = kind ≡ Syntax
 
--- The marks are no tree's: the first of them that can't stand behind those before it tells the kind.
-pub record IsMisfit (ms : List Mark) (kind : FaultKind) : Type 0 where
-  pub front : List Mark
-  pub mark : Mark
-  pub rest : List Mark
-  pub parts : ms ≡ front ++ (mark ∷ rest)
+-- The tokens are no tree's: the first of them that can't stand behind those before it tells the kind.
+pub record IsMisfit (ms : List Token) (kind : FaultKind) : Type 0 where
+  pub front : List Token
+  pub token : Token
+  pub rest : List Token
+  pub parts : ms ≡ front ++ (token ∷ rest)
   pub begins : MayBegin front
-  pub ends : ¬ MayBegin (front ++ (mark ∷ []))
-  pub kind_is : IsKindAt front mark kind
+  pub ends : ¬ MayBegin (front ++ (token ∷ []))
+  pub kind_is : IsKindAt front token kind
 
 -- The lines have no tree for this reason: they fit no rule, or what they say has a repeated key, or has none and a
 -- copy of an unknown node, or neither and is too deep, or isn't too deep and has too many nodes.
 abbrev pub IsRefused : List (List ℕ) → FaultKind → Type 0
 IsRefused lines NotUtf8 = ⊥
-IsRefused lines Syntax = IsMisfit (marks_of lines) Syntax
-IsRefused lines Unsupported = IsMisfit (marks_of lines) Unsupported
+IsRefused lines Syntax = IsMisfit (tokens_of lines) Syntax
+IsRefused lines Unsupported = IsMisfit (tokens_of lines) Unsupported
 IsRefused lines Duplicate = (tree : Said) × Says lines tree × (has_repeat tree ≡ true)
 IsRefused lines Alias = (tree : Said) × Says lines tree × (has_repeat tree ≡ false) × (has_unknown tree ≡ true)
 IsRefused lines TooDeep = (tree : Said) × Says lines tree × (has_repeat tree ≡ false) × (has_unknown tree ≡ false) × (64 < levels tree)
@@ -95,7 +95,7 @@ pub record IsFirstRefused (lines : List (List ℕ)) (number : ℕ) (kind : Fault
 
 -- a document is empty that has no token but a name
 abbrev pub is_empty_document : List (List ℕ) → Bool
-is_empty_document lines = list_all is_name (marks_of lines)
+is_empty_document lines = list_all is_name (tokens_of lines)
 
 -- the line of the first byte that breaks UTF-8
 abbrev pub line_of_break : List ℕ → ℕ

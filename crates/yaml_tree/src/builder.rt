@@ -1,7 +1,7 @@
 //! The builder: nodes that are whole, their names, and what is still open.
 
 ghost use Rattle.std.specs.Prelude.{◌≡◌, ◌+◌, ◌*◌, Some, None, OnOk, IfOk};
-ghost use Rattle.yaml_tree.specs.Builder.{next_known, with_node, put_node, valued, closed, settled, begun, next_row, headed, can_hold, can_name, with_scalar, with_name, with_copy, put_found, with_bar, with_line, ended, with_form, odd_kind, refused, take_mark, take_marks, Steps, judged, whole};
+ghost use Rattle.yaml_tree.specs.Builder.{next_known, with_node, put_node, valued, closed, settled, begun, next_row, headed, can_hold, can_name, with_scalar, with_name, with_copy, put_found, with_bar, with_line, ended, with_form, odd_kind, refused, take_token, take_tokens, Steps, judged, whole};
 ghost use Rattle.yaml_tree.specs.Trees.{root_number};
 ghost use Rattle.yaml_tree.specs.Builder as machine;
 ghost use Rattle.yaml_tree.specs.Holds.{scalar_value};
@@ -17,7 +17,7 @@ use crate::shape::flow_fault;
 use crate::stack::{Open, Stack};
 use sim_base::NoMemory;
 use std::alloc::Global;
-use yaml_marks::{Chomp, Mark, Odd, Pieces, Scalar, TextOrNull, why_bracket};
+use yaml_marks::{Chomp, Odd, Pieces, Scalar, TextOrNull, Token, why_bracket};
 
 /// The tree so far.
 #[derive(Drop)]
@@ -306,7 +306,7 @@ impl Builder {
         ensures { result ≡ odd_kind depth why self.now }
     {
         match why {
-            Odd::Mark => {
+            Odd::Indicator => {
                 if self.can_hold(depth) {
                     FaultKind::Unsupported
                 } else {
@@ -333,27 +333,48 @@ impl Builder {
     }
 
     /// Takes a token.
-    #[tactic(auto, unfolding(crate::specs::Builder::take_mark))]
-    pub fn take_mark(&mut self, mark: Mark) -> Result<(), Stop>
-        ensures { Steps result self.new (take_mark mark self.old) }
+    #[tactic(auto, unfolding(crate::specs::Builder::take_token))]
+    pub fn take_token(&mut self, token: Token) -> Result<(), Stop>
+        ensures { Steps result self.new (take_token token self.old) }
     {
-        if let Mark::Body(_, column, bytes) = mark {
+        if let Token::Body {
+            column,
+            text: bytes,
+            ..
+        } = token
+        {
             return self.literal_line(key_depth(column), bytes);
         }
         self.end_literal()?;
-        match mark {
-            Mark::Dash(line, column) => {
+        match token {
+            Token::Dash { line, column } => {
                 let none = Scalar::new();
                 self.head(dash_depth(column), false, line, none)
             }
-            Mark::Key(line, column, text) => self.head(key_depth(column), true, line, text),
-            Mark::Scalar(line, column, text) => self.scalar(key_depth(column), line, text),
-            Mark::Name(line, column, text) => self.give_name(key_depth(column), line, text),
-            Mark::Copy(line, column, text) => self.copy(key_depth(column), line, &text),
-            Mark::Bar(line, column, chomp) => self.bar(key_depth(column), line, chomp),
-            Mark::Form(line, column, pieces) => self.form(key_depth(column), line, pieces),
-            Mark::OddMark(line, column, why) => self.refuse(key_depth(column), line, why),
-            Mark::Body(_, _, _) => Ok(()),
+            Token::Key { line, column, text } => self.head(key_depth(column), true, line, text),
+            Token::Scalar { line, column, text } => self.scalar(key_depth(column), line, text),
+            Token::Name {
+                line,
+                column,
+                name: text,
+            } => self.give_name(key_depth(column), line, text),
+            Token::Copy {
+                line,
+                column,
+                name: text,
+            } => self.copy(key_depth(column), line, &text),
+            Token::Bar {
+                line,
+                column,
+                chomp,
+            } => self.bar(key_depth(column), line, chomp),
+            Token::Form {
+                line,
+                column,
+                pieces,
+            } => self.form(key_depth(column), line, pieces),
+            Token::OddToken { line, column, why } => self.refuse(key_depth(column), line, why),
+            Token::Body { .. } => Ok(()),
         }
     }
 

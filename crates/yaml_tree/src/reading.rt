@@ -2,10 +2,10 @@
 
 ghost use Rattle.std.specs.Prelude.{◌≡◌, ◌+◌, ◌<◌, ◌≤◌, ◌^◌, List, ℕ, Bool, None, Ok, Err, length, take, count_by, IfOk, IfErr, false, ◌==◌, ◌||◌};
 ghost use Rattle.yaml_marks.specs.Lines.{line_feed, split_lines, lines_of};
-ghost use Rattle.yaml_tree.specs.Builder.{Steps, Reads, ReadsLine, take_marks, take_line, read_line, at_line, read_lines, fresh};
+ghost use Rattle.yaml_tree.specs.Builder.{Steps, Reads, ReadsLine, take_tokens, take_line, read_line, at_line, read_lines, fresh};
 ghost use Rattle.yaml_tree.specs.Said.{Said};
-ghost use Rattle.yaml_marks.specs.Marks.{has_content, place_after, line_marks, next_place, marks_of};
-ghost use Rattle.yaml_marks.specs.declared.place.Place.TheVariants.{Outside};
+ghost use Rattle.yaml_marks.specs.Tokens.{has_content, place_after, line_tokens, next_place, tokens_of};
+ghost use Rattle.yaml_marks.specs.declared.place.LinePlace.TheVariants.{Outside};
 ghost use Rattle.yaml_tree.specs.Tree.{IsTreeOf, IsFaultOf, is_empty_document};
 ghost use Rattle.yaml_tree.specs.Written.{is_name};
 ghost use Rattle.std.specs.List.{list_all};
@@ -18,24 +18,24 @@ use crate::tree::Tree;
 use sim_base::NoMemory;
 use std::alloc::Global;
 use yaml_marks::{
-    Mark, Marks, Place, has_content, line_marks, next_line, next_place, without_mark,
+    LinePlace, Token, Tokens, has_content, line_tokens, next_line, next_place, without_mark,
 };
 
 /// Gives the tokens of a line to the builder.
-fn take_marks(builder: &mut Builder, marks: Marks) -> Result<(), Stop>
-    ensures { Steps result builder.new (take_marks marks builder.old) }
+fn take_tokens(builder: &mut Builder, tokens: Tokens) -> Result<(), Stop>
+    ensures { Steps result builder.new (take_tokens tokens builder.old) }
 {
-    for mark in marks.into_vec() {
-        builder.take_mark(mark)?;
+    for token in tokens.into_vec() {
+        builder.take_token(token)?;
     }
     Ok(())
 }
 
 /// Gives the tokens of a line to the builder, and judges the tree so far.
-fn take_line(builder: &mut Builder, marks: Marks) -> Result<(), Stop>
-    ensures { Steps result builder.new (take_line marks builder.old) }
+fn take_line(builder: &mut Builder, tokens: Tokens) -> Result<(), Stop>
+    ensures { Steps result builder.new (take_line tokens builder.old) }
 {
-    take_marks(builder, marks)?;
+    take_tokens(builder, tokens)?;
     builder.judge()
 }
 
@@ -50,26 +50,26 @@ fn error_at(number: usize, stop: Stop) -> TreeError
 }
 
 /// Gives the tokens of a line to the builder, and answers the line's number where it is faulty.
-fn take_numbered(builder: &mut Builder, number: usize, marks: Marks) -> Result<(), TreeError>
-    ensures { Reads result builder.new (at_line number (take_line marks builder.old)) }
+fn take_numbered(builder: &mut Builder, number: usize, tokens: Tokens) -> Result<(), TreeError>
+    ensures { Reads result builder.new (at_line number (take_line tokens builder.old)) }
 {
-    match take_line(builder, marks) {
+    match take_line(builder, tokens) {
         Ok(()) => Ok(()),
         Err(stop) => Err(error_at(number, stop)),
     }
 }
 
-fn is_name(mark: &Mark) -> bool
-    ensures { result ≡ is_name mark.now }
+fn is_name(token: &Token) -> bool
+    ensures { result ≡ is_name token.now }
 {
-    matches!(mark, Mark::Name(_, _, _))
+    matches!(token, Token::Name { .. })
 }
 
 /// Whether there are no tokens but names.
-fn are_names(marks: &Marks) -> bool
-    ensures { result ≡ list_all is_name marks.now }
+fn are_names(tokens: &Tokens) -> bool
+    ensures { result ≡ list_all is_name tokens.now }
 {
-    marks.as_slice().iter().all(|mark| is_name(mark))
+    tokens.as_slice().iter().all(|token| is_name(token))
 }
 
 /// Reads a line, and tells where the next one stands, and whether it has no tokens but names.
@@ -77,19 +77,19 @@ fn are_names(marks: &Marks) -> bool
 fn read_line(
     builder: &mut Builder,
     begun: bool,
-    place: Place,
+    place: LinePlace,
     number: usize,
     line: &[u8],
-) -> Result<(Place, bool), TreeError>
+) -> Result<(LinePlace, bool), TreeError>
     requires { length line.now < 2 ^ 62 }
     ensures read { ReadsLine result builder.new (at_line number (read_line begun place number line.now builder.old)) }
     ensures place { IfOk result (λ p. p.0 ≡ next_place begun place number line.now) }
-    ensures names { IfOk result (λ p. p.1 ≡ list_all is_name (line_marks begun place number line.now)) }
+    ensures names { IfOk result (λ p. p.1 ≡ list_all is_name (line_tokens begun place number line.now)) }
 {
-    let marks = line_marks(builder.alloc, begun, place, number, line)?;
-    let next = next_place(place, line, &marks);
-    let names = are_names(&marks);
-    take_numbered(builder, number, marks)?;
+    let tokens = line_tokens(builder.alloc, begun, place, number, line)?;
+    let next = next_place(place, line, &tokens);
+    let names = are_names(&tokens);
+    take_numbered(builder, number, tokens)?;
     Ok((next, names))
 }
 
@@ -101,7 +101,7 @@ fn read_lines(builder: &mut Builder, text: &[u8]) -> Result<bool, TreeError>
 {
     let mut rest = text;
     let mut begun = false;
-    let mut place = Place::Outside(None);
+    let mut place = LinePlace::Outside { head: None };
     let mut number = 1;
     let mut empty = true;
     while !rest.is_empty() {

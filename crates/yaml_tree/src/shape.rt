@@ -204,7 +204,7 @@ impl Shape {
             Piece::Opening(_) if !closes_at(rest) => FaultKind::Unsupported,
             Piece::CellScalar(_) if self.takes_key() => kind_behind_key(rest),
             Piece::OddPiece(Odd::Unsupported) => FaultKind::Unsupported,
-            Piece::OddPiece(Odd::Mark) if self.takes_value() => FaultKind::Unsupported,
+            Piece::OddPiece(Odd::Indicator) if self.takes_value() => FaultKind::Unsupported,
             _ => FaultKind::Syntax,
         }
     }

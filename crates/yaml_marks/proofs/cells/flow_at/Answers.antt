@@ -1,6 +1,6 @@
 use Rattle.std.proofs.Common.{◌≡◌, ◌∙◌, ◌-◌, ◌≤◌, length, ap, arith}
 use Rattle.std.proofs.lemmas.List.{length-drop}
-use Rattle.yaml_marks.specs.Pieces.{Step, step_at}
+use Rattle.yaml_marks.specs.Pieces.{CellStep, step_at}
 use Rattle.yaml_marks.proofs.CellSteps.{pieces_go_on, pieces_end, len_goes_on, len_ends, pieces_over, len_over}
 use Rattle.yaml_marks.proofs.cells.flow_at.Goals as goal
 
@@ -14,9 +14,9 @@ returns-then-last-clause-len c = let one = len_ends c.in-Some.b.now c.in-Some.be
     omega (arith, one, c.loop-b.invariant.len, c.loop-b.invariant.within, c.in-Some.ensures.cases.1)
 
 pub loop-b-preserved : goal.loop-b-preserved
-loop-b-preserved c = let step : Step = record { piece = c.piece.inside.piece; skip = c.piece.inside.skip } in
+loop-b-preserved c = let step : CellStep = record { piece = c.piece.inside.piece; skip = c.piece.inside.skip } in
     let is : step ≡ step_at c.in-Some.b.now c.in-Some.behind.now = c.piece.view_is ∙ c.in_ok-piece.ensures.step in
-    let fits : step.skip ≤ length c.in-Some.behind.now = let same = ap (λ (s : Step). s.skip) c.piece.view_is in omega (arith, same, c.in_ok-piece.ensures.within) in
+    let fits : step.skip ≤ length c.in-Some.behind.now = let same = ap (λ (s : CellStep). s.skip) c.piece.view_is in omega (arith, same, c.in_ok-piece.ensures.within) in
     let more = len_goes_on c.in-Some.b.now c.in-Some.behind.now c.loop-b.rest.now c.loop-b.depth step is c.in-Some.ensures.cases.0
     c.is_last-last.result c.is_last-last.ensures c.if-last.false fits c.open_after-depth.result c.from-rest.result.now c.open_after-depth.ensures.value c.from-rest.ensures in
     let left : length c.from-rest.result.now ≡ length c.in-Some.behind.now - step.skip = ap length c.from-rest.ensures ∙ length-drop step.skip c.in-Some.behind.now in
