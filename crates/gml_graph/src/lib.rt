@@ -5,6 +5,7 @@ mod block;
 mod edge;
 mod fault;
 mod graph;
+pub mod laws;
 mod node;
 mod number;
 mod outline;
