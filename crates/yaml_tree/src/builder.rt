@@ -73,7 +73,8 @@ impl Builder {
         };
         let known = Known { node, measure };
         let line = begins_at(line, &self.name);
-        self.nodes.push(Node { line, value })?;
+        let may_stand = measure.fault().is_none();
+        self.nodes.push(Node { line, value }, may_stand)?;
         if let Some(name) = self.name.take() {
             self.names.insert(name.text, known)?;
         }

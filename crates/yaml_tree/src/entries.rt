@@ -1,6 +1,6 @@
 //! The entries of a mapping.
 
-ghost use Rattle.std.specs.Prelude.{◌≡◌, ◌==◌, ◌++◌, ◌∷◌, ◌↔◌, List, ℕ, [], OnOk, IsTrue};
+ghost use Rattle.std.specs.Prelude.{◌≡◌, ◌==◌, ◌++◌, ◌∷◌, ◌↔◌, List, ℕ, [], OnOk, IfOk, IsTrue};
 ghost use Rattle.std.specs.Cmp.Lexicographic.{pointwise};
 ghost use Rattle.yaml_tree.specs.declared.entries.Child.{Child};
 ghost use Rattle.yaml_tree.specs.Entries.{has_key, with_entry};
@@ -21,22 +21,23 @@ pub struct Child {
 /// The entries of a mapping in the order of its keys, which contracts see as a list of pairs.
 #[derive(Drop)]
 pub struct Entries {
-    map: IndexMap<Scalar, Child, TextHashers>,
+    map: Box<IndexMap<Scalar, Child, TextHashers>>,
 }
 
 impl Model for Entries {
     ghost Value = { List (List ℕ × Child) };
 
-    ghost view = { λ e. e.map.entries };
+    ghost view = { λ e. e.map.value.entries };
 }
 
 impl Entries {
-    pub(crate) fn new(alloc: Global, hashing: &Hashing) -> Entries
-        ensures { result ≡ [] }
+    pub(crate) fn new(alloc: Global, hashing: &Hashing) -> Result<Entries, AllocError>
+        ensures { IfOk result (λ entries. entries ≡ []) }
     {
-        Entries {
-            map: IndexMap::with_hasher(alloc, hashing.hashers()),
-        }
+        let map = IndexMap::with_hasher(alloc, hashing.hashers());
+        Ok(Entries {
+            map: Box::new(alloc, map)?,
+        })
     }
 
     pub(crate) fn is_empty(&self) -> bool

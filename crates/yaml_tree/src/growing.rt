@@ -115,7 +115,7 @@ fn from_rows(
 ) -> Result<Entries, AllocError>
     ensures { IfOk result (λ entries. entries ≡ insert_all (pointwise ◌==◌) [] rows.items) }
 {
-    let mut entries = Entries::new(alloc, hashing);
+    let mut entries = Entries::new(alloc, hashing)?;
     for (key, child) in rows {
         entries.insert(key, child)?;
     }

@@ -10,8 +10,9 @@ use sim_base::NoMemory;
 use std::alloc::Global;
 use std::marker::Model;
 
-/// Nodes by number, which contracts see as a list. No more are kept than a tree has at most: a line
-/// may make millions, but where a text has more nodes than a tree, it is refused at the line's end.
+/// Nodes by number, which contracts see as a list. No more are kept than a tree has at most, and none
+/// from the first one on that no tree may have: a line may make millions, but such a text is refused
+/// at the line's end.
 #[derive(Drop)]
 pub(crate) struct MadeNodes {
     kept: Nodes,
@@ -47,17 +48,18 @@ impl MadeNodes {
         }
     }
 
-    pub fn push(&mut self, node: Node) -> Result<(), NoMemory>
+    /// Adds a node. `may_stand` says whether a tree may have it.
+    pub fn push(&mut self, node: Node, may_stand: bool) -> Result<(), NoMemory>
         ensures { OnOk result (self.new ≡ self.old ++ node ∷ []) }
     {
-        if self.gone.is_empty() && self.kept.len() < MOST_NODES {
+        if may_stand && self.gone.is_empty() && self.kept.len() < MOST_NODES {
             self.kept.push(node)
         } else {
             self.gone.push(node)
         }
     }
 
-    /// The nodes of a whole text. All of them are kept, since a text of more is refused before.
+    /// The nodes of a whole text. All of them are kept, since a text with others is refused before.
     pub fn into_nodes(self) -> Result<Nodes, NoMemory>
         ensures { IfOk result (λ nodes. nodes ≡ self) }
     {
