@@ -47,10 +47,10 @@ length-rest : (w : Word) (o : Opened (text_of w)) → length (text_of w) ≡ suc
 length-rest w o = ap length o.parts
 
 -- the step over a word before these bytes
-abbrev stepped : List ℕ → ℕ → List ℕ → Step
+abbrev stepped : List ℕ → ℕ → List ℕ → CellStep
 stepped text len rest = record { piece = Some (if at_colon rest then CellKey text else CellScalar (Some text)); skip = (if at_colon rest then len + (prefix_len is_space rest + 1) else len) - 1 }
 
-abbrev after_step : Step → ℕ → List ℕ → Found
+abbrev after_step : CellStep → ℕ → List ℕ → Found
 after_step step n bytes = with_step step n (found_at step.skip (open_after step.piece n) bytes)
 
 found_at-word : (w : Word) (rest : List ℕ) (n : ℕ) → IsWord w → StopsCell rest → (o : Opened (text_of w)) → found_at 0 n (text_of w ++ rest) ≡ after_step (stepped (says w) (length (text_of w)) rest) n (o.rest ++ rest)

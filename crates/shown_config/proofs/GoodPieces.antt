@@ -33,7 +33,7 @@ pub name-ascii : (b : ℕ) → is_name_byte b ≡ true → b < 128
 name-ascii b h = grind (arith, nat_tests)
 
 -- a step over UTF-8
-abbrev IsGoodStep : List ℕ → Step → Type 0
+abbrev IsGoodStep : List ℕ → CellStep → Type 0
 IsGoodStep bytes step = IfSome step.piece IsGoodPiece × IsUtf8 (drop step.skip bytes)
 
 -- bytes that begin with one of ASCII
