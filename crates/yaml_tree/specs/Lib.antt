@@ -1,4 +1,5 @@
 pub mod Entries
+pub mod Numbers
 pub mod Rows
 pub mod Flows
 pub mod Written

@@ -135,6 +135,7 @@ fn with_row(
 {
     let mut few = few;
     if few.len() < MOST_ROWS {
+        few.reserve_exact(1)?;
         few.push((key, child))?;
         return Ok(Rows::Few(few));
     }

@@ -16,18 +16,18 @@ use std::marker::Model;
 use yaml_marks::Scalar;
 
 /// The most nodes that a tree has.
-pub(crate) const MOST_NODES: usize = 1_000_000;
+pub(crate) const MOST_NODES: u32 = 1_000_000;
 
 /// The most levels of collections that a tree has.
-pub(crate) const MOST_LEVELS: usize = 64;
+pub(crate) const MOST_LEVELS: u8 = 64;
 
 /// What the limits ask of a tree: its nodes and its levels, each counted to one more than a tree
 /// has at most; whether a key stands twice in one mapping; and whether a copy is of an unknown
 /// node.
 #[derive(Clone, Copy, Debug, PartialEq, Eq)]
 pub(crate) struct Measure {
-    pub size: usize,
-    pub levels: usize,
+    pub size: u32,
+    pub levels: u8,
     pub repeated: bool,
     pub unknown: bool,
 }
@@ -114,7 +114,7 @@ impl Measure {
 }
 
 /// The sum of two sizes, up to one more than a tree has at most.
-fn sum_of_sizes(a: usize, b: usize) -> usize
+fn sum_of_sizes(a: u32, b: u32) -> u32
     ensures { result ≡ cut 1_000_000 (a + b) }
 {
     if a > MOST_NODES || b > MOST_NODES || a + b > MOST_NODES {
@@ -125,7 +125,7 @@ fn sum_of_sizes(a: usize, b: usize) -> usize
 }
 
 /// One level more, up to one more than a tree has at most.
-fn levels_above(levels: usize) -> usize
+fn levels_above(levels: u8) -> u8
     ensures { result ≡ cut 64 (1 + levels) }
 {
     if levels < MOST_LEVELS {

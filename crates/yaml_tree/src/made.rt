@@ -52,7 +52,7 @@ impl MadeNodes {
     pub fn push(&mut self, node: Node, may_stand: bool) -> Result<(), NoMemory>
         ensures { OnOk result (self.new ≡ self.old ++ node ∷ []) }
     {
-        if may_stand && self.gone.is_empty() && self.kept.len() < MOST_NODES {
+        if may_stand && self.gone.is_empty() && self.kept.len() < MOST_NODES as usize {
             self.kept.push(node)
         } else {
             self.gone.push(node)

@@ -2,6 +2,7 @@
 
 ghost use Rattle.std.specs.Prelude.{◌≡◌, ◌++◌, ◌∷◌, ◌↔◌, List, ℕ, [], None, OnOk, IfOk, IsTrue, length, true, nat_lt, ◌==◌};
 ghost use Rattle.yaml_tree.specs.Stack.{new_open, finished, collection, top_depth, has_row, with_next_row, measure_about, PopsWhere};
+ghost use Rattle.yaml_tree.specs.Frames.{sequence_of, mapping_of};
 ghost use Rattle.yaml_tree.specs.declared.stack.Open.{Open};
 
 use crate::entries::Child;
@@ -49,7 +50,7 @@ impl Open {
             depth,
             mapping,
             first_line: line,
-            items: Numbers::new(alloc),
+            items: Numbers::new(),
             entries: Growing::new(alloc),
             line,
             key,
@@ -67,6 +68,25 @@ impl Open {
             && self.items.is_empty()
             && self.entries.is_empty()
             && self.measure == Measure::no_row()
+    }
+
+    /// Whether it is a sequence of a flow form, on one line and without a name.
+    pub fn is_cells(&self) -> bool
+        ensures { IsTrue result ↔ self.now ≡ sequence_of self.now.line self.now.measure self.now.items }
+    {
+        !self.mapping
+            && self.depth == 0
+            && self.first_line == self.line
+            && self.name.is_none()
+            && self.entries.is_empty()
+            && self.key.as_slice().is_empty()
+    }
+
+    /// Whether it is a mapping on one line and without a name.
+    pub fn is_rows(&self) -> bool
+        ensures { IsTrue result ↔ self.now ≡ mapping_of self.now.depth self.now.line self.now.key self.now.measure self.now.entries }
+    {
+        self.mapping && self.first_line == self.line && self.name.is_none() && self.items.is_empty()
     }
 
     /// Finishes the row with its value.
@@ -93,7 +113,7 @@ impl Open {
         if mapping {
             entries = entries.with(alloc, hashing, key, Child { line, node })?;
         } else {
-            items.push(node)?;
+            items = items.with(alloc, node)?;
         }
         Ok(Open {
             depth,
