@@ -1,6 +1,7 @@
 pub mod ScanSteps
 pub mod LineLaws
 pub mod BracketSteps
+pub mod PackedLaws
 pub mod CellSteps
 pub mod TokenSteps
 pub mod SingleSpelling

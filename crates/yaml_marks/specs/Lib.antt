@@ -6,4 +6,5 @@ pub mod Spelling
 pub mod Literals
 pub mod Names
 pub mod Pieces
+pub mod Packed
 pub mod Tokens

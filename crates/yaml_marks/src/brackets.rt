@@ -3,11 +3,12 @@
 ghost use Rattle.std.specs.Prelude.{◌≡◌};
 ghost use Rattle.yaml_marks.specs.Pieces.{closes_at, why_bracket};
 
+use crate::bare::BarePiece;
 use crate::odd::Odd;
-use crate::piece::Piece;
+use crate::pieces::Pieces;
 
 /// Whether a bracket is closed by the pieces behind it.
-pub fn closes_at(pieces: &[Piece]) -> bool
+pub fn closes_at(pieces: &[BarePiece]) -> bool
     ensures { result ≡ closes_at 0 pieces.now }
 {
     let mut opened = 1;
@@ -21,7 +22,14 @@ pub fn closes_at(pieces: &[Piece]) -> bool
 }
 
 /// Why a bracket can't stand where it is.
-pub fn why_bracket(pieces: &[Piece]) -> Odd
+#[tactic(auto, using(crate::proofs::PackedLaws::bare_bracket))]
+pub fn why_bracket(pieces: &Pieces) -> Odd
+    ensures { result ≡ why_bracket pieces.now }
+{
+    why_bare(pieces.as_bare())
+}
+
+fn why_bare(pieces: &[BarePiece]) -> Odd
     ensures { result ≡ why_bracket pieces.now }
 {
     match pieces {

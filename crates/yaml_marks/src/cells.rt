@@ -1,6 +1,6 @@
 //! The pieces of a flow form, read from the left.
 
-ghost use Rattle.std.specs.Prelude.{◌≡◌, ◌≤◌, ◌<◌, ◌^◌, ◌+◌, ◌-◌, ◌∷◌, ◌++◌, if◌then◌else◌, List, [], ℕ, Some, None, length, IfOk, OnOk};
+ghost use Rattle.std.specs.Prelude.{◌≡◌, ◌≤◌, ◌<◌, ◌^◌, ◌+◌, ◌-◌, ◌∷◌, ◌++◌, if◌then◌else◌, List, [], ℕ, Some, None, length, IfOk};
 ghost use Rattle.yaml_marks.specs.Lines.{begins_with};
 ghost use Rattle.yaml_marks.specs.declared.piece.Piece.TheVariants as pieces;
 ghost use Rattle.std.specs.List.{prefix_len};
@@ -11,7 +11,8 @@ ghost use Rattle.yaml_marks.specs.declared.scan.Scan.TheVariants as scans;
 
 use crate::names::{after_name, name_at, name_len};
 use crate::odd::Odd;
-use crate::piece::{Bracket, Piece, Pieces};
+use crate::piece::{Bracket, Piece};
+use crate::pieces::Pieces;
 use crate::scalar::Scalar;
 use crate::scan::{
     Scan, asks, at_colon, before, begins_with, double_len, double_scan, from, is_unplain,
@@ -304,13 +305,13 @@ fn is_last(piece: &Option<Piece>, depth: usize) -> bool
     }
 }
 
-/// Adds the piece of a step, if it has one.
-fn put_piece(pieces: &mut Pieces, piece: Option<Piece>) -> Result<(), NoMemory>
-    ensures { OnOk result (pieces.new ≡ pieces.old ++ put_piece piece []) }
+/// The pieces with that of a step, if it has one.
+fn put_piece(pieces: Pieces, piece: Option<Piece>) -> Result<Pieces, NoMemory>
+    ensures { IfOk result (λ grown. grown ≡ pieces ++ put_piece piece []) }
 {
     match piece {
-        Some(piece) => pieces.push(piece),
-        None => Ok(()),
+        Some(piece) => pieces.with(piece),
+        None => Ok(pieces),
     }
 }
 
@@ -329,7 +330,7 @@ pub(crate) fn flow_at(alloc: Global, bytes: &[u8]) -> Result<(Pieces, usize), No
         let CellStep { piece, skip } = step_at(alloc, *b, behind, rest)?;
         let last = is_last(&piece, depth);
         depth = open_after(&piece, depth);
-        put_piece(&mut pieces, piece)?;
+        pieces = put_piece(pieces, piece)?;
         if last {
             return Ok((pieces, bytes.len() - behind.len()));
         }

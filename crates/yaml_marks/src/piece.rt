@@ -1,14 +1,10 @@
 //! The pieces of a flow form.
 
-ghost use Rattle.std.specs.Prelude.{◌≡◌, ◌++◌, ◌∷◌, List, [], OnOk, IfOk};
-ghost use Rattle.yaml_marks.specs.declared.piece.Piece.{Piece};
+ghost use Rattle.std.specs.Prelude.{◌≡◌};
 
 use crate::odd::Odd;
 use crate::scalar::Scalar;
 use crate::text_or_null::TextOrNull;
-use sim_base::NoMemory;
-use std::alloc::Global;
-use std::marker::Model;
 
 #[derive(Clone, Copy, Debug, PartialEq, Eq)]
 pub enum Bracket {
@@ -60,51 +56,5 @@ impl Piece {
             Piece::Closing(_) => opened <= 1,
             _ => false,
         }
-    }
-}
-
-/// The pieces of a flow form in order, which contracts see as a list.
-#[derive(Drop)]
-pub struct Pieces {
-    items: Box<Vec<Piece>>,
-}
-
-impl Model for Pieces {
-    ghost use Rattle.std.specs.Prelude.{List};
-    ghost use Rattle.yaml_marks.specs.declared.piece.Piece.{Piece};
-
-    ghost Value = { List Piece };
-
-    ghost view = { λ p. p.items.value.items };
-}
-
-impl Pieces {
-    pub fn new(alloc: Global) -> Result<Pieces, NoMemory>
-        ensures { IfOk result (λ pieces. pieces ≡ []) }
-    {
-        Ok(Pieces {
-            items: Box::new(alloc, Vec::new(alloc))?,
-        })
-    }
-
-    pub fn push(&mut self, piece: Piece) -> Result<(), NoMemory>
-        ensures { OnOk result (self.new ≡ self.old ++ piece ∷ []) }
-    {
-        self.items.push(piece)?;
-        Ok(())
-    }
-
-    pub fn as_slice(&self) -> &[Piece]
-        ensures { result.now ≡ self.now }
-    {
-        self.items.as_slice()
-    }
-
-    /// Gives the pieces back without taking memory.
-    pub fn into_vec(self) -> Vec<Piece>
-        ensures { result.items ≡ self }
-    {
-        let Pieces { items } = self;
-        Box::into_inner(items)
     }
 }

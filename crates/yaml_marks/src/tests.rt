@@ -1,6 +1,7 @@
 use crate::{
-    Bracket, LinePlace, Odd, Piece, Pieces, Scalar, Token, Tokens, closes_at, has_content,
-    is_blank, line_tokens, next_line, next_place, past, spaces, why_bracket, without_mark,
+    Bracket, LinePlace, Odd, Piece, PieceKind, Pieces, Scalar, Token, Tokens, closes_at,
+    has_content, is_blank, line_tokens, next_line, next_place, past, spaces, why_bracket,
+    without_mark,
 };
 use std::alloc::Global;
 use std::test::Fail;
@@ -19,18 +20,18 @@ const LINES: [(&str, &str); 10] = [
     ("[!b]", "F(!s)"),
 ];
 
-fn piece_letter(piece: &Piece) -> char {
-    match piece {
-        Piece::Opening(Bracket::Square) => '(',
-        Piece::Opening(Bracket::Curly) => '{',
-        Piece::Closing(Bracket::Square) => ')',
-        Piece::Closing(Bracket::Curly) => '}',
-        Piece::Comma => ',',
-        Piece::CellKey(_) => 'k',
-        Piece::CellScalar(_) => 's',
-        Piece::CellName(_) => 'n',
-        Piece::CellCopy(_) => 'c',
-        Piece::OddPiece(_) => '!',
+fn piece_letter(kind: PieceKind) -> char {
+    match kind {
+        PieceKind::Opening(Bracket::Square) => '(',
+        PieceKind::Opening(Bracket::Curly) => '{',
+        PieceKind::Closing(Bracket::Square) => ')',
+        PieceKind::Closing(Bracket::Curly) => '}',
+        PieceKind::Comma => ',',
+        PieceKind::Key => 'k',
+        PieceKind::Scalar => 's',
+        PieceKind::Name => 'n',
+        PieceKind::Copy => 'c',
+        PieceKind::Odd(_) => '!',
     }
 }
 
@@ -50,8 +51,8 @@ fn token_letter(token: &Token) -> char {
 
 fn add_pieces(letters: &mut String, token: &Token) -> Result<(), Fail> {
     if let Token::Form { pieces, .. } = token {
-        for piece in pieces.as_slice() {
-            letters.push(piece_letter(piece))?;
+        for piece in pieces.as_bare() {
+            letters.push(piece_letter(piece.kind()))?;
         }
     }
     Ok(())
@@ -134,15 +135,15 @@ fn parts_lines(rt: HostRuntime) -> Result<(), Fail> {
 
 #[test]
 fn looks_for_closing_brackets(rt: HostRuntime) -> Result<(), Fail> {
-    let mut pieces = Pieces::new(rt.alloc())?;
-    pieces.push(Piece::Opening(Bracket::Square))?;
-    pieces.push(Piece::Opening(Bracket::Curly))?;
-    pieces.push(Piece::Closing(Bracket::Square))?;
-    assert_eq!(rt; why_bracket(pieces.as_slice()), Odd::Unsupported);
-    pieces.push(Piece::Closing(Bracket::Curly))?;
-    assert_eq!(rt; why_bracket(pieces.as_slice()), Odd::Syntax);
-    assert!(rt; closes_at(&pieces.as_slice()[1..]));
-    assert_eq!(rt; pieces.into_vec().len(), 4);
+    let pieces = Pieces::new(rt.alloc())?
+        .with(Piece::Opening(Bracket::Square))?
+        .with(Piece::Opening(Bracket::Curly))?
+        .with(Piece::Closing(Bracket::Square))?;
+    assert_eq!(rt; why_bracket(&pieces), Odd::Unsupported);
+    let pieces = pieces.with(Piece::Closing(Bracket::Curly))?;
+    assert_eq!(rt; why_bracket(&pieces), Odd::Syntax);
+    assert!(rt; closes_at(&pieces.as_bare()[1..]));
+    assert_eq!(rt; pieces.as_bare().len(), 4);
     let text = Scalar::from_slice(rt.alloc(), b"a".as_slice())?;
     assert_eq!(rt; text.clone()?.as_slice().len(), 1);
     assert!(rt; text == text);

@@ -1,6 +1,7 @@
 //! What a scalar says.
 
 ghost use Rattle.std.specs.Prelude.{◌≡◌, Some, None};
+ghost use Rattle.yaml_marks.specs.Kept.{bytes_in};
 
 use crate::kept::Kept;
 use crate::scalar::Scalar;
@@ -47,5 +48,13 @@ impl TextOrNull {
             Kept::Nothing => None,
             kept => Some(Scalar::of(kept)),
         }
+    }
+
+    /// The text, which is empty for null.
+    pub(crate) fn or_empty(self) -> Scalar
+        ensures { result ≡ bytes_in self }
+    {
+        let TextOrNull { kept } = self;
+        Scalar::of(kept)
     }
 }

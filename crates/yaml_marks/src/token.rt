@@ -5,7 +5,7 @@ ghost use Rattle.yaml_marks.specs.declared.token.Token.{Token};
 
 use crate::chomp::Chomp;
 use crate::odd::Odd;
-use crate::piece::Pieces;
+use crate::pieces::Pieces;
 use crate::scalar::Scalar;
 use crate::text_or_null::TextOrNull;
 use sim_base::NoMemory;

@@ -53,7 +53,7 @@ fn why_behind(alloc: Global, bytes: &[u8]) -> Result<Odd, NoMemory>
     };
     if is_bracket(*b) {
         let (pieces, _) = flow_at(alloc, bytes)?;
-        return Ok(why_bracket(pieces.as_slice()));
+        return Ok(why_bracket(&pieces));
     }
     let scan = scalar_at(alloc, bytes)?;
     Ok(why_not(scan))

@@ -291,9 +291,9 @@ impl Builder {
         ensures { Steps result self.new (with_form depth line pieces self.old) }
     {
         if !self.can_hold(depth) {
-            return Err(Stop::Fault(kind_of(why_bracket(pieces.as_slice()))));
+            return Err(Stop::Fault(kind_of(why_bracket(&pieces))));
         }
-        match flow_fault(self.alloc, pieces.as_slice())? {
+        match flow_fault(self.alloc, &pieces)? {
             Some(kind) => Err(Stop::Fault(kind)),
             None => {
                 self.take_pieces(line, pieces)?;

@@ -129,7 +129,8 @@ impl Builder {
     pub fn take_pieces(&mut self, line: usize, pieces: Pieces) -> Result<(), NoMemory>
         ensures { OnOk result (self.new ≡ take_pieces line pieces self.old) }
     {
-        for piece in pieces.into_vec() {
+        let mut left = pieces.into_left();
+        while let Some(piece) = left.next() {
             self.take_piece(line, piece)?;
         }
         Ok(())

@@ -10,7 +10,7 @@ use crate::fault::FaultKind;
 use sim_base::NoMemory;
 use std::alloc::Global;
 use std::marker::Model;
-use yaml_marks::{Bracket, Odd, Piece, closes_at};
+use yaml_marks::{BarePiece, Bracket, Odd, PieceKind, Pieces, closes_at};
 
 /// What may come next in a flow form.
 #[derive(Clone, Copy, Debug, PartialEq, Eq)]
@@ -151,17 +151,17 @@ impl Shape {
     }
 
     /// Whether the piece may come.
-    fn takes_piece(&self, piece: &Piece) -> bool
+    fn takes_piece(&self, piece: &BarePiece) -> bool
         ensures { result ≡ takes_piece piece.now self.now }
     {
-        match piece {
-            Piece::Opening(_) => self.takes_form(),
-            Piece::Closing(bracket) => self.takes_closing(*bracket),
-            Piece::Comma => self.takes_comma(),
-            Piece::CellKey(_) => self.takes_key(),
-            Piece::CellScalar(_) => self.takes_value(),
-            Piece::CellName(_) | Piece::CellCopy(_) => self.takes_name(),
-            Piece::OddPiece(_) => false,
+        match piece.kind() {
+            PieceKind::Opening(_) => self.takes_form(),
+            PieceKind::Closing(bracket) => self.takes_closing(bracket),
+            PieceKind::Comma => self.takes_comma(),
+            PieceKind::Key => self.takes_key(),
+            PieceKind::Scalar => self.takes_value(),
+            PieceKind::Name | PieceKind::Copy => self.takes_name(),
+            PieceKind::Odd(_) => false,
         }
     }
 
@@ -178,33 +178,33 @@ impl Shape {
     }
 
     /// Takes a piece that may come.
-    fn take_piece(&mut self, piece: &Piece) -> Result<(), NoMemory>
+    fn take_piece(&mut self, piece: &BarePiece) -> Result<(), NoMemory>
         ensures { OnOk result (self.new ≡ behind piece.now self.old) }
     {
-        match piece {
-            Piece::Opening(bracket) => {
-                self.brackets.push(*bracket)?;
+        match piece.kind() {
+            PieceKind::Opening(bracket) => {
+                self.brackets.push(bracket)?;
                 self.want = Want::Cell;
             }
-            Piece::Closing(_) => self.close(),
-            Piece::Comma => self.want = Want::Cell,
-            Piece::CellKey(_) => self.want = Want::Value,
-            Piece::CellName(_) => self.want = Want::Named,
-            Piece::CellScalar(_) | Piece::CellCopy(_) => self.want = Want::End,
-            Piece::OddPiece(_) => {}
+            PieceKind::Closing(_) => self.close(),
+            PieceKind::Comma => self.want = Want::Cell,
+            PieceKind::Key => self.want = Want::Value,
+            PieceKind::Name => self.want = Want::Named,
+            PieceKind::Scalar | PieceKind::Copy => self.want = Want::End,
+            PieceKind::Odd(_) => {}
         }
         Ok(())
     }
 
     /// The fault of a piece that may not come; behind it stands the rest.
-    fn piece_fault(&self, piece: &Piece, rest: &[Piece]) -> FaultKind
+    fn piece_fault(&self, piece: &BarePiece, rest: &[BarePiece]) -> FaultKind
         ensures { result ≡ piece_fault piece.now rest.now self.now }
     {
-        match piece {
-            Piece::Opening(_) if !closes_at(rest) => FaultKind::Unsupported,
-            Piece::CellScalar(_) if self.takes_key() => kind_behind_key(rest),
-            Piece::OddPiece(Odd::Unsupported) => FaultKind::Unsupported,
-            Piece::OddPiece(Odd::Indicator) if self.takes_value() => FaultKind::Unsupported,
+        match piece.kind() {
+            PieceKind::Opening(_) if !closes_at(rest) => FaultKind::Unsupported,
+            PieceKind::Scalar if self.takes_key() => kind_behind_key(rest),
+            PieceKind::Odd(Odd::Unsupported) => FaultKind::Unsupported,
+            PieceKind::Odd(Odd::Indicator) if self.takes_value() => FaultKind::Unsupported,
             _ => FaultKind::Syntax,
         }
     }
@@ -222,19 +222,29 @@ impl Shape {
 }
 
 /// The kind of fault of what stands behind a key without its colon.
-fn kind_behind_key(rest: &[Piece]) -> FaultKind
+fn kind_behind_key(rest: &[BarePiece]) -> FaultKind
     ensures { result ≡ kind_behind_key rest.now }
 {
-    match rest {
-        [] => FaultKind::Unsupported,
-        [Piece::Opening(_), behind @ ..] if !closes_at(behind) => FaultKind::Unsupported,
-        [Piece::OddPiece(Odd::Unsupported), ..] => FaultKind::Unsupported,
+    let Some((piece, behind)) = rest.split_first() else {
+        return FaultKind::Unsupported;
+    };
+    match piece.kind() {
+        PieceKind::Opening(_) if !closes_at(behind) => FaultKind::Unsupported,
+        PieceKind::Odd(Odd::Unsupported) => FaultKind::Unsupported,
         _ => FaultKind::Syntax,
     }
 }
 
 /// The fault of pieces that are no flow form's, if any.
-pub(crate) fn flow_fault(alloc: Global, pieces: &[Piece]) -> Result<Option<FaultKind>, NoMemory>
+#[tactic(auto, using(crate::proofs::ShapeSteps::bare_flow_fault))]
+pub(crate) fn flow_fault(alloc: Global, pieces: &Pieces) -> Result<Option<FaultKind>, NoMemory>
+    ensures { IfOk result (λ fault. fault ≡ flow_fault pieces.now) }
+{
+    bare_fault(alloc, pieces.as_bare())
+}
+
+/// The same, which looks at no text.
+fn bare_fault(alloc: Global, pieces: &[BarePiece]) -> Result<Option<FaultKind>, NoMemory>
     ensures { IfOk result (λ fault. fault ≡ flow_fault pieces.now) }
 {
     let mut shape = Shape::new(alloc);

@@ -6,7 +6,7 @@ use Rattle.yaml_marks.proofs.cells.flow_at.Goals as goal
 
 pub returns-then-last-clause-pieces : goal.returns-then-last-clause-pieces
 returns-then-last-clause-pieces c = pieces_end c.in-Some.b.now c.in-Some.behind.now c.loop-b.rest.now c.loop-b.depth (record { piece = c.piece.inside.piece; skip = c.piece.inside.skip }) (c.piece.view_is ∙ c.in_ok-piece.ensures.step) c.in-Some.ensures.cases.0
-    c.is_last-last.result c.is_last-last.ensures c.if-last.true c.loop-b.pieces c.put_piece.new.pieces _ c.loop-b.invariant.pieces c.in_ok-put_piece.ensures
+    c.is_last-last.result c.is_last-last.ensures c.if-last.true c.loop-b.pieces c.in_ok-pieces-2.pieces _ c.loop-b.invariant.pieces c.in_ok-pieces-2.ensures
 
 pub returns-then-last-clause-len : goal.returns-then-last-clause-len
 returns-then-last-clause-len c = let one = len_ends c.in-Some.b.now c.in-Some.behind.now c.loop-b.rest.now c.loop-b.depth (record { piece = c.piece.inside.piece; skip = c.piece.inside.skip }) (c.piece.view_is ∙ c.in_ok-piece.ensures.step) c.in-Some.ensures.cases.0
@@ -22,7 +22,7 @@ loop-b-preserved c = let step : CellStep = record { piece = c.piece.inside.piece
     let left : length c.from-rest.result.now ≡ length c.in-Some.behind.now - step.skip = ap length c.from-rest.ensures ∙ length-drop step.skip c.in-Some.behind.now in
     record {
       pieces = pieces_go_on c.in-Some.b.now c.in-Some.behind.now c.loop-b.rest.now c.loop-b.depth step is c.in-Some.ensures.cases.0
-          c.is_last-last.result c.is_last-last.ensures c.if-last.false c.loop-b.pieces c.put_piece.new.pieces c.open_after-depth.result c.from-rest.result.now _ c.loop-b.invariant.pieces c.in_ok-put_piece.ensures c.open_after-depth.ensures.value c.from-rest.ensures;
+          c.is_last-last.result c.is_last-last.ensures c.if-last.false c.loop-b.pieces c.in_ok-pieces-2.pieces c.open_after-depth.result c.from-rest.result.now _ c.loop-b.invariant.pieces c.in_ok-pieces-2.ensures c.open_after-depth.ensures.value c.from-rest.ensures;
       len = omega (arith, more, left, fits, c.loop-b.invariant.len, c.in-Some.ensures.cases.1);
       within = omega (arith, left, fits, c.loop-b.invariant.within, c.open_after-depth.ensures.small, c.in-Some.ensures.cases.1);
     }

@@ -1,8 +1,10 @@
-use Rattle.std.proofs.Common.{◌≡◌}
-use Rattle.std.specs.Vec.Iter.{into_iter_items}
+use Rattle.std.proofs.Common.{◌≡◌, length}
 use Rattle.yaml_tree.specs.Builder.{take_pieces}
 use Rattle.yaml_tree.proofs.builder.Builder.take_pieces.Given as goal
 
 -- what is left gives the whole
 abbrev pub invariant-loop-piece : goal.invariant-loop-piece
-invariant-loop-piece l = take_pieces l.line (into_iter_items l.piece-iterator) l.self ≡ take_pieces l.fn.line l.fn.pieces l.fn.self
+invariant-loop-piece l = take_pieces l.line l.left l.self ≡ take_pieces l.fn.line l.fn.pieces l.fn.self
+
+abbrev pub decreases-loop-piece : goal.decreases-loop-piece
+decreases-loop-piece l = length l.left
