@@ -1,11 +1,11 @@
 -- What is kept of collections that are open.
-use Rattle.std.specs.Prelude.{ℕ, Bool, true, false, List, [], None}
+use Rattle.std.specs.Prelude.{ℕ, Bool, true, false, List, [], Some, None}
 use Rattle.yaml_tree.specs.Stack.{new_open}
 use Rattle.yaml_tree.specs.declared.entries.Child.{Child}
 use Rattle.yaml_tree.specs.declared.known.Measure.{Measure}
 use Rattle.yaml_tree.specs.declared.stack.Open.{Open}
 use Rattle.yaml_tree.specs.declared.frame.Frame.{Frame}
-use Rattle.yaml_tree.specs.declared.frame.Frame.TheVariants.{Begun, Cells, Rows, Other}
+use Rattle.yaml_tree.specs.declared.frame.Frame.TheVariants.{Begun, Named, Cells, Rows, Other}
 
 -- a sequence of a flow form that has these items
 abbrev pub sequence_of : ℕ → Measure → List ℕ → Open
@@ -18,6 +18,7 @@ mapping_of depth line key measure entries = record (new_open depth true line key
 -- the collection that a frame is kept of
 abbrev pub open_of : Frame → Open
 open_of (Begun mapping depth line key) = new_open depth mapping line key None
+open_of (Named kept) = new_open kept.value.depth kept.value.mapping kept.value.line kept.value.key (Some kept.value.name)
 open_of (Cells line measure items) = sequence_of line measure items
 open_of (Rows kept) = mapping_of kept.value.depth kept.value.line kept.value.key kept.value.measure kept.value.entries
 open_of (Other kept) = kept.value

@@ -1,11 +1,12 @@
 //! What is kept of a collection that is open.
 
-ghost use Rattle.std.specs.Prelude.{◌≡◌, IfOk};
+ghost use Rattle.std.specs.Prelude.{◌≡◌, Some, IfOk};
 ghost use Rattle.yaml_tree.specs.Frames.{mapping_of, open_of};
-ghost use Rattle.yaml_tree.specs.declared.frame.Frame.TheVariants.{Begun, Cells};
+ghost use Rattle.yaml_tree.specs.Stack.{new_open};
+ghost use Rattle.yaml_tree.specs.declared.frame.Frame.TheVariants.{Cells};
 
 use crate::growing::Growing;
-use crate::known::Measure;
+use crate::known::{GivenName, Measure};
 use crate::numbers::Numbers;
 use crate::stack::Open;
 use sim_base::NoMemory;
@@ -16,13 +17,15 @@ use yaml_marks::Scalar;
 /// open millions of them.
 #[derive(Drop)]
 pub(crate) enum Frame {
-    /// It stands as it began.
+    /// It stands as it began, without a name.
     Begun {
         mapping: bool,
         depth: u32,
         line: usize,
         key: Scalar,
     },
+    /// It stands as it began, with a name.
+    Named(Box<NamedBegun>),
     /// A sequence of a flow form.
     Cells {
         line: u32,
@@ -32,6 +35,16 @@ pub(crate) enum Frame {
     /// A mapping without a name.
     Rows(Box<OpenRows>),
     Other(Box<Open>),
+}
+
+/// What is kept of a collection with a name that stands as it began.
+#[derive(Drop)]
+pub(crate) struct NamedBegun {
+    mapping: bool,
+    depth: u32,
+    line: usize,
+    key: Scalar,
+    name: GivenName,
 }
 
 /// What is kept of a mapping without a name.
@@ -50,7 +63,7 @@ impl Frame {
         ensures { IfOk result (λ frame. open_of frame ≡ kept) }
     {
         match u32::try_from(kept.depth) {
-            Ok(depth) if kept.is_begun() => Ok(Frame::begun(depth, kept)),
+            Ok(depth) if kept.is_begun() => Frame::begun(alloc, depth, kept),
             Ok(depth) if kept.is_rows() => {
                 let rows = OpenRows::of(depth, kept);
                 Ok(Frame::Rows(Box::new(alloc, rows)?))
@@ -70,8 +83,8 @@ impl Frame {
     }
 
     /// Keeps few words of a collection.
-    fn begun(depth: u32, kept: Open) -> Frame
-        ensures { result ≡ Begun kept.mapping depth kept.line kept.key }
+    fn begun(alloc: Global, depth: u32, kept: Open) -> Result<Frame, NoMemory>
+        ensures { IfOk result (λ frame. open_of frame ≡ new_open depth kept.mapping kept.line kept.key kept.name) }
     {
         let Open {
             depth: _,
@@ -81,14 +94,26 @@ impl Frame {
             entries: _,
             line,
             key,
-            name: _,
+            name,
             measure: _,
         } = kept;
-        Frame::Begun {
-            mapping,
-            depth,
-            line,
-            key,
+        match name {
+            None => Ok(Frame::Begun {
+                mapping,
+                depth,
+                line,
+                key,
+            }),
+            Some(name) => {
+                let named = NamedBegun {
+                    mapping,
+                    depth,
+                    line,
+                    key,
+                    name,
+                };
+                Ok(Frame::Named(Box::new(alloc, named)?))
+            }
         }
     }
 
@@ -125,6 +150,7 @@ impl Frame {
                 line,
                 key,
             } => Open::new(alloc, depth as u128, mapping, line, key, None),
+            Frame::Named(named) => Box::into_inner(named).into_open(alloc),
             Frame::Cells {
                 line,
                 measure,
@@ -144,6 +170,7 @@ impl Frame {
     {
         match self {
             Frame::Begun { depth, .. } => *depth as u128,
+            Frame::Named(named) => named.depth as u128,
             Frame::Cells { .. } => 0,
             Frame::Rows(rows) => rows.depth as u128,
             Frame::Other(open) => open.depth,
@@ -154,11 +181,26 @@ impl Frame {
         ensures { result ≡ (open_of self.now).measure }
     {
         match self {
-            Frame::Begun { .. } => Measure::no_row(),
+            Frame::Begun { .. } | Frame::Named(_) => Measure::no_row(),
             Frame::Cells { measure, .. } => *measure,
             Frame::Rows(rows) => rows.measure,
             Frame::Other(open) => open.measure,
         }
+    }
+}
+
+impl NamedBegun {
+    fn into_open(self, alloc: Global) -> Open
+        ensures { result ≡ new_open self.depth self.mapping self.line self.key (Some self.name) }
+    {
+        let NamedBegun {
+            mapping,
+            depth,
+            line,
+            key,
+            name,
+        } = self;
+        Open::new(alloc, depth as u128, mapping, line, key, Some(name))
     }
 }
 

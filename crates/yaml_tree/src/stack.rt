@@ -59,12 +59,11 @@ impl Open {
         }
     }
 
-    /// Whether it stands as it began: it has no finished row and no name.
+    /// Whether it stands as it began: it has no finished row.
     pub fn is_begun(&self) -> bool
-        ensures { IsTrue result ↔ self.now ≡ new_open self.now.depth self.now.mapping self.now.line self.now.key None }
+        ensures { IsTrue result ↔ self.now ≡ new_open self.now.depth self.now.mapping self.now.line self.now.key self.now.name }
     {
-        self.name.is_none()
-            && self.first_line == self.line
+        self.first_line == self.line
             && self.items.is_empty()
             && self.entries.is_empty()
             && self.measure == Measure::no_row()
