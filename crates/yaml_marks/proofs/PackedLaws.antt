@@ -1,5 +1,5 @@
 -- Pieces that are kept apart from their texts.
-use Rattle.std.proofs.Common.{◌≡◌, ℕ, ◌+◌, ◌-◌, ◌||◌, ◌==◌, if◌then◌else◌, length-append, List, [], ◌∷◌, ◌++◌, Option, Some, None, length, map, drop, suc, refl, ap, sym, ◌∙◌, arith}
+use Rattle.std.proofs.Common.{◌≡◌, ℕ, ◌+◌, ◌-◌, ◌||◌, ◌==◌, if◌then◌else◌, length-append, List, [], ◌∷◌, ◌++◌, Option, length, map, drop, refl, ap, sym, ◌∙◌, arith}
 use Rattle.std.proofs.lemmas.List.{map-append}
 use Rattle.yaml_marks.specs.Kept.{bytes_in}
 use Rattle.yaml_marks.specs.declared.piece.Piece.{Piece}

@@ -1,5 +1,5 @@
 -- What is kept of collections that are open.
-use Rattle.std.specs.Prelude.{ℕ, Bool, true, false, List, [], Some, None}
+use Rattle.std.specs.Prelude.{ℕ, true, false, List, [], Some, None}
 use Rattle.yaml_tree.specs.Stack.{new_open}
 use Rattle.yaml_tree.specs.declared.entries.Child.{Child}
 use Rattle.yaml_tree.specs.declared.known.Measure.{Measure}
