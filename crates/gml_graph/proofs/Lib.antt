@@ -5,3 +5,5 @@ pub mod GrammarLemmas
 pub mod FaultLemmas
 pub mod FirstFaultLemmas
 pub mod GrammarLaws
+pub mod AskedLemmas
+pub mod KeptLemmas

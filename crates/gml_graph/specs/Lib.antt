@@ -9,4 +9,5 @@ pub mod Outline
 pub mod Grammar
 pub mod Edges
 pub mod Graph
+pub mod Asked
 pub mod Gml

@@ -18,7 +18,7 @@ pub enum Part {
     Edge,
 }
 
-fn is_named(part: Part, key: Key) -> bool
+pub fn is_named(part: Part, key: Key) -> bool
     ensures { result ≡ names part key }
 {
     matches!(

@@ -1,6 +1,7 @@
 //! The graph of a network, read from a GML text.
 #![tactic(auto)]
 
+mod asked;
 mod block;
 mod edge;
 mod fault;

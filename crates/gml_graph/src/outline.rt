@@ -1,9 +1,11 @@
-//! The outline of a text: a row for each pair of a key and a value.
+//! The outline of a text: a row for each pair of a key and a value that is asked for.
 
 ghost use Rattle.std.specs.Prelude.{◌≡◌, ◌+◌, ◌<◌, ◌≤◌, [], length, Ok, IfOk};
 ghost use Rattle.gml_graph.specs.Steps.{Gives};
-ghost use Rattle.gml_graph.specs.Outline.{depth_behind, last_line, outline};
+ghost use Rattle.gml_graph.specs.Outline.{depth_behind, last_line};
+ghost use Rattle.gml_graph.specs.Asked.{asked_outline};
 
+use crate::asked::{is_kept, reach_behind};
 use crate::fault::{GmlError, GmlFault, GmlKind};
 use crate::number::Decimal;
 use crate::scanner::{Scanner, line_behind};
@@ -39,22 +41,26 @@ pub struct Waiting {
     pub key: Key,
 }
 
-/// What was read of a text.
+/// What was read of a text: of its pairs the ones that are kept, and how deep the next one may lie to be kept.
 #[derive(Drop)]
 pub struct Outline {
     last: u64,
     depth: u8,
     waiting: Option<Waiting>,
+    reach: u8,
     rows: Vec<OutlineRow>,
 }
 
 impl Model for Outline {
     ghost use Rattle.std.specs.Prelude.{◌≤◌};
-    ghost use Rattle.gml_graph.specs.Outline.{Shape};
+    ghost use Rattle.gml_graph.specs.Asked.{Kept};
 
-    ghost Value = { Shape };
+    ghost Value = { Kept };
 
-    ghost view = { λ o. record { last = o.last; depth = o.depth; waiting = o.waiting; rows = o.rows.items } };
+    ghost view = { λ o. record {
+      reach = o.reach;
+      shape = record { last = o.last; depth = o.depth; waiting = o.waiting; rows = o.rows.items };
+    } };
 
     ghost invariant = { λ o. o.depth ≤ 16 };
 }
@@ -79,23 +85,25 @@ fn last_line_of(bytes: &[u8]) -> u64
 }
 
 impl Outline {
-    ghost use Rattle.gml_graph.specs.Outline.{value_of, accept_key, accept_value, accept, finish};
+    ghost use Rattle.gml_graph.specs.Outline.{value_of, finish};
+    ghost use Rattle.gml_graph.specs.Asked.{keep_key, keep_value, keep};
 
     fn new(alloc: Global, last: u64) -> Self
-        ensures { result ≡ record { last = last; depth = 0; waiting = None; rows = [] } }
+        ensures { result ≡ record { reach = 0; shape = record { last = last; depth = 0; waiting = None; rows = [] } } }
     {
         Outline {
             last,
             depth: 0,
             waiting: None,
+            reach: 0,
             rows: Vec::new(alloc),
         }
     }
 
     /// Takes the next token.
-    #[tactic(auto, unfolding(crate::specs::Outline::accept))]
+    #[tactic(auto, unfolding(crate::specs::Asked::keep))]
     fn accept(&mut self, lexeme: Lexeme) -> Result<(), GmlError>
-        ensures { Gives (λ _. self.new) result (accept self.old lexeme) }
+        ensures { Gives (λ _. self.new) result (keep self.old lexeme) }
     {
         match self.waiting {
             None => self.accept_key(lexeme),
@@ -104,7 +112,7 @@ impl Outline {
     }
 
     fn accept_key(&mut self, lexeme: Lexeme) -> Result<(), GmlError>
-        ensures { Gives (λ _. self.new) result (accept_key self.old lexeme.line lexeme.token) }
+        ensures { Gives (λ _. self.new) result (keep_key self.old lexeme.line lexeme.token) }
     {
         match lexeme.token {
             Token::Name(key) => {
@@ -128,8 +136,8 @@ impl Outline {
     }
 
     fn value_of(&self, lexeme: Lexeme) -> Result<Value, GmlFault>
-        ensures value { result ≡ value_of self.now lexeme.line lexeme.token }
-        ensures deep { IfOk result (λ value. depth_behind self.now.depth value ≤ 16) }
+        ensures value { result ≡ value_of self.now.shape lexeme.line lexeme.token }
+        ensures deep { IfOk result (λ value. depth_behind self.now.shape.depth value ≤ 16) }
     {
         let depth = self.depth;
         match lexeme.token {
@@ -147,22 +155,26 @@ impl Outline {
     }
 
     fn accept_value(&mut self, key: Waiting, lexeme: Lexeme) -> Result<(), GmlError>
-        ensures { Gives (λ _. self.new) result (accept_value self.old key lexeme.line lexeme.token) }
+        ensures { Gives (λ _. self.new) result (keep_value self.old key lexeme.line lexeme.token) }
     {
         let value = self.value_of(lexeme)?;
-        self.rows.push(OutlineRow {
+        let row = OutlineRow {
             depth: self.depth,
             line: key.line,
             key: key.key,
             value,
-        })?;
+        };
+        if is_kept(self.reach, &row) {
+            self.rows.push(row)?;
+        }
+        self.reach = reach_behind(self.reach, &row);
         self.waiting = None;
         self.depth = behind(self.depth, value);
         Ok(())
     }
 
     fn finish(self) -> Result<Vec<OutlineRow>, GmlError>
-        ensures { Gives (λ rows. rows.items) result (finish self) }
+        ensures { Gives (λ rows. rows.items) result (finish self.shape) }
     {
         if self.waiting.is_some() || self.depth != 0 {
             return Err(GmlError::Fault(syntax(self.last)));
@@ -171,6 +183,7 @@ impl Outline {
             last: _,
             depth: _,
             waiting: _,
+            reach: _,
             rows,
         } = self;
         Ok(rows)
@@ -188,10 +201,10 @@ fn behind(depth: u8, value: Value) -> u8
     }
 }
 
-/// The rows of a text.
-#[tactic(auto, unfolding(crate::specs::Outline::outline))]
+/// The rows of a text that are kept.
+#[tactic(auto, using(crate::proofs::KeptLemmas::kept_outline))]
 pub fn read_outline(alloc: Global, text: &str) -> Result<Vec<OutlineRow>, GmlError>
-    ensures { Gives (λ rows. rows.items) result (outline text.now) }
+    ensures { Gives (λ rows. rows.items) result (asked_outline text.now) }
 {
     let mut outline = Outline::new(alloc, last_line_of(text.as_bytes()));
     let mut scanner = Scanner::new(text);

@@ -205,6 +205,24 @@ fn a_graph_is_read(rt: HostRuntime) -> Result<(), Fail> {
     Ok(())
 }
 
+/// Nodes, edges and attributes in lists that nothing is asked of, and in none.
+const AROUND: &[u8] = b"node [ id 5 ] id 6 x [ graph [ node [ id 7 ] ] ]
+graph [ id 8 x [ node [ id 9 ] ] node [ y [ id 2 ] id 1 label [ node [ id 3 ] ] ] x [ y [ id 4 ] ] ]
+edge [ source 1 ] node [ id 10 ]";
+
+#[test]
+fn lists_that_nothing_is_asked_of_are_skipped(rt: HostRuntime) -> Result<(), Fail> {
+    let graph = read_gml(rt.alloc(), AROUND)?;
+    let nodes = [Node {
+        id: 1,
+        bandwidth_up: None,
+        bandwidth_down: None,
+    }];
+    assert_eq!(rt; graph.nodes.as_slice(), nodes.as_slice());
+    assert_eq!(rt; graph.edges.as_slice().len(), 0);
+    Ok(())
+}
+
 /// The fault of a graph of a node and as many lines `line` behind it.
 fn fault_of_many(rt: &HostRuntime, line: &str, count: u32) -> Result<Option<GmlFault>, Fail> {
     let mut text = String::from_str(rt.alloc(), "graph [ node [ id 0 ]\n")?;

@@ -1,12 +1,13 @@
 use Rattle.std.proofs.Common.{◌≡◌, length}
+use Rattle.sim_base.specs.Refusals.{◌>>=◌}
 use Rattle.gml_graph.specs.Steps.{through}
-use Rattle.gml_graph.specs.Tokens.{tokens}
 use Rattle.gml_graph.specs.Left.{left}
-use Rattle.gml_graph.specs.Outline.{accept, start}
+use Rattle.gml_graph.specs.Outline.{finish}
+use Rattle.gml_graph.specs.Asked.{keep, asked_outline}
 use Rattle.gml_graph.proofs.outline.read_outline.Given as goal
 
 abbrev pub invariant-loop-lexeme : goal.invariant-loop-lexeme
-invariant-loop-lexeme l = through accept l.outline (left l.scanner) ≡ through accept (start l.text) (tokens l.text)
+invariant-loop-lexeme l = (through keep l.outline (left l.scanner) >>= λ k. finish k.shape) ≡ asked_outline l.text
 
 abbrev pub decreases-loop-lexeme : goal.decreases-loop-lexeme
 decreases-loop-lexeme l = length l.scanner.rest.now
