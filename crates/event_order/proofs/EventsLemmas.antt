@@ -14,7 +14,6 @@ use Rattle.std.specs.Ordering.{is_eq, is_gt, is_lt, match_ordering, nat_cmp, ord
 use Rattle.sim_base.specs.declared.event.Event.{Event}
 use Rattle.sim_base.specs.declared.event.What.{What}
 use Rattle.sim_base.specs.declared.key.Key.{Key}
-use Rattle.sim_base.specs.declared.time.Time.{Time}
 use Rattle.sim_base.specs.Key.{key_order}
 use Rattle.event_order.specs.Events.{IsBefore, IsOrdered, IsLeastDue, has_key, with_event, event_of, events_of}
 

@@ -14,10 +14,10 @@ const MOST_EXPONENT_DIGITS: usize = 4;
 /// A number: `digits` times 10^`up` over 10^`down`, below 0 where it is negative.
 #[derive(Clone, Copy, Debug, PartialEq, Eq)]
 pub struct Decimal {
-    pub negative: bool,
     pub digits: u128,
     pub up: u32,
     pub down: u32,
+    pub negative: bool,
     /// Whether it was written without a point and without an exponent.
     pub is_whole: bool,
 }

@@ -28,10 +28,10 @@ pub enum Value {
 /// A pair: how many lists are open where it stands, its key with the key's line, and its value.
 #[derive(Clone, Copy, Debug, PartialEq, Eq)]
 pub struct OutlineRow {
-    pub depth: u8,
-    pub line: u64,
-    pub key: Key,
     pub value: Value,
+    pub line: u64,
+    pub depth: u8,
+    pub key: Key,
 }
 
 /// A key whose value comes next.

@@ -7,6 +7,7 @@ mod closing;
 mod draining;
 mod entry;
 mod joining;
+pub mod laws;
 mod opening;
 mod rule;
 mod steps;

@@ -1,13 +1,14 @@
 -- Laws of the table: a trap leaves the state as it was, a call only moves pc behind itself and ends the reservation, and
 -- of the other instructions LR.W and SC.W alone touch the reservation.
-use Rattle.std.proofs.Common.{◌≡◌, ℕ, Bool, true, false, Option, Some, None, ◌*◌, ◌/◌, refl, subst, if◌then◌else◌}
+use Rattle.std.proofs.Common.{◌≡◌, ℕ, Bool, true, false, Option, Some, None, ◌*◌, ◌/◌, ◌≢◌, refl, subst, if◌then◌else◌}
+use Rattle.std.specs.Prelude.{◌==◌, slice_set}
 use Rattle.sim_base.specs.declared.signal.Signal.{Signal}
 use Rattle.sim_base.specs.declared.signal.Signal.TheVariants.{SigBus}
 use Rattle.guest_mem.specs.Memory.{Memory, load, store}
 use Rattle.guest_mem.specs.declared.right.Right.TheVariants as right
-use Rattle.rv32_machine.specs.Word.{i_immediate, b_immediate, j_immediate, is_aligned}
+use Rattle.rv32_machine.specs.Word.{rd, i_immediate, b_immediate, j_immediate, is_aligned}
 use Rattle.rv32_machine.specs.Arithmetic.{sum, is_taken, modified}
-use Rattle.rv32_machine.specs.Table.{State, After, source1, source2, traps, goes_on, advanced, at, with_reservation, is_reserved, jumps, load_ends, store_ends, reserves, answers, conditional_ends, modify_ends, modifies, effect, executed, fetched, insn}
+use Rattle.rv32_machine.specs.Table.{State, After, source1, source2, traps, goes_on, advanced, at, sets, following, with_reservation, is_reserved, jumps, load_ends, store_ends, reserves, answers, conditional_ends, modify_ends, modifies, effect, executed, fetched, insn}
 use Rattle.rv32_machine.specs.declared.cpu.Cpu.{Cpu}
 use Rattle.rv32_machine.specs.declared.outcome.Outcome.{Outcome}
 use Rattle.rv32_machine.specs.declared.outcome.Outcome.TheVariants as outcome
@@ -115,3 +116,71 @@ insn-trap s g is = let P : Outcome → Type 0 = λ o. LeavesBy o s (insn s).stat
 pub insn-call : (s : State) → (insn s).outcome ≡ outcome.Call → (insn s).state ≡ record s { cpu = advanced (with_reservation None s.cpu) }
 unfolding IsKept LeavesBy
 insn-call s is = let P : Outcome → Type 0 = λ o. LeavesBy o s (insn s).state in subst P is (kept s)
+
+-- ---- the reservation
+
+IsUntouched : State → After → Type 0
+IsUntouched s a = a.state.cpu.reservation ≡ s.cpu.reservation
+
+picked : (z : Option ℕ) (b : Bool) (x y : Cpu) → x.reservation ≡ z → y.reservation ≡ z → (if b then x else y).reservation ≡ z
+picked z true x y p q = p
+picked z false x y p q = q
+
+set_untouched : (word n : ℕ) (cpu : Cpu) → (sets word n cpu).reservation ≡ cpu.reservation
+set_untouched word n cpu = picked cpu.reservation (rd word == 0) cpu (record cpu { x = slice_set cpu.x (rd word) n }) refl refl
+
+jump_untouched : (s : State) (cpu : Cpu) (b : Bool) (target : ℕ) → cpu.reservation ≡ s.cpu.reservation → IsUntouched s (if b then goes_on (at target cpu) s else traps SigBus s)
+unfolding IsUntouched
+jump_untouched s cpu true target same = same
+jump_untouched s cpu false target same = refl
+
+branch_untouched : (s : State) (b : Bool) (target : ℕ) → IsUntouched s (if b then jumps target s.cpu s else goes_on (advanced s.cpu) s)
+unfolding IsUntouched
+branch_untouched s true target = jump_untouched s s.cpu (is_aligned target) target refl
+branch_untouched s false target = refl
+
+load_untouched : (s : State) (word : ℕ) (o : Option ℕ) → IsUntouched s (load_ends o word s)
+unfolding IsUntouched
+load_untouched s word None = refl
+load_untouched s word (Some n) = set_untouched word n s.cpu
+
+store_untouched : (s : State) (o : Option Memory) → IsUntouched s (store_ends o s)
+unfolding IsUntouched
+store_untouched s None = refl
+store_untouched s (Some m) = refl
+
+aligned_untouched : (s : State) (b : Bool) (a : After) → IsUntouched s a → IsUntouched s (if b then a else traps SigBus s)
+unfolding IsUntouched
+aligned_untouched s true a is = is
+aligned_untouched s false a is = refl
+
+modified_untouched : (s : State) (word old : ℕ) (o : Option Memory) → IsUntouched s (modify_ends o old word s)
+unfolding IsUntouched
+modified_untouched s word old None = refl
+modified_untouched s word old (Some m) = set_untouched word old s.cpu
+
+modify_untouched : (s : State) (amo : AmoKind) (word : ℕ) (o : Option ℕ) → IsUntouched s (modifies o amo word s)
+unfolding IsUntouched
+modify_untouched s amo word None = refl
+modify_untouched s amo word (Some old) = modified_untouched s word old (store 4 s.memory (source1 word s) (modified amo old (source2 word s)))
+
+-- LR.W, SC.W and ECALL alone touch the reservation
+pub effect-reservation : (i : Insn) (word : ℕ) (s : State) → i ≢ LrW → i ≢ ScW → i ≢ Ecall → (effect i word s).state.cpu.reservation ≡ s.cpu.reservation
+unfolding IsUntouched
+effect-reservation (Immediate operation) word s a b c = set_untouched word _ s.cpu
+effect-reservation Lui word s a b c = set_untouched word _ s.cpu
+effect-reservation Auipc word s a b c = set_untouched word _ s.cpu
+effect-reservation (Register operation) word s a b c = set_untouched word _ s.cpu
+effect-reservation Jal word s a b c = jump_untouched s (sets word (following s.cpu) s.cpu) (is_aligned (sum s.cpu.pc (j_immediate word))) _ (set_untouched word _ s.cpu)
+effect-reservation Jalr word s a b c =
+    jump_untouched s (sets word (following s.cpu) s.cpu) (is_aligned (sum (source1 word s) (i_immediate word) / 2 * 2)) _ (set_untouched word _ s.cpu)
+effect-reservation (Branch branch) word s a b c = branch_untouched s (is_taken branch (source1 word s) (source2 word s)) (sum s.cpu.pc (b_immediate word))
+effect-reservation (Load kind) word s a b c = load_untouched s word _
+effect-reservation (Store kind) word s a b c = store_untouched s _
+effect-reservation Fence word s a b c = refl
+effect-reservation FenceI word s a b c = refl
+effect-reservation Ecall word s a b c = absurd (c refl)
+effect-reservation Ebreak word s a b c = refl
+effect-reservation LrW word s a b c = absurd (a refl)
+effect-reservation ScW word s a b c = absurd (b refl)
+effect-reservation (Amo amo) word s a b c = aligned_untouched s (is_aligned (source1 word s)) _ (modify_untouched s amo word (load right.Read 4 s.memory (source1 word s)))

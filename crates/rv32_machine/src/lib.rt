@@ -15,6 +15,7 @@ mod cpu;
 mod encoding;
 mod execution;
 mod instruction;
+pub mod laws;
 mod outcome;
 mod quiet;
 mod steps;

@@ -10,6 +10,7 @@ mod gathering;
 mod hand;
 mod handle;
 mod item;
+pub mod laws;
 mod row;
 mod seat;
 mod share;

@@ -2,8 +2,9 @@
 //!
 //! A round is opened on a world between rounds, for some workers and for the window that begins at a time before which no event is due.
 
-ghost use Rattle.std.specs.Prelude.{◌≡◌, ℕ, ◌<◌, ◌≤◌, Option, None, List, [], ◌∷◌, ◌++◌, map, flat_map, length, Contains, Some};
+ghost use Rattle.std.specs.Prelude.{◌≡◌, ℕ, ◌<◌, ◌≤◌, false, Option, None, List, [], ◌∷◌, ◌++◌, map, flat_map, length, All, Contains, IsPermutation, Some};
 ghost use Rattle.sim_base.specs.declared.event.Event.{Event};
+ghost use Rattle.world_order.specs.EventOrder.{is_before, take_least};
 ghost use Rattle.world_order.specs.Round.{State, Round, Going, Closed, events_at, opened, world_of};
 ghost use Rattle.world_order.specs.Rounds.{end_of, round_on, IsSameWorld, after_round, AreRounds};
 ghost use Rattle.world_order.specs.Schedule.{after_all, fired_in, made_in};
@@ -15,6 +16,12 @@ ghost use Rattle.world_order.specs.declared.step.Step.{Step};
 ghost use Rattle.world_order.specs.declared.step.Step.TheVariants.{Close};
 
 use crate::simulated::Simulated;
+
+/// No event of a list comes before the one of least key that is taken from it, and the others are kept.
+pub fn least_event()
+    ensures least { (events rest : List Event) (event : Event) → take_least events ≡ Some (event, rest) → All (λ other. is_before other event ≡ false) events }
+    ensures kept { (events rest : List Event) (event : Event) → take_least events ≡ Some (event, rest) → IsPermutation events (event ∷ rest) }
+{}
 
 /// A run has exactly one result, which is again a world between rounds.
 pub fn one_result<S: Simulated>()

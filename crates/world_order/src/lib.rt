@@ -6,7 +6,9 @@ mod round_window;
 mod simulated;
 mod step;
 
-pub use laws::{closed_round, every_schedule, one_result, rounds, same_end, whole_turns, window};
+pub use laws::{
+    closed_round, every_schedule, least_event, one_result, rounds, same_end, whole_turns, window,
+};
 pub use round_window::Window;
 pub use simulated::Simulated;
 pub use step::{Spot, Step};
