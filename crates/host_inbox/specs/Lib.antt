@@ -1,5 +1,4 @@
 pub mod Entries
-pub mod Walked
 pub mod Inboxes
 pub mod Steps
 pub mod Carriers

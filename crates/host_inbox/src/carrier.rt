@@ -4,8 +4,9 @@ ghost use Rattle.host_inbox.specs.Entries.{entry};
 ghost use Rattle.host_inbox.specs.Inboxes.{known};
 
 use crate::entry::Claim;
+use crate::put::Put;
 use crate::steps::{PlaceSeat, Places, claim_number, settle};
-use crate::trail::Trail;
+use list_weights::Trail;
 use sim_base::Parcel;
 use std::marker::Model;
 
@@ -13,7 +14,7 @@ use std::marker::Model;
 #[derive(Drop)]
 pub struct Carrier<T = Parcel> {
     seat: PlaceSeat<T>,
-    trail: Trail<T>,
+    trail: Trail<Put<T>>,
 }
 
 impl<T> Model for Carrier<T> {
@@ -74,7 +75,7 @@ impl<T> Carrier<T> {
         ensures full { IfErr result (λ full. (16 ≤ full.claimed) × (full.parcel ≡ parcel) × (self.new.entries ≡ self.old.entries ++ entry host full.claimed parcel ∷ [])) }
     {
         let number = claim_number(places, &mut self.seat, host);
-        self.trail.then(host, number, &parcel);
+        self.trail.then(Put::new(host, number, &parcel));
         if number < 16 {
             settle(
                 places,

@@ -9,9 +9,9 @@ mod entry;
 mod joining;
 pub mod laws;
 mod opening;
+mod put;
 mod rule;
 mod steps;
-mod trail;
 
 pub use boards::Boards;
 pub use carrier::{Carrier, Full};

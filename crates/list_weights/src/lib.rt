@@ -1,9 +1,13 @@
-//! Weights of lists, by which lists are compared: laws of the definitions.
+//! Weights of lists, by which lists are compared, with laws of their definitions; and what a thread did, told in contracts alone.
 #![tactic(auto)]
+
+mod trail;
 
 ghost use Rattle.std.specs.Prelude.{◌≡◌, ℕ, List, IsPermutation};
 ghost use Rattle.std.specs.List.{range_with_len, sum_by};
 ghost use Rattle.list_weights.specs.Weights.{weigh, numbers_below};
+
+pub use trail::Trail;
 
 /// Lists of numbers that weigh the same, however numbers are weighed, are the same in another order.
 pub fn same_weights()

@@ -4,14 +4,14 @@ use denote.Param.Send.{IsSend, view_send, sendable}
 use denote.Param.SendFields.{as_row_send, declared_send}
 use Rattle.std.proofs.Crossing as heap
 use Rattle.atomic_table.proofs.shared.Seat.TheSendSync as places
+use Rattle.list_weights.specs.contracts.trail.Trail as trail
+use Rattle.list_weights.proofs.trail.Trail.TheLaws.TheKnot as trails
 use Rattle.steal_workers.specs.contracts.seat.Seat as seat
 use Rattle.steal_workers.specs.contracts.seat.Seat.TheInside as seat_inside
 use Rattle.steal_workers.proofs.share.Share.TheSendSync as share
-use Rattle.steal_workers.proofs.trail.Trail.TheLaws.TheKnot as taken
 use Rattle.host_inbox.specs.contracts.carrier.Carrier as carrier
 use Rattle.host_inbox.specs.contracts.carrier.Carrier.TheInside as carrier_inside
-use Rattle.host_inbox.specs.contracts.trail.Trail as trail
-use Rattle.host_inbox.proofs.trail.Trail.TheLaws.TheKnot as made
+use Rattle.host_inbox.specs.contracts.put.Put as put
 use Rattle.sim_base.specs.contracts.event.Parcel as parcel
 use Rattle.sim_base.proofs.event.Parcel.TheSendSync as parcels
 use Rattle.round_lookahead.specs.contracts.workers.task.Task as task
@@ -22,17 +22,20 @@ use Rattle.round_lookahead.specs.contracts.workers.bench.Bench as bench
 module _ (T : RattleType) where
   seat_fields-send : IsSend T → IsSend (seat_inside.the_row T)
   seat_fields-send s =
-      declared_send (seat_inside.the_type T) (search sendable, (search sendable, (search (share.the_send, heap.Vec-send, sendable) depth 20, (search (taken.crosses, sendable) depth 20, (search (heap.crosses, sendable) depth 20, tt)))))
+      declared_send (seat_inside.the_type T) (search sendable, (search sendable, (search (share.the_send, heap.Vec-send, sendable) depth 20, (search (trails.send-Trail, sendable) depth 20, (search (heap.crosses, sendable) depth 20, tt)))))
 
   pub seat-send : IsSend T → IsSend (seat.the_row T)
   seat-send s = let f = seat_fields-send s in search (view_send) depth 20
 
-  trail-send : IsSend T → IsSend (trail.the_row T)
-  trail-send s = made.send-Trail T (search (heap.crosses, sendable) depth 60 fits 100000)
+  put-send : IsSend T → IsSend (put.the_row T)
+  put-send s = search (heap.crosses, view_send, sendable) depth 60 fits 100000
+
+  trail-send : IsSend T → IsSend (trail.the_row (put.the_row T))
+  trail-send s = let p = put-send s in trails.send-Trail (put.the_row T) (search (heap.crosses, sendable) depth 60 fits 100000)
 
   carrier_fields-send : IsSend T → IsSend (carrier_inside.the_row T)
   carrier_fields-send s =
-      declared_send (carrier_inside.the_type T) (search (places.the_send, sendable) depth 20, (as_row_send (trail.the_field T) (trail-send s), tt))
+      declared_send (carrier_inside.the_type T) (search (places.the_send, sendable) depth 20, (as_row_send (trail.the_field (put.the_row T)) (trail-send s), tt))
 
   pub carrier-send : IsSend T → IsSend (carrier.the_row T)
   carrier-send s = let f = carrier_fields-send s in search (view_send) depth 20

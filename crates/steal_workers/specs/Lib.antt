@@ -14,5 +14,4 @@ pub mod Seats
 pub mod Shares
 pub mod TookBack
 pub mod Unused
-pub mod Walked
 pub mod WholeDeals

@@ -15,7 +15,6 @@ mod row;
 mod seat;
 mod share;
 mod sweep;
-mod trail;
 
 pub use dealing::{DealFailed, deal};
 pub use gate::{Gate, OpenGate};

@@ -10,7 +10,7 @@ ghost use Rattle.steal_workers.specs.Unused.{IsUnused, unused_view};
 
 use crate::share::Share;
 use crate::sweep::find_among;
-use crate::trail::Trail;
+use list_weights::Trail;
 use std::marker::Model;
 use std::snapshot::Snapshot;
 
@@ -20,7 +20,7 @@ pub struct Seat<T> {
     place: u32,
     dealt: u32,
     shares: Vec<Share<T>>,
-    trail: Trail,
+    trail: Trail<u32>,
     tasks: Snapshot<Vec<T>>,
 }
 
