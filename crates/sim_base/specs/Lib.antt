@@ -1,5 +1,6 @@
 pub mod AddressLaws
 pub mod Addresses
+pub mod Ascii
 pub mod Calls
 pub mod Draws
 pub mod Errno
@@ -16,3 +17,4 @@ pub mod Refusals
 pub mod Signal
 pub mod Sink
 pub mod Source
+pub mod Units

@@ -1,0 +1,24 @@
+-- Spans of time in nanoseconds, and bounds of numbers.
+use Rattle.std.specs.Prelude.{ℕ, ◌-◌, ◌^◌}
+
+abbrev pub microsecond : ℕ
+microsecond = 1000
+
+abbrev pub millisecond : ℕ
+millisecond = 1000000
+
+abbrev pub second : ℕ
+second = 1000000000
+
+abbrev pub minute : ℕ
+minute = 60000000000
+
+abbrev pub hour : ℕ
+hour = 3600000000000
+
+-- the greatest numbers of 32 and of 64 bits
+abbrev pub max_u32 : ℕ
+max_u32 = 2 ^ 32 - 1
+
+abbrev pub max_u64 : ℕ
+max_u64 = 2 ^ 64 - 1
