@@ -4,6 +4,7 @@ use Rattle.std.proofs.lemmas.Bool.{cond-true, cond-false, ne_eqb, eqb-true, eqb-
 use Rattle.std.proofs.lemmas.Option.{none-some, same_Some}
 use Rattle.std.proofs.lemmas.List.{length-append}
 use Rattle.std.specs.List.{AllByRecursion}
+use Rattle.sim_base.specs.Ascii.{backslash, quotation_mark, small_u, small_x}
 use Rattle.yaml_marks.specs.Scalars.{double_len, unescaped, put_before, escape_step, number_step, escaped_byte, hex_value, is_surrogate, added_bytes}
 use Rattle.yaml_marks.specs.Spelling.{Part, Itself, Escaped, Numbered, digits_behind, number_behind, IsPart, spelling, meaning}
 use Rattle.yaml_marks.specs.declared.escapes.Escape.{Escape}
@@ -23,7 +24,7 @@ and_false false = refl
 
 -- ---- what is spelled is read
 
-plain_digit : (b d : ℕ) → hex_value b ≡ Some d → (b ≢ 34) × (b ≢ 92)
+plain_digit : (b d : ℕ) → hex_value b ≡ Some d → (b ≢ quotation_mark) × (b ≢ backslash)
 plain_digit b d e = (λ is. none-some d (sym (ap hex_value is) ∙ e), λ is. none-some d (sym (ap hex_value is) ∙ e))
 
 places_none : (o : Option ℕ) → places_on 0 o ≡ o
@@ -34,13 +35,13 @@ places_both : (a b : ℕ) (o : Option ℕ) → places_on a (places_on b o) ≡ p
 places_both a b None = refl
 places_both a b (Some n) = ap Some (omega arith)
 
-double_itself : (b : ℕ) (xs : List ℕ) → b ≢ 34 → b ≢ 92 → double_len false (b ∷ xs) ≡ places_on 1 (double_len false xs)
+double_itself : (b : ℕ) (xs : List ℕ) → b ≢ quotation_mark → b ≢ backslash → double_len false (b ∷ xs) ≡ places_on 1 (double_len false xs)
 unfolding double_len
-double_itself b xs q s = cond-false ((b == 34) && true) _ _ (ap (λ c. c && true) (ne_eqb b 34 q)) ∙ ap (λ c. places_on 1 (double_len (c && true) xs)) (ne_eqb b 92 s)
+double_itself b xs q s = cond-false ((b == quotation_mark) && true) _ _ (ap (λ c. c && true) (ne_eqb b quotation_mark q)) ∙ ap (λ c. places_on 1 (double_len (c && true) xs)) (ne_eqb b backslash s)
 
 double_behind : (b : ℕ) (xs : List ℕ) → double_len true (b ∷ xs) ≡ places_on 1 (double_len false xs)
 unfolding double_len
-double_behind b xs = cond-false ((b == 34) && false) _ _ (and_false (b == 34)) ∙ ap (λ c. places_on 1 (double_len c xs)) (and_false (b == 92))
+double_behind b xs = cond-false ((b == quotation_mark) && false) _ _ (and_false (b == quotation_mark)) ∙ ap (λ c. places_on 1 (double_len c xs)) (and_false (b == backslash))
 
 double_digits : (digits : List ℕ) (n m : ℕ) (xs : List ℕ) → number_behind n digits ≡ Some m → double_len false (digits ++ xs) ≡ places_on (length digits) (double_len false xs)
 unfolding number_behind
@@ -57,15 +58,15 @@ unfolding double_len
 double_part (Itself b) xs h = double_itself b xs h.0 h.1
 double_part (Escaped letter b) xs h = ap (places_on 1) (double_behind letter xs) ∙ places_both 1 1 (double_len false xs)
 double_part (Numbered letter digits n) xs h =
-    let count : 1 + (1 + length digits) ≡ length (92 ∷ letter ∷ digits) = omega arith in
+    let count : 1 + (1 + length digits) ≡ length (backslash ∷ letter ∷ digits) = omega arith in
     ap (places_on 1) (double_behind letter (digits ++ xs) ∙ ap (places_on 1) (double_digits digits 0 n xs h.1) ∙ places_both 1 (length digits) (double_len false xs))
     ∙ places_both 1 (1 + length digits) (double_len false xs) ∙ ap (λ k. places_on k (double_len false xs)) count
 
-pub double_parts : (parts : List Part) (rest : List ℕ) → AllByRecursion IsPart parts → double_len false (flat_map spelling parts ++ 34 ∷ rest) ≡ Some (length (flat_map spelling parts))
+pub double_parts : (parts : List Part) (rest : List ℕ) → AllByRecursion IsPart parts → double_len false (flat_map spelling parts ++ quotation_mark ∷ rest) ≡ Some (length (flat_map spelling parts))
 unfolding double_len
 double_parts [] rest h = refl
 double_parts (p ∷ parts) rest h =
-    ap (double_len false) (append_assoc (spelling p) (flat_map spelling parts) (34 ∷ rest)) ∙ double_part p (flat_map spelling parts ++ 34 ∷ rest) h.0
+    ap (double_len false) (append_assoc (spelling p) (flat_map spelling parts) (quotation_mark ∷ rest)) ∙ double_part p (flat_map spelling parts ++ quotation_mark ∷ rest) h.0
     ∙ ap (places_on (length (spelling p))) (double_parts parts rest h.1) ∙ ap Some (sym (length-append (spelling p) (flat_map spelling parts)))
 
 abbrev goes_on : List ℕ → Escape × Added → Option (List ℕ)
@@ -102,10 +103,10 @@ begins_byte letter = option_map (λ c. (Outside, Byte c)) (escaped_byte letter)
 
 letter_step : (letter k : ℕ) → digits_behind letter ≡ Some k → (escape_step Behind letter ≡ begins_digits k) × (0 < k)
 letter_step letter k e =
-    (elim (letter == 120) as (λ q. cond q (Some 2) (cond (letter == 117) (Some 4) None) ≡ Some k → (cond q (begins_digits 2) (cond (letter == 117) (begins_digits 4) (begins_byte letter)) ≡ begins_digits k) × (0 < k)) [
+    (elim (letter == small_x) as (λ q. cond q (Some 2) (cond (letter == small_u) (Some 4) None) ≡ Some k → (cond q (begins_digits 2) (cond (letter == small_u) (begins_digits 4) (begins_byte letter)) ≡ begins_digits k) × (0 < k)) [
       | true ↦ λ f. let is : 2 ≡ k = same_Some 2 k f in (ap begins_digits is, omega arith)
       | false ↦
-          elim (letter == 117) as (λ q. cond q (Some 4) None ≡ Some k → (cond q (begins_digits 4) (begins_byte letter) ≡ begins_digits k) × (0 < k)) [
+          elim (letter == small_u) as (λ q. cond q (Some 4) None ≡ Some k → (cond q (begins_digits 4) (begins_byte letter) ≡ begins_digits k) × (0 < k)) [
             | true ↦ λ f. let is : 4 ≡ k = same_Some 4 k f in (ap begins_digits is, omega arith)
             | false ↦ λ f. absurd (none-some k f)
           ]
@@ -113,12 +114,12 @@ letter_step letter k e =
 
 unescaped_part : (p : Part) (xs : List ℕ) → IsPart p → unescaped Outside (spelling p ++ xs) ≡ put_before (meaning p) (unescaped Outside xs)
 unfolding unescaped
-unescaped_part (Itself b) xs h = ap (λ q. option_and_then (goes_on xs) (cond q (Some (Behind, Nothing)) (Some (Outside, Byte b)))) (ne_eqb b 92 h.1)
+unescaped_part (Itself b) xs h = ap (λ q. option_and_then (goes_on xs) (cond q (Some (Behind, Nothing)) (Some (Outside, Byte b)))) (ne_eqb b backslash h.1)
 unescaped_part (Escaped letter b) xs h =
     nothing_before (unescaped Behind (letter ∷ xs))
     ∙ ap (option_and_then (goes_on xs)) (
-    cond-false (letter == 120) _ _ (ne_eqb letter 120 (λ is. none-some b (sym (ap escaped_byte is) ∙ h)))
-    ∙ cond-false (letter == 117) _ _ (ne_eqb letter 117 (λ is. none-some b (sym (ap escaped_byte is) ∙ h)))
+    cond-false (letter == small_x) _ _ (ne_eqb letter small_x (λ is. none-some b (sym (ap escaped_byte is) ∙ h)))
+    ∙ cond-false (letter == small_u) _ _ (ne_eqb letter small_u (λ is. none-some b (sym (ap escaped_byte is) ∙ h)))
     ∙ ap (option_map (λ c. (Outside, Byte c))) h)
 unescaped_part (Numbered letter [] n) xs h = absurd (let some = letter_step letter 0 h.0 in omega (arith, some.1))
 unescaped_part (Numbered letter (d ∷ digits) n) xs h =
@@ -139,21 +140,21 @@ pub record Spelled (bytes : List ℕ) : Type 0 where
   pub parts : List Part
   pub rest : List ℕ
   pub each : AllByRecursion IsPart parts
-  pub spelled : bytes ≡ flat_map spelling parts ++ 34 ∷ rest
+  pub spelled : bytes ≡ flat_map spelling parts ++ quotation_mark ∷ rest
 
 more_spelled : (p : Part) (bytes : List ℕ) → IsPart p → Spelled bytes → Spelled (spelling p ++ bytes)
 more_spelled p bytes h s = record {
   parts = p ∷ s.parts;
   rest = s.rest;
   each = (h, s.each);
-  spelled = ap (λ l. spelling p ++ l) s.spelled ∙ sym (append_assoc (spelling p) (flat_map spelling s.parts) (34 ∷ s.rest));
+  spelled = ap (λ l. spelling p ++ l) s.spelled ∙ sym (append_assoc (spelling p) (flat_map spelling s.parts) (quotation_mark ∷ s.rest));
 }
 
 -- the bytes in front, since the last whole part, lead a reader there
 abbrev pub Leads : Escape → List ℕ → Type 0
 Leads Outside front = front ≡ []
-Leads Behind front = front ≡ 92 ∷ []
-Leads (Digits left n) front = (letter : ℕ) × (digits : List ℕ) × (front ≡ 92 ∷ letter ∷ digits) × (digits_behind letter ≡ Some (length digits + left)) × (number_behind 0 digits ≡ Some n) × (0 < left)
+Leads Behind front = front ≡ backslash ∷ []
+Leads (Digits left n) front = (letter : ℕ) × (digits : List ℕ) × (front ≡ backslash ∷ letter ∷ digits) × (digits_behind letter ≡ Some (length digits + left)) × (number_behind 0 digits ≡ Some n) × (0 < left)
 
 abbrev pub is_behind : Escape → Bool
 is_behind Outside = false
@@ -175,27 +176,27 @@ number_more n (c ∷ digits) b d m e h = let f = chained _ _ _ e in ap (option_a
 finds_outside : (b : ℕ) (bytes : List ℕ) → Finds bytes → (len : ℕ) (text : List ℕ) → double_len false (b ∷ bytes) ≡ Some len → unescaped Outside (take len (b ∷ bytes)) ≡ Some text → Spelled (b ∷ bytes)
 unfolding double_len unescaped
 finds_outside b bytes finds len text e u =
-    (elim (b == 34) as (λ q. (b == 34) ≡ q → cond (q && true) (Some 0) (places_on 1 (double_len ((b == 92) && true) bytes)) ≡ Some len → Spelled (b ∷ bytes)) [
-      | true ↦ λ q f. record { parts = []; rest = bytes; each = tt; spelled = ap (λ c. c ∷ bytes) (eqb-true b 34 q) }
+    (elim (b == quotation_mark) as (λ q. (b == quotation_mark) ≡ q → cond (q && true) (Some 0) (places_on 1 (double_len ((b == backslash) && true) bytes)) ≡ Some len → Spelled (b ∷ bytes)) [
+      | true ↦ λ q f. record { parts = []; rest = bytes; each = tt; spelled = ap (λ c. c ∷ bytes) (eqb-true b quotation_mark q) }
       | false ↦ λ q f.
           let m = mapped _ _ _ f in
           let v : unescaped Outside (b ∷ take m.0 bytes) ≡ Some text = sym (ap (unescaped Outside) (take_one m.0 len b bytes m.2)) ∙ u in
-          (elim (b == 92) as (λ s. (b == 92) ≡ s → double_len (s && true) bytes ≡ Some m.0 → option_and_then (goes_on (take m.0 bytes)) (cond s (Some (Behind, Nothing)) (Some (Outside, Byte b))) ≡ Some text → Spelled (b ∷ bytes)) [
-            | true ↦ λ s d w. subst (λ c. Spelled (c ∷ bytes)) (sym (eqb-true b 92 s)) (finds Behind (92 ∷ []) m.0 text refl d (sym (nothing_before _) ∙ w))
-            | false ↦ λ s d w. let t = mapped _ _ _ w in more_spelled (Itself b) bytes (eqb-false b 34 q, eqb-false b 92 s) (finds Outside [] m.0 t.0 refl d t.1)
+          (elim (b == backslash) as (λ s. (b == backslash) ≡ s → double_len (s && true) bytes ≡ Some m.0 → option_and_then (goes_on (take m.0 bytes)) (cond s (Some (Behind, Nothing)) (Some (Outside, Byte b))) ≡ Some text → Spelled (b ∷ bytes)) [
+            | true ↦ λ s d w. subst (λ c. Spelled (c ∷ bytes)) (sym (eqb-true b backslash s)) (finds Behind (backslash ∷ []) m.0 text refl d (sym (nothing_before _) ∙ w))
+            | false ↦ λ s d w. let t = mapped _ _ _ w in more_spelled (Itself b) bytes (eqb-false b quotation_mark q, eqb-false b backslash s) (finds Outside [] m.0 t.0 refl d t.1)
           ]) refl m.1 v
     ]) refl e
 
-finds_behind : (b : ℕ) (bytes : List ℕ) → Finds bytes → (len : ℕ) (text : List ℕ) → double_len true (b ∷ bytes) ≡ Some len → unescaped Behind (take len (b ∷ bytes)) ≡ Some text → Spelled (92 ∷ b ∷ bytes)
+finds_behind : (b : ℕ) (bytes : List ℕ) → Finds bytes → (len : ℕ) (text : List ℕ) → double_len true (b ∷ bytes) ≡ Some len → unescaped Behind (take len (b ∷ bytes)) ≡ Some text → Spelled (backslash ∷ b ∷ bytes)
 unfolding unescaped number_behind
 finds_behind b bytes finds len text e u =
     let m = mapped _ _ _ (sym (double_behind b bytes) ∙ e) in
     let v : unescaped Behind (b ∷ take m.0 bytes) ≡ Some text = sym (ap (unescaped Behind) (take_one m.0 len b bytes m.2)) ∙ u in
-    (elim (b == 120) as (λ q. (b == 120) ≡ q → option_and_then (goes_on (take m.0 bytes)) (cond q (Some (Digits 2 0, Nothing)) (cond (b == 117) (Some (Digits 4 0, Nothing)) (option_map (λ c. (Outside, Byte c)) (escaped_byte b)))) ≡ Some text → Spelled (92 ∷ b ∷ bytes)) [
-      | true ↦ λ q w. subst (λ c. Spelled (92 ∷ c ∷ bytes)) (sym (eqb-true b 120 q)) (finds (Digits 2 0) (92 ∷ 120 ∷ []) m.0 text (120, [], refl, refl, refl, omega arith) m.1 (sym (nothing_before _) ∙ w))
+    (elim (b == small_x) as (λ q. (b == small_x) ≡ q → option_and_then (goes_on (take m.0 bytes)) (cond q (Some (Digits 2 0, Nothing)) (cond (b == small_u) (Some (Digits 4 0, Nothing)) (option_map (λ c. (Outside, Byte c)) (escaped_byte b)))) ≡ Some text → Spelled (backslash ∷ b ∷ bytes)) [
+      | true ↦ λ q w. subst (λ c. Spelled (backslash ∷ c ∷ bytes)) (sym (eqb-true b small_x q)) (finds (Digits 2 0) (backslash ∷ small_x ∷ []) m.0 text (small_x, [], refl, refl, refl, omega arith) m.1 (sym (nothing_before _) ∙ w))
       | false ↦ λ q.
-          elim (b == 117) as (λ q. (b == 117) ≡ q → option_and_then (goes_on (take m.0 bytes)) (cond q (Some (Digits 4 0, Nothing)) (option_map (λ c. (Outside, Byte c)) (escaped_byte b))) ≡ Some text → Spelled (92 ∷ b ∷ bytes)) [
-            | true ↦ λ q w. subst (λ c. Spelled (92 ∷ c ∷ bytes)) (sym (eqb-true b 117 q)) (finds (Digits 4 0) (92 ∷ 117 ∷ []) m.0 text (117, [], refl, refl, refl, omega arith) m.1 (sym (nothing_before _) ∙ w))
+          elim (b == small_u) as (λ q. (b == small_u) ≡ q → option_and_then (goes_on (take m.0 bytes)) (cond q (Some (Digits 4 0, Nothing)) (option_map (λ c. (Outside, Byte c)) (escaped_byte b))) ≡ Some text → Spelled (backslash ∷ b ∷ bytes)) [
+            | true ↦ λ q w. subst (λ c. Spelled (backslash ∷ c ∷ bytes)) (sym (eqb-true b small_u q)) (finds (Digits 4 0) (backslash ∷ small_u ∷ []) m.0 text (small_u, [], refl, refl, refl, omega arith) m.1 (sym (nothing_before _) ∙ w))
             | false ↦ λ q w.
                 let s = chained _ _ _ w in
                 let c = mapped _ _ _ s.1 in
@@ -225,21 +226,21 @@ after_digit left n b d front bytes len text s finds h digit step over u =
           let count : length h.1 + left ≡ length (h.1 ++ b ∷ []) = omega (arith, ltb-false 1 left q) in
           let w : put_before (encode_utf8 (n * 16 + d)) (unescaped Outside (take len bytes)) ≡ Some text = ap (goes_on (take len bytes)) free.1 ∙ u in
           let t = mapped _ _ _ w in
-          subst Spelled (ap (λ l. 92 ∷ h.0 ∷ l) (append_assoc h.1 (b ∷ []) bytes) ∙ ap (λ f. f ++ b ∷ bytes) (sym h.2))
+          subst Spelled (ap (λ l. backslash ∷ h.0 ∷ l) (append_assoc h.1 (b ∷ []) bytes) ∙ ap (λ f. f ++ b ∷ bytes) (sym h.2))
           (more_spelled (Numbered h.0 (h.1 ++ b ∷ []) (n * 16 + d)) bytes (h.3 ∙ ap Some count, number, free.0) (finds Outside [] len t.0 refl over t.1))
     ]) refl step
 
 finds_digits : (left n b : ℕ) (front bytes : List ℕ) → Finds bytes → (len : ℕ) (text : List ℕ) → Leads (Digits left n) front → double_len false (b ∷ bytes) ≡ Some len → unescaped (Digits left n) (take len (b ∷ bytes)) ≡ Some text → Spelled (front ++ b ∷ bytes)
 unfolding double_len unescaped
 finds_digits left n b front bytes finds len text h e u =
-    (elim (b == 34) as (λ q. cond (q && true) (Some 0) (places_on 1 (double_len ((b == 92) && true) bytes)) ≡ Some len → Spelled (front ++ b ∷ bytes)) [
+    (elim (b == quotation_mark) as (λ q. cond (q && true) (Some 0) (places_on 1 (double_len ((b == backslash) && true) bytes)) ≡ Some len → Spelled (front ++ b ∷ bytes)) [
       | true ↦ λ f. let z : 0 ≡ len = same_Some 0 len f in absurd (none-some text (ap (λ k. unescaped (Digits left n) (take k (b ∷ bytes))) z ∙ u))
       | false ↦ λ f.
           let m = mapped _ _ _ f in
           let v : unescaped (Digits left n) (b ∷ take m.0 bytes) ≡ Some text = sym (ap (unescaped (Digits left n)) (take_one m.0 len b bytes m.2)) ∙ u in
           let s = chained _ _ _ v in
           let d = chained _ _ _ s.1 in
-          let over : double_len false bytes ≡ Some m.0 = sym (ap (λ c. double_len (c && true) bytes) (ne_eqb b 92 (plain_digit b d.0 d.1).1)) ∙ m.1 in
+          let over : double_len false bytes ≡ Some m.0 = sym (ap (λ c. double_len (c && true) bytes) (ne_eqb b backslash (plain_digit b d.0 d.1).1)) ∙ m.1 in
           after_digit left n b d.0 front bytes m.0 text s.0 finds h d.1 d.2 over s.2
     ]) e
 

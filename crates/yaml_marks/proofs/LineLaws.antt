@@ -4,24 +4,25 @@ use Rattle.std.proofs.lemmas.Bool.{cond-false, false≢true, ne_eqb, eqb-true}
 use Rattle.std.proofs.lemmas.List.{take_all}
 use Rattle.std.proofs.Math.ListN.{drop_of_length-le}
 use Rattle.std.specs.List.{prefix_len}
+use Rattle.sim_base.specs.Ascii.{carriage_return, line_feed}
 use Rattle.yaml_marks.specs.Lines.{byte_before, is_inside, without_return, split_lines}
 
-without_return-end : (xs : List ℕ) → without_return (xs ++ (13 ∷ [])) ≡ xs
+without_return-end : (xs : List ℕ) → without_return (xs ++ (carriage_return ∷ [])) ≡ xs
 unfolding without_return
 without_return-end [] = refl
 without_return-end (b ∷ []) = refl
 without_return-end (b ∷ c ∷ xs) = ap (λ l. b ∷ l) (without_return-end (c ∷ xs))
 
-without_return-other : (xs : List ℕ) (y : ℕ) → (y ≡ 13 → ⊥) → without_return (xs ++ (y ∷ [])) ≡ xs ++ (y ∷ [])
+without_return-other : (xs : List ℕ) (y : ℕ) → (y ≡ carriage_return → ⊥) → without_return (xs ++ (y ∷ [])) ≡ xs ++ (y ∷ [])
 unfolding without_return
-without_return-other [] y n = cond-false (y == 13) _ _ (ne_eqb y 13 n)
-without_return-other (b ∷ []) y n = ap (λ l. b ∷ l) (cond-false (y == 13) _ _ (ne_eqb y 13 n))
+without_return-other [] y n = cond-false (y == carriage_return) _ _ (ne_eqb y carriage_return n)
+without_return-other (b ∷ []) y n = ap (λ l. b ∷ l) (cond-false (y == carriage_return) _ _ (ne_eqb y carriage_return n))
 without_return-other (b ∷ c ∷ xs) y n = ap (λ l. b ∷ l) (without_return-other (c ∷ xs) y n)
 
-pub return_taken : (line front : List ℕ) → line ≡ front ++ (13 ∷ []) → front ≡ without_return line
+pub return_taken : (line front : List ℕ) → line ≡ front ++ (carriage_return ∷ []) → front ≡ without_return line
 return_taken line front e = sym (ap without_return e ∙ without_return-end front)
 
-pub return_absent : (line front : List ℕ) (y : ℕ) → line ≡ front ++ (y ∷ []) → (y ≡ 13 → ⊥) → line ≡ without_return line
+pub return_absent : (line front : List ℕ) (y : ℕ) → line ≡ front ++ (y ∷ []) → (y ≡ carriage_return → ⊥) → line ≡ without_return line
 return_absent line front y e n = e ∙ sym (ap without_return e ∙ without_return-other front y n)
 
 pub return_of_nothing : (line : List ℕ) → length line ≡ 0 → line ≡ without_return line
@@ -32,7 +33,7 @@ return_of_nothing (b ∷ line) e = absurd (omega (arith, e))
 pub length-without_return : (xs : List ℕ) → length (without_return xs) ≤ length xs
 unfolding without_return
 length-without_return [] = omega arith
-length-without_return (b ∷ []) = elim (b == 13) as (λ q. length (cond q [] (b ∷ [])) ≤ 1) [ true ↦ omega arith | false ↦ omega arith ]
+length-without_return (b ∷ []) = elim (b == carriage_return) as (λ q. length (cond q [] (b ∷ [])) ≤ 1) [ true ↦ omega arith | false ↦ omega arith ]
 length-without_return (b ∷ c ∷ xs) = let more = length-without_return (c ∷ xs) in omega arith
 
 and_false : (a : Bool) → (a && false) ≡ false
@@ -41,35 +42,35 @@ and_false false = refl
 
 abbrev pub AllInside : List ℕ → Type 0
 AllInside [] = Unit {0}
-AllInside (b ∷ bytes) = (b ≡ 10 → ⊥) × AllInside bytes
+AllInside (b ∷ bytes) = (b ≡ line_feed → ⊥) × AllInside bytes
 
-split_at_feed : (p r : List ℕ) → AllInside p → split_lines (p ++ (10 ∷ r)) ≡ without_return p ∷ split_lines r
+split_at_feed : (p r : List ℕ) → AllInside p → split_lines (p ++ (line_feed ∷ r)) ≡ without_return p ∷ split_lines r
 unfolding split_lines without_return
 split_at_feed [] r h = refl
-split_at_feed (b ∷ []) r h = cond-false (b == 10) _ _ (ne_eqb b 10 h.0)
-    ∙ (elim (b == 13) as (λ q. cond (q && true) ([] ∷ split_lines r) ((b ∷ []) ∷ split_lines r) ≡ cond q [] (b ∷ []) ∷ split_lines r) [ true ↦ refl | false ↦ refl ])
-split_at_feed (b ∷ c ∷ p) r h = cond-false (b == 10) _ _ (ne_eqb b 10 h.0)
-    ∙ cond-false ((b == 13) && (c == 10)) _ _ (ap (λ q. (b == 13) && q) (ne_eqb c 10 h.1.0) ∙ and_false (b == 13))
+split_at_feed (b ∷ []) r h = cond-false (b == line_feed) _ _ (ne_eqb b line_feed h.0)
+    ∙ (elim (b == carriage_return) as (λ q. cond (q && true) ([] ∷ split_lines r) ((b ∷ []) ∷ split_lines r) ≡ cond q [] (b ∷ []) ∷ split_lines r) [ true ↦ refl | false ↦ refl ])
+split_at_feed (b ∷ c ∷ p) r h = cond-false (b == line_feed) _ _ (ne_eqb b line_feed h.0)
+    ∙ cond-false ((b == carriage_return) && (c == line_feed)) _ _ (ap (λ q. (b == carriage_return) && q) (ne_eqb c line_feed h.1.0) ∙ and_false (b == carriage_return))
     ∙ ap (byte_before b) (split_at_feed (c ∷ p) r h.1)
 
 split_no_feed : (p : List ℕ) → AllInside p → 0 < length p → split_lines p ≡ p ∷ []
 unfolding split_lines
 split_no_feed [] h lt = absurd (omega (arith, lt))
-split_no_feed (b ∷ []) h lt = cond-false (b == 10) _ _ (ne_eqb b 10 h.0) ∙ cond-false ((b == 13) && false) _ _ (and_false (b == 13))
-split_no_feed (b ∷ c ∷ p) h lt = cond-false (b == 10) _ _ (ne_eqb b 10 h.0)
-    ∙ cond-false ((b == 13) && (c == 10)) _ _ (ap (λ q. (b == 13) && q) (ne_eqb c 10 h.1.0) ∙ and_false (b == 13))
+split_no_feed (b ∷ []) h lt = cond-false (b == line_feed) _ _ (ne_eqb b line_feed h.0) ∙ cond-false ((b == carriage_return) && false) _ _ (and_false (b == carriage_return))
+split_no_feed (b ∷ c ∷ p) h lt = cond-false (b == line_feed) _ _ (ne_eqb b line_feed h.0)
+    ∙ cond-false ((b == carriage_return) && (c == line_feed)) _ _ (ap (λ q. (b == carriage_return) && q) (ne_eqb c line_feed h.1.0) ∙ and_false (b == carriage_return))
     ∙ ap (byte_before b) (split_no_feed (c ∷ p) h.1 (omega arith))
 
 -- the bytes before the first line feed, and it
 abbrev FirstFeed : List ℕ → ℕ → Type 0
-FirstFeed bytes n = AllInside (take n bytes) × (n < length bytes → bytes ≡ take n bytes ++ (10 ∷ drop (suc n) bytes))
+FirstFeed bytes n = AllInside (take n bytes) × (n < length bytes → bytes ≡ take n bytes ++ (line_feed ∷ drop (suc n) bytes))
 
 first_feed : (bytes : List ℕ) → FirstFeed bytes (prefix_len is_inside bytes)
 first_feed [] = (tt, λ lt. absurd (omega (arith, lt)))
-first_feed (b ∷ bytes) = elim (b == 10) as (λ q. (b == 10) ≡ q → FirstFeed (b ∷ bytes) (cond (not q) (1 + prefix_len is_inside bytes) 0)) [
-  | true ↦ λ q. (tt, λ lt. ap (λ c. c ∷ bytes) (eqb-true b 10 q))
+first_feed (b ∷ bytes) = elim (b == line_feed) as (λ q. (b == line_feed) ≡ q → FirstFeed (b ∷ bytes) (cond (not q) (1 + prefix_len is_inside bytes) 0)) [
+  | true ↦ λ q. (tt, λ lt. ap (λ c. c ∷ bytes) (eqb-true b line_feed q))
   | false ↦ λ q. (let more = first_feed bytes in let e : suc (prefix_len is_inside bytes) ≡ 1 + prefix_len is_inside bytes = omega arith in
-      subst (FirstFeed (b ∷ bytes)) e (((λ w. false≢true (sym q ∙ eq-eqb b 10 w)), more.0), λ lt. ap (λ l. b ∷ l) (more.1 (omega (arith, lt)))))
+      subst (FirstFeed (b ∷ bytes)) e (((λ w. false≢true (sym q ∙ eq-eqb b line_feed w)), more.0), λ lt. ap (λ l. b ∷ l) (more.1 (omega (arith, lt)))))
 ] refl
 
 module _ (bytes : List ℕ) (n : ℕ) (is : n ≡ prefix_len is_inside bytes) where

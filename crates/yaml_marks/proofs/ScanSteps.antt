@@ -2,6 +2,7 @@
 use Rattle.std.proofs.Common.{◌≡◌, ℕ, ◌+◌, ◌<◌, ◌≤◌, Bool, true, false, ◌&&◌, not, cond, List, [], ◌++◌, Option, Some, None, option_map, option_and_then, length, get_or, drop, refl, sym, ap, ◌∙◌, append_assoc, arith, ◌==◌}
 use Rattle.std.proofs.lemmas.Bool.{cond-true, cond-false}
 use Rattle.std.proofs.lemmas.List.{drop_more, at_drop_all, append-nil}
+use Rattle.sim_base.specs.Ascii.{backslash, quotation_mark}
 use Rattle.yaml_marks.specs.Scalars.{plain_ends, plain_len, single_quoted, double_len, holds_back, closes, single_part, with_part, unescaped, put_before, escape_step, added_bytes, is_outside}
 use Rattle.yaml_marks.specs.declared.escapes.Escape.{Escape}
 use Rattle.yaml_marks.specs.declared.escapes.Escape.TheVariants.{Outside, Behind, Digits}
@@ -70,7 +71,7 @@ module _ (xs : List ℕ) (i : ℕ) (held : Bool) (text : List ℕ) (w : Option (
 -- ---- in double quotes
 
 module _ (xs : List ℕ) (i : ℕ) (escaped : Bool) (w : Option ℕ) (so_far : places_on i (double_len escaped (drop i xs)) ≡ w) where
-  double_at : i < length xs → double_len escaped (drop i xs) ≡ cond ((get_or xs i 0 == 34) && not escaped) (Some 0) (option_map (λ n. 1 + n) (double_len ((get_or xs i 0 == 92) && not escaped) (drop (i + 1) xs)))
+  double_at : i < length xs → double_len escaped (drop i xs) ≡ cond ((get_or xs i 0 == quotation_mark) && not escaped) (Some 0) (option_map (λ n. 1 + n) (double_len ((get_or xs i 0 == backslash) && not escaped) (drop (i + 1) xs)))
   unfolding double_len
   double_at lt = ap (double_len escaped) (drop_more xs i 0 lt)
 
@@ -78,13 +79,13 @@ module _ (xs : List ℕ) (i : ℕ) (escaped : Bool) (w : Option ℕ) (so_far : p
   places_move None = refl
   places_move (Some f) = let n : (i + 1) + f ≡ i + (1 + f) = omega arith in cc
 
-  pub double_goes_on : (r next : Bool) → i < length xs → r ≡ ((get_or xs i 0 == 34) && not escaped) → r ≡ false → next ≡ ((get_or xs i 0 == 92) && not escaped) → places_on (i + 1) (double_len next (drop (i + 1) xs)) ≡ w
+  pub double_goes_on : (r next : Bool) → i < length xs → r ≡ ((get_or xs i 0 == quotation_mark) && not escaped) → r ≡ false → next ≡ ((get_or xs i 0 == backslash) && not escaped) → places_on (i + 1) (double_len next (drop (i + 1) xs)) ≡ w
   double_goes_on r next lt e f n =
       ap (λ q. places_on (i + 1) (double_len q (drop (i + 1) xs))) n
-      ∙ places_move (double_len ((get_or xs i 0 == 92) && not escaped) (drop (i + 1) xs))
+      ∙ places_move (double_len ((get_or xs i 0 == backslash) && not escaped) (drop (i + 1) xs))
       ∙ ap (places_on i) (sym (double_at lt ∙ cond-false _ _ _ (sym e ∙ f))) ∙ so_far
 
-  pub double_stops : (r : Bool) → i < length xs → r ≡ ((get_or xs i 0 == 34) && not escaped) → r ≡ true → Some i ≡ w
+  pub double_stops : (r : Bool) → i < length xs → r ≡ ((get_or xs i 0 == quotation_mark) && not escaped) → r ≡ true → Some i ≡ w
   double_stops r lt e t = let n : i + 0 ≡ i = omega arith in
       let front : Some i ≡ Some (i + 0) = cc in
       front ∙ ap (places_on i) (sym (double_at lt ∙ cond-true _ _ _ (sym e ∙ t))) ∙ so_far

@@ -2,6 +2,7 @@
 -- they are spelled.
 use Rattle.std.specs.Prelude.{◌≡◌, ◌++◌, [], ◌∷◌, codes, refl}
 use Rattle.std.specs.Char.{encode_utf8}
+use Rattle.sim_base.specs.Ascii.{capital_a, line_feed, small_n, small_u, small_x}
 use Rattle.yaml_marks.specs.Scalars.{scalar_at, scan_of, single_quoted, double_len, unescaped}
 use Rattle.yaml_marks.specs.Spelling.{IsSingleQuoted, IsDoubleQuoted, Numbered, Escaped, number_behind}
 use Rattle.yaml_marks.specs.declared.odd.Odd.TheVariants as odd
@@ -16,7 +17,7 @@ line_ends : scalar_at (codes "\"\\x0d\\x0a is \\r\\n\"") ≡ Quoted (codes "\r\n
 unfolding scalar_at scan_of double_len unescaped encode_utf8
 line_ends = refl
 
-escapes : scalar_at (codes "\"\\\\ \\\" \\n \\r \\t \\0 \\x41 \\u0041\" # c") ≡ Quoted (92 ∷ 32 ∷ 34 ∷ 32 ∷ 10 ∷ 32 ∷ 13 ∷ 32 ∷ 9 ∷ 32 ∷ 0 ∷ 32 ∷ 65 ∷ 32 ∷ 65 ∷ []) 31
+escapes : scalar_at (codes "\"\\\\ \\\" \\n \\r \\t \\0 \\x41 \\u0041\" # c") ≡ Quoted (codes "\\ \" \n \r \t " ++ 0 ∷ codes " A A") 31
 unfolding scalar_at scan_of double_len unescaped encode_utf8
 escapes = refl
 
@@ -48,11 +49,11 @@ half_a_pair : scalar_at (codes "\"\\ud83d\"") ≡ Refused odd.Syntax
 unfolding scalar_at scan_of double_len unescaped
 half_a_pair = refl
 
-letters_spelled : IsDoubleQuoted (codes "\"\\x41\\u0041\\n\", b") (65 ∷ 65 ∷ 10 ∷ []) 14
+letters_spelled : IsDoubleQuoted (codes "\"\\x41\\u0041\\n\", b") (codes "AA\n") 14
 unfolding number_behind encode_utf8
 letters_spelled =
     record {
-      parts = Numbered 120 (codes "41") 65 ∷ Numbered 117 (codes "0041") 65 ∷ Escaped 110 10 ∷ [];
+      parts = Numbered small_x (codes "41") capital_a ∷ Numbered small_u (codes "0041") capital_a ∷ Escaped small_n line_feed ∷ [];
       rest = codes ", b";
       each = ((refl, refl, refl), ((refl, refl, refl), (refl, tt)));
       spelled = refl;

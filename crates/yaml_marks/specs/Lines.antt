@@ -1,13 +1,8 @@
 -- The lines of a text: each ends at a line feed, or at the text's end. A byte order mark at the start and a
 -- carriage return before a line feed are passed over (YAML 1.2, 5.2 and 5.4).
-use Rattle.std.specs.Prelude.{ℕ, Bool, false, not, ◌&&◌, List, [], ◌∷◌, if◌then◌else◌, ◌==◌, drop, nat_eq}
+use Rattle.std.specs.Prelude.{ℕ, Bool, false, not, ◌&&◌, List, [], ◌∷◌, if◌then◌else◌, ◌==◌, drop, length, nat_eq}
 use Rattle.std.specs.List.{starts_with}
-
-abbrev pub line_feed : ℕ
-line_feed = 10
-
-abbrev pub carriage_return : ℕ
-carriage_return = 13
+use Rattle.sim_base.specs.Ascii.{line_feed, carriage_return}
 
 -- whether the bytes begin with this one
 abbrev pub begins_with : ℕ → List ℕ → Bool
@@ -39,7 +34,7 @@ abbrev pub byte_order_mark : List ℕ
 byte_order_mark = 0xEF ∷ 0xBB ∷ 0xBF ∷ []
 
 abbrev pub without_mark : List ℕ → List ℕ
-without_mark text = if starts_with nat_eq text byte_order_mark then drop 3 text else text
+without_mark text = if starts_with nat_eq text byte_order_mark then drop (length byte_order_mark) text else text
 
 abbrev pub lines_of : List ℕ → List (List ℕ)
 lines_of text = split_lines (without_mark text)

@@ -1,15 +1,17 @@
 -- Literal blocks: `|`, `|-` and `|+` with the lines behind them, as this project's own profile of YAML 1.2 (8.1.2)
 -- has them.
-use Rattle.std.specs.Prelude.{ℕ, ◌-◌, Bool, false, ◌&&◌, List, [], ◌∷◌, ◌++◌, Option, Some, None, if◌then◌else◌, ◌==◌, nat_le, length, take, drop}
+use Rattle.std.specs.Prelude.{ℕ, ◌-◌, Bool, false, List, [], ◌∷◌, ◌++◌, Option, Some, None, if◌then◌else◌, ◌==◌, length, take, drop}
 use Rattle.std.specs.List.{prefix_len, suffix_len}
-use Rattle.yaml_marks.specs.Lines.{line_feed, begins_with}
+use Rattle.std.specs.Char.{is_ascii_digit}
+use Rattle.sim_base.specs.Ascii.{line_feed, plus_sign, hyphen}
+use Rattle.yaml_marks.specs.Lines.{begins_with}
 use Rattle.yaml_marks.specs.Scalars.{is_space, after_spaces, is_nothing}
 use Rattle.yaml_marks.specs.declared.chomp.Chomp.{Chomp}
 use Rattle.yaml_marks.specs.declared.chomp.Chomp.TheVariants.{Clip, Strip, Keep}
 
 -- what stands behind the bar
 abbrev pub chomp_at : List ℕ → Chomp
-chomp_at bytes = if begins_with 45 bytes then Strip else (if begins_with 43 bytes then Keep else Clip)
+chomp_at bytes = if begins_with hyphen bytes then Strip else (if begins_with plus_sign bytes then Keep else Clip)
 
 abbrev pub chomp_len : Chomp → ℕ
 chomp_len Clip = 0
@@ -18,7 +20,7 @@ chomp_len Keep = 1
 
 abbrev pub is_digit_first : List ℕ → Bool
 is_digit_first [] = false
-is_digit_first (b ∷ _) = nat_le 48 b && nat_le b 57
+is_digit_first (b ∷ _) = is_ascii_digit b
 
 abbrev pub is_blank : List ℕ → Bool
 is_blank line = is_nothing (after_spaces line)

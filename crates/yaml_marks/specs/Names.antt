@@ -1,11 +1,13 @@
 -- Names of nodes: `&NAME` and `*NAME`, as this project's own profile of YAML 1.2 (6.9.2, 7.1) has them.
-use Rattle.std.specs.Prelude.{ℕ, Bool, ◌&&◌, ◌||◌, not, List, ◌==◌, nat_le, take, drop}
+use Rattle.std.specs.Prelude.{ℕ, Bool, ◌&&◌, ◌||◌, not, List, ◌==◌, take, drop}
 use Rattle.std.specs.List.{prefix_len}
+use Rattle.std.specs.Char.{is_ascii_alphanumeric}
+use Rattle.sim_base.specs.Ascii.{hyphen, underscore}
 use Rattle.yaml_marks.specs.Scalars.{is_nothing}
 
 -- letters, digits, `_` and `-`
 abbrev pub is_name_byte : ℕ → Bool
-is_name_byte b = ((nat_le 97 b && nat_le b 122) || (nat_le 65 b && nat_le b 90)) || ((nat_le 48 b && nat_le b 57) || ((b == 95) || (b == 45)))
+is_name_byte b = is_ascii_alphanumeric b || ((b == underscore) || (b == hyphen))
 
 abbrev pub name_len : List ℕ → ℕ
 name_len bytes = prefix_len is_name_byte bytes

@@ -1,6 +1,7 @@
 -- The pieces of a flow form on its line, as this project's own profile of YAML 1.2 (7.4) has them.
 use Rattle.std.specs.Prelude.{ℕ, ◌+◌, ◌-◌, Bool, true, false, ◌&&◌, ◌||◌, List, [], ◌∷◌, Option, Some, None, if◌then◌else◌, ◌==◌, nat_le, length, take, drop, zero, suc}
 use Rattle.std.specs.List.{prefix_len}
+use Rattle.sim_base.specs.Ascii.{ampersand, apostrophe, asterisk, comma, exclamation_mark, greater_than, left_brace, left_bracket, number_sign, quotation_mark, right_brace, right_bracket, space, vertical_bar}
 use Rattle.yaml_marks.specs.Lines.{begins_with}
 use Rattle.yaml_marks.specs.Scalars.{is_space, at_colon, plain_ends, plain_value, without_spaces, single_quoted, double_len, single_scan, double_scan, is_unplain, asks}
 use Rattle.yaml_marks.specs.Names.{name_len, name_at, has_name}
@@ -16,7 +17,7 @@ use Rattle.yaml_marks.specs.declared.piece.Piece.TheVariants.{Opening, Closing, 
 
 -- `,`, `]` or `}`
 abbrev pub is_separator : ℕ → Bool
-is_separator b = (b == 44) || ((b == 93) || (b == 125))
+is_separator b = (b == comma) || ((b == right_bracket) || (b == right_brace))
 
 -- A plain scalar in a flow form ends before `,`, `]` and `}` too.
 abbrev pub cell_ends : ℕ → List ℕ → Bool
@@ -31,11 +32,11 @@ cell_text bytes = without_spaces (take (cell_len bytes) bytes)
 
 -- `!` and `>`: values beyond the profile
 abbrev pub is_foreign_indicator : ℕ → Bool
-is_foreign_indicator b = (b == 33) || (b == 62)
+is_foreign_indicator b = (b == exclamation_mark) || (b == greater_than)
 
 -- `&` and `*` without a name, and `|`
 abbrev pub is_lone_indicator : ℕ → Bool
-is_lone_indicator b = (b == 38) || ((b == 42) || (b == 124))
+is_lone_indicator b = (b == ampersand) || ((b == asterisk) || (b == vertical_bar))
 
 unfoldable pub bare_cell : ℕ → List ℕ → Scan
 bare_cell b bytes = if is_foreign_indicator b then Refused odd.Indicator
@@ -44,8 +45,8 @@ bare_cell b bytes = if is_foreign_indicator b then Refused odd.Indicator
     else Plain (cell_text (b ∷ bytes)) (cell_len (b ∷ bytes))))
 
 unfoldable pub cell_scan : ℕ → List ℕ → Scan
-cell_scan b bytes = if b == 39 then single_scan (single_quoted false bytes)
-    else (if b == 34 then double_scan bytes (double_len false bytes)
+cell_scan b bytes = if b == apostrophe then single_scan (single_quoted false bytes)
+    else (if b == quotation_mark then double_scan bytes (double_len false bytes)
     else bare_cell b bytes)
 
 -- ---- pieces from the left
@@ -57,8 +58,8 @@ closed_len bytes (Some len) = 1 + len
 -- How many bytes a quote that is no scalar takes behind its first: to the quote that closes it, or to the line's
 -- end. Any other piece that no form has takes none.
 abbrev pub refused_len : ℕ → List ℕ → ℕ
-refused_len b bytes = if b == 34 then closed_len bytes (double_len false bytes)
-    else (if b == 39 then length bytes else 0)
+refused_len b bytes = if b == quotation_mark then closed_len bytes (double_len false bytes)
+    else (if b == apostrophe then length bytes else 0)
 
 -- A step over a line: a piece, or none for a space, and how many bytes are taken behind the first.
 pub record CellStep : Type 0 where
@@ -77,21 +78,21 @@ scan_step b bytes (Refused why) = record { piece = Some (OddPiece why); skip = r
 -- a name in a flow form ends before a space, the line's end, `,`, `]` and `}`
 abbrev pub at_cell_gap : List ℕ → Bool
 at_cell_gap [] = true
-at_cell_gap (b ∷ _) = (b == 32) || is_separator b
+at_cell_gap (b ∷ _) = (b == space) || is_separator b
 
 abbrev pub one_byte : Piece → CellStep
 one_byte piece = record { piece = Some piece; skip = 0 }
 
 -- The step at these bytes. A comment, `#` behind a space, goes to the line's end.
 abbrev pub step_at : ℕ → List ℕ → CellStep
-step_at b bytes = if b == 32 then record { piece = None; skip = if begins_with 35 bytes then length bytes else 0 }
-    else (if b == 91 then one_byte (Opening Square)
-    else (if b == 93 then one_byte (Closing Square)
-    else (if b == 123 then one_byte (Opening Curly)
-    else (if b == 125 then one_byte (Closing Curly)
-    else (if b == 44 then one_byte Comma
-    else (if (b == 38) && has_name at_cell_gap bytes then record { piece = Some (CellName (name_at bytes)); skip = name_len bytes }
-    else (if (b == 42) && has_name at_cell_gap bytes then record { piece = Some (CellCopy (name_at bytes)); skip = name_len bytes }
+step_at b bytes = if b == space then record { piece = None; skip = if begins_with number_sign bytes then length bytes else 0 }
+    else (if b == left_bracket then one_byte (Opening Square)
+    else (if b == right_bracket then one_byte (Closing Square)
+    else (if b == left_brace then one_byte (Opening Curly)
+    else (if b == right_brace then one_byte (Closing Curly)
+    else (if b == comma then one_byte Comma
+    else (if (b == ampersand) && has_name at_cell_gap bytes then record { piece = Some (CellName (name_at bytes)); skip = name_len bytes }
+    else (if (b == asterisk) && has_name at_cell_gap bytes then record { piece = Some (CellCopy (name_at bytes)); skip = name_len bytes }
     else scan_step b bytes (cell_scan b bytes))))))))
 
 -- how many brackets are open behind a piece
@@ -140,7 +141,7 @@ closes_at n (Closing bracket ∷ pieces) = (n == 0) || closes_at (n - 1) pieces
 closes_at n (_ ∷ pieces) = closes_at n pieces
 
 abbrev pub is_bracket : ℕ → Bool
-is_bracket b = (b == 91) || (b == 123)
+is_bracket b = (b == left_bracket) || (b == left_brace)
 
 -- a bracket that can't stand where it is: unsupported where it isn't closed on its line
 abbrev pub why_bracket : List Piece → Odd

@@ -2,6 +2,9 @@
 use Rattle.std.specs.Prelude.{ℕ, ◌+◌, ◌-◌, ◌*◌, ◌≤◌, Bool, true, false, ◌&&◌, ◌||◌, not, List, [], ◌∷◌, ◌++◌, Option, Some, None, if◌then◌else◌, ◌==◌, nat_eq, nat_lt, nat_le, length, take, drop, option_map, option_and_then, encode_utf8, codes}
 use Rattle.std.specs.Cmp.Lexicographic.{pointwise}
 use Rattle.std.specs.List.{prefix_len, suffix_len}
+use Rattle.std.specs.Char.{is_ascii_digit}
+use Rattle.std.specs.Int.{is_in_range}
+use Rattle.sim_base.specs.Ascii.{ampersand, apostrophe, asterisk, at_sign, backslash, capital_a, capital_f, carriage_return, colon, comma, digit_0, exclamation_mark, grave_accent, greater_than, hyphen, left_brace, left_bracket, line_feed, number_sign, percent_sign, question_mark, quotation_mark, right_brace, right_bracket, slash, small_a, small_f, small_n, small_r, small_t, small_u, small_x, space, tab, vertical_bar}
 use Rattle.yaml_marks.specs.Lines.{begins_with}
 use Rattle.yaml_marks.specs.declared.escapes.Escape.{Escape}
 use Rattle.yaml_marks.specs.declared.escapes.Escape.TheVariants.{Outside, Behind, Digits}
@@ -13,12 +16,12 @@ use Rattle.yaml_marks.specs.declared.odd.Odd.{Odd}
 use Rattle.yaml_marks.specs.declared.odd.Odd.TheVariants as odd
 
 abbrev pub is_space : ℕ → Bool
-is_space b = b == 32
+is_space b = b == space
 
 -- before a space or the line's end
 abbrev pub at_gap : List ℕ → Bool
 at_gap [] = true
-at_gap (b ∷ _) = b == 32
+at_gap (b ∷ _) = b == space
 
 abbrev pub after_spaces : List ℕ → List ℕ
 after_spaces bytes = drop (prefix_len is_space bytes) bytes
@@ -29,17 +32,17 @@ is_nothing (_ ∷ _) = false
 
 -- nothing but spaces, or a comment: `#` behind a space
 abbrev pub at_end : List ℕ → Bool
-at_end bytes = is_nothing (after_spaces bytes) || (begins_with 32 bytes && begins_with 35 (after_spaces bytes))
+at_end bytes = is_nothing (after_spaces bytes) || (begins_with space bytes && begins_with number_sign (after_spaces bytes))
 
 -- `:` before a space or the line's end, spaces before it aside
 abbrev pub at_colon : List ℕ → Bool
-at_colon bytes = begins_with 58 (after_spaces bytes) && at_gap (drop 1 (after_spaces bytes))
+at_colon bytes = begins_with colon (after_spaces bytes) && at_gap (drop 1 (after_spaces bytes))
 
 -- ---- plain
 
 -- A plain scalar ends before `: `, `:` at the line's end and ` #`.
 abbrev pub plain_ends : ℕ → List ℕ → Bool
-plain_ends b bytes = ((b == 58) && at_gap bytes) || ((b == 32) && begins_with 35 bytes)
+plain_ends b bytes = ((b == colon) && at_gap bytes) || ((b == space) && begins_with number_sign bytes)
 
 unfoldable pub plain_len : List ℕ → ℕ
 plain_len [] = 0
@@ -63,10 +66,10 @@ plain_value text = if is_null text then None else Some text
 
 -- A quote is held back until the byte behind it tells whether it closes: a second one stands for a quote.
 abbrev pub holds_back : Bool → ℕ → Bool
-holds_back held b = (b == 39) && not held
+holds_back held b = (b == apostrophe) && not held
 
 abbrev pub closes : Bool → ℕ → Bool
-closes held b = held && not (b == 39)
+closes held b = held && not (b == apostrophe)
 
 abbrev pub single_part : Bool → ℕ → List ℕ
 single_part held b = if holds_back held b then [] else b ∷ []
@@ -86,21 +89,21 @@ single_quoted held (b ∷ bytes) = if closes held b then Some ([], 0)
 -- How many bytes stand before the closing quote. In the first argument stands whether a backslash stood before.
 unfoldable pub double_len : Bool → List ℕ → Option ℕ
 double_len escaped [] = None
-double_len escaped (b ∷ bytes) = if (b == 34) && not escaped then Some 0
-    else option_map (λ n. 1 + n) (double_len ((b == 92) && not escaped) bytes)
+double_len escaped (b ∷ bytes) = if (b == quotation_mark) && not escaped then Some 0
+    else option_map (λ n. 1 + n) (double_len ((b == backslash) && not escaped) bytes)
 
 -- `\" \\ \/ \n \r \t \0`
 abbrev pub escaped_byte : ℕ → Option ℕ
-escaped_byte b = if (b == 34) || (b == 92) || (b == 47) then Some b
-    else (if b == 110 then Some 10
-    else (if b == 114 then Some 13
-    else (if b == 116 then Some 9
-    else (if b == 48 then Some 0 else None))))
+escaped_byte b = if (b == quotation_mark) || (b == backslash) || (b == slash) then Some b
+    else (if b == small_n then Some line_feed
+    else (if b == small_r then Some carriage_return
+    else (if b == small_t then Some tab
+    else (if b == digit_0 then Some 0 else None))))
 
 abbrev pub hex_value : ℕ → Option ℕ
-hex_value b = if nat_le 48 b && nat_le b 57 then Some (b - 48)
-    else (if nat_le 65 b && nat_le b 70 then Some (b - 55)
-    else (if nat_le 97 b && nat_le b 102 then Some (b - 87) else None))
+hex_value b = if is_ascii_digit b then Some (b - digit_0)
+    else (if is_in_range capital_a capital_f b then Some ((b - capital_a) + 10)
+    else (if is_in_range small_a small_f b then Some ((b - small_a) + 10) else None))
 
 -- U+D800 to U+DFFF are no characters
 abbrev pub is_surrogate : ℕ → Bool
@@ -117,9 +120,9 @@ number_step left n = if nat_lt 1 left then Some (Digits (left - 1) n, Nothing)
 -- Where a reader of escapes is after a byte more, and what the byte adds: `\xHH` and `\uHHHH` are characters by
 -- number, and a byte outside of escapes is itself.
 abbrev pub escape_step : Escape → ℕ → Option (Escape × Added)
-escape_step Outside b = if b == 92 then Some (Behind, Nothing) else Some (Outside, Byte b)
-escape_step Behind b = if b == 120 then Some (Digits 2 0, Nothing)
-    else (if b == 117 then Some (Digits 4 0, Nothing)
+escape_step Outside b = if b == backslash then Some (Behind, Nothing) else Some (Outside, Byte b)
+escape_step Behind b = if b == small_x then Some (Digits 2 0, Nothing)
+    else (if b == small_u then Some (Digits 4 0, Nothing)
     else option_map (λ c. (Outside, Byte c)) (escaped_byte b))
 escape_step (Digits left n) b = option_and_then (λ d. number_step left (n * 16 + d)) (hex_value b)
 
@@ -161,19 +164,19 @@ IsWithin (Refused why) n = Unit {0}
 
 -- `! > [ { & * |`
 abbrev pub is_indicator : ℕ → Bool
-is_indicator b = (b == 33) || (b == 62) || (b == 91) || (b == 123) || (b == 38) || (b == 42) || (b == 124)
+is_indicator b = (b == exclamation_mark) || (b == greater_than) || (b == left_bracket) || (b == left_brace) || (b == ampersand) || (b == asterisk) || (b == vertical_bar)
 
 -- `, ] } # % @` and the backquote
 abbrev pub cannot_begin : ℕ → Bool
-cannot_begin b = (b == 44) || (b == 93) || (b == 125) || (b == 35) || (b == 37) || (b == 64) || (b == 96)
+cannot_begin b = (b == comma) || (b == right_bracket) || (b == right_brace) || (b == number_sign) || (b == percent_sign) || (b == at_sign) || (b == grave_accent)
 
 -- what begins no plain scalar
 abbrev pub is_unplain : ℕ → List ℕ → Bool
-is_unplain b bytes = cannot_begin b || (((b == 45) || (b == 63) || (b == 58)) && at_gap bytes)
+is_unplain b bytes = cannot_begin b || (((b == hyphen) || (b == question_mark) || (b == colon)) && at_gap bytes)
 
 -- `? `
 abbrev pub asks : ℕ → List ℕ → Bool
-asks b bytes = (b == 63) && begins_with 32 bytes
+asks b bytes = (b == question_mark) && begins_with space bytes
 
 unfoldable pub bare_scan : ℕ → List ℕ → Scan
 bare_scan b bytes = if is_indicator b then Refused odd.Indicator
@@ -182,8 +185,8 @@ bare_scan b bytes = if is_indicator b then Refused odd.Indicator
     else Plain (plain_text (b ∷ bytes)) (plain_len (b ∷ bytes))))
 
 unfoldable pub scan_of : ℕ → List ℕ → Scan
-scan_of b bytes = if b == 39 then single_scan (single_quoted false bytes)
-    else (if b == 34 then double_scan bytes (double_len false bytes)
+scan_of b bytes = if b == apostrophe then single_scan (single_quoted false bytes)
+    else (if b == quotation_mark then double_scan bytes (double_len false bytes)
     else bare_scan b bytes)
 
 -- The scalar at the front of bytes that don't begin with a space. A quote that isn't closed on its line and

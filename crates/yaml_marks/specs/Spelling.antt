@@ -2,6 +2,7 @@
 -- (7.3.2), and in double quotes (7.3.1) with their escapes (5.7).
 use Rattle.std.specs.Prelude.{◌≡◌, ◌≢◌, ◌⊎◌, ℕ, ◌+◌, ◌*◌, false, List, [], ◌∷◌, ◌++◌, Option, Some, None, if◌then◌else◌, ◌==◌, length, flat_map, option_and_then, encode_utf8}
 use Rattle.std.specs.List.{AllByRecursion}
+use Rattle.sim_base.specs.Ascii.{apostrophe, backslash, quotation_mark, small_u, small_x}
 use Rattle.yaml_marks.specs.Lines.{begins_with}
 use Rattle.yaml_marks.specs.Scalars.{escaped_byte, hex_value, is_surrogate}
 
@@ -9,13 +10,13 @@ use Rattle.yaml_marks.specs.Scalars.{escaped_byte, hex_value, is_surrogate}
 
 -- each quote of the text twice, and every other byte once
 abbrev pub single_spelling : List ℕ → List ℕ
-single_spelling text = flat_map (λ b. if b == 39 then 39 ∷ 39 ∷ [] else b ∷ []) text
+single_spelling text = flat_map (λ b. if b == apostrophe then apostrophe ∷ apostrophe ∷ [] else b ∷ []) text
 
 -- The bytes begin with the text in single quotes, which take so many bytes, and no third quote stands behind.
 pub record IsSingleQuoted (bytes text : List ℕ) (len : ℕ) : Type 0 where
   pub rest : List ℕ
-  pub spelled : bytes ≡ 39 ∷ (single_spelling text ++ 39 ∷ rest)
-  pub closed : begins_with 39 rest ≡ false
+  pub spelled : bytes ≡ apostrophe ∷ (single_spelling text ++ apostrophe ∷ rest)
+  pub closed : begins_with apostrophe rest ≡ false
   pub counted : len ≡ length (single_spelling text) + 2
 
 -- ---- in double quotes
@@ -29,7 +30,7 @@ pub data Part : Type 0 where
 
 -- how many digits stand behind the letter: `\xHH`, `\uHHHH`
 abbrev pub digits_behind : ℕ → Option ℕ
-digits_behind letter = if letter == 120 then Some 2 else (if letter == 117 then Some 4 else None)
+digits_behind letter = if letter == small_x then Some 2 else (if letter == small_u then Some 4 else None)
 
 -- the number that hexadecimal digits spell behind those that made the first number
 unfoldable pub number_behind : ℕ → List ℕ → Option ℕ
@@ -39,14 +40,14 @@ number_behind n (b ∷ digits) = option_and_then (λ d. number_behind (n * 16 + 
 -- No quote and no backslash stands for itself. The others are escapes of the profile, and their number is a
 -- character's.
 abbrev pub IsPart : Part → Type 0
-IsPart (Itself b) = (b ≢ 34) × (b ≢ 92)
+IsPart (Itself b) = (b ≢ quotation_mark) × (b ≢ backslash)
 IsPart (Escaped letter b) = escaped_byte letter ≡ Some b
 IsPart (Numbered letter digits n) = (digits_behind letter ≡ Some (length digits)) × (number_behind 0 digits ≡ Some n) × (is_surrogate n ≡ false)
 
 abbrev pub spelling : Part → List ℕ
 spelling (Itself b) = b ∷ []
-spelling (Escaped letter b) = 92 ∷ letter ∷ []
-spelling (Numbered letter digits n) = 92 ∷ letter ∷ digits
+spelling (Escaped letter b) = backslash ∷ letter ∷ []
+spelling (Numbered letter digits n) = backslash ∷ letter ∷ digits
 
 abbrev pub meaning : Part → List ℕ
 meaning (Itself b) = b ∷ []
@@ -58,7 +59,7 @@ pub record IsDoubleQuoted (bytes text : List ℕ) (len : ℕ) : Type 0 where
   pub parts : List Part
   pub rest : List ℕ
   pub each : AllByRecursion IsPart parts
-  pub spelled : bytes ≡ 34 ∷ (flat_map spelling parts ++ 34 ∷ rest)
+  pub spelled : bytes ≡ quotation_mark ∷ (flat_map spelling parts ++ quotation_mark ∷ rest)
   pub meant : text ≡ flat_map meaning parts
   pub counted : len ≡ length (flat_map spelling parts) + 2
 

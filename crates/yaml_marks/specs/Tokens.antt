@@ -2,6 +2,7 @@
 -- YAML 1.2.
 use Rattle.std.specs.Prelude.{ℕ, ◌+◌, Bool, true, false, ◌&&◌, ◌||◌, not, List, [], ◌∷◌, ◌++◌, Option, Some, None, if◌then◌else◌, ◌==◌, nat_lt, nat_le, drop}
 use Rattle.std.specs.List.{prefix_len}
+use Rattle.sim_base.specs.Ascii.{ampersand, asterisk, full_stop, hyphen, number_sign, percent_sign, vertical_bar}
 use Rattle.yaml_marks.specs.Lines.{begins_with}
 use Rattle.yaml_marks.specs.Scalars.{is_space, is_nothing, at_gap, after_spaces, at_end, at_colon, scalar_at, plain_value, why_not}
 use Rattle.yaml_marks.specs.Literals.{chomp_at, chomp_len, is_digit_first, is_blank, indent}
@@ -47,13 +48,13 @@ flow_tokens line column bytes = Form line column (flow_at bytes).pieces ∷ behi
 
 -- `*`, `|`, `[`, `{`; and `&` where no name may stand
 abbrev pub is_node_indicator : ℕ → Bool
-is_node_indicator b = is_bracket b || ((b == 42) || ((b == 124) || (b == 38)))
+is_node_indicator b = is_bracket b || ((b == asterisk) || ((b == vertical_bar) || (b == ampersand)))
 
 -- what begins with one of those
 abbrev pub indicated : ℕ → ℕ → ℕ → List ℕ → List Token
 indicated line column b bytes = if is_bracket b then flow_tokens line column (b ∷ bytes)
-    else (if b == 42 then copy_tokens line column bytes
-    else (if b == 124 then bar_tokens line column bytes else refused line column odd.Syntax))
+    else (if b == asterisk then copy_tokens line column bytes
+    else (if b == vertical_bar then bar_tokens line column bytes else refused line column odd.Syntax))
 
 abbrev pub scalar_tokens : ℕ → ℕ → Option (List ℕ) → List ℕ → List Token
 scalar_tokens line column text rest = Scalar line column text ∷ behind_value line rest
@@ -68,7 +69,7 @@ value_tokens_of line column bytes (Refused why) = refused line column why
 -- a value without a name; nothing, and a comment, have no tokens
 abbrev pub bare_value : ℕ → ℕ → List ℕ → List Token
 bare_value line column [] = []
-bare_value line column (b ∷ bytes) = if b == 35 then []
+bare_value line column (b ∷ bytes) = if b == number_sign then []
     else (if is_node_indicator b then indicated line column b bytes
     else value_tokens_of line column (b ∷ bytes) (scalar_at (b ∷ bytes)))
 
@@ -78,7 +79,7 @@ behind_spaces f column bytes = f (column + prefix_len is_space bytes) (after_spa
 -- a value, or a name with a value or nothing behind it
 abbrev pub named_value : ℕ → ℕ → List ℕ → List Token
 named_value line column [] = []
-named_value line column (b ∷ bytes) = if (b == 38) && has_name at_gap bytes then Name line column (name_at bytes) ∷ behind_spaces (bare_value line) (column + (1 + name_len bytes)) (after_name bytes)
+named_value line column (b ∷ bytes) = if (b == ampersand) && has_name at_gap bytes then Name line column (name_at bytes) ∷ behind_spaces (bare_value line) (column + (1 + name_len bytes)) (after_name bytes)
     else bare_value line column (b ∷ bytes)
 
 -- what stands behind a key's colon
@@ -114,12 +115,12 @@ row_tokens_of line column bytes (Refused why) = refused line column why
 
 -- a row, or a value without a name
 abbrev pub last_tokens : ℕ → ℕ → ℕ → List ℕ → List Token
-last_tokens line column b bytes = if b == 35 then []
+last_tokens line column b bytes = if b == number_sign then []
     else (if is_node_indicator b then indicated line column b bytes
     else row_tokens_of line column (b ∷ bytes) (scalar_at (b ∷ bytes)))
 
 abbrev pub is_name_indicator : ℕ → List ℕ → Bool
-is_name_indicator b bytes = (b == 38) && has_name at_gap bytes
+is_name_indicator b bytes = (b == ampersand) && has_name at_gap bytes
 
 abbrev pub last_node : ℕ → ℕ → List ℕ → List Token
 last_node line column [] = []
@@ -132,7 +133,7 @@ named_node line column b bytes = if is_name_indicator b bytes then Name line col
 
 -- `-` before a space or the line's end
 abbrev pub is_dash : ℕ → List ℕ → Bool
-is_dash b bytes = (b == 45) && at_gap bytes
+is_dash b bytes = (b == hyphen) && at_gap bytes
 
 -- The tokens of a line from a column on, where a node may begin: dashes, and behind them a row, a value or a name.
 -- Nothing, and a comment, have none.
@@ -146,7 +147,7 @@ node_tokens line column (b ∷ bytes) = if is_space b then node_tokens line (1 +
 
 -- whether a line is neither blank nor a comment
 abbrev pub has_content : List ℕ → Bool
-has_content bytes = not (is_nothing (after_spaces bytes) || begins_with 35 (after_spaces bytes))
+has_content bytes = not (is_nothing (after_spaces bytes) || begins_with number_sign (after_spaces bytes))
 
 -- a marker: three such bytes at the line's start, before a space or the line's end
 abbrev pub is_marker : ℕ → List ℕ → Bool
@@ -154,11 +155,11 @@ is_marker b bytes = (begins_with b bytes && begins_with b (drop 1 bytes)) && (be
 
 -- `...`, and a `---` that isn't the first content line
 abbrev pub is_late_marker : Bool → List ℕ → Bool
-is_late_marker begun bytes = is_marker 46 bytes || (is_marker 45 bytes && begun)
+is_late_marker begun bytes = is_marker full_stop bytes || (is_marker hyphen bytes && begun)
 
 -- `---` as the first content line, with spaces or a comment behind it at most
 abbrev pub begins_document : Bool → List ℕ → Bool
-begins_document begun bytes = is_marker 45 bytes && (not begun && at_end (drop 3 bytes))
+begins_document begun bytes = is_marker hyphen bytes && (not begun && at_end (drop 3 bytes))
 
 -- A line stands outside of literal blocks, behind a last key or dash at some column, if any; or inside of the block
 -- of a bar, at the block's own column once a line of it isn't blank.
@@ -210,7 +211,7 @@ unfoldable pub line_tokens : Bool → LinePlace → ℕ → List ℕ → List To
 line_tokens begun place line bytes = if is_late_marker begun bytes then refused line 0 odd.Unsupported
     else (if begins_document begun bytes then []
     else (if is_body place bytes then Body line (bar_column place) bytes ∷ []
-    else (if begins_with 37 bytes then refused line 0 odd.Unsupported
+    else (if begins_with percent_sign bytes then refused line 0 odd.Unsupported
     else node_tokens line 0 bytes)))
 
 -- where the next line stands, behind a line that has these tokens

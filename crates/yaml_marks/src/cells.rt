@@ -4,6 +4,7 @@ ghost use Rattle.std.specs.Prelude.{◌≡◌, ◌≤◌, ◌<◌, ◌^◌, ◌+
 ghost use Rattle.yaml_marks.specs.Lines.{begins_with};
 ghost use Rattle.yaml_marks.specs.declared.piece.Piece.TheVariants as pieces;
 ghost use Rattle.std.specs.List.{prefix_len};
+ghost use Rattle.sim_base.specs.Ascii.{number_sign};
 ghost use Rattle.yaml_marks.specs.Scalars.{is_space, IsWithin, plain_value};
 ghost use Rattle.yaml_marks.specs.Names.{has_name, name_at};
 ghost use Rattle.yaml_marks.specs.Pieces.{is_separator, cell_ends, cell_len, cell_text, is_foreign_indicator, is_lone_indicator, bare_cell, cell_scan, refused_len, word_step, scan_step, at_cell_gap, one_byte, step_at, open_after, put_piece, is_last, flow_at};
@@ -245,7 +246,7 @@ fn cell_name(alloc: Global, bytes: &[u8]) -> Result<Scalar, NoMemory>
 
 /// The step over a space, or over a comment behind one, which goes to the line's end.
 fn space_step(rest: &[u8]) -> CellStep
-    ensures step { result ≡ record { piece = None; skip = if begins_with 35 rest.now then length rest.now else 0 } }
+    ensures step { result ≡ record { piece = None; skip = if begins_with number_sign rest.now then length rest.now else 0 } }
 {
     CellStep {
         piece: None,

@@ -1,6 +1,6 @@
 //! Escapes between double quotes.
 
-ghost use Rattle.std.specs.Prelude.{◌≡◌, ◌<◌, ◌++◌, List, ℕ, [], length, IfSome, IfOk, IsSome};
+ghost use Rattle.std.specs.Prelude.{◌≡◌, ◌<◌, ◌++◌, ◌^◌, List, ℕ, [], length, IfSome, IfOk, IsSome};
 ghost use Rattle.yaml_marks.specs.Scalars.{escaped_byte, hex_value, number_step, escape_step, added_bytes, unescaped};
 ghost use Rattle.yaml_marks.specs.Escapes.{IsInRange};
 ghost use Rattle.yaml_marks.specs.declared.escapes.Escape.TheVariants.{Outside};
@@ -54,7 +54,7 @@ fn hex_value(b: u8) -> Option<u32>
 
 /// The step at a digit, with the number that it makes.
 fn number_step(left: u32, number: u32) -> Option<(Escape, Added)>
-    requires { number < 65536 }
+    requires { number < 2 ^ 16 }
     ensures { result ≡ number_step left number }
 {
     if left > 1 {

@@ -19,7 +19,7 @@ pub(crate) enum Kept {
 
 impl Kept {
     fn short(bytes: &[u8]) -> Kept
-        requires { length bytes.now ≤ 14 }
+        requires { length bytes.now ≤ MOST_SHORT }
         ensures { text_of result ≡ Some bytes.now }
     {
         let len = bytes.len();

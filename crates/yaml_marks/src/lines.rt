@@ -2,7 +2,7 @@
 
 ghost use Rattle.std.specs.Prelude.{◌≡◌, ◌<◌, ◌≤◌, ◌∷◌, ◌++◌, not, ◌==◌, List, ℕ, [], length, take};
 ghost use Rattle.std.specs.List.{prefix_len};
-ghost use Rattle.yaml_marks.specs.Lines.{line_feed, is_inside, split_lines, without_mark, without_return};
+ghost use Rattle.yaml_marks.specs.Lines.{is_inside, split_lines, without_mark, without_return};
 
 use crate::scan::{before, past};
 

@@ -3,6 +3,7 @@
 ghost use Rattle.std.specs.Prelude.{◌≡◌, ◌≤◌, ◌+◌, ◌<◌, ◌^◌, ◌-◌, ◌++◌, ◌∷◌, ◌==◌, ◌&&◌, not, List, ℕ, [], false, length, take, drop, IfOk, IfSome};
 ghost use Rattle.std.specs.Option.{ForSome};
 ghost use Rattle.std.specs.List.{prefix_len, suffix_len};
+ghost use Rattle.sim_base.specs.Ascii.{backslash, quotation_mark};
 ghost use Rattle.yaml_marks.specs.Lines.{begins_with};
 ghost use Rattle.yaml_marks.specs.Literals.{is_blank};
 ghost use Rattle.yaml_marks.specs.Scalars.{is_space, at_gap, after_spaces, at_end, at_colon, plain_ends, plain_len, plain_text, holds_back, closes, single_part, is_unplain, asks, is_null, plain_value, scan_of, bare_scan, single_quoted, double_len, single_scan, double_scan, IsWithin, is_indicator, cannot_begin, scalar_at};
@@ -208,13 +209,13 @@ fn single_quoted(alloc: Global, bytes: &[u8]) -> Result<Option<(Scalar, usize)>,
 }
 
 fn ends_double(escaped: bool, b: u8) -> bool
-    ensures { result ≡ ((b == 34) && not escaped) }
+    ensures { result ≡ ((b == quotation_mark) && not escaped) }
 {
     b == b'"' && !escaped
 }
 
 fn begins_escape(escaped: bool, b: u8) -> bool
-    ensures { result ≡ ((b == 92) && not escaped) }
+    ensures { result ≡ ((b == backslash) && not escaped) }
 {
     b == b'\\' && !escaped
 }
