@@ -4,6 +4,7 @@ use Rattle.std.specs.Prelude.{if◌then◌else◌, ◌==◌, nat_le, IfSome, is_
 use Rattle.std.proofs.lemmas.Bool.{leb-false}
 use Rattle.std.proofs.lemmas.Bool.Decides.{nat_tests}
 use Rattle.std.proofs.lemmas.List.Elements.{All-push, All-nil}
+use Rattle.sim_base.specs.Units.{hour}
 use Rattle.sim_base.specs.declared.time.Time.{Time}
 use Rattle.gml_graph.specs.declared.fault.GmlFault.{GmlFault}
 use Rattle.gml_graph.specs.declared.fault.GmlKind.TheVariants as kinds
@@ -20,6 +21,7 @@ use Rattle.sim_base.specs.Refusals.{◌>>=◌}
 use Rattle.gml_graph.specs.Steps.{through, refused}
 use Rattle.gml_graph.specs.Edges.{IsEdge, AreEdges}
 use Rattle.gml_graph.specs.Graph.{Block, blocks, once, valued, needed, within, time_of, loss_of, list_at, latency_at, latency_of, known_id, edge_attribute, edge_row, new_edge, finished_edge, edge_of, add_edge, edges_of}
+use Rattle.gml_graph.specs.Limits.{most_edges}
 
 pub bind_ok : {A B : Type 0} (x : Result A GmlFault) (f : A → Result B GmlFault) (y : B) → (x >>= f) ≡ Ok y → (a : A) × (x ≡ Ok a) × (f a ≡ Ok y)
 bind_ok (Ok a) f y h = (a, refl, h)
@@ -29,12 +31,12 @@ pub ok_same : {A : Type 0} (x y : A) → ◌≡◌ {A = Result A GmlFault} (Ok x
 ok_same x y h = cc
 
 abbrev FitsTime : Time → Type 0
-FitsTime t = (0 < t.nanos) × (t.nanos ≤ 3600000000000)
+FitsTime t = (0 < t.nanos) × (t.nanos ≤ hour)
 
 abbrev Fits : EdgeDraft → Type 0
 Fits d = IfSome d.latency FitsTime
 
-time_step : (t u : Time) (line : ℕ) (z w : Bool) → z ≡ (t.nanos == 0) → w ≡ nat_le t.nanos 3600000000000
+time_step : (t u : Time) (line : ℕ) (z w : Bool) → z ≡ (t.nanos == 0) → w ≡ nat_le t.nanos hour
     → (if z then refused {A = Time} kinds.ZeroLatency line else (if w then Ok t else refused {A = Time} kinds.BadValue line)) ≡ Ok u → FitsTime u
 time_step t u line true w ez ew h = absurd (let no : ⊥ = cc in no)
 time_step t u line false false ez ew h = absurd (let no : ⊥ = cc in no)
@@ -44,7 +46,7 @@ time_step t u line false true ez ew h =
 
 latency_cases : (o : Option Time) (line : ℕ) (u : Time) → (valued o line >>= λ time. latency_at time line) ≡ Ok u → FitsTime u
 latency_cases None line u h = absurd (let no : ⊥ = cc in no)
-latency_cases (Some t) line u h = time_step t u line (t.nanos == 0) (nat_le t.nanos 3600000000000) refl refl h
+latency_cases (Some t) line u h = time_step t u line (t.nanos == 0) (nat_le t.nanos hour) refl refl h
 
 as_before : (d e n : EdgeDraft) → ◌≡◌ {A = Result EdgeDraft GmlFault} (Ok n) (Ok e) → Fits n → Fits e
 as_before d e n h f = let P : EdgeDraft → Type 0 = λ x. Fits x in subst P (ok_same n e h) f
@@ -102,20 +104,20 @@ finished_fits : (line : ℕ) (d : EdgeDraft) (e : Edge) → Fits d → finished_
 unfolding finished_edge
 finished_fits line d e f h = finished_cases d.source d.target d.latency line (10 ^ 9 - unwrap_or d.loss 0) e f (omega arith) h
 
-room_cases : (count line : ℕ) (b : Bool) (A : Type 0) (k : Result A GmlFault) (x : A) → b ≡ nat_le 65536 count → ((if b then refused {A = Unit {0}} kinds.TooMany line else Ok tt) >>= λ (_ : Unit {0}). k) ≡ Ok x → (count < 65536) × (k ≡ Ok x)
+room_cases : (count line : ℕ) (b : Bool) (A : Type 0) (k : Result A GmlFault) (x : A) → b ≡ nat_le most_edges count → ((if b then refused {A = Unit {0}} kinds.TooMany line else Ok tt) >>= λ (_ : Unit {0}). k) ≡ Ok x → (count < most_edges) × (k ≡ Ok x)
 room_cases count line true A k x e h = absurd (let no : ⊥ = cc in no)
-room_cases count line false A k x e h = (leb-false 65536 count (sym e), h)
+room_cases count line false A k x e h = (leb-false most_edges count (sym e), h)
 
 list_cases : (v : Value) (line : ℕ) (A : Type 0) (k : Result A GmlFault) (x : A) → (list_at v line >>= λ _. k) ≡ Ok x → k ≡ Ok x
 list_cases (values.Number d) line A k x h = absurd (let no : ⊥ = cc in no)
 list_cases (values.Text t) line A k x h = absurd (let no : ⊥ = cc in no)
 list_cases values.List line A k x h = h
 
-edge_fits : (nodes : List Node) (count : ℕ) (b : Block) (e : Edge) → edge_of nodes count b ≡ Ok e → IsEdge e × (count < 65536)
+edge_fits : (nodes : List Node) (count : ℕ) (b : Block) (e : Edge) → edge_of nodes count b ≡ Ok e → IsEdge e × (count < most_edges)
 unfolding edge_of
 edge_fits nodes count b e h =
     let rest : Result Edge GmlFault = through (edge_row nodes) new_edge b.rows >>= λ d. finished_edge b.line d in
-    let q = room_cases count b.line (nat_le 65536 count) Edge rest e refl (list_cases b.value b.line Edge (within 65536 count b.line >>= λ _. rest) e h) in
+    let q = room_cases count b.line (nat_le most_edges count) Edge rest e refl (list_cases b.value b.line Edge (within most_edges count b.line >>= λ _. rest) e h) in
     let s = bind_ok (through (edge_row nodes) new_edge b.rows) (λ d. finished_edge b.line d) e q.1 in
     (finished_fits b.line s.0 e (rows_fit nodes new_edge s.0 b.rows tt s.1) s.2, q.0)
 

@@ -20,6 +20,7 @@ use Rattle.gml_graph.specs.Outline.{Shape, with_row, accept_at, accept, finish}
 use Rattle.gml_graph.specs.Grammar.{spelled, rows_of, Begins, closed_token}
 use Rattle.gml_graph.proofs.EdgeLemmas.{bind_ok, ok_same}
 use Rattle.gml_graph.proofs.GrammarLemmas.{shape, read, close_step, spelled_read, read_spells}
+use Rattle.gml_graph.specs.Limits.{greatest_depth}
 
 abbrev pub fault_at : ℕ → GmlFault
 fault_at line = record { line = line; kind = Syntax }
@@ -38,27 +39,27 @@ pub through-append : (xs ys : List Lexeme) (s : Shape) → through accept s (xs 
 through-append [] ys s = refl
 through-append (x ∷ xs) ys s = append_cases xs ys (accept s x) (through-append xs ys)
 
--- what each step keeps: lists lie at most 16 deep, and the text's last line is told
+-- what each step keeps: lists lie no deeper than they may, and the text's last line is told
 record Keeps (s t : Shape) : Type 0 where
-  deep : t.depth ≤ 16
+  deep : t.depth ≤ greatest_depth
   same : t.last ≡ s.last
 
 same_kept : (s t u : Shape) → ◌≡◌ {A = Result Shape GmlFault} (Ok u) (Ok t) → Keeps s u → Keeps s t
 same_kept s t u h k = let P : Shape → Type 0 = λ x. Keeps s x in subst P (ok_same u t h) k
 
-close_keeps : (s t : Shape) (line : ℕ) (b : Bool) → s.depth ≤ 16
+close_keeps : (s t : Shape) (line : ℕ) (b : Bool) → s.depth ≤ greatest_depth
     → (if b then refused {A = Shape} Syntax line else Ok (record s { depth = s.depth - 1 })) ≡ Ok t → Keeps s t
 close_keeps s t line true deep h = absurd (let no : ⊥ = cc in no)
 close_keeps s t line false deep h = same_kept s t _ h (record { deep = omega arith; same = refl })
 
-open_keeps : (s t : Shape) (key : Waiting) (line : ℕ) (b : Bool) → b ≡ nat_le 16 s.depth
+open_keeps : (s t : Shape) (key : Waiting) (line : ℕ) (b : Bool) → b ≡ nat_le greatest_depth s.depth
     → ((if b then refused {A = Value} Syntax line else Ok values.List) >>= (λ value. Ok (with_row s key value))) ≡ Ok t → Keeps s t
 open_keeps s t key line true e h = absurd (let no : ⊥ = cc in no)
 open_keeps s t key line false e h =
-    let lt : s.depth < 16 = leb-false 16 s.depth (sym e) in
+    let lt : s.depth < greatest_depth = leb-false greatest_depth s.depth (sym e) in
     same_kept s t _ h (record { deep = omega arith; same = refl })
 
-at_keeps : (w : Option Waiting) (token : Token) (s t : Shape) (line : ℕ) → s.depth ≤ 16 → accept_at w s line token ≡ Ok t → Keeps s t
+at_keeps : (w : Option Waiting) (token : Token) (s t : Shape) (line : ℕ) → s.depth ≤ greatest_depth → accept_at w s line token ≡ Ok t → Keeps s t
 at_keeps None (Name k) s t line deep h = same_kept s t _ h (record { deep = deep; same = refl })
 at_keeps None Close s t line deep h = close_keeps s t line (s.depth == 0) deep h
 at_keeps None (Number d) s t line deep h = absurd (let no : ⊥ = cc in no)
@@ -68,17 +69,17 @@ at_keeps None Unclosed s t line deep h = absurd (let no : ⊥ = cc in no)
 at_keeps None Odd s t line deep h = absurd (let no : ⊥ = cc in no)
 at_keeps (Some key) (Number d) s t line deep h = same_kept s t _ h (record { deep = deep; same = refl })
 at_keeps (Some key) (Text q) s t line deep h = same_kept s t _ h (record { deep = deep; same = refl })
-at_keeps (Some key) Open s t line deep h = open_keeps s t key line (nat_le 16 s.depth) refl h
+at_keeps (Some key) Open s t line deep h = open_keeps s t key line (nat_le greatest_depth s.depth) refl h
 at_keeps (Some key) (Name k) s t line deep h = absurd (let no : ⊥ = cc in no)
 at_keeps (Some key) Close s t line deep h = absurd (let no : ⊥ = cc in no)
 at_keeps (Some key) Unclosed s t line deep h = absurd (let no : ⊥ = cc in no)
 at_keeps (Some key) Odd s t line deep h = absurd (let no : ⊥ = cc in no)
 
-accept_keeps : (s t : Shape) (x : Lexeme) → s.depth ≤ 16 → accept s x ≡ Ok t → Keeps s t
+accept_keeps : (s t : Shape) (x : Lexeme) → s.depth ≤ greatest_depth → accept s x ≡ Ok t → Keeps s t
 unfolding accept
 accept_keeps s t x deep h = at_keeps s.waiting x.token s t x.line deep h
 
-through_keeps : (xs : List Lexeme) (s t : Shape) → s.depth ≤ 16 → through accept s xs ≡ Ok t → Keeps s t
+through_keeps : (xs : List Lexeme) (s t : Shape) → s.depth ≤ greatest_depth → through accept s xs ≡ Ok t → Keeps s t
 through_keeps [] s t deep h = same_kept s t s h (record { deep = deep; same = refl })
 through_keeps (x ∷ xs) s t deep h =
     let p = bind_ok (accept s x) (λ n. through accept n xs) t h in
@@ -186,7 +187,7 @@ reason None Unclosed s line f h = misplaced f h (sym (err_same (fault_at line) f
 reason None Odd s line f h = misplaced f h (sym (err_same (fault_at line) f h))
 reason (Some key) (Number d) s line f h = absurd (let no : ⊥ = cc in no)
 reason (Some key) (Text q) s line f h = absurd (let no : ⊥ = cc in no)
-reason (Some key) Open s line f h = misplaced f h (open_reason s key line f (nat_le 16 s.depth) h)
+reason (Some key) Open s line f h = misplaced f h (open_reason s key line f (nat_le greatest_depth s.depth) h)
 reason (Some key) (Name k) s line f h = misplaced f h (sym (err_same (fault_at line) f h))
 reason (Some key) Close s line f h = misplaced f h (sym (err_same (fault_at line) f h))
 reason (Some key) Unclosed s line f h = lacks_quote refl (with_row s key (values.Text (quoted []))) refl (sym (err_same (fault_at s.last) f h))

@@ -21,6 +21,7 @@ use Rattle.gml_graph.specs.Tokens.{lexeme}
 use Rattle.gml_graph.specs.Outline.{Shape, with_row, accept, finish}
 use Rattle.gml_graph.specs.Grammar.{Pairs, no_pairs, with_number, with_text, with_list, spelled, height, rows_of, Spells}
 use Rattle.gml_graph.proofs.EdgeLemmas.{ok_same}
+use Rattle.gml_graph.specs.Limits.{greatest_depth}
 
 -- what was read where no key waits
 abbrev pub shape : ℕ → ℕ → List OutlineRow → Shape
@@ -37,12 +38,12 @@ abbrev row : ℕ → ℕ → Key → Value → OutlineRow
 row depth line key value = record { depth = depth; line = line; key = key; value = value }
 
 -- the pairs that were spelled are read
-open_step : (last depth line at : ℕ) (key : Key) (rows : List OutlineRow) (rest : List Lexeme) → depth < 16
+open_step : (last depth line at : ℕ) (key : Key) (rows : List OutlineRow) (rest : List Lexeme) → depth < greatest_depth
     → through accept (shape last depth rows) (lexeme line (Name key) ∷ lexeme at Open ∷ rest)
     ≡ through accept (shape last (depth + 1) (rows ++ row depth line key values.List ∷ [])) rest
 unfolding accept
 open_step last depth line at key rows rest h =
-    let e : nat_le 16 depth ≡ false = grind (arith, nat_tests) in
+    let e : nat_le greatest_depth depth ≡ false = grind (arith, nat_tests) in
     rw e refl
 
 pub close_step : (last depth line : ℕ) (rows : List OutlineRow) (rest : List Lexeme)
@@ -53,7 +54,7 @@ close_step last depth line rows rest =
     let back : (depth + 1) - 1 ≡ depth = omega arith in
     rw (e, back) refl
 
-pub pairs_read : (ps : Pairs) (last depth : ℕ) (done : List OutlineRow) (rest : List Lexeme) → depth + height ps ≤ 16
+pub pairs_read : (ps : Pairs) (last depth : ℕ) (done : List OutlineRow) (rest : List Lexeme) → depth + height ps ≤ greatest_depth
     → through accept (shape last depth done) (spelled ps ++ rest) ≡ through accept (shape last depth (done ++ rows_of depth ps)) rest
 unfolding accept
 pairs_read no_pairs last depth done rest h = ap (λ r. through accept (shape last depth r) rest) (sym (append-nil done))
@@ -76,7 +77,7 @@ pairs_read (with_list line key at inner end ps) last depth done rest h =
     ∙ pairs_read ps last depth all rest (omega arith)
     ∙ ap (λ r. through accept (shape last depth r) rest) (append_assoc here (rows_of (depth + 1) inner) (rows_of depth ps) ∙ append_assoc done (new ∷ []) (rows_of (depth + 1) inner ++ rows_of depth ps))
 
-pub spelled_read : (ps : Pairs) (last : ℕ) → height ps ≤ 16 → read (shape last 0 []) (spelled ps) ≡ Ok (rows_of 0 ps)
+pub spelled_read : (ps : Pairs) (last : ℕ) → height ps ≤ greatest_depth → read (shape last 0 []) (spelled ps) ≡ Ok (rows_of 0 ps)
 spelled_read ps last h =
     ap (λ t. read (shape last 0 []) t) (sym (append-nil (spelled ps)))
     ∙ ap (λ r. r >>= finish) (pairs_read ps last 0 [] [] (omega arith))
@@ -100,7 +101,7 @@ rows_behind (with_end end behind outer) = rows_of (count outer) behind ++ rows_b
 
 abbrev Fit : Ends → Type 0
 Fit no_ends = Unit {0}
-Fit (with_end end behind outer) = (count outer + height behind ≤ 16) × Fit outer
+Fit (with_end end behind outer) = (count outer + height behind ≤ greatest_depth) × Fit outer
 
 -- what the tokens spell where so many lists are open and these rows were read
 record IsRead (depth : ℕ) (done : List OutlineRow) (ts : List Lexeme) (out : List OutlineRow) : Type 0 where
@@ -108,15 +109,15 @@ record IsRead (depth : ℕ) (done : List OutlineRow) (ts : List Lexeme) (out : L
   ends : Ends
   as_many : count ends ≡ depth
   as_tokens : spelled pairs ++ spelled_ends ends ≡ ts
-  nested : depth + height pairs ≤ 16
+  nested : depth + height pairs ≤ greatest_depth
   outer_nested : Fit ends
   as_rows : done ++ (rows_of depth pairs ++ rows_behind ends) ≡ out
 
 abbrev Reads : ℕ → List Lexeme → Type 0
-Reads last ts = (depth : ℕ) (done out : List OutlineRow) → depth ≤ 16 → read (shape last depth done) ts ≡ Ok out → IsRead depth done ts out
+Reads last ts = (depth : ℕ) (done out : List OutlineRow) → depth ≤ greatest_depth → read (shape last depth done) ts ≡ Ok out → IsRead depth done ts out
 
 abbrev ReadsBehind : ℕ → List Lexeme → Type 0
-ReadsBehind last ts = (line : ℕ) (key : Key) (depth : ℕ) (done out : List OutlineRow) → depth ≤ 16
+ReadsBehind last ts = (line : ℕ) (key : Key) (depth : ℕ) (done out : List OutlineRow) → depth ≤ greatest_depth
     → read (waits last depth line key done) ts ≡ Ok out → IsRead depth done (lexeme line (Name key) ∷ ts) out
 
 number_named : (n k : ℕ) → (n == k) ≡ true → n ≡ k
@@ -126,7 +127,7 @@ not_named : (n k : ℕ) → (n == k) ≡ false → n ≢ k
 not_named n k h = grind (arith, nat_tests)
 
 -- at the end of the tokens
-end_cases : (last depth : ℕ) (done out : List OutlineRow) (b : Bool) → b ≡ (depth == 0) → depth ≤ 16
+end_cases : (last depth : ℕ) (done out : List OutlineRow) (b : Bool) → b ≡ (depth == 0) → depth ≤ greatest_depth
     → (if b then Ok done else refused {A = List OutlineRow} Syntax last) ≡ Ok out → IsRead depth done [] out
 end_cases last depth done out true e deep h = record {
   pairs = no_pairs;
@@ -140,7 +141,7 @@ end_cases last depth done out true e deep h = record {
 end_cases last depth done out false e deep h = absurd (let no : ⊥ = cc in no)
 
 -- behind the end of a list
-closed_read : (line depth inner : ℕ) (done : List OutlineRow) (ts : List Lexeme) (out : List OutlineRow) → inner + 1 ≡ depth → depth ≤ 16
+closed_read : (line depth inner : ℕ) (done : List OutlineRow) (ts : List Lexeme) (out : List OutlineRow) → inner + 1 ≡ depth → depth ≤ greatest_depth
     → IsRead inner done ts out → IsRead depth done (lexeme line Close ∷ ts) out
 closed_read line depth inner done ts out e deep r = record {
   pairs = no_pairs;
@@ -152,7 +153,7 @@ closed_read line depth inner done ts out e deep r = record {
   as_rows = ap (λ n. done ++ (rows_of n r.pairs ++ rows_behind r.ends)) r.as_many ∙ r.as_rows;
 }
 
-close_cases : (last line depth : ℕ) (done : List OutlineRow) (ts : List Lexeme) (out : List OutlineRow) (b : Bool) → b ≡ (depth == 0) → depth ≤ 16 → Reads last ts
+close_cases : (last line depth : ℕ) (done : List OutlineRow) (ts : List Lexeme) (out : List OutlineRow) (b : Bool) → b ≡ (depth == 0) → depth ≤ greatest_depth → Reads last ts
     → (((if b then refused {A = Shape} Syntax line else Ok (shape last (depth - 1) done)) >>= (λ next. through accept next ts)) >>= finish) ≡ Ok out
     → IsRead depth done (lexeme line Close ∷ ts) out
 close_cases last line depth done ts out true e deep reads h = absurd (let no : ⊥ = cc in no)
@@ -202,7 +203,7 @@ text_first line key at text depth done ts out r = record {
 list_first : (line : ℕ) (key : Key) (at depth : ℕ) (done : List OutlineRow) (ts : List Lexeme) (out : List OutlineRow) (inner : Pairs) (ends : Ends)
     → count ends ≡ depth + 1
     → spelled inner ++ spelled_ends ends ≡ ts
-    → (depth + 1) + height inner ≤ 16
+    → (depth + 1) + height inner ≤ greatest_depth
     → Fit ends
     → (done ++ row depth line key values.List ∷ []) ++ (rows_of (depth + 1) inner ++ rows_behind ends) ≡ out
     → IsRead depth done (lexeme line (Name key) ∷ lexeme at Open ∷ ts) out
@@ -226,12 +227,12 @@ list_first line key at depth done ts out inner (with_end end behind outer) c t n
           ∙ r;
     }
 
-open_cases : (last line : ℕ) (key : Key) (at depth : ℕ) (done : List OutlineRow) (ts : List Lexeme) (out : List OutlineRow) (b : Bool) → b ≡ nat_le 16 depth → Reads last ts
+open_cases : (last line : ℕ) (key : Key) (at depth : ℕ) (done : List OutlineRow) (ts : List Lexeme) (out : List OutlineRow) (b : Bool) → b ≡ nat_le greatest_depth depth → Reads last ts
     → ((((if b then refused {A = Value} Syntax at else Ok values.List) >>= (λ value. Ok (with_row (waits last depth line key done) (record { line = line; key = key }) value))) >>= (λ next. through accept next ts)) >>= finish) ≡ Ok out
     → IsRead depth done (lexeme line (Name key) ∷ lexeme at Open ∷ ts) out
 open_cases last line key at depth done ts out true e reads h = absurd (let no : ⊥ = cc in no)
 open_cases last line key at depth done ts out false e reads h =
-    let lt : depth < 16 = leb-false 16 depth (sym e) in
+    let lt : depth < greatest_depth = leb-false greatest_depth depth (sym e) in
     let r = reads (depth + 1) (done ++ row depth line key values.List ∷ []) out (omega arith) h in
     list_first line key at depth done ts out r.pairs r.ends r.as_many r.as_tokens r.nested r.outer_nested r.as_rows
 
@@ -242,7 +243,7 @@ value_read last at (Number number) ts reads line key depth done out deep h =
     number_first line key at number depth done ts out (reads depth (done ++ row depth line key (values.Number number) ∷ []) out deep h)
 value_read last at (Text text) ts reads line key depth done out deep h =
     text_first line key at text depth done ts out (reads depth (done ++ row depth line key (values.Text text) ∷ []) out deep h)
-value_read last at Open ts reads line key depth done out deep h = open_cases last line key at depth done ts out (nat_le 16 depth) refl reads h
+value_read last at Open ts reads line key depth done out deep h = open_cases last line key at depth done ts out (nat_le greatest_depth depth) refl reads h
 value_read last at (Name k) ts reads line key depth done out deep h = absurd (let no : ⊥ = cc in no)
 value_read last at Close ts reads line key depth done out deep h = absurd (let no : ⊥ = cc in no)
 value_read last at Unclosed ts reads line key depth done out deep h = absurd (let no : ⊥ = cc in no)
@@ -258,7 +259,7 @@ all_read last (x ∷ ts) =
     (key_read last x.line x.token ts rest.0 rest.1, value_read last x.line x.token ts rest.0)
 
 whole : (ts : List Lexeme) (out : List OutlineRow) (pairs : Pairs) (ends : Ends) → count ends ≡ 0 → spelled pairs ++ spelled_ends ends ≡ ts
-    → height pairs ≤ 16 → rows_of 0 pairs ++ rows_behind ends ≡ out → Spells ts out
+    → height pairs ≤ greatest_depth → rows_of 0 pairs ++ rows_behind ends ≡ out → Spells ts out
 whole ts out pairs no_ends c t n r = record {
   pairs = pairs;
   as_tokens = sym (append-nil (spelled pairs)) ∙ t;

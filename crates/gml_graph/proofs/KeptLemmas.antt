@@ -17,6 +17,7 @@ use Rattle.gml_graph.specs.Steps.{through, refused}
 use Rattle.gml_graph.specs.Tokens.{tokens}
 use Rattle.gml_graph.specs.Outline.{Shape, with_row, accept_at, accept, finish, start, outline}
 use Rattle.gml_graph.specs.Asked.{asked_row, reach_behind, asked, asked_outline, Kept, row_of, keep_row, keep_at, keep}
+use Rattle.gml_graph.specs.Limits.{greatest_depth}
 
 -- what is kept of what was read
 abbrev pub kept : Shape → Kept
@@ -58,7 +59,7 @@ token_same None Unclosed s line = refl
 token_same None Odd s line = refl
 token_same (Some key) (Number d) s line = ap (λ k. Ok k) (same_row s key (values.Number d))
 token_same (Some key) (Text q) s line = ap (λ k. Ok k) (same_row s key (values.Text q))
-token_same (Some key) Open s line = open_same s key line (nat_le 16 s.depth)
+token_same (Some key) Open s line = open_same s key line (nat_le greatest_depth s.depth)
 token_same (Some key) (Name k) s line = refl
 token_same (Some key) Close s line = refl
 token_same (Some key) Unclosed s line = refl

@@ -11,6 +11,7 @@ use Rattle.gml_graph.specs.declared.number.Decimal.{Decimal}
 use Rattle.gml_graph.specs.Number.{is_part, units}
 use Rattle.std.proofs.lemmas.Grind.{pow_more, common_steps}
 use Rattle.std.proofs.Math.Nat.{mul-div-mul_right, mul-div_cancel, mul-le-mul_left, mul-le-mul_right, div-eq_of_lt, div-le_of_le-mul, mul_assoc, pow-suc}
+use Rattle.sim_base.specs.Ascii.{digit_0}
 
 pub ten_pos : (k : ℕ) → 0 < 10 ^ k
 ten_pos zero = omega arith
@@ -37,7 +38,7 @@ digit_fits n d r most small room =
     omega (arith, all, le)
 
 -- a digit of digits
-pub digit_small : (ds : List ℕ) (i : ℕ) → list_all is_ascii_digit ds ≡ true → i < length ds → get_or ds i 0 - 48 < 10
+pub digit_small : (ds : List ℕ) (i : ℕ) → list_all is_ascii_digit ds ≡ true → i < length ds → get_or ds i 0 - digit_0 < 10
 digit_small [] i all h = absurd (omega arith)
 digit_small (d ∷ ds) i all h = grind (arith, common_steps)
 

@@ -11,6 +11,7 @@ use Rattle.gml_graph.specs.Tokens.{is_line_feed, is_blank, is_quote, ends_word, 
 use Rattle.gml_graph.specs.Scanning.{word_len}
 use Rattle.gml_graph.specs.Left.{begins_word}
 use Rattle.std.proofs.lemmas.Bool.{false≢true}
+use Rattle.sim_base.specs.Ascii.{line_feed, quotation_mark, number_sign}
 
 -- a byte that a test names
 byte_named : (b k : ℕ) → (b == k) ≡ true → b ≡ k
@@ -39,7 +40,7 @@ comment_step : (b : ℕ) (bs : List ℕ) (line : ℕ) (fresh ends : Bool) → en
     ≡ tokens_from (between fresh) line (drop (cond (not ends) (1 + position_or_len is_line_feed bs) 0) (b ∷ bs))
 comment_step b bs line fresh true e rest =
     let P : ℕ → Type 0 = λ c. tokens_from (between true) (line + 1) bs ≡ tokens_from (between fresh) line (c ∷ bs) in
-    subst P (sym (byte_named b 10 (sym e))) refl
+    subst P (sym (byte_named b line_feed (sym e))) refl
 comment_step b bs line fresh false e rest = rw one-add rest
 
 pub comment_at : (bs : List ℕ) (line : ℕ) (fresh : Bool) → tokens_from in_comment line bs ≡ tokens_from (between fresh) line (drop (position_or_len is_line_feed bs) bs)
@@ -100,7 +101,7 @@ blank_at fresh line b bs h =
     let none : brackets line b ≡ [] = grind (arith, nat_tests) in
     rw (none, on, h) refl
 
-pub comment_skipped : (fresh : Bool) (line : ℕ) (bs : List ℕ) → fresh ≡ true → 0 < length bs → get_or bs 0 0 ≡ 35
+pub comment_skipped : (fresh : Bool) (line : ℕ) (bs : List ℕ) → fresh ≡ true → 0 < length bs → get_or bs 0 0 ≡ number_sign
     → tokens_from (between fresh) line (drop (position_or_len is_line_feed (drop 1 bs)) (drop 1 bs)) ≡ tokens_from (between fresh) line bs
 comment_skipped fresh line [] f h e = absurd (omega arith)
 comment_skipped fresh line (b ∷ bs) f h e =
@@ -112,7 +113,7 @@ pub text_begun : (fresh : Bool) (line : ℕ) (bs : List ℕ) → 0 < length bs �
 text_begun fresh line [] h e = absurd (omega arith)
 text_begun fresh line (b ∷ bs) h e =
     let P : ℕ → Type 0 = λ c. tokens_from (between fresh) line (c ∷ bs) ≡ tokens_from (in_text line []) line bs in
-    subst P (sym (byte_named b 34 e)) refl
+    subst P (sym (byte_named b quotation_mark e)) refl
 
 word_place : (fresh : Bool) (line b : ℕ) (bs : List ℕ) → begins_word fresh (b ∷ bs) ≡ true → place_behind fresh line b bs ≡ in_word (b ∷ [])
 word_place fresh line b bs e = grind (arith, nat_tests)

@@ -13,6 +13,7 @@ use Rattle.gml_graph.specs.declared.outline.Value.TheVariants as values
 use Rattle.gml_graph.specs.declared.outline.OutlineRow.{OutlineRow}
 use Rattle.gml_graph.specs.Token.{quoted}
 use Rattle.gml_graph.specs.Tokens.{lexeme}
+use Rattle.gml_graph.specs.Limits.{greatest_depth}
 
 -- pairs, with the lines on which their tokens begin
 pub data Pairs : Type 0 where
@@ -46,7 +47,7 @@ rows_of depth (with_list line key at inner end behind) = record { depth = depth;
 pub record Spells (tokens : List Lexeme) (rows : List OutlineRow) : Type 0 where
   pub pairs : Pairs
   pub as_tokens : spelled pairs ≡ tokens
-  pub nested : height pairs ≤ 16
+  pub nested : height pairs ≤ greatest_depth
   pub as_rows : rows_of 0 pairs ≡ rows
 
 -- The tokens, and some behind them, spell pairs.
@@ -54,7 +55,7 @@ pub record Begins (tokens : List Lexeme) : Type 0 where
   pub pairs : Pairs
   pub more : List Lexeme
   pub as_tokens : spelled pairs ≡ tokens ++ more
-  pub nested : height pairs ≤ 16
+  pub nested : height pairs ≤ greatest_depth
 
 -- a text that lacks its second quote, as if it had it
 abbrev pub closed_token : Token → Token

@@ -1,6 +1,7 @@
 -- The graph of a text.
 use Rattle.std.specs.Prelude.{ℕ, ◌-◌, ◌^◌, Bool, true, false, ◌&&◌, if◌then◌else◌, ◌==◌, nat_lt, nat_le, List, [], ◌∷◌, ◌++◌, length, take, Option, Some, None, unwrap_or, option_and_then, is_some, Result, Ok}
 use Rattle.std.specs.List.{prefix_len, list_any}
+use Rattle.sim_base.specs.Units.{hour}
 use Rattle.sim_base.specs.declared.time.Time.{Time}
 use Rattle.gml_graph.specs.declared.fault.GmlFault.{GmlFault}
 use Rattle.gml_graph.specs.declared.fault.GmlKind.TheVariants as kinds
@@ -19,6 +20,7 @@ use Rattle.gml_graph.specs.declared.edge.EdgeDraft.{EdgeDraft}
 use Rattle.gml_graph.specs.Number.{natural, is_part, units}
 use Rattle.sim_base.specs.Refusals.{◌>>=◌}
 use Rattle.gml_graph.specs.Steps.{through, refused}
+use Rattle.gml_graph.specs.Limits.{most_nodes, most_edges}
 
 -- BLOCKS: a pair with the rows that lie in it
 
@@ -100,7 +102,7 @@ time_of values.List = None
 -- 1 ns to 1 h
 abbrev pub latency_at : Time → ℕ → Result Time GmlFault
 latency_at t line = if t.nanos == 0 then refused kinds.ZeroLatency line
-    else (if nat_le t.nanos 3600000000000 then Ok t else refused kinds.BadValue line)
+    else (if nat_le t.nanos hour then Ok t else refused kinds.BadValue line)
 
 abbrev pub latency_of : Value → ℕ → Result Time GmlFault
 latency_of v line = do
@@ -186,7 +188,7 @@ within most count line = if nat_le most count then refused kinds.TooMany line el
 unfoldable pub node_of : List Node → Block → Result Node GmlFault
 node_of before b = do
   _ ← list_at b.value b.line
-  _ ← within 4096 (length before) b.line
+  _ ← within most_nodes (length before) b.line
   d ← through (node_row before) new_node b.rows
   finished_node b.line d
 
@@ -249,7 +251,7 @@ finished_edge line d = do
 unfoldable pub edge_of : List Node → ℕ → Block → Result Edge GmlFault
 edge_of nodes count b = do
   _ ← list_at b.value b.line
-  _ ← within 65536 count b.line
+  _ ← within most_edges count b.line
   d ← through (edge_row nodes) new_edge b.rows
   finished_edge b.line d
 

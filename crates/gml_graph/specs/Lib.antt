@@ -1,4 +1,5 @@
 pub mod Fault
+pub mod Limits
 pub mod Number
 pub mod Token
 pub mod Tokens

@@ -4,23 +4,30 @@ use Rattle.std.specs.Prelude.{ℕ, ◌+◌, ◌-◌, ◌*◌, ◌/◌, ◌^◌, 
 use Rattle.std.specs.List.{prefix_len, list_all}
 use Rattle.std.specs.Option.{option_map}
 use Rattle.std.specs.Char.{is_ascii_digit}
+use Rattle.sim_base.specs.Ascii.{plus_sign, hyphen, full_stop, digit_0}
 use Rattle.gml_graph.specs.declared.number.Decimal.{Decimal}
 use Rattle.gml_graph.specs.declared.number.Exponent.{Exponent}
+use Rattle.gml_graph.specs.Limits.{most_digits, most_exponent_digits}
 
 -- + and -
 abbrev pub is_sign : ℕ → Bool
-is_sign b = b == 43 || b == 45
+is_sign b = b == plus_sign || b == hyphen
 
 abbrev pub is_minus : ℕ → Bool
-is_minus b = b == 45
+is_minus b = b == hyphen
 
 -- a point
 abbrev pub is_point : ℕ → Bool
-is_point b = b == 46
+is_point b = b == full_stop
 
--- e and E
+abbrev pub small_e : ℕ
+small_e = 101
+
+abbrev pub capital_e : ℕ
+capital_e = 69
+
 abbrev pub is_exponent_sign : ℕ → Bool
-is_exponent_sign b = b == 101 || b == 69
+is_exponent_sign b = b == small_e || b == capital_e
 
 abbrev pub begins_with : (ℕ → Bool) → List ℕ → Bool
 begins_with test [] = false
@@ -46,11 +53,11 @@ after_fraction bs = if begins_with is_point bs then after_digits (drop 1 bs) els
 
 -- the number that digits spell behind those of n
 abbrev pub natural_after : ℕ → List ℕ → ℕ
-natural_after n ds = fold (λ n d. 10 * n + (d - 48)) n ds
+natural_after n ds = fold (λ n d. 10 * n + (d - digit_0)) n ds
 
 -- one to four digits
 abbrev pub is_power : List ℕ → Bool
-is_power ds = nat_lt 0 (length ds) && nat_le (length ds) 4 && list_all is_ascii_digit ds
+is_power ds = nat_lt 0 (length ds) && nat_le (length ds) most_exponent_digits && list_all is_ascii_digit ds
 
 -- the exponent that all of the bytes spell; no bytes spell 0
 abbrev pub exponent : List ℕ → Option Exponent
@@ -75,7 +82,7 @@ is_empty bs = length bs == 0
 
 -- whether there are 1 to 36 of them
 abbrev pub fits : ℕ → Bool
-fits count = nat_lt 0 count && nat_le count 36
+fits count = nat_lt 0 count && nat_le count most_digits
 
 -- the number that all bytes of a word spell
 unfoldable pub decimal : List ℕ → Option Decimal

@@ -13,6 +13,7 @@ use Rattle.gml_graph.specs.declared.outline.OutlineRow.{OutlineRow}
 use Rattle.sim_base.specs.Refusals.{◌>>=◌}
 use Rattle.gml_graph.specs.Steps.{through, refused}
 use Rattle.gml_graph.specs.Tokens.{next_line, tokens}
+use Rattle.gml_graph.specs.Limits.{greatest_depth}
 
 -- What was read of a text: the rows, how many lists are open, and the key that waits for its value. `last` is the text's
 -- last line.
@@ -22,11 +23,11 @@ pub record Shape : Type 0 where
   pub waiting : Option Waiting
   pub rows : List OutlineRow
 
--- lists lie at most 16 deep
+-- no list lies deeper than the greatest depth
 abbrev pub value_of : Shape → ℕ → Token → Result Value GmlFault
 value_of s line (Number d) = Ok (values.Number d)
 value_of s line (Text t) = Ok (values.Text t)
-value_of s line Open = if nat_le 16 s.depth then refused Syntax line else Ok values.List
+value_of s line Open = if nat_le greatest_depth s.depth then refused Syntax line else Ok values.List
 value_of s line Unclosed = refused Syntax s.last
 value_of s line (Name k) = refused Syntax line
 value_of s line Close = refused Syntax line

@@ -5,6 +5,7 @@ use Rattle.std.specs.Option.{option_map}
 use Rattle.sim_base.specs.Quantity.{time_of_text, rate_of_text}
 use Rattle.std.specs.Str.{bytes_eq}
 use Rattle.std.specs.Char.{is_ascii_alphabetic, is_ascii_alphanumeric}
+use Rattle.sim_base.specs.Ascii.{underscore}
 use Rattle.gml_graph.specs.declared.number.Decimal.{Decimal}
 use Rattle.gml_graph.specs.declared.token.Key.{Key}
 use Rattle.gml_graph.specs.declared.token.Key.TheVariants as keys
@@ -15,7 +16,7 @@ use Rattle.gml_graph.specs.Number.{begins_with, decimal}
 
 -- a letter, a digit or _
 abbrev pub is_key_byte : ℕ → Bool
-is_key_byte b = is_ascii_alphanumeric b || b == 95
+is_key_byte b = is_ascii_alphanumeric b || b == underscore
 
 -- a letter, and then letters, digits and _
 abbrev pub is_key : List ℕ → Bool

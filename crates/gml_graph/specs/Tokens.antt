@@ -1,5 +1,6 @@
 -- The tokens of a text, each with the line on which it begins.
 use Rattle.std.specs.Prelude.{ℕ, ◌+◌, Bool, true, false, ◌&&◌, ◌||◌, if◌then◌else◌, ◌==◌, List, [], ◌∷◌, ◌++◌}
+use Rattle.sim_base.specs.Ascii.{line_feed, space, carriage_return, number_sign, quotation_mark, left_bracket, right_bracket}
 use Rattle.gml_graph.specs.declared.token.Token.{Token}
 use Rattle.gml_graph.specs.declared.token.Token.TheVariants.{Text, Open, Close, Unclosed}
 use Rattle.gml_graph.specs.declared.token.Lexeme.{Lexeme}
@@ -8,22 +9,22 @@ use Rattle.gml_graph.specs.Token.{word_token, quoted}
 
 -- the end of a line; a CR directly before it belongs to it
 abbrev pub is_line_feed : ℕ → Bool
-is_line_feed b = b == 10
+is_line_feed b = b == line_feed
 
 abbrev pub is_blank : ℕ → List ℕ → Bool
-is_blank b rest = b == 32 || (b == 13 && begins_with is_line_feed rest)
+is_blank b rest = b == space || (b == carriage_return && begins_with is_line_feed rest)
 
 abbrev pub is_hash : ℕ → Bool
-is_hash b = b == 35
+is_hash b = b == number_sign
 
 abbrev pub is_quote : ℕ → Bool
-is_quote b = b == 34
+is_quote b = b == quotation_mark
 
 abbrev pub is_open : ℕ → Bool
-is_open b = b == 91
+is_open b = b == left_bracket
 
 abbrev pub is_close : ℕ → Bool
-is_close b = b == 93
+is_close b = b == right_bracket
 
 -- Spaces, line ends, brackets and quotes end a word.
 abbrev pub ends_word : ℕ → List ℕ → Bool

@@ -81,7 +81,7 @@ fn split_fraction(bytes: &[u8]) -> (&[u8], &[u8])
 /// The number that digits spell behind those of `start`.
 fn append_digits(start: u128, digits: &[u8]) -> u128
     requires digits { list_all is_ascii_digit digits.now ≡ true }
-    requires room { (start + 1) * 10 ^ length digits.now ≤ 10 ^ 36 }
+    requires room { (start + 1) * 10 ^ length digits.now ≤ 10 ^ MOST_DIGITS }
     ensures value { result ≡ natural_after start digits.now }
     ensures below { result + 1 ≤ (start + 1) * 10 ^ length digits.now }
 {
@@ -111,7 +111,7 @@ fn is_power_of_ten(bytes: &[u8]) -> bool
 /// The exponent that all of the bytes spell; no bytes spell 0.
 fn exponent_of(bytes: &[u8]) -> Option<Exponent>
     ensures value { result ≡ exponent bytes.now }
-    ensures small { IfSome result (λ e. e.size < 10 ^ 4) }
+    ensures small { IfSome result (λ e. e.size < 10 ^ MOST_EXPONENT_DIGITS) }
 {
     match bytes {
         [] => Some(Exponent {

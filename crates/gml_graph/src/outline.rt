@@ -53,6 +53,7 @@ pub struct Outline {
 
 impl Model for Outline {
     ghost use Rattle.std.specs.Prelude.{◌≤◌};
+    ghost use Rattle.gml_graph.specs.Limits.{greatest_depth};
     ghost use Rattle.gml_graph.specs.Asked.{Kept};
 
     ghost Value = { Kept };
@@ -62,7 +63,7 @@ impl Model for Outline {
       shape = record { last = o.last; depth = o.depth; waiting = o.waiting; rows = o.rows.items };
     } };
 
-    ghost invariant = { λ o. o.depth ≤ 16 };
+    ghost invariant = { λ o. o.depth ≤ greatest_depth };
 }
 
 fn syntax(line: u64) -> GmlFault
@@ -137,7 +138,7 @@ impl Outline {
 
     fn value_of(&self, lexeme: Lexeme) -> Result<Value, GmlFault>
         ensures value { result ≡ value_of self.now.shape lexeme.line lexeme.token }
-        ensures deep { IfOk result (λ value. depth_behind self.now.shape.depth value ≤ 16) }
+        ensures deep { IfOk result (λ value. depth_behind self.now.shape.depth value ≤ GREATEST_DEPTH) }
     {
         let depth = self.depth;
         match lexeme.token {
@@ -192,7 +193,7 @@ impl Outline {
 
 /// The pairs of a list lie one deeper.
 fn behind(depth: u8, value: Value) -> u8
-    requires { depth_behind depth value ≤ 16 }
+    requires { depth_behind depth value ≤ GREATEST_DEPTH }
     ensures { result ≡ depth_behind depth value }
 {
     match value {
