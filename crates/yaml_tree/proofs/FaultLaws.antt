@@ -21,6 +21,7 @@ use Rattle.yaml_marks.specs.declared.odd.Odd.TheVariants as odd
 use Rattle.yaml_tree.proofs.WrittenLaws.{FlowReader}
 use Rattle.yaml_tree.proofs.RuleLaws.{one_tree, misfit-no_tree, refused-no_tree}
 use Rattle.yaml_tree.proofs.ReadingLaws.{cut-over}
+use Rattle.yaml_tree.specs.Limits.{most_tree_levels, most_tree_nodes}
 
 -- ---- where a list is parted
 
@@ -161,12 +162,12 @@ told lines Syntax h = inl h
 told lines Unsupported h = inl h
 told lines Duplicate h = inr (h.0, h.1, cond-true (has_repeat h.0) _ _ h.2)
 told lines Alias h = inr (h.0, h.1, cond-false (has_repeat h.0) _ _ h.2 ∙ cond-true (has_unknown h.0) _ _ h.3)
-told lines TooDeep h = inr (h.0, h.1, cond-false (has_repeat h.0) _ _ h.2 ∙ cond-false (has_unknown h.0) _ _ h.3 ∙ cond-true (nat_lt 64 (cut 64 (levels h.0))) _ _ (cut-over 64 (levels h.0) ∙ lt-ltb 64 (levels h.0) h.4))
+told lines TooDeep h = inr (h.0, h.1, cond-false (has_repeat h.0) _ _ h.2 ∙ cond-false (has_unknown h.0) _ _ h.3 ∙ cond-true (nat_lt most_tree_levels (cut most_tree_levels (levels h.0))) _ _ (cut-over most_tree_levels (levels h.0) ∙ lt-ltb most_tree_levels (levels h.0) h.4))
 told lines TooManyNodes h = inr (
   h.0,
   h.1,
-  cond-false (has_repeat h.0) _ _ h.2 ∙ cond-false (has_unknown h.0) _ _ h.3 ∙ cond-false (nat_lt 64 (cut 64 (levels h.0))) _ _ (cut-over 64 (levels h.0) ∙ le-ltb 64 (levels h.0) h.4)
-      ∙ cond-true (nat_lt 1_000_000 (cut 1_000_000 (size h.0))) _ _ (cut-over 1_000_000 (size h.0) ∙ lt-ltb 1_000_000 (size h.0) h.5),
+  cond-false (has_repeat h.0) _ _ h.2 ∙ cond-false (has_unknown h.0) _ _ h.3 ∙ cond-false (nat_lt most_tree_levels (cut most_tree_levels (levels h.0))) _ _ (cut-over most_tree_levels (levels h.0) ∙ le-ltb most_tree_levels (levels h.0) h.4)
+      ∙ cond-true (nat_lt most_tree_nodes (cut most_tree_nodes (size h.0))) _ _ (cut-over most_tree_nodes (size h.0) ∙ lt-ltb most_tree_nodes (size h.0) h.5),
 )
 
 told-once : FlowReader → (lines : List (List ℕ)) (k l : FaultKind) → Told lines k → Told lines l → k ≡ l

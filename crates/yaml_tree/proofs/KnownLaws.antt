@@ -19,6 +19,7 @@ use Rattle.yaml_tree.specs.declared.known.GivenName.{GivenName}
 use Rattle.yaml_tree.specs.declared.node.Node.{Node}
 use Rattle.yaml_tree.proofs.Lists.{both_true}
 use Rattle.yaml_tree.proofs.Stands.{KnownIs, NameIs, NamesAre, named_by}
+use Rattle.yaml_tree.specs.Limits.{most_tree_levels, most_tree_nodes}
 
 -- ---- nodes
 
@@ -134,10 +135,10 @@ cut-levels : (most a b : ℕ) → max (cut most a) (cut most (1 + cut most b)) �
 cut-levels most a b = omega (arith, cut-min most a, cut-min most b, cut-min most (max a (1 + b)), cut-min most (1 + cut most b))
 
 pub with_part-item : (a v : Said) → with_part (measured a) (measured v) ≡ measured (with_item a v)
-with_part-item a v = λ j. record { size = cut-sum 1_000_000 (size a) (size v) j; levels = cut-levels 64 (levels a) (levels v) j; repeated = has_repeat a || has_repeat v; unknown = (measured (with_item a v)).unknown }
+with_part-item a v = λ j. record { size = cut-sum most_tree_nodes (size a) (size v) j; levels = cut-levels most_tree_levels (levels a) (levels v) j; repeated = has_repeat a || has_repeat v; unknown = (measured (with_item a v)).unknown }
 
 pub with_part-pair : (a : Said) (line : ℕ) (k : List ℕ) (v : Said) → with_part (with_repeat (has_key k a) (measured a)) (measured v) ≡ measured (with_pair a line k v)
-with_part-pair a line k v = λ j. record { size = cut-sum 1_000_000 (size a) (size v) j; levels = cut-levels 64 (levels a) (levels v) j; repeated = (has_repeat a || has_key k a) || has_repeat v; unknown = (measured (with_pair a line k v)).unknown }
+with_part-pair a line k v = λ j. record { size = cut-sum most_tree_nodes (size a) (size v) j; levels = cut-levels most_tree_levels (levels a) (levels v) j; repeated = (has_repeat a || has_key k a) || has_repeat v; unknown = (measured (with_pair a line k v)).unknown }
 
 -- ---- keys
 
@@ -237,7 +238,7 @@ size-from_line n (with_item before value) = ap (λ s. s + size value) (size-from
 size-from_line n (with_pair before line k value) = ap (λ s. s + size value) (size-from_line n before)
 
 pub measured-from_line : (n : ℕ) (tree : Said) → measured (from_line n tree) ≡ measured tree
-measured-from_line n tree = λ j. record { size = cut 1_000_000 (size-from_line n tree j); levels = cut 64 (levels-from_line n tree j); repeated = has_repeat-from_line n tree j; unknown = has_unknown-from_line n tree j }
+measured-from_line n tree = λ j. record { size = cut most_tree_nodes (size-from_line n tree j); levels = cut most_tree_levels (levels-from_line n tree j); repeated = has_repeat-from_line n tree j; unknown = has_unknown-from_line n tree j }
 
 pub measured-named_by : (waits : Option GivenName) (meaning : Meaning) → measured (named_by waits meaning).0 ≡ measured meaning.0
 measured-named_by None meaning = refl

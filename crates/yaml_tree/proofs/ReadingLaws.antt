@@ -43,6 +43,7 @@ use Rattle.yaml_tree.proofs.FlowJudged.{Judges}
 use Rattle.yaml_tree.proofs.FlowLaws.{flow_reader}
 use Rattle.yaml_tree.proofs.FlowFaults.{flow_judged}
 use Rattle.yaml_tree.proofs.Simulation.{KindAfter, TakenAny, take_token-taken, fresh-stands, measure-means, whole-holds}
+use Rattle.yaml_tree.specs.Limits.{most_tree_levels, most_tree_nodes}
 
 -- ---- what a tree as it is written may begin with
 
@@ -141,19 +142,19 @@ JudgedTo b lines t (Err kind) = IsRefused lines kind
 measured-means : (b : Builder) (lines : List (List ℕ)) (t : Said) → Says lines t → JudgedTo b lines t (judged_by (fault_of (measured t)) b)
 measured-means b lines t says = by (has_repeat t) refl
   where
-    sized : has_repeat t ≡ false → has_unknown t ≡ false → levels t ≤ 64 → (q : Bool) → nat_lt 1_000_000 (size t) ≡ q → JudgedTo b lines t (judged_by (cond q (Some TooManyNodes) None) b)
-    sized f u d true e = (t, says, f, u, d, ltb-true 1_000_000 (size t) e)
-    sized f u d false e = (record { says = says; distinct = f; known = u; shallow = d; small = ltb-false 1_000_000 (size t) e }, refl)
+    sized : has_repeat t ≡ false → has_unknown t ≡ false → levels t ≤ most_tree_levels → (q : Bool) → nat_lt most_tree_nodes (size t) ≡ q → JudgedTo b lines t (judged_by (cond q (Some TooManyNodes) None) b)
+    sized f u d true e = (t, says, f, u, d, ltb-true most_tree_nodes (size t) e)
+    sized f u d false e = (record { says = says; distinct = f; known = u; shallow = d; small = ltb-false most_tree_nodes (size t) e }, refl)
 
-    levelled : has_repeat t ≡ false → has_unknown t ≡ false → (q : Bool) → nat_lt 64 (levels t) ≡ q → JudgedTo b lines t (judged_by (cond q (Some TooDeep) (cond (nat_lt 1_000_000 (cut 1_000_000 (size t))) (Some TooManyNodes) None)) b)
-    levelled f u true e = (t, says, f, u, ltb-true 64 (levels t) e)
-    levelled f u false e = sized f u (ltb-false 64 (levels t) e) (nat_lt 1_000_000 (cut 1_000_000 (size t))) (sym (cut-over 1_000_000 (size t)))
+    levelled : has_repeat t ≡ false → has_unknown t ≡ false → (q : Bool) → nat_lt most_tree_levels (levels t) ≡ q → JudgedTo b lines t (judged_by (cond q (Some TooDeep) (cond (nat_lt most_tree_nodes (cut most_tree_nodes (size t))) (Some TooManyNodes) None)) b)
+    levelled f u true e = (t, says, f, u, ltb-true most_tree_levels (levels t) e)
+    levelled f u false e = sized f u (ltb-false most_tree_levels (levels t) e) (nat_lt most_tree_nodes (cut most_tree_nodes (size t))) (sym (cut-over most_tree_nodes (size t)))
 
-    copied : has_repeat t ≡ false → (q : Bool) → has_unknown t ≡ q → JudgedTo b lines t (judged_by (cond q (Some Alias) (cond (nat_lt 64 (cut 64 (levels t))) (Some TooDeep) (cond (nat_lt 1_000_000 (cut 1_000_000 (size t))) (Some TooManyNodes) None))) b)
+    copied : has_repeat t ≡ false → (q : Bool) → has_unknown t ≡ q → JudgedTo b lines t (judged_by (cond q (Some Alias) (cond (nat_lt most_tree_levels (cut most_tree_levels (levels t))) (Some TooDeep) (cond (nat_lt most_tree_nodes (cut most_tree_nodes (size t))) (Some TooManyNodes) None))) b)
     copied f true e = (t, says, f, e)
-    copied f false e = levelled f e (nat_lt 64 (cut 64 (levels t))) (sym (cut-over 64 (levels t)))
+    copied f false e = levelled f e (nat_lt most_tree_levels (cut most_tree_levels (levels t))) (sym (cut-over most_tree_levels (levels t)))
 
-    by : (q : Bool) → has_repeat t ≡ q → JudgedTo b lines t (judged_by (cond q (Some Duplicate) (cond (has_unknown t) (Some Alias) (cond (nat_lt 64 (cut 64 (levels t))) (Some TooDeep) (cond (nat_lt 1_000_000 (cut 1_000_000 (size t))) (Some TooManyNodes) None)))) b)
+    by : (q : Bool) → has_repeat t ≡ q → JudgedTo b lines t (judged_by (cond q (Some Duplicate) (cond (has_unknown t) (Some Alias) (cond (nat_lt most_tree_levels (cut most_tree_levels (levels t))) (Some TooDeep) (cond (nat_lt most_tree_nodes (cut most_tree_nodes (size t))) (Some TooManyNodes) None)))) b)
     by true e = (t, says, e)
     by false e = copied e (has_unknown t) refl
 

@@ -17,6 +17,7 @@ use Rattle.yaml_tree.specs.declared.fault.FaultKind.TheVariants.{NotUtf8, Syntax
 use Rattle.yaml_tree.proofs.Lists.{chained}
 use Rattle.yaml_tree.proofs.WrittenLaws.{FlowReader, with_tokens, with_tokens-append, Spells-from_read, read-from_Spells, same_written}
 use Rattle.yaml_tree.proofs.SaidGrowth.{with_tokens-grows}
+use Rattle.yaml_tree.specs.Limits.{most_tree_levels, most_tree_nodes}
 
 abbrev pub begun_after : Bool → List (List ℕ) → Bool
 begun_after begun [] = begun
@@ -53,8 +54,8 @@ first_lines r lines n t tree =
     let g = with_tokens-grows r more c.0 w c.2 1 [] in
     let same = tree.says.said in
     let lev = g.no_fewer_levels in let siz = g.no_smaller in
-    let deep : levels (tree_of w) ≤ 64 = subst (λ x. levels x ≤ 64) (sym same) tree.shallow in
-    let big : size (tree_of w) ≤ 1_000_000 = subst (λ x. size x ≤ 1_000_000) (sym same) tree.small in (
+    let deep : levels (tree_of w) ≤ most_tree_levels = subst (λ x. levels x ≤ most_tree_levels) (sym same) tree.shallow in
+    let big : size (tree_of w) ≤ most_tree_nodes = subst (λ x. size x ≤ most_tree_nodes) (sym same) tree.small in (
       tree_of c.0,
       record {
         says = record { written = c.0; spelled = Spells-from_read r (tokens_of front) c.0 c.1; said = refl };

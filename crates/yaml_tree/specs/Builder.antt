@@ -36,6 +36,7 @@ use Rattle.yaml_marks.specs.declared.odd.Odd.TheVariants as odd
 use Rattle.yaml_tree.specs.declared.fault.Stop.{Stop}
 use Rattle.yaml_tree.specs.declared.fault.Stop.TheVariants as stop
 use Rattle.std.specs.declared.alloc.Global.{Global}
+use Rattle.yaml_tree.specs.Limits.{most_tree_levels, most_tree_nodes}
 
 abbrev pub fresh : Global → Builder
 fresh alloc = record { alloc = alloc; hashing = tt; nodes = []; open_rows = []; cells = []; value = None; name = None; literal = None; names = [] }
@@ -281,8 +282,8 @@ measure b = measure_about b.open_rows (value_measure b.value)
 abbrev pub fault_of : Measure → Option FaultKind
 fault_of m = if m.repeated then Some Duplicate
     else (if m.unknown then Some Alias
-    else (if nat_lt 64 m.levels then Some TooDeep
-    else (if nat_lt 1_000_000 m.size then Some TooManyNodes else None)))
+    else (if nat_lt most_tree_levels m.levels then Some TooDeep
+    else (if nat_lt most_tree_nodes m.size then Some TooManyNodes else None)))
 
 abbrev pub judged_by : Option FaultKind → Builder → Result Builder FaultKind
 judged_by None b = Ok b

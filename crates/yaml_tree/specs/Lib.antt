@@ -1,3 +1,4 @@
+pub mod Limits
 pub mod Entries
 pub mod Numbers
 pub mod Rows

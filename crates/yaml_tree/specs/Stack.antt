@@ -8,6 +8,7 @@ use Rattle.yaml_tree.specs.declared.known.Measure.{Measure}
 use Rattle.yaml_tree.specs.declared.known.Known.{Known}
 use Rattle.yaml_tree.specs.declared.known.GivenName.{GivenName}
 use Rattle.yaml_tree.specs.declared.stack.Open.{Open}
+use Rattle.yaml_tree.specs.Limits.{most_tree_levels, most_tree_nodes}
 
 -- counted to one more than the most
 abbrev pub cut : ℕ → ℕ → ℕ
@@ -15,7 +16,7 @@ cut most n = if nat_le n most then n else 1 + most
 
 -- what the limits ask of a tree
 abbrev pub measured : Said → Measure
-measured tree = record { size = cut 1_000_000 (size tree); levels = cut 64 (levels tree); repeated = has_repeat tree; unknown = has_unknown tree }
+measured tree = record { size = cut most_tree_nodes (size tree); levels = cut most_tree_levels (levels tree); repeated = has_repeat tree; unknown = has_unknown tree }
 
 -- a tree of one node
 abbrev pub one_node : Measure
@@ -30,7 +31,7 @@ no_row = record { size = 1; levels = 1; repeated = false; unknown = false }
 
 -- the rows of a collection, and a value more
 abbrev pub with_part : Measure → Measure → Measure
-with_part rows value = record { size = cut 1_000_000 (rows.size + value.size); levels = max rows.levels (cut 64 (1 + value.levels)); repeated = rows.repeated || value.repeated; unknown = rows.unknown || value.unknown }
+with_part rows value = record { size = cut most_tree_nodes (rows.size + value.size); levels = max rows.levels (cut most_tree_levels (1 + value.levels)); repeated = rows.repeated || value.repeated; unknown = rows.unknown || value.unknown }
 
 abbrev pub with_repeat : Bool → Measure → Measure
 with_repeat repeated m = record m { repeated = m.repeated || repeated }

@@ -3,7 +3,8 @@ use Rattle.std.specs.Prelude.{◌≡◌, ◌⊎◌, ℕ, Bool, ◌+◌, ◌<◌,
 use Rattle.std.specs.List.{list_all}
 use Rattle.std.specs.Str.{IsUtf8}
 use Rattle.std.specs.Str.Lossy.{utf8_valid_len}
-use Rattle.yaml_marks.specs.Lines.{lines_of, line_feed}
+use Rattle.sim_base.specs.Ascii.{line_feed}
+use Rattle.yaml_marks.specs.Lines.{lines_of}
 use Rattle.yaml_marks.specs.Pieces.{why_bracket}
 use Rattle.yaml_tree.specs.Flows.{IsFlowMisfit}
 use Rattle.yaml_marks.specs.Tokens.{tokens_of}
@@ -15,6 +16,7 @@ use Rattle.yaml_tree.specs.declared.fault.FaultKind.{FaultKind}
 use Rattle.yaml_tree.specs.declared.fault.FaultKind.TheVariants.{NotUtf8, Syntax, Unsupported, Duplicate, Alias, TooDeep, TooManyNodes}
 use Rattle.yaml_marks.specs.declared.odd.Odd.{Odd}
 use Rattle.yaml_marks.specs.declared.odd.Odd.TheVariants as odd
+use Rattle.yaml_tree.specs.Limits.{most_tree_levels, most_tree_nodes}
 
 -- the lines say this tree by one of the six rules at each place
 pub record Says (lines : List (List ℕ)) (tree : Said) : Type 0 where
@@ -28,8 +30,8 @@ pub record IsTree (lines : List (List ℕ)) (tree : Said) : Type 0 where
   pub says : Says lines tree
   pub distinct : has_repeat tree ≡ false
   pub known : has_unknown tree ≡ false
-  pub shallow : levels tree ≤ 64
-  pub small : size tree ≤ 1_000_000
+  pub shallow : levels tree ≤ most_tree_levels
+  pub small : size tree ≤ most_tree_nodes
 
 abbrev pub HasTree : List (List ℕ) → Type 0
 HasTree lines = (tree : Said) × IsTree lines tree
@@ -84,8 +86,8 @@ IsRefused lines Syntax = IsMisfit (tokens_of lines) Syntax
 IsRefused lines Unsupported = IsMisfit (tokens_of lines) Unsupported
 IsRefused lines Duplicate = (tree : Said) × Says lines tree × (has_repeat tree ≡ true)
 IsRefused lines Alias = (tree : Said) × Says lines tree × (has_repeat tree ≡ false) × (has_unknown tree ≡ true)
-IsRefused lines TooDeep = (tree : Said) × Says lines tree × (has_repeat tree ≡ false) × (has_unknown tree ≡ false) × (64 < levels tree)
-IsRefused lines TooManyNodes = (tree : Said) × Says lines tree × (has_repeat tree ≡ false) × (has_unknown tree ≡ false) × (levels tree ≤ 64) × (1_000_000 < size tree)
+IsRefused lines TooDeep = (tree : Said) × Says lines tree × (has_repeat tree ≡ false) × (has_unknown tree ≡ false) × (most_tree_levels < levels tree)
+IsRefused lines TooManyNodes = (tree : Said) × Says lines tree × (has_repeat tree ≡ false) × (has_unknown tree ≡ false) × (levels tree ≤ most_tree_levels) × (most_tree_nodes < size tree)
 
 -- the first of the lines up to which there is no tree, and why
 pub record IsFirstRefused (lines : List (List ℕ)) (number : ℕ) (kind : FaultKind) : Type 0 where

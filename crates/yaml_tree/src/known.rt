@@ -115,7 +115,7 @@ impl Measure {
 
 /// The sum of two sizes, up to one more than a tree has at most.
 fn sum_of_sizes(a: u32, b: u32) -> u32
-    ensures { result ≡ cut 1_000_000 (a + b) }
+    ensures { result ≡ cut MOST_NODES (a + b) }
 {
     if a > MOST_NODES || b > MOST_NODES || a + b > MOST_NODES {
         1 + MOST_NODES
@@ -126,7 +126,7 @@ fn sum_of_sizes(a: u32, b: u32) -> u32
 
 /// One level more, up to one more than a tree has at most.
 fn levels_above(levels: u8) -> u8
-    ensures { result ≡ cut 64 (1 + levels) }
+    ensures { result ≡ cut MOST_LEVELS (1 + levels) }
 {
     if levels < MOST_LEVELS {
         1 + levels

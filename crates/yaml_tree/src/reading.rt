@@ -1,7 +1,7 @@
 //! Reading a text, line by line.
 
 ghost use Rattle.std.specs.Prelude.{◌≡◌, ◌+◌, ◌<◌, ◌≤◌, ◌^◌, List, ℕ, Bool, None, Ok, Err, length, take, count_by, IfOk, IfErr, false, ◌==◌, ◌||◌};
-ghost use Rattle.yaml_marks.specs.Lines.{line_feed, split_lines, lines_of};
+ghost use Rattle.yaml_marks.specs.Lines.{split_lines, lines_of};
 ghost use Rattle.yaml_tree.specs.Builder.{Steps, Reads, ReadsLine, take_tokens, take_line, read_line, at_line, read_lines, fresh};
 ghost use Rattle.yaml_tree.specs.Said.{Said};
 ghost use Rattle.yaml_marks.specs.Tokens.{has_content, place_after, line_tokens, next_place, tokens_of};
@@ -9,6 +9,7 @@ ghost use Rattle.yaml_marks.specs.declared.place.LinePlace.TheVariants.{Outside}
 ghost use Rattle.yaml_tree.specs.Tree.{IsTreeOf, IsFaultOf, is_empty_document};
 ghost use Rattle.yaml_tree.specs.Written.{is_name};
 ghost use Rattle.std.specs.List.{list_all};
+ghost use Rattle.sim_base.specs.Ascii.{line_feed};
 ghost use Rattle.yaml_tree.specs.Trees.{Holds, RootIsIn, IsWhole, IsReading, IsErrorOf, error_at, is_empty};
 
 use crate::builder::Builder;

@@ -1,7 +1,7 @@
 use Rattle.std.proofs.Common.{◌+◌, ◌∙◌, ap, take, ◌==◌, arith}
 use Rattle.std.specs.Prelude.{count_by}
 use Rattle.std.proofs.lemmas.Str.{utf8_valid_len_le}
-use Rattle.yaml_marks.specs.Lines.{line_feed}
+use Rattle.sim_base.specs.Ascii.{line_feed}
 use Rattle.yaml_tree.proofs.ReadingLaws.{tree_read, error_read}
 use Rattle.yaml_tree.proofs.reading.read_tree.Goals as goal
 
