@@ -1,17 +1,18 @@
 -- Addresses as texts, by four numbers with points between them (RFC 791; the dotted form of RFC 1123, section 2.1).
 use Rattle.std.specs.Prelude.{ℕ, ◌+◌, ◌*◌, Bool, ◌&&◌, ◌==◌, nat_lt, if◌then◌else◌, List, length, slice_index, Option, Some, None}
 use Rattle.std.specs.List.{before_first, after_first}
+use Rattle.sim_base.specs.Ascii.{full_stop, digit_0}
 use Rattle.sim_base.specs.Quantity.{◌>>=◌}
 use Rattle.sim_base.specs.declared.address.Ip.{Ip}
 use Rattle.shd_values.specs.Number.{number_of}
 
 -- .
 abbrev pub is_point : ℕ → Bool
-is_point b = b == 46
+is_point b = b == full_stop
 
 -- a number of 0 to 255 without leading zeros
 abbrev pub octet : List ℕ → Option ℕ
-octet text = if nat_lt 1 (length text) && slice_index text 0 == 48 then None
+octet text = if nat_lt 1 (length text) && slice_index text 0 == digit_0 then None
     else (number_of text >>= λ n. if nat_lt n 256 then Some n else None)
 
 abbrev pub behind_point : List ℕ → List ℕ

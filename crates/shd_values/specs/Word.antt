@@ -3,6 +3,7 @@ use Rattle.std.specs.Prelude.{ℕ, Bool, true, false, ◌&&◌, ◌||◌, not, �
 use Rattle.std.specs.List.{list_all}
 use Rattle.std.specs.Char.{is_ascii_alphanumeric}
 use Rattle.std.specs.Str.{bytes_eq}
+use Rattle.sim_base.specs.Ascii.{hyphen, underscore, full_stop, slash}
 use Rattle.sim_base.specs.Signal.{signal_name}
 use Rattle.sim_base.specs.declared.signal.Signal.{Signal}
 use Rattle.sim_base.specs.declared.signal.Signal.TheVariants.{SigHup, SigInt, SigQuit, SigIll, SigTrap, SigAbrt, SigBus, SigFpe, SigKill, SigUsr1, SigSegv, SigUsr2, SigPipe, SigAlrm, SigTerm, SigXcpu}
@@ -23,13 +24,17 @@ truth_of word =
 
 -- a letter, a digit, `-`, `_` or `.`
 abbrev pub is_name_byte : ℕ → Bool
-is_name_byte b = is_ascii_alphanumeric b || b == 45 || b == 95 || b == 46
+is_name_byte b = is_ascii_alphanumeric b || b == hyphen || b == underscore || b == full_stop
+
+-- the most bytes of a host's name (RFC 1123, section 2.1)
+abbrev pub most_name_bytes : ℕ
+most_name_bytes = 63
 
 -- 1 to 63 letters, digits, `-`, `_` and `.`, the first of them a letter or a digit
 abbrev pub is_name_of_host : List ℕ → Bool
 is_name_of_host [] = false
-is_name_of_host (b ∷ rest) = is_ascii_alphanumeric b && nat_lt (length rest) 63 && list_all is_name_byte rest
+is_name_of_host (b ∷ rest) = is_ascii_alphanumeric b && nat_lt (length rest) most_name_bytes && list_all is_name_byte rest
 
 -- the last part of a path, behind its last `/`, isn't empty
 abbrev pub names_program : List ℕ → Bool
-names_program path = nat_lt 0 (length path) && not (slice_index path (length path - 1) == 47)
+names_program path = nat_lt 0 (length path) && not (slice_index path (length path - 1) == slash)

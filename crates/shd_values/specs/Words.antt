@@ -4,21 +4,10 @@
 use Rattle.std.specs.Prelude.{ℕ, ◌==◌, if◌then◌else◌, List, [], ◌++◌, Option, Some, None, encode_utf8, unwrap_or, fold}
 use Rattle.std.specs.Option.{option_to_list}
 use Rattle.std.specs.Str.{chars}
+use Rattle.sim_base.specs.Ascii.{space, apostrophe, quotation_mark, backslash}
 use Rattle.shd_values.specs.declared.words.Quote.{Quote}
 use Rattle.shd_values.specs.declared.words.Quote.TheVariants.{Outside, Escaped, Single, Double}
 use Rattle.shd_values.specs.declared.words.Splitting.{Splitting}
-
-abbrev pub space : ℕ
-space = 32
-
-abbrev pub single_quote : ℕ
-single_quote = 39
-
-abbrev pub double_quote : ℕ
-double_quote = 34
-
-abbrev pub backslash : ℕ
-backslash = 92
 
 -- the word with one character more; a word that has not begun begins
 abbrev pub with_character : Option (List ℕ) → ℕ → Option (List ℕ)
@@ -32,8 +21,8 @@ begun word = Some (unwrap_or word [])
 abbrev pub next_outside : Splitting → ℕ → Splitting
 next_outside s c =
     if c == space then record s { words = s.words ++ option_to_list s.word; word = None }
-    else (if c == single_quote then record s { word = begun s.word; quote = Single }
-    else (if c == double_quote then record s { word = begun s.word; quote = Double }
+    else (if c == apostrophe then record s { word = begun s.word; quote = Single }
+    else (if c == quotation_mark then record s { word = begun s.word; quote = Double }
     else (if c == backslash then record s { quote = Escaped }
     else record s { word = with_character s.word c })))
 
@@ -44,8 +33,8 @@ next_quoted end s c = if c == end then record s { quote = Outside } else record 
 abbrev pub next_at : Quote → Splitting → ℕ → Splitting
 next_at Outside s c = next_outside s c
 next_at Escaped s c = record s { word = with_character s.word c; quote = Outside }
-next_at Single s c = next_quoted single_quote s c
-next_at Double s c = next_quoted double_quote s c
+next_at Single s c = next_quoted apostrophe s c
+next_at Double s c = next_quoted quotation_mark s c
 
 abbrev pub next : Splitting → ℕ → Splitting
 next s c = next_at s.quote s c

@@ -1,8 +1,7 @@
 //! Whole numbers, and sizes in bytes.
 
 ghost use Rattle.std.specs.Prelude.{◌≡◌, ◌+◌, ◌*◌, ◌<◌, ◌≤◌, ◌^◌, ◌==◌, ℕ, length};
-ghost use Rattle.std.specs.Char.{digit_value, is_ascii_digit};
-ghost use Rattle.std.specs.Int.{IsInRange};
+ghost use Rattle.std.specs.Char.{digit_value, is_ascii_digit, IsAsciiDigit};
 ghost use Rattle.std.specs.List.{prefix_len, list_all};
 ghost use Rattle.std.specs.Option.{SomeIff};
 ghost use Rattle.std.specs.Str.Parse.{AllDigits, digits_value};
@@ -10,7 +9,7 @@ ghost use Rattle.shd_values.specs.Number.{digits_number, number_of, size_unit, s
 
 /// A number with one more digit behind it, if it fits 128 bits.
 fn with_digit(number: u128, digit: u8) -> Option<u128>
-    requires { IsInRange 48 57 digit }
+    requires { IsAsciiDigit digit }
     ensures { SomeIff result (number * 10 + digit_value digit < 2 ^ 128) (number * 10 + digit_value digit) }
 {
     number
