@@ -5,6 +5,7 @@ use Rattle.std.specs.Fmt.{decimal}
 use Rattle.std.specs.List.{join_with_byte}
 use Rattle.std.proofs.lemmas.Fmt.{decimal_injective}
 use Rattle.std.proofs.lemmas.List.{append_cancel_left, append_cancel_right}
+use Rattle.sim_base.specs.Ascii.{full_stop, slash, space}
 use Rattle.sim_base.specs.Packet.{packet_size}
 use Rattle.sim_base.specs.declared.packet.Load.{Load}
 use Rattle.sim_base.specs.declared.time.Time.{Time}
@@ -19,23 +20,23 @@ use Rattle.out_text.proofs.Words.{decimal_lacks, addr_lacks_space, same_addr, sa
 
 -- ---- lines of the log
 
-segment_lacks : (d : Load) → FitsLoad d → Lack 32 (segment_words d)
+segment_lacks : (d : Load) → FitsLoad d → Lack space (segment_words d)
 segment_lacks (Udp text) fits = tt
 segment_lacks (Tcp flags seq ack window text) fits =
     let s : seq < 2 ^ 32 = fits.0 in
     let a : ack < 2 ^ 32 = fits.1 in
-    (flags_lack_space flags, (decimal_lacks 32 seq refl (omega arith), (decimal_lacks 32 ack refl (omega arith), tt)))
+    (flags_lack_space flags, (decimal_lacks space seq refl (omega arith), (decimal_lacks space ack refl (omega arith), tt)))
 
-line_lacks : (l : LogLine) → IsLogged l → Lack 32 (log_words l)
+line_lacks : (l : LogLine) → IsLogged l → Lack space (log_words l)
 line_lacks l h = (
-  decimal_lacks 32 l.time.nanos refl h.time,
+  decimal_lacks space l.time.nanos refl h.time,
   (
     h.host,
     (
       act_lacks_space l.act,
       (
         protocol_lacks_space l.packet.load,
-        (addr_lacks_space l.packet.from h.from, (addr_lacks_space l.packet.to h.to, (decimal_lacks 32 (packet_size l.packet) refl h.size, segment_lacks l.packet.load h.load))),
+        (addr_lacks_space l.packet.from h.from, (addr_lacks_space l.packet.to h.to, (decimal_lacks space (packet_size l.packet) refl h.size, segment_lacks l.packet.load h.load))),
       ),
     ),
   ),
@@ -66,8 +67,8 @@ time_of n = record { nanos = n }
 -- lines with one text tell the same
 pub one_line : (a b : LogLine) → IsLogged a → IsLogged b → log_line a ≡ log_line b → TellsSame a b
 one_line a b h k e =
-    let rows : join_with_byte 32 (log_words a) ≡ join_with_byte 32 (log_words b) = append_cancel_right _ _ (codes "\n") e in
-    let words : log_words a ≡ log_words b = same_words 32 _ _ _ _ (line_lacks a h) (line_lacks b k) rows in
+    let rows : join_with_byte space (log_words a) ≡ join_with_byte space (log_words b) = append_cancel_right _ _ (codes "\n") e in
+    let words : log_words a ≡ log_words b = same_words space _ _ _ _ (line_lacks a h) (line_lacks b k) rows in
     let told = told_by _ _ _ _ _ _ _ _ _ _ _ _ _ _ _ _ words in
     record {
       time = ap time_of (decimal_injective a.time.nanos b.time.nanos h.time k.time told.0);
@@ -81,20 +82,20 @@ one_line a b h k e =
 
 -- ---- names of files
 
-regrouped : (p d w : List ℕ) → p ++ (46 ∷ (d ++ (46 ∷ w))) ≡ (p ++ (46 ∷ d)) ++ (46 ∷ w)
-regrouped p d w = sym (append_assoc p (46 ∷ d) (46 ∷ w))
+regrouped : (p d w : List ℕ) → p ++ (full_stop ∷ (d ++ (full_stop ∷ w))) ≡ (p ++ (full_stop ∷ d)) ++ (full_stop ∷ w)
+regrouped p d w = sym (append_assoc p (full_stop ∷ d) (full_stop ∷ w))
 
-with_word : (p d : List ℕ) (k : FileKind) → p ++ (46 ∷ (d ++ file_suffix k)) ≡ (p ++ (46 ∷ d)) ++ (46 ∷ kind_word k)
-with_word p d k = ap (λ (s : List ℕ). p ++ (46 ∷ (d ++ s))) (suffix_is k) ∙ regrouped p d (kind_word k)
+with_word : (p d : List ℕ) (k : FileKind) → p ++ (full_stop ∷ (d ++ file_suffix k)) ≡ (p ++ (full_stop ∷ d)) ++ (full_stop ∷ kind_word k)
+with_word p d k = ap (λ (s : List ℕ). p ++ (full_stop ∷ (d ++ s))) (suffix_is k) ∙ regrouped p d (kind_word k)
 
 -- files with one name are of one process, and hold the same
-pub one_file : (h g p q : List ℕ) (m n : ℕ) (k l : FileKind) → IsTrue (lacks 47 h) → IsTrue (lacks 47 g) → m < 2 ^ 32 → n < 2 ^ 32
+pub one_file : (h g p q : List ℕ) (m n : ℕ) (k l : FileKind) → IsTrue (lacks slash h) → IsTrue (lacks slash g) → m < 2 ^ 32 → n < 2 ^ 32
     → file_name h p m k ≡ file_name g q n l → (h ≡ g) × (p ≡ q) × (m ≡ n) × (k ≡ l)
 one_file h g p q m n k l hl gl ms ns e =
     let name = append_cancel_left (codes "hosts/") _ _ e in
-    let host = cut_at_first 47 h g _ _ hl gl name in
-    let rest : (p ++ (46 ∷ decimal m)) ++ (46 ∷ kind_word k) ≡ (q ++ (46 ∷ decimal n)) ++ (46 ∷ kind_word l) =
+    let host = cut_at_first slash h g _ _ hl gl name in
+    let rest : (p ++ (full_stop ∷ decimal m)) ++ (full_stop ∷ kind_word k) ≡ (q ++ (full_stop ∷ decimal n)) ++ (full_stop ∷ kind_word l) =
     sym (with_word p (decimal m) k) ∙ (host.1 ∙ with_word q (decimal n) l) in
-    let kind = cut_at_last 46 (p ++ (46 ∷ decimal m)) (q ++ (46 ∷ decimal n)) (kind_word k) (kind_word l) (kind_lacks_dot k) (kind_lacks_dot l) rest in
-    let program = cut_at_last 46 p q (decimal m) (decimal n) (decimal_lacks 46 m refl (omega arith)) (decimal_lacks 46 n refl (omega arith)) kind.0 in
+    let kind = cut_at_last full_stop (p ++ (full_stop ∷ decimal m)) (q ++ (full_stop ∷ decimal n)) (kind_word k) (kind_word l) (kind_lacks_dot k) (kind_lacks_dot l) rest in
+    let program = cut_at_last full_stop p q (decimal m) (decimal n) (decimal_lacks full_stop m refl (omega arith)) (decimal_lacks full_stop n refl (omega arith)) kind.0 in
     (host.0, program.0, decimal_injective m n (omega arith) (omega arith) program.1, same_kind k l kind.1)

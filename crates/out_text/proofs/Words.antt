@@ -10,6 +10,7 @@ use Rattle.std.proofs.lemmas.Fmt.{decimal_is_IsNumeral, decimal_injective}
 use Rattle.std.proofs.lemmas.Nat.{and_assoc}
 use Rattle.std.specs.Int.Bits.{and_zero_l}
 use Rattle.std.proofs.lemmas.List.Folds.{list_all-append}
+use Rattle.sim_base.specs.Ascii.{colon, full_stop, space}
 use Rattle.sim_base.specs.declared.act.Act.{Act}
 use Rattle.sim_base.specs.declared.act.Act.TheVariants.{Send, Lost, FullUp, FullDown, Recv, SockFull, NoPort, Codel}
 use Rattle.sim_base.specs.declared.address.Addr.{Addr}
@@ -48,16 +49,16 @@ both_lack c xs ys l m = list_all-append (λ b. not (b == c)) xs ys ∙ (ap (λ (
 
 -- ---- addresses
 
-ip_lacks : (c : ℕ) (ip : Ip) → nat_lt (digit_value c) 10 ≡ false → (46 == c) ≡ false → ip.bits < 2 ^ 32 → lacks c (ip_text ip) ≡ true
+ip_lacks : (c : ℕ) (ip : Ip) → nat_lt (digit_value c) 10 ≡ false → (full_stop == c) ≡ false → ip.bits < 2 ^ 32 → lacks c (ip_text ip) ≡ true
 ip_lacks c ip far other small =
-    let dot : (ds : List ℕ) → lacks c ds ≡ true → lacks c (46 ∷ ds) ≡ true = λ ds l. ap (λ (t : Bool). not t && lacks c ds) other ∙ l in
+    let dot : (ds : List ℕ) → lacks c ds ≡ true → lacks c (full_stop ∷ ds) ≡ true = λ ds l. ap (λ (t : Bool). not t && lacks c ds) other ∙ l in
     both_lack c (decimal (ip.bits / 2 ^ 24)) _ (decimal_lacks c _ far (omega arith))
     (dot _ (both_lack c (decimal (ip.bits / 2 ^ 16 % 256)) _ (decimal_lacks c _ far (omega arith))
     (dot _ (both_lack c (decimal (ip.bits / 2 ^ 8 % 256)) _ (decimal_lacks c _ far (omega arith))
     (dot _ (decimal_lacks c (ip.bits % 256) far (omega arith)))))))
 
-pub addr_lacks_space : (a : Addr) → FitsAddr a → lacks 32 (addr_text a) ≡ true
-addr_lacks_space a fits = both_lack 32 (ip_text a.ip) (58 ∷ decimal a.port) (ip_lacks 32 a.ip refl refl fits.ip) (decimal_lacks 32 a.port refl (let small : a.port < 2 ^ 16 = fits.port in omega arith))
+pub addr_lacks_space : (a : Addr) → FitsAddr a → lacks space (addr_text a) ≡ true
+addr_lacks_space a fits = both_lack space (ip_text a.ip) (colon ∷ decimal a.port) (ip_lacks space a.ip refl refl fits.ip) (decimal_lacks space a.port refl (let small : a.port < 2 ^ 16 = fits.port in omega arith))
 
 same_bits : (m n : ℕ) → m / 2 ^ 24 ≡ n / 2 ^ 24 → m / 2 ^ 16 % 256 ≡ n / 2 ^ 16 % 256 → m / 2 ^ 8 % 256 ≡ n / 2 ^ 8 % 256 → m % 256 ≡ n % 256 → m ≡ n
 same_bits m n a b c d = omega arith
@@ -67,9 +68,9 @@ same_number m n k l e = decimal_injective m n (omega arith) (omega arith) e
 
 same_ip : (a b : Ip) → a.bits < 2 ^ 32 → b.bits < 2 ^ 32 → ip_text a ≡ ip_text b → a ≡ b
 same_ip a b k l e =
-    let one = cut_at_first 46 (decimal (a.bits / 2 ^ 24)) (decimal (b.bits / 2 ^ 24)) _ _ (decimal_lacks 46 _ refl (omega arith)) (decimal_lacks 46 _ refl (omega arith)) e in
-    let two = cut_at_first 46 (decimal (a.bits / 2 ^ 16 % 256)) (decimal (b.bits / 2 ^ 16 % 256)) _ _ (decimal_lacks 46 _ refl (omega arith)) (decimal_lacks 46 _ refl (omega arith)) one.1 in
-    let three = cut_at_first 46 (decimal (a.bits / 2 ^ 8 % 256)) (decimal (b.bits / 2 ^ 8 % 256)) _ _ (decimal_lacks 46 _ refl (omega arith)) (decimal_lacks 46 _ refl (omega arith)) two.1 in
+    let one = cut_at_first full_stop (decimal (a.bits / 2 ^ 24)) (decimal (b.bits / 2 ^ 24)) _ _ (decimal_lacks full_stop _ refl (omega arith)) (decimal_lacks full_stop _ refl (omega arith)) e in
+    let two = cut_at_first full_stop (decimal (a.bits / 2 ^ 16 % 256)) (decimal (b.bits / 2 ^ 16 % 256)) _ _ (decimal_lacks full_stop _ refl (omega arith)) (decimal_lacks full_stop _ refl (omega arith)) one.1 in
+    let three = cut_at_first full_stop (decimal (a.bits / 2 ^ 8 % 256)) (decimal (b.bits / 2 ^ 8 % 256)) _ _ (decimal_lacks full_stop _ refl (omega arith)) (decimal_lacks full_stop _ refl (omega arith)) two.1 in
     let bits : a.bits ≡ b.bits = same_bits a.bits b.bits
     (same_number _ _ (omega arith) (omega arith) one.0) (same_number _ _ (omega arith) (omega arith) two.0)
     (same_number _ _ (omega arith) (omega arith) three.0) (same_number _ _ (omega arith) (omega arith) three.1) in
@@ -82,7 +83,7 @@ pub same_addr : (a b : Addr) → FitsAddr a → FitsAddr b → addr_text a ≡ a
 same_addr a b k l e =
     let small : a.port < 2 ^ 16 = k.port in
     let small' : b.port < 2 ^ 16 = l.port in
-    let cut = cut_at_last 58 (ip_text a.ip) (ip_text b.ip) (decimal a.port) (decimal b.port) (decimal_lacks 58 a.port refl (omega arith)) (decimal_lacks 58 b.port refl (omega arith)) e in
+    let cut = cut_at_last colon (ip_text a.ip) (ip_text b.ip) (decimal a.port) (decimal b.port) (decimal_lacks colon a.port refl (omega arith)) (decimal_lacks colon b.port refl (omega arith)) e in
     let ip : a.ip ≡ b.ip = same_ip a.ip b.ip k.ip l.ip cut.0 in
     let port : a.port ≡ b.port = same_number a.port b.port (omega arith) (omega arith) cut.1 in
     addr_at ip port
@@ -111,7 +112,7 @@ act_of-word Codel = refl
 pub same_act : (a b : Act) → act_word a ≡ act_word b → a ≡ b
 same_act a b e = sym (act_of-word a) ∙ (ap (λ (word : List ℕ). act_of word) e ∙ act_of-word b)
 
-pub act_lacks_space : (a : Act) → lacks 32 (act_word a) ≡ true
+pub act_lacks_space : (a : Act) → lacks space (act_word a) ≡ true
 act_lacks_space Send = refl
 act_lacks_space Lost = refl
 act_lacks_space FullUp = refl
@@ -121,7 +122,7 @@ act_lacks_space SockFull = refl
 act_lacks_space NoPort = refl
 act_lacks_space Codel = refl
 
-pub protocol_lacks_space : (d : Load) → lacks 32 (protocol_word d) ≡ true
+pub protocol_lacks_space : (d : Load) → lacks space (protocol_word d) ≡ true
 protocol_lacks_space (Udp text) = refl
 protocol_lacks_space (Tcp flags seq ack window text) = refl
 
@@ -130,7 +131,7 @@ protocol_lacks_space (Tcp flags seq ack window text) = refl
 abbrev letters_of : Bool → Bool → Bool → Bool → Bool → List ℕ
 letters_of any s a f r = if any then (if s then codes "S" else []) ++ ((if a then codes "A" else []) ++ ((if f then codes "F" else []) ++ (if r then codes "R" else []))) else codes "-"
 
-letters_lack_space : (any s a f r : Bool) → lacks 32 (letters_of any s a f r) ≡ true
+letters_lack_space : (any s a f r : Bool) → lacks space (letters_of any s a f r) ≡ true
 letters_lack_space false s a f r = refl
 letters_lack_space true true true true true = refl
 letters_lack_space true true true true false = refl
@@ -149,7 +150,7 @@ letters_lack_space true false false true false = refl
 letters_lack_space true false false false true = refl
 letters_lack_space true false false false false = refl
 
-pub flags_lack_space : (flags : ℕ) → lacks 32 (flags_word flags) ≡ true
+pub flags_lack_space : (flags : ℕ) → lacks space (flags_word flags) ≡ true
 flags_lack_space flags = letters_lack_space (is_set flags 23) (is_set flags 2) (is_set flags 16) (is_set flags 1) (is_set flags 4)
 
 abbrev has : ℕ → List ℕ → Bool
@@ -257,12 +258,12 @@ kind_word Stdout = codes "stdout"
 kind_word Stderr = codes "stderr"
 kind_word Exit = codes "exit"
 
-pub kind_lacks_dot : (k : FileKind) → lacks 46 (kind_word k) ≡ true
+pub kind_lacks_dot : (k : FileKind) → lacks full_stop (kind_word k) ≡ true
 kind_lacks_dot Stdout = refl
 kind_lacks_dot Stderr = refl
 kind_lacks_dot Exit = refl
 
-pub suffix_is : (k : FileKind) → file_suffix k ≡ 46 ∷ kind_word k
+pub suffix_is : (k : FileKind) → file_suffix k ≡ full_stop ∷ kind_word k
 suffix_is Stdout = refl
 suffix_is Stderr = refl
 suffix_is Exit = refl

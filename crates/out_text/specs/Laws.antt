@@ -1,6 +1,7 @@
 -- What a line of the packet log and the name of a file tell.
 use Rattle.std.specs.Prelude.{◌≡◌, ℕ, ◌<◌, ◌^◌, ◌==◌, List, Bool, not, IsTrue}
 use Rattle.std.specs.List.{list_all}
+use Rattle.sim_base.specs.Ascii.{space}
 use Rattle.sim_base.specs.Packet.{packet_size, syn_flag, ack_flag, fin_flag, rst_flag}
 use Rattle.sim_base.specs.declared.address.Addr.{Addr}
 use Rattle.sim_base.specs.declared.packet.Load.{Load}
@@ -24,7 +25,7 @@ FitsLoad (Tcp flags seq ack window text) = (seq < 2 ^ 32) × (ack < 2 ^ 32)
 -- a line whose numbers fit their types, and whose host's name has no space
 pub record IsLogged (l : LogLine) : Type 0 where
   pub time : l.time.nanos < 2 ^ 64
-  pub host : IsTrue (lacks 32 l.host)
+  pub host : IsTrue (lacks space l.host)
   pub from : FitsAddr l.packet.from
   pub to : FitsAddr l.packet.to
   pub size : packet_size l.packet < 2 ^ 64

@@ -2,6 +2,7 @@
 use Rattle.std.specs.Prelude.{ℕ, ◌+◌, List, [], ◌∷◌, ◌++◌, Bool, not, codes, if◌then◌else◌, ◌==◌, bit_and}
 use Rattle.std.specs.Fmt.{decimal}
 use Rattle.std.specs.List.{join_with_byte}
+use Rattle.sim_base.specs.Ascii.{space}
 use Rattle.sim_base.specs.Packet.{packet_size, syn_flag, ack_flag, fin_flag, rst_flag}
 use Rattle.sim_base.specs.declared.act.Act.{Act}
 use Rattle.sim_base.specs.declared.act.Act.TheVariants.{Send, Lost, FullUp, FullDown, Recv, SockFull, NoPort, Codel}
@@ -51,4 +52,4 @@ log_words l = decimal l.time.nanos ∷ l.host ∷ act_word l.act ∷ protocol_wo
 
 -- the words with a space between each two, and a line end
 abbrev pub log_line : LogLine → List ℕ
-log_line l = join_with_byte 32 (log_words l) ++ codes "\n"
+log_line l = join_with_byte space (log_words l) ++ codes "\n"

@@ -1,6 +1,7 @@
 -- What a run sent, lost and received.
-use Rattle.std.specs.Prelude.{ℕ, ◌-◌, ◌^◌, List, ◌++◌, Bool, true, false, min, count_by, codes}
+use Rattle.std.specs.Prelude.{ℕ, List, ◌++◌, Bool, true, false, min, count_by, codes}
 use Rattle.std.specs.Fmt.{decimal}
+use Rattle.sim_base.specs.Units.{max_u64}
 use Rattle.sim_base.specs.declared.act.Act.{Act}
 use Rattle.sim_base.specs.declared.act.Act.TheVariants.{Send, Lost, Recv}
 use Rattle.out_text.specs.declared.log.LogLine.{LogLine}
@@ -20,7 +21,7 @@ is_recv _ = false
 
 -- how many lines of the log tell such an act, at most 2^64 - 1
 abbrev pub acts_counted : (Act → Bool) → List LogLine → ℕ
-acts_counted is_one log = min (count_by (λ (line : LogLine). is_one line.act) log) (2 ^ 64 - 1)
+acts_counted is_one log = min (count_by (λ (line : LogLine). is_one line.act) log) max_u64
 
 -- the summary of a log, for a run of so many hosts
 abbrev pub summary_of : ℕ → List LogLine → Summary

@@ -2,6 +2,7 @@
 
 ghost use Rattle.std.specs.Prelude.{◌≡◌, ◌++◌, Some, OnOk, OnErr};
 ghost use Rattle.std.specs.List.{join_with_byte};
+ghost use Rattle.sim_base.specs.Ascii.{space};
 ghost use Rattle.out_text.specs.Log.{act_word, protocol_word, is_set, letter, flags_word, log_words, log_line};
 
 use crate::address::ShownAddr;
@@ -76,7 +77,7 @@ impl fmt::Display for ShownFlags {
 
 /// The line without its end.
 impl fmt::Display for LogLine {
-    ghost output = { λ line. Some (join_with_byte 32 (log_words line)) };
+    ghost output = { λ line. Some (join_with_byte space (log_words line)) };
 
     fn fmt<W: fmt::Write>(&self, f: &mut fmt::Formatter<W>) -> fmt::Result {
         let (time, host, act) = (self.time.nanos, self.host.as_str(), word(self.act));
