@@ -36,7 +36,7 @@ hex-small : (c : ℕ) → IfSome (hex_value c) (λ d. d < 16)
 hex-small c = by (nat_le 48 c) (nat_le c 57) (nat_le 65 c) (nat_le c 70) (nat_le 97 c) (nat_le c 102) (leb-true 48 c) (leb-true c 57) (leb-true 65 c) (leb-true c 70) (leb-true 97 c) (leb-true c 102)
   where
     by : (p q r t u v : Bool) → (p ≡ true → 48 ≤ c) → (q ≡ true → c ≤ 57) → (r ≡ true → 65 ≤ c) → (t ≡ true → c ≤ 70) → (u ≡ true → 97 ≤ c) → (v ≡ true → c ≤ 102)
-        → IfSome (if p && q then Some (c - 48) else (if r && t then Some (c - 55) else (if u && v then Some (c - 87) else None))) (λ d. d < 16)
+        → IfSome (if p && q then Some (c - 48) else (if r && t then Some ((c - 65) + 10) else (if u && v then Some ((c - 97) + 10) else None))) (λ d. d < 16)
     by true true r t u v a b d e f g = (let k = b refl in omega (arith, k))
     by true false true true u v a b d e f g = (let k = e refl in omega (arith, k))
     by true false true false true true a b d e f g = (let k = g refl in omega (arith, k))

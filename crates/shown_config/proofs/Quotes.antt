@@ -1,5 +1,5 @@
 -- A text between double quotes is read as that text.
-use Rattle.std.proofs.Common.{◌≡◌, ℕ, suc, ◌+◌, ◌*◌, ◌/◌, ◌%◌, ◌<◌, ◌≤◌, Bool, true, false, cond, ◌&&◌, ◌||◌, not, ◌==◌, nat_lt, nat_le, List, [], ◌∷◌, ◌++◌, length, Some, IsUtf8, chars, encode_utf8, encode_utf8_all, codes, flat_map, refl, sym, ap, ◌∙◌, subst, append_assoc, append-nil, arith, length-append, take_at, eqb-true, ltb-true, ltb-false, if◌then◌else◌, ⊎_elim, add-zero}
+use Rattle.std.proofs.Common.{◌≡◌, ℕ, suc, ◌+◌, ◌-◌, ◌*◌, ◌/◌, ◌%◌, ◌<◌, ◌≤◌, Bool, true, false, cond, ◌&&◌, ◌||◌, not, ◌==◌, nat_lt, nat_le, List, [], ◌∷◌, ◌++◌, length, Some, IsUtf8, chars, encode_utf8, encode_utf8_all, codes, flat_map, refl, sym, ap, ◌∙◌, subst, append_assoc, append-nil, arith, length-append, take_at, eqb-true, ltb-true, ltb-false, if◌then◌else◌, ⊎_elim, add-zero}
 use Rattle.std.specs.List.{list_all}
 use Rattle.std.specs.Char.{IsScalar}
 use Rattle.std.proofs.Math.Utf8.{scalar, scalars, encode}
@@ -7,6 +7,7 @@ use Rattle.std.proofs.lemmas.Bool.{and_parts, and_from, or_cases}
 use Rattle.std.proofs.lemmas.Bool.Decides.{nat_tests}
 use Rattle.std.proofs.lemmas.Str.{IsUtf8-append, IsUtf8-encode, IsUtf8-nil, IsUtf8-from_ascii, encodes-chars, scalars-chars}
 use Rattle.std.proofs.lemmas.Str.Ascii.{IsAscii-nil, IsAscii-cons}
+use Rattle.sim_base.specs.Ascii.{digit_0, digit_9, capital_a, capital_f}
 use Rattle.yaml_marks.specs.Scalars.{put_before, unescaped, double_len, hex_value, is_surrogate, double_text, double_scan}
 use Rattle.yaml_marks.specs.declared.scan.Scan.TheVariants.{Quoted}
 use Rattle.yaml_marks.specs.declared.escapes.Escape.TheVariants.{Outside}
@@ -116,30 +117,30 @@ tab-stands = pair-stands 9 116 (reads-byte 9) refl
 hex_value-digit : (n : ℕ) → n < 16 → hex_value (hex_digit n) ≡ Some n
 hex_value-digit n h = by (nat_lt n 10) refl
   where
-    low : n < 10 → hex_value (48 + n) ≡ Some n
-    low l = let a : nat_le 48 (48 + n) ≡ true = grind (arith, nat_tests) in let b : nat_le (48 + n) 57 ≡ true = grind (arith, nat_tests) in rw (a, b) (ap Some (omega arith))
+    low : n < 10 → hex_value (digit_0 + n) ≡ Some n
+    low l = let a : nat_le digit_0 (digit_0 + n) ≡ true = grind (arith, nat_tests) in let b : nat_le (digit_0 + n) digit_9 ≡ true = grind (arith, nat_tests) in rw (a, b) (ap Some (omega arith))
 
-    high : 10 ≤ n → hex_value (55 + n) ≡ Some n
+    high : 10 ≤ n → hex_value (capital_a + (n - 10)) ≡ Some n
     high l =
-        let a : nat_le (55 + n) 57 ≡ false = grind (arith, nat_tests) in
-        let b : nat_le 65 (55 + n) ≡ true = grind (arith, nat_tests) in
-        let d : nat_le (55 + n) 70 ≡ true = grind (arith, nat_tests) in
-        rw (a, and_false (nat_le 48 (55 + n)), b, d) (ap Some (omega arith))
+        let a : nat_le (capital_a + (n - 10)) digit_9 ≡ false = grind (arith, nat_tests) in
+        let b : nat_le capital_a (capital_a + (n - 10)) ≡ true = grind (arith, nat_tests) in
+        let d : nat_le (capital_a + (n - 10)) capital_f ≡ true = grind (arith, nat_tests) in
+        rw (a, and_false (nat_le digit_0 (capital_a + (n - 10))), b, d) (ap Some (omega (arith, l)))
 
-    by : (t : Bool) → nat_lt n 10 ≡ t → hex_value (if t then 48 + n else 55 + n) ≡ Some n
+    by : (t : Bool) → nat_lt n 10 ≡ t → hex_value (if t then digit_0 + n else capital_a + (n - 10)) ≡ Some n
     by true e = low (ltb-true n 10 e)
     by false e = high (ltb-false n 10 e)
 
 hex_digit-itself : (n : ℕ) → n < 16 → is_itself (hex_digit n) ≡ true
 hex_digit-itself n h = by (nat_lt n 10) refl
   where
-    low : n < 10 → is_itself (48 + n) ≡ true
+    low : n < 10 → is_itself (digit_0 + n) ≡ true
     low l = grind (arith, nat_tests)
 
-    high : 10 ≤ n → is_itself (55 + n) ≡ true
+    high : 10 ≤ n → is_itself (capital_a + (n - 10)) ≡ true
     high l = grind (arith, nat_tests)
 
-    by : (t : Bool) → nat_lt n 10 ≡ t → is_itself (if t then 48 + n else 55 + n) ≡ true
+    by : (t : Bool) → nat_lt n 10 ≡ t → is_itself (if t then digit_0 + n else capital_a + (n - 10)) ≡ true
     by true e = low (ltb-true n 10 e)
     by false e = high (ltb-false n 10 e)
 
