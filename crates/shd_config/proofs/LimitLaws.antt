@@ -1,8 +1,9 @@
 -- Each configuration keeps to its limits.
 use Rattle.std.specs.Prelude.{if◌then◌else◌}
-use Rattle.std.proofs.Common.{◌≡◌, ℕ, ◌+◌, ◌≤◌, ◌&&◌, Bool, true, false, List, [], ◌∷◌, ◌++◌, length, map, All, Option, Some, None, IfSome, IfOk, Result, Ok, Err, unwrap_or, is_some, codes, suc, ◌^◌, ◌-◌, refl, sym, ap, subst, ◌∙◌, arith, length-append, nat_le}
+use Rattle.std.proofs.Common.{◌≡◌, ℕ, ◌+◌, ◌≤◌, ◌&&◌, Bool, true, false, List, [], ◌∷◌, ◌++◌, length, map, All, Option, Some, None, IfSome, IfOk, Result, Ok, Err, unwrap_or, is_some, codes, suc, ◌-◌, refl, sym, ap, subst, ◌∙◌, arith, length-append, nat_le}
 use Rattle.std.proofs.lemmas.Bool.{leb-true}
 use Rattle.std.proofs.lemmas.List.Elements.{All-nil, All-push, All-map, All-weaker}
+use Rattle.sim_base.specs.Units.{max_u32}
 use Rattle.sim_base.specs.Refusals.{◌>>=◌}
 use Rattle.sim_base.specs.declared.time.Time.{Time}
 use Rattle.yaml_tree.specs.Said.{Said}
@@ -34,6 +35,7 @@ use Rattle.shd_config.specs.Network.{network_at}
 use Rattle.shd_config.specs.Host.{options_at, new_host, host_key, host_row, finished_host, host_of, host_at, hosts_row, hosts_at, settled}
 use Rattle.shd_config.specs.Config.{root, new_root, experimental_at, root_key, root_row, general_or, finished_root, root_of, merged_config, wrong_merge, config, is_passed_over}
 use Rattle.shd_config.specs.Limits.{MayStop, IsSomeText, AreFewHosts, HasFewProcesses, HasFewBytes, HaveFewBytes, MayOverride, IsWithinLimits}
+use Rattle.shd_config.specs.Bounds.{greatest_stop, most_hosts, most_processes, most_text_bytes}
 
 -- ---- steps
 
@@ -121,7 +123,7 @@ within : (least most n : ℕ) → is_within least most n ≡ true → (least ≤
 within least most n e = both_hold least most n (nat_le least n) (nat_le n most) refl refl e
 
 stop_if : (p : Pair) (t : Time) (b : Bool) → may_stop_at t ≡ b → IfOk (ranged (λ _. b) p t) MayStop
-stop_if p t true e = within 1 (2 ^ 61) t.nanos e
+stop_if p t true e = within 1 greatest_stop t.nanos e
 stop_if p t false e = tt
 
 stop_has : (p : Pair) → IfOk (stop_time_at p) MayStop
@@ -190,10 +192,10 @@ module _ (o : Overrides) (may : MayOverride o) where
 process_has : (p : Pair) → IfOk (process_at p) HasFewBytes
 unfolding process_at
 process_has p =
-    then_all HasFewBytes (process_in p) _ (λ c. checked_has HasFewBytes OutOfRange p (nat_le (texts_size c) 65536) (λ _. Ok c) (λ e. leb-true (texts_size c) 65536 e))
+    then_all HasFewBytes (process_in p) _ (λ c. checked_has HasFewBytes OutOfRange p (nat_le (texts_size c) most_text_bytes) (λ _. Ok c) (λ e. leb-true (texts_size c) most_text_bytes e))
 
 abbrev AreProcesses : List ProcessConfig → Type 0
-AreProcesses ps = (length ps ≤ 64) × All HasFewBytes ps
+AreProcesses ps = (length ps ≤ most_processes) × All HasFewBytes ps
 
 one_process : (key : List ℕ) (before : List ProcessConfig) (value : Said) → IfOk (process_item key before value) (IsMore HasFewBytes before)
 one_process key before value =
@@ -203,10 +205,10 @@ processes_has : (p : Pair) → IfOk (processes_at p) AreProcesses
 unfolding processes_at
 processes_has p =
     then_all AreProcesses (sequence_at p) _
-    (λ items. checked_has AreProcesses OutOfRange p (nat_le (length items) 64) _
+    (λ items. checked_has AreProcesses OutOfRange p (nat_le (length items) most_processes) _
     (λ e. weaker (AreMore HasFewBytes (0 + length items)) AreProcesses (through (process_item p.key) [] items)
     (through_pushes HasFewBytes (process_item p.key) (λ before value. one_process p.key before value) [] items (All-nil HasFewBytes))
-    (λ all more. (let few = leb-true (length items) 64 e in let count = more.length_is in omega (arith, few, count), more.each))))
+    (λ all more. (let few = leb-true (length items) most_processes e in let count = more.length_is in omega (arith, few, count), more.each))))
 
 -- ---- hosts
 
@@ -220,7 +222,7 @@ no_processes : AreProcesses []
 no_processes = (omega arith, All-nil HasFewBytes)
 
 host_key_has : (key : Option Key) (d : HostDraft) (p : Pair) → IsDraft d → IfOk (host_key key d p) IsDraft
-host_key_has (Some keys.NetworkNodeId) d p h = then_all IsDraft (number_at 0 (2 ^ 32 - 1) p) _ (λ v. h)
+host_key_has (Some keys.NetworkNodeId) d p h = then_all IsDraft (number_at 0 max_u32 p) _ (λ v. h)
 host_key_has (Some keys.IpAddr) d p h = then_all IsDraft (optional p (address_at p)) _ (λ v. h)
 host_key_has (Some keys.BandwidthUp) d p h = then_all IsDraft (optional p (rate_at p)) _ (λ v. h)
 host_key_has (Some keys.BandwidthDown) d p h = then_all IsDraft (optional p (rate_at p)) _ (λ v. h)
@@ -243,7 +245,7 @@ unfolding host_at
 host_has p = then_all IsHost (checked BadValue p _) _ (λ _. then_all IsHost (mapping_at p) _ (λ pairs. below_has IsHost p (host_of p pairs) (host_of_has p pairs)))
 
 abbrev AreHosts : List HostRead → Type 0
-AreHosts hs = ((1 ≤ length hs) × (length hs ≤ 16384)) × All IsHost hs
+AreHosts hs = ((1 ≤ length hs) × (length hs ≤ most_hosts)) × All IsHost hs
 
 one_host : (before : List HostRead) (p : Pair) → IfOk (hosts_row before p) (IsMore IsHost before)
 one_host before p = then_has IsHost (IsMore IsHost before) (host_at p) _ (host_has p) (λ h k. record { last = h; has = k; is = refl })
@@ -252,11 +254,11 @@ hosts_has : (p : Pair) → IfOk (hosts_at p) AreHosts
 unfolding hosts_at
 hosts_has p =
     then_all AreHosts (mapping_at p) _
-    (λ pairs. checked_has AreHosts OutOfRange p (is_within 1 16384 (length pairs)) _
+    (λ pairs. checked_has AreHosts OutOfRange p (is_within 1 most_hosts (length pairs)) _
     (λ e. below_has AreHosts p (through hosts_row [] pairs)
     (weaker (AreMore IsHost (0 + length pairs)) AreHosts (through hosts_row [] pairs)
     (through_pushes IsHost hosts_row one_host [] pairs (All-nil IsHost))
-    (λ all more. (let few = within 1 16384 (length pairs) e in let count = more.length_is in (omega (arith, few.0, count), omega (arith, few.1, count)), more.each)))))
+    (λ all more. (let few = within 1 most_hosts (length pairs) e in let count = more.length_is in (omega (arith, few.0, count), omega (arith, few.1, count)), more.each)))))
 
 -- ---- the root
 

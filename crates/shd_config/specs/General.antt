@@ -1,5 +1,6 @@
 -- The key `general`.
-use Rattle.std.specs.Prelude.{ℕ, ◌-◌, ◌^◌, Bool, List, [], ◌∷◌, Option, Some, None, is_some, unwrap_or, Result, Ok, Err, codes, if◌then◌else◌}
+use Rattle.std.specs.Prelude.{ℕ, Bool, List, [], ◌∷◌, Option, Some, None, is_some, unwrap_or, Result, Ok, Err, codes, if◌then◌else◌}
+use Rattle.sim_base.specs.Units.{max_u32}
 use Rattle.sim_base.specs.declared.time.Time.{Time}
 use Rattle.sim_base.specs.Refusals.{◌>>=◌}
 use Rattle.yaml_merge.specs.declared.plain.Pair.{Pair}
@@ -20,8 +21,8 @@ new_general = record { stop_time = None; seed = None; parallelism = None; bootst
 -- A pair of `general`. Only what has no effect has no field.
 abbrev pub general_key : Overrides → Option Key → GeneralDraft → Pair → Result GeneralDraft ConfigFault
 general_key o (Some keys.StopTime) d p = given (is_some o.stop_time) p (stop_time_at p) >>= λ v. Ok (record d { stop_time = v })
-general_key o (Some keys.Seed) d p = optional p (number_at 0 (2 ^ 32 - 1) p) >>= λ v. Ok (record d { seed = v })
-general_key o (Some keys.Parallelism) d p = optional p (number_at 0 (2 ^ 32 - 1) p) >>= λ v. Ok (record d { parallelism = v })
+general_key o (Some keys.Seed) d p = optional p (number_at 0 max_u32 p) >>= λ v. Ok (record d { seed = v })
+general_key o (Some keys.Parallelism) d p = optional p (number_at 0 max_u32 p) >>= λ v. Ok (record d { parallelism = v })
 general_key o (Some keys.BootstrapEndTime) d p = optional p (time_at p) >>= λ v. Ok (record d { bootstrap_end_time = v })
 general_key o (Some keys.DataDirectory) d p = optional p (text_with is_some_text p) >>= λ v. Ok (record d { data_directory = v })
 general_key o (Some keys.LogLevel) d p = optional p (text_at p) >>= λ _. Ok d

@@ -1,5 +1,6 @@
 -- The keys `hosts` and `host_option_defaults`.
-use Rattle.std.specs.Prelude.{ℕ, ◌-◌, ◌^◌, Bool, false, if◌then◌else◌, List, [], ◌∷◌, ◌++◌, length, map, Option, Some, None, unwrap_or, Result, Ok, Err, codes}
+use Rattle.std.specs.Prelude.{ℕ, Bool, false, if◌then◌else◌, List, [], ◌∷◌, ◌++◌, length, map, Option, Some, None, unwrap_or, Result, Ok, Err, codes}
+use Rattle.sim_base.specs.Units.{max_u32}
 use Rattle.sim_base.specs.declared.address.Ip.{Ip}
 use Rattle.shd_values.specs.Word.{is_name_of_host}
 use Rattle.sim_base.specs.Refusals.{◌>>=◌}
@@ -17,6 +18,7 @@ use Rattle.shd_config.specs.Steps.{refused, needed, checked, below, through, opt
 use Rattle.shd_config.specs.Keys.{key_of}
 use Rattle.shd_config.specs.Values.{mapping_at, text_at, number_at, truth_at, size_at, rate_at, address_at, is_within}
 use Rattle.shd_config.specs.Process.{processes_at}
+use Rattle.shd_config.specs.Bounds.{most_hosts, default_capture}
 
 -- ---- the options of hosts
 
@@ -41,7 +43,7 @@ abbrev pub new_host : HostDraft
 new_host = record { network_node_id = None; ip_addr = None; bandwidth_up = None; bandwidth_down = None; options = no_options; processes = [] }
 
 abbrev pub host_key : Option Key → HostDraft → Pair → Result HostDraft ConfigFault
-host_key (Some keys.NetworkNodeId) d p = number_at 0 (2 ^ 32 - 1) p >>= λ v. Ok (record d { network_node_id = Some v })
+host_key (Some keys.NetworkNodeId) d p = number_at 0 max_u32 p >>= λ v. Ok (record d { network_node_id = Some v })
 host_key (Some keys.IpAddr) d p = optional p (address_at p) >>= λ v. Ok (record d { ip_addr = v })
 host_key (Some keys.BandwidthUp) d p = optional p (rate_at p) >>= λ v. Ok (record d { bandwidth_up = v })
 host_key (Some keys.BandwidthDown) d p = optional p (rate_at p) >>= λ v. Ok (record d { bandwidth_down = v })
@@ -85,7 +87,7 @@ hosts_row before p = host_at p >>= λ host. Ok (before ++ host ∷ [])
 unfoldable pub hosts_at : Pair → Result (List HostRead) ConfigFault
 hosts_at p = do
   pairs ← mapping_at p
-  _ ← checked OutOfRange p (is_within 1 16384 (length pairs))
+  _ ← checked OutOfRange p (is_within 1 most_hosts (length pairs))
   below p (through hosts_row [] pairs)
 
 -- an option of a host, else that of all hosts, else the default
@@ -101,6 +103,6 @@ settled all h = record {
   bandwidth_up = h.bandwidth_up;
   bandwidth_down = h.bandwidth_down;
   pcap_enabled = chosen h.options.pcap_enabled all.pcap_enabled false;
-  pcap_capture_size = chosen h.options.pcap_capture_size all.pcap_capture_size 65535;
+  pcap_capture_size = chosen h.options.pcap_capture_size all.pcap_capture_size default_capture;
   processes = h.processes;
 }

@@ -1,3 +1,4 @@
+pub mod Bounds
 pub mod Steps
 pub mod Keys
 pub mod Values

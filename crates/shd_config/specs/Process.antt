@@ -23,6 +23,7 @@ use Rattle.shd_config.specs.declared.process.ProcessDraft.{ProcessDraft}
 use Rattle.shd_config.specs.Steps.{refused, needed, valued, checked, below, through, optional, mapping_line, item}
 use Rattle.shd_config.specs.Keys.{key_of}
 use Rattle.shd_config.specs.Values.{mapping_at, sequence_at, text_at, scalar_at, number_at, time_of, time_at, signal_at, ranged, text_with}
+use Rattle.shd_config.specs.Bounds.{greatest_status, most_text_bytes, most_processes}
 
 -- ---- the arguments
 
@@ -57,7 +58,7 @@ state_alone other p = checked BadValue p (is_null p.value || not other)
 abbrev pub state_key : Option Key → StateDraft → Pair → Result StateDraft ConfigFault
 state_key (Some keys.Exited) d p = do
   _ ← state_alone (is_some d.signaled) p
-  status ← optional p (number_at 0 255 p)
+  status ← optional p (number_at 0 greatest_status p)
   Ok (record d { exited = status })
 state_key (Some keys.Signaled) d p = do
   _ ← state_alone (is_some d.exited) p
@@ -157,7 +158,7 @@ process_in p = mapping_at p >>= λ pairs. below p (process_of p.line pairs)
 unfoldable pub process_at : Pair → Result ProcessConfig ConfigFault
 process_at p = do
   c ← process_in p
-  _ ← checked OutOfRange p (nat_le (texts_size c) 65536)
+  _ ← checked OutOfRange p (nat_le (texts_size c) most_text_bytes)
   Ok c
 
 abbrev pub process_item : List ℕ → List ProcessConfig → Said → Result (List ProcessConfig) ConfigFault
@@ -167,5 +168,5 @@ process_item key before value = process_at (item key (length before) value) >>= 
 unfoldable pub processes_at : Pair → Result (List ProcessConfig) ConfigFault
 processes_at p = do
   items ← sequence_at p
-  _ ← checked OutOfRange p (nat_le (length items) 64)
+  _ ← checked OutOfRange p (nat_le (length items) most_processes)
   through (process_item p.key) [] items

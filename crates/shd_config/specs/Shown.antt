@@ -16,6 +16,7 @@ use Rattle.shd_config.specs.declared.config.ProcessConfig.{ProcessConfig}
 use Rattle.shd_config.specs.declared.config.HostConfig.{HostConfig}
 use Rattle.shd_config.specs.declared.config.Config.{Config}
 use Rattle.shd_config.specs.Quoted.{quoted}
+use Rattle.shd_config.specs.Bounds.{default_capture}
 
 -- ---- values
 
@@ -125,9 +126,9 @@ shown_processes (p ∷ ps) = codes "    processes:\n" ++ flat_map shown_process 
 
 -- the options of a host that aren't the built-in defaults, in flow form; none where each is its default
 abbrev pub changed_options : Bool → ℕ → Option (List ℕ)
-changed_options false size = if size == 65535 then None else Some (codes "{pcap_capture_size: " ++ (decimal size ++ codes " B}"))
+changed_options false size = if size == default_capture then None else Some (codes "{pcap_capture_size: " ++ (decimal size ++ codes " B}"))
 changed_options true size =
-    if size == 65535 then Some (codes "{pcap_enabled: true}")
+    if size == default_capture then Some (codes "{pcap_enabled: true}")
     else Some (codes "{pcap_enabled: true, pcap_capture_size: " ++ (decimal size ++ codes " B}"))
 
 -- the address and the rates that are given

@@ -1,5 +1,5 @@
 -- The kinds of values.
-use Rattle.std.specs.Prelude.{◌≡◌, ℕ, ◌*◌, ◌^◌, Bool, true, ◌&&◌, not, if◌then◌else◌, nat_lt, nat_le, List, [], ◌∷◌, ◌++◌, length, Option, Some, None, Result, Ok, Err, codes}
+use Rattle.std.specs.Prelude.{◌≡◌, ℕ, ◌*◌, Bool, true, ◌&&◌, not, if◌then◌else◌, nat_lt, nat_le, List, [], ◌∷◌, ◌++◌, length, Option, Some, None, Result, Ok, Err, codes}
 use Rattle.std.specs.Option.{option_map}
 use Rattle.std.specs.Str.{bytes_eq}
 use Rattle.sim_base.specs.Quantity.{time_of_text, rate_of_text}
@@ -16,6 +16,7 @@ use Rattle.yaml_merge.specs.declared.plain.Pair.{Pair}
 use Rattle.shd_config.specs.declared.fault.ConfigKind.TheVariants.{WrongType, OutOfRange, BadValue}
 use Rattle.shd_config.specs.declared.fault.ConfigFault.{ConfigFault}
 use Rattle.shd_config.specs.Steps.{refused, valued, checked}
+use Rattle.shd_config.specs.Bounds.{greatest_stop, greatest_capture}
 
 -- a mapping
 abbrev pub mapping_at : Pair → Result (List Pair) ConfigFault
@@ -46,7 +47,7 @@ number_at least most p = scalar_at number_of p >>= ranged (is_within least most)
 
 -- a size in bytes from 1 to 65,535
 abbrev pub size_at : Pair → Result ℕ ConfigFault
-size_at p = scalar_at size_of p >>= ranged (is_within 1 65535) p
+size_at p = scalar_at size_of p >>= ranged (is_within 1 greatest_capture) p
 
 abbrev pub time_of : List ℕ → Option Time
 time_of text = option_map (λ n. record { nanos = n }) (time_of_text text)
@@ -56,7 +57,7 @@ time_at p = scalar_at time_of p
 
 -- 1 ns to 2^61 ns
 abbrev pub may_stop_at : Time → Bool
-may_stop_at t = is_within 1 (2 ^ 61) t.nanos
+may_stop_at t = is_within 1 greatest_stop t.nanos
 
 abbrev pub stop_time_at : Pair → Result Time ConfigFault
 stop_time_at p = time_at p >>= ranged may_stop_at p

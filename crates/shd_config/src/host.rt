@@ -192,7 +192,7 @@ fn read_list(alloc: Global, pairs: &[Pair]) -> Result<Vec<HostRead>, ConfigError
 const MOST_HOSTS: usize = 16_384;
 
 fn may_be_hosts(count: usize) -> bool
-    ensures { result ≡ is_within 1 16384 count }
+    ensures { result ≡ is_within 1 MOST_HOSTS count }
 {
     1 <= count && count <= MOST_HOSTS
 }

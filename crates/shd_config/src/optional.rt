@@ -1,6 +1,6 @@
 //! Values of keys that may be absent. A null counts as absent.
 
-ghost use Rattle.std.specs.Prelude.{◌≡◌, ◌-◌, ◌^◌};
+ghost use Rattle.std.specs.Prelude.{◌≡◌};
 ghost use Rattle.shd_config.specs.Steps.{Gives, Passes, optional};
 ghost use Rattle.shd_config.specs.Values.{text_at, number_at, size_at, time_at, rate_at, truth_at, signal_at, address_at};
 
@@ -36,7 +36,7 @@ pub fn check_scalar(alloc: Global, pair: &Pair) -> Result<(), ConfigError>
 }
 
 pub fn optional_u32(alloc: Global, pair: &Pair) -> Result<Option<u32>, ConfigError>
-    ensures { Gives result (optional pair.now (number_at 0 (2 ^ 32 - 1) pair.now)) }
+    ensures { Gives result (optional pair.now (number_at 0 u32.MAX pair.now)) }
 {
     if pair.value.is_null() {
         return Ok(None);
@@ -45,7 +45,7 @@ pub fn optional_u32(alloc: Global, pair: &Pair) -> Result<Option<u32>, ConfigErr
 }
 
 pub fn optional_u8(alloc: Global, pair: &Pair) -> Result<Option<u8>, ConfigError>
-    ensures { Gives result (optional pair.now (number_at 0 255 pair.now)) }
+    ensures { Gives result (optional pair.now (number_at 0 u8.MAX pair.now)) }
 {
     if pair.value.is_null() {
         return Ok(None);

@@ -7,6 +7,7 @@ ghost use Rattle.yaml_merge.specs.Plain.{line_of};
 ghost use Rattle.shd_values.specs.Word.{names_program};
 ghost use Rattle.shd_values.specs.Words.{words_of};
 ghost use Rattle.shd_config.specs.Process.{argument_row, arguments_in, arguments_at, variable_row, environment_at, zero_time, start_of, start_in, start_in_row, is_behind, shutdown_at, new_process, process_key, process_row, finished_process, process_of, texts_size, process_in, process_at, process_item, processes_at};
+ghost use Rattle.shd_config.specs.Bounds.{most_text_bytes};
 
 use crate::config::{FinalState, ProcessConfig, Variable};
 use crate::fault::{ConfigError, ConfigKind};
@@ -298,8 +299,8 @@ const TOO_MANY: usize = 65_537;
 
 /// The sum of two sizes, cut at too many bytes.
 fn add(size: usize, more: usize) -> usize
-    requires { size ≤ 65537 }
-    ensures { result ≡ min (size + more) 65537 }
+    requires { size ≤ TOO_MANY }
+    ensures { result ≡ min (size + more) TOO_MANY }
 {
     if more >= TOO_MANY {
         return TOO_MANY;
@@ -308,8 +309,8 @@ fn add(size: usize, more: usize) -> usize
 }
 
 fn with_arguments(size: usize, args: &[Text]) -> usize
-    requires { size ≤ 65537 }
-    ensures { result ≡ min (size + sum_by (λ a. length a + 1) args.now) 65537 }
+    requires { size ≤ TOO_MANY }
+    ensures { result ≡ min (size + sum_by (λ a. length a + 1) args.now) TOO_MANY }
 {
     let mut size = size;
     for arg in args {
@@ -320,8 +321,8 @@ fn with_arguments(size: usize, args: &[Text]) -> usize
 }
 
 fn with_variables(size: usize, variables: &[Variable]) -> usize
-    requires { size ≤ 65537 }
-    ensures { result ≡ min (size + sum_by (λ v. length v.name + length v.value + 2) variables.now) 65537 }
+    requires { size ≤ TOO_MANY }
+    ensures { result ≡ min (size + sum_by (λ v. length v.name + length v.value + 2) variables.now) TOO_MANY }
 {
     let mut size = size;
     for variable in variables {
@@ -334,7 +335,7 @@ fn with_variables(size: usize, variables: &[Variable]) -> usize
 
 /// Whether the texts of a process, each with a zero byte behind it, take at most 65,536 bytes.
 fn texts_fit(process: &ProcessConfig) -> bool
-    ensures { result ≡ nat_le (texts_size process.now) 65536 }
+    ensures { result ≡ nat_le (texts_size process.now) most_text_bytes }
 {
     let size = add(add(0, process.path.len()), 1);
     let size = with_arguments(size, process.args.as_slice());

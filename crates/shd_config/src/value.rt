@@ -1,6 +1,6 @@
 //! Values that have to be given.
 
-ghost use Rattle.std.specs.Prelude.{◌≡◌, ◌≤◌, ◌<◌, ◌-◌, ◌^◌, IfOk};
+ghost use Rattle.std.specs.Prelude.{◌≡◌, ◌≤◌, ◌<◌, IfOk};
 ghost use Rattle.shd_config.specs.Steps.{Gives, GivesSeen};
 ghost use Rattle.shd_config.specs.Values.{mapping_at, sequence_at, text_at, number_at, size_at, time_at, may_stop_at, stop_time_at, rate_at, truth_at, signal_at, may_be_host, address_at, is_within};
 
@@ -58,14 +58,14 @@ pub fn read_number(alloc: Global, pair: &Pair, least: u128, most: u128) -> Resul
 
 /// A whole number of 32 bits.
 pub fn read_u32(alloc: Global, pair: &Pair) -> Result<u32, ConfigError>
-    ensures { Gives result (number_at 0 (2 ^ 32 - 1) pair.now) }
+    ensures { Gives result (number_at 0 u32.MAX pair.now) }
 {
     Ok(read_number(alloc, pair, 0, 0xffff_ffff)? as u32)
 }
 
 /// A whole number of 8 bits.
 pub fn read_u8(alloc: Global, pair: &Pair) -> Result<u8, ConfigError>
-    ensures { Gives result (number_at 0 255 pair.now) }
+    ensures { Gives result (number_at 0 u8.MAX pair.now) }
 {
     Ok(read_number(alloc, pair, 0, 255)? as u8)
 }

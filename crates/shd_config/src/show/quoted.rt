@@ -1,6 +1,7 @@
 //! Texts in double quotes.
 
 ghost use Rattle.std.specs.Prelude.{◌≡◌, ◌<◌, ◌++◌, ◌==◌, ◌||◌, nat_lt, if◌then◌else◌, encode_utf8, string_bytes, IfOk, OnOk};
+ghost use Rattle.sim_base.specs.Ascii.{space, delete};
 ghost use Rattle.shd_config.specs.Quoted.{hex_digit, hex_escape, escaped, quoted};
 
 use std::alloc::{AllocError, Global};
@@ -20,7 +21,7 @@ fn hex_digit(digit: u8) -> char
 /// Adds a character that has no escape of its own.
 fn escape_other(out: &mut String, character: char) -> Result<(), AllocError>
     ensures { OnOk result (string_bytes out.new ≡ string_bytes out.old
-        ++ (if nat_lt character 32 || character == 127 then hex_escape character else encode_utf8 character)) }
+        ++ (if nat_lt character space || character == delete then hex_escape character else encode_utf8 character)) }
 {
     let code = character as u32;
     if code < 32 || code == 127 {
