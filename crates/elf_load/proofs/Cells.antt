@@ -11,6 +11,7 @@ use Rattle.elf_load.specs.Build.{IsPageOf}
 use Rattle.elf_load.specs.Cells.{Cell, cells_from, cells_of_page}
 use Rattle.elf_load.specs.Image.{byte_at, cell_at, cells_on}
 use Rattle.elf_load.specs.Pages.{rights_at}
+use Rattle.elf_load.specs.Room.{page_size}
 
 module _ (bytes : List ℕ) (ss : List ProgramHeader) where
   abbrev entry : ℕ → ℕ × Cell
@@ -21,32 +22,32 @@ module _ (bytes : List ℕ) (ss : List ProgramHeader) where
 
   cells_from-is : (rights : Rights) (at : ℕ) (bs : List ℕ)
       → ((i : ℕ) → i < length bs → get_or bs i 0 ≡ byte_at bytes ss (at + i))
-      → ((i : ℕ) → i < length bs → rights ≡ rights_at ss ((at + i) / 4096))
+      → ((i : ℕ) → i < length bs → rights ≡ rights_at ss ((at + i) / page_size))
       → cells_from rights at bs ≡ map entry (range_with_len at (length bs))
   cells_from-is rights at [] bytes_are rights_are = refl
   cells_from-is rights at (b ∷ bs) bytes_are rights_are =
       let here : at + 0 ≡ at = omega arith in
       let byte_is : b ≡ byte_at bytes ss at = bytes_are 0 (omega arith) ∙ ap (byte_at bytes ss) here in
-      let rights_is : rights ≡ rights_at ss (at / 4096) = rights_are 0 (omega arith) ∙ ap (λ a. rights_at ss (a / 4096)) here in
+      let rights_is : rights ≡ rights_at ss (at / page_size) = rights_are 0 (omega arith) ∙ ap (λ a. rights_at ss (a / page_size)) here in
       let next : (i : ℕ) → at + suc i ≡ (at + 1) + i = λ i. omega arith in
       let first : ◌≡◌ {A = ℕ × Cell} (at, record { byte = b; rights = rights }) (entry at) = ap (λ c. (at, c)) (same_cell b _ rights _ byte_is rights_is) in
       let rest : cells_from rights (at + 1) bs ≡ map entry (range_with_len (at + 1) (length bs)) =
       cells_from-is rights (at + 1) bs
       (λ i within. bytes_are (suc i) (omega arith) ∙ ap (byte_at bytes ss) (next i))
-      (λ i within. rights_are (suc i) (omega arith) ∙ ap (λ a. rights_at ss (a / 4096)) (next i)) in
+      (λ i within. rights_are (suc i) (omega arith) ∙ ap (λ a. rights_at ss (a / page_size)) (next i)) in
       ap (λ e. e ∷ cells_from rights (at + 1) bs) first ∙ ap (λ es. entry at ∷ es) rest
 
-  pub cells_of_page-is : (number : ℕ) (page : Page) → length page.bytes.items ≡ 4096 → IsPageOf bytes ss number page → cells_of_page page ≡ cells_on bytes ss number
+  pub cells_of_page-is : (number : ℕ) (page : Page) → length page.bytes.items ≡ page_size → IsPageOf bytes ss number page → cells_of_page page ≡ cells_on bytes ss number
   cells_of_page-is number page whole is =
-      ap (λ n. cells_from page.rights (4096 * n) page.bytes.items) is.number_is
-      ∙ cells_from-is page.rights (4096 * number) page.bytes.items
+      ap (λ n. cells_from page.rights (page_size * n) page.bytes.items) is.number_is
+      ∙ cells_from-is page.rights (page_size * number) page.bytes.items
       (λ i within. is.bytes_are i (omega arith))
-      (λ i within. let same : number ≡ (4096 * number + i) / 4096 = omega arith in is.rights_are ∙ ap (rights_at ss) same)
-      ∙ ap (λ n. map entry (range_with_len (4096 * number) n)) whole
+      (λ i within. let same : number ≡ (page_size * number + i) / page_size = omega arith in is.rights_are ∙ ap (rights_at ss) same)
+      ∙ ap (λ n. map entry (range_with_len (page_size * number) n)) whole
 
   -- one page more
   pub cells_more : (pages more : List Page) (page : Page) (numbers : List ℕ) (i number : ℕ)
-      → more ≡ pages ++ page ∷ [] → i < length numbers → get_or numbers i 0 ≡ number → length page.bytes.items ≡ 4096 → IsPageOf bytes ss number page
+      → more ≡ pages ++ page ∷ [] → i < length numbers → get_or numbers i 0 ≡ number → length page.bytes.items ≡ page_size → IsPageOf bytes ss number page
       → flat_map cells_of_page pages ≡ flat_map (cells_on bytes ss) (take i numbers)
       → flat_map cells_of_page more ≡ flat_map (cells_on bytes ss) (take (i + 1) numbers)
   cells_more pages more page numbers i number pushed within number_is whole is before =

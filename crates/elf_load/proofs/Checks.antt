@@ -20,6 +20,8 @@ use Rattle.elf_load.specs.Image.{Check, program_header_checks, all_program_heade
 use Rattle.elf_load.specs.Layout.{IsFound, IsListOf, IsPlaced, IsSound}
 use Rattle.elf_load.specs.Pages.{is_segment, segments, end_of, share_a_byte, pages_of, touched_pages}
 use Rattle.elf_load.proofs.Numbers.{set_of, set_of-append, IsListOf_none, IsListOf_append}
+use Rattle.elf_load.specs.Room.{page_size, room_end, max_program_pages}
+use Rattle.elf_load.specs.Standard.{program_header_size}
 
 -- of the checks of a segment, those of its pages and of its bytes alone are open
 open_checks : (m o : Bool)
@@ -36,15 +38,15 @@ pub record Passes (bytes : List ℕ) (h : ProgramHeader) : Type 0 where
   pub segment : is_segment h ≡ true
   pub in_file : h.offset + h.file_size ≤ length bytes
   pub sizes : h.file_size ≤ h.memory_size
-  pub low : 4096 ≤ h.address
-  pub high : end_of h ≤ 0xBF000000
+  pub low : page_size ≤ h.address
+  pub high : end_of h ≤ room_end
 
 not_equal : (a b : ℕ) → a ≢ b → (a == b) ≡ false
 not_equal a b differ = elim (eqb_tells a b) [ inl is ↦ absurd (differ is.1) | inr is ↦ is.0 ]
 
 fault_of_segment : (bytes : List ℕ) (earlier : List ProgramHeader) (h : ProgramHeader) → Passes bytes h
     → first_fault (program_header_checks bytes earlier h)
-    ≡ (if nat_lt 3840 (len (touched_pages (earlier ++ h ∷ []))) then Some Range else (if list_any (share_a_byte h) earlier then Some Overlap else None))
+    ≡ (if nat_lt max_program_pages (len (touched_pages (earlier ++ h ∷ []))) then Some Range else (if list_any (share_a_byte h) earlier then Some Overlap else None))
 unfolding program_header_checks
 fault_of_segment bytes earlier h passes =
     let a : (h.kind == 3) ≡ false = not_equal h.kind 3 passes.no_interpreter in
@@ -52,8 +54,8 @@ fault_of_segment bytes earlier h passes =
     let s : is_segment h ≡ true = passes.segment in
     let t : nat_lt (length bytes) (h.offset + h.file_size) ≡ false = le-ltb _ _ passes.in_file in
     let p : nat_lt h.memory_size h.file_size ≡ false = le-ltb _ _ passes.sizes in
-    let q : nat_lt h.address 4096 ≡ false = le-ltb _ _ passes.low in
-    let r : nat_lt 0xBF000000 (end_of h) ≡ false = le-ltb _ _ passes.high in
+    let q : nat_lt h.address page_size ≡ false = le-ltb _ _ passes.low in
+    let r : nat_lt room_end (end_of h) ≡ false = le-ltb _ _ passes.high in
     rw (a, b, s, t, p, q, r) (open_checks _ _)
 
 pub pages_more : (ss : List ProgramHeader) (h : ProgramHeader) → flat_map pages_of (ss ++ h ∷ []) ≡ flat_map pages_of ss ++ pages_of h
@@ -73,17 +75,17 @@ only_many false o f e = cc
 
 module _ (bytes numbers : List ℕ) (earlier : List ProgramHeader) (h : ProgramHeader) (passes : Passes bytes h) (listed : IsListOf numbers (flat_map pages_of earlier)) where
   -- its pages are too many
-  pub fault_of_many : (f : ElfFault) → (if nat_lt 3840 (len (set_of (numbers ++ pages_of h))) then Some Range else None) ≡ Some f → first_fault (program_header_checks bytes earlier h) ≡ Some f
+  pub fault_of_many : (f : ElfFault) → (if nat_lt max_program_pages (len (set_of (numbers ++ pages_of h))) then Some Range else None) ≡ Some f → first_fault (program_header_checks bytes earlier h) ≡ Some f
   fault_of_many f many =
       fault_of_segment bytes earlier h passes
-      ∙ only_many _ _ f (ap (λ n. if nat_lt 3840 n then Some Range else None) (len-pages_more numbers earlier h listed) ∙ many)
+      ∙ only_many _ _ f (ap (λ n. if nat_lt max_program_pages n then Some Range else None) (len-pages_more numbers earlier h listed) ∙ many)
 
   -- its pages are few enough
-  pub fault_of_few : (more : List ℕ) → IsListOf more (numbers ++ pages_of h) → length more ≤ 3840
+  pub fault_of_few : (more : List ℕ) → IsListOf more (numbers ++ pages_of h) → length more ≤ max_program_pages
       → first_fault (program_header_checks bytes earlier h) ≡ (if list_any (share_a_byte h) earlier then Some Overlap else None)
   fault_of_few more added few =
       let size : len (touched_pages (earlier ++ h ∷ [])) ≡ length more = len-pages_more numbers earlier h listed ∙ sym added.once in
-      let small : nat_lt 3840 (len (touched_pages (earlier ++ h ∷ []))) ≡ false = le-ltb _ _ (omega arith) in
+      let small : nat_lt max_program_pages (len (touched_pages (earlier ++ h ∷ []))) ≡ false = le-ltb _ _ (omega arith) in
       fault_of_segment bytes earlier h passes ∙ ap (λ b. if b then Some Range else (if list_any (share_a_byte h) earlier then Some Overlap else None)) small
 
 pub IsFound_along : (found other : Option ElfFault) (e : LoadError) → ((f : ElfFault) → found ≡ Some f → other ≡ Some f) → IsFound found e → IsFound other e
@@ -114,7 +116,7 @@ IsSound_empty bytes layout no_segments no_pages size = record {
 
 -- the program headers of a file, one after another
 abbrev header_at : List ℕ → ℕ → ProgramHeader
-header_at bytes i = program_header bytes ((elf_header bytes).table + 32 * i)
+header_at bytes i = program_header bytes ((elf_header bytes).table + program_header_size * i)
 
 pub length-program_headers : (bytes : List ℕ) → length (program_headers bytes) ≡ (elf_header bytes).count
 unfolding program_headers
@@ -170,7 +172,7 @@ segments_at_end bytes i past =
 module _ (bytes : List ℕ) (i : ℕ) (earlier : List ProgramHeader) (h : ProgramHeader)
     (within : i < (elf_header bytes).count)
     (behind : earlier ≡ segments (take i (program_headers bytes)))
-    (parsed : h ≡ program_header bytes ((elf_header bytes).table + 32 * i))
+    (parsed : h ≡ program_header bytes ((elf_header bytes).table + program_header_size * i))
     (left_over : first_fault (all_program_header_checks bytes [] (program_headers bytes)) ≡ first_fault (all_program_header_checks bytes (take i (program_headers bytes)) (drop i (program_headers bytes)))) where
   same_checks : program_header_checks bytes (segments (take i (program_headers bytes))) (header_at bytes i) ≡ program_header_checks bytes earlier h
   same_checks = ap (λ ss. program_header_checks bytes ss (header_at bytes i)) (sym behind) ∙ ap (program_header_checks bytes earlier) (sym parsed)

@@ -8,6 +8,7 @@ use Rattle.std.proofs.lemmas.List.Sums.{fold_more}
 use Rattle.std.proofs.lemmas.Option.{slice_get-get_or}
 use Rattle.elf_load.specs.declared.program_header.ProgramHeader.{ProgramHeader}
 use Rattle.elf_load.specs.Image.{file_byte, byte_at}
+use Rattle.elf_load.specs.Room.{page_size}
 
 module _ (xs ys : List ℕ) (a k : ℕ) (room : a + k ≤ length xs) (size : length ys ≡ k) where
   front : length (take a xs) ≡ a
@@ -53,10 +54,10 @@ byte_behind bytes s address old from past =
 
 -- a page that begins at an address, after the part that a segment has of it was laid
 pub laid_at : (page bytes ys : List ℕ) (s : ProgramHeader) (address begin end to k from n : ℕ)
-    → length page ≡ 4096 → s.offset + s.file_size ≤ length bytes
-    → begin ≡ max address s.address → end ≡ min (address + 4096) (s.address + s.file_size) → begin < end
+    → length page ≡ page_size → s.offset + s.file_size ≤ length bytes
+    → begin ≡ max address s.address → end ≡ min (address + page_size) (s.address + s.file_size) → begin < end
     → to ≡ begin - address → k ≡ end - begin → from ≡ s.offset + (begin - s.address) → n ≡ end - begin → ys ≡ take n (drop from bytes)
-    → (offset : ℕ) → offset < 4096
+    → (offset : ℕ) → offset < page_size
     → get_or (put_mid to k page ys) offset 0 ≡ unwrap_or (file_byte bytes s (address + offset)) (get_or page offset 0)
 laid_at page bytes ys s address begin end to k from n whole in_file begins ends some to_is k_is from_is n_is ys_are offset within =
     let room : to + k ≤ length page = omega arith in

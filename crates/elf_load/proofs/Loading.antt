@@ -17,6 +17,7 @@ use Rattle.elf_load.specs.Layout.{IsFound, IsListOf}
 use Rattle.elf_load.specs.Pages.{segments, pages_of, touched_pages, highest_end, rounded_up}
 use Rattle.elf_load.proofs.Checks.{first_fault-none, first_fault-some}
 use Rattle.elf_load.proofs.Lookups.{cells-from_numbers}
+use Rattle.elf_load.specs.Room.{page_size}
 
 module _ (bytes : List ℕ) where
   pub fault_of_header : (f : ElfFault) → first_fault (header_checks bytes) ≡ Some f → image bytes ≡ Err f
@@ -66,7 +67,7 @@ made_image bytes pages numbers ss entry start count ss_are listed made entry_is 
 pub length-numbers : (pages : List Page) (numbers : List ℕ) → map (λ p. p.number) pages ≡ numbers → length pages ≡ length numbers
 length-numbers pages numbers same = sym (length-map pages (λ p. p.number)) ∙ ap length same
 
-pub pages_below : (pages : List Page) (numbers : List ℕ) (start : ℕ) → map (λ p. p.number) pages ≡ numbers → All (λ n. 4096 * n + 4096 ≤ start) numbers → All (λ p. 4096 * p.number + 4096 ≤ start) pages
+pub pages_below : (pages : List Page) (numbers : List ℕ) (start : ℕ) → map (λ p. p.number) pages ≡ numbers → All (λ n. page_size * n + page_size ≤ start) numbers → All (λ p. page_size * p.number + page_size ≤ start) pages
 pages_below pages numbers start same below = λ k d within.
     let number_is : get_or numbers k d.number ≡ (get_or pages k d).number = ap (λ ns. get_or ns k d.number) (sym same) ∙ get_or-map (λ p. p.number) pages k d d.number within in
     let inside : k < length numbers = omega (arith, length-numbers pages numbers same) in

@@ -14,6 +14,7 @@ use Rattle.elf_load.specs.Image.{cell_at, cells_on, cells_of_segments}
 use Rattle.elf_load.specs.Layout.{IsListOf}
 use Rattle.elf_load.specs.Pages.{pages_of, touched_pages}
 use Rattle.elf_load.proofs.Numbers.{eq_by_cmp-is, contains-set_of, any_same}
+use Rattle.elf_load.specs.Room.{page_size}
 
 module _ (f : ℕ → Cell) (q : ℕ) (rest : List (ℕ × Cell)) where
   abbrev row : ℕ → ℕ → List (ℕ × Cell)
@@ -46,24 +47,24 @@ module _ (f : ℕ → Cell) (q : ℕ) (rest : List (ℕ × Cell)) where
       still (inr above) = inr (omega arith)
 
 module _ (bytes : List ℕ) (ss : List ProgramHeader) where
-  find-cells : (numbers : List ℕ) (q : ℕ) → find nat_cmp q (flat_map (cells_on bytes ss) numbers) ≡ cond (list_any (λ n. n == q / 4096) numbers) (Some (cell_at bytes ss q)) None
+  find-cells : (numbers : List ℕ) (q : ℕ) → find nat_cmp q (flat_map (cells_on bytes ss) numbers) ≡ cond (list_any (λ n. n == q / page_size) numbers) (Some (cell_at bytes ss q)) None
   find-cells [] q = refl
   find-cells (n ∷ numbers) q =
       let rest : List (ℕ × Cell) = flat_map (cells_on bytes ss) numbers in
-      elim (eqb_tells n (q / 4096)) [
+      elim (eqb_tells n (q / page_size)) [
         | inl is ↦
-            let same : n ≡ q / 4096 = is.1 in
-            find-in_row (cell_at bytes ss) q rest (4096 * n) 4096 (omega arith) (omega arith)
-            ∙ sym (ap (λ b. cond (b || list_any (λ m. m == q / 4096) numbers) (Some (cell_at bytes ss q)) None) is.0)
+            let same : n ≡ q / page_size = is.1 in
+            find-in_row (cell_at bytes ss) q rest (page_size * n) page_size (omega arith) (omega arith)
+            ∙ sym (ap (λ b. cond (b || list_any (λ m. m == q / page_size) numbers) (Some (cell_at bytes ss q)) None) is.0)
         | inr is ↦
-            let differ : n ≢ q / 4096 = is.1 in
-            find-off_row (cell_at bytes ss) q rest (4096 * n) 4096 (off n q differ)
+            let differ : n ≢ q / page_size = is.1 in
+            find-off_row (cell_at bytes ss) q rest (page_size * n) page_size (off n q differ)
             ∙ find-cells numbers q
-            ∙ sym (ap (λ b. cond (b || list_any (λ m. m == q / 4096) numbers) (Some (cell_at bytes ss q)) None) is.0)
+            ∙ sym (ap (λ b. cond (b || list_any (λ m. m == q / page_size) numbers) (Some (cell_at bytes ss q)) None) is.0)
       ]
     where
-      off : (n q : ℕ) → n ≢ q / 4096 → (q < 4096 * n) ⊎ (4096 * n + 4096 ≤ q)
-      off n q differ = elim (cases_lt q (4096 * n)) [ inl below ↦ inl below | inr above ↦ inr (omega arith) ]
+      off : (n q : ℕ) → n ≢ q / page_size → (q < page_size * n) ⊎ (page_size * n + page_size ≤ q)
+      off n q differ = elim (cases_lt q (page_size * n)) [ inl below ↦ inl below | inr above ↦ inr (omega arith) ]
 
   pub cells-from_numbers : (numbers : List ℕ) → IsListOf numbers (flat_map pages_of ss) → from_entries {R = nat_cmp} (flat_map (cells_on bytes ss) numbers) ≡ cells_of_segments bytes ss
   unfolding cells_of_segments
@@ -75,14 +76,14 @@ module _ (bytes : List ℕ) (ss : List ProgramHeader) where
       ∙ sym (find-cells (items (touched_pages ss)) q)
       ∙ sym (get-from_entries nat_cmp_total (flat_map (cells_on bytes ss) (items (touched_pages ss))) q))
     where
-      same_test : (q : ℕ) → list_any (λ n. n == q / 4096) numbers ≡ list_any (λ n. n == q / 4096) (items (touched_pages ss))
+      same_test : (q : ℕ) → list_any (λ n. n == q / page_size) numbers ≡ list_any (λ n. n == q / page_size) (items (touched_pages ss))
       same_test q =
-          sym (contains-set_of numbers (q / 4096)) ∙ ap (λ s. contains s (q / 4096)) listed.same ∙ contains-items (touched_pages ss) (q / 4096) ∙ any_same (items (touched_pages ss)) (q / 4096)
+          sym (contains-set_of numbers (q / page_size)) ∙ ap (λ s. contains s (q / page_size)) listed.same ∙ contains-items (touched_pages ss) (q / page_size) ∙ any_same (items (touched_pages ss)) (q / page_size)
 
   -- the law of an image's cells: an address has one exactly where it lies on a touched page
-  pub get-cells_of_segments : (q : ℕ) → get (cells_of_segments bytes ss) q ≡ cond (contains (touched_pages ss) (q / 4096)) (Some (cell_at bytes ss q)) None
+  pub get-cells_of_segments : (q : ℕ) → get (cells_of_segments bytes ss) q ≡ cond (contains (touched_pages ss) (q / page_size)) (Some (cell_at bytes ss q)) None
   unfolding cells_of_segments
   get-cells_of_segments q =
       get-from_entries nat_cmp_total (flat_map (cells_on bytes ss) (items (touched_pages ss))) q
       ∙ find-cells (items (touched_pages ss)) q
-      ∙ ap (λ b. cond b (Some (cell_at bytes ss q)) None) (sym (contains-items (touched_pages ss) (q / 4096) ∙ any_same (items (touched_pages ss)) (q / 4096)))
+      ∙ ap (λ b. cond b (Some (cell_at bytes ss q)) None) (sym (contains-items (touched_pages ss) (q / page_size) ∙ any_same (items (touched_pages ss)) (q / page_size)))

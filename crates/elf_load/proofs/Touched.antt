@@ -10,19 +10,20 @@ use Rattle.elf_load.specs.declared.program_header.ProgramHeader.{ProgramHeader}
 use Rattle.elf_load.specs.Layout.{IsPlaced, IsListOf}
 use Rattle.elf_load.specs.Pages.{end_of, first_page, last_page, pages_of, highest_end, rounded_up}
 use Rattle.elf_load.proofs.Numbers.{any_from_sets}
+use Rattle.elf_load.specs.Room.{page_size, room_end}
 
 -- the highest end is not below the end that it began with
 highest_from : (ss : List ProgramHeader) (high : ℕ) → high ≤ fold (λ h s. max h (end_of s)) high ss
 highest_from [] high = omega arith
 highest_from (s ∷ ss) high = omega (arith, highest_from ss (max high (end_of s)))
 
-highest_bounded : (bytes : List ℕ) (ss : List ProgramHeader) (high : ℕ) → high ≤ 0xBF000000 → All (IsPlaced bytes) ss → fold (λ h s. max h (end_of s)) high ss ≤ 0xBF000000
+highest_bounded : (bytes : List ℕ) (ss : List ProgramHeader) (high : ℕ) → high ≤ room_end → All (IsPlaced bytes) ss → fold (λ h s. max h (end_of s)) high ss ≤ room_end
 highest_bounded bytes [] high bound placed = bound
 highest_bounded bytes (s ∷ ss) high bound placed =
-    let here : end_of s ≤ 0xBF000000 = (All-head (IsPlaced bytes) s ss placed).below_stack in
+    let here : end_of s ≤ room_end = (All-head (IsPlaced bytes) s ss placed).below_stack in
     highest_bounded bytes ss (max high (end_of s)) (omega arith) (All-tail (IsPlaced bytes) s ss placed)
 
-pub highest_end_in_range : (bytes : List ℕ) (ss : List ProgramHeader) → All (IsPlaced bytes) ss → highest_end ss ≤ 0xBF000000
+pub highest_end_in_range : (bytes : List ℕ) (ss : List ProgramHeader) → All (IsPlaced bytes) ss → highest_end ss ≤ room_end
 highest_end_in_range bytes ss placed = highest_bounded bytes ss 0 (omega arith) placed
 
 -- a number in a row lies between its ends
@@ -40,24 +41,24 @@ or_cases true b e = inl refl
 or_cases false b e = inr e
 
 -- a touched page ends at or below the highest end, rounded up, and below the room for the stack
-page_of_segment : (s : ProgramHeader) (q : ℕ) → 4096 ≤ s.address → list_any (λ y. y == q) (pages_of s) ≡ true → 4096 * q < end_of s
+page_of_segment : (s : ProgramHeader) (q : ℕ) → page_size ≤ s.address → list_any (λ y. y == q) (pages_of s) ≡ true → page_size * q < end_of s
 page_of_segment s q low there =
     let before : q < first_page s + (last_page s + 1 - first_page s) = in_row _ _ q there in
     omega arith
 
-touched_below : (bytes : List ℕ) (ss : List ProgramHeader) (high q : ℕ) → All (IsPlaced bytes) ss → list_any (λ y. y == q) (flat_map pages_of ss) ≡ true → 4096 * q < fold (λ h s. max h (end_of s)) high ss
+touched_below : (bytes : List ℕ) (ss : List ProgramHeader) (high q : ℕ) → All (IsPlaced bytes) ss → list_any (λ y. y == q) (flat_map pages_of ss) ≡ true → page_size * q < fold (λ h s. max h (end_of s)) high ss
 touched_below bytes [] high q placed there = cc
 touched_below bytes (s ∷ ss) high q placed there =
     elim (or_cases _ _ (sym (list_any-append (λ y. y == q) (pages_of s) (flat_map pages_of ss)) ∙ there)) [
       | inl here ↦
-          let low : 4096 ≤ s.address = (All-head (IsPlaced bytes) s ss placed).above_first_page in
-          let inside : 4096 * q < end_of s = page_of_segment s q low here in
+          let low : page_size ≤ s.address = (All-head (IsPlaced bytes) s ss placed).above_first_page in
+          let inside : page_size * q < end_of s = page_of_segment s q low here in
           omega (arith, highest_from ss (max high (end_of s)))
       | inr later ↦ touched_below bytes ss (max high (end_of s)) q (All-tail (IsPlaced bytes) s ss placed) later
     ]
 
 module _ (bytes : List ℕ) (ss : List ProgramHeader) (numbers : List ℕ) (placed : All (IsPlaced bytes) ss) (listed : IsListOf numbers (flat_map pages_of ss)) where
-  below_highest : (i : ℕ) → i < length numbers → 4096 * get_or numbers i 0 < highest_end ss
+  below_highest : (i : ℕ) → i < length numbers → page_size * get_or numbers i 0 < highest_end ss
   below_highest i within =
       let here : list_any (λ y. y == get_or numbers i 0) numbers ≡ true = list_any_at (λ y. y == get_or numbers i 0) numbers i 0 within (eq-eqb (get_or numbers i 0) (get_or numbers i 0) refl) in
       touched_below bytes ss 0 (get_or numbers i 0) placed (sym (any_from_sets numbers (flat_map pages_of ss) (get_or numbers i 0) listed.same) ∙ here)
@@ -65,5 +66,5 @@ module _ (bytes : List ℕ) (ss : List ProgramHeader) (numbers : List ℕ) (plac
   pub numbers_in_range : All (λ n. n < 2 ^ 20) numbers
   numbers_in_range = All-from_get_or (λ n. n < 2 ^ 20) numbers 0 (λ i within. omega (arith, below_highest i within, highest_end_in_range bytes ss placed))
 
-  pub numbers_below_start : All (λ n. 4096 * n + 4096 ≤ rounded_up (highest_end ss)) numbers
-  numbers_below_start = All-from_get_or (λ n. 4096 * n + 4096 ≤ rounded_up (highest_end ss)) numbers 0 (λ i within. omega (arith, below_highest i within))
+  pub numbers_below_start : All (λ n. page_size * n + page_size ≤ rounded_up (highest_end ss)) numbers
+  numbers_below_start = All-from_get_or (λ n. page_size * n + page_size ≤ rounded_up (highest_end ss)) numbers 0 (λ i within. omega (arith, below_highest i within))

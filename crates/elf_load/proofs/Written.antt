@@ -11,6 +11,8 @@ use Rattle.elf_load.specs.Image.{header_checks, first_fault}
 use Rattle.elf_load.specs.Laws.{Fits}
 use Rattle.elf_load.specs.declared.fault.ElfFault.TheVariants.{Truncated, Magic, Class, Machine, Kind, Flags, Range}
 use Rattle.elf_load.specs.declared.program_header.ProgramHeader.{ProgramHeader}
+use Rattle.elf_load.specs.Room.{max_program_headers}
+use Rattle.elf_load.specs.Standard.{elf_header_size, program_header_size}
 
 -- ---- program headers
 
@@ -43,21 +45,21 @@ header_behind front bytes at e =
       flags = field 24 j;
     })
 
-headers_behind : (whole front : List ℕ) (headers : List ProgramHeader) (behind : List ℕ) (table a : ℕ) → whole ≡ front ++ (flat_map file.program_header headers ++ behind) → table + 32 * a ≡ length front → AllByRecursion Fits headers → map (λ i. program_header whole (table + 32 * i)) (range_with_len a (length headers)) ≡ headers
+headers_behind : (whole front : List ℕ) (headers : List ProgramHeader) (behind : List ℕ) (table a : ℕ) → whole ≡ front ++ (flat_map file.program_header headers ++ behind) → table + program_header_size * a ≡ length front → AllByRecursion Fits headers → map (λ i. program_header whole (table + program_header_size * i)) (range_with_len a (length headers)) ≡ headers
 headers_behind whole front [] behind table a e at fits = refl
 headers_behind whole front (h ∷ headers) behind table a e at fits =
     let rest : List ℕ = flat_map file.program_header headers ++ behind in
     let parted : (file.program_header h ++ flat_map file.program_header headers) ++ behind ≡ file.program_header h ++ rest = append_assoc (file.program_header h) (flat_map file.program_header headers) behind in
     let this : whole ≡ front ++ (file.program_header h ++ rest) = e ∙ ap (λ l. front ++ l) parted in
-    let more : length (front ++ file.program_header h) ≡ length front + 32 = length-append front (file.program_header h) in
-    let next : table + 32 * (a + 1) ≡ length (front ++ file.program_header h) = omega arith in
-    let first : program_header whole (table + 32 * a) ≡ h = ap (λ w. program_header w (table + 32 * a)) this ∙ header_behind front (file.program_header h ++ rest) (table + 32 * a) at ∙ header_first h rest fits.0 in
-    let others : map (λ i. program_header whole (table + 32 * i)) (range_with_len (a + 1) (length headers)) ≡ headers = headers_behind whole (front ++ file.program_header h) headers behind table (a + 1) (this ∙ sym (append_assoc front (file.program_header h) rest)) next fits.1 in
+    let more : length (front ++ file.program_header h) ≡ length front + program_header_size = length-append front (file.program_header h) in
+    let next : table + program_header_size * (a + 1) ≡ length (front ++ file.program_header h) = omega arith in
+    let first : program_header whole (table + program_header_size * a) ≡ h = ap (λ w. program_header w (table + program_header_size * a)) this ∙ header_behind front (file.program_header h ++ rest) (table + program_header_size * a) at ∙ header_first h rest fits.0 in
+    let others : map (λ i. program_header whole (table + program_header_size * i)) (range_with_len (a + 1) (length headers)) ≡ headers = headers_behind whole (front ++ file.program_header h) headers behind table (a + 1) (this ∙ sym (append_assoc front (file.program_header h) rest)) next fits.1 in
     (λ j. first j ∷ others j)
 
-length_headers : (headers : List ProgramHeader) → length (flat_map file.program_header headers) ≡ 32 * length headers
+length_headers : (headers : List ProgramHeader) → length (flat_map file.program_header headers) ≡ program_header_size * length headers
 length_headers [] = refl
-length_headers (h ∷ headers) = let n : length (file.program_header h ++ flat_map file.program_header headers) ≡ 32 + length (flat_map file.program_header headers) = length-append (file.program_header h) (flat_map file.program_header headers) in
+length_headers (h ∷ headers) = let n : length (file.program_header h ++ flat_map file.program_header headers) ≡ program_header_size + length (flat_map file.program_header headers) = length-append (file.program_header h) (flat_map file.program_header headers) in
     let more = length_headers headers in omega arith
 
 -- ---- the file
@@ -68,42 +70,42 @@ same_entry entry headers behind fits = from_le_bytes-to_le_bytes_4 entry fits
 
 same_count : (entry : ℕ) (headers : List ProgramHeader) (behind : List ℕ) → length headers < 2 ^ 16 → (elf_header (file.executable entry headers behind)).count ≡ length headers
 unfolding file.executable
-same_count entry headers behind few = let whole : length headers % 65536 ≡ length headers = mod-eq_of_lt few in
-    from_le_bytes-to_le_bytes_2 (length headers % 65536) (omega arith) ∙ whole
+same_count entry headers behind few = let whole : length headers % 2 ^ 16 ≡ length headers = mod-eq_of_lt few in
+    from_le_bytes-to_le_bytes_2 (length headers % 2 ^ 16) (omega arith) ∙ whole
 
 pub same_headers : (entry : ℕ) (headers : List ProgramHeader) (behind : List ℕ) → length headers < 2 ^ 16 → AllByRecursion Fits headers → program_headers (file.executable entry headers behind) ≡ headers
 unfolding program_headers file.executable
 same_headers entry headers behind few fits =
     let whole : List ℕ = file.executable entry headers behind in
-    ap (λ n. map (λ i. program_header whole (52 + 32 * i)) (range_with_len 0 n)) (same_count entry headers behind few)
-    ∙ headers_behind whole (file.elf_header entry (length headers % 65536)) headers behind 52 0 refl refl fits
+    ap (λ n. map (λ i. program_header whole (elf_header_size + program_header_size * i)) (range_with_len 0 n)) (same_count entry headers behind few)
+    ∙ headers_behind whole (file.elf_header entry (length headers % 2 ^ 16)) headers behind elf_header_size 0 refl refl fits
 
-pub same_behind : (entry : ℕ) (headers : List ProgramHeader) (behind : List ℕ) → drop (52 + 32 * length headers) (file.executable entry headers behind) ≡ behind
+pub same_behind : (entry : ℕ) (headers : List ProgramHeader) (behind : List ℕ) → drop (elf_header_size + program_header_size * length headers) (file.executable entry headers behind) ≡ behind
 unfolding file.executable
 same_behind entry headers behind =
-    let front : List ℕ = file.elf_header entry (length headers % 65536) ++ flat_map file.program_header headers in
-    let places : 52 + 32 * length headers ≡ length front = sym (length-append (file.elf_header entry (length headers % 65536)) (flat_map file.program_header headers) ∙ ap (λ n. 52 + n) (length_headers headers)) in
-    ap (drop (52 + 32 * length headers)) (sym (append_assoc (file.elf_header entry (length headers % 65536)) (flat_map file.program_header headers) behind))
+    let front : List ℕ = file.elf_header entry (length headers % 2 ^ 16) ++ flat_map file.program_header headers in
+    let places : elf_header_size + program_header_size * length headers ≡ length front = sym (length-append (file.elf_header entry (length headers % 2 ^ 16)) (flat_map file.program_header headers) ∙ ap (λ n. elf_header_size + n) (length_headers headers)) in
+    ap (drop (elf_header_size + program_header_size * length headers)) (sym (append_assoc (file.elf_header entry (length headers % 2 ^ 16)) (flat_map file.program_header headers) behind))
     ∙ ap (λ n. drop n (front ++ behind)) places ∙ drop-append_seam front behind
 
 and_false : (a : Bool) → (a && false) ≡ false
 and_false true = refl
 and_false false = refl
 
-length_file : (entry : ℕ) (headers : List ProgramHeader) (behind : List ℕ) → length (file.executable entry headers behind) ≡ 52 + (32 * length headers + length behind)
+length_file : (entry : ℕ) (headers : List ProgramHeader) (behind : List ℕ) → length (file.executable entry headers behind) ≡ elf_header_size + (program_header_size * length headers + length behind)
 unfolding file.executable
 length_file entry headers behind =
-    length-append (file.elf_header entry (length headers % 65536)) (flat_map file.program_header headers ++ behind)
-    ∙ ap (λ n. 52 + n) (length-append (flat_map file.program_header headers) behind ∙ ap (λ n. n + length behind) (length_headers headers))
+    length-append (file.elf_header entry (length headers % 2 ^ 16)) (flat_map file.program_header headers ++ behind)
+    ∙ ap (λ n. elf_header_size + n) (length-append (flat_map file.program_header headers) behind ∙ ap (λ n. n + length behind) (length_headers headers))
 
-pub sound : (entry : ℕ) (headers : List ProgramHeader) (behind : List ℕ) → length headers ≤ 64 → first_fault (header_checks (file.executable entry headers behind)) ≡ None
+pub sound : (entry : ℕ) (headers : List ProgramHeader) (behind : List ℕ) → length headers ≤ max_program_headers → first_fault (header_checks (file.executable entry headers behind)) ≡ None
 unfolding header_checks file.executable
 sound entry headers behind few =
     let whole : List ℕ = file.executable entry headers behind in
-    let size : length whole ≡ 52 + (32 * length headers + length behind) = length_file entry headers behind in
+    let size : length whole ≡ elf_header_size + (program_header_size * length headers + length behind) = length_file entry headers behind in
     let count : (elf_header whole).count ≡ length headers = same_count entry headers behind (omega arith) in
-    let long : nat_lt (length whole) 52 ≡ false = le-ltb (length whole) 52 (omega arith) in
+    let long : nat_lt (length whole) elf_header_size ≡ false = le-ltb (length whole) elf_header_size (omega arith) in
     let sized : (nat_lt 0 (elf_header whole).count && false) ≡ false = and_false (nat_lt 0 (elf_header whole).count) in
-    let fewer : nat_lt 64 (elf_header whole).count ≡ false = le-ltb 64 (elf_header whole).count (omega arith) in
-    let held : nat_lt (length whole) (52 + 32 * (elf_header whole).count) ≡ false = le-ltb (length whole) (52 + 32 * (elf_header whole).count) (omega arith) in
+    let fewer : nat_lt max_program_headers (elf_header whole).count ≡ false = le-ltb max_program_headers (elf_header whole).count (omega arith) in
+    let held : nat_lt (length whole) (elf_header_size + program_header_size * (elf_header whole).count) ≡ false = le-ltb (length whole) (elf_header_size + program_header_size * (elf_header whole).count) (omega arith) in
     (λ j. first_fault ((long j, Truncated) ∷ (false, Magic) ∷ (false, Class) ∷ (false, Machine) ∷ (sized j, Kind) ∷ (false, Flags) ∷ (fewer j, Range) ∷ (held j, Truncated) ∷ []))

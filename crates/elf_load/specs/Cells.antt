@@ -4,6 +4,7 @@ use Rattle.std.specs.Ordering.{nat_cmp}
 use Rattle.std.specs.FinMap.{FinMap, from_entries}
 use Rattle.elf_load.specs.declared.rights.Rights.{Rights}
 use Rattle.elf_load.specs.declared.page.Page.{Page}
+use Rattle.elf_load.specs.Room.{page_size}
 
 -- what stands at an address: a byte, and what may be done with it
 pub record Cell : Type 0 where
@@ -21,7 +22,7 @@ cells_from rights at (b ∷ bs) = (at, record { byte = b; rights = rights }) ∷
 
 -- the addresses of a page with their cells
 abbrev pub cells_of_page : Page → List (ℕ × Cell)
-cells_of_page p = cells_from p.rights (4096 * p.number) p.bytes.items
+cells_of_page p = cells_from p.rights (page_size * p.number) p.bytes.items
 
 -- the cells of all pages; where two pages have an address, the first decides
 unfoldable pub cells_of : List Page → Cells

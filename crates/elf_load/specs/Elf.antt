@@ -5,6 +5,7 @@ use Rattle.std.specs.Int.{w16, w32, from_le_bytes}
 use Rattle.std.specs.List.{range_with_len}
 use Rattle.elf_load.specs.declared.elf_header.ElfHeader.{ElfHeader}
 use Rattle.elf_load.specs.declared.program_header.ProgramHeader.{ProgramHeader}
+use Rattle.elf_load.specs.Standard.{program_header_size}
 
 -- the number that the two bytes at a place hold (Elf32_Half)
 abbrev pub half : List ℕ → ℕ → ℕ
@@ -14,7 +15,7 @@ half bytes at = from_le_bytes w16 (slice_index bytes at ∷ slice_index bytes (a
 abbrev pub word : List ℕ → ℕ → ℕ
 word bytes at = from_le_bytes w32 (slice_index bytes at ∷ slice_index bytes (at + 1) ∷ slice_index bytes (at + 2) ∷ slice_index bytes (at + 3) ∷ [])
 
--- the ELF header, of 52 bytes
+-- the ELF header, each field at its place
 abbrev pub elf_header : List ℕ → ElfHeader
 elf_header bytes = record {
   class = slice_index bytes 4;
@@ -28,7 +29,7 @@ elf_header bytes = record {
   count = half bytes 44;
 }
 
--- the program header at a place, of 32 bytes
+-- the program header at a place, each field behind it
 abbrev pub program_header : List ℕ → ℕ → ProgramHeader
 program_header bytes at = record {
   kind = word bytes at;
@@ -41,4 +42,4 @@ program_header bytes at = record {
 
 -- the program headers, in the order of the file
 unfoldable pub program_headers : List ℕ → List ProgramHeader
-program_headers bytes = map (λ i. program_header bytes ((elf_header bytes).table + 32 * i)) (range_with_len 0 (elf_header bytes).count)
+program_headers bytes = map (λ i. program_header bytes ((elf_header bytes).table + program_header_size * i)) (range_with_len 0 (elf_header bytes).count)

@@ -1,8 +1,10 @@
 -- An ELF32 file as it is written, for RISC-V
 -- (System V gABI, chapter 4, "ELF Header", and chapter 5, "Program Header"; numbers are little-endian).
-use Rattle.std.specs.Prelude.{ℕ, ◌%◌, List, [], ◌∷◌, ◌++◌, length, flat_map, replicate}
+use Rattle.std.specs.Prelude.{ℕ, ◌%◌, ◌^◌, List, [], ◌∷◌, ◌++◌, length, flat_map, replicate}
 use Rattle.std.specs.Int.{w16, w32, to_le_bytes}
 use Rattle.elf_load.specs.declared.program_header.ProgramHeader.{ProgramHeader}
+use Rattle.elf_load.specs.Room.{page_size}
+use Rattle.elf_load.specs.Standard.{magic, elfclass32, elfdata2lsb, ev_current, et_exec, em_riscv, elf_header_size, program_header_size}
 
 -- numbers of two bytes each (Elf32_Half)
 abbrev pub halves : List ℕ → List ℕ
@@ -12,24 +14,24 @@ halves ns = flat_map (to_le_bytes w16) ns
 abbrev pub words : List ℕ → List ℕ
 words ns = flat_map (to_le_bytes w32) ns
 
--- e_ident: the magic number, ELFCLASS32, ELFDATA2LSB, EV_CURRENT, and nine zeros
+-- e_ident: the magic number, the class, the data encoding, the version, and nine zeros
 abbrev pub identity : List ℕ
-identity = 0x7F ∷ 0x45 ∷ 0x4C ∷ 0x46 ∷ 1 ∷ 1 ∷ 1 ∷ replicate 9 0
+identity = magic ++ (elfclass32 ∷ elfdata2lsb ∷ ev_current ∷ replicate 9 0)
 
 -- the ELF header, by its entry and the number of program headers:
--- e_ident; e_type ET_EXEC, e_machine EM_RISCV; e_version, e_entry, e_phoff, e_shoff, e_flags;
+-- e_ident; e_type, e_machine; e_version, e_entry, e_phoff, e_shoff, e_flags;
 -- e_ehsize, e_phentsize, e_phnum, and of sections e_shentsize, e_shnum, e_shstrndx
 abbrev pub elf_header : ℕ → ℕ → List ℕ
 elf_header entry count =
     identity
-    ++ (halves (2 ∷ 243 ∷ [])
-    ++ (words (1 ∷ entry ∷ 52 ∷ 0 ∷ 0 ∷ [])
-    ++ halves (52 ∷ 32 ∷ count ∷ 0 ∷ 0 ∷ 0 ∷ [])))
+    ++ (halves (et_exec ∷ em_riscv ∷ [])
+    ++ (words (ev_current ∷ entry ∷ elf_header_size ∷ 0 ∷ 0 ∷ [])
+    ++ halves (elf_header_size ∷ program_header_size ∷ count ∷ 0 ∷ 0 ∷ 0 ∷ [])))
 
 -- a program header: p_type, p_offset, p_vaddr, p_paddr, p_filesz, p_memsz, p_flags, p_align
 abbrev pub program_header : ProgramHeader → List ℕ
-program_header h = words (h.kind ∷ h.offset ∷ h.address ∷ 0 ∷ h.file_size ∷ h.memory_size ∷ h.flags ∷ 4096 ∷ [])
+program_header h = words (h.kind ∷ h.offset ∷ h.address ∷ 0 ∷ h.file_size ∷ h.memory_size ∷ h.flags ∷ page_size ∷ [])
 
 -- the ELF header, the program headers, and the bytes behind them
 unfoldable pub executable : ℕ → List ProgramHeader → List ℕ → List ℕ
-executable entry headers behind = elf_header entry (length headers % 65536) ++ (flat_map program_header headers ++ behind)
+executable entry headers behind = elf_header entry (length headers % 2 ^ 16) ++ (flat_map program_header headers ++ behind)

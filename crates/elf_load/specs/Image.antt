@@ -12,6 +12,8 @@ use Rattle.elf_load.specs.Cells.{Cell, Cells}
 use Rattle.elf_load.specs.Elf.{elf_header, program_headers}
 use Rattle.elf_load.specs.Pages.{is_segment, segments, end_of, share_a_byte, touched_pages, rights_at, highest_end, rounded_up}
 use Rattle.elf_load.specs.ProgramImage.{ProgramImage}
+use Rattle.elf_load.specs.Room.{page_size, room_end, max_program_pages, max_program_headers, instruction_size}
+use Rattle.elf_load.specs.Standard.{magic, elfclass32, elfdata2lsb, et_exec, em_riscv, ef_riscv_rvc, ef_riscv_float_abi, ef_riscv_rve, elf_header_size, program_header_size, pt_dynamic, pt_interp}
 
 -- a reason to refuse a file, whether it stands, and the fault that it is
 abbrev pub Check : Type 0
@@ -20,24 +22,23 @@ Check = Bool × ElfFault
 -- the ELF header, and that the table of program headers lies within the file
 unfoldable pub header_checks : List ℕ → List Check
 header_checks bytes = let h = elf_header bytes in
-    (nat_lt (length bytes) 52, Truncated)
-    ∷ (not (starts_with nat_eq bytes (0x7F ∷ 0x45 ∷ 0x4C ∷ 0x46 ∷ [])), Magic)
-    ∷ (not (h.class == 1) || not (h.data_encoding == 1), Class)
-    ∷ (not (h.machine == 243), Machine)
-    ∷ (not (h.kind == 2) || (nat_lt 0 h.count && not (h.entry_size == 32)), Kind)
-    ∷ (not (bit_and h.flags (0x1 + 0x6 + 0x8) == 0), Flags)
-    ∷ (nat_lt 64 h.count, Range)
-    ∷ (nat_lt (length bytes) (h.table + 32 * h.count), Truncated)
+    (nat_lt (length bytes) elf_header_size, Truncated)
+    ∷ (not (starts_with nat_eq bytes magic), Magic)
+    ∷ (not (h.class == elfclass32) || not (h.data_encoding == elfdata2lsb), Class)
+    ∷ (not (h.machine == em_riscv), Machine)
+    ∷ (not (h.kind == et_exec) || (nat_lt 0 h.count && not (h.entry_size == program_header_size)), Kind)
+    ∷ (not (bit_and h.flags (ef_riscv_rvc + ef_riscv_float_abi + ef_riscv_rve) == 0), Flags)
+    ∷ (nat_lt max_program_headers h.count, Range)
+    ∷ (nat_lt (length bytes) (h.table + program_header_size * h.count), Truncated)
     ∷ []
 
--- a program header behind the segments that stand before it: type 3 is PT_INTERP, type 2 PT_DYNAMIC;
--- a segment has its bytes in the file, lies between the first page and the room for the stack, leaves enough pages, and has its bytes to itself
+-- a program header behind the segments that stand before it: a segment has its bytes in the file, lies between the first page and the room for the stack, leaves enough pages, and has its bytes to itself
 unfoldable pub program_header_checks : List ℕ → List ProgramHeader → ProgramHeader → List Check
 program_header_checks bytes earlier h =
-    (h.kind == 3, Interp)
-    ∷ (h.kind == 2, Dynamic)
+    (h.kind == pt_interp, Interp)
+    ∷ (h.kind == pt_dynamic, Dynamic)
     ∷ (is_segment h && nat_lt (length bytes) (h.offset + h.file_size), Truncated)
-    ∷ (is_segment h && (nat_lt h.memory_size h.file_size || nat_lt h.address 4096 || nat_lt 0xBF000000 (end_of h) || nat_lt 3840 (len (touched_pages (earlier ++ h ∷ [])))), Range)
+    ∷ (is_segment h && (nat_lt h.memory_size h.file_size || nat_lt h.address page_size || nat_lt room_end (end_of h) || nat_lt max_program_pages (len (touched_pages (earlier ++ h ∷ [])))), Range)
     ∷ (is_segment h && list_any (share_a_byte h) earlier, Overlap)
     ∷ []
 
@@ -48,7 +49,7 @@ all_program_header_checks bytes before (h ∷ rest) = program_header_checks byte
 
 -- the entry
 abbrev pub entry_checks : ℕ → List ProgramHeader → List Check
-entry_checks entry ss = (not (entry % 4 == 0) || not (rights_at ss (entry / 4096)).execute, Entry) ∷ []
+entry_checks entry ss = (not (entry % instruction_size == 0) || not (rights_at ss (entry / page_size)).execute, Entry) ∷ []
 
 -- all checks in order
 abbrev pub checks : List ℕ → List Check
@@ -69,11 +70,11 @@ abbrev pub byte_at : List ℕ → List ProgramHeader → ℕ → ℕ
 byte_at bytes ss address = fold (λ byte s. unwrap_or (file_byte bytes s address) byte) 0 ss
 
 abbrev pub cell_at : List ℕ → List ProgramHeader → ℕ → Cell
-cell_at bytes ss address = record { byte = byte_at bytes ss address; rights = rights_at ss (address / 4096) }
+cell_at bytes ss address = record { byte = byte_at bytes ss address; rights = rights_at ss (address / page_size) }
 
 -- the addresses of a page, each with its cell
 abbrev pub cells_on : List ℕ → List ProgramHeader → ℕ → List (ℕ × Cell)
-cells_on bytes ss page = map (λ address. (address, cell_at bytes ss address)) (range_with_len (4096 * page) 4096)
+cells_on bytes ss page = map (λ address. (address, cell_at bytes ss address)) (range_with_len (page_size * page) page_size)
 
 -- the cells of the touched pages
 unfoldable pub cells_of_segments : List ℕ → List ProgramHeader → Cells

@@ -9,3 +9,5 @@ pub mod Layout
 pub mod Pages
 pub mod ProgramImage
 pub mod Rights
+pub mod Room
+pub mod Standard

@@ -6,10 +6,12 @@ use Rattle.std.specs.FinSet.{FinSet, from_list}
 use Rattle.elf_load.specs.declared.rights.Rights.{Rights}
 use Rattle.elf_load.specs.declared.program_header.ProgramHeader.{ProgramHeader}
 use Rattle.elf_load.specs.Rights.{no_rights, union}
+use Rattle.elf_load.specs.Room.{page_size}
+use Rattle.elf_load.specs.Standard.{pt_load, pf_x, pf_w, pf_r}
 
--- a segment is what a header of type 1 (PT_LOAD) asks for, if it takes memory
+-- a segment is what a header of type PT_LOAD asks for, if it takes memory
 abbrev pub is_segment : ProgramHeader → Bool
-is_segment h = (h.kind == 1) && nat_lt 0 h.memory_size
+is_segment h = (h.kind == pt_load) && nat_lt 0 h.memory_size
 
 abbrev pub segments : List ProgramHeader → List ProgramHeader
 segments headers = filter is_segment headers
@@ -21,12 +23,12 @@ end_of s = s.address + s.memory_size
 abbrev pub share_a_byte : ProgramHeader → ProgramHeader → Bool
 share_a_byte s t = nat_lt s.address (end_of t) && nat_lt t.address (end_of s)
 
--- pages have 4,096 bytes; page n begins at address 4096 * n
+-- the first and the last page that a segment touches
 abbrev pub first_page : ProgramHeader → ℕ
-first_page s = s.address / 4096
+first_page s = s.address / page_size
 
 abbrev pub last_page : ProgramHeader → ℕ
-last_page s = (end_of s - 1) / 4096
+last_page s = (end_of s - 1) / page_size
 
 abbrev pub touches : ProgramHeader → ℕ → Bool
 touches s page = nat_le (first_page s) page && nat_le page (last_page s)
@@ -38,12 +40,12 @@ pages_of s = range_with_len (first_page s) (last_page s + 1 - first_page s)
 abbrev pub touched_pages : List ProgramHeader → FinSet nat_cmp
 touched_pages ss = from_list (flat_map pages_of ss)
 
--- the rights that a segment asks for: bits 1 (PF_X), 2 (PF_W) and 4 (PF_R) of its flags
+-- the rights that a segment asks for by its flags
 abbrev pub rights_of : ProgramHeader → Rights
 rights_of s = record {
-  read = not (bit_and s.flags 4 == 0);
-  write = not (bit_and s.flags 2 == 0);
-  execute = not (bit_and s.flags 1 == 0);
+  read = not (bit_and s.flags pf_r == 0);
+  write = not (bit_and s.flags pf_w == 0);
+  execute = not (bit_and s.flags pf_x == 0);
 }
 
 -- the rights to a page: those of each segment that touches it
@@ -56,4 +58,4 @@ highest_end ss = fold (λ high s. max high (end_of s)) 0 ss
 
 -- the first address of a page that is not below another address
 abbrev pub rounded_up : ℕ → ℕ
-rounded_up address = (address + 4095) / 4096 * 4096
+rounded_up address = (address + (page_size - 1)) / page_size * page_size

@@ -5,6 +5,7 @@ ghost use Rattle.elf_load.specs.Build.{IsPageOf};
 ghost use Rattle.elf_load.specs.Cells.{cells_of_page};
 ghost use Rattle.elf_load.specs.Image.{file_byte, cells_on};
 ghost use Rattle.elf_load.specs.Layout.{IsPlaced};
+ghost use Rattle.elf_load.specs.Room.{page_size};
 
 use crate::page::{PAGE_SIZE, Page};
 use crate::program_header::ProgramHeader;
@@ -13,10 +14,10 @@ use std::alloc::{AllocError, Global};
 
 /// Lays the bytes of the file that a segment has on a page, which begins at an address.
 fn lay(page: &mut [u8], address: u64, bytes: &[u8], segment: &ProgramHeader)
-    requires whole { length page.old ≡ 4096 }
+    requires whole { length page.old ≡ page_size }
     requires in_range { address < 2 ^ 32 }
     requires in_file { segment.now.offset + segment.now.file_size ≤ length bytes.now }
-    ensures laid { (offset : ℕ) → offset < 4096 → slice_index page.new offset ≡ unwrap_or (file_byte bytes.now segment.now (address + offset)) (slice_index page.old offset) }
+    ensures laid { (offset : ℕ) → offset < page_size → slice_index page.new offset ≡ unwrap_or (file_byte bytes.now segment.now (address + offset)) (slice_index page.old offset) }
 {
     let begin = address.max(u64::from(segment.address));
     let end = (address + PAGE_SIZE as u64).min(segment.filled_end());

@@ -3,6 +3,8 @@
 ghost use Rattle.std.specs.Prelude.{◌≡◌, ◌+◌, ◌*◌, ◌≤◌, length, IfOk, IfErr, Some, None};
 ghost use Rattle.elf_load.specs.Elf.{elf_header};
 ghost use Rattle.elf_load.specs.Image.{header_checks, first_fault};
+ghost use Rattle.elf_load.specs.Room.{max_program_headers};
+ghost use Rattle.elf_load.specs.Standard.{elf_header_size, program_header_size};
 
 use crate::fault::ElfFault;
 use crate::fields::{half, word};
@@ -52,7 +54,7 @@ impl ElfHeader {
     const MAX_COUNT: u16 = 64;
 
     fn parse(bytes: &[u8]) -> ElfHeader
-        requires { 52 ≤ length bytes.now }
+        requires { elf_header_size ≤ length bytes.now }
         ensures { result ≡ elf_header bytes.now }
     {
         ElfHeader {
@@ -70,7 +72,7 @@ impl ElfHeader {
 
     /// The place behind the last program header.
     fn table_end(&self) -> u64
-        ensures { result ≡ self.now.table + 32 * self.now.count }
+        ensures { result ≡ self.now.table + program_header_size * self.now.count }
     {
         u64::from(self.table) + 32 * u64::from(self.count)
     }
@@ -80,8 +82,8 @@ impl ElfHeader {
     pub(crate) fn read(bytes: &[u8]) -> Result<ElfHeader, ElfFault>
         ensures header { IfOk result (λ h. h ≡ elf_header bytes.now) }
         ensures sound { IfOk result (λ _. first_fault (header_checks bytes.now) ≡ None) }
-        ensures table { IfOk result (λ h. h.table + 32 * h.count ≤ length bytes.now) }
-        ensures few { IfOk result (λ h. h.count ≤ 64) }
+        ensures table { IfOk result (λ h. h.table + program_header_size * h.count ≤ length bytes.now) }
+        ensures few { IfOk result (λ h. h.count ≤ max_program_headers) }
         ensures fault { IfErr result (λ fault. first_fault (header_checks bytes.now) ≡ Some fault) }
     {
         if bytes.len() < Self::SIZE {

@@ -2,6 +2,7 @@
 
 ghost use Rattle.std.specs.Prelude.{◌≡◌, ◌+◌, ◌*◌, ◌≤◌, length, vec_len, All};
 ghost use Rattle.elf_load.specs.Cells.{cells_of};
+ghost use Rattle.elf_load.specs.Room.{page_size, room_end, max_program_pages};
 
 use crate::page::Page;
 use std::marker::Model;
@@ -25,18 +26,19 @@ impl Model for Image {
     ghost coded = { program_image_code };
 
     ghost use Rattle.elf_load.specs.Cells.{cells_of};
+    ghost use Rattle.elf_load.specs.Room.{page_size, room_end, max_program_pages};
 
     ghost view = { λ i. record { cells = cells_of i.pages.items; entry = i.entry; start = i.start; pages = vec_len i.pages } };
 
-    ghost invariant = { λ i. (vec_len i.pages ≤ 3840) × (i.start ≤ 0xBF000000) × All (λ p. 4096 * p.number + 4096 ≤ i.start) i.pages.items };
+    ghost invariant = { λ i. (vec_len i.pages ≤ max_program_pages) × (i.start ≤ room_end) × All (λ p. page_size * p.number + page_size ≤ i.start) i.pages.items };
 }
 
 impl Image {
     /// The image with these pages.
     pub(crate) fn new(pages: Vec<Page>, entry: u32, start: u32) -> Image
-        requires few { vec_len pages ≤ 3840 }
-        requires in_range { start ≤ 0xBF000000 }
-        requires below_start { All (λ p. 4096 * p.number + 4096 ≤ start) pages.items }
+        requires few { vec_len pages ≤ max_program_pages }
+        requires in_range { start ≤ room_end }
+        requires below_start { All (λ p. page_size * p.number + page_size ≤ start) pages.items }
         ensures { result ≡ record { cells = cells_of pages.items; entry = entry; start = start; pages = vec_len pages } }
     {
         Image {
@@ -50,8 +52,8 @@ impl Image {
     pub fn pages(&self) -> &[Page]
         ensures cells { cells_of result.now ≡ self.now.cells }
         ensures count { length result.now ≡ self.now.pages }
-        ensures few { length result.now ≤ 3840 }
-        ensures below_start { All (λ p. 4096 * p.number + 4096 ≤ self.now.start) result.now }
+        ensures few { length result.now ≤ max_program_pages }
+        ensures below_start { All (λ p. page_size * p.number + page_size ≤ self.now.start) result.now }
     {
         self.pages.as_slice()
     }
@@ -66,7 +68,7 @@ impl Image {
     /// The first break: the highest end of a segment, rounded up to a page.
     pub fn start(&self) -> u32
         ensures value { result ≡ self.now.start }
-        ensures in_range { result ≤ 0xBF000000 }
+        ensures in_range { result ≤ room_end }
     {
         self.start
     }

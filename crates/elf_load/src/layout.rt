@@ -7,6 +7,8 @@ ghost use Rattle.elf_load.specs.Elf.{elf_header, program_headers};
 ghost use Rattle.elf_load.specs.Image.{program_header_checks, all_program_header_checks, first_fault};
 ghost use Rattle.elf_load.specs.Layout.{IsFound, IsListOf, IsPlaced, IsSound};
 ghost use Rattle.elf_load.specs.Pages as spec;
+ghost use Rattle.elf_load.specs.Room.{max_program_pages};
+ghost use Rattle.elf_load.specs.Standard.{program_header_size};
 
 use crate::elf_header::ElfHeader;
 use crate::fault::{ElfFault, LoadError};
@@ -32,11 +34,11 @@ const LAST_END: u64 = 0xBF00_0000;
 
 /// Adds the pages that a segment touches.
 fn touch(pages: &mut Vec<u32>, segment: &ProgramHeader) -> Result<(), LoadError>
-    requires few { vec_len pages.old ≤ 3840 }
+    requires few { vec_len pages.old ≤ max_program_pages }
     requires once { IsListOf pages.old.items pages.old.items }
     ensures listed { OnOk result (IsListOf pages.new.items (pages.old.items ++ spec.pages_of segment.now)) }
-    ensures few { OnOk result (vec_len pages.new ≤ 3840) }
-    ensures many { IfErr result (IsFound (if nat_lt 3840 (set.len (set.from_list {R = nat_cmp} (pages.old.items ++ spec.pages_of segment.now))) then Some ElfFault.Range else None)) }
+    ensures few { OnOk result (vec_len pages.new ≤ max_program_pages) }
+    ensures many { IfErr result (IsFound (if nat_lt max_program_pages (set.len (set.from_list {R = nat_cmp} (pages.old.items ++ spec.pages_of segment.now))) then Some ElfFault.Range else None)) }
 {
     for page in segment.first_page()..segment.last_page() + 1 {
         let number = page as u32;
@@ -54,7 +56,7 @@ impl Layout {
     /// Reads the program headers of a file. Up to 64 of them, so that each may look at those before it.
     pub(crate) fn read(alloc: Global, bytes: &[u8], header: &ElfHeader) -> Result<Layout, LoadError>
         requires header { header.now ≡ elf_header bytes.now }
-        requires table { header.now.table + 32 * header.now.count ≤ length bytes.now }
+        requires table { header.now.table + program_header_size * header.now.count ≤ length bytes.now }
         ensures sound { IfOk result (IsSound bytes.now) }
         ensures segments { IfOk result (λ layout. layout.segments.items ≡ spec.segments (program_headers bytes.now)) }
         ensures checked { OnOk result (first_fault (all_program_header_checks bytes.now [] (program_headers bytes.now)) ≡ None) }

@@ -1,6 +1,7 @@
 //! A page of memory: 4,096 bytes with the same rights.
 
 ghost use Rattle.std.specs.Prelude.{◌≡◌, ◌^◌, ◌<◌, length, vec_len};
+ghost use Rattle.elf_load.specs.Room.{page_size};
 
 use crate::rights::Rights;
 
@@ -14,5 +15,5 @@ pub struct Page {
     pub rights: Rights,
     pub bytes: Vec<u8>,
     pub ghost in_range: { number < 2 ^ 20 },
-    pub ghost is_whole: { vec_len bytes ≡ 4096 },
+    pub ghost is_whole: { vec_len bytes ≡ page_size },
 }

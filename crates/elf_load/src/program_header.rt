@@ -3,6 +3,7 @@
 ghost use Rattle.std.specs.Prelude.{◌≡◌, ◌+◌, ◌^◌, ◌<◌, ◌≤◌, length};
 ghost use Rattle.elf_load.specs.Elf.{program_header};
 ghost use Rattle.elf_load.specs.Pages as spec;
+ghost use Rattle.elf_load.specs.Standard.{program_header_size};
 
 use crate::fields::word;
 use crate::rights::Rights;
@@ -44,7 +45,7 @@ impl ProgramHeader {
 
     /// The program header at a place of the file.
     pub(crate) fn parse(bytes: &[u8], at: usize) -> ProgramHeader
-        requires { at + 32 ≤ length bytes.now }
+        requires { at + program_header_size ≤ length bytes.now }
         ensures { result ≡ program_header bytes.now at }
     {
         ProgramHeader {

@@ -4,6 +4,7 @@ ghost use Rattle.std.specs.Prelude.{◌≡◌, ◌≤◌, OnOk, IfErr, Some, Non
 ghost use Rattle.std.specs.List.{list_any};
 ghost use Rattle.elf_load.specs.Image.{entry_checks, first_fault};
 ghost use Rattle.elf_load.specs.Pages as spec;
+ghost use Rattle.elf_load.specs.Room.{room_end};
 
 use crate::fault::ElfFault;
 use crate::program_header::ProgramHeader;
@@ -42,7 +43,7 @@ pub(crate) fn check_entry(entry: u32, segments: &[ProgramHeader]) -> Result<(), 
 
 /// The first break: the highest end of a segment, rounded up to a page.
 pub(crate) fn first_break(segments: &[ProgramHeader]) -> u32
-    requires { spec.highest_end segments.now ≤ 0xBF000000 }
+    requires { spec.highest_end segments.now ≤ room_end }
     ensures { result ≡ spec.rounded_up (spec.highest_end segments.now) }
 {
     let end = segments

@@ -10,6 +10,7 @@ use Rattle.elf_load.proofs.Numbers.{set_of}
 use Rattle.elf_load.proofs.Ranges.{listed_already, listed_now, listed_too_many}
 use Rattle.elf_load.proofs.layout.touch.Goals as goal
 use Rattle.elf_load.proofs.layout.touch.Goals.{then-not-contains+else-len-eq-MAX_PAGES+in_ok-push, else-not-contains}
+use Rattle.elf_load.specs.Room.{max_program_pages}
 
 pub returns-then-len-eq-MAX_PAGES-clause-many : goal.returns-then-len-eq-MAX_PAGES-clause-many
 returns-then-len-eq-MAX_PAGES-clause-many c =
@@ -19,7 +20,7 @@ returns-then-len-eq-MAX_PAGES-clause-many c =
     let new : list_any (λ y. y == c.loop-page.page) pages ≡ false = cc in
     let more : length pages < len (set_of (c.args.pages.now.items ++ pages_of c.args.segment.now)) =
     listed_too_many c.args.pages.now.items pages (first_page c.args.segment.now) c.loop-page.page from c.loop-page.invariant.listed (last_page c.args.segment.now + 1) before new in
-    let many : 3840 < len (set_of (c.args.pages.now.items ++ pages_of c.args.segment.now)) = omega arith in
+    let many : max_program_pages < len (set_of (c.args.pages.now.items ++ pages_of c.args.segment.now)) = omega arith in
     ap (λ b. cond b (Some Range) None) (lt-ltb _ _ many)
 
 pub loop-page-preserved : goal.loop-page-preserved

@@ -4,6 +4,7 @@ use Rattle.elf_load.specs.Pages.{highest_end, rounded_up}
 use Rattle.elf_load.proofs.Loading.{fault_of_header, refusal_of_program_header, fault_of_entry, no_fault, made_image, length-numbers, pages_below}
 use Rattle.elf_load.proofs.Touched.{highest_end_in_range, numbers_in_range, numbers_below_start}
 use Rattle.elf_load.proofs.loader.load.Goals as goal
+use Rattle.elf_load.specs.Room.{room_end}
 
 pub returns-in_err-header-clause-refused : goal.returns-in_err-header-clause-refused
 returns-in_err-header-clause-refused c =
@@ -31,7 +32,7 @@ make_pages-requires-clause-in_range c =
 
 pub new-requires-clause-in_range : goal.new-requires-clause-in_range
 new-requires-clause-in_range c =
-    let bound : highest_end c.deref-2.result.now ≤ 0xBF000000 =
+    let bound : highest_end c.deref-2.result.now ≤ room_end =
     rw c.deref-2.ensures.value (highest_end_in_range c.args.bytes.now c.in_ok-layout.layout.segments.items c.in_ok-layout.ensures.sound.placed) in
     rw c.first_break-start.ensures (omega arith)
 

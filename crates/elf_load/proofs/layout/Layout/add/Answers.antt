@@ -7,6 +7,7 @@ use Rattle.elf_load.specs.Layout.{IsPlaced}
 use Rattle.elf_load.specs.Pages.{share_a_byte}
 use Rattle.elf_load.proofs.Checks.{Passes, fault_of_many, fault_of_few, listed_more, IsFound_along}
 use Rattle.elf_load.proofs.layout.Layout.add.Goals as goal
+use Rattle.elf_load.specs.Room.{max_program_pages}
 
 pub returns-in_err-touch-clause-refused : goal.returns-in_err-touch-clause-refused
 returns-in_err-touch-clause-refused c =
@@ -34,7 +35,7 @@ returns-then-shares_a_byte-clause-refused c =
       high = omega arith;
     } in
     let shared : list_any (share_a_byte c.args.header) c.args.self.now.segments.items ≡ true = cc in
-    let few : length c.touch.new.pages.items ≤ 3840 = omega (arith, c.in_ok-touch.ensures.few) in
+    let few : length c.touch.new.pages.items ≤ max_program_pages = omega (arith, c.in_ok-touch.ensures.few) in
     fault_of_few c.args.bytes.now c.args.self.now.pages.items c.args.self.now.segments.items c.args.header passes c.requires.pages c.touch.new.pages.items c.in_ok-touch.ensures.listed few
     ∙ ap (λ b. cond b (Some Overlap) None) shared
 
@@ -59,6 +60,6 @@ returns-clause-checked c =
       high = omega arith;
     } in
     let alone : list_any (share_a_byte c.args.header) c.args.self.now.segments.items ≡ false = cc in
-    let few : length c.touch.new.pages.items ≤ 3840 = omega (arith, c.in_ok-touch.ensures.few) in
+    let few : length c.touch.new.pages.items ≤ max_program_pages = omega (arith, c.in_ok-touch.ensures.few) in
     fault_of_few c.args.bytes.now c.args.self.now.pages.items c.args.self.now.segments.items c.args.header passes c.requires.pages c.touch.new.pages.items c.in_ok-touch.ensures.listed few
     ∙ ap (λ b. cond b (Some Overlap) None) alone
