@@ -8,6 +8,7 @@ use Rattle.std.specs.FinMap as map
 use Rattle.std.specs.FinMap.{get-insert}
 use Rattle.std.specs.Cmp.{nat_cmp_total, unsigned_tied}
 use Rattle.elf_load.specs.Cells.{Cell, Cells}
+use Rattle.elf_load.specs.Room.{page_size}
 use Rattle.guest_mem.specs.declared.right.Right.{Right}
 use Rattle.guest_mem.specs.Memory.{IsPage, permits, permitted, byte_for, with_first, bytes_for, with_byte, put, put_all}
 
@@ -228,13 +229,13 @@ bytes_for-each right cells (suc n) a (suc o) bytes is l =
     rw s.whole (subst (λ (x : ℕ). byte_for right cells x ≡ Some (get_or s.rest o 0)) there (bytes_for-each right cells n (a + 1) o s.rest s.others_are (omega arith)))
 
 -- a page, of which all bytes were read at once, or weren't
-pub page-read : (right : Right) (cells : Cells) (number n : ℕ) (bytes : List ℕ) → n ≡ 4096 → length bytes ≡ 4096 → bytes_for right n cells (4096 * number) ≡ Some bytes → IsPage right cells number bytes
-page-read right cells number n bytes whole long is = record { long = long; each = λ o l. bytes_for-each right cells n (4096 * number) o bytes is (omega arith) }
+pub page-read : (right : Right) (cells : Cells) (number n : ℕ) (bytes : List ℕ) → n ≡ page_size → length bytes ≡ page_size → bytes_for right n cells (page_size * number) ≡ Some bytes → IsPage right cells number bytes
+page-read right cells number n bytes whole long is = record { long = long; each = λ o l. bytes_for-each right cells n (page_size * number) o bytes is (omega arith) }
 
-pub page-none : (right : Right) (cells : Cells) (number n : ℕ) → n ≡ 4096 → bytes_for right n cells (4096 * number) ≡ None → (bytes : List ℕ) → ¬ (IsPage right cells number bytes)
+pub page-none : (right : Right) (cells : Cells) (number n : ℕ) → n ≡ page_size → bytes_for right n cells (page_size * number) ≡ None → (bytes : List ℕ) → ¬ (IsPage right cells number bytes)
 page-none right cells number n whole none bytes page =
     let as_long : length bytes ≡ n = page.long ∙ sym whole in
-    let there : bytes_for right n cells (4096 * number) ≡ Some bytes =
-    subst (λ (x : ℕ). bytes_for right x cells (4096 * number) ≡ Some bytes) as_long (bytes_for-all right cells bytes (4096 * number) (λ o l. page.each o (omega (arith, page.long)))) in
+    let there : bytes_for right n cells (page_size * number) ≡ Some bytes =
+    subst (λ (x : ℕ). bytes_for right x cells (page_size * number) ≡ Some bytes) as_long (bytes_for-all right cells bytes (page_size * number) (λ o l. page.each o (omega (arith, page.long)))) in
     let is : None ≡ Some bytes = sym none ∙ there in
     cc

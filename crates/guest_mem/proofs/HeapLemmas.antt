@@ -12,7 +12,8 @@ use Rattle.std.specs.FinMap.{from_entries, get-retain_keys, same_map, nat_cmp-Is
 use Rattle.std.specs.Cmp.{nat_cmp_total, ranked}
 use Rattle.elf_load.specs.Cells.{Cell, Cells, cells_from, cells_of_page, cells_of}
 use Rattle.elf_load.specs.declared.page.Page.{Page}
-use Rattle.guest_mem.specs.Break.{zero_cell, with_zeros, without}
+use Rattle.elf_load.specs.Room.{page_size}
+use Rattle.guest_mem.specs.Break.{zero_cell, with_zeros, without, room_pages}
 use Rattle.guest_mem.specs.Pages.{GuestPage, of_image, zeros, zero_page, zero_pages, cell_in, cells_within, mapped_cells, numbers, place_of, AreZeroPages, IsPageTable}
 use Rattle.guest_mem.proofs.CellLemmas.{get-insert_same, get-insert_other}
 use Rattle.guest_mem.proofs.PageLemmas.{Entries, entries_of, told, by_page, place_of-in, place_of-append_some, place_of-append_none, place_of-append_nowhere, place_of-range_in, place_of-range_out, get-cells_some, get-cells_none}
@@ -82,9 +83,9 @@ a_page [] l = absurd (omega arith)
 a_page (p ∷ ps) l = p
 
 pub cells-grown : (ps fresh : List GuestPage) (first count : ℕ) → AreZeroPages fresh first count → ((n : ℕ) → first ≤ n → n < first + count → place_of (numbers ps) n ≡ None)
-    → mapped_cells (ps ++ fresh) ≡ with_zeros (mapped_cells ps) (4096 * first) (4096 * count)
+    → mapped_cells (ps ++ fresh) ≡ with_zeros (mapped_cells ps) (page_size * first) (page_size * count)
 cells-grown ps fresh first count zeros apart =
-    same_map nat_cmp_total nat_cmp-IsAntisymmetric _ _ (by_page (λ q. finmap.get (mapped_cells (ps ++ fresh)) q ≡ finmap.get (with_zeros (mapped_cells ps) (4096 * first) (4096 * count)) q) each)
+    same_map nat_cmp_total nat_cmp-IsAntisymmetric _ _ (by_page (λ q. finmap.get (mapped_cells (ps ++ fresh)) q ≡ finmap.get (with_zeros (mapped_cells ps) (page_size * first) (page_size * count)) q) each)
   where
     all : numbers (ps ++ fresh) ≡ numbers ps ++ range_with_len first count
     all = numbers-append ps fresh ∙ ap (λ (ns : List ℕ). numbers ps ++ ns) zeros.numbered
@@ -92,7 +93,7 @@ cells-grown ps fresh first count zeros apart =
     placed : (n : ℕ) (o : Option ℕ) → place_of (numbers ps ++ range_with_len first count) n ≡ o → place_of (numbers (ps ++ fresh)) n ≡ o
     placed n o is = ap (λ (ns : List ℕ). place_of ns n) all ∙ is
 
-    new_page : (n o : ℕ) → o < 4096 → first ≤ n → n < first + count → finmap.get (mapped_cells (ps ++ fresh)) (4096 * n + o) ≡ finmap.get (with_zeros (mapped_cells ps) (4096 * first) (4096 * count)) (4096 * n + o)
+    new_page : (n o : ℕ) → o < page_size → first ≤ n → n < first + count → finmap.get (mapped_cells (ps ++ fresh)) (page_size * n + o) ≡ finmap.get (with_zeros (mapped_cells ps) (page_size * first) (page_size * count)) (page_size * n + o)
     new_page n o l above below =
         let k : ℕ = n - first in
         let at : first + k ≡ n = omega arith in
@@ -101,12 +102,12 @@ cells-grown ps fresh first count zeros apart =
         let there : place_of (numbers (ps ++ fresh)) n ≡ Some (length (numbers ps) + k) = placed n _ (place_of-append_none (numbers ps) (range_with_len first count) n k (apart n above below) found) in
         let page : get_or (ps ++ fresh) (length (numbers ps) + k) d ≡ get_or fresh k d = ap (λ (x : ℕ). get_or (ps ++ fresh) (x + k) d) (length-map ps (λ (p : GuestPage). p.number)) ∙ get_or-append-add ps fresh k d in
         get-cells_some (ps ++ fresh) n (length (numbers ps) + k) o d l there ∙ ap (λ (p : GuestPage). Some (cell_in p o)) page ∙ ap (λ (c : Cell). Some c) (zeros.zero k o d (omega arith) l)
-        ∙ sym (get-with_zeros_in (mapped_cells ps) (4096 * first) (4096 * count) (4096 * n + o) (omega arith) (omega arith))
+        ∙ sym (get-with_zeros_in (mapped_cells ps) (page_size * first) (page_size * count) (page_size * n + o) (omega arith) (omega arith))
 
-    old_page : (n o : ℕ) → o < 4096 → (n < first) ⊎ (first + count ≤ n) → finmap.get (mapped_cells (ps ++ fresh)) (4096 * n + o) ≡ finmap.get (with_zeros (mapped_cells ps) (4096 * first) (4096 * count)) (4096 * n + o)
+    old_page : (n o : ℕ) → o < page_size → (n < first) ⊎ (first + count ≤ n) → finmap.get (mapped_cells (ps ++ fresh)) (page_size * n + o) ≡ finmap.get (with_zeros (mapped_cells ps) (page_size * first) (page_size * count)) (page_size * n + o)
     old_page n o l out =
-        let same : finmap.get (with_zeros (mapped_cells ps) (4096 * first) (4096 * count)) (4096 * n + o) ≡ finmap.get (mapped_cells ps) (4096 * n + o) =
-        get-with_zeros_out (mapped_cells ps) (4096 * first) (4096 * count) (4096 * n + o) (⊎_elim (λ (h : n < first). inl (omega arith)) (λ (h : first + count ≤ n). inr (omega arith)) out) in
+        let same : finmap.get (with_zeros (mapped_cells ps) (page_size * first) (page_size * count)) (page_size * n + o) ≡ finmap.get (mapped_cells ps) (page_size * n + o) =
+        get-with_zeros_out (mapped_cells ps) (page_size * first) (page_size * count) (page_size * n + o) (⊎_elim (λ (h : n < first). inl (omega arith)) (λ (h : first + count ≤ n). inr (omega arith)) out) in
         ⊎_elim (λ (none : place_of (numbers ps) n ≡ None).
         get-cells_none (ps ++ fresh) n o l (placed n None (place_of-append_nowhere (numbers ps) (range_with_len first count) n none (place_of-range_out first count n out)))
         ∙ sym (same ∙ get-cells_none ps n o l none))
@@ -118,7 +119,7 @@ cells-grown ps fresh first count zeros apart =
         ∙ sym (same ∙ get-cells_some ps n some.0 o d l some.1))
         (told (place_of (numbers ps) n))
 
-    each : (n o : ℕ) → o < 4096 → finmap.get (mapped_cells (ps ++ fresh)) (4096 * n + o) ≡ finmap.get (with_zeros (mapped_cells ps) (4096 * first) (4096 * count)) (4096 * n + o)
+    each : (n o : ℕ) → o < page_size → finmap.get (mapped_cells (ps ++ fresh)) (page_size * n + o) ≡ finmap.get (with_zeros (mapped_cells ps) (page_size * first) (page_size * count)) (page_size * n + o)
     each n o l =
         ⊎_elim (λ (below : n < first). old_page n o l (inl below))
         (λ (above : first ≤ n). ⊎_elim (λ (within : n < first + count). new_page n o l above within) (λ (past : first + count ≤ n). old_page n o l (inr past)) (cases_lt n (first + count)))
@@ -126,12 +127,12 @@ cells-grown ps fresh first count zeros apart =
 
 -- a table with pages more at its end
 module _ (found : ℕ → Option ℕ) (ns : List ℕ) (fixed heap : ℕ) (table : IsPageTable found ns fixed heap) where
-  pub place_of-above : (n : ℕ) → heap + (length ns - fixed) ≤ n → n < 0xBF000 → place_of ns n ≡ None
+  pub place_of-above : (n : ℕ) → heap + (length ns - fixed) ≤ n → n < room_pages → place_of ns n ≡ None
   place_of-above n above below =
       let behind : place_of (drop fixed ns) n ≡ None = ap (λ (ms : List ℕ). place_of ms n) table.rising ∙ place_of-range_out heap (length ns - fixed) n (inr above) in
       subst (λ (ms : List ℕ). place_of ms n ≡ None) (take-append-drop fixed ns) (place_of-append_nowhere (take fixed ns) (drop fixed ns) n (table.apart n (omega arith) below) behind)
 
-  pub table-grown : (count : ℕ) → heap + (length ns - fixed) + count ≤ 0xBF000 → IsPageTable found (ns ++ range_with_len (heap + (length ns - fixed)) count) fixed heap
+  pub table-grown : (count : ℕ) → heap + (length ns - fixed) + count ≤ room_pages → IsPageTable found (ns ++ range_with_len (heap + (length ns - fixed)) count) fixed heap
   table-grown count bounded =
       let more : List ℕ = range_with_len (heap + (length ns - fixed)) count in
       let long : length (ns ++ more) ≡ length ns + count = length-append ns more ∙ ap (λ (x : ℕ). length ns + x) (length-range_with_len (heap + (length ns - fixed)) count) in
@@ -150,7 +151,7 @@ module _ (found : ℕ → Option ℕ) (ns : List ℕ) (fixed heap : ℕ) (table 
   table-shrunk k above below =
       let long : length (take k ns) ≡ k = length-take-le k ns below in
       let same : take fixed (take k ns) ≡ take fixed ns = take-take fixed k ns above in
-      let bounded : heap + (length ns - fixed) ≤ 0xBF000 = table.bounded in
+      let bounded : heap + (length ns - fixed) ≤ room_pages = table.bounded in
       record {
         fixed_in = omega arith;
         indexed = λ n l. table.indexed n l ∙ ap (λ (ms : List ℕ). place_of ms n) (sym same);
@@ -177,7 +178,7 @@ zero_pages-are first count = record {
   zero = λ k o d l within.
       let there : get_or (zero_pages first count) k d ≡ zero_page zero_cell.rights (get_or (range_with_len first count) k 0) =
       get_or-map (zero_page zero_cell.rights) (range_with_len first count) k 0 d (omega (arith, length-range_with_len first count)) in
-      ap (λ (p : GuestPage). cell_in p o) there ∙ ap (λ (b : ℕ). record { byte = b; rights = zero_cell.rights }) (get_or-zeros 4096 o);
+      ap (λ (p : GuestPage). cell_in p o) there ∙ ap (λ (b : ℕ). record { byte = b; rights = zero_cell.rights }) (get_or-zeros page_size o);
 }
   where
     map-same : (ns : List ℕ) → map (λ (n : ℕ). n) ns ≡ ns
@@ -188,7 +189,7 @@ pub zero_pages-more : (first k : ℕ) → zero_pages first (k + 1) ≡ zero_page
 zero_pages-more first k = ap (map (zero_page zero_cell.rights)) (sym (range-append first k 1)) ∙ map-append (zero_page zero_cell.rights) (range_with_len first k) (range_with_len (first + k) 1)
 
 -- a table whose heap is empty
-pub table-new : (found : ℕ → Option ℕ) (ns : List ℕ) (fixed heap : ℕ) → fixed ≡ length ns → ((n : ℕ) → n < 2 ^ 20 → found n ≡ place_of ns n) → ((n : ℕ) → heap ≤ n → n < 0xBF000 → place_of ns n ≡ None) → heap ≤ 0xBF000 → IsPageTable found ns fixed heap
+pub table-new : (found : ℕ → Option ℕ) (ns : List ℕ) (fixed heap : ℕ) → fixed ≡ length ns → ((n : ℕ) → n < 2 ^ 20 → found n ≡ place_of ns n) → ((n : ℕ) → heap ≤ n → n < room_pages → place_of ns n ≡ None) → heap ≤ room_pages → IsPageTable found ns fixed heap
 table-new found ns fixed heap all finds apart low =
     let same : take fixed ns ≡ ns = take_all fixed ns (omega (arith, all)) in
     let none : length ns - fixed ≡ 0 = omega (arith, all) in
@@ -202,7 +203,7 @@ table-new found ns fixed heap all finds apart low =
 
 -- the table with such pages at its end
 pub table-with_zeros : (found : ℕ → Option ℕ) (ps now : List GuestPage) (fixed heap count : ℕ) → now ≡ ps ++ zero_pages (heap + (length (numbers ps) - fixed)) count → IsPageTable found (numbers ps) fixed heap
-    → heap + (length (numbers ps) - fixed) + count ≤ 0xBF000 → IsPageTable found (numbers now) fixed heap
+    → heap + (length (numbers ps) - fixed) + count ≤ room_pages → IsPageTable found (numbers now) fixed heap
 table-with_zeros found ps now fixed heap count is table bounded =
     let all : numbers now ≡ numbers ps ++ range_with_len (heap + (length (numbers ps) - fixed)) count =
     ap numbers is ∙ numbers-append ps (zero_pages (heap + (length (numbers ps) - fixed)) count) ∙ ap (λ (ns : List ℕ). numbers ps ++ ns) (zero_pages-are (heap + (length (numbers ps) - fixed)) count).numbered in
@@ -210,7 +211,7 @@ table-with_zeros found ps now fixed heap count is table bounded =
 
 -- the pages of a table but for its last
 pub cells-shrunk : (found : ℕ → Option ℕ) (ps : List GuestPage) (fixed heap k : ℕ) → IsPageTable found (numbers ps) fixed heap → fixed ≤ k → k ≤ length ps
-    → mapped_cells (take k ps) ≡ without (mapped_cells ps) (4096 * (heap + (k - fixed))) (4096 * (heap + (length ps - fixed)))
+    → mapped_cells (take k ps) ≡ without (mapped_cells ps) (page_size * (heap + (k - fixed))) (page_size * (heap + (length ps - fixed)))
 cells-shrunk found ps fixed heap k table above below =
     same_map nat_cmp_total nat_cmp-IsAntisymmetric _ _ (by_page (λ q. finmap.get (mapped_cells (take k ps)) q ≡ finmap.get (without (mapped_cells ps) from to) q) each)
   where
@@ -221,10 +222,10 @@ cells-shrunk found ps fixed heap k table above below =
     long = length-map ps (λ (p : GuestPage). p.number)
 
     from : ℕ
-    from = 4096 * (heap + (k - fixed))
+    from = page_size * (heap + (k - fixed))
 
     to : ℕ
-    to = 4096 * (heap + (length ps - fixed))
+    to = page_size * (heap + (length ps - fixed))
 
     kept : numbers (take k ps) ≡ take k ns
     kept = sym (take-map (λ (p : GuestPage). p.number) k ps)
@@ -241,16 +242,16 @@ cells-shrunk found ps fixed heap k table above below =
         let rest : length ns - fixed - (k - fixed) ≡ length ns - k = omega arith in
         ap (λ (x : ℕ). drop x ns) (sym at) ∙ sym (drop-drop (k - fixed) fixed ns) ∙ ap (drop (k - fixed)) table.rising ∙ drop-range heap (k - fixed) (length ns - fixed) ∙ ap (range_with_len (heap + (k - fixed))) rest
 
-    unmapped : (n o : ℕ) → o < 4096 → heap + (k - fixed) ≤ n → n < heap + (length ps - fixed) → finmap.get (mapped_cells (take k ps)) (4096 * n + o) ≡ finmap.get (without (mapped_cells ps) from to) (4096 * n + o)
+    unmapped : (n o : ℕ) → o < page_size → heap + (k - fixed) ≤ n → n < heap + (length ps - fixed) → finmap.get (mapped_cells (take k ps)) (page_size * n + o) ≡ finmap.get (without (mapped_cells ps) from to) (page_size * n + o)
     unmapped n o l past within =
-        let bounded : heap + (length ns - fixed) ≤ 0xBF000 = table.bounded in
+        let bounded : heap + (length ns - fixed) ≤ room_pages = table.bounded in
         let nowhere : place_of (take k ns) n ≡ None = place_of-above found (take k ns) fixed heap smaller n (omega (arith, kept_long)) (omega (arith, long)) in
-        get-cells_none (take k ps) n o l (ap (λ (ms : List ℕ). place_of ms n) kept ∙ nowhere) ∙ sym (get-without_in (mapped_cells ps) from to (4096 * n + o) (omega arith) (omega arith))
+        get-cells_none (take k ps) n o l (ap (λ (ms : List ℕ). place_of ms n) kept ∙ nowhere) ∙ sym (get-without_in (mapped_cells ps) from to (page_size * n + o) (omega arith) (omega arith))
 
-    stays : (n o : ℕ) → o < 4096 → (n < heap + (k - fixed)) ⊎ (heap + (length ps - fixed) ≤ n) → finmap.get (mapped_cells (take k ps)) (4096 * n + o) ≡ finmap.get (without (mapped_cells ps) from to) (4096 * n + o)
+    stays : (n o : ℕ) → o < page_size → (n < heap + (k - fixed)) ⊎ (heap + (length ps - fixed) ≤ n) → finmap.get (mapped_cells (take k ps)) (page_size * n + o) ≡ finmap.get (without (mapped_cells ps) from to) (page_size * n + o)
     stays n o l out =
-        let same : finmap.get (without (mapped_cells ps) from to) (4096 * n + o) ≡ finmap.get (mapped_cells ps) (4096 * n + o) =
-        get-without_out (mapped_cells ps) from to (4096 * n + o) (⊎_elim (λ (h : n < heap + (k - fixed)). inl (omega arith)) (λ (h : heap + (length ps - fixed) ≤ n). inr (omega arith)) out) in
+        let same : finmap.get (without (mapped_cells ps) from to) (page_size * n + o) ≡ finmap.get (mapped_cells ps) (page_size * n + o) =
+        get-without_out (mapped_cells ps) from to (page_size * n + o) (⊎_elim (λ (h : n < heap + (k - fixed)). inl (omega arith)) (λ (h : heap + (length ps - fixed) ≤ n). inr (omega arith)) out) in
         let behind : place_of (drop k ns) n ≡ None =
         ap (λ (ms : List ℕ). place_of ms n) left ∙ place_of-range_out (heap + (k - fixed)) (length ns - k) n (⊎_elim (λ (h : n < heap + (k - fixed)). inl h) (λ (h : heap + (length ps - fixed) ≤ n). inr (omega (arith, long))) out) in
         ⊎_elim (λ (none : place_of (take k ns) n ≡ None).
@@ -265,14 +266,14 @@ cells-shrunk found ps fixed heap k table above below =
         ∙ sym (same ∙ get-cells_some ps n some.0 o d l there))
         (told (place_of (take k ns) n))
 
-    each : (n o : ℕ) → o < 4096 → finmap.get (mapped_cells (take k ps)) (4096 * n + o) ≡ finmap.get (without (mapped_cells ps) from to) (4096 * n + o)
+    each : (n o : ℕ) → o < page_size → finmap.get (mapped_cells (take k ps)) (page_size * n + o) ≡ finmap.get (without (mapped_cells ps) from to) (page_size * n + o)
     each n o l =
         ⊎_elim (λ (below : n < heap + (k - fixed)). stays n o l (inl below))
         (λ (above : heap + (k - fixed) ≤ n). ⊎_elim (λ (within : n < heap + (length ps - fixed)). unmapped n o l above within) (λ (past : heap + (length ps - fixed) ≤ n). stays n o l (inr past)) (cases_lt n (heap + (length ps - fixed))))
         (cases_lt n (heap + (k - fixed)))
 
 -- the pages of an image lie below its first break
-pub below_start : (ps : List Page) (start n : ℕ) → All (λ p. 4096 * p.number + 4096 ≤ start) ps → start ≤ 4096 * n → place_of (numbers (map of_image ps)) n ≡ None
+pub below_start : (ps : List Page) (start n : ℕ) → All (λ p. page_size * p.number + page_size ≤ start) ps → start ≤ page_size * n → place_of (numbers (map of_image ps)) n ≡ None
 below_start ps start n low above =
     ⊎_elim (λ none. none)
     (λ (some : (i : ℕ) × (place_of (numbers (map of_image ps)) n ≡ Some i)).
@@ -281,7 +282,7 @@ below_start ps start n low above =
     let within : some.0 < length ps = omega (arith, found.0, ap (λ (ns : List ℕ). length ns) same, length-map ps (λ (p : Page). p.number)) in
     let d : Page = an_image_page ps (omega arith) in
     let number : get_or (numbers (map of_image ps)) some.0 0 ≡ (get_or ps some.0 d).number = ap (λ (ns : List ℕ). get_or ns some.0 0) same ∙ get_or-map (λ (p : Page). p.number) ps some.0 d 0 within in
-    let limit : 4096 * (get_or ps some.0 d).number + 4096 ≤ start = low some.0 d within in
+    let limit : page_size * (get_or ps some.0 d).number + page_size ≤ start = low some.0 d within in
     absurd (omega (arith, found.1, number)))
     (told (place_of (numbers (map of_image ps)) n))
   where
@@ -290,21 +291,21 @@ below_start ps start n low above =
     an_image_page (p ∷ ps) l = p
 
 -- the pages of an image stand for its cells
-cells_from-within : (p : GuestPage) (bs : List ℕ) (o : ℕ) → ((k : ℕ) → k < length bs → get_or p.bytes (o + k) 0 ≡ get_or bs k 0) → cells_from p.rights (4096 * p.number + o) bs ≡ cells_within p o (length bs)
+cells_from-within : (p : GuestPage) (bs : List ℕ) (o : ℕ) → ((k : ℕ) → k < length bs → get_or p.bytes (o + k) 0 ≡ get_or bs k 0) → cells_from p.rights (page_size * p.number + o) bs ≡ cells_within p o (length bs)
 unfolding cells_within
 cells_from-within p [] o same = refl
 cells_from-within p (b ∷ bs) o same =
     let first : b ≡ get_or p.bytes o 0 = sym (same 0 (omega arith)) ∙ ap (λ (x : ℕ). get_or p.bytes x 0) (let e : o + 0 ≡ o = omega arith in e) in
-    let there : 4096 * p.number + o + 1 ≡ 4096 * p.number + (o + 1) = omega arith in
+    let there : page_size * p.number + o + 1 ≡ page_size * p.number + (o + 1) = omega arith in
     let later : (k : ℕ) → k < length bs → get_or p.bytes (o + 1 + k) 0 ≡ get_or bs k 0 =
     λ k l. ap (λ (x : ℕ). get_or p.bytes x 0) (let e : o + 1 + k ≡ o + suc k = omega arith in e) ∙ same (suc k) (omega arith) in
-    ap (λ (es : List (ℕ × Cell)). (4096 * p.number + o, record { byte = b; rights = p.rights }) ∷ es) (ap (λ (x : ℕ). cells_from p.rights x bs) there ∙ cells_from-within p bs (o + 1) later)
-    ∙ ap (λ (x : ℕ). (4096 * p.number + o, record { byte = x; rights = p.rights }) ∷ cells_within p (o + 1) (length bs)) first
+    ap (λ (es : List (ℕ × Cell)). (page_size * p.number + o, record { byte = b; rights = p.rights }) ∷ es) (ap (λ (x : ℕ). cells_from p.rights x bs) there ∙ cells_from-within p bs (o + 1) later)
+    ∙ ap (λ (x : ℕ). (page_size * p.number + o, record { byte = x; rights = p.rights }) ∷ cells_within p (o + 1) (length bs)) first
 
-image_page : (p : Page) → cells_of_page p ≡ cells_within (of_image p) 0 4096
+image_page : (p : Page) → cells_of_page p ≡ cells_within (of_image p) 0 page_size
 image_page p =
-    let whole : length p.bytes.items ≡ 4096 = (let long : vec_len p.bytes ≡ 4096 = p.is_whole in omega (arith, long, p.bytes.ok.0)) in
-    ap (λ (x : ℕ). cells_from p.rights x p.bytes.items) (let e : 4096 * p.number ≡ 4096 * p.number + 0 = omega arith in e)
+    let whole : length p.bytes.items ≡ page_size = (let long : vec_len p.bytes ≡ page_size = p.is_whole in omega (arith, long, p.bytes.ok.0)) in
+    ap (λ (x : ℕ). cells_from p.rights x p.bytes.items) (let e : page_size * p.number ≡ page_size * p.number + 0 = omega arith in e)
     ∙ cells_from-within (of_image p) p.bytes.items 0 (λ k l. ap (λ (x : ℕ). get_or p.bytes.items x 0) (let e : 0 + k ≡ k = omega arith in e))
     ∙ ap (cells_within (of_image p) 0) whole
 

@@ -6,6 +6,7 @@ use Rattle.std.proofs.lemmas.Grind.{same_number_lists}
 use Rattle.std.proofs.lemmas.Simd.{map-map}
 use Rattle.elf_load.specs.declared.page.Page.{Page}
 use Rattle.elf_load.specs.declared.rights.Rights.{Rights}
+use Rattle.elf_load.specs.Room.{page_size}
 use Rattle.guest_mem.specs.declared.entry.Entry.{Entry}
 use Rattle.guest_mem.specs.declared.pages.Pages.{Pages}
 use Rattle.guest_mem.specs.PageStore.{shown}
@@ -75,35 +76,35 @@ pub get-pages : (bytes : List ℕ) (es : List Entry) (i : ℕ) (e : Entry) (d : 
 get-pages bytes es i e d l = get_or-map (page_of bytes) es i e d l
 
 -- the bytes of a slot
-pub length-slot : (bytes : List ℕ) (s : ℕ) → 4096 * s + 4096 ≤ length bytes → length (slot_bytes bytes s) ≡ 4096
+pub length-slot : (bytes : List ℕ) (s : ℕ) → page_size * s + page_size ≤ length bytes → length (slot_bytes bytes s) ≡ page_size
 unfolding slot_bytes
-length-slot bytes s fits = length-take-le 4096 (drop (4096 * s) bytes) (omega (arith, length-drop (4096 * s) bytes))
+length-slot bytes s fits = length-take-le page_size (drop (page_size * s) bytes) (omega (arith, length-drop (page_size * s) bytes))
 
-pub get-slot : (bytes : List ℕ) (s o : ℕ) → o < 4096 → get_or (slot_bytes bytes s) o 0 ≡ get_or bytes (4096 * s + o) 0
+pub get-slot : (bytes : List ℕ) (s o : ℕ) → o < page_size → get_or (slot_bytes bytes s) o 0 ≡ get_or bytes (page_size * s + o) 0
 unfolding slot_bytes
-get-slot bytes s o l = get_or-take 4096 (drop (4096 * s) bytes) o 0 l ∙ get_or-drop (4096 * s) bytes o 0
+get-slot bytes s o l = get_or-take page_size (drop (page_size * s) bytes) o 0 l ∙ get_or-drop (page_size * s) bytes o 0
 
 -- a part of a slot's bytes
-pub part-slot : (bytes : List ℕ) (s o n : ℕ) → o + n ≤ 4096 → take n (drop o (slot_bytes bytes s)) ≡ take n (drop (4096 * s + o) bytes)
+pub part-slot : (bytes : List ℕ) (s o n : ℕ) → o + n ≤ page_size → take n (drop o (slot_bytes bytes s)) ≡ take n (drop (page_size * s + o) bytes)
 unfolding slot_bytes
 part-slot bytes s o n inside =
-    ap (λ (x : ℕ). take n (drop o (take x (drop (4096 * s) bytes)))) (let e : 4096 ≡ o + (4096 - o) = omega arith in e)
-    ∙ ap (take n) (drop-take o (4096 - o) (drop (4096 * s) bytes)) ∙ take-take n (4096 - o) (drop o (drop (4096 * s) bytes)) (omega arith) ∙ ap (take n) (drop-drop o (4096 * s) bytes)
+    ap (λ (x : ℕ). take n (drop o (take x (drop (page_size * s) bytes)))) (let e : page_size ≡ o + (page_size - o) = omega arith in e)
+    ∙ ap (take n) (drop-take o (page_size - o) (drop (page_size * s) bytes)) ∙ take-take n (page_size - o) (drop o (drop (page_size * s) bytes)) (omega arith) ∙ ap (take n) (drop-drop o (page_size * s) bytes)
 
-pub same_slot : (old new : List ℕ) (r s : ℕ) → 4096 * r + 4096 ≤ length old → 4096 * s + 4096 ≤ length new → ((o : ℕ) → o < 4096 → get_or new (4096 * s + o) 0 ≡ get_or old (4096 * r + o) 0) → slot_bytes new s ≡ slot_bytes old r
+pub same_slot : (old new : List ℕ) (r s : ℕ) → page_size * r + page_size ≤ length old → page_size * s + page_size ≤ length new → ((o : ℕ) → o < page_size → get_or new (page_size * s + o) 0 ≡ get_or old (page_size * r + o) 0) → slot_bytes new s ≡ slot_bytes old r
 same_slot old new r s in_old in_new same =
     same_number_lists (slot_bytes new s) (slot_bytes old r) (length-slot new s in_new ∙ sym (length-slot old r in_old))
-    (λ o l. let low : o < 4096 = omega (arith, length-slot new s in_new) in get-slot new s o low ∙ same o low ∙ sym (get-slot old r o low))
+    (λ o l. let low : o < page_size = omega (arith, length-slot new s in_new) in get-slot new s o low ∙ same o low ∙ sym (get-slot old r o low))
 
-pub zero_slot : (bytes : List ℕ) (s : ℕ) → 4096 * s + 4096 ≤ length bytes → ((o : ℕ) → o < 4096 → get_or bytes (4096 * s + o) 0 ≡ 0) → slot_bytes bytes s ≡ zeros 4096
+pub zero_slot : (bytes : List ℕ) (s : ℕ) → page_size * s + page_size ≤ length bytes → ((o : ℕ) → o < page_size → get_or bytes (page_size * s + o) 0 ≡ 0) → slot_bytes bytes s ≡ zeros page_size
 zero_slot bytes s fits none =
-    same_number_lists (slot_bytes bytes s) (zeros 4096) (length-slot bytes s fits ∙ sym (length-zeros 4096))
-    (λ o l. let low : o < 4096 = omega (arith, length-slot bytes s fits) in get-slot bytes s o low ∙ none o low ∙ sym (get_or-zeros 4096 o))
+    same_number_lists (slot_bytes bytes s) (zeros page_size) (length-slot bytes s fits ∙ sym (length-zeros page_size))
+    (λ o l. let low : o < page_size = omega (arith, length-slot bytes s fits) in get-slot bytes s o low ∙ none o low ∙ sym (get_or-zeros page_size o))
 
 with_bytes : (e : Entry) (b c : List ℕ) → b ≡ c → ◌≡◌ {A = GuestPage} (record { number = e.number; rights = e.rights; bytes = b }) (record { number = e.number; rights = e.rights; bytes = c })
 with_bytes e b c same = ap (λ (x : List ℕ). record { number = e.number; rights = e.rights; bytes = x }) same
 
-pub same_page : (old new : List ℕ) (e : Entry) → 4096 * e.slot + 4096 ≤ length old → 4096 * e.slot + 4096 ≤ length new → ((o : ℕ) → o < 4096 → get_or new (4096 * e.slot + o) 0 ≡ get_or old (4096 * e.slot + o) 0) → page_of new e ≡ page_of old e
+pub same_page : (old new : List ℕ) (e : Entry) → page_size * e.slot + page_size ≤ length old → page_size * e.slot + page_size ≤ length new → ((o : ℕ) → o < page_size → get_or new (page_size * e.slot + o) 0 ≡ get_or old (page_size * e.slot + o) 0) → page_of new e ≡ page_of old e
 same_page old new e in_old in_new same = with_bytes e _ _ (same_slot old new e.slot e.slot in_old in_new same)
 
 -- pages of which one entry is another, and the others stay
@@ -147,10 +148,10 @@ module _ (es : List Entry) (count : ℕ) (bytes : List ℕ) (room : ℕ) (kept :
   length-slots : length (slots es) ≡ length es
   length-slots = length-map es (λ (e : Entry). e.slot)
 
-  pub fits : (j : ℕ) (d : Entry) → j < length es → 4096 * (get_or es j d).slot + 4096 ≤ length bytes
+  pub fits : (j : ℕ) (d : Entry) → j < length es → page_size * (get_or es j d).slot + page_size ≤ length bytes
   fits j d l = omega (arith, kept.each_in j (omega (arith, length-slots)), get-slots es j d l, kept.whole)
 
-  pub length-page_at : (i : ℕ) (d : GuestPage) → i < count → length (get_or (take count (map (page_of bytes) es)) i d).bytes ≡ 4096
+  pub length-page_at : (i : ℕ) (d : GuestPage) → i < count → length (get_or (take count (map (page_of bytes) es)) i d).bytes ≡ page_size
   length-page_at i d l =
       let within : i < length es = omega (arith, kept.within, length-slots) in
       let e : Entry = an_entry es (omega arith) in
@@ -159,15 +160,15 @@ module _ (es : List Entry) (count : ℕ) (bytes : List ℕ) (room : ℕ) (kept :
 
   -- bytes that change in one slot alone
   pub others_stay : (new : List ℕ) (i s : ℕ) → length new ≡ length bytes → i < length es → get_or (slots es) i 0 ≡ s
-      → ((k : ℕ) → (k < 4096 * s) ⊎ (4096 * s + 4096 ≤ k) → get_or new k 0 ≡ get_or bytes k 0) → (s ≡ 0 → (o : ℕ) → o < 4096 → get_or new o 0 ≡ 0)
+      → ((k : ℕ) → (k < page_size * s) ⊎ (page_size * s + page_size ≤ k) → get_or new k 0 ≡ get_or bytes k 0) → (s ≡ 0 → (o : ℕ) → o < page_size → get_or new o 0 ≡ 0)
       → (j : ℕ) (d : Entry) → j < length es → j ≢ i → page_of new (get_or es j d) ≡ page_of bytes (get_or es j d)
   others_stay new i s long at is outside none_yet j d l apart =
-      same_page bytes new (get_or es j d) (fits j d l) (omega (arith, fits j d l, long)) (λ o low. ⊎_elim (λ (same : (get_or es j d).slot ≡ s). here same o low) (λ (ne : (get_or es j d).slot ≢ s). outside (4096 * (get_or es j d).slot + o) (sides ne o low)) (cases_eq (get_or es j d).slot s))
+      same_page bytes new (get_or es j d) (fits j d l) (omega (arith, fits j d l, long)) (λ o low. ⊎_elim (λ (same : (get_or es j d).slot ≡ s). here same o low) (λ (ne : (get_or es j d).slot ≢ s). outside (page_size * (get_or es j d).slot + o) (sides ne o low)) (cases_eq (get_or es j d).slot s))
     where
       t : ℕ
       t = (get_or es j d).slot
 
-      sides : t ≢ s → (o : ℕ) → o < 4096 → (4096 * t + o < 4096 * s) ⊎ (4096 * s + 4096 ≤ 4096 * t + o)
+      sides : t ≢ s → (o : ℕ) → o < page_size → (page_size * t + o < page_size * s) ⊎ (page_size * s + page_size ≤ page_size * t + o)
       sides ne o low = ⊎_elim (λ (below : t < s). inl (omega arith)) (λ (above : s ≤ t). inr (omega arith)) (cases_lt t s)
 
       none : t ≡ s → s ≡ 0
@@ -176,16 +177,16 @@ module _ (es : List Entry) (count : ℕ) (bytes : List ℕ) (room : ℕ) (kept :
           (λ (ne : s ≢ 0). absurd (apart (kept.own j i (omega (arith, length-slots)) (omega (arith, length-slots)) (omega (arith, get-slots es j d l)) (get-slots es j d l ∙ same ∙ sym is))))
           (cases_eq s 0)
 
-      here : t ≡ s → (o : ℕ) → o < 4096 → get_or new (4096 * t + o) 0 ≡ get_or bytes (4096 * t + o) 0
+      here : t ≡ s → (o : ℕ) → o < page_size → get_or new (page_size * t + o) 0 ≡ get_or bytes (page_size * t + o) 0
       here same o low =
           let first : s ≡ 0 = none same in
-          let at_first : 4096 * t + o ≡ o = omega arith in
+          let at_first : page_size * t + o ≡ o = omega arith in
           subst (λ (x : ℕ). get_or new x 0 ≡ get_or bytes x 0) (sym at_first) (none_yet first o low ∙ sym (kept.zero o low))
 
   -- a slot that is written
-  pub written : (new : List ℕ) (i s o : ℕ) (part : List ℕ) → length new ≡ length bytes → i < count → get_or (slots es) i 0 ≡ s → 0 < s → o + length part ≤ 4096
-      → ((k : ℕ) → k < length part → get_or new (4096 * s + o + k) 0 ≡ get_or part k 0)
-      → ((k : ℕ) → (k < 4096 * s + o) ⊎ (4096 * s + o + length part ≤ k) → get_or new k 0 ≡ get_or bytes k 0)
+  pub written : (new : List ℕ) (i s o : ℕ) (part : List ℕ) → length new ≡ length bytes → i < count → get_or (slots es) i 0 ≡ s → 0 < s → o + length part ≤ page_size
+      → ((k : ℕ) → k < length part → get_or new (page_size * s + o + k) 0 ≡ get_or part k 0)
+      → ((k : ℕ) → (k < page_size * s + o) ⊎ (page_size * s + o + length part ≤ k) → get_or new k 0 ≡ get_or bytes k 0)
       → IsRewritten (take count (map (page_of bytes) es)) (take count (map (page_of new) es)) i o part
   written new i s o part long at is own inside put kept_out =
       record {
@@ -216,14 +217,14 @@ module _ (es : List Entry) (count : ℕ) (bytes : List ℕ) (room : ℕ) (kept :
       slot_is : e.slot ≡ s
       slot_is = sym (get-slots es i any within) ∙ is
 
-      room_old : 4096 * e.slot + 4096 ≤ length bytes
+      room_old : page_size * e.slot + page_size ≤ length bytes
       room_old = fits i any within
 
       apart : (k : ℕ) (d : GuestPage) → k < count → k ≢ i → get_or (take count (map (page_of new) es)) k d ≡ get_or (take count (map (page_of bytes) es)) k d
       apart k d l ne =
           let in_es : k < length es = omega (arith, kept.within, length-slots) in
           get_or-take count (map (page_of new) es) k d l ∙ get-pages new es k any d in_es
-          ∙ others_stay new i s long within is (λ j out. kept_out j (⊎_elim (λ (h : j < 4096 * s). inl (omega arith)) (λ (h : 4096 * s + 4096 ≤ j). inr (omega arith)) out)) (λ none. absurd (omega arith)) k any in_es ne
+          ∙ others_stay new i s long within is (λ j out. kept_out j (⊎_elim (λ (h : j < page_size * s). inl (omega arith)) (λ (h : page_size * s + page_size ≤ j). inr (omega arith)) out)) (λ none. absurd (omega arith)) k any in_es ne
           ∙ sym (get_or-take count (map (page_of bytes) es) k d l ∙ get-pages bytes es k any d in_es)
 
       rewrites : Rewrites (page_of bytes e) (page_of new e) o part
@@ -233,24 +234,24 @@ module _ (es : List Entry) (count : ℕ) (bytes : List ℕ) (room : ℕ) (kept :
             rights = refl;
             long = length-slot new e.slot (omega (arith, room_old, long)) ∙ sym (length-slot bytes e.slot room_old);
             fits = inside;
-            inside = λ k l. get-slot new e.slot (o + k) (omega arith) ∙ ap (λ (x : ℕ). get_or new x 0) (let h : 4096 * e.slot + (o + k) ≡ 4096 * s + o + k = omega (arith, slot_is) in h) ∙ put k l;
+            inside = λ k l. get-slot new e.slot (o + k) (omega arith) ∙ ap (λ (x : ℕ). get_or new x 0) (let h : page_size * e.slot + (o + k) ≡ page_size * s + o + k = omega (arith, slot_is) in h) ∙ put k l;
             outside = λ k out.
-                ⊎_elim (λ (l : k < 4096).
+                ⊎_elim (λ (l : k < page_size).
                 get-slot new e.slot k l
-                ∙ kept_out (4096 * e.slot + k) (⊎_elim (λ (h : k < o). inl (omega (arith, slot_is))) (λ (h : o + length part ≤ k). inr (omega (arith, slot_is))) out)
+                ∙ kept_out (page_size * e.slot + k) (⊎_elim (λ (h : k < o). inl (omega (arith, slot_is))) (λ (h : o + length part ≤ k). inr (omega (arith, slot_is))) out)
                 ∙ sym (get-slot bytes e.slot k l))
-                (λ (past : 4096 ≤ k).
+                (λ (past : page_size ≤ k).
                 get_or_past (slot_bytes new e.slot) k 0 (omega (arith, length-slot new e.slot (omega (arith, room_old, long))))
                 ∙ sym (get_or_past (slot_bytes bytes e.slot) k 0 (omega (arith, length-slot bytes e.slot room_old))))
-                (cases_lt k 4096);
+                (cases_lt k page_size);
           }
 
   -- a slot that is taken
-  pub taken_same : (new : List ℕ) (i : ℕ) (e d : Entry) → i < length es → get_or (slots es) i 0 ≡ 0 → length new ≡ length bytes + 4096 → e.number ≡ (get_or es i d).number → e.rights ≡ (get_or es i d).rights → 4096 * e.slot ≡ length bytes
+  pub taken_same : (new : List ℕ) (i : ℕ) (e d : Entry) → i < length es → get_or (slots es) i 0 ≡ 0 → length new ≡ length bytes + page_size → e.number ≡ (get_or es i d).number → e.rights ≡ (get_or es i d).rights → page_size * e.slot ≡ length bytes
       → ((k : ℕ) → k < length bytes → get_or new k 0 ≡ get_or bytes k 0) → ((k : ℕ) → length bytes ≤ k → k < length new → get_or new k 0 ≡ 0)
       → map (page_of new) (set es i e) ≡ map (page_of bytes) es
   taken_same new i e d at none long number rights slot below fresh =
-      pages-set bytes new es i e (λ j x l apart. same_page bytes new (get_or es j x) (fits j x l) (omega (arith, fits j x l, long)) (λ o low. below (4096 * (get_or es j x).slot + o) (omega (arith, fits j x l))))
+      pages-set bytes new es i e (λ j x l apart. same_page bytes new (get_or es j x) (fits j x l) (omega (arith, fits j x l, long)) (λ o low. below (page_size * (get_or es j x).slot + o) (omega (arith, fits j x l))))
       ∙ ap (λ (p : GuestPage). set (map (page_of bytes) es) i p) (page ∙ sym (get-pages bytes es i d blank at)) ∙ set-get_or (map (page_of bytes) es) i blank
     where
       was : Entry
@@ -263,8 +264,8 @@ module _ (es : List Entry) (count : ℕ) (bytes : List ℕ) (room : ℕ) (kept :
       bytes_same =
           same_slot bytes new was.slot e.slot (fits i d at) (omega (arith, long, slot))
           (λ o low.
-          fresh (4096 * e.slot + o) (omega (arith, slot)) (omega (arith, slot, long))
-          ∙ sym (ap (λ (x : ℕ). get_or bytes x 0) (let h : 4096 * was.slot + o ≡ o = omega (arith, zero_was) in h) ∙ kept.zero o low))
+          fresh (page_size * e.slot + o) (omega (arith, slot)) (omega (arith, slot, long))
+          ∙ sym (ap (λ (x : ℕ). get_or bytes x 0) (let h : page_size * was.slot + o ≡ o = omega (arith, zero_was) in h) ∙ kept.zero o low))
 
       page : page_of new e ≡ page_of bytes was
       page =
@@ -272,7 +273,7 @@ module _ (es : List Entry) (count : ℕ) (bytes : List ℕ) (room : ℕ) (kept :
           ∙ ap (λ (r : Rights). record { number = was.number; rights = r; bytes = slot_bytes new e.slot }) rights
           ∙ ap (λ (x : List ℕ). record { number = was.number; rights = was.rights; bytes = x }) bytes_same
 
-  pub taken_kept : (new : List ℕ) (i : ℕ) (e : Entry) (more : ℕ) → i < length es → get_or (slots es) i 0 ≡ 0 → length new ≡ length bytes + 4096 → 4096 * e.slot ≡ length bytes
+  pub taken_kept : (new : List ℕ) (i : ℕ) (e : Entry) (more : ℕ) → i < length es → get_or (slots es) i 0 ≡ 0 → length new ≡ length bytes + page_size → page_size * e.slot ≡ length bytes
       → ((k : ℕ) → k < length bytes → get_or new k 0 ≡ get_or bytes k 0) → room ≤ more → AreSlots (slots (set es i e)) count new more
   taken_kept new i e more at none long slot below roomier =
       subst (λ (ss : List ℕ). AreSlots ss count new more) (sym (map-set (λ (x : Entry). x.slot) es i e)) record {
@@ -310,11 +311,11 @@ module _ (es : List Entry) (count : ℕ) (bytes : List ℕ) (room : ℕ) (kept :
 
   -- a page more at a place that another had
   pub again : (new : List ℕ) (e : Entry) (number : ℕ) (rights : Rights) → count < length es → length new ≡ length bytes → get_or (slots es) count 0 ≡ e.slot → e.number ≡ number → e.rights ≡ rights
-      → ((k : ℕ) → (k < 4096 * e.slot) ⊎ (4096 * e.slot + 4096 ≤ k) → get_or new k 0 ≡ get_or bytes k 0) → ((k : ℕ) → k < 4096 → get_or new (4096 * e.slot + k) 0 ≡ 0)
+      → ((k : ℕ) → (k < page_size * e.slot) ⊎ (page_size * e.slot + page_size ≤ k) → get_or new k 0 ≡ get_or bytes k 0) → ((k : ℕ) → k < page_size → get_or new (page_size * e.slot + k) 0 ≡ 0)
       → take (count + 1) (map (page_of new) (set es count e)) ≡ take count (map (page_of bytes) es) ++ zero_page rights number ∷ []
   again new e number rights at long is is_number is_rights outside none =
       ap (take (count + 1))
-      (pages-set bytes new es count e (others_stay new count e.slot long at is outside (λ first o low. ap (λ (x : ℕ). get_or new x 0) (let h : o ≡ 4096 * e.slot + o = omega (arith, first) in h) ∙ none o low)))
+      (pages-set bytes new es count e (others_stay new count e.slot long at is outside (λ first o low. ap (λ (x : ℕ). get_or new x 0) (let h : o ≡ page_size * e.slot + o = omega (arith, first) in h) ∙ none o low)))
       ∙ take_more_set (map (page_of bytes) es) count (page_of new e) (omega (arith, length-map es (page_of bytes)))
       ∙ ap (λ (p : GuestPage). take count (map (page_of bytes) es) ++ p ∷ []) page
     where
@@ -328,14 +329,14 @@ module _ (es : List Entry) (count : ℕ) (bytes : List ℕ) (room : ℕ) (kept :
           ∙ ap (λ (x : List ℕ). record { number = number; rights = rights; bytes = x }) (zero_slot new e.slot (omega (arith, long, fits count any at, get-slots es count any at, is)) none)
 
   pub again_kept : (new : List ℕ) (e : Entry) (more : ℕ) → room ≤ more → count < length es → length new ≡ length bytes → get_or (slots es) count 0 ≡ e.slot
-      → ((k : ℕ) → (k < 4096 * e.slot) ⊎ (4096 * e.slot + 4096 ≤ k) → get_or new k 0 ≡ get_or bytes k 0) → ((k : ℕ) → k < 4096 → get_or new (4096 * e.slot + k) 0 ≡ 0)
+      → ((k : ℕ) → (k < page_size * e.slot) ⊎ (page_size * e.slot + page_size ≤ k) → get_or new k 0 ≡ get_or bytes k 0) → ((k : ℕ) → k < page_size → get_or new (page_size * e.slot + k) 0 ≡ 0)
       → AreSlots (slots (set es count e)) (count + 1) new more
   again_kept new e more roomier at long is outside none =
       subst (λ (ss : List ℕ). AreSlots ss (count + 1) new more) (sym (map-set (λ (x : Entry). x.slot) es count e ∙ ap (set (slots es) count) (sym is) ∙ set-get_or (slots es) count 0)) record {
         within = omega (arith, length-slots);
         few = kept.few;
         zero = λ o low.
-            ⊎_elim (λ (first : e.slot ≡ 0). ap (λ (x : ℕ). get_or new x 0) (let h : o ≡ 4096 * e.slot + o = omega (arith, first) in h) ∙ none o low)
+            ⊎_elim (λ (first : e.slot ≡ 0). ap (λ (x : ℕ). get_or new x 0) (let h : o ≡ page_size * e.slot + o = omega (arith, first) in h) ∙ none o low)
             (λ (ne : e.slot ≢ 0). outside o (inl (omega arith)) ∙ kept.zero o low)
             (cases_eq e.slot 0);
         whole = long ∙ kept.whole;
@@ -353,8 +354,8 @@ module _ (es : List Entry) (count : ℕ) (bytes : List ℕ) (room : ℕ) (kept :
       ∙ ap (λ (p : GuestPage). map (page_of bytes) es ++ p ∷ []) page
       ∙ ap (λ (ps : List GuestPage). ps ++ zero_page rights number ∷ []) (sym (take_all count (map (page_of bytes) es) (omega (arith, all, length-map es (page_of bytes)))))
     where
-      none : (o : ℕ) → o < 4096 → get_or bytes (4096 * e.slot + o) 0 ≡ 0
-      none o low = ap (λ (x : ℕ). get_or bytes x 0) (let h : 4096 * e.slot + o ≡ o = omega (arith, slot) in h) ∙ kept.zero o low
+      none : (o : ℕ) → o < page_size → get_or bytes (page_size * e.slot + o) 0 ≡ 0
+      none o low = ap (λ (x : ℕ). get_or bytes x 0) (let h : page_size * e.slot + o ≡ o = omega (arith, slot) in h) ∙ kept.zero o low
 
       page : page_of bytes e ≡ zero_page rights number
       page =
@@ -362,13 +363,13 @@ module _ (es : List Entry) (count : ℕ) (bytes : List ℕ) (room : ℕ) (kept :
           ∙ ap (λ (r : Rights). record { number = number; rights = r; bytes = slot_bytes bytes e.slot }) is_rights
           ∙ ap (λ (x : List ℕ). record { number = number; rights = rights; bytes = x }) (zero_slot bytes e.slot (omega (arith, slot, kept.whole)) none)
 
-  pub pushed_kept : (e : Entry) → count ≡ length es → count < 4096 → e.slot ≡ 0 → 4096 * (count + 2) ≤ room → AreSlots (slots (es ++ e ∷ [])) (count + 1) bytes room
+  pub pushed_kept : (e : Entry) → count ≡ length es → count < page_size → e.slot ≡ 0 → page_size * (count + 2) ≤ room → AreSlots (slots (es ++ e ∷ [])) (count + 1) bytes room
   pushed_kept e all low slot roomier =
       subst (λ (ss : List ℕ). AreSlots ss (count + 1) bytes room) (sym (map-append (λ (x : Entry). x.slot) es (e ∷ []) ∙ ap (λ (s : ℕ). slots es ++ s ∷ []) slot)) record {
         within = omega (arith, length-slots, longer);
         few = omega (arith, length-slots, longer);
         zero = kept.zero;
-        whole = kept.whole ∙ ap (λ (n : ℕ). 4096 * (n + 1)) (sym (taken-push (slots es)));
+        whole = kept.whole ∙ ap (λ (n : ℕ). page_size * (n + 1)) (sym (taken-push (slots es)));
         each_in = λ i l.
             ⊎_elim (λ (early : i < length (slots es)). omega (arith, taken-push (slots es), get_or_append_left (slots es) (0 ∷ []) 0 i early, kept.each_in i early))
             (λ (last : length (slots es) ≤ i). omega (arith, get_or_push (slots es) 0 0 i (omega (arith, longer))))
@@ -388,7 +389,7 @@ module _ (es : List Entry) (count : ℕ) (bytes : List ℕ) (room : ℕ) (kept :
       longer : length (slots es ++ 0 ∷ []) ≡ length (slots es) + 1
       longer = length-append (slots es) (0 ∷ [])
 
-pub length-shown_page : (p : Pages) (i : ℕ) (d : GuestPage) → i < p.count → length (get_or (shown p) i d).bytes ≡ 4096
+pub length-shown_page : (p : Pages) (i : ℕ) (d : GuestPage) → i < p.count → length (get_or (shown p) i d).bytes ≡ page_size
 length-shown_page p i d l = length-page_at p.entries.items p.count p.bytes.items _ p.sound i d l
 
 pub within_entries : (p : Pages) (i : ℕ) → i < p.count → i < length p.entries.items
@@ -397,7 +398,7 @@ within_entries p i l = omega (arith, l, p.sound.within, length-map p.entries.ite
 pub get-shown : (p : Pages) (i : ℕ) (d : GuestPage) (e : Entry) → i < p.count → get_or (shown p) i d ≡ page_of p.bytes.items (get_or p.entries.items i e)
 get-shown p i d e l = get_or-take p.count (map (page_of p.bytes.items) p.entries.items) i d l ∙ get-pages p.bytes.items p.entries.items i e d (within_entries p i l)
 
-pub fits_shown : (p : Pages) (i : ℕ) (e : Entry) → i < length p.entries.items → 4096 * (get_or p.entries.items i e).slot + 4096 ≤ length p.bytes.items
+pub fits_shown : (p : Pages) (i : ℕ) (e : Entry) → i < length p.entries.items → page_size * (get_or p.entries.items i e).slot + page_size ≤ length p.bytes.items
 fits_shown p i e l = fits p.entries.items p.count p.bytes.items _ p.sound i e l
 
 pub slot-set : (es : List Entry) (i : ℕ) (e : Entry) → i < length es → get_or (slots (set es i e)) i 0 ≡ e.slot
@@ -409,9 +410,9 @@ numbers-entries p = ap numbers (take-map (page_of p.bytes.items) p.count p.entri
 -- a copy of an image's page
 pub image_zeros : (page : Page) → ((o : ℕ) → get_or page.bytes.items o 0 ≡ 0) → zero_page page.rights page.number ≡ of_image page
 image_zeros page none =
-    let whole : length page.bytes.items ≡ 4096 = (let long : vec_len page.bytes ≡ 4096 = page.is_whole in omega (arith, long, page.bytes.ok.0)) in
+    let whole : length page.bytes.items ≡ page_size = (let long : vec_len page.bytes ≡ page_size = page.is_whole in omega (arith, long, page.bytes.ok.0)) in
     ap (λ (x : List ℕ). record { number = page.number; rights = page.rights; bytes = x })
-    (same_number_lists (zeros 4096) page.bytes.items (length-zeros 4096 ∙ sym whole) (λ o l. get_or-zeros 4096 o ∙ sym (none o)))
+    (same_number_lists (zeros page_size) page.bytes.items (length-zeros page_size ∙ sym whole) (λ o l. get_or-zeros page_size o ∙ sym (none o)))
 
 set-last : (ps : List GuestPage) (x y : GuestPage) → set (ps ++ x ∷ []) (length ps) y ≡ ps ++ y ∷ []
 set-last [] x y = refl
@@ -433,13 +434,13 @@ image_written ps now page is =
     writes : Rewrites zero made 0 page.bytes.items
     writes = subst (λ (g : GuestPage). Rewrites g made 0 page.bytes.items) was (is.here blank)
 
-    whole : length page.bytes.items ≡ 4096
-    whole = let long : vec_len page.bytes ≡ 4096 = page.is_whole in omega (arith, long, page.bytes.ok.0)
+    whole : length page.bytes.items ≡ page_size
+    whole = let long : vec_len page.bytes ≡ page_size = page.is_whole in omega (arith, long, page.bytes.ok.0)
 
     bytes_are : made.bytes ≡ page.bytes.items
     bytes_are =
-        same_number_lists made.bytes page.bytes.items (writes.long ∙ length-zeros 4096 ∙ sym whole)
-        (λ o l. ap (λ (x : ℕ). get_or made.bytes x 0) (let e : o ≡ 0 + o = omega arith in e) ∙ writes.inside o (omega (arith, l, writes.long, length-zeros 4096, whole)))
+        same_number_lists made.bytes page.bytes.items (writes.long ∙ length-zeros page_size ∙ sym whole)
+        (λ o l. ap (λ (x : ℕ). get_or made.bytes x 0) (let e : o ≡ 0 + o = omega arith in e) ∙ writes.inside o (omega (arith, l, writes.long, length-zeros page_size, whole)))
 
     made_is : made ≡ of_image page
     made_is =

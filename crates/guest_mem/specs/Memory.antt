@@ -6,6 +6,7 @@ use Rattle.std.specs.Coded.{Coded, code_by, coded×, coded_ℕ}
 use Rattle.elf_load.specs.Cells.{Cell, Cells}
 use Rattle.elf_load.specs.ProgramImage.{cell_code}
 use Rattle.elf_load.specs.declared.rights.Rights.{Rights}
+use Rattle.elf_load.specs.Room.{page_size}
 use Rattle.guest_mem.specs.declared.right.Right.{Right}
 use Rattle.guest_mem.specs.declared.right.Right.TheVariants.{Read, Write, Execute}
 
@@ -54,10 +55,10 @@ number (byte ∷ bytes) = byte + 256 * number bytes
 abbrev pub load : Right → ℕ → Memory → ℕ → Option ℕ
 load right k m a = option_map number (read right k m a)
 
--- the 4,096 bytes of the page with this number, where each of its addresses is mapped with the right
+-- the bytes of the page with this number, where each of its addresses is mapped with the right
 pub record IsPage (right : Right) (cells : Cells) (number : ℕ) (bytes : List ℕ) : Type 0 where
-  pub long : length bytes ≡ 4096
-  pub each : (o : ℕ) → o < 4096 → byte_for right cells (4096 * number + o) ≡ Some (slice_index bytes o)
+  pub long : length bytes ≡ page_size
+  pub each : (o : ℕ) → o < page_size → byte_for right cells (page_size * number + o) ≡ Some (slice_index bytes o)
 
 -- the cells with another byte in one of them, whose rights stay
 abbrev pub with_byte : Cells → ℕ → ℕ → Option Cell → Cells

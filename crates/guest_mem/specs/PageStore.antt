@@ -3,6 +3,7 @@ use Rattle.std.specs.Prelude.{ℕ, ◌+◌, ◌*◌, ◌≤◌, List, map, take,
 use Rattle.guest_mem.specs.declared.pages.Pages.{Pages}
 use Rattle.guest_mem.specs.Pages.{GuestPage}
 use Rattle.guest_mem.specs.Slots.{page_of}
+use Rattle.elf_load.specs.Room.{page_size}
 
 -- the pages by place; entries past their count are of pages that were unmapped
 abbrev pub shown : Pages → List GuestPage
@@ -11,4 +12,4 @@ shown p = take p.count (map (page_of p.bytes.items) p.entries.items)
 -- room for n pages in all
 pub record HasRoom (p : Pages) (n : ℕ) : Type 0 where
   pub entries : n ≤ vec_capacity p.entries
-  pub bytes : 4096 * (n + 1) ≤ vec_capacity p.bytes
+  pub bytes : page_size * (n + 1) ≤ vec_capacity p.bytes

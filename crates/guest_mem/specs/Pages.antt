@@ -6,9 +6,10 @@ use Rattle.std.specs.FinMap.{from_entries}
 use Rattle.elf_load.specs.Cells.{Cell, Cells}
 use Rattle.elf_load.specs.declared.page.Page.{Page}
 use Rattle.elf_load.specs.declared.rights.Rights.{Rights}
-use Rattle.guest_mem.specs.Break.{zero_cell, pages_to}
+use Rattle.elf_load.specs.Room.{page_size}
+use Rattle.guest_mem.specs.Break.{zero_cell, pages_to, room_pages, max_pages}
 
--- a page: its number, its rights and its 4,096 bytes
+-- a page: its number, its rights and its bytes
 pub record GuestPage : Type 0 where
   pub number : ℕ
   pub rights : Rights
@@ -24,7 +25,7 @@ zeros n = replicate n 0
 
 -- a page with this number and these rights whose bytes are all 0
 abbrev pub zero_page : Rights → ℕ → GuestPage
-zero_page rights number = record { number = number; rights = rights; bytes = zeros 4096 }
+zero_page rights number = record { number = number; rights = rights; bytes = zeros page_size }
 
 -- new pages of the heap or of the stack, with numbers from `first` on
 abbrev pub zero_pages : ℕ → ℕ → List GuestPage
@@ -45,16 +46,16 @@ cell_in p o = record { byte = slice_index p.bytes o; rights = p.rights }
 -- the n cells of a page from an offset on, with their addresses
 unfoldable pub cells_within : GuestPage → ℕ → ℕ → List (ℕ × Cell)
 cells_within p o zero = []
-cells_within p o (suc n) = (4096 * p.number + o, cell_in p o) ∷ cells_within p (o + 1) n
+cells_within p o (suc n) = (page_size * p.number + o, cell_in p o) ∷ cells_within p (o + 1) n
 
 -- the cells of all pages; where two pages have an address, the first decides
 unfoldable pub mapped_cells : List GuestPage → Cells
-mapped_cells pages = from_entries (flat_map (λ p. cells_within p 0 4096) pages)
+mapped_cells pages = from_entries (flat_map (λ p. cells_within p 0 page_size) pages)
 
 -- such pages, by what is read of them
 pub record AreZeroPages (pages : List GuestPage) (first count : ℕ) : Type 0 where
   pub numbered : numbers pages ≡ range_with_len first count
-  pub zero : (k o : ℕ) (d : GuestPage) → k < count → o < 4096 → cell_in (slice_index_or pages k d) o ≡ zero_cell
+  pub zero : (k o : ℕ) (d : GuestPage) → k < count → o < page_size → cell_in (slice_index_or pages k d) o ≡ zero_cell
 
 -- What a table of pages keeps: the first `fixed` pages are found by the index, and those behind them are the heap's, whose
 -- numbers rise from `heap` on and are no other page's.
@@ -62,8 +63,8 @@ pub record IsPageTable (found : ℕ → Option ℕ) (ns : List ℕ) (fixed heap 
   pub fixed_in : fixed ≤ length ns
   pub indexed : (n : ℕ) → n < 2 ^ 20 → found n ≡ place_of (take fixed ns) n
   pub rising : drop fixed ns ≡ range_with_len heap (length ns - fixed)
-  pub apart : (n : ℕ) → heap ≤ n → n < 0xBF000 → place_of (take fixed ns) n ≡ None
-  pub bounded : heap + (length ns - fixed) ≤ 0xBF000
+  pub apart : (n : ℕ) → heap ≤ n → n < room_pages → place_of (take fixed ns) n ≡ None
+  pub bounded : heap + (length ns - fixed) ≤ room_pages
 
 -- of pages with these numbers, the first `known` are found where they stand
 pub record AreKnown (found : ℕ → Option ℕ) (ns : List ℕ) (known : ℕ) : Type 0 where
@@ -75,7 +76,7 @@ pub record Rewrites (old new : GuestPage) (o : ℕ) (bytes : List ℕ) : Type 0 
   pub number : new.number ≡ old.number
   pub rights : new.rights ≡ old.rights
   pub long : length new.bytes ≡ length old.bytes
-  pub fits : o + length bytes ≤ 4096
+  pub fits : o + length bytes ≤ page_size
   pub inside : (k : ℕ) → k < length bytes → slice_index new.bytes (o + k) ≡ slice_index bytes k
   pub outside : (k : ℕ) → (k < o) ⊎ (o + length bytes ≤ k) → slice_index new.bytes k ≡ slice_index old.bytes k
 
@@ -90,5 +91,5 @@ pub record IsLaidOut (count fixed heap start break : ℕ) : Type 0 where
   pub begins : heap ≡ pages_to start
   pub ordered : start ≤ break
   pub counted : count ≡ fixed + (pages_to break - heap)
-  pub low : pages_to break ≤ 0xBF000
-  pub few : count ≤ 4096
+  pub low : pages_to break ≤ room_pages
+  pub few : count ≤ max_pages

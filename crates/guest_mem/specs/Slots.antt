@@ -1,11 +1,13 @@
--- Where the bytes of pages stand: in slots of 4,096 bytes, the first of which is all zeros and no page's own.
+-- Where the bytes of pages stand: in slots of page_size bytes, the first of which is all zeros and no page's own.
 use Rattle.std.specs.Prelude.{◌≡◌, ℕ, zero, suc, ◌+◌, ◌*◌, ◌<◌, ◌≤◌, List, [], ◌∷◌, map, length, take, drop, slice_index}
 use Rattle.guest_mem.specs.declared.entry.Entry.{Entry}
+use Rattle.guest_mem.specs.Break.{max_pages}
 use Rattle.guest_mem.specs.Pages.{GuestPage}
+use Rattle.elf_load.specs.Room.{page_size}
 
 -- the bytes of a slot
 unfoldable pub slot_bytes : List ℕ → ℕ → List ℕ
-slot_bytes bytes slot = take 4096 (drop (4096 * slot) bytes)
+slot_bytes bytes slot = take page_size (drop (page_size * slot) bytes)
 
 -- the page of an entry
 abbrev pub page_of : List ℕ → Entry → GuestPage
@@ -27,9 +29,9 @@ taken (suc s ∷ ss) = taken ss + 1
 -- are taken, and there is room for one more for each entry that has none.
 pub record AreSlots (ss : List ℕ) (count : ℕ) (bytes : List ℕ) (room : ℕ) : Type 0 where
   pub within : count ≤ length ss
-  pub few : length ss ≤ 4096
-  pub zero : (o : ℕ) → o < 4096 → slice_index bytes o ≡ 0
-  pub whole : length bytes ≡ 4096 * (taken ss + 1)
+  pub few : length ss ≤ max_pages
+  pub zero : (o : ℕ) → o < page_size → slice_index bytes o ≡ 0
+  pub whole : length bytes ≡ page_size * (taken ss + 1)
   pub each_in : (i : ℕ) → i < length ss → slice_index ss i ≤ taken ss
   pub own : (i j : ℕ) → i < length ss → j < length ss → 0 < slice_index ss i → slice_index ss i ≡ slice_index ss j → i ≡ j
-  pub roomy : 4096 * (length ss + 1) ≤ room
+  pub roomy : page_size * (length ss + 1) ≤ room

@@ -2,6 +2,7 @@
 
 ghost use Rattle.std.specs.Prelude.{◌≡◌, ℕ, ◌+◌, ◌<◌, ◌≤◌, [], ◌∷◌, ◌++◌, IfOk, length, map, slice_index};
 ghost use Rattle.std.specs.Bool.{OnTrue};
+ghost use Rattle.guest_mem.specs.Break.{max_pages};
 ghost use Rattle.guest_mem.specs.PageStore.{HasRoom, shown};
 ghost use Rattle.guest_mem.specs.Pages.{of_image};
 
@@ -11,7 +12,7 @@ use std::alloc::{AllocError, Global};
 
 /// A page for each of `image`, with the same number, rights and bytes, and room for `more` pages.
 pub(crate) fn copies(alloc: Global, image: &[Page], more: usize) -> Result<Pages, AllocError>
-    requires { length image.now + more ≤ 4096 }
+    requires { length image.now + more ≤ max_pages }
     ensures pages { IfOk result (λ made. shown made ≡ map of_image image.now) }
     ensures count { IfOk result (λ made. made.count ≡ length image.now) }
     ensures room { IfOk result (λ made. HasRoom made (length image.now + more)) }
@@ -25,7 +26,7 @@ pub(crate) fn copies(alloc: Global, image: &[Page], more: usize) -> Result<Pages
 
 /// A page more, with the number, the rights and the bytes of an image's page. Where all are 0, it takes no slot.
 fn copy(made: &mut Pages, page: &Page)
-    requires few { made.old.count < 4096 }
+    requires few { made.old.count < max_pages }
     requires room { HasRoom made.old (made.old.count + 1) }
     ensures copied { shown made.new ≡ shown made.old ++ of_image page.now ∷ [] }
     ensures count { made.new.count ≡ made.old.count + 1 }

@@ -1,8 +1,8 @@
 //! The index of a guest's pages: two levels, from a page's number to its place.
 
-ghost use Rattle.std.specs.Prelude.{◌≡◌, ℕ, ◌+◌, ◌*◌, ◌^◌, ◌<◌, ◌≤◌, None, Some, IfOk, OnOk, [], length, vec_len, slice_index, if◌then◌else◌, ◌==◌};
+ghost use Rattle.std.specs.Prelude.{◌≡◌, ℕ, ◌+◌, ◌-◌, ◌*◌, ◌^◌, ◌<◌, ◌≤◌, None, Some, IfOk, OnOk, [], length, vec_len, slice_index, if◌then◌else◌, ◌==◌};
 ghost use Rattle.std.proofs.Props.{props};
-ghost use Rattle.guest_mem.specs.Tables.{AreTables};
+ghost use Rattle.guest_mem.specs.Tables.{AreTables, root_size, table_size, no_place};
 
 use crate::entry::Entry;
 use std::alloc::{AllocError, Global};
@@ -33,7 +33,7 @@ impl PageIndex {
 
     /// The index of these pages: of pages with one number the first is found.
     pub fn of(alloc: Global, pages: &[Entry]) -> Result<PageIndex, AllocError>
-        requires { length pages.now < 65535 }
+        requires { length pages.now < no_place }
         ensures { IfOk result (λ index. Finds index (entry_numbers pages.now)) }
     {
         let mut index = PageIndex::new(alloc)?;
@@ -48,7 +48,7 @@ impl PageIndex {
     /// An index without pages.
     fn new(alloc: Global) -> Result<PageIndex, AllocError>
         ensures none { IfOk result (λ index. Finds index []) }
-        ensures blank { IfOk result (λ index. vec_len index.places ≡ 1024) }
+        ensures blank { IfOk result (λ index. vec_len index.places ≡ table_size) }
     {
         let mut root = Vec::new(alloc);
         root.resize(TABLES, BLANK)?;
@@ -60,12 +60,12 @@ impl PageIndex {
     /// Notes the place of the page with this number.
     fn set(&mut self, number: u32, place: u16) -> Result<(), AllocError>
         requires in_range { number < 2 ^ 20 }
-        requires is_place { place < 65535 }
-        requires few { vec_len self.old.places ≤ 1024 * 65535 }
+        requires is_place { place < no_place }
+        requires few { vec_len self.old.places ≤ table_size * (2 ^ 16 - 1) }
         ensures set { OnOk result
             ((n : ℕ) → n < 2 ^ 20
             → place_in self.new n ≡ (if n == number then Some place else place_in self.old n)) }
-        ensures len { OnOk result (vec_len self.new.places ≤ vec_len self.old.places + 1024) }
+        ensures len { OnOk result (vec_len self.new.places ≤ vec_len self.old.places + table_size) }
     {
         let table = self.own_table(number as usize / TABLE_LEN)?;
         self.places[table * TABLE_LEN + number as usize % TABLE_LEN] = place;
@@ -74,12 +74,12 @@ impl PageIndex {
 
     /// The table at a place of the root, which is made where there is only the blank one.
     fn own_table(&mut self, at: usize) -> Result<usize, AllocError>
-        requires in_root { at < 1024 }
-        requires few { vec_len self.old.places ≤ 1024 * 65535 }
+        requires in_root { at < root_size }
+        requires few { vec_len self.old.places ≤ table_size * (2 ^ 16 - 1) }
         ensures table { IfOk result (λ table. slice_index self.new.root.items at ≡ table) }
         ensures own { IfOk result (λ table. 0 < table) }
         ensures same { OnOk result ((n : ℕ) → n < 2 ^ 20 → place_in self.new n ≡ place_in self.old n) }
-        ensures len { OnOk result (vec_len self.new.places ≤ vec_len self.old.places + 1024) }
+        ensures len { OnOk result (vec_len self.new.places ≤ vec_len self.old.places + table_size) }
     {
         let table = self.root[at];
         if table != BLANK {

@@ -2,8 +2,10 @@
 
 ghost use Rattle.std.specs.Prelude.{◌≡◌, ℕ, ◌+◌, ◌*◌, ◌^◌, ◌<◌, ◌≤◌, ◌⊎◌, [], ◌∷◌, ◌++◌, IfOk, OnOk, length, take, drop, slice_index, slice_index_or, vec_len, vec_capacity};
 ghost use Rattle.std.proofs.Props.{props};
+ghost use Rattle.guest_mem.specs.Break.{max_pages};
 ghost use Rattle.guest_mem.specs.Pages.{GuestPage, IsRewritten, zero_page, zero_pages};
 ghost use Rattle.guest_mem.specs.Slots.{AreSlots, slots};
+ghost use Rattle.elf_load.specs.Room.{page_size};
 
 use crate::entry::Entry;
 use elf_load::{PAGE_SIZE, Rights};
@@ -28,7 +30,7 @@ impl Pages {
 
     /// No pages, and room for this many.
     pub fn new(alloc: Global, room: usize) -> Result<Pages, AllocError>
-        requires { room ≤ 4096 }
+        requires { room ≤ max_pages }
         ensures none { IfOk result (λ pages. shown pages ≡ []) }
         ensures count { IfOk result (λ pages. pages.count ≡ 0) }
         ensures room { IfOk result (λ pages. HasRoom pages room) }
@@ -79,7 +81,7 @@ impl Pages {
     #[inline]
     pub fn part(&self, place: usize, offset: usize, len: usize) -> &[u8]
         requires place { place < self.now.count }
-        requires in_page { offset + len ≤ 4096 }
+        requires in_page { offset + len ≤ page_size }
         ensures value { (d : GuestPage) → result.now ≡ take len (drop offset (slice_index_or (shown self.now) place d).bytes) }
         ensures len { length result.now ≡ len }
     {
@@ -91,7 +93,7 @@ impl Pages {
     #[inline(always)]
     pub fn write(&mut self, place: usize, offset: usize, part: &[u8])
         requires place { place < self.old.count }
-        requires in_page { offset + length part.now ≤ 4096 }
+        requires in_page { offset + length part.now ≤ page_size }
         ensures written { IsRewritten (shown self.old) (shown self.new) place offset part.now }
         ensures count { self.new.count ≡ self.old.count }
         ensures room { (n : ℕ) → HasRoom self.old n → HasRoom self.new n }
@@ -142,7 +144,7 @@ impl Pages {
 
     /// Makes room for `more` pages.
     pub fn reserve(&mut self, more: usize) -> Result<(), AllocError>
-        requires { self.old.count + more ≤ 4096 }
+        requires { self.old.count + more ≤ max_pages }
         ensures room { OnOk result (HasRoom self.new (self.old.count + more)) }
         ensures same { shown self.new ≡ shown self.old }
         ensures count { self.new.count ≡ self.old.count }
@@ -157,7 +159,7 @@ impl Pages {
     /// A page more, whose bytes are 0.
     pub fn push(&mut self, number: u32, rights: Rights)
         requires in_range { number < 2 ^ 20 }
-        requires few { self.old.count < 4096 }
+        requires few { self.old.count < max_pages }
         requires room { HasRoom self.old (self.old.count + 1) }
         ensures pushed { shown self.new ≡ shown self.old ++ zero_page rights number ∷ [] }
         ensures count { self.new.count ≡ self.old.count + 1 }
@@ -196,7 +198,7 @@ impl Pages {
     /// `count` pages more of zeros with the rights to read and to write, whose numbers rise from `first` on.
     pub fn push_zeros(&mut self, first: u32, count: u32)
         requires in_range { first + count ≤ 2 ^ 20 }
-        requires few { self.old.count + count ≤ 4096 }
+        requires few { self.old.count + count ≤ max_pages }
         requires room { HasRoom self.old (self.old.count + count) }
         ensures pushed { shown self.new ≡ shown self.old ++ zero_pages first count }
         ensures count { self.new.count ≡ self.old.count + count }
@@ -238,9 +240,9 @@ fn overwrite(bytes: &mut Vec<u8>, from: usize, part: &[u8])
 
 /// Makes the bytes of a page from a place on 0.
 fn clear(bytes: &mut Vec<u8>, from: usize)
-    requires { from + 4096 ≤ vec_len bytes.old }
-    ensures inside { (k : ℕ) → k < 4096 → slice_index bytes.new.items (from + k) ≡ 0 }
-    ensures outside { (k : ℕ) → (k < from) ⊎ (from + 4096 ≤ k)
+    requires { from + page_size ≤ vec_len bytes.old }
+    ensures inside { (k : ℕ) → k < page_size → slice_index bytes.new.items (from + k) ≡ 0 }
+    ensures outside { (k : ℕ) → (k < from) ⊎ (from + page_size ≤ k)
         → slice_index bytes.new.items k ≡ slice_index bytes.old.items k }
     ensures len { vec_len bytes.new ≡ vec_len bytes.old }
     ensures room { vec_capacity bytes.new ≡ vec_capacity bytes.old }

@@ -5,11 +5,12 @@ ghost use Rattle.std.specs.Bool.{OnTrue};
 ghost use Rattle.std.specs.Option.{option_map};
 ghost use Rattle.std.proofs.Props.{props};
 ghost use Rattle.guest_mem.specs.Memory.{IsPage, bytes_for, number, put_all};
-ghost use Rattle.guest_mem.specs.Break.{with_zeros, without};
+ghost use Rattle.guest_mem.specs.Break.{with_zeros, without, room_pages, max_pages};
 ghost use Rattle.guest_mem.specs.PageIndex.{place_in};
 ghost use Rattle.guest_mem.specs.PageStore.{shown};
 ghost use Rattle.guest_mem.specs.Pages.{AreKnown, IsPageTable, mapped_cells, numbers, place_of};
 ghost use Rattle.guest_mem.specs.Slots.{entry_numbers};
+ghost use Rattle.elf_load.specs.Room.{page_size};
 
 use crate::Bad;
 use crate::entry::Entry;
@@ -40,9 +41,9 @@ impl PageTable {
 
     /// A table of these pages, whose heap begins at page `heap` and is empty.
     pub fn new(alloc: Global, pages: Pages, heap: u32) -> Result<PageTable, AllocError>
-        requires few { pages.count ≤ 4096 }
-        requires bounded { heap ≤ 0xBF000 }
-        requires apart { (n : ℕ) → heap ≤ n → n < 0xBF000 → place_of (numbers (shown pages)) n ≡ None }
+        requires few { pages.count ≤ max_pages }
+        requires bounded { heap ≤ room_pages }
+        requires apart { (n : ℕ) → heap ≤ n → n < room_pages → place_of (numbers (shown pages)) n ≡ None }
         ensures pages { IfOk result (λ table. shown table.pages ≡ shown pages) }
         ensures fixed { IfOk result (λ table. table.fixed ≡ pages.count) }
         ensures count { IfOk result (λ table. table.pages.count ≡ pages.count) }
@@ -79,7 +80,7 @@ impl PageTable {
     #[inline]
     pub fn within(&self, right: Right, at: u32, len: usize) -> Option<&[u8]>
         requires some { 0 < len }
-        requires in_page { at % 4096 + len ≤ 4096 }
+        requires in_page { at % page_size + len ≤ page_size }
         ensures found { MatchOption result (bytes_for right len (mapped_cells (shown self.now.pages)) at ≡ None)
             (λ bytes. bytes_for right len (mapped_cells (shown self.now.pages)) at ≡ Some bytes.now) }
         ensures whole { IfSome result (λ bytes. length bytes.now ≡ len) }
@@ -91,8 +92,8 @@ impl PageTable {
     #[inline]
     fn within_page(&self, right: Right, found: Option<usize>, at: u32, len: usize) -> Option<&[u8]>
         requires some { 0 < len }
-        requires in_page { at % 4096 + len ≤ 4096 }
-        requires there { found ≡ place_of (numbers (shown self.now.pages)) (at / 4096) }
+        requires in_page { at % page_size + len ≤ page_size }
+        requires there { found ≡ place_of (numbers (shown self.now.pages)) (at / page_size) }
         ensures found { MatchOption result (bytes_for right len (mapped_cells (shown self.now.pages)) at ≡ None)
             (λ bytes. bytes_for right len (mapped_cells (shown self.now.pages)) at ≡ Some bytes.now) }
         ensures whole { IfSome result (λ bytes. length bytes.now ≡ len) }
@@ -124,7 +125,7 @@ impl PageTable {
     #[inline(always)]
     pub fn put_within(&mut self, at: u32, bytes: &[u8]) -> Result<(), Bad>
         requires some { 0 < length bytes.now }
-        requires in_page { at % 4096 + length bytes.now ≤ 4096 }
+        requires in_page { at % page_size + length bytes.now ≤ page_size }
         ensures put { OnOk result
             (mapped_cells (shown self.new.pages) ≡ put_all (mapped_cells (shown self.old.pages)) at bytes.now) }
         ensures may { OnOk result
@@ -269,8 +270,8 @@ impl PageTable {
     /// The same within one page, whose place was found.
     #[inline]
     fn word_in_page(&self, right: Right, found: Option<usize>, at: u32) -> Result<u32, Bad>
-        requires in_page { at % 4096 + 4 ≤ 4096 }
-        requires there { found ≡ place_of (numbers (shown self.now.pages)) (at / 4096) }
+        requires in_page { at % page_size + 4 ≤ page_size }
+        requires there { found ≡ place_of (numbers (shown self.now.pages)) (at / page_size) }
         ensures { MatchResult result
             (λ value. option_map number (bytes_for right 4 (mapped_cells (shown self.now.pages)) at) ≡ Some value)
             (λ _. option_map number (bytes_for right 4 (mapped_cells (shown self.now.pages)) at) ≡ None) }
@@ -344,12 +345,12 @@ impl PageTable {
 
     /// Maps `count` pages of zeros behind those of the heap. Where memory is wanting, nothing changes.
     pub fn grow(&mut self, count: u32) -> Result<(), AllocError>
-        requires few { self.old.pages.count + count ≤ 4096 }
-        requires low { self.old.heap + (self.old.pages.count - self.old.fixed) + count ≤ 0xBF000 }
+        requires few { self.old.pages.count + count ≤ max_pages }
+        requires low { self.old.heap + (self.old.pages.count - self.old.fixed) + count ≤ room_pages }
         ensures mapped { let end = self.old.heap + (self.old.pages.count - self.old.fixed) in
             OnOk result
             (mapped_cells (shown self.new.pages)
-            ≡ with_zeros (mapped_cells (shown self.old.pages)) (4096 * end) (4096 * count)) }
+            ≡ with_zeros (mapped_cells (shown self.old.pages)) (page_size * end) (page_size * count)) }
         ensures more { OnOk result (self.new.pages.count ≡ self.old.pages.count + count) }
         ensures unchanged { OnErr result (shown self.new.pages ≡ shown self.old.pages) }
         ensures same_heap { self.new.heap ≡ self.old.heap }
@@ -366,7 +367,7 @@ impl PageTable {
         requires { count ≤ self.old.pages.count - self.old.fixed }
         ensures unmapped { let end = self.old.heap + (self.old.pages.count - self.old.fixed) in
             mapped_cells (shown self.new.pages)
-            ≡ without (mapped_cells (shown self.old.pages)) (4096 * (end - count)) (4096 * end) }
+            ≡ without (mapped_cells (shown self.old.pages)) (page_size * (end - count)) (page_size * end) }
         ensures fewer { self.new.pages.count ≡ self.old.pages.count - count }
         ensures same_heap { self.new.heap ≡ self.old.heap }
         ensures same_fixed { self.new.fixed ≡ self.old.fixed }
@@ -391,7 +392,7 @@ fn known_places(index: &PageIndex, pages: &[Entry]) -> usize
 
 /// How many of `len` bytes from `at` on lie in the page of the first.
 fn len_in_page(at: u32, len: usize) -> usize
-    ensures { result ≡ min (4096 - at % 4096) len }
+    ensures { result ≡ min (page_size - at % page_size) len }
 {
     let left = (PAGE_SIZE - at % PAGE_SIZE) as usize;
     left.min(len)

@@ -5,6 +5,7 @@ use Rattle.guest_mem.specs.declared.pages.Pages.{Pages}
 use Rattle.guest_mem.specs.Slots.{slots}
 use Rattle.guest_mem.proofs.SlotLemmas.{taken-le, taken-lt, taken_same, taken_kept, slot-set, within_entries}
 use Rattle.guest_mem.proofs.pages.Pages.take_slot.Goals as goal
+use Rattle.elf_load.specs.Room.{page_size}
 
 pub unreachable-requires : goal.unreachable-requires
 unreachable-requires c =
@@ -15,7 +16,7 @@ unreachable-requires c =
 pub overflow_cast-slot : goal.overflow_cast-slot
 overflow_cast-slot c =
     let p : Pages = c.args.self.now in
-    let low : c.len-slot.result / 4096 < 65536 = omega (arith, c.len-slot.ensures, p.sound.whole, p.sound.few, p.bytes.ok.0, taken-le (slots p.entries.items)) in
+    let low : c.len-slot.result / page_size < 65536 = omega (arith, c.len-slot.ensures, p.sound.whole, p.sound.few, p.bytes.ok.0, taken-le (slots p.entries.items)) in
     record { fits = low }
 
 pub invariant_of-self : goal.invariant_of-self
@@ -23,8 +24,8 @@ invariant_of-self c =
     let p : Pages = c.args.self.now in
     let old : List ℕ = p.bytes.items in
     let new : List ℕ = c.resize.new.self.items in
-    let long : length new ≡ length old + 4096 = omega (arith, c.in-Ok.ensures.len, c.len-slot.ensures, p.sound.whole, p.bytes.ok.0, c.resize.new.self.ok.0) in
-    let slot : 4096 * (c.len-slot.result / 4096) ≡ length old = omega (arith, c.len-slot.ensures, p.sound.whole, p.bytes.ok.0) in
+    let long : length new ≡ length old + page_size = omega (arith, c.in-Ok.ensures.len, c.len-slot.ensures, p.sound.whole, p.bytes.ok.0, c.resize.new.self.ok.0) in
+    let slot : page_size * (c.len-slot.result / page_size) ≡ length old = omega (arith, c.len-slot.ensures, p.sound.whole, p.bytes.ok.0) in
     let below : (k : ℕ) → k < length old → get_or new k 0 ≡ get_or old k 0 =
     λ k l. c.in-Ok.ensures.by_index.0 k 0 (omega (arith, l, slot)) (omega (arith, l, p.bytes.ok.0)) in
     record {
@@ -38,8 +39,8 @@ returns-clause-same c =
     let new : List ℕ = c.resize.new.self.items in
     let e : Entry = c.index.result.now in
     let within : c.args.place < length p.entries.items = within_entries p c.args.place c.requires.place in
-    let long : length new ≡ length old + 4096 = omega (arith, c.in-Ok.ensures.len, c.len-slot.ensures, p.sound.whole, p.bytes.ok.0, c.resize.new.self.ok.0) in
-    let slot : 4096 * (c.len-slot.result / 4096) ≡ length old = omega (arith, c.len-slot.ensures, p.sound.whole, p.bytes.ok.0) in
+    let long : length new ≡ length old + page_size = omega (arith, c.in-Ok.ensures.len, c.len-slot.ensures, p.sound.whole, p.bytes.ok.0, c.resize.new.self.ok.0) in
+    let slot : page_size * (c.len-slot.result / page_size) ≡ length old = omega (arith, c.len-slot.ensures, p.sound.whole, p.bytes.ok.0) in
     let below : (k : ℕ) → k < length old → get_or new k 0 ≡ get_or old k 0 =
     λ k l. c.in-Ok.ensures.by_index.0 k 0 (omega (arith, l, slot)) (omega (arith, l, p.bytes.ok.0)) in
     let fresh : (k : ℕ) → length old ≤ k → k < length new → get_or new k 0 ≡ 0 =

@@ -1,5 +1,6 @@
 use Rattle.std.proofs.Common.{◌≡◌, ℕ, ◌+◌, ◌-◌, ◌%◌, ◌^◌, ◌<◌, ◌≤◌, List, length, sym, inl, inr, ◌⊎◌, ⊎_elim, ◌∙◌, arith}
 use Rattle.std.proofs.lemmas.Bool.{cases_lt}
+use Rattle.guest_mem.specs.Break.{room_pages}
 use Rattle.guest_mem.specs.PageIndex.{place_in}
 use Rattle.guest_mem.specs.Pages.{numbers}
 use Rattle.guest_mem.proofs.PageLemmas.{place_of-heap, place_of-fixed}
@@ -8,10 +9,10 @@ use Rattle.guest_mem.proofs.SlotLemmas.{length-numbers}
 use Rattle.guest_mem.proofs.table.PageTable.place.Goals as goal
 
 -- a page's distance from the heap's first, which wraps below it
-in_heap : (n heap count : ℕ) → n < 2 ^ 20 → heap + count ≤ 0xBF000 → (n + (2 ^ 32 - heap)) % 2 ^ 32 < count → n ≡ heap + (n + (2 ^ 32 - heap)) % 2 ^ 32
+in_heap : (n heap count : ℕ) → n < 2 ^ 20 → heap + count ≤ room_pages → (n + (2 ^ 32 - heap)) % 2 ^ 32 < count → n ≡ heap + (n + (2 ^ 32 - heap)) % 2 ^ 32
 in_heap n heap count low bounded near = omega arith
 
-not_in_heap : (n heap count : ℕ) → n < 2 ^ 20 → heap + count ≤ 0xBF000 → count ≤ (n + (2 ^ 32 - heap)) % 2 ^ 32 → (n < heap) ⊎ (heap + count ≤ n)
+not_in_heap : (n heap count : ℕ) → n < 2 ^ 20 → heap + count ≤ room_pages → count ≤ (n + (2 ^ 32 - heap)) % 2 ^ 32 → (n < heap) ⊎ (heap + count ≤ n)
 not_in_heap n heap count low bounded far = ⊎_elim (λ (below : n < heap). inl below) (λ (above : heap ≤ n). inr (omega arith)) (cases_lt n heap)
 
 pub returns-then-after-len : goal.returns-then-after-len

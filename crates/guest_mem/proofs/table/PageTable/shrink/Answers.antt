@@ -7,6 +7,7 @@ use Rattle.guest_mem.proofs.HeapLemmas.{table-shrunk, cells-shrunk}
 use Rattle.guest_mem.specs.PageStore.{shown}
 use Rattle.guest_mem.proofs.SlotLemmas.{length-numbers, length-shown}
 use Rattle.guest_mem.proofs.table.PageTable.shrink.Goals as goal
+use Rattle.elf_load.specs.Room.{page_size}
 
 pub invariant_of-self : goal.invariant_of-self
 invariant_of-self c =
@@ -33,5 +34,5 @@ returns-clause-unmapped c =
     let from : t.heap + (k - t.fixed) ≡ t.heap + (t.pages.count - t.fixed) - c.args.count = omega (arith, c.requires, c.len.ensures) in
     ap mapped_cells c.truncate.ensures.shown
     ∙ cells-shrunk (place_in t.index) ps t.fixed t.heap k t.sound (omega (arith, c.requires, c.len.ensures, length-numbers t.pages)) (omega (arith, c.len.ensures))
-    ∙ ap (λ (x : ℕ). without (mapped_cells ps) (4096 * x) (4096 * (t.heap + (length ps - t.fixed)))) from
-    ∙ ap (λ (x : ℕ). without (mapped_cells ps) (4096 * (t.heap + (t.pages.count - t.fixed) - c.args.count)) (4096 * (t.heap + (x - t.fixed)))) long
+    ∙ ap (λ (x : ℕ). without (mapped_cells ps) (page_size * x) (page_size * (t.heap + (length ps - t.fixed)))) from
+    ∙ ap (λ (x : ℕ). without (mapped_cells ps) (page_size * (t.heap + (t.pages.count - t.fixed) - c.args.count)) (page_size * (t.heap + (x - t.fixed)))) long
