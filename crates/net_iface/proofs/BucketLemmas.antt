@@ -7,6 +7,8 @@ use Rattle.std.proofs.Math.Nat.{mul-le-mul_left}
 use Rattle.std.specs.Prelude.{nat_le}
 use Rattle.std.specs.Int.{div_ceil}
 use Rattle.net_iface.specs.Bucket.{BucketState, ticked, after_ticks, ticks_until}
+use Rattle.sim_base.specs.Packet.{max_packet}
+use Rattle.sim_base.specs.Units.{max_u64}
 
 abbrev pub bucket : ℕ → ℕ → ℕ → BucketState
 bucket r t m = record { rate = r; tokens = t; millis = m }
@@ -15,11 +17,11 @@ pub same_bucket : (r s t m n : ℕ) → s ≡ t → m ≡ n → bucket r s m ≡
 same_bucket r s t m n p q = λ i. bucket r (p i) (q i)
 
 -- after n milliseconds n rates came in, up to what the bucket holds
-pub after_ticks-closed : (n r t m : ℕ) → t ≤ r + 1500 → after_ticks n (bucket r t m) ≡ bucket r (min (t + n * r) (r + 1500)) (m + n)
+pub after_ticks-closed : (n r t m : ℕ) → t ≤ r + max_packet → after_ticks n (bucket r t m) ≡ bucket r (min (t + n * r) (r + max_packet)) (m + n)
 unfolding after_ticks
 after_ticks-closed zero r t m held = same_bucket r _ _ _ _ (omega arith) (omega arith)
 after_ticks-closed (suc n) r t m held =
-    after_ticks-closed n r (min (t + r) (r + 1500)) (m + 1) (omega arith)
+    after_ticks-closed n r (min (t + r) (r + max_packet)) (m + 1) (omega arith)
     ∙ same_bucket r _ _ _ _ (omega arith) (omega arith)
 
 some_factor : (k r x : ℕ) → x ≤ k * r → 0 < x → 1 ≤ k
@@ -47,32 +49,32 @@ ceil-more x r some =
     let there = div_ceil_times (x + r) r some in
     same_multiple r (div_ceil (x + r) r) (1 + div_ceil x r) (x + r) there.0 there.1 (omega (arith, here.0)) (omega (arith, here.1))
 
-until_step : (seen n r t m : ℕ) → 1 ≤ r → n ≤ r + 1500 → n ≤ t + suc seen * r
+until_step : (seen n r t m : ℕ) → 1 ≤ r → n ≤ r + max_packet → n ≤ t + suc seen * r
     → ((u k : ℕ) → n ≤ u + seen * r → 1 ≤ seen → ticks_until seen n (bucket r u k) ≡ max 1 (div_ceil (n - u) r))
-    → (enough : Bool) → nat_le n (min (t + r) (r + 1500)) ≡ enough
+    → (enough : Bool) → nat_le n (min (t + r) (r + max_packet)) ≡ enough
     → cond enough 1 (1 + ticks_until seen n (ticked (bucket r t m))) ≡ max 1 (div_ceil (n - t) r)
 until_step seen n r t m some fits within later true e =
-    let reached : n ≤ min (t + r) (r + 1500) = grind (arith, nat_tests) in
+    let reached : n ≤ min (t + r) (r + max_packet) = grind (arith, nat_tests) in
     let small = ceil-small (n - t) r some (omega arith) in
     omega (arith, small)
 until_step seen n r t m some fits within later false e =
-    let short : min (t + r) (r + 1500) < n = grind (arith, nat_tests) in
+    let short : min (t + r) (r + max_packet) < n = grind (arith, nat_tests) in
     let left = some_factor seen r (n - (t + r)) (omega arith) (omega arith) in
-    let rest = later (min (t + r) (r + 1500)) (m + 1) (omega arith) left in
-    let same : n - min (t + r) (r + 1500) ≡ n - (t + r) = omega arith in
+    let rest = later (min (t + r) (r + max_packet)) (m + 1) (omega arith) left in
+    let same : n - min (t + r) (r + max_packet) ≡ n - (t + r) = omega arith in
     let some_more = ceil-some (n - (t + r)) r some (omega arith) in
     let more = ceil-more (n - (t + r)) r some in
     let whole : n - (t + r) + r ≡ n - t = omega arith in
     omega (arith, rest, ap (λ x. div_ceil x r) same, some_more, more, ap (λ x. div_ceil x r) whole)
 
 -- the milliseconds until there are n tokens, by one division
-pub ticks_until-closed : (seen n r t m : ℕ) → 1 ≤ r → n ≤ r + 1500 → n ≤ t + seen * r → 1 ≤ seen
+pub ticks_until-closed : (seen n r t m : ℕ) → 1 ≤ r → n ≤ r + max_packet → n ≤ t + seen * r → 1 ≤ seen
     → ticks_until seen n (bucket r t m) ≡ max 1 (div_ceil (n - t) r)
 unfolding ticks_until
 ticks_until-closed zero n r t m some fits within none = absurd (omega arith)
 ticks_until-closed (suc seen) n r t m some fits within none =
-    until_step seen n r t m some fits within (λ u k. ticks_until-closed seen n r u k some fits) (nat_le n (min (t + r) (r + 1500))) refl
+    until_step seen n r t m some fits within (λ u k. ticks_until-closed seen n r u k some fits) (nat_le n (min (t + r) (r + max_packet))) refl
 
 -- what comes in fits, though the product may not
-pub gained : (e r t : ℕ) → t ≤ r + 1500 → r < 2 ^ 62 → t + min (min (e * r) (2 ^ 64 - 1)) (r + 1500 - t) ≡ min (t + e * r) (r + 1500)
+pub gained : (e r t : ℕ) → t ≤ r + max_packet → r < 2 ^ 62 → t + min (min (e * r) max_u64) (r + max_packet - t) ≡ min (t + e * r) (r + max_packet)
 gained e r t held small = omega arith

@@ -6,25 +6,26 @@ use Rattle.std.proofs.lemmas.List.Sums.{sum_by-cons, sum_by_push}
 use Rattle.std.specs.Prelude.{nat_le}
 use Rattle.sim_base.specs.declared.packet.Packet.{Packet}
 use Rattle.sim_base.specs.declared.time.Time.{Time}
+use Rattle.sim_base.specs.Packet.{max_packet}
 use Rattle.net_iface.specs.declared.codel.CodelState.{CodelState}
 use Rattle.net_iface.specs.declared.lane.Taken.{Taken}
 use Rattle.net_iface.specs.declared.lane.Waiting.{Waiting}
 use Rattle.net_iface.specs.Bucket.{BucketState, paid}
 use Rattle.net_iface.specs.Lane.{LaneState, AllFit, IsLane, Left, waiting_size, waiting_bytes, treated, with_rest, popped, first_of, taken_as, taken_front, front_taken, none_left, with_taken, with_first, leaving}
 
-AllFit-push : (ws : List Waiting) (w : Waiting) → AllFit ws → waiting_size w ≤ 1500 → AllFit (ws ++ w ∷ [])
+AllFit-push : (ws : List Waiting) (w : Waiting) → AllFit ws → waiting_size w ≤ max_packet → AllFit (ws ++ w ∷ [])
 AllFit-push [] w h small = (small, tt)
 AllFit-push (x ∷ ws) w h small = (h.0, AllFit-push ws w h.1 small)
 
-pub bytes_bound : (ws : List Waiting) → AllFit ws → waiting_bytes ws ≤ 1500 * length ws
+pub bytes_bound : (ws : List Waiting) → AllFit ws → waiting_bytes ws ≤ max_packet * length ws
 bytes_bound [] h = omega arith
 bytes_bound (w ∷ ws) h = rw (sum_by-cons waiting_size w ws) (omega (arith, bytes_bound ws h.1, h.0))
 
 -- there is room for the bytes of one more
-pub bytes_fit : (ws : List Waiting) (bytes more : ℕ) → IsLane ws bytes → more ≤ 1500 → bytes + more ≤ 1501500
+pub bytes_fit : (ws : List Waiting) (bytes more : ℕ) → IsLane ws bytes → more ≤ max_packet → bytes + more ≤ 1501500
 bytes_fit ws bytes more h small = omega (arith, bytes_bound ws h.fit, h.few, h.told)
 
-pub IsLane-push : (ws : List Waiting) (w : Waiting) (bytes : ℕ) → IsLane ws bytes → waiting_size w ≤ 1500 → length ws < 1000
+pub IsLane-push : (ws : List Waiting) (w : Waiting) (bytes : ℕ) → IsLane ws bytes → waiting_size w ≤ max_packet → length ws < 1000
     → IsLane (ws ++ w ∷ []) (bytes + waiting_size w)
 IsLane-push ws w bytes h small room = record {
   fit = AllFit-push ws w h.fit small;

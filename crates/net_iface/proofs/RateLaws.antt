@@ -6,6 +6,7 @@ use Rattle.std.specs.Prelude.{nat_le, nat_lt, sum_by}
 use Rattle.sim_base.specs.declared.packet.Packet.{Packet}
 use Rattle.sim_base.specs.declared.time.Time.{Time}
 use Rattle.sim_base.specs.Packet.{packet_size}
+use Rattle.sim_base.specs.Units.{millisecond}
 use Rattle.net_iface.specs.declared.lane.Pushed.{Pushed}
 use Rattle.net_iface.specs.declared.lane.Waiting.{Waiting}
 use Rattle.net_iface.specs.Bucket.{BucketState, ticked, after_ticks, bucket_at, spent, paid}
@@ -98,7 +99,7 @@ pushed_leaves now packet lane (w ∷ ws) = behind_leaves (nat_lt (length lane.wa
 
 later_leaves : (now : Time) (b after : BucketState) (n : ℕ) → LeavesWithin n (bucket_at now.nanos b) after → LeavesWithin n b after
 later_leaves now b after n h =
-    with_bytes (0 + n) n b after (omega arith) (some_leave 0 n b (bucket_at now.nanos b) after (ticks_leave (now.nanos / 1000000 - b.millis) b) h)
+    with_bytes (0 + n) n b after (omega arith) (some_leave 0 n b (bucket_at now.nanos b) after (ticks_leave (now.nanos / millisecond - b.millis) b) h)
 
 act_leaves : (act : LaneAct) (lane : LaneState) → LeavesWithin (bytes_left act lane) lane.bucket (lane_after act lane).bucket
 act_leaves (Pushes now packet) lane =

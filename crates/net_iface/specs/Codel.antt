@@ -1,6 +1,7 @@
 -- the queue rule CoDel, a packet at a time (after RFC 8289; the rounding is this project's own profile)
-use Rattle.std.specs.Prelude.{ℕ, ◌+◌, ◌-◌, ◌*◌, ◌/◌, ◌^◌, min, Bool, true, false, ◌||◌, ◌&&◌, nat_lt, nat_le, Option, Some, None, if◌then◌else◌}
+use Rattle.std.specs.Prelude.{ℕ, ◌+◌, ◌-◌, ◌*◌, ◌/◌, min, Bool, true, false, ◌||◌, ◌&&◌, nat_lt, nat_le, Option, Some, None, if◌then◌else◌}
 use Rattle.sim_base.specs.declared.time.Time.{Time}
+use Rattle.sim_base.specs.Units.{max_u64}
 use Rattle.net_iface.specs.declared.codel.TheConstants.{TARGET, INTERVAL, LARGEST}
 use Rattle.net_iface.specs.declared.codel.CodelState.{CodelState}
 use Rattle.net_iface.specs.Root.{root}
@@ -30,7 +31,7 @@ judged now since left above = if is_good now since left then (false, None) else 
 
 -- one more, up to what 64 bits hold
 abbrev pub one_more : ℕ → ℕ
-one_more count = min (count + 1) (2 ^ 64 - 1)
+one_more count = min (count + 1) max_u64
 
 -- while packets are being dropped, one is dropped when its time has come (RFC 8289, section 5.5)
 abbrev pub drops_on : Time → CodelState → Bool × CodelState

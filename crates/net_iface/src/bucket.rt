@@ -3,6 +3,8 @@
 ghost use Rattle.std.specs.Prelude.{◌≡◌, ◌/◌, ◌<◌, ◌≤◌};
 ghost use Rattle.std.specs.Bool.{OnTrue, OnFalse};
 ghost use Rattle.net_iface.specs.Bucket.{full_bucket, bucket_at, spent, paid, due_with};
+ghost use Rattle.sim_base.specs.Packet.{max_packet};
+ghost use Rattle.sim_base.specs.Units.{millisecond};
 
 use sim_base::Time;
 use std::marker::Model;
@@ -47,9 +49,9 @@ impl Bucket {
 
     /// Lets the time come. It does not go back.
     pub fn at(&mut self, now: Time)
-        requires { self.old.millis ≤ now.nanos / 1000000 }
+        requires { self.old.millis ≤ now.nanos / millisecond }
         ensures at { self.new ≡ bucket_at now.nanos self.old }
-        ensures time { self.new.millis ≡ now.nanos / 1000000 }
+        ensures time { self.new.millis ≡ now.nanos / millisecond }
     {
         let millis = now.nanos / MILLISECOND;
         let gained = (millis - self.millis).saturating_mul(self.rate);
@@ -93,7 +95,7 @@ impl Bucket {
     /// The first whole millisecond, later than the time that has come, at which there are `n`
     /// tokens, at most the end of time.
     pub fn due_with(&self, n: u64) -> Time
-        requires { n ≤ 1500 }
+        requires { n ≤ max_packet }
         ensures { result.nanos ≡ due_with n self.now }
     {
         let wait = n.saturating_sub(self.tokens).div_ceil(self.rate).max(1);

@@ -2,6 +2,7 @@
 
 ghost use Rattle.std.specs.Prelude.{◌≡◌, ◌/◌, ◌^◌, ◌<◌, ◌≤◌, ◌↔◌, [], length, option_map, slice_get, IfOk, OnOk, IfSome, OnSome, IsTrue};
 ghost use Rattle.sim_base.specs.Packet.{packet_size};
+ghost use Rattle.sim_base.specs.Units.{millisecond};
 ghost use Rattle.net_iface.specs.Lane.{empty_lane, waiting_size, pushed, pushed_first, waits_in, treated, popped, front_taken, next_due, released};
 
 use crate::bucket::Bucket;
@@ -107,11 +108,11 @@ impl Lane {
 
     /// A packet arrives at the lane. After want of memory nothing is known of the lane but its time.
     pub fn push(&mut self, now: Time, packet: Packet) -> Result<Pushed, NoMemory>
-        requires time { self.old.bucket.millis ≤ now.nanos / 1000000 }
+        requires time { self.old.bucket.millis ≤ now.nanos / millisecond }
         requires early { now.nanos ≤ 2 ^ 61 }
         requires size { packet_size packet ≤ LARGEST }
         ensures pushed { IfOk result (λ answer. (answer, self.new) ≡ pushed now packet self.old) }
-        ensures time { self.new.bucket.millis ≡ now.nanos / 1000000 }
+        ensures time { self.new.bucket.millis ≡ now.nanos / millisecond }
     {
         self.bucket.at(now);
         if self.waiting.is_empty() {
@@ -170,10 +171,10 @@ impl Lane {
     /// Takes the packets that can be taken. After want of memory nothing is known of the lane but its
     /// time.
     pub fn release(&mut self, now: Time) -> Result<Released, NoMemory>
-        requires time { self.old.bucket.millis ≤ now.nanos / 1000000 }
+        requires time { self.old.bucket.millis ≤ now.nanos / millisecond }
         requires early { now.nanos ≤ 2 ^ 61 }
         ensures released { IfOk result (λ answer. record { packets = answer.packets.items; dropped = answer.dropped.items; next = answer.next; lane = self.new } ≡ released now self.old) }
-        ensures time { self.new.bucket.millis ≡ now.nanos / 1000000 }
+        ensures time { self.new.bucket.millis ≡ now.nanos / millisecond }
     {
         self.bucket.at(now);
         let mut packets = Vec::new(*self.waiting.allocator());

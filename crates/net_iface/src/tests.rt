@@ -1,5 +1,6 @@
 ghost use Rattle.std.specs.Prelude.{◌≡◌, ◌+◌, ◌*◌, ◌/◌, ◌^◌, ◌≤◌, IfOk, OnOk};
-ghost use Rattle.sim_base.specs.Packet.{packet_size};
+ghost use Rattle.sim_base.specs.Packet.{packet_size, max_packet};
+ghost use Rattle.sim_base.specs.Units.{millisecond};
 
 use super::*;
 use sim_base::{Addr, Bytes, Ip, Load, Packet, Time};
@@ -28,19 +29,19 @@ fn at(nanos: u64) -> Time
 }
 
 fn push_at(lane: &mut Lane, nanos: u64, packet: Packet) -> Result<Pushed, Fail>
-    requires time { lane.old.bucket.millis ≤ nanos / 1000000 }
+    requires time { lane.old.bucket.millis ≤ nanos / millisecond }
     requires early { nanos ≤ 2 ^ 61 }
-    requires size { packet_size packet ≤ 1500 }
-    ensures { OnOk result (lane.new.bucket.millis ≡ nanos / 1000000) }
+    requires size { packet_size packet ≤ max_packet }
+    ensures { OnOk result (lane.new.bucket.millis ≡ nanos / millisecond) }
 {
     Ok(lane.push(at(nanos), packet)?)
 }
 
 /// How many packets leave, and when the next release is to be made.
 fn release_at(lane: &mut Lane, nanos: u64) -> Result<(usize, Option<Time>), Fail>
-    requires time { lane.old.bucket.millis ≤ nanos / 1000000 }
+    requires time { lane.old.bucket.millis ≤ nanos / millisecond }
     requires early { nanos ≤ 2 ^ 61 }
-    ensures { OnOk result (lane.new.bucket.millis ≡ nanos / 1000000) }
+    ensures { OnOk result (lane.new.bucket.millis ≡ nanos / millisecond) }
 {
     let released = lane.release(at(nanos))?;
     Ok((released.packets.len(), released.next))
@@ -171,7 +172,7 @@ fn takes_at(codel: &mut CodelState, milli: u64) -> bool {
 
 /// A packet of 1,500 bytes is taken behind a long queue, for which it waited so long.
 fn takes(codel: &mut CodelState, milli: u64, waited: u64) -> bool
-    requires { milli * 1000000 ≤ 2 ^ 61 }
+    requires { milli * millisecond ≤ 2 ^ 61 }
 {
     let since = milli.saturating_sub(waited) * 1_000_000;
     codel.takes(at(milli * 1_000_000), at(since), 3000)
