@@ -6,7 +6,7 @@ use Rattle.sim_base.specs.declared.signal.Signal.{Signal}
 use Rattle.sim_base.specs.declared.signal.Signal.TheVariants.{SigBus}
 use Rattle.guest_mem.specs.Memory.{Memory, load, store}
 use Rattle.guest_mem.specs.declared.right.Right.TheVariants as right
-use Rattle.rv32_machine.specs.Word.{rd, i_immediate, b_immediate, j_immediate, is_aligned}
+use Rattle.rv32_machine.specs.Word.{rd, i_immediate, b_immediate, j_immediate, is_aligned, word_size}
 use Rattle.rv32_machine.specs.Arithmetic.{sum, is_taken, modified}
 use Rattle.rv32_machine.specs.Table.{State, After, source1, source2, traps, goes_on, advanced, at, sets, following, with_reservation, is_reserved, jumps, load_ends, store_ends, reserves, answers, conditional_ends, modify_ends, modifies, effect, executed, fetched, insn}
 use Rattle.rv32_machine.specs.declared.cpu.Cpu.{Cpu}
@@ -15,6 +15,7 @@ use Rattle.rv32_machine.specs.declared.outcome.Outcome.TheVariants as outcome
 use Rattle.rv32_machine.specs.declared.instruction.Amo.{Amo as AmoKind}
 use Rattle.rv32_machine.specs.declared.instruction.Insn.{Insn}
 use Rattle.rv32_machine.specs.declared.instruction.Insn.TheVariants.{Lui, Auipc, Jal, Jalr, Branch, Load, Store, Immediate, Register, Fence, FenceI, Ecall, Ebreak, LrW, ScW, Amo}
+use Rattle.elf_load.specs.Room.{instruction_size}
 
 -- what an instruction leaves, by how it ends
 pub LeavesBy : Outcome → State → State → Type 0
@@ -70,7 +71,7 @@ modified_kept s word old (Some m) = tt
 modify_kept : (s : State) (amo : AmoKind) (word : ℕ) (o : Option ℕ) → IsKept s (modifies o amo word s)
 unfolding IsKept LeavesBy
 modify_kept s amo word None = refl
-modify_kept s amo word (Some old) = modified_kept s word old (store 4 s.memory (source1 word s) (modified amo old (source2 word s)))
+modify_kept s amo word (Some old) = modified_kept s word old (store word_size s.memory (source1 word s) (modified amo old (source2 word s)))
 
 effect_kept : (i : Insn) (word : ℕ) (s : State) → IsKept s (effect i word s)
 unfolding IsKept LeavesBy
@@ -87,11 +88,11 @@ effect_kept Fence word s = tt
 effect_kept FenceI word s = tt
 effect_kept Ecall word s = refl
 effect_kept Ebreak word s = refl
-effect_kept LrW word s = aligned_kept s (is_aligned (source1 word s)) _ (reserve_kept s word (load right.Read 4 s.memory (source1 word s)))
+effect_kept LrW word s = aligned_kept s (is_aligned (source1 word s)) _ (reserve_kept s word (load right.Read word_size s.memory (source1 word s)))
 effect_kept ScW word s =
     aligned_kept s (is_aligned (source1 word s)) _
-    (conditional_kept s word (is_reserved (source1 word s) s.cpu) (store 4 s.memory (source1 word s) (source2 word s)))
-effect_kept (Amo amo) word s = aligned_kept s (is_aligned (source1 word s)) _ (modify_kept s amo word (load right.Read 4 s.memory (source1 word s)))
+    (conditional_kept s word (is_reserved (source1 word s) s.cpu) (store word_size s.memory (source1 word s) (source2 word s)))
+effect_kept (Amo amo) word s = aligned_kept s (is_aligned (source1 word s)) _ (modify_kept s amo word (load right.Read word_size s.memory (source1 word s)))
 
 executed_kept : (o : Option Insn) (word : ℕ) (s : State) → IsKept s (executed o word s)
 unfolding IsKept LeavesBy
@@ -105,7 +106,7 @@ fetched_kept (Some word) s = executed_kept _ word s
 
 kept : (s : State) → IsKept s (insn s)
 unfolding insn
-kept s = fetched_kept (load right.Execute 4 s.memory s.cpu.pc) s
+kept s = fetched_kept (load right.Execute instruction_size s.memory s.cpu.pc) s
 
 -- an instruction that traps leaves the state as it was
 pub insn-trap : (s : State) (g : Signal) → (insn s).outcome ≡ outcome.Trap g → (insn s).state ≡ s
@@ -162,7 +163,7 @@ modified_untouched s word old (Some m) = set_untouched word old s.cpu
 modify_untouched : (s : State) (amo : AmoKind) (word : ℕ) (o : Option ℕ) → IsUntouched s (modifies o amo word s)
 unfolding IsUntouched
 modify_untouched s amo word None = refl
-modify_untouched s amo word (Some old) = modified_untouched s word old (store 4 s.memory (source1 word s) (modified amo old (source2 word s)))
+modify_untouched s amo word (Some old) = modified_untouched s word old (store word_size s.memory (source1 word s) (modified amo old (source2 word s)))
 
 -- LR.W, SC.W and ECALL alone touch the reservation
 pub effect-reservation : (i : Insn) (word : ℕ) (s : State) → i ≢ LrW → i ≢ ScW → i ≢ Ecall → (effect i word s).state.cpu.reservation ≡ s.cpu.reservation
@@ -183,4 +184,4 @@ effect-reservation Ecall word s a b c = absurd (c refl)
 effect-reservation Ebreak word s a b c = refl
 effect-reservation LrW word s a b c = absurd (a refl)
 effect-reservation ScW word s a b c = absurd (b refl)
-effect-reservation (Amo amo) word s a b c = aligned_untouched s (is_aligned (source1 word s)) _ (modify_untouched s amo word (load right.Read 4 s.memory (source1 word s)))
+effect-reservation (Amo amo) word s a b c = aligned_untouched s (is_aligned (source1 word s)) _ (modify_untouched s amo word (load right.Read word_size s.memory (source1 word s)))

@@ -10,6 +10,7 @@ use Rattle.rv32_machine.specs.declared.outcome.Outcome.{Outcome}
 use Rattle.rv32_machine.specs.declared.outcome.Outcome.TheVariants as outcome
 use Rattle.rv32_machine.specs.declared.outcome.TurnEnd.{TurnEnd}
 use Rattle.rv32_machine.specs.declared.outcome.TurnEnd.TheVariants as end
+use Rattle.elf_load.specs.Room.{instruction_size}
 
 -- the turn that begins with this instruction
 turn_by : ℕ → After → Turn
@@ -57,7 +58,7 @@ turn-spent budget k s0 cpu m all same =
     same ∙ ap (λ (n : ℕ). ran_before k (turn n (state cpu m))) none ∙ ap (λ (r : ℕ). record { state = state cpu m; end = end.Spent; ran = r }) whole
 
 -- the instruction whose word was fetched
-pub fetched-insn : (s : State) (word : ℕ) (a : After) → load right.Execute 4 s.memory s.cpu.pc ≡ Some word → executed (decoded word) word s ≡ a → insn s ≡ a
+pub fetched-insn : (s : State) (word : ℕ) (a : After) → load right.Execute instruction_size s.memory s.cpu.pc ≡ Some word → executed (decoded word) word s ≡ a → insn s ≡ a
 unfolding insn
 fetched-insn s word a there is = ap (λ (w : Option ℕ). fetched w s) there ∙ is
 

@@ -7,7 +7,7 @@ use Rattle.sim_base.specs.declared.signal.Signal.{Signal}
 use Rattle.sim_base.specs.declared.signal.Signal.TheVariants.{SigIll, SigTrap, SigBus, SigSegv}
 use Rattle.guest_mem.specs.Memory.{Memory, load, store}
 use Rattle.guest_mem.specs.declared.right.Right.TheVariants as right
-use Rattle.rv32_machine.specs.Word.{rd, rs1, rs2, sign_extended, i_immediate, s_immediate, b_immediate, u_immediate, j_immediate, is_aligned}
+use Rattle.rv32_machine.specs.Word.{rd, rs1, rs2, sign_extended, i_immediate, s_immediate, b_immediate, u_immediate, j_immediate, is_aligned, word_size}
 use Rattle.rv32_machine.specs.Arithmetic.{sum, value, is_taken, modified}
 use Rattle.rv32_machine.specs.Encoding.{decoded}
 use Rattle.rv32_machine.specs.declared.cpu.Cpu.{Cpu}
@@ -20,6 +20,7 @@ use Rattle.rv32_machine.specs.declared.instruction.Load.{Load as LoadKind}
 use Rattle.rv32_machine.specs.declared.instruction.Load.TheVariants.{Lb, Lh, Lw, Lbu, Lhu}
 use Rattle.rv32_machine.specs.declared.instruction.Store.{Store as StoreKind}
 use Rattle.rv32_machine.specs.declared.instruction.Store.TheVariants.{Sb, Sh, Sw}
+use Rattle.elf_load.specs.Room.{instruction_size}
 
 -- the registers with the reservation, and the memory
 pub record State : Type 0 where
@@ -32,6 +33,10 @@ pub record After : Type 0 where
   pub outcome : Outcome
 
 -- ---- 2.1: the registers
+
+-- how many registers there are
+abbrev pub register_count : ℕ
+register_count = 32
 
 -- register r, of which register 0 reads 0
 abbrev pub register : ℕ → Cpu → ℕ
@@ -54,7 +59,7 @@ at address cpu = record cpu { pc = address }
 
 -- the address behind this instruction
 abbrev pub following : Cpu → ℕ
-following cpu = sum cpu.pc 4
+following cpu = sum cpu.pc instruction_size
 
 abbrev pub advanced : Cpu → Cpu
 advanced cpu = at (following cpu) cpu
@@ -76,7 +81,7 @@ sets word n cpu = with_register (rd word) n cpu
 abbrev pub computes : ℕ → ℕ → State → After
 computes word n s = goes_on (advanced (sets word n s.cpu)) s
 
--- 2.5: instructions stand at multiples of 4; for a jump or a taken branch to any other target this project's own
+-- 2.5: instructions stand at multiples of their size; for a jump or a taken branch to any other target this project's own
 -- profile has SIGBUS
 abbrev pub jumps : ℕ → Cpu → State → After
 jumps target cpu s = if is_aligned target then goes_on (at target cpu) s else traps SigBus s
@@ -87,7 +92,7 @@ jumps target cpu s = if is_aligned target then goes_on (at target cpu) s else tr
 abbrev pub loaded : LoadKind → Memory → ℕ → Option ℕ
 loaded Lb m address = option_map (sign_extended 8) (load right.Read 1 m address)
 loaded Lh m address = option_map (sign_extended 16) (load right.Read 2 m address)
-loaded Lw m address = load right.Read 4 m address
+loaded Lw m address = load right.Read word_size m address
 loaded Lbu m address = load right.Read 1 m address
 loaded Lhu m address = load right.Read 2 m address
 
@@ -95,7 +100,7 @@ loaded Lhu m address = load right.Read 2 m address
 abbrev pub stored : StoreKind → Memory → ℕ → ℕ → Option Memory
 stored Sb m address n = store 1 m address (n % 2 ^ 8)
 stored Sh m address n = store 2 m address (n % 2 ^ 16)
-stored Sw m address n = store 4 m address n
+stored Sw m address n = store word_size m address n
 
 abbrev pub load_ends : Option ℕ → ℕ → State → After
 load_ends None word s = traps SigSegv s
@@ -105,7 +110,7 @@ abbrev pub store_ends : Option Memory → State → After
 store_ends None s = traps SigSegv s
 store_ends (Some m) s = goes_on (advanced s.cpu) (record s { memory = m })
 
--- ---- the extension A: this project's own profile has SIGBUS for an address that isn't a multiple of 4, and after that
+-- ---- the extension A: this project's own profile has SIGBUS for an address that isn't a word's, and after that
 -- SIGSEGV for one that isn't mapped with the rights. A trap leaves the reservation as it was
 
 -- whether the address is the reserved one
@@ -143,7 +148,7 @@ modify_ends (Some m) old word s = computes word old (record s { memory = m })
 
 abbrev pub modifies : Option ℕ → AmoKind → ℕ → State → After
 modifies None amo word s = traps SigSegv s
-modifies (Some old) amo word s = modify_ends (store 4 s.memory (source1 word s) (modified amo old (source2 word s))) old word s
+modifies (Some old) amo word s = modify_ends (store word_size s.memory (source1 word s) (modified amo old (source2 word s))) old word s
 
 -- ---- the table
 
@@ -169,11 +174,11 @@ effect FenceI word s = goes_on (advanced s.cpu) s
 effect Ecall word s = record (goes_on (advanced (with_reservation None s.cpu)) s) { outcome = outcome.Call }
 effect Ebreak word s = traps SigTrap s
 -- the extension A
-effect LrW word s = where_aligned (source1 word s) (reserves (load right.Read 4 s.memory (source1 word s)) word s) s
+effect LrW word s = where_aligned (source1 word s) (reserves (load right.Read word_size s.memory (source1 word s)) word s) s
 effect ScW word s =
     where_aligned (source1 word s)
-    (if is_reserved (source1 word s) s.cpu then conditional_ends (store 4 s.memory (source1 word s) (source2 word s)) word s else answers 1 word s) s
-effect (Amo amo) word s = where_aligned (source1 word s) (modifies (load right.Read 4 s.memory (source1 word s)) amo word s) s
+    (if is_reserved (source1 word s) s.cpu then conditional_ends (store word_size s.memory (source1 word s) (source2 word s)) word s else answers 1 word s) s
+effect (Amo amo) word s = where_aligned (source1 word s) (modifies (load right.Read word_size s.memory (source1 word s)) amo word s) s
 
 -- ---- one instruction
 
@@ -185,9 +190,9 @@ abbrev pub fetched : Option ℕ → State → After
 fetched None s = traps SigSegv s
 fetched (Some word) s = executed (decoded word) word s
 
--- the instruction at pc, whose four bytes are mapped with the right to execute
+-- the instruction at pc, whose bytes are mapped with the right to execute
 unfoldable pub insn : State → After
-insn s = fetched (load right.Execute 4 s.memory s.cpu.pc) s
+insn s = fetched (load right.Execute instruction_size s.memory s.cpu.pc) s
 
 -- the state of these registers and this memory
 abbrev pub state : Cpu → Memory → State

@@ -30,9 +30,13 @@ funct7 word = bits word 31 25
 abbrev pub funct5 : ℕ → ℕ
 funct5 word = bits word 31 27
 
+-- the bytes of a word
+abbrev pub word_size : ℕ
+word_size = 4
+
 -- whether the address is that of a word
 abbrev pub is_aligned : ℕ → Bool
-is_aligned address = address % 4 == 0
+is_aligned address = address % word_size == 0
 
 -- ---- 2.3: the immediates, each as the word that it stands for
 

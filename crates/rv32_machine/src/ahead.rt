@@ -5,6 +5,7 @@ ghost use Rattle.guest_mem.specs.Memory.{Memory, IsPage, load};
 ghost use Rattle.guest_mem.specs.declared.right.Right.TheVariants as right;
 ghost use Rattle.rv32_machine.specs.Table.{state};
 ghost use Rattle.rv32_machine.specs.Turn.{turn, ran_before};
+ghost use Rattle.elf_load.specs.Room.{page_size, instruction_size};
 
 use crate::cpu::Cpu;
 use crate::quiet::run_quiet;
@@ -32,7 +33,7 @@ pub(crate) fn run_ahead<L: Ledger>(
     ensures within { result.ran ≤ most }
     ensures counted { steps.new ≡ steps.old + result.ran }
     ensures same { turn most (state cpu.old mem.now) ≡ ran_before result.ran (turn (most - result.ran) (state cpu.new mem.now)) }
-    ensures next { IfSome result.next (λ word. load right.Execute 4 mem.now cpu.new.pc ≡ Some word) }
+    ensures next { IfSome result.next (λ word. load right.Execute instruction_size mem.now cpu.new.pc ≡ Some word) }
 {
     let number = cpu.pc / PAGE_SIZE;
     let Some(page) = mem.code(number) else {
@@ -59,9 +60,9 @@ pub(crate) fn run_ahead<L: Ledger>(
 /// The word at an address, if it lies in the page with this number and these bytes.
 #[inline(always)]
 fn word_at(page: &[u8], number: u32, at: u32) -> Option<u32>
-    requires whole { length page.now ≡ 4096 }
+    requires whole { length page.now ≡ page_size }
     requires in_range { number < 2 ^ 20 }
-    ensures { (m : Memory) → IsPage right.Execute m.cells number page.now → IfSome result (λ word. load right.Execute 4 m at ≡ Some word) }
+    ensures { (m : Memory) → IsPage right.Execute m.cells number page.now → IfSome result (λ word. load right.Execute instruction_size m at ≡ Some word) }
 {
     match offset_in(number, at) {
         Some(offset) => Some(word_in(page, offset)),
@@ -73,8 +74,8 @@ fn word_at(page: &[u8], number: u32, at: u32) -> Option<u32>
 #[inline(always)]
 fn offset_in(number: u32, at: u32) -> Option<usize>
     requires { number < 2 ^ 20 }
-    ensures there { IfSome result (λ offset. at ≡ 4096 * number + offset) }
-    ensures whole { IfSome result (λ offset. offset + 4 ≤ 4096) }
+    ensures there { IfSome result (λ offset. at ≡ page_size * number + offset) }
+    ensures whole { IfSome result (λ offset. offset + instruction_size ≤ page_size) }
 {
     let offset = at.wrapping_sub(PAGE_SIZE * number);
     if offset <= PAGE_SIZE - 4 {

@@ -1,6 +1,7 @@
 //! The registers. RISC-V unprivileged manual, 2.1 Programmers' Model for Base Integer ISA.
 
 ghost use Rattle.std.specs.Prelude.{◌≡◌, ◌<◌};
+ghost use Rattle.rv32_machine.specs.Table.{register_count};
 
 use crate::word::rd;
 
@@ -19,14 +20,14 @@ impl Cpu {
     ghost use Rattle.rv32_machine.specs.Table.{register, with_register, is_reserved, advanced, sets};
 
     pub(crate) fn register(&self, number: usize) -> u32
-        requires { number < 32 }
+        requires { number < register_count }
         ensures { result ≡ register number self.now }
     {
         if number == 0 { 0 } else { self.x[number] }
     }
 
     pub(crate) fn set_register(&mut self, number: usize, value: u32)
-        requires { number < 32 }
+        requires { number < register_count }
         ensures { self.new ≡ with_register number value self.old }
     {
         if number != 0 {

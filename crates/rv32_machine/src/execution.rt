@@ -5,6 +5,7 @@ ghost use Rattle.guest_mem.specs.Memory.{Memory, load as load_of};
 ghost use Rattle.guest_mem.specs.declared.right.Right.TheVariants as right;
 ghost use Rattle.rv32_machine.specs.Encoding.{decoded};
 ghost use Rattle.rv32_machine.specs.Table.{insn, effect, executed, state, after, jumps, sets, following, loaded, stored};
+ghost use Rattle.elf_load.specs.Room.{instruction_size};
 
 use crate::arithmetic::{is_taken, value};
 use crate::atomics::{load_reserved, modify, store_conditional};
@@ -34,7 +35,7 @@ pub fn step(cpu: &mut Cpu, mem: &mut Mem) -> Outcome
 /// The same, where the word may have been fetched before.
 #[tactic(auto, unfolding(crate::specs::Table::insn))]
 pub(crate) fn step_fetched(fetched: Option<u32>, cpu: &mut Cpu, mem: &mut Mem) -> Outcome
-    requires { IfSome fetched (λ word. load_of right.Execute 4 mem.old cpu.old.pc ≡ Some word) }
+    requires { IfSome fetched (λ word. load_of right.Execute instruction_size mem.old cpu.old.pc ≡ Some word) }
     ensures { insn (state cpu.old mem.old) ≡ after cpu.new mem.new result }
 {
     match fetched {

@@ -3,6 +3,7 @@
 //! RISC-V unprivileged manual, 2.2 Base Instruction Formats and 2.3 Immediate Encoding Variants.
 
 ghost use Rattle.std.specs.Prelude.{◌≡◌, ◌<◌};
+ghost use Rattle.rv32_machine.specs.Table.{register_count};
 ghost use Rattle.rv32_machine.specs.Word.{is_aligned, opcode, sign_extended, rd, funct3, rs1, rs2, funct7, funct5, i_immediate, s_immediate, b_immediate, u_immediate, j_immediate};
 
 pub fn opcode(word: u32) -> u32
@@ -13,7 +14,7 @@ pub fn opcode(word: u32) -> u32
 
 pub fn rd(word: u32) -> usize
     ensures value { result ≡ rd word }
-    ensures bound { result < 32 }
+    ensures bound { result < register_count }
 {
     (word >> 7 & 0x1f) as usize
 }
@@ -26,14 +27,14 @@ pub fn funct3(word: u32) -> u32
 
 pub fn rs1(word: u32) -> usize
     ensures value { result ≡ rs1 word }
-    ensures bound { result < 32 }
+    ensures bound { result < register_count }
 {
     (word >> 15 & 0x1f) as usize
 }
 
 pub fn rs2(word: u32) -> usize
     ensures value { result ≡ rs2 word }
-    ensures bound { result < 32 }
+    ensures bound { result < register_count }
 {
     (word >> 20 & 0x1f) as usize
 }
