@@ -4,7 +4,7 @@ use Rattle.std.specs.Prelude.{ℕ, ◌==◌, ◌||◌, ◌&&◌, Bool, not, min,
 use Rattle.std.specs.Int.{w16, w32, from_le_bytes, from_be_bytes, to_le_bytes, to_be_bytes}
 use Rattle.sim_base.specs.declared.address.Addr.{Addr}
 use Rattle.guest_mem.specs.Memory.{Memory}
-use Rattle.guest_args.specs.Span.{span, can_write, filled}
+use Rattle.guest_args.specs.Span.{int_size, span, can_write, filled}
 use Rattle.guest_args.specs.declared.address.AddressPlace.{AddressPlace}
 
 -- how long an address is
@@ -15,7 +15,7 @@ address_size = 16
 abbrev pub inet : ℕ
 inet = 2
 
--- of the given length at most 16 bytes count
+-- of the given length at most the bytes of an address count
 abbrev pub address_span : ℕ → ℕ
 address_span length = min length address_size
 
@@ -29,18 +29,18 @@ sockaddr_of bytes = record { ip = record { bits = from_be_bytes w32 (take 4 (dro
 abbrev pub sockaddr : Addr → List ℕ
 sockaddr at = to_le_bytes w16 inet ++ (to_be_bytes w16 at.port ++ (to_be_bytes w32 at.ip.bits ++ replicate 8 0))
 
--- the number in the 4 bytes from an address on
+-- the int at an address
 abbrev pub word : ℕ → Memory → Option ℕ
-word at memory = option_map (from_le_bytes w32) (span 4 at memory)
+word at memory = option_map (from_le_bytes w32) (span int_size at memory)
 
--- where the address goes that a call answers: at most so many bytes from an address on, and its length of 4 bytes elsewhere.
+-- where the address goes that a call answers: at most so many bytes from an address on, and its length, an int, elsewhere.
 -- A null pointer means that it isn't wanted
 abbrev pub is_wanted : ℕ → ℕ → Bool
 is_wanted at length_at = not (at == 0 || length_at == 0)
 
 abbrev pub place_at : ℕ → ℕ → Memory → ℕ → Option AddressPlace
 place_at at length_at memory length =
-    if can_write 4 length_at memory && can_write (address_span length) at memory
+    if can_write int_size length_at memory && can_write (address_span length) at memory
     then Some (record { at = at; length = length; length_at = length_at })
     else None
 

@@ -10,6 +10,10 @@ most = 65536
 abbrev pub counted : ℕ → ℕ
 counted n = min n most
 
+-- the bytes of an int of the guest, and of a socklen_t
+abbrev pub int_size : ℕ
+int_size = 4
+
 -- the bytes of a span, where each may be read; a span of no bytes is always there
 abbrev pub span : ℕ → ℕ → Memory → Option (List ℕ)
 span size at memory = read Read size memory at

@@ -1,12 +1,13 @@
 -- Times that a guest hands in, as struct __kernel_timespec has them: two little-endian words of 64 bits, seconds and nanoseconds.
 use Rattle.std.specs.Prelude.{ℕ, ◌+◌, ◌-◌, ◌*◌, ◌^◌, ◌&&◌, ◌==◌, min, List, ◌++◌, take, drop, Option, Some, None, nat_lt, if◌then◌else◌}
 use Rattle.std.specs.Int.{w64, from_le_bytes, to_le_bytes}
+use Rattle.sim_base.specs.Units.{second}
 use Rattle.host_timers.specs.declared.clock.Moment.{Moment}
-use Rattle.host_timers.specs.Clock.{unix_start}
+use Rattle.host_timers.specs.Clock.{unix_start, clock_realtime}
 
--- the nanoseconds in a second
-abbrev pub second : ℕ
-second = 1000000000
+-- the bytes of a time
+abbrev pub timespec_size : ℕ
+timespec_size = 16
 
 -- the word of 64 bits at a place of some bytes
 abbrev pub word_at : ℕ → List ℕ → ℕ
@@ -39,6 +40,6 @@ time_span time = min (nanos_in time) limit
 abbrev pub deadline_after : ℕ → Moment → ℕ
 deadline_after now time = min (now + nanos_in time) limit
 
--- the moment at which a clock tells a time: the clock 0 tells Unix time; what was before the simulation counts as its beginning
+-- the moment at which a clock tells a time: CLOCK_REALTIME tells Unix time; what was before the simulation counts as its beginning
 abbrev pub deadline_at : ℕ → Moment → ℕ
-deadline_at clock time = min (nanos_in time - (if clock == 0 then unix_start * second else 0)) limit
+deadline_at clock time = min (nanos_in time - (if clock == clock_realtime then unix_start * second else 0)) limit

@@ -70,7 +70,7 @@ fn word(memory: &Mem, at: u32) -> Option<u32>
 /// How many bytes of an address count, of which a length is given.
 pub fn address_span(length: u32) -> usize
     ensures count { result ≡ spec.address_span length }
-    ensures most { result ≤ 16 }
+    ensures most { result ≤ spec.address_size }
 {
     (length as usize).min(SIZE)
 }

@@ -32,7 +32,7 @@ fn word_at(bytes: &[u8], place: usize) -> u64
 /// The time at a place. None: its seconds are negative, or its nanoseconds aren't from 0 to
 /// 999,999,999.
 pub fn timespec(bytes: &[u8], place: usize) -> Option<Moment>
-    requires { place + 16 ≤ length bytes.now }
+    requires { place + spec.timespec_size ≤ length bytes.now }
     ensures { result ≡ spec.timespec place bytes.now }
 {
     moment(word_at(bytes, place), word_at(bytes, place + 8))
