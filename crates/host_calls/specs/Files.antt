@@ -1,5 +1,5 @@
 -- fcntl(2), openat(2), pipe(2), read(2) and write(2), where no socket is meant.
-use Rattle.std.specs.Prelude.{ℕ, zero, suc, ◌+◌, ◌%◌, ◌^◌, ◌==◌, ◌&&◌, Bool, false, not, List, [], ◌∷◌, ◌++◌, length, take, drop, Option, Some, None, Result, Ok, Err, codes, nat_lt, if◌then◌else◌}
+use Rattle.std.specs.Prelude.{◌≡◌, ℕ, zero, suc, ◌+◌, ◌*◌, ◌%◌, ◌^◌, ◌==◌, ◌&&◌, Bool, false, not, List, [], ◌∷◌, ◌++◌, length, take, drop, Option, Some, None, Result, Ok, Err, codes, nat_lt, if◌then◌else◌, refl}
 use Rattle.std.specs.Cmp.Lexicographic.{pointwise}
 use Rattle.std.specs.Int.{w32, w64, to_le_bytes}
 use Rattle.sim_base.specs.declared.errno.Errno.TheVariants.{Eacces, Ebadf, Efault, Einval, Emfile, Enoent}
@@ -9,7 +9,7 @@ use Rattle.sim_base.specs.declared.time.Time.{Time}
 use Rattle.sim_base.specs.Refusals.{◌>>=◌, ◌>>◌, refuse_if, or_refuse}
 use Rattle.guest_mem.specs.Memory.{Memory, load}
 use Rattle.guest_mem.specs.declared.right.Right.TheVariants.{Read}
-use Rattle.guest_args.specs.Span.{counted, span, can_read, can_write, filled}
+use Rattle.guest_args.specs.Span.{counted, span, can_read, can_write, filled, int_size}
 use Rattle.host_fds.specs.Descriptors.{Descriptors}
 use Rattle.host_fds.specs.Pipe.{PipeState, room}
 use Rattle.host_files.specs.declared.file.File.{File}
@@ -24,10 +24,11 @@ use Rattle.host_calls.specs.declared.files.Ends.{Ends}
 use Rattle.host_calls.specs.declared.parts.Task.{Task}
 use Rattle.host_calls.specs.declared.parts.Shared.{Shared}
 use Rattle.host_calls.specs.Flags.{o_nonblock, has, beside_open}
+use Rattle.host_calls.specs.Numbers.{f_getfd, f_setfd, f_getfl, f_setfl, o_rdonly, o_accmode, path_max, stdout_fileno, stderr_fileno, expiries_size}
 use Rattle.host_calls.specs.Scene.{Local, or_again}
 use Rattle.host_calls.specs.Descriptors.{free_from, lowest_free, descriptor, opens, with_file}
 
--- fcntl(2): F_GETFD 1, F_SETFD 2, F_GETFL 3, F_SETFL 4. Of the flags only O_NONBLOCK is kept (this project's own profile)
+-- fcntl(2). Of the flags only O_NONBLOCK is kept (this project's own profile)
 abbrev pub status_flags : File → ℕ
 status_flags file = if file.nonblocking then o_nonblock else 0
 
@@ -36,10 +37,10 @@ with_flags flags d (task, shared) = (task, with_file d.id (record d.file { nonbl
 
 abbrev pub fcntl_by : ℕ → ℕ → Descriptor → Local → Result (ℕ × Local) Refusal
 fcntl_by command flags d s =
-    if command == 1 then Ok (0, s)
-    else if command == 2 then Ok (0, s)
-    else if command == 3 then Ok (status_flags d.file, s)
-    else if command == 4 then Ok (0, with_flags flags d s)
+    if command == f_getfd then Ok (0, s)
+    else if command == f_setfd then Ok (0, s)
+    else if command == f_getfl then Ok (status_flags d.file, s)
+    else if command == f_setfl then Ok (0, with_flags flags d s)
     else Err (Errno Einval)
 
 abbrev pub fcntl : ℕ → ℕ → ℕ → Local → Result (ℕ × Local) Refusal
@@ -47,7 +48,7 @@ fcntl fd command flags (task, shared) = do
   d ← descriptor fd task shared.files
   fcntl_by command flags d (task, shared)
 
--- openat(2): how many bytes of a path, of at most 4,095, stand before its zero byte. There are no addresses from 2^32 on
+-- openat(2): how many bytes of a path, of at most path_max with it, stand before its zero byte. There are no addresses from 2^32 on
 abbrev pub byte_at : ℕ → Memory → Option ℕ
 byte_at at memory = if nat_lt at (2 ^ 32) then load Read 1 memory at else None
 
@@ -58,18 +59,24 @@ length_from count (suc left) at memory = do
   if byte == 0 then Ok count else length_from (count + 1) left at memory
 
 abbrev pub path_length : ℕ → Memory → Result ℕ Refusal
-path_length at memory = length_from 0 4096 at memory
+path_length at memory = length_from 0 path_max at memory
 
 -- the only file that there is
 abbrev pub hosts_path : List ℕ
 hosts_path = codes "/etc/hosts"
+
+abbrev pub hosts_path_size : ℕ
+hosts_path_size = 10
+
+hosts_path_size-is : length hosts_path ≡ hosts_path_size
+hosts_path_size-is = refl
 
 abbrev pub is_hosts : Option (List ℕ) → Bool
 is_hosts None = false
 is_hosts (Some path) = pointwise ◌==◌ path hosts_path
 
 abbrev pub is_hosts_path : ℕ → ℕ → Memory → Bool
-is_hosts_path count at memory = if count == 10 then is_hosts (span 10 at memory) else false
+is_hosts_path count at memory = if count == hosts_path_size then is_hosts (span hosts_path_size at memory) else false
 
 abbrev pub hosts_file : File
 hosts_file = record { nonblocking = false; object = kind.Hosts 0 }
@@ -79,7 +86,7 @@ abbrev pub openat_asked : ℕ → ℕ → Task → Result ℕ Refusal
 openat_asked path flags task = do
   count ← path_length path task.memory
   refuse_if (not (is_hosts_path count path task.memory)) (Errno Enoent)
-  refuse_if (not (flags % 4 == 0)) (Errno Eacces)
+  refuse_if (not (flags % (o_accmode + 1) == o_rdonly)) (Errno Eacces)
   or_refuse (lowest_free task.table) (Errno Emfile)
 
 abbrev pub openat : ℕ → ℕ → Local → Result (ℕ × Local) Refusal
@@ -87,7 +94,7 @@ openat path flags (task, shared) = do
   fd ← openat_asked path flags task
   Ok (fd, opens fd hosts_file (task, shared))
 
--- pipe(2): the reading end gets the lower descriptor; both stand at an address as two words
+-- pipe(2): the reading end gets the lower descriptor; both stand at an address as two ints
 abbrev pub read_end : Bool → ℕ → File
 read_end nonblocking k = record { nonblocking = nonblocking; object = kind.ReadEnd k }
 
@@ -115,7 +122,7 @@ second_end reading table = do
 abbrev pub pipe2_asked : ℕ → ℕ → Task → Result Ends Refusal
 pipe2_asked at flags task = do
   refuse_if (not (beside_open flags == 0)) (Errno Einval)
-  refuse_if (not (can_write 8 at task.memory)) (Errno Efault)
+  refuse_if (not (can_write (2 * int_size) at task.memory)) (Errno Efault)
   reading ← or_refuse (lowest_free task.table) (Errno Emfile)
   second_end reading task.table
 
@@ -129,7 +136,7 @@ abbrev pub may_read : Object → ℕ → Result (Unit {0}) Refusal
 may_read kind.Output n = Err (Errno Ebadf)
 may_read kind.Errors n = Err (Errno Ebadf)
 may_read (kind.WriteEnd k) n = Err (Errno Ebadf)
-may_read (kind.Timer k) n = refuse_if (nat_lt n 8) (Errno Einval)
+may_read (kind.Timer k) n = refuse_if (nat_lt n expiries_size) (Errno Einval)
 may_read _ n = Ok tt
 
 -- a pipe without bytes has a writer, and an expiry of a timer is to come
@@ -172,7 +179,7 @@ timer_read_by now k at (task, shared) =
 abbrev pub is_read_by : List ℕ → Time → Descriptor → Object → ℕ → ℕ → Local → ℕ × Local
 is_read_by text now d (kind.Hosts read) at count s = (length (text_left text read count), hosts_read text d read at count s)
 is_read_by text now d (kind.ReadEnd k) at count (task, shared) = (length (pipe_gives count k shared.files), pipe_read_by k at count (task, shared))
-is_read_by text now d (kind.Timer k) at count s = (8, timer_read_by now k at s)
+is_read_by text now d (kind.Timer k) at count s = (expiries_size, timer_read_by now k at s)
 is_read_by text now d _ at count s = (0, s)
 
 abbrev pub is_read : List ℕ → Time → Descriptor → ℕ → ℕ → Local → ℕ × Local
@@ -208,7 +215,7 @@ write_asked d at n (task, shared) = do
   refuse_if (not (can_read (counted n) at task.memory)) (Errno Efault)
   or_again d.file.nonblocking (wait_to_write (counted n) d.file.object shared.files)
 
--- what a process wrote to its standard output, descriptor 1, or to its standard error, 2
+-- what a process wrote to its standard output or to its standard error
 abbrev pub with_output : ℕ → ℕ → List ℕ → Shared → Shared
 with_output process descriptor bytes shared =
     record shared { outputs = shared.outputs ++ record { process = process; descriptor = descriptor; bytes = bytes } ∷ [] }
@@ -220,8 +227,8 @@ count_written bytes (kind.WriteEnd k) files = pipe_takes bytes k files
 count_written bytes _ files = 0
 
 abbrev pub after_write : ℕ → List ℕ → Object → Shared → Shared
-after_write process bytes kind.Output shared = with_output process 1 bytes shared
-after_write process bytes kind.Errors shared = with_output process 2 bytes shared
+after_write process bytes kind.Output shared = with_output process stdout_fileno bytes shared
+after_write process bytes kind.Errors shared = with_output process stderr_fileno bytes shared
 after_write process bytes (kind.WriteEnd k) shared = record shared { files = pipe_written bytes k shared.files }
 after_write process bytes _ shared = shared
 

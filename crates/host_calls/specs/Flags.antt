@@ -1,9 +1,14 @@
 -- Flags, as Linux has them on RISC-V (open(2), pipe(2), send(2)).
-use Rattle.std.specs.Prelude.{ℕ, ◌==◌, Bool, not, bit_and}
+use Rattle.std.specs.Prelude.{ℕ, ◌+◌, ◌-◌, ◌==◌, Bool, not, bit_and}
+use Rattle.sim_base.specs.Units.{max_u32}
 
 -- O_NONBLOCK, also as SOCK_NONBLOCK and TFD_NONBLOCK
 abbrev pub o_nonblock : ℕ
 o_nonblock = 0x800
+
+-- O_CLOEXEC, which has no effect, since there is no exec
+abbrev pub o_cloexec : ℕ
+o_cloexec = 0x80000
 
 -- MSG_DONTWAIT and MSG_NOSIGNAL
 abbrev pub msg_dontwait : ℕ
@@ -15,10 +20,10 @@ msg_nosignal = 0x4000
 abbrev pub has : ℕ → ℕ → Bool
 has flag flags = not (bit_and flags flag == 0)
 
--- the bits beside O_NONBLOCK 0x800 and O_CLOEXEC 0x80000, which has no effect, since there is no exec
+-- the bits beside O_NONBLOCK and O_CLOEXEC
 abbrev pub beside_open : ℕ → ℕ
-beside_open flags = bit_and flags 0xfff7_f7ff
+beside_open flags = bit_and flags (max_u32 - (o_nonblock + o_cloexec))
 
--- the bits beside MSG_DONTWAIT 0x40 and MSG_NOSIGNAL 0x4000
+-- the bits beside MSG_DONTWAIT and MSG_NOSIGNAL
 abbrev pub beside_message : ℕ → ℕ
-beside_message flags = bit_and flags 0xffff_bfbf
+beside_message flags = bit_and flags (max_u32 - (msg_dontwait + msg_nosignal))

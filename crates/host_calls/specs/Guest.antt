@@ -1,5 +1,5 @@
 -- getpid(2), brk(2) and getrandom(2).
-use Rattle.std.specs.Prelude.{ℕ, zero, suc, ◌+◌, ◌/◌, ◌%◌, ◌^◌, not, min, List, [], ◌++◌, take, Result, Ok, nat_lt}
+use Rattle.std.specs.Prelude.{ℕ, zero, suc, ◌+◌, ◌-◌, ◌/◌, ◌%◌, ◌^◌, not, min, List, [], ◌++◌, take, Result, Ok, nat_lt}
 use Rattle.std.specs.Int.{w64, to_le_bytes}
 use Rattle.sim_base.specs.declared.errno.Errno.TheVariants.{Efault, Einval}
 use Rattle.sim_base.specs.Refusals.{◌>>◌, refuse_if}
@@ -10,6 +10,7 @@ use Rattle.host_sockets.specs.declared.error.Refusal.{Refusal}
 use Rattle.host_sockets.specs.declared.error.Refusal.TheVariants.{Errno}
 use Rattle.host_sockets.specs.Wanted.{Wanted, draws_word}
 use Rattle.host_calls.specs.declared.parts.Task.{Task}
+use Rattle.host_calls.specs.Numbers.{grnd_nonblock, grnd_random}
 use Rattle.host_calls.specs.Scene.{Local}
 
 -- getpid(2): the processes of a host have the ids 1000, 1001, .. in their order
@@ -37,13 +38,20 @@ abbrev pub words : ℕ → Wanted → List ℕ × Wanted
 words zero w = ([], w)
 words (suc count) w = words_from (words count) (draws_word w)
 
+-- the bytes of a word that is drawn
+abbrev pub drawn_size : ℕ
+drawn_size = 8
+
 -- how many words so many bytes need
 abbrev pub words_in : ℕ → ℕ
-words_in count = (count + 7) / 8
+words_in count = (count + (drawn_size - 1)) / drawn_size
 
--- at most 256 bytes
+-- the most bytes that a call gives (this project's own profile)
+abbrev pub max_random : ℕ
+max_random = 256
+
 abbrev pub random_count : ℕ → ℕ
-random_count n = min n 256
+random_count n = min n max_random
 
 abbrev pub random_told : ℕ → ℕ → List ℕ × Wanted → Local → Local
 random_told at count (bytes, w) (task, shared) =
@@ -51,6 +59,6 @@ random_told at count (bytes, w) (task, shared) =
 
 abbrev pub getrandom : ℕ → ℕ → ℕ → Local → Result (ℕ × Local) Refusal
 getrandom at n flags (task, shared) = do
-  refuse_if (nat_lt 3 flags) (Errno Einval)
+  refuse_if (nat_lt (grnd_nonblock + grnd_random) flags) (Errno Einval)
   refuse_if (not (can_write (random_count n) at task.memory)) (Errno Efault)
   Ok (random_count n, random_told at (random_count n) (words (words_in (random_count n)) shared.outlet) (task, shared))

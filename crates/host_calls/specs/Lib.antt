@@ -1,6 +1,7 @@
 pub mod Scene
 pub mod Descriptors
 pub mod Flags
+pub mod Numbers
 pub mod Files
 pub mod Times
 pub mod Guest

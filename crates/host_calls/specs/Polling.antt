@@ -6,8 +6,8 @@ use Rattle.sim_base.specs.declared.time.Time.{Time}
 use Rattle.sim_base.specs.Poll.{pollin, pollout, pollerr, pollhup, pollnval}
 use Rattle.sim_base.specs.Refusals.{◌>>=◌, ◌>>◌, refuse_if, or_refuse}
 use Rattle.guest_mem.specs.Memory.{Memory}
-use Rattle.guest_args.specs.Span.{span, can_write, filled}
-use Rattle.guest_args.specs.Time.{timespec, deadline_after}
+use Rattle.guest_args.specs.Span.{span, can_write, filled, int_size}
+use Rattle.guest_args.specs.Time.{timespec, deadline_after, timespec_size}
 use Rattle.host_fds.specs.Pipe.{PipeState}
 use Rattle.host_fds.specs.Pipe as pipe
 use Rattle.host_fds.specs.declared.pipe.End.{End}
@@ -56,25 +56,29 @@ abbrev pub events_at : Time → Scene → ℕ → ℕ → ℕ
 events_at now s fd events =
     if nat_le (2 ^ 31) fd then 0 else told now events (descriptor fd s.task s.shared.files) s.shared.files s.sockets
 
--- an entry is 8 bytes: the descriptor, the events that are asked for, and those that came
+-- the bytes of an entry: the descriptor, the events that are asked for, and those that came
 abbrev pub entry_size : ℕ
 entry_size = 8
 
+-- the most entries of a call (this project's own profile)
+abbrev pub max_entries : ℕ
+max_entries = 256
+
 abbrev pub asked_fd : List ℕ → ℕ
-asked_fd entry = from_le_bytes w32 (take 4 entry)
+asked_fd entry = from_le_bytes w32 (take int_size entry)
 
 abbrev pub asked_events : List ℕ → ℕ
-asked_events entry = from_le_bytes w16 (take 2 (drop 4 entry))
+asked_events entry = from_le_bytes w16 (take 2 (drop int_size entry))
 
 abbrev pub came : Time → Scene → List ℕ → ℕ
 came now s entry = events_at now s (asked_fd entry) (asked_events entry)
 
 abbrev pub told_entry : Time → Scene → List ℕ → List ℕ
-told_entry now s entry = take 6 entry ++ to_le_bytes w16 (came now s entry)
+told_entry now s entry = take (int_size + 2) entry ++ to_le_bytes w16 (came now s entry)
 
 abbrev pub told_entries : Time → Scene → ℕ → List ℕ → List ℕ
 told_entries now s zero entries = []
-told_entries now s (suc count) entries = told_entry now s (take 8 entries) ++ told_entries now s count (drop 8 entries)
+told_entries now s (suc count) entries = told_entry now s (take entry_size entries) ++ told_entries now s count (drop entry_size entries)
 
 -- how many entries tell of something
 abbrev pub count_one : ℕ → ℕ
@@ -82,7 +86,7 @@ count_one events = if events == 0 then 0 else 1
 
 abbrev pub count_told : Time → Scene → ℕ → List ℕ → ℕ
 count_told now s zero entries = 0
-count_told now s (suc count) entries = count_one (came now s (take 8 entries)) + count_told now s count (drop 8 entries)
+count_told now s (suc count) entries = count_one (came now s (take entry_size entries)) + count_told now s count (drop entry_size entries)
 
 -- ppoll(2): the deadline, if there is one; a call that is made again keeps its first
 abbrev pub poll_limit : Time → Task → Moment → Option Time
@@ -90,7 +94,7 @@ poll_limit now task time = Some (kept_or task.kept (at_nanos (deadline_after now
 
 abbrev pub poll_time : ℕ → Memory → Result Moment Refusal
 poll_time at memory = do
-  bytes ← or_refuse (span 16 at memory) (Errno Efault)
+  bytes ← or_refuse (span timespec_size at memory) (Errno Efault)
   or_refuse (timespec 0 bytes) (Errno Einval)
 
 abbrev pub poll_deadline : Time → ℕ → Task → Result (Option Time) Refusal
@@ -122,7 +126,7 @@ poll_found now count limit_at entries s = do
 
 abbrev pub poll_asked : Time → ℕ → ℕ → ℕ → Scene → Result ℕ Refusal
 poll_asked now at count limit_at s = do
-  refuse_if (nat_lt 256 count) (Errno Einval)
+  refuse_if (nat_lt max_entries count) (Errno Einval)
   entries ← poll_entries at (entry_size * count) s.task.memory
   poll_found now count limit_at entries s
 
@@ -132,7 +136,7 @@ polled now at count entries s =
 
 abbrev pub ppoll : Time → ℕ → ℕ → ℕ → Scene → Result (ℕ × Scene) Refusal
 ppoll now at count limit_at s = do
-  refuse_if (nat_lt 256 count) (Errno Einval)
+  refuse_if (nat_lt max_entries count) (Errno Einval)
   entries ← poll_entries at (entry_size * count) s.task.memory
   found ← poll_found now count limit_at entries s
   Ok (found, polled now at count entries s)

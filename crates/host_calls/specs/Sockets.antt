@@ -12,7 +12,7 @@ use Rattle.sim_base.specs.Errno.{errno_number}
 use Rattle.sim_base.specs.Refusals.{◌>>=◌, ◌>>◌, refuse_if, or_refuse}
 use Rattle.guest_mem.specs.Memory.{Memory}
 use Rattle.guest_args.specs.declared.address.AddressPlace.{AddressPlace}
-use Rattle.guest_args.specs.Span.{counted, span, can_read, can_write, filled}
+use Rattle.guest_args.specs.Span.{counted, span, can_read, can_write, filled, int_size}
 use Rattle.guest_args.specs.Address.{address_size, address_span, inet, family_of, sockaddr_of, word, wanted_place, answered}
 use Rattle.sock_tcp.specs.declared.connection.effects.Shut.{Shut}
 use Rattle.sock_tcp.specs.declared.connection.effects.Shut.TheVariants.{Reading, Writing, Both}
@@ -44,6 +44,7 @@ use Rattle.host_calls.specs.declared.parts.Task.{Task}
 use Rattle.host_calls.specs.declared.parts.Reaction.{Reaction}
 use Rattle.host_calls.specs.declared.parts.Reaction.TheVariants.{Value, Waits}
 use Rattle.host_calls.specs.Flags.{o_nonblock, msg_dontwait, msg_nosignal, has, beside_open, beside_message}
+use Rattle.host_calls.specs.Numbers.{sock_stream, sock_dgram, ipproto_tcp, ipproto_udp, sol_socket, so_reuseaddr, so_type, so_error, so_keepalive, tcp_nodelay, shut_rd, shut_wr, shut_rdwr}
 use Rattle.host_calls.specs.Scene.{Local, negative, or_again}
 use Rattle.host_calls.specs.Descriptors.{lowest_free, descriptor, opens}
 use Rattle.host_calls.specs.Parts.{Scene, local_of, with_local, with_sockets, with_wanted}
@@ -100,12 +101,12 @@ abbrev pub value_of : Reply ℕ → ℕ
 value_of (Done value) = value
 value_of (Failed errno) = negative errno
 
--- socket(2): AF_INET 2; SOCK_STREAM 1 and SOCK_DGRAM 2, with IPPROTO_TCP 6 and IPPROTO_UDP 17
+-- socket(2): AF_INET; SOCK_STREAM and SOCK_DGRAM, with IPPROTO_TCP and IPPROTO_UDP
 abbrev pub is_stream : ℕ → Result Bool Refusal
-is_stream type = if type == 1 then Ok true else if type == 2 then Ok false else Err (Errno Einval)
+is_stream type = if type == sock_stream then Ok true else if type == sock_dgram then Ok false else Err (Errno Einval)
 
 abbrev pub protocol_of : Bool → ℕ
-protocol_of stream = if stream then 6 else 17
+protocol_of stream = if stream then ipproto_tcp else ipproto_udp
 
 abbrev pub socket_file : Bool → Object → File
 socket_file nonblocking object = record { nonblocking = nonblocking; object = object }
@@ -392,15 +393,15 @@ recv_waits socket flags room memory t = do
   refuse_flags flags
   or_again (is_quick socket.nonblocking flags) (recv_wait socket.number room memory t)
 
--- setsockopt(2): SO_REUSEADDR (1, 2), SO_KEEPALIVE (1, 9) and TCP_NODELAY (6, 1) may be set, and have no effect
+-- setsockopt(2): SO_REUSEADDR, SO_KEEPALIVE and TCP_NODELAY may be set, and have no effect
 abbrev pub may_set : ℕ → ℕ → Bool
-may_set level option = (level == 1 && (option == 2 || option == 9)) || (level == 6 && option == 1)
+may_set level option = (level == sol_socket && (option == so_reuseaddr || option == so_keepalive)) || (level == ipproto_tcp && option == tcp_nodelay)
 
 abbrev pub setsockopt_asked : ℕ → ℕ → ℕ → ℕ → ℕ → Local → Result (Unit {0}) Refusal
 setsockopt_asked fd level option at n (task, shared) = do
   socket ← open_socket fd (task, shared)
   refuse_if (not (may_set level option)) (Errno Enoprotoopt)
-  refuse_if (nat_lt n 4) (Errno Einval)
+  refuse_if (nat_lt n int_size) (Errno Einval)
   refuse_if (not (can_read (counted n) at task.memory)) (Errno Efault)
 
 abbrev pub setsockopt : ℕ → ℕ → ℕ → ℕ → ℕ → Local → Result (ℕ × Local) Refusal
@@ -408,10 +409,10 @@ setsockopt fd level option at n s = do
   setsockopt_asked fd level option at n s
   Ok (0, s)
 
--- getsockopt(2): SO_TYPE (1, 3) and SO_ERROR (1, 4), each a word
+-- getsockopt(2): SO_TYPE and SO_ERROR, each an int
 abbrev pub is_error : ℕ → ℕ → Result Bool Refusal
 is_error level option =
-    if level == 1 && option == 4 then Ok true else if level == 1 && option == 3 then Ok false else Err (Errno Enoprotoopt)
+    if level == sol_socket && option == so_error then Ok true else if level == sol_socket && option == so_type then Ok false else Err (Errno Enoprotoopt)
 
 abbrev pub word_at : ℕ → Memory → Result ℕ Refusal
 word_at at memory = or_refuse (word at memory) (Errno Efault)
@@ -419,9 +420,9 @@ word_at at memory = or_refuse (word at memory) (Errno Efault)
 abbrev pub option_place : ℕ → ℕ → Memory → Result (Unit {0}) Refusal
 option_place at size_at memory = do
   size ← word_at size_at memory
-  refuse_if (not (can_write 4 size_at memory)) (Errno Efault)
-  refuse_if (not (can_write (min size 4) at memory)) (Errno Efault)
-  refuse_if (nat_lt size 4) (Errno Einval)
+  refuse_if (not (can_write int_size size_at memory)) (Errno Efault)
+  refuse_if (not (can_write (min size int_size) at memory)) (Errno Efault)
+  refuse_if (nat_lt size int_size) (Errno Einval)
 
 abbrev pub getsockopt_asked : ℕ → ℕ → ℕ → ℕ → ℕ → Local → Result Asked Refusal
 getsockopt_asked fd level option at size_at (task, shared) = do
@@ -431,14 +432,14 @@ getsockopt_asked fd level option at size_at (task, shared) = do
   Ok (record { number = socket.number; error = error })
 
 abbrev pub with_option : ℕ → ℕ → ℕ → Memory → Memory
-with_option at size_at value memory = filled size_at (to_le_bytes w32 4) (filled at (to_le_bytes w32 value) memory)
+with_option at size_at value memory = filled size_at (to_le_bytes w32 int_size) (filled at (to_le_bytes w32 value) memory)
 
 abbrev pub tell_option : ℕ → ℕ → ℕ → Scene → Scene
 tell_option at size_at value s = with_memory (with_option at size_at value s.task.memory) s
 
 abbrev pub type_of : SocketNumber → ℕ
-type_of (number.Udp k) = 2
-type_of (number.Tcp k) = 1
+type_of (number.Udp k) = sock_dgram
+type_of (number.Tcp k) = sock_stream
 
 abbrev pub number_of : Option errno_type.Errno → ℕ
 number_of None = 0
@@ -460,9 +461,9 @@ getsockopt now fd level option at size_at s = do
   asked ← getsockopt_asked fd level option at size_at (local_of s)
   told_option now asked at size_at s
 
--- shutdown(2): SHUT_RD 0, SHUT_WR 1, SHUT_RDWR 2
+-- shutdown(2)
 abbrev pub shut_of : ℕ → Result Shut Refusal
-shut_of how = if how == 0 then Ok Reading else if how == 1 then Ok Writing else if how == 2 then Ok Both else Err (Errno Einval)
+shut_of how = if how == shut_rd then Ok Reading else if how == shut_wr then Ok Writing else if how == shut_rdwr then Ok Both else Err (Errno Einval)
 
 abbrev pub shuts : Time → Shut → SocketNumber → Scene → Result (ℕ × Scene) Refusal
 shuts now how (number.Udp k) s = Err (Errno Enotconn)

@@ -6,9 +6,9 @@ use Rattle.sim_base.specs.declared.time.Time.{Time}
 use Rattle.sim_base.specs.Refusals.{◌>>=◌, ◌>>◌, refuse_if, or_refuse}
 use Rattle.guest_mem.specs.Memory.{Memory}
 use Rattle.guest_args.specs.Span.{span, can_write, filled}
-use Rattle.guest_args.specs.Time.{timespec, timespec_of, time_span, deadline_after, deadline_at}
+use Rattle.guest_args.specs.Time.{timespec, timespec_of, time_span, deadline_after, deadline_at, timespec_size}
 use Rattle.host_timers.specs.declared.clock.Moment.{Moment}
-use Rattle.host_timers.specs.Clock.{moment_of, clock_at}
+use Rattle.host_timers.specs.Clock.{moment_of, clock_at, clock_monotonic}
 use Rattle.host_timers.specs.Timer.{TimerState, next_due}
 use Rattle.host_files.specs.declared.file.File.{File}
 use Rattle.host_files.specs.declared.file.Object.{Object}
@@ -24,6 +24,7 @@ use Rattle.host_calls.specs.declared.parts.Why.{Why}
 use Rattle.host_calls.specs.declared.times.OldTimer.{OldTimer}
 use Rattle.host_calls.specs.declared.times.Setting.{Setting}
 use Rattle.host_calls.specs.Flags.{o_nonblock, has, beside_open}
+use Rattle.host_calls.specs.Numbers.{timer_abstime, itimerspec_size}
 use Rattle.host_calls.specs.Scene.{Local}
 use Rattle.host_calls.specs.Descriptors.{lowest_free, descriptor, opens}
 use Rattle.host_calls.specs.Files.{tell_memory}
@@ -32,13 +33,13 @@ use Rattle.host_calls.specs.Files.{tell_memory}
 abbrev pub clock_gettime : Time → ℕ → ℕ → Local → Result (ℕ × Local) Refusal
 clock_gettime now clock at (task, shared) = do
   moment ← or_refuse (clock_at clock now.nanos) (Errno Einval)
-  refuse_if (not (can_write 16 at task.memory)) (Errno Efault)
+  refuse_if (not (can_write timespec_size at task.memory)) (Errno Efault)
   Ok (0, tell_memory at (timespec_of moment) (task, shared))
 
 abbrev pub at_nanos : ℕ → Time
 at_nanos nanos = record { nanos = nanos }
 
--- a time that is relative, or absolute (TIMER_ABSTIME 1) on a clock
+-- a time that is relative, or absolute (TIMER_ABSTIME) on a clock
 abbrev pub deadline_of : ℕ → ℕ → Time → Moment → ℕ
 deadline_of flags clock now time = if flags == 0 then deadline_after now.nanos time else deadline_at clock time
 
@@ -50,8 +51,8 @@ kept_or (Some why) computed = unwrap_or why.deadline computed
 -- clock_nanosleep(2): it waits while its deadline is to come
 abbrev pub sleep_time : ℕ → ℕ → ℕ → Task → Result Moment Refusal
 sleep_time clock flags at task = do
-  refuse_if (nat_lt 1 clock || nat_lt 1 flags) (Errno Einval)
-  bytes ← or_refuse (span 16 at task.memory) (Errno Efault)
+  refuse_if (nat_lt clock_monotonic clock || nat_lt timer_abstime flags) (Errno Einval)
+  bytes ← or_refuse (span timespec_size at task.memory) (Errno Efault)
   or_refuse (timespec 0 bytes) (Errno Einval)
 
 abbrev pub sleep_asked : Time → ℕ → ℕ → ℕ → Task → Result (Unit {0}) Refusal
@@ -74,7 +75,7 @@ new_timer clock (task, shared) = (task, record shared { files = with_timer clock
 
 abbrev pub create_asked : ℕ → ℕ → Task → Result ℕ Refusal
 create_asked clock flags task = do
-  refuse_if (nat_lt 1 clock) (Errno Einval)
+  refuse_if (nat_lt clock_monotonic clock) (Errno Einval)
   refuse_if (not (beside_open flags == 0)) (Errno Einval)
   or_refuse (lowest_free task.table) (Errno Emfile)
 
@@ -138,11 +139,11 @@ old_timer now fd task files = do
 -- how it is set
 abbrev pub settime_asked : ℕ → ℕ → ℕ → Task → Result Setting Refusal
 settime_asked flags at old_at task = do
-  refuse_if (nat_lt 1 flags) (Errno Einval)
-  bytes ← or_refuse (span 32 at task.memory) (Errno Efault)
-  refuse_if (not (old_at == 0 || can_write 32 old_at task.memory)) (Errno Efault)
+  refuse_if (nat_lt timer_abstime flags) (Errno Einval)
+  bytes ← or_refuse (span itimerspec_size at task.memory) (Errno Efault)
+  refuse_if (not (old_at == 0 || can_write itimerspec_size old_at task.memory)) (Errno Efault)
   interval ← or_refuse (timespec 0 bytes) (Errno Einval)
-  value ← or_refuse (timespec 16 bytes) (Errno Einval)
+  value ← or_refuse (timespec timespec_size bytes) (Errno Einval)
   Ok (record { interval = interval; value = value })
 
 abbrev pub set_by : Time → ℕ → OldTimer → Setting → Shared → Shared

@@ -34,7 +34,7 @@ const RANDOM_MAX: u32 = 256;
 /// So many bytes, and those of the last word behind them.
 #[tactic(auto, using(crate::proofs::Random::word_steps))]
 fn random(alloc: Global, outlet: &mut Outlet, count: usize) -> Result<Vec<u8>, NoMemory>
-    requires { count ≤ 256 }
+    requires { count ≤ spec.max_random }
     ensures words { IfOk result (λ bytes. (bytes.items, outlet.new) ≡ spec.words (spec.words_in count) outlet.old) }
     ensures enough { IfOk result (λ bytes. count ≤ vec_len bytes) }
 {

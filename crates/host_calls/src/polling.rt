@@ -120,8 +120,8 @@ fn told_entry(now: Time, entry: [u8; 8], task: &Task, shared: &Shared, sockets: 
 
 /// An entry of some.
 fn entry_at(entries: &[u8], place: usize) -> [u8; 8]
-    requires { 8 * place + 8 ≤ length entries.now }
-    ensures { result ≡ take 8 (drop (8 * place) entries.now) }
+    requires { spec.entry_size * place + spec.entry_size ≤ length entries.now }
+    ensures { result ≡ take spec.entry_size (drop (spec.entry_size * place) entries.now) }
 {
     let mut entry = [0; 8];
     entry.copy_from_slice(&entries[8 * place..8 * place + 8]);
@@ -139,8 +139,8 @@ fn count_told(
     sockets: &Sockets,
 ) -> u32
     requires now { now.nanos ≤ 2 ^ 61 }
-    requires count { count ≤ 256 }
-    requires length { length entries.now ≡ 8 * count }
+    requires count { count ≤ spec.max_entries }
+    requires length { length entries.now ≡ spec.entry_size * count }
     ensures { (t : SocketsRecord) → Stand sockets.now t → result ≡ spec.count_told now (scene (task.now, shared.now) t) count entries.now }
 {
     let mut found = 0;
@@ -170,8 +170,8 @@ fn told_entries(
     sockets: &Sockets,
 ) -> Result<Vec<u8>, NoMemory>
     requires now { now.nanos ≤ 2 ^ 61 }
-    requires count { count ≤ 256 }
-    requires length { length entries.now ≡ 8 * count }
+    requires count { count ≤ spec.max_entries }
+    requires length { length entries.now ≡ spec.entry_size * count }
     ensures { IfOk result (λ bytes. (t : SocketsRecord) → Stand sockets.now t → bytes.items ≡ spec.told_entries now (scene (task.now, shared.now) t) count entries.now) }
 {
     let mut bytes = Vec::new(alloc);
@@ -243,8 +243,8 @@ fn poll_found(
     sockets: &Sockets,
 ) -> Result<u32, Refusal>
     requires now { now.nanos ≤ 2 ^ 61 }
-    requires count { count ≤ 256 }
-    requires length { length entries.now ≡ 8 * count }
+    requires count { count ≤ spec.max_entries }
+    requires length { length entries.now ≡ spec.entry_size * count }
     ensures { (t : SocketsRecord) → Stand sockets.now t → result ≡ spec.poll_found now count limit_at entries.now (scene (task.now, shared.now) t) }
 {
     let deadline = poll_deadline(now, limit_at, task)?;

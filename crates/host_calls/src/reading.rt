@@ -3,6 +3,7 @@
 ghost use Rattle.std.specs.Prelude.{◌≡◌, ◌+◌, ◌≤◌, ◌^◌, length, max, OnOk, IfOk};
 ghost use Rattle.host_files.specs.Files as files_spec;
 ghost use Rattle.host_files.specs.Files.{pipe_gives};
+ghost use Rattle.guest_args.specs.Span.{most};
 ghost use Rattle.host_calls.specs.Files as spec;
 ghost use Rattle.host_calls.specs.Scene.{Does, Is};
 
@@ -138,7 +139,7 @@ fn read_hosts(
     task: &mut Task,
     shared: &mut Shared,
 ) -> u32
-    requires { count ≤ 65536 }
+    requires { count ≤ most }
     ensures count { result ≡ length (spec.text_left text.now read count) }
     ensures told { Is (spec.hosts_read text.now d read at count (task.old, shared.old)) task.new shared.new }
 {
@@ -159,7 +160,7 @@ fn read_pipe(
     task: &mut Task,
     shared: &mut Shared,
 ) -> Result<u32, NoMemory>
-    requires { count ≤ 65536 }
+    requires { count ≤ most }
     ensures count { IfOk result (λ moved. moved ≡ length (pipe_gives count place shared.old.files)) }
     ensures told { OnOk result (Is (spec.pipe_read_by place at count (task.old, shared.old)) task.new shared.new) }
 {
@@ -188,7 +189,7 @@ fn read_done(
     shared: &mut Shared,
 ) -> Result<u32, NoMemory>
     requires now { now.nanos ≤ 2 ^ 61 }
-    requires count { count ≤ 65536 }
+    requires count { count ≤ most }
     ensures count { IfOk result (λ moved. moved ≡ (spec.is_read text.now now d at count (task.old, shared.old)).0) }
     ensures told { OnOk result (Is (spec.is_read text.now now d at count (task.old, shared.old)).1 task.new shared.new) }
 {

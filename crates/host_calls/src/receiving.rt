@@ -5,6 +5,7 @@ ghost use Rattle.host_sockets.specs.Moving.{size_of};
 ghost use Rattle.host_sockets.specs.Names.{tcp_peer};
 ghost use Rattle.host_sockets.specs.Sockets.{SocketsRecord};
 ghost use Rattle.host_sockets.specs.StandsFor.{Stand};
+ghost use Rattle.guest_args.specs.Span.{most};
 ghost use Rattle.host_calls.specs.Parts.{Answers, scene};
 ghost use Rattle.host_calls.specs.Sockets as spec;
 
@@ -69,7 +70,7 @@ fn received(
     memory: &mut Mem,
     sockets: &Sockets,
 ) -> u32
-    requires { size_of reply ≤ 65536 }
+    requires { size_of reply ≤ most }
     ensures count { result ≡ spec.received_count reply }
     ensures told { (t : SocketsRecord) → Stand sockets.now t → memory.new ≡ spec.with_received place at to reply t memory.old }
 {

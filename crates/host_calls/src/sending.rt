@@ -4,6 +4,7 @@ ghost use Rattle.std.specs.Prelude.{◌≡◌, ◌≤◌, vec_len};
 ghost use Rattle.host_sockets.specs.Moving.{count_of};
 ghost use Rattle.host_sockets.specs.Sockets.{SocketsRecord};
 ghost use Rattle.host_sockets.specs.StandsFor.{Stand};
+ghost use Rattle.guest_args.specs.Span.{most};
 ghost use Rattle.host_calls.specs.Parts.{Answers, scene};
 ghost use Rattle.host_calls.specs.Sockets as spec;
 
@@ -43,7 +44,7 @@ pub(crate) fn is_quick(nonblocking: bool, flags: u32) -> bool
 }
 
 fn value_of(reply: Reply<usize>) -> u32
-    requires { count_of reply ≤ 65536 }
+    requires { count_of reply ≤ most }
     ensures { result ≡ spec.value_of reply }
 {
     match reply {

@@ -1,6 +1,7 @@
 //! write, where no socket is meant.
 
 ghost use Rattle.std.specs.Prelude.{◌≡◌, ◌≤◌, vec_len, OnOk, IfOk};
+ghost use Rattle.guest_args.specs.Span.{most};
 ghost use Rattle.host_calls.specs.Files as spec;
 ghost use Rattle.host_calls.specs.Scene.{Does};
 
@@ -105,7 +106,7 @@ fn write_done(
     bytes: Vec<u8>,
     shared: &mut Shared,
 ) -> Result<u32, NoMemory>
-    requires { vec_len bytes ≤ 65536 }
+    requires { vec_len bytes ≤ most }
     ensures count { IfOk result (λ moved. moved ≡ spec.count_written bytes.items d.file.object shared.old.files) }
     ensures left { OnOk result (shared.new ≡ spec.after_write process bytes.items d.file.object shared.old) }
 {
