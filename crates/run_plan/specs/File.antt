@@ -1,5 +1,5 @@
 -- The files that are read.
-use Rattle.std.specs.Prelude.{◌≡◌, ℕ, List, length, Result, Ok, Err, if◌then◌else◌, nat_le}
+use Rattle.std.specs.Prelude.{◌≡◌, ℕ, ◌*◌, ◌^◌, List, length, Result, Ok, Err, if◌then◌else◌, nat_le}
 use Rattle.sim_base.specs.Files.{Held}
 use Rattle.sim_base.specs.Refusals.{◌>>=◌, or_refuse}
 use Rattle.run_plan.specs.Outcomes.{Outcomes}
@@ -8,9 +8,12 @@ use Rattle.run_plan.specs.declared.fault.Fault.TheVariants.{NotFound, TooLong}
 use Rattle.run_plan.specs.declared.fault.ReadStop.{ReadStop}
 use Rattle.run_plan.specs.declared.fault.ReadStop.TheVariants.{Refused, ReadFailed, NoMemory}
 
--- a file has at most 16 MiB
+-- the most bytes of a file, 16 MiB
+abbrev pub max_file : ℕ
+max_file = 16 * 2 ^ 20
+
 abbrev pub at_most_16_mib : List ℕ → List ℕ → Result (List ℕ) Fault
-at_most_16_mib name bytes = if nat_le (length bytes) 16777216 then Ok bytes else Err (TooLong name)
+at_most_16_mib name bytes = if nat_le (length bytes) max_file then Ok bytes else Err (TooLong name)
 
 -- the bytes of a file that is there and isn't too long
 abbrev pub file : Held → List ℕ → Result (List ℕ) Fault

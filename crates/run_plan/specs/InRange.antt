@@ -4,11 +4,12 @@ use Rattle.command_line.specs.declared.asked.Asked.{Asked}
 use Rattle.command_line.specs.declared.asked.Subject.{Subject}
 use Rattle.command_line.specs.declared.asked.Subject.TheVariants.{File, SelfLoad}
 use Rattle.shd_config.specs.declared.overrides.Overrides.{Overrides}
+use Rattle.run_plan.specs.SelfLoad.{max_ring_hosts}
 
--- a self-load has 2 to 4,096 hosts
+-- a self-load has two hosts at least, and not too many
 abbrev pub IsInRange : Subject → Type 0
 IsInRange (File name) = Unit {0}
-IsInRange (SelfLoad hosts) = (2 ≤ hosts) × (hosts ≤ 4096)
+IsInRange (SelfLoad hosts) = (2 ≤ hosts) × (hosts ≤ max_ring_hosts)
 
 -- what the words override
 abbrev pub overrides_of : Asked → Overrides

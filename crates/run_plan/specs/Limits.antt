@@ -6,10 +6,14 @@ use Rattle.run_plan.specs.declared.plan.Plan.{Plan}
 use Rattle.run_plan.specs.declared.planned.Planned.{Planned}
 use Rattle.run_plan.specs.declared.planned.Planned.TheVariants.{Shows, Runs}
 
--- 1 to 16,384 hosts, each with at most 64 processes, whose texts take at most 65,536 bytes each; a stop of 1 ns to 2^61 ns
+-- the most hosts of a run
+abbrev pub max_hosts : ℕ
+max_hosts = 16384
+
+-- at least one host, each with few processes, whose texts take few bytes; a stop within its range
 pub record KeepsToLimits (plan : Plan) : Type 0 where
   pub some : 0 < length plan.rows
-  pub few : length plan.rows ≤ 16384
+  pub few : length plan.rows ≤ max_hosts
   pub processes : All (λ (r : HostRow). HasFewProcesses r.config) plan.rows
   pub texts : All (λ (r : HostRow). HaveFewBytes r.config) plan.rows
   pub stop : MayStop plan.settings.stop_time

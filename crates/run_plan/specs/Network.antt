@@ -1,6 +1,7 @@
 -- The graph of the network.
 use Rattle.std.specs.Prelude.{ℕ, List, [], ◌∷◌, Some, Bool, true, false, Result, Ok, Err}
 use Rattle.sim_base.specs.Files.{Held}
+use Rattle.sim_base.specs.Units.{millisecond}
 use Rattle.gml_graph.specs.Gml.{graph}
 use Rattle.gml_graph.specs.declared.graph.Graph.{Graph}
 use Rattle.gml_graph.specs.declared.fault.GmlFault.{GmlFault}
@@ -11,12 +12,20 @@ use Rattle.run_plan.specs.Outcomes.{Outcomes, gives, ◌>>=◌}
 use Rattle.run_plan.specs.declared.fault.Fault.{Fault}
 use Rattle.run_plan.specs.declared.fault.Fault.TheVariants as fault
 
+-- the bits a second of a bandwidth of 1 Gbit
+abbrev pub gigabit : ℕ
+gigabit = 1000000000
+
+-- the reliability of an edge by which each of 10^9 packets arrives
+abbrev pub lossless : ℕ
+lossless = 1000000000
+
 -- one node with 1 Gbit both ways, and a loop of 1 ms without loss
 abbrev pub one_gbit_switch : Graph
 one_gbit_switch = record {
   directed = false;
-  nodes = record { id = 0; bandwidth_up = Some 1000000000; bandwidth_down = Some 1000000000 } ∷ [];
-  edges = record { source = 0; target = 0; latency = record { nanos = 1000000 }; reliability = 1000000000 } ∷ [];
+  nodes = record { id = 0; bandwidth_up = Some gigabit; bandwidth_down = Some gigabit } ∷ [];
+  edges = record { source = 0; target = 0; latency = record { nanos = millisecond }; reliability = lossless } ∷ [];
 }
 
 abbrev pub or_graph_fault : List ℕ → Bool → Result Graph GmlFault → Result Graph Fault

@@ -3,6 +3,7 @@ use Rattle.std.specs.Prelude.{ℕ, ◌+◌, ◌*◌, ◌/◌, ◌%◌, ◌==◌,
 use Rattle.std.specs.List.{range_with_len}
 use Rattle.std.specs.Fmt.{decimal}
 use Rattle.sim_base.specs.declared.signal.Signal.TheVariants.{SigTerm}
+use Rattle.sim_base.specs.Units.{millisecond, second}
 use Rattle.gml_graph.specs.declared.graph.Graph.{Graph}
 use Rattle.gml_graph.specs.declared.graph.Node.{Node}
 use Rattle.gml_graph.specs.declared.graph.Edge.{Edge}
@@ -13,6 +14,11 @@ use Rattle.shd_config.specs.declared.config.HostConfig.{HostConfig}
 use Rattle.shd_config.specs.declared.config.ProcessConfig.{ProcessConfig}
 use Rattle.shd_config.specs.declared.config.QueueRule.TheVariants.{Fifo}
 use Rattle.shd_config.specs.declared.overrides.Overrides.{Overrides}
+use Rattle.run_plan.specs.Network.{gigabit, lossless}
+
+-- the most hosts of a self-load
+abbrev pub max_ring_hosts : ℕ
+max_ring_hosts = 4096
 
 -- the name of a host, as h0007
 abbrev pub host_name : ℕ → List ℕ
@@ -22,9 +28,17 @@ host_name i = codes "h" ++ (decimal (i / 1000 % 10) ++ (decimal (i / 100 % 10) +
 abbrev pub next_host : ℕ → ℕ → ℕ
 next_host n i = (i + 1) % n
 
+-- 11.0.0.0
+abbrev pub ring_network : ℕ
+ring_network = 0x0b000000
+
+-- how many last bytes there are, from 1 to 254
+abbrev pub last_bytes : ℕ
+last_bytes = 254
+
 -- the address of a host as a number: 11.0.0.1 for the first, each with a last byte of 1 to 254
 abbrev pub address_number : ℕ → ℕ
-address_number j = 184549376 + 256 * (j / 254) + j % 254 + 1
+address_number j = ring_network + 256 * (j / last_bytes) + j % last_bytes + 1
 
 -- the guest `ring`, which sends to the host of this number
 abbrev pub ring_process : ℕ → ProcessConfig
@@ -38,6 +52,10 @@ ring_process next = record {
   expected_final_state = Exited 0;
 }
 
+-- the capture size of a host for which none is given, which cuts no packet
+abbrev pub uncut : ℕ
+uncut = 65535
+
 -- a host on the node of its number, with 1 Gbit both ways
 abbrev pub ring_host : ℕ → ℕ → HostConfig
 ring_host n i = record {
@@ -45,17 +63,17 @@ ring_host n i = record {
   line = 1;
   network_node_id = i;
   ip_addr = None;
-  bandwidth_up = Some 1000000000;
-  bandwidth_down = Some 1000000000;
+  bandwidth_up = Some gigabit;
+  bandwidth_down = Some gigabit;
   pcap_enabled = false;
-  pcap_capture_size = 65535;
+  pcap_capture_size = uncut;
   processes = ring_process (next_host n i) ∷ [];
 }
 
 -- 5 s over n hosts
 unfoldable pub self_load_config : Overrides → ℕ → Config
 self_load_config o n = record {
-  stop_time = unwrap_or o.stop_time (record { nanos = 5000000000 });
+  stop_time = unwrap_or o.stop_time (record { nanos = 5 * second });
   seed = unwrap_or o.seed 1;
   parallelism = unwrap_or o.parallelism 0;
   bootstrap_end_time = record { nanos = 0 };
@@ -75,8 +93,8 @@ abbrev pub ring_edge : ℕ → ℕ → Edge
 ring_edge n i = record {
   source = i;
   target = next_host n i;
-  latency = record { nanos = (1 + i % 7) * 1000000 };
-  reliability = if i % 4 == 3 then 0 else 1000000000;
+  latency = record { nanos = (1 + i % 7) * millisecond };
+  reliability = if i % 4 == 3 then 0 else lossless;
 }
 
 unfoldable pub self_load_graph : ℕ → Graph

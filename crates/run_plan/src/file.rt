@@ -1,7 +1,7 @@
 //! The files that are read.
 
 ghost use Rattle.std.specs.Prelude.{◌≡◌, ◌≤◌, take, IfSome, IfOk, IfErr};
-ghost use Rattle.run_plan.specs.File.{size_of, reads, read, IsReadStop};
+ghost use Rattle.run_plan.specs.File.{size_of, reads, read, IsReadStop, max_file};
 ghost use Rattle.run_plan.specs.Outcomes.{Meets, CountsSource};
 
 use crate::fault::{Fault, ReadStop};
@@ -15,7 +15,7 @@ const MOST_BYTES: u64 = 16_777_216;
 fn size_of_file<S: Source>(source: &mut S, told: Name) -> Result<(u64, Name), ReadStop>
     ensures told { IfSome (S.held source.old) (λ held. Meets (λ size. size.0) (reads told (size_of held told)) result) }
     ensures name { IfOk result (λ size. size.1 ≡ told) }
-    ensures small { IfOk result (λ size. size.0 ≤ 16777216) }
+    ensures small { IfOk result (λ size. size.0 ≤ max_file) }
     ensures same { S.held source.new ≡ S.held source.old }
     ensures count { CountsSource result (S.faults source.old) (S.faults source.new) }
 {
@@ -39,7 +39,7 @@ fn bytes_of_file<S: Source>(
     size: u64,
     told: Name,
 ) -> Result<Vec<u8>, ReadStop>
-    requires small { size ≤ 16777216 }
+    requires small { size ≤ max_file }
     ensures told { IfSome (S.held source.old)
         (λ held. IfOk result (λ read. IfSome (held told) (λ bytes. read.items ≡ take size bytes))) }
     ensures stop { IfErr result (IsReadStop told) }

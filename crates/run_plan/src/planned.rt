@@ -8,6 +8,7 @@ ghost use Rattle.run_plan.specs.InRange.{IsInRange, overrides_of};
 ghost use Rattle.run_plan.specs.Limits.{AreLimitsKept};
 ghost use Rattle.run_plan.specs.Names.{AreNamesApart};
 ghost use Rattle.run_plan.specs.Routed.{IsRoutedIfRun};
+ghost use Rattle.run_plan.specs.SelfLoad.{max_ring_hosts};
 ghost use Rattle.shd_config.specs.Limits.{MayOverride};
 
 use crate::configured::configure;
@@ -104,7 +105,7 @@ fn plan_self_load<R: Threads + Sync>(
     cores: u32,
 ) -> Result<Planned, ReadStop>
     requires some { 0 < hosts }
-    requires few { hosts ≤ 4096 }
+    requires few { hosts ≤ max_ring_hosts }
     requires overrides { MayOverride manner.now.overrides }
     ensures told { Meets (λ p. p) (self_load_planned manner.now hosts) result }
     ensures limits { IfOk result AreLimitsKept }
