@@ -4,6 +4,7 @@ use Rattle.std.specs.Path.{rsplit_once}
 use Rattle.sim_base.specs.declared.outside.sink.Place.{Place}
 use Rattle.sim_base.specs.declared.state.State.{State}
 use Rattle.sim_base.specs.declared.state.State.TheVariants.{Running, Exited, Signaled}
+use Rattle.sim_base.specs.Ascii.{slash}
 use Rattle.host_calls.specs.declared.parts.Output.{Output}
 use Rattle.host_state.specs.declared.files.piece.Piece.{Piece}
 use Rattle.host_state.specs.declared.row.FinalState.{FinalState}
@@ -26,7 +27,7 @@ last_part path (Some split) = split.1
 
 -- the program's name: the part of its path behind the last slash
 unfoldable pub program_of : List ℕ → List ℕ
-program_of path = last_part path (rsplit_once 47 path)
+program_of path = last_part path (rsplit_once slash path)
 
 -- all that process p wrote to a descriptor
 abbrev pub written_to : ℕ → ℕ → List Output → List ℕ

@@ -8,6 +8,7 @@ use Rattle.sim_base.specs.declared.size.TheConstants.{MAX_PACKET}
 use Rattle.sim_base.specs.declared.time.Time.{Time}
 use Rattle.sim_base.specs.Addresses.{host_at}
 use Rattle.sim_base.specs.Packet.{packet_size}
+use Rattle.sim_base.specs.Units.{max_u64}
 use Rattle.net_iface.specs.Lane.{AllFit}
 use Rattle.host_state.specs.declared.line.Line.{Line}
 use Rattle.host_state.specs.declared.net.Net.{Net}
@@ -15,7 +16,7 @@ use Rattle.host_state.specs.declared.row.Row.{Row}
 use Rattle.host_state.specs.Home.{home}
 use Rattle.host_state.specs.HostRecord.{HostRecord}
 use Rattle.host_state.specs.Sending.{route_from}
-use Rattle.host_state.specs.Fire.{fire}
+use Rattle.host_state.specs.Fire.{fire, most_processes}
 use Rattle.world_order.specs.Model.{Model, Fired}
 use Rattle.world_order.specs.Premises.{AreNumbered, IsFit}
 
@@ -45,7 +46,7 @@ pub record IsEventOf (net : Net) (e : Event) : Type 0 where
 pub record IsHostOf (net : Net) (i : ℕ) (host : HostRecord) : Type 0 where
   pub number : host.link.number ≡ i
   pub within : i < length net.known.book
-  pub limited : host.link.next ≤ 2 ^ 64 - 1
+  pub limited : host.link.next ≤ max_u64
   pub up : AllFit host.link.up.waiting
   pub down : AllFit host.link.down.waiting
   pub made : host.link.made ≡ []
@@ -54,7 +55,7 @@ pub record IsHostOf (net : Net) (i : ℕ) (host : HostRecord) : Type 0 where
 -- a row of a net
 pub record FitsNet (net : Net) (row : Row) : Type 0 where
   pub within : row.host.index < length net.known.book
-  pub few : length row.processes.items ≤ 64
+  pub few : length row.processes.items ≤ most_processes
 
 -- a host at the beginning, which has fired nothing and written nothing, and its events
 pub record OpensFit (net : Net) (i : ℕ) (f : Fired HostRecord Line) : Type 0 where
@@ -84,4 +85,4 @@ IsShort (Some lookahead) = lookahead ≤ 2 ^ 63
 abbrev pub FiringsFit : Net → Option ℕ → Type 0
 FiringsFit net lookahead =
     (host : HostRecord) (e : Event) → IsHostOf net (home net e) host → IsEventOf net e → host.link.time.nanos ≤ e.key.due.nanos
-    → IsFit (model net) lookahead (2 ^ 64 - 1) (IsHostOf net) (IsEventOf net) host e (fires_before_stop net host e)
+    → IsFit (model net) lookahead max_u64 (IsHostOf net) (IsEventOf net) host e (fires_before_stop net host e)

@@ -3,6 +3,7 @@ use Rattle.std.specs.Prelude.{◌≡◌, ℕ, ◌+◌, List, [], ◌∷◌, ◌+
 use Rattle.std.specs.List.{filter}
 use Rattle.sim_base.specs.declared.outside.sink.Place.TheVariants as place
 use Rattle.host_calls.specs.declared.parts.Output.{Output}
+use Rattle.host_calls.specs.Numbers.{stdout_fileno, stderr_fileno}
 use Rattle.host_state.specs.Files.{Put, first_id, written_to, log_name}
 use Rattle.host_state.specs.HostRecord.{HostRecord}
 use Rattle.host_state.specs.Listed.{HostNames, by_process, by_host}
@@ -17,11 +18,11 @@ use Rattle.out_text.specs.declared.log.LogLine.{LogLine}
 
 -- ---- what outputs and lines put
 
--- what process p of a host wrote to descriptors 1 and 2, each in its file
+-- what process p of a host wrote to its standard output and error, each in its file
 abbrev pub process_grown : List ℕ → List Output → ℕ → ProcessListing → List Put
 process_grown host outputs p process =
-    (place.File (file_name host process.program (first_id + p) kind.Stdout), written_to p 1 outputs)
-    ∷ (place.File (file_name host process.program (first_id + p) kind.Stderr), written_to p 2 outputs)
+    (place.File (file_name host process.program (first_id + p) kind.Stdout), written_to p stdout_fileno outputs)
+    ∷ (place.File (file_name host process.program (first_id + p) kind.Stderr), written_to p stderr_fileno outputs)
     ∷ []
 
 abbrev pub host_grown : HostNames → List Output → List Put

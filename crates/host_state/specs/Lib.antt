@@ -15,6 +15,7 @@ pub mod Logs
 pub mod Opening
 pub mod Outbox
 pub mod Parcels
+pub mod Registers
 pub mod Running
 pub mod Sending
 pub mod Slice

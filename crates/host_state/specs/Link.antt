@@ -8,6 +8,7 @@ use Rattle.sim_base.specs.declared.key.Kind.{Kind}
 use Rattle.sim_base.specs.declared.key.Kind.TheVariants as kind
 use Rattle.sim_base.specs.declared.packet.Packet.{Packet}
 use Rattle.sim_base.specs.declared.time.Time.{Time}
+use Rattle.sim_base.specs.Units.{max_u64, millisecond}
 use Rattle.net_iface.specs.Lane.{LaneState, empty_lane}
 use Rattle.net_iface.specs.declared.lane.QueueRule.TheVariants.{Fifo}
 use Rattle.host_state.specs.declared.line.Line.{Line}
@@ -51,10 +52,10 @@ event_of link due w = record {
 abbrev pub not_before_next : Time → Time → Time
 not_before_next now due = record { nanos = max due.nanos (now.nanos + 1) }
 
--- the host makes an event with its next number; one whose number stands at 2^64 - 1 makes no more
+-- the host makes an event with its next number; one whose number stands at the last one of 64 bits makes no more
 unfoldable pub numbers : Time → What → LinkState → LinkState
 numbers due w link =
-    if nat_lt link.next (2 ^ 64 - 1)
+    if nat_lt link.next max_u64
     then record link { next = link.next + 1; made = link.made ++ event_of link due w ∷ [] }
     else link
 
@@ -68,13 +69,13 @@ comes_to now link = record link { time = now }
 
 -- the lanes' time has not run ahead
 pub record IsLink (up down : LaneState) (now : Time) : Type 0 where
-  pub up_time : up.bucket.millis ≤ now.nanos / 1000000
-  pub down_time : down.bucket.millis ≤ now.nanos / 1000000
+  pub up_time : up.bucket.millis ≤ now.nanos / millisecond
+  pub down_time : down.bucket.millis ≤ now.nanos / millisecond
   pub early : now.nanos ≤ 2 ^ 61
 
 -- so many nanoseconds later, or at the end of time
 abbrev pub later : Time → ℕ → Time
-later now nanos = record { nanos = min (now.nanos + nanos) (2 ^ 64 - 1) }
+later now nanos = record { nanos = min (now.nanos + nanos) max_u64 }
 
 -- an act on a packet is logged
 unfoldable pub logs : Act → Packet → LinkState → LinkState

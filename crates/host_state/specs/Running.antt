@@ -1,7 +1,8 @@
 -- A host that is run up to a time.
-use Rattle.std.specs.Prelude.{◌≡◌, ℕ, ◌-◌, ◌^◌, ◌<◌, ◌≤◌, List, ◌++◌, length, map, All, IsPermutation}
+use Rattle.std.specs.Prelude.{◌≡◌, ℕ, ◌-◌, ◌<◌, ◌≤◌, List, ◌++◌, length, map, All, IsPermutation}
 use Rattle.sim_base.specs.declared.event.Event.{Event}
 use Rattle.sim_base.specs.declared.time.Time.{Time}
+use Rattle.sim_base.specs.Units.{max_u64}
 use Rattle.net_iface.specs.Lane.{AllFit}
 use Rattle.host_calls.specs.declared.parts.Output.{Output}
 use Rattle.host_state.specs.declared.host.Host.{Host}
@@ -23,7 +24,7 @@ use Rattle.world_order.specs.World as order
 -- events that a host of the net holds: each fires there, not before what fired last, and has a number that its source gave, if that is the host
 pub record Owns (net : Net) (link : LinkState) (queue : List Event) : Type 0 where
   pub within : link.number < length net.known.book
-  pub limited : link.next ≤ 2 ^ 64 - 1
+  pub limited : link.next ≤ max_u64
   pub up : AllFit link.up.waiting
   pub down : AllFit link.down.waiting
   pub events : All (IsEventOf net) queue

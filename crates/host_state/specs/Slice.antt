@@ -1,5 +1,5 @@
 -- A slice of a process, which takes no simulated time.
-use Rattle.std.specs.Prelude.{ℕ, zero, suc, Bool, List, [], ◌∷◌, length, nat_lt, slice_get, slice_set, slice_index, Option, Some, None, true, false, if◌then◌else◌}
+use Rattle.std.specs.Prelude.{ℕ, zero, suc, ◌-◌, Bool, List, [], ◌∷◌, length, nat_lt, slice_get, slice_set, slice_index, Option, Some, None, true, false, if◌then◌else◌}
 use Rattle.sim_base.specs.declared.event.What.TheVariants as what
 use Rattle.sim_base.specs.declared.signal.Signal.{Signal}
 use Rattle.sim_base.specs.declared.signal.Signal.TheVariants.{SigXcpu}
@@ -18,6 +18,7 @@ use Rattle.host_calls.specs.Events.{ended}
 use Rattle.host_calls.specs.Parts.{PartsRecord}
 use Rattle.host_state.specs.declared.net.Net.{Net}
 use Rattle.host_state.specs.declared.process.Process.TheVariants as process
+use Rattle.host_state.specs.Registers.{a0, a1, a2, a3, a4, a5, a7}
 use Rattle.host_state.specs.Step.{Step}
 use Rattle.host_state.specs.Step as step
 use Rattle.host_state.specs.HostRecord.{HostRecord}
@@ -33,14 +34,14 @@ pause = 100000
 
 -- the number of a call stands in register a7, its arguments in a0 to a5, and the answer goes to a0
 abbrev pub number_in : Cpu → ℕ
-number_in cpu = slice_index cpu.x 17
+number_in cpu = slice_index cpu.x a7
 
 abbrev pub arguments_in : Cpu → List ℕ
 arguments_in cpu =
-    slice_index cpu.x 10 ∷ slice_index cpu.x 11 ∷ slice_index cpu.x 12 ∷ slice_index cpu.x 13 ∷ slice_index cpu.x 14 ∷ slice_index cpu.x 15 ∷ []
+    slice_index cpu.x a0 ∷ slice_index cpu.x a1 ∷ slice_index cpu.x a2 ∷ slice_index cpu.x a3 ∷ slice_index cpu.x a4 ∷ slice_index cpu.x a5 ∷ []
 
 abbrev pub with_answer : ℕ → Cpu → Cpu
-with_answer value cpu = record cpu { x = slice_set cpu.x 10 value }
+with_answer value cpu = record cpu { x = slice_set cpu.x a0 value }
 
 -- how a process goes on after a call
 abbrev pub step_of : Answer → Cpu → Step
@@ -117,7 +118,7 @@ slice net p (suc count) cpu host = after_step (slice net p count) p (runs_to_cal
 
 -- after its first call a slice has one call less
 unfoldable pub follows : Net → ℕ → Step × HostRecord → HostRecord
-follows net p t = after_step (slice net p 99) p t
+follows net p t = after_step (slice net p (calls_in_a_slice - 1)) p t
 
 -- a kept call is called again, and counts among the calls of its slice
 abbrev pub calls_again : Net → ℕ → ℕ → List ℕ → Cpu → HostRecord → HostRecord

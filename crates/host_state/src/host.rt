@@ -2,6 +2,7 @@
 
 ghost use Rattle.std.specs.Prelude.{◌≡◌, ◌≤◌, ◌<◌, ◌∷◌, ◌^◌, [], false, length, replicate, option_map, slice_get, IfOk, IfErr, IfSome, IfNone, OnOk, OnErr, All, vec_len};
 ghost use Rattle.event_order.specs.Events.{IsBefore, IsLeastDue, IsOrdered, has_key, with_event};
+ghost use Rattle.host_state.specs.Fire.{most_processes};
 ghost use Rattle.host_state.specs.HostRecord.{HostRecord, process_state};
 ghost use Rattle.host_state.specs.HostStands.{Stands, Fires, Begins, IsSameBody, with_events};
 ghost use Rattle.host_state.specs.Opening as opening;
@@ -94,7 +95,7 @@ impl Host {
     /// The host of a row at the beginning, which holds the events that start and shut down its
     /// processes.
     pub fn new(row: Row, net: &Net) -> Result<Host, NoMemory>
-        requires { vec_len row.processes ≤ 64 }
+        requires { vec_len row.processes ≤ most_processes }
         ensures { IfOk result (Begins row) }
     {
         let alloc = *net.nodes.allocator();

@@ -1,6 +1,6 @@
 //! What hosts owe the laws of worlds and rounds.
 
-ghost use Rattle.std.specs.Prelude.{◌≡◌, ◌≤◌, ◌<◌, ◌^◌, ℕ, List, Option, length};
+ghost use Rattle.std.specs.Prelude.{◌≡◌, ◌≤◌, ◌<◌, ◌^◌, ◌-◌, ℕ, List, Option, length};
 ghost use Rattle.sim_base.specs.declared.event.Event.{Event};
 ghost use Rattle.rv32_machine.specs.declared.cpu.Cpu.{Cpu};
 ghost use Rattle.host_state.specs.declared.host.Host.{Host};
@@ -41,6 +41,6 @@ pub fn beginnings_run()
 /// A slice has at most 100 answered calls, the kept call that is made again among them, and between
 /// two calls a process runs at most the budget's instructions.
 pub fn slices_are_short()
-    ensures fresh { (net : Net) (p : ℕ) (cpu : Cpu) (host : HostRecord) → IsShortSlice net p 100 (slice net p calls_in_a_slice cpu host) cpu host }
-    ensures kept { (net : Net) (p number : ℕ) (arguments : List ℕ) (cpu next : Cpu) (host after : HostRecord) → calls net p number arguments cpu host ≡ (step.GoesOn next, after) → IsShortSlice net p 99 (calls_again net p number arguments cpu host) next after }
+    ensures fresh { (net : Net) (p : ℕ) (cpu : Cpu) (host : HostRecord) → IsShortSlice net p calls_in_a_slice (slice net p calls_in_a_slice cpu host) cpu host }
+    ensures kept { (net : Net) (p number : ℕ) (arguments : List ℕ) (cpu next : Cpu) (host after : HostRecord) → calls net p number arguments cpu host ≡ (step.GoesOn next, after) → IsShortSlice net p (calls_in_a_slice - 1) (calls_again net p number arguments cpu host) next after }
 {}

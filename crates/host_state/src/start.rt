@@ -1,7 +1,7 @@
 //! What a process starts with (System V ABI: the process stack).
 
 ghost use Rattle.std.specs.Prelude.{◌≡◌, ◌+◌, ◌-◌, ◌*◌, ◌<◌, ◌≤◌, ◌^◌, ◌++◌, IfOk, OnOk, MatchOption, length};
-ghost use Rattle.guest_mem.specs.Opening.{stack_base};
+ghost use Rattle.guest_mem.specs.Opening.{stack_base, stack_end};
 ghost use Rattle.host_state.specs.Stack.{IsWritable};
 ghost use Rattle.host_state.specs.Start as spec;
 
@@ -137,11 +137,11 @@ fn bytes_of_words(alloc: Global, words: &[u32]) -> Result<Vec<u8>, AllocError>
 
 /// Fills a part of the stack.
 fn fill(memory: &mut Mem, at: u32, bytes: &[u8])
-    requires stack { IsWritable memory.old stack_base 0xC0000000 }
+    requires stack { IsWritable memory.old stack_base stack_end }
     requires above { stack_base ≤ at }
-    requires below { at + length bytes.now ≤ 0xC0000000 }
+    requires below { at + length bytes.now ≤ stack_end }
     ensures filled { memory.new ≡ spec.filled memory.old at bytes.now }
-    ensures stack { IsWritable memory.new stack_base 0xC0000000 }
+    ensures stack { IsWritable memory.new stack_base stack_end }
 {
     match memory.copy_in(at, bytes) {
         Ok(()) => {}
