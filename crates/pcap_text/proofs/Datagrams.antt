@@ -10,8 +10,8 @@ use Rattle.sim_base.specs.Packet.{packet_size, load_size}
 use Rattle.sim_base.specs.declared.packet.Load.{Load}
 use Rattle.sim_base.specs.declared.packet.Load.TheVariants.{Udp, Tcp}
 use Rattle.sim_base.specs.declared.packet.Packet.{Packet}
-use Rattle.pcap_text.specs.Datagram.{datagram, datagram_bytes, ip_check, ip_header, segment_of, segment_check}
-use Rattle.pcap_text.specs.Packets.{fields, packet_with, udp_at, tcp_at, Fits, FitsAddr, FitsLoad}
+use Rattle.pcap_text.specs.Datagram.{datagram, datagram_bytes, ip_check, ip_header, segment_of, segment_check, udp_protocol, tcp_protocol, longest}
+use Rattle.pcap_text.specs.Packets.{fields, packet_with, udp_at, tcp_at, Fits, FitsAddr, FitsLoad, udp_headers, tcp_headers}
 
 segment_size : (check from to : ℕ) (load : Load) → length (segment_of check from to load) ≡ load_size load
 segment_size check from to (Udp text) = omega arith
@@ -47,13 +47,13 @@ tcp_again flags seq ack window text fits =
     ∙ ap (λ (n : ℕ). tcp flags seq n (from_be_bytes w16 (to_be_bytes w16 window)) text) (from_be_bytes-to_be_bytes_4 ack fits.2)
     ∙ ap (λ (n : ℕ). tcp flags seq ack n text) (from_be_bytes-to_be_bytes_2 window fits.3)
 
-fields_udp : (bytes : List ℕ) → 28 ≤ length bytes → slice_index bytes 9 ≡ 17 → fields bytes ≡ Some (packet_with bytes (udp_at bytes))
+fields_udp : (bytes : List ℕ) → udp_headers ≤ length bytes → slice_index bytes 9 ≡ udp_protocol → fields bytes ≡ Some (packet_with bytes (udp_at bytes))
 unfolding fields
-fields_udp bytes long e = rw (le-leb 28 (length bytes) long, e) refl
+fields_udp bytes long e = rw (le-leb udp_headers (length bytes) long, e) refl
 
-fields_tcp : (bytes : List ℕ) → 40 ≤ length bytes → slice_index bytes 9 ≡ 6 → fields bytes ≡ Some (packet_with bytes (tcp_at bytes))
+fields_tcp : (bytes : List ℕ) → tcp_headers ≤ length bytes → slice_index bytes 9 ≡ tcp_protocol → fields bytes ≡ Some (packet_with bytes (tcp_at bytes))
 unfolding fields
-fields_tcp bytes long e = rw (le-leb 28 (length bytes) (omega arith), le-leb 40 (length bytes) long, e) refl
+fields_tcp bytes long e = rw (le-leb udp_headers (length bytes) (omega arith), le-leb tcp_headers (length bytes) long, e) refl
 
 -- a datagram's fields, whatever its checksums are
 fields_again : (check sum : ℕ) (from to : Addr) (load : Load) → FitsAddr from → FitsAddr to → FitsLoad load
@@ -82,29 +82,29 @@ sized false is x p other n f g e = g e
 pub fields_size : (bytes : List ℕ) (p : Packet) → fields bytes ≡ Some p → packet_size p ≡ length bytes
 unfolding fields
 fields_size bytes p e =
-    sized (nat_le 28 (length bytes)) (slice_index bytes 9 == 17) (packet_with bytes (udp_at bytes)) p
-    (cond (nat_le 40 (length bytes) && (slice_index bytes 9 == 6)) (Some (packet_with bytes (tcp_at bytes))) None) (length bytes)
-    (λ l. omega (arith, length-drop 28 bytes, leb-true 28 (length bytes) l))
-    (λ r. sized (nat_le 40 (length bytes)) (slice_index bytes 9 == 6) (packet_with bytes (tcp_at bytes)) p None (length bytes)
-    (λ l. omega (arith, length-drop 40 bytes, leb-true 40 (length bytes) l)) (λ none. absurd cc) r)
+    sized (nat_le udp_headers (length bytes)) (slice_index bytes 9 == udp_protocol) (packet_with bytes (udp_at bytes)) p
+    (cond (nat_le tcp_headers (length bytes) && (slice_index bytes 9 == tcp_protocol)) (Some (packet_with bytes (tcp_at bytes))) None) (length bytes)
+    (λ l. omega (arith, length-drop udp_headers bytes, leb-true udp_headers (length bytes) l))
+    (λ r. sized (nat_le tcp_headers (length bytes)) (slice_index bytes 9 == tcp_protocol) (packet_with bytes (tcp_at bytes)) p None (length bytes)
+    (λ l. omega (arith, length-drop tcp_headers bytes, leb-true tcp_headers (length bytes) l)) (λ none. absurd cc) r)
     e
 
 -- ---- datagrams
 
 -- what it means to be the datagram of a packet
 pub record IsDatagramOf (bytes : List ℕ) (p : Packet) : Type 0 where
-  pub size : packet_size p ≤ 65535
+  pub size : packet_size p ≤ longest
   pub same : datagram_bytes p ≡ bytes
-  pub long : length bytes ≤ 65535
+  pub long : length bytes ≤ longest
 
 pub datagram_is : (p : Packet) (bytes : List ℕ) → datagram p ≡ Some bytes → IsDatagramOf bytes p
 datagram_is p bytes e =
-    let parts = cond_some (nat_le (packet_size p) 65535) (datagram_bytes p) bytes e in
-    let size : packet_size p ≤ 65535 = leb-true (packet_size p) 65535 parts.0 in
+    let parts = cond_some (nat_le (packet_size p) longest) (datagram_bytes p) bytes e in
+    let size : packet_size p ≤ longest = leb-true (packet_size p) longest parts.0 in
     record { size = size; same = parts.1; long = omega (arith, datagram_size p, ap length parts.1) }
 
-pub is_datagram : (p : Packet) (bytes : List ℕ) → packet_size p ≤ 65535 → datagram_bytes p ≡ bytes → datagram p ≡ Some bytes
-is_datagram p bytes size same = rw (le-leb (packet_size p) 65535 size) (ap (λ (b : List ℕ). Some b) same)
+pub is_datagram : (p : Packet) (bytes : List ℕ) → packet_size p ≤ longest → datagram_bytes p ≡ bytes → datagram p ≡ Some bytes
+is_datagram p bytes size same = rw (le-leb (packet_size p) longest size) (ap (λ (b : List ℕ). Some b) same)
 
 -- the bytes tell the one packet whose datagram they are
 pub tells : (p : Packet) (bytes : List ℕ) → Fits p → datagram p ≡ Some bytes → fields bytes ≡ Some p
@@ -116,7 +116,7 @@ one_packet a b bytes f g d e =
     let q : fields bytes ≡ Some b = tells b bytes g e in
     cc
 
-pub one_datagram : (a b : Packet) → Fits a → Fits b → packet_size a ≤ 65535 → packet_size b ≤ 65535 → datagram a ≡ datagram b → a ≡ b
+pub one_datagram : (a b : Packet) → Fits a → Fits b → packet_size a ≤ longest → packet_size b ≤ longest → datagram a ≡ datagram b → a ≡ b
 one_datagram a b f g m n e =
     let made_of_b : datagram b ≡ Some (datagram_bytes b) = is_datagram b (datagram_bytes b) n refl in
     one_packet a b (datagram_bytes b) f g (e ∙ made_of_b) made_of_b

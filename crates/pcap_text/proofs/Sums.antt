@@ -3,7 +3,7 @@ use Rattle.std.proofs.Common.{◌≡◌, ℕ, ◌+◌, ◌-◌, ◌*◌, ◌≤�
 use Rattle.sim_base.specs.declared.packet.Load.{Load}
 use Rattle.sim_base.specs.declared.packet.Load.TheVariants.{Udp, Tcp}
 use Rattle.sim_base.specs.declared.packet.Packet.{Packet}
-use Rattle.pcap_text.specs.Checksum.{carried, sum_on, ones_sum, checksum}
+use Rattle.pcap_text.specs.Checksum.{carried, sum_on, ones_sum, checksum, all_ones}
 use Rattle.pcap_text.specs.Datagram.{udp_front, tcp_front, pseudo_header, segment_of, segment_check, udp_sent, sent}
 
 -- a whole word at the front
@@ -46,18 +46,18 @@ with_load p load = sent load (checksum (pseudo_header p ++ segment_of 0 p.from.p
 
 -- the checksum of UDP and of TCP, summed piece by piece
 pub udp_checked : (p : Packet) (text : List ℕ) (s t u : ℕ) → p.load ≡ Udp text → s ≡ sum_on 0 (pseudo_header p)
-    → t ≡ sum_on s (udp_front 0 p.from.port p.to.port text) → u ≡ sum_on t text → udp_sent (65535 - u) ≡ segment_check p
+    → t ≡ sum_on s (udp_front 0 p.from.port p.to.port text) → u ≡ sum_on t text → udp_sent (all_ones - u) ≡ segment_check p
 udp_checked p text s t u e pseudo front rest =
     let whole : u ≡ sum_on 0 (pseudo_header p ++ (udp_front 0 p.from.port p.to.port text ++ text)) =
     rest ∙ ap (λ (n : ℕ). sum_on n text) front ∙ after_udp s 0 p.from.port p.to.port text
     ∙ ap (λ (n : ℕ). sum_on n (udp_front 0 p.from.port p.to.port text ++ text)) pseudo ∙ after_pseudo_header 0 p (udp_front 0 p.from.port p.to.port text ++ text) in
-    ap (λ (n : ℕ). udp_sent (65535 - n)) whole ∙ ap (with_load p) (sym e)
+    ap (λ (n : ℕ). udp_sent (all_ones - n)) whole ∙ ap (with_load p) (sym e)
 
 pub tcp_checked : (p : Packet) (flags seq ack window : ℕ) (text : List ℕ) (s t u : ℕ) → p.load ≡ Tcp flags seq ack window text → s ≡ sum_on 0 (pseudo_header p)
-    → t ≡ sum_on s (tcp_front 0 p.from.port p.to.port flags seq ack window) → u ≡ sum_on t text → 65535 - u ≡ segment_check p
+    → t ≡ sum_on s (tcp_front 0 p.from.port p.to.port flags seq ack window) → u ≡ sum_on t text → all_ones - u ≡ segment_check p
 tcp_checked p flags seq ack window text s t u e pseudo front rest =
     let whole : u ≡ sum_on 0 (pseudo_header p ++ (tcp_front 0 p.from.port p.to.port flags seq ack window ++ text)) =
     rest ∙ ap (λ (n : ℕ). sum_on n text) front ∙ after_tcp s 0 p.from.port p.to.port flags seq ack window text
     ∙ ap (λ (n : ℕ). sum_on n (tcp_front 0 p.from.port p.to.port flags seq ack window ++ text)) pseudo
     ∙ after_pseudo_header 0 p (tcp_front 0 p.from.port p.to.port flags seq ack window ++ text) in
-    ap (λ (n : ℕ). 65535 - n) whole ∙ ap (with_load p) (sym e)
+    ap (λ (n : ℕ). all_ones - n) whole ∙ ap (with_load p) (sym e)

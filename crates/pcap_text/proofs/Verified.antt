@@ -9,8 +9,8 @@ use Rattle.sim_base.specs.declared.address.Addr.{Addr}
 use Rattle.sim_base.specs.declared.packet.Load.{Load}
 use Rattle.sim_base.specs.declared.packet.Load.TheVariants.{Udp, Tcp}
 use Rattle.sim_base.specs.declared.packet.Packet.{Packet}
-use Rattle.pcap_text.specs.Checksum.{carried, sum_on, ones_sum, checksum, Verifies}
-use Rattle.pcap_text.specs.Datagram.{protocol, ip_header, udp_front, tcp_front, segment_of, segment, pseudo_header, udp_sent, ip_check, segment_check, datagram_bytes}
+use Rattle.pcap_text.specs.Checksum.{carried, sum_on, ones_sum, checksum, Verifies, all_ones}
+use Rattle.pcap_text.specs.Datagram.{protocol, ip_header, udp_front, tcp_front, segment_of, segment, pseudo_header, udp_sent, ip_check, segment_check, datagram_bytes, longest}
 use Rattle.pcap_text.specs.Laws.{IsByte, IsText, IsWhole, ChecksumsVerify}
 use Rattle.pcap_text.specs.Packets.{Fits, FitsAddr, FitsLoad}
 
@@ -26,18 +26,18 @@ total (high ∷ low ∷ rest) = 256 * high + low + total rest
 -- the ones' complement sum is the sum up to multiples of FFFF, and 0 only for 0
 record Folds (sum folded : ℕ) : Type 0 where
   times : ℕ
-  same : folded + 65535 * times ≡ sum
-  small : folded < 65536
+  same : folded + all_ones * times ≡ sum
+  small : folded < 2 ^ 16
   some : 0 < sum → 0 < folded
 
 some_more : (n m w : ℕ) → (0 < n → 0 < m) → 0 < n + w → 0 < m + w
 some_more n m w f some = elim (cases_lt 0 n) [ inl lt ↦ let k : 0 < m = f lt in omega arith | inr le ↦ omega arith ]
 
-carried_folds : (n m w : ℕ) → Folds n m → w < 65536 → Folds (n + w) (carried m w)
+carried_folds : (n m w : ℕ) → Folds n m → w < 2 ^ 16 → Folds (n + w) (carried m w)
 unfolding carried
-carried_folds n m w h below = elim (cases_lt (m + w) 65536) [
-  | inl lt ↦ rw (lt-ltb (m + w) 65536 lt) (record { times = h.times; same = omega (arith, h.same); small = lt; some = some_more n m w h.some })
-  | inr le ↦ rw (le-ltb (m + w) 65536 le) (record { times = h.times + 1; same = omega (arith, h.same); small = omega (arith, h.small); some = λ some. omega arith })
+carried_folds n m w h below = elim (cases_lt (m + w) (2 ^ 16)) [
+  | inl lt ↦ rw (lt-ltb (m + w) (2 ^ 16) lt) (record { times = h.times; same = omega (arith, h.same); small = lt; some = some_more n m w h.some })
+  | inr le ↦ rw (le-ltb (m + w) (2 ^ 16) le) (record { times = h.times + 1; same = omega (arith, h.same); small = omega (arith, h.small); some = λ some. omega arith })
 ]
 
 sum_folds : (bytes : List ℕ) (n m : ℕ) → AreBytes bytes → Folds n m → Folds (n + total bytes) (sum_on m bytes)
@@ -58,22 +58,22 @@ ones_folds bytes b =
     subst (λ (k : ℕ). Folds k (ones_sum bytes)) same (sum_folds bytes 0 0 b none)
 
 -- with the ones' complement added the sum is FFFF
-full : (sum s v : ℕ) → Folds sum s → Folds (sum + (65535 - s)) v → v ≡ 65535
+full : (sum s v : ℕ) → Folds sum s → Folds (sum + (all_ones - s)) v → v ≡ all_ones
 full sum s v h k = omega (arith, h.same, h.small, h.some, k.same, k.small, k.some)
 
-full_again : (sum s v : ℕ) → Folds sum s → Folds (sum + udp_sent (65535 - s)) v → v ≡ 65535
-full_again sum s v h k = go ((65535 - s) == 0) refl k
+full_again : (sum s v : ℕ) → Folds sum s → Folds (sum + udp_sent (all_ones - s)) v → v ≡ all_ones
+full_again sum s v h k = go ((all_ones - s) == 0) refl k
   where
-    go : (b : Bool) → ((65535 - s) == 0) ≡ b → Folds (sum + cond b 65535 (65535 - s)) v → v ≡ 65535
+    go : (b : Bool) → ((all_ones - s) == 0) ≡ b → Folds (sum + cond b all_ones (all_ones - s)) v → v ≡ all_ones
     go true e f =
-        let none : 65535 - s ≡ 0 = eqb-true (65535 - s) 0 e in
+        let none : all_ones - s ≡ 0 = eqb-true (all_ones - s) 0 e in
         omega (arith, none, h.same, h.small, f.same, f.small, f.some)
     go false e f = full sum s v h f
 
-sent_fits : (s : ℕ) → udp_sent (65535 - s) < 65536
-sent_fits s = go ((65535 - s) == 0)
+sent_fits : (s : ℕ) → udp_sent (all_ones - s) < 2 ^ 16
+sent_fits s = go ((all_ones - s) == 0)
   where
-    go : (b : Bool) → cond b 65535 (65535 - s) < 65536
+    go : (b : Bool) → cond b all_ones (all_ones - s) < 2 ^ 16
     go true = omega arith
     go false = omega arith
 
@@ -90,7 +90,7 @@ behind_words [] rest other n even e = e
 behind_words (a ∷ []) rest other n even e = absurd cc
 behind_words (a ∷ b ∷ front) rest other n even e = omega (arith, behind_words front rest other n even e)
 
-with_field : (check : ℕ) (rest : List ℕ) → check < 65536 → total (to_be_bytes w16 check ++ rest) ≡ total (to_be_bytes w16 0 ++ rest) + check
+with_field : (check : ℕ) (rest : List ℕ) → check < 2 ^ 16 → total (to_be_bytes w16 check ++ rest) ≡ total (to_be_bytes w16 0 ++ rest) + check
 unfolding total
 with_field check rest below = omega arith
 
@@ -140,7 +140,7 @@ pseudo_are_bytes p = both (to_be_bytes w32 p.from.ip.bits ++ to_be_bytes w32 p.t
 abbrev checked : List ℕ → ℕ → List ℕ → List ℕ
 checked front check rest = front ++ (to_be_bytes w16 check ++ rest)
 
-checked_total : (front rest : List ℕ) (check : ℕ) → is_even front ≡ true → check < 65536 → total (checked front check rest) ≡ total (checked front 0 rest) + check
+checked_total : (front rest : List ℕ) (check : ℕ) → is_even front ≡ true → check < 2 ^ 16 → total (checked front check rest) ≡ total (checked front 0 rest) + check
 checked_total front rest check even below = behind_words front (to_be_bytes w16 check ++ rest) (to_be_bytes w16 0 ++ rest) check even (with_field check rest below)
 
 checked_folds : (front rest : List ℕ) (check : ℕ) → AreBytes front → AreBytes rest → Folds (total (checked front check rest)) (ones_sum (checked front check rest))
@@ -199,7 +199,7 @@ transport_verifies from to (Tcp flags seq ack window text) f t =
     (both (to_be_bytes w16 from.port ++ to_be_bytes w16 to.port) (tcp_words flags seq ack window) (ports from.port to.port) (tcp_words_are_bytes flags seq ack window f.0)))
     (omega arith, (omega arith, t))
 
-pub verify : (p : Packet) → IsWhole p → packet_size p ≤ 65535 → ChecksumsVerify p
+pub verify : (p : Packet) → IsWhole p → packet_size p ≤ longest → ChecksumsVerify p
 unfolding datagram_bytes
 verify p h size = record {
   network = ip_verifies p;

@@ -1,9 +1,13 @@
 -- The internet checksum (RFC 1071, section 1).
-use Rattle.std.specs.Prelude.{◌≡◌, ℕ, ◌+◌, ◌-◌, ◌*◌, List, [], ◌∷◌, nat_lt, if◌then◌else◌}
+use Rattle.std.specs.Prelude.{◌≡◌, ℕ, ◌+◌, ◌-◌, ◌*◌, ◌^◌, List, [], ◌∷◌, nat_lt, if◌then◌else◌}
+
+-- the word of 16 bits whose bits are all ones: zero, in ones' complement
+abbrev pub all_ones : ℕ
+all_ones = 2 ^ 16 - 1
 
 -- the ones' complement sum of two words of 16 bits: what is carried out at the top is added at the bottom
 unfoldable pub carried : ℕ → ℕ → ℕ
-carried a b = if nat_lt (a + b) 65536 then a + b else a + b - 65535
+carried a b = if nat_lt (a + b) (2 ^ 16) then a + b else a + b - all_ones
 
 -- the ones' complement sum of some bytes on top of a sum: each two are a word, the first of them its high byte,
 -- and an odd last byte is a word with a low byte of 0
@@ -17,8 +21,8 @@ ones_sum bytes = sum_on 0 bytes
 
 -- the checksum of some bytes, among which its own field has 0: the ones' complement of their sum
 abbrev pub checksum : List ℕ → ℕ
-checksum bytes = 65535 - ones_sum bytes
+checksum bytes = all_ones - ones_sum bytes
 
--- bytes with their checksum in its field have the sum FFFF
+-- bytes with their checksum in its field have the sum of all ones
 abbrev pub Verifies : List ℕ → Type 0
-Verifies bytes = ones_sum bytes ≡ 65535
+Verifies bytes = ones_sum bytes ≡ all_ones

@@ -1,7 +1,7 @@
 -- What is written is read again, and verifies.
 use Rattle.std.specs.Prelude.{◌≡◌, ℕ, ◌<◌, ◌≤◌, ◌^◌, List, ◌++◌, map, take, drop, Option, Some, Ok}
 use Rattle.std.specs.List.{flat_map, AllByRecursion}
-use Rattle.sim_base.specs.Packet.{packet_size}
+use Rattle.sim_base.specs.Packet.{packet_size, ipv4_header, max_packet}
 use Rattle.sim_base.specs.declared.packet.Load.{Load}
 use Rattle.sim_base.specs.declared.packet.Load.TheVariants.{Udp, Tcp}
 use Rattle.sim_base.specs.declared.packet.Packet.{Packet}
@@ -21,7 +21,7 @@ pub record Taken : Type 0 where
 -- what `record` may be called with
 pub record MayBeRecorded (t : Taken) : Type 0 where
   pub time : t.time.nanos ≤ 2 ^ 61
-  pub size : packet_size t.packet ≤ 1500
+  pub size : packet_size t.packet ≤ max_packet
   pub fits : Fits t.packet
 
 -- the head and the records of packets in order
@@ -51,5 +51,5 @@ pub record IsWhole (p : Packet) : Type 0 where
 
 -- the checksum of the IPv4 header, and that of what stands behind it
 pub record ChecksumsVerify (p : Packet) : Type 0 where
-  pub network : Verifies (take 20 (datagram_bytes p))
-  pub transport : Verifies (pseudo_header p ++ drop 20 (datagram_bytes p))
+  pub network : Verifies (take ipv4_header (datagram_bytes p))
+  pub transport : Verifies (pseudo_header p ++ drop ipv4_header (datagram_bytes p))

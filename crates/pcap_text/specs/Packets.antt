@@ -5,7 +5,8 @@ use Rattle.sim_base.specs.declared.address.Addr.{Addr}
 use Rattle.sim_base.specs.declared.packet.Load.{Load}
 use Rattle.sim_base.specs.declared.packet.Load.TheVariants.{Udp, Tcp}
 use Rattle.sim_base.specs.declared.packet.Packet.{Packet}
-use Rattle.pcap_text.specs.Datagram.{datagram}
+use Rattle.sim_base.specs.Packet.{ipv4_header, udp_header, tcp_header}
+use Rattle.pcap_text.specs.Datagram.{udp_protocol, tcp_protocol, datagram}
 
 -- the numbers that the two and the four bytes at a place hold, big-endian
 abbrev pub half : List ℕ → ℕ → ℕ
@@ -18,11 +19,18 @@ word bytes at = from_be_bytes w32 (slice_index bytes at ∷ slice_index bytes (a
 abbrev pub end_at : List ℕ → ℕ → ℕ → Addr
 end_at bytes ip port = record { ip = record { bits = word bytes ip }; port = half bytes port }
 
+-- the bytes of the headers before the text
+abbrev pub udp_headers : ℕ
+udp_headers = ipv4_header + udp_header
+
+abbrev pub tcp_headers : ℕ
+tcp_headers = ipv4_header + tcp_header
+
 abbrev pub udp_at : List ℕ → Load
-udp_at bytes = Udp (drop 28 bytes)
+udp_at bytes = Udp (drop udp_headers bytes)
 
 abbrev pub tcp_at : List ℕ → Load
-tcp_at bytes = Tcp (slice_index bytes 33) (word bytes 24) (word bytes 28) (half bytes 34) (drop 40 bytes)
+tcp_at bytes = Tcp (slice_index bytes 33) (word bytes 24) (word bytes 28) (half bytes 34) (drop tcp_headers bytes)
 
 abbrev pub packet_with : List ℕ → Load → Packet
 packet_with bytes load = record { from = end_at bytes 12 20; to = end_at bytes 16 22; load = load }
@@ -30,8 +38,8 @@ packet_with bytes load = record { from = end_at bytes 12 20; to = end_at bytes 1
 -- the packet that the fields of a datagram tell, whatever else stands in its headers
 unfoldable pub fields : List ℕ → Option Packet
 fields bytes =
-    if nat_le 28 (length bytes) && (slice_index bytes 9 == 17) then Some (packet_with bytes (udp_at bytes))
-    else if nat_le 40 (length bytes) && (slice_index bytes 9 == 6) then Some (packet_with bytes (tcp_at bytes))
+    if nat_le udp_headers (length bytes) && (slice_index bytes 9 == udp_protocol) then Some (packet_with bytes (udp_at bytes))
+    else if nat_le tcp_headers (length bytes) && (slice_index bytes 9 == tcp_protocol) then Some (packet_with bytes (tcp_at bytes))
     else None
 
 -- the numbers of a packet fit their types

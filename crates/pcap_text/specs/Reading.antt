@@ -1,6 +1,7 @@
 -- What the bytes of a capture tell, or their first fault (draft-ietf-opsawg-pcap). Numbers are little-endian.
 use Rattle.std.specs.Prelude.{◌≡◌, ℕ, zero, suc, ◌+◌, ◌-◌, ◌*◌, ◌==◌, Bool, not, ◌&&◌, ◌||◌, List, [], ◌∷◌, length, take, drop, find, slice_index, Option, Some, None, option_map, Result, Ok, Err, nat_lt, nat_le, if◌then◌else◌}
 use Rattle.std.specs.Int.{w16, w32, from_le_bytes}
+use Rattle.sim_base.specs.Units.{microsecond, second}
 use Rattle.pcap_text.specs.declared.capture.Capture.{Capture}
 use Rattle.pcap_text.specs.declared.capture.Record.{Record}
 use Rattle.pcap_text.specs.declared.fault.PcapError.{PcapError}
@@ -8,7 +9,7 @@ use Rattle.pcap_text.specs.declared.fault.PcapError.TheVariants.{Fault, NoMemory
 use Rattle.pcap_text.specs.declared.fault.PcapFault.{PcapFault}
 use Rattle.pcap_text.specs.declared.fault.PcapKind.{PcapKind}
 use Rattle.pcap_text.specs.declared.fault.PcapKind.TheVariants.{Truncated, Magic, Version, Link, Time, Length}
-use Rattle.pcap_text.specs.Writing.{nanosecond_magic, microsecond_magic, raw, start, second}
+use Rattle.pcap_text.specs.Writing.{nanosecond_magic, microsecond_magic, raw, major_version, minor_version, start, head_size, front_size}
 
 -- the numbers that the two and the four bytes at a place hold
 abbrev pub half : List ℕ → ℕ → ℕ
@@ -24,18 +25,18 @@ Check = Bool × PcapKind
 abbrev pub first : List Check → Option PcapKind
 first checks = option_map (λ c. c.1) (find (λ c. c.0) checks)
 
--- the head, of 24 bytes: the magic number, the version, two words, the capture size, the link type
+-- the head: the magic number, the version, two words, the capture size, the link type
 unfoldable pub head_checks : List ℕ → List Check
 head_checks bytes =
-    (nat_lt (length bytes) 24, Truncated)
+    (nat_lt (length bytes) head_size, Truncated)
     ∷ (not (word bytes 0 == nanosecond_magic || word bytes 0 == microsecond_magic), Magic)
-    ∷ (not (half bytes 4 == 2 && half bytes 6 == 4), Version)
+    ∷ (not (half bytes 4 == major_version && half bytes 6 == minor_version), Version)
     ∷ (not (word bytes 20 == raw), Link)
     ∷ []
 
 -- the nanoseconds in a unit of the fractions
 abbrev pub unit_of : List ℕ → ℕ
-unit_of bytes = if word bytes 0 == microsecond_magic then 1000 else 1
+unit_of bytes = if word bytes 0 == microsecond_magic then microsecond else 1
 
 abbrev pub size_of : List ℕ → ℕ
 size_of bytes = word bytes 16
@@ -56,7 +57,7 @@ whole_of bytes = word bytes 12
 -- a record at the front of some bytes
 unfoldable pub record_checks : ℕ → ℕ → List ℕ → List Check
 record_checks unit size bytes =
-    (nat_lt (length bytes) 16 || nat_lt (length bytes) (16 + kept_of bytes), Truncated)
+    (nat_lt (length bytes) front_size || nat_lt (length bytes) (front_size + kept_of bytes), Truncated)
     ∷ (nat_lt (seconds_of bytes) start || nat_le second (nanos_of unit bytes), Time)
     ∷ (nat_lt (whole_of bytes) (kept_of bytes) || nat_lt size (kept_of bytes), Length)
     ∷ []
@@ -65,7 +66,7 @@ abbrev pub record_of : ℕ → List ℕ → Record
 record_of unit bytes = record {
   time = record { nanos = (seconds_of bytes - start) * second + nanos_of unit bytes };
   whole = whole_of bytes;
-  kept = take (kept_of bytes) (drop 16 bytes);
+  kept = take (kept_of bytes) (drop front_size bytes);
 }
 
 -- a record before others, unless it has a fault, which is told with its place
@@ -79,7 +80,7 @@ unfoldable pub records : ℕ → ℕ → ℕ → ℕ → List ℕ → Result (Li
 records unit size at skip [] = Ok []
 records unit size at (suc skip) (b ∷ bytes) = records unit size (at + 1) skip bytes
 records unit size at zero (b ∷ bytes) =
-    before at (first (record_checks unit size (b ∷ bytes))) (record_of unit (b ∷ bytes)) (records unit size (at + 1) (15 + kept_of (b ∷ bytes)) bytes)
+    before at (first (record_checks unit size (b ∷ bytes))) (record_of unit (b ∷ bytes)) (records unit size (at + 1) (front_size - 1 + kept_of (b ∷ bytes)) bytes)
 
 -- what a capture tells: its capture size and its records
 pub record Recording : Type 0 where
@@ -96,7 +97,7 @@ behind None size (Err fault) = Err fault
 
 -- what the bytes of a capture tell, or their first fault
 unfoldable pub pcap : List ℕ → Result Recording PcapFault
-pcap bytes = behind (first (head_checks bytes)) (size_of bytes) (records (unit_of bytes) (size_of bytes) 24 0 (drop 24 bytes))
+pcap bytes = behind (first (head_checks bytes)) (size_of bytes) (records (unit_of bytes) (size_of bytes) head_size 0 (drop head_size bytes))
 
 -- a refusal tells the fault, or that memory ran out
 abbrev pub IsRefusal : {A : Type 0} → Result A PcapFault → PcapError → Type 0

@@ -2,6 +2,7 @@
 use Rattle.std.specs.Prelude.{ℕ, ◌+◌, ◌/◌, ◌%◌, List, ◌++◌, length, take}
 use Rattle.std.specs.Int.{w16, w32, to_le_bytes}
 use Rattle.sim_base.specs.Packet.{packet_size}
+use Rattle.sim_base.specs.Units.{second}
 use Rattle.sim_base.specs.declared.packet.Packet.{Packet}
 use Rattle.sim_base.specs.declared.time.Time.{Time}
 use Rattle.pcap_text.specs.Datagram.{datagram_bytes}
@@ -17,17 +18,27 @@ microsecond_magic = 0xA1B2C3D4
 abbrev pub raw : ℕ
 raw = 101
 
--- the head of a file: the magic number, version 2.4, two reserved words, the capture size, the link type
+-- version 2.4 of the format
+abbrev pub major_version : ℕ
+major_version = 2
+
+abbrev pub minor_version : ℕ
+minor_version = 4
+
+-- the head of a file: the magic number, the version, two reserved words, the capture size, the link type
 abbrev pub head : ℕ → List ℕ
-head size = to_le_bytes w32 nanosecond_magic ++ (to_le_bytes w16 2 ++ (to_le_bytes w16 4 ++ (to_le_bytes w32 0 ++ (to_le_bytes w32 0 ++ (to_le_bytes w32 size ++ to_le_bytes w32 raw)))))
+head size = to_le_bytes w32 nanosecond_magic ++ (to_le_bytes w16 major_version ++ (to_le_bytes w16 minor_version ++ (to_le_bytes w32 0 ++ (to_le_bytes w32 0 ++ (to_le_bytes w32 size ++ to_le_bytes w32 raw)))))
 
 -- Unix time of the moment at which the simulation starts, 2000-01-01 00:00:00 UTC (this project's own profile)
 abbrev pub start : ℕ
 start = 946684800
 
--- the nanoseconds in a second
-abbrev pub second : ℕ
-second = 1000000000
+-- the bytes of the head, and of what stands before the bytes of a record
+abbrev pub head_size : ℕ
+head_size = 24
+
+abbrev pub front_size : ℕ
+front_size = 16
 
 -- what stands before the bytes of a record: seconds, their fraction, how many bytes are kept, and how many the packet had
 abbrev pub record_front : ℕ → ℕ → ℕ → ℕ → List ℕ

@@ -1,7 +1,7 @@
 //! A packet as the bytes of a datagram.
 
 ghost use Rattle.std.specs.Prelude.{◌≡◌, ◌≤◌, ◌+◌, IfOk, length};
-ghost use Rattle.sim_base.specs.Packet.{packet_size, load_size};
+ghost use Rattle.sim_base.specs.Packet.{packet_size, load_size, udp_header};
 ghost use Rattle.sim_base.specs.declared.packet.Load.TheVariants.{Udp, Tcp};
 ghost use Rattle.pcap_text.specs.Datagram as spec;
 
@@ -24,7 +24,7 @@ fn protocol(load: &Load) -> u8
 
 /// The IPv4 header with a checksum.
 fn ip_front(packet: &Packet, check: u16) -> [u8; 20]
-    requires { packet_size packet.now ≤ 65535 }
+    requires { packet_size packet.now ≤ spec.longest }
     ensures { result ≡ spec.ip_header check packet.now }
 {
     let size = (packet.size() as u16).to_be_bytes();
@@ -40,7 +40,7 @@ fn ip_front(packet: &Packet, check: u16) -> [u8; 20]
 
 /// The IPv4 header of a packet.
 fn ip_header(packet: &Packet) -> [u8; 20]
-    requires { packet_size packet.now ≤ 65535 }
+    requires { packet_size packet.now ≤ spec.longest }
     ensures { result ≡ spec.ip_header (spec.ip_check packet.now) packet.now }
 {
     let sum = sum_on(0, &ip_front(packet, 0));
@@ -49,7 +49,7 @@ fn ip_header(packet: &Packet) -> [u8; 20]
 
 /// The header of UDP with a checksum.
 fn udp_front(packet: &Packet, text: &Bytes, check: u16) -> [u8; 8]
-    requires { 8 + length text.now ≤ 65535 }
+    requires { udp_header + length text.now ≤ spec.longest }
     ensures { result ≡ spec.udp_front check packet.now.from.port packet.now.to.port text.now }
 {
     let from = packet.from.port.to_be_bytes();
@@ -106,7 +106,7 @@ fn tcp_front(packet: &Packet, control: Control, check: u16) -> [u8; 20]
 
 /// The bytes that stand behind the IPv4 header.
 fn load_size(packet: &Packet) -> u16
-    requires { packet_size packet.now ≤ 65535 }
+    requires { packet_size packet.now ≤ spec.longest }
     ensures { result ≡ load_size packet.now.load }
 {
     match &packet.load {
@@ -117,7 +117,7 @@ fn load_size(packet: &Packet) -> u16
 
 /// What the checksum of UDP and of TCP speaks of beside their own bytes.
 fn pseudo_header(packet: &Packet) -> [u8; 12]
-    requires { packet_size packet.now ≤ 65535 }
+    requires { packet_size packet.now ≤ spec.longest }
     ensures { result ≡ spec.pseudo_header packet.now }
 {
     let from = packet.from.ip.bits.to_be_bytes();
@@ -139,7 +139,7 @@ fn udp_sent(check: u16) -> u16
 
 /// The checksum of a datagram's text with its header.
 fn udp_check(packet: &Packet, text: &Bytes) -> u16
-    requires size { packet_size packet.now ≤ 65535 }
+    requires size { packet_size packet.now ≤ spec.longest }
     requires load { packet.now.load ≡ Udp text.now }
     ensures { result ≡ spec.segment_check packet.now }
 {
@@ -150,7 +150,7 @@ fn udp_check(packet: &Packet, text: &Bytes) -> u16
 
 /// The checksum of a segment's text with its header.
 fn tcp_check(packet: &Packet, control: Control, text: &Bytes) -> u16
-    requires size { packet_size packet.now ≤ 65535 }
+    requires size { packet_size packet.now ≤ spec.longest }
     requires load { packet.now.load ≡ Tcp control.flags control.seq control.ack control.window text.now }
     ensures { result ≡ spec.segment_check packet.now }
 {
@@ -162,7 +162,7 @@ fn tcp_check(packet: &Packet, control: Control, text: &Bytes) -> u16
 /// The datagram of a packet.
 #[tactic(auto, using(crate::proofs::Datagrams::datagram_size), unfolding(crate::specs::Datagram::datagram_bytes))]
 pub(crate) fn datagram(alloc: Global, packet: &Packet) -> Result<Bytes, NoMemory>
-    requires { packet_size packet.now ≤ 65535 }
+    requires { packet_size packet.now ≤ spec.longest }
     ensures bytes { IfOk result (λ bytes. bytes ≡ spec.datagram_bytes packet.now) }
     ensures size { IfOk result (λ bytes. length bytes ≡ packet_size packet.now) }
 {

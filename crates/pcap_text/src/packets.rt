@@ -2,7 +2,7 @@
 
 ghost use Rattle.std.specs.Prelude.{◌≡◌, ◌≤◌, ◌+◌, ◌↔◌, length, drop, Some, IfOk, IfSome, IsTrue};
 ghost use Rattle.sim_base.specs.Packet.{packet_size};
-ghost use Rattle.pcap_text.specs.Datagram.{datagram, datagram_bytes};
+ghost use Rattle.pcap_text.specs.Datagram.{datagram, datagram_bytes, longest};
 ghost use Rattle.pcap_text.specs.Packets as spec;
 
 use crate::datagram::{LONGEST, datagram};
@@ -46,7 +46,7 @@ fn end_at(bytes: &[u8], ip: usize, port: usize) -> Addr
 
 /// The packet with these headers that carries a load.
 fn packet_with(bytes: &[u8], load: Load) -> Packet
-    requires { 28 ≤ length bytes.now }
+    requires { spec.udp_headers ≤ length bytes.now }
     ensures { result ≡ spec.packet_with bytes.now load }
 {
     Packet {
@@ -66,7 +66,7 @@ fn text_at(alloc: Global, bytes: &[u8], at: usize) -> Result<Bytes, NoMemory>
 }
 
 fn udp_at(alloc: Global, bytes: &[u8]) -> Result<Load, NoMemory>
-    requires { 28 ≤ length bytes.now }
+    requires { spec.udp_headers ≤ length bytes.now }
     ensures { IfOk result (λ load. load ≡ spec.udp_at bytes.now) }
 {
     let text = text_at(alloc, bytes, IPV4_HEADER + UDP_HEADER)?;
@@ -74,7 +74,7 @@ fn udp_at(alloc: Global, bytes: &[u8]) -> Result<Load, NoMemory>
 }
 
 fn tcp_at(alloc: Global, bytes: &[u8]) -> Result<Load, NoMemory>
-    requires { 40 ≤ length bytes.now }
+    requires { spec.tcp_headers ≤ length bytes.now }
     ensures { IfOk result (λ load. load ≡ spec.tcp_at bytes.now) }
 {
     let text = text_at(alloc, bytes, IPV4_HEADER + TCP_HEADER)?;
@@ -105,7 +105,7 @@ fn fields(alloc: Global, bytes: &[u8]) -> Result<Option<Packet>, NoMemory>
 
 /// Whether the bytes are the datagram of a packet.
 fn is_datagram_of(alloc: Global, bytes: &[u8], packet: &Packet) -> Result<bool, NoMemory>
-    requires { packet_size packet.now ≤ 65535 }
+    requires { packet_size packet.now ≤ longest }
     ensures { IfOk result (λ same. IsTrue same ↔ (datagram_bytes packet.now ≡ bytes.now)) }
 {
     let whole = datagram(alloc, packet)?;

@@ -1,7 +1,9 @@
 //! Reads a capture.
 
 ghost use Rattle.std.specs.Prelude.{◌≡◌, ◌≤◌, ◌+◌, length, drop, None, Ok, IfOk, IfErr, OnOk, vec_len};
+ghost use Rattle.sim_base.specs.Units.{microsecond};
 ghost use Rattle.pcap_text.specs.Reading as spec;
+ghost use Rattle.pcap_text.specs.Writing.{head_size, front_size};
 
 use crate::capture::{Capture, Record};
 use crate::fault::{PcapError, PcapKind};
@@ -55,8 +57,8 @@ impl Head {
     fn read(bytes: &[u8]) -> Result<Head, PcapError>
         ensures unit { IfOk result (λ head. head.unit ≡ spec.unit_of bytes.now) }
         ensures size { IfOk result (λ head. head.size ≡ spec.size_of bytes.now) }
-        ensures small { IfOk result (λ head. head.unit ≤ 1000) }
-        ensures length { OnOk result (24 ≤ length bytes.now) }
+        ensures small { IfOk result (λ head. head.unit ≤ microsecond) }
+        ensures length { OnOk result (head_size ≤ length bytes.now) }
         ensures checked { OnOk result (spec.first (spec.head_checks bytes.now) ≡ None) }
         ensures refused { IfErr result (spec.IsFound 0 (spec.first (spec.head_checks bytes.now))) }
     {
@@ -83,9 +85,9 @@ impl Head {
     /// The record at the front of the bytes that stand at an offset.
     #[tactic(auto, unfolding(crate::specs::Reading::record_checks))]
     fn record(self, alloc: Global, at: usize, bytes: &[u8]) -> Result<Record, PcapError>
-        requires { self.unit ≤ 1000 }
+        requires { self.unit ≤ microsecond }
         ensures record { IfOk result (λ r. r ≡ spec.record_of self.unit bytes.now) }
-        ensures length { OnOk result (16 + spec.kept_of bytes.now ≤ length bytes.now) }
+        ensures length { OnOk result (front_size + spec.kept_of bytes.now ≤ length bytes.now) }
         ensures kept { IfOk result (λ r. length r.kept ≡ spec.kept_of bytes.now) }
         ensures checked { OnOk result (spec.first (spec.record_checks self.unit self.size bytes.now) ≡ None) }
         ensures refused { IfErr result (spec.IsFound at (spec.first (spec.record_checks self.unit self.size bytes.now))) }
@@ -117,10 +119,10 @@ impl Head {
 
 /// The records of a file.
 fn read_records(alloc: Global, head: Head, bytes: &[u8]) -> Result<Vec<Record>, PcapError>
-    requires unit { head.unit ≤ 1000 }
-    requires length { 24 ≤ length bytes.now }
-    ensures records { IfOk result (λ rs. spec.records head.unit head.size 24 0 (drop 24 bytes.now) ≡ Ok rs.items) }
-    ensures refused { IfErr result (spec.IsRefusal (spec.records head.unit head.size 24 0 (drop 24 bytes.now))) }
+    requires unit { head.unit ≤ microsecond }
+    requires length { head_size ≤ length bytes.now }
+    ensures records { IfOk result (λ rs. spec.records head.unit head.size head_size 0 (drop head_size bytes.now) ≡ Ok rs.items) }
+    ensures refused { IfErr result (spec.IsRefusal (spec.records head.unit head.size head_size 0 (drop head_size bytes.now))) }
 {
     let mut records = Vec::new(alloc);
     let (_, mut rest) = bytes.split_at(HEAD);

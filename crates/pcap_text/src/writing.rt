@@ -1,7 +1,8 @@
 //! The bytes of a capture.
 
 ghost use Rattle.std.specs.Prelude.{◌≡◌, ◌≤◌, ◌+◌, ◌/◌, ◌%◌, ◌^◌, ◌++◌, take, IfOk, OnOk, OnErr};
-ghost use Rattle.sim_base.specs.Packet.{packet_size};
+ghost use Rattle.sim_base.specs.Packet.{packet_size, max_packet};
+ghost use Rattle.sim_base.specs.Units.{second};
 ghost use Rattle.pcap_text.specs.Writing as spec;
 
 use crate::datagram::datagram;
@@ -36,7 +37,7 @@ pub(crate) const SECOND: u64 = 1_000_000_000;
 /// What stands before the bytes of a record.
 fn record_front(time: Time, kept: u32, whole: u32) -> [u8; 16]
     requires { time.nanos ≤ 2 ^ 61 }
-    ensures { result ≡ spec.record_front (spec.start + time.nanos / spec.second) (time.nanos % spec.second) kept whole }
+    ensures { result ≡ spec.record_front (spec.start + time.nanos / second) (time.nanos % second) kept whole }
 {
     let seconds = ((START + time.nanos / SECOND) as u32).to_le_bytes();
     let nanos = ((time.nanos % SECOND) as u32).to_le_bytes();
@@ -58,7 +59,7 @@ pub(crate) fn front(bytes: &[u8], size: u32) -> &[u8]
 
 /// The record of a packet.
 fn record_bytes(alloc: Global, size: u32, time: Time, packet: &Packet) -> Result<Bytes, NoMemory>
-    requires packet { packet_size packet.now ≤ 1500 }
+    requires packet { packet_size packet.now ≤ max_packet }
     requires time { time.nanos ≤ 2 ^ 61 }
     ensures { IfOk result (λ bytes. bytes ≡ spec.packet_record size time packet.now) }
 {
@@ -78,7 +79,7 @@ pub fn record(
     time: Time,
     packet: &Packet,
 ) -> Result<(), NoMemory>
-    requires packet { packet_size packet.now ≤ 1500 }
+    requires packet { packet_size packet.now ≤ max_packet }
     requires time { time.nanos ≤ 2 ^ 61 }
     ensures ok { OnOk result (into.new ≡ into.old ++ spec.packet_record size time packet.now) }
     ensures err { OnErr result (into.new ≡ into.old) }
