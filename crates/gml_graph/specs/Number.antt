@@ -4,7 +4,7 @@ use Rattle.std.specs.Prelude.{ℕ, ◌+◌, ◌-◌, ◌*◌, ◌/◌, ◌^◌, 
 use Rattle.std.specs.List.{prefix_len, list_all}
 use Rattle.std.specs.Option.{option_map}
 use Rattle.std.specs.Char.{is_ascii_digit}
-use Rattle.sim_base.specs.Ascii.{plus_sign, hyphen, full_stop, digit_0}
+use Rattle.sim_base.specs.Ascii.{plus_sign, hyphen, full_stop, digit_0, small_e, capital_e}
 use Rattle.gml_graph.specs.declared.number.Decimal.{Decimal}
 use Rattle.gml_graph.specs.declared.number.Exponent.{Exponent}
 use Rattle.gml_graph.specs.Limits.{most_digits, most_exponent_digits}
@@ -19,12 +19,6 @@ is_minus b = b == hyphen
 -- a point
 abbrev pub is_point : ℕ → Bool
 is_point b = b == full_stop
-
-abbrev pub small_e : ℕ
-small_e = 101
-
-abbrev pub capital_e : ℕ
-capital_e = 69
 
 abbrev pub is_exponent_sign : ℕ → Bool
 is_exponent_sign b = b == small_e || b == capital_e

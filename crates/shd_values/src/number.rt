@@ -5,6 +5,7 @@ ghost use Rattle.std.specs.Char.{digit_value, is_ascii_digit, IsAsciiDigit};
 ghost use Rattle.std.specs.List.{prefix_len, list_all};
 ghost use Rattle.std.specs.Option.{SomeIff};
 ghost use Rattle.std.specs.Str.Parse.{AllDigits, digits_value};
+ghost use Rattle.sim_base.specs.Ascii.{space};
 ghost use Rattle.shd_values.specs.Number.{digits_number, number_of, size_unit, size_of};
 
 /// A number with one more digit behind it, if it fits 128 bits.
@@ -37,7 +38,7 @@ fn digits_len(text: &[u8]) -> usize
 }
 
 fn spaces_len(text: &[u8]) -> usize
-    ensures len { result ≡ prefix_len (λ c. c == 32) text.now }
+    ensures len { result ≡ prefix_len (λ c. c == space) text.now }
     ensures within { result ≤ length text.now }
 {
     text.iter().take_while(|b| **b == b' ').count()

@@ -9,6 +9,7 @@ use Rattle.std.proofs.lemmas.Bool.Decides.{nat_tests}
 use Rattle.std.proofs.lemmas.Fmt.{decimal_is_IsNumeral, decimal_digit, decimal-digits_of}
 use Rattle.std.proofs.lemmas.Int.Digits.{first_digits_of}
 use Rattle.std.specs.Int.Digits.{digits_of}
+use Rattle.sim_base.specs.Ascii.{space}
 use Rattle.sim_base.specs.Quantity.{Units, time_units, rate_units, factor_in, in_64_bits, digits_of_text, some_digits, unit_of_text, quantity, rate_of_text}
 use Rattle.sim_base.specs.declared.time.Time.{Time}
 use Rattle.sim_base.specs.declared.address.Ip.{Ip}
@@ -129,7 +130,7 @@ quantity-read : (same : List ℕ → List ℕ → Bool) (units : Units) (n b : �
 quantity-read same units n b unit h s f =
     let d = decimal-digits n h in
     let rest = 32 ∷ (b ∷ unit) in
-    let behind : unit_of_text (decimal n ++ rest) ≡ b ∷ unit = ap (λ l. drop (prefix_len (λ c. c == 32) l) l) (back n (decimal n) rest d refl) ∙ rw s refl in
+    let behind : unit_of_text (decimal n ++ rest) ≡ b ∷ unit = ap (λ l. drop (prefix_len (λ c. c == space) l) l) (back n (decimal n) rest d refl) ∙ rw s refl in
     rw (found n (decimal n) rest d refl, d.value, in_64 n h, behind, f, mul-one n, in_64 n h) refl
 
 pub time-read : (t : Time) → t.nanos < 2 ^ 64 → time_of (shown_time t) ≡ Some t
@@ -154,7 +155,7 @@ number-read n h =
 pub size-read : (n : ℕ) → n < 2 ^ 64 → size_of (decimal n ++ codes " B") ≡ Some n
 size-read n h =
     let d = decimal-digits n h in
-    let behind : unit_of_text (decimal n ++ codes " B") ≡ codes "B" = ap (λ l. drop (prefix_len (λ c. c == 32) l) l) (back n (decimal n) (codes " B") d refl) in
+    let behind : unit_of_text (decimal n ++ codes " B") ≡ codes "B" = ap (λ l. drop (prefix_len (λ c. c == space) l) l) (back n (decimal n) (codes " B") d refl) in
     let small : nat_lt n (2 ^ 128) ≡ true = lt-ltb n (2 ^ 128) (omega arith) in
     rw (digits-number n (codes " B") h refl, behind, mul-one n, small) refl
 

@@ -63,9 +63,16 @@ has_port bound port = list_any (λ at. at.port == port) bound
 unfoldable pub first_free_port : List Addr → ℕ → ℕ → Option ℕ
 first_free_port bound port count = find (λ candidate. not (has_port bound candidate)) (range_with_len port count)
 
--- the least free port from 10000 up (this project's own profile)
+-- the ports that a socket gets by itself: from 10000 to the last, 65535 (this project's own profile)
+abbrev pub first_given_port : ℕ
+first_given_port = 10000
+
+abbrev pub given_ports : ℕ
+given_ports = 55536
+
+-- the least free port of these
 abbrev pub least_free_port : List Addr → Option ℕ
-least_free_port bound = first_free_port bound 10000 55536
+least_free_port bound = first_free_port bound first_given_port given_ports
 
 abbrev pub at_port : Ip → ℕ → Addr
 at_port ip port = record { ip = ip; port = port }

@@ -70,6 +70,9 @@ at_sign = 64
 abbrev pub capital_a : ℕ
 capital_a = 65
 
+abbrev pub capital_e : ℕ
+capital_e = 69
+
 abbrev pub capital_f : ℕ
 capital_f = 70
 
@@ -93,6 +96,9 @@ grave_accent = 96
 
 abbrev pub small_a : ℕ
 small_a = 97
+
+abbrev pub small_e : ℕ
+small_e = 101
 
 abbrev pub small_f : ℕ
 small_f = 102

@@ -1,5 +1,6 @@
 -- which calls of an outside in memory fail
-use Rattle.std.specs.Prelude.{◌≡◌, ℕ, ◌+◌, ◌-◌, ◌^◌, min, Bool, List, [], Contains, MatchBool}
+use Rattle.std.specs.Prelude.{◌≡◌, ℕ, ◌+◌, min, Bool, List, [], Contains, MatchBool}
+use Rattle.sim_base.specs.Units.{max_u64}
 use Rattle.sim_base.specs.Faults.{Rose}
 
 -- how many calls were made, the numbers of those that fail, and how many have failed
@@ -13,7 +14,7 @@ no_calls = record { made = 0; failing = []; faults = 0 }
 
 -- the number of the next call, from 1
 abbrev pub next_number : CallCount → ℕ
-next_number c = min (c.made + 1) (2 ^ 64 - 1)
+next_number c = min (c.made + 1) max_u64
 
 -- the next call is to fail
 abbrev pub Fails : CallCount → Type 0

@@ -5,6 +5,8 @@ use Rattle.std.specs.List.{prefix_len}
 use Rattle.std.specs.Str.{bytes_eq, str_eq_ignore_ascii_case}
 use Rattle.std.specs.Str.Parse.{digits_value}
 use Rattle.std.specs.Borrow.{Bor}
+use Rattle.sim_base.specs.Ascii.{space}
+use Rattle.sim_base.specs.Units.{microsecond, millisecond, second, minute, hour}
 use Rattle.sim_base.specs.declared.quantity.Letters.{Letters}
 use Rattle.sim_base.specs.declared.quantity.Letters.TheVariants.{AsWritten, InEitherCase}
 
@@ -44,7 +46,7 @@ some_digits (digit ∷ digits) = Some (digit ∷ digits)
 abbrev pub unit_of_text : List ℕ → List ℕ
 unit_of_text text =
     let rest = drop (prefix_len is_ascii_digit text) text in
-    drop (prefix_len (λ c. c == 32) rest) rest
+    drop (prefix_len (λ c. c == space) rest) rest
 
 -- a whole number, spaces, and a unit or none; nothing for other texts, and past 64 bits
 abbrev pub quantity : (List ℕ → List ℕ → Bool) → Units → List ℕ → Option ℕ
@@ -57,32 +59,32 @@ quantity same units text = do
 -- the nanoseconds of a unit of time, seconds where none is named; the first letter of `μs` is U+03BC
 abbrev pub time_units : Units
 time_units =
-    ([], 1000000000)
+    ([], second)
     ∷ (codes "ns", 1)
     ∷ (codes "nanosecond", 1)
     ∷ (codes "nanoseconds", 1)
-    ∷ (codes "us", 1000)
-    ∷ (206 ∷ 188 ∷ codes "s", 1000)
-    ∷ (codes "microsecond", 1000)
-    ∷ (codes "microseconds", 1000)
-    ∷ (codes "ms", 1000000)
-    ∷ (codes "millisecond", 1000000)
-    ∷ (codes "milliseconds", 1000000)
-    ∷ (codes "s", 1000000000)
-    ∷ (codes "sec", 1000000000)
-    ∷ (codes "secs", 1000000000)
-    ∷ (codes "second", 1000000000)
-    ∷ (codes "seconds", 1000000000)
-    ∷ (codes "m", 60000000000)
-    ∷ (codes "min", 60000000000)
-    ∷ (codes "mins", 60000000000)
-    ∷ (codes "minute", 60000000000)
-    ∷ (codes "minutes", 60000000000)
-    ∷ (codes "h", 3600000000000)
-    ∷ (codes "hr", 3600000000000)
-    ∷ (codes "hrs", 3600000000000)
-    ∷ (codes "hour", 3600000000000)
-    ∷ (codes "hours", 3600000000000) ∷ []
+    ∷ (codes "us", microsecond)
+    ∷ (206 ∷ 188 ∷ codes "s", microsecond)
+    ∷ (codes "microsecond", microsecond)
+    ∷ (codes "microseconds", microsecond)
+    ∷ (codes "ms", millisecond)
+    ∷ (codes "millisecond", millisecond)
+    ∷ (codes "milliseconds", millisecond)
+    ∷ (codes "s", second)
+    ∷ (codes "sec", second)
+    ∷ (codes "secs", second)
+    ∷ (codes "second", second)
+    ∷ (codes "seconds", second)
+    ∷ (codes "m", minute)
+    ∷ (codes "min", minute)
+    ∷ (codes "mins", minute)
+    ∷ (codes "minute", minute)
+    ∷ (codes "minutes", minute)
+    ∷ (codes "h", hour)
+    ∷ (codes "hr", hour)
+    ∷ (codes "hrs", hour)
+    ∷ (codes "hour", hour)
+    ∷ (codes "hours", hour) ∷ []
 
 -- the bits a second of a unit of rate, bits where none is named
 abbrev pub rate_units : Units

@@ -16,6 +16,14 @@ minute = 60000000000
 abbrev pub hour : ℕ
 hour = 3600000000000
 
+-- the greatest stop time of a run, some 73 years: nothing happens later
+abbrev pub latest_time : ℕ
+latest_time = 2 ^ 61
+
+-- the longest time that a guest can ask for; what is longer counts as this
+abbrev pub longest_wait : ℕ
+longest_wait = 2 ^ 62
+
 -- the greatest numbers of 32 and of 64 bits
 abbrev pub max_u32 : ℕ
 max_u32 = 2 ^ 32 - 1

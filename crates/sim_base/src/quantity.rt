@@ -6,6 +6,7 @@ ghost use Rattle.std.specs.Int.{IsInRange};
 ghost use Rattle.std.specs.List.{prefix_len};
 ghost use Rattle.std.specs.Option.{SomeIff};
 ghost use Rattle.std.specs.Str.Parse.{AllDigits, digits_value};
+ghost use Rattle.sim_base.specs.Ascii.{space, digit_0, digit_9};
 ghost use Rattle.sim_base.specs.Quantity.{factor_in, quantity, table, same_name, time_of_text, rate_of_text};
 
 use crate::time::Time;
@@ -73,7 +74,7 @@ fn digits_len(text: &[u8]) -> usize
 }
 
 fn spaces_len(text: &[u8]) -> usize
-    ensures len { result ≡ prefix_len (λ c. c == 32) text.now }
+    ensures len { result ≡ prefix_len (λ c. c == space) text.now }
     ensures within { result ≤ length text.now }
 {
     text.iter().take_while(|b| **b == b' ').count()
@@ -81,7 +82,7 @@ fn spaces_len(text: &[u8]) -> usize
 
 /// A number with one more digit behind it, if it fits 64 bits.
 fn with_digit(number: u64, digit: u8) -> Option<u64>
-    requires { IsInRange 48 57 digit }
+    requires { IsInRange digit_0 digit_9 digit }
     ensures { SomeIff result (number * 10 + digit_value digit < 2 ^ 64) (number * 10 + digit_value digit) }
 {
     number.checked_mul(10)?.checked_add(u64::from(digit - b'0'))
