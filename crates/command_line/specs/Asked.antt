@@ -3,6 +3,7 @@ use Rattle.std.specs.Prelude.{◌≡◌, ℕ, ◌-◌, ◌^◌, ◌&&◌, List, 
 use Rattle.std.specs.Char.{is_ascii_digit}
 use Rattle.std.specs.List.{list_all}
 use Rattle.std.specs.Str.Parse.{digits_value}
+use Rattle.sim_base.specs.Units.{latest_time}
 use Rattle.sim_base.specs.Quantity.{time_of_text}
 use Rattle.sim_base.specs.declared.time.Time.{Time}
 use Rattle.clap.specs.Walk.{Row, Text}
@@ -39,7 +40,7 @@ some_text text = if nat_lt 0 (length text) then Some text else None
 
 -- a time from 1 ns to 2^61 ns
 abbrev pub stop_time_of : Text → Option Time
-stop_time_of text = option_map (λ (n : ℕ). record { nanos = n }) (option_and_then (if_within 1 (2 ^ 61)) (time_of_text text))
+stop_time_of text = option_map (λ (n : ℕ). record { nanos = n }) (option_and_then (if_within 1 latest_time) (time_of_text text))
 
 -- the value of an option, if it is given; one that can't be read is refused
 abbrev pub read_option : {A : Type 0} → OptionName → (Text → Option A) → Option Text → Result (Option A) WordsFault

@@ -19,7 +19,7 @@ use Rattle.gml_graph.specs.declared.edge.EdgeDraft.{EdgeDraft}
 use Rattle.gml_graph.specs.declared.block.Part.TheVariants as parts
 use Rattle.sim_base.specs.Refusals.{◌>>=◌}
 use Rattle.gml_graph.specs.Steps.{through, refused}
-use Rattle.gml_graph.specs.Edges.{IsEdge, AreEdges}
+use Rattle.gml_graph.specs.Edges.{lossless, IsEdge, AreEdges}
 use Rattle.gml_graph.specs.Graph.{Block, blocks, once, valued, needed, within, time_of, loss_of, list_at, latency_at, latency_of, known_id, edge_attribute, edge_row, new_edge, finished_edge, edge_of, add_edge, edges_of}
 use Rattle.gml_graph.specs.Limits.{most_edges}
 
@@ -91,7 +91,7 @@ rows_fit nodes d e (r ∷ rows) f h =
     let p = bind_ok (edge_row nodes d r) (λ next. through (edge_row nodes) next rows) e h in
     rows_fit nodes p.0 e rows (row_fits nodes d p.0 r f p.1) p.2
 
-finished_cases : (o p : Option ℕ) (t : Option Time) (line r : ℕ) (e : Edge) → IfSome t FitsTime → r ≤ 10 ^ 9
+finished_cases : (o p : Option ℕ) (t : Option Time) (line r : ℕ) (e : Edge) → IfSome t FitsTime → r ≤ lossless
     → (needed o line >>= λ source. needed p line >>= λ target. needed t line >>= λ latency. Ok (record { source = source; target = target; latency = latency; reliability = r })) ≡ Ok e → IsEdge e
 finished_cases None p t line r e f small h = absurd (let no : ⊥ = cc in no)
 finished_cases (Some a) None t line r e f small h = absurd (let no : ⊥ = cc in no)
@@ -102,7 +102,7 @@ finished_cases (Some a) (Some b) (Some t) line r e f small h =
 
 finished_fits : (line : ℕ) (d : EdgeDraft) (e : Edge) → Fits d → finished_edge line d ≡ Ok e → IsEdge e
 unfolding finished_edge
-finished_fits line d e f h = finished_cases d.source d.target d.latency line (10 ^ 9 - unwrap_or d.loss 0) e f (omega arith) h
+finished_fits line d e f h = finished_cases d.source d.target d.latency line (lossless - unwrap_or d.loss 0) e f (omega arith) h
 
 room_cases : (count line : ℕ) (b : Bool) (A : Type 0) (k : Result A GmlFault) (x : A) → b ≡ nat_le most_edges count → ((if b then refused {A = Unit {0}} kinds.TooMany line else Ok tt) >>= λ (_ : Unit {0}). k) ≡ Ok x → (count < most_edges) × (k ≡ Ok x)
 room_cases count line true A k x e h = absurd (let no : ⊥ = cc in no)

@@ -21,6 +21,7 @@ use Rattle.gml_graph.specs.Number.{natural, is_part, units}
 use Rattle.sim_base.specs.Refusals.{◌>>=◌}
 use Rattle.gml_graph.specs.Steps.{through, refused}
 use Rattle.gml_graph.specs.Limits.{most_nodes, most_edges}
+use Rattle.gml_graph.specs.Edges.{lossless}
 
 -- BLOCKS: a pair with the rows that lie in it
 
@@ -246,7 +247,7 @@ finished_edge line d = do
   source ← needed d.source line
   target ← needed d.target line
   latency ← needed d.latency line
-  Ok (record { source = source; target = target; latency = latency; reliability = 10 ^ 9 - unwrap_or d.loss 0 })
+  Ok (record { source = source; target = target; latency = latency; reliability = lossless - unwrap_or d.loss 0 })
 
 unfoldable pub edge_of : List Node → ℕ → Block → Result Edge GmlFault
 edge_of nodes count b = do

@@ -1,6 +1,7 @@
 //! Times.
 
 ghost use Rattle.std.specs.Prelude.{◌≡◌, ◌+◌, ◌*◌, ◌≤◌, ◌<◌, ◌^◌, min, length};
+ghost use Rattle.sim_base.specs.Units.{latest_time};
 ghost use Rattle.guest_args.specs.Time as spec;
 
 use host_timers::Moment;
@@ -82,7 +83,7 @@ pub fn time_span(time: Moment) -> Time
 
 /// The moment that lies a time after now, at most 2^62 ns.
 pub fn deadline_after(now: Time, time: Moment) -> Time
-    requires { now.nanos ≤ 2 ^ 61 }
+    requires { now.nanos ≤ latest_time }
     ensures { result.nanos ≡ spec.deadline_after now.nanos time }
 {
     Time {

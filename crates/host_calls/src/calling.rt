@@ -1,6 +1,7 @@
 //! The table of system calls.
 
-ghost use Rattle.std.specs.Prelude.{◌≡◌, ◌<◌, ◌≤◌, ◌^◌, vec_len, Result, IfOk, OnOk};
+ghost use Rattle.std.specs.Prelude.{◌≡◌, ◌<◌, ◌≤◌, vec_len, Result, IfOk, OnOk};
+ghost use Rattle.sim_base.specs.Units.{latest_time};
 ghost use Rattle.host_sockets.specs.Sockets.{SocketsRecord};
 ghost use Rattle.host_sockets.specs.StandsFor.{Stand};
 ghost use Rattle.host_calls.specs.Calls as spec;
@@ -40,7 +41,7 @@ fn plain_row(
     task: &mut Task,
     shared: &mut Shared,
 ) -> Result<u32, CallError>
-    requires { now.nanos ≤ 2 ^ 61 }
+    requires { now.nanos ≤ latest_time }
     ensures { Does (spec.plain_row now process call args (task.old, shared.old)) (task.old, shared.old) (task.new, shared.new) result }
 {
     match call {
@@ -154,7 +155,7 @@ fn read_by(
     shared: &mut Shared,
     sockets: &mut Sockets,
 ) -> Result<u32, CallError>
-    requires { now.nanos ≤ 2 ^ 61 }
+    requires { now.nanos ≤ latest_time }
     ensures { (t : SocketsRecord) → Stand sockets.old t → Answers (spec.read_by known.now now d (socket_number d.file.object) at n (scene (task.old, shared.old) t)) (task.old, shared.old) t (task.new, shared.new) sockets.new result }
 {
     match socket_number(d.file.object) {
@@ -189,7 +190,7 @@ fn read(
     shared: &mut Shared,
     sockets: &mut Sockets,
 ) -> Result<u32, CallError>
-    requires { now.nanos ≤ 2 ^ 61 }
+    requires { now.nanos ≤ latest_time }
     ensures { (t : SocketsRecord) → Stand sockets.old t → Answers (spec.read known.now now fd at n (scene (task.old, shared.old) t)) (task.old, shared.old) t (task.new, shared.new) sockets.new result }
 {
     let d = look_up(fd, task, &shared.files)?;
@@ -251,7 +252,7 @@ fn row(
     shared: &mut Shared,
     sockets: &mut Sockets,
 ) -> Result<Reaction, CallError>
-    requires { now.nanos ≤ 2 ^ 61 }
+    requires { now.nanos ≤ latest_time }
     ensures { (t : SocketsRecord) → Stand sockets.old t → Answers (spec.row known.now now process call args (scene (task.old, shared.old) t)) (task.old, shared.old) t (task.new, shared.new) sockets.new result }
 {
     match call {
@@ -298,7 +299,7 @@ fn row_of(
     shared: &mut Shared,
     sockets: &mut Sockets,
 ) -> Result<Reaction, CallError>
-    requires { now.nanos ≤ 2 ^ 61 }
+    requires { now.nanos ≤ latest_time }
     ensures { (t : SocketsRecord) → Stand sockets.old t → Answers (spec.row_of known.now now process call args (scene (task.old, shared.old) t)) (task.old, shared.old) t (task.new, shared.new) sockets.new result }
 {
     match call {
@@ -413,7 +414,7 @@ fn call_task(
     shared: &mut Shared,
     sockets: &mut Sockets,
 ) -> Result<Answer, NoMemory>
-    requires { now.nanos ≤ 2 ^ 61 }
+    requires { now.nanos ≤ latest_time }
     ensures { IfOk result (λ a. (t : SocketsRecord) → Stand sockets.old t → spec.SceneCalled (spec.call_scene known.now now process number args (scene (task.old, shared.old) t)) a task.new shared.new sockets.new) }
 {
     let reaction = row_of(
@@ -439,7 +440,7 @@ fn call_place(
     shared: &mut Shared,
     sockets: &mut Sockets,
 ) -> Result<Answer, NoMemory>
-    requires { now.nanos ≤ 2 ^ 61 }
+    requires { now.nanos ≤ latest_time }
     ensures { IfOk result (λ a. (t : SocketsRecord) → Stand sockets.old t → spec.PlaceCalled (spec.call_place known.now now process number args (place_at place.old shared.old t)) a place.new shared.new sockets.new) }
 {
     match place {
@@ -461,7 +462,7 @@ pub fn do_call(
     number: u32,
     args: [u32; 6],
 ) -> Result<Answer, NoMemory>
-    requires now { now.nanos ≤ 2 ^ 61 }
+    requires now { now.nanos ≤ latest_time }
     requires process { process < vec_len parts.old.tasks }
     ensures { IfOk result (λ a. (h : PartsRecord) → PartsStand parts.old h → spec.PartsCalled (spec.call known.now now process number args h) a parts.new) }
 {

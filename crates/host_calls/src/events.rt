@@ -1,6 +1,7 @@
 //! What a host does with a packet that arrives, an alarm, and the end of a process.
 
-ghost use Rattle.std.specs.Prelude.{◌≡◌, ◌<◌, ◌≤◌, ◌^◌, vec_len, IfOk, OnOk};
+ghost use Rattle.std.specs.Prelude.{◌≡◌, ◌<◌, ◌≤◌, vec_len, IfOk, OnOk};
+ghost use Rattle.sim_base.specs.Units.{latest_time};
 ghost use Rattle.host_sockets.specs.Sockets.{SocketsRecord};
 ghost use Rattle.host_sockets.specs.StandsFor.{Stand};
 ghost use Rattle.host_calls.specs.Events as spec;
@@ -16,7 +17,7 @@ use sim_base::{Act, NoMemory, ObjectId, Packet, Time};
 
 /// A packet arrives: it is handed to the sockets. Answers what the packet log tells of it.
 pub fn deliver(parts: &mut Parts, now: Time, packet: Packet) -> Result<Act, NoMemory>
-    requires { now.nanos ≤ 2 ^ 61 }
+    requires { now.nanos ≤ latest_time }
     ensures { IfOk result (λ act. (h : PartsRecord) → PartsStand parts.old h → spec.Delivered (spec.arrives now packet h) act parts.new) }
 {
     parts
@@ -30,7 +31,7 @@ const FIRST_SOCKET: u64 = 1 << 33;
 /// The alarm of an object: of a process's deadline, a timer or a TCP socket. A stale serial does
 /// nothing.
 pub fn alarm(parts: &mut Parts, now: Time, object: ObjectId, serial: u64) -> Result<(), NoMemory>
-    requires { now.nanos ≤ 2 ^ 61 }
+    requires { now.nanos ≤ latest_time }
     ensures { OnOk result ((h : PartsRecord) → PartsStand parts.old h → PartsStand parts.new (spec.alarmed now object serial h)) }
 {
     if object.number < FIRST_TIMER {
@@ -63,7 +64,7 @@ fn end_place(
 
 /// The end of a process: its descriptors are closed in rising order, and it waits in no call.
 pub fn close_all(parts: &mut Parts, now: Time, process: u32) -> Result<(), NoMemory>
-    requires now { now.nanos ≤ 2 ^ 61 }
+    requires now { now.nanos ≤ latest_time }
     requires process { process < vec_len parts.old.tasks }
     ensures { OnOk result ((h : PartsRecord) → PartsStand parts.old h → PartsStand parts.new (spec.ended now process h)) }
 {

@@ -1,6 +1,7 @@
 //! What objects are ready for, and ppoll.
 
-ghost use Rattle.std.specs.Prelude.{◌≡◌, ◌+◌, ◌*◌, ◌<◌, ◌≤◌, ◌^◌, length, take, drop, Ok, Err, IfOk, IfErr, OnOk};
+ghost use Rattle.std.specs.Prelude.{◌≡◌, ◌+◌, ◌*◌, ◌<◌, ◌≤◌, length, take, drop, Ok, Err, IfOk, IfErr, OnOk};
+ghost use Rattle.sim_base.specs.Units.{latest_time};
 ghost use Rattle.host_sockets.specs.Sockets.{SocketsRecord};
 ghost use Rattle.host_sockets.specs.StandsFor.{Stand};
 ghost use Rattle.host_files.specs.Files.{pipe_at};
@@ -30,7 +31,7 @@ fn pipe_ready(place: usize, end: End, files: &Files) -> u16
 }
 
 fn timer_ready(now: Time, place: usize, files: &Files) -> u16
-    requires { now.nanos ≤ 2 ^ 61 }
+    requires { now.nanos ≤ latest_time }
     ensures { result ≡ spec.timer_ready now place files.now }
 {
     if timer_count(now, place, files) > 0 {
@@ -42,7 +43,7 @@ fn timer_ready(now: Time, place: usize, files: &Files) -> u16
 
 /// What an object is ready for, by the bits of `poll(2)`.
 fn object_ready(now: Time, object: Object, files: &Files, sockets: &Sockets) -> u16
-    requires { now.nanos ≤ 2 ^ 61 }
+    requires { now.nanos ≤ latest_time }
     ensures { (t : SocketsRecord) → Stand sockets.now t → result ≡ spec.object_ready now object files.now t }
 {
     match object {
@@ -60,7 +61,7 @@ fn object_ready(now: Time, object: Object, files: &Files, sockets: &Sockets) -> 
 
 /// What is told of a descriptor of which events are asked for.
 fn told(now: Time, fd: u32, events: u16, task: &Task, shared: &Shared, sockets: &Sockets) -> u16
-    requires { now.nanos ≤ 2 ^ 61 }
+    requires { now.nanos ≤ latest_time }
     ensures { (t : SocketsRecord) → Stand sockets.now t → result ≡ spec.events_at now (scene (task.now, shared.now) t) fd events }
 {
     if fd >= 1 << 31 {
@@ -95,7 +96,7 @@ fn asked_events(entry: [u8; 8]) -> u16
 
 /// The events of an entry that came.
 fn came(now: Time, entry: [u8; 8], task: &Task, shared: &Shared, sockets: &Sockets) -> u16
-    requires { now.nanos ≤ 2 ^ 61 }
+    requires { now.nanos ≤ latest_time }
     ensures { (t : SocketsRecord) → Stand sockets.now t → result ≡ spec.came now (scene (task.now, shared.now) t) entry }
 {
     told(
@@ -110,7 +111,7 @@ fn came(now: Time, entry: [u8; 8], task: &Task, shared: &Shared, sockets: &Socke
 
 /// An entry with the events that came.
 fn told_entry(now: Time, entry: [u8; 8], task: &Task, shared: &Shared, sockets: &Sockets) -> [u8; 8]
-    requires { now.nanos ≤ 2 ^ 61 }
+    requires { now.nanos ≤ latest_time }
     ensures { (t : SocketsRecord) → Stand sockets.now t → result ≡ spec.told_entry now (scene (task.now, shared.now) t) entry }
 {
     let [a, b, c, d, e, f, _g, _h] = entry;
@@ -138,7 +139,7 @@ fn count_told(
     shared: &Shared,
     sockets: &Sockets,
 ) -> u32
-    requires now { now.nanos ≤ 2 ^ 61 }
+    requires now { now.nanos ≤ latest_time }
     requires count { count ≤ spec.max_entries }
     requires length { length entries.now ≡ spec.entry_size * count }
     ensures { (t : SocketsRecord) → Stand sockets.now t → result ≡ spec.count_told now (scene (task.now, shared.now) t) count entries.now }
@@ -169,7 +170,7 @@ fn told_entries(
     shared: &Shared,
     sockets: &Sockets,
 ) -> Result<Vec<u8>, NoMemory>
-    requires now { now.nanos ≤ 2 ^ 61 }
+    requires now { now.nanos ≤ latest_time }
     requires count { count ≤ spec.max_entries }
     requires length { length entries.now ≡ spec.entry_size * count }
     ensures { IfOk result (λ bytes. (t : SocketsRecord) → Stand sockets.now t → bytes.items ≡ spec.told_entries now (scene (task.now, shared.now) t) count entries.now) }
@@ -198,7 +199,7 @@ fn poll_time(at: u32, memory: &Mem) -> Result<Moment, Refusal>
 }
 
 fn poll_deadline(now: Time, at: u32, task: &Task) -> Result<Option<Time>, Refusal>
-    requires { now.nanos ≤ 2 ^ 61 }
+    requires { now.nanos ≤ latest_time }
     ensures { result ≡ spec.poll_deadline now at task.now }
 {
     if at == 0 {
@@ -242,7 +243,7 @@ fn poll_found(
     shared: &Shared,
     sockets: &Sockets,
 ) -> Result<u32, Refusal>
-    requires now { now.nanos ≤ 2 ^ 61 }
+    requires now { now.nanos ≤ latest_time }
     requires count { count ≤ spec.max_entries }
     requires length { length entries.now ≡ spec.entry_size * count }
     ensures { (t : SocketsRecord) → Stand sockets.now t → result ≡ spec.poll_found now count limit_at entries.now (scene (task.now, shared.now) t) }
@@ -265,7 +266,7 @@ pub(crate) fn poll_asked(
     shared: &Shared,
     sockets: &Sockets,
 ) -> Result<u32, Refusal>
-    requires { now.nanos ≤ 2 ^ 61 }
+    requires { now.nanos ≤ latest_time }
     ensures { (t : SocketsRecord) → Stand sockets.now t → result ≡ spec.poll_asked now at count limit_at (scene (task.now, shared.now) t) }
 {
     if count > MOST {
@@ -288,7 +289,7 @@ pub(crate) fn ppoll(
     shared: &Shared,
     sockets: &Sockets,
 ) -> Result<u32, CallError>
-    requires { now.nanos ≤ 2 ^ 61 }
+    requires { now.nanos ≤ latest_time }
     ensures { (t : SocketsRecord) → Stand sockets.now t → Answers (spec.ppoll now at count limit_at (scene (task.old, shared.now) t)) (task.old, shared.now) t (task.new, shared.now) sockets.now result }
 {
     if count > MOST {

@@ -1,6 +1,7 @@
 //! read, where no socket is meant.
 
-ghost use Rattle.std.specs.Prelude.{◌≡◌, ◌+◌, ◌≤◌, ◌^◌, length, max, OnOk, IfOk};
+ghost use Rattle.std.specs.Prelude.{◌≡◌, ◌+◌, ◌≤◌, length, max, OnOk, IfOk};
+ghost use Rattle.sim_base.specs.Units.{latest_time};
 ghost use Rattle.host_files.specs.Files as files_spec;
 ghost use Rattle.host_files.specs.Files.{pipe_gives};
 ghost use Rattle.guest_args.specs.Span.{most};
@@ -63,7 +64,7 @@ fn pipe_drained(place: usize, files: &Files) -> Result<(), Refusal>
 
 /// How many expiries of a timer no read has taken.
 pub(crate) fn timer_count(now: Time, place: usize, files: &Files) -> u64
-    requires { now.nanos ≤ 2 ^ 61 }
+    requires { now.nanos ≤ latest_time }
     ensures { result ≡ files_spec.timer_count now.nanos place files.now }
 {
     match files.timer(place) {
@@ -73,7 +74,7 @@ pub(crate) fn timer_count(now: Time, place: usize, files: &Files) -> u64
 }
 
 fn wait_to_read(now: Time, object: Object, files: &Files) -> Result<(), Refusal>
-    requires { now.nanos ≤ 2 ^ 61 }
+    requires { now.nanos ≤ latest_time }
     ensures { result ≡ spec.wait_to_read now object files.now }
 {
     match object {
@@ -104,7 +105,7 @@ pub(crate) fn read_asked(
     task: &Task,
     shared: &Shared,
 ) -> Result<(), Refusal>
-    requires { now.nanos ≤ 2 ^ 61 }
+    requires { now.nanos ≤ latest_time }
     ensures { result ≡ spec.read_asked now d at n (task.now, shared.now) }
 {
     may_read(d.file.object, n)?;
@@ -171,7 +172,7 @@ fn read_pipe(
 }
 
 fn read_timer(now: Time, place: usize, at: u32, task: &mut Task, shared: &mut Shared)
-    requires { now.nanos ≤ 2 ^ 61 }
+    requires { now.nanos ≤ latest_time }
     ensures { Is (spec.timer_read_by now place at (task.old, shared.old)) task.new shared.new }
 {
     let count = shared.files.read_timer(place, now);
@@ -188,7 +189,7 @@ fn read_done(
     task: &mut Task,
     shared: &mut Shared,
 ) -> Result<u32, NoMemory>
-    requires now { now.nanos ≤ 2 ^ 61 }
+    requires now { now.nanos ≤ latest_time }
     requires count { count ≤ most }
     ensures count { IfOk result (λ moved. moved ≡ (spec.is_read text.now now d at count (task.old, shared.old)).0) }
     ensures told { OnOk result (Is (spec.is_read text.now now d at count (task.old, shared.old)).1 task.new shared.new) }
@@ -219,7 +220,7 @@ pub(crate) fn read(
     task: &mut Task,
     shared: &mut Shared,
 ) -> Result<u32, CallError>
-    requires { now.nanos ≤ 2 ^ 61 }
+    requires { now.nanos ≤ latest_time }
     ensures { Does (spec.reads text.now now d at n (task.old, shared.old)) (task.old, shared.old) (task.new, shared.new) result }
 {
     read_asked(now, d, at, n, task, shared)?;

@@ -2,6 +2,7 @@
 
 ghost use Rattle.std.specs.Prelude.{◌≡◌, ◌<◌, ◌≤◌, ◌^◌, None, IsSome, IfOk, OnOk, option_map};
 ghost use Rattle.std.specs.FinMap as map;
+ghost use Rattle.sim_base.specs.Units.{latest_time, longest_wait};
 ghost use Rattle.host_fds.specs.Descriptors.{limit};
 ghost use Rattle.host_timers.specs.Clock.{moment_of};
 ghost use Rattle.host_files.specs.Files.{timer_at};
@@ -59,7 +60,7 @@ pub(crate) fn clock_gettime(
 
 /// The moment at which a time has come that is relative, or absolute on a clock.
 fn deadline_of(flags: u32, clock: u32, now: Time, time: Moment) -> Time
-    requires { now.nanos ≤ 2 ^ 61 }
+    requires { now.nanos ≤ latest_time }
     ensures { result ≡ spec.at_nanos (spec.deadline_of flags clock now time) }
 {
     if flags == 0 {
@@ -102,7 +103,7 @@ pub(crate) fn sleep_asked(
     at: u32,
     task: &Task,
 ) -> Result<(), Refusal>
-    requires { now.nanos ≤ 2 ^ 61 }
+    requires { now.nanos ≤ latest_time }
     ensures { result ≡ spec.sleep_asked now clock flags at task.now }
 {
     let time = sleep_time(clock, flags, at, task)?;
@@ -122,7 +123,7 @@ pub(crate) fn clock_nanosleep(
     flags: u32,
     at: u32,
 ) -> Result<u32, CallError>
-    requires { now.nanos ≤ 2 ^ 61 }
+    requires { now.nanos ≤ latest_time }
     ensures { Does (spec.clock_nanosleep now clock flags at (task.now, shared.now)) (task.now, shared.now) (task.now, shared.now) result }
 {
     sleep_asked(now, clock, flags, at, task)?;
@@ -185,9 +186,9 @@ fn is_zero(time: Moment) -> bool
 
 /// The first expiry that is asked for, 0 for off.
 fn first_expiry(flags: u32, clock: u32, now: Time, value: Moment) -> Time
-    requires { now.nanos ≤ 2 ^ 61 }
+    requires { now.nanos ≤ latest_time }
     ensures first { result ≡ spec.at_nanos (spec.first_expiry flags clock now value) }
-    ensures limit { result.nanos ≤ 2 ^ 62 }
+    ensures limit { result.nanos ≤ longest_wait }
 {
     if is_zero(value) {
         return Time { nanos: 0 };
@@ -206,10 +207,10 @@ fn set(
     interval: Time,
     shared: &mut Shared,
 ) -> Result<(), NoMemory>
-    requires now { now.nanos ≤ 2 ^ 61 }
+    requires now { now.nanos ≤ latest_time }
     requires place { place < 2 ^ 63 }
-    requires first { first.nanos ≤ 2 ^ 62 }
-    requires interval { interval.nanos ≤ 2 ^ 62 }
+    requires first { first.nanos ≤ longest_wait }
+    requires interval { interval.nanos ≤ longest_wait }
     ensures { OnOk result (shared.new ≡ spec.sets now place old first.nanos interval.nanos shared.old) }
 {
     if first.nanos == 0 {
@@ -241,7 +242,7 @@ fn time_left(now: Time, due: Option<Time>) -> u64
 
 /// The interval of a timer, and the time that is left.
 fn setting_of(now: Time, timer: &Timer) -> [u8; 32]
-    requires { now.nanos ≤ 2 ^ 61 }
+    requires { now.nanos ≤ latest_time }
     ensures { result ≡ spec.setting_of now timer.now }
 {
     let mut setting = [0; 32];
@@ -269,7 +270,7 @@ fn timer_number(object: Object) -> Result<usize, Refusal>
 
 /// The timer that a descriptor names, as it is.
 fn old_timer(now: Time, fd: u32, task: &Task, files: &Files) -> Result<OldTimer, Refusal>
-    requires { now.nanos ≤ 2 ^ 61 }
+    requires { now.nanos ≤ latest_time }
     ensures old { result ≡ spec.old_timer now fd task.now files.now }
     ensures place { IfOk result (λ old. old.place < 2 ^ 63) }
 {
@@ -315,7 +316,7 @@ fn set_by(
     setting: Setting,
     shared: &mut Shared,
 ) -> Result<(), NoMemory>
-    requires now { now.nanos ≤ 2 ^ 61 }
+    requires now { now.nanos ≤ latest_time }
     requires place { old.now.place < 2 ^ 63 }
     ensures { OnOk result (shared.new ≡ spec.set_by now flags old.now setting shared.old) }
 {
@@ -349,7 +350,7 @@ pub(crate) fn timerfd_settime(
     at: u32,
     old_at: u32,
 ) -> Result<u32, CallError>
-    requires { now.nanos ≤ 2 ^ 61 }
+    requires { now.nanos ≤ latest_time }
     ensures { Does (spec.timerfd_settime now fd flags at old_at (task.old, shared.old)) (task.old, shared.old) (task.new, shared.new) result }
 {
     let old = old_timer(now, fd, task, &shared.files)?;
@@ -372,7 +373,7 @@ fn ring_at(place: usize, due: Option<Time>, shared: &mut Shared) -> Result<(), N
 
 /// When a timer's next alarm is due after the one with a serial. A stale serial has none.
 fn next_ring(now: Time, place: usize, serial: u64, files: &Files) -> Option<Time>
-    requires { now.nanos ≤ 2 ^ 61 }
+    requires { now.nanos ≤ latest_time }
     ensures next { option_map (λ due. due.nanos) result ≡ spec.next_ring now serial (timer_at place files.now) }
     ensures place { IsSome result → place < 2 ^ 63 }
 {
@@ -395,7 +396,7 @@ pub(crate) fn ring(
     serial: u64,
     shared: &mut Shared,
 ) -> Result<(), NoMemory>
-    requires { now.nanos ≤ 2 ^ 61 }
+    requires { now.nanos ≤ latest_time }
     ensures { OnOk result (shared.new ≡ spec.rings now place serial shared.old) }
 {
     let due = next_ring(now, place, serial, &shared.files);

@@ -1,6 +1,7 @@
 //! Whether a call that waits would answer.
 
-ghost use Rattle.std.specs.Prelude.{◌≡◌, ◌<◌, ◌≤◌, ◌^◌, vec_len};
+ghost use Rattle.std.specs.Prelude.{◌≡◌, ◌<◌, ◌≤◌, vec_len};
+ghost use Rattle.sim_base.specs.Units.{latest_time};
 ghost use Rattle.host_sockets.specs.Sockets.{SocketsRecord};
 ghost use Rattle.host_sockets.specs.StandsFor.{Stand};
 ghost use Rattle.host_calls.specs.Calls as spec;
@@ -34,7 +35,7 @@ fn read_waits_by(
     shared: &Shared,
     sockets: &Sockets,
 ) -> Result<(), Refusal>
-    requires { now.nanos ≤ 2 ^ 61 }
+    requires { now.nanos ≤ latest_time }
     ensures { (t : SocketsRecord) → Stand sockets.now t → result ≡ spec.read_waits_by now d (socket_number d.file.object) at n (scene (task.now, shared.now) t) }
 {
     match socket_number(d.file.object) {
@@ -58,7 +59,7 @@ fn read_waits(
     shared: &Shared,
     sockets: &Sockets,
 ) -> Result<(), Refusal>
-    requires { now.nanos ≤ 2 ^ 61 }
+    requires { now.nanos ≤ latest_time }
     ensures { (t : SocketsRecord) → Stand sockets.now t → result ≡ spec.read_waits now fd at n (scene (task.now, shared.now) t) }
 {
     let d = look_up(fd, task, &shared.files)?;
@@ -142,7 +143,7 @@ fn poll_waits(
     shared: &Shared,
     sockets: &Sockets,
 ) -> Result<(), Refusal>
-    requires { now.nanos ≤ 2 ^ 61 }
+    requires { now.nanos ≤ latest_time }
     ensures { (t : SocketsRecord) → Stand sockets.now t → result ≡ spec.poll_waits now at count limit_at (scene (task.now, shared.now) t) }
 {
     let _found = poll_asked(now, at, count, limit_at, task, shared, sockets)?;
@@ -150,7 +151,7 @@ fn poll_waits(
 }
 
 fn plain_waits(now: Time, call: PlainCall, args: [u32; 6], task: &Task) -> Result<(), Refusal>
-    requires { now.nanos ≤ 2 ^ 61 }
+    requires { now.nanos ≤ latest_time }
     ensures { result ≡ spec.plain_waits now call args task.now }
 {
     match call {
@@ -217,7 +218,7 @@ fn waits(
     shared: &Shared,
     sockets: &Sockets,
 ) -> Result<(), Refusal>
-    requires { now.nanos ≤ 2 ^ 61 }
+    requires { now.nanos ≤ latest_time }
     ensures { (t : SocketsRecord) → Stand sockets.now t → result ≡ spec.waits known.now now call args (scene (task.now, shared.now) t) }
 {
     match call {
@@ -254,7 +255,7 @@ fn answers_place(
     shared: &Shared,
     sockets: &Sockets,
 ) -> bool
-    requires { now.nanos ≤ 2 ^ 61 }
+    requires { now.nanos ≤ latest_time }
     ensures { (t : SocketsRecord) → Stand sockets.now t → result ≡ spec.answers_place known.now now why.now (place_at place.now shared.now t) }
 {
     match place {
@@ -274,7 +275,7 @@ fn answers_place(
 /// Whether the kept call of a process would answer: making it again gives another answer than
 /// `Block`. It takes no memory.
 pub fn answers_now(parts: &Parts, known: &Known, now: Time, process: u32, why: &Why) -> bool
-    requires now { now.nanos ≤ 2 ^ 61 }
+    requires now { now.nanos ≤ latest_time }
     requires process { process < vec_len parts.now.tasks }
     ensures { (h : PartsRecord) → PartsStand parts.now h → result ≡ spec.answers known.now now process why.now h }
 {

@@ -1,6 +1,7 @@
 //! The open files of a host.
 
 ghost use Rattle.std.specs.Prelude.{◌≡◌, ◌<◌, ◌≤◌, ◌^◌, ◌++◌, [], length, drop, IfOk, IsSome, option_copied};
+ghost use Rattle.sim_base.specs.Units.{latest_time, longest_wait};
 ghost use Rattle.host_files.specs.Files as spec;
 ghost use Rattle.host_files.specs.Slots as act;
 
@@ -163,9 +164,9 @@ impl Files {
 
     /// Sets a timer. From now on alarms with this serial are its own.
     pub fn set_timer(&mut self, place: usize, now: Time, first: Time, interval: Time, serial: u64)
-        requires now { now.nanos ≤ 2 ^ 61 }
-        requires first { first.nanos ≤ 2 ^ 62 }
-        requires interval { interval.nanos ≤ 2 ^ 62 }
+        requires now { now.nanos ≤ latest_time }
+        requires first { first.nanos ≤ longest_wait }
+        requires interval { interval.nanos ≤ longest_wait }
         ensures { self.new ≡ spec.timer_set now.nanos first.nanos interval.nanos serial place self.old }
     {
         if place < self.timers.len() {
@@ -184,7 +185,7 @@ impl Files {
 
     /// Takes the expiries of a timer that no read has taken, and answers how many they are.
     pub fn read_timer(&mut self, place: usize, now: Time) -> u64
-        requires { now.nanos ≤ 2 ^ 61 }
+        requires { now.nanos ≤ latest_time }
         ensures count { result ≡ spec.timer_count now.nanos place self.old }
         ensures taken { self.new ≡ spec.timer_read now.nanos place self.old }
     {
@@ -245,9 +246,9 @@ fn shut_slot(slot: &mut Option<Pipe>, end: End)
 }
 
 fn set_slot(slot: &mut Option<KeptTimer>, now: Time, first: Time, interval: Time, serial: u64)
-    requires now { now.nanos ≤ 2 ^ 61 }
-    requires first { first.nanos ≤ 2 ^ 62 }
-    requires interval { interval.nanos ≤ 2 ^ 62 }
+    requires now { now.nanos ≤ latest_time }
+    requires first { first.nanos ≤ longest_wait }
+    requires interval { interval.nanos ≤ longest_wait }
     ensures { slot.new ≡ act.after (spec.after_set now.nanos first.nanos interval.nanos serial) slot.old }
 {
     if let Some(kept) = slot {
@@ -265,7 +266,7 @@ fn serial_slot(slot: &mut Option<KeptTimer>, serial: u64)
 }
 
 fn read_timer_slot(slot: &mut Option<KeptTimer>, now: Time) -> u64
-    requires { now.nanos ≤ 2 ^ 61 }
+    requires { now.nanos ≤ latest_time }
     ensures count { result ≡ spec.count_in now.nanos slot.old }
     ensures taken { slot.new ≡ act.after (spec.after_count now.nanos) slot.old }
 {

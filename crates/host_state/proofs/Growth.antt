@@ -3,6 +3,7 @@ use Rattle.std.proofs.Common.{◌≡◌, ◌≢◌, ℕ, ◌+◌, ◌-◌, ◌^�
 use Rattle.std.specs.Prelude.{All, IsSome, if◌then◌else◌}
 use Rattle.std.proofs.lemmas.Bool.Decides.{nat_tests}
 use Rattle.std.proofs.lemmas.List.Elements.{All-nil, All-cons, All-append}
+use Rattle.sim_base.specs.Units.{latest_time}
 use Rattle.sim_base.specs.declared.act.Act.{Act}
 use Rattle.sim_base.specs.declared.act.Act.TheVariants.{Send, Lost, FullUp, Codel}
 use Rattle.sim_base.specs.declared.address.Ip.{Ip}
@@ -42,7 +43,7 @@ pub record IsMade (net : Net) (lookahead : Option ℕ) (number : ℕ) (now : Tim
 -- a link of a host of the net
 pub record IsSound (net : Net) (l : LinkState) : Type 0 where
   pub within : l.number < length net.known.book
-  pub early : l.time.nanos ≤ 2 ^ 61
+  pub early : l.time.nanos ≤ latest_time
   pub limited : l.next ≤ 2 ^ 64 - 1
   pub up : AllFit l.up.waiting
   pub down : AllFit l.down.waiting
@@ -71,7 +72,7 @@ pub by_if : {A : Type 0} (P : A → Type 0) (b : Bool) (x y : A) → (b ≡ true
 by_if P true x y h k = h refl
 by_if P false x y h k = k refl
 
-far_enough : (o : Option ℕ) (latency now : ℕ) → IsLatency o latency → IsShort o → now ≤ 2 ^ 61 → IsFar o now (max (min (now + latency) (2 ^ 64 - 1)) (now + 1))
+far_enough : (o : Option ℕ) (latency now : ℕ) → IsLatency o latency → IsShort o → now ≤ latest_time → IsFar o now (max (min (now + latency) (2 ^ 64 - 1)) (now + 1))
 far_enough None latency now h short early = absurd h
 far_enough (Some n) latency now h short early = omega arith
 

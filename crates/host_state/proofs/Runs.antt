@@ -3,6 +3,7 @@ use Rattle.std.proofs.Common.{◌≡◌, ◌≢◌, ℕ, ◌+◌, ◌-◌, ◌^�
 use Rattle.std.specs.Prelude.{if◌then◌else◌, not}
 use Rattle.std.proofs.lemmas.Bool.Decides.{Decides-eqb, nat_tests}
 use Rattle.std.proofs.lemmas.List.Sorted.{All-permutation, IsPermutation-sym, IsPermutation-trans, IsPermutation-append_left, IsPermutation-refl, length_permutation}
+use Rattle.sim_base.specs.Units.{latest_time}
 use Rattle.sim_base.specs.declared.event.Event.{Event}
 use Rattle.sim_base.specs.declared.event.Parcel.{Parcel}
 use Rattle.sim_base.specs.declared.event.What.{What}
@@ -133,7 +134,7 @@ packets-of net n (e ∷ es) own = packets_by net n e es (home net e == n) refl (
 
 -- ---- one turn
 
-module _ (net : Net) (early : net.stop.nanos ≤ 2 ^ 61) (h : HostRecord) (e : Event) (rest : List Event) (made_none : h.link.made ≡ []) (lines_none : h.link.lines ≡ [])
+module _ (net : Net) (early : net.stop.nanos ≤ latest_time) (h : HostRecord) (e : Event) (rest : List Event) (made_none : h.link.made ≡ []) (lines_none : h.link.lines ≡ [])
     (owns : Owns net h.link (e ∷ rest)) (ordered : IsOrdered (e ∷ rest)) (due : e.key.due.nanos < net.stop.nanos) where
   abbrev f : Fired HostRecord Line
   f = fire net h e
@@ -301,7 +302,7 @@ kept-logged key (l ∷ ls) = ap (λ (k : List Logged). logged key l ∷ k) (kept
 twice : {X : Type 0} (a b c d e : List X) → b ≡ a ++ d → c ≡ b ++ e → c ≡ a ++ (d ++ e)
 twice a b c d e first second = second ∙ ap (λ l. l ++ e) first ∙ append_assoc a d e
 
-module _ (net : Net) (early : net.stop.nanos ≤ 2 ^ 61) (end : Time) (until : end.nanos ≤ net.stop.nanos) (old taken new : Host) (e : Event) (before after : Outbox)
+module _ (net : Net) (early : net.stop.nanos ≤ latest_time) (end : Time) (until : end.nanos ≤ net.stop.nanos) (old taken new : Host) (e : Event) (before after : Outbox)
     (queue_is : old.queue ≡ e ∷ taken.queue) (ordered : IsOrdered old.queue) (body_is : taken.body ≡ old.body) (due : e.key.due.nanos < end.nanos)
     (fired : (h : HostRecord) → Stands taken h → h.link.time.nanos ≤ e.key.due.nanos → FiresOn net e h taken new before after) where
   stop : e.key.due.nanos < net.stop.nanos

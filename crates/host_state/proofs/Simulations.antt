@@ -3,6 +3,7 @@ use Rattle.std.proofs.Common.{◌≡◌, ◌≢◌, ℕ, ◌+◌, ◌-◌, ◌^�
 use Rattle.std.specs.Prelude.{All, if◌then◌else◌}
 use Rattle.std.specs.List.{position_from}
 use Rattle.std.proofs.lemmas.List.Elements.{All-nil, All-weaker}
+use Rattle.sim_base.specs.Units.{latest_time}
 use Rattle.sim_base.specs.declared.address.Ip.{Ip}
 use Rattle.sim_base.specs.declared.event.Event.{Event}
 use Rattle.sim_base.specs.declared.event.What.{What}
@@ -66,7 +67,7 @@ fires-before_stop net host e before =
     let is : nat_lt e.key.due.nanos net.stop.nanos ≡ true = search rules in
     fires_if (nat_lt e.key.due.nanos net.stop.nanos) (fire net host e) (record { host = host; made = []; lines = [] }) is
 
-module _ (net : Net) (lookahead : Option ℕ) (routes : IsLookaheadOf net lookahead) (short : IsShort lookahead) (early : net.stop.nanos ≤ 2 ^ 61)
+module _ (net : Net) (lookahead : Option ℕ) (routes : IsLookaheadOf net lookahead) (short : IsShort lookahead) (early : net.stop.nanos ≤ latest_time)
     (host : HostRecord) (e : Event) (good : IsHostOf net (home net e) host) (clock : host.link.time.nanos ≤ e.key.due.nanos) where
   abbrev Made : Event → Type 0
   Made g = IsMade net lookahead host.link.number e.key.due g
@@ -122,11 +123,11 @@ module _ (net : Net) (lookahead : Option ℕ) (routes : IsLookaheadOf net lookah
       (λ is. let before : e.key.due.nanos < net.stop.nanos = search (rules, tests) in fired_fits before)
       (λ is. nothing_fits)
 
-pub firings_fit : (net : Net) (lookahead : Option ℕ) → IsLookaheadOf net lookahead → IsShort lookahead → net.stop.nanos ≤ 2 ^ 61 → FiringsFit net lookahead
+pub firings_fit : (net : Net) (lookahead : Option ℕ) → IsLookaheadOf net lookahead → IsShort lookahead → net.stop.nanos ≤ latest_time → FiringsFit net lookahead
 firings_fit net lookahead routes short early = λ host e good event clock. fits net lookahead routes short early host e good clock
 
 -- the hosts of a net, with a lookahead of its routes
-abbrev pub simulation : (net : Net) (lookahead : Option ℕ) → IsLookaheadOf net lookahead → IsShort lookahead → net.stop.nanos ≤ 2 ^ 61 → Simulation HostRecord Line
+abbrev pub simulation : (net : Net) (lookahead : Option ℕ) → IsLookaheadOf net lookahead → IsShort lookahead → net.stop.nanos ≤ latest_time → Simulation HostRecord Line
 simulation net lookahead routes short early = record {
   model = model net;
   lookahead = lookahead;

@@ -1,5 +1,5 @@
 -- The link of a host to the network: its two lanes, and the events and lines of the log that its acts make.
-use Rattle.std.specs.Prelude.{ℕ, ◌+◌, ◌-◌, ◌/◌, ◌^◌, ◌≤◌, max, min, nat_lt, List, [], ◌∷◌, ◌++◌, if◌then◌else◌}
+use Rattle.std.specs.Prelude.{ℕ, ◌+◌, ◌/◌, ◌≤◌, max, min, nat_lt, List, [], ◌∷◌, ◌++◌, if◌then◌else◌}
 use Rattle.sim_base.specs.declared.act.Act.{Act}
 use Rattle.sim_base.specs.declared.event.Event.{Event}
 use Rattle.sim_base.specs.declared.event.What.{What}
@@ -8,7 +8,7 @@ use Rattle.sim_base.specs.declared.key.Kind.{Kind}
 use Rattle.sim_base.specs.declared.key.Kind.TheVariants as kind
 use Rattle.sim_base.specs.declared.packet.Packet.{Packet}
 use Rattle.sim_base.specs.declared.time.Time.{Time}
-use Rattle.sim_base.specs.Units.{max_u64, millisecond}
+use Rattle.sim_base.specs.Units.{max_u64, millisecond, latest_time}
 use Rattle.net_iface.specs.Lane.{LaneState, empty_lane}
 use Rattle.net_iface.specs.declared.lane.QueueRule.TheVariants.{Fifo}
 use Rattle.host_state.specs.declared.line.Line.{Line}
@@ -71,7 +71,7 @@ comes_to now link = record link { time = now }
 pub record IsLink (up down : LaneState) (now : Time) : Type 0 where
   pub up_time : up.bucket.millis ≤ now.nanos / millisecond
   pub down_time : down.bucket.millis ≤ now.nanos / millisecond
-  pub early : now.nanos ≤ 2 ^ 61
+  pub early : now.nanos ≤ latest_time
 
 -- so many nanoseconds later, or at the end of time
 abbrev pub later : Time → ℕ → Time

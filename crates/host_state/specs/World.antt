@@ -1,5 +1,6 @@
 -- The world of all hosts: where a run begins, and its result.
-use Rattle.std.specs.Prelude.{◌≡◌, ◌≤◌, ℕ, ◌^◌, List, [], length, map, flat_map, Some, slice_get}
+use Rattle.std.specs.Prelude.{◌≡◌, ◌≤◌, ℕ, List, [], length, map, flat_map, Some, slice_get}
+use Rattle.sim_base.specs.Units.{latest_time}
 use Rattle.host_state.specs.declared.line.Line.{Line}
 use Rattle.host_state.specs.declared.net.Net.{Net}
 use Rattle.host_state.specs.declared.row.Row.{Row}
@@ -29,4 +30,4 @@ pub record AreRows (net : Net) (rows : List Row) : Type 0 where
   pub count : length rows ≡ length net.known.book
   pub places : (i : ℕ) (row : Row) → slice_get rows i ≡ Some row → row.host.index ≡ i
   pub fit : (i : ℕ) (row : Row) → slice_get rows i ≡ Some row → FitsNet net row
-  pub stop : net.stop.nanos ≤ 2 ^ 61
+  pub stop : net.stop.nanos ≤ latest_time

@@ -1,6 +1,7 @@
 //! What one event does to one host.
 
-ghost use Rattle.std.specs.Prelude.{◌≡◌, ◌≤◌, ◌^◌, ◌&&◌, not, List, slice_get, IfOk, OnOk};
+ghost use Rattle.std.specs.Prelude.{◌≡◌, ◌≤◌, ◌&&◌, not, List, slice_get, IfOk, OnOk};
+ghost use Rattle.sim_base.specs.Units.{latest_time};
 ghost use Rattle.host_state.specs.HostRecord.{HostRecord};
 ghost use Rattle.host_state.specs.StandsFor.{BodyStands, Does, DoesFrom, HandsOut};
 ghost use Rattle.host_calls.specs.declared.parts.Output.{Output};
@@ -232,7 +233,7 @@ impl Body {
 
     /// An event acts at its time, and processes wake.
     fn act_at(&mut self, net: &Net, event: Event) -> Result<(), NoMemory>
-        requires { event.key.due.nanos ≤ 2 ^ 61 }
+        requires { event.key.due.nanos ≤ latest_time }
         ensures { OnOk result (DoesFrom event.key.due (spec.has_acted net.now event) self.old self.new) }
     {
         let Event { key, what } = event;
@@ -257,7 +258,7 @@ impl Body {
 
     /// An event fires.
     pub(crate) fn fire(&mut self, net: &Net, event: Event) -> Result<Made, NoMemory>
-        requires { event.key.due.nanos ≤ 2 ^ 61 }
+        requires { event.key.due.nanos ≤ latest_time }
         ensures { IfOk result (λ made. (h : HostRecord) → BodyStands self.old h → h.link.time.nanos ≤ event.key.due.nanos → HandsOut (spec.fire net.now h event) (spec.wrote net.now h event) made self.new) }
     {
         self.act_at(net, event)?;

@@ -1,6 +1,7 @@
 //! What a host is.
 
 ghost use Rattle.std.specs.Prelude.{◌≡◌, ◌≤◌, ◌<◌, ◌∷◌, ◌^◌, [], false, length, replicate, option_map, slice_get, IfOk, IfErr, IfSome, IfNone, OnOk, OnErr, All, vec_len};
+ghost use Rattle.sim_base.specs.Units.{latest_time};
 ghost use Rattle.event_order.specs.Events.{IsBefore, IsLeastDue, IsOrdered, has_key, with_event};
 ghost use Rattle.host_state.specs.Fire.{most_processes};
 ghost use Rattle.host_state.specs.HostRecord.{HostRecord, process_state};
@@ -118,7 +119,7 @@ impl Host {
 
     /// An event fires at the host. What it makes is added to `out`.
     pub fn fire(&mut self, net: &Net, event: Event, out: &mut Outbox) -> Result<(), NoMemory>
-        requires stop { net.now.stop.nanos ≤ 2 ^ 61 }
+        requires stop { net.now.stop.nanos ≤ latest_time }
         requires before { event.key.due.nanos < net.now.stop.nanos }
         ensures { OnOk result ((h : HostRecord) → Stands self.old h → h.link.time.nanos ≤ event.key.due.nanos → Fires net.now event h self.old self.new out.old out.new) }
     {

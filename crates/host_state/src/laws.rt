@@ -1,6 +1,7 @@
 //! What hosts owe the laws of worlds and rounds.
 
-ghost use Rattle.std.specs.Prelude.{◌≡◌, ◌≤◌, ◌<◌, ◌^◌, ◌-◌, ℕ, List, Option, length};
+ghost use Rattle.std.specs.Prelude.{◌≡◌, ◌≤◌, ◌<◌, ◌-◌, ℕ, List, Option, length};
+ghost use Rattle.sim_base.specs.Units.{latest_time};
 ghost use Rattle.sim_base.specs.declared.event.Event.{Event};
 ghost use Rattle.rv32_machine.specs.declared.cpu.Cpu.{Cpu};
 ghost use Rattle.host_state.specs.declared.host.Host.{Host};
@@ -20,7 +21,7 @@ ghost use Rattle.host_state.specs.Stretches.{IsShortSlice};
 /// of: each event that it makes is due later, and one for another host by the lookahead at least;
 /// they have the host's next numbers; and what holds of hosts and events still does.
 pub fn firings_fit()
-    ensures { (net : Net) (lookahead : Option ℕ) → IsLookaheadOf net lookahead → IsShort lookahead → net.stop.nanos ≤ 2 ^ 61 → FiringsFit net lookahead }
+    ensures { (net : Net) (lookahead : Option ℕ) → IsLookaheadOf net lookahead → IsShort lookahead → net.stop.nanos ≤ latest_time → FiringsFit net lookahead }
 {}
 
 /// An event fires at a host of the net.

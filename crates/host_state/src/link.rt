@@ -1,6 +1,7 @@
 //! The link of a host to the network.
 
-ghost use Rattle.std.specs.Prelude.{◌≡◌, ◌≤◌, ◌^◌, OnOk, IfOk};
+ghost use Rattle.std.specs.Prelude.{◌≡◌, ◌≤◌, OnOk, IfOk};
+ghost use Rattle.sim_base.specs.Units.{latest_time};
 ghost use Rattle.sim_base.specs.Packet.{packet_size};
 ghost use Rattle.host_state.specs.Lanes.{pushes_up, pushes_down, releases_up, releases_down, Releases};
 ghost use Rattle.host_state.specs.Link.{kind_of, new_link, numbers, makes, later, logs, comes_to, without_made};
@@ -84,14 +85,14 @@ impl Link {
     /// When the host fires, or fired last.
     pub(crate) fn now(&self) -> Time
         ensures time { result ≡ self.now.time }
-        ensures early { result.nanos ≤ 2 ^ 61 }
+        ensures early { result.nanos ≤ latest_time }
     {
         self.time
     }
 
     /// The host fires at a time, which isn't before that of its last firing.
     pub(crate) fn come_to(&mut self, now: Time)
-        requires { now.nanos ≤ 2 ^ 61 }
+        requires { now.nanos ≤ latest_time }
         ensures { self.old.time.nanos ≤ now.nanos → self.new ≡ comes_to now self.old }
     {
         if self.time.nanos <= now.nanos {

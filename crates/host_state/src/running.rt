@@ -1,6 +1,7 @@
 //! A host that is run up to a time.
 
-ghost use Rattle.std.specs.Prelude.{◌≡◌, ◌≤◌, ◌<◌, ◌∷◌, ◌^◌, All, IfSome, IfNone, OnOk};
+ghost use Rattle.std.specs.Prelude.{◌≡◌, ◌≤◌, ◌<◌, ◌∷◌, All, IfSome, IfNone, OnOk};
+ghost use Rattle.sim_base.specs.Units.{latest_time};
 ghost use Rattle.event_order.specs.Events.{IsOrdered};
 ghost use Rattle.host_state.specs.HostRecord.{HostRecord};
 ghost use Rattle.host_state.specs.HostStands.{Stands};
@@ -31,7 +32,7 @@ impl Host {
 
     /// An event that was taken out fires, and the host holds what it makes for itself.
     fn fire_on(&mut self, net: &Net, event: Event, out: &mut Outbox) -> Result<(), NoMemory>
-        requires stop { net.now.stop.nanos ≤ 2 ^ 61 }
+        requires stop { net.now.stop.nanos ≤ latest_time }
         requires before { event.key.due.nanos < net.now.stop.nanos }
         ensures { OnOk result ((h : HostRecord) → Stands self.old h → h.link.time.nanos ≤ event.key.due.nanos → FiresOn net.now event h self.old self.new out.old out.new) }
     {
@@ -47,7 +48,7 @@ impl Host {
     /// those that it makes for itself on the way. Packets for other hosts, lines of the log and what
     /// processes write are added to `out`; its own events it holds.
     pub fn run_until(&mut self, net: &Net, end: Time, out: &mut Outbox) -> Result<(), NoMemory>
-        requires stop { net.now.stop.nanos ≤ 2 ^ 61 }
+        requires stop { net.now.stop.nanos ≤ latest_time }
         requires until { end.nanos ≤ net.now.stop.nanos }
         requires own { MayRun net.now self.old }
         ensures ran { OnOk result ((h : HostRecord) → Stands self.old h → RunsUntil net.now end h self.old self.new out.old out.new) }

@@ -1,8 +1,9 @@
 //! Hosts whose guests play lists of system calls: what each event does, as lines of the log, answers
 //! and states.
 
-ghost use Rattle.std.specs.Prelude.{◌≤◌, ◌^◌};
+ghost use Rattle.std.specs.Prelude.{◌≤◌};
 ghost use Rattle.std.specs.Bool.{OnTrue};
+ghost use Rattle.sim_base.specs.Units.{latest_time};
 ghost use Rattle.host_state.specs.Fits.{FitsNet};
 
 mod endless;
@@ -725,7 +726,7 @@ fn processes_run_in_slices_and_end(rt: HostRuntime) -> Result<(), Fail> {
 /// Whether a host of this row may be run in the net.
 fn may_run(net: &Net, row: &Row) -> bool
     ensures few { OnTrue result (FitsNet net.now row.now) }
-    ensures stop { OnTrue result (net.now.stop.nanos ≤ 2 ^ 61) }
+    ensures stop { OnTrue result (net.now.stop.nanos ≤ latest_time) }
 {
     let is_few = row.processes.len() <= 64;
     let is_within = (row.host.index as usize) < net.known.book.as_slice().len();

@@ -1,6 +1,7 @@
 //! Timers.
 
-ghost use Rattle.std.specs.Prelude.{◌≡◌, ◌^◌, ◌≤◌, option_map};
+ghost use Rattle.std.specs.Prelude.{◌≡◌, ◌≤◌, option_map};
+ghost use Rattle.sim_base.specs.Units.{latest_time, longest_wait};
 ghost use Rattle.host_timers.specs.Timer as spec;
 
 use sim_base::Time;
@@ -18,7 +19,7 @@ pub struct Timer {
 }
 
 impl Model for Timer {
-    ghost use Rattle.std.specs.Prelude.{◌^◌, ◌≤◌};
+    ghost use Rattle.std.specs.Prelude.{◌≤◌};
     ghost use Rattle.host_timers.specs.Timer.{TimerState, timer_code};
 
     ghost Value = { TimerState };
@@ -27,7 +28,7 @@ impl Model for Timer {
 
     ghost view = { λ t. record { first = t.first; interval = t.interval; taken = t.taken } };
 
-    ghost invariant = { λ t. (t.first ≤ 2 ^ 62) × (t.interval ≤ 2 ^ 62) };
+    ghost invariant = { λ t. (t.first ≤ longest_wait) × (t.interval ≤ longest_wait) };
 }
 
 impl Timer {
@@ -45,9 +46,9 @@ impl Timer {
     /// Sets the first expiry, 0 for off, and the interval. A first expiry that has passed counts as the next
     /// nanosecond. Nothing of the new expiries was read.
     pub fn set(&mut self, now: Time, first: Time, interval: Time)
-        requires now { now.nanos ≤ 2 ^ 61 }
-        requires first { first.nanos ≤ 2 ^ 62 }
-        requires interval { interval.nanos ≤ 2 ^ 62 }
+        requires now { now.nanos ≤ latest_time }
+        requires first { first.nanos ≤ longest_wait }
+        requires interval { interval.nanos ≤ longest_wait }
         ensures { self.new ≡ spec.set now.nanos first.nanos interval.nanos }
     {
         self.first = if first.nanos == 0 {
@@ -70,7 +71,7 @@ impl Timer {
 
     /// The number of expiries at or before `now`, whether a read has taken them or not.
     pub fn expired(&self, now: Time) -> u64
-        requires { now.nanos ≤ 2 ^ 61 }
+        requires { now.nanos ≤ latest_time }
         ensures { result ≡ spec.expired self.now now.nanos }
     {
         if self.first == 0 || now.nanos < self.first {
@@ -84,7 +85,7 @@ impl Timer {
 
     /// The number of expiries at or before `now` that no read has taken.
     pub fn count(&self, now: Time) -> u64
-        requires { now.nanos ≤ 2 ^ 61 }
+        requires { now.nanos ≤ latest_time }
         ensures { result ≡ spec.count self.now now.nanos }
     {
         self.expired(now).saturating_sub(self.taken)
@@ -92,7 +93,7 @@ impl Timer {
 
     /// Takes the expiries at or before `now` that no read has taken, and answers how many they are.
     pub fn read(&mut self, now: Time) -> u64
-        requires { now.nanos ≤ 2 ^ 61 }
+        requires { now.nanos ≤ latest_time }
         ensures count { result ≡ spec.count self.old now.nanos }
         ensures taken { self.new ≡ spec.read self.old now.nanos }
     {
@@ -104,7 +105,7 @@ impl Timer {
 
     /// The first expiry after `now`.
     pub fn next_due(&self, now: Time) -> Option<Time>
-        requires { now.nanos ≤ 2 ^ 61 }
+        requires { now.nanos ≤ latest_time }
         ensures { option_map (λ due. due.nanos) result ≡ spec.next_due self.now now.nanos }
     {
         if self.first == 0 {

@@ -1,7 +1,8 @@
 //! The queue rule CoDel, a packet at a time (after RFC 8289; the rounding is this project's own
 //! profile).
 
-ghost use Rattle.std.specs.Prelude.{◌≡◌, ◌+◌, ◌*◌, ◌^◌, ◌<◌, ◌≤◌};
+ghost use Rattle.std.specs.Prelude.{◌≡◌, ◌+◌, ◌*◌, ◌<◌, ◌≤◌};
+ghost use Rattle.sim_base.specs.Units.{latest_time};
 ghost use Rattle.net_iface.specs.Root.{root};
 ghost use Rattle.net_iface.specs.Codel.{new_codel, step, restarted, judged, started, drops_on, taken};
 
@@ -68,7 +69,7 @@ impl CodelState {
     /// A packet is taken out of the queue: whether it is dropped. It waited since `since`, and so
     /// many bytes are left waiting behind it.
     pub fn takes(&mut self, now: Time, since: Time, left: u64) -> bool
-        requires { now.nanos ≤ 2 ^ 61 }
+        requires { now.nanos ≤ latest_time }
         ensures { (result, self.new) ≡ taken now since left self.old }
     {
         if !self.is_ripe(now, since, left) {
@@ -84,7 +85,7 @@ impl CodelState {
 
     /// Whether a packet is ripe for a drop.
     fn is_ripe(&mut self, now: Time, since: Time, left: u64) -> bool
-        requires { now.nanos ≤ 2 ^ 61 }
+        requires { now.nanos ≤ latest_time }
         ensures above { (result, self.new.above) ≡ judged now since left self.old.above }
         ensures rest { self.new ≡ record self.old { above = self.new.above } }
     {
@@ -106,7 +107,7 @@ impl CodelState {
 
     /// The dropping goes on: whether the packet is dropped.
     fn drops_on(&mut self, now: Time) -> bool
-        requires { now.nanos ≤ 2 ^ 61 }
+        requires { now.nanos ≤ latest_time }
         ensures { (result, self.new) ≡ drops_on now self.old }
     {
         if now < self.next {
@@ -119,7 +120,7 @@ impl CodelState {
 
     /// The dropping begins with a packet.
     fn start(&mut self, now: Time) -> bool
-        requires { now.nanos ≤ 2 ^ 61 }
+        requires { now.nanos ≤ latest_time }
         ensures { (result, self.new) ≡ started now self.old }
     {
         let count = self.restarted(now);
@@ -134,7 +135,7 @@ impl CodelState {
 
     /// The count that the dropping begins with.
     fn restarted(&self, now: Time) -> u64
-        requires { now.nanos ≤ 2 ^ 61 }
+        requires { now.nanos ≤ latest_time }
         ensures count { result ≡ restarted now self.now }
         ensures some { 1 ≤ result }
     {

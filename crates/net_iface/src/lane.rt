@@ -1,8 +1,8 @@
 //! A lane of packets that wait for tokens (this project's own profile).
 
-ghost use Rattle.std.specs.Prelude.{◌≡◌, ◌/◌, ◌^◌, ◌<◌, ◌≤◌, ◌↔◌, [], length, option_map, slice_get, IfOk, OnOk, IfSome, OnSome, IsTrue};
+ghost use Rattle.std.specs.Prelude.{◌≡◌, ◌/◌, ◌<◌, ◌≤◌, ◌↔◌, [], length, option_map, slice_get, IfOk, OnOk, IfSome, OnSome, IsTrue};
 ghost use Rattle.sim_base.specs.Packet.{packet_size};
-ghost use Rattle.sim_base.specs.Units.{millisecond};
+ghost use Rattle.sim_base.specs.Units.{millisecond, latest_time};
 ghost use Rattle.net_iface.specs.Lane.{empty_lane, waiting_size, pushed, pushed_first, waits_in, treated, popped, front_taken, next_due, released};
 
 use crate::bucket::Bucket;
@@ -109,7 +109,7 @@ impl Lane {
     /// A packet arrives at the lane. After want of memory nothing is known of the lane but its time.
     pub fn push(&mut self, now: Time, packet: Packet) -> Result<Pushed, NoMemory>
         requires time { self.old.bucket.millis ≤ now.nanos / millisecond }
-        requires early { now.nanos ≤ 2 ^ 61 }
+        requires early { now.nanos ≤ latest_time }
         requires size { packet_size packet ≤ LARGEST }
         ensures pushed { IfOk result (λ answer. (answer, self.new) ≡ pushed now packet self.old) }
         ensures time { self.new.bucket.millis ≡ now.nanos / millisecond }
@@ -127,7 +127,7 @@ impl Lane {
 
     /// A packet arrives at an empty lane.
     fn push_first(&mut self, now: Time, packet: Packet) -> Result<Pushed, NoMemory>
-        requires early { now.nanos ≤ 2 ^ 61 }
+        requires early { now.nanos ≤ latest_time }
         requires size { packet_size packet ≤ LARGEST }
         requires empty { self.old.waiting ≡ [] }
         ensures pushed { IfOk result (λ answer. (answer, self.new) ≡ pushed_first now packet self.old) }
@@ -158,7 +158,7 @@ impl Lane {
 
     /// Whether a packet that is taken is dropped, by the lane's rule.
     fn treats(&mut self, now: Time, since: Time, left: u64) -> bool
-        requires { now.nanos ≤ 2 ^ 61 }
+        requires { now.nanos ≤ latest_time }
         ensures treated { (result, self.new.codel) ≡ treated self.old.rule now since left self.old.codel }
         ensures rest { self.new ≡ record self.old { codel = self.new.codel } }
     {
@@ -172,7 +172,7 @@ impl Lane {
     /// time.
     pub fn release(&mut self, now: Time) -> Result<Released, NoMemory>
         requires time { self.old.bucket.millis ≤ now.nanos / millisecond }
-        requires early { now.nanos ≤ 2 ^ 61 }
+        requires early { now.nanos ≤ latest_time }
         ensures released { IfOk result (λ answer. record { packets = answer.packets.items; dropped = answer.dropped.items; next = answer.next; lane = self.new } ≡ released now self.old) }
         ensures time { self.new.bucket.millis ≡ now.nanos / millisecond }
     {
@@ -204,7 +204,7 @@ impl Lane {
 
     /// Takes the front, if there is a front and there are tokens for it.
     fn take_front(&mut self, now: Time) -> Option<Taken>
-        requires { now.nanos ≤ 2 ^ 61 }
+        requires { now.nanos ≤ latest_time }
         ensures taken { (result, self.new) ≡ front_taken now self.old self.old.waiting }
         ensures time { self.new.bucket.millis ≡ self.old.bucket.millis }
         ensures fewer { OnSome result (length self.new.waiting < length self.old.waiting) }

@@ -1,6 +1,6 @@
-ghost use Rattle.std.specs.Prelude.{◌≡◌, ◌+◌, ◌*◌, ◌/◌, ◌^◌, ◌≤◌, IfOk, OnOk};
+ghost use Rattle.std.specs.Prelude.{◌≡◌, ◌+◌, ◌*◌, ◌/◌, ◌≤◌, IfOk, OnOk};
 ghost use Rattle.sim_base.specs.Packet.{packet_size, max_packet};
-ghost use Rattle.sim_base.specs.Units.{millisecond};
+ghost use Rattle.sim_base.specs.Units.{millisecond, latest_time};
 
 use super::*;
 use sim_base::{Addr, Bytes, Ip, Load, Packet, Time};
@@ -30,7 +30,7 @@ fn at(nanos: u64) -> Time
 
 fn push_at(lane: &mut Lane, nanos: u64, packet: Packet) -> Result<Pushed, Fail>
     requires time { lane.old.bucket.millis ≤ nanos / millisecond }
-    requires early { nanos ≤ 2 ^ 61 }
+    requires early { nanos ≤ latest_time }
     requires size { packet_size packet ≤ max_packet }
     ensures { OnOk result (lane.new.bucket.millis ≡ nanos / millisecond) }
 {
@@ -40,7 +40,7 @@ fn push_at(lane: &mut Lane, nanos: u64, packet: Packet) -> Result<Pushed, Fail>
 /// How many packets leave, and when the next release is to be made.
 fn release_at(lane: &mut Lane, nanos: u64) -> Result<(usize, Option<Time>), Fail>
     requires time { lane.old.bucket.millis ≤ nanos / millisecond }
-    requires early { nanos ≤ 2 ^ 61 }
+    requires early { nanos ≤ latest_time }
     ensures { OnOk result (lane.new.bucket.millis ≡ nanos / millisecond) }
 {
     let released = lane.release(at(nanos))?;
@@ -172,7 +172,7 @@ fn takes_at(codel: &mut CodelState, milli: u64) -> bool {
 
 /// A packet of 1,500 bytes is taken behind a long queue, for which it waited so long.
 fn takes(codel: &mut CodelState, milli: u64, waited: u64) -> bool
-    requires { milli * millisecond ≤ 2 ^ 61 }
+    requires { milli * millisecond ≤ latest_time }
 {
     let since = milli.saturating_sub(waited) * 1_000_000;
     codel.takes(at(milli * 1_000_000), at(since), 3000)

@@ -1,6 +1,7 @@
 -- What is written is read again, and verifies.
 use Rattle.std.specs.Prelude.{◌≡◌, ℕ, ◌<◌, ◌≤◌, ◌^◌, List, ◌++◌, map, take, drop, Option, Some, Ok}
 use Rattle.std.specs.List.{flat_map, AllByRecursion}
+use Rattle.sim_base.specs.Units.{latest_time}
 use Rattle.sim_base.specs.Packet.{packet_size, ipv4_header, max_packet}
 use Rattle.sim_base.specs.declared.packet.Load.{Load}
 use Rattle.sim_base.specs.declared.packet.Load.TheVariants.{Udp, Tcp}
@@ -20,7 +21,7 @@ pub record Taken : Type 0 where
 
 -- what `record` may be called with
 pub record MayBeRecorded (t : Taken) : Type 0 where
-  pub time : t.time.nanos ≤ 2 ^ 61
+  pub time : t.time.nanos ≤ latest_time
   pub size : packet_size t.packet ≤ max_packet
   pub fits : Fits t.packet
 

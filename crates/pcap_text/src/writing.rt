@@ -1,8 +1,8 @@
 //! The bytes of a capture.
 
-ghost use Rattle.std.specs.Prelude.{◌≡◌, ◌≤◌, ◌+◌, ◌/◌, ◌%◌, ◌^◌, ◌++◌, take, IfOk, OnOk, OnErr};
+ghost use Rattle.std.specs.Prelude.{◌≡◌, ◌≤◌, ◌+◌, ◌/◌, ◌%◌, ◌++◌, take, IfOk, OnOk, OnErr};
 ghost use Rattle.sim_base.specs.Packet.{packet_size, max_packet};
-ghost use Rattle.sim_base.specs.Units.{second};
+ghost use Rattle.sim_base.specs.Units.{second, latest_time};
 ghost use Rattle.pcap_text.specs.Writing as spec;
 
 use crate::datagram::datagram;
@@ -36,7 +36,7 @@ pub(crate) const SECOND: u64 = 1_000_000_000;
 
 /// What stands before the bytes of a record.
 fn record_front(time: Time, kept: u32, whole: u32) -> [u8; 16]
-    requires { time.nanos ≤ 2 ^ 61 }
+    requires { time.nanos ≤ latest_time }
     ensures { result ≡ spec.record_front (spec.start + time.nanos / second) (time.nanos % second) kept whole }
 {
     let seconds = ((START + time.nanos / SECOND) as u32).to_le_bytes();
@@ -60,7 +60,7 @@ pub(crate) fn front(bytes: &[u8], size: u32) -> &[u8]
 /// The record of a packet.
 fn record_bytes(alloc: Global, size: u32, time: Time, packet: &Packet) -> Result<Bytes, NoMemory>
     requires packet { packet_size packet.now ≤ max_packet }
-    requires time { time.nanos ≤ 2 ^ 61 }
+    requires time { time.nanos ≤ latest_time }
     ensures { IfOk result (λ bytes. bytes ≡ spec.packet_record size time packet.now) }
 {
     let whole = datagram(alloc, packet)?;
@@ -80,7 +80,7 @@ pub fn record(
     packet: &Packet,
 ) -> Result<(), NoMemory>
     requires packet { packet_size packet.now ≤ max_packet }
-    requires time { time.nanos ≤ 2 ^ 61 }
+    requires time { time.nanos ≤ latest_time }
     ensures ok { OnOk result (into.new ≡ into.old ++ spec.packet_record size time packet.now) }
     ensures err { OnErr result (into.new ≡ into.old) }
 {

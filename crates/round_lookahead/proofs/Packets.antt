@@ -23,6 +23,7 @@ use Rattle.world_order.proofs.Keys.{due_from}
 use Rattle.world_order.proofs.Least.{take_least-least, take_least-there, take_least-IsPermutation}
 use Rattle.world_order.proofs.Members.{IsIn, Each, Each-from_All, Each-append, IsIn-permutation, IsIn-filter_from}
 use Rattle.std.proofs.lemmas.List.Sorted.{IsPermutation-sym}
+use Rattle.sim_base.specs.Units.{latest_time}
 
 -- ---- where parcels go
 
@@ -59,7 +60,7 @@ pub record IsOwn (net : Net) (number : ℕ) (h : HostRecord) (queue : List Event
   pub home : Each (λ (e : Event). home net e ≡ number) queue
   pub clock : Each (λ (e : Event). h.link.time.nanos ≤ e.key.due.nanos) queue
 
-module _ (net : Net) (early : net.stop.nanos ≤ 2 ^ 61) (number end : ℕ) where
+module _ (net : Net) (early : net.stop.nanos ≤ latest_time) (number end : ℕ) where
   abbrev fired : HostRecord → Event → Fired HostRecord Line
   fired h e = fires_before_stop net h e
 

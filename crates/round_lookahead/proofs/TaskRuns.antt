@@ -1,6 +1,7 @@
 -- A task's host that is run up to the end.
-use Rattle.std.proofs.Common.{◌≡◌, ℕ, ◌^◌, ◌<◌, ◌≤◌, List, [], ◌++◌, All, map, length, refl, sym, ap, subst, ◌∙◌, IsPermutation}
+use Rattle.std.proofs.Common.{◌≡◌, ℕ, ◌<◌, ◌≤◌, List, [], ◌++◌, All, map, length, refl, sym, ap, subst, ◌∙◌, IsPermutation}
 use Rattle.std.proofs.lemmas.List.Sorted.{All-permutation, IsPermutation-sym}
+use Rattle.sim_base.specs.Units.{latest_time}
 use Rattle.sim_base.specs.declared.event.Event.{Event}
 use Rattle.sim_base.specs.declared.event.Parcel.{Parcel}
 use Rattle.sim_base.specs.declared.time.Time.{Time}
@@ -49,7 +50,7 @@ module _ (net : Net) (t : Task) (joined : Host) (moved : IsPermutation joined.qu
   pub may-run : (number : ℕ) (h : HostRecord) → IsTask net number t h → Stands joined h → MayRun net joined
   may-run number h is stands = (h, stands, owned number h is)
 
-  module _ (early : net.stop.nanos ≤ 2 ^ 61) (end : Time) (h : HostRecord) (number : ℕ) (is : IsTask net number t h) (new : Host) (before after : Outbox)
+  module _ (early : net.stop.nanos ≤ latest_time) (end : Time) (h : HostRecord) (number : ℕ) (is : IsTask net number t h) (new : Host) (before after : Outbox)
       (ran : RunsUntil net end h joined new before after) where
     runs : RunsTo (model net) number end.nanos h joined.queue ran.ran
     runs = subst (λ (n : ℕ). RunsTo (model net) n end.nanos h joined.queue ran.ran) is.numbered ran.runs

@@ -1,5 +1,6 @@
 -- What a world of the code stands for.
-use Rattle.std.specs.Prelude.{◌≡◌, ℕ, ◌^◌, ◌<◌, ◌≤◌, length, flat_map, All, IsPermutation, Option, Some, None, option_map, slice_get}
+use Rattle.std.specs.Prelude.{◌≡◌, ℕ, ◌<◌, ◌≤◌, length, flat_map, All, IsPermutation, Option, Some, None, option_map, slice_get}
+use Rattle.sim_base.specs.Units.{latest_time}
 use Rattle.sim_base.specs.declared.event.Event.{Event}
 use Rattle.sim_base.specs.declared.time.Time.{Time}
 use Rattle.host_state.specs.declared.line.Line.{Line}
@@ -32,7 +33,7 @@ IsAhead (Some lookahead) = 0 < lookahead
 
 -- a net of 1 to 65,536 hosts whose rounds get on: no route takes less than the lookahead
 pub record HasRounds (net : Net) (lookahead : Option ℕ) : Type 0 where
-  pub stop : net.stop.nanos ≤ 2 ^ 61
+  pub stop : net.stop.nanos ≤ latest_time
   pub some : 0 < length net.known.book
   pub few : length net.known.book ≤ 65536
   pub routes : IsLookaheadOf net lookahead

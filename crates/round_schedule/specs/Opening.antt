@@ -1,5 +1,6 @@
 -- On what a round may be opened.
-use Rattle.std.specs.Prelude.{◌≡◌, ℕ, ◌^◌, ◌<◌, ◌≤◌, List, length, All, Option, Some, slice_get}
+use Rattle.std.specs.Prelude.{◌≡◌, ℕ, ◌<◌, ◌≤◌, List, length, All, Option, Some, slice_get}
+use Rattle.sim_base.specs.Units.{latest_time}
 use Rattle.sim_base.specs.declared.event.Event.{Event}
 use Rattle.host_state.specs.declared.host.Host.{Host}
 use Rattle.host_state.specs.declared.line.Line.{Line}
@@ -25,7 +26,7 @@ pub record IsBetween (net : Net) (w : World HostRecord Line) : Type 0 where
 
 -- a window of a net, whose end is that of a round with a lookahead that no route falls short of; the net stops at 2^61 ns or before
 pub record IsWindowOf (net : Net) (window : Window) : Type 0 where
-  pub stop : net.stop.nanos ≤ 2 ^ 61
+  pub stop : net.stop.nanos ≤ latest_time
   pub lookahead : Option ℕ
   pub routes : IsLookaheadOf net lookahead
   pub short : IsShort lookahead

@@ -1,5 +1,6 @@
 -- What the firing of an event does to a host of a round.
-use Rattle.std.specs.Prelude.{◌≡◌, ◌≤◌, ◌<◌, ◌^◌, ℕ, List, ◌∷◌, ◌++◌, map, All, IsPermutation, Some}
+use Rattle.std.specs.Prelude.{◌≡◌, ◌≤◌, ◌<◌, ℕ, List, ◌∷◌, ◌++◌, map, All, IsPermutation, Some}
+use Rattle.sim_base.specs.Units.{latest_time}
 use Rattle.sim_base.specs.declared.event.Event.{Event}
 use Rattle.host_state.specs.declared.host.Host.{Host}
 use Rattle.host_state.specs.declared.net.Net.{Net}
@@ -19,7 +20,7 @@ pub record AddsAll (events : List Event) (old new : Host) : Type 0 where
 -- the host's least event may fire: it is due before the stop, not before the last one that fired, and no event that is made for the host
 -- itself has the key of one that it holds
 pub record MayTurn (net : Net) (c : Member) : Type 0 where
-  pub stop : net.stop.nanos ≤ 2 ^ 61
+  pub stop : net.stop.nanos ≤ latest_time
   pub event : Event
   pub rest : List Event
   pub taken : take_least c.host.queue ≡ Some (event, rest)

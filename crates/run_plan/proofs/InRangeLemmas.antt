@@ -1,5 +1,5 @@
 -- The size of a self-load, and what words override, are in their ranges.
-use Rattle.std.proofs.Common.{◌≡◌, ◌≤◌, ◌^◌, ℕ, Bool, true, false, List, Option, IfSome, length, nat_lt, option_map, option_and_then, refl, ap, subst}
+use Rattle.std.proofs.Common.{◌≡◌, ◌≤◌, ℕ, Bool, true, false, List, Option, IfSome, length, nat_lt, option_map, option_and_then, refl, ap, subst}
 use Rattle.std.specs.Prelude.{Result, Ok, Err, Some, None, if◌then◌else◌, nat_le, ◌&&◌}
 use Rattle.std.proofs.lemmas.Bool.{leb-true, ltb-true}
 use Rattle.sim_base.specs.Quantity.{time_of_text}
@@ -17,6 +17,7 @@ use Rattle.command_line.specs.declared.fault.WordsFault.TheVariants.{BadOption}
 use Rattle.command_line.specs.declared.name.OptionName.{OptionName}
 use Rattle.shd_config.specs.Limits.{IsSomeText, MayStop, MayOverride}
 use Rattle.std.specs.Str.Parse.{digits_value}
+use Rattle.sim_base.specs.Units.{latest_time}
 use Rattle.run_plan.specs.InRange.{IsInRange, overrides_of}
 
 -- what a step gave that was gone on from
@@ -59,14 +60,14 @@ some_text_by text false e = tt
 abbrev as_time : Option ℕ → Option Time
 as_time o = option_map (λ (n : ℕ). record { nanos = n }) o
 
-time_by : (n : ℕ) (low high : Bool) → nat_le 1 n ≡ low → nat_le n (2 ^ 61) ≡ high → IfSome (as_time (if low && high then Some n else None)) MayStop
-time_by n true true l h = (leb-true 1 n l, leb-true n (2 ^ 61) h)
+time_by : (n : ℕ) (low high : Bool) → nat_le 1 n ≡ low → nat_le n latest_time ≡ high → IfSome (as_time (if low && high then Some n else None)) MayStop
+time_by n true true l h = (leb-true 1 n l, leb-true n latest_time h)
 time_by n true false l h = tt
 time_by n false high l h = tt
 
-stop_by : (o : Option ℕ) → IfSome (as_time (option_and_then (if_within 1 (2 ^ 61)) o)) MayStop
+stop_by : (o : Option ℕ) → IfSome (as_time (option_and_then (if_within 1 latest_time) o)) MayStop
 stop_by None = tt
-stop_by (Some n) = time_by n (nat_le 1 n) (nat_le n (2 ^ 61)) refl refl
+stop_by (Some n) = time_by n (nat_le 1 n) (nat_le n latest_time) refl refl
 
 -- ---- what is asked
 

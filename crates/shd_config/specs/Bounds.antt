@@ -1,9 +1,5 @@
 -- The bounds of a configuration, which are this project's own.
-use Rattle.std.specs.Prelude.{ℕ, ◌^◌}
-
--- when a run stops at the latest, in nanoseconds
-abbrev pub greatest_stop : ℕ
-greatest_stop = 2 ^ 61
+use Rattle.std.specs.Prelude.{ℕ}
 
 abbrev pub most_hosts : ℕ
 most_hosts = 16384

@@ -1,16 +1,17 @@
 -- The limits that each configuration keeps to, and those of what a command line may override.
 use Rattle.std.specs.Prelude.{ℕ, ◌≤◌, List, length, All, IfSome}
+use Rattle.sim_base.specs.Units.{latest_time}
 use Rattle.sim_base.specs.declared.time.Time.{Time}
 use Rattle.shd_config.specs.declared.config.Config.{Config}
 use Rattle.shd_config.specs.declared.config.HostConfig.{HostConfig}
 use Rattle.shd_config.specs.declared.config.ProcessConfig.{ProcessConfig}
 use Rattle.shd_config.specs.declared.overrides.Overrides.{Overrides}
 use Rattle.shd_config.specs.Process.{texts_size}
-use Rattle.shd_config.specs.Bounds.{greatest_stop, most_hosts, most_processes, most_text_bytes}
+use Rattle.shd_config.specs.Bounds.{most_hosts, most_processes, most_text_bytes}
 
 -- 1 ns to 2^61 ns
 abbrev pub MayStop : Time → Type 0
-MayStop t = (1 ≤ t.nanos) × (t.nanos ≤ greatest_stop)
+MayStop t = (1 ≤ t.nanos) × (t.nanos ≤ latest_time)
 
 -- a text that isn't empty
 abbrev pub IsSomeText : List ℕ → Type 0

@@ -3,6 +3,7 @@ use Rattle.std.specs.Prelude.{◌≡◌, ℕ, ◌*◌, Bool, true, ◌&&◌, not
 use Rattle.std.specs.Option.{option_map}
 use Rattle.std.specs.Str.{bytes_eq}
 use Rattle.sim_base.specs.Quantity.{time_of_text, rate_of_text}
+use Rattle.sim_base.specs.Units.{latest_time}
 use Rattle.sim_base.specs.declared.time.Time.{Time}
 use Rattle.sim_base.specs.declared.address.Ip.{Ip}
 use Rattle.sim_base.specs.declared.signal.Signal.{Signal}
@@ -16,7 +17,7 @@ use Rattle.yaml_merge.specs.declared.plain.Pair.{Pair}
 use Rattle.shd_config.specs.declared.fault.ConfigKind.TheVariants.{WrongType, OutOfRange, BadValue}
 use Rattle.shd_config.specs.declared.fault.ConfigFault.{ConfigFault}
 use Rattle.shd_config.specs.Steps.{refused, valued, checked}
-use Rattle.shd_config.specs.Bounds.{greatest_stop, greatest_capture}
+use Rattle.shd_config.specs.Bounds.{greatest_capture}
 
 -- a mapping
 abbrev pub mapping_at : Pair → Result (List Pair) ConfigFault
@@ -57,7 +58,7 @@ time_at p = scalar_at time_of p
 
 -- 1 ns to 2^61 ns
 abbrev pub may_stop_at : Time → Bool
-may_stop_at t = is_within 1 greatest_stop t.nanos
+may_stop_at t = is_within 1 latest_time t.nanos
 
 abbrev pub stop_time_at : Pair → Result Time ConfigFault
 stop_time_at p = time_at p >>= ranged may_stop_at p

@@ -4,6 +4,7 @@ use Rattle.std.specs.List.{AllByRecursion}
 use Rattle.std.specs.Option.{option_map}
 use Rattle.std.proofs.lemmas.Bool.{and_parts}
 use Rattle.std.specs.Str.{str_eq_ignore_ascii_case}
+use Rattle.sim_base.specs.Units.{latest_time}
 use Rattle.sim_base.specs.Quantity.{◌>>=◌, Units, time_units, rate_units, in_64_bits, some_digits, digits_of_text, unit_of_text, factor_in, quantity, time_of_text, rate_of_text}
 use Rattle.sim_base.specs.declared.time.Time.{Time}
 use Rattle.shd_values.specs.Number.{number_of, size_of}
@@ -81,7 +82,7 @@ pub time-has : (p : Pair) → IfOk (time_at p) IsSmall
 time-has p = scalar-has IsSmall time_of time_of-has p
 
 pub stop-has : (p : Pair) → IfOk (stop_time_at p) MayStop
-stop-has p = then-any MayStop (time_at p) _ (λ t. ranged-has MayStop may_stop_at p t (within 1 (2 ^ 61) t.nanos))
+stop-has p = then-any MayStop (time_at p) _ (λ t. ranged-has MayStop may_stop_at p t (within 1 latest_time t.nanos))
 
 pub rate-has : (p : Pair) → IfOk (rate_at p) IsRate
 rate-has p =

@@ -1,6 +1,7 @@
 -- Steps of reading that succeed.
 use Rattle.std.proofs.Common.{◌≡◌, ℕ, ◌^◌, ◌<◌, ◌≤◌, Bool, true, false, nat_lt, nat_le, List, [], ◌∷◌, ◌++◌, Option, Some, Result, Ok, codes, decimal, refl, ap, ◌∙◌, arith, le-leb, lt-ltb}
 use Rattle.std.proofs.lemmas.Bool.{and_from}
+use Rattle.sim_base.specs.Units.{latest_time}
 use Rattle.sim_base.specs.Refusals.{◌>>=◌}
 use Rattle.sim_base.specs.Quantity.{rate_of_text}
 use Rattle.shd_values.specs.Number.{number_of, size_of}
@@ -64,10 +65,10 @@ number-ok least most n line key a b s =
 pub time-ok : (t : Time) (line : ℕ) (key : List ℕ) → t.nanos < 2 ^ 64 → time_at (text_pair line key (shown_time t)) ≡ Ok t
 time-ok t line key h = ap (valued BadValue (text_pair line key (shown_time t))) (time-read t h)
 
-pub stop_time-ok : (t : Time) (line : ℕ) (key : List ℕ) → 1 ≤ t.nanos → t.nanos ≤ 2 ^ 61 → stop_time_at (text_pair line key (shown_time t)) ≡ Ok t
+pub stop_time-ok : (t : Time) (line : ℕ) (key : List ℕ) → 1 ≤ t.nanos → t.nanos ≤ latest_time → stop_time_at (text_pair line key (shown_time t)) ≡ Ok t
 stop_time-ok t line key a b =
     let p = text_pair line key (shown_time t) in
-    then-ok (time_at p) (ranged may_stop_at p) t (Ok t) (time-ok t line key (omega arith)) (ranged-ok may_stop_at p t (within-ok 1 (2 ^ 61) t.nanos a b))
+    then-ok (time_at p) (ranged may_stop_at p) t (Ok t) (time-ok t line key (omega arith)) (ranged-ok may_stop_at p t (within-ok 1 latest_time t.nanos a b))
 
 pub rate-ok : (n line : ℕ) (key : List ℕ) → 1 ≤ n → n < 2 ^ 64 → rate_at (text_pair line key (shown_rate n)) ≡ Ok n
 rate-ok n line key a b =

@@ -8,6 +8,7 @@ pub mod Faults
 pub mod Files
 pub mod Key
 pub mod KeyLaws
+pub mod Limits
 pub mod MemSink
 pub mod MemSource
 pub mod Packet

@@ -1,4 +1,4 @@
--- Spans of time in nanoseconds, and bounds of numbers.
+-- Spans of time in nanoseconds, when time begins and ends, and bounds of numbers.
 use Rattle.std.specs.Prelude.{ℕ, ◌-◌, ◌^◌}
 
 abbrev pub microsecond : ℕ
@@ -15,6 +15,10 @@ minute = 60000000000
 
 abbrev pub hour : ℕ
 hour = 3600000000000
+
+-- the second of Unix time at which simulated time begins, 2000-01-01 00:00:00 UTC (this project's own profile)
+abbrev pub unix_start : ℕ
+unix_start = 946684800
 
 -- the greatest stop time of a run, some 73 years: nothing happens later
 abbrev pub latest_time : ℕ

@@ -1,5 +1,6 @@
 //! Workers side by side.
-ghost use Rattle.std.specs.Prelude.{◌≡◌, ◌≤◌, ◌<◌, ◌^◌, All, length};
+ghost use Rattle.std.specs.Prelude.{◌≡◌, ◌≤◌, ◌<◌, All, length};
+ghost use Rattle.sim_base.specs.Units.{latest_time};
 ghost use Rattle.round_lookahead.specs.Benches.{IsReady, HasWorked, HaveWorked};
 
 use crate::workers::bench::Bench;
@@ -20,7 +21,7 @@ fn work_at<G: Gate>(
     gate: &G,
     bench: &mut Bench,
 )
-    requires stop { net.now.stop.nanos ≤ 2 ^ 61 }
+    requires stop { net.now.stop.nanos ≤ latest_time }
     requires until { end.nanos ≤ net.now.stop.nanos }
     requires hosts { boards.now.hosts ≡ length net.now.known.book }
     requires few { length net.now.known.book ≤ 65536 }
@@ -51,7 +52,7 @@ pub(crate) fn fork<R: Threads + Sync, G: Gate + Sync>(
     threads: u32,
     benches: &mut [Bench],
 )
-    requires stop { net.now.stop.nanos ≤ 2 ^ 61 }
+    requires stop { net.now.stop.nanos ≤ latest_time }
     requires until { end.nanos ≤ net.now.stop.nanos }
     requires hosts { boards.now.hosts ≡ length net.now.known.book }
     requires few { length net.now.known.book ≤ 65536 }

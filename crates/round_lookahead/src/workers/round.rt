@@ -1,5 +1,6 @@
 //! All workers' rounds.
-ghost use Rattle.std.specs.Prelude.{◌≡◌, ◌≤◌, ◌<◌, ◌^◌, ℕ, All, IfOk, length, vec_len};
+ghost use Rattle.std.specs.Prelude.{◌≡◌, ◌≤◌, ◌<◌, ℕ, All, IfOk, length, vec_len};
+ghost use Rattle.sim_base.specs.Units.{latest_time};
 ghost use Rattle.host_state.specs.HostRecord.{HostRecord};
 ghost use Rattle.round_lookahead.specs.Benches.{AreBenches, AreParts, HaveWorked, IsReady};
 ghost use Rattle.round_lookahead.specs.Rounds.{IsRound};
@@ -67,7 +68,7 @@ fn fork_all<R: Threads + Sync, G: Gate + Sync>(
     threads: u32,
     benches: &mut Vec<Bench>,
 )
-    requires stop { net.now.stop.nanos ≤ 2 ^ 61 }
+    requires stop { net.now.stop.nanos ≤ latest_time }
     requires until { end.nanos ≤ net.now.stop.nanos }
     requires hosts { boards.now.hosts ≡ length net.now.known.book }
     requires few { length net.now.known.book ≤ 65536 }
@@ -126,7 +127,7 @@ pub(crate) fn run_beside<R: Threads + Sync, G: Gate + Sync>(
     threads: u32,
     gate: &G,
 ) -> Result<RoundLeft, NoMemory>
-    requires stop { net.now.stop.nanos ≤ 2 ^ 61 }
+    requires stop { net.now.stop.nanos ≤ latest_time }
     requires until { end.nanos ≤ net.now.stop.nanos }
     requires workers { (0 < workers) × (workers ≤ 64) }
     requires threads { 0 < threads }

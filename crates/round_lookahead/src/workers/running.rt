@@ -1,5 +1,6 @@
 //! A task's host is run up to the end of a round.
-ghost use Rattle.std.specs.Prelude.{◌≡◌, ◌≤◌, ◌<◌, ◌^◌, ◌++◌, [], All, IfOk, OnOk, IsPermutation, length};
+ghost use Rattle.std.specs.Prelude.{◌≡◌, ◌≤◌, ◌<◌, ◌++◌, [], All, IfOk, OnOk, IsPermutation, length};
+ghost use Rattle.sim_base.specs.Units.{latest_time};
 ghost use Rattle.host_state.specs.HostRecord.{HostRecord};
 ghost use Rattle.host_state.specs.HostStands.{IsSameBody};
 ghost use Rattle.host_state.specs.Parcels.{parcel_event};
@@ -53,7 +54,7 @@ impl Task {
         net: &Net,
         end: Time,
     ) -> Result<Outbox, NoMemory>
-        requires stop { net.now.stop.nanos ≤ 2 ^ 61 }
+        requires stop { net.now.stop.nanos ≤ latest_time }
         requires until { end.nanos ≤ net.now.stop.nanos }
         requires task { (h : HostRecord) × IsTask net.now self.old.id.index self.old h }
         ensures to { IfOk result (λ out. All (λ parcel. parcel.to.index < length net.now.known.book) out.parcels.items) }
@@ -76,7 +77,7 @@ pub(crate) fn run_task(
     end: Time,
     task: Task,
 ) -> Result<Finished, NoMemory>
-    requires stop { net.now.stop.nanos ≤ 2 ^ 61 }
+    requires stop { net.now.stop.nanos ≤ latest_time }
     requires until { end.nanos ≤ net.now.stop.nanos }
     requires task { (h : HostRecord) × IsTask net.now task.id.index task h }
     ensures to { IfOk result (λ f. All (λ parcel. parcel.to.index < length net.now.known.book) f.parcels.items) }

@@ -1,5 +1,6 @@
 //! A worker's whole round.
-ghost use Rattle.std.specs.Prelude.{◌≡◌, ◌≤◌, ◌<◌, ◌+◌, ◌^◌, ◌++◌, ◌∷◌, [], ℕ, List, IfOk, OnOk, MatchBool, Some, length, slice_get};
+ghost use Rattle.std.specs.Prelude.{◌≡◌, ◌≤◌, ◌<◌, ◌+◌, ◌++◌, ◌∷◌, [], ℕ, List, IfOk, OnOk, MatchBool, Some, length, slice_get};
+ghost use Rattle.sim_base.specs.Units.{latest_time};
 ghost use Rattle.steal_workers.specs.SeatViews.{IsSameSeat, HasMark};
 ghost use Rattle.host_state.specs.HostRecord.{HostRecord};
 ghost use Rattle.round_lookahead.specs.declared.workers.task.Task.{Task};
@@ -41,7 +42,7 @@ fn work_one(
     task: Task,
     shift: &mut Shift,
 ) -> Result<(), NoMemory>
-    requires stop { net.now.stop.nanos ≤ 2 ^ 61 }
+    requires stop { net.now.stop.nanos ≤ latest_time }
     requires until { end.nanos ≤ net.now.stop.nanos }
     requires task { (h : HostRecord) × IsTask net.now task.id.index task h }
     requires hosts { boards.now.hosts ≡ length net.now.known.book }
@@ -80,7 +81,7 @@ fn turn<G: Gate>(
     gate: &G,
     shift: &mut Shift,
 ) -> Result<bool, NoMemory>
-    requires stop { net.now.stop.nanos ≤ 2 ^ 61 }
+    requires stop { net.now.stop.nanos ≤ latest_time }
     requires until { end.nanos ≤ net.now.stop.nanos }
     requires tasks { AreTasksOf net.now seat.old.deal.tasks }
     requires hosts { boards.now.hosts ≡ length net.now.known.book }
@@ -126,7 +127,7 @@ pub fn work<G: Gate>(
     carrier: &mut Carrier<Box<Parcel>>,
     gate: &G,
 ) -> Result<Worked, NoMemory>
-    requires stop { net.now.stop.nanos ≤ 2 ^ 61 }
+    requires stop { net.now.stop.nanos ≤ latest_time }
     requires until { end.nanos ≤ net.now.stop.nanos }
     requires tasks { AreTasksOf net.now seat.old.deal.tasks }
     requires few { length seat.old.deal.tasks ≤ 65536 }

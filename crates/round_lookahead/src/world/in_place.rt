@@ -1,5 +1,6 @@
 //! A round on one worker: each host is run in its place.
-ghost use Rattle.std.specs.Prelude.{◌≡◌, ◌≤◌, ◌<◌, ◌^◌, [], All, IfOk, OnOk, length};
+ghost use Rattle.std.specs.Prelude.{◌≡◌, ◌≤◌, ◌<◌, [], All, IfOk, OnOk, length};
+ghost use Rattle.sim_base.specs.Units.{latest_time};
 ghost use Rattle.round_lookahead.specs.Alone.{AreRunInPlace, HasKept};
 ghost use Rattle.round_lookahead.specs.Tasks.{AreTasksOf};
 
@@ -63,7 +64,7 @@ pub(crate) fn run_in_place<G: Gate>(
     tasks: &mut [Task],
     gate: &G,
 ) -> Result<Alone, NoMemory>
-    requires stop { net.now.stop.nanos ≤ 2 ^ 61 }
+    requires stop { net.now.stop.nanos ≤ latest_time }
     requires until { end.nanos ≤ net.now.stop.nanos }
     requires tasks { AreTasksOf net.now tasks.old }
     ensures to { IfOk result (λ alone. All (λ parcel. parcel.to.index < length net.now.known.book) alone.spill.items) }

@@ -1,5 +1,6 @@
 //! A round in which each host is run in its place, whole.
-ghost use Rattle.std.specs.Prelude.{◌≡◌, ◌-◌, ◌≤◌, ◌<◌, ◌^◌, ◌∷◌, [], IfOk, length, replicate};
+ghost use Rattle.std.specs.Prelude.{◌≡◌, ◌-◌, ◌≤◌, ◌<◌, ◌∷◌, [], IfOk, length, replicate};
+ghost use Rattle.sim_base.specs.Units.{latest_time};
 ghost use Rattle.round_lookahead.specs.Backs.{lists_of};
 ghost use Rattle.round_lookahead.specs.RoundsInPlace.{IsRoundInPlace};
 ghost use Rattle.round_lookahead.specs.Tasks.{AreTasksOf};
@@ -37,7 +38,7 @@ pub(crate) fn round_in_place<G: Gate>(
     workers: u32,
     gate: &G,
 ) -> Result<Gained, NoMemory>
-    requires stop { net.now.stop.nanos ≤ 2 ^ 61 }
+    requires stop { net.now.stop.nanos ≤ latest_time }
     requires until { end.nanos ≤ net.now.stop.nanos }
     requires workers { 0 < workers }
     requires few { length tasks.old.items ≤ 65536 }
