@@ -3,7 +3,8 @@ use Rattle.std.specs.Prelude.{◌≡◌, ℕ, ◌-◌, ◌^◌, ◌&&◌, List, 
 use Rattle.std.specs.Char.{is_ascii_digit}
 use Rattle.std.specs.List.{list_all}
 use Rattle.std.specs.Str.Parse.{digits_value}
-use Rattle.sim_base.specs.Units.{latest_time}
+use Rattle.sim_base.specs.Limits.{most_ring_hosts}
+use Rattle.sim_base.specs.Units.{latest_time, max_u32}
 use Rattle.sim_base.specs.Quantity.{time_of_text}
 use Rattle.sim_base.specs.declared.time.Time.{Time}
 use Rattle.clap.specs.Walk.{Row, Text}
@@ -38,7 +39,7 @@ number_within least most text = if is_decimal text then if_within least most (di
 abbrev pub some_text : Text → Option Text
 some_text text = if nat_lt 0 (length text) then Some text else None
 
--- a time from 1 ns to 2^61 ns
+-- a time from 1 ns to the latest time
 abbrev pub stop_time_of : Text → Option Time
 stop_time_of text = option_map (λ (n : ℕ). record { nanos = n }) (option_and_then (if_within 1 latest_time) (time_of_text text))
 
@@ -65,19 +66,26 @@ abbrev pub choice_of : Choice → Chosen
 choice_of (choice.Config name) = config name.now
 choice_of (choice.SelfLoad size) = self_load size.now
 
--- `-` is the name of standard input; a self-load has 2 to 4,096 hosts
+-- `-` is the name of standard input; a self-load has two hosts at least
 abbrev pub subject_of : Chosen → Result Subject WordsFault
 subject_of (config name) = Ok (subject.File name)
 subject_of (self_load size) = do
-  hosts ← or_refuse (number_within 2 4096 size) (BadOption SelfLoad)
+  hosts ← or_refuse (number_within 2 most_ring_hosts size) (BadOption SelfLoad)
   Ok (subject.SelfLoad hosts)
+
+-- how many instructions a turn takes at most, and where nothing is said
+abbrev pub greatest_budget : ℕ
+greatest_budget = 1000000000
+
+abbrev pub default_budget : ℕ
+default_budget = 10000000
 
 -- what the options override, each with the bounds of its value
 abbrev pub seed_of : List Row → Result (Option ℕ) WordsFault
-seed_of rows = read_option Seed (number_within 0 (2 ^ 32 - 1)) (value_of Seed rows)
+seed_of rows = read_option Seed (number_within 0 max_u32) (value_of Seed rows)
 
 abbrev pub parallelism_of : List Row → Result (Option ℕ) WordsFault
-parallelism_of rows = read_option Parallelism (number_within 0 (2 ^ 32 - 1)) (value_of Parallelism rows)
+parallelism_of rows = read_option Parallelism (number_within 0 max_u32) (value_of Parallelism rows)
 
 abbrev pub data_directory_of : List Row → Result (Option Text) WordsFault
 data_directory_of rows = read_option DataDirectory some_text (value_of DataDirectory rows)
@@ -86,7 +94,7 @@ abbrev pub stop_of : List Row → Result (Option Time) WordsFault
 stop_of rows = read_option StopTime stop_time_of (value_of StopTime rows)
 
 abbrev pub budget_of : List Row → Result (Option ℕ) WordsFault
-budget_of rows = read_option Budget (number_within 1 1000000000) (value_of Budget rows)
+budget_of rows = read_option Budget (number_within 1 greatest_budget) (value_of Budget rows)
 
 -- the faults in their order: the words, what is to be read, and then the options
 unfoldable pub asked : List Text → Result Asked WordsFault
@@ -105,7 +113,7 @@ asked words = do
     parallelism = parallelism;
     data_directory = directory;
     stop_time = stop;
-    budget = unwrap_or budget 10000000;
+    budget = unwrap_or budget default_budget;
     shows_config = shows_config rows;
   })
 

@@ -1,5 +1,6 @@
 -- what the acts of a host want, in the order of the acts: packets to send, and alarms with a serial each
 use Rattle.std.specs.Prelude.{ℕ, ◌+◌, ◌-◌, ◌^◌, min, List, [], ◌∷◌, ◌++◌, map}
+use Rattle.sim_base.specs.Units.{longest_wait, max_u64}
 use Rattle.sim_base.specs.declared.object.ObjectId.{ObjectId}
 use Rattle.sim_base.specs.declared.packet.Packet.{Packet}
 use Rattle.sim_base.specs.declared.time.Time.{Time}
@@ -29,13 +30,13 @@ sends packets w = record w { wants = w.wants ++ map Send packets }
 
 -- serials count on from 1, and stand still at their type's end
 abbrev pub next_serial : Wanted → ℕ
-next_serial w = min (w.serial + 1) (2 ^ 64 - 1)
+next_serial w = min (w.serial + 1) max_u64
 
 -- an alarm of an object at a moment, with its serial
 abbrev pub wants_alarm : ObjectId → Time → Wanted → ℕ × Wanted
 wants_alarm object due w =
     (next_serial w, record w { wants = w.wants ++ Alarm object (next_serial w) due ∷ []; serial = next_serial w })
 
--- a moment later by a length; one above 2^62 counts as 2^62
+-- a moment later by a length, the last one there is at most
 abbrev pub due_after : Time → Time → Time
-due_after now length = record { nanos = min (now.nanos + length.nanos) (2 ^ 62) }
+due_after now length = record { nanos = min (now.nanos + length.nanos) longest_wait }

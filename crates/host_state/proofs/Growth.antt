@@ -15,6 +15,7 @@ use Rattle.sim_base.specs.declared.size.TheConstants.{MAX_PACKET}
 use Rattle.sim_base.specs.declared.time.Time.{Time}
 use Rattle.sim_base.specs.Addresses.{host_at}
 use Rattle.sim_base.specs.Packet.{packet_size}
+use Rattle.gml_graph.specs.Edges.{lossless}
 use Rattle.net_iface.specs.declared.codel.TheConstants.{LARGEST}
 use Rattle.net_iface.specs.declared.lane.TheConstants.{WAITING}
 use Rattle.net_iface.specs.declared.lane.Pushed.{Pushed}
@@ -32,7 +33,7 @@ use Rattle.host_state.specs.Host.{does_want, does_all, does_wants, settles}
 use Rattle.host_state.specs.HostRecord.{HostRecord}
 use Rattle.host_state.specs.Lanes.{with_up, with_down}
 use Rattle.host_state.specs.Link.{LinkState, numbers, makes, later, not_before_next, event_of, logs}
-use Rattle.host_state.specs.Sending.{Wire, route_from, route_to, is_bootstrapping, whole, loses, travels, takes_its_chance, takes_route, takes_route_if, leaves, leave_all, makes_if, goes_on, goes_up, stays_here, loops, sends, drop_all, up_comes}
+use Rattle.host_state.specs.Sending.{Wire, route_from, route_to, is_bootstrapping, loses, travels, takes_its_chance, takes_route, takes_route_if, leaves, leave_all, makes_if, goes_on, goes_up, stays_here, loops, sends, drop_all, up_comes}
 
 -- an event that a host with this number made at a time
 pub record IsMade (net : Net) (lookahead : Option ℕ) (number : ℕ) (now : Time) (g : Event) : Type 0 where
@@ -231,7 +232,7 @@ module _ (net : Net) (lookahead : Option ℕ) (routes : IsLookaheadOf net lookah
       → G l (takes_route sure route packet (l, wanted)).0
   unfolding takes_route
   grows_route l sure route packet wanted travel sound =
-      by_if (λ (v : Wire). G l v.0) (sure || nat_le whole route.1) _ _ (λ _. travel) (λ _. grows_chance l route packet (draws_word wanted) travel sound)
+      by_if (λ (v : Wire). G l v.0) (sure || nat_le lossless route.1) _ _ (λ _. travel) (λ _. grows_chance l route packet (draws_word wanted) travel sound)
 
   grows_route_if : (l : LinkState) (sure : Bool) (n : ℕ) (found : Option (Time × ℕ)) (packet : Packet) (wanted : Wanted) → route_to net n packet.to.ip ≡ found
       → IsSound net l → packet_size packet ≤ MAX_PACKET → G l (takes_route_if sure found packet (l, wanted)).0

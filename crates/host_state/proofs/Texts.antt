@@ -1,10 +1,11 @@
 -- How many bytes and words a stack holds at first.
 use Rattle.std.proofs.Common.{◌≡◌, ℕ, ◌+◌, ◌*◌, ◌≤◌, List, [], ◌∷◌, ◌++◌, length, refl, ap, ◌∙◌, sym, length-append, append_assoc, arith}
 use Rattle.std.proofs.Common.{◌-◌, replicate, slice_set, None}
+use Rattle.sim_base.specs.Limits.{most_text_bytes}
 use Rattle.elf_load.specs.ProgramImage.{ProgramImage}
 use Rattle.guest_mem.specs.Memory.{Memory, low_bytes}
 use Rattle.guest_mem.specs.Opening.{opening}
-use Rattle.host_state.specs.Start.{texts_bytes, pointers, rounded_down, texts_at, auxiliary_vector, words_at, fixed_words, most_text, start_words, stack_pointer, word_bytes, filled, start_memory, IsStarted}
+use Rattle.host_state.specs.Start.{texts_bytes, pointers, rounded_down, texts_at, auxiliary_vector, words_at, fixed_words, start_words, stack_pointer, word_bytes, filled, start_memory, IsStarted}
 
 pub texts_bytes-append : (xs ys : List (List ℕ)) → texts_bytes (xs ++ ys) ≡ texts_bytes xs ++ texts_bytes ys
 texts_bytes-append [] ys = refl
@@ -34,8 +35,8 @@ bytes_count [] = refl
 bytes_count (w ∷ ws) = omega (arith, bytes_count ws, length-append (low_bytes 4 w) (word_bytes ws))
 
 -- few texts make few words
-pub words_few : (at : ℕ) (arguments environment : List (List ℕ)) → length (texts_bytes (arguments ++ environment)) ≤ most_text
-    → length (words_at at arguments environment) ≤ most_text + fixed_words
+pub words_few : (at : ℕ) (arguments environment : List (List ℕ)) → length (texts_bytes (arguments ++ environment)) ≤ most_text_bytes
+    → length (words_at at arguments environment) ≤ most_text_bytes + fixed_words
 words_few at arguments environment few =
     omega (
       arith,

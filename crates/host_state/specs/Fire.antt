@@ -1,5 +1,6 @@
 -- What one event does to one host.
 use Rattle.std.specs.Prelude.{ℕ, zero, suc, ◌&&◌, Bool, true, false, not, List, [], ◌++◌, length, min, slice_get, Option, Some, None, option_map, option_and_then, if◌then◌else◌}
+use Rattle.sim_base.specs.Limits.{most_processes}
 use Rattle.elf_load.specs.ProgramImage.{ProgramImage}
 use Rattle.sim_base.specs.declared.event.Event.{Event}
 use Rattle.sim_base.specs.declared.event.What.{What}
@@ -143,10 +144,6 @@ wakes net p host = wakes_in net p (running_in (slice_get host.processes p)) host
 unfoldable pub wakes_from : Net → ℕ → ℕ → HostRecord → HostRecord
 wakes_from net p zero host = host
 wakes_from net p (suc count) host = wakes_from net (suc p) count (wakes net p host)
-
--- a host has at most so many processes
-abbrev pub most_processes : ℕ
-most_processes = 64
 
 unfoldable pub wakes_all : Net → HostRecord → HostRecord
 wakes_all net host = wakes_from net 0 (min (length host.processes) most_processes) host

@@ -10,6 +10,7 @@ use Rattle.sim_base.specs.declared.time.Time.{Time}
 use Rattle.sim_base.specs.Addresses.{is_same_ip, loopback, host_at}
 use Rattle.sim_base.specs.Packet.{packet_size}
 use Rattle.sim_base.specs.Quantity.{◌>>=◌}
+use Rattle.gml_graph.specs.Edges.{lossless}
 use Rattle.net_routes.specs.declared.cost.Cost.{Cost}
 use Rattle.net_routes.specs.Routes.{route_in}
 use Rattle.net_iface.specs.Lane.{Release}
@@ -45,13 +46,9 @@ route_to net host ip = do
 abbrev pub is_bootstrapping : Net → Time → Bool
 is_bootstrapping net now = nat_lt now.nanos net.bootstrap_end.nanos
 
--- of 10^9 packets so many arrive
-abbrev pub whole : ℕ
-whole = 1000000000
-
 -- whether a word that is drawn loses a packet
 abbrev pub loses : ℕ → ℕ → Bool
-loses reliability word = nat_le reliability (word * whole / 2 ^ 64)
+loses reliability word = nat_le reliability (word * lossless / 2 ^ 64)
 
 -- a packet is on its way to another host
 abbrev pub travels : Time → Packet → LinkState → LinkState
@@ -65,7 +62,7 @@ takes_its_chance (latency, reliability) packet link (word, wanted) =
 -- a packet takes its route
 unfoldable pub takes_route : Bool → Time × ℕ → Packet → Wire → Wire
 takes_route sure (latency, reliability) packet (link, wanted) =
-    if sure || nat_le whole reliability
+    if sure || nat_le lossless reliability
     then (travels latency packet link, wanted)
     else takes_its_chance (latency, reliability) packet link (draws_word wanted)
 

@@ -1,5 +1,6 @@
 -- What a process starts with (System V ABI: the process stack).
 use Rattle.std.specs.Prelude.{◌≡◌, ℕ, ◌+◌, ◌-◌, ◌*◌, ◌/◌, Bool, nat_le, List, [], ◌∷◌, ◌++◌, length, replicate, slice_set, flat_map, None}
+use Rattle.sim_base.specs.Limits.{most_text_bytes}
 use Rattle.elf_load.specs.ProgramImage.{ProgramImage}
 use Rattle.elf_load.specs.Room.{page_size}
 use Rattle.guest_mem.specs.Memory.{Memory, low_bytes, put_all}
@@ -58,12 +59,8 @@ stack_pointer arguments environment = rounded_down (texts_at (arguments ++ envir
 abbrev pub word_bytes : List ℕ → List ℕ
 word_bytes words = flat_map (low_bytes word_size) words
 
--- how many bytes arguments and environment take at most, with a zero byte after each text
-abbrev pub most_text : ℕ
-most_text = 65536
-
 abbrev pub texts_fit : List (List ℕ) → List (List ℕ) → Bool
-texts_fit arguments environment = nat_le (length (texts_bytes (arguments ++ environment))) most_text
+texts_fit arguments environment = nat_le (length (texts_bytes (arguments ++ environment))) most_text_bytes
 
 -- the memory with these bytes from an address on
 abbrev pub filled : Memory → ℕ → List ℕ → Memory

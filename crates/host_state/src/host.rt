@@ -1,9 +1,9 @@
 //! What a host is.
 
 ghost use Rattle.std.specs.Prelude.{◌≡◌, ◌≤◌, ◌<◌, ◌∷◌, ◌^◌, [], false, length, replicate, option_map, slice_get, IfOk, IfErr, IfSome, IfNone, OnOk, OnErr, All, vec_len};
+ghost use Rattle.sim_base.specs.Limits.{most_processes};
 ghost use Rattle.sim_base.specs.Units.{latest_time};
 ghost use Rattle.event_order.specs.Events.{IsBefore, IsLeastDue, IsOrdered, has_key, with_event};
-ghost use Rattle.host_state.specs.Fire.{most_processes};
 ghost use Rattle.host_state.specs.HostRecord.{HostRecord, process_state};
 ghost use Rattle.host_state.specs.HostStands.{Stands, Fires, Begins, IsSameBody, with_events};
 ghost use Rattle.host_state.specs.Opening as opening;

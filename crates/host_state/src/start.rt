@@ -1,6 +1,7 @@
 //! What a process starts with (System V ABI: the process stack).
 
 ghost use Rattle.std.specs.Prelude.{◌≡◌, ◌+◌, ◌-◌, ◌*◌, ◌<◌, ◌≤◌, ◌^◌, ◌++◌, IfOk, OnOk, MatchOption, length};
+ghost use Rattle.sim_base.specs.Limits.{most_text_bytes};
 ghost use Rattle.guest_mem.specs.Opening.{stack_base, stack_end};
 ghost use Rattle.host_state.specs.Stack.{IsWritable};
 ghost use Rattle.host_state.specs.Start as spec;
@@ -157,7 +158,7 @@ pub(crate) fn start_guest(
     arguments: &[Bytes],
     environment: &[Bytes],
 ) -> Result<Started, NoMemory>
-    requires { length (spec.texts_bytes (arguments.now ++ environment.now)) ≤ spec.most_text }
+    requires { length (spec.texts_bytes (arguments.now ++ environment.now)) ≤ most_text_bytes }
     ensures { IfOk result (λ started. spec.IsStarted image.now arguments.now environment.now started.cpu started.memory) }
 {
     let texts = all_texts(alloc, arguments, environment)?;

@@ -1,15 +1,11 @@
 -- The clocks that a guest can read (clock_gettime(2)), at a moment of simulated time.
 use Rattle.std.specs.Prelude.{ℕ, ◌+◌, ◌/◌, ◌%◌, Option, Some, None, if◌then◌else◌, ◌==◌}
-use Rattle.sim_base.specs.Units.{second}
+use Rattle.sim_base.specs.Units.{second, unix_start}
 use Rattle.host_timers.specs.declared.clock.Moment.{Moment}
 
 -- nanoseconds in seconds and nanoseconds of a second
 abbrev pub moment_of : ℕ → Moment
 moment_of nanos = record { seconds = nanos / second; nanos = nanos % second }
-
--- the second of Unix time at which the simulation begins, 2000-01-01 00:00:00 UTC (this project's own profile)
-abbrev pub unix_start : ℕ
-unix_start = 946684800
 
 -- CLOCK_REALTIME and CLOCK_MONOTONIC
 abbrev pub clock_realtime : ℕ

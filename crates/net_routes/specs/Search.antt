@@ -3,6 +3,8 @@ use Rattle.std.specs.Prelude.{◌≡◌, ℕ, ◌*◌, ◌<◌, ◌≤◌, ◌�
 use Rattle.std.specs.List.{slice_index_or}
 use Rattle.std.specs.Ordering.{nat_cmp}
 use Rattle.std.specs.declared.cmp.Ordering.{Ordering}
+use Rattle.sim_base.specs.Units.{hour}
+use Rattle.gml_graph.specs.Edges.{lossless}
 use Rattle.net_routes.specs.declared.cost.Cost.{Cost}
 use Rattle.net_routes.specs.declared.arc.Arc.{Arc}
 use Rattle.net_routes.specs.declared.search.Entry.{Entry}
@@ -37,7 +39,7 @@ pub record IsSearch (rows : List (List Arc)) (start : ℕ) (best known : List (O
   pub seen : (v : ℕ) (c : Cost) → slice_index_or known v None ≡ Some c → IsReached best waiting v c
   pub closed : (u : ℕ) (c : Cost) (x : Arc) → IsSettled best u c → Leaves rows u x → IsKnown known x.to (then_arc c x)
   pub source : IsKnown known start nothing
-  pub bounded : (v : ℕ) (c : Cost) → slice_index_or known v None ≡ Some c → (c.latency ≤ count_by is_some best * 3600000000000) × (c.reliability ≤ 1000000000)
+  pub bounded : (v : ℕ) (c : Cost) → slice_index_or known v None ≡ Some c → (c.latency ≤ count_by is_some best * hour) × (c.reliability ≤ lossless)
 
 -- the cost of a place is that by an arc, and the place waits
 pub record IsMade (c : Cost) (arcs : List Arc) (waiting : List Entry) (v : ℕ) (d : Cost) : Type 0 where

@@ -1,6 +1,7 @@
 //! What walks cost.
 
 ghost use Rattle.std.specs.Prelude.{◌≡◌, ◌+◌, ◌<◌, ◌≤◌, ◌^◌, ◌⊎◌};
+ghost use Rattle.gml_graph.specs.Edges.{lossless};
 ghost use Rattle.net_routes.specs.Cost.{nothing, and_then, IsAsGood};
 
 /// What a walk costs: the sum of its latencies in nanoseconds, and what arrives of 10^9 that are
@@ -24,8 +25,8 @@ pub fn no_cost() -> Cost
 /// The cost of a walk and then of a hop.
 pub fn extended(cost: Cost, hop: Cost) -> Cost
     requires room { cost.latency + hop.latency < 2 ^ 64 }
-    requires before { cost.reliability ≤ 1000000000 }
-    requires part { hop.reliability ≤ 1000000000 }
+    requires before { cost.reliability ≤ lossless }
+    requires part { hop.reliability ≤ lossless }
     ensures { result ≡ and_then cost hop }
 {
     let arrived = u64::from(cost.reliability) * u64::from(hop.reliability) / 1_000_000_000;

@@ -6,6 +6,7 @@ ghost use Rattle.std.specs.BinaryHeap.{IsHeap, heap_items, heap_len};
 ghost use Rattle.net_routes.specs.declared.arc.Arc.{Arc};
 ghost use Rattle.net_routes.specs.declared.cost.Cost.{Cost};
 ghost use Rattle.std.specs.List.{slice_index_or};
+ghost use Rattle.gml_graph.specs.Edges.{lossless};
 ghost use Rattle.net_routes.specs.Cost.{and_then, IsAsGood};
 ghost use Rattle.net_routes.specs.Path.{AreArcs, IsArc, HasPath, IsBest};
 ghost use Rattle.net_routes.specs.Search.{entry_order, IsSearch, IsNext, AddsArcs};
@@ -66,8 +67,8 @@ fn next_entry(waiting: &mut BinaryHeap<Entry>, best: &[Option<Cost>]) -> Option<
 /// The cost of a walk and then of a hop, if nothing as good is known.
 fn improved(known: Option<Cost>, cost: Cost, hop: Cost) -> Option<Cost>
     requires room { cost.latency + hop.latency < 2 ^ 64 }
-    requires before { cost.reliability ≤ 1000000000 }
-    requires part { hop.reliability ≤ 1000000000 }
+    requires before { cost.reliability ≤ lossless }
+    requires part { hop.reliability ≤ lossless }
     ensures some { IfSome result (λ c. c ≡ and_then cost hop) }
     ensures better { IfSome result (λ c. IfSome known (IsAsGood c)) }
     ensures none { IfNone result (IsSomeAnd known (λ c. IsAsGood c (and_then cost hop))) }
@@ -95,7 +96,7 @@ fn add_arcs(
 ) -> Result<(), NoMemory>
     requires ends { All (IsArc (length known.old)) arcs.now }
     requires room { cost.latency < 2 ^ 62 }
-    requires part { cost.reliability ≤ 1000000000 }
+    requires part { cost.reliability ≤ lossless }
     ensures heap { IsHeap entry_order (heap_items waiting.old)
         → IsHeap entry_order (heap_items waiting.new) }
     ensures adds { OnOk result (AddsArcs cost arcs.now known.old known.new

@@ -8,7 +8,7 @@ use Rattle.std.proofs.lemmas.List.{take_all, take_at, drop_at}
 use Rattle.std.proofs.lemmas.Nat.{from_le_bytes-to_le_bytes_4}
 use Rattle.sim_base.specs.Packet.{packet_size, max_packet}
 use Rattle.sim_base.specs.declared.packet.Packet.{Packet}
-use Rattle.sim_base.specs.Units.{second}
+use Rattle.sim_base.specs.Units.{second, unix_start}
 use Rattle.pcap_text.specs.declared.capture.Record.{Record}
 use Rattle.pcap_text.specs.declared.fault.PcapFault.{PcapFault}
 use Rattle.pcap_text.specs.declared.fault.PcapKind.{PcapKind}
@@ -17,7 +17,7 @@ use Rattle.pcap_text.specs.Datagram.{datagram_bytes}
 use Rattle.pcap_text.specs.Laws.{Taken, MayBeRecorded, written, whole_record, IsReadBack}
 use Rattle.pcap_text.specs.Packets.{IsEach}
 use Rattle.pcap_text.specs.Reading.{Check, first, head_checks, record_checks, record_of, seconds_of, nanos_of, kept_of, whole_of, records, behind, pcap}
-use Rattle.pcap_text.specs.Writing.{head, start, record_front, packet_record, head_size, front_size}
+use Rattle.pcap_text.specs.Writing.{head, record_front, packet_record, head_size, front_size}
 use Rattle.pcap_text.proofs.Datagrams.{datagram_size, is_datagram}
 use Rattle.pcap_text.proofs.Records.{joined, one_more}
 
@@ -34,7 +34,7 @@ recorded nanos whole kept = record { time = record { nanos = nanos }; whole = wh
 
 -- a record's numbers and its bytes, all kept
 record MayBeWritten (size seconds nanos whole : ℕ) (kept : List ℕ) : Type 0 where
-  late : start ≤ seconds
+  late : unix_start ≤ seconds
   seconds_fit : seconds < 2 ^ 32
   below_second : nanos < second
   within : length kept ≤ whole
@@ -71,7 +71,7 @@ module _ (size seconds nanos whole : ℕ) (kept rest : List ℕ) (h : MayBeWritt
       none_of _ _ _
       (or_from _ _ (le-ltb (length (bytes_of seconds nanos whole kept rest)) front_size (omega (arith, size_again)))
       (le-ltb (length (bytes_of seconds nanos whole kept rest)) (front_size + kept_of (bytes_of seconds nanos whole kept rest)) (omega (arith, size_again, kept_again))))
-      (or_from _ _ (le-ltb (seconds_of (bytes_of seconds nanos whole kept rest)) start (omega (arith, seconds_again, h.late)))
+      (or_from _ _ (le-ltb (seconds_of (bytes_of seconds nanos whole kept rest)) unix_start (omega (arith, seconds_again, h.late)))
       (lt-leb second (nanos_of 1 (bytes_of seconds nanos whole kept rest)) (omega (arith, nanos_again, h.below_second))))
       (or_from _ _ (le-ltb (whole_of (bytes_of seconds nanos whole kept rest)) (kept_of (bytes_of seconds nanos whole kept rest)) (omega (arith, whole_again, kept_again, h.within)))
       (le-ltb size (kept_of (bytes_of seconds nanos whole kept rest)) (omega (arith, kept_again, h.captured))))

@@ -1,7 +1,7 @@
 -- What the bytes of a capture tell, or their first fault (draft-ietf-opsawg-pcap). Numbers are little-endian.
 use Rattle.std.specs.Prelude.{◌≡◌, ℕ, zero, suc, ◌+◌, ◌-◌, ◌*◌, ◌==◌, Bool, not, ◌&&◌, ◌||◌, List, [], ◌∷◌, length, take, drop, find, slice_index, Option, Some, None, option_map, Result, Ok, Err, nat_lt, nat_le, if◌then◌else◌}
 use Rattle.std.specs.Int.{w16, w32, from_le_bytes}
-use Rattle.sim_base.specs.Units.{microsecond, second}
+use Rattle.sim_base.specs.Units.{microsecond, second, unix_start}
 use Rattle.pcap_text.specs.declared.capture.Capture.{Capture}
 use Rattle.pcap_text.specs.declared.capture.Record.{Record}
 use Rattle.pcap_text.specs.declared.fault.PcapError.{PcapError}
@@ -9,7 +9,7 @@ use Rattle.pcap_text.specs.declared.fault.PcapError.TheVariants.{Fault, NoMemory
 use Rattle.pcap_text.specs.declared.fault.PcapFault.{PcapFault}
 use Rattle.pcap_text.specs.declared.fault.PcapKind.{PcapKind}
 use Rattle.pcap_text.specs.declared.fault.PcapKind.TheVariants.{Truncated, Magic, Version, Link, Time, Length}
-use Rattle.pcap_text.specs.Writing.{nanosecond_magic, microsecond_magic, raw, major_version, minor_version, start, head_size, front_size}
+use Rattle.pcap_text.specs.Writing.{nanosecond_magic, microsecond_magic, raw, major_version, minor_version, head_size, front_size}
 
 -- the numbers that the two and the four bytes at a place hold
 abbrev pub half : List ℕ → ℕ → ℕ
@@ -58,13 +58,13 @@ whole_of bytes = word bytes 12
 unfoldable pub record_checks : ℕ → ℕ → List ℕ → List Check
 record_checks unit size bytes =
     (nat_lt (length bytes) front_size || nat_lt (length bytes) (front_size + kept_of bytes), Truncated)
-    ∷ (nat_lt (seconds_of bytes) start || nat_le second (nanos_of unit bytes), Time)
+    ∷ (nat_lt (seconds_of bytes) unix_start || nat_le second (nanos_of unit bytes), Time)
     ∷ (nat_lt (whole_of bytes) (kept_of bytes) || nat_lt size (kept_of bytes), Length)
     ∷ []
 
 abbrev pub record_of : ℕ → List ℕ → Record
 record_of unit bytes = record {
-  time = record { nanos = (seconds_of bytes - start) * second + nanos_of unit bytes };
+  time = record { nanos = (seconds_of bytes - unix_start) * second + nanos_of unit bytes };
   whole = whole_of bytes;
   kept = take (kept_of bytes) (drop front_size bytes);
 }

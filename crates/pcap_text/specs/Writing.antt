@@ -2,7 +2,7 @@
 use Rattle.std.specs.Prelude.{ℕ, ◌+◌, ◌/◌, ◌%◌, List, ◌++◌, length, take}
 use Rattle.std.specs.Int.{w16, w32, to_le_bytes}
 use Rattle.sim_base.specs.Packet.{packet_size}
-use Rattle.sim_base.specs.Units.{second}
+use Rattle.sim_base.specs.Units.{second, unix_start}
 use Rattle.sim_base.specs.declared.packet.Packet.{Packet}
 use Rattle.sim_base.specs.declared.time.Time.{Time}
 use Rattle.pcap_text.specs.Datagram.{datagram_bytes}
@@ -29,10 +29,6 @@ minor_version = 4
 abbrev pub head : ℕ → List ℕ
 head size = to_le_bytes w32 nanosecond_magic ++ (to_le_bytes w16 major_version ++ (to_le_bytes w16 minor_version ++ (to_le_bytes w32 0 ++ (to_le_bytes w32 0 ++ (to_le_bytes w32 size ++ to_le_bytes w32 raw)))))
 
--- Unix time of the moment at which the simulation starts, 2000-01-01 00:00:00 UTC (this project's own profile)
-abbrev pub start : ℕ
-start = 946684800
-
 -- the bytes of the head, and of what stands before the bytes of a record
 abbrev pub head_size : ℕ
 head_size = 24
@@ -50,4 +46,4 @@ record_bytes seconds fraction whole kept = record_front seconds fraction (length
 
 -- the record of a packet in a file with a capture size
 abbrev pub packet_record : ℕ → Time → Packet → List ℕ
-packet_record size time p = record_bytes (start + time.nanos / second) (time.nanos % second) (packet_size p) (take size (datagram_bytes p))
+packet_record size time p = record_bytes (unix_start + time.nanos / second) (time.nanos % second) (packet_size p) (take size (datagram_bytes p))

@@ -2,7 +2,7 @@
 
 ghost use Rattle.std.specs.Prelude.{◌≡◌, ◌≤◌, ◌+◌, ◌/◌, ◌%◌, ◌++◌, take, IfOk, OnOk, OnErr};
 ghost use Rattle.sim_base.specs.Packet.{packet_size, max_packet};
-ghost use Rattle.sim_base.specs.Units.{second, latest_time};
+ghost use Rattle.sim_base.specs.Units.{second, latest_time, unix_start};
 ghost use Rattle.pcap_text.specs.Writing as spec;
 
 use crate::datagram::datagram;
@@ -37,7 +37,7 @@ pub(crate) const SECOND: u64 = 1_000_000_000;
 /// What stands before the bytes of a record.
 fn record_front(time: Time, kept: u32, whole: u32) -> [u8; 16]
     requires { time.nanos ≤ latest_time }
-    ensures { result ≡ spec.record_front (spec.start + time.nanos / second) (time.nanos % second) kept whole }
+    ensures { result ≡ spec.record_front (unix_start + time.nanos / second) (time.nanos % second) kept whole }
 {
     let seconds = ((START + time.nanos / SECOND) as u32).to_le_bytes();
     let nanos = ((time.nanos % SECOND) as u32).to_le_bytes();

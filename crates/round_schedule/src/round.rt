@@ -1,6 +1,7 @@
 //! The state of a round.
 
 ghost use Rattle.std.specs.Prelude.{◌≡◌, ◌≤◌, IfOk, None, replicate};
+ghost use Rattle.sim_base.specs.Limits.{most_workers};
 ghost use Rattle.host_state.specs.HostRecord.{HostRecord};
 ghost use Rattle.host_state.specs.declared.line.Line.{Line};
 ghost use Rattle.host_state.specs.declared.net.Net.{Net};
@@ -88,7 +89,7 @@ impl Round {
         workers: u32,
     ) -> Result<Round, NoMemory>
         requires may { MayOpen net.now window hosts.items }
-        requires workers { (1 ≤ workers) × (workers ≤ 64) }
+        requires workers { (1 ≤ workers) × (workers ≤ most_workers) }
         ensures stands { IfOk result (λ round. (w : World HostRecord Line) → HostsStand net.now hosts.items w → RoundStands net.now w round (round_on net.now window workers w)) }
         ensures window { IfOk result (λ round. round.window ≡ window) }
     {

@@ -1,15 +1,15 @@
 -- What the words of a call may ask for: the size of a self-load, and what they override.
 use Rattle.std.specs.Prelude.{◌≤◌}
+use Rattle.sim_base.specs.Limits.{most_ring_hosts}
 use Rattle.command_line.specs.declared.asked.Asked.{Asked}
 use Rattle.command_line.specs.declared.asked.Subject.{Subject}
 use Rattle.command_line.specs.declared.asked.Subject.TheVariants.{File, SelfLoad}
 use Rattle.shd_config.specs.declared.overrides.Overrides.{Overrides}
-use Rattle.run_plan.specs.SelfLoad.{max_ring_hosts}
 
 -- a self-load has two hosts at least, and not too many
 abbrev pub IsInRange : Subject → Type 0
 IsInRange (File name) = Unit {0}
-IsInRange (SelfLoad hosts) = (2 ≤ hosts) × (hosts ≤ max_ring_hosts)
+IsInRange (SelfLoad hosts) = (2 ≤ hosts) × (hosts ≤ most_ring_hosts)
 
 -- what the words override
 abbrev pub overrides_of : Asked → Overrides

@@ -2,6 +2,7 @@
 use Rattle.std.specs.Prelude.{ℕ, List, [], ◌∷◌, Some, Bool, true, false, Result, Ok, Err}
 use Rattle.sim_base.specs.Files.{Held}
 use Rattle.sim_base.specs.Units.{millisecond}
+use Rattle.gml_graph.specs.Edges.{lossless}
 use Rattle.gml_graph.specs.Gml.{graph}
 use Rattle.gml_graph.specs.declared.graph.Graph.{Graph}
 use Rattle.gml_graph.specs.declared.fault.GmlFault.{GmlFault}
@@ -15,10 +16,6 @@ use Rattle.run_plan.specs.declared.fault.Fault.TheVariants as fault
 -- the bits a second of a bandwidth of 1 Gbit
 abbrev pub gigabit : ℕ
 gigabit = 1000000000
-
--- the reliability of an edge by which each of 10^9 packets arrives
-abbrev pub lossless : ℕ
-lossless = 1000000000
 
 -- one node with 1 Gbit both ways, and a loop of 1 ms without loss
 abbrev pub one_gbit_switch : Graph

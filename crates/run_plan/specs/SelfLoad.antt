@@ -4,6 +4,8 @@ use Rattle.std.specs.List.{range_with_len}
 use Rattle.std.specs.Fmt.{decimal}
 use Rattle.sim_base.specs.declared.signal.Signal.TheVariants.{SigTerm}
 use Rattle.sim_base.specs.Units.{millisecond, second}
+use Rattle.gml_graph.specs.Edges.{lossless}
+use Rattle.shd_config.specs.Bounds.{default_capture}
 use Rattle.gml_graph.specs.declared.graph.Graph.{Graph}
 use Rattle.gml_graph.specs.declared.graph.Node.{Node}
 use Rattle.gml_graph.specs.declared.graph.Edge.{Edge}
@@ -14,11 +16,7 @@ use Rattle.shd_config.specs.declared.config.HostConfig.{HostConfig}
 use Rattle.shd_config.specs.declared.config.ProcessConfig.{ProcessConfig}
 use Rattle.shd_config.specs.declared.config.QueueRule.TheVariants.{Fifo}
 use Rattle.shd_config.specs.declared.overrides.Overrides.{Overrides}
-use Rattle.run_plan.specs.Network.{gigabit, lossless}
-
--- the most hosts of a self-load
-abbrev pub max_ring_hosts : ℕ
-max_ring_hosts = 4096
+use Rattle.run_plan.specs.Network.{gigabit}
 
 -- the name of a host, as h0007
 abbrev pub host_name : ℕ → List ℕ
@@ -52,10 +50,6 @@ ring_process next = record {
   expected_final_state = Exited 0;
 }
 
--- the capture size of a host for which none is given, which cuts no packet
-abbrev pub uncut : ℕ
-uncut = 65535
-
 -- a host on the node of its number, with 1 Gbit both ways
 abbrev pub ring_host : ℕ → ℕ → HostConfig
 ring_host n i = record {
@@ -66,7 +60,7 @@ ring_host n i = record {
   bandwidth_up = Some gigabit;
   bandwidth_down = Some gigabit;
   pcap_enabled = false;
-  pcap_capture_size = uncut;
+  pcap_capture_size = default_capture;
   processes = ring_process (next_host n i) ∷ [];
 }
 

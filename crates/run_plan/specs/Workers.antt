@@ -1,10 +1,7 @@
 -- How many workers there are.
 use Rattle.std.specs.Prelude.{ℕ, ◌==◌, if◌then◌else◌, min, max}
+use Rattle.sim_base.specs.Limits.{most_workers}
 
--- the most workers
-abbrev pub max_workers : ℕ
-max_workers = 64
-
--- as many as are asked for, or as there are cores where 0 are; at most max_workers and one for each host, and one at least
+-- as many as are asked for, or as there are cores where 0 are; at most most_workers and one for each host, and one at least
 abbrev pub worker_count : ℕ → ℕ → ℕ → ℕ
-worker_count parallelism cores hosts = max 1 (min hosts (min max_workers (if parallelism == 0 then cores else parallelism)))
+worker_count parallelism cores hosts = max 1 (min hosts (min most_workers (if parallelism == 0 then cores else parallelism)))

@@ -1,8 +1,8 @@
 //! The addresses of hosts.
 
 ghost use Rattle.std.specs.Prelude.{◌≡◌, ◌+◌, ◌*◌, ◌<◌, ◌≤◌, ◌^◌, length, IfOk};
+ghost use Rattle.sim_base.specs.Limits.{most_hosts};
 ghost use Rattle.run_plan.specs.Addresses.{first_address, is_open, given_addresses, IsLeastOpen, AreAddressesFrom, AreAddresses};
-ghost use Rattle.run_plan.specs.Limits.{max_hosts};
 ghost use Rattle.run_plan.specs.Room.{count_from, NextAddress};
 
 use sim_base::{Book, Ip, NoMemory};
@@ -91,7 +91,7 @@ fn with_open(alloc: Global, given: &Book, hosts: &[Option<Ip>]) -> Result<Vec<Ip
 
 /// The addresses of hosts, of which some are given: the others get the next open ones.
 pub fn addresses_of(alloc: Global, hosts: &[Option<Ip>]) -> Result<Vec<Ip>, NoMemory>
-    requires { length hosts.now ≤ max_hosts }
+    requires { length hosts.now ≤ most_hosts }
     ensures { IfOk result (λ v. AreAddresses hosts.now v.items) }
 {
     let given = given(alloc, hosts)?;

@@ -1,8 +1,8 @@
 //! The rows of hosts.
 
 ghost use Rattle.std.specs.Prelude.{◌≡◌, ◌≤◌, length, map, IfOk, OnOk};
+ghost use Rattle.sim_base.specs.Limits.{most_hosts};
 ghost use Rattle.run_plan.specs.HostRows.{AreInOrder, HaveAddresses, images_of, row_of, rows_of, host_rows};
-ghost use Rattle.run_plan.specs.Limits.{max_hosts};
 ghost use Rattle.run_plan.specs.Outcomes.{Meets};
 ghost use Rattle.run_plan.specs.Programs.{paths_of, place_of, programs_of};
 
@@ -119,7 +119,7 @@ fn given_of(alloc: Global, hosts: &[HostConfig]) -> Result<Vec<Option<Ip>>, NoMe
 
 /// The addresses of hosts in their order.
 fn host_addresses(alloc: Global, hosts: &[HostConfig]) -> Result<Vec<Ip>, NoMemory>
-    requires { length hosts.now ≤ max_hosts }
+    requires { length hosts.now ≤ most_hosts }
     ensures { IfOk result (λ v. HaveAddresses hosts.now v.items) }
 {
     let given = given_of(alloc, hosts)?;
@@ -189,7 +189,7 @@ pub fn host_rows(
     hosts: Hosts,
 ) -> Result<HostRows, ReadStop>
     requires programs { programs.now ≡ programs_of hosts }
-    requires few { length hosts ≤ max_hosts }
+    requires few { length hosts ≤ most_hosts }
     ensures { Meets (λ r. r) (host_rows file.now graph.now hosts) result }
 {
     let ordered = in_order(hosts)?;

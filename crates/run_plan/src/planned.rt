@@ -1,6 +1,7 @@
 //! What is asked by the words of a call.
 
 ghost use Rattle.std.specs.Prelude.{◌≡◌, ◌<◌, ◌≤◌, map, string_bytes, IfSome, IfOk};
+ghost use Rattle.sim_base.specs.Limits.{most_ring_hosts};
 ghost use Rattle.command_line.specs.Asked.{asked};
 ghost use Rattle.run_plan.specs.Outcomes.{gives, Meets, CountsSource};
 ghost use Rattle.run_plan.specs.Planned.{or_words_fault, shown_or_run, file_planned, self_load_planned, planned_of, planned};
@@ -8,7 +9,6 @@ ghost use Rattle.run_plan.specs.InRange.{IsInRange, overrides_of};
 ghost use Rattle.run_plan.specs.Limits.{AreLimitsKept};
 ghost use Rattle.run_plan.specs.Names.{AreNamesApart};
 ghost use Rattle.run_plan.specs.Routed.{IsRoutedIfRun};
-ghost use Rattle.run_plan.specs.SelfLoad.{max_ring_hosts};
 ghost use Rattle.shd_config.specs.Limits.{MayOverride};
 
 use crate::configured::configure;
@@ -105,7 +105,7 @@ fn plan_self_load<R: Threads + Sync>(
     cores: u32,
 ) -> Result<Planned, ReadStop>
     requires some { 0 < hosts }
-    requires few { hosts ≤ max_ring_hosts }
+    requires few { hosts ≤ most_ring_hosts }
     requires overrides { MayOverride manner.now.overrides }
     ensures told { Meets (λ p. p) (self_load_planned manner.now hosts) result }
     ensures limits { IfOk result AreLimitsKept }

@@ -2,9 +2,10 @@
 
 ghost use Rattle.std.specs.Prelude.{◌≡◌, ◌≤◌, ◌<◌, map, unwrap_or, codes, IfOk};
 ghost use Rattle.std.specs.List.{range_with_len};
+ghost use Rattle.sim_base.specs.Limits.{most_ring_hosts};
 ghost use Rattle.shd_config.specs.Limits.{MayOverride, IsWithinLimits};
 ghost use Rattle.run_plan.specs.Names.{AreHostsApart};
-ghost use Rattle.run_plan.specs.SelfLoad.{host_name, next_host, address_number, ring_process, ring_host, self_load_config, ring_node, ring_edge, self_load_graph, max_ring_hosts};
+ghost use Rattle.run_plan.specs.SelfLoad.{host_name, next_host, address_number, ring_process, ring_host, self_load_config, ring_node, ring_edge, self_load_graph};
 
 use gml_graph::{Edge, Edges, Graph, Node, Nodes};
 use shd_config::{
@@ -36,7 +37,7 @@ fn host_name(alloc: Global, host: u32) -> Result<Name, NoMemory>
 /// The number of the host behind another one in a ring of `hosts`.
 fn next_host(hosts: u32, host: u32) -> u32
     requires some { 0 < hosts }
-    requires few { hosts ≤ max_ring_hosts }
+    requires few { hosts ≤ most_ring_hosts }
     requires within { host < hosts }
     ensures { result ≡ next_host hosts host }
 {
@@ -45,7 +46,7 @@ fn next_host(hosts: u32, host: u32) -> u32
 
 /// The address of a host as a number.
 fn address_number(host: u32) -> u32
-    requires { host < max_ring_hosts }
+    requires { host < most_ring_hosts }
     ensures { result ≡ address_number host }
 {
     NET + 256 * (host / 254) + host % 254 + 1
@@ -53,7 +54,7 @@ fn address_number(host: u32) -> u32
 
 /// The guest that sends to the host of this number.
 fn ring_process(alloc: Global, next: u32) -> Result<ProcessConfig, NoMemory>
-    requires { next < max_ring_hosts }
+    requires { next < most_ring_hosts }
     ensures { IfOk result (λ p. p ≡ ring_process next) }
 {
     let number = address_number(next);
@@ -74,7 +75,7 @@ fn ring_process(alloc: Global, next: u32) -> Result<ProcessConfig, NoMemory>
 /// A host of a ring.
 fn ring_host(alloc: Global, hosts: u32, host: u32) -> Result<HostConfig, NoMemory>
     requires some { 0 < hosts }
-    requires few { hosts ≤ max_ring_hosts }
+    requires few { hosts ≤ most_ring_hosts }
     requires within { host < hosts }
     ensures { IfOk result (λ h. h ≡ ring_host hosts host) }
 {
@@ -96,7 +97,7 @@ fn ring_host(alloc: Global, hosts: u32, host: u32) -> Result<HostConfig, NoMemor
 
 fn ring_hosts(alloc: Global, hosts: u32) -> Result<Hosts, NoMemory>
     requires some { 0 < hosts }
-    requires few { hosts ≤ max_ring_hosts }
+    requires few { hosts ≤ most_ring_hosts }
     ensures { IfOk result (λ all. all ≡ map (ring_host hosts) (range_with_len 0 hosts)) }
 {
     let mut all = Vec::new(alloc);
@@ -121,7 +122,7 @@ fn directory_of(alloc: Global, overrides: &Overrides) -> Result<Name, NoMemory>
 #[tactic(auto, unfolding(crate::specs::SelfLoad::self_load_config))]
 fn ring_config(alloc: Global, overrides: &Overrides, hosts: u32) -> Result<Config, NoMemory>
     requires some { 0 < hosts }
-    requires few { hosts ≤ max_ring_hosts }
+    requires few { hosts ≤ most_ring_hosts }
     ensures { IfOk result (λ c. c ≡ self_load_config overrides.now hosts) }
 {
     Ok(Config {
@@ -147,7 +148,7 @@ pub fn self_load_config(
     hosts: u32,
 ) -> Result<Config, NoMemory>
     requires some { 0 < hosts }
-    requires few { hosts ≤ max_ring_hosts }
+    requires few { hosts ≤ most_ring_hosts }
     requires overrides { MayOverride overrides.now }
     ensures config { IfOk result (λ c. c ≡ self_load_config overrides.now hosts) }
     ensures limits { IfOk result IsWithinLimits }
@@ -173,7 +174,7 @@ fn ring_nodes(alloc: Global, hosts: u32) -> Result<Vec<Node>, NoMemory>
 /// The edge from a node to the next one.
 fn ring_edge(hosts: u32, host: u32) -> Edge
     requires some { 0 < hosts }
-    requires few { hosts ≤ max_ring_hosts }
+    requires few { hosts ≤ most_ring_hosts }
     requires within { host < hosts }
     ensures edge { result ≡ ring_edge hosts host }
 {
@@ -190,7 +191,7 @@ fn ring_edge(hosts: u32, host: u32) -> Edge
 
 fn ring_edges(alloc: Global, hosts: u32) -> Result<Vec<Edge>, NoMemory>
     requires some { 0 < hosts }
-    requires few { hosts ≤ max_ring_hosts }
+    requires few { hosts ≤ most_ring_hosts }
     ensures { IfOk result (λ all. all.items ≡ map (ring_edge hosts) (range_with_len 0 hosts)) }
 {
     let mut all = Vec::new(alloc);
@@ -204,7 +205,7 @@ fn ring_edges(alloc: Global, hosts: u32) -> Result<Vec<Edge>, NoMemory>
 #[tactic(auto, unfolding(crate::specs::SelfLoad::self_load_graph))]
 pub fn self_load_graph(alloc: Global, hosts: u32) -> Result<Graph, NoMemory>
     requires some { 0 < hosts }
-    requires few { hosts ≤ max_ring_hosts }
+    requires few { hosts ≤ most_ring_hosts }
     ensures { IfOk result (λ g. g ≡ self_load_graph hosts) }
 {
     let nodes = ring_nodes(alloc, hosts)?;

@@ -1,6 +1,7 @@
 //! The text of a self-load's configuration.
 
 ghost use Rattle.std.specs.Prelude.{◌≡◌, ◌≤◌, IfOk};
+ghost use Rattle.sim_base.specs.Limits.{most_ring_hosts};
 ghost use Rattle.shd_config.specs.Shown.{shown};
 ghost use Rattle.shd_config.specs.declared.overrides.Overrides.{Overrides};
 ghost use Rattle.shown_config.specs.Same.{no_overrides};
@@ -15,7 +16,7 @@ use std::alloc::Global;
 /// The text that shows the configuration of a ring of hosts.
 fn shown_text(alloc: Global, hosts: u32) -> Result<Text, NoMemory>
     requires some { 2 ≤ hosts }
-    requires few { hosts ≤ 4096 }
+    requires few { hosts ≤ most_ring_hosts }
     ensures { IfOk result (λ text. text ≡ shown (self_load_config no_overrides hosts)) }
 {
     let overrides = Overrides {
@@ -33,7 +34,7 @@ fn shown_text(alloc: Global, hosts: u32) -> Result<Text, NoMemory>
 /// A text that reads as the configuration of a self-load, whatever is overridden.
 pub fn config_text(alloc: Global, hosts: u32) -> Result<Text, NoMemory>
     requires some { 2 ≤ hosts }
-    requires few { hosts ≤ 4096 }
+    requires few { hosts ≤ most_ring_hosts }
     ensures { IfOk result (λ text. (o : Overrides) → SaysConfig text o (self_load_config o hosts)) }
 {
     shown_text(alloc, hosts)

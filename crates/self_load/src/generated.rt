@@ -1,6 +1,7 @@
 //! A self-load as a text of a configuration and files.
 
 ghost use Rattle.std.specs.Prelude.{◌≡◌, ◌≤◌, Ok, IfOk};
+ghost use Rattle.sim_base.specs.Limits.{most_ring_hosts};
 ghost use Rattle.gml_graph.specs.Gml.{graph};
 ghost use Rattle.run_plan.specs.SelfLoad.{self_load_graph};
 ghost use Rattle.self_load.specs.Means.{AreFilesOf, Means};
@@ -24,7 +25,7 @@ pub struct SelfLoad {
 /// The files of a self-load.
 fn files_of(alloc: Global, hosts: u32) -> Result<Files, NoMemory>
     requires some { 2 ≤ hosts }
-    requires few { hosts ≤ 4096 }
+    requires few { hosts ≤ most_ring_hosts }
     ensures { IfOk result (AreFilesOf hosts) }
 {
     let graph = graph_file(alloc, hosts)?;
@@ -43,7 +44,7 @@ fn files_of(alloc: Global, hosts: u32) -> Result<Files, NoMemory>
 /// The experiment of `--self-load`, with this number of hosts.
 pub fn generate(alloc: Global, hosts: u32) -> Result<SelfLoad, NoMemory>
     requires some { 2 ≤ hosts }
-    requires few { hosts ≤ 4096 }
+    requires few { hosts ≤ most_ring_hosts }
     ensures { IfOk result (Means hosts) }
 {
     Ok(SelfLoad {

@@ -2,6 +2,7 @@
 
 ghost use Rattle.std.specs.Prelude.{◌≡◌, ◌≤◌, ◌<◌, string_bytes, Ok, IfOk};
 ghost use Rattle.std.specs.List.{flat_map, range_with_len};
+ghost use Rattle.sim_base.specs.Limits.{most_ring_hosts};
 ghost use Rattle.gml_graph.specs.Gml.{graph};
 ghost use Rattle.run_plan.specs.SelfLoad.{next_host, self_load_graph};
 ghost use Rattle.self_load.specs.GraphText.{node_line, loss_word, edge_line, graph_text};
@@ -25,7 +26,7 @@ fn node_line(alloc: Global, node: u32) -> Result<String, NoMemory>
 /// The edge from a node to the next one.
 fn edge_line(alloc: Global, hosts: u32, host: u32) -> Result<String, NoMemory>
     requires some { 0 < hosts }
-    requires few { hosts ≤ 4096 }
+    requires few { hosts ≤ most_ring_hosts }
     requires within { host < hosts }
     ensures { IfOk result (λ s. string_bytes s ≡ edge_line hosts host) }
 {
@@ -50,7 +51,7 @@ fn node_lines(alloc: Global, hosts: u32) -> Result<Text, NoMemory>
 
 fn edge_lines(alloc: Global, hosts: u32) -> Result<Text, NoMemory>
     requires some { 0 < hosts }
-    requires few { hosts ≤ 4096 }
+    requires few { hosts ≤ most_ring_hosts }
     ensures { IfOk result (λ text. text ≡ flat_map (edge_line hosts) (range_with_len 0 hosts)) }
 {
     let mut lines = Text::new(alloc);
@@ -65,7 +66,7 @@ fn edge_lines(alloc: Global, hosts: u32) -> Result<Text, NoMemory>
 #[tactic(auto, unfolding(crate::specs::GraphText::graph_text))]
 fn ring_text(alloc: Global, hosts: u32) -> Result<Text, NoMemory>
     requires some { 0 < hosts }
-    requires few { hosts ≤ 4096 }
+    requires few { hosts ≤ most_ring_hosts }
     ensures { IfOk result (λ text. text ≡ graph_text hosts) }
 {
     let nodes = node_lines(alloc, hosts)?;
@@ -79,7 +80,7 @@ fn ring_text(alloc: Global, hosts: u32) -> Result<Text, NoMemory>
 /// A text that reads as the graph of a self-load.
 pub fn graph_file(alloc: Global, hosts: u32) -> Result<Text, NoMemory>
     requires some { 2 ≤ hosts }
-    requires few { hosts ≤ 4096 }
+    requires few { hosts ≤ most_ring_hosts }
     ensures { IfOk result (λ text. graph text ≡ Ok (self_load_graph hosts)) }
 {
     ring_text(alloc, hosts)

@@ -1,6 +1,7 @@
 //! The rows of hosts and the net that a run begins with.
 
 ghost use Rattle.std.specs.Prelude.{◌≡◌, ◌+◌, ◌≤◌, ◌<◌, ◌∷◌, map, length, IfOk, codes};
+ghost use Rattle.sim_base.specs.Limits.{most_hosts};
 ghost use Rattle.run_plan.specs.Limits.{KeepsToLimits};
 ghost use Rattle.run_plan.specs.Names.{AreRowsApart};
 ghost use Rattle.run_plan.specs.Plan.{nodes_of};
@@ -146,7 +147,7 @@ fn row_of(alloc: Global, settings: &Settings, number: u32, host: &HostRow) -> Re
 
 /// The hosts in their order.
 fn rows_of(alloc: Global, settings: &Settings, hosts: &[HostRow]) -> Result<Vec<Row>, NoMemory>
-    requires { length hosts.now ≤ 16384 }
+    requires { length hosts.now ≤ most_hosts }
     ensures { IfOk result (λ rows. map said_host rows.items ≡ hosts_from settings.now 0 hosts.now) }
 {
     let mut rows = Vec::new(alloc);
@@ -178,7 +179,7 @@ fn nodes_of(alloc: Global, hosts: &[HostRow]) -> Result<Vec<u32>, NoMemory>
 
 /// The book of all addresses, and the text of `/etc/hosts`.
 fn known_of(alloc: Global, hosts: &[HostRow], text: Text) -> Result<Known, NoMemory>
-    requires { length hosts.now ≤ 16384 }
+    requires { length hosts.now ≤ most_hosts }
     ensures book { IfOk result (λ k. k.book ≡ map (λ h. h.address) hosts.now) }
     ensures hosts { IfOk result (λ k. k.hosts ≡ text) }
 {

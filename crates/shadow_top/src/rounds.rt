@@ -1,6 +1,7 @@
 //! A run, round by round: what a round gains is put as soon as the round is over.
 
 ghost use Rattle.std.specs.Prelude.{◌≡◌, ◌<◌, ◌≤◌, Any, flat_map};
+ghost use Rattle.sim_base.specs.Limits.{most_workers};
 ghost use Rattle.host_state.specs.World.{World as HostWorld};
 ghost use Rattle.round_lookahead.specs.Tasks.{waiting};
 ghost use Rattle.round_lookahead.specs.WorldStands.{WorldStands};
@@ -25,7 +26,7 @@ fn put_next<K: Sink, G: Gate + Sync, R: Threads + Sync + AllocGlobal>(
 ) -> Result<(), Stop>
     requires stands { (w : HostWorld) × WorldStands world.old w }
     requires unfinished { Any (λ event. event.key.due.nanos < world.old.net.stop.nanos) (flat_map waiting world.old.tasks.items) }
-    requires workers { (0 < workers) × (workers ≤ 64) }
+    requires workers { (0 < workers) × (workers ≤ most_workers) }
     ensures net { world.new.net ≡ world.old.net }
     ensures listing { world.new.listing ≡ world.old.listing }
     ensures told { (w : HostWorld) → WorldStands world.old w → PutsRound world.old world.new workers w (K.content sink.old) (K.content sink.new) result }
@@ -46,7 +47,7 @@ pub(crate) fn put_rounds<K: Sink, G: Gate + Sync, R: Threads + Sync + AllocGloba
     sink: &mut K,
 ) -> Result<(), Stop>
     requires stands { (w : HostWorld) × WorldStands world.old w }
-    requires workers { (0 < workers) × (workers ≤ 64) }
+    requires workers { (0 < workers) × (workers ≤ most_workers) }
     ensures listing { world.new.listing ≡ world.old.listing }
     ensures told { (w : HostWorld) → WorldStands world.old w → StandsAt w (K.content sink.old) (K.content sink.old) → PutsRounds world.old world.new w (K.content sink.old) (K.content sink.new) result }
     ensures reads { NoReadFailed result }

@@ -3,6 +3,7 @@ use Rattle.std.specs.Prelude.{if◌then◌else◌}
 use Rattle.std.proofs.Common.{◌≡◌, ℕ, ◌+◌, ◌≤◌, ◌&&◌, Bool, true, false, List, [], ◌∷◌, ◌++◌, length, map, All, Option, Some, None, IfSome, IfOk, Result, Ok, Err, unwrap_or, is_some, codes, suc, ◌-◌, refl, sym, ap, subst, ◌∙◌, arith, length-append, nat_le}
 use Rattle.std.proofs.lemmas.Bool.{leb-true}
 use Rattle.std.proofs.lemmas.List.Elements.{All-nil, All-push, All-map, All-weaker}
+use Rattle.sim_base.specs.Limits.{most_hosts, most_processes, most_text_bytes}
 use Rattle.sim_base.specs.Units.{max_u32, latest_time}
 use Rattle.sim_base.specs.Refusals.{◌>>=◌}
 use Rattle.sim_base.specs.declared.time.Time.{Time}
@@ -35,7 +36,6 @@ use Rattle.shd_config.specs.Network.{network_at}
 use Rattle.shd_config.specs.Host.{options_at, new_host, host_key, host_row, finished_host, host_of, host_at, hosts_row, hosts_at, settled}
 use Rattle.shd_config.specs.Config.{root, new_root, experimental_at, root_key, root_row, general_or, finished_root, root_of, merged_config, wrong_merge, config, is_passed_over}
 use Rattle.shd_config.specs.Limits.{MayStop, IsSomeText, AreFewHosts, HasFewProcesses, HasFewBytes, HaveFewBytes, MayOverride, IsWithinLimits}
-use Rattle.shd_config.specs.Bounds.{most_hosts, most_processes, most_text_bytes}
 
 -- ---- steps
 

@@ -1,5 +1,6 @@
 -- The keys `hosts` and `host_option_defaults`.
 use Rattle.std.specs.Prelude.{ℕ, Bool, false, if◌then◌else◌, List, [], ◌∷◌, ◌++◌, length, map, Option, Some, None, unwrap_or, Result, Ok, Err, codes}
+use Rattle.sim_base.specs.Limits.{most_hosts}
 use Rattle.sim_base.specs.Units.{max_u32}
 use Rattle.sim_base.specs.declared.address.Ip.{Ip}
 use Rattle.shd_values.specs.Word.{is_name_of_host}
@@ -18,7 +19,7 @@ use Rattle.shd_config.specs.Steps.{refused, needed, checked, below, through, opt
 use Rattle.shd_config.specs.Keys.{key_of}
 use Rattle.shd_config.specs.Values.{mapping_at, text_at, number_at, truth_at, size_at, rate_at, address_at, is_within}
 use Rattle.shd_config.specs.Process.{processes_at}
-use Rattle.shd_config.specs.Bounds.{most_hosts, default_capture}
+use Rattle.shd_config.specs.Bounds.{default_capture}
 
 -- ---- the options of hosts
 

@@ -1,5 +1,6 @@
 -- The limits that each configuration keeps to, and those of what a command line may override.
 use Rattle.std.specs.Prelude.{ℕ, ◌≤◌, List, length, All, IfSome}
+use Rattle.sim_base.specs.Limits.{most_hosts, most_processes, most_text_bytes}
 use Rattle.sim_base.specs.Units.{latest_time}
 use Rattle.sim_base.specs.declared.time.Time.{Time}
 use Rattle.shd_config.specs.declared.config.Config.{Config}
@@ -7,7 +8,6 @@ use Rattle.shd_config.specs.declared.config.HostConfig.{HostConfig}
 use Rattle.shd_config.specs.declared.config.ProcessConfig.{ProcessConfig}
 use Rattle.shd_config.specs.declared.overrides.Overrides.{Overrides}
 use Rattle.shd_config.specs.Process.{texts_size}
-use Rattle.shd_config.specs.Bounds.{most_hosts, most_processes, most_text_bytes}
 
 -- 1 ns to 2^61 ns
 abbrev pub MayStop : Time → Type 0

@@ -1,13 +1,13 @@
 //! The processes of a host.
 
 ghost use Rattle.std.specs.Prelude.{◌≡◌, ◌≤◌, ◌+◌, [], length, sum_by, min, nat_le, unwrap_or};
+ghost use Rattle.sim_base.specs.Limits.{most_text_bytes};
 ghost use Rattle.shd_config.specs.Steps.{Gives, GivesSeen, optional, through, item};
 ghost use Rattle.shd_config.specs.Values.{text_at, text_with, scalar_at};
 ghost use Rattle.yaml_merge.specs.Plain.{line_of};
 ghost use Rattle.shd_values.specs.Word.{names_program};
 ghost use Rattle.shd_values.specs.Words.{words_of};
 ghost use Rattle.shd_config.specs.Process.{argument_row, arguments_in, arguments_at, variable_row, environment_at, zero_time, start_of, start_in, start_in_row, is_behind, shutdown_at, new_process, process_key, process_row, finished_process, process_of, texts_size, process_in, process_at, process_item, processes_at};
-ghost use Rattle.shd_config.specs.Bounds.{most_text_bytes};
 
 use crate::config::{FinalState, ProcessConfig, Variable};
 use crate::fault::{ConfigError, ConfigKind};

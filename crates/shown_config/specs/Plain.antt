@@ -1,7 +1,9 @@
 -- What the values of a configuration are that was read: each is in the range of its key, and each text is UTF-8.
 use Rattle.std.specs.Prelude.{◌≡◌, ◌≢◌, ℕ, ◌^◌, ◌<◌, ◌≤◌, true, List, [], ◌∷◌, length, map, All, IfSome, codes}
 use Rattle.std.specs.Str.{IsUtf8}
+use Rattle.sim_base.specs.Limits.{most_processes, most_text_bytes}
 use Rattle.sim_base.specs.declared.time.Time.{Time}
+use Rattle.shd_config.specs.Bounds.{greatest_status, greatest_capture}
 use Rattle.shd_values.specs.Word.{is_name_of_host, names_program}
 use Rattle.shd_config.specs.Values.{may_be_host}
 use Rattle.shd_config.specs.Process.{texts_size}
@@ -26,9 +28,9 @@ pub record IsPlainVariable (v : Variable) : Type 0 where
   pub value : IsUtf8 v.value
   pub other : v.name ≢ codes "<<"
 
--- a status is one of 0 to 255
+-- a status is within its range
 abbrev pub IsPlainState : FinalState → Type 0
-IsPlainState (states.Exited status) = status ≤ 255
+IsPlainState (states.Exited status) = status ≤ greatest_status
 IsPlainState (states.Signaled s) = Unit {0}
 IsPlainState states.Running = Unit {0}
 
@@ -45,7 +47,7 @@ pub record IsPlainProcess (p : ProcessConfig) : Type 0 where
   pub start : p.start_time.nanos < 2 ^ 64
   pub shutdown : IfSome p.shutdown_time (IsShutdown p.start_time)
   pub state : IsPlainState p.expected_final_state
-  pub few : texts_size p ≤ 65536
+  pub few : texts_size p ≤ most_text_bytes
 
 -- bits a second
 abbrev pub IsRate : ℕ → Type 0
@@ -57,8 +59,8 @@ pub record IsPlainHost (h : HostConfig) : Type 0 where
   pub address : IfSome h.ip_addr (λ ip. may_be_host ip ≡ true)
   pub up : IfSome h.bandwidth_up IsRate
   pub down : IfSome h.bandwidth_down IsRate
-  pub capture : (1 ≤ h.pcap_capture_size) × (h.pcap_capture_size ≤ 65535)
-  pub few : length h.processes ≤ 64
+  pub capture : (1 ≤ h.pcap_capture_size) × (h.pcap_capture_size ≤ greatest_capture)
+  pub few : length h.processes ≤ most_processes
   pub processes : All IsPlainProcess h.processes
 
 abbrev pub IsPlainGraph : GraphSource → Type 0

@@ -1,15 +1,14 @@
 -- what every act keeps of a record, and what it leaves of what the record received
 use Rattle.std.specs.Prelude.{◌≡◌, ℕ, ◌+◌, ◌-◌, ◌≤◌, List, [], ◌++◌, length, Bool, true}
-use Rattle.sock_tcp.specs.connection.Tcb.{Tcb}
+use Rattle.sock_tcp.specs.connection.Tcb.{Tcb, buffer_size}
 use Rattle.sock_tcp.specs.laws.Order.{IsInOrder}
 use Rattle.sock_tcp.specs.laws.Received.{IsCounted}
 
 -- its numbers are in order, it counts what it received, and what isn't acknowledged fits the send buffer
--- of 65,535 bytes
 pub record IsSound (r : Tcb) : Type 0 where
   pub order : IsInOrder r
   pub counted : IsCounted r
-  pub buffered : length r.written ≤ r.una - 1 + 65535
+  pub buffered : length r.written ≤ r.una - 1 + buffer_size
 
 -- a record only grows: what was received stays where it was, nothing joins it once reading has ended, and
 -- neither the FIN nor an end that was seen is taken back

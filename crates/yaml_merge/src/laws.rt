@@ -1,6 +1,7 @@
 //! Laws of the definitions.
 
 ghost use Rattle.std.specs.Prelude.{◌≡◌, ◌≤◌, false, Ok};
+ghost use Rattle.yaml_tree.specs.Limits.{most_tree_levels};
 ghost use Rattle.yaml_tree.specs.Said.{Said, levels};
 ghost use Rattle.yaml_tree.specs.Trees.{Holds};
 ghost use Rattle.yaml_tree.specs.declared.tree.Tree.{Tree};
@@ -10,7 +11,7 @@ ghost use Rattle.yaml_merge.specs.Plainness.{IsPlain};
 
 /// A tree says what it holds, where that is plain and within 64 levels.
 pub fn tree_says()
-    ensures { (t : Tree) (said : Said) → Holds t said → IsPlain said → levels said ≤ 64 → said_of t ≡ said }
+    ensures { (t : Tree) (said : Said) → Holds t said → IsPlain said → levels said ≤ most_tree_levels → said_of t ≡ said }
 {}
 
 /// A merged tree has no merge key.
@@ -25,5 +26,5 @@ pub fn merged_once()
 
 /// Two trees that hold the same say the same, within 64 levels.
 pub fn same_tree()
-    ensures { (t u : Tree) (said : Said) → Holds t said → Holds u said → levels said ≤ 64 → said_of t ≡ said_of u }
+    ensures { (t u : Tree) (said : Said) → Holds t said → Holds u said → levels said ≤ most_tree_levels → said_of t ≡ said_of u }
 {}

@@ -1,5 +1,6 @@
 //! All workers' rounds.
 ghost use Rattle.std.specs.Prelude.{◌≡◌, ◌≤◌, ◌<◌, ℕ, All, IfOk, length, vec_len};
+ghost use Rattle.sim_base.specs.Limits.{most_workers};
 ghost use Rattle.sim_base.specs.Units.{latest_time};
 ghost use Rattle.host_state.specs.HostRecord.{HostRecord};
 ghost use Rattle.round_lookahead.specs.Benches.{AreBenches, AreParts, HaveWorked, IsReady};
@@ -38,7 +39,7 @@ fn benches_of(
     seats: Vec<Seat<Task>>,
     mut carriers: Vec<Carrier<Box<Parcel>>>,
 ) -> Result<Vec<Bench>, NoMemory>
-    requires count { (vec_len carriers ≡ vec_len seats) × (vec_len seats ≤ 64) }
+    requires count { (vec_len carriers ≡ vec_len seats) × (vec_len seats ≤ most_workers) }
     ensures { IfOk result (λ benches. AreBenches seats.items carriers.items benches.items) }
 {
     let mut benches = Vec::with_capacity(alloc, seats.len())?;
@@ -129,7 +130,7 @@ pub(crate) fn run_beside<R: Threads + Sync, G: Gate + Sync>(
 ) -> Result<RoundLeft, NoMemory>
     requires stop { net.now.stop.nanos ≤ latest_time }
     requires until { end.nanos ≤ net.now.stop.nanos }
-    requires workers { (0 < workers) × (workers ≤ 64) }
+    requires workers { (0 < workers) × (workers ≤ most_workers) }
     requires threads { 0 < threads }
     requires few { (0 < length tasks.items) × (length tasks.items ≤ 65536) }
     requires tasks { AreTasksOf net.now tasks.items }

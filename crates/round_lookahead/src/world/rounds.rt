@@ -1,5 +1,6 @@
 //! The world goes on, round by round.
 ghost use Rattle.std.specs.Prelude.{◌≡◌, ◌≤◌, ◌<◌, ◌↔◌, true, false, Some, All, Any, IfOk, flat_map};
+ghost use Rattle.sim_base.specs.Limits.{most_workers};
 ghost use Rattle.event_order.specs.Events.{IsLeastDue};
 ghost use Rattle.round_lookahead.specs.Gains.{HasGained, HasRound};
 ghost use Rattle.round_lookahead.specs.Tasks.{waiting};
@@ -51,7 +52,7 @@ impl World {
     ) -> Result<Gained, NoMemory>
         requires stands { (w : HostWorld) × WorldStands self.old w }
         requires least { IsLeastDue (flat_map waiting self.old.tasks.items) (Some least) }
-        requires workers { (0 < workers) × (workers ≤ 64) }
+        requires workers { (0 < workers) × (workers ≤ most_workers) }
         ensures net { self.new.net ≡ self.old.net }
         ensures lookahead { self.new.lookahead ≡ self.old.lookahead }
         ensures listing { self.new.listing ≡ self.old.listing }
@@ -89,7 +90,7 @@ impl World {
     ) -> Result<Pieces, NoMemory>
         requires stands { (w : HostWorld) × WorldStands self.old w }
         requires unfinished { Any (λ event. event.key.due.nanos < self.old.net.stop.nanos) (flat_map waiting self.old.tasks.items) }
-        requires workers { (0 < workers) × (workers ≤ 64) }
+        requires workers { (0 < workers) × (workers ≤ most_workers) }
         ensures net { self.new.net ≡ self.old.net }
         ensures lookahead { self.new.lookahead ≡ self.old.lookahead }
         ensures listing { self.new.listing ≡ self.old.listing }

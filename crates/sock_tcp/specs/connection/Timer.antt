@@ -1,6 +1,7 @@
 -- the timer of a record: retransmission (RFC 9293, section 3.8.1), probes of a window of 0
 -- (section 3.8.6.1) and TIME-WAIT (section 3.6.1). Its lengths are this project's own profile
 use Rattle.std.specs.Prelude.{◌*◌, ◌==◌, nat_lt, Bool, true, false, ◌&&◌, ◌||◌, if◌then◌else◌, Option, Some, None}
+use Rattle.sim_base.specs.Units.{second}
 use Rattle.sim_base.specs.declared.time.Time.{Time}
 use Rattle.sock_tcp.specs.declared.segment.control.Control.{Control}
 use Rattle.sock_tcp.specs.declared.segment.state.Phase.{Phase}
@@ -52,5 +53,5 @@ restarts t = record (changed (with_control restarted) t) { started = true }
 unfoldable pub timer_of : Turn → Option Time
 timer_of t =
     if t.started && t.tcb.control.timer
-    then Some (record { nanos = timer_seconds t.tcb.control * 1000000000 })
+    then Some (record { nanos = timer_seconds t.tcb.control * second })
     else None

@@ -1,8 +1,10 @@
 -- what congestion control makes of a record's acts (RFC 5681)
-use Rattle.std.specs.Prelude.{◌≡◌, ◌⊎◌, ℕ, ◌+◌, ◌≤◌, nat_lt, List, [], ◌∷◌, ◌++◌, length, ◌&&◌, if◌then◌else◌}
+use Rattle.std.specs.Prelude.{◌≡◌, ◌⊎◌, ℕ, ◌+◌, ◌≤◌, nat_lt, List, [], ◌∷◌, ◌++◌, length, ◌&&◌, if◌then◌else◌, ◌*◌}
+use Rattle.sim_base.specs.Packet.{max_segment}
 use Rattle.sim_base.specs.declared.packet.Load.{Load}
 use Rattle.sim_base.specs.declared.packet.Load.TheVariants.{Udp, Tcp}
 use Rattle.sim_base.specs.declared.packet.Packet.{Packet}
+use Rattle.sock_tcp.specs.segment.Congestion.{max_window}
 use Rattle.sock_tcp.specs.declared.segment.congestion.Congestion.{Congestion}
 use Rattle.sock_tcp.specs.declared.segment.header.Header.{Header}
 use Rattle.sock_tcp.specs.declared.segment.verdict.Verdict.{Verdict}
@@ -70,9 +72,9 @@ all_events (act ∷ acts) r = events_of act r ++ all_events acts (acted act r).t
 
 -- a window of one segment at least and of what a segment can tell at most, a threshold of two at least
 pub record Bounded (c : Congestion) : Type 0 where
-  pub least : 1460 ≤ c.cwnd
-  pub most : c.cwnd ≤ 65535
-  pub threshold : 2920 ≤ c.ssthresh
+  pub least : max_segment ≤ c.cwnd
+  pub most : c.cwnd ≤ max_window
+  pub threshold : 2 * max_segment ≤ c.ssthresh
 
 -- a text of so many bytes, from an offset on that the segment's number is that of, ends at most where the
 -- windows do, or begins at what isn't acknowledged: the one segment that goes out again

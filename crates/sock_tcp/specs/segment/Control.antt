@@ -5,7 +5,7 @@ use Rattle.sim_base.specs.declared.packet.Packet.{Packet}
 use Rattle.sim_base.specs.declared.packet.Load.TheVariants.{Tcp}
 use Rattle.sock_tcp.specs.declared.segment.control.Control.{Control}
 use Rattle.sock_tcp.specs.declared.segment.state.TcpState.{TcpState}
-use Rattle.sock_tcp.specs.segment.Congestion.{fresh_congestion}
+use Rattle.sock_tcp.specs.segment.Congestion.{fresh_congestion, max_window}
 use Rattle.sock_tcp.specs.segment.State.{is_over, is_time_wait, after_writing}
 
 -- of a record that has just sent its SYN: its timer runs
@@ -35,15 +35,19 @@ segment c flags seq ack window text =
 
 -- a segment without ACK: a SYN of SYN-SENT or a RST
 unfoldable pub without_ack : Control → ℕ → ℕ → Packet
-without_ack c flags seq = segment c flags seq 0 65535 []
+without_ack c flags seq = segment c flags seq 0 max_window []
 
--- one second, doubled at each expiry, and at most 60 seconds
+-- the greatest length of the timer, and that of TIME-WAIT, in seconds
+abbrev pub longest_timer : ℕ
+longest_timer = 60
+
+-- one second, doubled at each expiry, and at most the greatest length
 abbrev pub seconds_after : ℕ → ℕ
-seconds_after retries = if nat_lt retries 6 then 2 ^ retries else 60
+seconds_after retries = if nat_lt retries 6 then 2 ^ retries else longest_timer
 
--- TIME-WAIT lasts 60 seconds
+-- TIME-WAIT lasts as long
 abbrev pub timer_seconds : Control → ℕ
-timer_seconds c = if is_time_wait c.state then 60 else seconds_after c.retries
+timer_seconds c = if is_time_wait c.state then longest_timer else seconds_after c.retries
 
 -- how many bytes may be in flight: as many as the peer's window and the congestion window allow
 -- (RFC 5681, section 3.1)

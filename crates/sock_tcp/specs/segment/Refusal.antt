@@ -4,13 +4,14 @@ use Rattle.sim_base.specs.declared.packet.Packet.{Packet}
 use Rattle.sim_base.specs.declared.packet.Load.{Load}
 use Rattle.sim_base.specs.declared.packet.Load.TheVariants.{Udp, Tcp}
 use Rattle.sim_base.specs.Packet.{rst_flag, ack_flag}
+use Rattle.sock_tcp.specs.segment.Congestion.{max_window}
 use Rattle.sock_tcp.specs.declared.segment.header.Header.{Header}
 use Rattle.sock_tcp.specs.segment.Header.{header_of}
 use Rattle.sock_tcp.specs.segment.Number.{wire}
 
 -- back to where a packet came from
 abbrev pub sent_back : Packet → ℕ → ℕ → ℕ → Packet
-sent_back p flags seq ack = record { from = p.to; to = p.from; load = Tcp flags seq ack 65535 [] }
+sent_back p flags seq ack = record { from = p.to; to = p.from; load = Tcp flags seq ack max_window [] }
 
 -- a SYN and a FIN take a number each
 abbrev pub one_if : Bool → ℕ

@@ -7,7 +7,7 @@ use sim_base::{Errno, NoMemory};
 
 impl Conn {
     ghost use Rattle.std.specs.Prelude.{◌≡◌, ◌+◌, ◌-◌, ◌≤◌, length, true, OnOk};
-    ghost use Rattle.sock_tcp.specs.connection.Tcb.{Tcb, changed};
+    ghost use Rattle.sock_tcp.specs.connection.Tcb.{Tcb, buffer_size, changed};
     ghost use Rattle.sock_tcp.specs.segment.Number.{distance};
     ghost use Rattle.sock_tcp.specs.segment.State.{is_opening};
     ghost use Rattle.sock_tcp.specs.segment.Verdict.{ComesIn};
@@ -35,7 +35,7 @@ impl Conn {
     /// As much of it as the own window holds.
     #[tactic(auto, unfolding(crate::specs::connection::Arrival::fitting_text), using(crate::proofs::Connections::Received::fits))]
     fn fitting<'a>(&self, header: Header, text: &'a [u8]) -> &'a [u8]
-        ensures within { length result.now + length self.now.receive.items ≤ 65535 }
+        ensures within { length result.now + length self.now.receive.items ≤ buffer_size }
         ensures stands { (r : Tcb) → StandsFor self.now r → result.now ≡ fitting_text header text.now r }
     {
         let fresh = self.fresh(header.seq, text);
@@ -45,7 +45,7 @@ impl Conn {
 
     #[tactic(auto, unfolding(crate::specs::connection::Arrival::keeps), using(crate::proofs::Segments::Numbers::wires, crate::proofs::Connections::Received::kept))]
     fn keep(&mut self, bytes: &[u8])
-        requires { length bytes.now + length self.old.receive.items ≤ 65535 }
+        requires { length bytes.now + length self.old.receive.items ≤ buffer_size }
         ensures { (r : Tcb) → StandsFor self.old r → StandsFor self.new (keeps bytes.now r) }
     {
         self.rcv = number_past(self.rcv, bytes.len());
@@ -62,7 +62,7 @@ impl Conn {
     /// Keeps text, throws it away, or resets the connection for it.
     #[tactic(auto, unfolding(crate::specs::connection::Arrival::takes))]
     fn take(&mut self, draft: &mut Draft, bytes: &[u8]) -> Result<(), NoMemory>
-        requires { length bytes.now + length self.old.receive.items ≤ 65535 }
+        requires { length bytes.now + length self.old.receive.items ≤ buffer_size }
         ensures { OnOk result (Does (takes bytes.now) self.old draft.old self.new draft.new) }
     {
         if bytes.is_empty() {

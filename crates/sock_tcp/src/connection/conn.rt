@@ -1,6 +1,7 @@
 //! A connection.
 
 ghost use Rattle.std.specs.Prelude.{◌≡◌, ◌+◌, ◌≤◌, length};
+ghost use Rattle.sock_tcp.specs.connection.Tcb.{buffer_size};
 
 use crate::segment::Control;
 use circular_buffer::HeapCircularBuffer;
@@ -23,10 +24,10 @@ pub struct Conn {
     pub(crate) rcv: u32,
     pub(crate) send: HeapCircularBuffer<u8>,
     pub(crate) receive: HeapCircularBuffer<u8>,
-    ghost send_room: { send.capacity ≡ 65535 },
-    ghost receive_room: { receive.capacity ≡ 65535 },
-    ghost send_fits: { length send.items ≤ 65535 },
-    ghost receive_fits: { length receive.items ≤ 65535 },
+    ghost send_room: { send.capacity ≡ buffer_size },
+    ghost receive_room: { receive.capacity ≡ buffer_size },
+    ghost send_fits: { length send.items ≤ buffer_size },
+    ghost receive_fits: { length receive.items ≤ buffer_size },
     ghost next_in: { sent ≤ length send.items + 2 },
     ghost highest_in: { highest ≤ length send.items + 2 },
 }

@@ -7,7 +7,7 @@ use sim_base::{ACK, Bytes, FIN, MAX_SEGMENT, NoMemory};
 
 impl Conn {
     ghost use Rattle.std.specs.Prelude.{◌≡◌, ◌+◌, ◌-◌, ◌++◌, ◌≤◌, ◌<◌, take, drop, min, max, true, OnOk, IfOk, length};
-    ghost use Rattle.sock_tcp.specs.connection.Tcb.{Tcb, changed};
+    ghost use Rattle.sock_tcp.specs.connection.Tcb.{Tcb, buffer_size, changed};
     ghost use Rattle.sock_tcp.specs.segment.Number.{wire};
     ghost use Rattle.sock_tcp.specs.segment.State.{is_sending};
     ghost use Rattle.sock_tcp.specs.connection.Output.{pieces, text_segments, send_limit, sends_text, fin_is_next, sends_fin, highest_followed, follows, output};
@@ -28,7 +28,7 @@ impl Conn {
         requires { to ≤ length self.now.send.items }
         ensures segments { OnOk result (draft.new.segments.items
             ≡ draft.old.segments.items
-            ++ text_segments self.now.control self.now.una from self.now.rcv (65535 - length self.now.receive.items)
+            ++ text_segments self.now.control self.now.una from self.now.rcv (buffer_size - length self.now.receive.items)
             (pieces (take (to - from) (drop from self.now.send.items)))) }
         ensures started { draft.new.started ≡ draft.old.started }
     {

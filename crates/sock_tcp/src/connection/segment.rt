@@ -8,7 +8,7 @@ use std::alloc::Global;
 
 impl Conn {
     ghost use Rattle.std.specs.Prelude.{◌≡◌, ◌+◌, ◌-◌, ◌^◌, ◌<◌, length, OnOk};
-    ghost use Rattle.sock_tcp.specs.connection.Tcb.{Tcb, own_window};
+    ghost use Rattle.sock_tcp.specs.connection.Tcb.{Tcb, buffer_size, own_window};
     ghost use Rattle.sock_tcp.specs.segment.Number.{wire};
     ghost use Rattle.sock_tcp.specs.connection.Segment.{with_ack, sends_ack, sends_syn_ack, sends_reset, sends_refusal};
     ghost use Rattle.sock_tcp.specs.connection.StandsFor.{StandsFor, Does};
@@ -19,7 +19,7 @@ impl Conn {
 
     /// How many more bytes the receive buffer holds.
     pub(crate) fn own_window(&self) -> u16
-        ensures value { result ≡ 65535 - length self.now.receive.items }
+        ensures value { result ≡ buffer_size - length self.now.receive.items }
         ensures window { (r : Tcb) → StandsFor self.now r → result ≡ own_window r }
     {
         (BUFFER_SIZE - self.receive.len()) as u16

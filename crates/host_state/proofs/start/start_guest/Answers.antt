@@ -1,7 +1,8 @@
 use Rattle.std.proofs.Common.{◌≡◌, ℕ, ◌+◌, ◌-◌, ◌*◌, ◌≤◌, List, length, ap, sym, ◌∙◌, subst, arith, rules}
+use Rattle.sim_base.specs.Limits.{most_text_bytes}
 use Rattle.guest_mem.specs.Memory.{Memory}
 use Rattle.guest_mem.specs.Opening.{stack_base}
-use Rattle.host_state.specs.Start.{rounded_down, fixed_words, most_text, word_bytes, filled}
+use Rattle.host_state.specs.Start.{rounded_down, fixed_words, word_bytes, filled}
 use Rattle.host_state.specs.Stack.{IsWritable}
 use Rattle.host_state.proofs.Stacks.{IsWritable-opening}
 use Rattle.host_state.proofs.Texts.{words_few, bytes_count, made_started}
@@ -9,25 +10,25 @@ use Rattle.host_state.proofs.start.start_guest.Goals as goal
 
 pub overflow_cast-len-2 : goal.overflow_cast-len-2
 overflow_cast-len-2 c =
-    let texts : length c.in_ok-texts.texts.items ≤ most_text = subst (λ (t : List ℕ). length t ≤ most_text) (sym c.in_ok-texts.ensures) c.requires in
-    let words : length c.in_ok-words.words.items ≤ most_text + fixed_words =
-    subst (λ (ws : List ℕ). length ws ≤ most_text + fixed_words) (sym c.in_ok-words.ensures) (words_few c.round_down-texts_at.result c.args.arguments.now c.args.environment.now c.requires) in
+    let texts : length c.in_ok-texts.texts.items ≤ most_text_bytes = subst (λ (t : List ℕ). length t ≤ most_text_bytes) (sym c.in_ok-texts.ensures) c.requires in
+    let words : length c.in_ok-words.words.items ≤ most_text_bytes + fixed_words =
+    subst (λ (ws : List ℕ). length ws ≤ most_text_bytes + fixed_words) (sym c.in_ok-words.ensures) (words_few c.round_down-texts_at.result c.args.arguments.now c.args.environment.now c.requires) in
     let len2 : c.len-2.result ≡ length c.in_ok-words.words.items = search rules in
     omega (arith, words, len2)
 
 pub overflow_mul-len : goal.overflow_mul-len
 overflow_mul-len c =
-    let texts : length c.in_ok-texts.texts.items ≤ most_text = subst (λ (t : List ℕ). length t ≤ most_text) (sym c.in_ok-texts.ensures) c.requires in
-    let words : length c.in_ok-words.words.items ≤ most_text + fixed_words =
-    subst (λ (ws : List ℕ). length ws ≤ most_text + fixed_words) (sym c.in_ok-words.ensures) (words_few c.round_down-texts_at.result c.args.arguments.now c.args.environment.now c.requires) in
+    let texts : length c.in_ok-texts.texts.items ≤ most_text_bytes = subst (λ (t : List ℕ). length t ≤ most_text_bytes) (sym c.in_ok-texts.ensures) c.requires in
+    let words : length c.in_ok-words.words.items ≤ most_text_bytes + fixed_words =
+    subst (λ (ws : List ℕ). length ws ≤ most_text_bytes + fixed_words) (sym c.in_ok-words.ensures) (words_few c.round_down-texts_at.result c.args.arguments.now c.args.environment.now c.requires) in
     let len2 : c.len-2.result ≡ length c.in_ok-words.words.items = search rules in
     omega (arith, words, len2)
 
 pub overflow_sub-texts_at : goal.overflow_sub-texts_at
 overflow_sub-texts_at c =
-    let texts : length c.in_ok-texts.texts.items ≤ most_text = subst (λ (t : List ℕ). length t ≤ most_text) (sym c.in_ok-texts.ensures) c.requires in
-    let words : length c.in_ok-words.words.items ≤ most_text + fixed_words =
-    subst (λ (ws : List ℕ). length ws ≤ most_text + fixed_words) (sym c.in_ok-words.ensures) (words_few c.round_down-texts_at.result c.args.arguments.now c.args.environment.now c.requires) in
+    let texts : length c.in_ok-texts.texts.items ≤ most_text_bytes = subst (λ (t : List ℕ). length t ≤ most_text_bytes) (sym c.in_ok-texts.ensures) c.requires in
+    let words : length c.in_ok-words.words.items ≤ most_text_bytes + fixed_words =
+    subst (λ (ws : List ℕ). length ws ≤ most_text_bytes + fixed_words) (sym c.in_ok-words.ensures) (words_few c.round_down-texts_at.result c.args.arguments.now c.args.environment.now c.requires) in
     let len : c.len.result ≡ length c.in_ok-texts.texts.items = search rules in
     let len2 : c.len-2.result ≡ length c.in_ok-words.words.items = search rules in
     omega (arith, texts, words, len, len2, c.round_down-texts_at.ensures)
@@ -37,18 +38,18 @@ fill-requires-clause-stack c = subst (λ (m : Memory). IsWritable m stack_base 0
 
 pub fill-requires-2-clause-above : goal.fill-requires-2-clause-above
 fill-requires-2-clause-above c =
-    let texts : length c.in_ok-texts.texts.items ≤ most_text = subst (λ (t : List ℕ). length t ≤ most_text) (sym c.in_ok-texts.ensures) c.requires in
-    let words : length c.in_ok-words.words.items ≤ most_text + fixed_words =
-    subst (λ (ws : List ℕ). length ws ≤ most_text + fixed_words) (sym c.in_ok-words.ensures) (words_few c.round_down-texts_at.result c.args.arguments.now c.args.environment.now c.requires) in
+    let texts : length c.in_ok-texts.texts.items ≤ most_text_bytes = subst (λ (t : List ℕ). length t ≤ most_text_bytes) (sym c.in_ok-texts.ensures) c.requires in
+    let words : length c.in_ok-words.words.items ≤ most_text_bytes + fixed_words =
+    subst (λ (ws : List ℕ). length ws ≤ most_text_bytes + fixed_words) (sym c.in_ok-words.ensures) (words_few c.round_down-texts_at.result c.args.arguments.now c.args.environment.now c.requires) in
     let len : c.len.result ≡ length c.in_ok-texts.texts.items = search rules in
     let len2 : c.len-2.result ≡ length c.in_ok-words.words.items = search rules in
     omega (arith, texts, words, len, len2, c.round_down-texts_at.ensures, c.round_down-stack_pointer.ensures)
 
 pub fill-requires-2-clause-below : goal.fill-requires-2-clause-below
 fill-requires-2-clause-below c =
-    let texts : length c.in_ok-texts.texts.items ≤ most_text = subst (λ (t : List ℕ). length t ≤ most_text) (sym c.in_ok-texts.ensures) c.requires in
-    let words : length c.in_ok-words.words.items ≤ most_text + fixed_words =
-    subst (λ (ws : List ℕ). length ws ≤ most_text + fixed_words) (sym c.in_ok-words.ensures) (words_few c.round_down-texts_at.result c.args.arguments.now c.args.environment.now c.requires) in
+    let texts : length c.in_ok-texts.texts.items ≤ most_text_bytes = subst (λ (t : List ℕ). length t ≤ most_text_bytes) (sym c.in_ok-texts.ensures) c.requires in
+    let words : length c.in_ok-words.words.items ≤ most_text_bytes + fixed_words =
+    subst (λ (ws : List ℕ). length ws ≤ most_text_bytes + fixed_words) (sym c.in_ok-words.ensures) (words_few c.round_down-texts_at.result c.args.arguments.now c.args.environment.now c.requires) in
     let len : c.len.result ≡ length c.in_ok-texts.texts.items = search rules in
     let len2 : c.len-2.result ≡ length c.in_ok-words.words.items = search rules in
     let bytes : length c.in_ok-bytes.bytes.items ≡ 4 * length c.in_ok-words.words.items =
