@@ -23,6 +23,13 @@ name_text SelfLoad = codes "self-load"
 abbrev pub option_rule : Text → Rule
 option_rule name = record (new_rule name) { long = Some name; action = Some Set }
 
+-- the letters p and d
+abbrev pub letter_p : ℕ
+letter_p = 112
+
+abbrev pub letter_d : ℕ
+letter_d = 100
+
 -- --NAME VALUE or -L VALUE
 abbrev pub short_option_rule : ℕ → Text → Rule
 short_option_rule letter name = record (option_rule name) { short = Some letter }
@@ -38,7 +45,7 @@ config_rule = record (new_rule (codes "CONFIG")) { action = Some Set }
 -- shadow [--seed N] [-p|--parallelism N] [-d|--data-directory DIR] [--stop-time T] [--budget N] [--self-load N] [--show-config] [CONFIG]
 unfoldable pub shadow_command : App
 shadow_command = with_rule (with_rule (with_rule (with_rule (with_rule (with_rule (with_rule (with_rule (new_app (codes "shadow"))
-    (option_rule (name_text Seed))) (short_option_rule 112 (name_text Parallelism))) (short_option_rule 100 (name_text DataDirectory)))
+    (option_rule (name_text Seed))) (short_option_rule letter_p (name_text Parallelism))) (short_option_rule letter_d (name_text DataDirectory)))
     (option_rule (name_text StopTime))) (option_rule (name_text Budget))) (option_rule (name_text SelfLoad))) show_config_rule) config_rule
 
 -- what the words give to the options, the flag and the word, where clap takes them

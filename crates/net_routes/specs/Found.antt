@@ -11,10 +11,14 @@ use Rattle.net_routes.specs.Path.{AreArcs, IsBest}
 use Rattle.net_routes.specs.Net.{IsNet}
 use Rattle.net_routes.specs.RouteRows.{IsRouteRow, NamesLack}
 
--- arcs between at most 2^20 places
+-- the most places of a net; nodes are fewer
+abbrev pub most_places : ℕ
+most_places = 2 ^ 20
+
+-- arcs between places
 pub record IsReady (net : Net) : Type 0 where
   pub arcs : AreArcs net.rows.items
-  pub few : length net.rows.items ≤ 2 ^ 20
+  pub few : length net.rows.items ≤ most_places
   pub size : length net.rows.items ≡ length net.places
 
 -- the best costs of walks from a node, and the costs that hosts need of them, or the first that isn't there

@@ -1,5 +1,6 @@
 -- Walks of a graph, what they cost, and routes.
-use Rattle.std.specs.Prelude.{◌≡◌, ℕ, ◌<◌, ◌≤◌, Bool, false, ◌⊎◌, if◌then◌else◌, List, [], ◌∷◌, length, fold, Contains, flat_map}
+use Rattle.std.specs.Prelude.{◌≡◌, ℕ, ◌<◌, ◌≤◌, Bool, false, ◌⊎◌, if◌then◌else◌, List, [], ◌∷◌, length, fold, Contains, flat_map, ◌*◌}
+use Rattle.gml_graph.specs.Limits.{most_edges}
 use Rattle.gml_graph.specs.declared.graph.Edge.{Edge}
 use Rattle.gml_graph.specs.declared.graph.Graph.{Graph}
 use Rattle.net_routes.specs.declared.cost.Cost.{Cost}
@@ -22,7 +23,7 @@ hops g = flat_map (ways g.directed) g.edges
 
 -- what holds of the hops of every graph
 pub record AreHops (ss : List Hop) : Type 0 where
-  pub few : length ss ≤ 131072
+  pub few : length ss ≤ 2 * most_edges
   pub each : (s : Hop) → Contains ss s → IsHopCost s.cost
 
 -- The walk leads from a to b by these hops.

@@ -1,7 +1,8 @@
 //! A net: the arcs of a graph, over the places of its nodes.
 
-ghost use Rattle.std.specs.Prelude.{◌≡◌, ◌<◌, ◌≤◌, ◌+◌, ◌*◌, ◌^◌, ℕ, List, None, [], length, All, Contains, IfOk, OnOk};
+ghost use Rattle.std.specs.Prelude.{◌≡◌, ◌<◌, ◌≤◌, ◌+◌, ◌*◌, ℕ, List, None, [], length, All, Contains, IfOk, OnOk};
 ghost use Rattle.std.specs.List.{slice_index_or};
+ghost use Rattle.net_routes.specs.Found.{most_places};
 ghost use Rattle.net_routes.specs.declared.hop.Hop.{Hop};
 ghost use Rattle.net_routes.specs.Walk.{AreHops, Goes};
 ghost use Rattle.net_routes.specs.Path.{AreArcs, HasWay, IsBest};
@@ -85,7 +86,7 @@ fn costs_of(
 ) -> Result<Vec<Option<Cost>>, NoMemory>
     requires start { start < length rows.now }
     requires arcs { AreArcs rows.now }
-    requires few { length rows.now ≤ 2 ^ 20 }
+    requires few { length rows.now ≤ most_places }
     ensures { IfOk result
         (λ best. IsBest (HasWay rows.now shortest start) (λ v. slice_index_or best.items v None)) }
 {
@@ -103,7 +104,7 @@ impl Net {
         requires { AreHops hops.now }
         ensures net { IfOk result (λ net. IsNet hops.now net.places net.rows.items) }
         ensures arcs { IfOk result (λ net. AreArcs net.rows.items) }
-        ensures few { IfOk result (λ net. length net.rows.items ≤ 2 ^ 20) }
+        ensures few { IfOk result (λ net. length net.rows.items ≤ most_places) }
         ensures size { IfOk result (λ net. length net.rows.items ≡ length net.places) }
     {
         let places = NodeIds::from(ends_of(alloc, hops)?);
@@ -119,7 +120,7 @@ impl Net {
         shortest: bool,
     ) -> Result<Vec<Option<Cost>>, NoMemory>
         requires arcs { AreArcs self.now.rows.items }
-        requires few { length self.now.rows.items ≤ 2 ^ 20 }
+        requires few { length self.now.rows.items ≤ most_places }
         requires size { length self.now.rows.items ≡ length self.now.places }
         ensures { (hops : List Hop) → IsNet hops self.now.places self.now.rows.items →
             IfOk result (λ costs. IsBest (Goes hops shortest node)

@@ -6,6 +6,7 @@ ghost use Rattle.std.specs.BinaryHeap.{IsHeap, heap_items, heap_len};
 ghost use Rattle.net_routes.specs.declared.arc.Arc.{Arc};
 ghost use Rattle.net_routes.specs.declared.cost.Cost.{Cost};
 ghost use Rattle.std.specs.List.{slice_index_or};
+ghost use Rattle.net_routes.specs.Found.{most_places};
 ghost use Rattle.gml_graph.specs.Edges.{lossless};
 ghost use Rattle.net_routes.specs.Cost.{and_then, IsAsGood};
 ghost use Rattle.net_routes.specs.Path.{AreArcs, IsArc, HasPath, IsBest};
@@ -119,7 +120,7 @@ pub fn cheapest_paths(
 ) -> Result<Vec<Option<Cost>>, NoMemory>
     requires start { start < length rows.now }
     requires arcs { AreArcs rows.now }
-    requires few { length rows.now ≤ 2 ^ 20 }
+    requires few { length rows.now ≤ most_places }
     ensures size { IfOk result (λ best. length best.items ≡ length rows.now) }
     ensures best { IfOk result
         (λ best. IsBest (HasPath rows.now start) (λ place. slice_index_or best.items place None)) }

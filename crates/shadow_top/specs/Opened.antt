@@ -133,10 +133,14 @@ pub record IsNetOf (run : Run) (net : Net) : Type 0 where
   pub budget : net.budget ≡ run.budget
   pub images : net.images.items ≡ run.plan.images
 
--- a lookahead, cut at 2^62 ns, which is past every stop
+-- the greatest lookahead, which is past every stop
+abbrev pub greatest_lookahead : ℕ
+greatest_lookahead = 2 ^ 62
+
+-- a lookahead, cut there
 abbrev pub cut_lookahead : Option Time → Option Time
 cut_lookahead None = None
-cut_lookahead (Some time) = Some (record { nanos = min time.nanos (2 ^ 62) })
+cut_lookahead (Some time) = Some (record { nanos = min time.nanos greatest_lookahead })
 
 -- a run is opened
 pub record Opens (run : Run) (opened : Opened) : Type 0 where
