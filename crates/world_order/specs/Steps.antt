@@ -1,6 +1,7 @@
 -- The steps of a round: where each is allowed, and what it does.
-use Rattle.std.specs.Prelude.{ℕ, suc, ◌==◌, Bool, true, false, ◌&&◌, not, is_none, is_some, List, [], ◌∷◌, ◌++◌, filter, Option, Some, None, option_map, option_and_then, if◌then◌else◌, nat_lt, slice_get, slice_set}
+use Rattle.std.specs.Prelude.{ℕ, suc, ◌==◌, Bool, true, false, ◌&&◌, not, is_none, is_some, List, [], ◌∷◌, ◌++◌, filter, Option, Some, None, option_map, if◌then◌else◌, nat_lt, slice_get, slice_set}
 use Rattle.std.specs.List.{list_any, list_all}
+use Rattle.sim_base.specs.Quantity.{◌>>=◌}
 use Rattle.sim_base.specs.declared.event.Event.{Event}
 use Rattle.world_order.specs.EventOrder.{take_least}
 use Rattle.world_order.specs.Model.{Model, Fired}
@@ -10,10 +11,6 @@ use Rattle.world_order.specs.declared.step.Spot.{Spot}
 use Rattle.world_order.specs.declared.step.Spot.TheVariants.{Place, Spill}
 use Rattle.world_order.specs.declared.step.Step.{Step}
 use Rattle.world_order.specs.declared.step.Step.TheVariants.{Take, Fire, Put, Back, Close}
-
-infixl 10 ◌>>=◌
-abbrev pub ◌>>=◌ : {A B : Type 0} → Option A → (A → Option B) → Option B
-o >>= f = option_and_then f o
 
 -- the value, where the guard holds
 abbrev pub given : {A : Type 0} → Bool → A → Option A

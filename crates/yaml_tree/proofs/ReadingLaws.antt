@@ -7,6 +7,7 @@ use Rattle.std.specs.declared.alloc.Global.{Global}
 use Rattle.std.proofs.lemmas.Option.{none-some, slice_get_within}
 use Rattle.std.proofs.lemmas.Bool.{ltb-true, ltb-false, leb-false, lt-ltb, cases_lt}
 use Rattle.std.proofs.lemmas.List.{append-nil, length-drop, length-take-le, take_all, take_more, drop_more}
+use Rattle.sim_base.specs.Refusals.{◌>>=◌}
 use Rattle.yaml_marks.specs.Lines.{lines_of}
 use Rattle.yaml_marks.specs.Pieces.{why_bracket, closes_at}
 use Rattle.yaml_tree.specs.Flows.{kind_behind_key, IsPieceKind, IsFlowMisfit}
@@ -18,7 +19,7 @@ use Rattle.yaml_tree.specs.Said.Said.{null, text, unknown, sequence, mapping, wi
 use Rattle.yaml_tree.specs.Holds.{HoldsSaid}
 use Rattle.yaml_tree.specs.Stack.{cut, measured}
 use Rattle.yaml_tree.specs.Tree.{Says, IsTree, HasTree, MayBegin, ValueMayBegin, KeyMayBegin, kind_of, IsKindAt, IsMisfit, IsRefused, IsFirstRefused, IsTreeOf, IsFaultOf}
-use Rattle.yaml_tree.specs.Builder.{take_token, take_tokens, fault_of, judged_by, judged, read_line, read_lines, at_line, ReadsLine, ◌>>=◌, fresh}
+use Rattle.yaml_tree.specs.Builder.{take_token, take_tokens, fault_of, judged_by, judged, read_line, read_lines, at_line, ReadsLine, fresh}
 use Rattle.yaml_tree.specs.Trees.{Holds, RootIsIn, IsReading, IsErrorOf, root_number}
 use Rattle.yaml_tree.specs.declared.builder.Builder.{Builder}
 use Rattle.yaml_marks.specs.declared.token.Token.{Token}

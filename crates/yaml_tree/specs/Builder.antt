@@ -36,6 +36,7 @@ use Rattle.yaml_marks.specs.declared.odd.Odd.TheVariants as odd
 use Rattle.yaml_tree.specs.declared.fault.Stop.{Stop}
 use Rattle.yaml_tree.specs.declared.fault.Stop.TheVariants as stop
 use Rattle.std.specs.declared.alloc.Global.{Global}
+use Rattle.sim_base.specs.Refusals.{◌>>=◌}
 use Rattle.yaml_tree.specs.Limits.{most_tree_levels, most_tree_nodes}
 
 abbrev pub fresh : Global → Builder
@@ -247,11 +248,6 @@ abbrev pub Steps : Result (Unit {0}) Stop → Builder → Result Builder FaultKi
 Steps (Ok _) new step = step ≡ Ok new
 Steps (Err (stop.Fault kind)) new step = step ≡ Err kind
 Steps (Err stop.NoMemory) new step = Unit {0}
-
-infixl 10 ◌>>=◌
-abbrev pub ◌>>=◌ : {A B E : Type 0} → Result A E → (A → Result B E) → Result B E
-(Ok x) >>= f = f x
-(Err e) >>= f = Err e
 
 -- a token more; a literal block has ended but where the token is a line of one
 unfoldable pub take_token : Token → Builder → Result Builder FaultKind
