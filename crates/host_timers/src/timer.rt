@@ -20,6 +20,7 @@ pub struct Timer {
 
 impl Model for Timer {
     ghost use Rattle.std.specs.Prelude.{◌≤◌};
+    ghost use Rattle.sim_base.specs.Units.{longest_wait};
     ghost use Rattle.host_timers.specs.Timer.{TimerState, timer_code};
 
     ghost Value = { TimerState };

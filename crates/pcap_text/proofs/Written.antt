@@ -76,28 +76,28 @@ module _ (size seconds nanos whole : ℕ) (kept rest : List ℕ) (h : MayBeWritt
       (or_from _ _ (le-ltb (whole_of (bytes_of seconds nanos whole kept rest)) (kept_of (bytes_of seconds nanos whole kept rest)) (omega (arith, whole_again, kept_again, h.within)))
       (le-ltb size (kept_of (bytes_of seconds nanos whole kept rest)) (omega (arith, kept_again, h.captured))))
 
-  record_again : record_of 1 (bytes_of seconds nanos whole kept rest) ≡ recorded ((seconds - start) * second + nanos) whole kept
+  record_again : record_of 1 (bytes_of seconds nanos whole kept rest) ≡ recorded ((seconds - unix_start) * second + nanos) whole kept
   record_again =
       let text : take (kept_of (bytes_of seconds nanos whole kept rest)) (kept ++ rest) ≡ kept = take_at kept rest (kept_of (bytes_of seconds nanos whole kept rest)) (sym kept_again) in
-      ap (λ (n : ℕ). recorded ((n - start) * second + nanos_of 1 (bytes_of seconds nanos whole kept rest)) (whole_of (bytes_of seconds nanos whole kept rest)) (take (kept_of (bytes_of seconds nanos whole kept rest)) (kept ++ rest))) seconds_again
-      ∙ ap (λ (n : ℕ). recorded ((seconds - start) * second + n) (whole_of (bytes_of seconds nanos whole kept rest)) (take (kept_of (bytes_of seconds nanos whole kept rest)) (kept ++ rest))) nanos_again
-      ∙ ap (λ (n : ℕ). recorded ((seconds - start) * second + nanos) n (take (kept_of (bytes_of seconds nanos whole kept rest)) (kept ++ rest))) whole_again
-      ∙ ap (λ (d : List ℕ). recorded ((seconds - start) * second + nanos) whole d) text
+      ap (λ (n : ℕ). recorded ((n - unix_start) * second + nanos_of 1 (bytes_of seconds nanos whole kept rest)) (whole_of (bytes_of seconds nanos whole kept rest)) (take (kept_of (bytes_of seconds nanos whole kept rest)) (kept ++ rest))) seconds_again
+      ∙ ap (λ (n : ℕ). recorded ((seconds - unix_start) * second + n) (whole_of (bytes_of seconds nanos whole kept rest)) (take (kept_of (bytes_of seconds nanos whole kept rest)) (kept ++ rest))) nanos_again
+      ∙ ap (λ (n : ℕ). recorded ((seconds - unix_start) * second + nanos) n (take (kept_of (bytes_of seconds nanos whole kept rest)) (kept ++ rest))) whole_again
+      ∙ ap (λ (d : List ℕ). recorded ((seconds - unix_start) * second + nanos) whole d) text
 
   rest_again : drop (front_size + kept_of (bytes_of seconds nanos whole kept rest)) (bytes_of seconds nanos whole kept rest) ≡ rest
   rest_again = ap (λ (n : ℕ). drop (front_size + n) (bytes_of seconds nanos whole kept rest)) kept_again ∙ drop_at (record_front seconds nanos (length kept) whole ++ kept) rest (front_size + length kept) (omega arith)
 
   -- a record that was written, and those behind it
-  front_again : (at : ℕ) → records 1 size at 0 (bytes_of seconds nanos whole kept rest) ≡ joined (recorded ((seconds - start) * second + nanos) whole kept ∷ []) (records 1 size (at + (front_size + length kept)) 0 rest)
+  front_again : (at : ℕ) → records 1 size at 0 (bytes_of seconds nanos whole kept rest) ≡ joined (recorded ((seconds - unix_start) * second + nanos) whole kept ∷ []) (records 1 size (at + (front_size + length kept)) 0 rest)
   front_again at =
       one_more 1 size at (bytes_of seconds nanos whole kept rest) sound (omega (arith, size_again, kept_again))
       ∙ ap (λ (r : Record). joined (r ∷ []) (records 1 size (at + (front_size + kept_of (bytes_of seconds nanos whole kept rest))) 0 (drop (front_size + kept_of (bytes_of seconds nanos whole kept rest)) (bytes_of seconds nanos whole kept rest)))) record_again
-      ∙ ap (λ (n : ℕ). joined (recorded ((seconds - start) * second + nanos) whole kept ∷ []) (records 1 size (at + (front_size + n)) 0 (drop (front_size + kept_of (bytes_of seconds nanos whole kept rest)) (bytes_of seconds nanos whole kept rest)))) kept_again
-      ∙ ap (λ (d : List ℕ). joined (recorded ((seconds - start) * second + nanos) whole kept ∷ []) (records 1 size (at + (front_size + length kept)) 0 d)) rest_again
+      ∙ ap (λ (n : ℕ). joined (recorded ((seconds - unix_start) * second + nanos) whole kept ∷ []) (records 1 size (at + (front_size + n)) 0 (drop (front_size + kept_of (bytes_of seconds nanos whole kept rest)) (bytes_of seconds nanos whole kept rest)))) kept_again
+      ∙ ap (λ (d : List ℕ). joined (recorded ((seconds - unix_start) * second + nanos) whole kept ∷ []) (records 1 size (at + (front_size + length kept)) 0 d)) rest_again
 
 -- ---- the record of a packet
 
-same_time : (t : ℕ) → (start + t / second - start) * second + t % second ≡ t
+same_time : (t : ℕ) → (unix_start + t / second - unix_start) * second + t % second ≡ t
 same_time t = omega arith
 
 packet_again : (size at : ℕ) (t : Taken) (rest : List ℕ) → max_packet ≤ size → MayBeRecorded t
@@ -106,7 +106,7 @@ packet_again size at t rest large h =
     let d = datagram_bytes t.packet in
     let d_size : length d ≡ packet_size t.packet = datagram_size t.packet in
     let all : take size d ≡ d = take_all size d (omega (arith, h.size)) in
-    let seconds = start + t.time.nanos / second in
+    let seconds = unix_start + t.time.nanos / second in
     let nanos = t.time.nanos % second in
     let may : MayBeWritten size seconds nanos (packet_size t.packet) d = record {
       late = omega arith;
