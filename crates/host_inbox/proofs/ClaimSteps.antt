@@ -1,13 +1,15 @@
 -- A claim keeps the rule.
-use Rattle.std.proofs.Common.{◌≡◌, ◌≢◌, ℕ, ◌+◌, ◌*◌, ◌^◌, ◌%◌, ◌<◌, ◌≤◌, ◌==◌, List, [], ◌∷◌, length, get_or, set, Option, None, sym, refl, ap, ◌∙◌, subst, ⊎_elim, lt_of_not-le, eq-eqb, ne_eqb, length-append, arith}
+use Rattle.std.proofs.Common.{◌≡◌, ◌≢◌, ℕ, ◌+◌, ◌*◌, ◌^◌, ◌%◌, ◌<◌, ◌≤◌, ◌==◌, List, [], ◌∷◌, ◌++◌, length, get_or, set, Option, None, sym, refl, ap, ◌∙◌, subst, ⊎_elim, lt_of_not-le, eq-eqb, ne_eqb, length-append, arith}
 use mathlib.Core.Option.{some, none}
 use mathlib.Core.Logic.{dite}
 use native.Mathlib.Decide.{dec_le, ℕ_discrete}
 use lib.ListN.{get_elem?}
 use Rattle.std.proofs.lemmas.List.{length-set, get_or-set_other, get_or-set_same}
+use Rattle.std.proofs.lemmas.List.Elements.{All-push, All-from_recursion, recursion_from_All}
 use Rattle.atomic_table.specs.Table.{State, Me, takes, keeps, step, stepped, Allows}
 use Rattle.atomic_table.proofs.Lists.{at_set, set_here, set_else}
 use Rattle.host_inbox.specs.declared.entry.Entry.{Entry}
+use Rattle.host_inbox.specs.declared.entry.Claim.{Claim}
 use Rattle.host_inbox.specs.declared.rule.Known.{Known}
 use Rattle.host_inbox.specs.declared.rule.Size.{Size}
 use Rattle.list_weights.specs.Weights.{weigh, numbers_below, only}
@@ -16,7 +18,7 @@ use Rattle.host_inbox.specs.Inboxes.{IsSettled, IsPending, Fits, AreInboxes, kno
 use Rattle.host_inbox.specs.Steps.{after_claim, after_full, Claimed}
 use Rattle.list_weights.proofs.Weights.{weigh-set}
 use Rattle.host_inbox.proofs.Weights.{weigh_next}
-use Rattle.host_inbox.proofs.Members.{each-append, within}
+use Rattle.host_inbox.proofs.Members.{within}
 use Rattle.host_inbox.proofs.Knowing.{same_place, claimed_few, claim_adds, full_adds, fits_taken}
 
 -- the least number that isn't claimed, in the words after a claim
@@ -92,10 +94,11 @@ module _ {T : Type 0} where
       mine k home =
           let n : ℕ = get_or s.words host 0 in
           let old = fits_taken size.hosts s.homes (place_of host n) v home (rule.each id v at) in
+          let P : Claim → Type 0 = IsPending size.hosts (set s.homes (place_of host n) none) in
           record {
             settled = old.settled;
-            pending = each-append (IsPending size.hosts (set s.homes (place_of host n) none)) v.pending (claim host n ∷ []) old.pending
-                (record { host = near; number = small; out = set_here s.homes (place_of host n) none (within s.homes (place_of host n) (some None) home) }, tt);
+            pending = recursion_from_All P (v.pending ++ claim host n ∷ []) (All-push P v.pending (claim host n) (All-from_recursion P v.pending old.pending)
+                (record { host = near; number = small; out = set_here s.homes (place_of host n) none (within s.homes (place_of host n) (some None) home) }));
             few = omega (arith, length-append v.pending (claim host n ∷ []));
           }
 
@@ -127,9 +130,10 @@ module _ {T : Type 0} where
           let n : ℕ = get_or s.words host 0 in
           let old = rule.each id v at in
           let e : Entry (Option T) = entry host n None in
+          let P : Entry (Option T) → Type 0 = IsSettled size.hosts s.homes in
           record {
-            settled = each-append (IsSettled size.hosts s.homes) v.settled (e ∷ []) old.settled
-                (record { host = near; placed = λ small. absurd (omega arith); full = λ small. absurd (omega arith) }, tt);
+            settled = recursion_from_All P (v.settled ++ e ∷ []) (All-push P v.settled e (All-from_recursion P v.settled old.settled)
+                (record { host = near; placed = λ small. absurd (omega arith); full = λ small. absurd (omega arith) }));
             pending = old.pending;
             few = omega (arith, length-append v.settled (e ∷ []));
           }

@@ -4,20 +4,21 @@ use mathlib.Core.Option.{Option as Place, some}
 use mathlib.Core.Logic.{dite}
 use native.Mathlib.Decide.{ℕ_discrete}
 use lib.ListN.{get_elem?}
-use Rattle.std.specs.List.{filter}
+use Rattle.std.specs.List.{AllByRecursion, filter}
+use Rattle.std.proofs.lemmas.List.Elements.{All-weaker, All-from_recursion, recursion_from_All}
 use Rattle.atomic_table.specs.Table.{State, Me, Final, Seen}
 use Rattle.host_inbox.specs.declared.entry.Entry.{Entry}
 use Rattle.host_inbox.specs.declared.rule.Known.{Known}
 use Rattle.host_inbox.specs.declared.rule.Size.{Size}
 use Rattle.list_weights.specs.Weights.{weigh, numbers_below, only}
 use Rattle.host_inbox.specs.Entries.{place_of, claim_weight, entry_weight}
-use Rattle.host_inbox.specs.Inboxes.{Each, IsSettled, Fits, AreInboxes, known, known_weight}
+use Rattle.host_inbox.specs.Inboxes.{IsSettled, Fits, AreInboxes, known, known_weight}
 use Rattle.host_inbox.specs.Carriers.{filed, kept_if}
 use Rattle.host_inbox.specs.Drains.{numbers_of}
 use Rattle.host_inbox.specs.Slots.{AreLaid, AreClosed}
 use Rattle.list_weights.proofs.Weights.{weigh_alone, is_number, is_other}
 use Rattle.host_inbox.proofs.Weights.{just_once}
-use Rattle.host_inbox.proofs.Members.{each_also, each_map}
+use Rattle.host_inbox.proofs.Members.{each_map}
 use Rattle.list_weights.proofs.Permutations.{same_weights}
 
 weigh_none : {X : Type 0} (h : X → ℕ) (xs : List X) → length xs ≡ 0 → weigh h xs ≡ 0
@@ -26,7 +27,7 @@ weigh_none h (x ∷ xs) e = absurd (omega arith)
 
 module _ {X : Type 0} where
   -- an entry of that number
-  pub find_entry : (P : Entry X → Type 0) (host number : ℕ) (es : List (Entry X)) → 0 < weigh (entry_weight host (is_number number)) es → Each P es
+  pub find_entry : (P : Entry X → Type 0) (host number : ℕ) (es : List (Entry X)) → 0 < weigh (entry_weight host (is_number number)) es → AllByRecursion P es
       → (e : Entry X) × P e × (e.host ≡ host) × (e.number ≡ number)
   find_entry P host number [] some_there p = absurd (omega arith)
   find_entry P host number (e ∷ es) some_there p = dite (ℕ_discrete e.host host)
@@ -90,10 +91,11 @@ module _ {T : Type 0} where
                   (sym (ap (λ (p : ℕ × ℕ). get_elem? s.homes (place_of p.0 p.1)) (λ i. (found.2 i, found.3 i))) ∙ found.1.placed here ∙ ap (λ (p : Option T). some (some p)) full.1),
             ));
         empty = λ number from small. values (place_of host number) None (rule.free host number near from small);
-        placed = each_also (λ (e : Entry T). IsSettled size.hosts s.homes (filed e)) (λ (e : Entry T). e.host ≡ host → e.number < 16 → get_elem? xs (place_of host e.number) ≡ some (Some e.parcel)) entries
+        placed = recursion_from_All (λ (e : Entry T). e.host ≡ host → e.number < 16 → get_elem? xs (place_of host e.number) ≡ some (Some e.parcel)) entries
+            (All-weaker (λ (e : Entry T). IsSettled size.hosts s.homes (filed e)) (λ (e : Entry T). e.host ≡ host → e.number < 16 → get_elem? xs (place_of host e.number) ≡ some (Some e.parcel))
             (λ e p of_host small. values (place_of host e.number) (Some e.parcel)
             (sym (ap (λ (k : ℕ). get_elem? s.homes (place_of k e.number)) of_host) ∙ p.placed small ∙ ap (λ (y : Option T). some (some y)) (kept_parcel e.number e.parcel small)))
-            (each_map (IsSettled size.hosts s.homes) filed entries mine.settled);
+            entries (All-from_recursion (λ (e : Entry T). IsSettled size.hosts s.homes (filed e)) entries (each_map (IsSettled size.hosts s.homes) filed entries mine.settled)));
       }
 
   -- the places of boards whose seats are joined into one
@@ -102,8 +104,8 @@ module _ {T : Type 0} where
       let s : State (Option T) (Known T) = final.0 in
       let mine = final.1.0.each id (known size.seats (map filed entries) []) final.1.1 in
       record {
-        hosts_of = each_also (λ (e : Entry T). IsSettled size.hosts s.homes (filed e)) (λ (e : Entry T). e.host < size.hosts) entries (λ e p. p.host)
-            (each_map (IsSettled size.hosts s.homes) filed entries mine.settled);
+        hosts_of = recursion_from_All (λ (e : Entry T). e.host < size.hosts) entries (All-weaker (λ (e : Entry T). IsSettled size.hosts s.homes (filed e)) (λ (e : Entry T). e.host < size.hosts) (λ e p. p.host)
+            entries (All-from_recursion (λ (e : Entry T). IsSettled size.hosts s.homes (filed e)) entries (each_map (IsSettled size.hosts s.homes) filed entries mine.settled)));
         each = λ host near. laid size s id host entries xs final.1.0 final.1.1 final.4 near;
       }
 

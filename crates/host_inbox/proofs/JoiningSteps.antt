@@ -1,6 +1,8 @@
 -- Carriers' seats are joined into one, from the last on.
-use Rattle.std.proofs.Common.{◌≡◌, ℕ, ◌+◌, List, [], ◌∷◌, ◌++◌, map, length, All, Option, sym, ap, ◌∙◌, subst, append_assoc, append-nil, length-append, arith}
+use Rattle.std.proofs.Common.{◌≡◌, ℕ, ◌+◌, List, [], ◌∷◌, ◌++◌, map, length, All, Option, Some, sym, ap, ◌∙◌, append_assoc, append-nil, length-append, arith}
+use Rattle.std.proofs.lemmas.Grind.{flat_map-append}
 use Rattle.std.proofs.lemmas.List.{map-append}
+use Rattle.std.proofs.lemmas.List.Elements.{All-pop}
 use Rattle.atomic_table.specs.Table.{Me}
 use Rattle.atomic_table.specs.Seated.{TableId}
 use Rattle.host_inbox.specs.declared.entry.Entry.{Entry}
@@ -11,12 +13,10 @@ use Rattle.host_inbox.specs.Carriers.{filed}
 use Rattle.host_inbox.specs.CarrierViews.{CarrierView}
 use Rattle.host_inbox.specs.Drains.{all_entries}
 use Rattle.host_inbox.specs.Slots.{IsJoining}
-use Rattle.host_inbox.proofs.Members.{all_front, all_last}
 
 module _ {T : Type 0} where
   entries_snoc : (xs : List (CarrierView T)) (c : CarrierView T) → all_entries (xs ++ c ∷ []) ≡ all_entries xs ++ c.entries
-  entries_snoc [] c = append-nil c.entries
-  entries_snoc (x ∷ xs) c = ap (λ (l : List (Entry T)). x.entries ++ l) (entries_snoc xs c) ∙ sym (append_assoc x.entries (all_entries xs) c.entries)
+  entries_snoc xs c = flat_map-append (λ (carrier : CarrierView T). carrier.entries) xs (c ∷ []) ∙ ap (λ (l : List (Entry T)). all_entries xs ++ l) (append-nil c.entries)
 
   -- the last carrier alone
   pub begins : (id : TableId) (carriers left : List (CarrierView T)) (last : CarrierView T) (me : Me (Option T) (Known T)) → carriers ≡ left ++ last ∷ [] → All (λ (c : CarrierView T). c.boards ≡ id) carriers
@@ -27,7 +27,7 @@ module _ {T : Type 0} where
     knows = knows;
     count = (let long = ap length is in omega (arith, length-append left (last ∷ [])));
     all = sym (ap all_entries is ∙ entries_snoc left last);
-    theirs = all_front (λ (c : CarrierView T). c.boards ≡ id) left (last ∷ []) (subst (All (λ (c : CarrierView T). c.boards ≡ id)) is theirs);
+    theirs = (All-pop (λ (c : CarrierView T). c.boards ≡ id) carriers left (Some last) is theirs).0;
   }
 
   -- one carrier more
@@ -42,11 +42,11 @@ module _ {T : Type 0} where
         ∙ ap (λ (l : List (Entry (Option T))). (known (1 + h.share) l [], [])) (sym (map-append filed next.entries h.entries));
     count = (let long = ap length is in let count = h.count in omega (arith, length-append left (next ∷ [])));
     all = sym (append_assoc (all_entries left) next.entries h.entries) ∙ ap (λ (l : List (Entry T)). l ++ h.entries) (sym (ap all_entries is ∙ entries_snoc left next)) ∙ h.all;
-    theirs = all_front (λ (c : CarrierView T). c.boards ≡ id) left (next ∷ []) (subst (All (λ (c : CarrierView T). c.boards ≡ id)) is h.theirs);
+    theirs = (All-pop (λ (c : CarrierView T). c.boards ≡ id) old left (Some next) is h.theirs).0;
   }
 
   pub last_is_theirs : (id : TableId) (old left : List (CarrierView T)) (next : CarrierView T) → All (λ (c : CarrierView T). c.boards ≡ id) old → old ≡ left ++ next ∷ [] → next.boards ≡ id
-  last_is_theirs id old left next theirs is = all_last (λ (c : CarrierView T). c.boards ≡ id) left next (subst (All (λ (c : CarrierView T). c.boards ≡ id)) is theirs)
+  last_is_theirs id old left next theirs is = (All-pop (λ (c : CarrierView T). c.boards ≡ id) old left (Some next) is theirs).1
 
   -- all carriers
   pub ends : (id : TableId) (carriers left : List (CarrierView T)) (me : Me (Option T) (Known T)) → IsJoining id carriers left me → length left ≡ 0

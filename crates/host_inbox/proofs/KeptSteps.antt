@@ -1,10 +1,10 @@
 -- What is drained and what was given back is what was put.
-use Rattle.std.proofs.Common.{◌≡◌, ◌≢◌, ℕ, zero, suc, ◌+◌, ◌<◌, ◌≤◌, ◌==◌, true, false, List, [], ◌∷◌, length, get_or, All, Option, Some, None, Vec, nat_lt, nat_le, sym, refl, ap, ◌∙◌, eq-eqb, ne_eqb, lt_of_not-le, arith}
+use Rattle.std.proofs.Common.{◌≡◌, ◌≢◌, ℕ, zero, suc, ◌+◌, ◌<◌, ◌≤◌, ◌==◌, false, List, [], ◌∷◌, length, get_or, All, Option, Some, None, Vec, nat_lt, sym, refl, ap, ◌∙◌, ne_eqb, lt_of_not-le, arith}
 use mathlib.Core.Logic.{dite}
 use native.Mathlib.Decide.{dec_le, ℕ_discrete}
 use Rattle.std.specs.List.{slice_get}
 use Rattle.std.specs.declared.alloc.Global.{Global}
-use Rattle.std.proofs.lemmas.Bool.Decides.{nat_tests}
+use Rattle.std.proofs.lemmas.Bool.{lt-ltb, le-ltb, le-leb, lt-leb}
 use Rattle.std.proofs.lemmas.Option.{slice_get_past}
 use Rattle.host_inbox.specs.declared.entry.Entry.{Entry}
 use Rattle.list_weights.specs.Places.{EachAt}
@@ -12,7 +12,7 @@ use Rattle.list_weights.specs.Weights.{weigh, numbers_below, only}
 use Rattle.host_inbox.specs.Entries.{entry_weight}
 use Rattle.host_inbox.specs.Drains.{numbers_of, IsInboxOf, IsDrained}
 use Rattle.host_inbox.specs.Kept.{back_weight, AreKept}
-use Rattle.list_weights.proofs.Weights.{weigh-append, weigh_only}
+use Rattle.list_weights.proofs.Weights.{weigh-append, weigh_once}
 use Rattle.list_weights.proofs.Permutations.{weigh-permutation}
 use Rattle.host_inbox.proofs.CloseSteps.{numbers_weigh}
 
@@ -28,22 +28,6 @@ plus f g (x ∷ xs) = omega (arith, plus f g xs)
 no_weight : {X : Type 0} (xs : List X) → weigh (λ _. 0) xs ≡ 0
 no_weight [] = refl
 no_weight (x ∷ xs) = omega (arith, no_weight xs)
-
--- a host stands once among all
-once_in : (d m n : ℕ) → d < n → weigh (λ p. only (d == p) m) (numbers_below n) ≡ m
-once_in d m n within = weigh_only (λ p. only (d == p) m) d n within (λ p ne. ap (λ b. only b m) (ne_eqb d p ne)) ∙ ap (λ b. only b m) (eq-eqb d d refl)
-
-lt_true : (a b : ℕ) → a < b → nat_lt a b ≡ true
-lt_true a b h = grind (arith, nat_tests)
-
-lt_false : (a b : ℕ) → b ≤ a → nat_lt a b ≡ false
-lt_false a b h = grind (arith, nat_tests)
-
-le_true : (a b : ℕ) → a ≤ b → nat_le a b ≡ true
-le_true a b h = grind (arith, nat_tests)
-
-le_false : (a b : ℕ) → b < a → nat_le a b ≡ false
-le_false a b h = grind (arith, nat_tests)
 
 module _ {T : Type 0} where
   weight_in : (T → ℕ) → Option T → ℕ
@@ -69,9 +53,9 @@ module _ {T : Type 0} where
   unfolding weight_in
   one_entry h host row e few placed = dite (ℕ_discrete e.host host)
       (λ (same : e.host ≡ host). ap (λ n. only (e.host == host) n) (dite (dec_le 16 e.number)
-      (λ (past : 16 ≤ e.number). ap (λ b. only b (h e.parcel)) (lt_false e.number 16 past) ∙ sym (ap (weight_in h) (slice_get_past row e.number (omega arith))))
+      (λ (past : 16 ≤ e.number). ap (λ b. only b (h e.parcel)) (le-ltb e.number 16 past) ∙ sym (ap (weight_in h) (slice_get_past row e.number (omega arith))))
       (λ not. let small : e.number < 16 = lt_of_not-le not in
-      ap (λ b. only b (h e.parcel)) (lt_true e.number 16 small) ∙ sym (ap (weight_in h) (placed same small)))))
+      ap (λ b. only b (h e.parcel)) (lt-ltb e.number 16 small) ∙ sym (ap (weight_in h) (placed same small)))))
       (λ (ne : e.host ≢ host). let no : (e.host == host) ≡ false = ne_eqb e.host host ne in
       ap (λ b. only b (place_weight h e)) no ∙ sym (ap (λ b. only b (weight_in h (slice_get row e.number))) no))
 
@@ -108,19 +92,19 @@ module _ {T : Type 0} where
   hosts_weigh h hosts [] below = no_weight (numbers_below hosts)
   hosts_weigh h hosts (e ∷ es) below =
       let split = plus (λ host. host_weight h host e) (λ host. weigh (host_weight h host) es) (numbers_below hosts) in
-      let one = once_in e.host (place_weight h e) hosts (below 0 e (omega arith)) in
+      let one = weigh_once e.host (place_weight h e) hosts (below 0 e (omega arith)) in
       let rest = hosts_weigh h hosts es (λ k d w. below (suc k) d (omega arith)) in
       omega arith
 
   placed_or_back : (h : T → ℕ) (e : Entry T) → place_weight h e + back_weight h e ≡ h e.parcel
   placed_or_back h e = dite (dec_le 16 e.number)
       (λ (past : 16 ≤ e.number).
-      let a : place_weight h e ≡ 0 = ap (λ b. only b (h e.parcel)) (lt_false e.number 16 past) in
-      let b : back_weight h e ≡ h e.parcel = ap (λ b. only b (h e.parcel)) (le_true 16 e.number past) in
+      let a : place_weight h e ≡ 0 = ap (λ b. only b (h e.parcel)) (le-ltb e.number 16 past) in
+      let b : back_weight h e ≡ h e.parcel = ap (λ b. only b (h e.parcel)) (le-leb 16 e.number past) in
       omega arith)
       (λ not. let small : e.number < 16 = lt_of_not-le not in
-      let a : place_weight h e ≡ h e.parcel = ap (λ b. only b (h e.parcel)) (lt_true e.number 16 small) in
-      let b : back_weight h e ≡ 0 = ap (λ b. only b (h e.parcel)) (le_false 16 e.number small) in
+      let a : place_weight h e ≡ h e.parcel = ap (λ b. only b (h e.parcel)) (lt-ltb e.number 16 small) in
+      let b : back_weight h e ≡ 0 = ap (λ b. only b (h e.parcel)) (lt-leb 16 e.number small) in
       omega arith)
 
   halves : (h : T → ℕ) (es : List (Entry T)) → weigh (place_weight h) es + weigh (back_weight h) es ≡ weigh (λ e. h e.parcel) es

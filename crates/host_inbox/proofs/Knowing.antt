@@ -1,5 +1,6 @@
 -- What seats know of the inboxes.
 use Rattle.std.proofs.Common.{◌≡◌, ◌≢◌, ℕ, ◌+◌, ◌*◌, ◌<◌, ◌≤◌, ◌==◌, List, [], ◌∷◌, map, length, get_or, set, Option, Some, None, Bool, true, false, sym, refl, ap, ◌∙◌, arith}
+use Rattle.std.proofs.lemmas.List.Elements.{All-weaker, All-from_recursion, recursion_from_All}
 use mathlib.Core.Option.{Option as Place, some, none}
 use lib.ListN.{get_elem?}
 use Rattle.atomic_table.specs.Table.{State}
@@ -7,13 +8,12 @@ use Rattle.host_inbox.specs.declared.entry.Entry.{Entry}
 use Rattle.host_inbox.specs.declared.entry.Claim.{Claim}
 use Rattle.host_inbox.specs.declared.rule.Known.{Known}
 use Rattle.host_inbox.specs.declared.rule.Size.{Size}
-use Rattle.list_weights.specs.Weights.{weigh, only}
+use Rattle.list_weights.specs.Weights.{weigh, numbers_below, only}
 use Rattle.host_inbox.specs.Entries.{place_of, claim, entry, claim_weight, entry_weight}
 use Rattle.host_inbox.specs.Inboxes.{IsSettled, IsPending, Fits, AreInboxes, known_weight}
 use Rattle.host_inbox.specs.Steps.{after_claim, after_full, after_settle}
-use Rattle.list_weights.proofs.Weights.{weigh-append, weigh_below}
-use Rattle.host_inbox.proofs.Weights.{weigh-times, count_below}
-use Rattle.host_inbox.proofs.Members.{each_also}
+use Rattle.list_weights.proofs.Weights.{weigh-append, weigh_below, weigh-ones, length-numbers_below}
+use Rattle.host_inbox.proofs.Weights.{weigh-times}
 use Rattle.atomic_table.proofs.Lists.{set_else}
 
 only_at_most : (b : Bool) (n : ℕ) → only b n ≤ n
@@ -41,7 +41,7 @@ module _ {T : Type 0} where
   pub claimed_few : (size : Size) (s : State (Option T) (Known T)) (host : ℕ) → AreInboxes size s → host < size.hosts → get_or s.words host 0 ≤ 274877906944
   claimed_few size s host rule near =
       let all = rule.once host (λ _. 1) near in
-      let count = count_below (get_or s.words host 0) in
+      let count = weigh-ones (numbers_below (get_or s.words host 0)) ∙ length-numbers_below (get_or s.words host 0) in
       let below : weigh (known_weight host (λ _. 1)) s.views ≤ weigh (λ (v : Known T). v.share * 4294967296) s.views = weigh_below (known_weight host (λ _. 1)) (λ (v : Known T). v.share * 4294967296) s.views (λ j u at. known_few size.hosts s.homes host u (rule.each j u at)) in
       let times = weigh-times (λ (v : Known T). v.share) s.views in
       let shares = rule.shares in
@@ -66,7 +66,7 @@ module _ {T : Type 0} where
   -- what a seat knows stays so while an empty place at home is taken
   pub fits_taken : (hosts : ℕ) (homes : List (Place (Option T))) (k : ℕ) (v : Known T) → get_elem? homes k ≡ some (some None) → Fits hosts homes v → Fits hosts (set homes k none) v
   fits_taken hosts homes k v here fits = record {
-    settled = each_also (IsSettled hosts homes) (IsSettled hosts (set homes k none)) v.settled
+    settled = recursion_from_All (IsSettled hosts (set homes k none)) v.settled (All-weaker (IsSettled hosts homes) (IsSettled hosts (set homes k none))
         (λ e p. record {
           host = p.host;
           full = p.full;
@@ -75,8 +75,8 @@ module _ {T : Type 0} where
               let apart : place_of e.host e.number ≢ k = λ same. differs e.parcel f.0 f.1 (sym at ∙ ap (λ (j : ℕ). get_elem? homes j) same ∙ here) in
               set_else homes k (place_of e.host e.number) none apart ∙ at);
         })
-        fits.settled;
-    pending = each_also (IsPending hosts homes) (IsPending hosts (set homes k none)) v.pending
+        v.settled (All-from_recursion (IsSettled hosts homes) v.settled fits.settled));
+    pending = recursion_from_All (IsPending hosts (set homes k none)) v.pending (All-weaker (IsPending hosts homes) (IsPending hosts (set homes k none))
         (λ c p. record {
           host = p.host;
           number = p.number;
@@ -85,7 +85,7 @@ module _ {T : Type 0} where
               let apart : place_of c.host c.number ≢ k = λ same. out_or_home none (some None) refl refl (sym at ∙ ap (λ (j : ℕ). get_elem? homes j) same ∙ here) in
               set_else homes k (place_of c.host c.number) none apart ∙ at);
         })
-        fits.pending;
+        v.pending (All-from_recursion (IsPending hosts homes) v.pending fits.pending));
     few = fits.few;
   }
     where

@@ -7,6 +7,7 @@ use lib.ListN.{get_elem?}
 use Rattle.std.specs.List.{slice_get}
 use Rattle.std.specs.declared.alloc.Global.{Global}
 use Rattle.std.proofs.lemmas.Option.{get_or_from_slice_get}
+use Rattle.std.proofs.lemmas.List.Elements.{All-weaker, All-from_recursion, recursion_from_All}
 use Rattle.host_inbox.specs.declared.entry.Entry.{Entry}
 use Rattle.list_weights.specs.Places.{EachAt}
 use Rattle.list_weights.specs.Weights.{numbers_below}
@@ -16,7 +17,6 @@ use Rattle.host_inbox.specs.Slots.{listed, parcels_from, row_of, AreLaid, AreClo
 use Rattle.list_weights.proofs.Weights.{is_number}
 use Rattle.list_weights.proofs.Permutations.{weigh-permutation}
 use Rattle.host_inbox.proofs.Weights.{just_once}
-use Rattle.host_inbox.proofs.Members.{each_also, all_each, each_all}
 use Rattle.host_inbox.proofs.DrainSteps.{read_at}
 use Rattle.host_inbox.proofs.CloseSteps.{find_entry, numbers_weigh}
 
@@ -93,13 +93,12 @@ module _ {T : Type 0} where
     claimed = h.claimed;
     once = h.once;
     count = row_length host entries slots h 16 (omega arith);
-    placed = all_each (λ (e : Entry T). e.host ≡ host → e.number < 16 → slice_get (parcels_from slots (host * 16) 16) e.number ≡ Some e.parcel) entries
-        (each_also (λ (e : Entry T). e.host ≡ host → e.number < 16 → get_elem? slots (place_of host e.number) ≡ some (Some e.parcel))
-        (λ (e : Entry T). e.host ≡ host → e.number < 16 → slice_get (parcels_from slots (host * 16) 16) e.number ≡ Some e.parcel) entries
+    placed = All-weaker (λ (e : Entry T). e.host ≡ host → e.number < 16 → get_elem? slots (place_of host e.number) ≡ some (Some e.parcel))
+        (λ (e : Entry T). e.host ≡ host → e.number < 16 → slice_get (parcels_from slots (host * 16) 16) e.number ≡ Some e.parcel)
         (λ e p of_host small. dite (dec_le h.claimed e.number)
         (λ (past : h.claimed ≤ e.number). absurd (differ e.parcel (sym (p of_host small) ∙ h.empty e.number past small)))
         (λ not. row_get host entries slots h 16 e.number e.parcel (omega arith) small (lt_of_not-le not) (p of_host small)))
-        h.placed);
+        entries (All-from_recursion (λ (e : Entry T). e.host ≡ host → e.number < 16 → get_elem? slots (place_of host e.number) ≡ some (Some e.parcel)) entries h.placed);
   }
 
   -- and all rows are what is drained
@@ -108,7 +107,7 @@ module _ {T : Type 0} where
   unfolding row_of
   drains hosts entries slots rows closed count each = record {
     count = count;
-    hosts_of = all_each (λ (e : Entry T). e.host < hosts) entries closed.hosts_of;
+    hosts_of = All-from_recursion (λ (e : Entry T). e.host < hosts) entries closed.hosts_of;
     each = λ host row within. subst (IsInboxOf host entries) (sym (each host row within)) (inbox host entries slots (closed.each host (omega arith)));
   }
 
@@ -122,7 +121,7 @@ module _ {T : Type 0} where
       let same = weigh-permutation (is_number k) (numbers_of host es) (numbers_below is.claimed) is.once in
       let sum = numbers_weigh host (is_number k) es in
       let Q : Entry T → Type 0 = λ e. P e.host e.parcel × (e.host ≡ host → e.number < 16 → slice_get row e.number ≡ Some e.parcel) in
-      let found = find_entry Q host k es (omega arith) (each_all Q es (λ i e w. (holds i e w, is.placed i e w))) in
+      let found = find_entry Q host k es (omega arith) (recursion_from_All Q es (λ i e w. (holds i e w, is.placed i e w))) in
       let e : Entry T = found.0 in
       let number : e.number ≡ k = found.3 in
       let there : slice_get row k ≡ Some e.parcel = subst (λ (n : ℕ). slice_get row n ≡ Some e.parcel) number (found.1.1 found.2 (omega arith)) in

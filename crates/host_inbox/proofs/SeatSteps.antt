@@ -1,10 +1,13 @@
 -- Seats are made, and come back.
-use Rattle.std.proofs.Common.{◌≡◌, ℕ, zero, suc, ◌+◌, ◌-◌, ◌*◌, ◌<◌, ◌≤◌, List, [], ◌∷◌, map, length, get_or, set, replicate, add-zero, Option, None, sym, refl, ap, ◌∙◌, subst, ⊎_elim, length-append, arith}
+use Rattle.std.proofs.Common.{◌≡◌, ℕ, zero, suc, ◌+◌, ◌-◌, ◌*◌, ◌<◌, ◌≤◌, List, [], ◌∷◌, ◌++◌, map, length, get_or, set, replicate, add-zero, Option, None, sym, refl, ap, ◌∙◌, subst, ⊎_elim, length-append, arith}
 use mathlib.Core.Option.{some, some-injective, some-ne-none}
 use lib.ListN.{get_elem?}
 use Rattle.atomic_table.specs.Table.{Me, Splits, Joins, opening}
 use Rattle.std.proofs.lemmas.List.{length-map, length-replicate, get_or-replicate}
+use Rattle.std.proofs.lemmas.List.Elements.{All-append, All-from_recursion, recursion_from_All}
 use Rattle.atomic_table.proofs.Lists.{at_set, at_snoc, set_else}
+use Rattle.host_inbox.specs.declared.entry.Entry.{Entry}
+use Rattle.host_inbox.specs.declared.entry.Claim.{Claim}
 use Rattle.host_inbox.specs.declared.rule.Known.{Known}
 use Rattle.host_inbox.specs.declared.rule.Size.{Size}
 use Rattle.list_weights.specs.Weights.{weigh, numbers_below}
@@ -12,7 +15,6 @@ use Rattle.host_inbox.specs.Entries.{place_of, claim_weight, entry_weight}
 use Rattle.host_inbox.specs.Inboxes.{IsSettled, IsPending, Fits, AreInboxes, known, known_weight}
 use Rattle.host_inbox.specs.Steps.{less_one, one, both, spent}
 use Rattle.list_weights.proofs.Weights.{weigh-append, weigh-set}
-use Rattle.host_inbox.proofs.Members.{each-append}
 
 module _ {T : Type 0} where
   -- a seat that has put nothing may give one seat away
@@ -69,9 +71,11 @@ module _ {T : Type 0} where
             (λ q. subst (λ (z : Known T). Fits size.hosts s.homes z) q.1
             (let mine = rule.each id v at in
             let others = rule.each other w theirs in
+            let P : Entry (Option T) → Type 0 = IsSettled size.hosts s.homes in
+            let Q : Claim → Type 0 = IsPending size.hosts s.homes in
             record {
-              settled = each-append (IsSettled size.hosts s.homes) v.settled w.settled mine.settled others.settled;
-              pending = each-append (IsPending size.hosts s.homes) v.pending w.pending mine.pending others.pending;
+              settled = recursion_from_All P (v.settled ++ w.settled) (All-append P v.settled w.settled (All-from_recursion P v.settled mine.settled) (All-from_recursion P w.settled others.settled));
+              pending = recursion_from_All Q (v.pending ++ w.pending) (All-append Q v.pending w.pending (All-from_recursion Q v.pending mine.pending) (All-from_recursion Q w.pending others.pending));
               few = (let a = mine.few in let c = others.few in omega (arith, length-append v.settled w.settled, length-append v.pending w.pending));
             }))
             (λ q. rule.each seat u q.1)

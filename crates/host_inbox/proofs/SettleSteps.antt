@@ -1,8 +1,10 @@
 -- Giving a place back with a parcel keeps the rule.
-use Rattle.std.proofs.Common.{◌≡◌, ◌≢◌, ℕ, ◌+◌, ◌^◌, ◌%◌, ◌<◌, List, [], ◌∷◌, map, length, get_or, set, Option, Some, None, sym, refl, ap, ◌∙◌, subst, ⊎_elim, eq-eqb, length-append, arith}
+use Rattle.std.proofs.Common.{◌≡◌, ◌≢◌, ℕ, ◌+◌, ◌^◌, ◌%◌, ◌<◌, List, [], ◌∷◌, ◌++◌, map, length, get_or, set, Option, Some, None, sym, refl, ap, ◌∙◌, subst, ⊎_elim, eq-eqb, length-append, arith}
 use mathlib.Core.Option.{Option as Place, some, none}
 use lib.ListN.{get_elem?}
+use Rattle.std.specs.List.{AllByRecursion}
 use Rattle.std.proofs.lemmas.List.{length-set, get_or-set_other}
+use Rattle.std.proofs.lemmas.List.Elements.{All-nil, All-cons, All-same, All-append, All-weaker, All-from_recursion, recursion_from_All}
 use Rattle.atomic_table.specs.Table.{State, Me, gives, step, stepped, Allows}
 use Rattle.atomic_table.proofs.Lists.{at_set, set_here, set_else}
 use Rattle.host_inbox.specs.declared.entry.Entry.{Entry}
@@ -11,11 +13,11 @@ use Rattle.host_inbox.specs.declared.rule.Known.{Known}
 use Rattle.host_inbox.specs.declared.rule.Size.{Size}
 use Rattle.list_weights.specs.Weights.{weigh, numbers_below, only}
 use Rattle.host_inbox.specs.Entries.{place_of, claim, entry, claim_weight}
-use Rattle.host_inbox.specs.Inboxes.{Each, IsSettled, IsPending, Fits, AreInboxes, known_weight}
+use Rattle.host_inbox.specs.Inboxes.{IsSettled, IsPending, Fits, AreInboxes, known_weight}
 use Rattle.host_inbox.specs.Steps.{after_settle, Settled}
 use Rattle.list_weights.proofs.Weights.{weigh-set, weigh_two, is_number, is_itself}
 use Rattle.host_inbox.proofs.Weights.{at_most_once}
-use Rattle.host_inbox.proofs.Members.{each-append, each_also, within}
+use Rattle.host_inbox.proofs.Members.{within}
 use Rattle.host_inbox.proofs.Knowing.{same_place, settle_adds}
 
 counted : (host number at n : ℕ) → at ≡ host → n ≡ number → claim_weight host (is_number number) (claim at n) ≡ 1
@@ -35,8 +37,8 @@ module _ {T : Type 0} where
 
   -- what lies at other places stays
   stays_settled : (hosts : ℕ) (homes : List (Place (Option T))) (k : ℕ) (y : Place (Option T)) (xs : List (Entry (Option T))) → get_elem? homes k ≡ some none
-      → Each (IsSettled hosts homes) xs → Each (IsSettled hosts (set homes k y)) xs
-  stays_settled hosts homes k y xs out p = each_also (IsSettled hosts homes) (IsSettled hosts (set homes k y)) xs
+      → AllByRecursion (IsSettled hosts homes) xs → AllByRecursion (IsSettled hosts (set homes k y)) xs
+  stays_settled hosts homes k y xs out p = recursion_from_All (IsSettled hosts (set homes k y)) xs (All-weaker (IsSettled hosts homes) (IsSettled hosts (set homes k y))
       (λ e q. record {
         host = q.host;
         full = q.full;
@@ -45,11 +47,11 @@ module _ {T : Type 0} where
             let apart : place_of e.host e.number ≢ k = λ same. differs f.0 e.parcel f.1 none refl (sym at ∙ ap (λ (j : ℕ). get_elem? homes j) same ∙ out) in
             set_else homes k (place_of e.host e.number) y apart ∙ at);
       })
-      p
+      xs (All-from_recursion (IsSettled hosts homes) xs p))
 
   -- and so do the claims of a seat that hasn't this number
   stays_pending : (hosts : ℕ) (homes : List (Place (Option T))) (host number : ℕ) (y : Place (Option T)) (xs : List Claim) → number < 16
-      → weigh (claim_weight host (is_number number)) xs ≡ 0 → Each (IsPending hosts homes) xs → Each (IsPending hosts (set homes (place_of host number) y)) xs
+      → weigh (claim_weight host (is_number number)) xs ≡ 0 → AllByRecursion (IsPending hosts homes) xs → AllByRecursion (IsPending hosts (set homes (place_of host number) y)) xs
   stays_pending hosts homes host number y [] small none_there p = tt
   stays_pending hosts homes host number y (c ∷ xs) small none_there p =
       let apart : place_of c.host c.number ≢ place_of host number = λ e.
@@ -77,7 +79,7 @@ module _ {T : Type 0} where
       let k : ℕ = place_of host number in
       let w : Known T = after_settle v (Some x) in
       let old : Fits size.hosts s.homes v = rule.each id v at in
-      let was : Each (IsPending size.hosts s.homes) (claim host number ∷ []) = subst (Each (IsPending size.hosts s.homes)) pending old.pending in
+      let was : AllByRecursion (IsPending size.hosts s.homes) (claim host number ∷ []) = subst (AllByRecursion (IsPending size.hosts s.homes)) pending old.pending in
       let out : get_elem? s.homes k ≡ some none = was.0.out in
       record {
         words = length-set s.words (size.hosts + host) m ∙ rule.words;
@@ -110,13 +112,14 @@ module _ {T : Type 0} where
           let homes : List (Place (Option T)) = set s.homes (place_of host number) (some (Some x)) in
           let e : Entry (Option T) = entry host number (Some x) in
           let one : map (λ (c : Claim). entry c.host c.number (Some x)) v.pending ≡ e ∷ [] = ap (map (λ (c : Claim). entry c.host c.number (Some x))) pending in
-          let there : Each (IsSettled size.hosts homes) (e ∷ []) = (record { host = near; placed = λ _. set_here s.homes (place_of host number) (some (Some x)) (within s.homes (place_of host number) none out); full = λ _. (x, refl) }, tt) in
+          let P : Entry (Option T) → Type 0 = IsSettled size.hosts homes in
+          let there : P e = record { host = near; placed = λ _. set_here s.homes (place_of host number) (some (Some x)) (within s.homes (place_of host number) none out); full = λ _. (x, refl) } in
           let count : length v.pending ≡ 1 = ap length pending in
           let counts : length (map (λ (c : Claim). entry c.host c.number (Some x)) v.pending) ≡ 1 = ap length one in
           record {
-            settled = each-append (IsSettled size.hosts homes) v.settled (map (λ (c : Claim). entry c.host c.number (Some x)) v.pending)
-                (stays_settled size.hosts s.homes (place_of host number) (some (Some x)) v.settled out old.settled)
-                (subst (Each (IsSettled size.hosts homes)) (sym one) there);
+            settled = recursion_from_All P (v.settled ++ map (λ (c : Claim). entry c.host c.number (Some x)) v.pending) (All-append P v.settled (map (λ (c : Claim). entry c.host c.number (Some x)) v.pending)
+                (All-from_recursion P v.settled (stays_settled size.hosts s.homes (place_of host number) (some (Some x)) v.settled out old.settled))
+                (All-same P (map (λ (c : Claim). entry c.host c.number (Some x)) v.pending) (e ∷ []) one (All-cons P e [] there (All-nil P))));
             pending = tt;
             few = (let f = old.few in omega (arith, length-append v.settled (map (λ (c : Claim). entry c.host c.number (Some x)) v.pending)));
           }

@@ -1,5 +1,5 @@
 -- Weights of lists and of the numbers below a number.
-use Rattle.std.proofs.Common.{◌≡◌, ℕ, zero, suc, ◌+◌, ◌*◌, ◌<◌, ◌≤◌, List, [], ◌∷◌, ◌++◌, sym, refl, ap, ◌∙◌, lt_of_not-le, arith}
+use Rattle.std.proofs.Common.{◌≡◌, ℕ, suc, ◌+◌, ◌*◌, ◌<◌, ◌≤◌, List, [], ◌∷◌, ◌++◌, sym, refl, ap, ◌∙◌, lt_of_not-le, arith}
 use mathlib.Core.Logic.{dite}
 use native.Mathlib.Decide.{dec_le}
 use Rattle.list_weights.specs.Weights.{weigh, numbers_below}
@@ -18,11 +18,6 @@ pub at_most_once : (n k : ℕ) → weigh (is_number n) (numbers_below k) ≤ 1
 at_most_once n k = dite (dec_le k n)
     (λ (le : k ≤ n). let none = weigh_past (is_number n) n k le (λ p ne. is_other n p (λ e. ne (sym e))) in omega arith)
     (λ (more : (k ≤ n) → ⊥). let one = just_once n k (lt_of_not-le more) in omega arith)
-
--- so many numbers
-pub count_below : (k : ℕ) → weigh (λ _. 1) (numbers_below k) ≡ k
-count_below zero = refl
-count_below (suc k) = omega (arith, weigh-append (λ (_ : ℕ). 1) (numbers_below k) (k ∷ []), count_below k)
 
 -- one number more
 pub weigh_next : (h : ℕ → ℕ) (k : ℕ) → weigh h (numbers_below (k + 1)) ≡ weigh h (numbers_below k) + h k

@@ -3,7 +3,7 @@ use Rattle.std.specs.Prelude.{◌≡◌, Bool, true, false, [], map, nat_lt, Opt
 use Rattle.host_inbox.specs.declared.entry.Entry.{Entry}
 use Rattle.host_inbox.specs.declared.carrier.Carrier.TheInside.{Inside}
 use Rattle.host_inbox.specs.CarrierViews.{CarrierView}
-use Rattle.host_inbox.specs.Entries.{entry}
+use Rattle.host_inbox.specs.Entries.{inbox_places, entry}
 use Rattle.host_inbox.specs.Inboxes.{known}
 
 module _ {T : Type 0} where
@@ -13,7 +13,7 @@ module _ {T : Type 0} where
 
   -- an entry as a seat knows it: with its parcel where the number has a place
   abbrev pub filed : Entry T → Entry (Option T)
-  filed e = entry e.host e.number (kept_if (nat_lt e.number 16) e.parcel)
+  filed e = entry e.host e.number (kept_if (nat_lt e.number inbox_places) e.parcel)
 
   abbrev pub carrier_view : Inside T → CarrierView T
   carrier_view c = record { boards = c.seat.table_id; entries = c.trail }

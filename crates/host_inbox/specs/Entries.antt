@@ -4,9 +4,12 @@ pub use Rattle.list_weights.specs.Weights.{only}
 use Rattle.host_inbox.specs.declared.entry.Entry.{Entry}
 use Rattle.host_inbox.specs.declared.entry.Claim.{Claim}
 
--- a host's inbox has 16 places, in the order of the numbers that are claimed for them
+-- the places of a host's inbox, in the order of the numbers that are claimed for them
+abbrev pub inbox_places : ℕ
+inbox_places = 16
+
 abbrev pub place_of : ℕ → ℕ → ℕ
-place_of host number = host * 16 + number
+place_of host number = host * inbox_places + number
 
 abbrev pub claim : ℕ → ℕ → Claim
 claim host number = record { host = host; number = number }

@@ -1,19 +1,16 @@
 -- The rule of the inboxes, over their words, their places and what all seats know.
-use Rattle.std.specs.Prelude.{◌≡◌, ℕ, ◌+◌, ◌*◌, ◌^◌, ◌<◌, ◌≤◌, List, [], ◌∷◌, length, slice_index, Option, Some, None}
+use Rattle.std.specs.Prelude.{◌≡◌, ℕ, ◌+◌, ◌*◌, ◌^◌, ◌<◌, ◌≤◌, List, length, slice_index, Option, Some, None}
+use Rattle.std.specs.List.{AllByRecursion}
 use mathlib.Core.Option.{Option as Place, some, none}
 use lib.ListN.{get_elem?}
 use Rattle.atomic_table.specs.Table.{State}
+use Rattle.sim_base.specs.Limits.{most_workers}
 use Rattle.host_inbox.specs.declared.entry.Entry.{Entry}
 use Rattle.host_inbox.specs.declared.entry.Claim.{Claim}
 use Rattle.host_inbox.specs.declared.rule.Known.{Known}
 use Rattle.host_inbox.specs.declared.rule.Size.{Size}
 use Rattle.list_weights.specs.Weights.{weigh, numbers_below}
-use Rattle.host_inbox.specs.Entries.{place_of, claim_weight, entry_weight}
-
--- P of each member
-abbrev pub Each : {X : Type 0} → (X → Type 0) → List X → Type 0
-Each P [] = Unit {0}
-Each P (x ∷ xs) = P x × Each P xs
+use Rattle.host_inbox.specs.Entries.{inbox_places, place_of, claim_weight, entry_weight}
 
 module _ {T : Type 0} where
   abbrev pub known : ℕ → List (Entry (Option T)) → List Claim → Known T
@@ -26,28 +23,28 @@ module _ {T : Type 0} where
   -- Where the number has a place, the parcel is there.
   pub record IsSettled (hosts : ℕ) (homes : List (Place (Option T))) (e : Entry (Option T)) : Type 0 where
     pub host : e.host < hosts
-    pub placed : e.number < 16 → get_elem? homes (place_of e.host e.number) ≡ some (some e.parcel)
-    pub full : e.number < 16 → (parcel : T) × (e.parcel ≡ Some parcel)
+    pub placed : e.number < inbox_places → get_elem? homes (place_of e.host e.number) ≡ some (some e.parcel)
+    pub full : e.number < inbox_places → (parcel : T) × (e.parcel ≡ Some parcel)
 
   -- The place of the claim is out with the seat.
   pub record IsPending (hosts : ℕ) (homes : List (Place (Option T))) (c : Claim) : Type 0 where
     pub host : c.host < hosts
-    pub number : c.number < 16
+    pub number : c.number < inbox_places
     pub out : get_elem? homes (place_of c.host c.number) ≡ some none
 
   -- What one seat knows is so.
   pub record Fits (hosts : ℕ) (homes : List (Place (Option T))) (v : Known T) : Type 0 where
-    pub settled : Each (IsSettled hosts homes) v.settled
-    pub pending : Each (IsPending hosts homes) v.pending
+    pub settled : AllByRecursion (IsSettled hosts homes) v.settled
+    pub pending : AllByRecursion (IsPending hosts homes) v.pending
     pub few : length v.settled + length v.pending ≤ v.share * 2 ^ 32
 
   -- Of each host the numbers that the seats claimed are those below its first word, each once.
   -- Each place from there on is empty, and no seat has it.
   pub record AreInboxes (size : Size) (s : State (Option T) (Known T)) : Type 0 where
     pub words : length s.words ≡ size.hosts + size.hosts
-    pub homes : length s.homes ≡ size.hosts * 16
+    pub homes : length s.homes ≡ size.hosts * inbox_places
     pub shares : weigh (λ v. v.share) s.views ≡ size.seats
-    pub few : size.seats ≤ 64
+    pub few : size.seats ≤ most_workers
     pub once : (host : ℕ) (h : ℕ → ℕ) → host < size.hosts → weigh (known_weight host h) s.views ≡ weigh h (numbers_below (slice_index s.words host))
-    pub free : (host number : ℕ) → host < size.hosts → slice_index s.words host ≤ number → number < 16 → get_elem? s.homes (place_of host number) ≡ some (some None)
+    pub free : (host number : ℕ) → host < size.hosts → slice_index s.words host ≤ number → number < inbox_places → get_elem? s.homes (place_of host number) ≡ some (some None)
     pub each : (seat : ℕ) (v : Known T) → get_elem? s.views seat ≡ some v → Fits size.hosts s.homes v

@@ -2,7 +2,7 @@
 use Rattle.std.specs.Prelude.{◌≡◌, ℕ, ◌+◌, ◌-◌, ◌<◌, ◌≤◌, List, [], ◌∷◌, ◌++◌, map, Option, None}
 use Rattle.atomic_table.specs.Table.{Me, Step, rest}
 use Rattle.host_inbox.specs.declared.rule.Known.{Known}
-use Rattle.host_inbox.specs.Entries.{entry, claim, place_of}
+use Rattle.host_inbox.specs.Entries.{inbox_places, entry, claim, place_of}
 use Rattle.host_inbox.specs.Inboxes.{known}
 
 module _ {T : Type 0} where
@@ -24,8 +24,8 @@ module _ {T : Type 0} where
   laid (x ∷ xs) = x.1
 
   pub record Claimed (s : Step (Option T)) (v : Me (Option T) (Known T)) (found : ℕ) (w : Me (Option T) (Known T)) : Type 0 where
-    pub placed : found < 16 → w ≡ (after_claim v.0 s.word found, (place_of s.word found, None) ∷ v.1)
-    pub full : 16 ≤ found → w ≡ (after_full v.0 s.word found, v.1)
+    pub placed : found < inbox_places → w ≡ (after_claim v.0 s.word found, (place_of s.word found, None) ∷ v.1)
+    pub full : inbox_places ≤ found → w ≡ (after_full v.0 s.word found, v.1)
 
   abbrev pub Settled : Step (Option T) → Me (Option T) (Known T) → ℕ → Me (Option T) (Known T) → Type 0
   Settled s v found w = w ≡ (after_settle v.0 (laid v.1), rest v.1)

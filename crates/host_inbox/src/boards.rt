@@ -1,6 +1,6 @@
 //! Boards: an inbox for each host.
 ghost use Rattle.std.specs.Prelude.{◌≡◌, ◌*◌, ◌^◌, ◌<◌, ◌≤◌, ◌∷◌, ◌++◌, [], length, IfOk, IfErr};
-ghost use Rattle.host_inbox.specs.Entries.{entry};
+ghost use Rattle.host_inbox.specs.Entries.{inbox_places, entry};
 ghost use Rattle.std.specs.Mem.Slots.{slots_items, slots_len, IsFull};
 ghost use Rattle.host_inbox.specs.CarrierViews.{AreAllOf};
 ghost use Rattle.host_inbox.specs.Drains.{all_entries};
@@ -52,8 +52,8 @@ impl<T: Drop> Boards<T> {
         requires to { to.index < self.now.hosts }
         requires few { length carrier.old.entries < 2 ^ 32 }
         ensures same { carrier.new.boards ≡ carrier.old.boards }
-        ensures placed { IfOk result (λ place. (place < 16) × (carrier.new.entries ≡ carrier.old.entries ++ entry to.index place parcel ∷ [])) }
-        ensures full { IfErr result (λ full. (16 ≤ full.claimed) × (full.parcel ≡ parcel) × (carrier.new.entries ≡ carrier.old.entries ++ entry to.index full.claimed parcel ∷ [])) }
+        ensures placed { IfOk result (λ place. (place < inbox_places) × (carrier.new.entries ≡ carrier.old.entries ++ entry to.index place parcel ∷ [])) }
+        ensures full { IfErr result (λ full. (inbox_places ≤ full.claimed) × (full.parcel ≡ parcel) × (carrier.new.entries ≡ carrier.old.entries ++ entry to.index full.claimed parcel ∷ [])) }
     {
         carrier.put(&self.table.shared, self.size.hosts, to.index, parcel)
     }
@@ -68,7 +68,7 @@ impl<T: Drop> Boards<T> {
     // The places, once all carriers' seats are joined into one.
     pub(crate) fn closed(self, carriers: Vec<Carrier<T>>) -> Closed<Option<T>, Global>
         requires { AreAllOf self carriers.items }
-        ensures count { slots_len result.slots ≡ self.hosts * 16 }
+        ensures count { slots_len result.slots ≡ self.hosts * inbox_places }
         ensures full { IsFull result.slots }
         ensures laid { AreClosed self.hosts (all_entries carriers.items) (slots_items result.slots) }
     {

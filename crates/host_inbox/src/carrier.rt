@@ -1,6 +1,6 @@
 //! One worker's carrier.
 ghost use Rattle.std.specs.Prelude.{◌≡◌, ◌+◌, ◌^◌, ◌<◌, ◌≤◌, [], ◌∷◌, ◌++◌, map, length, IfOk, IfErr};
-ghost use Rattle.host_inbox.specs.Entries.{entry};
+ghost use Rattle.host_inbox.specs.Entries.{inbox_places, entry};
 ghost use Rattle.host_inbox.specs.Inboxes.{known};
 
 use crate::entry::Claim;
@@ -71,8 +71,8 @@ impl<T> Carrier<T> {
         requires host { host < hosts }
         requires few { length self.old.entries < 2 ^ 32 }
         ensures same { self.new.boards ≡ self.old.boards }
-        ensures placed { IfOk result (λ place. (place < 16) × (self.new.entries ≡ self.old.entries ++ entry host place parcel ∷ [])) }
-        ensures full { IfErr result (λ full. (16 ≤ full.claimed) × (full.parcel ≡ parcel) × (self.new.entries ≡ self.old.entries ++ entry host full.claimed parcel ∷ [])) }
+        ensures placed { IfOk result (λ place. (place < inbox_places) × (self.new.entries ≡ self.old.entries ++ entry host place parcel ∷ [])) }
+        ensures full { IfErr result (λ full. (inbox_places ≤ full.claimed) × (full.parcel ≡ parcel) × (self.new.entries ≡ self.old.entries ++ entry host full.claimed parcel ∷ [])) }
     {
         let number = claim_number(places, &mut self.seat, host);
         self.trail.then(Put::new(host, number, &parcel));

@@ -2,6 +2,7 @@
 ghost use Rattle.std.specs.Prelude.{◌≡◌, ◌+◌, ◌*◌, ◌<◌, ◌≤◌, [], IfOk, All, length, vec_capacity};
 ghost use Rattle.std.specs.Mem.Slots.{slots_items, slots_filled, slots_len, IsFull};
 ghost use Rattle.list_weights.specs.Places.{EachAt};
+ghost use Rattle.host_inbox.specs.Entries.{inbox_places};
 ghost use Rattle.host_inbox.specs.Slots.{IsRoom, IsTakenTo, row_of};
 
 use atomic_table::Closed;
@@ -30,11 +31,11 @@ pub fn reserved<T: Drop>(alloc: Global, hosts: u32) -> Result<Room<T>, AllocErro
 
 // The parcels of one host, in the order of their places.
 fn drained_row<T>(closed: &mut Closed<Option<T>, Global>, host: usize, mut row: Vec<T>) -> Vec<T>
-    requires within { host * 16 + 16 ≤ slots_len closed.old.slots }
-    requires taken { IsTakenTo (host * 16) (slots_filled closed.old.slots) }
+    requires within { host * inbox_places + inbox_places ≤ slots_len closed.old.slots }
+    requires taken { IsTakenTo (host * inbox_places) (slots_filled closed.old.slots) }
     requires room { IsRoom row }
     ensures parcels { result.items ≡ row_of (slots_items closed.old.slots) host }
-    ensures taken { IsTakenTo (host * 16 + 16) (slots_filled closed.new.slots) }
+    ensures taken { IsTakenTo (host * inbox_places + inbox_places) (slots_filled closed.new.slots) }
     ensures same { (slots_items closed.new.slots ≡ slots_items closed.old.slots) × (slots_len closed.new.slots ≡ slots_len closed.old.slots) }
 {
     for number in 0..16usize {
@@ -52,7 +53,7 @@ pub fn drained_rows<T: Drop>(
     mut empty: Vec<Vec<T>>,
     mut rows: Vec<Vec<T>>,
 ) -> Vec<Vec<T>>
-    requires places { slots_len closed.slots ≡ length empty.items * 16 }
+    requires places { slots_len closed.slots ≡ length empty.items * inbox_places }
     requires full { IsFull closed.slots }
     requires empty { All IsRoom empty.items }
     requires rows { (rows.items ≡ []) × (length empty.items ≤ vec_capacity rows) }

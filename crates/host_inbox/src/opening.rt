@@ -1,7 +1,9 @@
 //! Opening boards.
 ghost use Rattle.std.specs.Prelude.{◌≡◌, ◌*◌, ◌<◌, ◌≤◌, [], IfOk, All, length, replicate, vec_capacity};
+ghost use Rattle.sim_base.specs.Limits.{most_workers};
 ghost use Rattle.host_inbox.specs.CarrierViews.{AreOpen};
 ghost use Rattle.host_inbox.specs.Inboxes.{known};
+ghost use Rattle.host_inbox.specs.Sizes.{most_inboxes};
 
 use crate::boards::Boards;
 use crate::carrier::Carrier;
@@ -46,8 +48,8 @@ impl<T: Drop> Boards<T> {
         hosts: u32,
         seats: u32,
     ) -> Result<(Boards<T>, Vec<Carrier<T>>), NoMemory>
-        requires hosts { (0 < hosts) × (hosts ≤ 65536) }
-        requires seats { (0 < seats) × (seats ≤ 64) }
+        requires hosts { (0 < hosts) × (hosts ≤ most_inboxes) }
+        requires seats { (0 < seats) × (seats ≤ most_workers) }
         ensures { IfOk result (λ opened. AreOpen hosts seats opened.0 opened.1.items) }
     {
         let size = Size { hosts, seats };

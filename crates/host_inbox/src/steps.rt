@@ -1,6 +1,6 @@
 //! The two steps of a put.
 ghost use Rattle.std.specs.Prelude.{◌≡◌, ◌+◌, ◌*◌, ◌^◌, ◌<◌, ◌≤◌, [], ◌∷◌, length};
-ghost use Rattle.host_inbox.specs.Entries.{claim, place_of};
+ghost use Rattle.host_inbox.specs.Entries.{inbox_places, claim, place_of};
 ghost use Rattle.host_inbox.specs.Steps.{after_claim, after_full, after_settle};
 
 use crate::entry::Claim;
@@ -21,8 +21,8 @@ pub fn claim_number<T>(places: &Places<T>, seat: &mut PlaceSeat<T>, host: u32) -
     requires empty { seat.old.me.1 ≡ [] }
     requires few { length seat.old.me.0.settled + length seat.old.me.0.pending < seat.old.me.0.share * 2 ^ 32 }
     ensures table { seat.new.table_id ≡ seat.old.table_id }
-    ensures placed { result < 16 → seat.new.me ≡ (after_claim seat.old.me.0 host result, (place_of host result, None) ∷ []) }
-    ensures full { 16 ≤ result → seat.new.me ≡ (after_full seat.old.me.0 host result, []) }
+    ensures placed { result < inbox_places → seat.new.me ≡ (after_claim seat.old.me.0 host result, (place_of host result, None) ∷ []) }
+    ensures full { inbox_places ≤ result → seat.new.me ≡ (after_full seat.old.me.0 host result, []) }
 {
     places.fetch_add::<Claims>(seat, host as usize, 1)
 }
@@ -45,7 +45,7 @@ pub fn settle<T>(places: &Places<T>, seat: &mut PlaceSeat<T>, hosts: u32, to: Cl
     requires table { seat.old.table_id ≡ places.now.table_id }
     requires hosts { hosts ≡ places.now.key.hosts }
     requires words { hosts + hosts ≡ places.now.table_id.words }
-    requires to { (to.host < hosts) × (to.number < 16) }
+    requires to { (to.host < hosts) × (to.number < inbox_places) }
     requires pending { seat.old.me.0.pending ≡ to ∷ [] }
     requires place { seat.old.me.1 ≡ (place_of to.host to.number, None) ∷ [] }
     ensures table { seat.new.table_id ≡ seat.old.table_id }

@@ -1,3 +1,4 @@
+pub mod Places
 pub mod Weights
 pub mod Permutations
 pub mod Values

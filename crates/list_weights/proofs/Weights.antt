@@ -1,5 +1,5 @@
 -- Weights of lists.
-use Rattle.std.proofs.Common.{◌≡◌, ◌≢◌, ℕ, zero, suc, ◌+◌, ◌<◌, ◌≤◌, ◌==◌, List, [], ◌∷◌, ◌++◌, set, sym, refl, ap, eq-eqb, ne_eqb, arith}
+use Rattle.std.proofs.Common.{◌≡◌, ◌≢◌, ℕ, zero, suc, ◌+◌, ◌<◌, ◌≤◌, ◌==◌, List, [], ◌∷◌, ◌++◌, length, set, sym, refl, ap, ◌∙◌, eq-eqb, ne_eqb, length-append, arith}
 use mathlib.Core.Option.{some, some-injective, some-ne-none}
 use lib.ListN.{get_elem?}
 use mathlib.Core.Logic.{dite}
@@ -54,6 +54,14 @@ module _ {X : Type 0} where
   weigh_below f g [] below = omega arith
   weigh_below f g (x ∷ xs) below = let here = below 0 x refl in omega (arith, weigh_below f g xs (λ j u to. below (suc j) u to))
 
+  pub weigh-ones : (xs : List X) → weigh (λ (_ : X). 1) xs ≡ length xs
+  weigh-ones [] = refl
+  weigh-ones (x ∷ xs) = omega (arith, weigh-ones xs)
+
+pub length-numbers_below : (n : ℕ) → length (numbers_below n) ≡ n
+length-numbers_below zero = refl
+length-numbers_below (suc n) = omega (arith, length-append (numbers_below n) (n ∷ []), length-numbers_below n)
+
 -- counts a number
 pub is_number : ℕ → ℕ → ℕ
 is_number n m = only (m == n) 1
@@ -83,3 +91,7 @@ weigh_only f d (suc n) w others = dite (ℕ_discrete d n)
     (λ (ne : d ≢ n).
     let last : f n ≡ 0 = others n ne in
     omega (arith, weigh-append f (numbers_below n) (n ∷ []), weigh_only f d n (omega arith) others))
+
+-- each number below n stands there once
+pub weigh_once : (d m n : ℕ) → d < n → weigh (λ p. only (d == p) m) (numbers_below n) ≡ m
+weigh_once d m n within = weigh_only (λ p. only (d == p) m) d n within (λ p ne. ap (λ b. only b m) (ne_eqb d p ne)) ∙ ap (λ b. only b m) (eq-eqb d d refl)

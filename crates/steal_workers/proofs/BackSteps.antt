@@ -1,6 +1,6 @@
 -- Taking back what is left of a deque.
 use Rattle.std.proofs.Common.{◌≡◌, ℕ, ◌+◌, ◌<◌, ◌≤◌, List, [], ◌∷◌, ◌++◌, length, All, sym, refl, ap, ◌∙◌, subst, append_assoc, length-append, arith}
-use Rattle.std.proofs.lemmas.List.{length-map}
+use Rattle.std.proofs.lemmas.List.{length-map, map-append}
 use Rattle.std.proofs.lemmas.List.Elements.{All-nil, All-cons, All-append}
 use Rattle.steal_workers.specs.declared.item.Item.{Item}
 use Rattle.steal_workers.specs.declared.item.Item.TheVariants.{Task, Mark}
@@ -10,12 +10,8 @@ use Rattle.list_weights.specs.Weights.{weigh}
 use Rattle.steal_workers.specs.Items.{marks, number_weight, Stands, MarksLast}
 use Rattle.steal_workers.specs.OneDeque.{hand, after_take, Took}
 use Rattle.steal_workers.specs.TookBack.{kept, numbers_of}
-use Rattle.list_weights.proofs.Weights.{weigh-append}
+use Rattle.list_weights.proofs.Weights.{weigh-append, weigh-ones}
 use Rattle.steal_workers.proofs.Steps.{marks-append}
-
-pub weigh-ones : {X : Type 0} (xs : List X) → weigh (λ (x : X). 1) xs ≡ length xs
-weigh-ones [] = refl
-weigh-ones (x ∷ xs) = omega (arith, weigh-ones xs)
 
 module _ {T : Type 0} where
   -- what was taken since v0, into a list that began as old
@@ -42,10 +38,6 @@ module _ {T : Type 0} where
   kept_stands dealt (Task number task) s = All-cons (λ (entry : Numbered T). Stands dealt (Task entry.number entry.task)) (record { number = number; task = task }) [] s (All-nil (λ (entry : Numbered T). Stands dealt (Task entry.number entry.task)))
   kept_stands dealt Mark s = All-nil (λ (entry : Numbered T). Stands dealt (Task entry.number entry.task))
 
-  numbers_of-append : (xs ys : List (Numbered T)) → numbers_of (xs ++ ys) ≡ numbers_of xs ++ numbers_of ys
-  numbers_of-append [] ys = refl
-  numbers_of-append (x ∷ xs) ys = ap (λ l. x.number ∷ l) (numbers_of-append xs ys)
-
   pub more_taken : (v0 v w : Hand T) (item : Item T) (old now : List (Numbered T)) → More v0 v old now → IsSince v0 v → MarksLast v0.dealt → Took v (item ∷ []) w → More v0 w old (now ++ kept item)
   more_taken v0 v w item old now m is last took =
       let dealt : v.dealt ≡ v0.dealt = ap (λ (u : Hand T). u.dealt) is in
@@ -55,7 +47,7 @@ module _ {T : Type 0} where
         (λ h.
             let before = m.2 h in
             let e : weigh (number_weight h) w.taken ≡ weigh (number_weight h) (v.taken ++ item ∷ []) = ap (weigh (number_weight h)) taken in
-            let n : weigh h (numbers_of (m.0 ++ kept item)) ≡ weigh h (numbers_of m.0 ++ numbers_of (kept item)) = ap (weigh h) (numbers_of-append m.0 (kept item)) in
+            let n : weigh h (numbers_of (m.0 ++ kept item)) ≡ weigh h (numbers_of m.0 ++ numbers_of (kept item)) = ap (weigh h) (map-append (λ (entry : Numbered T). entry.number) m.0 (kept item)) in
             omega (arith, weigh-append (number_weight h) v.taken (item ∷ []), weigh-append h (numbers_of m.0) (numbers_of (kept item)), kept_weight h item)),
         All-append (λ (entry : Numbered T). Stands v0.dealt (Task entry.number entry.task)) m.0 (kept item) m.3
             (kept_stands v0.dealt item (subst (λ (l : List (Item T)). Stands l item) dealt (took.1 item (0, refl)))),

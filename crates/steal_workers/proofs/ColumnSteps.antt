@@ -24,6 +24,7 @@ use Rattle.steal_workers.specs.OneDeque.{hand}
 use Rattle.steal_workers.specs.Handles.{is_own}
 use Rattle.steal_workers.specs.Decks.{IsThiefOf, mark_list}
 use Rattle.steal_workers.specs.Columns.{IsFresh, IsColumn}
+use Rattle.list_weights.proofs.Places.{EachAt-push}
 use Rattle.steal_workers.proofs.Steps.{marks-append}
 
 pub eq_same : (a b c d : ℕ) → (a ≡ b → c ≡ d) → (c ≡ d → a ≡ b) → (a == b) ≡ (c == d)
@@ -32,15 +33,6 @@ eq_same a b c d f g = dite (ℕ_discrete a b)
     (λ ne. ne_eqb a b ne ∙ sym (ne_eqb c d (λ e. ne (g e))))
 
 module _ {X : Type 0} where
-  pub each_at_snoc : (F : ℕ → X → Type 0) (xs : List X) (y : X) → EachAt F xs → F (length xs) y → EachAt F (xs ++ y ∷ [])
-  each_at_snoc F xs y h p = go F xs h p
-    where
-      go : (F : ℕ → X → Type 0) (xs : List X) → EachAt F xs → F (length xs) y → EachAt F (xs ++ y ∷ [])
-      go F [] h p zero e within = p
-      go F [] h p (suc j) e within = absurd (omega arith)
-      go F (x ∷ xs) h p zero e within = h 0 e (omega arith)
-      go F (x ∷ xs) h p (suc j) e within = go (λ i. F (suc i)) xs (λ i d w. h (suc i) d (omega arith)) p j e (omega arith)
-
   get_swap : (F : ℕ → X → Type 0) (xs : List X) (a b i : ℕ) (d : X) → a < length xs → b < length xs
       → (i ≡ b → F i (get_or xs a d)) → (i ≢ b → i ≡ a → F i (get_or xs b d)) → (i ≢ b → i ≢ a → F i (get_or xs i d)) → F i (get_or (swap xs a b) i d)
   get_swap F xs a b i d wa wb at_b at_a else =
@@ -89,7 +81,7 @@ module _ {T : Type 0} where
   pub own_last : (F : Share T → Type 0) (xs : List (Share T)) (y : Share T) (m : ℕ) → length xs ≡ m → EachAt (λ i share. F share × (is_own share.handle ≡ false)) xs
       → F y → is_own y.handle ≡ true → (i : ℕ) (e : Share T) → i < m + 1 → F (get_or (xs ++ y ∷ []) i e) × (is_own (get_or (xs ++ y ∷ []) i e).handle ≡ (i == m))
   own_last F xs y m long each fresh own i e within =
-      each_at_snoc (λ j share. F share × (is_own share.handle ≡ (j == m))) xs y
+      EachAt-push (λ j share. F share × (is_own share.handle ≡ (j == m))) xs y
       (λ j d w. ((each j d w).0, (each j d w).1 ∙ sym (ne_eqb j m (λ s. absurd (omega arith)))))
       (fresh, own ∙ sym (eq-eqb (length xs) m long)) i e (omega (arith, length-append xs (y ∷ [])))
 

@@ -1,7 +1,7 @@
 -- What the clauses on the seats of a deal say together.
 use Rattle.std.proofs.Common.{◌≡◌, ◌⊎◌, inl, inr, ℕ, zero, suc, ◌<◌, ◌≤◌, List, [], ◌∷◌, map, length, get_or, All, refl, ap, sym, subst, arith}
 use Rattle.std.proofs.lemmas.List.{length-map, get_or-map}
-use Rattle.std.proofs.lemmas.List.Elements.{All-append}
+use Rattle.std.proofs.lemmas.List.Elements.{All-append, All-nil, All-cons}
 use Rattle.std.proofs.lemmas.List.Sorted.{All-permutation, IsPermutation-sym}
 use Rattle.steal_workers.specs.declared.item.Numbered.{Numbered}
 use Rattle.steal_workers.specs.declared.seat.Next.{Next}
@@ -11,14 +11,12 @@ use Rattle.steal_workers.specs.SeatViews.{SeatView, seat_count, HasMark, HasEver
 use Rattle.steal_workers.specs.Answers.{Answers, FoundNone}
 use Rattle.steal_workers.specs.WholeDeals.{common_deal, IsWholeDeal}
 use Rattle.steal_workers.specs.Gathers.{IsGathered}
-use Rattle.steal_workers.proofs.BackSteps.{weigh-ones}
-use Rattle.steal_workers.proofs.EmptySteps.{length-numbers_below}
-use Rattle.steal_workers.proofs.ShareLists.{all_none, all_cons}
+use Rattle.list_weights.proofs.Weights.{weigh-ones, length-numbers_below}
 
 numbers_below-within : (n : ℕ) → All (λ (k : ℕ). k < n) (numbers_below n)
-numbers_below-within zero = all_none (λ (k : ℕ). k < zero)
+numbers_below-within zero = All-nil (λ (k : ℕ). k < zero)
 numbers_below-within (suc n) =
-    All-append (λ (k : ℕ). k < suc n) (numbers_below n) (n ∷ []) (λ k e within. (let below = numbers_below-within n k e within in omega arith)) (all_cons (λ (k : ℕ). k < suc n) n [] (omega arith) (all_none (λ (k : ℕ). k < suc n)))
+    All-append (λ (k : ℕ). k < suc n) (numbers_below n) (n ∷ []) (λ k e within. (let below = numbers_below-within n k e within in omega arith)) (All-cons (λ (k : ℕ). k < suc n) n [] (omega arith) (All-nil (λ (k : ℕ). k < suc n)))
 
 module _ {T : Type 0} where
   -- a seat with every mark answers that no task is left, and nothing else

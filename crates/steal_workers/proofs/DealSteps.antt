@@ -2,7 +2,7 @@
 use Rattle.std.proofs.Common.{◌≡◌, ℕ, zero, suc, ◌+◌, ◌/◌, ◌<◌, false, true≢false, List, [], ◌∷◌, ◌++◌, map, take, length, get_or, sym, refl, ap, ◌∙◌, subst, arith}
 use mathlib.Core.Option.{some, some-injective, some-ne-none}
 use lib.ListN.{get_elem?}
-use Rattle.std.proofs.lemmas.List.{length-map}
+use Rattle.std.proofs.lemmas.List.{length-map, take_all}
 use Rattle.std.proofs.lemmas.List.Sorted.{IsPermutation-refl}
 use Rattle.std.specs.List.Sorted.{IsPermutation}
 use Rattle.crossbeam_deque.specs.Handles.{worker_index}
@@ -24,14 +24,6 @@ use Rattle.steal_workers.specs.Layouts.{AreFresh, AreFilled, AreSeated, planned}
 use Rattle.list_weights.proofs.Weights.{weigh-append}
 use Rattle.steal_workers.proofs.DeckSteps.{last_turn}
 use Rattle.steal_workers.proofs.ColumnSteps.{marks_closed}
-
-pub get_or-seam : {X : Type 0} (xs : List X) (y : X) (ys : List X) (e : X) → get_or (xs ++ (y ∷ ys)) (length xs) e ≡ y
-get_or-seam [] y ys e = refl
-get_or-seam (x ∷ xs) y ys e = get_or-seam xs y ys e
-
-pub take_whole : {X : Type 0} (xs : List X) → take (length xs) xs ≡ xs
-take_whole [] = refl
-take_whole (x ∷ xs) = ap (λ l. x ∷ l) (take_whole xs)
 
 marks_more : {T : Type 0} (xs : List (Item T)) → IsAllMarks xs → IsAllMarks (xs ++ Mark ∷ [])
 marks_more [] h = (refl, tt)
@@ -146,10 +138,10 @@ module _ {T : Type 0} where
   never_marked (x ∷ xs) (suc d) each = never_marked xs d (λ j e w. each (suc j) e (omega arith))
 
   pub row_queues : (decks : List (Deck T)) (n place : ℕ) (shares : List (Share T)) → length decks ≡ n → IsRow decks n n place shares → map dealt_to shares ≡ map (closed n) decks
-  row_queues decks n place shares long row = row.queues ∙ ap (λ k. take k (map (closed n) decks)) (let l = length-map decks (closed {T = T} n) in let m : n ≡ length (map (closed n) decks) = omega arith in m) ∙ take_whole (map (closed n) decks)
+  row_queues decks n place shares long row = row.queues ∙ ap (λ k. take k (map (closed n) decks)) (let l = length-map decks (closed {T = T} n) in let m : n ≡ length (map (closed n) decks) = omega arith in m) ∙ take_all (length (map (closed n) decks)) (map (closed n) decks) (omega arith)
 
   pub row_deques : (decks : List (Deck T)) (n place : ℕ) (shares : List (Share T)) → length decks ≡ n → IsRow decks n n place shares → map (λ (share : Share T). deque_of share.handle) shares ≡ map deck_deque decks
-  row_deques decks n place shares long row = row.deques ∙ ap (λ k. take k (map deck_deque decks)) (let l = length-map decks (deck_deque {T = T}) in let m : n ≡ length (map deck_deque decks) = omega arith in m) ∙ take_whole (map deck_deque decks)
+  row_deques decks n place shares long row = row.deques ∙ ap (λ k. take k (map deck_deque decks)) (let l = length-map decks (deck_deque {T = T}) in let m : n ≡ length (map deck_deque decks) = omega arith in m) ∙ take_all (length (map deck_deque decks)) (map deck_deque decks) (omega arith)
 
   -- a seat over a row
   pub seat_of_row : (decks : List (Deck T)) (n place : ℕ) (shares : List (Share T)) (tasks dealt : List T) (seat : SeatView T) → length decks ≡ n → IsRow decks n n place shares → dealt ≡ tasks

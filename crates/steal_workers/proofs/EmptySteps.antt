@@ -2,8 +2,8 @@
 use Rattle.std.proofs.Common.{◌≡◌, ℕ, zero, suc, ◌+◌, ◌<◌, ◌≤◌, ◌==◌, Bool, true, false, List, [], ◌∷◌, ◌++◌, map, take, length, get_or, slice_get, Some, All, sym, refl, ap, ◌∙◌, subst, length-append, arith}
 use mathlib.Core.Option.{some, some-injective, some-ne-none}
 use lib.ListN.{get_elem?}
-use Rattle.std.proofs.lemmas.List.{length-map, take_more}
-use Rattle.std.proofs.lemmas.List.Elements.{All-nil, All-append}
+use Rattle.std.proofs.lemmas.List.{length-map, take_more, map-append, take_all}
+use Rattle.std.proofs.lemmas.List.Elements.{All-nil, All-append, All-head, All-tail}
 use Rattle.std.proofs.lemmas.List.Sorted.{length_permutation}
 use Rattle.std.specs.declared.alloc.Global.{Global}
 use Rattle.atomic_blocks.specs.Lent.{RowsId}
@@ -24,12 +24,9 @@ use Rattle.steal_workers.specs.Backs.{own_weight, IsWholeColumn, IsBack}
 use Rattle.steal_workers.specs.TookBack.{numbers_of, Drains}
 use Rattle.steal_workers.specs.Gathers.{joined, IsShareAt, IsStack, PopsEach, IsGathered, AreOwnMarked, share_taken, stack_taken, all_taken, places}
 use Rattle.steal_workers.specs.Emptying.{IsEmptying, queue_weights, seat_weights}
-use Rattle.list_weights.proofs.Weights.{weigh-append, weigh_part}
-use Rattle.steal_workers.proofs.BackSteps.{weigh-ones}
-use Rattle.steal_workers.proofs.ShareLists.{all_head, all_tail}
-use Rattle.steal_workers.proofs.DealSteps.{take_whole}
+use Rattle.list_weights.proofs.Weights.{weigh-append, weigh_part, weigh-ones, weigh_once, length-numbers_below}
 use Rattle.list_weights.proofs.Permutations.{weigh-permutation, same_weights}
-use Rattle.steal_workers.proofs.GatherSteps.{once_below, weigh-joined, weigh-map}
+use Rattle.steal_workers.proofs.GatherSteps.{weigh-joined, weigh-map}
 
 get_of_at : {X : Type 0} (xs : List X) (i : ℕ) (x e : X) → get_elem? xs i ≡ some x → (get_or xs i e ≡ x) × (i < length xs)
 get_of_at [] i x e at = absurd (some-ne-none x (sym at))
@@ -39,10 +36,6 @@ get_of_at (y ∷ ys) (suc i) x e at = let r = get_of_at ys i x e at in (r.0, let
 first_of_list : {X : Type 0} (xs : List X) → 0 < length xs → X
 first_of_list [] w = absurd (omega arith)
 first_of_list (x ∷ xs) w = x
-
-pub length-numbers_below : (n : ℕ) → length (numbers_below n) ≡ n
-length-numbers_below zero = refl
-length-numbers_below (suc n) = omega (arith, length-append (numbers_below n) (n ∷ []), length-numbers_below n)
 
 module _ {T : Type 0} where
   abbrev FindsOwn : List (Share T) → Type 0
@@ -101,10 +94,6 @@ module _ {T : Type 0} where
       let e : queue_weights h (take (d + 1) queues) ≡ queue_weights h (take d queues ++ get_or queues d [] ∷ []) = ap (queue_weights h) (take_more queues d [] within) in
       omega (arith, weigh-append (λ queue. weigh (number_weight h) queue) (take d queues) (get_or queues d [] ∷ []))
 
-  numbers-append : (xs ys : List (Numbered T)) → numbers_of (xs ++ ys) ≡ numbers_of xs ++ numbers_of ys
-  numbers-append [] ys = refl
-  numbers-append (x ∷ xs) ys = ap (λ l. x.number ∷ l) (numbers-append xs ys)
-
   pub drain_room : (seats : List (SeatView T)) (d : ℕ) (old new : List (Stack T)) (left : List (Numbered T)) (column : List (Share T)) (v : Hand T) → IsEmptying seats (d + 1) old left
       → d < length old → PopsEach (AreOwnMarked seats) (common_deal seats) d old new column → IsBack column v → length left + weigh (number_weight (λ _. 1)) v.dealt ≤ length (common_deal seats).tasks
   drain_room seats d old new left column v e within popped back =
@@ -141,7 +130,7 @@ module _ {T : Type 0} where
             let rest = drains.all h in
             let queue_taken : weigh (number_weight h) v.dealt ≡ weigh (number_weight h) queue = ap (weigh (number_weight h)) same in
             let more = queue_weights-more h deal.queues d inside in
-            let joins : weigh h (numbers_of after) ≡ weigh h (numbers_of left ++ numbers_of drains.more) = ap (weigh h) (ap numbers_of drains.joins ∙ numbers-append left drains.more) in
+            let joins : weigh h (numbers_of after) ≡ weigh h (numbers_of left ++ numbers_of drains.more) = ap (weigh h) (ap numbers_of drains.joins ∙ map-append (λ (entry : Numbered T). entry.number) left drains.more) in
             omega (arith, weigh-append h (numbers_of left) (numbers_of drains.more));
         numbered = subst (All (λ (entry : Numbered T). slice_get deal.tasks entry.number ≡ Some entry.task)) (sym drains.joins)
             (All-append (λ (entry : Numbered T). slice_get deal.tasks entry.number ≡ Some entry.task) left drains.more e.numbered
@@ -178,11 +167,11 @@ module _ {T : Type 0} where
       let count : length seats ≡ seat_count deal = start_counts seats whole in
       let all : length stacks ≡ seat_count deal = long ∙ count in
       let facts = go seats dealt in
-      let whole_queues : take (length stacks) deal.queues ≡ deal.queues = ap (λ n. take n deal.queues) (all ∙ sym facts.1) ∙ take_whole deal.queues in
+      let whole_queues : take (length stacks) deal.queues ≡ deal.queues = ap (λ n. take n deal.queues) (all ∙ sym facts.1) ∙ take_all (length deal.queues) deal.queues (omega arith) in
       record {
         once = λ d w. ap (weigh (λ p. only (d == p) 1)) place
             ∙ sym (weigh-permutation (λ p. only (d == p) 1) (map (λ (s : SeatView T). s.place) seats) (numbers_below (seat_count deal)) whole.each_once)
-            ∙ once_below d (seat_count deal) (omega arith);
+            ∙ weigh_once d 1 (seat_count deal) (omega arith);
         stacks_left = subst (λ n. All (IsStack (AreOwnMarked seats) deal n) stacks) (sym all) each;
         counts = (all, facts.1);
         taken = λ h. (let n = numbers h in let q : queue_weights h (take (length stacks) deal.queues) ≡ queue_weights h deal.queues = ap (queue_weights h) whole_queues in let o = facts.0 h in omega arith);
@@ -200,8 +189,8 @@ module _ {T : Type 0} where
   nothing_held : (P : Type 0) (deal : Deal T) (h : Item T → ℕ) (stacks : List (Stack T)) → All (IsStack P deal 0) stacks → all_taken h stacks ≡ 0
   nothing_held P deal h [] each = refl
   nothing_held P deal h (s ∷ stacks) each =
-      let here : stack_taken h s ≡ 0 = empty s.shares.items (all_head (IsStack P deal 0) s stacks each).count in
-      omega (arith, nothing_held P deal h stacks (all_tail (IsStack P deal 0) s stacks each))
+      let here : stack_taken h s ≡ 0 = empty s.shares.items (All-head (IsStack P deal 0) s stacks each).count in
+      omega (arith, nothing_held P deal h stacks (All-tail (IsStack P deal 0) s stacks each))
     where
       empty : (xs : List (Share T)) → length xs ≡ 0 → weigh (share_taken h) xs ≡ 0
       empty [] e = refl

@@ -1,29 +1,20 @@
 -- Gathering, step by step.
-use Rattle.std.proofs.Common.{◌≡◌, ℕ, zero, suc, ◌+◌, ◌<◌, ◌==◌, Bool, true, false, List, [], ◌∷◌, ◌++◌, map, length, get_or, set, All, sym, refl, ap, ◌∙◌, subst, eq-eqb, ne_eqb, length-append, arith}
+use Rattle.std.proofs.Common.{◌≡◌, ℕ, zero, suc, ◌+◌, ◌<◌, ◌==◌, Bool, true, false, List, [], ◌∷◌, ◌++◌, map, length, get_or, set, sym, refl, ap, ◌∙◌, subst, length-append, arith}
 use mathlib.Core.Option.{some}
 use lib.ListN.{get_elem?}
-use Rattle.std.proofs.lemmas.List.{length-map}
+use Rattle.std.proofs.lemmas.List.{length-map, get_or_append_left, get_or_push, get_or_default}
 use Rattle.crossbeam_deque.proofs.Lists.{at_index}
 use Rattle.steal_workers.specs.declared.item.Item.{Item}
 use Rattle.steal_workers.specs.declared.share.Share.{Share}
 use Rattle.steal_workers.specs.declared.seat.Stack.{Stack}
-use Rattle.list_weights.specs.Weights.{weigh, numbers_below, only}
+use Rattle.list_weights.specs.Weights.{weigh, only}
 use Rattle.steal_workers.specs.Handles.{is_own}
 use Rattle.steal_workers.specs.Deals.{Deal}
 use Rattle.steal_workers.specs.Backs.{own_weight}
 use Rattle.steal_workers.specs.Gathers.{joined, IsShareAt, IsStack, PopsEach, share_taken, stack_taken, all_taken, places}
-use Rattle.list_weights.proofs.Weights.{weigh-append, weigh-set, weigh_only}
-use Rattle.steal_workers.proofs.ShareLists.{all_head, all_tail, all_cons, all_none}
+use Rattle.list_weights.proofs.Weights.{weigh-append, weigh-set}
 
 module _ {X : Type 0} where
-  pub all_split : (P : X → Type 0) (ys : List X) (y : X) → All P (ys ++ y ∷ []) → All P ys × P y
-  all_split P [] y h = (all_none P, all_head P y [] h)
-  all_split P (x ∷ xs) y h = let r = all_split P xs y (all_tail P x (xs ++ y ∷ []) h) in (all_cons P x xs (all_head P x (xs ++ y ∷ []) h) r.0, r.1)
-
-  pub nil_if : (xs : List X) → length xs ≡ 0 → xs ≡ []
-  nil_if [] e = refl
-  nil_if (x ∷ xs) e = absurd (omega arith)
-
   -- weights of lists that are alike, member by member
   pub weigh_alike : {Y : Type 0} (f : X → ℕ) (g : Y → ℕ) (xs : List X) (ys : List Y) → length xs ≡ length ys → ((i : ℕ) (e : X) (k : Y) → i < length xs → f (get_or xs i e) ≡ g (get_or ys i k)) → weigh f xs ≡ weigh g ys
   weigh_alike f g [] [] long alike = refl
@@ -33,10 +24,6 @@ module _ {X : Type 0} where
       let here = alike 0 x y (omega arith) in
       let rest = weigh_alike f g xs ys (omega arith) (λ i e k w. alike (suc i) e k (omega arith)) in
       omega arith
-
--- each number below n stands there once
-pub once_below : (d n : ℕ) → d < n → weigh (λ p. only (d == p) 1) (numbers_below n) ≡ 1
-once_below d n within = weigh_only (λ p. only (d == p) 1) d n within (λ p ne. ap (λ b. only b 1) (ne_eqb d p ne)) ∙ ap (λ b. only b 1) (eq-eqb d d refl)
 
 pub weigh-joined : {X : Type 0} (h : X → ℕ) (xss : List (List X)) → weigh h (joined xss) ≡ weigh (weigh h) xss
 weigh-joined h [] = refl
@@ -72,14 +59,9 @@ module _ {T : Type 0} where
       record {
         count = omega (arith, length-append new.shares.items (share ∷ []));
         each = λ k e w. subst (λ (p : ℕ × Share T). IsShareAt P deal k p.0 p.1)
-            (λ i. (sym place i, (ap (λ (l : List (Share T)). get_or l k e) is ∙ front new.shares.items (share ∷ []) k e w) i))
+            (λ i. (sym place i, (ap (λ (l : List (Share T)). get_or l k e) is ∙ get_or_append_left new.shares.items (share ∷ []) e k w) i))
             (h.each k e (omega (arith, length-append new.shares.items (share ∷ []))));
       }
-    where
-      front : (xs ys : List (Share T)) (i : ℕ) (e : Share T) → i < length xs → get_or (xs ++ ys) i e ≡ get_or xs i e
-      front [] ys i e within = absurd (omega arith)
-      front (x ∷ xs) ys zero e within = refl
-      front (x ∷ xs) ys (suc i) e within = front xs ys i e (omega arith)
 
   pub stack_top : (P : Type 0) (deal : Deal T) (d : ℕ) (old new : Stack T) (share : Share T) → IsStack P deal (d + 1) old → old.shares.items ≡ new.shares.items ++ share ∷ [] → IsShareAt P deal d old.place share
   stack_top P deal d old new share h is =
@@ -87,12 +69,8 @@ module _ {T : Type 0} where
       let count = h.count in
       let here : length new.shares.items ≡ d = omega (arith, length-append new.shares.items (share ∷ [])) in
       subst (λ (p : ℕ × Share T). IsShareAt P deal p.0 old.place p.1)
-      (λ i. (here i, (ap (λ (l : List (Share T)). get_or l (length new.shares.items) share) is ∙ end new.shares.items share share) i))
+      (λ i. (here i, (ap (λ (l : List (Share T)). get_or l (length new.shares.items) share) is ∙ get_or_push new.shares.items share share (length new.shares.items) refl) i))
       (h.each (length new.shares.items) share (omega arith))
-    where
-      end : (xs : List (Share T)) (y e : Share T) → get_or (xs ++ y ∷ []) (length xs) e ≡ y
-      end [] y e = refl
-      end (x ∷ xs) y e = end xs y e
 
   pub stack_taken_less : (h : Item T → ℕ) (old new : Stack T) (share : Share T) → old.shares.items ≡ new.shares.items ++ share ∷ [] → stack_taken h old ≡ stack_taken h new + share_taken h share
   stack_taken_less h old new share is =
@@ -103,15 +81,10 @@ module _ {T : Type 0} where
       → all_taken h (set stacks s new) + share_taken h share ≡ all_taken h stacks
   all_taken_less h stacks s e new share within is =
       let old : Stack T = get_or stacks s e in
-      let there : get_elem? stacks s ≡ some old = at_index stacks s old within (default stacks s e old within) in
+      let there : get_elem? stacks s ≡ some old = at_index stacks s old within (get_or_default stacks s e old within) in
       let change = weigh-set (stack_taken h) stacks s old new there in
       let less = stack_taken_less h old new share is in
       omega arith
-    where
-      default : (xs : List (Stack T)) (d : ℕ) (e f : Stack T) → d < length xs → get_or xs d e ≡ get_or xs d f
-      default [] d e f within = absurd (omega arith)
-      default (x ∷ xs) zero e f within = refl
-      default (x ∷ xs) (suc d) e f within = default xs d e f (omega arith)
 
   -- the column of one deque has one owner
   pub one_owner : (P : Type 0) (deal : Deal T) (d n : ℕ) (old new : List (Stack T)) (column : List (Share T)) → PopsEach P deal d old new column → d < n → weigh (λ p. only (d == p) 1) (places old) ≡ 1

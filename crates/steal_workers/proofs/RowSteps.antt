@@ -1,6 +1,6 @@
 -- The shares of one seat.
 use Rattle.std.proofs.Common.{◌≡◌, ℕ, zero, suc, ◌+◌, ◌<◌, ◌≤◌, ◌==◌, false, List, [], ◌∷◌, ◌++◌, map, length, get_or, set, sym, refl, ap, ◌∙◌, subst, Vec, length-append, arith}
-use Rattle.std.proofs.lemmas.List.{get_or-map, length-map, take_more}
+use Rattle.std.proofs.lemmas.List.{get_or-map, length-map, take_more, get_or_append_left, get_or_push, map_push}
 use Rattle.std.proofs.Math.ListN.{length-set}
 use Rattle.std.specs.declared.alloc.Global.{Global}
 use Rattle.atomic_blocks.specs.Lent.{RowsId}
@@ -11,35 +11,27 @@ use Rattle.steal_workers.specs.declared.share.Share.{Share}
 use Rattle.steal_workers.specs.Handles.{deque_of, is_own}
 use Rattle.steal_workers.specs.Shares.{IsShare, dealt_to, taken_from}
 use Rattle.steal_workers.specs.Columns.{IsFresh, IsColumn, AreColumns, IsRow, closed, deck_deque}
+use Rattle.list_weights.proofs.Places.{EachAt-push}
 use Rattle.steal_workers.proofs.DeckSteps.{each_at_set}
-use Rattle.steal_workers.proofs.ColumnSteps.{eq_same, each_at_snoc}
+use Rattle.steal_workers.proofs.ColumnSteps.{eq_same}
 
 member : {X : Type 0} (xs : List X) (d : ℕ) → d < length xs → X
 member [] d within = absurd (omega arith)
 member (x ∷ xs) zero within = x
 member (x ∷ xs) (suc d) within = member xs d (omega arith)
 
-get_or-front : {X : Type 0} (xs ys : List X) (i : ℕ) (e : X) → i < length xs → get_or (xs ++ ys) i e ≡ get_or xs i e
-get_or-front [] ys i e within = absurd (omega arith)
-get_or-front (x ∷ xs) ys zero e within = refl
-get_or-front (x ∷ xs) ys (suc i) e within = get_or-front xs ys i e (omega arith)
-
-get_or-end : {X : Type 0} (xs : List X) (y e : X) → get_or (xs ++ y ∷ []) (length xs) e ≡ y
-get_or-end [] y e = refl
-get_or-end (x ∷ xs) y e = get_or-end xs y e
-
 module _ {T : Type 0} where
   column_front : (deque : RowsId × Global) (items : List (Item T)) (n d : ℕ) (xs ys : List (Share T)) (share : Share T) → xs ≡ ys ++ share ∷ [] → IsColumn deque items n d xs → IsColumn deque items n d ys
   column_front deque items n d xs ys share is h i j e within sum =
       let long = ap length is in
-      subst (λ (s : Share T). IsFresh deque items s × (is_own s.handle ≡ (j == d))) (ap (λ (l : List (Share T)). get_or l i e) is ∙ get_or-front ys (share ∷ []) i e within)
+      subst (λ (s : Share T). IsFresh deque items s × (is_own s.handle ≡ (j == d))) (ap (λ (l : List (Share T)). get_or l i e) is ∙ get_or_append_left ys (share ∷ []) e i within)
       (h i j e (omega (arith, length-append ys (share ∷ []))) sum)
 
   column_end : (deque : RowsId × Global) (items : List (Item T)) (n d place : ℕ) (xs ys : List (Share T)) (share : Share T) → xs ≡ ys ++ share ∷ [] → length xs + place ≡ n → IsColumn deque items n d xs
       → IsFresh deque items share × (is_own share.handle ≡ (place == d))
   column_end deque items n d place xs ys share is height h =
       let long = ap length is in
-      subst (λ (s : Share T). IsFresh deque items s × (is_own s.handle ≡ (place == d))) (ap (λ (l : List (Share T)). get_or l (length ys) share) is ∙ get_or-end ys share share)
+      subst (λ (s : Share T). IsFresh deque items s × (is_own s.handle ≡ (place == d))) (ap (λ (l : List (Share T)). get_or l (length ys) share) is ∙ get_or_push ys share share (length ys) refl)
       (h (length ys) place share (omega (arith, length-append ys (share ∷ []))) (omega (arith, length-append ys (share ∷ []))))
 
   -- one share leaves a column
@@ -76,14 +68,10 @@ module _ {T : Type 0} where
       let queues : List (List (Item T)) = map (closed n) decks in
       record {
         count = (let c = row.count in omega (arith, length-append shares (share ∷ [])));
-        deques = map-snoc (λ (s : Share T). deque_of s.handle) shares share ∙ (λ i. row.deques i ++ ((fresh.0.same_deque ∙ sym (get_or-map deck_deque decks d k (deck_deque k) inside)) i ∷ []))
+        deques = map_push (λ (s : Share T). deque_of s.handle) shares share ∙ (λ i. row.deques i ++ ((fresh.0.same_deque ∙ sym (get_or-map deck_deque decks d k (deck_deque k) inside)) i ∷ []))
             ∙ sym (take_more deques d (deck_deque k) (omega (arith, length-map decks (deck_deque {T = T}))));
-        queues = map-snoc dealt_to shares share ∙ (λ i. row.queues i ++ ((fresh.0.dealt ∙ sym (get_or-map (closed n) decks d k [] inside)) i ∷ []))
+        queues = map_push dealt_to shares share ∙ (λ i. row.queues i ++ ((fresh.0.dealt ∙ sym (get_or-map (closed n) decks d k [] inside)) i ∷ []))
             ∙ sym (take_more queues d [] (omega (arith, length-map decks (closed {T = T} n))));
-        each = each_at_snoc (λ j (s : Share T). IsShare s × (taken_from s ≡ []) × (s.marked ≡ false) × (is_own s.handle ≡ (j == place))) shares share row.each
+        each = EachAt-push (λ j (s : Share T). IsShare s × (taken_from s ≡ []) × (s.marked ≡ false) × (is_own s.handle ≡ (j == place))) shares share row.each
             (fresh.0.sound, fresh.0.taken, fresh.0.unmarked, fresh.1 ∙ eq_same place d (length shares) place (λ q. let c = row.count in omega arith) (λ q. let c = row.count in omega arith));
       }
-    where
-      map-snoc : {Y : Type 0} (f : Share T → Y) (xs : List (Share T)) (y : Share T) → map f (xs ++ y ∷ []) ≡ map f xs ++ f y ∷ []
-      map-snoc f [] y = refl
-      map-snoc f (x ∷ xs) y = λ i. f x ∷ map-snoc f xs y i

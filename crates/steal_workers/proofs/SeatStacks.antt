@@ -1,5 +1,6 @@
 -- All seats of a deal taken apart.
 use Rattle.std.proofs.Common.{◌≡◌, ℕ, ◌<◌, List, [], ◌∷◌, ◌++◌, map, length, get_or, All, sym, refl, ap, ◌∙◌, subst, length-append, arith}
+use Rattle.std.proofs.lemmas.List.{map_push, get_or_at}
 use Rattle.std.proofs.lemmas.List.Elements.{All-nil, All-cons, All-append}
 use Rattle.steal_workers.specs.declared.seat.Stack.{Stack}
 use Rattle.list_weights.specs.Weights.{weigh}
@@ -11,11 +12,6 @@ use Rattle.steal_workers.specs.WholeDeals.{common_deal, IsWholeDeal}
 use Rattle.steal_workers.specs.Gathers.{IsStack, AreOwnMarked, places, all_taken, stack_taken}
 use Rattle.steal_workers.specs.Emptying.{seat_weights}
 use Rattle.list_weights.proofs.Weights.{weigh-append}
-use Rattle.steal_workers.proofs.DealSteps.{get_or-seam}
-
-map-snoc : {X Y : Type 0} (f : X → Y) (xs : List X) (y : X) → map f (xs ++ y ∷ []) ≡ map f xs ++ f y ∷ []
-map-snoc f [] y = refl
-map-snoc f (x ∷ xs) y = ap (λ l. f x ∷ l) (map-snoc f xs y)
 
 module _ {T : Type 0} where
   stack_weaker : (P Q : Type 0) (deal : Deal T) (m : ℕ) (stack : Stack T) → (Q → P) → IsStack P deal m stack → IsStack Q deal m stack
@@ -36,13 +32,13 @@ module _ {T : Type 0} where
   stacked_more seats done rest seat stacks stack whole is h made numbers =
       let long = ap length is in
       let within : length done < length seats = omega (arith, length-append done (seat ∷ rest)) in
-      let here : get_or seats (length done) seat ≡ seat = ap (λ (l : List (SeatView T)). get_or l (length done) seat) is ∙ get_or-seam done seat rest seat in
+      let here : get_or seats (length done) seat ≡ seat = ap (λ (l : List (SeatView T)). get_or l (length done) seat) is ∙ get_or_at done seat rest seat (length done) refl in
       let deal : seat.deal ≡ common_deal seats = ap (λ (s : SeatView T). s.deal) (sym here) ∙ whole.one_deal (length done) seat within in
       let mark : AreOwnMarked seats → HasMark seat seat.place = λ all. subst (λ (s : SeatView T). HasMark s s.place) here (all (length done) seat within) in
       let P : Stack T → Type 0 = IsStack (AreOwnMarked seats) (common_deal seats) (seat_count (common_deal seats)) in
       let one : P stack = subst (λ (d : Deal T). IsStack (AreOwnMarked seats) d (seat_count d) stack) deal (stack_weaker (HasMark seat seat.place) (AreOwnMarked seats) seat.deal (seat_count seat.deal) stack mark made.1) in
       record {
-        same_places = map-snoc (λ (s : Stack T). s.place) stacks stack ∙ (λ i. h.same_places i ++ made.0 i ∷ []) ∙ sym (map-snoc (λ (s : SeatView T). s.place) done seat);
+        same_places = map_push (λ (s : Stack T). s.place) stacks stack ∙ (λ i. h.same_places i ++ made.0 i ∷ []) ∙ sym (map_push (λ (s : SeatView T). s.place) done seat);
         numbers = λ f. (let b = h.numbers f in let n : weigh f seat.numbers ≡ stack_taken (number_weight f) stack = numbers f in omega (arith, weigh-append (stack_taken (number_weight f)) stacks (stack ∷ []), weigh-append (λ (s : SeatView T). weigh f s.numbers) done (seat ∷ [])));
         each = All-append P stacks (stack ∷ []) h.each (All-cons P stack [] one (All-nil P));
       }
@@ -53,5 +49,5 @@ module _ {T : Type 0} where
   dealt_by seats done rest seat whole is dealt =
       let long = ap length is in
       let within : length done < length seats = omega (arith, length-append done (seat ∷ rest)) in
-      let here : get_or seats (length done) seat ≡ seat = ap (λ (l : List (SeatView T)). get_or l (length done) seat) is ∙ get_or-seam done seat rest seat in
+      let here : get_or seats (length done) seat ≡ seat = ap (λ (l : List (SeatView T)). get_or l (length done) seat) is ∙ get_or_at done seat rest seat (length done) refl in
       subst (λ (d : Deal T). IsDealt d.queues d.tasks × (length d.queues ≡ seat_count d)) (ap (λ (s : SeatView T). s.deal) (sym here) ∙ whole.one_deal (length done) seat within) dealt

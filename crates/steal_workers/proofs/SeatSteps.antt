@@ -1,6 +1,7 @@
 -- A seat after a step.
 use Rattle.std.proofs.Common.{◌≡◌, ◌≢◌, ℕ, ◌+◌, ◌<◌, ◌≤◌, ◌==◌, Bool, true, false, true≢false, List, [], ◌∷◌, ◌++◌, map, length, get_or, All, sym, ap, ◌∙◌, subst, arith}
 use Rattle.std.proofs.lemmas.List.{length-map}
+use Rattle.std.proofs.lemmas.List.Elements.{All-tail}
 use Rattle.steal_workers.specs.declared.share.Share.{Share}
 use Rattle.steal_workers.specs.declared.seat.Seat.TheInside.{Inside}
 use Rattle.steal_workers.specs.declared.seat.Next.TheVariants.{Task, Empty, Lost}
@@ -14,7 +15,7 @@ use Rattle.steal_workers.specs.SeatViews.{IsSameSeat, seat_count}
 use Rattle.steal_workers.specs.Seats.{seat_view, IsSound}
 use Rattle.steal_workers.specs.Answers.{Answers}
 use Rattle.list_weights.proofs.Weights.{weigh-append}
-use Rattle.steal_workers.proofs.ShareLists.{all_tail, moves_sound, moves_map, moves_length, moves_marked}
+use Rattle.steal_workers.proofs.ShareLists.{moves_sound, moves_map, moves_length, moves_marked}
 
 module _ {T : Type 0} where
   same_queues : (xs ys : List (Share T)) → Moves xs ys → map dealt_to ys ≡ map dealt_to xs
@@ -61,7 +62,7 @@ module _ {T : Type 0} where
   shares_once h [] each = omega arith
   shares_once h (x ∷ xs) each =
       let here = (each 0 x (omega arith)).3 (number_weight h) in
-      omega (arith, shares_once h xs (all_tail IsShare x xs each))
+      omega (arith, shares_once h xs (All-tail IsShare x xs each))
 
   -- the seat's numbers are dealt ones, each once
   pub numbers_once : (s : Inside T) → IsSound s → (h : ℕ → ℕ) → weigh h s.trail ≤ weigh h (numbers_below (length s.tasks.value.items))

@@ -1,6 +1,7 @@
 -- A seat's shares, step by step.
 use Rattle.std.proofs.Common.{◌≡◌, ℕ, zero, suc, ◌+◌, ◌<◌, true, false, List, [], ◌∷◌, map, length, get_or, set, All, Option, Some, None, MatchOption, IfNone, sym, refl, ap, ◌∙◌, subst, arith}
-use Rattle.std.proofs.lemmas.List.{get_or-map}
+use Rattle.std.proofs.lemmas.List.{get_or-map, get_or_default}
+use Rattle.std.proofs.lemmas.List.Elements.{All-nil, All-cons, All-head, All-tail}
 use Rattle.std.proofs.Math.ListN.{length-set}
 use Rattle.crossbeam_deque.proofs.Lists.{at_index}
 use Rattle.steal_workers.specs.declared.item.Item.{Item}
@@ -11,20 +12,6 @@ use Rattle.steal_workers.specs.Items.{Stands}
 use Rattle.steal_workers.specs.Shares.{IsShare, Follows, Finds, Moves, dealt_to, is_marked, taken_weight, taken_weights, Found, TookNone}
 use Rattle.list_weights.proofs.Weights.{weigh-set}
 use Rattle.steal_workers.proofs.ShareSteps.{stays}
-
-module _ {X : Type 0} (P : X → Type 0) where
-  pub all_head : (x : X) (xs : List X) → All P (x ∷ xs) → P x
-  all_head x xs h = h 0 x (omega arith)
-
-  pub all_tail : (x : X) (xs : List X) → All P (x ∷ xs) → All P xs
-  all_tail x xs h = λ k d within. h (suc k) d (omega arith)
-
-  pub all_none : All P []
-  all_none = λ k d within. absurd (omega arith)
-
-  pub all_cons : (x : X) (xs : List X) → P x → All P xs → All P (x ∷ xs)
-  all_cons x xs p h zero d within = p
-  all_cons x xs p h (suc k) d within = h k d (omega arith)
 
 module _ {T : Type 0} where
   pub follows_trans : (a b c : Share T) → Follows a b → Follows b c → Follows a c
@@ -38,7 +25,7 @@ module _ {T : Type 0} where
 
   pub stays_all : (xs : List (Share T)) → All IsShare xs → Moves xs xs
   stays_all [] sound = tt
-  stays_all (x ∷ xs) sound = (stays x (all_head IsShare x xs sound), stays_all xs (all_tail IsShare x xs sound))
+  stays_all (x ∷ xs) sound = (stays x (All-head IsShare x xs sound), stays_all xs (All-tail IsShare x xs sound))
 
   pub moves_trans : (a b c : List (Share T)) → Moves a b → Moves b c → Moves a c
   moves_trans [] [] [] p q = tt
@@ -49,10 +36,10 @@ module _ {T : Type 0} where
   moves_trans (x ∷ a) (y ∷ b) (z ∷ c) p q = (follows_trans x y z p.0 q.0, moves_trans a b c p.1 q.1)
 
   pub moves_sound : (a b : List (Share T)) → Moves a b → All IsShare b
-  moves_sound [] [] p = all_none IsShare
+  moves_sound [] [] p = All-nil IsShare
   moves_sound [] (y ∷ b) p = absurd p
   moves_sound (x ∷ a) [] p = absurd p
-  moves_sound (x ∷ a) (y ∷ b) p = all_cons IsShare y b p.0.sound (moves_sound a b p.1)
+  moves_sound (x ∷ a) (y ∷ b) p = All-cons IsShare y b p.0.sound (moves_sound a b p.1)
 
   pub moves_map : {X : Type 0} (f : Share T → X) (same : (r s : Share T) → Follows r s → f s ≡ f r) (a b : List (Share T)) → Moves a b → map f b ≡ map f a
   moves_map f same [] [] p = refl
@@ -73,19 +60,13 @@ module _ {T : Type 0} where
   moves_marked (x ∷ a) (y ∷ b) zero p m = p.0.mark_stays m
   moves_marked (x ∷ a) (y ∷ b) (suc d) p m = moves_marked a b d p.1 m
 
-  -- the member at d, whatever is read past the end
-  get_or-default : (xs : List (Share T)) (d : ℕ) (e f : Share T) → d < length xs → get_or xs d e ≡ get_or xs d f
-  get_or-default [] d e f within = absurd (omega arith)
-  get_or-default (x ∷ xs) zero e f within = refl
-  get_or-default (x ∷ xs) (suc d) e f within = get_or-default xs d e f (omega arith)
-
   pub moves_set : (xs : List (Share T)) (d : ℕ) (e s : Share T) → All IsShare xs → d < length xs → Follows (get_or xs d e) s → Moves xs (set xs d s)
   moves_set [] d e s sound within p = tt
-  moves_set (x ∷ xs) zero e s sound within p = (p, stays_all xs (all_tail IsShare x xs sound))
-  moves_set (x ∷ xs) (suc d) e s sound within p = (stays x (all_head IsShare x xs sound), moves_set xs d e s (all_tail IsShare x xs sound) (omega arith) p)
+  moves_set (x ∷ xs) zero e s sound within p = (p, stays_all xs (All-tail IsShare x xs sound))
+  moves_set (x ∷ xs) (suc d) e s sound within p = (stays x (All-head IsShare x xs sound), moves_set xs d e s (All-tail IsShare x xs sound) (omega arith) p)
 
   weights-set : (h : ℕ → ℕ) (xs : List (Share T)) (d : ℕ) (e s : Share T) → d < length xs → taken_weights h (set xs d s) + taken_weight h (get_or xs d e) ≡ taken_weights h xs + taken_weight h s
-  weights-set h xs d e s within = let r : Share T = get_or xs d e in weigh-set (taken_weight h) xs d r s (at_index xs d r within (get_or-default xs d e r within))
+  weights-set h xs d e s within = let r : Share T = get_or xs d e in weigh-set (taken_weight h) xs d r s (at_index xs d r within (get_or_default xs d e r within))
 
   -- one share's step is a step of all
   pub none_set : (xs : List (Share T)) (d : ℕ) (e s : Share T) → d < length xs → ((h : ℕ → ℕ) → taken_weight h s ≡ taken_weight h (get_or xs d e)) → TookNone xs (set xs d s)

@@ -3,6 +3,7 @@ use Rattle.std.proofs.Common.{◌≡◌, ℕ, ◌+◌, ◌<◌, true, false, Lis
 use Rattle.std.specs.List.{swap_remove}
 use Rattle.std.specs.List.Sorted.{IsPermutation}
 use Rattle.std.proofs.lemmas.List.Sorted.{IsPermutation-swap_remove, length_permutation, All-permutation}
+use Rattle.std.proofs.lemmas.List.Elements.{All-tail}
 use Rattle.steal_workers.specs.declared.item.Item.{Item}
 use Rattle.steal_workers.specs.declared.hand.Hand.{Hand}
 use Rattle.steal_workers.specs.declared.share.Share.{Share}
@@ -11,7 +12,6 @@ use Rattle.steal_workers.specs.Handles.{deque_of, hand_of, is_own}
 use Rattle.steal_workers.specs.Shares.{IsShare, dealt_to, taken_from}
 use Rattle.steal_workers.specs.Backs.{own_weight, IsWholeColumn, IsBack}
 use Rattle.steal_workers.specs.Gathers.{share_taken}
-use Rattle.steal_workers.proofs.ShareLists.{all_tail}
 use Rattle.list_weights.proofs.Permutations.{weigh-permutation}
 use Rattle.steal_workers.proofs.GatherSteps.{others}
 
@@ -32,7 +32,7 @@ module _ {T : Type 0} where
       let all = weigh-permutation own_weight xs (x ∷ rest) moved in
       let here = whole.2 place x within in
       let same : deque_of x.handle ≡ whole.0 = ap (λ (s : Share T). deque_of s.handle) is ∙ here.1 in
-      let each = all_tail (λ (s : Share T). IsShare s × (deque_of s.handle ≡ whole.0) × (dealt_to s ≡ whole.1)) x rest
+      let each = All-tail (λ (s : Share T). IsShare s × (deque_of s.handle ≡ whole.0) × (dealt_to s ≡ whole.1)) x rest
       (All-permutation (λ (s : Share T). IsShare s × (deque_of s.handle ≡ whole.0) × (dealt_to s ≡ whole.1)) xs (x ∷ rest) moved whole.2) in
       record {
         sound = subst IsShare (sym is) here.0;

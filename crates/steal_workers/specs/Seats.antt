@@ -1,4 +1,4 @@
--- A seat's fields, as contracts see them.
+-- A seat's fields, as contracts see them, and how many seats there are.
 use Rattle.std.specs.Prelude.{◌≡◌, ℕ, ◌<◌, ◌≤◌, ◌==◌, false, map, length, slice_index_or, All}
 use Rattle.steal_workers.specs.declared.share.Share.{Share}
 use Rattle.steal_workers.specs.declared.seat.Seat.TheInside.{Inside}
@@ -7,6 +7,10 @@ use Rattle.steal_workers.specs.Handles.{deque_of}
 use Rattle.steal_workers.specs.Shares.{dealt_to, is_own_share, is_marked, IsShare, taken_weights}
 use Rattle.steal_workers.specs.Deals.{Deal, IsDealt}
 use Rattle.steal_workers.specs.SeatViews.{SeatView}
+
+-- of a deal: a deque for each, in which each seat has a share
+abbrev pub most_seats : ℕ
+most_seats = 64
 
 module _ {T : Type 0} where
   abbrev pub deal_of : Inside T → Deal T
@@ -23,4 +27,4 @@ module _ {T : Type 0} where
     pub dealt : IsDealt (map dealt_to s.shares.items) s.tasks.value.items
     pub count : s.dealt ≡ length s.tasks.value.items
     pub numbers : (h : ℕ → ℕ) → weigh h s.trail ≡ taken_weights h s.shares.items
-    pub few : length s.shares.items ≤ 64
+    pub few : length s.shares.items ≤ most_seats

@@ -5,6 +5,7 @@ ghost use Rattle.steal_workers.specs.Columns.{AreColumns, closed};
 ghost use Rattle.steal_workers.specs.Deals.{IsDealt};
 ghost use Rattle.steal_workers.specs.Decks.{AreFilling};
 ghost use Rattle.steal_workers.specs.Layouts.{AreFresh, IsEmptyRow, AreEmptyRows, AreFilled, AreSeated, planned};
+ghost use Rattle.steal_workers.specs.Seats.{most_seats};
 ghost use Rattle.steal_workers.specs.WholeDeals.{IsNewDeal};
 
 use crate::column::column;
@@ -82,7 +83,7 @@ fn new_rows<T: Drop>(
 }
 
 fn reserved<T: Drop>(alloc: Global, tasks: &Vec<T>, seats: usize) -> Result<Layout<T>, AllocError>
-    requires few_seats { (0 < seats) × (seats ≤ 64) }
+    requires few_seats { (0 < seats) × (seats ≤ most_seats) }
     requires few_tasks { vec_len tasks.now < 2 ^ 32 }
     ensures decks { IfOk result (λ layout. AreFresh seats (vec_len tasks.now / seats + 1 + seats) layout.decks.items) }
     ensures columns { IfOk result (λ layout. (layout.columns.items ≡ []) × (seats ≤ vec_capacity layout.columns)) }
@@ -132,7 +133,7 @@ fn seated<T: Drop>(
     requires columns { AreColumns plan.now.decks.value.items (length columns.old) columns.old }
     requires height { EachAt (λ _ column. length column.items ≡ length columns.old) columns.old }
     requires rows { AreEmptyRows (length columns.old) plan.now.tasks.value.items rows.items }
-    requires seats { (seats.items ≡ []) × (length columns.old ≤ vec_capacity seats) × (length columns.old ≤ 64) }
+    requires seats { (seats.items ≡ []) × (length columns.old ≤ vec_capacity seats) × (length columns.old ≤ most_seats) }
     requires dealt { IsDealt (map (closed (length columns.old)) plan.now.decks.value.items) plan.now.tasks.value.items }
     requires count { dealt ≡ length plan.now.tasks.value.items }
     ensures count { length result.items ≡ length columns.old }
@@ -148,7 +149,7 @@ fn seated<T: Drop>(
 }
 
 fn laid_out<T: Drop>(layout: Layout<T>, tasks: Vec<T>, seats: usize) -> Vec<Seat<T>>
-    requires few_seats { (0 < seats) × (seats ≤ 64) }
+    requires few_seats { (0 < seats) × (seats ≤ most_seats) }
     requires few_tasks { vec_len tasks < 2 ^ 32 }
     requires decks { AreFresh seats (vec_len tasks / seats + 1 + seats) layout.decks.items }
     requires columns { (layout.columns.items ≡ []) × (seats ≤ vec_capacity layout.columns) }
@@ -180,7 +181,7 @@ pub fn deal<T: Drop>(
     tasks: Vec<T>,
     workers: u32,
 ) -> Result<Vec<Seat<T>>, DealFailed<T>>
-    requires workers { (0 < workers) × (workers ≤ 64) }
+    requires workers { (0 < workers) × (workers ≤ most_seats) }
     requires tasks { vec_len tasks < 2 ^ 32 }
     ensures dealt { IfOk result (λ seats. IsNewDeal tasks.items workers seats.items) }
     ensures failed { IfErr result (λ failed. failed.tasks.items ≡ tasks.items) }

@@ -5,6 +5,7 @@ ghost use Rattle.steal_workers.specs.Deals.{IsDealt};
 ghost use Rattle.steal_workers.specs.Gathers.{IsStack};
 ghost use Rattle.list_weights.specs.Weights.{weigh, numbers_below};
 ghost use Rattle.steal_workers.specs.SeatViews.{IsSameSeat, HasMark, seat_count};
+ghost use Rattle.steal_workers.specs.Seats.{most_seats};
 ghost use Rattle.steal_workers.specs.Shares.{is_marked, dealt_to, taken_weights, AllMarked};
 ghost use Rattle.steal_workers.specs.Unused.{IsUnused, unused_view};
 
@@ -62,7 +63,7 @@ impl<T> Seat<T> {
         shares: Vec<Share<T>>,
         tasks: Snapshot<Vec<T>>,
     ) -> Seat<T>
-        requires place { (place < length shares.items) × (length shares.items ≤ 64) }
+        requires place { (place < length shares.items) × (length shares.items ≤ most_seats) }
         requires shares { IsUnused place shares.items }
         requires dealt { IsDealt (map dealt_to shares.items) tasks.value.items }
         requires count { dealt ≡ length tasks.value.items }

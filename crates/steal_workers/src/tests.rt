@@ -1,5 +1,6 @@
 ghost use Rattle.std.specs.Prelude.{◌≡◌, ◌<◌, ◌≤◌, ◌^◌, IfOk, vec_len};
 ghost use Rattle.steal_workers.specs.SeatViews.{IsSameSeat, AreSameSeats};
+ghost use Rattle.steal_workers.specs.Seats.{most_seats};
 ghost use Rattle.steal_workers.specs.WholeDeals.{IsWholeDeal};
 
 use super::*;
@@ -18,7 +19,7 @@ fn tasks(alloc: Global, count: u32) -> Result<Vec<u32>, AllocError>
 }
 
 fn dealt(alloc: Global, count: u32, workers: u32) -> Result<Vec<Seat<u32>>, Fail>
-    requires { (0 < workers) × (workers ≤ 64) }
+    requires { (0 < workers) × (workers ≤ most_seats) }
     ensures whole { IfOk result (λ seats. IsWholeDeal seats.items) }
     ensures count { IfOk result (λ seats. vec_len seats ≡ workers) }
 {
@@ -75,7 +76,7 @@ fn find_none(seats: &mut [Seat<u32>]) -> bool
 
 // The first seat takes every task, each once. Then each seat finds none, and none is left.
 fn first_takes_all(rt: &impl Abort, alloc: Global, count: u32, workers: u32) -> Result<(), Fail>
-    requires { (0 < workers) × (workers ≤ 64) }
+    requires { (0 < workers) × (workers ≤ most_seats) }
 {
     let mut seats = dealt(alloc, count, workers)?;
     let (mut taken, empty) = take_all(alloc, &mut seats[0])?;

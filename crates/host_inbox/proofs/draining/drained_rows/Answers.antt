@@ -1,9 +1,10 @@
-use Rattle.std.proofs.Common.{◌≡◌, ◌+◌, ◌*◌, ℕ, List, [], ◌∷◌, All, Option, Vec, length, vec_len, sym, subst, ap, ◌∙◌, arith}
+use Rattle.std.proofs.Common.{◌≡◌, ◌+◌, ◌*◌, ℕ, List, Option, Some, Vec, length, vec_len, sym, subst, ap, ◌∙◌, arith}
+use Rattle.std.proofs.lemmas.List.Elements.{All-pop}
 use Rattle.std.specs.Mem.Slots.{slots_items, slots_filled}
 use Rattle.std.specs.declared.alloc.Global.{Global}
 use Rattle.list_weights.specs.Places.{EachAt}
 use Rattle.host_inbox.specs.Slots.{IsRoom, IsTakenTo, row_of}
-use Rattle.host_inbox.proofs.Members.{all_front, each_at_snoc}
+use Rattle.list_weights.proofs.Places.{EachAt-push}
 use Rattle.host_inbox.proofs.draining.drained_rows.Goals as goal
 
 pub loop-row-preserved : goal.loop-row-preserved
@@ -24,8 +25,8 @@ loop-row-preserved g c =
           (let n : c.len-host.result * 16 + 16 ≡ vec_len c.push_reserved.new.self * 16 = (let p = push.len in let l = c.len-host.ensures in omega arith) in n) row.taken;
       count = (let p = pop.len in let q = push.len in let n = inv.count in omega arith);
       room = (let p = push.capacity in let r = inv.room in omega arith);
-      rooms = all_front (IsRoom {T = T}) c.pop.new.self.items (c.in-Some.row ∷ []) (subst (All (IsRoom {T = T})) pop.items inv.rooms);
+      rooms = (All-pop (IsRoom {T = T}) c.loop-row.empty.items c.pop.new.self.items (Some c.in-Some.row) pop.items inv.rooms).0;
       each = subst (EachAt F) (sym push.items)
-          (each_at_snoc F c.loop-row.rows.items c.drained_row.result inv.each
+          (EachAt-push F c.loop-row.rows.items c.drained_row.result inv.each
           (row.parcels ∙ ap (λ (s : List (Option T)). row_of s c.len-host.result) inv.items ∙ ap (row_of slots) host));
     }

@@ -1,7 +1,7 @@
 use Rattle.std.proofs.Common.{◌≡◌, ℕ, ◌+◌, ◌-◌, [], All, sym, subst, ap, ◌∙◌, arith}
+use Rattle.std.proofs.lemmas.List.Elements.{All-push}
 use Rattle.host_inbox.specs.CarrierViews.{CarrierView}
 use Rattle.host_inbox.specs.Inboxes.{known}
-use Rattle.host_inbox.proofs.Members.{all_snoc}
 use Rattle.host_inbox.proofs.SeatSteps.{splits_of, one_less}
 use Rattle.host_inbox.proofs.opening.carriers_of.Goals as goal
 
@@ -25,6 +25,6 @@ loop-preserved g c =
       count = (let n = c.loop.invariant.count in let l = push.len in omega arith);
       room = (let r = c.loop.invariant.room in let p = push.capacity in omega arith);
       each = subst (All (λ (carrier : CarrierView g.row.T.Denot). (carrier.boards ≡ c.args.places.now.table_id) × (carrier.entries ≡ []))) (sym push.items)
-          (all_snoc (λ (carrier : CarrierView g.row.T.Denot). (carrier.boards ≡ c.args.places.now.table_id) × (carrier.entries ≡ [])) c.loop.carriers.items c.new.result c.loop.invariant.each
+          (All-push (λ (carrier : CarrierView g.row.T.Denot). (carrier.boards ≡ c.args.places.now.table_id) × (carrier.entries ≡ [])) c.loop.carriers.items c.new.result c.loop.invariant.each
           (c.new.ensures.0 ∙ (split.3 ∙ c.loop.invariant.table), c.new.ensures.1));
     }

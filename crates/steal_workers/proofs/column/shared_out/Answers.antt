@@ -1,4 +1,5 @@
 use Rattle.std.proofs.Common.{◌≡◌, ◌+◌, ◌∷◌, ◌==◌, ℕ, true, false, [], All, List, length, get_or, vec_len, sym, refl, ap, ◌∙◌, subst, arith}
+use Rattle.std.proofs.lemmas.List.Elements.{All-head, All-tail}
 use Rattle.std.specs.Vec.Iter.{into_iter_items}
 use Rattle.std.specs.declared.alloc.Global.{Global}
 use Rattle.atomic_blocks.specs.Lent.{RowsId}
@@ -10,9 +11,9 @@ use Rattle.steal_workers.specs.OneDeque.{hand, less_one_share, one_share}
 use Rattle.steal_workers.specs.Handles.{is_own}
 use Rattle.steal_workers.specs.Decks.{IsThiefOf}
 use Rattle.steal_workers.specs.Columns.{IsFresh}
+use Rattle.list_weights.proofs.Places.{EachAt-push}
 use Rattle.steal_workers.proofs.Steps.{forks}
-use Rattle.steal_workers.proofs.ShareLists.{all_head, all_tail}
-use Rattle.steal_workers.proofs.ColumnSteps.{each_at_snoc, fresh_other, fresh_own, own_last}
+use Rattle.steal_workers.proofs.ColumnSteps.{fresh_other, fresh_own, own_last}
 use Rattle.steal_workers.proofs.column.shared_out.Goals as goal
 
 pub another-claim-requires : goal.another-claim-requires
@@ -38,12 +39,12 @@ loop-thief-preserved g c =
       same = c.another-claim.ensures.same.0.0 ∙ inv.same;
       view = c.another-claim.ensures.rule.0 ∙ ap less_one_share inv.view
           ∙ ap (λ (n : ℕ). hand true n queue []) (omega arith);
-      thieves = all_tail (IsThiefOf deque) c.in-Some.thief rest thieves;
+      thieves = All-tail (IsThiefOf deque) c.in-Some.thief rest thieves;
       count = (let n = inv.count in let p = c.push_reserved.ensures.len in omega arith);
       room = (let r = inv.room in let p = c.push_reserved.ensures.capacity in omega arith);
       each = subst (EachAt (λ (i : ℕ) (share : Share T). IsFresh deque queue share × (is_own share.handle ≡ false))) (sym c.push_reserved.ensures.items)
-          (each_at_snoc (λ (i : ℕ) (share : Share T). IsFresh deque queue share × (is_own share.handle ≡ false)) c.loop-thief.shares.items _ inv.each
-          (fresh_other deque queue c.in-Some.thief c.another-claim.result (all_head (IsThiefOf deque) c.in-Some.thief rest thieves) claim view, refl));
+          (EachAt-push (λ (i : ℕ) (share : Share T). IsFresh deque queue share × (is_own share.handle ≡ false)) c.loop-thief.shares.items _ inv.each
+          (fresh_other deque queue c.in-Some.thief c.another-claim.result (All-head (IsThiefOf deque) c.in-Some.thief rest thieves) claim view, refl));
     }
 
 pub returns-clause-each : goal.returns-clause-each

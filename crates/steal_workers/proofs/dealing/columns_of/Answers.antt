@@ -1,13 +1,13 @@
 use Rattle.std.proofs.Common.{◌≡◌, ℕ, List, ◌∷◌, ◌++◌, length, get_or, Vec, vec_len, ap, sym, ◌∙◌, subst, length-append, arith}
+use Rattle.std.proofs.lemmas.List.{get_or_at}
 use Rattle.std.specs.Vec.Iter.{into_iter_items}
 use Rattle.std.specs.declared.alloc.Global.{Global}
 use Rattle.list_weights.specs.Places.{EachAt}
 use Rattle.steal_workers.specs.declared.deck.Deck.{Deck}
 use Rattle.steal_workers.specs.declared.share.Share.{Share}
 use Rattle.steal_workers.specs.Columns.{IsColumn, closed, deck_deque}
+use Rattle.list_weights.proofs.Places.{EachAt-push}
 use Rattle.steal_workers.proofs.DeckSteps.{taken_next}
-use Rattle.steal_workers.proofs.ColumnSteps.{each_at_snoc}
-use Rattle.steal_workers.proofs.DealSteps.{get_or-seam}
 use Rattle.steal_workers.proofs.dealing.columns_of.Goals as goal
 
 pub loop-deck-preserved : goal.loop-deck-preserved
@@ -23,7 +23,7 @@ loop-deck-preserved g c =
     let all : decks ≡ inv.so_far.0 ++ (c.in-Some.deck ∷ rest) = inv.so_far.2 ∙ ap (λ (l : List (Deck g.row.T.Denot)). inv.so_far.0 ++ l) c.in-Some.ensures.steps.0 in
     let F : ℕ → Vec (Share g.row.T.Denot) Global → Type 0 = λ d column. ((e : Deck g.row.T.Denot) → IsColumn (deck_deque (get_or decks d e)) (closed n (get_or decks d e)) n d column.items) × (length column.items ≡ n) in
     let here : (e : Deck g.row.T.Denot) → get_or decks place e ≡ c.in-Some.deck = λ e.
-    ap (λ (l : List (Deck g.row.T.Denot)). get_or l place e) all ∙ ap (λ (i : ℕ). get_or (inv.so_far.0 ++ (c.in-Some.deck ∷ rest)) i e) (sym (inv.so_far.1 ∙ long)) ∙ get_or-seam inv.so_far.0 c.in-Some.deck rest e in
+    ap (λ (l : List (Deck g.row.T.Denot)). get_or l place e) all ∙ get_or_at inv.so_far.0 c.in-Some.deck rest e place (inv.so_far.1 ∙ long) in
     let count : c.len-count.result ≡ n = inv.count in
     let at : c.len-place.result ≡ place = c.len-place.ensures ∙ long in
     record {
@@ -31,7 +31,7 @@ loop-deck-preserved g c =
       count = inv.count;
       room = (let r = inv.room in let p = c.push_reserved.ensures.capacity in omega arith);
       each = subst (EachAt F) (sym c.push_reserved.ensures.items)
-          (each_at_snoc F c.loop-deck.columns.items c.column.result inv.each (
+          (EachAt-push F c.loop-deck.columns.items c.column.result inv.each (
             (λ e. subst (λ (deck : Deck g.row.T.Denot). IsColumn (deck_deque deck) (closed n deck) n place c.column.result.items) (sym (here e))
                 (subst (λ (p : ℕ × ℕ). IsColumn (deck_deque c.in-Some.deck) (closed p.0 c.in-Some.deck) p.0 p.1 c.column.result.items) (λ i. (count i, at i)) c.column.ensures.each)),
             c.column.ensures.count ∙ count,

@@ -1,4 +1,5 @@
 use Rattle.std.proofs.Common.{◌≡◌, ℕ, ◌∷◌, All, length, ap, sym, ◌∙◌, subst, arith}
+use Rattle.std.proofs.lemmas.List.Elements.{All-head, All-tail}
 use Rattle.std.specs.Vec.Iter.{into_iter_items}
 use Rattle.list_weights.specs.Places.{EachAt}
 use Rattle.steal_workers.specs.declared.dealing.SeatRow.{SeatRow}
@@ -6,8 +7,7 @@ use Rattle.steal_workers.specs.SeatViews.{SeatView}
 use Rattle.steal_workers.specs.WholeDeals.{IsNewSeat}
 use Rattle.steal_workers.specs.Columns.{AreColumns, IsRow}
 use Rattle.steal_workers.specs.Layouts.{IsEmptyRow, planned}
-use Rattle.steal_workers.proofs.ShareLists.{all_head, all_tail}
-use Rattle.steal_workers.proofs.ColumnSteps.{each_at_snoc}
+use Rattle.list_weights.proofs.Places.{EachAt-push}
 use Rattle.steal_workers.proofs.DealSteps.{seat_of_row}
 use Rattle.steal_workers.proofs.dealing.seated.Goals as goal
 
@@ -44,7 +44,7 @@ loop-empty-preserved g c =
     let long = ap length next in
     let P : SeatRow g.row.T.Denot → Type 0 = IsEmptyRow n tasks in
     let rows : All P (c.in-Some.empty ∷ rest) = subst (All P) next inv.rows in
-    let head = all_head P c.in-Some.empty rest rows in
+    let head = All-head P c.in-Some.empty rest rows in
     let wide : length c.loop-empty.columns ≡ n = inv.columns.count in
     let place = c.len-place.result in
     let at : place ≡ length c.loop-empty.seats.items = c.len-place.ensures ∙ c.loop-empty.seats.ok.0 in
@@ -54,9 +54,9 @@ loop-empty-preserved g c =
     record {
       columns = subst (λ (m : ℕ). AreColumns decks m c.row-shares.new.columns) wide c.row-shares.ensures.columns;
       height = λ d column w. (let h = c.row-shares.ensures.height d column w in let e = c.push_reserved.ensures.len in let p = c.len-place.ensures in omega arith);
-      rows = all_tail P c.in-Some.empty rest rows;
+      rows = All-tail P c.in-Some.empty rest rows;
       left = (let l = inv.left in let e = c.push_reserved.ensures.len in omega arith);
       room = (let r = inv.room in let e = c.push_reserved.ensures.capacity in omega arith);
       seats = subst (EachAt F) (sym c.push_reserved.ensures.items)
-          (each_at_snoc F c.loop-empty.seats.items c.new.result inv.seats (seat.0, seat.1 ∙ at, seat.2));
+          (EachAt-push F c.loop-empty.seats.items c.new.result inv.seats (seat.0, seat.1 ∙ at, seat.2));
     }

@@ -8,9 +8,9 @@ use Rattle.list_weights.specs.Weights.{weigh}
 use Rattle.steal_workers.specs.Deals.{Deal}
 use Rattle.steal_workers.specs.WholeDeals.{common_deal}
 use Rattle.steal_workers.specs.Gathers.{IsStack, IsShareAt, AreOwnMarked, places, share_taken}
+use Rattle.list_weights.proofs.Places.{EachAt-push}
 use Rattle.list_weights.proofs.Weights.{weigh-append}
 use Rattle.steal_workers.proofs.DeckSteps.{each_at_set}
-use Rattle.steal_workers.proofs.ColumnSteps.{each_at_snoc}
 use Rattle.steal_workers.proofs.GatherSteps.{stack_front, stack_top, all_taken_less}
 use Rattle.steal_workers.proofs.gathering.pop_each.Goals as goal
 
@@ -43,7 +43,7 @@ loop-seat-preserved g c =
           (λ j k ne w. let t = inv.stacks j k w in ((λ less. t.0 (omega arith)), λ more. t.1 (omega arith)));
       count = ap length c.push_reserved.ensures.items ∙ (let l = length-append c.loop-seat.column.items (share ∷ []) in omega arith);
       tops = subst (EachAt G) (sym c.push_reserved.ensures.items)
-          (each_at_snoc G c.loop-seat.column.items share inv.tops (subst (λ (n : ℕ). IsShareAt P deal d n share) named (stack_top P deal d old new share whole popped)));
+          (EachAt-push G c.loop-seat.column.items share inv.tops (subst (λ (n : ℕ). IsShareAt P deal d n share) named (stack_top P deal d old new share whole popped)));
       taken = λ h.
           let before = inv.taken h in
           let less = all_taken_less h stacks s e new share within popped in

@@ -1,8 +1,8 @@
 use Rattle.std.proofs.Common.{◌≡◌, ◌++◌, List, [], ◌∷◌, length, refl, ap, sym, ◌∙◌, subst, length-append, append-nil, append_assoc, arith}
 use Rattle.std.proofs.lemmas.List.Elements.{All-nil}
+use Rattle.std.proofs.lemmas.List.{nil_from_length}
 use Rattle.std.specs.Vec.Iter.{into_iter_items}
 use Rattle.steal_workers.specs.SeatViews.{SeatView}
-use Rattle.steal_workers.proofs.GatherSteps.{nil_if}
 use Rattle.steal_workers.proofs.SeatStacks.{AreStacked, stacked_more, dealt_by}
 use Rattle.steal_workers.proofs.gathering.stacks_of.Goals as goal
 
@@ -44,7 +44,7 @@ returns g c =
     let T = g.row.T.Denot in
     let inv = c.loop-seat.invariant in
     let seats = c.args.seats.items in
-    let none : into_iter_items c.loop-seat.seat-iterator ≡ [] = nil_if (into_iter_items c.loop-seat.seat-iterator) (let e = c.in-None.ensures.steps.0 in omega (arith, c.loop-seat.seat-iterator.rest.ok.0)) in
+    let none : into_iter_items c.loop-seat.seat-iterator ≡ [] = nil_from_length (into_iter_items c.loop-seat.seat-iterator) (let e = c.in-None.ensures.steps.0 in omega (arith, c.loop-seat.seat-iterator.rest.ok.0)) in
     let whole : inv.so_far.0 ≡ seats = sym (inv.so_far.2 ∙ ap (λ (l : List (SeatView T)). inv.so_far.0 ++ l) none ∙ append-nil inv.so_far.0) in
     let stacked = subst (λ (done : List (SeatView T)). AreStacked seats done c.loop-seat.stacks.items) whole inv.so_far.3 in
     let long = ap length whole in

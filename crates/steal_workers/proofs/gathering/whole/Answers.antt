@@ -1,4 +1,6 @@
-use Rattle.std.proofs.Common.{◌≡◌, ◌+◌, ◌<◌, true, false, List, [], ◌∷◌, ◌++◌, All, length, get_or, refl, ap, sym, ◌∙◌, subst, length-append, arith}
+use Rattle.std.proofs.Common.{◌≡◌, ◌+◌, ◌<◌, true, false, List, [], ◌∷◌, ◌++◌, Some, length, get_or, refl, ap, sym, ◌∙◌, subst, length-append, arith}
+use Rattle.std.proofs.lemmas.List.{nil_from_length}
+use Rattle.std.proofs.lemmas.List.Elements.{All-pop}
 use Rattle.std.specs.declared.alloc.Global.{Global}
 use Rattle.atomic_blocks.specs.Lent.{RowsId}
 use Rattle.crossbeam_deque.specs.Handles.{IsPassOf, worker_deque, worker_view, view}
@@ -10,7 +12,6 @@ use Rattle.steal_workers.specs.Shares.{IsShare}
 use Rattle.steal_workers.specs.Gathers.{share_taken}
 use Rattle.list_weights.proofs.Weights.{weigh-append}
 use Rattle.steal_workers.proofs.Steps.{merges}
-use Rattle.steal_workers.proofs.GatherSteps.{all_split, nil_if}
 use Rattle.steal_workers.proofs.WholeSteps.{IsOwnerOut, owner_out, all_back}
 use Rattle.steal_workers.proofs.gathering.whole.Goals as goal
 
@@ -18,14 +19,14 @@ pub claim-requires : goal.claim-requires
 claim-requires g c =
     let inv = c.loop-share.invariant in
     let P : Share g.row.T.Denot → Type 0 = λ s. IsShare s × (deque_of s.handle ≡ worker_deque c.own-deque.result) × (is_own s.handle ≡ false) in
-    let last = (all_split P c.pop.new.self.items c.in-Some.share (subst (All P) c.in-Some.ensures.items inv.rest)).1 in
+    let last = (All-pop P c.loop-share.column.items c.pop.new.self.items (Some c.in-Some.share) c.in-Some.ensures.items inv.rest).1 in
     (last.0.0, last.2)
 
 pub absorb-requires-clause-table : goal.absorb-requires-clause-table
 absorb-requires-clause-table g c =
     let inv = c.loop-share.invariant in
     let P : Share g.row.T.Denot → Type 0 = λ s. IsShare s × (deque_of s.handle ≡ worker_deque c.own-deque.result) × (is_own s.handle ≡ false) in
-    let last = (all_split P c.pop.new.self.items c.in-Some.share (subst (All P) c.in-Some.ensures.items inv.rest)).1 in
+    let last = (All-pop P c.loop-share.column.items c.pop.new.self.items (Some c.in-Some.share) c.in-Some.ensures.items inv.rest).1 in
     subst (λ (d : RowsId × Global). IsPassOf d c.claim.result) (last.1 ∙ sym inv.same) c.claim.ensures.0
 
 pub absorb-requires-clause-rule : goal.absorb-requires-clause-rule
@@ -36,7 +37,7 @@ loop-share-preserved g c =
     let inv = c.loop-share.invariant in
     let P : Share g.row.T.Denot → Type 0 = λ s. IsShare s × (deque_of s.handle ≡ worker_deque c.own-deque.result) × (is_own s.handle ≡ false) in
     let popped : c.loop-share.column.items ≡ c.pop.new.self.items ++ c.in-Some.share ∷ [] = c.in-Some.ensures.items in
-    let split = all_split P c.pop.new.self.items c.in-Some.share (subst (All P) popped inv.rest) in
+    let split = All-pop P c.loop-share.column.items c.pop.new.self.items (Some c.in-Some.share) popped inv.rest in
     let rule = c.absorb.ensures.rule in
     let claimed = c.claim.ensures.1 in
     let long = ap length popped in
@@ -91,7 +92,7 @@ returns-clause-back g c =
     let within : c.owner_in-place.result < length xs = (let w = c.owner_in-place.ensures.within in let l = ap length read in omega arith) in
     let own : is_own x.handle ≡ true = ap (λ (s : Share T). is_own s.handle) c.swap_remove.ensures.value ∙ subst (λ (l : List (Share T)). is_own (get_or l c.owner_in-place.result x).handle ≡ true) read (c.owner_in-place.ensures.owner x) in
     let out : IsOwnerOut xs c.swap_remove.new.self.items x = owner_out xs c.swap_remove.new.self.items x c.owner_in-place.result c.requires.shares c.requires.owner within c.swap_remove.ensures.value own c.swap_remove.ensures.items in
-    let none : c.loop-share.column.items ≡ [] = nil_if c.loop-share.column.items (let e = c.in_default.ensures.cases.0 in omega (arith, c.loop-share.column.ok.0)) in
+    let none : c.loop-share.column.items ≡ [] = nil_from_length c.loop-share.column.items (let e = c.in_default.ensures.cases.0 in omega (arith, c.loop-share.column.ok.0)) in
     let empty : length c.loop-share.column.items ≡ 0 = ap length none in
     all_back xs c.swap_remove.new.self.items x (worker_view c.own-deque.result) (worker_view c.loop-share.deque) out c.own-deque.ensures.view.0 inv.deals inv.dealt
     (let s = inv.share in omega arith)
