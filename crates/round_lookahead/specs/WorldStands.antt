@@ -3,6 +3,7 @@ use Rattle.std.specs.Prelude.{◌≡◌, ℕ, ◌<◌, ◌≤◌, length, flat_m
 use Rattle.sim_base.specs.Units.{latest_time}
 use Rattle.sim_base.specs.declared.event.Event.{Event}
 use Rattle.sim_base.specs.declared.time.Time.{Time}
+use Rattle.host_inbox.specs.Sizes.{most_inboxes}
 use Rattle.host_state.specs.declared.line.Line.{Line}
 use Rattle.host_state.specs.declared.net.Net.{Net}
 use Rattle.host_state.specs.Fits.{model, IsEventOf, IsHostOf, IsLookaheadOf, IsShort}
@@ -35,7 +36,7 @@ IsAhead (Some lookahead) = 0 < lookahead
 pub record HasRounds (net : Net) (lookahead : Option ℕ) : Type 0 where
   pub stop : net.stop.nanos ≤ latest_time
   pub some : 0 < length net.known.book
-  pub few : length net.known.book ≤ 65536
+  pub few : length net.known.book ≤ most_inboxes
   pub routes : IsLookaheadOf net lookahead
   pub short : IsShort lookahead
   pub ahead : IsAhead lookahead

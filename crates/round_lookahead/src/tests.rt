@@ -3,6 +3,7 @@
 
 ghost use Rattle.std.specs.Prelude.{◌≡◌, ◌≤◌, ◌<◌, Some, OnOk, IfOk, length};
 ghost use Rattle.std.specs.Bool.{OnTrue};
+ghost use Rattle.sim_base.specs.Limits.{most_workers};
 ghost use Rattle.net_routes.specs.Least.{IsLookahead};
 ghost use Rattle.net_routes.specs.Routes.{HasRoutes};
 ghost use Rattle.round_lookahead.specs.OpeningWorld.{AreHostRows};
@@ -203,7 +204,7 @@ fn round<R: Threads + Sync, G: Gate + Sync>(
     gate: &G,
 ) -> Result<Pieces, Fail>
     requires stands { (w : HostWorld) × WorldStands world.old w }
-    requires workers { (0 < workers) × (workers ≤ 64) }
+    requires workers { (0 < workers) × (workers ≤ most_workers) }
     ensures { OnOk result ((w : HostWorld) × WorldStands world.new w) }
 {
     if world.finished() {

@@ -1,6 +1,7 @@
 //! Workers side by side.
 ghost use Rattle.std.specs.Prelude.{◌≡◌, ◌≤◌, ◌<◌, All, length};
 ghost use Rattle.sim_base.specs.Units.{latest_time};
+ghost use Rattle.host_inbox.specs.Sizes.{most_inboxes};
 ghost use Rattle.round_lookahead.specs.Benches.{IsReady, HasWorked, HaveWorked};
 
 use crate::workers::bench::Bench;
@@ -24,7 +25,7 @@ fn work_at<G: Gate>(
     requires stop { net.now.stop.nanos ≤ latest_time }
     requires until { end.nanos ≤ net.now.stop.nanos }
     requires hosts { boards.now.hosts ≡ length net.now.known.book }
-    requires few { length net.now.known.book ≤ 65536 }
+    requires few { length net.now.known.book ≤ most_inboxes }
     requires ready { IsReady net.now boards.now bench.old }
     ensures { HasWorked net.now end.nanos bench.old bench.new }
 {
@@ -55,7 +56,7 @@ pub(crate) fn fork<R: Threads + Sync, G: Gate + Sync>(
     requires stop { net.now.stop.nanos ≤ latest_time }
     requires until { end.nanos ≤ net.now.stop.nanos }
     requires hosts { boards.now.hosts ≡ length net.now.known.book }
-    requires few { length net.now.known.book ≤ 65536 }
+    requires few { length net.now.known.book ≤ most_inboxes }
     requires threads { 0 < threads }
     requires ready { All (IsReady net.now boards.now) benches.old }
     ensures { HaveWorked net.now end.nanos benches.old benches.new }

@@ -2,6 +2,7 @@
 ghost use Rattle.std.specs.Prelude.{◌≡◌, ◌≤◌, ◌<◌, ℕ, All, IfOk, length, vec_len};
 ghost use Rattle.sim_base.specs.Limits.{most_workers};
 ghost use Rattle.sim_base.specs.Units.{latest_time};
+ghost use Rattle.host_inbox.specs.Sizes.{most_inboxes};
 ghost use Rattle.host_state.specs.HostRecord.{HostRecord};
 ghost use Rattle.round_lookahead.specs.Benches.{AreBenches, AreParts, HaveWorked, IsReady};
 ghost use Rattle.round_lookahead.specs.Rounds.{IsRound};
@@ -72,7 +73,7 @@ fn fork_all<R: Threads + Sync, G: Gate + Sync>(
     requires stop { net.now.stop.nanos ≤ latest_time }
     requires until { end.nanos ≤ net.now.stop.nanos }
     requires hosts { boards.now.hosts ≡ length net.now.known.book }
-    requires few { length net.now.known.book ≤ 65536 }
+    requires few { length net.now.known.book ≤ most_inboxes }
     requires threads { 0 < threads }
     requires ready { All (IsReady net.now boards.now) benches.old.items }
     ensures { HaveWorked net.now end.nanos benches.old.items benches.new.items }
@@ -132,7 +133,7 @@ pub(crate) fn run_beside<R: Threads + Sync, G: Gate + Sync>(
     requires until { end.nanos ≤ net.now.stop.nanos }
     requires workers { (0 < workers) × (workers ≤ most_workers) }
     requires threads { 0 < threads }
-    requires few { (0 < length tasks.items) × (length tasks.items ≤ 65536) }
+    requires few { (0 < length tasks.items) × (length tasks.items ≤ most_inboxes) }
     requires tasks { AreTasksOf net.now tasks.items }
     ensures works { IfOk result (λ left. length left.works.items ≡ workers) }
     ensures rows { IfOk result (λ left. length left.rows.items ≡ length tasks.items) }

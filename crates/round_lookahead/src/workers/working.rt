@@ -1,6 +1,8 @@
 //! A worker's whole round.
-ghost use Rattle.std.specs.Prelude.{◌≡◌, ◌≤◌, ◌<◌, ◌+◌, ◌++◌, ◌∷◌, [], ℕ, List, IfOk, OnOk, MatchBool, Some, length, slice_get};
+ghost use Rattle.std.specs.Prelude.{◌≡◌, ◌≤◌, ◌<◌, ◌+◌, ◌*◌, ◌++◌, ◌∷◌, [], ℕ, List, IfOk, OnOk, MatchBool, Some, length, slice_get};
+ghost use Rattle.sim_base.specs.Limits.{most_workers};
 ghost use Rattle.sim_base.specs.Units.{latest_time};
+ghost use Rattle.host_inbox.specs.Sizes.{most_inboxes};
 ghost use Rattle.steal_workers.specs.SeatViews.{IsSameSeat, HasMark};
 ghost use Rattle.host_state.specs.HostRecord.{HostRecord};
 ghost use Rattle.round_lookahead.specs.declared.workers.task.Task.{Task};
@@ -87,13 +89,13 @@ fn turn<G: Gate>(
     requires hosts { boards.now.hosts ≡ length net.now.known.book }
     requires boards { carrier.old.boards ≡ boards.now.id }
     requires puts { length carrier.old.entries ≡ shift.old.puts }
-    requires lost { shift.old.lost < 69632 }
+    requires lost { shift.old.lost < most_inboxes + most_workers * most_workers }
     ensures same { IsSameSeat seat.old seat.new }
     ensures boards { carrier.new.boards ≡ carrier.old.boards }
     ensures puts { OnOk result (length carrier.new.entries ≡ shift.new.puts) }
     ensures below { OnOk result (length seat.new.numbers ≤ length seat.new.deal.tasks) }
     ensures more { IfOk result (λ more. MatchBool more
-        ((shift.new.lost < 69632) × (length seat.new.numbers + shift.new.lost ≡ length seat.old.numbers + shift.old.lost + 1))
+        ((shift.new.lost < most_inboxes + most_workers * most_workers) × (length seat.new.numbers + shift.new.lost ≡ length seat.old.numbers + shift.old.lost + 1))
         (HasMark seat.new seat.new.place)) }
     ensures worked { OnOk result ((rec : ℕ → HostRecord) (start : List ℕ) → AreTasks net.now seat.old.deal.tasks rec
         → IsWork net.now end.nanos worker seat.old.deal.tasks rec start seat.old.numbers carrier.old.entries shift.old.worked
@@ -130,7 +132,7 @@ pub fn work<G: Gate>(
     requires stop { net.now.stop.nanos ≤ latest_time }
     requires until { end.nanos ≤ net.now.stop.nanos }
     requires tasks { AreTasksOf net.now seat.old.deal.tasks }
-    requires few { length seat.old.deal.tasks ≤ 65536 }
+    requires few { length seat.old.deal.tasks ≤ most_inboxes }
     requires hosts { boards.now.hosts ≡ length net.now.known.book }
     requires carrier { (carrier.old.boards ≡ boards.now.id) × (carrier.old.entries ≡ []) }
     ensures same { IsSameSeat seat.old seat.new }

@@ -1,6 +1,7 @@
 //! A round in which each host is run in its place, whole.
 ghost use Rattle.std.specs.Prelude.{◌≡◌, ◌-◌, ◌≤◌, ◌<◌, ◌∷◌, [], IfOk, length, replicate};
 ghost use Rattle.sim_base.specs.Units.{latest_time};
+ghost use Rattle.host_inbox.specs.Sizes.{most_inboxes};
 ghost use Rattle.round_lookahead.specs.Backs.{lists_of};
 ghost use Rattle.round_lookahead.specs.RoundsInPlace.{IsRoundInPlace};
 ghost use Rattle.round_lookahead.specs.Tasks.{AreTasksOf};
@@ -41,7 +42,7 @@ pub(crate) fn round_in_place<G: Gate>(
     requires stop { net.now.stop.nanos ≤ latest_time }
     requires until { end.nanos ≤ net.now.stop.nanos }
     requires workers { 0 < workers }
-    requires few { length tasks.old.items ≤ 65536 }
+    requires few { length tasks.old.items ≤ most_inboxes }
     requires tasks { AreTasksOf net.now tasks.old.items }
     ensures { IfOk result (λ gained. IsRoundInPlace net.now end.nanos workers tasks.old.items tasks.new gained) }
 {

@@ -1,9 +1,9 @@
 use Rattle.std.proofs.Common.{◌≡◌, ◌++◌, ◌∷◌, [], List, All, None, map, length, sym, ap, subst, ◌∙◌, arith, append_assoc, append-nil}
 use Rattle.std.specs.Option.{IfSome}
+use Rattle.std.proofs.lemmas.List.{nil_from_length}
 use Rattle.std.proofs.lemmas.List.Elements.{All-pop, All-push}
 use Rattle.std.specs.Vec.Iter.{into_iter_items}
 use Rattle.steal_workers.specs.SeatViews.{SeatView}
-use Rattle.steal_workers.proofs.GatherSteps.{nil_if}
 use Rattle.list_weights.specs.Places.{EachAt}
 use Rattle.round_lookahead.specs.declared.workers.bench.Bench.{Bench}
 use Rattle.round_lookahead.specs.declared.workers.task.Task.{Task}
@@ -38,7 +38,7 @@ loop-seat-preserved c =
 pub returns : goal.returns
 returns c =
     let inv = c.loop-seat.invariant in
-    let none : into_iter_items c.loop-seat.seat-iterator ≡ [] = nil_if (into_iter_items c.loop-seat.seat-iterator) (let e = c.in-None.ensures.steps.0 in omega (arith, c.loop-seat.seat-iterator.rest.ok.0)) in
+    let none : into_iter_items c.loop-seat.seat-iterator ≡ [] = nil_from_length (into_iter_items c.loop-seat.seat-iterator) (let e = c.in-None.ensures.steps.0 in omega (arith, c.loop-seat.seat-iterator.rest.ok.0)) in
     record {
       seats_are = sym (append-nil (map (λ (b : Bench). b.seat) c.loop-seat.benches.items)) ∙ ap (λ (l : List (SeatView Task)). map (λ (b : Bench). b.seat) c.loop-seat.benches.items ++ l) (sym none) ∙ inv.seats;
       carriers_are = λ id all. (inv.carriers id all).1;
