@@ -3,7 +3,7 @@ use Rattle.std.proofs.Common.{◌≡◌, ◌⊎◌, inl, inr, ⊎_elim, ℕ, zer
 use Rattle.std.specs.List.{flat_map, slice_get}
 use mathlib.Core.Logic.{dite}
 use native.Mathlib.Decide.{dec_le}
-use Rattle.std.proofs.lemmas.Bool.Decides.{nat_tests}
+use Rattle.std.proofs.lemmas.Bool.{le-leb}
 use Rattle.std.proofs.lemmas.List.Elements.{All-head, All-tail}
 use Rattle.std.proofs.lemmas.Option.{get_or_from_slice_get, slice_get_within}
 use Rattle.std.specs.declared.alloc.Global.{Global}
@@ -41,14 +41,11 @@ carried_by p [] i = absurd i
 carried_by p (x ∷ es) (inl is) = (x, inl refl, is)
 carried_by p (x ∷ es) (inr i) = let c = carried_by p es i in (c.0, inr c.1, c.2)
 
-le_true : (a b : ℕ) → a ≤ b → nat_le a b ≡ true
-le_true a b h = grind (arith, nat_tests)
-
 back_or_placed : (p : Parcel) (es : List (Entry Boxed)) (e : Entry Boxed) → IsIn e es → p ≡ e.parcel.value → IsIn p (carried (given_back es)) ⊎ HasPlace p es
 back_or_placed p es e i is =
     dite (dec_le 16 e.number)
     (λ past. inl (subst (λ (q : Parcel). IsIn q (carried (given_back es))) (sym is)
-    (put_in e (given_back es) (IsIn-filter (λ (x : Entry Boxed). nat_le 16 x.number) e es i (le_true 16 e.number past)))))
+    (put_in e (given_back es) (IsIn-filter (λ (x : Entry Boxed). nat_le 16 x.number) e es i (le-leb 16 e.number past)))))
     (λ not. inr (record { entry = e; there = i; carries = is; small = lt_of_not-le not }))
 
 given_from : (p : Parcel) (es : List (Entry Boxed)) → IsIn p (carried (given_back es)) → IsIn p (carried es)

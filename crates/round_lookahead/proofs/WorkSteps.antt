@@ -1,9 +1,10 @@
 -- One job more.
-use Rattle.std.proofs.Common.{◌≡◌, ℕ, suc, zero, ◌≤◌, List, [], ◌∷◌, ◌++◌, length, refl, sym, ap, ◌∙◌, arith, append_assoc, append-nil, length-append}
+use Rattle.std.proofs.Common.{◌≡◌, ℕ, ◌≤◌, List, [], ◌∷◌, ◌++◌, length, refl, sym, ap, ◌∙◌, arith, append_assoc, append-nil}
 use Rattle.sim_base.specs.declared.event.Parcel.{Parcel}
 use Rattle.host_state.specs.declared.net.Net.{Net}
 use Rattle.host_state.specs.HostRecord.{HostRecord}
 use Rattle.list_weights.specs.Weights.{weigh, numbers_below}
+use Rattle.list_weights.proofs.Weights.{weigh-ones, length-numbers_below}
 use Rattle.round_lookahead.specs.declared.workers.task.Task.{Task}
 use Rattle.round_lookahead.specs.declared.workers.worked.Done.{Done}
 use Rattle.round_lookahead.specs.Works.{HostJob, IsDone, AreDone, numbers, parcels_by, parcels_made}
@@ -34,13 +35,5 @@ gained-more start old new jobs job n is more gained =
 
 -- ---- as many numbers as tasks
 
-weigh-ones : (ns : List ℕ) → weigh (λ _. 1) ns ≡ length ns
-weigh-ones [] = refl
-weigh-ones (n ∷ ns) = omega (arith, weigh-ones ns)
-
-length-below : (n : ℕ) → length (numbers_below n) ≡ n
-length-below zero = refl
-length-below (suc n) = omega (arith, length-below n, length-append (numbers_below n) (n ∷ []))
-
 pub no_more : (ns : List ℕ) (count : ℕ) → weigh (λ _. 1) ns ≤ weigh (λ _. 1) (numbers_below count) → length ns ≤ count
-no_more ns count less = omega (arith, weigh-ones ns, weigh-ones (numbers_below count), length-below count)
+no_more ns count less = omega (arith, weigh-ones ns, weigh-ones (numbers_below count), length-numbers_below count)

@@ -3,7 +3,7 @@
 
 ghost use Rattle.std.specs.Prelude.{◌≡◌, ◌≤◌, ◌<◌, Some, OnOk, IfOk, length};
 ghost use Rattle.std.specs.Bool.{OnTrue};
-ghost use Rattle.sim_base.specs.Limits.{most_workers};
+ghost use Rattle.sim_base.specs.Limits.{most_workers, most_processes};
 ghost use Rattle.net_routes.specs.Least.{IsLookahead};
 ghost use Rattle.net_routes.specs.Routes.{HasRoutes};
 ghost use Rattle.round_lookahead.specs.OpeningWorld.{AreHostRows};
@@ -129,7 +129,7 @@ fn row(alloc: Global, index: u32, start: u64) -> Result<Row, Fail> {
 
 /// Whether this is the row of the host of that number, with few processes.
 fn is_row(row: &Row, number: usize) -> bool
-    ensures { OnTrue result ((row.now.host.index ≡ number) × (length row.now.processes.items ≤ 64)) }
+    ensures { OnTrue result ((row.now.host.index ≡ number) × (length row.now.processes.items ≤ most_processes)) }
 {
     row.host.index as usize == number && row.processes.len() <= 64
 }
