@@ -16,7 +16,8 @@ use Rattle.host_state.specs.declared.row.Row.{Row}
 use Rattle.host_state.specs.Home.{home}
 use Rattle.host_state.specs.HostRecord.{HostRecord}
 use Rattle.host_state.specs.Sending.{route_from}
-use Rattle.host_state.specs.Fire.{fire, most_processes}
+use Rattle.sim_base.specs.Limits.{most_processes}
+use Rattle.host_state.specs.Fire.{fire}
 use Rattle.world_order.specs.Model.{Model, Fired}
 use Rattle.world_order.specs.Premises.{AreNumbered, IsFit}
 
