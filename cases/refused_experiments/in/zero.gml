@@ -1,0 +1,6 @@
+graph [
+node [ id 0 ]
+node [ id 1 ]
+edge [ source 0 target 1
+latency "0 ms" ]
+]
