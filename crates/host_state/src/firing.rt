@@ -20,6 +20,9 @@ use std::alloc::Global;
 /// How many calls are answered in a slice.
 const CALLS: u32 = 100;
 
+/// What an event counts for, beside the calls that it leads to, as a number of instructions.
+const EVENT_WORK: u64 = 100;
+
 /// How many processes a host may have.
 const MOST_PROCESSES: usize = 64;
 
@@ -262,6 +265,7 @@ impl Body {
         ensures { IfOk result (λ made. (h : HostRecord) → BodyStands self.old h → h.link.time.nanos ≤ event.key.due.nanos → HandsOut (spec.fire net.now h event) (spec.wrote net.now h event) made self.new) }
     {
         self.act_at(net, event)?;
+        self.work = self.work.saturating_add(EVENT_WORK);
         Ok(self.hand_out())
     }
 }

@@ -19,13 +19,15 @@ use host_calls::Parts;
 use sim_base::{Draws, Event, NoMemory, State, Time, What};
 use std::alloc::Global;
 
-/// A host without the events that it holds.
+/// A host without the events that it holds. Its work is about what it had to do so far, as a number of instructions: no clause
+/// speaks of it.
 #[derive(Drop)]
 pub(crate) struct Body {
     pub(crate) row: Row,
     pub(crate) link: Link,
     pub(crate) processes: Vec<Process>,
     pub(crate) parts: Parts,
+    pub(crate) work: u64,
 }
 
 /// A host, with the events that it holds.
@@ -113,6 +115,7 @@ impl Host {
             link,
             processes,
             parts,
+            work: 0,
         };
         Ok(Host { body, queue })
     }
@@ -159,6 +162,12 @@ impl Host {
         ensures least { IsLeastDue self.now.queue result }
     {
         self.queue.least_due()
+    }
+
+    /// About what the host had to do so far, as a number of instructions of guests. No clause speaks of it: it is for estimates
+    /// of what is to come.
+    pub fn work(&self) -> u64 {
+        self.body.work
     }
 
     /// The row that it was made of.

@@ -16,8 +16,6 @@ mod running;
 mod sending;
 mod slice;
 mod start;
-#[cfg(test)]
-mod tests;
 
 pub use files::growing::round_pieces;
 pub use files::listed::{HostListing, Listing, ProcessListing};

@@ -6,9 +6,6 @@ ghost use Rattle.sim_base.specs.Packet.{packet_size};
 ghost use Rattle.host_state.specs.Lanes.{pushes_up, pushes_down, releases_up, releases_down, Releases};
 ghost use Rattle.host_state.specs.Link.{kind_of, new_link, numbers, makes, later, logs, comes_to, without_made};
 
-#[cfg(test)]
-mod tests;
-
 use crate::line::Line;
 use crate::row::Row;
 use net_iface::{Lane, Pushed, QueueRule, Released};

@@ -12,7 +12,7 @@ use sim_base::{Event, Ip, Time, What};
 
 /// What is lent to all hosts: the routes between nodes, the hosts' addresses and nodes, the times of
 /// the experiment, the budget of instructions between two calls, and the images of programs.
-#[derive(Debug, Drop)]
+#[derive(Drop)]
 pub struct Net {
     pub routes: Routes,
     pub known: Known,

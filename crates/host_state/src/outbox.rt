@@ -12,7 +12,7 @@ use std::alloc::Global;
 
 /// What firings hand out: the events that they made for their host, those for other hosts, the
 /// lines of the log, and what processes wrote, each in order.
-#[derive(Debug, Drop)]
+#[derive(Drop)]
 pub struct Outbox {
     pub own: Vec<Event>,
     pub parcels: Vec<Parcel>,

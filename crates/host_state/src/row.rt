@@ -4,7 +4,7 @@ use net_iface::QueueRule;
 use sim_base::{Bytes, HostId, Ip, Name, Signal, Time};
 
 /// The state in which a process is expected to be at the stop.
-#[derive(Clone, Copy, Debug, PartialEq, Eq)]
+#[derive(Clone, Copy, PartialEq, Eq)]
 pub enum FinalState {
     /// It ended by an exit with this status.
     Exited(u8),
@@ -15,7 +15,7 @@ pub enum FinalState {
 }
 
 /// A process of a host.
-#[derive(Debug, Drop)]
+#[derive(Drop)]
 pub struct ProcessRow {
     /// Its program's file.
     pub path: Name,
@@ -34,7 +34,7 @@ pub struct ProcessRow {
 }
 
 /// A host.
-#[derive(Debug, Drop)]
+#[derive(Drop)]
 pub struct Row {
     pub host: HostId,
     pub name: Name,

@@ -26,6 +26,9 @@ const CALLS: u32 = 100;
 /// How many nanoseconds a process pauses after them.
 const PAUSE: u64 = 100_000;
 
+/// What a call counts for, beside the instructions that ran before it, as a number of instructions.
+const CALL_WORK: u64 = 30;
+
 /// How a process goes on after a call. Its registers stay where they stand.
 #[derive(Clone, Copy)]
 pub enum Next {
@@ -34,29 +37,37 @@ pub enum Next {
     Ends(State),
 }
 
-fn turn_counted<L: Ledger>(cpu: &mut Cpu, task: &mut Task, budget: u64, blank: Blank) -> TurnEnd
+fn turn_counted<L: Ledger>(
+    cpu: &mut Cpu,
+    task: &mut Task,
+    budget: u64,
+    work: &mut u64,
+    blank: Blank,
+) -> TurnEnd
     requires name { blank.name ≡ L.name }
     requires parts { blank.parts ≡ L.parts }
     requires some { 0 < L.parts }
     ensures { TurnStands (turn budget (state cpu.old task.old.memory)) cpu.new task.old task.new result }
 {
     let mut steps = Steps::<L>::new(blank);
-    rv32_machine::turn(cpu, &mut task.memory, budget, &mut steps)
+    let end = rv32_machine::turn(cpu, &mut task.memory, budget, &mut steps);
+    *work = work.saturating_add(steps.told()).saturating_add(CALL_WORK);
+    end
 }
 
-/// Runs a process up to its next call, to a trap, or as long as its budget lasts.
-fn turn_task(cpu: &mut Cpu, task: &mut Task, budget: u64) -> TurnEnd
+/// Runs a process up to its next call, to a trap, or as long as its budget lasts, and adds that to the work.
+fn turn_task(cpu: &mut Cpu, task: &mut Task, budget: u64, work: &mut u64) -> TurnEnd
     ensures { TurnStands (turn budget (state cpu.old task.old.memory)) cpu.new task.old task.new result }
 {
-    turn_counted::<Brand>(cpu, task, budget, Blank::new(1))
+    turn_counted::<Brand>(cpu, task, budget, work, Blank::new(1))
 }
 
 /// The same, where the process is there.
-fn turn_slot(cpu: &mut Cpu, slot: &mut Option<Task>, budget: u64) -> Option<TurnEnd>
+fn turn_slot(cpu: &mut Cpu, slot: &mut Option<Task>, budget: u64, work: &mut u64) -> Option<TurnEnd>
     ensures { SlotTurns budget cpu.old slot.old cpu.new slot.new result }
 {
     match slot {
-        Some(task) => Some(turn_task(cpu, task, budget)),
+        Some(task) => Some(turn_task(cpu, task, budget, work)),
         None => None,
     }
 }
@@ -165,7 +176,12 @@ impl Body {
         if !self.has_task(process) {
             return Ok(Next::Blocks);
         }
-        let turned = turn_slot(cpu, &mut self.parts.tasks[process as usize], net.budget);
+        let turned = turn_slot(
+            cpu,
+            &mut self.parts.tasks[process as usize],
+            net.budget,
+            &mut self.work,
+        );
         match turned {
             Some(end) => {
                 let next = self.end_turn(net, process, end, cpu)?;

@@ -35,6 +35,7 @@ use Rattle.round_lookahead.specs.declared.workers.worked.Done.{Done}
 use Rattle.round_lookahead.specs.declared.workers.worked.Worked.{Worked}
 use Rattle.round_lookahead.specs.declared.world.counts.Counts.{Counts}
 use Rattle.round_lookahead.specs.declared.world.gained.Gained.{Gained}
+use Rattle.round_lookahead.specs.declared.world.load.Load.{Load}
 use Rattle.round_lookahead.specs.declared.world.settling.Settled.{Settled}
 use Rattle.round_lookahead.specs.declared.world.world_state.World.{World}
 use Rattle.round_lookahead.specs.Arrivals.{Boxed, arrivals}
@@ -107,7 +108,7 @@ module _ (c : World) (w : HostWorld) (stands : WorldStands c w) (least : Time) (
     (works : List Worked) (rows : List (Vec Boxed Global)) (many : length works ≡ workers)
     (round : IsRound c.net (window_end (nanos_of c.lookahead) c.net.stop.nanos least.nanos) c.tasks.items (rec c w stands) works rows)
     (s : Settled) (so : HasSettled (length c.tasks.items) works rows s)
-    (n : Counts) (counted : (log : List Line) → c.counts ≡ counts_of log → n ≡ counts_of (log ++ kept_lines s.gained.lines.items)) where
+    (n : Counts) (counted : (log : List Line) → c.counts ≡ counts_of log → n ≡ counts_of (log ++ kept_lines s.gained.lines.items)) (load : Load) where
   abbrev next : HostWorld
   next = rounds.next c w stands least due workers works rows many round
 
@@ -124,7 +125,7 @@ module _ (c : World) (w : HostWorld) (stands : WorldStands c w) (least : Time) (
   ts = s.tasks.items
 
   abbrev new : World
-  new = record c { tasks = s.tasks; counts = n }
+  new = record c { tasks = s.tasks; counts = n; load = load }
 
   are-run : AreRun c.net end c.tasks.items (rec c w stands) jobs ds
   are-run = rounds.are-run c w stands least due workers works rows many round
@@ -298,16 +299,16 @@ module _ (c : World) (w : HostWorld) (stands : WorldStands c w) (least : Time) (
   settles = subst (λ (n : ℕ). CanSettle n works rows) (sym count_is) (rounds.can-settle c w stands least due workers works rows many the-round)
 
   pub goes-on : (s : Settled) → HasSettled count works rows s → (n : Counts) → ((log : List Line) → c.counts ≡ counts_of log → n ≡ counts_of (log ++ kept_lines s.gained.lines.items))
-      → (v : HostWorld) × HasGained c (record c { tasks = s.tasks; counts = n }) workers w v s.gained
-  goes-on s so n counted = (
+      → (load : Load) → (v : HostWorld) × HasGained c (record c { tasks = s.tasks; counts = n; load = load }) workers w v s.gained
+  goes-on s so n counted load = (
     rounds.next c w stands least due workers works rows many the-round,
-    has-round c w stands least due workers works rows many the-round s (subst (λ (k : ℕ). HasSettled k works rows s) count_is so) n counted,
+    has-round c w stands least due workers works rows many the-round s (subst (λ (k : ℕ). HasSettled k works rows s) count_is so) n counted load,
   )
 
 -- a round in which each host is run in its place
 pub goes-on-here : (c : World) (w : HostWorld) → WorldStands c w → (least : Time) → IsLeastDue (flat_map waiting c.tasks.items) (Some least) → (workers : ℕ) (new : Vec Task Global)
     (until : ℕ) → until ≡ window_end (nanos_of c.lookahead) c.net.stop.nanos least.nanos → (p : Gained) → IsRoundInPlace c.net until workers c.tasks.items new p
     → (n : Counts) → ((log : List Line) → c.counts ≡ counts_of log → n ≡ counts_of (log ++ kept_lines p.lines.items))
-    → (v : HostWorld) × HasGained c (record c { tasks = new; counts = n }) workers w v p
-goes-on-here c w stands least due workers new until until_is p h n counted =
-    goes-on c w stands least due workers h.works h.rows h.many c.tasks refl until until_is h.round (length c.tasks.items) refl (record { tasks = new; gained = p }) h.settled n counted
+    → (load : Load) → (v : HostWorld) × HasGained c (record c { tasks = new; counts = n; load = load }) workers w v p
+goes-on-here c w stands least due workers new until until_is p h n counted load =
+    goes-on c w stands least due workers h.works h.rows h.many c.tasks refl until until_is h.round (length c.tasks.items) refl (record { tasks = new; gained = p }) h.settled n counted load

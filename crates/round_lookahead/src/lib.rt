@@ -1,8 +1,6 @@
 //! Rounds: all hosts are run up to the end of a window, by workers side by side.
 #![tactic(auto)]
 
-#[cfg(test)]
-mod tests;
 mod workers;
 mod world;
 

@@ -6,6 +6,7 @@ pub(crate) mod delivery;
 pub(crate) mod due;
 pub(crate) mod gained;
 pub(crate) mod in_place;
+pub(crate) mod load;
 pub(crate) mod merging;
 pub(crate) mod opening;
 pub(crate) mod pieces;

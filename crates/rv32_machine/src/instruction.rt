@@ -1,7 +1,7 @@
 //! The instructions by the manual's names. Their operands stay in the word.
 
 /// An instruction of RV32I, of the extensions M and A or of Zifencei, without its operands.
-#[derive(Clone, Copy, Debug, PartialEq, Eq)]
+#[derive(Clone, Copy, PartialEq, Eq)]
 pub enum Insn {
     Lui,
     Auipc,
@@ -24,7 +24,7 @@ pub enum Insn {
 }
 
 /// The conditional branches, opcode BRANCH.
-#[derive(Clone, Copy, Debug, PartialEq, Eq)]
+#[derive(Clone, Copy, PartialEq, Eq)]
 pub enum Branch {
     Beq,
     Bne,
@@ -35,7 +35,7 @@ pub enum Branch {
 }
 
 /// The loads, opcode LOAD.
-#[derive(Clone, Copy, Debug, PartialEq, Eq)]
+#[derive(Clone, Copy, PartialEq, Eq)]
 pub enum Load {
     Lb,
     Lh,
@@ -45,7 +45,7 @@ pub enum Load {
 }
 
 /// The stores, opcode STORE.
-#[derive(Clone, Copy, Debug, PartialEq, Eq)]
+#[derive(Clone, Copy, PartialEq, Eq)]
 pub enum Store {
     Sb,
     Sh,
@@ -53,7 +53,7 @@ pub enum Store {
 }
 
 /// The atomic memory operations, opcode AMO with the width of a word.
-#[derive(Clone, Copy, Debug, PartialEq, Eq)]
+#[derive(Clone, Copy, PartialEq, Eq)]
 pub enum Amo {
     AmoSwap,
     AmoAdd,
@@ -67,7 +67,7 @@ pub enum Amo {
 }
 
 /// What the opcodes OP-IMM and OP compute of two words.
-#[derive(Clone, Copy, Debug, PartialEq, Eq)]
+#[derive(Clone, Copy, PartialEq, Eq)]
 pub enum Operation {
     Add,
     Sub,

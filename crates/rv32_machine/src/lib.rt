@@ -8,8 +8,6 @@
 
 mod ahead;
 mod arithmetic;
-#[cfg(test)]
-mod atomic_tests;
 mod atomics;
 mod cpu;
 mod encoding;
@@ -19,8 +17,6 @@ pub mod laws;
 mod outcome;
 mod quiet;
 mod steps;
-#[cfg(test)]
-mod tests;
 mod turns;
 mod word;
 

@@ -1,15 +1,17 @@
-//! A count of the instructions that ran, for proofs alone.
+//! A count of the instructions that ran: one for proofs, and a plain number for estimates.
 
 ghost use Rattle.std.specs.Prelude.{◌≡◌, ◌+◌, ◌<◌};
 
 use std::marker::Model;
 use std::sync::ledger::{Blank, Book, Ledger, Share};
 
-/// How many instructions ran. It takes no bytes, and only `tick` changes it.
+/// How many instructions ran: only `tick` changes what proofs know of it. Beside it stands what was told, a plain number of which
+/// no clause speaks.
 #[derive(Drop)]
 pub struct Steps<L: Ledger> {
     book: Book<L>,
     share: Share<L>,
+    told: u64,
 }
 
 impl<L: Ledger> Model for Steps<L> {
@@ -31,7 +33,11 @@ impl<L: Ledger> Steps<L> {
         ensures { result ≡ 0 }
     {
         let (book, share) = blank.open();
-        Steps { book, share }
+        Steps {
+            book,
+            share,
+            told: 0,
+        }
     }
 
     /// One more instruction runs.
@@ -39,5 +45,17 @@ impl<L: Ledger> Steps<L> {
         ensures { self.new ≡ self.old + 1 }
     {
         self.book.add(&mut self.share, 1);
+    }
+
+    /// So many instructions and one more are told.
+    pub(crate) fn tell(&mut self, ran: u64)
+        ensures { self.new ≡ self.old }
+    {
+        self.told = self.told.wrapping_add(ran).wrapping_add(1);
+    }
+
+    /// About how many instructions ran in the turns so far. No clause speaks of it: it is for estimates.
+    pub fn told(&self) -> u64 {
+        self.told
     }
 }

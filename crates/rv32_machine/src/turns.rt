@@ -26,6 +26,7 @@ pub fn turn<L: Ledger>(cpu: &mut Cpu, mem: &mut Mem, budget: u64, steps: &mut St
     let mut ran = 0;
     while ran < budget {
         let ahead = run_ahead(cpu, mem, budget - ran, steps);
+        steps.tell(ahead.ran);
         ran += ahead.ran;
         if ran == budget {
             return TurnEnd::Spent;

@@ -1,4 +1,4 @@
-//! How many threads a round is worth.
+//! How many threads could run a round.
 ghost use Rattle.std.specs.Prelude.{◌≤◌, ◌<◌};
 
 use crate::workers::task::Task;
@@ -28,19 +28,15 @@ fn busy_count(tasks: &[Task], end: Time) -> usize {
     busy
 }
 
-/// In how many threads a round of so many workers is run: no more than there are hosts with something to do, and one where fewer
-/// than an eighth of the hosts have. A thread, and a move of all hosts to workers and back, cost more than such a round.
-pub(crate) fn thread_count(tasks: &[Task], end: Time, workers: u32) -> u32
+/// How many threads could run a round of so many workers: no more than there are hosts with something to do, and one at least.
+pub(crate) fn most_threads(tasks: &[Task], end: Time, workers: u32) -> u32
     requires { 0 < workers }
     ensures { (0 < result) × (result ≤ workers) }
 {
     if workers < 2 {
         return 1;
     }
-    let busy = busy_count(tasks, end);
-    if busy < 2 || busy < tasks.len() / 8 {
-        return 1;
-    }
+    let busy = busy_count(tasks, end).max(1);
     if busy < workers as usize {
         busy as u32
     } else {

@@ -7,6 +7,7 @@ ghost use Rattle.round_lookahead.specs.WorldStands.{HasRounds, WorldStands, nano
 
 use crate::workers::task::Task;
 use crate::world::counts::Counts;
+use crate::world::load::Load;
 use crate::world::world_state::World;
 use host_state::{Host, Listing, Net, Row};
 use sim_base::{NoMemory, Time};
@@ -51,6 +52,7 @@ impl World {
         ensures stands { IfOk result (λ world. WorldStands world (opening_world rows.items)) }
         ensures ids { IfOk result (λ world. All HasIds (names_of world.listing)) }
     {
+        let load = Load::new(alloc, rows.len())?;
         let listing = Listing::new(alloc, rows.as_slice())?;
         let tasks = open_hosts(alloc, rows, &net)?;
         Ok(World {
@@ -59,6 +61,7 @@ impl World {
             listing,
             tasks,
             counts: Counts::new(),
+            load,
         })
     }
 }

@@ -6,7 +6,7 @@ ghost use Rattle.round_lookahead.specs.Gains.{HasGained, HasRound};
 ghost use Rattle.round_lookahead.specs.Tasks.{waiting};
 ghost use Rattle.round_lookahead.specs.WorldStands.{HostWorld, WorldStands};
 
-use crate::workers::busy::thread_count;
+use crate::workers::busy::most_threads;
 use crate::workers::round::{RoundLeft, run_beside};
 use crate::world::due::least_due;
 use crate::world::gained::Gained;
@@ -59,10 +59,12 @@ impl World {
         ensures turns { IfOk result (λ gained. (w : HostWorld) → WorldStands self.old w → (v : HostWorld) × HasGained self.old self.new workers w v gained) }
     {
         let window = Window::of(least, self.lookahead, self.net.stop);
-        let threads = thread_count(self.tasks.as_slice(), window.end, workers);
+        let most = most_threads(self.tasks.as_slice(), window.end, workers);
+        let threads = self.load.threads(most);
         if threads < 2 {
             let ran = round_in_place(alloc, &self.net, window.end, &mut self.tasks, workers, gate)?;
             self.counts.count_round(&ran);
+            self.load.note(self.tasks.as_slice(), workers, most);
             return Ok(ran);
         }
         let count = self.tasks.len();
@@ -73,13 +75,14 @@ impl World {
         let Settled { tasks, gained } = settle(alloc, count, works, rows)?;
         self.tasks = tasks;
         self.counts.count_round(&gained);
+        self.load.note(self.tasks.as_slice(), workers, most);
         Ok(gained)
     }
 
     /// Runs a round: all hosts are run up to the end of the window that begins with the next event,
-    /// by so many workers side by side, each of which tells the gate before it runs a host; where few
-    /// hosts have something to do, all are run by the first worker, each in its place. The
-    /// world then stands for the one after all turns that are due before that end. Fails for want of
+    /// by so many workers side by side, each of which tells the gate before it runs a host; where what
+    /// the last rounds had to do isn't worth threads, all are run by the first worker, each in its place.
+    /// The world then stands for the one after all turns that are due before that end. Fails for want of
     /// memory alone; the world isn't used after that.
     pub fn round<R: Threads + Sync, G: Gate + Sync>(
         &mut self,

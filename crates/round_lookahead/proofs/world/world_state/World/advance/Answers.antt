@@ -36,7 +36,7 @@ returns-clause-turns g c = λ w stands.
     goes-on c.args.self.now w stands c.args.least c.requires.least c.args.workers c.in_ok-works.field-0.works.items c.in_ok-works.field-0.rows.items
     c.in_ok-works.ensures.works c.replace-tasks.result c.replace-tasks.ensures.value c.of-window.result.end.nanos c.of-window.ensures.end c.in_ok-works.ensures.round
     c.len-count.result (let e = c.len-count.ensures in omega (arith, c.args.self.now.tasks.ok.0)) c.in_ok-tasks.field-0 c.in_ok-tasks.ensures
-    c.count_round-2.new.self c.count_round-2.ensures
+    c.count_round-2.new.self c.count_round-2.ensures c.note-2.new.self
 
 pub round_in_place-requires-clause-tasks : goal.round_in_place-requires-clause-tasks
 round_in_place-requires-clause-tasks g c = all-tasks c.args.self.now c.requires.stands.0 c.requires.stands.1
@@ -44,4 +44,4 @@ round_in_place-requires-clause-tasks g c = all-tasks c.args.self.now c.requires.
 pub returns-then-threads-lt2-clause-turns : goal.returns-then-threads-lt2-clause-turns
 returns-then-threads-lt2-clause-turns g c = λ w stands.
     goes-on-here c.args.self.now w stands c.args.least c.requires.least c.args.workers c.round_in_place.new.tasks c.of-window.result.end.nanos c.of-window.ensures.end
-    c.in_ok-ran.ran c.in_ok-ran.ensures c.count_round.new.self c.count_round.ensures
+    c.in_ok-ran.ran c.in_ok-ran.ensures c.count_round.new.self c.count_round.ensures c.note.new.self
