@@ -4,14 +4,4 @@ pub mod Entries
 pub mod Free
 pub mod Paths
 pub mod Random
-pub mod Waits
-pub mod PlainWaits
-pub mod SocketWaits
-pub mod SocketNevers
-pub mod KeptCall
 pub mod Reacting
-pub mod Deadlines
-pub mod DescriptorLaws
-pub mod NewDescriptors
-pub mod Ends
-pub mod KeptErrors

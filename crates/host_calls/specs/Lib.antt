@@ -13,4 +13,3 @@ pub mod Call
 pub mod Calls
 pub mod Events
 pub mod Starting
-pub mod Laws

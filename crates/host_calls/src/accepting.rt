@@ -19,7 +19,7 @@ use host_sockets::{CallError, Refusal, Sockets};
 use sim_base::Errno;
 
 /// The descriptor that an accepted connection gets, and where its peer's address goes.
-#[derive(Clone, Copy, Debug, PartialEq, Eq)]
+#[derive(Clone, Copy, PartialEq, Eq)]
 pub struct NewPlace {
     pub fd: u32,
     pub place: Option<AddressPlace>,

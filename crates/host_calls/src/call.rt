@@ -4,7 +4,7 @@ ghost use Rattle.std.specs.Prelude.{◌≡◌};
 ghost use Rattle.host_calls.specs.Call as spec;
 
 /// A system call by its name.
-#[derive(Clone, Copy, Debug, PartialEq, Eq)]
+#[derive(Clone, Copy, PartialEq, Eq)]
 pub enum Call {
     /// One that needs no sockets.
     Plain(PlainCall),
@@ -18,7 +18,7 @@ pub enum Call {
 }
 
 /// A call that needs no sockets.
-#[derive(Clone, Copy, Debug, PartialEq, Eq)]
+#[derive(Clone, Copy, PartialEq, Eq)]
 pub enum PlainCall {
     Fcntl,
     Openat,
@@ -34,7 +34,7 @@ pub enum PlainCall {
 }
 
 /// A call on sockets alone.
-#[derive(Clone, Copy, Debug, PartialEq, Eq)]
+#[derive(Clone, Copy, PartialEq, Eq)]
 pub enum NetworkCall {
     Socket,
     Bind,

@@ -142,7 +142,7 @@ pub(crate) fn openat(
 }
 
 /// The descriptors of a pipe's ends.
-#[derive(Clone, Copy, Debug, PartialEq, Eq)]
+#[derive(Clone, Copy, PartialEq, Eq)]
 pub struct Ends {
     pub reading: u32,
     pub writing: u32,

@@ -15,7 +15,6 @@ mod events;
 mod files;
 mod flags;
 mod guest;
-pub mod laws;
 mod naming;
 mod options;
 mod outputs;
@@ -26,8 +25,6 @@ mod receiving;
 mod sending;
 mod sockets;
 mod starting;
-#[cfg(test)]
-mod tests;
 mod times;
 mod waiting;
 mod writing;

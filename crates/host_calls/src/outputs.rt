@@ -9,7 +9,7 @@ use std::marker::Model;
 use std::mem;
 
 /// What processes wrote, in order. Contracts see a list.
-#[derive(Debug, Drop)]
+#[derive(Drop)]
 pub struct Outputs {
     items: Vec<Output>,
 }

@@ -8,14 +8,14 @@ use host_sockets::Outlet;
 use sim_base::{Book, Bytes, State, Time};
 
 /// What all hosts know: the book of their addresses, and the text of `/etc/hosts`.
-#[derive(Debug, Drop)]
+#[derive(Drop)]
 pub struct Known {
     pub book: Book,
     pub hosts: Bytes,
 }
 
 /// A call that waits: its number, its arguments, and its deadline where it has one.
-#[derive(Clone, Copy, Debug, PartialEq, Eq)]
+#[derive(Clone, Copy, PartialEq, Eq)]
 pub struct Why {
     pub number: u32,
     pub args: [u32; 6],
@@ -23,7 +23,7 @@ pub struct Why {
 }
 
 /// What a call answers.
-#[derive(Clone, Copy, Debug, PartialEq, Eq)]
+#[derive(Clone, Copy, PartialEq, Eq)]
 pub enum Answer {
     /// This value, or the negative of an error number.
     Value(u32),
@@ -34,7 +34,7 @@ pub enum Answer {
 }
 
 /// What a row of the table answers that isn't refused.
-#[derive(Clone, Copy, Debug, PartialEq, Eq)]
+#[derive(Clone, Copy, PartialEq, Eq)]
 pub enum Reaction {
     Value(u32),
     /// The call has acted, and waits: a connection is sought.
@@ -50,7 +50,7 @@ pub struct Task {
 }
 
 /// What a process wrote: descriptor 1 is its standard output, 2 its standard error.
-#[derive(Debug, Drop)]
+#[derive(Drop)]
 pub struct Output {
     pub process: u32,
     pub descriptor: u32,

@@ -19,7 +19,7 @@ use host_sockets::{CallError, Refusal, Reply, Sockets};
 use sim_base::{Bytes, Errno, Time};
 
 /// Where what is received goes: so many bytes to an address, and the sender's address.
-#[derive(Clone, Copy, Debug, PartialEq, Eq)]
+#[derive(Clone, Copy, PartialEq, Eq)]
 pub struct Room {
     pub at: u32,
     pub n: u32,

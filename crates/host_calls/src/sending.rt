@@ -19,7 +19,7 @@ use sim_base::{Book, Errno, Time};
 
 /// What is sent: so many bytes from an address on, and the address that is given beside them, if
 /// its pointer isn't null.
-#[derive(Clone, Copy, Debug, PartialEq, Eq)]
+#[derive(Clone, Copy, PartialEq, Eq)]
 pub struct Message {
     pub at: u32,
     pub n: u32,

@@ -12,14 +12,14 @@ use host_sockets::Refusal;
 use sim_base::{Addr, Errno};
 
 /// A socket by its number.
-#[derive(Clone, Copy, Debug, PartialEq, Eq)]
+#[derive(Clone, Copy, PartialEq, Eq)]
 pub enum SocketNumber {
     Udp(usize),
     Tcp(usize),
 }
 
 /// The socket that a descriptor names.
-#[derive(Clone, Copy, Debug, PartialEq, Eq)]
+#[derive(Clone, Copy, PartialEq, Eq)]
 pub struct OpenSocket {
     /// Whether calls that would wait answer EAGAIN.
     pub nonblocking: bool,

@@ -22,7 +22,7 @@ use host_timers::{Clock, Moment, Timer};
 use sim_base::{Errno, NoMemory, ObjectId, Time};
 
 /// How a timer is set.
-#[derive(Clone, Copy, Debug, PartialEq, Eq)]
+#[derive(Clone, Copy, PartialEq, Eq)]
 pub struct Setting {
     pub interval: Moment,
     pub value: Moment,
@@ -30,7 +30,7 @@ pub struct Setting {
 
 /// A timer before it is set: its number, its clock, the serial of its alarm, and its interval and
 /// the time that is left, as `struct itimerspec` has them.
-#[derive(Clone, Copy, Debug)]
+#[derive(Clone, Copy)]
 pub struct OldTimer {
     pub place: usize,
     pub clock: u32,

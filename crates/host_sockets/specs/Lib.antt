@@ -19,7 +19,3 @@ pub mod SocketsStand
 pub mod Ends
 pub mod StandsFor
 pub mod Indexing
-pub mod Waiting
-pub mod Histories
-pub mod Pairs
-pub mod Apart

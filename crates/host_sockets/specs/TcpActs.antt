@@ -26,14 +26,18 @@ abbrev pub object_of : ℕ → ObjectId
 object_of k = record { number = first_object + k }
 
 -- a record that is over is let go where no descriptor names its socket any more, and where it was never ESTABLISHED, so that
--- its connect failed, and its error was taken; the socket is fresh from then on
+-- its connect failed, and its error was taken
 abbrev pub is_let_go : Tcb → TcpSocket → Bool
 is_let_go r s = is_over r.control.state && (not s.held || (not r.control.was_established && is_none r.control.error))
+
+-- the socket is fresh from then on, and is still bound to what it was bound to: where it is closed, to nothing
+abbrev pub fresh_again : TcpSocket → TcpSocket
+fresh_again s = record (fresh s.held) { bound = s.bound }
 
 abbrev pub let_go : Tcb → TcpSocket → Wanted → Acted
 let_go r s w =
     if is_let_go r s
-    then record { socket = fresh s.held; wanted = w; gone = r ∷ [] }
+    then record { socket = fresh_again s; wanted = w; gone = r ∷ [] }
     else unacted s w
 
 -- the timer that an act started, if it did, is an alarm of the socket from then on

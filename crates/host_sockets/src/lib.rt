@@ -10,7 +10,6 @@ mod deliver;
 mod error;
 mod heard;
 mod index;
-pub mod laws;
 mod moving;
 mod names;
 mod outlet;
@@ -23,8 +22,6 @@ mod tables;
 mod tcp_acts;
 mod tcp_close;
 mod tcp_sock;
-#[cfg(test)]
-mod tests;
 mod turned;
 mod udp;
 mod udp_slot;

@@ -10,7 +10,7 @@ use std::marker::Model;
 use std::mem;
 
 /// What an act wants: a packet to be sent, or an alarm to be made.
-#[derive(Debug, PartialEq, Eq, Drop)]
+#[derive(PartialEq, Eq, Drop)]
 pub enum Want {
     Send(Packet),
     /// The object is to be told of this serial at the moment `due`.
@@ -23,7 +23,7 @@ pub enum Want {
 
 /// What the acts of a host share: its generator, what they want, in the order of the acts, and the
 /// last serial that an alarm was given, 0 at first.
-#[derive(Debug, Drop)]
+#[derive(Drop)]
 pub struct Outlet {
     draws: Draws,
     wants: Vec<Want>,

@@ -9,7 +9,7 @@ use sock_tcp::{Conn, Control, Listener};
 use std::alloc::Global;
 
 /// The timer of a connection that a listener keeps: the two ends, and the serial of its alarm.
-#[derive(Clone, Copy, Debug, PartialEq, Eq)]
+#[derive(Clone, Copy, PartialEq, Eq)]
 pub struct KeptTimer {
     pub own: Addr,
     pub other: Addr,

@@ -63,7 +63,7 @@ impl TcpSock {
     ghost use Rattle.sock_tcp.specs.connection.Timer.{timer_of};
     ghost use Rattle.host_sockets.specs.Wanted.{Wanted};
     ghost use Rattle.host_sockets.specs.TcpSocket.{TcpSocket, with_tcb};
-    ghost use Rattle.host_sockets.specs.TcpActs.{is_let_go, let_go, starts, turned};
+    ghost use Rattle.host_sockets.specs.TcpActs.{is_let_go, fresh_again, let_go, starts, turned};
     ghost use Rattle.host_sockets.specs.StandsFor.{SocketStands, Brings};
 
     /// The timer that an act started, if it did, is an alarm of the socket from then on.
@@ -95,6 +95,15 @@ impl TcpSock {
             && (!self.held || (!control.was_established && control.error.is_none()))
     }
 
+    /// It is fresh again, and is still bound to what it was bound to.
+    fn refresh(&mut self)
+        ensures { (s : TcpSocket) → SocketStands self.old s → SocketStands self.new (fresh_again s) }
+    {
+        let bound = self.bound;
+        *self = TcpSock::fresh(self.alloc(), self.held);
+        self.bound = bound;
+    }
+
     /// Lets a connection go that is done with.
     fn let_go(&mut self)
         ensures { (s : TcpSocket) (r : Tcb) (w : Wanted) → SocketStands self.old s → s.tcb ≡ Some r
@@ -103,7 +112,7 @@ impl TcpSock {
         if let Some(conn) = &self.conn {
             let control = conn.control();
             if self.is_done(control) {
-                *self = TcpSock::fresh(self.alloc(), self.held);
+                self.refresh();
             }
         }
     }

@@ -1,4 +1,3 @@
 pub mod Segments
 pub mod Connections
 pub mod Listeners
-pub mod Keeping

@@ -1,4 +1,3 @@
 pub mod segment
 pub mod connection
 pub mod listener
-pub mod laws

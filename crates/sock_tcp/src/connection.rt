@@ -15,8 +15,6 @@ mod readiness;
 mod resets;
 mod retransmission;
 mod segment;
-#[cfg(test)]
-mod tests;
 mod text;
 mod timer;
 

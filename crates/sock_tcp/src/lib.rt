@@ -3,11 +3,8 @@
 #![tactic(auto)]
 
 mod connection;
-pub mod laws;
 mod listener;
 mod segment;
-#[cfg(test)]
-mod tests;
 
 pub use connection::{BUFFER_SIZE, Conn, Effects, Opened, Shut};
 pub use listener::{Listener, MAX_BACKLOG};

@@ -5,8 +5,6 @@ mod control;
 mod header;
 mod number;
 mod state;
-#[cfg(test)]
-mod tests;
 mod unmatched;
 mod verdict;
 

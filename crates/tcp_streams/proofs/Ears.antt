@@ -12,7 +12,7 @@ use Rattle.sock_tcp.specs.connection.Retransmission.{sends_again_text, sends_aga
 use Rattle.sock_tcp.specs.connection.Congestion.{flight_of, tells_loss}
 use Rattle.sock_tcp.specs.connection.Arrival.{established, establishes, advanced, restarts_timer, advances, duplicate_heard, hears_duplicate, notices, unless_over, answers, waits_again, concludes}
 use Rattle.sock_tcp.specs.connection.Process.{writes, pays_ack, flows_on, flows, ends_writing, socket_closed, closes_socket, closes, error_taken, backs_off, counts_expiry, retries_once, gives_up, expires_running, expires}
-use Rattle.sock_tcp.proofs.Keeping.Tests.{by_test}
+use Rattle.tcp_laws.proofs.Tests.{by_test}
 
 pub record Ear : Type 0 where
   pub irs : ℕ

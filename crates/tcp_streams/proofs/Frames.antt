@@ -6,9 +6,9 @@ use Rattle.sim_base.specs.Addresses.{loopback, is_same_ip}
 use Rattle.sim_base.specs.declared.address.Addr.{Addr}
 use Rattle.sim_base.specs.declared.packet.Packet.{Packet}
 use Rattle.sock_tcp.specs.connection.Tcb.{Tcb}
-use Rattle.sock_tcp.specs.laws.Acts.{Start, begun_by, Act, acted}
-use Rattle.sock_tcp.specs.laws.Acts.Start.{active, passive}
-use Rattle.sock_tcp.specs.laws.Acts.Act.{arrival, write, read, flow, shut, close, expiry, error_read}
+use Rattle.tcp_laws.specs.Acts.{Start, begun_by, Act, acted}
+use Rattle.tcp_laws.specs.Acts.Start.{active, passive}
+use Rattle.tcp_laws.specs.Acts.Act.{arrival, write, read, flow, shut, close, expiry, error_read}
 use Rattle.tcp_streams.specs.Net.{Net, Comes, Flies, MayAct, Follows, Step, AreSteps, last_net}
 use Rattle.tcp_streams.specs.Net.Step.{acts, begins, goes_on}
 use Rattle.tcp_streams.specs.Frame.{everywhere, inside, IsPart, MovesOn}

@@ -3,8 +3,8 @@ use Rattle.std.proofs.Common.{◌≡◌, ℕ, suc, ◌+◌, ◌≤◌, ⊎_elim,
 use Rattle.std.proofs.lemmas.List.{length-take, length-drop, take-append-drop, drop_all}
 use Rattle.std.proofs.Math.Seq.{drop-append_seam}
 use Rattle.std.proofs.lemmas.Bool.{cases_lt}
-use Rattle.sock_tcp.specs.laws.Sending.{IsAt, stream}
-use Rattle.sock_tcp.proofs.Keeping.Places.{nothing_at, IsAt-drop}
+use Rattle.tcp_laws.specs.Sending.{IsAt, stream}
+use Rattle.tcp_laws.proofs.Places.{nothing_at, IsAt-drop}
 use Rattle.tcp_streams.specs.Heard.{IsFront}
 
 pub nothing_front : (whole : List ℕ) → IsFront [] whole

@@ -19,12 +19,12 @@ use Rattle.sock_tcp.specs.connection.Timer.{judged}
 use Rattle.sock_tcp.specs.connection.Output.{output}
 use Rattle.sock_tcp.specs.connection.Congestion.{is_duplicate}
 use Rattle.sock_tcp.specs.connection.Arrival.{verdict, peer_known, establishes, own_fin_acknowledged, state_advanced, advances, notices, fitting_text, keeps, discards, takes, receives_text, fin_is_due, fin_received, receives_fin, wants_ack, concludes, unless_over, receives, connects, acts_on, takes_segment, takes_load, takes_packet}
-use Rattle.sock_tcp.specs.laws.Acts.{acted}
-use Rattle.sock_tcp.specs.laws.Acts.Act.{arrival}
-use Rattle.sock_tcp.specs.laws.Received.{IsCounted}
-use Rattle.sock_tcp.specs.laws.Sending.{IsAt, stream, Carries, LoadCarries}
-use Rattle.sock_tcp.proofs.Keeping.Tests.{by_test}
-use Rattle.sock_tcp.proofs.Keeping.Places.{IsAt-take}
+use Rattle.tcp_laws.specs.Acts.{acted}
+use Rattle.tcp_laws.specs.Acts.Act.{arrival}
+use Rattle.tcp_laws.specs.Received.{IsCounted}
+use Rattle.tcp_laws.specs.Sending.{IsAt, stream, Carries, LoadCarries}
+use Rattle.tcp_laws.proofs.Tests.{by_test}
+use Rattle.tcp_laws.proofs.Places.{IsAt-take}
 use Rattle.tcp_streams.specs.Heard.{IsFront, HearsFrom}
 use Rattle.tcp_streams.proofs.Fronts.{empty_of, nothing_front}
 use Rattle.tcp_streams.proofs.Verdicts.{Says, verdict_says}

@@ -19,10 +19,10 @@ use Rattle.sock_tcp.specs.connection.Pairs.{is_pair, place_in}
 use Rattle.sock_tcp.specs.connection.Resets.{reset_of, resets_of}
 use Rattle.sock_tcp.specs.connection.Process.{answered}
 use Rattle.sock_tcp.specs.listener.Listen.{Listen, Heard, settled, replaced, waits, without, record_heard, nothing_heard, record_acts, kept_acts, asks, has_room, makes_record, record_made, asked, load_header, new_heard, hears, hears_timer, accepted_at, accepted_from, accepts, hears_close}
-use Rattle.sock_tcp.specs.laws.Acts.{Act, act_of, acted}
-use Rattle.sock_tcp.specs.laws.Acts.Start.{passive}
-use Rattle.sock_tcp.specs.laws.Acts.Act.{arrival, expiry}
-use Rattle.sock_tcp.proofs.Keeping.Tests.{by_test}
+use Rattle.tcp_laws.specs.Acts.{Act, act_of, acted}
+use Rattle.tcp_laws.specs.Acts.Start.{passive}
+use Rattle.tcp_laws.specs.Acts.Act.{arrival, expiry}
+use Rattle.tcp_laws.proofs.Tests.{by_test}
 use Rattle.tcp_streams.specs.Net.{IsVoid, Flies, MayAct, AsksFrom, Step}
 use Rattle.tcp_streams.specs.Net.Step.{acts, begins, goes_on}
 use Rattle.tcp_streams.specs.Frame.{beside}

@@ -11,11 +11,11 @@ use Rattle.sock_tcp.specs.segment.Control.{fresh_control}
 use Rattle.sock_tcp.specs.connection.Tcb.{Tcb}
 use Rattle.sock_tcp.specs.connection.Process.{fresh_tcb, opened, answered}
 use Rattle.sock_tcp.specs.listener.Listen.{asks}
-use Rattle.sock_tcp.specs.laws.Acts.{Start, begun_by, Act, acted}
-use Rattle.sock_tcp.specs.laws.Acts.Start.{active, passive}
-use Rattle.sock_tcp.specs.laws.Acts.Act.{arrival, write, read, flow, shut, close, expiry, error_read}
-use Rattle.sock_tcp.specs.laws.Growth.{GrowsTo}
-use Rattle.sock_tcp.specs.laws.Sending.{LoadCarries}
+use Rattle.tcp_laws.specs.Acts.{Start, begun_by, Act, acted}
+use Rattle.tcp_laws.specs.Acts.Start.{active, passive}
+use Rattle.tcp_laws.specs.Acts.Act.{arrival, write, read, flow, shut, close, expiry, error_read}
+use Rattle.tcp_laws.specs.Growth.{GrowsTo}
+use Rattle.tcp_laws.specs.Sending.{LoadCarries}
 use Rattle.tcp_streams.specs.Net.{Net, IsVoid, Comes, MayAct, AsksFrom, Follows, Step, AreSteps, last_net}
 use Rattle.tcp_streams.specs.Sound.{IsSound}
 use Rattle.tcp_streams.specs.Heard.{IsFront, Hears, HearsFrom, IsPeer, IsHeard, HasSender, AreHonest}

@@ -1,5 +1,5 @@
 -- the promise on streams
-use Rattle.std.proofs.Common.{◌≡◌, ℕ, ⊎_elim, Bool, true, false, List, [], length, take, Contains, Option, Some, None, refl, sym, ap, subst, ◌∙◌, arith}
+use Rattle.std.proofs.Common.{◌≡◌, ℕ, ⊎_elim, Bool, true, false, List, [], length, take, not, ◌&&◌, Contains, Option, Some, None, refl, sym, ap, subst, ◌∙◌, arith}
 use Rattle.std.proofs.lemmas.List.{take_all}
 use Rattle.sim_base.specs.declared.address.Addr.{Addr}
 use Rattle.sock_tcp.specs.connection.Tcb.{Tcb}
@@ -86,6 +86,11 @@ reads_of from to records r once s at h =
     reads_as r w.writer.written (written_by (record_at from to records)) (sym same) (heard_whole w.writer r s w.hears))
     h
 
+-- an end that was seen was found by a read
+found_by_read : (found failed : Bool) → (found && not failed) ≡ true → found ≡ true
+found_by_read true failed e = refl
+found_by_read false failed e = e
+
 faithful : (from to : Addr) (records : List Tcb) (o : Option Tcb) → record_at to from records ≡ o → IsOnce from to records → AllSound records → HeardAt to from records → IsFaithful (record {
   written = written_by (record_at from to records);
   read = read_by o;
@@ -97,7 +102,7 @@ faithful from to records (Some r) e once sound heard =
     let f = found (is_at to from) records r e in
     let c = Contains-from_IsIn r records f.0 in
     let k = reads_of from to records r once (sound r c) f.1 (heard r c f.1) in
-    record { front = k.front; whole = k.whole }
+    record { front = k.front; whole = λ seen. k.whole (found_by_read r.control.saw_end r.control.had_error seen) }
 
 pub streams : (scope : Addr → Addr → Bool) (nets : List Net) (from to : Addr) → scope from to ≡ true → AreSteps scope empty_net nets → IsSimple from to (last_net empty_net nets).records → IsFaithful (stream_of from to (last_net empty_net nets).records)
 streams scope nets from to in_scope steps simple =

@@ -15,8 +15,8 @@ use Rattle.sock_tcp.specs.connection.Tcb.{Tcb, Turn}
 use Rattle.sock_tcp.specs.connection.Begin.{begin}
 use Rattle.sock_tcp.specs.connection.Arrival.{verdict, acts_on, takes_segment, takes_load, takes_packet}
 use Rattle.sock_tcp.specs.connection.Process.{reads, ends_reading, shuts_end, shuts}
-use Rattle.sock_tcp.specs.laws.Acts.{Act, acted}
-use Rattle.sock_tcp.specs.laws.Acts.Act.{arrival, write, read, flow, shut, close, expiry, error_read}
+use Rattle.tcp_laws.specs.Acts.{Act, acted}
+use Rattle.tcp_laws.specs.Acts.Act.{arrival, write, read, flow, shut, close, expiry, error_read}
 use Rattle.tcp_streams.specs.Net.{IsVoid}
 use Rattle.tcp_streams.proofs.Verdicts.{Says, verdict_says}
 use Rattle.tcp_streams.proofs.Ears.{Ear, ear, HearsAs, judged-ear, sends_ack-ear, sends_syn_ack-ear, sends_refusal-ear, ends-ear, vanishes-ear, writes-ear, flows-ear, ends_writing-ear, closes-ear, error_taken-ear, expires-ear}

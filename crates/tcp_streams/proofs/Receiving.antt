@@ -20,9 +20,9 @@ use Rattle.sock_tcp.specs.connection.Output.{output}
 use Rattle.sock_tcp.specs.connection.Congestion.{is_duplicate}
 use Rattle.sock_tcp.specs.connection.Arrival.{verdict, peer_known, establishes, advances, notices, fitting_text, keeps, discards, takes, receives_text, fin_is_due, fin_received, receives_fin, wants_ack, concludes, unless_over, receives, connects, acts_on, takes_segment, takes_load, takes_packet}
 use Rattle.sock_tcp.specs.connection.Process.{writes, reads, flows, ends_reading, ends_writing, shuts_end, shuts, closes, error_taken, expires}
-use Rattle.sock_tcp.specs.laws.Acts.{Act, acted}
-use Rattle.sock_tcp.specs.laws.Acts.Act.{arrival, write, read, flow, shut, close, expiry, error_read}
-use Rattle.sock_tcp.proofs.Keeping.Tests.{by_test}
+use Rattle.tcp_laws.specs.Acts.{Act, acted}
+use Rattle.tcp_laws.specs.Acts.Act.{arrival, write, read, flow, shut, close, expiry, error_read}
+use Rattle.tcp_laws.proofs.Tests.{by_test}
 use Rattle.tcp_streams.specs.Sound.{Receives, ReceivesOn}
 use Rattle.tcp_streams.proofs.Ears.{Ear, ear, HearsAs, judged-ear, sends_ack-ear, sends_syn_ack-ear, sends_reset-ear, sends_refusal-ear, ends-ear, vanishes-ear, output-ear, establishes-ear, advances-ear, notices-ear, concluded-ear, writes-ear, flows-ear, ends_writing-ear, closes-ear, error_taken-ear, expires-ear}
 

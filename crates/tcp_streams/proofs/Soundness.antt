@@ -1,10 +1,10 @@
 -- every act keeps a record sound, and what it sends is honest
 use Rattle.sock_tcp.specs.connection.Tcb.{Tcb}
-use Rattle.sock_tcp.specs.laws.Acts.{Start, begun_by, IsStart, Act, acted}
-use Rattle.sock_tcp.specs.laws.Growth.{GrowsTo}
-use Rattle.sock_tcp.specs.laws.Sending.{AreOf}
-use Rattle.sock_tcp.proofs.Keeping.Acting.{acts_keep}
-use Rattle.sock_tcp.proofs.Keeping.Histories.{begun_holds}
+use Rattle.tcp_laws.specs.Acts.{Start, begun_by, IsStart, Act, acted}
+use Rattle.tcp_laws.specs.Growth.{GrowsTo}
+use Rattle.tcp_laws.specs.Sending.{AreOf}
+use Rattle.tcp_laws.proofs.Acting.{acts_keep}
+use Rattle.tcp_laws.proofs.Histories.{begun_holds}
 use Rattle.tcp_streams.specs.Sound.{IsSound}
 
 pub acted_sound : (act : Act) (r : Tcb) → IsSound r → IsSound (acted act r).tcb

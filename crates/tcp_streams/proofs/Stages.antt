@@ -10,8 +10,8 @@ use Rattle.sock_tcp.specs.connection.Retransmission.{sends_again_text, sends_aga
 use Rattle.sock_tcp.specs.connection.Output.{fin_is_next, moves_next, sends_fin, follows}
 use Rattle.sock_tcp.specs.connection.Congestion.{flight_of, tells_loss}
 use Rattle.sock_tcp.specs.connection.Arrival.{own_fin_acknowledged, state_advanced, advanced, restarts_timer, advances, duplicate_heard, hears_duplicate, notices}
-use Rattle.sock_tcp.specs.laws.Received.{FitsTaken}
-use Rattle.sock_tcp.proofs.Keeping.Tests.{by_test}
+use Rattle.tcp_laws.specs.Received.{FitsTaken}
+use Rattle.tcp_laws.proofs.Tests.{by_test}
 
 -- where text is taken, the SYN was and the FIN wasn't
 abbrev pub IsOpen : Turn → Type 0

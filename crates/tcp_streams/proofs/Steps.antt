@@ -8,11 +8,11 @@ use Rattle.sim_base.specs.Addresses.{is_same}
 use Rattle.sim_base.specs.declared.address.Addr.{Addr}
 use Rattle.sim_base.specs.declared.packet.Packet.{Packet}
 use Rattle.sock_tcp.specs.connection.Tcb.{Tcb}
-use Rattle.sock_tcp.specs.laws.Acts.{Start, begun_by, IsStart, Act, acted}
-use Rattle.sock_tcp.specs.laws.Growth.{GrowsTo}
-use Rattle.sock_tcp.specs.laws.Sending.{LoadCarries, AreOf}
-use Rattle.sock_tcp.proofs.Keeping.Holds.{Grows-refl}
-use Rattle.sock_tcp.proofs.Keeping.Segments.{LoadCarries-grows}
+use Rattle.tcp_laws.specs.Acts.{Start, begun_by, IsStart, Act, acted}
+use Rattle.tcp_laws.specs.Growth.{GrowsTo}
+use Rattle.tcp_laws.specs.Sending.{LoadCarries, AreOf}
+use Rattle.tcp_laws.proofs.Holds.{Grows-refl}
+use Rattle.tcp_laws.proofs.Segments.{LoadCarries-grows}
 use Rattle.tcp_streams.specs.Net.{Net, Flies, MayAct, Follows, Step}
 use Rattle.tcp_streams.specs.Net.Step.{acts, begins, goes_on}
 use Rattle.tcp_streams.specs.Sound.{IsSound}

@@ -8,10 +8,10 @@ use Rattle.sock_tcp.specs.segment.Number.{wire, distance}
 use Rattle.sock_tcp.specs.segment.Refusal.{one_if}
 use Rattle.sock_tcp.specs.connection.Tcb.{Tcb}
 use Rattle.sock_tcp.specs.connection.Arrival.{fresh_text}
-use Rattle.sock_tcp.specs.laws.Sending.{IsAt, stream, Carries}
-use Rattle.sock_tcp.proofs.Keeping.Tests.{by_test}
-use Rattle.sock_tcp.proofs.Keeping.Places.{nothing_at}
-use Rattle.sock_tcp.proofs.Keeping.Nearest.{distance-ahead, distance-behind}
+use Rattle.tcp_laws.specs.Sending.{IsAt, stream, Carries}
+use Rattle.tcp_laws.proofs.Tests.{by_test}
+use Rattle.tcp_laws.proofs.Places.{nothing_at}
+use Rattle.tcp_laws.proofs.Nearest.{distance-ahead, distance-behind}
 use Rattle.tcp_streams.specs.Heard.{Hears, HearsFrom}
 use Rattle.tcp_streams.proofs.Fronts.{IsFront-more, IsAt-past, IsAt-long}
 use Rattle.tcp_streams.proofs.Ears.{Ear, ear}

@@ -16,9 +16,9 @@ use Rattle.sock_tcp.specs.connection.Output.{pieces, sends_text, sends_fin, foll
 use Rattle.sock_tcp.specs.connection.Congestion.{is_duplicate}
 use Rattle.sock_tcp.specs.connection.Arrival.{peer_known, established, establishes, advanced, advances, hears_duplicate, notices, fitting_text, keeps, takes, receives_text, fin_received, receives_fin, wants_ack, answers, waits_again, unless_over, concludes, receives, connects, takes_segment, takes_packet}
 use Rattle.sock_tcp.specs.connection.Process.{fresh_tcb, opened, answered, bytes_taken, writes, reads, pays_ack, flows, ends_writing, shuts}
-use Rattle.sock_tcp.specs.laws.Acts.{begun_by, acted}
-use Rattle.sock_tcp.specs.laws.Acts.Start.{active, passive}
-use Rattle.sock_tcp.specs.laws.Acts.Act.{arrival, write, read, flow, shut}
+use Rattle.tcp_laws.specs.Acts.{begun_by, acted}
+use Rattle.tcp_laws.specs.Acts.Start.{active, passive}
+use Rattle.tcp_laws.specs.Acts.Act.{arrival, write, read, flow, shut}
 use Rattle.tcp_streams.specs.Net.{Net, empty_net, Flies, AreSteps, last_net}
 use Rattle.tcp_streams.specs.Net.Step.{acts, begins}
 use Rattle.tcp_streams.specs.Frame.{everywhere}

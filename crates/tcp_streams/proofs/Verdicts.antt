@@ -9,7 +9,7 @@ use Rattle.sock_tcp.specs.declared.segment.verdict.Verdict.TheVariants.{Acknowle
 use Rattle.sock_tcp.specs.segment.Number.{wire, distance}
 use Rattle.sock_tcp.specs.segment.State.{is_over, is_time_wait, is_syn_sent, is_syn_received}
 use Rattle.sock_tcp.specs.segment.Verdict.{syn_sent_verdict, reset_verdict, syn_verdict, distance_verdict, ack_verdict, synchronized_verdict, verdict_of}
-use Rattle.sock_tcp.proofs.Keeping.Tests.{by_test}
+use Rattle.tcp_laws.proofs.Tests.{by_test}
 
 -- a SYN opens only as such, and a RST never counts for more than a RST
 abbrev pub Says : TcpState → Header → Verdict → Type 0

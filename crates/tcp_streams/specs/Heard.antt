@@ -5,7 +5,7 @@ use Rattle.sim_base.specs.declared.packet.Packet.{Packet}
 use Rattle.sock_tcp.specs.segment.Number.{wire}
 use Rattle.sock_tcp.specs.segment.Refusal.{one_if}
 use Rattle.sock_tcp.specs.connection.Tcb.{Tcb}
-use Rattle.sock_tcp.specs.laws.Sending.{Sent}
+use Rattle.tcp_laws.specs.Sending.{Sent}
 use Rattle.tcp_streams.specs.Net.{Net, Comes}
 
 -- a list begins with another

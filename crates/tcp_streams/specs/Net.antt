@@ -7,9 +7,9 @@ use Rattle.sim_base.specs.declared.packet.Packet.{Packet}
 use Rattle.sock_tcp.specs.segment.Header.{header_of}
 use Rattle.sock_tcp.specs.connection.Tcb.{Tcb}
 use Rattle.sock_tcp.specs.listener.Listen.{asks}
-use Rattle.sock_tcp.specs.laws.Acts.{Start, begun_by, IsStart, Act, acted}
-use Rattle.sock_tcp.specs.laws.Acts.Start.{active, passive}
-use Rattle.sock_tcp.specs.laws.Acts.Act.{arrival, write, read, flow, shut, close, expiry, error_read}
+use Rattle.tcp_laws.specs.Acts.{Start, begun_by, IsStart, Act, acted}
+use Rattle.tcp_laws.specs.Acts.Start.{active, passive}
+use Rattle.tcp_laws.specs.Acts.Act.{arrival, write, read, flow, shut, close, expiry, error_read}
 
 -- all records that ever were, those let go too, and all packets on their way, wherever they are: in
 -- events, in lanes, on loops. Their order means nothing, nor how often a packet is there

@@ -1,6 +1,6 @@
 -- the stream from one end to another: what was written at the one, what was read at the other, and whether
 -- the end was seen there
-use Rattle.std.specs.Prelude.{◌≡◌, ℕ, ◌<◌, ◌≤◌, ◌^◌, List, [], length, take, find, count_by, Bool, true, false, ◌&&◌, Option, Some, None, Contains}
+use Rattle.std.specs.Prelude.{◌≡◌, ℕ, ◌<◌, ◌≤◌, ◌^◌, List, [], length, take, find, count_by, Bool, true, false, not, ◌&&◌, Option, Some, None, Contains}
 use Rattle.sim_base.specs.Addresses.{is_same}
 use Rattle.sim_base.specs.declared.address.Addr.{Addr}
 use Rattle.sock_tcp.specs.connection.Tcb.{Tcb}
@@ -34,10 +34,11 @@ abbrev pub read_by : Option Tcb → List ℕ
 read_by None = []
 read_by (Some r) = take r.read r.received
 
--- a read of at least one byte found the end, while reading hadn't been ended and there had been no error
+-- a read of at least one byte found the end, while reading hadn't been ended, and the record never had an
+-- error, neither before nor since
 abbrev pub end_seen_by : Option Tcb → Bool
 end_seen_by None = false
-end_seen_by (Some r) = r.control.saw_end
+end_seen_by (Some r) = r.control.saw_end && not r.control.had_error
 
 abbrev pub stream_of : Addr → Addr → List Tcb → Stream
 stream_of from to records = record {

@@ -1,5 +1,5 @@
 -- what an acknowledgement moves
-use Rattle.std.proofs.Common.{◌≡◌, ℕ, ◌+◌, ◌-◌, ◌==◌, ◌≤◌, List, ⊎_elim, length, drop, max, Bool, true, false, if◌then◌else◌, refl, sym, ap, ◌∙◌, arith}
+use Rattle.std.proofs.Common.{◌≡◌, ℕ, ◌+◌, ◌-◌, ◌==◌, ◌≤◌, nat_lt, List, ⊎_elim, length, drop, min, max, Bool, true, false, if◌then◌else◌, refl, sym, ap, ◌∙◌, arith}
 use Rattle.std.proofs.lemmas.Bool.Decides.{nat_tests}
 use Rattle.std.proofs.lemmas.List.{drop-drop, length-drop}
 use Rattle.std.proofs.lemmas.Bool.{cases_lt}
@@ -14,6 +14,7 @@ use Rattle.sock_tcp.specs.segment.Congestion.{acknowledged}
 use Rattle.sock_tcp.specs.segment.Number.{wire}
 use Rattle.sock_tcp.specs.segment.State.{phase_of, is_synchronized}
 use Rattle.sock_tcp.specs.connection.Tcb.{Tcb, data_end}
+use Rattle.sock_tcp.specs.connection.Congestion.{still_counted}
 use Rattle.sock_tcp.specs.connection.Arrival.{own_fin_acknowledged, state_advanced, advanced}
 use Rattle.sock_tcp.specs.connection.StandsFor.{StandsFor, FitsPhase}
 use Rattle.sock_tcp.proofs.Segments.Numbers.{wire-wire}
@@ -95,6 +96,7 @@ pub record AdvancesTo (c c' : Conn) (state : TcpState) (by window : ℕ) : Type 
   pub una : c'.una ≡ wire c.una by
   pub sent : c'.sent ≡ c.sent - by
   pub highest : c'.highest + by ≡ c.highest
+  pub duplicates : c'.duplicates ≡ still_counted by c.duplicates
   pub recover : c'.recover ≡ c.recover - by
   pub rcv : c'.rcv ≡ c.rcv
   pub send : c'.send.items ≡ keep_last (length c.send.items - by) c.send.items
@@ -106,6 +108,11 @@ kept_items items by =
     (λ h. let e : length items - (length items - by) ≡ by = omega arith in ap (λ n. drop n items) e)
     (λ h. let e : length items - (length items - by) ≡ length items = omega arith in ap (λ n. drop n items) e ∙ (drop-length items ∙ sym (drop_of_length-le items h)))
     (cases_lt by (length items))
+
+-- the count of duplicates begins anew or stays
+counted_in_both : (anew : Bool) (count duplicates : ℕ) → count ≡ min 255 duplicates → (if anew then 0 else count) ≡ min 255 (if anew then 0 else duplicates)
+counted_in_both true count duplicates e = refl
+counted_in_both false count duplicates e = e
 
 pub stands_advanced : (c c' : Conn) (r : Tcb) (state : TcpState) (by window : ℕ) → StandsFor c r → is_synchronized c.control.state ≡ true → by ≤ c.highest → state ≡ state_advanced (own_fin_acknowledged by r) r.control.state → AdvancesTo c c' state by window → StandsFor c' (advanced by window r)
 unfolding advanced
@@ -120,6 +127,7 @@ stands_advanced c c' r state by window h s b st e =
       una = e.una ∙ (ap (λ n. wire n by) h.una ∙ wire-wire r.iss r.una by);
       next = omega (arith, h.next, e.sent);
       highest = omega (arith, h.highest, e.highest);
+      duplicates = e.duplicates ∙ counted_in_both (nat_lt 0 by) c.duplicates r.duplicates h.duplicates;
       recover = omega (arith, h.recover, e.recover);
       rcv = e.rcv ∙ h.rcv;
       send = e.send ∙ (kept_items c.send.items by ∙ (ap (drop by) h.send ∙ (drop-drop by (r.una - 1) r.written ∙ ap (λ n. drop n r.written) place)));

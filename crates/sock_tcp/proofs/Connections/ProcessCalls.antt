@@ -19,6 +19,7 @@ pub record SameLists (c c' : Conn) : Type 0 where
   pub una : c'.una ≡ c.una
   pub sent : c'.sent ≡ c.sent
   pub highest : c'.highest ≡ c.highest
+  pub duplicates : c'.duplicates ≡ c.duplicates
   pub recover : c'.recover ≡ c.recover
   pub rcv : c'.rcv ≡ c.rcv
   pub send : c'.send ≡ c.send
@@ -31,6 +32,7 @@ stands_control c c' r f h e k p = record {
   una = e.una ∙ h.una;
   next = ap (λ n. r.una + n) e.sent ∙ h.next;
   highest = ap (λ n. r.una + n) e.highest ∙ h.highest;
+  duplicates = e.duplicates ∙ h.duplicates;
   recover = e.recover ∙ h.recover;
   rcv = e.rcv ∙ h.rcv;
   send = ap (λ (b : Buffer ℕ). b.items) e.send ∙ h.send;
@@ -122,6 +124,7 @@ pub record WritesTo (c c' : Conn) (bytes : List ℕ) : Type 0 where
   pub una : c'.una ≡ c.una
   pub sent : c'.sent ≡ c.sent
   pub highest : c'.highest ≡ c.highest
+  pub duplicates : c'.duplicates ≡ c.duplicates
   pub recover : c'.recover ≡ c.recover
   pub rcv : c'.rcv ≡ c.rcv
   pub send : c'.send.items ≡ c.send.items ++ take (min (length bytes) (65535 - length c.send.items)) bytes
@@ -141,6 +144,7 @@ stands_writes c c' r bytes h b e =
       una = e.una ∙ h.una;
       next = ap (λ n. r.una + n) e.sent ∙ h.next;
       highest = ap (λ n. r.una + n) e.highest ∙ h.highest;
+      duplicates = e.duplicates ∙ h.duplicates;
       recover = e.recover ∙ h.recover;
       rcv = e.rcv ∙ h.rcv;
       send = e.send ∙ (ap (λ items. items ++ take (min (length bytes) (65535 - length c.send.items)) bytes) h.send ∙ (ap (λ xs. drop (r.una - 1) r.written ++ xs) more ∙ sym (drop-append-le (r.una - 1) r.written taken (omega (arith, within)))));
@@ -162,6 +166,7 @@ pub record ReadsTo (c c' : Conn) (asked : ℕ) : Type 0 where
   pub una : c'.una ≡ c.una
   pub sent : c'.sent ≡ c.sent
   pub highest : c'.highest ≡ c.highest
+  pub duplicates : c'.duplicates ≡ c.duplicates
   pub recover : c'.recover ≡ c.recover
   pub rcv : c'.rcv ≡ c.rcv
   pub send : c'.send ≡ c.send
@@ -182,6 +187,7 @@ stands_reads c c' r asked h e =
       una = e.una ∙ h.una;
       next = ap (λ n. r.una + n) e.sent ∙ h.next;
       highest = ap (λ n. r.una + n) e.highest ∙ h.highest;
+      duplicates = e.duplicates ∙ h.duplicates;
       recover = e.recover ∙ h.recover;
       rcv = e.rcv ∙ h.rcv;
       send = ap (λ (b : Buffer ℕ). b.items) e.send ∙ h.send;

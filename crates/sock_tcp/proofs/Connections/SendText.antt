@@ -24,6 +24,7 @@ pub record SendsTo (c c' : Conn) (limit : ℕ) : Type 0 where
   pub una : c'.una ≡ c.una
   pub sent : c'.sent ≡ limit
   pub highest : c'.highest ≡ c.highest
+  pub duplicates : c'.duplicates ≡ c.duplicates
   pub recover : c'.recover ≡ c.recover
   pub rcv : c'.rcv ≡ c.rcv
   pub send : c'.send ≡ c.send
@@ -74,6 +75,7 @@ stands_sends_text c c' d d' limit t h e sending b at segments started =
         una = e.una ∙ h.conn.una;
         next = ap (λ n. r.una + n) e.sent ∙ next;
         highest = ap (λ n. r.una + n) e.highest ∙ h.conn.highest;
+        duplicates = e.duplicates ∙ h.conn.duplicates;
         recover = e.recover ∙ h.conn.recover;
         rcv = e.rcv ∙ h.conn.rcv;
         send = ap (λ b. b.items) e.send ∙ h.conn.send;
@@ -97,6 +99,7 @@ stands_sends_no_text c d limit t h b at =
         una = h.conn.una;
         next = h.conn.next ∙ next;
         highest = h.conn.highest;
+        duplicates = h.conn.duplicates;
         recover = h.conn.recover;
         rcv = h.conn.rcv;
         send = h.conn.send;
@@ -129,6 +132,7 @@ stands_sends_again_text c c' d d' count text p t h e sending counted text_is p_i
         una = e.una ∙ h.conn.una;
         next = ap (λ n. r.una + n) e.sent ∙ next;
         highest = ap (λ n. r.una + n) e.highest ∙ h.conn.highest;
+        duplicates = e.duplicates ∙ h.conn.duplicates;
         recover = e.recover ∙ h.conn.recover;
         rcv = e.rcv ∙ h.conn.rcv;
         send = ap (λ b. b.items) e.send ∙ h.conn.send;

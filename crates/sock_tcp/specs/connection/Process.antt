@@ -28,6 +28,7 @@ fresh_tcb c iss irs rcv = record {
   una = 0;
   nxt = 1;
   highest = 1;
+  duplicates = 0;
   recover = 0;
   rcv = rcv;
   written = [];

@@ -6,13 +6,12 @@ use Rattle.sock_tcp.specs.segment.State.{is_over, is_opening}
 use Rattle.sock_tcp.specs.connection.Tcb.{Tcb, unread}
 use Rattle.sock_tcp.specs.connection.Process.{room}
 
--- reading has ended by the peer's FIN or by the process, and writing by the process or since the
--- record is over
+-- reading has ended by the peer's FIN or by the process, and writing by the process
 abbrev pub reading_is_over : Control → Bool
 reading_is_over c = c.fin_taken || c.reading_ended
 
 abbrev pub writing_is_over : Control → Bool
-writing_is_over c = c.fin_wanted || is_over c.state
+writing_is_over c = c.fin_wanted
 
 abbrev pub has_error : Control → Bool
 has_error c = is_some c.error
@@ -21,7 +20,8 @@ has_error c = is_some c.error
 abbrev pub can_read : Tcb → Bool
 can_read r = nat_lt 0 (unread r) || (reading_is_over r.control || has_error r.control)
 
--- there is room for bytes, none are taken any more, or an error waits
+-- there is room for bytes, the process has ended its writing, or an error waits; that the record is over is by itself none
+-- of these
 abbrev pub can_write : Tcb → Bool
 can_write r = nat_lt 0 (room r) || (writing_is_over r.control || has_error r.control)
 

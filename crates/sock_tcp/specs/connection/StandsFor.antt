@@ -1,5 +1,5 @@
 -- what a connection of the code stands for: a record with the whole lists and offsets
-use Rattle.std.specs.Prelude.{◌≡◌, ℕ, ◌+◌, ◌-◌, ◌≤◌, List, [], ◌∷◌, length, drop, Bool, true, false}
+use Rattle.std.specs.Prelude.{◌≡◌, ℕ, ◌+◌, ◌-◌, ◌≤◌, List, [], ◌∷◌, length, drop, min, Bool, true, false}
 use Rattle.sock_tcp.specs.declared.connection.conn.Conn.{Conn}
 use Rattle.sock_tcp.specs.declared.connection.effects.Draft.{Draft}
 use Rattle.sock_tcp.specs.declared.connection.effects.Effects.{Effects}
@@ -10,6 +10,10 @@ use Rattle.sock_tcp.specs.segment.State.{phase_of}
 use Rattle.sock_tcp.specs.connection.Tcb.{Tcb, Turn, data_end}
 use Rattle.sock_tcp.specs.connection.Timer.{timer_of}
 use Rattle.sock_tcp.specs.connection.Begin.{begin}
+
+-- how many duplicate acknowledgements the code counts at most
+abbrev pub most_duplicates : ℕ
+most_duplicates = 255
 
 -- how far the offsets una, nxt and highest of a record may be, by its phase: its SYN is in flight;
 -- what was written and no FIN; its FIN too, which isn't acknowledged; or all was acknowledged
@@ -27,6 +31,8 @@ pub record StandsFor (c : Conn) (r : Tcb) : Type 0 where
   pub una : c.una ≡ wire r.iss r.una
   pub next : r.una + c.sent ≡ r.nxt
   pub highest : r.una + c.highest ≡ r.highest
+  -- the code's count stands still where nothing reads more
+  pub duplicates : c.duplicates ≡ min most_duplicates r.duplicates
   pub recover : c.recover ≡ r.recover - r.una
   pub rcv : c.rcv ≡ wire r.irs r.rcv
   -- what isn't acknowledged yet, and what isn't read yet

@@ -16,6 +16,8 @@ pub record Tcb : Type 0 where
   pub una : ℕ
   pub nxt : ℕ
   pub highest : ℕ
+  -- how many duplicate acknowledgements came since more was acknowledged (RFC 5681, section 3.2)
+  pub duplicates : ℕ
   -- what was the highest offset when a loss was last noticed (RFC 6582, section 3.2)
   pub recover : ℕ
   -- the offset from irs that is expected next (RCV.NXT)

@@ -1,5 +1,5 @@
 -- the congestion window of a record, in whole bytes (RFC 5681)
-use Rattle.std.specs.Prelude.{ℕ, ◌+◌, ◌*◌, ◌/◌, ◌==◌, nat_lt, min, max, Bool, if◌then◌else◌}
+use Rattle.std.specs.Prelude.{ℕ, ◌+◌, ◌*◌, ◌/◌, nat_lt, min, max, Bool, if◌then◌else◌}
 use Rattle.sim_base.specs.Packet.{max_segment}
 use Rattle.sock_tcp.specs.declared.segment.congestion.Congestion.{Congestion}
 
@@ -16,7 +16,7 @@ abbrev pub max_window : ℕ
 max_window = 65535
 
 abbrev pub fresh_congestion : Congestion
-fresh_congestion = record { cwnd = initial_window; ssthresh = max_window; duplicates = 0 }
+fresh_congestion = record { cwnd = initial_window; ssthresh = max_window }
 
 -- the handshake is done; an expiry before it tells of a lost SYN (section 3.1)
 abbrev pub opened_window : Bool → Congestion → Congestion
@@ -30,7 +30,7 @@ growth by c =
     else max 1 (max_segment * max_segment / c.cwnd)
 
 abbrev pub grown : ℕ → Congestion → Congestion
-grown by c = record c { cwnd = min max_window (c.cwnd + growth by c); duplicates = 0 }
+grown by c = record c { cwnd = min max_window (c.cwnd + growth by c) }
 
 -- so much more is acknowledged, perhaps nothing
 abbrev pub acknowledged : ℕ → Congestion → Congestion
@@ -40,24 +40,15 @@ acknowledged by c = if nat_lt 0 by then grown by c else c
 abbrev pub threshold_after : ℕ → ℕ
 threshold_after in_flight = max (in_flight / 2) (2 * max_segment)
 
--- a duplicate is counted, to the end of the count's type
-abbrev pub counted : Congestion → Congestion
-counted c = record c { duplicates = min 255 (c.duplicates + 1) }
-
--- the next duplicate is the third, which tells of a loss (section 3.2)
-abbrev pub is_third : Congestion → Bool
-is_third c = c.duplicates == 2
-
 -- fast retransmit without inflation (section 3.2, steps 2 and 6)
-abbrev pub halved : ℕ → Congestion → Congestion
-halved in_flight c =
+abbrev pub halved : ℕ → Congestion
+halved in_flight =
     let ssthresh = threshold_after in_flight in
-    record c { cwnd = ssthresh; ssthresh = ssthresh }
+    record { cwnd = ssthresh; ssthresh = ssthresh }
 
 -- an expiry, the first one since something was acknowledged or a later one (section 3.1)
 abbrev pub timed_out : Bool → ℕ → Congestion → Congestion
-timed_out first in_flight c = record c {
+timed_out first in_flight c = record {
   cwnd = loss_window;
   ssthresh = if first then threshold_after in_flight else c.ssthresh;
-  duplicates = 0;
 }

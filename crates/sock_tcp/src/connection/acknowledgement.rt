@@ -9,6 +9,7 @@ impl Conn {
     ghost use Rattle.sock_tcp.specs.connection.Tcb.{Tcb};
     ghost use Rattle.sock_tcp.specs.segment.State.{is_opening, is_synchronized};
     ghost use Rattle.sock_tcp.specs.connection.Arrival.{peer_known, established, establishes, state_advanced, own_fin_acknowledged, advanced, restarts_timer, advances};
+    ghost use Rattle.sock_tcp.specs.connection.Congestion.{still_counted};
     ghost use Rattle.sock_tcp.specs.connection.StandsFor.{StandsFor, Does};
 
     /// Takes the number of the peer's SYN.
@@ -61,6 +62,13 @@ impl Conn {
         }
     }
 
+    /// How many duplicate acknowledgements are counted once as many more as `by` are acknowledged.
+    fn still_counted(&self, by: u32) -> u8
+        ensures { result ≡ still_counted by self.now.duplicates }
+    {
+        if by > 0 { 0 } else { self.duplicates }
+    }
+
     /// As many more as `by` are acknowledged.
     fn move_una(&mut self, by: u32, window: u16)
         requires synchronized { is_synchronized self.old.control.state ≡ true }
@@ -76,6 +84,7 @@ impl Conn {
         self.highest -= count;
         self.recover = self.recover.saturating_sub(count);
         self.control.congestion = self.control.congestion.acknowledged(by);
+        self.duplicates = self.still_counted(by);
         self.send.truncate_front(rest);
     }
 

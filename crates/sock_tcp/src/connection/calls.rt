@@ -39,6 +39,7 @@ impl Conn {
             una: iss,
             sent: 1,
             highest: 1,
+            duplicates: 0,
             recover: 0,
             rcv,
             send,

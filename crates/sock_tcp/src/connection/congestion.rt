@@ -8,7 +8,7 @@ use sim_base::NoMemory;
 impl Conn {
     ghost use Rattle.std.specs.Prelude.{◌≡◌, ◌-◌, length, OnOk};
     ghost use Rattle.sock_tcp.specs.connection.Tcb.{Tcb};
-    ghost use Rattle.sock_tcp.specs.connection.Congestion.{flight_of, tells_loss, after_duplicate, is_duplicate};
+    ghost use Rattle.sock_tcp.specs.connection.Congestion.{flight_of, is_third, tells_loss, after_duplicate, is_duplicate};
     ghost use Rattle.sock_tcp.specs.connection.Arrival.{duplicate_heard, hears_duplicate, notices};
     ghost use Rattle.sock_tcp.specs.connection.StandsFor.{StandsFor, Does};
 
@@ -25,11 +25,18 @@ impl Conn {
             && header.window == self.control.window
     }
 
+    /// Whether the next duplicate is the third.
+    fn is_third(&self) -> bool
+        ensures { (r : Tcb) → StandsFor self.now r → result ≡ is_third (flight_of r) }
+    {
+        self.duplicates == 2
+    }
+
     /// Whether the next duplicate tells of a loss that wasn't noticed yet.
     fn tells_loss(&self) -> bool
         ensures { (r : Tcb) → StandsFor self.now r → result ≡ tells_loss r.una (flight_of r) }
     {
-        self.control.congestion.is_third() && self.recover == 0
+        self.is_third() && self.recover == 0
     }
 
     /// The window after a duplicate, which tells of a loss or doesn't.
@@ -37,11 +44,10 @@ impl Conn {
         ensures { (r : Tcb) → StandsFor self.now r → lost ≡ tells_loss r.una (flight_of r)
             → result ≡ (after_duplicate r.una r.highest (flight_of r)).congestion }
     {
-        let counted = self.control.congestion.counted();
         if lost {
-            counted.halved(self.highest)
+            Congestion::halved(self.highest)
         } else {
-            counted
+            self.control.congestion
         }
     }
 
@@ -61,6 +67,7 @@ impl Conn {
         let congestion = self.congestion_after(lost);
         let recover = self.recover_after(lost);
         self.control.congestion = congestion;
+        self.duplicates = self.duplicates.saturating_add(1);
         self.recover = recover;
     }
 

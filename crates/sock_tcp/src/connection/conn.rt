@@ -10,16 +10,17 @@ use circular_buffer::HeapCircularBuffer;
 pub const BUFFER_SIZE: usize = 65_535;
 
 /// A connection. It keeps the number of the first byte that isn't acknowledged (SND.UNA), how far
-/// the next one to send (SND.NXT) and the highest one sent are from it, and what was the highest when
-/// a loss was last noticed, what it sends and wasn't acknowledged yet, and what it received and wasn't
-/// read yet. After a call that answers want of
-/// memory nothing is known of it.
+/// the next one to send (SND.NXT) and the highest one sent are from it, how many duplicate
+/// acknowledgements came since more was acknowledged, at most 255, and what was the highest when a loss
+/// was last noticed, what it sends and wasn't acknowledged yet, and what it received and wasn't read
+/// yet. After a call that answers want of memory nothing is known of it.
 #[derive(Drop)]
 pub struct Conn {
     pub(crate) control: Control,
     pub(crate) una: u32,
     pub(crate) sent: usize,
     pub(crate) highest: usize,
+    pub(crate) duplicates: u8,
     pub(crate) recover: usize,
     pub(crate) rcv: u32,
     pub(crate) send: HeapCircularBuffer<u8>,

@@ -5,7 +5,7 @@ use sim_base::{NoMemory, Packet, Time};
 use std::alloc::Global;
 
 /// Segments to be sent, in order, and the length of the timer that the call started, from now on.
-#[derive(Debug, Drop)]
+#[derive(Drop)]
 pub struct Effects {
     pub segments: Vec<Packet>,
     pub timer: Option<Time>,
@@ -34,7 +34,7 @@ pub struct Opened {
 }
 
 /// Which directions of a connection a process ends.
-#[derive(Clone, Copy, Debug, PartialEq, Eq)]
+#[derive(Clone, Copy, PartialEq, Eq)]
 pub enum Shut {
     Reading,
     Writing,
@@ -42,7 +42,7 @@ pub enum Shut {
 }
 
 /// The effects of a call as far as they have come.
-#[derive(Debug, Drop)]
+#[derive(Drop)]
 pub struct Draft {
     pub segments: Vec<Packet>,
     pub started: bool,

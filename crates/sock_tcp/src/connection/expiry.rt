@@ -28,6 +28,7 @@ impl Conn {
     {
         let first = self.control.retries == 0;
         self.control.congestion = self.control.congestion.timed_out(first, self.highest);
+        self.duplicates = 0;
         self.recover = self.highest;
     }
 

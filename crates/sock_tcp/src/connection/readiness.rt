@@ -22,7 +22,7 @@ fn reading_is_over(control: Control) -> bool
 fn writing_is_over(control: Control) -> bool
     ensures { result ≡ writing_is_over control }
 {
-    control.fin_wanted || control.state.is_over()
+    control.fin_wanted
 }
 
 fn has_error(control: Control) -> bool
@@ -64,8 +64,9 @@ impl Conn {
         (reading | writing) | (error | hangup)
     }
 
-    /// What its socket is ready for: `POLLIN` where a read would answer, `POLLOUT` where a write
-    /// would, `POLLERR` where an error waits, `POLLHUP` where both directions have ended or the
+    /// What its socket is ready for: `POLLIN` where bytes wait, none come any more, or an error
+    /// waits; `POLLOUT` where there is room for bytes, the process has ended its writing, or an error
+    /// waits; `POLLERR` where an error waits; `POLLHUP` where both directions have ended or the
     /// connection is over; nothing before it is ESTABLISHED or over.
     #[tactic(auto, unfolding(crate::specs::connection::Ready::readiness))]
     pub fn ready(&self) -> u16

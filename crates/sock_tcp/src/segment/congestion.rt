@@ -14,14 +14,12 @@ const INITIAL_WINDOW: u16 = 4_380;
 const LOSS_WINDOW: u16 = 1_460;
 
 /// The congestion control of a connection, in bytes (RFC 5681).
-#[derive(Clone, Copy, Debug, PartialEq, Eq)]
+#[derive(Clone, Copy, PartialEq, Eq)]
 pub struct Congestion {
     /// The congestion window: how many bytes may be in flight.
     pub cwnd: u16,
     /// The slow start threshold.
     pub ssthresh: u16,
-    /// How many duplicate acknowledgements came since more was acknowledged, at most 255.
-    pub duplicates: u8,
 }
 
 /// What congestion avoidance adds for one acknowledgement.
@@ -44,7 +42,7 @@ fn threshold_after(in_flight: usize) -> u16
 }
 
 impl Congestion {
-    ghost use Rattle.sock_tcp.specs.segment.Congestion.{fresh_congestion, opened_window, growth, grown, acknowledged, counted, is_third, halved, timed_out};
+    ghost use Rattle.sock_tcp.specs.segment.Congestion.{fresh_congestion, opened_window, growth, grown, acknowledged, halved, timed_out};
 
     /// That of a connection whose SYN was just sent.
     pub fn new() -> Congestion
@@ -53,7 +51,6 @@ impl Congestion {
         Congestion {
             cwnd: INITIAL_WINDOW,
             ssthresh: u16::MAX,
-            duplicates: 0,
         }
     }
 
@@ -84,7 +81,6 @@ impl Congestion {
         let cwnd = u32::from(self.cwnd) + self.growth(by);
         Congestion {
             cwnd: cwnd.min(u32::from(u16::MAX)) as u16,
-            duplicates: 0,
             ..self
         }
     }
@@ -96,33 +92,15 @@ impl Congestion {
         if by > 0 { self.grown(by) } else { self }
     }
 
-    /// A duplicate acknowledgement came.
-    pub fn counted(self) -> Congestion
-        ensures { result ≡ counted self }
-    {
-        Congestion {
-            duplicates: self.duplicates.saturating_add(1),
-            ..self
-        }
-    }
-
-    /// Whether the next duplicate is the third.
-    pub fn is_third(self) -> bool
-        ensures { result ≡ is_third self }
-    {
-        self.duplicates == 2
-    }
-
     /// A segment was lost, as duplicate acknowledgements tell.
-    pub fn halved(self, in_flight: usize) -> Congestion
+    pub fn halved(in_flight: usize) -> Congestion
         requires { in_flight < 131072 }
-        ensures { result ≡ halved in_flight self }
+        ensures { result ≡ halved in_flight }
     {
         let ssthresh = threshold_after(in_flight);
         Congestion {
             cwnd: ssthresh,
             ssthresh,
-            ..self
         }
     }
 
@@ -138,7 +116,6 @@ impl Congestion {
             } else {
                 self.ssthresh
             },
-            duplicates: 0,
         }
     }
 }

@@ -16,4 +16,4 @@ returns-clause-stands c = λ r h.
     let control = c.after_read-self.ensures ∙ (ap (λ b. control_read b c.finds_end-found.result self.control) owes ∙ ap (λ b. control_read (raises_window (65535 - length self.receive.items) (65535 - length c.read_into-count.new.self.items)) b self.control) found) in
     let items = ap (λ (b : Buffer ℕ). b.items) c.read_into-count.ensures.items ∙ ap (λ n. drop n self.receive.items) c.read_into-count.ensures.count in
     stands_reads self _ r asked h
-    (record { control = control; una = refl; sent = refl; highest = refl; recover = refl; rcv = refl; send = refl; receive = items })
+    (record { control = control; una = refl; sent = refl; highest = refl; duplicates = refl; recover = refl; rcv = refl; send = refl; receive = items })

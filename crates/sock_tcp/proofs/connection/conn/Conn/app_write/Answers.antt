@@ -20,7 +20,7 @@ returns-then-takes_bytes-clause-stands c = λ r h.
     let count = c.fill_from_slice.ensures.count ∙ ap (λ n. min (length bytes) (n - length self.send.items)) self.send_room in
     let items = ap (λ (b : Buffer ℕ). b.items) c.fill_from_slice.ensures.items ∙ ap (λ n. self.send.items ++ take n bytes) count in
     stands_writes self _ r bytes h takes
-    (record { control = refl; una = refl; sent = refl; highest = refl; recover = refl; rcv = refl; send = items; receive = refl })
+    (record { control = refl; una = refl; sent = refl; highest = refl; duplicates = refl; recover = refl; rcv = refl; send = items; receive = refl })
 
 pub returns-else-takes_bytes-clause-count : goal.returns-else-takes_bytes-clause-count
 returns-else-takes_bytes-clause-count c = λ r h.

@@ -1,0 +1,127 @@
+-- A call whose deadline has come answers.
+use Rattle.std.proofs.Common.{◌≡◌, ℕ, ◌==◌, ◌*◌, ◌≤◌, Bool, true, false, not, ◌&&◌, List, Option, Some, None, Result, Ok, Err, refl, sym, ap, subst, ◌∙◌, nat_lt, nat_le, if◌then◌else◌, arith}
+use Rattle.std.proofs.lemmas.Bool.Decides.{nat_tests}
+use Rattle.std.specs.Prelude.{unwrap_or}
+use Rattle.sim_base.specs.declared.errno.Errno.TheVariants.{Einval}
+use Rattle.sim_base.specs.declared.time.Time.{Time}
+use Rattle.sim_base.specs.Refusals.{◌>>=◌, ◌>>◌, refuse_if}
+use Rattle.host_files.specs.Slots.{at}
+use Rattle.host_timers.specs.declared.clock.Moment.{Moment}
+use Rattle.host_sockets.specs.declared.error.Refusal.{Refusal}
+use Rattle.host_sockets.specs.declared.error.Refusal.TheVariants as refusal
+use Rattle.host_calls.specs.declared.call.Call.{Call}
+use Rattle.host_calls.specs.declared.call.Call.TheVariants as system_call
+use Rattle.host_calls.specs.declared.call.PlainCall.TheVariants as plain
+use Rattle.host_calls.specs.declared.parts.Known.{Known}
+use Rattle.host_calls.specs.declared.parts.Task.{Task}
+use Rattle.host_calls.specs.declared.parts.Why.{Why}
+use Rattle.host_calls.specs.Call.{call_of}
+use Rattle.host_calls.specs.Calls.{arg, waits, poll_waits, scene_at, answers_by, answers}
+use Rattle.call_laws.specs.Laws.{kept_by, kept_call, takes_time}
+use Rattle.host_calls.specs.Parts.{PartsRecord, Place, Scene, place_in}
+use Rattle.host_calls.specs.Polling.{entry_size, poll_limit, poll_time, poll_entries, nothing_came, count_told, poll_found, poll_asked}
+use Rattle.host_calls.specs.Times.{kept_or, at_nanos, deadline_of, sleep_time, sleep_asked}
+use Rattle.guest_args.specs.Time.{deadline_after}
+use Rattle.call_laws.proofs.Waits.{Never, is_wait-is, nevers, never_bind, never_then, never_refuse_if, ends_bind}
+
+-- the first deadline is kept
+kept_or-first : (kept : Option Why) (why : Why) (deadline computed : Time) → kept ≡ Some why → why.deadline ≡ Some deadline → kept_or kept computed ≡ deadline
+kept_or-first None why deadline computed e first = cc
+kept_or-first (Some other) why deadline computed e first =
+    let same : other ≡ why = cc in
+    ap (λ (o : Option Time). unwrap_or o computed) (ap (λ (w : Why). w.deadline) same ∙ first)
+
+kept_or-come : (kept : Option Why) (why : Why) (deadline computed now : Time) → kept ≡ Some why → why.deadline ≡ Some deadline → deadline.nanos ≤ now.nanos
+    → (kept_or kept computed).nanos ≤ now.nanos
+kept_or-come kept why deadline computed now e first come = subst (λ (x : Time). x.nanos ≤ now.nanos) (sym (kept_or-first kept why deadline computed e first)) come
+
+come-never : (now deadline : Time) → deadline.nanos ≤ now.nanos → Never (refuse_if (nat_lt now.nanos deadline.nanos) (refusal.Wait (Some deadline)))
+come-never now deadline come = let past : nat_lt now.nanos deadline.nanos ≡ false = grind (arith, nat_tests) in rw past refl
+
+sleep_time-never : (clock flags at : ℕ) (task : Task) → Never (sleep_time clock flags at task)
+sleep_time-never clock flags at task = search nevers
+
+sleep-never : (now : Time) (clock flags at : ℕ) (task : Task) (why : Why) (deadline : Time) → task.kept ≡ Some why → why.deadline ≡ Some deadline → deadline.nanos ≤ now.nanos
+    → Never (sleep_asked now clock flags at task)
+sleep-never now clock flags at task why deadline e first come =
+    never_bind (sleep_time clock flags at task) _ (sleep_time-never clock flags at task)
+    (λ time. come-never now (kept_or task.kept (at_nanos (deadline_of flags clock now time))) (kept_or-come task.kept why deadline _ now e first come))
+
+-- ppoll(2)
+came-is : (found : Bool) → (found && not true) ≡ false
+came-is true = refl
+came-is false = refl
+
+found-never : (now : Time) (found : ℕ) (deadline : Time) → deadline.nanos ≤ now.nanos
+    → Never (refuse_if (nothing_came now found (Some deadline)) (refusal.Wait (Some deadline)) >> Ok found)
+found-never now found deadline come =
+    let past : nat_le deadline.nanos now.nanos ≡ true = grind (arith, nat_tests) in rw past (rw (came-is (found == 0)) refl)
+
+poll_time-never : (at : ℕ) (task : Task) → Never (poll_time at task.memory)
+poll_time-never at task = search nevers
+
+timed : {A B C : Type 0} (r : Result A Refusal) (g : A → C) (f : C → Result B Refusal) → Never r → ((a : A) → Never (f (g a))) → Never ((r >>= λ a. Ok (g a)) >>= f)
+timed (Ok a) g f h k = k a
+timed (Err e) g f h k = h
+
+deadline-never : {B : Type 0} (null : Bool) (now : Time) (at : ℕ) (task : Task) (f : Option Time → Result B Refusal) → null ≡ false → ((time : Moment) → Never (f (poll_limit now task time)))
+    → Never ((if null then Ok None else (poll_time at task.memory >>= λ time. Ok (poll_limit now task time))) >>= f)
+deadline-never true now at task f e k = cc
+deadline-never false now at task f e k = timed (poll_time at task.memory) (poll_limit now task) f (poll_time-never at task) k
+
+poll_found-never : (now : Time) (count limit_at : ℕ) (entries : List ℕ) (s : Scene) (why : Why) (deadline : Time) → (limit_at == 0) ≡ false → s.task.kept ≡ Some why → why.deadline ≡ Some deadline
+    → deadline.nanos ≤ now.nanos → Never (poll_found now count limit_at entries s)
+poll_found-never now count limit_at entries s why deadline given e first come =
+    deadline-never (limit_at == 0) now limit_at s.task _ given
+    (λ time. found-never now (count_told now s count entries) (kept_or s.task.kept (at_nanos (deadline_after now.nanos time))) (kept_or-come s.task.kept why deadline _ now e first come))
+
+poll_entries-never : (at size : ℕ) (task : Task) → Never (poll_entries at size task.memory)
+poll_entries-never at size task = search nevers
+
+poll-never : (now : Time) (at count limit_at : ℕ) (s : Scene) (why : Why) (deadline : Time) → (limit_at == 0) ≡ false → s.task.kept ≡ Some why → why.deadline ≡ Some deadline
+    → deadline.nanos ≤ now.nanos → Never (poll_waits now at count limit_at s)
+poll-never now at count limit_at s why deadline given e first come =
+    ends_bind (poll_asked now at count limit_at s) _ (λ found. refl)
+    ∙ never_then (refuse_if (nat_lt 256 count) (refusal.Errno Einval)) _ (never_refuse_if (nat_lt 256 count) Einval)
+    (never_bind (poll_entries at (entry_size * count) s.task.memory) _ (poll_entries-never at (entry_size * count) s.task)
+    (λ entries. poll_found-never now count limit_at entries s why deadline given e first come))
+
+not-is : (b : Bool) → not b ≡ true → b ≡ false
+not-is true e = cc
+not-is false e = refl
+
+waits-never : (known : Known) (now : Time) (c : Option Call) (args : List ℕ) (s : Scene) (why : Why) (deadline : Time) → takes_time c args ≡ true → s.task.kept ≡ Some why
+    → why.deadline ≡ Some deadline → deadline.nanos ≤ now.nanos → Never (waits known now c args s)
+waits-never known now None args s why deadline timed e first come = refl
+waits-never known now (Some (system_call.Plain plain.ClockNanosleep)) args s why deadline timed e first come =
+    sleep-never now (arg args 0) (arg args 1) (arg args 2) s.task why deadline e first come
+waits-never known now (Some (system_call.Plain plain.Fcntl)) args s why deadline timed e first come = refl
+waits-never known now (Some (system_call.Plain plain.Openat)) args s why deadline timed e first come = refl
+waits-never known now (Some (system_call.Plain plain.Pipe2)) args s why deadline timed e first come = refl
+waits-never known now (Some (system_call.Plain plain.TimerfdCreate)) args s why deadline timed e first come = refl
+waits-never known now (Some (system_call.Plain plain.Getpid)) args s why deadline timed e first come = refl
+waits-never known now (Some (system_call.Plain plain.Setsockopt)) args s why deadline timed e first come = refl
+waits-never known now (Some (system_call.Plain plain.Brk)) args s why deadline timed e first come = refl
+waits-never known now (Some (system_call.Plain plain.Getrandom)) args s why deadline timed e first come = refl
+waits-never known now (Some (system_call.Plain plain.ClockGettime)) args s why deadline timed e first come = refl
+waits-never known now (Some (system_call.Plain plain.TimerfdSettime)) args s why deadline timed e first come = refl
+waits-never known now (Some (system_call.Network n)) args s why deadline timed e first come = cc
+waits-never known now (Some system_call.Close) args s why deadline timed e first come = refl
+waits-never known now (Some system_call.Read) args s why deadline timed e first come = cc
+waits-never known now (Some system_call.Write) args s why deadline timed e first come = cc
+waits-never known now (Some system_call.Ppoll) args s why deadline timed e first come =
+    poll-never now (arg args 0) (arg args 1) (arg args 2) s why deadline (not-is (arg args 2 == 0) timed) e first come
+waits-never known now (Some system_call.Exit) args s why deadline timed e first come = refl
+
+place-come : (known : Known) (now : Time) (why : Why) (deadline : Time) (task : Option Task) (p : Place) → kept_by task ≡ Some why → why.deadline ≡ Some deadline
+    → takes_time (call_of why.number) why.args ≡ true → deadline.nanos ≤ now.nanos → answers_by known now why task p ≡ true
+place-come known now why deadline None p e first timed come = refl
+place-come known now why deadline (Some task) p e first timed come =
+    ap not (is_wait-is (waits known now (call_of why.number) why.args (scene_at task p))
+    ∙ waits-never known now (call_of why.number) why.args (scene_at task p) why deadline timed e first come)
+
+-- a call whose deadline has come answers
+pub deadline-answers : (known : Known) (now : Time) (process : ℕ) (why : Why) (h : PartsRecord) (deadline : Time) → kept_call process h ≡ Some why → why.deadline ≡ Some deadline
+    → takes_time (call_of why.number) why.args ≡ true → deadline.nanos ≤ now.nanos → answers known now process why h ≡ true
+deadline-answers known now process why h deadline e first timed come =
+    place-come known now why deadline (at process h.tasks) (place_in process h) e first timed come

@@ -1,0 +1,10 @@
+pub mod Deadlines
+pub mod DescriptorLaws
+pub mod Ends
+pub mod KeptCall
+pub mod KeptErrors
+pub mod NewDescriptors
+pub mod PlainWaits
+pub mod SocketNevers
+pub mod SocketWaits
+pub mod Waits

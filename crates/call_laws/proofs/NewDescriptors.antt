@@ -1,0 +1,143 @@
+-- A new descriptor is the least free one.
+use Rattle.std.proofs.Common.{◌≡◌, ℕ, ◌+◌, ◌-◌, ◌==◌, ◌%◌, Bool, not, Option, Some, None, Result, Ok, Err, refl, sym, ap, ◌∙◌, ◌||◌, nat_lt}
+use Rattle.sim_base.specs.declared.errno.Errno.TheVariants.{Eacces, Eafnosupport, Efault, Einval, Emfile, Enoent, Eprotonosupport}
+use Rattle.sim_base.specs.Refusals.{◌>>=◌, ◌>>◌, refuse_if, or_refuse}
+use Rattle.guest_args.specs.Span.{can_write}
+use Rattle.host_fds.specs.Descriptors.{Descriptors, limit, IsLowestFree}
+use Rattle.host_sockets.specs.declared.error.Refusal.{Refusal}
+use Rattle.host_sockets.specs.declared.error.Refusal.TheVariants as refusal
+use Rattle.host_sockets.specs.Accepting.{accept_asked, accepts_tcp}
+use Rattle.host_sockets.specs.Sockets.{SocketsRecord}
+use Rattle.host_calls.specs.declared.accepting.NewPlace.{NewPlace}
+use Rattle.host_calls.specs.declared.binding.NewSocket.{NewSocket}
+use Rattle.host_calls.specs.declared.files.Ends.{Ends}
+use Rattle.host_calls.specs.declared.parts.Task.{Task}
+use Rattle.host_calls.specs.declared.parts.Shared.{Shared}
+use Rattle.host_calls.specs.declared.sockets.OpenSocket.{OpenSocket}
+use Rattle.host_calls.specs.Descriptors.{lowest_free, free_from}
+use Rattle.host_calls.specs.Files.{path_length, is_hosts_path, openat_asked, openat, second_end, pipe2_asked}
+use Rattle.host_calls.specs.Flags.{beside_open}
+use Rattle.call_laws.specs.Laws.{IsFirstFree}
+use Rattle.host_calls.specs.Parts.{Scene, local_of}
+use Rattle.host_calls.specs.Scene.{Local, or_again}
+use Rattle.guest_args.specs.Address.{inet}
+use Rattle.host_calls.specs.Sockets.{is_stream, protocol_of, socket_asked, socket, tcp_number, result_address, accept_place, accept_call, accept, open_socket}
+use Rattle.host_calls.specs.Times.{create_asked, timerfd_create}
+use Rattle.call_laws.proofs.DescriptorLaws.{first_free-IsFirstFree, lowest_free-IsLowestFree}
+
+-- what answers wasn't refused on the way
+bind_ok : {A B : Type 0} (r : Result A Refusal) (f : A → Result B Refusal) (b : B) (P : Type 0) → r >>= f ≡ Ok b → ((a : A) → r ≡ Ok a → f a ≡ Ok b → P) → P
+bind_ok (Ok a) f b P e k = k a refl e
+bind_ok (Err x) f b P e k = let no : ⊥ = cc in absurd no
+
+then_ok : {A B : Type 0} (r : Result A Refusal) (q : Result B Refusal) (b : B) → r >> q ≡ Ok b → q ≡ Ok b
+then_ok (Ok a) q b e = e
+then_ok (Err x) q b e = cc
+
+or_refuse_ok : {A : Type 0} (o : Option A) (x : Refusal) (a : A) → or_refuse o x ≡ Ok a → o ≡ Some a
+or_refuse_ok None x a e = cc
+or_refuse_ok (Some b) x a e = cc
+
+again_ok : {A : Type 0} (b : Bool) (r : Result A Refusal) (a : A) → or_again b r ≡ Ok a → r ≡ Ok a
+again_ok b (Ok c) a e = e
+again_ok b (Err x) a e = cc
+
+abbrev answer_of : {S : Type 0} → Result (ℕ × S) Refusal → ℕ
+answer_of (Ok (n, s)) = n
+answer_of (Err x) = 0
+
+abbrev socket_fd : Result NewSocket Refusal → ℕ
+socket_fd (Ok new) = new.fd
+socket_fd (Err x) = 0
+
+abbrev place_fd : Result NewPlace Refusal → ℕ
+place_fd (Ok new) = new.fd
+place_fd (Err x) = 0
+
+-- openat(2)
+openat_asked-least : (path flags fd : ℕ) (task : Task) → openat_asked path flags task ≡ Ok fd → lowest_free task.table ≡ Some fd
+openat_asked-least path flags fd task e =
+    bind_ok (path_length path task.memory) _ fd (lowest_free task.table ≡ Some fd) e
+    (λ count p q. or_refuse_ok (lowest_free task.table) (refusal.Errno Emfile) fd (then_ok (refuse_if (not (flags % 4 == 0)) (refusal.Errno Eacces)) _ fd
+    (then_ok (refuse_if (not (is_hosts_path count path task.memory)) (refusal.Errno Enoent)) _ fd q)))
+
+pub openat-least : (path flags fd : ℕ) (task : Task) (shared : Shared) (after : Local) → openat path flags (task, shared) ≡ Ok (fd, after) → IsLowestFree task.table fd
+openat-least path flags fd task shared after e =
+    bind_ok (openat_asked path flags task) _ (fd, after) (IsLowestFree task.table fd) e
+    (λ n p q. lowest_free-IsLowestFree task.table fd (openat_asked-least path flags n task p ∙ ap (λ (k : ℕ). Some k) (ap (answer_of {S = Local}) q)))
+
+-- timerfd_create(2)
+create_asked-least : (clock flags fd : ℕ) (task : Task) → create_asked clock flags task ≡ Ok fd → lowest_free task.table ≡ Some fd
+create_asked-least clock flags fd task e =
+    or_refuse_ok (lowest_free task.table) (refusal.Errno Emfile) fd (then_ok (refuse_if (not (beside_open flags == 0)) (refusal.Errno Einval)) _ fd
+    (then_ok (refuse_if (nat_lt 1 clock) (refusal.Errno Einval)) _ fd e))
+
+pub timerfd_create-least : (clock flags fd : ℕ) (task : Task) (shared : Shared) (after : Local) → timerfd_create clock flags (task, shared) ≡ Ok (fd, after) → IsLowestFree task.table fd
+timerfd_create-least clock flags fd task shared after e =
+    bind_ok (create_asked clock flags task) _ (fd, after) (IsLowestFree task.table fd) e
+    (λ n p q. lowest_free-IsLowestFree task.table fd (create_asked-least clock flags n task p ∙ ap (λ (k : ℕ). Some k) (ap (answer_of {S = Local}) q)))
+
+-- socket(2)
+socket_asked-least : (family type protocol : ℕ) (task : Task) (new : NewSocket) → socket_asked family type protocol task ≡ Ok new → lowest_free task.table ≡ Some new.fd
+socket_asked-least family type protocol task new e =
+    bind_ok (is_stream (beside_open type)) _ new (lowest_free task.table ≡ Some new.fd) (then_ok (refuse_if (not (family == inet)) (refusal.Errno Eafnosupport)) _ new e)
+    (λ stream p q. bind_ok (or_refuse (lowest_free task.table) (refusal.Errno Emfile)) _ new (lowest_free task.table ≡ Some new.fd)
+    (then_ok (refuse_if (not (protocol == 0 || protocol == protocol_of stream)) (refusal.Errno Eprotonosupport)) _ new q)
+    (λ fd p' q'. or_refuse_ok (lowest_free task.table) (refusal.Errno Emfile) fd p' ∙ ap (λ (k : ℕ). Some k) (ap socket_fd q')))
+
+pub socket-least : (family type protocol fd : ℕ) (s after : Scene) → socket family type protocol s ≡ Ok (fd, after) → IsLowestFree s.task.table fd
+socket-least family type protocol fd s after e =
+    bind_ok (socket_asked family type protocol s.task) _ (fd, after) (IsLowestFree s.task.table fd) e
+    (λ new p q. lowest_free-IsLowestFree s.task.table fd (socket_asked-least family type protocol s.task new p ∙ ap (λ (k : ℕ). Some k) (ap (answer_of {S = Scene}) q)))
+
+-- accept(2)
+accept_place-least : (k at size_at : ℕ) (task : Task) (t : SocketsRecord) (new : NewPlace) → accept_place k at size_at task t ≡ Ok new → lowest_free task.table ≡ Some new.fd
+accept_place-least k at size_at task t new e =
+    bind_ok (result_address at size_at task.memory) _ new (lowest_free task.table ≡ Some new.fd) (then_ok (accept_asked k t) _ new e)
+    (λ place p q. bind_ok (or_refuse (lowest_free task.table) (refusal.Errno Emfile)) _ new (lowest_free task.table ≡ Some new.fd) q
+    (λ fd p' q'. or_refuse_ok (lowest_free task.table) (refusal.Errno Emfile) fd p' ∙ ap (λ (n : ℕ). Some n) (ap place_fd q')))
+
+accept_call-least : (o : OpenSocket) (at size_at fd : ℕ) (s after : Scene) → accept_call o at size_at s ≡ Ok (fd, after) → lowest_free s.task.table ≡ Some fd
+accept_call-least o at size_at fd s after e =
+    bind_ok (tcp_number o.number) _ (fd, after) (lowest_free s.task.table ≡ Some fd) e
+    (λ k p q. bind_ok (accept_place k at size_at s.task s.sockets) _ (fd, after) (lowest_free s.task.table ≡ Some fd) q
+    (λ new p' q'. bind_ok (accepts_tcp k s.sockets) _ (fd, after) (lowest_free s.task.table ≡ Some fd) q'
+    (λ a p'' q''. accept_place-least k at size_at s.task s.sockets new p' ∙ ap (λ (n : ℕ). Some n) (ap (answer_of {S = Scene}) q''))))
+
+pub accept-least : (from at size_at fd : ℕ) (s after : Scene) → accept from at size_at s ≡ Ok (fd, after) → IsLowestFree s.task.table fd
+accept-least from at size_at fd s after e =
+    bind_ok (open_socket from (local_of s)) _ (fd, after) (IsLowestFree s.task.table fd) e
+    (λ o p q. lowest_free-IsLowestFree s.task.table fd (accept_call-least o at size_at fd s after (again_ok o.nonblocking (accept_call o at size_at s) (fd, after) q)))
+
+-- pipe(2)
+abbrev reading_of : Result Ends Refusal → ℕ
+reading_of (Ok fds) = fds.reading
+reading_of (Err x) = 0
+
+abbrev writing_of : Result Ends Refusal → ℕ
+writing_of (Ok fds) = fds.writing
+writing_of (Err x) = 0
+
+second_end-reading : (reading : ℕ) (table : Descriptors) (fds : Ends) → second_end reading table ≡ Ok fds → reading ≡ fds.reading
+second_end-reading reading table fds e =
+    bind_ok (or_refuse (free_from table (reading + 1)) (refusal.Errno Emfile)) _ fds (reading ≡ fds.reading) e (λ writing p q. ap reading_of q)
+
+second_end-writing : (reading : ℕ) (table : Descriptors) (fds : Ends) → second_end reading table ≡ Ok fds → free_from table (reading + 1) ≡ Some fds.writing
+second_end-writing reading table fds e =
+    bind_ok (or_refuse (free_from table (reading + 1)) (refusal.Errno Emfile)) _ fds (free_from table (reading + 1) ≡ Some fds.writing) e
+    (λ writing p q. or_refuse_ok (free_from table (reading + 1)) (refusal.Errno Emfile) writing p ∙ ap (λ (n : ℕ). Some n) (ap writing_of q))
+
+pub pipe2-reading : (at flags : ℕ) (task : Task) (fds : Ends) → pipe2_asked at flags task ≡ Ok fds → IsLowestFree task.table fds.reading
+pipe2-reading at flags task fds e =
+    bind_ok (or_refuse (lowest_free task.table) (refusal.Errno Emfile)) _ fds (IsLowestFree task.table fds.reading)
+    (then_ok (refuse_if (not (can_write 8 at task.memory)) (refusal.Errno Efault)) _ fds (then_ok (refuse_if (not (beside_open flags == 0)) (refusal.Errno Einval)) _ fds e))
+    (λ reading p q. lowest_free-IsLowestFree task.table fds.reading
+    (or_refuse_ok (lowest_free task.table) (refusal.Errno Emfile) reading p ∙ ap (λ (n : ℕ). Some n) (second_end-reading reading task.table fds q)))
+
+pub pipe2-writing : (at flags : ℕ) (task : Task) (fds : Ends) → pipe2_asked at flags task ≡ Ok fds
+    → IsFirstFree task.table (fds.reading + 1) (limit - (fds.reading + 1)) fds.writing
+pipe2-writing at flags task fds e =
+    bind_ok (or_refuse (lowest_free task.table) (refusal.Errno Emfile)) _ fds (IsFirstFree task.table (fds.reading + 1) (limit - (fds.reading + 1)) fds.writing)
+    (then_ok (refuse_if (not (can_write 8 at task.memory)) (refusal.Errno Efault)) _ fds (then_ok (refuse_if (not (beside_open flags == 0)) (refusal.Errno Einval)) _ fds e))
+    (λ reading p q. first_free-IsFirstFree task.table (fds.reading + 1) (limit - (fds.reading + 1)) fds.writing
+    (ap (λ (n : ℕ). free_from task.table (n + 1)) (sym (second_end-reading reading task.table fds q)) ∙ second_end-writing reading task.table fds q))

@@ -1,0 +1,102 @@
+-- Of the calls that need no sockets only clock_nanosleep waits.
+use Rattle.std.proofs.Common.{ℕ, zero, suc, ◌+◌, Bool, List, Ok, refl, nat_lt}
+use Rattle.sim_base.specs.declared.errno.Errno.TheVariants.{Efault, Einval}
+use Rattle.sim_base.specs.declared.time.Time.{Time}
+use Rattle.sim_base.specs.Refusals.{◌>>=◌, ◌>>◌, refuse_if, or_refuse}
+use Rattle.guest_mem.specs.Memory.{Memory}
+use Rattle.host_files.specs.declared.file.Object.{Object}
+use Rattle.host_files.specs.declared.file.Object.TheVariants as kind
+use Rattle.host_sockets.specs.declared.error.Refusal.TheVariants as refusal
+use Rattle.host_calls.specs.declared.call.PlainCall.{PlainCall}
+use Rattle.host_calls.specs.declared.call.PlainCall.TheVariants as plain
+use Rattle.host_calls.specs.declared.descriptors.Descriptor.{Descriptor}
+use Rattle.host_calls.specs.declared.parts.Task.{Task}
+use Rattle.host_calls.specs.declared.parts.Shared.{Shared}
+use Rattle.guest_args.specs.Span.{span}
+use Rattle.guest_args.specs.Time.{timespec}
+use Rattle.host_timers.specs.declared.clock.Moment.{Moment}
+use Rattle.host_calls.specs.declared.times.Setting.{Setting}
+use Rattle.host_calls.specs.Calls.{arg, plain_row, plain_waits}
+use Rattle.host_calls.specs.Files.{fcntl, fcntl_by, length_from, openat, pipe2_asked, pipe2}
+use Rattle.host_calls.specs.Guest.{getrandom}
+use Rattle.host_calls.specs.Scene.{Local}
+use Rattle.host_calls.specs.Sockets.{setsockopt}
+use Rattle.host_calls.specs.Times.{clock_gettime, timerfd_create, timer_number, old_timer, settime_asked, timerfd_settime}
+use Rattle.call_laws.proofs.Waits.{Never, Same, nevers, never_bind, never_then, never_or_refuse, never_refuse_if, ends_then}
+
+fcntl_by-never : (command flags : ℕ) (d : Descriptor) (s : Local) → Never (fcntl_by command flags d s)
+fcntl_by-never command flags d (task, shared) = search nevers
+
+fcntl-never : (fd command flags : ℕ) (task : Task) (shared : Shared) → Never (fcntl fd command flags (task, shared))
+fcntl-never fd command flags task shared = search (nevers, fcntl_by-never)
+
+length_from-never : (count left at : ℕ) (memory : Memory) → Never (length_from count left at memory)
+unfolding length_from
+length_from-never count zero at memory = refl
+length_from-never count (suc left) at memory = search (nevers, length_from-never (count + 1) left at memory)
+
+openat-never : (path flags : ℕ) (task : Task) (shared : Shared) → Never (openat path flags (task, shared))
+openat-never path flags task shared = search (nevers, length_from-never)
+
+pipe2_asked-never : (at flags : ℕ) (task : Task) → Never (pipe2_asked at flags task)
+pipe2_asked-never at flags task = search nevers depth 8
+
+pipe2-never : (at flags : ℕ) (task : Task) (shared : Shared) → Never (pipe2 at flags (task, shared))
+pipe2-never at flags task shared = never_bind (pipe2_asked at flags task) _ (pipe2_asked-never at flags task) (λ fds. refl)
+
+timerfd_create-never : (clock flags : ℕ) (task : Task) (shared : Shared) → Never (timerfd_create clock flags (task, shared))
+timerfd_create-never clock flags task shared = search nevers
+
+setsockopt-never : (fd level option at n : ℕ) (task : Task) (shared : Shared) → Never (setsockopt fd level option at n (task, shared))
+setsockopt-never fd level option at n task shared = search nevers
+
+getrandom-never : (at n flags : ℕ) (task : Task) (shared : Shared) → Never (getrandom at n flags (task, shared))
+getrandom-never at n flags task shared = search nevers
+
+clock_gettime-never : (now : Time) (clock at : ℕ) (task : Task) (shared : Shared) → Never (clock_gettime now clock at (task, shared))
+clock_gettime-never now clock at task shared = search nevers
+
+timer_number-never : (object : Object) → Never (timer_number object)
+timer_number-never kind.Input = refl
+timer_number-never kind.Output = refl
+timer_number-never kind.Errors = refl
+timer_number-never (kind.Hosts read) = refl
+timer_number-never (kind.ReadEnd k) = refl
+timer_number-never (kind.WriteEnd k) = refl
+timer_number-never (kind.Timer k) = refl
+timer_number-never (kind.Udp k) = refl
+timer_number-never (kind.Tcp k) = refl
+
+abbrev setting : Moment → Moment → Setting
+setting interval value = record { interval = interval; value = value }
+
+old_timer-never : (now : Time) (fd : ℕ) (task : Task) (shared : Shared) → Never (old_timer now fd task shared.files)
+old_timer-never now fd task shared = search (nevers, timer_number-never)
+
+settime_values-never : (bytes : List ℕ) (writable : Bool) → Never (refuse_if writable (refusal.Errno Efault) >> (or_refuse (timespec 0 bytes) (refusal.Errno Einval)
+    >>= λ interval. or_refuse (timespec 16 bytes) (refusal.Errno Einval) >>= λ value. Ok (setting interval value)))
+settime_values-never bytes writable = search nevers
+
+settime_asked-never : (flags at old_at : ℕ) (task : Task) → Never (settime_asked flags at old_at task)
+settime_asked-never flags at old_at task =
+    never_then (refuse_if (nat_lt 1 flags) (refusal.Errno Einval)) _ (never_refuse_if (nat_lt 1 flags) Einval)
+    (never_bind (or_refuse (span 32 at task.memory) (refusal.Errno Efault)) _ (never_or_refuse (span 32 at task.memory) Efault) (λ bytes. settime_values-never bytes _))
+
+timerfd_settime-never : (now : Time) (fd flags at old_at : ℕ) (task : Task) (shared : Shared) → Never (timerfd_settime now fd flags at old_at (task, shared))
+timerfd_settime-never now fd flags at old_at task shared =
+    never_bind (old_timer now fd task shared.files) _ (old_timer-never now fd task shared)
+    (λ old. never_bind (settime_asked flags at old_at task) _ (settime_asked-never flags at old_at task) (λ s. refl))
+
+pub plain_same : (now : Time) (process : ℕ) (p : PlainCall) (args : List ℕ) (task : Task) (shared : Shared)
+    → Same (plain_row now process p args (task, shared)) (plain_waits now p args task)
+plain_same now process plain.Fcntl args task shared = fcntl-never (arg args 0) (arg args 1) (arg args 2) task shared
+plain_same now process plain.Openat args task shared = openat-never (arg args 1) (arg args 2) task shared
+plain_same now process plain.Pipe2 args task shared = pipe2-never (arg args 0) (arg args 1) task shared
+plain_same now process plain.TimerfdCreate args task shared = timerfd_create-never (arg args 0) (arg args 1) task shared
+plain_same now process plain.Getpid args task shared = refl
+plain_same now process plain.Setsockopt args task shared = setsockopt-never (arg args 0) (arg args 1) (arg args 2) (arg args 3) (arg args 4) task shared
+plain_same now process plain.Brk args task shared = refl
+plain_same now process plain.Getrandom args task shared = getrandom-never (arg args 0) (arg args 1) (arg args 2) task shared
+plain_same now process plain.ClockGettime args task shared = clock_gettime-never now (arg args 0) (arg args 1) task shared
+plain_same now process plain.ClockNanosleep args task shared = ends_then _ _ refl
+plain_same now process plain.TimerfdSettime args task shared = timerfd_settime-never now (arg args 0) (arg args 1) (arg args 2) (arg args 3) task shared

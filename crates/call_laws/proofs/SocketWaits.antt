@@ -1,0 +1,208 @@
+-- Of the calls on sockets accept, connect, send and recv wait, exactly where what they wait for says so.
+use Rattle.std.proofs.Common.{◌≡◌, ℕ, zero, suc, ◌+◌, Bool, false, not, List, [], ◌∷◌, length, Option, Some, None, is_some, is_none, Result, Ok, Err, refl, ap, ◌∙◌, nat_lt, if◌then◌else◌, arith}
+use Rattle.std.proofs.lemmas.Bool.Decides.{nat_tests}
+use Rattle.sim_base.specs.declared.address.Addr.{Addr}
+use Rattle.sim_base.specs.declared.address.Ip.{Ip}
+use Rattle.sim_base.specs.declared.errno.Errno as errno_type
+use Rattle.sim_base.specs.declared.errno.Errno.TheVariants.{Ebadf}
+use Rattle.sim_base.specs.declared.time.Time.{Time}
+use Rattle.sim_base.specs.Refusals.{◌>>=◌, or_refuse}
+use Rattle.guest_mem.specs.Memory.{Memory, with_first, byte_for, read}
+use Rattle.guest_mem.specs.declared.right.Right.{Right}
+use Rattle.guest_mem.specs.declared.right.Right.TheVariants.{Read}
+use Rattle.guest_args.specs.Span.{counted, span}
+use Rattle.sock_udp.specs.Socket.{UdpState}
+use Rattle.sock_udp.specs.declared.datagram.Datagram.{Datagram}
+use Rattle.host_sockets.specs.declared.error.Refusal.{Refusal}
+use Rattle.host_sockets.specs.declared.error.Refusal.TheVariants as refusal
+use Rattle.host_sockets.specs.declared.reply.Reply.{Reply}
+use Rattle.host_sockets.specs.declared.reply.Reply.TheVariants.{Done, Failed}
+use Rattle.host_sockets.specs.Refusals.{by_errno, waits_if}
+use Rattle.host_sockets.specs.Wanted.{Wanted}
+use Rattle.host_sockets.specs.Sockets.{SocketsRecord}
+use Rattle.host_sockets.specs.Udp.{binds_udp, connects_udp, sends_udp, only_state, udp_fits, receives_udp, recv_udp_asked, oldest_datagram, udp_in}
+use Rattle.host_sockets.specs.Accepting.{accepts_tcp, accept_asked, accept_ready, accepts_at}
+use Rattle.host_sockets.specs.Connecting.{taking, without_change, connect_waited, connect_answers}
+use Rattle.host_sockets.specs.Moving.{send_asked, sends_bytes, sends_taking, recv_asked, receives_bytes, receives_taking}
+use Rattle.host_calls.specs.declared.parts.Reaction.{Reaction}
+use Rattle.host_calls.specs.declared.parts.Why.{Why}
+use Rattle.host_calls.specs.declared.receiving.Room.{Room}
+use Rattle.host_calls.specs.declared.sending.Message.{Message}
+use Rattle.host_calls.specs.declared.sockets.OpenSocket.{OpenSocket}
+use Rattle.host_calls.specs.declared.sockets.SocketNumber.{SocketNumber}
+use Rattle.host_calls.specs.declared.sockets.SocketNumber.TheVariants as number
+use Rattle.host_calls.specs.Flags.{has, msg_nosignal}
+use Rattle.host_calls.specs.Parts.{Scene, local_of}
+use Rattle.host_calls.specs.Sockets.{tcp_number, address, given_address, accept_place, accept_call, accept, accept_wait, accept_waits, connected, connect_udp, connect_again, connect_call, connect, connect_wait, connect_waits, refuse_flags, is_quick, send_udp, send_tcp, send_call, send, send_tcp_wait, send_wait, send_waits, recv_place, recv_call, recv, recv_wait, recv_waits, open_socket}
+use Rattle.call_laws.proofs.Waits.{Never, Same, waits_in, reaction_waits, nevers, never_bind, same_bind, same_then, ends_bind, ends_then, same_again, span_same}
+
+-- where a row answers a reaction
+reaction_bind : {A : Type 0} (r : Result A Refusal) (f : A → Result (Reaction × Scene) Refusal) → ((a : A) → reaction_waits (f a) ≡ false) → reaction_waits (r >>= f) ≡ waits_in r
+reaction_bind (Ok a) f k = k a
+reaction_bind (Err e) f k = refl
+
+reaction_same : {A B : Type 0} (r : Result A Refusal) (f : A → Result (Reaction × Scene) Refusal) (g : A → Result B Refusal) → ((a : A) → reaction_waits (f a) ≡ waits_in (g a))
+    → reaction_waits (r >>= f) ≡ waits_in (r >>= g)
+reaction_same (Ok a) f g k = k a
+reaction_same (Err e) f g k = refl
+
+-- what never waits
+pub by_errno-never : {A : Type 0} (r : Result A errno_type.Errno) → Never (by_errno r)
+by_errno-never (Ok a) = refl
+by_errno-never (Err e) = refl
+
+only_state-never : (r : Result UdpState Refusal) → Never r → Never (only_state r)
+only_state-never (Ok u) h = refl
+only_state-never (Err e) h = h
+
+pub binds_udp-never : (hosts : List Ip) (k : ℕ) (to : Addr) (t : SocketsRecord) → Never (binds_udp hosts k to t)
+unfolding binds_udp
+binds_udp-never hosts k to t = search (nevers, by_errno-never, only_state-never)
+
+pub connects_udp-never : (hosts : List Ip) (k : ℕ) (to : Addr) (t : SocketsRecord) → Never (connects_udp hosts k to t)
+unfolding connects_udp
+connects_udp-never hosts k to t = search (nevers, by_errno-never, only_state-never)
+
+sends_udp-never : (hosts : List Ip) (k : ℕ) (bytes : List ℕ) (to : Option Addr) (t : SocketsRecord) → Never (sends_udp hosts k bytes to t)
+unfolding sends_udp
+sends_udp-never hosts k bytes to t = search (nevers, by_errno-never)
+
+address-never : (at size : ℕ) (memory : Memory) → Never (address at size memory)
+address-never at size memory = search nevers
+
+given_address-never : (at size : ℕ) (memory : Memory) → Never (given_address at size memory)
+given_address-never at size memory = search (nevers, address-never)
+
+udp_fits-never : (k count : ℕ) (given : Bool) (t : SocketsRecord) → Never (udp_fits k count given t)
+udp_fits-never k count given t = search nevers
+
+send_udp-never : (hosts : List Ip) (k : ℕ) (message : Message) (s : Scene) → Never (send_udp hosts k message s)
+send_udp-never hosts k message s = search (nevers, udp_fits-never, given_address-never, sends_udp-never)
+
+connect_udp-never : (hosts : List Ip) (k at size : ℕ) (s : Scene) → reaction_waits (connect_udp hosts k at size s) ≡ false
+connect_udp-never hosts k at size s =
+    reaction_same (address at size s.task.memory) _ (λ to. connects_udp hosts k to s.sockets) (λ to. reaction_bind (connects_udp hosts k to s.sockets) _ (λ a. refl))
+    ∙ never_bind (address at size s.task.memory) _ (address-never at size s.task.memory) (λ to. connects_udp-never hosts k to s.sockets)
+
+-- an error that is taken
+taking-is : {A : Type 0} (now : Time) (k : ℕ) (r : Result (A × (SocketsRecord × Wanted)) Refusal) (t : SocketsRecord) (w : Wanted) → Same (taking now k r t w) r
+taking-is now k (Ok (a, after)) t w = refl
+taking-is now k (Err (refusal.Kept errno)) t w = refl
+taking-is now k (Err (refusal.Errno errno)) t w = refl
+taking-is now k (Err (refusal.Wait until)) t w = refl
+taking-is now k (Err (refusal.End state)) t w = refl
+
+without_change-is : {A : Type 0} (t : SocketsRecord) (w : Wanted) (r : Result A Refusal) → Same (without_change t w r) r
+without_change-is t w (Ok a) = refl
+without_change-is t w (Err e) = refl
+
+-- accept(2)
+or_wait-is : {A : Type 0} (o : Option A) → Same (or_refuse o (refusal.Wait None)) (waits_if (is_none o))
+or_wait-is None = refl
+or_wait-is (Some a) = refl
+
+accepts-same : (k : ℕ) (t : SocketsRecord) → Same (accepts_tcp k t) (accept_ready k t)
+unfolding accepts_tcp
+accepts-same k t = same_then (accept_asked k t) _ _ (ends_bind (or_refuse (accepts_at k t) (refusal.Wait None)) _ (λ a. refl) ∙ or_wait-is (accepts_at k t))
+
+accept_call-same : (socket : OpenSocket) (at size_at : ℕ) (s : Scene) → Same (accept_call socket at size_at s) (accept_wait socket at size_at s.task s.sockets)
+accept_call-same socket at size_at s =
+    same_bind (tcp_number socket.number) _ _ (λ k. same_bind (accept_place k at size_at s.task s.sockets) _ _
+    (λ new. ends_bind (accepts_tcp k s.sockets) _ (λ a. refl) ∙ accepts-same k s.sockets))
+
+pub accept-same : (fd at size_at : ℕ) (s : Scene) → Same (accept fd at size_at s) (accept_waits fd at size_at s)
+accept-same fd at size_at s =
+    same_bind (open_socket fd (local_of s)) _ _
+    (λ socket. same_again socket.nonblocking (accept_call socket at size_at s) (accept_wait socket at size_at s.task s.sockets) (accept_call-same socket at size_at s))
+
+-- connect(2) that is called again
+connected-answers : (reply : Reply (Unit {0})) (s : Scene) → reaction_waits (Ok (connected reply, s)) ≡ false
+connected-answers (Done done) s = refl
+connected-answers (Failed errno) s = refl
+
+connect_answers-is : (now : Time) (k : ℕ) (t : SocketsRecord) (w : Wanted) → Same (connect_answers now k t w) (connect_waited k t)
+unfolding connect_answers
+connect_answers-is now k t w = taking-is now k (without_change t w (connect_waited k t)) t w ∙ without_change-is t w (connect_waited k t)
+
+connect_again-same : (now : Time) (k : ℕ) (s : Scene) → reaction_waits (connect_again now k s) ≡ waits_in (connect_waited k s.sockets)
+connect_again-same now k s =
+    reaction_bind (connect_answers now k s.sockets s.shared.outlet) _ (λ a. connected-answers a.0 _) ∙ connect_answers-is now k s.sockets s.shared.outlet
+
+kept_branch : (o : Option Why) (why : Why) (x y : Result (Reaction × Scene) Refusal) → o ≡ Some why → reaction_waits (if is_some o then x else y) ≡ reaction_waits x
+kept_branch None why x y e = cc
+kept_branch (Some first) why x y e = refl
+
+connect_call-same : (hosts : List Ip) (now : Time) (nonblocking : Bool) (n : SocketNumber) (at size : ℕ) (s : Scene) (why : Why) → s.task.kept ≡ Some why
+    → reaction_waits (connect_call hosts now nonblocking n at size s) ≡ waits_in (connect_wait n s.sockets)
+connect_call-same hosts now nonblocking (number.Udp k) at size s why e = connect_udp-never hosts k at size s
+connect_call-same hosts now nonblocking (number.Tcp k) at size s why e = kept_branch s.task.kept why _ _ e ∙ connect_again-same now k s
+
+pub connect-same : (hosts : List Ip) (now : Time) (fd at size : ℕ) (s : Scene) (why : Why) → s.task.kept ≡ Some why
+    → reaction_waits (connect hosts now fd at size s) ≡ waits_in (connect_waits fd s)
+connect-same hosts now fd at size s why e =
+    reaction_same (open_socket fd (local_of s)) _ _ (λ socket. connect_call-same hosts now socket.nonblocking socket.number at size s why e)
+
+-- a span of so many bytes has so many
+with_first-length : (b : Option ℕ) (o : Option (List ℕ)) (k : ℕ) → ((bytes : List ℕ) → o ≡ Some bytes → length bytes ≡ k) → (bytes : List ℕ) → with_first b o ≡ Some bytes → length bytes ≡ suc k
+with_first-length (Some byte) (Some rest) k h bytes e = let same : bytes ≡ byte ∷ rest = cc in ap length same ∙ ap suc (h rest refl)
+with_first-length (Some byte) None k h bytes e = cc
+with_first-length None o k h bytes e = cc
+
+read-length : (right : Right) (k : ℕ) (m : Memory) (a : ℕ) (bytes : List ℕ) → read right k m a ≡ Some bytes → length bytes ≡ k
+read-length right zero m a bytes e = let same : bytes ≡ [] = cc in ap length same
+read-length right (suc k) m a bytes e =
+    with_first-length (byte_for right m.cells a) (read right k m (a + 1)) k (read-length right k m (a + 1)) bytes e
+
+-- send(2)
+sends-same : (hosts : List Ip) (now : Time) (k : ℕ) (bytes : List ℕ) (to : Option Addr) (quiet : Bool) (t : SocketsRecord) (w : Wanted)
+    → Same (sends_taking hosts now k bytes to quiet t w) (send_asked hosts k (length bytes) to quiet t)
+unfolding sends_taking
+sends-same hosts now k bytes to quiet t w =
+    taking-is now k (sends_bytes hosts now k bytes to quiet t w) t w ∙ ends_then (send_asked hosts k (length bytes) to quiet t) _ refl
+
+send_tcp-same : (hosts : List Ip) (now : Time) (k : ℕ) (quiet : Bool) (message : Message) (s : Scene)
+    → Same (send_tcp hosts now k quiet message s) (send_tcp_wait hosts k quiet message s.task.memory s.sockets)
+send_tcp-same hosts now k quiet message s =
+    span_same (span (counted message.n) message.at s.task.memory) _ _ (λ bytes is. same_bind (given_address message.to_at message.size s.task.memory) _ _
+    (λ to. ends_bind (sends_taking hosts now k bytes to quiet s.sockets s.shared.outlet) _ (λ a. refl) ∙ sends-same hosts now k bytes to quiet s.sockets s.shared.outlet
+    ∙ ap (λ (count : ℕ). waits_in (send_asked hosts k count to quiet s.sockets)) (read-length Read (counted message.n) s.task.memory message.at bytes is)))
+
+send_call-same : (hosts : List Ip) (now : Time) (n : SocketNumber) (quiet : Bool) (message : Message) (s : Scene)
+    → Same (send_call hosts now n quiet message s) (send_wait hosts n quiet message s.task.memory s.sockets)
+send_call-same hosts now (number.Udp k) quiet message s = send_udp-never hosts k message s
+send_call-same hosts now (number.Tcp k) quiet message s = send_tcp-same hosts now k quiet message s
+
+pub send-same : (hosts : List Ip) (now : Time) (socket : OpenSocket) (flags : ℕ) (message : Message) (s : Scene)
+    → Same (send hosts now socket flags message s) (send_waits hosts socket flags message s.task.memory s.sockets)
+send-same hosts now socket flags message s =
+    same_then (refuse_flags flags) _ _ (same_again (is_quick socket.nonblocking flags) (send_call hosts now socket.number (has msg_nosignal flags) message s)
+    (send_wait hosts socket.number (has msg_nosignal flags) message s.task.memory s.sockets) (send_call-same hosts now socket.number (has msg_nosignal flags) message s))
+
+-- recv(2)
+is_positive : (n : ℕ) → false ≡ not (nat_lt 0 (suc n))
+is_positive n = grind (arith, nat_tests)
+
+oldest-same : (u : UdpState) (waiting : List Datagram) (count : ℕ) → Same (oldest_datagram u waiting count) (waits_if (not (nat_lt 0 (length waiting))))
+oldest-same u [] count = refl
+oldest-same u (datagram ∷ behind) count = ap (λ (b : Bool). waits_in (waits_if b)) (is_positive (length behind))
+
+receives_udp-same : (k count : ℕ) (t : SocketsRecord) → Same (receives_udp k count t) (recv_udp_asked k t)
+unfolding receives_udp
+receives_udp-same k count t =
+    same_bind (or_refuse (udp_in k t) (refusal.Errno Ebadf)) _ _ (λ u. ends_bind (oldest_datagram u u.waiting count) _ (λ a. refl) ∙ oldest-same u u.waiting count)
+
+receives-same : (now : Time) (k count : ℕ) (t : SocketsRecord) (w : Wanted) → Same (receives_taking now k count t w) (recv_asked k t)
+unfolding receives_taking
+receives-same now k count t w = taking-is now k (receives_bytes now k count t w) t w ∙ ends_then (recv_asked k t) _ refl
+
+recv_call-same : (now : Time) (n : SocketNumber) (room : Room) (s : Scene) → Same (recv_call now n room s) (recv_wait n room s.task.memory s.sockets)
+recv_call-same now (number.Udp k) room s =
+    same_bind (recv_place room s.task.memory) _ _ (λ place. ends_bind (receives_udp k (counted room.n) s.sockets) _ (λ a. refl) ∙ receives_udp-same k (counted room.n) s.sockets)
+recv_call-same now (number.Tcp k) room s =
+    same_bind (recv_place room s.task.memory) _ _
+    (λ place. ends_bind (receives_taking now k (counted room.n) s.sockets s.shared.outlet) _ (λ a. refl) ∙ receives-same now k (counted room.n) s.sockets s.shared.outlet)
+
+pub recv-same : (now : Time) (socket : OpenSocket) (flags : ℕ) (room : Room) (s : Scene) → Same (recv now socket flags room s) (recv_waits socket flags room s.task.memory s.sockets)
+recv-same now socket flags room s =
+    same_then (refuse_flags flags) _ _ (same_again (is_quick socket.nonblocking flags) (recv_call now socket.number room s)
+    (recv_wait socket.number room s.task.memory s.sockets) (recv_call-same now socket.number room s))

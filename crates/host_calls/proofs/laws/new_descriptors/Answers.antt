@@ -1,5 +1,0 @@
-use Rattle.host_calls.proofs.NewDescriptors.{openat-least, timerfd_create-least, socket-least, accept-least, pipe2-reading, pipe2-writing}
-use Rattle.host_calls.proofs.laws.new_descriptors.Goals as goal
-
-pub returns : goal.returns
-returns c = record { file = openat-least; timer = timerfd_create-least; socket = socket-least; connection = accept-least; reading_end = pipe2-reading; writing_end = pipe2-writing }

@@ -1,5 +1,0 @@
-use Rattle.host_sockets.proofs.HistoryPairs.{history_single}
-use Rattle.host_sockets.proofs.laws.pairs_apart.Goals as goal
-
-pub returns : goal.returns
-returns c = λ own other hosts host draws acts. history_single own other hosts host draws acts

@@ -1,5 +1,0 @@
-use Rattle.sock_tcp.proofs.Keeping.Histories.{act_of_history}
-use Rattle.sock_tcp.proofs.laws.text_within_windows.Goals as goal
-
-pub returns : goal.returns
-returns c = λ start acts act b. (act_of_history start acts act b).fits

@@ -1,0 +1,16 @@
+pub mod Apart
+pub mod ApartTcp
+pub mod ApartUdp
+pub mod ApartActs
+pub mod ApartTakers
+pub mod ListenEnds
+pub mod ListenActs
+pub mod LivePairs
+pub mod Queueing
+pub mod RecordPairs
+pub mod HistoryPairs
+pub mod HistoryKeeps
+pub mod SourceEnds
+pub mod Staying
+pub mod Sums
+pub mod Waiting

@@ -1,0 +1,4 @@
+pub mod Histories
+pub mod Pairs
+pub mod Apart
+pub mod Waiting

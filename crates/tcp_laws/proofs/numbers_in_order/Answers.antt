@@ -1,0 +1,5 @@
+use Rattle.tcp_laws.proofs.Histories.{sound_of}
+use Rattle.tcp_laws.proofs.numbers_in_order.Goals as goal
+
+pub returns : goal.returns
+returns c = λ start acts b. (sound_of start acts b).order
