@@ -21,7 +21,7 @@ const MOST_BUDGET: u32 = 1_000_000_000;
 const MOST_HOSTS: u32 = 4096;
 
 /// What is to be read.
-#[derive(Debug, Drop)]
+#[derive(Drop)]
 pub enum Subject {
     /// A configuration; `-` is standard input.
     File(Name),
@@ -30,7 +30,7 @@ pub enum Subject {
 }
 
 /// What a command line asks for.
-#[derive(Debug, Drop)]
+#[derive(Drop)]
 pub struct Asked {
     pub subject: Subject,
     pub seed: Option<u32>,
@@ -46,7 +46,7 @@ pub struct Asked {
 }
 
 /// What is to be read, as it is written.
-#[derive(Clone, Copy, Debug)]
+#[derive(Clone, Copy)]
 enum Choice<'a> {
     Config(&'a str),
     SelfLoad(&'a str),

@@ -7,7 +7,7 @@ use sim_base::NoMemory;
 use std::alloc::AllocError;
 
 /// The first fault of a command line.
-#[derive(Clone, Copy, Debug, PartialEq, Eq)]
+#[derive(Clone, Copy, PartialEq, Eq)]
 pub enum WordsFault {
     /// The words are not of the command's form, or ask for help or a version; or both CONFIG and
     /// `--self-load` are given, or neither.
@@ -17,7 +17,7 @@ pub enum WordsFault {
 }
 
 /// Why a command line was not read.
-#[derive(Clone, Copy, Debug, PartialEq, Eq)]
+#[derive(Clone, Copy, PartialEq, Eq)]
 pub enum WordsError {
     Refused(WordsFault),
     NoMemory,

@@ -5,8 +5,6 @@ mod asked;
 mod command;
 mod fault;
 mod name;
-#[cfg(test)]
-mod tests;
 mod value;
 
 pub use asked::{Asked, Subject, read_words};

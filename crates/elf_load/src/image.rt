@@ -10,7 +10,7 @@ use std::marker::Model;
 /// What a loader lays into a guest's memory: the touched pages, the entry and the first break.
 ///
 /// Contracts see it as a finite map from addresses to cells, the entry, the first break and the number of pages.
-#[derive(Debug, Drop)]
+#[derive(Drop)]
 pub struct Image {
     pages: Vec<Page>,
     entry: u32,

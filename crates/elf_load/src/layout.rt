@@ -17,7 +17,7 @@ use crate::segments::shares_a_byte;
 use std::alloc::Global;
 
 /// The segments, in the order of the file, and each page that they touch, once.
-#[derive(Debug, Drop)]
+#[derive(Drop)]
 pub(crate) struct Layout {
     pub segments: Vec<ProgramHeader>,
     pub pages: Vec<u32>,

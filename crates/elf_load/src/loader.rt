@@ -23,6 +23,3 @@ pub fn load(alloc: Global, bytes: &[u8]) -> Result<Image, LoadError>
     let pages = make_pages(alloc, bytes, &layout.segments, &layout.pages)?;
     Ok(Image::new(pages, header.entry, start))
 }
-
-#[cfg(test)]
-mod tests;

@@ -9,7 +9,7 @@ use crate::rights::Rights;
 pub const PAGE_SIZE: usize = 4096;
 
 /// Page `number` has the addresses from `number * 4096` on, below 2^32.
-#[derive(Debug, Drop)]
+#[derive(Drop)]
 pub struct Page {
     pub number: u32,
     pub rights: Rights,

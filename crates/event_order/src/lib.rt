@@ -3,7 +3,5 @@
 
 pub mod laws;
 mod queue;
-#[cfg(test)]
-mod tests;
 
 pub use queue::{Queue, Refused};

@@ -9,13 +9,13 @@ use std::collections::BTreeMap;
 use std::marker::Model;
 
 /// Events without a repeated key. Contracts see the list of the events, least key first.
-#[derive(Debug, Drop)]
+#[derive(Drop)]
 pub struct Queue {
     events: BTreeMap<Key, What>,
 }
 
 /// An event that had no room, for want of memory.
-#[derive(Debug, Drop)]
+#[derive(Drop)]
 pub struct Refused {
     pub event: Event,
 }

@@ -8,7 +8,7 @@ use sim_base::Time;
 use std::marker::Model;
 
 /// A place of the network. The rates are in bits a second.
-#[derive(Clone, Copy, Debug, PartialEq, Eq)]
+#[derive(Clone, Copy, PartialEq, Eq)]
 pub struct Node {
     pub id: u32,
     pub bandwidth_up: Option<u64>,
@@ -16,7 +16,7 @@ pub struct Node {
 }
 
 /// A way from one node to another. The reliability is in units of 10^-9: 10^9 loses nothing.
-#[derive(Clone, Copy, Debug, PartialEq, Eq)]
+#[derive(Clone, Copy, PartialEq, Eq)]
 pub struct Edge {
     pub source: u32,
     pub target: u32,
@@ -25,7 +25,7 @@ pub struct Edge {
 }
 
 /// Nodes, which contracts see as a list.
-#[derive(Debug, Drop)]
+#[derive(Drop)]
 pub struct Nodes {
     items: Vec<Node>,
 }
@@ -61,7 +61,7 @@ impl From<Vec<Node>> for Nodes {
 }
 
 /// Edges, which contracts see as a list: at most 65,536, of 1 ns to 1 h and at most all that is sent each.
-#[derive(Debug, Drop)]
+#[derive(Drop)]
 pub struct Edges {
     items: Vec<Edge>,
 }
@@ -103,7 +103,7 @@ impl Edges {
 }
 
 /// The graph of a network. Where it isn't directed each edge goes both ways.
-#[derive(Debug, Drop)]
+#[derive(Drop)]
 pub struct Graph {
     pub directed: bool,
     pub nodes: Nodes,

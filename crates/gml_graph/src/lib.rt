@@ -18,6 +18,3 @@ mod value;
 pub use fault::{GmlError, GmlFault, GmlKind};
 pub use graph::{Edge, Edges, Graph, Node, Nodes};
 pub use reading::read_gml;
-
-#[cfg(test)]
-mod tests;

@@ -9,7 +9,7 @@ use sim_base::{Addr, Ip};
 
 /// Where the address goes that a call answers: as many of its 16 bytes as `length` from `at` on, and
 /// its length at `length_at`.
-#[derive(Clone, Copy, Debug, PartialEq, Eq)]
+#[derive(Clone, Copy, PartialEq, Eq)]
 pub struct AddressPlace {
     pub at: u32,
     pub length: u32,

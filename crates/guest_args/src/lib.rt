@@ -3,8 +3,6 @@
 
 mod address;
 mod span;
-#[cfg(test)]
-mod tests;
 mod time;
 
 pub use address::{

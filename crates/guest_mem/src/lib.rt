@@ -11,8 +11,6 @@ mod mem;
 mod pages;
 mod right;
 mod table;
-#[cfg(test)]
-mod tests;
 
 pub use bad::Bad;
 pub use code::word_in;

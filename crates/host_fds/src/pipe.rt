@@ -9,7 +9,7 @@ use std::alloc::Global;
 use std::marker::Model;
 
 /// An end of a pipe.
-#[derive(Clone, Copy, Debug, PartialEq, Eq)]
+#[derive(Clone, Copy, PartialEq, Eq)]
 pub enum End {
     Reading,
     Writing,
@@ -127,44 +127,4 @@ fn bit(bit: u16, holds: bool) -> u16
     ensures { result ≡ spec.bit_of bit holds }
 {
     if holds { bit } else { 0 }
-}
-
-#[cfg(test)]
-mod tests {
-    use super::*;
-    use std::test::Fail;
-
-    #[test]
-    fn keeps_bytes_in_order(rt: HostRuntime) -> Result<(), Fail> {
-        let mut pipe = Pipe::new(rt.alloc())?;
-        assert_eq!(rt;
-            (pipe.ready(End::Reading), pipe.ready(End::Writing)),
-            (0, 4)
-        );
-        let block = vec![in rt.alloc(); b'a'; 65536]?;
-        assert_eq!(rt; (pipe.write(&block), pipe.write(b"z")), (65536, 0));
-        assert_eq!(rt; (pipe.len(), pipe.room()), (65536, 0));
-        assert_eq!(rt; (pipe.has_reader(), pipe.has_writer()), (true, true));
-        assert_eq!(rt;
-            (pipe.ready(End::Reading), pipe.ready(End::Writing)),
-            (1, 0)
-        );
-        let mut into = [0; 10];
-        assert_eq!(rt; pipe.read(&mut into), 10);
-        assert_eq!(rt; (into, pipe.ready(End::Writing)), ([b'a'; 10], 4));
-        assert_eq!(rt; pipe.write(b"0123456789!"), 10);
-        for _ in 0..6553 {
-            assert_eq!(rt; pipe.read(&mut into), 10);
-        }
-        assert_eq!(rt; pipe.read(&mut into), 6);
-        assert_eq!(rt; into, *b"4567890123");
-        assert_eq!(rt; pipe.read(&mut into), 0);
-        pipe.shut(End::Reading);
-        assert_eq!(rt; (pipe.ready(End::Writing), pipe.write(b"x")), (12, 1));
-        pipe.shut(End::Writing);
-        assert_eq!(rt; (pipe.ready(End::Reading), pipe.write(b"y")), (17, 0));
-        assert_eq!(rt; (pipe.has_reader(), pipe.has_writer()), (false, false));
-        assert_eq!(rt; (pipe.len(), pipe.room()), (1, 65535));
-        Ok(())
-    }
 }

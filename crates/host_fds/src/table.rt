@@ -96,24 +96,3 @@ impl Table {
         Some(object)
     }
 }
-
-#[cfg(test)]
-mod tests {
-    use super::*;
-    use std::test::Fail;
-
-    #[test]
-    fn gives_the_lowest_free_number(rt: HostRuntime) -> Result<(), Fail> {
-        let mut table = Table::new(rt.alloc())?;
-        for fd in 0..256u32 {
-            assert_eq!(rt; table.lowest_free(), Some(fd));
-            assert!(rt; table.get(fd) == None);
-            table.place(fd, ObjectId { number: 1000 });
-        }
-        assert_eq!(rt; (table.lowest_free(), table.free()), (None, 0));
-        assert_eq!(rt; table.close(7), Some(ObjectId { number: 1000 }));
-        assert_eq!(rt; (table.close(7), table.close(256)), (None, None));
-        assert_eq!(rt; (table.lowest_free(), table.free()), (Some(7), 1));
-        Ok(())
-    }
-}

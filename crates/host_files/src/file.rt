@@ -1,7 +1,7 @@
 //! Open files.
 
 /// What an open file is an end of, or reads from.
-#[derive(Clone, Copy, Debug, PartialEq, Eq)]
+#[derive(Clone, Copy, PartialEq, Eq)]
 pub enum Object {
     /// Standard input, which is empty.
     Input,
@@ -24,7 +24,7 @@ pub enum Object {
 }
 
 /// An open file (`open(2)`): each has one descriptor, since there is neither `dup` nor `fork`.
-#[derive(Clone, Copy, Debug, PartialEq, Eq)]
+#[derive(Clone, Copy, PartialEq, Eq)]
 pub struct File {
     /// Whether calls that would wait answer EAGAIN (`O_NONBLOCK`).
     pub nonblocking: bool,

@@ -4,8 +4,6 @@
 mod file;
 mod files;
 mod slots;
-#[cfg(test)]
-mod tests;
 mod timer;
 
 pub use file::{File, Object};

@@ -30,7 +30,7 @@ impl<T> Model for Carrier<T> {
 }
 
 /// The places of the host's inbox are full: the number that was claimed is 16 or more. The parcel comes back.
-#[derive(Debug, Drop)]
+#[derive(Drop)]
 pub struct Full<T = Parcel> {
     pub parcel: T,
     pub claimed: u64,

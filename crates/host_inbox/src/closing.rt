@@ -11,7 +11,7 @@ use crate::draining::{Room, drained_rows, reserved};
 use sim_base::Parcel;
 
 /// What lay in the inboxes: for each host its parcels, in the order of their places.
-#[derive(Debug, Drop)]
+#[derive(Drop)]
 pub struct Drained<T = Parcel> {
     pub rows: Vec<Vec<T>>,
 }

@@ -17,6 +17,3 @@ pub use boards::Boards;
 pub use carrier::{Carrier, Full};
 pub use closing::{CloseRefused, Drained};
 pub use entry::Entry;
-
-#[cfg(test)]
-mod tests;

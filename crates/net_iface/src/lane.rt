@@ -16,7 +16,7 @@ use std::marker::Model;
 pub const WAITING: usize = 1000;
 
 /// The rule by which a lane treats the packets that it takes.
-#[derive(Clone, Copy, Debug, PartialEq, Eq)]
+#[derive(Clone, Copy, PartialEq, Eq)]
 pub enum QueueRule {
     /// Each packet leaves.
     Fifo,
@@ -25,7 +25,7 @@ pub enum QueueRule {
 }
 
 /// What became of a packet.
-#[derive(Debug, PartialEq, Eq, Drop)]
+#[derive(PartialEq, Eq, Drop)]
 pub enum Pushed {
     /// It leaves at once.
     Leaves(Packet),
@@ -37,7 +37,7 @@ pub enum Pushed {
 
 /// The packets that leave, those that the queue's rule dropped before, and when the next release is
 /// to be made, if any packet still waits.
-#[derive(Debug, PartialEq, Eq, Drop)]
+#[derive(PartialEq, Eq, Drop)]
 pub struct Released {
     pub packets: Vec<Packet>,
     pub dropped: Vec<Packet>,
@@ -45,14 +45,14 @@ pub struct Released {
 }
 
 /// A packet that waits, and since when it does.
-#[derive(Debug, Drop)]
+#[derive(Drop)]
 pub struct Waiting {
     pub packet: Packet,
     pub since: Time,
 }
 
 /// A packet that was taken out of a lane, and whether the rule dropped it.
-#[derive(Debug, Drop)]
+#[derive(Drop)]
 pub struct Taken {
     pub packet: Packet,
     pub dropped: bool,
@@ -60,7 +60,7 @@ pub struct Taken {
 
 /// A lane that is first in, first out, and drops at its tail; one with CoDel also drops some of the
 /// packets that it takes.
-#[derive(Debug, Drop)]
+#[derive(Drop)]
 pub struct Lane {
     rule: QueueRule,
     codel: CodelState,

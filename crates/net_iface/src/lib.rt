@@ -5,8 +5,6 @@ mod bucket;
 mod codel;
 mod lane;
 pub mod laws;
-#[cfg(test)]
-mod tests;
 
 pub use bucket::Bucket;
 pub use codel::{CodelState, isqrt};

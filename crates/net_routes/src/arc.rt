@@ -8,14 +8,14 @@ use std::alloc::Global;
 use std::marker::Model;
 
 /// A way to a place.
-#[derive(Clone, Copy, Debug, PartialEq, Eq)]
+#[derive(Clone, Copy, PartialEq, Eq)]
 pub struct Arc {
     pub to: usize,
     pub cost: Cost,
 }
 
 /// The arcs that leave a place, which contracts see as a list.
-#[derive(Debug, Drop)]
+#[derive(Drop)]
 pub struct Arcs {
     arcs: Vec<Arc>,
 }

@@ -6,7 +6,7 @@ use crate::cost::Cost;
 use std::marker::Model;
 
 /// A cost, if there is one. It takes less room than an `Option` of one, since tables have millions.
-#[derive(Debug, Drop)]
+#[derive(Drop)]
 pub struct Kept {
     latency: u64,
     reliability: u32,

@@ -14,8 +14,6 @@ mod node_ids;
 mod route_row;
 mod search;
 mod table;
-#[cfg(test)]
-mod tests;
 
 pub use error::RouteError;
 pub use finding::routes;

@@ -18,7 +18,7 @@ use sim_base::NoMemory;
 use std::alloc::Global;
 
 /// The places of the nodes that hops join, and the arcs that leave each.
-#[derive(Debug, Drop)]
+#[derive(Drop)]
 pub struct Net {
     pub places: NodeIds,
     pub rows: Vec<Arcs>,

@@ -8,7 +8,7 @@ ghost use Rattle.net_routes.specs.Places.{place_of};
 use std::marker::Model;
 
 /// Ids of nodes in rising order, each once. Contracts see the list.
-#[derive(Debug, Drop)]
+#[derive(Drop)]
 pub struct NodeIds {
     ids: Vec<u32>,
 }

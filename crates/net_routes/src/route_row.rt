@@ -14,7 +14,7 @@ use std::marker::Model;
 
 /// The costs of the routes from a node to each of the nodes of hosts, in the order of their ids,
 /// where there are such.
-#[derive(Debug, Drop)]
+#[derive(Drop)]
 pub struct RouteRow {
     costs: Vec<Kept>,
 }

@@ -10,7 +10,7 @@ use sim_base::Time;
 
 /// The routes between the nodes of hosts: of each the latency, and what arrives of 10^9 packets
 /// that are sent.
-#[derive(Debug, Drop)]
+#[derive(Drop)]
 pub struct Routes {
     pub(crate) stops: NodeIds,
     pub(crate) rows: Vec<RouteRow>,

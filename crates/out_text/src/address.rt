@@ -7,7 +7,7 @@ use sim_base::{Addr, Ip};
 use std::fmt;
 
 /// An address, which is written as `a.b.c.d`.
-#[derive(Clone, Copy, Debug)]
+#[derive(Clone, Copy)]
 pub struct ShownIp(pub Ip);
 
 impl fmt::Display for ShownIp {
@@ -22,7 +22,7 @@ impl fmt::Display for ShownIp {
 }
 
 /// An end, which is written as `a.b.c.d:port`.
-#[derive(Clone, Copy, Debug)]
+#[derive(Clone, Copy)]
 pub struct ShownAddr(pub Addr);
 
 impl fmt::Display for ShownAddr {

@@ -9,7 +9,7 @@ use sim_base::{NoMemory, State, Text};
 use std::alloc::{AllocError, Global};
 
 /// What a line of the error stream tells.
-#[derive(Clone, Copy, Debug)]
+#[derive(Clone, Copy)]
 pub enum FaultText<'a> {
     /// The command line is not of its form.
     Usage,

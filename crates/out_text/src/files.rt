@@ -8,7 +8,7 @@ use std::alloc::Global;
 use std::fmt;
 
 /// What a process's file holds.
-#[derive(Clone, Copy, Debug, PartialEq, Eq)]
+#[derive(Clone, Copy, PartialEq, Eq)]
 pub enum FileKind {
     /// What it wrote to descriptor 1.
     Stdout,
@@ -29,7 +29,7 @@ fn suffix(kind: FileKind) -> &'static str
 }
 
 /// A state, which is written as a word or two.
-#[derive(Clone, Copy, Debug)]
+#[derive(Clone, Copy)]
 pub struct ShownState(pub State);
 
 impl fmt::Display for ShownState {

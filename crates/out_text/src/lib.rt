@@ -8,8 +8,6 @@ mod hosts;
 pub mod laws;
 mod log;
 mod summary;
-#[cfg(test)]
-mod tests;
 
 pub use faults::{FaultText, fault_line, note_line};
 pub use files::{FileKind, file_name, state_line};

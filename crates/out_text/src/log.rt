@@ -11,7 +11,7 @@ use std::alloc::Global;
 use std::fmt;
 
 /// What happened to a packet, when and at which host. The log has one line for each.
-#[derive(Clone, Debug, PartialEq, Eq, Drop)]
+#[derive(Clone, PartialEq, Eq, Drop)]
 pub struct LogLine {
     pub time: Time,
     pub host: Name,
@@ -58,7 +58,7 @@ fn letter(flags: u8, flag: u8, name: &'static str) -> &'static str
 }
 
 /// The flags of a segment, which are written as the letters of those that are set, or a dash.
-#[derive(Clone, Copy, Debug)]
+#[derive(Clone, Copy)]
 struct ShownFlags(u8);
 
 impl fmt::Display for ShownFlags {

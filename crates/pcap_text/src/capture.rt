@@ -3,7 +3,7 @@
 use sim_base::{Bytes, Time};
 
 /// A packet in a capture.
-#[derive(Debug, PartialEq, Eq, Drop)]
+#[derive(PartialEq, Eq, Drop)]
 pub struct Record {
     /// Since 2000-01-01 00:00:00 UTC.
     pub time: Time,
@@ -14,7 +14,7 @@ pub struct Record {
 }
 
 /// A capture of packets.
-#[derive(Debug, Drop)]
+#[derive(Drop)]
 pub struct Capture {
     /// The capture size: at most so many bytes are kept of each packet.
     pub size: u32,

@@ -8,8 +8,6 @@ mod fault;
 mod laws;
 mod packets;
 mod reading;
-#[cfg(test)]
-mod tests;
 mod writing;
 
 pub use capture::{Capture, Record};

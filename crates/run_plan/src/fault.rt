@@ -11,7 +11,7 @@ use std::alloc::{AllocError, AllocFailed};
 use yaml_tree::YamlFault;
 
 /// What is wrong with a host, in the order in which it is told.
-#[derive(Clone, Copy, Debug, PartialEq, Eq)]
+#[derive(Clone, Copy, PartialEq, Eq)]
 pub enum HostFault {
     /// The graph has no node of its number.
     UnknownNode,
@@ -22,7 +22,7 @@ pub enum HostFault {
 }
 
 /// The first fault of an input.
-#[derive(Debug, Drop)]
+#[derive(Drop)]
 pub enum Fault {
     /// The command line is refused.
     Words(WordsFault),
@@ -65,7 +65,7 @@ pub enum Fault {
 }
 
 /// Why the reading stops before its end.
-#[derive(Debug, Drop)]
+#[derive(Drop)]
 pub enum ReadStop {
     Refused(Fault),
     /// A read of this file failed.

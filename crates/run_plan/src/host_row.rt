@@ -17,7 +17,7 @@ use std::alloc::Global;
 use std::marker::Model;
 
 /// The places of images among those of a plan, which contracts see as a list of numbers.
-#[derive(Debug, Drop)]
+#[derive(Drop)]
 pub struct ImagePlaces {
     items: Vec<usize>,
 }
@@ -47,7 +47,7 @@ impl From<Vec<usize>> for ImagePlaces {
 }
 
 /// A host that is to run.
-#[derive(Debug, Drop)]
+#[derive(Drop)]
 pub struct HostRow {
     /// The host as the configuration has it.
     pub config: HostConfig,
@@ -58,7 +58,7 @@ pub struct HostRow {
 }
 
 /// The rows of hosts in the order of the hosts, which contracts see as a list.
-#[derive(Debug, Drop)]
+#[derive(Drop)]
 pub struct HostRows {
     items: Vec<HostRow>,
 }

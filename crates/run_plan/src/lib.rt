@@ -16,8 +16,6 @@ mod programs;
 mod rates;
 mod ring;
 mod self_load;
-#[cfg(test)]
-mod tests;
 mod workers;
 
 pub use addresses::addresses_of;

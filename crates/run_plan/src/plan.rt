@@ -29,7 +29,7 @@ use std::marker::Model;
 use std::thread::Threads;
 
 /// The images of programs, which contracts see as a list.
-#[derive(Debug, Drop)]
+#[derive(Drop)]
 pub struct Images {
     items: Vec<Image>,
 }
@@ -71,7 +71,7 @@ impl From<Vec<Image>> for Images {
 }
 
 /// What a configuration says of the run as a whole.
-#[derive(Debug, Drop)]
+#[derive(Drop)]
 pub struct Settings {
     /// No event that is due at this time or later fires.
     pub stop_time: Time,
@@ -87,7 +87,7 @@ pub struct Settings {
 }
 
 /// What is to be run.
-#[derive(Debug, Drop)]
+#[derive(Drop)]
 pub struct Plan {
     pub settings: Settings,
     /// The hosts, in byte order of their names.

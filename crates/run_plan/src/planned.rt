@@ -25,7 +25,7 @@ use std::alloc::Global;
 use std::thread::Threads;
 
 /// A plan and how it is run.
-#[derive(Debug, Drop)]
+#[derive(Drop)]
 pub struct Run {
     pub plan: Plan,
     /// How many instructions a process may run from one call to the next.
@@ -35,7 +35,7 @@ pub struct Run {
 }
 
 /// What is asked for.
-#[derive(Debug, Drop)]
+#[derive(Drop)]
 pub enum Planned {
     /// The configuration is shown.
     Shows(Config),

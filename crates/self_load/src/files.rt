@@ -6,14 +6,14 @@ use sim_base::{Bytes, Name};
 use std::marker::Model;
 
 /// What a file holds, under the name by which it is read.
-#[derive(Debug, Drop)]
+#[derive(Drop)]
 pub struct File {
     pub name: Name,
     pub bytes: Bytes,
 }
 
 /// Files in order, which contracts see as a list.
-#[derive(Debug, Drop)]
+#[derive(Drop)]
 pub struct Files {
     items: Vec<File>,
 }

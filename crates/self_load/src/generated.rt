@@ -14,7 +14,7 @@ use sim_base::{Bytes, Name, NoMemory, Text};
 use std::alloc::Global;
 
 /// A configuration and the files that it names.
-#[derive(Debug, Drop)]
+#[derive(Drop)]
 pub struct SelfLoad {
     /// The text of the configuration.
     pub config: Text,

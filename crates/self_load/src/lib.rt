@@ -5,8 +5,6 @@ mod config_text;
 mod files;
 mod generated;
 mod graph_text;
-#[cfg(test)]
-mod tests;
 
 pub use files::{File, Files};
 pub use generated::{SelfLoad, generate};

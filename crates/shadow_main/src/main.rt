@@ -13,8 +13,6 @@ use std::{env, io};
 
 mod disk_sink;
 mod disk_source;
-#[cfg(test)]
-mod tests;
 
 /// The status where memory ran out.
 const NO_MEMORY: u8 = 5;

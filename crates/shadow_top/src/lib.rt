@@ -6,8 +6,6 @@ mod opened;
 mod rounds;
 mod simulation;
 mod stop;
-#[cfg(test)]
-mod tests;
 
 pub use simulation::shadow;
 pub use steal_workers::{Gate, OpenGate};

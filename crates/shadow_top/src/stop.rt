@@ -6,7 +6,7 @@ use run_plan::{Fault, ReadStop};
 use sim_base::{Name, NoMemory, WriteError};
 
 /// Why a run stops before its end.
-#[derive(Debug, Drop)]
+#[derive(Drop)]
 pub enum Stop {
     Refused(Fault),
     /// A read of this file failed.

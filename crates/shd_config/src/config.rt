@@ -5,7 +5,7 @@ use shd_values::Texts;
 use sim_base::{Ip, Name, Signal, Text, Time};
 
 /// Where the graph of the network comes from.
-#[derive(Debug, Drop)]
+#[derive(Drop)]
 pub enum GraphSource {
     /// One node with 1 Gbit both ways and a loop of 1 ms.
     OneGbitSwitch,
@@ -16,7 +16,7 @@ pub enum GraphSource {
 }
 
 /// How a router's queue chooses the packets that it drops.
-#[derive(Clone, Copy, Debug, PartialEq, Eq)]
+#[derive(Clone, Copy, PartialEq, Eq)]
 pub enum QueueRule {
     /// It drops what comes while it is full.
     Fifo,
@@ -25,7 +25,7 @@ pub enum QueueRule {
 }
 
 /// The state in which a process is expected to be in the end.
-#[derive(Clone, Copy, Debug, PartialEq, Eq)]
+#[derive(Clone, Copy, PartialEq, Eq)]
 pub enum FinalState {
     /// It ended by an exit with this status.
     Exited(u8),
@@ -36,14 +36,14 @@ pub enum FinalState {
 }
 
 /// A variable of an environment.
-#[derive(Debug, Drop)]
+#[derive(Drop)]
 pub struct Variable {
     pub name: Text,
     pub value: Text,
 }
 
 /// A process of a host.
-#[derive(Debug, Drop)]
+#[derive(Drop)]
 pub struct ProcessConfig {
     /// The file of the program; the part behind its last `/` isn't empty.
     pub path: Name,
@@ -57,7 +57,7 @@ pub struct ProcessConfig {
 }
 
 /// A host.
-#[derive(Debug, Drop)]
+#[derive(Drop)]
 pub struct HostConfig {
     pub name: Name,
     /// The line of the host's key.
@@ -76,7 +76,7 @@ pub struct HostConfig {
 }
 
 /// A configuration.
-#[derive(Debug, Drop)]
+#[derive(Drop)]
 pub struct Config {
     /// 1 ns to 2^61 ns.
     pub stop_time: Time,

@@ -16,7 +16,7 @@ use std::alloc::Global;
 use yaml_merge::Pair;
 
 /// The types of graphs.
-#[derive(Clone, Copy, Debug, PartialEq, Eq)]
+#[derive(Clone, Copy, PartialEq, Eq)]
 pub enum GraphKind {
     Gml,
     OneGbitSwitch,

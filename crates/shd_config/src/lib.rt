@@ -19,8 +19,6 @@ mod reading;
 mod show;
 mod state;
 mod steps;
-#[cfg(test)]
-mod tests;
 mod value;
 
 pub use config::{Config, FinalState, GraphSource, HostConfig, ProcessConfig, QueueRule, Variable};

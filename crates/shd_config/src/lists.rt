@@ -7,7 +7,7 @@ use std::alloc::Global;
 use std::marker::Model;
 
 /// The variables of an environment in order, which contracts see as a list.
-#[derive(Debug, Drop)]
+#[derive(Drop)]
 pub struct Variables {
     items: Vec<Variable>,
 }
@@ -58,7 +58,7 @@ impl From<Vec<Variable>> for Variables {
 }
 
 /// The processes of a host in order, which contracts see as a list.
-#[derive(Debug, Drop)]
+#[derive(Drop)]
 pub struct Processes {
     items: Vec<ProcessConfig>,
 }
@@ -109,7 +109,7 @@ impl From<Vec<ProcessConfig>> for Processes {
 }
 
 /// Hosts in order, which contracts see as a list.
-#[derive(Debug, Drop)]
+#[derive(Drop)]
 pub struct Hosts {
     items: Vec<HostConfig>,
 }

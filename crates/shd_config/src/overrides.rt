@@ -3,7 +3,7 @@
 use sim_base::{Name, Time};
 
 /// The values that options of the command line give in place of those of the configuration.
-#[derive(Debug, Drop)]
+#[derive(Drop)]
 pub struct Overrides {
     pub seed: Option<u32>,
     pub parallelism: Option<u32>,

@@ -4,8 +4,6 @@
 
 mod address;
 mod number;
-#[cfg(test)]
-mod tests;
 mod texts;
 mod word;
 mod words;

@@ -10,7 +10,7 @@ use sim_base::{NoMemory, Text};
 use std::alloc::{AllocError, Global};
 
 /// Whether a place of a command line stands in quotes.
-#[derive(Clone, Copy, Debug, PartialEq, Eq)]
+#[derive(Clone, Copy, PartialEq, Eq)]
 pub(crate) enum Quote {
     /// Neither in quotes nor behind a backslash.
     Outside,

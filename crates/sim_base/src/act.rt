@@ -1,7 +1,7 @@
 //! What happens to packets.
 
 /// What happens to a packet, as the packet log tells it.
-#[derive(Clone, Copy, Debug, PartialEq, Eq)]
+#[derive(Clone, Copy, PartialEq, Eq)]
 pub enum Act {
     /// It is sent on its way.
     Send,

@@ -4,7 +4,7 @@ ghost use Rattle.std.specs.Prelude.{◌≡◌};
 ghost use Rattle.sim_base.specs.Addresses as spec;
 
 /// An address a.b.c.d, kept as a * 2^24 + b * 2^16 + c * 2^8 + d.
-#[derive(Clone, Copy, Debug, PartialEq, Eq, PartialOrd, Ord, Hash)]
+#[derive(Clone, Copy, PartialEq, Eq, PartialOrd, Ord, Hash)]
 pub struct Ip {
     pub bits: u32,
 }
@@ -26,7 +26,7 @@ impl Ip {
 }
 
 /// An end of a datagram or of a connection: an address and a port.
-#[derive(Clone, Copy, Debug, PartialEq, Eq, PartialOrd, Ord, Hash)]
+#[derive(Clone, Copy, PartialEq, Eq, PartialOrd, Ord, Hash)]
 pub struct Addr {
     pub ip: Ip,
     pub port: u16,

@@ -6,7 +6,7 @@ use std::marker::Model;
 
 /// What a socket of a host has around it: the host's address, the addresses of all hosts, and what
 /// the host's sockets of the same protocol are bound to.
-#[derive(Debug, Drop)]
+#[derive(Drop)]
 pub struct Around<'a> {
     pub own: Ip,
     pub hosts: &'a Book,

@@ -14,7 +14,7 @@ use std::marker::Model;
 /// by halving.
 ///
 /// Contracts see the list of the addresses, in the order of the hosts.
-#[derive(Debug, Drop)]
+#[derive(Drop)]
 pub struct Book {
     hosts: Vec<Ip>,
     index: BTreeMap<u32, u32>,

@@ -24,8 +24,6 @@ mod quantity;
 mod signal;
 mod size;
 mod state;
-#[cfg(test)]
-mod tests;
 mod text;
 mod time;
 

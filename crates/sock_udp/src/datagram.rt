@@ -3,14 +3,14 @@
 use sim_base::{Addr, Bytes};
 
 /// A datagram that waits, with its sender.
-#[derive(Debug, PartialEq, Eq, Drop)]
+#[derive(PartialEq, Eq, Drop)]
 pub struct Datagram {
     pub from: Addr,
     pub bytes: Bytes,
 }
 
 /// How many bytes of a datagram were received, and its sender.
-#[derive(Clone, Copy, Debug, PartialEq, Eq)]
+#[derive(Clone, Copy, PartialEq, Eq)]
 pub struct Received {
     pub bytes: usize,
     pub from: Addr,

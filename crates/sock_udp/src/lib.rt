@@ -5,8 +5,6 @@ mod datagram;
 mod error;
 mod filters;
 mod socket;
-#[cfg(test)]
-mod tests;
 
 pub use datagram::{Datagram, Received};
 pub use error::UdpError;

@@ -21,7 +21,7 @@ const WAITING: usize = 64;
 ///
 /// Contracts see what it is bound to, what it is connected to, and the datagrams that wait in it,
 /// the oldest first.
-#[derive(Debug, Drop)]
+#[derive(Drop)]
 pub struct UdpSock {
     local: Option<Addr>,
     peer: Option<Addr>,

@@ -21,6 +21,3 @@ pub use gate::{Gate, OpenGate};
 pub use gathering::{GatherRefused, Gathered, gather};
 pub use item::Numbered;
 pub use seat::{Next, Seat};
-
-#[cfg(test)]
-mod tests;

@@ -7,7 +7,7 @@ ghost use Rattle.world_order.specs.Window.{window_end};
 use sim_base::Time;
 
 /// The time from when on, and the time before which, the events of a round are due.
-#[derive(Clone, Copy, Debug, PartialEq, Eq, Drop)]
+#[derive(Clone, Copy, PartialEq, Eq, Drop)]
 pub struct Window {
     pub from: Time,
     pub end: Time,
@@ -31,35 +31,6 @@ impl Window {
         Window {
             from: least,
             end: Time { nanos: end },
-        }
-    }
-}
-
-#[cfg(test)]
-mod tests {
-    use super::*;
-
-    fn nanos(nanos: u64) -> Time {
-        Time { nanos }
-    }
-
-    #[test]
-    fn a_window_ends_at_the_lookahead_or_the_stop(rt: HostRuntime) {
-        let rows = [
-            (0, Some(10_000_000), 1_000_000_000, 10_000_000),
-            (995_000_000, Some(10_000_000), 1_000_000_000, 1_000_000_000),
-            (7, None, 1_000, 1_000),
-            (
-                u64::MAX,
-                Some(1),
-                2_305_843_009_213_693_952,
-                2_305_843_009_213_693_952,
-            ),
-        ];
-        for (least, lookahead, stop, end) in rows {
-            let window = Window::of(nanos(least), lookahead.map(nanos), nanos(stop));
-            assert_eq!(rt; window.from, nanos(least));
-            assert_eq!(rt; window.end, nanos(end));
         }
     }
 }

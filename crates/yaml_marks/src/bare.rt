@@ -9,7 +9,7 @@ use crate::piece::Bracket;
 use std::marker::Model;
 
 /// What a piece is, whatever its text.
-#[derive(Clone, Copy, Debug, PartialEq, Eq)]
+#[derive(Clone, Copy, PartialEq, Eq)]
 pub enum PieceKind {
     Opening(Bracket),
     Closing(Bracket),
@@ -23,7 +23,7 @@ pub enum PieceKind {
 
 /// A piece without its text, which contracts see as a piece. Two bytes are kept of it, since a line
 /// may have millions.
-#[derive(Debug, Drop)]
+#[derive(Drop)]
 pub struct BarePiece {
     kind: PieceKind,
 }

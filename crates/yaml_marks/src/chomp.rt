@@ -1,7 +1,7 @@
 //! The line ends that a literal block keeps.
 
 /// Which of the line ends at a block's end are kept.
-#[derive(Clone, Copy, Debug, PartialEq, Eq)]
+#[derive(Clone, Copy, PartialEq, Eq)]
 pub enum Chomp {
     /// `|`: one.
     Clip,

@@ -9,7 +9,7 @@ use std::alloc::{AllocError, Global};
 const MOST_SHORT: usize = 14;
 
 /// A text in UTF-8, or none. Two words are kept of it, since a line may have millions of short texts.
-#[derive(Debug, Drop)]
+#[derive(Drop)]
 pub(crate) enum Kept {
     Nothing,
     /// So many of the bytes.

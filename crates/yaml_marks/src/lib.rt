@@ -17,8 +17,6 @@ mod pieces;
 mod place;
 mod scalar;
 mod scan;
-#[cfg(test)]
-mod tests;
 mod text_or_null;
 mod token;
 mod values;

@@ -6,7 +6,7 @@ use crate::odd::Odd;
 use crate::scalar::Scalar;
 use crate::text_or_null::TextOrNull;
 
-#[derive(Clone, Copy, Debug, PartialEq, Eq)]
+#[derive(Clone, Copy, PartialEq, Eq)]
 pub enum Bracket {
     /// `[` and `]`
     Square,

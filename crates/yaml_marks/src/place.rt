@@ -8,7 +8,7 @@ ghost use Rattle.yaml_marks.specs.declared.token.Token.{Token};
 use crate::scan::{is_blank, spaces};
 use crate::token::{Token, Tokens};
 
-#[derive(Clone, Copy, Debug, PartialEq, Eq)]
+#[derive(Clone, Copy, PartialEq, Eq)]
 pub enum LinePlace {
     /// Outside of literal blocks.
     Outside {

@@ -5,14 +5,14 @@ use std::alloc::{AllocError, AllocFailed};
 
 /// A merge key whose value is neither a mapping nor a sequence of mappings: the line of the key, and
 /// its path, as `hosts.a.<<`.
-#[derive(Debug, Drop)]
+#[derive(Drop)]
 pub struct MergeFault {
     pub line: usize,
     pub path: Text,
 }
 
 /// Why no merged tree was made.
-#[derive(Debug, Drop)]
+#[derive(Drop)]
 pub enum MergeError {
     Fault(MergeFault),
     NoMemory,

@@ -6,8 +6,6 @@ pub mod laws;
 mod merging;
 mod plain;
 mod taken;
-#[cfg(test)]
-mod tests;
 
 pub use fault::{MergeError, MergeFault};
 pub use merging::merge;

@@ -63,7 +63,7 @@ impl From<NoMemory> for TreeError {
 }
 
 /// Why a part of a line was refused.
-#[derive(Clone, Copy, Debug, PartialEq, Eq)]
+#[derive(Clone, Copy, PartialEq, Eq)]
 pub(crate) enum Stop {
     Fault(FaultKind),
     NoMemory,

@@ -24,7 +24,7 @@ pub(crate) const MOST_LEVELS: u8 = 64;
 /// What the limits ask of a tree: its nodes and its levels, each counted to one more than a tree
 /// has at most; whether a key stands twice in one mapping; and whether a copy is of an unknown
 /// node.
-#[derive(Clone, Copy, Debug, PartialEq, Eq)]
+#[derive(Clone, Copy, PartialEq, Eq)]
 pub(crate) struct Measure {
     pub size: u32,
     pub levels: u8,
@@ -136,7 +136,7 @@ fn levels_above(levels: u8) -> u8
 }
 
 /// A node that is whole, with the measure of its tree.
-#[derive(Clone, Copy, Debug, PartialEq, Eq)]
+#[derive(Clone, Copy, PartialEq, Eq)]
 pub(crate) struct Known {
     pub node: u32,
     pub measure: Measure,

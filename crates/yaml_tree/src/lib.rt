@@ -19,8 +19,6 @@ mod numbers;
 mod reading;
 mod shape;
 mod stack;
-#[cfg(test)]
-mod tests;
 mod tree;
 
 pub use entries::{Child, Entries};

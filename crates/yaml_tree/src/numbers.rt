@@ -11,7 +11,7 @@ const MOST_FEW: usize = 3;
 
 /// What is kept of numbers. Two words are kept of a few, since a line may have millions of sequences
 /// that have a few items.
-#[derive(Debug, Drop)]
+#[derive(Drop)]
 pub(crate) enum Kept {
     /// So many of the numbers.
     Few(u8, [u32; 3]),
@@ -19,7 +19,7 @@ pub(crate) enum Kept {
 }
 
 /// The numbers of the items' nodes, in order, which contracts see as a list.
-#[derive(Debug, Drop)]
+#[derive(Drop)]
 pub struct Numbers {
     kept: Kept,
 }

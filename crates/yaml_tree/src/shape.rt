@@ -13,7 +13,7 @@ use std::marker::Model;
 use yaml_marks::{BarePiece, Bracket, Odd, PieceKind, Pieces, closes_at};
 
 /// What may come next in a flow form.
-#[derive(Clone, Copy, Debug, PartialEq, Eq)]
+#[derive(Clone, Copy, PartialEq, Eq)]
 pub enum Want {
     /// The opening bracket.
     Form,

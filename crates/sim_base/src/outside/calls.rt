@@ -8,7 +8,7 @@ use std::alloc::Global;
 use std::marker::Model;
 
 /// Counts calls, and fails those whose numbers, from 1, it was told.
-#[derive(Debug, Drop)]
+#[derive(Drop)]
 pub struct Calls {
     made: u64,
     failing: Vec<u64>,

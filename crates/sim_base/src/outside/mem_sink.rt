@@ -14,7 +14,7 @@ use std::collections::{BTreeMap, BTreeSet};
 
 /// A sink that holds its content in memory and tells it. Calls whose numbers, from 1, it was told
 /// fail.
-#[derive(Debug, Drop)]
+#[derive(Drop)]
 pub struct MemSink {
     directories: BTreeSet<String>,
     out: Vec<u8>,

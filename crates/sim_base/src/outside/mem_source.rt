@@ -13,7 +13,7 @@ use std::collections::BTreeMap;
 
 /// A source that holds its files in memory and tells them. Calls whose numbers, from 1, it was told
 /// fail.
-#[derive(Debug, Drop)]
+#[derive(Drop)]
 pub struct MemSource {
     files: BTreeMap<String, Vec<u8>>,
     calls: Calls,

@@ -10,7 +10,7 @@ use std::error::Error;
 use std::fmt;
 
 /// Where bytes are put.
-#[derive(Clone, Debug, PartialEq, Eq, Drop)]
+#[derive(Clone, PartialEq, Eq, Drop)]
 pub enum Place {
     /// Standard output.
     Out,

@@ -1,0 +1,158 @@
+//! Boards of places into which carriers put parcels, one alone and two at once.
+
+ghost use Rattle.std.specs.Prelude.{◌≡◌, [], ◌<◌, ◌≤◌};
+
+use host_inbox::{Boards, Carrier};
+use sim_base::HostId;
+use std::alloc::AllocError;
+use std::test::*;
+use std::thread::join;
+
+// Of some puts: the numbers that were claimed, and those numbers and parcels that were given back, as sets of bits.
+#[derive(Clone, Copy, Debug, PartialEq)]
+struct Tally {
+    claimed: u64,
+    back: u64,
+    parcels_back: u64,
+}
+
+fn bit(n: u64) -> u64 {
+    1 << n.min(63)
+}
+
+// Puts the parcels from `first` on for the host.
+fn put_some(
+    boards: &Boards<u32>,
+    mut carrier: Carrier<u32>,
+    to: u32,
+    first: u32,
+    count: u32,
+) -> (Carrier<u32>, Tally)
+    requires boards { carrier.boards ≡ boards.now.id }
+    requires to { to < boards.now.hosts }
+    requires fresh { carrier.entries ≡ [] }
+    ensures { result.0.boards ≡ carrier.boards }
+{
+    let mut tally = Tally {
+        claimed: 0,
+        back: 0,
+        parcels_back: 0,
+    };
+    for k in 0..count {
+        match boards.put(&mut carrier, HostId { index: to }, first.wrapping_add(k)) {
+            Ok(place) => tally.claimed |= bit(place),
+            Err(full) => {
+                tally.claimed |= bit(full.claimed);
+                tally.back |= bit(full.claimed);
+                tally.parcels_back |= bit(u64::from(full.parcel));
+            }
+        }
+    }
+    (carrier, tally)
+}
+
+// One carrier puts so many parcels for one of the hosts, and the boards are closed.
+fn one_carrier(
+    rt: &HostRuntime,
+    hosts: u32,
+    to: u32,
+    puts: u32,
+) -> Result<(Tally, Vec<Vec<u32>>), Fail>
+    requires { (hosts ≤ 16) × (to < hosts) }
+{
+    let (boards, mut carriers) = Boards::open(rt.alloc(), hosts, 1)?;
+    let Some(carrier) = carriers.pop() else {
+        return Err(Fail::new("no carrier"));
+    };
+    let (carrier, tally) = put_some(&boards, carrier, to, 0, puts);
+    carriers.push(carrier)?;
+    match boards.close(carriers) {
+        Ok(drained) => Ok((tally, drained.rows)),
+        Err(_) => Err(Fail::new("no memory to close")),
+    }
+}
+
+#[test]
+fn a_host_has_sixteen_places(rt: HostRuntime) -> Result<(), Fail> {
+    let all = [0, 1, 2, 3, 4, 5, 6, 7, 8, 9, 10, 11, 12, 13, 14, 15];
+    let (tally, rows) = one_carrier(&rt, 1, 0, 17)?;
+    assert_eq!(rt;
+        (tally.claimed, tally.back, tally.parcels_back),
+        (0x1FFFF, 0x10000, 0x10000)
+    );
+    assert_eq!(rt; rows.len(), 1);
+    assert_eq!(rt; rows[0].as_slice(), all.as_slice());
+    let (tally, rows) = one_carrier(&rt, 3, 1, 2)?;
+    assert_eq!(rt;
+        (tally.claimed, tally.back, tally.parcels_back),
+        (0b11, 0, 0)
+    );
+    assert_eq!(rt; rows.len(), 3);
+    assert!(rt; rows[0].is_empty() && rows[2].is_empty());
+    assert_eq!(rt; rows[1].as_slice(), [0, 1].as_slice());
+    Ok(())
+}
+
+#[test]
+fn nothing_is_drained_without_a_put(rt: HostRuntime) -> Result<(), Fail> {
+    let opened: (Boards, Vec<Carrier>) = Boards::open(rt.alloc(), 3, 2)?;
+    let (boards, carriers) = opened;
+    let Ok(drained) = boards.close(carriers) else {
+        return Err(Fail::new("no memory to close"));
+    };
+    assert_eq!(rt; drained.rows.len(), 3);
+    assert!(rt; drained.rows.iter().all(|row| row.is_empty()));
+    Ok(())
+}
+
+// The parcels as a set of bits.
+fn set_of(parcels: &[u32]) -> u64 {
+    let mut set = 0;
+    for parcel in parcels {
+        set |= bit(u64::from(*parcel));
+    }
+    set
+}
+
+#[test]
+fn two_carriers_put_at_once(rt: HostRuntime) -> Result<(), Fail> {
+    let (boards, mut carriers) = Boards::open(rt.alloc(), 1, 2)?;
+    let Some(two) = carriers.pop() else {
+        return Err(Fail::new("no carrier"));
+    };
+    let Some(one) = carriers.pop() else {
+        return Err(Fail::new("no second carrier"));
+    };
+    let shared = &boards;
+    let (first, second) = join(
+        &rt,
+        move || -> (Carrier<u32>, Tally)
+            requires { (one.boards ≡ shared.now.id) × (one.entries ≡ []) × (0 < shared.now.hosts) }
+            ensures { result.0.boards ≡ one.boards }
+        { put_some(shared, one, 0, 0, 9) },
+        move || -> (Carrier<u32>, Tally)
+            requires { (two.boards ≡ shared.now.id) × (two.entries ≡ []) × (0 < shared.now.hosts) }
+            ensures { result.0.boards ≡ two.boards }
+        { put_some(shared, two, 0, 9, 9) },
+    );
+    let (one, first) = first;
+    let (two, second) = second;
+    carriers.push(one)?;
+    carriers.push(two)?;
+    let Ok(drained) = boards.close(carriers) else {
+        return Err(Fail::new("no memory to close"));
+    };
+    assert_eq!(rt;
+        (
+            first.claimed & second.claimed,
+            first.claimed | second.claimed
+        ),
+        (0, 0x3FFFF)
+    );
+    assert_eq!(rt; first.back | second.back, 0x30000);
+    assert_eq!(rt; (drained.rows.len(), drained.rows[0].len()), (1, 16));
+    let placed = set_of(drained.rows[0].as_slice());
+    let back = first.parcels_back | second.parcels_back;
+    assert_eq!(rt; (placed & back, placed | back), (0, 0x3FFFF));
+    Ok(())
+}

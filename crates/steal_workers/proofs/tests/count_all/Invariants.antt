@@ -1,5 +1,0 @@
-use Rattle.steal_workers.specs.SeatViews.{IsSameSeat}
-use Rattle.steal_workers.proofs.tests.count_all.Given as goal
-
-abbrev pub invariant-loop : goal.invariant-loop
-invariant-loop l = IsSameSeat l.initial.seat l.seat

@@ -1,5 +1,0 @@
-use Rattle.steal_workers.specs.SeatViews.{AreSameSeats}
-use Rattle.steal_workers.proofs.tests.find_none.Given as goal
-
-abbrev pub invariant-loop-place : goal.invariant-loop-place
-invariant-loop-place l = AreSameSeats l.initial.seats l.seats
