@@ -20,8 +20,8 @@ use Rattle.socket_streams.proofs.Chains.{both, goes}
 use Rattle.socket_streams.proofs.Hosts.{Reaches, rests_reach}
 use Rattle.socket_streams.proofs.Rows.{send_reach, recv_reach, shut_reach, error_taken_reach, close_reach, again_reach, connect_reach, bind_reach, listen_reach, accept_reach, made_reach, slots_reach, udp_reach, arrival_reach, alarm_reach}
 
-pub none_plain : (own : Ip) → is_same_ip own loopback ≡ false → ArePlain own (no_sockets own)
-none_plain own outside = record { host = refl; outside = outside; sockets = λ k s e. cc }
+pub none_plain : (own : Ip) → ArePlain own (no_sockets own)
+none_plain own = record { host = refl; sockets = λ k s e. cc }
 
 module _ (scope : Addr → Addr → Bool) (hosts : List Ip) (own : Ip) (others : List Tcb) (flying : List Packet) where
   elsewhere_reach : (t : SocketsRecord) (w after : Wanted) → MayDo (flying ++ packets_of w) (elsewhere after) → ArePlain own t → Reaches scope own others flying (t, w) (t, after)

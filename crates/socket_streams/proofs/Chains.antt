@@ -1,7 +1,8 @@
 -- steps one behind another, and what each of them leaves inside
-use Rattle.std.proofs.Common.{◌≡◌, ℕ, ◌⊎◌, inl, inr, ⊎_elim, Bool, true, not, ◌&&◌, List, [], ◌∷◌, ◌++◌, Contains, refl, sym, ap, subst, ◌∙◌}
+use Rattle.std.proofs.Common.{◌≡◌, ℕ, ◌⊎◌, inl, inr, ⊎_elim, Bool, true, false, not, ◌&&◌, List, [], ◌∷◌, ◌++◌, Contains, refl, sym, ap, subst, ◌∙◌}
 use Rattle.std.specs.List.Sorted.{IsPermutation}
 use Rattle.std.proofs.lemmas.List.Sorted.{Contains-permutation}
+use Rattle.sim_base.specs.Addresses.{loopback, is_same_ip}
 use Rattle.sim_base.specs.declared.address.Ip.{Ip}
 use Rattle.sim_base.specs.declared.address.Addr.{Addr}
 use Rattle.sim_base.specs.declared.packet.Load.{Load}
@@ -46,6 +47,7 @@ goes scope own m n same flown =
     one scope own m n
     (goes_on same (λ p c. ⊎_elim (λ k. inl k) (λ v. inr (inr (inl v))) (flown p c)))
     (λ h. record {
+      outside = h.outside;
       sound = λ r c. h.sound r (Contains-permutation n.records m.records r same c);
       ends = λ r c. h.ends r (Contains-permutation n.records m.records r same c);
       packets = λ p c. ⊎_elim (λ k. h.packets p k) (λ v. inl v) (flown p c);
@@ -64,6 +66,7 @@ sent_inside own r packets p h of c =
 -- what a record that joins others leaves inside
 joins : (own : Ip) (m n : Net) (r : Tcb) (rest : List Tcb) (sent : List Packet) → StaysInside own m → IsPermutation n.records (r ∷ rest) → ((x : Tcb) → Contains rest x → Contains m.records x) → IsSound r → IsInside own r.control.local r.control.peer → AreOf r sent → ((p : Packet) → Contains n.flying p → Contains m.flying p ⊎ Contains sent p) → StaysInside own n
 joins own m n r rest sent h same from sound ends of flown = record {
+  outside = h.outside;
   sound = λ x c.
       ⊎_elim
       (λ e. subst IsSound (sym e) sound)
@@ -114,13 +117,13 @@ begins_inside own m (passive local peer iss seq) h follows inside =
     ⊎_elim (λ v. absurd (asked_resets_not seq follows.packet.load follows.asks v)) (λ k. k) (h.packets follows.packet follows.flies) in
     inside_as own follows.packet.to follows.packet.from local peer (sym follows.to) (sym follows.from) (record { from = flown.to; to = flown.from })
 
-pub begins_among : (scope : Addr → Addr → Bool) (own : Ip) (m n : Net) (start : Start) → IsStart start → Follows m.flying start → StartsInside own start → IsPermutation n.records ((begun_by start).tcb ∷ m.records) → ((p : Packet) → Contains n.flying p → Contains m.flying p ⊎ Contains (begun_by start).sent p) → Leads scope own m n
+pub begins_among : (scope : Addr → Addr → Bool) (own : Ip) (m n : Net) (start : Start) → IsStart start → Follows m.flying start → (is_same_ip own loopback ≡ false → StartsInside own start) → IsPermutation n.records ((begun_by start).tcb ∷ m.records) → ((p : Packet) → Contains n.flying p → Contains m.flying p ⊎ Contains (begun_by start).sent p) → Leads scope own m n
 begins_among scope own m n start is_start follows inside is flown =
     one scope own m n
     (begins start is_start follows is (λ p c. ⊎_elim (λ k. inl k) (λ k. inr (inl k)) (flown p c)))
     (λ h.
     let t = begun_by start in
     joins own m n t.tcb m.records t.sent h is (λ x k. k) (begun_sound start is_start)
-    (begins_inside own m start h follows inside)
+    (begins_inside own m start h follows (inside h.outside))
     (begun_honest start is_start)
     flown)

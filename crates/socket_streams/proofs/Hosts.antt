@@ -73,7 +73,7 @@ acts_reach_in scope own others flying k act (Some s) t w at plain does =
     let share = share_of records_at t.tcp k s at in
     let rest = share.rest ++ (t.gone ++ others) in
     record {
-      plain = record { host = plain.host; outside = plain.outside; sockets = set_hold (IsPlain own) t.tcp k a.socket plain.sockets d.plain };
+      plain = record { host = plain.host; sockets = set_hold (IsPlain own) t.tcp k a.socket plain.sockets d.plain };
       leads = arranged scope own
           ((flat_map records_at t.tcp ++ t.gone) ++ others) (records_at s ++ rest)
           ((flat_map records_at (set t.tcp k a.socket) ++ (t.gone ++ a.gone)) ++ others) ((records_at a.socket ++ a.gone) ++ rest)
@@ -99,7 +99,7 @@ changes_reach_in scope own others flying k f (Some s) t w at plain keeps =
     (subst (λ (xs : List Tcb). IsPermutation all (xs ++ share.rest)) d.1 (share.put (f s)))
     (IsPermutation-sym (flat_map records_at t.tcp) (records_at s ++ share.rest) share.here) in
     same_reach scope own others flying t (with_tcp k (f s) t) w
-    (record { host = plain.host; outside = plain.outside; sockets = set_hold (IsPlain own) t.tcp k (f s) plain.sockets d.0 })
+    (record { host = plain.host; sockets = set_hold (IsPlain own) t.tcp k (f s) plain.sockets d.0 })
     (IsPermutation-append_left t.gone all (flat_map records_at t.tcp) back)
 
 pub changes_reach : (scope : Addr → Addr → Bool) (own : Ip) (others : List Tcb) (flying : List Packet) (k : ℕ) (f : TcpSocket → TcpSocket) (t : SocketsRecord) (w : Wanted) → ArePlain own t → ((s : TcpSocket) → slice_get t.tcp k ≡ Some s → IsPlain own s → IsPlain own (f s) × (records_at (f s) ≡ records_at s)) → Reaches scope own others flying (t, w) (changes_at k f t, w)
@@ -133,7 +133,6 @@ put_records s sockets =
 pub put_plain : (own : Ip) (s : TcpSocket) (t : SocketsRecord) → IsPlain own s → ArePlain own t → ArePlain own (put_tcp s t)
 put_plain own s t here plain = record {
   host = plain.host;
-  outside = plain.outside;
   sockets = by_test (λ (xs : List TcpSocket). (k : ℕ) (x : TcpSocket) → slice_get xs k ≡ Some x → IsPlain own x) (nat_lt (tcp_place t) (length t.tcp)) (set t.tcp (tcp_place t) s) (t.tcp ++ s ∷ [])
       (λ e. set_hold (IsPlain own) t.tcp (tcp_place t) s plain.sockets here)
       (λ e. push_hold (IsPlain own) t.tcp s plain.sockets here);

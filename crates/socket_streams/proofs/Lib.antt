@@ -8,3 +8,4 @@ pub mod Sockets
 pub mod Hosts
 pub mod Rows
 pub mod Acts
+pub mod Moving

@@ -104,7 +104,7 @@ makes scope own l p word first others flying after c a flown =
     let front = subst (λ (xs : List Tcb). IsPermutation xs (t ∷ (l.records ++ others))) (sym (append_assoc l.records (t ∷ []) others)) (IsPermutation-middle l.records t others) in
     begins_among scope own (net_with (l.records ++ others) flying) (net_with ((l.records ++ t ∷ []) ++ others) after)
     (passive p.to p.from (word % 2 ^ 32) first) (omega arith)
-    (record { packet = p; flies = c; to = refl; from = refl; asks = a }) tt front flown
+    (record { packet = p; flies = c; to = refl; from = refl; asks = a }) (λ apart. tt) front flown
 
 new_leads : (scope : Addr → Addr → Bool) (own : Ip) (l : Listen) (p : Packet) (word : ℕ) (others : List Tcb) (flying after : List Packet) (load : Load) → p.load ≡ load → Contains flying p → Flown flying (new_heard p (load_header load) word l).sent after → LeadsBeside scope own l (new_heard p (load_header load) word l) [] others flying after
 unfolding asked record_made

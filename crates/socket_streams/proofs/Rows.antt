@@ -162,9 +162,9 @@ used_at own t (Some s) why bound plain e = here_used own (tcp_ends t) s.bound bo
 used_here : (own : Ip) (k : ℕ) (t : SocketsRecord) (bound : Addr) → ArePlain own t → bound_to_use k t ≡ Ok bound → is_local own bound.ip ≡ true
 used_here own k t bound plain e = used_at own t (slice_get t.tcp k) _ bound (λ s at. plain.sockets k s at) e
 
-connect_inside : (own : Ip) (hosts : List Ip) (k : ℕ) (to local : Addr) (t : SocketsRecord) → ArePlain own t → connect_asked hosts k to t ≡ Ok local → IsInside own local to
-connect_inside own hosts k to local t plain e =
-    let outside : is_same_ip t.own loopback ≡ false = ap (λ (ip : Ip). is_same_ip ip loopback) plain.host ∙ plain.outside in
+connect_inside : (own : Ip) (hosts : List Ip) (k : ℕ) (to local : Addr) (t : SocketsRecord) → is_same_ip own loopback ≡ false → ArePlain own t → connect_asked hosts k to t ≡ Ok local → IsInside own local to
+connect_inside own hosts k to local t apart plain e =
+    let outside : is_same_ip t.own loopback ≡ false = ap (λ (ip : Ip). is_same_ip ip loopback) plain.host ∙ apart in
     let source = connect_source hosts k to local t e in
     let here : is_local t.own source.0.ip ≡ true =
     ap (λ (ip : Ip). is_local ip source.0.ip) plain.host ∙ used_here own k t source.0 plain source.1.0 in
@@ -179,7 +179,7 @@ module _ (scope : Addr → Addr → Bool) (own : Ip) (others : List Tcb) (flying
       acts_reach scope own others flying k (opens now k local to) t w plain
       (λ s at here.
       let begins = begun_at hosts to (slice_get t.tcp k) s _ at (first_ok (connect_begun hosts k to t) _ local e) in
-      let opened = opens_does scope own flying now k local to ((draws_word w).0 % 2 ^ 32) s (draws_word w).1 (omega arith) begins.fresh begins.quiet (connect_inside own hosts k to local t plain e) here in
+      let opened = opens_does scope own flying now k local to ((draws_word w).0 % 2 ^ 32) s (draws_word w).1 (omega arith) begins.fresh begins.quiet (λ apart. connect_inside own hosts k to local t apart plain e) here in
       record { plain = opened.plain; leads = opened.leads })
 
   pub connect_reach : (hosts : List Ip) (now : Time) (k : ℕ) (to : Addr) (t : SocketsRecord) (w : Wanted) → ArePlain own t → Reaches scope own others flying (t, w) (left_by (connects_taking hosts now k to t w) (t, w))
@@ -274,7 +274,6 @@ given_up_at own k (Some s) t r rest at e plain =
     record {
       plain = record {
         host = plain.host;
-        outside = plain.outside;
         sockets = set_hold (IsPlain own) t.tcp k s' plain.sockets (record { listens = λ m q. none; here = here.here });
       };
       same = IsPermutation-append_left t.gone (r ∷ all) (flat_map records_at t.tcp) whole;
@@ -335,7 +334,7 @@ module _ (scope : Addr → Addr → Bool) (own : Ip) (others : List Tcb) (flying
   pub slots_reach : (t : SocketsRecord) (slots : List (Option UdpState)) (w : Wanted) → ArePlain own t → Reaches scope own others flying (t, w) (record t { udp = slots }, w)
   slots_reach t slots w plain =
       same_reach scope own others flying t (record t { udp = slots }) w
-      (record { host = plain.host; outside = plain.outside; sockets = plain.sockets })
+      (record { host = plain.host; sockets = plain.sockets })
       (IsPermutation-refl (records_of t))
 
   pub udp_reach : {A : Type 0} (act : UdpState → Result (A × UdpState) Refusal) (k : ℕ) (o : Option UdpState) (t : SocketsRecord) (w : Wanted) → ArePlain own t → Reaches scope own others flying (t, w) (left_by (acted_udp act k o t) t, w)

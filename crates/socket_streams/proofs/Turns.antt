@@ -1,6 +1,7 @@
 -- an act on the record of a socket leads
-use Rattle.std.proofs.Common.{◌≡◌, inl, ℕ, ◌^◌, ◌<◌, Bool, List, [], ◌∷◌, ◌++◌, Option, Some, None, refl, sym, ap, subst, ◌∙◌, append-nil}
+use Rattle.std.proofs.Common.{◌≡◌, inl, ℕ, ◌^◌, ◌<◌, Bool, false, List, [], ◌∷◌, ◌++◌, Option, Some, None, refl, sym, ap, subst, ◌∙◌, append-nil}
 use Rattle.std.proofs.lemmas.List.Sorted.{IsPermutation-refl}
+use Rattle.sim_base.specs.Addresses.{loopback, is_same_ip}
 use Rattle.sim_base.specs.declared.address.Ip.{Ip}
 use Rattle.sim_base.specs.declared.address.Addr.{Addr}
 use Rattle.sim_base.specs.declared.packet.Packet.{Packet}
@@ -126,7 +127,7 @@ pub record_does : (scope : Addr → Addr → Bool) (own : Ip) (flying : List Pac
 record_does scope own flying now k act s w plain leads = record_does_in scope own flying now k act s.tcb s w refl plain leads
 
 -- a socket opens a record
-pub opens_does : (scope : Addr → Addr → Bool) (own : Ip) (flying : List Packet) (now : Time) (k : ℕ) (local to : Addr) (iss : ℕ) (s : TcpSocket) (w : Wanted) → iss < 2 ^ 32 → s.tcb ≡ None → s.listen ≡ None → IsInside own local to → IsPlain own s → Does scope own flying s w (turned now k (opened local to iss) s w)
+pub opens_does : (scope : Addr → Addr → Bool) (own : Ip) (flying : List Packet) (now : Time) (k : ℕ) (local to : Addr) (iss : ℕ) (s : TcpSocket) (w : Wanted) → iss < 2 ^ 32 → s.tcb ≡ None → s.listen ≡ None → (is_same_ip own loopback ≡ false → IsInside own local to) → IsPlain own s → Does scope own flying s w (turned now k (opened local to iss) s w)
 opens_does scope own flying now k local to iss s w first e none inside plain =
     let t = opened local to iss in
     let a = turned now k t s w in

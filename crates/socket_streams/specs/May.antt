@@ -1,6 +1,6 @@
 -- what may happen at a host's sockets, and what they are then
 use Rattle.std.specs.Prelude.{◌≡◌, ◌⊎◌, ℕ, true, false, List, [], ◌∷◌, ◌++◌, Contains, slice_get, Option, Some, None}
-use Rattle.sim_base.specs.Addresses.{loopback, is_same_ip, is_local}
+use Rattle.sim_base.specs.Addresses.{is_local}
 use Rattle.sim_base.specs.declared.address.Ip.{Ip}
 use Rattle.sim_base.specs.declared.address.Addr.{Addr}
 use Rattle.sim_base.specs.declared.packet.Packet.{Packet}
@@ -62,8 +62,7 @@ pub record Plain (own : Ip) (tcb : Option Tcb) (listen : Option Listen) (bound :
 abbrev pub IsPlain : Ip → TcpSocket → Type 0
 IsPlain own s = Plain own s.tcb s.listen s.bound
 
--- so are all sockets of a host that has an address of its own, which isn't 127.0.0.1
+-- so are all sockets of a host with this address
 pub record ArePlain (own : Ip) (t : SocketsRecord) : Type 0 where
   pub host : t.own ≡ own
-  pub outside : is_same_ip own loopback ≡ false
   pub sockets : (k : ℕ) (s : TcpSocket) → slice_get t.tcp k ≡ Some s → IsPlain own s

@@ -2,8 +2,7 @@
 //! no code that runs.
 #![tactic(auto)]
 
-ghost use Rattle.std.specs.Prelude.{◌≡◌, ℕ, List, ◌++◌, Bool, false, Contains, Some};
-ghost use Rattle.sim_base.specs.Addresses.{loopback, is_same_ip};
+ghost use Rattle.std.specs.Prelude.{◌≡◌, ℕ, List, ◌++◌, Bool, Contains, Some};
 ghost use Rattle.sim_base.specs.declared.address.Addr.{Addr};
 ghost use Rattle.sim_base.specs.declared.address.Ip.{Ip};
 ghost use Rattle.sim_base.specs.declared.packet.Packet.{Packet};
@@ -26,5 +25,5 @@ pub fn sockets_lead()
     ensures all { (scope : Addr → Addr → Bool) (hosts : List Ip) (own : Ip) (x y : SocketsRecord × Wanted) (others : List Tcb) (flying : List Packet)
         → ArePlain own x.0 → Moves hosts flying x y
         → Leads scope own (net_of others flying x) (net_of others flying y) × ArePlain own y.0 }
-    ensures none { (own : Ip) → is_same_ip own loopback ≡ false → ArePlain own (no_sockets own) }
+    ensures none { (own : Ip) → ArePlain own (no_sockets own) }
 {}
