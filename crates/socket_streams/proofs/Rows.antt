@@ -159,7 +159,7 @@ used_at : (own : Ip) (t : SocketsRecord) (o : Option TcpSocket) (why : Refusal) 
 used_at own t None why bound plain e = cc
 used_at own t (Some s) why bound plain e = here_used own (tcp_ends t) s.bound bound (plain s refl).here e
 
-used_here : (own : Ip) (k : ℕ) (t : SocketsRecord) (bound : Addr) → ArePlain own t → bound_to_use k t ≡ Ok bound → is_local own bound.ip ≡ true
+pub used_here : (own : Ip) (k : ℕ) (t : SocketsRecord) (bound : Addr) → ArePlain own t → bound_to_use k t ≡ Ok bound → is_local own bound.ip ≡ true
 used_here own k t bound plain e = used_at own t (slice_get t.tcp k) _ bound (λ s at. plain.sockets k s at) e
 
 connect_inside : (own : Ip) (hosts : List Ip) (k : ℕ) (to local : Addr) (t : SocketsRecord) → is_same_ip own loopback ≡ false → ArePlain own t → connect_asked hosts k to t ≡ Ok local → IsInside own local to
