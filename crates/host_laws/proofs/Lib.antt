@@ -1,0 +1,5 @@
+pub mod Links
+pub mod Passing
+pub mod Acting
+pub mod Sweeping
+pub mod Firing
