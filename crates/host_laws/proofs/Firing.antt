@@ -86,5 +86,12 @@ none_runs zero p r e = cc
 none_runs (suc n) zero r e = cc
 none_runs (suc n) (suc p) r e = none_runs n p r e
 
-pub none_goes : (row : Row) → HaveGoes (opening row).host (opening row).made
-none_goes row = λ p r at on left. absurd (none_runs (length row.processes.items) p r at)
+pub none_goes : (row : Row) (events : List Event) → HaveGoes (opening row).host events
+none_goes row events =
+    λ p r at on left. absurd (none_runs (length row.processes.items) p r at)
+
+pub number_after : (net : Net) (host : HostRecord) (e : Event) → (fire net host e).host.link.number ≡ host.link.number
+unfolding has_acted
+number_after net host e =
+    let mid : HostRecord = acts net e.what (at_time e.key.due host) in
+    (all_passes net mid).link.number ∙ (acting net e.what (at_time e.key.due host)).link.number

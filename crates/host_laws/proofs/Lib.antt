@@ -3,3 +3,4 @@ pub mod Passing
 pub mod Acting
 pub mod Sweeping
 pub mod Firing
+pub mod Turning

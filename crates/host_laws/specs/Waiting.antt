@@ -9,6 +9,7 @@ use Rattle.host_state.specs.declared.process.Process.TheVariants as process
 use Rattle.host_state.specs.declared.process.Running.{Running}
 use Rattle.host_state.specs.Fire.{kept_by}
 use Rattle.host_state.specs.HostRecord.{HostRecord}
+use Rattle.host_state.specs.World.{World}
 
 -- a process is blocked in a call, and has no Go to come
 pub record IsBlocked (p : ℕ) (why : Why) (host : HostRecord) : Type 0 where
@@ -26,3 +27,8 @@ abbrev pub HaveGoes : HostRecord → List Event → Type 0
 HaveGoes host events =
     (p : ℕ) (r : Running) → slice_get host.processes p ≡ Some (process.Running r) → r.goes ≡ true → host.link.next < max_u64
     → HasGo host.link.number p events
+
+-- in a world each host has the number of its place, and its processes have their Goes among the events
+abbrev pub AllHaveGoes : World → Type 0
+AllHaveGoes w =
+    (i : ℕ) (h : HostRecord) → slice_get w.hosts i ≡ Some h → (h.link.number ≡ i) × HaveGoes h w.events
