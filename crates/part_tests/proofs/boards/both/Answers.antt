@@ -2,7 +2,7 @@ use Rattle.std.proofs.Common.{◌≡◌, ◌++◌, ◌∷◌, [], List, ℕ, All
 use Rattle.std.proofs.lemmas.List.Elements.{All-nil, All-push, All-pop}
 use Rattle.host_inbox.specs.CarrierViews.{CarrierView, BoardsView, AreAllOf}
 use Rattle.host_inbox.proofs.JoiningSteps.{last_is_theirs}
-use Rattle.part_tests.proofs.boards.two_carriers_put_at_once.Goals as goal
+use Rattle.part_tests.proofs.boards.both.Goals as goal
 
 all_two : (b : BoardsView) (none mid end : List (CarrierView ℕ)) (one two : CarrierView ℕ) → length none ≡ 0 → mid ≡ none ++ one ∷ [] → end ≡ mid ++ two ∷ [] → one.boards ≡ b.id → two.boards ≡ b.id → b.seats ≡ 2 → AreAllOf b end
 all_two b (x ∷ none) mid end one two empty first second p q seats = absurd (omega arith)
