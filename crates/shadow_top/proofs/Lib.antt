@@ -1,4 +1,5 @@
 pub mod EndLemmas
+pub mod OneShown
 pub mod OpenedLemmas
 pub mod PartLemmas
 pub mod PlanLemmas

@@ -21,11 +21,12 @@ use Rattle.shd_config.specs.declared.config.Config.{Config}
 use Rattle.shadow_top.specs.declared.stop.Stop.{Stop}
 use Rattle.shadow_top.specs.declared.stop.Stop.TheVariants.{Refused, ReadFailed, WriteFailed, NoMemory}
 
--- what is shown stands there now, and this is its status
+-- what is shown stands there now, and this is its status: this and nothing else is shown of the input
 pub record Shows (input : Input) (old : Content) (new : Option Content) (status : ℕ) : Type 0 where
   pub whole : Content
   pub new_is : new ≡ Some whole
   pub shown : IsShown input old whole status
+  pub only : (other : Content) (another : ℕ) → IsShown input old other another → (other ≡ whole) × (another ≡ status)
 
 -- the line of a file that could not be read
 abbrev pub read_failed_line : List ℕ → List ℕ
