@@ -5,3 +5,4 @@ pub mod PlanLemmas
 pub mod RoundLemmas
 pub mod RunLemmas
 pub mod ShadowLemmas
+pub mod UntouchedLemmas
