@@ -6,3 +6,4 @@ pub mod PlanLemmas
 pub mod RoundLemmas
 pub mod RunLemmas
 pub mod ShadowLemmas
+pub mod UntouchedLemmas
