@@ -21,6 +21,7 @@ use Rattle.host_sockets.specs.declared.error.Refusal.TheVariants.{Errno, End}
 use Rattle.host_sockets.specs.Refusals.{waits_if}
 use Rattle.host_calls.specs.declared.descriptors.Descriptor.{Descriptor}
 use Rattle.host_calls.specs.declared.files.Ends.{Ends}
+use Rattle.host_calls.specs.declared.plan.Transfer.{Transfer}
 use Rattle.host_calls.specs.declared.parts.Task.{Task}
 use Rattle.host_calls.specs.declared.parts.Shared.{Shared}
 use Rattle.host_calls.specs.Flags.{o_nonblock, has, beside_open}
@@ -153,11 +154,15 @@ wait_to_read now (kind.ReadEnd k) files = pipe_drained k files
 wait_to_read now (kind.Timer k) files = waits_if (timer_count now.nanos k files == 0)
 wait_to_read now _ files = Ok tt
 
-abbrev pub read_asked : Time → Descriptor → ℕ → ℕ → Local → Result (Unit {0}) Refusal
-read_asked now d at n (task, shared) = do
+abbrev pub transfer : Descriptor → ℕ → ℕ → Transfer
+transfer d at n = record { d = d; at = at; n = n }
+
+abbrev pub file_read_plan : Time → Descriptor → ℕ → ℕ → Local → Result Transfer Refusal
+file_read_plan now d at n (task, shared) = do
   may_read d.file.object n
   refuse_if (not (can_write (counted n) at task.memory)) (Errno Efault)
   or_again d.file.nonblocking (wait_to_read now d.file.object shared.files)
+  Ok (transfer d at n)
 
 -- what a read of so many bytes gives, and what it leaves
 abbrev pub text_left : List ℕ → ℕ → ℕ → List ℕ
@@ -185,10 +190,8 @@ is_read_by text now d _ at count s = (0, s)
 abbrev pub is_read : List ℕ → Time → Descriptor → ℕ → ℕ → Local → ℕ × Local
 is_read text now d at count s = is_read_by text now d d.file.object at count s
 
-abbrev pub reads : List ℕ → Time → Descriptor → ℕ → ℕ → Local → Result (ℕ × Local) Refusal
-reads text now d at n s = do
-  read_asked now d at n s
-  Ok (is_read text now d at (counted n) s)
+abbrev pub reads : List ℕ → Time → Transfer → Local → Result (ℕ × Local) Refusal
+reads text now t s = Ok (is_read text now t.d t.at (counted t.n) s)
 
 -- write(2): what cannot be written
 abbrev pub may_write : Object → Result (Unit {0}) Refusal
@@ -209,11 +212,12 @@ abbrev pub wait_to_write : ℕ → Object → FilesState → Result (Unit {0}) R
 wait_to_write count (kind.WriteEnd k) files = pipe_full count k files
 wait_to_write count _ files = Ok tt
 
-abbrev pub write_asked : Descriptor → ℕ → ℕ → Local → Result (Unit {0}) Refusal
-write_asked d at n (task, shared) = do
+abbrev pub file_write_plan : Descriptor → ℕ → ℕ → Local → Result Transfer Refusal
+file_write_plan d at n (task, shared) = do
   may_write d.file.object
   refuse_if (not (can_read (counted n) at task.memory)) (Errno Efault)
   or_again d.file.nonblocking (wait_to_write (counted n) d.file.object shared.files)
+  Ok (transfer d at n)
 
 -- what a process wrote to its standard output or to its standard error
 abbrev pub with_output : ℕ → ℕ → List ℕ → Shared → Shared
@@ -236,8 +240,7 @@ abbrev pub is_written : ℕ → Descriptor → List ℕ → Local → ℕ × Loc
 is_written process d bytes (task, shared) =
     (count_written bytes d.file.object shared.files, (task, after_write process bytes d.file.object shared))
 
-abbrev pub writes : ℕ → Descriptor → ℕ → ℕ → Local → Result (ℕ × Local) Refusal
-writes process d at n (task, shared) = do
-  write_asked d at n (task, shared)
-  bytes ← or_refuse (span (counted n) at task.memory) (Errno Efault)
-  Ok (is_written process d bytes (task, shared))
+abbrev pub writes : ℕ → Transfer → Local → Result (ℕ × Local) Refusal
+writes process t (task, shared) = do
+  bytes ← or_refuse (span (counted t.n) t.at task.memory) (Errno Efault)
+  Ok (is_written process t.d bytes (task, shared))

@@ -23,6 +23,7 @@ use Rattle.sock_tcp.specs.connection.Ready.{bit_if}
 use Rattle.host_sockets.specs.Ready.{tcp_ready, udp_ready}
 use Rattle.host_calls.specs.declared.descriptors.Descriptor.{Descriptor}
 use Rattle.host_calls.specs.declared.parts.Task.{Task}
+use Rattle.host_calls.specs.declared.polling.PollPlan.{PollPlan}
 use Rattle.host_calls.specs.Descriptors.{descriptor}
 use Rattle.host_calls.specs.Parts.{Scene}
 use Rattle.host_calls.specs.Times.{at_nanos, kept_or}
@@ -124,19 +125,18 @@ poll_found now count limit_at entries s = do
   refuse_if (nothing_came now (count_told now s count entries) deadline) (Wait deadline)
   Ok (count_told now s count entries)
 
-abbrev pub poll_asked : Time → ℕ → ℕ → ℕ → Scene → Result ℕ Refusal
-poll_asked now at count limit_at s = do
+abbrev pub poll_plan : Time → ℕ → ℕ → ℕ → Scene → Result PollPlan Refusal
+poll_plan now at count limit_at s = do
   refuse_if (nat_lt max_entries count) (Errno Einval)
   entries ← poll_entries at (entry_size * count) s.task.memory
-  poll_found now count limit_at entries s
+  found ← poll_found now count limit_at entries s
+  Ok (record { at = at; count = count; found = found })
 
 abbrev pub polled : Time → ℕ → ℕ → List ℕ → Scene → Scene
 polled now at count entries s =
     record s { task = record s.task { memory = filled at (told_entries now s count entries) s.task.memory } }
 
-abbrev pub ppoll : Time → ℕ → ℕ → ℕ → Scene → Result (ℕ × Scene) Refusal
-ppoll now at count limit_at s = do
-  refuse_if (nat_lt max_entries count) (Errno Einval)
-  entries ← poll_entries at (entry_size * count) s.task.memory
-  found ← poll_found now count limit_at entries s
-  Ok (found, polled now at count entries s)
+abbrev pub polls : Time → PollPlan → Scene → Result (ℕ × Scene) Refusal
+polls now p s = do
+  entries ← poll_entries p.at (entry_size * p.count) s.task.memory
+  Ok (p.found, polled now p.at p.count entries s)

@@ -32,10 +32,13 @@ abbrev pub or_again : {A : Type 0} → Bool → Result A Refusal → Result A Re
 or_again nonblocking (Ok a) = Ok a
 or_again nonblocking (Err r) = Err (again_refusal nonblocking r)
 
-abbrev pub again : {A : Type 0} → Bool → Result A CallError → Result A CallError
-again nonblocking (Ok a) = Ok a
-again nonblocking (Err (error.Refused r)) = Err (error.Refused (again_refusal nonblocking r))
-again nonblocking (Err error.NoMemory) = Err error.NoMemory
+-- an error that a connection kept answers a call, which takes it: it refuses nothing
+abbrev pub kept_answers : Result (Unit {0}) Refusal → Result (Unit {0}) Refusal
+kept_answers (Ok done) = Ok done
+kept_answers (Err (refusal.Kept errno)) = Ok tt
+kept_answers (Err (refusal.Errno errno)) = Err (refusal.Errno errno)
+kept_answers (Err (refusal.Wait until)) = Err (refusal.Wait until)
+kept_answers (Err (refusal.End state)) = Err (refusal.End state)
 
 -- a call does what its row says: it answers and leaves this, or it is refused and nothing has changed. After want of memory
 -- nothing is known

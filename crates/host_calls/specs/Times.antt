@@ -61,11 +61,6 @@ sleep_asked now clock flags at task = do
   let deadline = kept_or task.kept (at_nanos (deadline_of flags clock now time))
   refuse_if (nat_lt now.nanos deadline.nanos) (Wait (Some deadline))
 
-abbrev pub clock_nanosleep : Time → ℕ → ℕ → ℕ → Local → Result (ℕ × Local) Refusal
-clock_nanosleep now clock flags at (task, shared) = do
-  sleep_asked now clock flags at task
-  Ok (0, (task, shared))
-
 -- timerfd_create(2)
 abbrev pub timer_file : Bool → ℕ → File
 timer_file nonblocking k = record { nonblocking = nonblocking; object = kind.Timer k }

@@ -3,8 +3,10 @@
 #![tactic(auto)]
 
 mod accepting;
+mod acting;
 mod again;
 mod all;
+mod asking;
 mod binding;
 mod call;
 mod calling;
@@ -19,6 +21,7 @@ mod naming;
 mod options;
 mod outputs;
 mod parts;
+mod plan;
 mod polling;
 mod reading;
 mod receiving;

@@ -256,8 +256,16 @@ fn poll_found(
     Ok(found)
 }
 
-/// What a poll waits for.
-pub(crate) fn poll_asked(
+/// The entries of a poll, and how many of them tell of something.
+#[derive(Clone, Copy, PartialEq, Eq)]
+pub struct PollPlan {
+    pub at: u32,
+    pub count: u32,
+    pub found: u32,
+}
+
+/// What refuses a poll, and whether it waits.
+pub(crate) fn poll_plan(
     now: Time,
     at: u32,
     count: u32,
@@ -265,41 +273,46 @@ pub(crate) fn poll_asked(
     task: &Task,
     shared: &Shared,
     sockets: &Sockets,
-) -> Result<u32, Refusal>
+) -> Result<PollPlan, Refusal>
     requires { now.nanos ≤ latest_time }
-    ensures { (t : SocketsRecord) → Stand sockets.now t → result ≡ spec.poll_asked now at count limit_at (scene (task.now, shared.now) t) }
+    ensures asked { (t : SocketsRecord) → Stand sockets.now t → result ≡ spec.poll_plan now at count limit_at (scene (task.now, shared.now) t) }
+    ensures fits { IfOk result (λ p. p.count ≤ spec.max_entries) }
 {
     if count > MOST {
         return Err(Refusal::Errno(Errno::Einval));
     }
-    let count = count as usize;
     let mut entries = [0; 2048];
-    let entries = &mut entries[..8 * count];
+    let entries = &mut entries[..8 * count as usize];
     poll_entries(at, entries, &task.memory)?;
-    poll_found(now, count, limit_at, entries, task, shared, sockets)
+    let found = poll_found(
+        now,
+        count as usize,
+        limit_at,
+        entries,
+        task,
+        shared,
+        sockets,
+    )?;
+    Ok(PollPlan { at, count, found })
 }
 
 /// `ppoll(2)`.
 pub(crate) fn ppoll(
     now: Time,
-    at: u32,
-    count: u32,
-    limit_at: u32,
+    polling: PollPlan,
     task: &mut Task,
     shared: &Shared,
     sockets: &Sockets,
 ) -> Result<u32, CallError>
-    requires { now.nanos ≤ latest_time }
-    ensures { (t : SocketsRecord) → Stand sockets.now t → Answers (spec.ppoll now at count limit_at (scene (task.old, shared.now) t)) (task.old, shared.now) t (task.new, shared.now) sockets.now result }
+    requires now { now.nanos ≤ latest_time }
+    requires count { polling.count ≤ spec.max_entries }
+    ensures { (t : SocketsRecord) → Stand sockets.now t → Answers (spec.polls now polling (scene (task.old, shared.now) t)) (task.old, shared.now) t (task.new, shared.now) sockets.now result }
 {
-    if count > MOST {
-        return Err(CallError::Refused(Refusal::Errno(Errno::Einval)));
-    }
+    let PollPlan { at, count, found } = polling;
     let count = count as usize;
     let mut entries = [0; 2048];
     let entries = &mut entries[..8 * count];
     poll_entries(at, entries, &task.memory)?;
-    let found = poll_found(now, count, limit_at, entries, task, shared, sockets)?;
     let alloc = shared.files.allocator();
     let bytes = told_entries(alloc, now, count, entries, task, shared, sockets)?;
     fill(&mut task.memory, at, bytes.as_slice());

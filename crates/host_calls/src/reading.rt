@@ -11,6 +11,7 @@ ghost use Rattle.host_calls.specs.Scene.{Does, Is};
 use crate::again::or_again;
 use crate::descriptors::Descriptor;
 use crate::parts::{Shared, Task};
+use crate::plan::Transfer;
 use guest_args::{counted, fill};
 use guest_mem::Right;
 use host_fds::Pipe;
@@ -97,25 +98,24 @@ fn wait_to_read(now: Time, object: Object, files: &Files) -> Result<(), Refusal>
 }
 
 /// What refuses a read, and whether it waits.
-pub(crate) fn read_asked(
+pub(crate) fn read_plan(
     now: Time,
     d: Descriptor,
     at: u32,
     n: u32,
     task: &Task,
     shared: &Shared,
-) -> Result<(), Refusal>
+) -> Result<Transfer, Refusal>
     requires { now.nanos ≤ latest_time }
-    ensures { result ≡ spec.read_asked now d at n (task.now, shared.now) }
+    ensures { result ≡ spec.file_read_plan now d at n (task.now, shared.now) }
 {
     may_read(d.file.object, n)?;
     if !task.memory.is_open(Right::Write, at, counted(n)) {
         return Err(Refusal::Errno(Errno::Efault));
     }
-    or_again(
-        d.file.nonblocking,
-        wait_to_read(now, d.file.object, &shared.files),
-    )
+    let ready = wait_to_read(now, d.file.object, &shared.files);
+    or_again(d.file.nonblocking, ready)?;
+    Ok(Transfer { d, at, n })
 }
 
 /// The bytes of a text from one on, at most so many.
@@ -214,16 +214,14 @@ fn read_done(
 pub(crate) fn read(
     text: &[u8],
     now: Time,
-    d: Descriptor,
-    at: u32,
-    n: u32,
+    transfer: Transfer,
     task: &mut Task,
     shared: &mut Shared,
 ) -> Result<u32, CallError>
     requires { now.nanos ≤ latest_time }
-    ensures { Does (spec.reads text.now now d at n (task.old, shared.old)) (task.old, shared.old) (task.new, shared.new) result }
+    ensures { Does (spec.reads text.now now transfer (task.old, shared.old)) (task.old, shared.old) (task.new, shared.new) result }
 {
-    read_asked(now, d, at, n, task, shared)?;
+    let Transfer { d, at, n } = transfer;
     let moved = read_done(text, now, d, at, counted(n), task, shared)?;
     Ok(moved)
 }

@@ -8,6 +8,7 @@ ghost use Rattle.host_calls.specs.Scene.{Does};
 use crate::again::or_again;
 use crate::descriptors::Descriptor;
 use crate::parts::{Output, Shared, Task};
+use crate::plan::Transfer;
 use guest_args::{block, counted};
 use guest_mem::Right;
 use host_files::{Files, Object};
@@ -65,23 +66,22 @@ fn wait_to_write(count: usize, object: Object, files: &Files) -> Result<(), Refu
 }
 
 /// What refuses a write, and whether it waits.
-pub(crate) fn write_asked(
+pub(crate) fn write_plan(
     d: Descriptor,
     at: u32,
     n: u32,
     task: &Task,
     shared: &Shared,
-) -> Result<(), Refusal>
-    ensures { result ≡ spec.write_asked d at n (task.now, shared.now) }
+) -> Result<Transfer, Refusal>
+    ensures { result ≡ spec.file_write_plan d at n (task.now, shared.now) }
 {
     may_write(d.file.object)?;
     if !task.memory.is_open(Right::Read, at, counted(n)) {
         return Err(Refusal::Errno(Errno::Efault));
     }
-    or_again(
-        d.file.nonblocking,
-        wait_to_write(counted(n), d.file.object, &shared.files),
-    )
+    let ready = wait_to_write(counted(n), d.file.object, &shared.files);
+    or_again(d.file.nonblocking, ready)?;
+    Ok(Transfer { d, at, n })
 }
 
 fn put_out(
@@ -133,15 +133,13 @@ fn write_done(
 /// `write(2)`.
 pub(crate) fn write(
     process: u32,
-    d: Descriptor,
-    at: u32,
-    n: u32,
+    transfer: Transfer,
     task: &Task,
     shared: &mut Shared,
 ) -> Result<u32, CallError>
-    ensures { Does (spec.writes process d at n (task.now, shared.old)) (task.now, shared.old) (task.now, shared.new) result }
+    ensures { Does (spec.writes process transfer (task.now, shared.old)) (task.now, shared.old) (task.now, shared.new) result }
 {
-    write_asked(d, at, n, task, shared)?;
+    let Transfer { d, at, n } = transfer;
     match block(shared.files.allocator(), &task.memory, at, counted(n))? {
         Some(bytes) => {
             let moved = write_done(process, d, bytes, shared)?;
