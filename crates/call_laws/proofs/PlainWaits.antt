@@ -17,6 +17,7 @@ use Rattle.guest_args.specs.Time.{timespec}
 use Rattle.host_timers.specs.declared.clock.Moment.{Moment}
 use Rattle.host_calls.specs.declared.times.Setting.{Setting}
 use Rattle.host_calls.specs.Calls.{arg, plain_row}
+use Rattle.host_calls.specs.Eventfd.{eventfd2}
 use Rattle.host_calls.specs.Files.{fcntl, fcntl_by, length_from, openat, pipe2_asked, pipe2}
 use Rattle.host_calls.specs.Guest.{getrandom}
 use Rattle.host_calls.specs.Scene.{Local}
@@ -47,6 +48,9 @@ pipe2-never at flags task shared = never_bind (pipe2_asked at flags task) _ (pip
 timerfd_create-never : (clock flags : ℕ) (task : Task) (shared : Shared) → Never (timerfd_create clock flags (task, shared))
 timerfd_create-never clock flags task shared = search nevers
 
+eventfd2-never : (count flags : ℕ) (task : Task) (shared : Shared) → Never (eventfd2 count flags (task, shared))
+eventfd2-never count flags task shared = search nevers
+
 setsockopt-never : (fd level option at n : ℕ) (task : Task) (shared : Shared) → Never (setsockopt fd level option at n (task, shared))
 setsockopt-never fd level option at n task shared = search nevers
 
@@ -64,6 +68,7 @@ timer_number-never (kind.Hosts read) = refl
 timer_number-never (kind.ReadEnd k) = refl
 timer_number-never (kind.WriteEnd k) = refl
 timer_number-never (kind.Timer k) = refl
+timer_number-never (kind.Eventfd k) = refl
 timer_number-never (kind.Udp k) = refl
 timer_number-never (kind.Tcp k) = refl
 
@@ -88,6 +93,7 @@ timerfd_settime-never now fd flags at old_at task shared =
     (λ old. never_bind (settime_asked flags at old_at task) _ (settime_asked-never flags at old_at task) (λ s. refl))
 
 pub plain-never : (now : Time) (process : ℕ) (p : PlainCall) (args : List ℕ) (task : Task) (shared : Shared) → Never (plain_row now process p args (task, shared))
+plain-never now process plain.Eventfd2 args task shared = eventfd2-never (arg args 0) (arg args 1) task shared
 plain-never now process plain.Fcntl args task shared = fcntl-never (arg args 0) (arg args 1) (arg args 2) task shared
 plain-never now process plain.Openat args task shared = openat-never (arg args 1) (arg args 2) task shared
 plain-never now process plain.Pipe2 args task shared = pipe2-never (arg args 0) (arg args 1) task shared

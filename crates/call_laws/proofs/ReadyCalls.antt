@@ -10,7 +10,8 @@ use Rattle.sim_base.specs.Refusals.{◌>>=◌, ◌>>◌, refuse_if, or_refuse}
 use Rattle.guest_args.specs.Span.{counted, can_read, can_write}
 use Rattle.host_files.specs.declared.file.Object.{Object}
 use Rattle.host_files.specs.declared.file.Object.TheVariants as kind
-use Rattle.host_files.specs.Files.{pipe_at, timer_count}
+use Rattle.host_fds.specs.declared.eventfd.Eventfd.{Eventfd}
+use Rattle.host_files.specs.Files.{pipe_at, timer_count, eventfd_at}
 use Rattle.host_sockets.specs.declared.error.Refusal.{Refusal}
 use Rattle.host_sockets.specs.declared.error.Refusal.TheVariants as refusal
 use Rattle.host_sockets.specs.Sockets.{SocketsRecord, tcp_at}
@@ -40,12 +41,13 @@ use Rattle.host_calls.specs.declared.sockets.SocketNumber.TheVariants as number
 use Rattle.host_calls.specs.Calls.{arg, message_of, room_of, open_by, read_plan_of, write_plan_of, asked, waits}
 use Rattle.host_calls.specs.Descriptors.{descriptor}
 use Rattle.host_calls.specs.Files.{may_read, wait_to_read, transfer, may_write, wait_to_write}
+use Rattle.host_calls.specs.Eventfd.{number_at, number_fits}
 use Rattle.host_calls.specs.Flags.{has, msg_nosignal}
 use Rattle.host_calls.specs.Parts.{Scene}
 use Rattle.host_calls.specs.Scene.{or_again, kept_answers}
 use Rattle.host_calls.specs.Sockets.{socket_number, given_address, accept_place, accept_plan_of, connect_ready, refuse_flags, is_quick, send_tcp_plan, send_plan, recv_place, recv_ready, recv_plan}
-use Rattle.call_laws.specs.Readiness.{is_refused, is_ready, writing_ended, would_read, would_accept, would_write, would_connect, IsWhole, AnswersWhere}
-use Rattle.call_laws.proofs.ReadyObjects.{Tells, may_write_by, tells_kept, read_end-tells, write_end-tells, timer-tells, recv_udp-tells, send_udp-holds, recv-tells, send-tells, accept-tells, connect-tells}
+use Rattle.call_laws.specs.Readiness.{is_refused, takes_number, is_ready, writing_ended, would_read, would_accept, would_write, would_connect, IsWhole, AnswersWhere}
+use Rattle.call_laws.proofs.ReadyObjects.{Tells, eventfd_read-tells, fits-tells, may_write_by, tells_kept, read_end-tells, write_end-tells, timer-tells, recv_udp-tells, send_udp-holds, recv-tells, send-tells, accept-tells, connect-tells}
 use Rattle.call_laws.proofs.Waits.{waits_in, is_wait-is}
 
 -- a call that isn't refused answers exactly where a test holds
@@ -196,6 +198,7 @@ read-agrees now args (kind.Hosts read) d at n s whole = file-reads now (kind.Hos
 read-agrees now args (kind.ReadEnd k) d at n s whole = file-reads now (kind.ReadEnd k) d at n s _ tt (read_end-tells (pipe_at k s.shared.files))
 read-agrees now args (kind.WriteEnd k) d at n s whole = refused _
 read-agrees now args (kind.Timer k) d at n s whole = file-reads now (kind.Timer k) d at n s _ (may_time n) (timer-tells (timer_count now.nanos k s.shared.files))
+read-agrees now args (kind.Eventfd k) d at n s whole = file-reads now (kind.Eventfd k) d at n s _ (may_time n) (eventfd_read-tells (eventfd_at k s.shared.files))
 read-agrees now args (kind.Udp k) d at n s whole = recv-agrees (open_by d (number.Udp k)) 0 (room_of at n 0 0) s _ (udp-reads now args k s)
 read-agrees now args (kind.Tcp k) d at n s whole = recv-agrees (open_by d (number.Tcp k)) 0 (room_of at n 0 0) s _ (tcp-reads now args k s whole)
 
@@ -212,6 +215,7 @@ recvfrom-agrees now args (kind.Hosts read) d flags room s whole = refused _
 recvfrom-agrees now args (kind.ReadEnd k) d flags room s whole = refused _
 recvfrom-agrees now args (kind.WriteEnd k) d flags room s whole = refused _
 recvfrom-agrees now args (kind.Timer k) d flags room s whole = refused _
+recvfrom-agrees now args (kind.Eventfd k) d flags room s whole = refused _
 recvfrom-agrees now args (kind.Udp k) d flags room s whole = recv-agrees (open_by d (number.Udp k)) flags room s _ (udp-reads now args k s)
 recvfrom-agrees now args (kind.Tcp k) d flags room s whole = recv-agrees (open_by d (number.Tcp k)) flags room s _ (tcp-reads now args k s whole)
 
@@ -232,6 +236,7 @@ accept-agrees now args (kind.Hosts read) d at size_at s whole = refused _
 accept-agrees now args (kind.ReadEnd k) d at size_at s whole = refused _
 accept-agrees now args (kind.WriteEnd k) d at size_at s whole = refused _
 accept-agrees now args (kind.Timer k) d at size_at s whole = refused _
+accept-agrees now args (kind.Eventfd k) d at size_at s whole = refused _
 accept-agrees now args (kind.Udp k) d at size_at s whole = refused _
 accept-agrees now args (kind.Tcp k) d at size_at s whole = accept_tcp-agrees now args d k at size_at s whole
 
@@ -306,37 +311,50 @@ send-agrees now args (number.Tcp k) nonblocking flags at to_at size hosts s whol
     past_flags (refuse_flags flags) (send_tcp_plan hosts k (is_quick nonblocking flags) (has msg_nosignal flags) (message_of at (arg args 2) to_at size) s.task.memory s.sockets) _ (search only)
     (sends_tcp-agrees now args k (is_quick nonblocking flags) (has msg_nosignal flags) at to_at size hosts s whole)
 
+-- eventfds
+number_at-only : (at : ℕ) (memory : Memory) → OnlyErrno (number_at at memory)
+number_at-only at memory = search only
+
+eventfd_write-tells : (r : Result ℕ Refusal) (slot : Option Eventfd) → OnlyErrno r → Tells (r >>= λ number. number_fits number slot) (takes_number r slot)
+eventfd_write-tells (Ok number) slot only = fits-tells number slot
+eventfd_write-tells (Err (refusal.Errno errno)) slot only = tt
+eventfd_write-tells (Err (refusal.Wait until)) slot only = absurd only
+eventfd_write-tells (Err (refusal.Kept errno)) slot only = absurd only
+eventfd_write-tells (Err (refusal.End state)) slot only = absurd only
+
 -- write(2)
 abbrev writes_file : Object → Descriptor → ℕ → ℕ → Scene → Result Plan Refusal
 writes_file object d at n s =
-    (may_write object >> (refuse_if (not (can_read (counted n) at s.task.memory)) (refusal.Errno Efault)
-    >> (or_again d.file.nonblocking (wait_to_write (counted n) object s.shared.files) >> Ok (transfer d at n)))) >>= λ t. Ok (plan.Write t)
+    (may_write object n >> (refuse_if (not (can_read (counted n) at s.task.memory)) (refusal.Errno Efault)
+    >> (or_again d.file.nonblocking (wait_to_write at (counted n) object s.task.memory s.shared.files) >> Ok (transfer d at n)))) >>= λ t. Ok (plan.Write t)
 
-file-writes : (object : Object) (d : Descriptor) (at n : ℕ) (s : Scene) (holds : Bool) → OnlyErrno (may_write object) → Tells (wait_to_write (counted n) object s.shared.files) holds
+file-writes : (object : Object) (d : Descriptor) (at n : ℕ) (s : Scene) (holds : Bool) → OnlyErrno (may_write object n) → Tells (wait_to_write at (counted n) object s.task.memory s.shared.files) holds
     → Agrees (writes_file object d at n s) holds
 file-writes object d at n s holds only tells =
-    by_file (may_write object) (wait_to_write (counted n) object s.shared.files) (not (can_read (counted n) at s.task.memory)) d.file.nonblocking (transfer d at n) (λ t. plan.Write t) holds only tells
+    by_file (may_write object n) (wait_to_write at (counted n) object s.task.memory s.shared.files) (not (can_read (counted n) at s.task.memory)) d.file.nonblocking (transfer d at n) (λ t. plan.Write t) holds only tells
 
 abbrev writes_by : Known → Object → Descriptor → ℕ → ℕ → Scene → Result SocketNumber Refusal → Result Plan Refusal
 writes_by known object d at n s (Ok socket) = send_plan known.book (open_by d socket) 0 (message_of at n 0 0) s.task.memory s.sockets >>= λ m. Ok (plan.Send m)
 writes_by known object d at n s (Err e) = writes_file object d at n s
 
-write_end-writes : (now : Time) (args : List ℕ) (k : ℕ) (s : Scene) → Tells (wait_to_write (counted (arg args 2)) (kind.WriteEnd k) s.shared.files) (would_write args now (kind.WriteEnd k) s)
-write_end-writes now args k s =
-    subst (λ (b : Bool). Tells (wait_to_write (counted (arg args 2)) (kind.WriteEnd k) s.shared.files) (b || (is_ready pollout now (kind.WriteEnd k) s || writing_ended (kind.WriteEnd k) s)))
+write_end-writes : (now : Time) (args : List ℕ) (k at : ℕ) (s : Scene) → Tells (wait_to_write at (counted (arg args 2)) (kind.WriteEnd k) s.task.memory s.shared.files) (would_write args now (kind.WriteEnd k) s)
+write_end-writes now args k at s =
+    subst (λ (b : Bool). Tells (wait_to_write at (counted (arg args 2)) (kind.WriteEnd k) s.task.memory s.shared.files) (b || (is_ready pollout now (kind.WriteEnd k) s || writing_ended (kind.WriteEnd k) s)))
     (counts (arg args 2)) (write_end-tells (pipe_at k s.shared.files) (nat_lt 0 (counted (arg args 2))))
 
-write-agrees : (known : Known) (now : Time) (args : List ℕ) (object : Object) (d : Descriptor) (at : ℕ) (s : Scene) → IsWhole object s.sockets
-    → Agrees (writes_by known object d at (arg args 2) s (socket_number object)) (would_write args now object s)
-write-agrees known now args kind.Input d at s whole = refused _
-write-agrees known now args kind.Output d at s whole = file-writes kind.Output d at (arg args 2) s _ tt (either (arg args 2 == 0) false)
-write-agrees known now args kind.Errors d at s whole = file-writes kind.Errors d at (arg args 2) s _ tt (either (arg args 2 == 0) false)
-write-agrees known now args (kind.Hosts read) d at s whole = refused _
-write-agrees known now args (kind.ReadEnd k) d at s whole = refused _
-write-agrees known now args (kind.WriteEnd k) d at s whole = file-writes (kind.WriteEnd k) d at (arg args 2) s _ tt (write_end-writes now args k s)
-write-agrees known now args (kind.Timer k) d at s whole = refused _
-write-agrees known now args (kind.Udp k) d at s whole = send-agrees now args (number.Udp k) d.file.nonblocking 0 at 0 0 known.book s whole
-write-agrees known now args (kind.Tcp k) d at s whole = send-agrees now args (number.Tcp k) d.file.nonblocking 0 at 0 0 known.book s whole
+write-agrees : (known : Known) (now : Time) (args : List ℕ) (object : Object) (d : Descriptor) (s : Scene) → IsWhole object s.sockets
+    → Agrees (writes_by known object d (arg args 1) (arg args 2) s (socket_number object)) (would_write args now object s)
+write-agrees known now args kind.Input d s whole = refused _
+write-agrees known now args kind.Output d s whole = file-writes kind.Output d (arg args 1) (arg args 2) s _ tt (either (arg args 2 == 0) false)
+write-agrees known now args kind.Errors d s whole = file-writes kind.Errors d (arg args 1) (arg args 2) s _ tt (either (arg args 2 == 0) false)
+write-agrees known now args (kind.Hosts read) d s whole = refused _
+write-agrees known now args (kind.ReadEnd k) d s whole = refused _
+write-agrees known now args (kind.WriteEnd k) d s whole = file-writes (kind.WriteEnd k) d (arg args 1) (arg args 2) s _ tt (write_end-writes now args k (arg args 1) s)
+write-agrees known now args (kind.Timer k) d s whole = refused _
+write-agrees known now args (kind.Eventfd k) d s whole =
+    file-writes (kind.Eventfd k) d (arg args 1) (arg args 2) s _ (may_time (arg args 2)) (eventfd_write-tells (number_at (arg args 1) s.task.memory) (eventfd_at k s.shared.files) (number_at-only (arg args 1) s.task.memory))
+write-agrees known now args (kind.Udp k) d s whole = send-agrees now args (number.Udp k) d.file.nonblocking 0 (arg args 1) 0 0 known.book s whole
+write-agrees known now args (kind.Tcp k) d s whole = send-agrees now args (number.Tcp k) d.file.nonblocking 0 (arg args 1) 0 0 known.book s whole
 
 -- sendto(2)
 sendto-agrees : (now : Time) (args : List ℕ) (object : Object) (d : Descriptor) (flags at to_at size : ℕ) (hosts : List Ip) (s : Scene) → IsWhole object s.sockets
@@ -349,6 +367,7 @@ sendto-agrees now args (kind.Hosts read) d flags at to_at size hosts s whole = r
 sendto-agrees now args (kind.ReadEnd k) d flags at to_at size hosts s whole = refused _
 sendto-agrees now args (kind.WriteEnd k) d flags at to_at size hosts s whole = refused _
 sendto-agrees now args (kind.Timer k) d flags at to_at size hosts s whole = refused _
+sendto-agrees now args (kind.Eventfd k) d flags at to_at size hosts s whole = refused _
 sendto-agrees now args (kind.Udp k) d flags at to_at size hosts s whole = send-agrees now args (number.Udp k) d.file.nonblocking flags at to_at size hosts s whole
 sendto-agrees now args (kind.Tcp k) d flags at to_at size hosts s whole = send-agrees now args (number.Tcp k) d.file.nonblocking flags at to_at size hosts s whole
 
@@ -369,6 +388,7 @@ connect-agrees now args (kind.Hosts read) d at size s why kept = refused _
 connect-agrees now args (kind.ReadEnd k) d at size s why kept = refused _
 connect-agrees now args (kind.WriteEnd k) d at size s why kept = refused _
 connect-agrees now args (kind.Timer k) d at size s why kept = refused _
+connect-agrees now args (kind.Eventfd k) d at size s why kept = refused _
 connect-agrees now args (kind.Udp k) d at size s why kept = λ e. refl
 connect-agrees now args (kind.Tcp k) d at size s why kept =
     agree_map (connect_ready (number.Tcp k) s >> Ok (connection (open_by d (number.Tcp k)) at size)) (λ c. plan.Connect c) _
@@ -406,7 +426,7 @@ accept-answers known now args s d why kept e whole = rw e (accept-agrees now arg
 
 pub write-answers : Agreeing would_write waiting.Write
 write-answers known now args s d why kept e whole =
-    rw (e, writes-is known d (arg args 1) (arg args 2) s (socket_number d.file.object)) (write-agrees known now args d.file.object d (arg args 1) s whole)
+    rw (e, writes-is known d (arg args 1) (arg args 2) s (socket_number d.file.object)) (write-agrees known now args d.file.object d s whole)
 
 pub sendto-answers : Agreeing would_write waiting.Sendto
 sendto-answers known now args s d why kept e whole =

@@ -6,6 +6,8 @@ use Rattle.sim_base.specs.declared.errno.Errno.{Errno}
 use Rattle.sim_base.specs.declared.errno.Errno.TheVariants.{Ebadf, Einval, Enotconn}
 use Rattle.sim_base.specs.Refusals.{◌>>=◌, ◌>>◌, refuse_if, or_refuse}
 use Rattle.host_fds.specs.Pipe.{PipeState, bit_of, room}
+use Rattle.host_fds.specs.Eventfd as eventfd
+use Rattle.host_fds.specs.declared.eventfd.Eventfd.{Eventfd}
 use Rattle.host_fds.specs.declared.pipe.End.TheVariants.{Reading, Writing}
 use Rattle.sock_udp.specs.Socket.{UdpState}
 use Rattle.sock_tcp.specs.declared.segment.state.TcpState.{TcpState}
@@ -26,11 +28,12 @@ use Rattle.host_sockets.specs.Connecting.{connect_ends, connect_error}
 use Rattle.host_sockets.specs.Moving.{may_recv, would_read}
 use Rattle.host_sockets.specs.Ready.{ready_of, ready_in, udp_ready_in}
 use Rattle.host_sockets.specs.Udp.{recv_asked_in}
+use Rattle.host_calls.specs.Eventfd.{number_fits}
 use Rattle.host_calls.specs.Files.{is_drained}
 use Rattle.host_calls.specs.Flags.{has}
-use Rattle.host_calls.specs.Polling.{pipe_ready}
+use Rattle.host_calls.specs.Polling.{pipe_ready, eventfd_ready}
 use Rattle.host_calls.specs.Scene.{kept_answers}
-use Rattle.call_laws.specs.Readiness.{has_no_writer, has_no_reader, record_is_over, is_connecting, IsOwnRecord, AreWhole, IsWholeSocket}
+use Rattle.call_laws.specs.Readiness.{room_in, has_no_writer, has_no_reader, record_is_over, is_connecting, IsOwnRecord, AreWhole, IsWholeSocket}
 
 -- what a step that may wait tells of a test: where the test holds it doesn't wait. An error number tells nothing
 abbrev pub Tells : {A : Type 0} → Result A Refusal → Bool → Type 0
@@ -118,6 +121,33 @@ or_nothing false = refl
 
 pub timer-tells : (count : ℕ) → Tells (waits_if (count == 0)) (has 1 (bit_if (nat_lt 0 count) 1) || false)
 timer-tells count = tells_if (count == 0) _ (not_zero count ∙ sym (in_timer (nat_lt 0 count)) ∙ or_nothing (has 1 (bit_if (nat_lt 0 count) 1)))
+
+-- eventfds
+in_eventfd : (some space : Bool) → has 1 (bit_of 1 some + bit_of 4 space) ≡ some
+in_eventfd true true = refl
+in_eventfd true false = refl
+in_eventfd false true = refl
+in_eventfd false false = refl
+
+pub eventfd_read-tells : (o : Option Eventfd) → Tells (or_refuse o (refusal.Errno Ebadf) >>= λ e. waits_if (e.count == 0)) (has 1 (eventfd_ready o) || false)
+eventfd_read-tells None = tt
+eventfd_read-tells (Some e) =
+    tells_if (e.count == 0) _ (not_zero e.count ∙ sym (in_eventfd (nat_lt 0 e.count) (nat_lt e.count eventfd.most)) ∙ or_nothing (has 1 (eventfd_ready (Some e))))
+
+not_not : (b : Bool) → not (not b) ≡ b
+not_not true = refl
+not_not false = refl
+
+fits_in : (number : ℕ) (slot : Option Eventfd) → Tells (or_refuse slot (refusal.Errno Ebadf) >>= λ e. waits_if (not (eventfd.has_room number e))) (room_in number slot)
+fits_in number None = tt
+fits_in number (Some e) = tells_if (not (eventfd.has_room number e)) _ (not_not (eventfd.has_room number e))
+
+past_none : (none : Bool) (q : Result (Unit {0}) Refusal) (holds : Bool) → Tells q holds → Tells (refuse_if none (refusal.Errno Einval) >> q) holds
+past_none true q holds h = tt
+past_none false q holds h = h
+
+pub fits-tells : (number : ℕ) (slot : Option Eventfd) → Tells (number_fits number slot) (room_in number slot)
+fits-tells number slot = past_none _ _ (room_in number slot) (fits_in number slot)
 
 -- UDP sockets
 in_udp : (some : Bool) → not (not some) ≡ (has 1 (if some then 5 else 4) || false)

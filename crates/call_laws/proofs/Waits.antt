@@ -131,6 +131,7 @@ socket_number-never (kind.Hosts read) = refl
 socket_number-never (kind.ReadEnd k) = refl
 socket_number-never (kind.WriteEnd k) = refl
 socket_number-never (kind.Timer k) = refl
+socket_number-never (kind.Eventfd k) = refl
 socket_number-never (kind.Udp k) = refl
 socket_number-never (kind.Tcp k) = refl
 

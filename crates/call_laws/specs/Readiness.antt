@@ -2,10 +2,12 @@
 use Rattle.std.specs.Prelude.{◌≡◌, ℕ, ◌<◌, ◌==◌, ◌||◌, Bool, true, false, not, List, All, length, slice_get, Option, Some, None, IsSome, Result, Ok, Err}
 use Rattle.sim_base.specs.declared.time.Time.{Time}
 use Rattle.sim_base.specs.Poll.{pollin, pollout}
+use Rattle.host_fds.specs.declared.eventfd.Eventfd.{Eventfd}
+use Rattle.host_fds.specs.Eventfd.{has_room}
 use Rattle.host_fds.specs.Pipe.{PipeState}
 use Rattle.host_files.specs.declared.file.Object.{Object}
 use Rattle.host_files.specs.declared.file.Object.TheVariants as kind
-use Rattle.host_files.specs.Files.{pipe_at}
+use Rattle.host_files.specs.Files.{pipe_at, eventfd_at}
 use Rattle.sock_tcp.specs.segment.State.{is_over, is_syn_sent, is_syn_received}
 use Rattle.sock_tcp.specs.connection.Tcb.{Tcb}
 use Rattle.sock_tcp.specs.listener.Listen.{Listen}
@@ -23,6 +25,7 @@ use Rattle.host_calls.specs.declared.plan.Plan.{Plan}
 use Rattle.host_calls.specs.Call.{call_of}
 use Rattle.host_calls.specs.Calls.{arg, asked, answers_scene}
 use Rattle.host_calls.specs.Descriptors.{descriptor}
+use Rattle.host_calls.specs.Eventfd.{number_at}
 use Rattle.host_calls.specs.Flags.{has}
 use Rattle.host_calls.specs.Parts.{Scene}
 use Rattle.host_calls.specs.Polling.{object_ready}
@@ -67,8 +70,18 @@ would_read args now object s = is_ready pollin now object s || reading_ended obj
 abbrev pub would_accept : List ℕ → Time → Object → Scene → Bool
 would_accept args now object s = is_ready pollin now object s
 
--- write(2) and sendto(2), of which one of no bytes waits for nothing
+-- write(2) and sendto(2), of which one of no bytes waits for nothing. One to an eventfd goes by its room for the number that is added, and
+-- not by POLLOUT
+abbrev pub room_in : ℕ → Option Eventfd → Bool
+room_in number None = false
+room_in number (Some e) = has_room number e
+
+abbrev pub takes_number : Result ℕ Refusal → Option Eventfd → Bool
+takes_number (Ok number) slot = room_in number slot
+takes_number (Err refusal) slot = false
+
 abbrev pub would_write : List ℕ → Time → Object → Scene → Bool
+would_write args now (kind.Eventfd k) s = takes_number (number_at (arg args 1) s.task.memory) (eventfd_at k s.shared.files)
 would_write args now object s = (arg args 2 == 0) || (is_ready pollout now object s || writing_ended object s)
 
 -- connect(2)

@@ -26,6 +26,7 @@ ghost use Rattle.host_calls.specs.declared.parts.Why.{Why};
 ghost use Rattle.host_calls.specs.Call.{call_of};
 ghost use Rattle.host_calls.specs.Calls.{call, call_scene, cleared, row_of, waiting_row, answers};
 ghost use Rattle.host_calls.specs.Events.{ended};
+ghost use Rattle.host_calls.specs.Eventfd.{eventfd2};
 ghost use Rattle.host_calls.specs.Files.{openat, pipe2_asked};
 ghost use Rattle.call_laws.specs.Laws.{is_block, kept_call, takes_time, IsFirstFree, TakesError};
 ghost use Rattle.call_laws.specs.Readiness.{AnswersWhere, would_read, would_accept, would_write, would_connect};
@@ -50,6 +51,7 @@ pub fn deadline_answers()
 pub fn new_descriptors()
     ensures file { (path flags fd : ℕ) (task : Task) (shared : Shared) (after : Local) → openat path flags (task, shared) ≡ Ok (fd, after) → IsLowestFree task.table fd }
     ensures timer { (clock flags fd : ℕ) (task : Task) (shared : Shared) (after : Local) → timerfd_create clock flags (task, shared) ≡ Ok (fd, after) → IsLowestFree task.table fd }
+    ensures eventfd { (count flags fd : ℕ) (task : Task) (shared : Shared) (after : Local) → eventfd2 count flags (task, shared) ≡ Ok (fd, after) → IsLowestFree task.table fd }
     ensures socket { (family type protocol fd : ℕ) (s after : Scene) → socket family type protocol s ≡ Ok (fd, after) → IsLowestFree s.task.table fd }
     ensures connection { (known : Known) (now : Time) (process : ℕ) (args : List ℕ) (fd : ℕ) (s after : Scene) → waiting_row known now process waiting.Accept args s ≡ Ok (Value fd, after) → IsLowestFree s.task.table fd }
     ensures reading_end { (at flags : ℕ) (task : Task) (fds : Ends) → pipe2_asked at flags task ≡ Ok fds → IsLowestFree task.table fds.reading }
@@ -88,7 +90,8 @@ pub fn ends_of_processes()
 
 /// Readiness and answers agree: a call that a process waits in, and that isn't refused, answers
 /// exactly where `poll(2)` tells of its descriptor what the call waits for. A pipe whose other end is
-/// let go and a TCP socket whose connection is over answer too, and so does a write of no bytes.
+/// let go and a TCP socket whose connection is over answer too, and so does a write of no bytes; a
+/// write to an eventfd goes by its room for the number that is added.
 pub fn readiness_and_answers()
     ensures read { AnswersWhere would_read waiting.Read }
     ensures recvfrom { AnswersWhere would_read waiting.Recvfrom }

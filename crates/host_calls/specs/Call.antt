@@ -12,7 +12,8 @@ use Rattle.host_calls.specs.declared.call.WaitingCall.TheVariants as waiting
 -- calls that need no sockets
 abbrev pub plain_of : ℕ → Option PlainCall
 plain_of n =
-    if n == 25 then Some plain.Fcntl
+    if n == 19 then Some plain.Eventfd2
+    else if n == 25 then Some plain.Fcntl
     else if n == 56 then Some plain.Openat
     else if n == 59 then Some plain.Pipe2
     else if n == 85 then Some plain.TimerfdCreate

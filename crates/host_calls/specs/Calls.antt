@@ -39,6 +39,7 @@ use Rattle.host_calls.specs.declared.sockets.SocketNumber.{SocketNumber}
 use Rattle.host_calls.specs.Call.{call_of}
 use Rattle.host_calls.specs.Closing.{close, all_closed}
 use Rattle.host_calls.specs.Descriptors.{descriptor, IsFree}
+use Rattle.host_calls.specs.Eventfd.{eventfd2}
 use Rattle.host_calls.specs.Files.{fcntl, openat, pipe2, file_read_plan, reads, file_write_plan, writes}
 use Rattle.host_calls.specs.Guest.{getpid, brk, getrandom}
 use Rattle.host_calls.specs.Parts.{PartsRecord, PartsStand, Place, PlaceStands, place_of, place_in, with_place, Scene, scene, local_of, plainly}
@@ -63,6 +64,7 @@ abbrev pub answers_brk : ℕ × Task → Shared → Result (ℕ × Local) Refusa
 answers_brk (value, task) shared = Ok (value, (task, shared))
 
 abbrev pub plain_row : Time → ℕ → PlainCall → List ℕ → Local → Result (ℕ × Local) Refusal
+plain_row now process plain.Eventfd2 args s = eventfd2 (arg args 0) (arg args 1) s
 plain_row now process plain.Fcntl args s = fcntl (arg args 0) (arg args 1) (arg args 2) s
 plain_row now process plain.Openat args s = openat (arg args 1) (arg args 2) s
 plain_row now process plain.Pipe2 args s = pipe2 (arg args 0) (arg args 1) s

@@ -25,9 +25,8 @@ use Rattle.host_calls.specs.declared.times.OldTimer.{OldTimer}
 use Rattle.host_calls.specs.declared.times.Setting.{Setting}
 use Rattle.host_calls.specs.Flags.{o_nonblock, has, beside_open}
 use Rattle.host_calls.specs.Numbers.{timer_abstime, itimerspec_size}
-use Rattle.host_calls.specs.Scene.{Local}
+use Rattle.host_calls.specs.Scene.{Local, tell_memory}
 use Rattle.host_calls.specs.Descriptors.{lowest_free, descriptor, opens}
-use Rattle.host_calls.specs.Files.{tell_memory}
 
 -- clock_gettime(2)
 abbrev pub clock_gettime : Time → ℕ → ℕ → Local → Result (ℕ × Local) Refusal

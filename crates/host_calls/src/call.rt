@@ -19,6 +19,7 @@ pub enum Call {
 /// A call that needs no sockets and never waits.
 #[derive(Clone, Copy, PartialEq, Eq)]
 pub enum PlainCall {
+    Eventfd2,
     Fcntl,
     Openat,
     Pipe2,
@@ -61,6 +62,7 @@ impl PlainCall {
         ensures { result ≡ spec.plain_of number }
     {
         match number {
+            19 => Some(PlainCall::Eventfd2),
             25 => Some(PlainCall::Fcntl),
             56 => Some(PlainCall::Openat),
             59 => Some(PlainCall::Pipe2),

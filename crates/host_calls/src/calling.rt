@@ -16,6 +16,7 @@ use crate::asking::asked;
 use crate::binding::{bind, listen, socket};
 use crate::call::{Call, NetworkCall, PlainCall, WaitingCall};
 use crate::closing::{close, close_task};
+use crate::eventfd::eventfd2;
 use crate::files::{fcntl, openat, pipe2};
 use crate::guest::{brk, getpid, getrandom};
 use crate::naming::{getpeername, getsockname, shutdown};
@@ -38,6 +39,7 @@ fn plain_row(
     ensures { Does (spec.plain_row now process call args (task.old, shared.old)) (task.old, shared.old) (task.new, shared.new) result }
 {
     match call {
+        PlainCall::Eventfd2 => eventfd2(task, shared, args[0], args[1]),
         PlainCall::Fcntl => fcntl(task, shared, args[0], args[1], args[2]),
         PlainCall::Openat => openat(task, shared, args[1], args[2]),
         PlainCall::Pipe2 => pipe2(task, shared, args[0], args[1]),

@@ -13,6 +13,7 @@ mod calling;
 mod closing;
 mod connecting;
 mod descriptors;
+mod eventfd;
 mod events;
 mod files;
 mod flags;

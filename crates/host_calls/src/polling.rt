@@ -4,7 +4,7 @@ ghost use Rattle.std.specs.Prelude.{◌≡◌, ◌+◌, ◌*◌, ◌<◌, ◌≤
 ghost use Rattle.sim_base.specs.Units.{latest_time};
 ghost use Rattle.host_sockets.specs.Sockets.{SocketsRecord};
 ghost use Rattle.host_sockets.specs.StandsFor.{Stand};
-ghost use Rattle.host_files.specs.Files.{pipe_at};
+ghost use Rattle.host_files.specs.Files.{pipe_at, eventfd_at};
 ghost use Rattle.host_calls.specs.Parts.{Answers, scene};
 ghost use Rattle.host_calls.specs.Polling as spec;
 
@@ -41,6 +41,15 @@ fn timer_ready(now: Time, place: usize, files: &Files) -> u16
     }
 }
 
+fn eventfd_ready(place: usize, files: &Files) -> u16
+    ensures { result ≡ spec.eventfd_ready (eventfd_at place files.now) }
+{
+    match files.eventfd(place) {
+        Some(eventfd) => eventfd.ready(),
+        None => 0,
+    }
+}
+
 /// What an object is ready for, by the bits of `poll(2)`.
 fn object_ready(now: Time, object: Object, files: &Files, sockets: &Sockets) -> u16
     requires { now.nanos ≤ latest_time }
@@ -54,6 +63,7 @@ fn object_ready(now: Time, object: Object, files: &Files, sockets: &Sockets) -> 
         Object::ReadEnd(place) => pipe_ready(place, End::Reading, files),
         Object::WriteEnd(place) => pipe_ready(place, End::Writing, files),
         Object::Timer(place) => timer_ready(now, place, files),
+        Object::Eventfd(place) => eventfd_ready(place, files),
         Object::Udp(place) => sockets.udp_ready(place),
         Object::Tcp(place) => sockets.tcp_ready(place),
     }

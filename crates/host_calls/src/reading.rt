@@ -1,7 +1,11 @@
 //! read, where no socket is meant.
 
-ghost use Rattle.std.specs.Prelude.{◌≡◌, ◌+◌, ◌≤◌, length, max, OnOk, IfOk};
+ghost use Rattle.std.specs.Prelude.{nat_lt, ◌≡◌, ◌+◌, ◌≤◌, length, max, OnOk, IfOk};
 ghost use Rattle.sim_base.specs.Units.{latest_time};
+ghost use Rattle.sim_base.specs.declared.errno.Errno.TheVariants.{Einval};
+ghost use Rattle.sim_base.specs.Refusals.{refuse_if};
+ghost use Rattle.host_sockets.specs.declared.error.Refusal.TheVariants as refusal;
+ghost use Rattle.host_calls.specs.Numbers.{eventfd_size};
 ghost use Rattle.host_files.specs.Files as files_spec;
 ghost use Rattle.host_files.specs.Files.{pipe_gives};
 ghost use Rattle.guest_args.specs.Span.{most};
@@ -10,6 +14,7 @@ ghost use Rattle.host_calls.specs.Scene.{Does, Is};
 
 use crate::again::or_again;
 use crate::descriptors::Descriptor;
+use crate::eventfd::{eventfd_empty, read_eventfd};
 use crate::parts::{Shared, Task};
 use crate::plan::Transfer;
 use guest_args::{counted, fill};
@@ -19,7 +24,18 @@ use host_files::{File, Files, Object};
 use host_sockets::{CallError, Refusal};
 use sim_base::{Errno, NoMemory, Time};
 
-/// What cannot be read, and what a timer has no room for.
+/// Whether there is room for a number of 8 bytes.
+pub(crate) fn may_hold(n: u32) -> Result<(), Refusal>
+    ensures { result ≡ refuse_if (nat_lt n eventfd_size) (refusal.Errno Einval) }
+{
+    if n < 8 {
+        Err(Refusal::Errno(Errno::Einval))
+    } else {
+        Ok(())
+    }
+}
+
+/// What cannot be read, and what a timer or an eventfd has no room for.
 fn may_read(object: Object, n: u32) -> Result<(), Refusal>
     ensures { result ≡ spec.may_read object n }
 {
@@ -27,13 +43,8 @@ fn may_read(object: Object, n: u32) -> Result<(), Refusal>
         Object::Output => Err(Refusal::Errno(Errno::Ebadf)),
         Object::Errors => Err(Refusal::Errno(Errno::Ebadf)),
         Object::WriteEnd(_) => Err(Refusal::Errno(Errno::Ebadf)),
-        Object::Timer(_) => {
-            if n < 8 {
-                Err(Refusal::Errno(Errno::Einval))
-            } else {
-                Ok(())
-            }
-        }
+        Object::Timer(_) => may_hold(n),
+        Object::Eventfd(_) => may_hold(n),
         Object::Input => Ok(()),
         Object::Hosts(_) => Ok(()),
         Object::ReadEnd(_) => Ok(()),
@@ -87,6 +98,7 @@ fn wait_to_read(now: Time, object: Object, files: &Files) -> Result<(), Refusal>
                 Ok(())
             }
         }
+        Object::Eventfd(place) => eventfd_empty(place, files),
         Object::Input => Ok(()),
         Object::Output => Ok(()),
         Object::Errors => Ok(()),
@@ -199,6 +211,10 @@ fn read_done(
         Object::ReadEnd(place) => read_pipe(place, at, count, task, shared),
         Object::Timer(place) => {
             read_timer(now, place, at, task, shared);
+            Ok(8)
+        }
+        Object::Eventfd(place) => {
+            read_eventfd(place, at, task, shared);
             Ok(8)
         }
         Object::Input => Ok(0),

@@ -247,6 +247,7 @@ fn timer_number(object: Object) -> Result<usize, Refusal>
         Object::Hosts(_) => Err(Refusal::Errno(Errno::Einval)),
         Object::ReadEnd(_) => Err(Refusal::Errno(Errno::Einval)),
         Object::WriteEnd(_) => Err(Refusal::Errno(Errno::Einval)),
+        Object::Eventfd(_) => Err(Refusal::Errno(Errno::Einval)),
         Object::Udp(_) => Err(Refusal::Errno(Errno::Einval)),
         Object::Tcp(_) => Err(Refusal::Errno(Errno::Einval)),
     }
