@@ -1,12 +1,11 @@
 -- Two answers for one input agree.
-use Rattle.std.proofs.Common.{◌≡◌, ℕ, ◌+◌, ◌<◌, ◌≤◌, Bool, true, false, List, [], ◌∷◌, length, map, option_map, Option, Some, None, Result, Ok, Err, refl, sym, ap, subst, ◌∙◌, arith, inl, inr, le_antisymm, codes}
+use Rattle.std.proofs.Common.{◌≡◌, ℕ, ◌+◌, ◌<◌, Bool, true, false, List, [], ◌∷◌, length, map, option_map, Option, Some, None, Result, Ok, Err, refl, sym, ap, subst, ◌∙◌, arith, inl, inr, le_antisymm, codes}
 use Rattle.std.specs.Ordering.{nat_cmp, is_lt}
 use Rattle.std.specs.Cmp.Lexicographic.{slice_cmp}
 use Rattle.std.proofs.lemmas.Cmp.{nat_list_cmp_total}
 use Rattle.std.proofs.lemmas.List.Sorted.{ranks_by}
 use Rattle.elf_load.specs.ProgramImage.{ProgramImage}
 use Rattle.command_line.specs.Asked.{asked}
-use Rattle.command_line.specs.declared.asked.Asked.{Asked}
 use Rattle.command_line.specs.declared.asked.Subject.{Subject}
 use Rattle.command_line.specs.declared.asked.Subject.TheVariants as subject
 use Rattle.gml_graph.specs.declared.graph.Graph.{Graph}
@@ -21,9 +20,7 @@ use Rattle.sim_base.specs.Files.{Held}
 use Rattle.sim_base.specs.declared.address.Ip.{Ip}
 use Rattle.sim_base.specs.declared.time.Time.{Time}
 use Rattle.yaml_tree.specs.Said.{Said}
-use Rattle.yaml_tree.specs.Tree.{IsFaultOf}
 use Rattle.yaml_tree.specs.Trees.{Holds, is_empty}
-use Rattle.yaml_tree.specs.declared.fault.YamlFault.{YamlFault}
 use Rattle.yaml_tree.specs.declared.tree.Tree.{Tree}
 use Rattle.yaml_tree.proofs.FlowLaws.{flow_reader}
 use Rattle.yaml_tree.proofs.RuleLaws.{one_tree, no_fault}
@@ -38,18 +35,19 @@ use Rattle.shd_config.specs.declared.config.GraphSource.TheVariants as source
 use Rattle.shd_config.specs.declared.config.HostConfig.{HostConfig}
 use Rattle.shd_config.specs.declared.overrides.Overrides.{Overrides}
 use Rattle.run_plan.specs.Addresses.{IsLeastOpen, AreAddressesFrom, given_addresses, first_address}
+use Rattle.run_plan.specs.Captured.{captured}
 use Rattle.run_plan.specs.Configured.{IsTreeFault, HoldsTreeOf, tree_of, or_config_fault, configured}
 use Rattle.run_plan.specs.File.{file, read, reads}
 use Rattle.run_plan.specs.HostRows.{AreInOrder, HaveAddresses, rows_of, host_rows}
 use Rattle.run_plan.specs.Network.{one_gbit_switch, graph_at, network}
 use Rattle.run_plan.specs.Outcomes.{Outcomes, gives, some_that, ◌>>=◌}
 use Rattle.run_plan.specs.Plan.{nodes_of, IsRouteFault, routed, nanos_of, line_of_host, settings_of, run_of, plan_of}
-use Rattle.run_plan.specs.Planned.{or_words_fault, manner_of, runs, shown_or_run, file_planned, self_load_planned, planned_of, planned}
+use Rattle.run_plan.specs.Planned.{or_words_fault, manner_of, runs, shown_or_run, file_planned, self_load_planned, capture_planned, planned_of, planned}
 use Rattle.run_plan.specs.Program.{program}
 use Rattle.run_plan.specs.Programs.{programs_of, images}
 use Rattle.run_plan.specs.Rates.{all_rates}
 use Rattle.run_plan.specs.Ring.{ring_files}
-use Rattle.run_plan.specs.Same.{Agree, AreSamePlans, AreSameRuns, AreSame}
+use Rattle.run_plan.specs.Same.{Agree, AreSamePlans, AreSame}
 use Rattle.run_plan.specs.SelfLoad.{self_load_config, self_load_graph}
 use Rattle.run_plan.specs.declared.fault.Fault.{Fault}
 use Rattle.run_plan.specs.declared.fault.Fault.TheVariants as fault
@@ -58,9 +56,7 @@ use Rattle.run_plan.specs.declared.fault.ReadStop.TheVariants.{Refused, ReadFail
 use Rattle.run_plan.specs.declared.host_row.HostRow.{HostRow}
 use Rattle.run_plan.specs.declared.plan.Plan.{Plan}
 use Rattle.run_plan.specs.declared.planned.Manner.{Manner}
-use Rattle.run_plan.specs.declared.planned.Planned.{Planned}
 use Rattle.run_plan.specs.declared.planned.Planned.TheVariants as plan
-use Rattle.run_plan.specs.declared.rates.Rates.{Rates}
 use Rattle.run_plan.proofs.StableLemmas.{one_order}
 
 -- ---- steps
@@ -323,9 +319,16 @@ self_loads_agree m hosts =
     let c : Config = self_load_config m.overrides hosts in
     shown_or_run_agree m.shows_config c (run_of ring_files (codes "self-load") (self_load_graph hosts) c) m.budget true (runs_agree ring_files (codes "self-load") (self_load_graph hosts) c)
 
+captures_agree : (held : Held) (name : List ℕ) → Both AreSame (capture_planned held name) (capture_planned held name)
+unfolding capture_planned
+captures_agree held name =
+    one_then AreSame (read held name) _ (reads_one name (file held name))
+    (λ bytes h. one_then AreSame (gives (captured name bytes)) _ (gives_one (captured name bytes)) (λ c k. same_given AreSame (plan.Lists c) (plan.Lists c) refl))
+
 subjects_agree : (held : Held) (m : Manner) (x : Subject) → Both AreSame (planned_of held m x) (planned_of held m x)
 subjects_agree held m (subject.File name) = files_agree m held name
 subjects_agree held m (subject.SelfLoad hosts) = self_loads_agree m hosts
+subjects_agree held m (subject.Capture name) = captures_agree held name
 
 -- two answers for one input agree
 pub answers_agree : (words : List (List ℕ)) (held : Held) → Both AreSame (planned words held) (planned words held)

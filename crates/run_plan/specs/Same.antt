@@ -7,7 +7,7 @@ use Rattle.run_plan.specs.declared.fault.ReadStop.{ReadStop}
 use Rattle.run_plan.specs.declared.fault.ReadStop.TheVariants.{Refused, ReadFailed, NoMemory}
 use Rattle.run_plan.specs.declared.plan.Plan.{Plan}
 use Rattle.run_plan.specs.declared.planned.Planned.{Planned}
-use Rattle.run_plan.specs.declared.planned.Planned.TheVariants.{Shows, Runs}
+use Rattle.run_plan.specs.declared.planned.Planned.TheVariants.{Shows, Runs, Lists}
 use Rattle.run_plan.specs.declared.planned.Run.{Run}
 
 -- Two values are the same, or two refusals are of one fault; none is a value where the other is a refusal. A read that failed and
@@ -38,9 +38,9 @@ pub record AreSameRuns (r s : Run) : Type 0 where
   pub budget : r.budget ≡ s.budget
   pub self_load : r.is_self_load ≡ s.is_self_load
 
--- two configurations that are shown are equal, and two runs are the same
+-- two configurations that are shown are equal, two runs are the same, and two captures that are listed are equal
 abbrev pub AreSame : Planned → Planned → Type 0
 AreSame (Shows c) (Shows d) = c ≡ d
-AreSame (Shows c) (Runs s) = ⊥
-AreSame (Runs r) (Shows d) = ⊥
 AreSame (Runs r) (Runs s) = AreSameRuns r s
+AreSame (Lists c) (Lists d) = c ≡ d
+AreSame _ _ = ⊥

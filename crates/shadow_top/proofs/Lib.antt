@@ -1,3 +1,4 @@
+pub mod CaptureLemmas
 pub mod EndLemmas
 pub mod OpenedLemmas
 pub mod PartLemmas
