@@ -52,6 +52,7 @@ fn command<'a>(alloc: Global) -> Result<Command<'a>, AllocError>
     let stop_time = option(alloc, "stop-time");
     let budget = option(alloc, "budget");
     let self_load = option(alloc, "self-load");
+    let read_capture = option(alloc, "read-capture");
     let show_config = show_config(alloc);
     let config_word = config_word(alloc);
     let one = Command::new(alloc, "shadow").arg(seed)?;
@@ -60,8 +61,9 @@ fn command<'a>(alloc: Global) -> Result<Command<'a>, AllocError>
     let four = three.arg(stop_time)?;
     let five = four.arg(budget)?;
     let six = five.arg(self_load)?;
-    let seven = six.arg(show_config)?;
-    seven.arg(config_word)
+    let seven = six.arg(read_capture)?;
+    let eight = seven.arg(show_config)?;
+    eight.arg(config_word)
 }
 
 /// What clap finds in the words.
