@@ -1,7 +1,7 @@
 //! Calls of a process whose memory changes while it waits, and of one whose descriptors are closed: what no guest can bring
 //! about.
 
-use crate::memory::{OPEN, WRITABLE, memory};
+use crate::memory::{OPEN, memory};
 use guest_args::four;
 use guest_mem::Mem;
 use host_calls::{Answer, Known, Parts, answers_now, close_all, do_call, start_task};
@@ -9,46 +9,51 @@ use sim_base::{Book, Bytes, Draws, Ip, Time};
 use std::alloc::Global;
 use std::test::Fail;
 
-/// What is put into memory from OPEN on; whether the call that waits would answer then; a call with its answer, if it
-/// doesn't wait.
-type Row = (&'static [u8], Option<bool>, u32, [u32; 6], Option<i32>);
-
-/// An entry of a poll that asks standard output for POLLIN, and one that asks it for POLLOUT.
-const WAITING: [u8; 8] = [1, 0, 0, 0, 1, 0, 9, 9];
-
-const READY: [u8; 8] = [1, 0, 0, 0, 4, 0, 9, 9];
-
-/// 2^63 - 1 seconds.
-const LONG: [u8; 16] = [
-    0xFF, 0xFF, 0xFF, 0xFF, 0xFF, 0xFF, 0xFF, 0x7F, 0, 0, 0, 0, 0, 0, 0, 0,
-];
-
-/// The same, and nanoseconds that are none.
-const WRONG: [u8; 16] = [
-    0xFF, 0xFF, 0xFF, 0xFF, 0xFF, 0xFF, 0xFF, 0x7F, 0, 0, 0, 0, 1, 0, 0, 0,
-];
-
-/// 127.0.0.1, port 7000.
-const LOCAL: [u8; 16] = [2, 0, 0x1B, 0x58, 127, 0, 0, 1, 0, 0, 0, 0, 0, 0, 0, 0];
-
-/// A poll that waits writes nothing, and looks at its entries again. A sleep until 2^63 - 1 s that is made again when its time is none is refused, and kept no longer. A connect that is made
-/// again doesn't look at its address, which is one of another family by then.
-const ROWS: [Row; 14] = [
-    (&[], None, 56, [0, WRITABLE, 1, 0, 0, 0], Some(-14)),
-    (&[], None, 64, [2, WRITABLE, 1, 0, 0, 0], Some(-14)),
-    (&[], None, 414, [WRITABLE, 1, OPEN, 0, 0, 0], Some(-14)),
-    (&[], None, 407, [1, 0, WRITABLE, 0, 0, 0], Some(-14)),
-    (&[], None, 198, [2, 2, 0, 0, 0, 0], Some(3)),
-    (&[], None, 207, [3, OPEN, 9, 0, OPEN, WRITABLE], Some(-14)),
-    (&[], None, 204, [3, OPEN, WRITABLE, 0, 0, 0], Some(-14)),
-    (&[], None, 198, [2, 1, 0, 0, 0, 0], Some(4)),
-    (&WAITING, None, 414, [OPEN, 1, 0, 0, 0, 0], None),
-    (&READY, Some(true), 414, [OPEN, 1, 0, 0, 0, 0], Some(1)),
-    (&LONG, None, 407, [0, 1, OPEN, 0, 0, 0], None),
-    (&WRONG, Some(true), 407, [0, 1, OPEN, 0, 0, 0], Some(-22)),
-    (&LOCAL, None, 203, [4, OPEN, 16, 0, 0, 0], None),
-    (&[10], Some(false), 203, [4, OPEN, 16, 0, 0, 0], None),
-];
+/// What happens, and what it gives. `call` has the number of a call and its arguments in hexadecimal, and gives its
+/// answer, if it doesn't wait. `put` has bytes, hexadecimal too, that are put into memory from 0x14000 on; `told` gives
+/// the second half of the entry of a poll there. `waits` gives whether the call that waits would answer, `-` where none
+/// waits, and `closes` closes all descriptors. Memory at 0x12000 may be written and not read.
+const ACTS: &str = "
+# Calls on memory that may not be read are refused. A datagram socket, and one of TCP.
+waits = -
+call 56 0 12000 1 0 0 0 = -14
+call 64 2 12000 1 0 0 0 = -14
+call 414 12000 1 14000 0 0 0 = -14
+call 407 1 0 12000 0 0 0 = -14
+call 198 2 2 0 0 0 0 = 3
+call 207 3 14000 9 0 14000 12000 = -14
+call 204 3 14000 12000 0 0 0 = -14
+call 198 2 1 0 0 0 0 = 4
+waits = -
+# A poll that waits writes nothing, and looks at its entries again.
+put 1 0 0 0 1 0 9 9 = put
+call 414 14000 1 0 0 0 0 = waits
+told = 1 0 9 9
+put 1 0 0 0 4 0 9 9 = put
+waits = true
+call 414 14000 1 0 0 0 0 = 1
+waits = -
+# A sleep until 2^63 - 1 s that is made again when its time is none is refused, and kept no longer.
+put ff ff ff ff ff ff ff 7f 0 0 0 0 0 0 0 0 = put
+call 407 0 1 14000 0 0 0 = waits
+put ff ff ff ff ff ff ff 7f 0 0 0 0 1 0 0 0 = put
+waits = true
+call 407 0 1 14000 0 0 0 = -22
+waits = -
+# A connect to 127.0.0.1, port 7000, that is made again doesn't look at its address, which is one of another family by then.
+put 2 0 1b 58 7f 0 0 1 0 0 0 0 0 0 0 0 = put
+call 203 4 14000 10 0 0 0 = waits
+put a = put
+waits = false
+call 203 4 14000 10 0 0 0 = waits
+# All descriptors are closed, and nothing waits.
+closes = closed
+waits = -
+call 25 0 1 0 0 0 0 = -9
+put 1 0 0 0 1 0 9 9 = put
+call 414 14000 1 0 0 0 0 = 1
+told = 1 0 20 0
+";
 
 /// A host with one process.
 #[derive(Drop)]
@@ -80,19 +85,12 @@ impl Stage {
         }
     }
 
-    /// Whether bytes are put into memory, from OPEN on.
-    fn puts(&mut self, bytes: &[u8]) -> bool {
-        self.memory()
-            .is_some_and(|memory| memory.copy_in(OPEN, bytes).is_ok())
-    }
-
-    /// Whether the call that waits would answer.
-    fn answers(&self) -> Option<bool> {
-        if self.parts.tasks.is_empty() {
-            return None;
-        }
-        let why = self.parts.tasks[0].as_ref()?.kept?;
-        Some(answers_now(&self.parts, &self.known, Time { nanos: 0 }, 0, &why))
+    /// Puts bytes into memory, from OPEN on.
+    fn put(&mut self, bytes: &[u8]) -> &'static str {
+        let done = self
+            .memory()
+            .is_some_and(|memory| memory.copy_in(OPEN, bytes).is_ok());
+        if done { "put" } else { "nothing" }
     }
 
     /// The second half of the entry of a poll that stands at OPEN: what is asked for, and what is told.
@@ -100,48 +98,116 @@ impl Stage {
         self.memory().and_then(|memory| four(memory, OPEN + 4))
     }
 
-    fn call(&mut self, number: u32, args: [u32; 6]) -> Result<Option<Answer>, Fail> {
+    /// Whether the call that waits would answer.
+    fn waits(&self) -> &'static str {
+        let Some(Some(task)) = self.parts.tasks.first() else {
+            return "no process";
+        };
+        let Some(why) = task.kept else {
+            return "-";
+        };
+        if answers_now(&self.parts, &self.known, Time { nanos: 0 }, 0, &why) {
+            "true"
+        } else {
+            "false"
+        }
+    }
+
+    /// The answer to a call, as a signed number; none where it waits.
+    fn call(&mut self, number: u32, args: [u32; 6]) -> Result<Option<i32>, Fail> {
         if self.parts.tasks.is_empty() {
             return Ok(None);
         }
-        Ok(Some(do_call(
+        let answer = do_call(
             &mut self.parts,
             &self.known,
             Time { nanos: 0 },
             0,
             number,
             args,
-        )?))
+        )?;
+        match answer {
+            Answer::Value(value) => Ok(Some(value.cast_signed())),
+            _ => Ok(None),
+        }
+    }
+
+    /// Closes all descriptors.
+    fn close(&mut self) -> Result<&'static str, Fail> {
+        if self.parts.tasks.is_empty() {
+            return Ok("no process");
+        }
+        close_all(&mut self.parts, Time { nanos: 0 }, 0)?;
+        Ok("closed")
     }
 }
 
-/// The value of an answer, as a signed number; none where the call waits.
-fn value(answer: Option<Answer>) -> Option<i32> {
-    match answer {
-        Some(Answer::Value(value)) => Some(value.cast_signed()),
-        _ => None,
+/// The arguments of a call, in hexadecimal.
+fn arguments(alloc: Global, words: &str) -> Result<Vec<u32>, Fail> {
+    let mut arguments = Vec::new(alloc);
+    for word in words.split_whitespace() {
+        arguments.push(u32::from_str_radix(word, 16)?)?;
     }
+    Ok(arguments)
+}
+
+/// Bytes in hexadecimal.
+fn bytes_of(alloc: Global, words: &str) -> Result<Vec<u8>, Fail> {
+    let mut bytes = Vec::new(alloc);
+    for word in words.split_whitespace() {
+        bytes.push(u8::from_str_radix(word, 16)?)?;
+    }
+    Ok(bytes)
+}
+
+/// The answer to the call of a row, where none is kept then, or `waits`.
+fn called(alloc: Global, stage: &mut Stage, row: &str) -> Result<String, Fail> {
+    let Some((number, words)) = row.split_once(' ') else {
+        return Err(Fail::new("a call has arguments"));
+    };
+    let arguments = arguments(alloc, words)?;
+    let &[a, b, c, d, e, f] = arguments.as_slice() else {
+        return Err(Fail::new("a call has six arguments"));
+    };
+    let answer = stage.call(number.parse::<u32>()?, [a, b, c, d, e, f])?;
+    let kept = stage.waits() != "-";
+    let shown = match answer {
+        Some(value) if !kept => format!(in alloc; "{value}")?,
+        None if kept => String::from_str(alloc, "waits")?,
+        _ => String::from_str(alloc, "neither")?,
+    };
+    Ok(shown)
+}
+
+/// What an act gives.
+fn given(alloc: Global, stage: &mut Stage, act: &str) -> Result<String, Fail> {
+    if let Some(row) = act.strip_prefix("call ") {
+        return called(alloc, stage, row);
+    }
+    if let Some(words) = act.strip_prefix("put ") {
+        let bytes = bytes_of(alloc, words)?;
+        return Ok(String::from_str(alloc, stage.put(bytes.as_slice()))?);
+    }
+    if act == "told" {
+        let [a, b, c, d] = stage.told().unwrap_or([0; 4]);
+        return Ok(format!(in alloc; "{a:x} {b:x} {c:x} {d:x}")?);
+    }
+    let shown = if act == "waits" {
+        stage.waits()
+    } else {
+        stage.close()?
+    };
+    Ok(String::from_str(alloc, shown)?)
 }
 
 #[test]
 fn a_call_that_waits_is_made_again(rt: HostRuntime) -> Result<(), Fail> {
     let mut stage = Stage::new(rt.alloc())?;
-    for (row, (bytes, answers, number, args, wanted)) in ROWS.into_iter().enumerate() {
-        assert!(rt; stage.puts(bytes), "row {row}");
-        assert_eq!(rt; stage.answers(), answers, "row {row}");
-        assert_eq!(rt; value(stage.call(number, args)?), wanted, "row {row}");
-        assert_eq!(rt; stage.answers().is_some(), wanted.is_none(), "row {row}");
-        if bytes == WAITING.as_slice() {
-            assert_eq!(rt; stage.told(), Some([1, 0, 9, 9]));
+    for row in ACTS.lines() {
+        if let Some((act, wanted)) = row.split_once(" = ") {
+            let shown = given(rt.alloc(), &mut stage, act)?;
+            assert_eq!(rt; shown.as_str(), wanted, "{row}");
         }
     }
-    if !stage.parts.tasks.is_empty() {
-        close_all(&mut stage.parts, Time { nanos: 0 }, 0)?;
-    }
-    assert_eq!(rt; stage.answers(), None);
-    assert_eq!(rt; value(stage.call(25, [0, 1, 0, 0, 0, 0])?), Some(-9));
-    assert!(rt; stage.puts(&WAITING));
-    assert_eq!(rt; value(stage.call(414, [OPEN, 1, 0, 0, 0, 0])?), Some(1));
-    assert_eq!(rt; stage.told(), Some([1, 0, 32, 0]));
     Ok(())
 }

@@ -88,7 +88,7 @@ none_runs (suc n) (suc p) r e = none_runs n p r e
 
 pub none_goes : (row : Row) (events : List Event) → HaveGoes (opening row).host events
 none_goes row events =
-    λ p r at on left. absurd (none_runs (length row.processes.items) p r at)
+    λ p r at on left. absurd (none_runs _ p r at)
 
 pub number_after : (net : Net) (host : HostRecord) (e : Event) → (fire net host e).host.link.number ≡ host.link.number
 unfolding has_acted

@@ -26,6 +26,7 @@ use Rattle.shadow_top.specs.Shown.{IsShown, IsRunTo, pieces_of, refused, configu
 use Rattle.shadow_top.specs.Stop.{CountsSource, CountsSink, of_reading}
 use Rattle.shadow_top.specs.declared.stop.Stop.{Stop}
 use Rattle.shadow_top.specs.declared.stop.Stop.TheVariants.{Refused, ReadFailed, WriteFailed, NoMemory}
+use Rattle.shadow_top.proofs.OneShown.{one_shown}
 use Rattle.shadow_top.proofs.PartLemmas.{part-begun, part-line, part-text}
 
 -- ---- what is shown
@@ -39,6 +40,10 @@ config_shown i old config asked = configured (record { config = config; asked = 
 pub run_shown : (i : Input) (old : Content) (run : Run) (w : World) → IsToRun i run → IsRunTo run w
     → IsShown i old (with_pieces (pieces_of run w) (begun (directory_of run) old)) (status_of w)
 run_shown i old run w asked result = ran (record { run = run; asked = asked; world = w; result = result; content = refl; status_is = refl })
+
+-- nothing else is
+shows : (i : Input) (old whole : Content) (new : Option Content) (status : ℕ) → new ≡ Some whole → IsShown i old whole status → Shows i old new status
+shows i old whole new status is shown_is = record { whole = whole; new_is = is; shown = shown_is; only = λ other another also. one_shown i old other whole another status also shown_is }
 
 -- a front of the line of a refusal
 pub part_of_line : (i : Input) (old : Content) (fault : Fault) (new : Option Content) → IsFirstFault i fault → AddsFront place.Err (line_of fault) (Some old) new → ShowsPart i old new
@@ -79,11 +84,8 @@ runs_stopped words (Some h) (Some c) read.NoMemory met = inl refl
 
 -- a configuration was shown
 shows_by : (i : Input) (c : Content) (new : Option Content) (config : Config) (r : Result ℕ Stop) → IsToShow i config → ShowsConfig config c new r → Runs i c new r
-shows_by i c new config (Ok status) asked (new_is, status_is) = record {
-  whole = add place.Out (shown config) c;
-  new_is = new_is;
-  shown = subst (IsShown i c (add place.Out (shown config) c)) (sym status_is) (config_shown i c config asked);
-}
+shows_by i c new config (Ok status) asked (new_is, status_is) =
+    shows i c (add place.Out (shown config) c) new status new_is (subst (IsShown i c (add place.Out (shown config) c)) (sym status_is) (config_shown i c config asked))
 shows_by i c new config (Err (Refused fault)) asked told = absurd told
 shows_by i c new config (Err (ReadFailed file)) asked told = absurd told
 shows_by i c new config (Err WriteFailed) asked front = part_of_config i c config new asked front
@@ -107,12 +109,10 @@ in_part i c new run asked there told =
     told
 
 runs_by : (i : Input) (c : Content) (new : Option Content) (run : Run) (r : Result ℕ Stop) → IsPlanned i (Ok (plan.Runs run)) → i.there ≡ c.there → RunsPlan run c new r → Runs i c new r
-runs_by i c new run (Ok status) asked there (free, w, result, new_is, status_is) = record {
-  whole = with_pieces (pieces_of run w) (begun (directory_of run) c);
-  new_is = new_is;
-  shown = subst (IsShown i c (with_pieces (pieces_of run w) (begun (directory_of run) c))) (sym status_is)
-      (run_shown i c run w (record { asked = asked; free = ap (λ (t : List ℕ → Bool). t (directory_of run)) there ∙ free }) result);
-}
+runs_by i c new run (Ok status) asked there (free, w, result, new_is, status_is) =
+    shows i c (with_pieces (pieces_of run w) (begun (directory_of run) c)) new status new_is
+    (subst (IsShown i c (with_pieces (pieces_of run w) (begun (directory_of run) c))) (sym status_is)
+    (run_shown i c run w (record { asked = asked; free = ap (λ (t : List ℕ → Bool). t (directory_of run)) there ∙ free }) result))
 runs_by i c new run (Err (Refused fault)) asked there (is_there, fault_is, new_is) =
     (inr (record { run = run; asked = asked; there = ap (λ (t : List ℕ → Bool). t (directory_of run)) there ∙ is_there; fault_is = fault_is }), new_is)
 runs_by i c new run (Err (ReadFailed file)) asked there told = absurd told
@@ -155,11 +155,8 @@ refused_line words held old mid new r r' w m w' status fault did reads writes to
     (λ (all : (status ≡ 2) × (new ≡ option_map (add place.Err (line_of fault)) mid) × (w' ≡ m)).
     showed (omega arith) reads (all.2 ∙ writes)
     (told_map {P = λ i c. IsFirstFault i fault × (mid ≡ Some c)} {Q = λ i c. Shows i c new status} words held old
-    (λ i c h. record {
-      whole = add place.Err (line_of fault) c;
-      new_is = all.1 ∙ ap (option_map (add place.Err (line_of fault))) h.1;
-      shown = subst (IsShown i c (add place.Err (line_of fault) c)) (sym all.0) (refused_shown i c fault h.0);
-    }) did))
+    (λ i c h. shows i c (add place.Err (line_of fault) c) new status (all.1 ∙ ap (option_map (add place.Err (line_of fault))) h.1)
+    (subst (IsShown i c (add place.Err (line_of fault) c)) (sym all.0) (refused_shown i c fault h.0))) did))
     (λ (rest : ((status ≡ 4) × AddsFront place.Err (line_of fault) mid new × Rose m w') ⊎ ((status ≡ 5) × AddsFront place.Err (line_of fault) mid new × (w' ≡ m))).
     ⊎_elim
     (λ (failed : (status ≡ 4) × AddsFront place.Err (line_of fault) mid new × Rose m w').

@@ -21,11 +21,12 @@ use Rattle.shd_config.specs.declared.config.Config.{Config}
 use Rattle.shadow_top.specs.declared.stop.Stop.{Stop}
 use Rattle.shadow_top.specs.declared.stop.Stop.TheVariants.{Refused, ReadFailed, WriteFailed, NoMemory}
 
--- what is shown stands there now, and this is its status
+-- what is shown stands there now, and this is its status: this and nothing else is shown of the input
 pub record Shows (input : Input) (old : Content) (new : Option Content) (status : ℕ) : Type 0 where
   pub whole : Content
   pub new_is : new ≡ Some whole
   pub shown : IsShown input old whole status
+  pub only : (other : Content) (another : ℕ) → IsShown input old other another → (other ≡ whole) × (another ≡ status)
 
 -- the line of a file that could not be read
 abbrev pub read_failed_line : List ℕ → List ℕ
@@ -58,7 +59,20 @@ pub record TellsPart (input : Input) (old : Content) (new : Option Content) : Ty
   pub reached : IsReached input file
   pub part : IsPart old now (add place.Err (read_failed_line file) old)
 
+-- a line was added to the error stream, and all else stands as it stood
+pub record AddsLine (old : Content) (new : Option Content) : Type 0 where
+  pub line : List ℕ
+  pub new_is : new ≡ Some (add place.Err line old)
+
 -- ---- the steps of the program
+
+-- before its line is told, a refusal or a read that failed leaves all as it stood
+abbrev pub Keeps : Content → Option Content → Result ℕ Stop → Type 0
+Keeps old new (Ok status) = Unit {0}
+Keeps old new (Err (Refused fault)) = new ≡ Some old
+Keeps old new (Err (ReadFailed file)) = new ≡ Some old
+Keeps old new (Err WriteFailed) = Unit {0}
+Keeps old new (Err NoMemory) = Unit {0}
 
 -- what a run leaves before its stop is told
 abbrev pub Runs : Input → Content → Option Content → Result ℕ Stop → Type 0

@@ -91,6 +91,11 @@ abbrev pub GivesSeen : {A B : Type 0} → (A → B) → Result A ConfigError →
 GivesSeen view (Ok x) read = read ≡ Ok (view x)
 GivesSeen view (Err e) read = Fails e read
 
+-- the same where the value is what stands there then
+abbrev pub Sets : {A : Type 0} → Result (Unit {0}) ConfigError → A → Result A ConfigFault → Type 0
+Sets (Ok _) now read = read ≡ Ok now
+Sets (Err e) now read = Fails e read
+
 -- the same where the value itself isn't kept
 abbrev pub Passes : {A : Type 0} → Result (Unit {0}) ConfigError → Result A ConfigFault → Type 0
 Passes {A} (Ok _) read = (x : A) × (read ≡ Ok x)

@@ -1,7 +1,7 @@
 //! The key `general`.
 
 ghost use Rattle.std.specs.Prelude.{◌≡◌, is_some, unwrap_or, codes, IfOk};
-ghost use Rattle.shd_config.specs.Steps.{Gives, optional, given, mapping_line, through};
+ghost use Rattle.shd_config.specs.Steps.{Gives, Sets, optional, given, mapping_line, through};
 ghost use Rattle.shd_config.specs.Values.{stop_time_at, text_with, is_some_text};
 ghost use Rattle.shd_config.specs.General.{new_general, general_key, general_row, overridden, finished_general, general_of, general_at};
 
@@ -80,12 +80,11 @@ fn read_key(
     alloc: Global,
     overrides: &Overrides,
     key: Option<Key>,
-    draft: GeneralDraft,
+    draft: &mut GeneralDraft,
     pair: &Pair,
-) -> Result<GeneralDraft, ConfigError>
-    ensures { Gives result (general_key overrides.now key draft pair.now) }
+) -> Result<(), ConfigError>
+    ensures { Sets result draft.new (general_key overrides.now key draft.old pair.now) }
 {
-    let mut draft = draft;
     match key {
         Some(Key::StopTime) => {
             draft.stop_time = given_stop_time(alloc, overrides.stop_time.is_some(), pair)?;
@@ -102,7 +101,7 @@ fn read_key(
         ) => check_scalar(alloc, pair)?,
         _ => return Err(refused(alloc, ConfigKind::UnknownKey, pair)),
     }
-    Ok(draft)
+    Ok(())
 }
 
 fn read_pairs(
@@ -114,7 +113,7 @@ fn read_pairs(
 {
     let mut draft = new_general();
     for pair in pairs {
-        draft = read_key(alloc, overrides, key_of(pair.key.as_str()), draft, pair)?;
+        read_key(alloc, overrides, key_of(pair.key.as_str()), &mut draft, pair)?;
     }
     Ok(draft)
 }

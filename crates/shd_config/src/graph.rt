@@ -1,7 +1,7 @@
 //! The key `graph` of `network`.
 
 ghost use Rattle.std.specs.Prelude.{◌≡◌, None};
-ghost use Rattle.shd_config.specs.Steps.{Gives, Passes, optional, mapping_line, through, needed};
+ghost use Rattle.shd_config.specs.Steps.{Gives, Sets, Passes, optional, mapping_line, through, needed};
 ghost use Rattle.shd_config.specs.Values.{scalar_at};
 ghost use Rattle.shd_config.specs.Network.{compression_at, file_key, file_row, file_of, file_at, graph_kind, kind_in, kind_in_row, is_switch, graph_alone, new_graph, graph_key, graph_row, gml_source, source_of, finished_graph, graph_of, graph_at};
 
@@ -160,12 +160,11 @@ fn read_key(
     alloc: Global,
     kind: Option<GraphKind>,
     key: Option<Key>,
-    draft: GraphDraft,
+    draft: &mut GraphDraft,
     pair: &Pair,
-) -> Result<GraphDraft, ConfigError>
-    ensures { Gives result (graph_key kind key draft pair.now) }
+) -> Result<(), ConfigError>
+    ensures { Sets result draft.new (graph_key kind key draft.old pair.now) }
 {
-    let mut draft = draft;
     match key {
         Some(Key::Type) => draft.kind = Some(read_kind(alloc, pair)?),
         Some(Key::Inline) => {
@@ -178,7 +177,7 @@ fn read_key(
         }
         _ => return Err(refused(alloc, ConfigKind::UnknownKey, pair)),
     }
-    Ok(draft)
+    Ok(())
 }
 
 fn new_graph() -> GraphDraft
@@ -200,7 +199,7 @@ fn read_pairs(
 {
     let mut draft = new_graph();
     for pair in pairs {
-        draft = read_key(alloc, kind, key_of(pair.key.as_str()), draft, pair)?;
+        read_key(alloc, kind, key_of(pair.key.as_str()), &mut draft, pair)?;
     }
     Ok(draft)
 }

@@ -2,7 +2,7 @@
 
 ghost use Rattle.std.specs.Prelude.{◌≡◌, [], map, unwrap_or, IfOk};
 ghost use Rattle.shd_config.specs.Values.{is_within};
-ghost use Rattle.shd_config.specs.Steps.{Gives, GivesSeen, through};
+ghost use Rattle.shd_config.specs.Steps.{Gives, Sets, GivesSeen, through};
 ghost use Rattle.shd_config.specs.Host.{no_options, new_host, host_key, host_row, finished_host, host_of, host_at, hosts_row, hosts_at, chosen, settled};
 
 use crate::config::HostConfig;
@@ -86,12 +86,11 @@ fn processes_or_none(alloc: Global, processes: Option<Processes>) -> Processes
 fn read_key(
     alloc: Global,
     key: Option<Key>,
-    draft: HostDraft,
+    draft: &mut HostDraft,
     pair: &Pair,
-) -> Result<HostDraft, ConfigError>
-    ensures { Gives result (host_key key draft pair.now) }
+) -> Result<(), ConfigError>
+    ensures { Sets result draft.new (host_key key draft.old pair.now) }
 {
-    let mut draft = draft;
     match key {
         Some(Key::NetworkNodeId) => draft.network_node_id = Some(read_u32(alloc, pair)?),
         Some(Key::IpAddr) => draft.ip_addr = optional_address(alloc, pair)?,
@@ -106,7 +105,7 @@ fn read_key(
         }
         _ => return Err(refused(alloc, ConfigKind::UnknownKey, pair)),
     }
-    Ok(draft)
+    Ok(())
 }
 
 fn new_host(alloc: Global) -> HostDraft
@@ -127,7 +126,7 @@ fn read_pairs(alloc: Global, pairs: &[Pair]) -> Result<HostDraft, ConfigError>
 {
     let mut draft = new_host(alloc);
     for pair in pairs {
-        draft = read_key(alloc, key_of(pair.key.as_str()), draft, pair)?;
+        read_key(alloc, key_of(pair.key.as_str()), &mut draft, pair)?;
     }
     Ok(draft)
 }

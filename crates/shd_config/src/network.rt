@@ -1,7 +1,7 @@
 //! The key `network`.
 
 ghost use Rattle.std.specs.Prelude.{◌≡◌};
-ghost use Rattle.shd_config.specs.Steps.{Gives, optional, through};
+ghost use Rattle.shd_config.specs.Steps.{Gives, Sets, optional, through};
 ghost use Rattle.shd_config.specs.Values.{scalar_at};
 ghost use Rattle.shd_config.specs.Network.{queue_rule, new_network, network_key, network_row, finished_network, network_of, network_at};
 
@@ -56,19 +56,18 @@ fn optional_queue_rule(alloc: Global, pair: &Pair) -> Result<Option<QueueRule>, 
 fn read_key(
     alloc: Global,
     key: Option<Key>,
-    draft: NetworkDraft,
+    draft: &mut NetworkDraft,
     pair: &Pair,
-) -> Result<NetworkDraft, ConfigError>
-    ensures { Gives result (network_key key draft pair.now) }
+) -> Result<(), ConfigError>
+    ensures { Sets result draft.new (network_key key draft.old pair.now) }
 {
-    let mut draft = draft;
     match key {
         Some(Key::Graph) => draft.graph = Some(read_graph(alloc, pair)?),
         Some(Key::UseShortestPath) => draft.use_shortest_path = optional_truth(alloc, pair)?,
         Some(Key::RouterQueue) => draft.router_queue = optional_queue_rule(alloc, pair)?,
         _ => return Err(refused(alloc, ConfigKind::UnknownKey, pair)),
     }
-    Ok(draft)
+    Ok(())
 }
 
 fn new_network() -> NetworkDraft
@@ -86,7 +85,7 @@ fn read_pairs(alloc: Global, pairs: &[Pair]) -> Result<NetworkDraft, ConfigError
 {
     let mut draft = new_network();
     for pair in pairs {
-        draft = read_key(alloc, key_of(pair.key.as_str()), draft, pair)?;
+        read_key(alloc, key_of(pair.key.as_str()), &mut draft, pair)?;
     }
     Ok(draft)
 }

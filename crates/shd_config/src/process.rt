@@ -2,7 +2,7 @@
 
 ghost use Rattle.std.specs.Prelude.{◌≡◌, ◌≤◌, ◌+◌, [], length, sum_by, min, nat_le, unwrap_or};
 ghost use Rattle.sim_base.specs.Limits.{most_text_bytes};
-ghost use Rattle.shd_config.specs.Steps.{Gives, GivesSeen, optional, through, item};
+ghost use Rattle.shd_config.specs.Steps.{Gives, Sets, GivesSeen, optional, through, item};
 ghost use Rattle.shd_config.specs.Values.{text_at, text_with, scalar_at};
 ghost use Rattle.yaml_merge.specs.Plain.{line_of};
 ghost use Rattle.shd_values.specs.Word.{names_program};
@@ -213,12 +213,11 @@ fn read_key(
     alloc: Global,
     start: Option<Time>,
     key: Option<Key>,
-    draft: ProcessDraft,
+    draft: &mut ProcessDraft,
     pair: &Pair,
-) -> Result<ProcessDraft, ConfigError>
-    ensures { Gives result (process_key start key draft pair.now) }
+) -> Result<(), ConfigError>
+    ensures { Sets result draft.new (process_key start key draft.old pair.now) }
 {
-    let mut draft = draft;
     match key {
         Some(Key::Path) => draft.path = Some(read_path(alloc, pair)?),
         Some(Key::Args) => {
@@ -237,7 +236,7 @@ fn read_key(
         }
         _ => return Err(refused(alloc, ConfigKind::UnknownKey, pair)),
     }
-    Ok(draft)
+    Ok(())
 }
 
 fn new_process(alloc: Global) -> ProcessDraft
@@ -263,7 +262,7 @@ fn read_pairs(
 {
     let mut draft = new_process(alloc);
     for pair in pairs {
-        draft = read_key(alloc, start, key_of(pair.key.as_str()), draft, pair)?;
+        read_key(alloc, start, key_of(pair.key.as_str()), &mut draft, pair)?;
     }
     Ok(draft)
 }

@@ -1,7 +1,7 @@
 //! The configuration of a tree.
 
 ghost use Rattle.std.specs.Prelude.{◌≡◌, All, IfOk, is_some};
-ghost use Rattle.shd_config.specs.Steps.{Gives, Passes, optional, given, mapping_line, through};
+ghost use Rattle.shd_config.specs.Steps.{Gives, Sets, Passes, optional, given, mapping_line, through};
 ghost use Rattle.yaml_tree.specs.Trees.{is_empty};
 ghost use Rattle.yaml_merge.specs.SaidAt.{said_of};
 ghost use Rattle.yaml_merge.specs.Merge.{merged};
@@ -64,12 +64,11 @@ fn read_key(
     alloc: Global,
     overrides: &Overrides,
     key: Option<Key>,
-    draft: RootDraft,
+    draft: &mut RootDraft,
     pair: &Pair,
-) -> Result<RootDraft, ConfigError>
-    ensures { Gives result (root_key overrides.now key draft pair.now) }
+) -> Result<(), ConfigError>
+    ensures { Sets result draft.new (root_key overrides.now key draft.old pair.now) }
 {
-    let mut draft = draft;
     match key {
         Some(Key::General) => draft.general = given_general(alloc, overrides, pair)?,
         Some(Key::Network) => draft.network = Some(read_network(alloc, pair)?),
@@ -80,7 +79,7 @@ fn read_key(
         Some(Key::Experimental) => check_experimental(alloc, pair)?,
         _ => return Err(refused(alloc, ConfigKind::UnknownKey, pair)),
     }
-    Ok(draft)
+    Ok(())
 }
 
 fn new_root() -> RootDraft
@@ -115,13 +114,13 @@ fn root_line(line: usize, pairs: &[Pair]) -> usize
 fn read_row(
     alloc: Global,
     overrides: &Overrides,
-    draft: RootDraft,
+    draft: &mut RootDraft,
     pair: &Pair,
-) -> Result<RootDraft, ConfigError>
-    ensures { Gives result (root_row overrides.now draft pair.now) }
+) -> Result<(), ConfigError>
+    ensures { Sets result draft.new (root_row overrides.now draft.old pair.now) }
 {
     if is_passed_over(pair) {
-        return Ok(draft);
+        return Ok(());
     }
     read_key(alloc, overrides, key_of(pair.key.as_str()), draft, pair)
 }
@@ -135,7 +134,7 @@ fn read_pairs(
 {
     let mut draft = new_root();
     for pair in pairs {
-        draft = read_row(alloc, overrides, draft, pair)?;
+        read_row(alloc, overrides, &mut draft, pair)?;
     }
     Ok(draft)
 }
