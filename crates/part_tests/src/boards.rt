@@ -2,11 +2,11 @@
 
 ghost use Rattle.std.specs.Prelude.{◌≡◌, [], ◌<◌, ◌≤◌};
 
-use host_inbox::{Boards, Carrier};
+use host_inbox::{Boards, Carrier, Full};
 use sim_base::HostId;
-use std::alloc::AllocError;
+use std::alloc::{AllocGlobal, Global};
 use std::test::*;
-use std::thread::join;
+use std::thread::{Threads, join};
 
 // Of some puts: the numbers that were claimed, and those numbers and parcels that were given back, as sets of bits.
 #[derive(Clone, Copy, Debug, PartialEq)]
@@ -18,6 +18,22 @@ struct Tally {
 
 fn bit(n: u64) -> u64 {
     1 << n.min(63)
+}
+
+// The tally of one more put.
+fn with(tally: Tally, put: Result<u64, Full<u32>>) -> Tally {
+    match put {
+        Ok(place) => Tally {
+            claimed: tally.claimed | bit(place),
+            back: tally.back,
+            parcels_back: tally.parcels_back,
+        },
+        Err(full) => Tally {
+            claimed: tally.claimed | bit(full.claimed),
+            back: tally.back | bit(full.claimed),
+            parcels_back: tally.parcels_back | bit(u64::from(full.parcel)),
+        },
+    }
 }
 
 // Puts the parcels from `first` on for the host.
@@ -39,16 +55,22 @@ fn put_some(
         parcels_back: 0,
     };
     for k in 0..count {
-        match boards.put(&mut carrier, HostId { index: to }, first.wrapping_add(k)) {
-            Ok(place) => tally.claimed |= bit(place),
-            Err(full) => {
-                tally.claimed |= bit(full.claimed);
-                tally.back |= bit(full.claimed);
-                tally.parcels_back |= bit(u64::from(full.parcel));
-            }
-        }
+        let put = boards.put(&mut carrier, HostId { index: to }, first.wrapping_add(k));
+        tally = with(tally, put);
     }
     (carrier, tally)
+}
+
+// The parcels of each host, with a comma behind each host.
+fn shown(alloc: Global, rows: &[Vec<u32>]) -> Result<String, Fail> {
+    let mut shown = String::new(alloc);
+    for row in rows {
+        for parcel in row {
+            write!(shown, "{parcel} ")?;
+        }
+        shown.push_str(",")?;
+    }
+    Ok(shown)
 }
 
 // One carrier puts so many parcels for one of the hosts, and the boards are closed.
@@ -57,7 +79,7 @@ fn one_carrier(
     hosts: u32,
     to: u32,
     puts: u32,
-) -> Result<(Tally, Vec<Vec<u32>>), Fail>
+) -> Result<(Tally, String), Fail>
     requires { (hosts ≤ 16) × (to < hosts) }
 {
     let (boards, mut carriers) = Boards::open(rt.alloc(), hosts, 1)?;
@@ -67,41 +89,40 @@ fn one_carrier(
     let (carrier, tally) = put_some(&boards, carrier, to, 0, puts);
     carriers.push(carrier)?;
     match boards.close(carriers) {
-        Ok(drained) => Ok((tally, drained.rows)),
+        Ok(drained) => Ok((tally, shown(rt.alloc(), drained.rows.as_slice())?)),
         Err(_) => Err(Fail::new("no memory to close")),
     }
 }
 
 #[test]
 fn a_host_has_sixteen_places(rt: HostRuntime) -> Result<(), Fail> {
-    let all = [0, 1, 2, 3, 4, 5, 6, 7, 8, 9, 10, 11, 12, 13, 14, 15];
     let (tally, rows) = one_carrier(&rt, 1, 0, 17)?;
-    assert_eq!(rt;
-        (tally.claimed, tally.back, tally.parcels_back),
-        (0x1FFFF, 0x10000, 0x10000)
-    );
-    assert_eq!(rt; rows.len(), 1);
-    assert_eq!(rt; rows[0].as_slice(), all.as_slice());
+    let full = Tally {
+        claimed: 0x1FFFF,
+        back: 0x10000,
+        parcels_back: 0x10000,
+    };
+    assert_eq!(rt; tally, full);
+    assert_eq!(rt; rows.as_str(), "0 1 2 3 4 5 6 7 8 9 10 11 12 13 14 15 ,");
     let (tally, rows) = one_carrier(&rt, 3, 1, 2)?;
-    assert_eq!(rt;
-        (tally.claimed, tally.back, tally.parcels_back),
-        (0b11, 0, 0)
-    );
-    assert_eq!(rt; rows.len(), 3);
-    assert!(rt; rows[0].is_empty() && rows[2].is_empty());
-    assert_eq!(rt; rows[1].as_slice(), [0, 1].as_slice());
+    let few = Tally {
+        claimed: 0b11,
+        back: 0,
+        parcels_back: 0,
+    };
+    assert_eq!(rt; tally, few);
+    assert_eq!(rt; rows.as_str(), ",0 1 ,,");
     Ok(())
 }
 
 #[test]
 fn nothing_is_drained_without_a_put(rt: HostRuntime) -> Result<(), Fail> {
-    let opened: (Boards, Vec<Carrier>) = Boards::open(rt.alloc(), 3, 2)?;
+    let opened: (Boards<u32>, Vec<Carrier<u32>>) = Boards::open(rt.alloc(), 3, 2)?;
     let (boards, carriers) = opened;
     let Ok(drained) = boards.close(carriers) else {
         return Err(Fail::new("no memory to close"));
     };
-    assert_eq!(rt; drained.rows.len(), 3);
-    assert!(rt; drained.rows.iter().all(|row| row.is_empty()));
+    assert_eq!(rt; shown(rt.alloc(), drained.rows.as_slice())?.as_str(), ",,,");
     Ok(())
 }
 
@@ -114,8 +135,8 @@ fn set_of(parcels: &[u32]) -> u64 {
     set
 }
 
-#[test]
-fn two_carriers_put_at_once(rt: HostRuntime) -> Result<(), Fail> {
+// Two carriers put nine parcels each for one host, at once.
+fn both(rt: &(impl Threads + Sync + AllocGlobal)) -> Result<(Tally, Tally, Vec<Vec<u32>>), Fail> {
     let (boards, mut carriers) = Boards::open(rt.alloc(), 1, 2)?;
     let Some(two) = carriers.pop() else {
         return Err(Fail::new("no carrier"));
@@ -125,7 +146,7 @@ fn two_carriers_put_at_once(rt: HostRuntime) -> Result<(), Fail> {
     };
     let shared = &boards;
     let (first, second) = join(
-        &rt,
+        rt,
         move || -> (Carrier<u32>, Tally)
             requires { (one.boards ≡ shared.now.id) × (one.entries ≡ []) × (0 < shared.now.hosts) }
             ensures { result.0.boards ≡ one.boards }
@@ -139,20 +160,26 @@ fn two_carriers_put_at_once(rt: HostRuntime) -> Result<(), Fail> {
     let (two, second) = second;
     carriers.push(one)?;
     carriers.push(two)?;
-    let Ok(drained) = boards.close(carriers) else {
-        return Err(Fail::new("no memory to close"));
-    };
-    assert_eq!(rt;
-        (
-            first.claimed & second.claimed,
-            first.claimed | second.claimed
-        ),
-        (0, 0x3FFFF)
+    match boards.close(carriers) {
+        Ok(drained) => Ok((first, second, drained.rows)),
+        Err(_) => Err(Fail::new("no memory to close")),
+    }
+}
+
+#[test]
+fn two_carriers_put_at_once(rt: HostRuntime) -> Result<(), Fail> {
+    let (first, second, rows) = both(&rt)?;
+    let claimed = (
+        first.claimed & second.claimed,
+        first.claimed | second.claimed,
     );
+    assert_eq!(rt; claimed, (0, 0x3FFFF));
     assert_eq!(rt; first.back | second.back, 0x30000);
-    assert_eq!(rt; (drained.rows.len(), drained.rows[0].len()), (1, 16));
-    let placed = set_of(drained.rows[0].as_slice());
+    let [row] = rows.as_slice() else {
+        return Err(Fail::new("one host has its parcels"));
+    };
+    let placed = set_of(row.as_slice());
     let back = first.parcels_back | second.parcels_back;
-    assert_eq!(rt; (placed & back, placed | back), (0, 0x3FFFF));
+    assert_eq!(rt; (row.len(), placed & back, placed | back), (16, 0, 0x3FFFF));
     Ok(())
 }

@@ -30,13 +30,18 @@ fn at(nanos: u64) -> Time
     Time { nanos }
 }
 
-fn push_at(lane: &mut Lane, nanos: u64, packet: Packet) -> Result<Pushed, Fail>
+/// A packet of 1,500 bytes comes: whether it leaves at once, and else when a release is to be made for it.
+fn push_at(alloc: Global, lane: &mut Lane, nanos: u64) -> Result<(bool, Option<Time>), Fail>
     requires time { lane.old.bucket.millis ≤ nanos / millisecond }
     requires early { nanos ≤ latest_time }
-    requires size { packet_size packet ≤ max_packet }
     ensures { OnOk result (lane.new.bucket.millis ≡ nanos / millisecond) }
 {
-    Ok(lane.push(at(nanos), packet)?)
+    let packet = datagram(alloc, 1472)?;
+    match lane.push(at(nanos), packet)? {
+        Pushed::Leaves(_) => Ok((true, None)),
+        Pushed::Waits(next) => Ok((false, next)),
+        Pushed::Dropped(_) => Ok((false, None)),
+    }
 }
 
 /// How many packets leave, and when the next release is to be made.
@@ -49,56 +54,54 @@ fn release_at(lane: &mut Lane, nanos: u64) -> Result<(usize, Option<Time>), Fail
     Ok((released.packets.len(), released.next))
 }
 
+/// A release that is made too early: the case `lane` shows the others.
 #[test]
 fn a_lane_tells_what_leaves_and_when(rt: HostRuntime) -> Result<(), Fail> {
     let mut lane = Lane::new(rt.alloc(), 1_000_000, QueueRule::Fifo);
-    let first = push_at(&mut lane, 500_000, datagram(rt.alloc(), 1472)?)?;
-    assert!(rt; first == Pushed::Leaves(datagram(rt.alloc(), 1472)?));
-    let second = push_at(&mut lane, 500_000, datagram(rt.alloc(), 1472)?)?;
-    assert!(rt; second == Pushed::Waits(Some(at(11_000_000))));
-    let third = push_at(&mut lane, 500_000, datagram(rt.alloc(), 1472)?)?;
-    assert!(rt; third == Pushed::Waits(None));
-    assert!(rt; release_at(&mut lane, 10_999_999)? == (0, Some(at(11_000_000))));
-    assert!(rt; release_at(&mut lane, 11_000_000)? == (1, Some(at(23_000_000))));
-    assert!(rt; release_at(&mut lane, 23_000_000)? == (1, None));
+    let told = [
+        push_at(rt.alloc(), &mut lane, 500_000)?,
+        push_at(rt.alloc(), &mut lane, 500_000)?,
+        push_at(rt.alloc(), &mut lane, 500_000)?,
+    ];
+    let next = Some(at(11_000_000));
+    assert!(rt; told == [(true, None), (false, next), (false, None)]);
+    assert!(rt; release_at(&mut lane, 10_999_999)? == (0, next));
     Ok(())
 }
 
 #[test]
 fn a_bucket_gets_its_rate_each_millisecond(rt: HostRuntime) {
     let mut slow = Bucket::new(1);
-    assert_eq!(rt; slow.spend(1501), true);
-    assert_eq!(rt; slow.spend(1), false);
+    let at_first = [slow.spend(1501), slow.spend(1)];
     slow.at(at(999_999));
-    assert_eq!(rt; slow.spend(1), false);
+    let before = slow.spend(1);
     slow.at(at(1_000_000));
-    assert_eq!(rt; slow.spend(1), true);
+    let spent = [at_first[0], at_first[1], before, slow.spend(1)];
+    assert_eq!(rt; spent, [true, false, false, true]);
+}
+
+#[test]
+fn a_bucket_holds_what_two_milliseconds_bring(rt: HostRuntime) {
     let mut fast = Bucket::new(u64::MAX);
-    assert_eq!(rt; fast.spend(2_305_843_009_215_193), true);
+    let first = fast.spend(2_305_843_009_215_193);
     fast.at(at(u64::MAX));
-    assert_eq!(rt; fast.spend(2_305_843_009_215_193), true);
-    assert_eq!(rt; fast.spend(1), false);
+    let spent = [first, fast.spend(2_305_843_009_215_193), fast.spend(1)];
+    assert_eq!(rt; spent, [true, true, false]);
 }
 
 #[test]
 fn whole_square_roots(rt: HostRuntime) {
     let square = 10_000_000_000_000_000;
-    for (count, root) in [
-        (1, 100_000_000),
-        (2, 70_710_678),
-        (3, 57_735_026),
-        (4, 50_000_000),
-    ] {
-        assert!(rt; count > 0);
-        assert_eq!(rt; isqrt(square / count), root);
-    }
-    assert_eq!(rt; isqrt(0), 0);
-    assert_eq!(rt; isqrt(u64::MAX), u32::MAX);
-}
-
-/// A packet is taken that waited long, at a time below 4 s.
-fn takes_at(codel: &mut CodelState, milli: u64) -> bool {
-    milli < 4_000 && takes(codel, milli, 9)
+    let roots = [
+        isqrt(square),
+        isqrt(square / 2),
+        isqrt(square / 3),
+        isqrt(square / 4),
+        isqrt(0),
+        isqrt(u64::MAX),
+    ];
+    let wanted = [100_000_000, 70_710_678, 57_735_026, 50_000_000, 0, u32::MAX];
+    assert_eq!(rt; roots, wanted);
 }
 
 /// A packet of 1,500 bytes is taken behind a long queue, for which it waited so long.
@@ -109,20 +112,28 @@ fn takes(codel: &mut CodelState, milli: u64, waited: u64) -> bool
     codel.takes(at(milli * 1_000_000), at(since), 3000)
 }
 
+/// Of a packet at 1,830 ms and of one at this time, below 4 s, which both waited long: whether each is dropped, and how
+/// many are then.
+fn again(codel: CodelState, milli: u64) -> (bool, bool, u64) {
+    let mut codel = codel;
+    let first = takes(&mut codel, 1_830, 9);
+    let second = milli < 4_000 && takes(&mut codel, milli, 9);
+    (first, second, codel.count)
+}
+
 #[test]
 fn dropping_begins_again_where_it_ended(rt: HostRuntime) {
-    for (again, count) in [(1_938, 2), (1_939, 1)] {
-        let mut codel = CodelState::new();
-        assert_eq!(rt; takes(&mut codel, 10, 9), false);
-        assert_eq!(rt; takes(&mut codel, 110, 9), true);
-        assert_eq!(rt; takes(&mut codel, 209, 9), false);
-        assert_eq!(rt; takes(&mut codel, 210, 9), true);
-        assert_eq!(rt; takes(&mut codel, 281, 9), true);
-        assert_eq!(rt; codel.count, 3);
-        assert_eq!(rt; takes(&mut codel, 282, 4), false);
-        assert_eq!(rt; codel.dropping, false);
-        assert_eq!(rt; takes(&mut codel, 1_830, 9), false);
-        assert_eq!(rt; takes_at(&mut codel, again), true);
-        assert_eq!(rt; codel.count, count);
-    }
+    let mut codel = CodelState::new();
+    let taken = [
+        takes(&mut codel, 10, 9),
+        takes(&mut codel, 110, 9),
+        takes(&mut codel, 209, 9),
+        takes(&mut codel, 210, 9),
+        takes(&mut codel, 281, 9),
+    ];
+    assert_eq!(rt; (taken, codel.count), ([false, true, false, true, true], 3));
+    let ended = (takes(&mut codel, 282, 4), codel.dropping);
+    assert_eq!(rt; ended, (false, false));
+    assert_eq!(rt; again(codel, 1_938), (false, true, 2));
+    assert_eq!(rt; again(codel, 1_939), (false, true, 1));
 }

@@ -15,4 +15,6 @@ mod outside;
 #[cfg(test)]
 mod paths;
 #[cfg(test)]
+mod rows;
+#[cfg(test)]
 mod seats;

@@ -2,116 +2,44 @@
 
 ghost use Rattle.std.specs.Prelude.{◌≡◌, ◌<◌};
 
+use crate::rows::parted;
 use elf_load::{ProgramHeader, executable, load};
 use guest_mem::{FetchHint, Mem};
 use rv32_machine::{Cpu, Insn, Outcome, Steps, TurnEnd, decode, step, turn};
-use sim_base::Signal;
 use std::alloc::{AllocError, Global};
 use std::marker::Brand;
 use std::sync::ledger::{Blank, Ledger};
 use std::test::Fail;
 
-/// Of two pages at 0x10000: their rights (PF_X 1, PF_W 2, PF_R 4) and first words; the budget, and register
-/// 10 at first. Register 13 is 9. Then how the turn ends, and the program counter, register 10 and the reservation.
-type Row = (u32, [u32; 8], u64, u32, TurnEnd, u32, u32, Option<u32>);
-
-/// A loop of three turns, and the call as the tenth instruction.
-const LOOP: [u32; 8] = [
-    0x000002b7, 0x00300293, 0xfff28293, 0xfe029ee3, 0x00700513, 0x00000073, 0, 0,
-];
-
-/// The eighth word of the first page.
-const LAST: u32 = 0x1001c;
-
-const ROWS: [Row; 10] = [
-    // the last instruction of the budget is the call
-    (7, LOOP, 10, 0, TurnEnd::Call, 0x10018, 7, None),
-    // it would be the next one
-    (7, LOOP, 9, 0, TurnEnd::Spent, 0x10014, 7, None),
-    // no budget
-    (7, LOOP, 0, 5, TurnEnd::Spent, 0x10000, 5, None),
-    // JALR to a multiple of 2
-    (
-        7,
-        [0x00200067, 0, 0, 0, 0, 0, 0, 0],
-        100,
-        0,
-        TurnEnd::Trap(Signal::SigBus),
-        0x10000,
-        0,
-        None,
-    ),
-    // no instruction
-    (
-        7,
-        [0, 0, 0, 0, 0, 0, 0, 0],
-        100,
-        0,
-        TurnEnd::Trap(Signal::SigIll),
-        0x10000,
-        0,
-        None,
-    ),
-    // EBREAK
-    (
-        7,
-        [0x00100073, 0, 0, 0, 0, 0, 0, 0],
-        100,
-        0,
-        TurnEnd::Trap(Signal::SigTrap),
-        0x10000,
-        0,
-        None,
-    ),
-    // LW at 0
-    (
-        7,
-        [0x00002503, 0, 0, 0, 0, 0, 0, 0],
-        100,
-        0,
-        TurnEnd::Trap(Signal::SigSegv),
-        0x10000,
-        0,
-        None,
-    ),
-    // JALR to 0, where nothing can be executed
-    (
-        7,
-        [0x00000067, 0, 0, 0, 0, 0, 0, 0],
-        100,
-        0,
-        TurnEnd::Trap(Signal::SigSegv),
-        0,
-        0,
-        None,
-    ),
-    // LR.W a1, (a0), a store to the word by SW a3, 0(a0), and EBREAK: the reservation stands
-    (
-        7,
-        [0x100525af, 0x00d52023, 0x00100073, 0, 0, 0, 0, 5],
-        100,
-        LAST,
-        TurnEnd::Trap(Signal::SigTrap),
-        0x10008,
-        LAST,
-        Some(LAST),
-    ),
-    // LR.W, and SC.W a2, a3, (a0) where nothing may be written: it stands after the trap
-    (
-        5,
-        [0x100525af, 0x18d5262f, 0, 0, 0, 0, 0, 5],
-        100,
-        LAST,
-        TurnEnd::Trap(Signal::SigSegv),
-        0x10004,
-        LAST,
-        Some(LAST),
-    ),
-];
+/// Rights of two pages at 0x10000 (PF_X 1, PF_W 2, PF_R 4), the budget, register 10 at first, and the first eight words;
+/// then how the turn ends, and the program counter, register 10 and the reservation. Register 13 is 9. All numbers but
+/// the budget are hexadecimal.
+const TURNS: &str = "
+# the last instruction of the budget is the call, behind a loop of three turns
+7 10 0 000002b7 00300293 fff28293 fe029ee3 00700513 00000073 0 0 = call 10018 7 -
+# it would be the next one
+7 9 0 000002b7 00300293 fff28293 fe029ee3 00700513 00000073 0 0 = spent 10014 7 -
+# no budget
+7 0 5 000002b7 00300293 fff28293 fe029ee3 00700513 00000073 0 0 = spent 10000 5 -
+# JALR to a multiple of 2
+7 100 0 00200067 0 0 0 0 0 0 0 = SIGBUS 10000 0 -
+# no instruction
+7 100 0 0 0 0 0 0 0 0 0 = SIGILL 10000 0 -
+# EBREAK
+7 100 0 00100073 0 0 0 0 0 0 0 = SIGTRAP 10000 0 -
+# LW at 0
+7 100 0 00002503 0 0 0 0 0 0 0 = SIGSEGV 10000 0 -
+# JALR to 0, where nothing can be executed
+7 100 0 00000067 0 0 0 0 0 0 0 = SIGSEGV 0 0 -
+# LR.W a1, (a0), a store to the word by SW a3, 0(a0), and EBREAK: the reservation stands
+7 100 1001c 100525af 00d52023 00100073 0 0 0 0 5 = SIGTRAP 10008 1001c 1001c
+# LR.W, and SC.W a2, a3, (a0) where nothing may be written: it stands after the trap
+5 100 1001c 100525af 18d5262f 0 0 0 0 0 5 = SIGSEGV 10004 1001c 1001c
+";
 
 /// An executable of these two segments (address, size in memory, rights), whose entry is 0x10000: the first, which
 /// begins there, has the words.
-fn file(alloc: Global, segments: [[u32; 3]; 2], words: &[u32; 8]) -> Result<Vec<u8>, AllocError> {
+fn file(alloc: Global, segments: [[u32; 3]; 2], words: &[u32]) -> Result<Vec<u8>, AllocError> {
     let mut code = Vec::new(alloc);
     for word in words {
         code.extend_from_slice(&word.to_le_bytes())?;
@@ -156,18 +84,49 @@ fn start(x10: u32) -> Cpu {
     }
 }
 
+fn hexadecimal(word: &str) -> Result<u32, Fail> {
+    Ok(u32::from_str_radix(word, 16)?)
+}
+
+/// The name of an end; that of its signal, where the turn traps.
+fn name(end: TurnEnd) -> &'static str {
+    match end {
+        TurnEnd::Call => "call",
+        TurnEnd::Spent => "spent",
+        TurnEnd::Trap(signal) => signal.name(),
+    }
+}
+
+/// How the turn of a row ends.
+fn ended(alloc: Global, row: &str) -> Result<String, Fail> {
+    let (rights, row) = parted(row, ' ')?;
+    let (budget, row) = parted(row, ' ')?;
+    let (x10, row) = parted(row, ' ')?;
+    let mut words = Vec::new(alloc);
+    for word in row.split_whitespace() {
+        words.push(hexadecimal(word)?)?;
+    }
+    let rights = hexadecimal(rights)?;
+    let segments = [[0x10000, 0x1000, rights], [0x11000, 0x1000, rights]];
+    let bytes = file(alloc, segments, words.as_slice())?;
+    let mut mem = memory(alloc, &bytes)?;
+    let mut cpu = start(hexadecimal(x10)?);
+    let end = name(ran(&mut cpu, &mut mem, budget.parse::<u64>()?));
+    let mut shown = format!(in alloc; "{end} {:x} {:x} ", cpu.pc, cpu.x[10])?;
+    match cpu.reservation {
+        Some(place) => write!(shown, "{place:x}")?,
+        None => write!(shown, "-")?,
+    }
+    Ok(shown)
+}
+
 #[test]
 fn turns_end_as_the_rows_say(rt: HostRuntime) -> Result<(), Fail> {
-    for (number, row) in ROWS.into_iter().enumerate() {
-        let (rights, words, budget, x10, end, pc, left, reservation) = row;
-        let segments = [[0x10000, 0x1000, rights], [0x11000, 0x1000, rights]];
-        let bytes = file(rt.alloc(), segments, &words)?;
-        let mut mem = memory(rt.alloc(), &bytes)?;
-        let mut cpu = start(x10);
-        assert!(rt; ran(&mut cpu, &mut mem, budget) == end, "row {number}");
-        assert_eq!(rt; cpu.pc, pc, "row {number}");
-        assert_eq!(rt; cpu.x[10], left, "row {number}");
-        assert_eq!(rt; cpu.reservation, reservation, "row {number}");
+    for case in TURNS.trim().split('#').skip(1) {
+        let (title, row) = parted(case, '\n')?;
+        let (given, wanted) = parted(row, '=')?;
+        let shown = ended(rt.alloc(), given)?;
+        assert_eq!(rt; shown.as_str(), wanted.trim(), "{title}");
     }
     Ok(())
 }
@@ -180,11 +139,15 @@ fn one_instruction_runs(rt: HostRuntime) -> Result<(), Fail> {
     let bytes = file(rt.alloc(), segments, &words)?;
     let mut mem = memory(rt.alloc(), &bytes)?;
     let mut cpu = start(0);
-    assert!(rt; step(&mut cpu, &mut mem) == Outcome::Next);
-    assert_eq!(rt; cpu.x[10], 7);
-    assert!(rt; decode(0x0000_0073) == Some(Insn::Ecall));
-    assert!(rt; decode(0x1005_25af) == Some(Insn::LrW));
+    let next = step(&mut cpu, &mut mem) == Outcome::Next;
+    assert_eq!(rt; (next, cpu.x[10]), (true, 7));
     Ok(())
+}
+
+#[test]
+fn words_are_decoded(rt: HostRuntime) {
+    let decoded = [decode(0x0000_0073), decode(0x1005_25af)];
+    assert!(rt; decoded == [Some(Insn::Ecall), Some(Insn::LrW)]);
 }
 
 /// Two pages, of which the second may not be executed, and none behind them.
@@ -194,14 +157,16 @@ fn memory_stays_where_a_call_fails(rt: HostRuntime) -> Result<(), Fail> {
     let bytes = file(rt.alloc(), segments, &[0; 8])?;
     let mut mem = memory(rt.alloc(), &bytes)?;
     let mut hint = FetchHint::new();
-    assert!(rt; mem.fetch(0x10FFC, &mut hint).is_ok());
-    assert!(rt; mem.fetch(0x10FFE, &mut hint).is_err());
-    assert!(rt; mem.store16(0x11FFE, 0x0706).is_ok());
-    assert!(rt; mem.store32(0x11FFE, 0x1234_5678).is_err());
-    assert!(rt; mem.store16(0x11FFF, 0x1234).is_err());
-    assert_eq!(rt; mem.load16(0x11FFE).ok(), Some(0x0706));
     let mut into = *b".....";
-    assert!(rt; mem.copy_out(0x11FFC, &mut into).is_err());
-    assert_eq!(rt; into.as_slice(), b".....".as_slice());
+    let done = [
+        mem.fetch(0x10FFC, &mut hint).is_ok(),
+        mem.fetch(0x10FFE, &mut hint).is_ok(),
+        mem.store16(0x11FFE, 0x0706).is_ok(),
+        mem.store32(0x11FFE, 0x1234_5678).is_ok(),
+        mem.store16(0x11FFF, 0x1234).is_ok(),
+        mem.copy_out(0x11FFC, &mut into).is_ok(),
+    ];
+    assert_eq!(rt; done, [true, false, true, false, false, false]);
+    assert_eq!(rt; (mem.load16(0x11FFE).ok(), into), (Some(0x0706), *b"....."));
     Ok(())
 }

@@ -2,7 +2,6 @@
 
 use event_order::Queue;
 use sim_base::{Event, HostId, Key, Kind, Time, What};
-use std::test::Fail;
 use world_order::Window;
 
 fn nanos(nanos: u64) -> Time {
@@ -21,33 +20,37 @@ fn event(due: u64, kind: Kind, source: u32, number: u64) -> Event {
     }
 }
 
+/// An event that is not in the queue is added.
+fn adds(queue: &mut Queue, event: Event) -> bool {
+    !queue.has_key(&event.key) && queue.add(event).is_ok()
+}
+
+/// The number of the event that comes first, which is taken.
+fn takes(queue: &mut Queue) -> Option<u64> {
+    queue.take_least().map(|event| event.key.number)
+}
+
 #[test]
-fn the_least_key_comes_first(rt: HostRuntime) -> Result<(), Fail> {
+fn the_least_key_comes_first(rt: HostRuntime) {
     let mut queue = Queue::new(rt.alloc());
-    let events = [
-        event(2, Kind::Packet, 0, 0),
-        event(1, Kind::Local, 0, 1),
-        event(1, Kind::Packet, 2, 7),
-        event(1, Kind::Packet, 1, 9),
-        event(1, Kind::Packet, 1, 8),
+    let added = [
+        adds(&mut queue, event(2, Kind::Packet, 0, 0)),
+        adds(&mut queue, event(1, Kind::Local, 0, 1)),
+        adds(&mut queue, event(1, Kind::Packet, 2, 7)),
+        adds(&mut queue, event(1, Kind::Packet, 1, 9)),
+        adds(&mut queue, event(1, Kind::Packet, 1, 8)),
     ];
-    for event in events {
-        assert_eq!(rt; queue.has_key(&event.key), false);
-        if !queue.has_key(&event.key) {
-            assert!(rt; queue.add(event).is_ok());
-        }
-    }
-    assert_eq!(rt; queue.len(), 5);
+    assert_eq!(rt; (added, queue.len()), ([true; 5], 5));
     assert!(rt; queue.least_due() == Some(nanos(1)));
-    for number in [8, 9, 7, 1, 0] {
-        assert_eq!(rt;
-            queue.take_least().map(|event| event.key.number),
-            Some(number)
-        );
-    }
-    assert_eq!(rt; queue.is_empty(), true);
-    assert!(rt; queue.least_due() == None);
-    Ok(())
+    let taken = [
+        takes(&mut queue),
+        takes(&mut queue),
+        takes(&mut queue),
+        takes(&mut queue),
+        takes(&mut queue),
+    ];
+    assert_eq!(rt; taken, [Some(8), Some(9), Some(7), Some(1), Some(0)]);
+    assert!(rt; queue.is_empty() && queue.least_due() == None);
 }
 
 #[test]

@@ -1,298 +1,188 @@
 //! The routes of graphs: their latency, and what arrives of 10^9.
 
-use gml_graph::read_gml;
+use crate::rows::parted;
+use gml_graph::{Graph, read_gml};
 use net_routes::routes;
 use sim_base::Time;
-use std::alloc::{AllocError, AllocGlobal, Global};
+use std::alloc::{AllocGlobal, Global};
 use std::test::Fail;
 use std::thread::Threads;
 
-/// Source, target, latency in nanoseconds, and what arrives of 10^9.
-type EdgeRow = (u32, u32, u64, u32);
+/// The nodes of each graph.
+const NODES: &str = r#"
+node [ id 0 ] node [ id 1 ] node [ id 2 ] node [ id 3 ] node [ id 4 ]
+node [ id 5 ] node [ id 6 ] node [ id 7 ] node [ id 8 ] node [ id 9 ]
+"#;
 
-/// The GML text of a graph of nodes 0 to 9 with these edges.
-fn text_of(alloc: Global, directed: u8, edges: &[EdgeRow]) -> Result<String, AllocError> {
-    let mut text = format!(in alloc; "graph [ directed {directed}")?;
-    for id in 0..10u32 {
-        let node = format!(in alloc; " node [ id {id} ]")?;
-        text.push_str(node.as_str())?;
-    }
-    for (source, target, nanos, reliability) in edges {
-        let lost = 1_000_000_000u32.saturating_sub(*reliability);
-        let whole = lost / 1_000_000_000;
-        let part = lost % 1_000_000_000;
-        let ends = format!(in alloc; " edge [ source {source} target {target}")?;
-        let rest = format!(in alloc; " latency \"{nanos} ns\" packet_loss {whole}.{part:09} ]")?;
-        text.push_str(ends.as_str())?;
-        text.push_str(rest.as_str())?;
-    }
-    text.push_str(" ]")?;
-    Ok(text)
+/// Two nodes, whether walks are wanted or single edges, the nodes of hosts, and what is found: nanoseconds, and what
+/// arrives. Then the graph. The random ones are by every walk of at most as many edges as there are nodes.
+const CASES: &str = r#"
+# of two walks of 20 ms that with which more arrives
+0 1 shortest 0 1 = 20000000 300000000
+directed 1
+edge [ source 0 target 2 latency "10000000 ns" packet_loss 0.500000000 ]
+edge [ source 2 target 1 latency "10000000 ns" packet_loss 0.500000000 ]
+edge [ source 0 target 1 latency "20000000 ns" packet_loss 0.700000000 ]
+edge [ source 1 target 0 latency "5000000 ns" packet_loss 0.000000000 ]
+# two edges are faster than one
+0 1 shortest 0 1 = 20000000 1000000000
+directed 0
+edge [ source 0 target 2 latency "10000000 ns" packet_loss 0.000000000 ]
+edge [ source 2 target 1 latency "10000000 ns" packet_loss 0.000000000 ]
+edge [ source 0 target 1 latency "30000000 ns" packet_loss 0.000000000 ]
+# one edge, where walks are not wanted
+1 0 direct 0 1 = 30000000 1000000000
+directed 0
+edge [ source 0 target 2 latency "10000000 ns" packet_loss 0.000000000 ]
+edge [ source 2 target 1 latency "10000000 ns" packet_loss 0.000000000 ]
+edge [ source 0 target 1 latency "30000000 ns" packet_loss 0.000000000 ]
+# a node that no host is on
+3 4 shortest 3 = none
+directed 1
+edge [ source 3 target 4 latency "1000000 ns" packet_loss 0.000000000 ]
+# the longer walk loses less
+0 1 shortest 0 1 = 2 999999998
+directed 1
+edge [ source 0 target 2 latency "1 ns" packet_loss 0.000000001 ]
+edge [ source 2 target 1 latency "1 ns" packet_loss 0.000000001 ]
+edge [ source 0 target 1 latency "2 ns" packet_loss 0.000000003 ]
+edge [ source 1 target 0 latency "1 ns" packet_loss 0.000000000 ]
+# the longer walk loses more
+0 1 shortest 0 1 = 2 999999999
+directed 1
+edge [ source 0 target 2 latency "1 ns" packet_loss 0.000000001 ]
+edge [ source 2 target 1 latency "1 ns" packet_loss 0.000000001 ]
+edge [ source 0 target 1 latency "2 ns" packet_loss 0.000000001 ]
+edge [ source 1 target 0 latency "1 ns" packet_loss 0.000000000 ]
+# rounded down at each edge: the whole product would give 666666663
+0 3 shortest 0 3 = 3 666666662
+directed 0
+edge [ source 0 target 1 latency "1 ns" packet_loss 0.000000003 ]
+edge [ source 1 target 2 latency "1 ns" packet_loss 0.333333333 ]
+edge [ source 2 target 3 latency "1 ns" packet_loss 0.000000003 ]
+# from a node to itself by one edge, not round
+0 0 shortest 0 0 = 9 750000000
+directed 1
+edge [ source 0 target 1 latency "3 ns" packet_loss 0.000000000 ]
+edge [ source 1 target 0 latency "1 ns" packet_loss 0.000000000 ]
+edge [ source 0 target 0 latency "9 ns" packet_loss 0.500000000 ]
+edge [ source 0 target 0 latency "9 ns" packet_loss 0.250000000 ]
+# graph 1 of six random ones
+2 4 shortest 2 4 6 = 4 900000000
+directed 0
+edge [ source 4 target 4 latency "2 ns" packet_loss 1.000000000 ]
+edge [ source 4 target 0 latency "1 ns" packet_loss 0.000000000 ]
+edge [ source 6 target 2 latency "3 ns" packet_loss 0.000000001 ]
+edge [ source 4 target 4 latency "3 ns" packet_loss 0.000000001 ]
+edge [ source 2 target 0 latency "3 ns" packet_loss 0.100000000 ]
+edge [ source 6 target 2 latency "3 ns" packet_loss 1.000000000 ]
+edge [ source 0 target 6 latency "3 ns" packet_loss 0.750000000 ]
+edge [ source 0 target 2 latency "3 ns" packet_loss 0.700000000 ]
+# graph 2 of six random ones
+0 5 shortest 4 5 4 0 = 4 500000000
+directed 0
+edge [ source 4 target 5 latency "1 ns" packet_loss 0.000000001 ]
+edge [ source 6 target 4 latency "2 ns" packet_loss 0.300000000 ]
+edge [ source 4 target 5 latency "1 ns" packet_loss 0.000000000 ]
+edge [ source 4 target 1 latency "2 ns" packet_loss 0.300000000 ]
+edge [ source 1 target 1 latency "2 ns" packet_loss 0.000000000 ]
+edge [ source 4 target 0 latency "3 ns" packet_loss 0.500000000 ]
+edge [ source 4 target 4 latency "3 ns" packet_loss 0.750000000 ]
+edge [ source 4 target 4 latency "2 ns" packet_loss 1.000000000 ]
+# graph 3 of six random ones
+1 5 shortest 3 1 5 2 = 5 209999999
+directed 0
+edge [ source 3 target 5 latency "2 ns" packet_loss 0.000000001 ]
+edge [ source 7 target 2 latency "1 ns" packet_loss 0.100000000 ]
+edge [ source 3 target 3 latency "3 ns" packet_loss 0.500000000 ]
+edge [ source 2 target 7 latency "2 ns" packet_loss 0.999999999 ]
+edge [ source 7 target 5 latency "2 ns" packet_loss 0.500000000 ]
+edge [ source 2 target 1 latency "2 ns" packet_loss 0.700000000 ]
+edge [ source 2 target 3 latency "1 ns" packet_loss 0.300000000 ]
+edge [ source 3 target 3 latency "2 ns" packet_loss 1.000000000 ]
+# graph 4 of six random ones
+4 6 shortest 7 6 4 = 3 999999999
+directed 0
+edge [ source 3 target 6 latency "3 ns" packet_loss 0.250000000 ]
+edge [ source 7 target 3 latency "1 ns" packet_loss 0.000000000 ]
+edge [ source 6 target 7 latency "1 ns" packet_loss 0.500000000 ]
+edge [ source 6 target 7 latency "1 ns" packet_loss 0.000000001 ]
+edge [ source 3 target 4 latency "1 ns" packet_loss 0.000000000 ]
+# graph 5 of six random ones
+6 7 shortest 7 8 6 = 3 675000000
+directed 0
+edge [ source 2 target 2 latency "2 ns" packet_loss 0.300000000 ]
+edge [ source 6 target 2 latency "2 ns" packet_loss 0.700000000 ]
+edge [ source 2 target 1 latency "3 ns" packet_loss 0.100000000 ]
+edge [ source 6 target 2 latency "2 ns" packet_loss 0.100000000 ]
+edge [ source 7 target 2 latency "1 ns" packet_loss 0.250000000 ]
+edge [ source 2 target 8 latency "1 ns" packet_loss 0.100000000 ]
+edge [ source 6 target 6 latency "1 ns" packet_loss 0.100000000 ]
+# graph 6 of six random ones
+1 4 shortest 1 3 4 = 5 900000000
+directed 0
+edge [ source 5 target 5 latency "1 ns" packet_loss 0.999999999 ]
+edge [ source 1 target 5 latency "3 ns" packet_loss 0.000000000 ]
+edge [ source 5 target 1 latency "3 ns" packet_loss 0.250000000 ]
+edge [ source 6 target 4 latency "1 ns" packet_loss 0.700000000 ]
+edge [ source 3 target 1 latency "2 ns" packet_loss 0.500000000 ]
+edge [ source 5 target 4 latency "2 ns" packet_loss 0.500000000 ]
+edge [ source 6 target 4 latency "1 ns" packet_loss 0.100000000 ]
+edge [ source 5 target 4 latency "2 ns" packet_loss 0.100000000 ]
+"#;
+
+/// The graph of these edges.
+fn graph_of(alloc: Global, edges: &str) -> Result<Graph, Fail> {
+    let text = format!(in alloc; "graph [ {NODES} {edges} ]")?;
+    Ok(read_gml(alloc, text.as_bytes())?)
 }
 
-/// The latency of the route that is found between two nodes, and what arrives by it.
+/// What is found where a row asks.
 fn found(
     rt: &(impl Threads + Sync + AllocGlobal),
-    text: &str,
-    shortest: bool,
-    nodes: &[u32],
-    from: u32,
-    to: u32,
-) -> Result<Option<(u64, u32)>, Fail> {
-    let graph = read_gml(rt.alloc(), text.as_bytes())?;
-    let all = routes(rt, rt.alloc(), &graph, nodes, shortest, 2)?;
-    Ok(
-        all.find(from, to)
-            .map(|(time, reliability)| (time.nanos, reliability)),
-    )
+    asked: &str,
+    graph: &Graph,
+) -> Result<String, Fail> {
+    let alloc = rt.alloc();
+    let (from, asked) = parted(asked, ' ')?;
+    let (to, asked) = parted(asked, ' ')?;
+    let (kind, hosts) = parted(asked, ' ')?;
+    let mut nodes = Vec::new(alloc);
+    for node in hosts.split_whitespace() {
+        nodes.push(node.parse::<u32>()?)?;
+    }
+    let all = routes(rt, alloc, graph, nodes.as_slice(), kind == "shortest", 2)?;
+    let shown = match all.find(from.parse::<u32>()?, to.parse::<u32>()?) {
+        Some((time, arrives)) => format!(in alloc; "{} {arrives}", time.nanos)?,
+        None => String::from_str(alloc, "none")?,
+    };
+    Ok(shown)
 }
-
-/// Whether a graph is directed, its edges, whether shortest paths are wanted, the nodes of hosts,
-/// two nodes, and what is found.
-const CASES: [(u8, &[EdgeRow], bool, &[u32], u32, u32, Option<(u64, u32)>); 14] = [
-    // of two walks of 20 ms that with which more arrives
-    (
-        1,
-        &[
-            (0, 2, 10_000_000, 500_000_000),
-            (2, 1, 10_000_000, 500_000_000),
-            (0, 1, 20_000_000, 300_000_000),
-            (1, 0, 5_000_000, 1_000_000_000),
-        ],
-        true,
-        &[0, 1],
-        0,
-        1,
-        Some((20_000_000, 300_000_000)),
-    ),
-    // two edges are faster than one
-    (
-        0,
-        &[
-            (0, 2, 10_000_000, 1_000_000_000),
-            (2, 1, 10_000_000, 1_000_000_000),
-            (0, 1, 30_000_000, 1_000_000_000),
-        ],
-        true,
-        &[0, 1],
-        0,
-        1,
-        Some((20_000_000, 1_000_000_000)),
-    ),
-    (
-        0,
-        &[
-            (0, 2, 10_000_000, 1_000_000_000),
-            (2, 1, 10_000_000, 1_000_000_000),
-            (0, 1, 30_000_000, 1_000_000_000),
-        ],
-        false,
-        &[0, 1],
-        1,
-        0,
-        Some((30_000_000, 1_000_000_000)),
-    ),
-    (
-        1,
-        &[(3, 4, 1_000_000, 1_000_000_000)],
-        true,
-        &[3],
-        3,
-        4,
-        None,
-    ),
-    // the longer walk loses less, and then more
-    (
-        1,
-        &[
-            (0, 2, 1, 999_999_999),
-            (2, 1, 1, 999_999_999),
-            (0, 1, 2, 999_999_997),
-            (1, 0, 1, 1_000_000_000),
-        ],
-        true,
-        &[0, 1],
-        0,
-        1,
-        Some((2, 999_999_998)),
-    ),
-    (
-        1,
-        &[
-            (0, 2, 1, 999_999_999),
-            (2, 1, 1, 999_999_999),
-            (0, 1, 2, 999_999_999),
-            (1, 0, 1, 1_000_000_000),
-        ],
-        true,
-        &[0, 1],
-        0,
-        1,
-        Some((2, 999_999_999)),
-    ),
-    // rounded down at each edge: the whole product would give 666_666_663
-    (
-        0,
-        &[
-            (0, 1, 1, 999_999_997),
-            (1, 2, 1, 666_666_667),
-            (2, 3, 1, 999_999_997),
-        ],
-        true,
-        &[0, 3],
-        0,
-        3,
-        Some((3, 666_666_662)),
-    ),
-    // from a node to itself by one edge, not round
-    (
-        1,
-        &[
-            (0, 1, 3, 1_000_000_000),
-            (1, 0, 1, 1_000_000_000),
-            (0, 0, 9, 500_000_000),
-            (0, 0, 9, 750_000_000),
-        ],
-        true,
-        &[0, 0],
-        0,
-        0,
-        Some((9, 750_000_000)),
-    ),
-    // random graphs, by every walk of at most as many edges as there are nodes
-    (
-        0,
-        &[
-            (4, 4, 2, 0),
-            (4, 0, 1, 1_000_000_000),
-            (6, 2, 3, 999_999_999),
-            (4, 4, 3, 999_999_999),
-            (2, 0, 3, 900_000_000),
-            (6, 2, 3, 0),
-            (0, 6, 3, 250_000_000),
-            (0, 2, 3, 300_000_000),
-        ],
-        true,
-        &[2, 4, 6],
-        2,
-        4,
-        Some((4, 900_000_000)),
-    ),
-    (
-        0,
-        &[
-            (4, 5, 1, 999_999_999),
-            (6, 4, 2, 700_000_000),
-            (4, 5, 1, 1_000_000_000),
-            (4, 1, 2, 700_000_000),
-            (1, 1, 2, 1_000_000_000),
-            (4, 0, 3, 500_000_000),
-            (4, 4, 3, 250_000_000),
-            (4, 4, 2, 0),
-        ],
-        true,
-        &[4, 5, 4, 0],
-        0,
-        5,
-        Some((4, 500_000_000)),
-    ),
-    (
-        0,
-        &[
-            (3, 5, 2, 999_999_999),
-            (7, 2, 1, 900_000_000),
-            (3, 3, 3, 500_000_000),
-            (2, 7, 2, 1),
-            (7, 5, 2, 500_000_000),
-            (2, 1, 2, 300_000_000),
-            (2, 3, 1, 700_000_000),
-            (3, 3, 2, 0),
-        ],
-        true,
-        &[3, 1, 5, 2],
-        1,
-        5,
-        Some((5, 209_999_999)),
-    ),
-    (
-        0,
-        &[
-            (3, 6, 3, 750_000_000),
-            (7, 3, 1, 1_000_000_000),
-            (6, 7, 1, 500_000_000),
-            (6, 7, 1, 999_999_999),
-            (3, 4, 1, 1_000_000_000),
-        ],
-        true,
-        &[7, 6, 4],
-        4,
-        6,
-        Some((3, 999_999_999)),
-    ),
-    (
-        0,
-        &[
-            (2, 2, 2, 700_000_000),
-            (6, 2, 2, 300_000_000),
-            (2, 1, 3, 900_000_000),
-            (6, 2, 2, 900_000_000),
-            (7, 2, 1, 750_000_000),
-            (2, 8, 1, 900_000_000),
-            (6, 6, 1, 900_000_000),
-        ],
-        true,
-        &[7, 8, 6],
-        6,
-        7,
-        Some((3, 675_000_000)),
-    ),
-    (
-        0,
-        &[
-            (5, 5, 1, 1),
-            (1, 5, 3, 1_000_000_000),
-            (5, 1, 3, 750_000_000),
-            (6, 4, 1, 300_000_000),
-            (3, 1, 2, 500_000_000),
-            (5, 4, 2, 500_000_000),
-            (6, 4, 1, 900_000_000),
-            (5, 4, 2, 900_000_000),
-        ],
-        true,
-        &[1, 3, 4],
-        1,
-        4,
-        Some((5, 900_000_000)),
-    ),
-];
 
 #[test]
 fn the_best_of_all_walks_is_found(rt: HostRuntime) -> Result<(), Fail> {
-    for (number, (directed, edges, shortest, nodes, from, to, expected)) in CASES
-        .into_iter()
-        .enumerate()
-    {
-        let text = text_of(rt.alloc(), directed, edges)?;
-        assert_eq!(rt;
-            found(&rt, text.as_str(), shortest, nodes, from, to)?,
-            expected,
-            "row {number}"
-        );
+    for case in CASES.trim().split('#').skip(1) {
+        let (title, case) = parted(case, '\n')?;
+        let (row, edges) = parted(case, '\n')?;
+        let (asked, wanted) = parted(row, '=')?;
+        let graph = graph_of(rt.alloc(), edges)?;
+        let shown = found(&rt, asked, &graph)?;
+        assert_eq!(rt; shown.as_str(), wanted.trim(), "{title}");
     }
     Ok(())
 }
 
 /// From 7 to 5 in 3 ms, back in 2 ms, and from 7 to itself in 1 ms.
-const THREE: [EdgeRow; 3] = [
-    (7, 5, 3_000_000, 750_000_000),
-    (5, 7, 2_000_000, 1_000_000_000),
-    (7, 7, 1_000_000, 1_000_000_000),
-];
+const THREE: &str = r#"
+directed 1
+edge [ source 7 target 5 latency "3000000 ns" packet_loss 0.250000000 ]
+edge [ source 5 target 7 latency "2000000 ns" packet_loss 0.000000000 ]
+edge [ source 7 target 7 latency "1000000 ns" packet_loss 0.000000000 ]
+"#;
 
 #[test]
 fn the_least_latency_is_that_of_all_hosts(rt: HostRuntime) -> Result<(), Fail> {
-    let text = text_of(rt.alloc(), 1, &THREE)?;
-    let graph = read_gml(rt.alloc(), text.as_bytes())?;
+    let graph = graph_of(rt.alloc(), THREE)?;
     let nodes = [7, 5];
     let all = routes(&rt, rt.alloc(), &graph, &nodes, true, 1)?;
     assert!(rt; all.least_between(&nodes) == Some(Time { nanos: 2_000_000 }));

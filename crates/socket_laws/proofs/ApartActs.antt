@@ -26,7 +26,7 @@ use Rattle.host_sockets.specs.Moving.{sends_bytes, send_asked, takes_written, se
 use Rattle.host_sockets.specs.Names.{error_asked, takes_error}
 use Rattle.host_sockets.specs.Arriving.{hearer, listener_hears, hears_in, record_takes, heard_at, segment_at, segment_arrives, arrives_by}
 use Rattle.socket_laws.specs.Apart.{BoundApart}
-use Rattle.socket_laws.specs.Histories.{SocketsAct, left_by, sockets_acted, sockets_after, sockets_of, make_udp, bind_udp, connect_udp, send_udp, recv_udp, close_udp, make_tcp, bind_tcp, listen_tcp, accept_tcp, connect_tcp, connect_again, send_tcp, recv_tcp, shut_tcp, take_error, close_tcp, arrival, alarm}
+use Rattle.socket_laws.specs.Histories.{SocketsAct, left_by, sockets_acted, sockets_after, sockets_of, make_udp, bind_udp, connect_udp, send_udp, recv_udp, close_udp, make_tcp, bind_tcp, listen_tcp, accept_tcp, connect_tcp, connect_again, send_tcp, recv_tcp, shut_tcp, take_error, close_tcp, arrival, alarm, elsewhere}
 use Rattle.socket_laws.proofs.ApartTcp.{Kept, kept_all, apart_kept, AsBefore, acts_kept, put_kept, record_as, turned_anew, heard_as, closes_kept, alarm_kept, bound_after, listening_after, accepted_after}
 use Rattle.socket_laws.proofs.ApartUdp.{makes_kept, closes_udp_kept, datagram_kept, binds_apart, connects_apart, sends_apart, receives_apart}
 
@@ -153,6 +153,7 @@ acted_apart hosts now (take_error k) t w h = apart_kept t _ h (left_kept (takes_
 acted_apart hosts now (close_tcp k) t w h = apart_kept t _ h (closes_kept now k t w)
 acted_apart hosts now (arrival p) t w h = apart_kept t _ h (arrives_kept p.load now p t w)
 acted_apart hosts now (alarm object serial) t w h = apart_kept t _ h (alarm_kept now object serial t w)
+acted_apart hosts now (elsewhere after) t w h = h
 
 apart_after : (hosts : List Ip) (acts : List (Time × SocketsAct)) (t : SocketsRecord) (w : Wanted) → BoundApart t → BoundApart (sockets_after hosts acts (t, w)).0
 apart_after hosts [] t w h = h
