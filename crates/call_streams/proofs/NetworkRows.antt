@@ -1,5 +1,5 @@
 -- the calls on sockets
-use Rattle.std.proofs.Common.{◌≡◌, ℕ, Bool, List, [], ◌∷◌, is_some, Result, Ok}
+use Rattle.std.proofs.Common.{◌≡◌, ℕ, Bool, List, [], ◌∷◌, Option, is_some, Result, Ok}
 use Rattle.std.specs.Int.{w32, cast_signed}
 use Rattle.sim_base.specs.Refusals.{or_refuse}
 use Rattle.sim_base.specs.declared.address.Ip.{Ip}
@@ -20,17 +20,22 @@ use Rattle.host_sockets.specs.Moving.{sends_taking, receives_taking, shuts_tcp}
 use Rattle.host_sockets.specs.Names.{takes_error}
 use Rattle.host_calls.specs.declared.binding.NewSocket.{NewSocket}
 use Rattle.host_calls.specs.declared.options.Asked.{Asked}
-use Rattle.host_calls.specs.declared.receiving.Room.{Room}
+use Rattle.host_calls.specs.declared.accepting.AcceptPlan.{AcceptPlan}
+use Rattle.host_calls.specs.declared.connecting.ConnectPlan.{ConnectPlan}
+use Rattle.host_calls.specs.declared.receiving.RecvPlan.{RecvPlan}
 use Rattle.host_calls.specs.declared.sending.Message.{Message}
-use Rattle.host_calls.specs.declared.sockets.OpenSocket.{OpenSocket}
+use Rattle.host_calls.specs.declared.sending.SendPlan.{SendPlan}
+use Rattle.host_calls.specs.declared.sending.SendPlan.TheVariants as sending
+use Rattle.host_calls.specs.declared.sending.StreamSend.{StreamSend}
+use Rattle.guest_args.specs.declared.address.AddressPlace.{AddressPlace}
 use Rattle.host_calls.specs.declared.sockets.SocketNumber.{SocketNumber}
 use Rattle.host_calls.specs.declared.sockets.SocketNumber.TheVariants as number
 use Rattle.host_calls.specs.Parts.{Scene, local_of}
-use Rattle.host_calls.specs.Sockets.{open_socket, tcp_number, given_address, address, result_address, with_socket, socket_asked, socket, binds, bind_asked, bind, listen, accept_place, accept_call, accept, connect_tcp, connect_udp, connect_again, connect_call, connect, name_of, peer_of, getsockname, getpeername, refuse_flags, send_udp, send_tcp, send_call, send, sendto, recv_place, recv_udp, recv_tcp, recv_call, recv, recvfrom, getsockopt_asked, told_error, told_option, getsockopt, shut_of, shuts, shutdown}
+use Rattle.host_calls.specs.Sockets.{open_socket, tcp_number, given_address, address, result_address, with_socket, socket_asked, socket, binds, bind_asked, bind, listen, connect_tcp, connect_udp, connect_again, connect_call, name_of, peer_of, getsockname, getpeername, send_udp, send_tcp, recv_udp, recv_tcp, getsockopt_asked, told_error, told_option, getsockopt, shut_of, shuts, shutdown, accepts, connects, sends_by, recv_by, receives}
 use Rattle.socket_laws.specs.Histories.{SocketsAct as act}
 use Rattle.socket_streams.specs.May.{Moves}
 use Rattle.socket_streams.proofs.Moving.{moves_none, moves_by, moves_both, moves_sending, moves_alone, moves_left}
-use Rattle.call_streams.proofs.Rows.{sockets_at, RowMoves, answers, refused, asks, tries, again}
+use Rattle.call_streams.proofs.Rows.{sockets_at, RowMoves, answers, refused, asks, tries}
 use Rattle.call_streams.proofs.Datagrams.{datagram_void}
 
 module _ (hosts : List Ip) (flying : List Packet) where
@@ -79,19 +84,12 @@ module _ (hosts : List Ip) (flying : List Packet) where
       (moves_by hosts flying any_time (act.listen_tcp k (cast_signed w32 backlog)) s.sockets s.shared.outlet tt)))))
 
   -- accept(2)
-  accepting : (socket : OpenSocket) (at size_at : ℕ) (s : Scene) → R s (accept_call socket at size_at s)
-  accepting socket at size_at s =
-      asks hosts flying (sockets_at s) (tcp_number socket.number) _
-      (λ k m. asks hosts flying (sockets_at s) (accept_place k at size_at s.task s.sockets) _
-      (λ new e. asks hosts flying (sockets_at s) (accepts_tcp k s.sockets) _
+  pub accept_moves : (a : AcceptPlan) (s : Scene) → R s (accepts a s)
+  accept_moves a s =
+      asks hosts flying (sockets_at s) (accepts_tcp a.listener s.sockets) _
       (λ b q. answers hosts flying (sockets_at s) _ _
-      (moves_alone hosts flying (accepts_tcp k s.sockets) b s.sockets s.shared.outlet q
-      (moves_by hosts flying any_time (act.accept_tcp k) s.sockets s.shared.outlet tt)))))
-
-  pub accept_moves : (fd at size_at : ℕ) (s : Scene) → R s (accept fd at size_at s)
-  accept_moves fd at size_at s =
-      asks hosts flying (sockets_at s) (open_socket fd (local_of s)) _
-      (λ socket e. again hosts flying (sockets_at s) socket.nonblocking _ (accepting socket at size_at s))
+      (moves_alone hosts flying (accepts_tcp a.listener s.sockets) b s.sockets s.shared.outlet q
+      (moves_by hosts flying any_time (act.accept_tcp a.listener) s.sockets s.shared.outlet tt)))
 
   -- connect(2)
   connecting_tcp : (now : Time) (nonblocking : Bool) (k at size : ℕ) (s : Scene) → R s (connect_tcp hosts now nonblocking k at size s)
@@ -122,10 +120,8 @@ module _ (hosts : List Ip) (flying : List Packet) where
   connecting now nonblocking (number.Tcp k) at size s =
       by_test (R s) (is_some s.task.kept) _ _ (λ e. connecting_again now k s) (λ e. connecting_tcp now nonblocking k at size s)
 
-  pub connect_moves : (now : Time) (fd at size : ℕ) (s : Scene) → R s (connect hosts now fd at size s)
-  connect_moves now fd at size s =
-      asks hosts flying (sockets_at s) (open_socket fd (local_of s)) _
-      (λ socket e. connecting now socket.nonblocking socket.number at size s)
+  pub connect_moves : (now : Time) (c : ConnectPlan) (s : Scene) → R s (connects hosts now c s)
+  connect_moves now c s = connecting now c.socket.nonblocking c.socket.number c.at c.size s
 
   -- getsockname(2) and getpeername(2) tell alone
   pub getsockname_moves : (fd at size_at : ℕ) (s : Scene) → R s (getsockname fd at size_at s)
@@ -155,57 +151,39 @@ module _ (hosts : List Ip) (flying : List Packet) where
       (moves_by hosts flying any_time (act.send_udp k bytes to) s.sockets s.shared.outlet tt))
       (moves_sending hosts flying b.1 s.shared.outlet b.0 (datagram_void hosts k bytes to s.sockets b q)))))))
 
-  sending_tcp : (now : Time) (k : ℕ) (quiet : Bool) (message : Message) (s : Scene) → R s (send_tcp hosts now k quiet message s)
-  sending_tcp now k quiet message s =
-      asks hosts flying (sockets_at s) (or_refuse (span (counted message.n) message.at s.task.memory) _) _
-      (λ bytes e. asks hosts flying (sockets_at s) (given_address message.to_at message.size s.task.memory) _
-      (λ to m. asks hosts flying (sockets_at s) (sends_taking hosts now k bytes to quiet s.sockets s.shared.outlet) _
+  sending_tcp : (now : Time) (d : StreamSend) (s : Scene) → R s (send_tcp hosts now d s)
+  sending_tcp now d s =
+      asks hosts flying (sockets_at s) (or_refuse (span (counted d.n) d.at s.task.memory) _) _
+      (λ bytes e. asks hosts flying (sockets_at s) (sends_taking hosts now d.place bytes d.to d.quiet s.sockets s.shared.outlet) _
       (λ b q. answers hosts flying (sockets_at s) _ _
-      (moves_left hosts flying (sends_taking hosts now k bytes to quiet s.sockets s.shared.outlet) b s.sockets s.shared.outlet q
-      (moves_by hosts flying now (act.send_tcp k bytes to quiet) s.sockets s.shared.outlet tt)))))
+      (moves_left hosts flying (sends_taking hosts now d.place bytes d.to d.quiet s.sockets s.shared.outlet) b s.sockets s.shared.outlet q
+      (moves_by hosts flying now (act.send_tcp d.place bytes d.to d.quiet) s.sockets s.shared.outlet tt))))
 
-  sending : (now : Time) (socket : SocketNumber) (quiet : Bool) (message : Message) (s : Scene) → R s (send_call hosts now socket quiet message s)
-  sending now (number.Udp k) quiet message s = sending_udp k message s
-  sending now (number.Tcp k) quiet message s = sending_tcp now k quiet message s
-
-  pub send_moves : (now : Time) (socket : OpenSocket) (flags : ℕ) (message : Message) (s : Scene) → R s (send hosts now socket flags message s)
-  send_moves now socket flags message s =
-      tries hosts flying (sockets_at s) (refuse_flags flags) _
-      (again hosts flying (sockets_at s) _ _ (sending now socket.number _ message s))
-
-  pub sendto_moves : (now : Time) (fd flags : ℕ) (message : Message) (s : Scene) → R s (sendto hosts now fd flags message s)
-  sendto_moves now fd flags message s =
-      asks hosts flying (sockets_at s) (open_socket fd (local_of s)) _ (λ socket e. send_moves now socket flags message s)
+  pub send_moves : (now : Time) (m : SendPlan) (s : Scene) → R s (sends_by hosts now m s)
+  send_moves now (sending.Datagram d) s = sending_udp d.place d.message s
+  send_moves now (sending.Stream d) s = sending_tcp now d s
 
   -- recv(2)
-  receiving_udp : (k : ℕ) (room : Room) (s : Scene) → R s (recv_udp k room s)
-  receiving_udp k room s =
-      asks hosts flying (sockets_at s) (recv_place room s.task.memory) _
-      (λ place e. asks hosts flying (sockets_at s) (receives_udp k (counted room.n) s.sockets) _
+  receiving_udp : (k at n : ℕ) (place : Option AddressPlace) (s : Scene) → R s (recv_udp k at n place s)
+  receiving_udp k at n place s =
+      asks hosts flying (sockets_at s) (receives_udp k (counted n) s.sockets) _
       (λ b q. answers hosts flying (sockets_at s) _ _
-      (moves_alone hosts flying (receives_udp k (counted room.n) s.sockets) b s.sockets s.shared.outlet q
-      (moves_by hosts flying any_time (act.recv_udp k (counted room.n)) s.sockets s.shared.outlet tt))))
+      (moves_alone hosts flying (receives_udp k (counted n) s.sockets) b s.sockets s.shared.outlet q
+      (moves_by hosts flying any_time (act.recv_udp k (counted n)) s.sockets s.shared.outlet tt)))
 
-  receiving_tcp : (now : Time) (k : ℕ) (room : Room) (s : Scene) → R s (recv_tcp now k room s)
-  receiving_tcp now k room s =
-      asks hosts flying (sockets_at s) (recv_place room s.task.memory) _
-      (λ place e. asks hosts flying (sockets_at s) (receives_taking now k (counted room.n) s.sockets s.shared.outlet) _
+  receiving_tcp : (now : Time) (k at n : ℕ) (place : Option AddressPlace) (s : Scene) → R s (recv_tcp now k at n place s)
+  receiving_tcp now k at n place s =
+      asks hosts flying (sockets_at s) (receives_taking now k (counted n) s.sockets s.shared.outlet) _
       (λ b q. answers hosts flying (sockets_at s) _ _
-      (moves_left hosts flying (receives_taking now k (counted room.n) s.sockets s.shared.outlet) b s.sockets s.shared.outlet q
-      (moves_by hosts flying now (act.recv_tcp k (counted room.n)) s.sockets s.shared.outlet tt))))
+      (moves_left hosts flying (receives_taking now k (counted n) s.sockets s.shared.outlet) b s.sockets s.shared.outlet q
+      (moves_by hosts flying now (act.recv_tcp k (counted n)) s.sockets s.shared.outlet tt)))
 
-  receiving : (now : Time) (socket : SocketNumber) (room : Room) (s : Scene) → R s (recv_call now socket room s)
-  receiving now (number.Udp k) room s = receiving_udp k room s
-  receiving now (number.Tcp k) room s = receiving_tcp now k room s
+  receiving : (now : Time) (socket : SocketNumber) (at n : ℕ) (place : Option AddressPlace) (s : Scene) → R s (recv_by now socket at n place s)
+  receiving now (number.Udp k) at n place s = receiving_udp k at n place s
+  receiving now (number.Tcp k) at n place s = receiving_tcp now k at n place s
 
-  pub recv_moves : (now : Time) (socket : OpenSocket) (flags : ℕ) (room : Room) (s : Scene) → R s (recv now socket flags room s)
-  recv_moves now socket flags room s =
-      tries hosts flying (sockets_at s) (refuse_flags flags) _
-      (again hosts flying (sockets_at s) _ _ (receiving now socket.number room s))
-
-  pub recvfrom_moves : (now : Time) (fd flags : ℕ) (room : Room) (s : Scene) → R s (recvfrom now fd flags room s)
-  recvfrom_moves now fd flags room s =
-      asks hosts flying (sockets_at s) (open_socket fd (local_of s)) _ (λ socket e. recv_moves now socket flags room s)
+  pub recv_moves : (now : Time) (r : RecvPlan) (s : Scene) → R s (receives now r s)
+  recv_moves now r s = receiving now r.number r.at r.n r.from s
 
   -- getsockopt(2)
   telling_error : (now : Time) (socket : SocketNumber) (at size_at : ℕ) (s : Scene) → R s (told_error now socket at size_at s)

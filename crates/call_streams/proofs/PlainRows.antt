@@ -8,7 +8,7 @@ use Rattle.host_files.specs.declared.file.Object.TheVariants as kind
 use Rattle.guest_args.specs.Span.{can_write}
 use Rattle.guest_args.specs.Time.{timespec_of, timespec_size}
 use Rattle.host_timers.specs.Clock.{clock_at}
-use Rattle.host_files.specs.Files.{next_pipe, next_timer}
+use Rattle.host_files.specs.Files.{next_pipe, next_timer, next_eventfd}
 use Rattle.tcp_laws.proofs.Tests.{by_test}
 use Rattle.host_sockets.specs.declared.error.Refusal.{Refusal}
 use Rattle.host_sockets.specs.declared.error.Refusal.TheVariants.{Errno}
@@ -17,17 +17,19 @@ use Rattle.host_calls.specs.declared.call.PlainCall.{PlainCall}
 use Rattle.host_calls.specs.declared.call.PlainCall.TheVariants as plain
 use Rattle.host_calls.specs.declared.descriptors.Descriptor.{Descriptor}
 use Rattle.host_calls.specs.declared.parts.Task.{Task}
+use Rattle.host_calls.specs.declared.plan.Transfer.{Transfer}
 use Rattle.host_calls.specs.declared.parts.Shared.{Shared}
 use Rattle.host_calls.specs.declared.times.OldTimer.{OldTimer}
 use Rattle.host_calls.specs.declared.times.Setting.{Setting}
 use Rattle.host_calls.specs.Flags.{o_nonblock, has}
 use Rattle.host_calls.specs.Numbers.{f_getfd, f_setfd, f_getfl, f_setfl, grnd_nonblock, grnd_random}
-use Rattle.host_calls.specs.Scene.{Local}
+use Rattle.host_calls.specs.Scene.{Local, tell_memory}
 use Rattle.host_calls.specs.Descriptors.{descriptor, opens}
-use Rattle.host_calls.specs.Files.{fcntl_by, fcntl, hosts_file, openat_asked, openat, tell_memory, ends_bytes, with_ends, pipe2_asked, pipe2, read_asked, is_read_by, reads, write_asked, after_write, writes}
+use Rattle.host_calls.specs.Files.{fcntl_by, fcntl, hosts_file, openat_asked, openat, ends_bytes, with_ends, pipe2_asked, pipe2, is_read_by, reads, after_write, writes}
+use Rattle.host_calls.specs.Eventfd.{eventfd_asked, eventfd_file, new_eventfd, eventfd2}
 use Rattle.host_calls.specs.Guest.{getpid, brk, words, words_in, random_count, random_told, getrandom}
 use Rattle.host_calls.specs.Sockets.{setsockopt_asked, setsockopt}
-use Rattle.host_calls.specs.Times.{timer_object, at_nanos, clock_gettime, sleep_asked, clock_nanosleep, timer_file, new_timer, create_asked, timerfd_create, sets, set_by, old_timer, tell_setting, settime_asked, timerfd_settime}
+use Rattle.host_calls.specs.Times.{timer_object, at_nanos, clock_gettime, timer_file, new_timer, create_asked, timerfd_create, sets, set_by, old_timer, tell_setting, settime_asked, timerfd_settime}
 use Rattle.host_calls.specs.Calls.{arg, plain_row}
 use Rattle.socket_laws.specs.Histories.{left_by}
 use Rattle.socket_streams.specs.Records.{packets_of}
@@ -91,13 +93,12 @@ read_rests_by text now d (kind.Hosts read) at count task shared = refl
 read_rests_by text now d (kind.ReadEnd k) at count task shared = refl
 read_rests_by text now d (kind.WriteEnd k) at count task shared = refl
 read_rests_by text now d (kind.Timer k) at count task shared = refl
+read_rests_by text now d (kind.Eventfd k) at count task shared = refl
 read_rests_by text now d (kind.Udp k) at count task shared = refl
 read_rests_by text now d (kind.Tcp k) at count task shared = refl
 
-pub reads_rest : (text : List ℕ) (now : Time) (d : Descriptor) (at n : ℕ) (task : Task) (shared : Shared) → Rests shared.outlet (reads text now d at n (task, shared))
-reads_rest text now d at n task shared =
-    tries_rests shared.outlet (read_asked now d at n (task, shared)) _
-    (answers_rest shared.outlet _ _ (read_rests_by text now d d.file.object at _ task shared))
+pub reads_rest : (text : List ℕ) (now : Time) (t : Transfer) (task : Task) (shared : Shared) → Rests shared.outlet (reads text now t (task, shared))
+reads_rest text now t task shared = answers_rest shared.outlet _ _ (read_rests_by text now t.d t.d.file.object t.at _ task shared)
 
 write_rests_by : (process : ℕ) (bytes : List ℕ) (object : Object) (shared : Shared) → packets_of (after_write process bytes object shared).outlet ≡ packets_of shared.outlet
 write_rests_by process bytes kind.Input shared = refl
@@ -107,13 +108,13 @@ write_rests_by process bytes (kind.Hosts read) shared = refl
 write_rests_by process bytes (kind.ReadEnd k) shared = refl
 write_rests_by process bytes (kind.WriteEnd k) shared = refl
 write_rests_by process bytes (kind.Timer k) shared = refl
+write_rests_by process bytes (kind.Eventfd k) shared = refl
 write_rests_by process bytes (kind.Udp k) shared = refl
 write_rests_by process bytes (kind.Tcp k) shared = refl
 
-pub writes_rest : (process : ℕ) (d : Descriptor) (at n : ℕ) (task : Task) (shared : Shared) → Rests shared.outlet (writes process d at n (task, shared))
-writes_rest process d at n task shared =
-    tries_rests shared.outlet (write_asked d at n (task, shared)) _
-    (asks_rests shared.outlet _ _ (λ bytes. answers_rest shared.outlet _ _ (write_rests_by process bytes d.file.object shared)))
+pub writes_rest : (process : ℕ) (t : Transfer) (task : Task) (shared : Shared) → Rests shared.outlet (writes process t (task, shared))
+writes_rest process t task shared =
+    asks_rests shared.outlet _ _ (λ bytes. answers_rest shared.outlet _ _ (write_rests_by process bytes t.d.file.object shared))
 
 -- the other plain calls
 fcntl_rows : (fd command flags : ℕ) (task : Task) (shared : Shared) → Rests shared.outlet (fcntl fd command flags (task, shared))
@@ -150,9 +151,9 @@ gettime_rests now clock at task shared =
     (λ moment. tries_rests shared.outlet (refuse_if (not (can_write timespec_size at task.memory)) (Errno Efault)) _
     (answers_rest shared.outlet 0 (tell_memory at (timespec_of moment) (task, shared)) refl))
 
-sleep_rests : (now : Time) (clock flags at : ℕ) (task : Task) (shared : Shared) → Rests shared.outlet (clock_nanosleep now clock flags at (task, shared))
-sleep_rests now clock flags at task shared =
-    tries_rests shared.outlet (sleep_asked now clock flags at task) (Ok (0, (task, shared))) (answers_rest shared.outlet 0 (task, shared) refl)
+eventfd_rests : (count flags : ℕ) (task : Task) (shared : Shared) → Rests shared.outlet (eventfd2 count flags (task, shared))
+eventfd_rests count flags task shared =
+    asks_rests shared.outlet (eventfd_asked flags task) _ (λ fd. answers_rest shared.outlet fd (opens fd (eventfd_file flags (next_eventfd shared.files)) (new_eventfd count flags (task, shared))) refl)
 
 settime_rests : (now : Time) (fd flags at old_at : ℕ) (task : Task) (shared : Shared) → Rests shared.outlet (timerfd_settime now fd flags at old_at (task, shared))
 settime_rests now fd flags at old_at task shared =
@@ -162,6 +163,7 @@ settime_rests now fd flags at old_at task shared =
 
 -- each of the plain calls
 pub plain_rests : (now : Time) (process : ℕ) (call : PlainCall) (args : List ℕ) (task : Task) (shared : Shared) → Rests shared.outlet (plain_row now process call args (task, shared))
+plain_rests now process plain.Eventfd2 args task shared = eventfd_rests (arg args 0) (arg args 1) task shared
 plain_rests now process plain.Fcntl args task shared = fcntl_rows (arg args 0) (arg args 1) (arg args 2) task shared
 plain_rests now process plain.Openat args task shared = openat_rests (arg args 1) (arg args 2) task shared
 plain_rests now process plain.Pipe2 args task shared = pipe2_rests (arg args 0) (arg args 1) task shared
@@ -173,6 +175,5 @@ plain_rests now process plain.Brk args task shared =
     answers_rest shared.outlet (brk (arg args 0) task).0 ((brk (arg args 0) task).1, shared) refl
 plain_rests now process plain.Getrandom args task shared = getrandom_rests (arg args 0) (arg args 1) (arg args 2) task shared
 plain_rests now process plain.ClockGettime args task shared = gettime_rests now (arg args 0) (arg args 1) task shared
-plain_rests now process plain.ClockNanosleep args task shared = sleep_rests now (arg args 0) (arg args 1) (arg args 2) task shared
 plain_rests now process plain.TimerfdSettime args task shared =
     settime_rests now (arg args 0) (arg args 1) (arg args 2) (arg args 3) task shared

@@ -6,7 +6,7 @@ use Rattle.sim_base.specs.declared.packet.Packet.{Packet}
 use Rattle.host_sockets.specs.declared.error.Refusal.{Refusal}
 use Rattle.host_sockets.specs.Wanted.{Wanted}
 use Rattle.host_sockets.specs.Sockets.{SocketsRecord}
-use Rattle.host_calls.specs.Scene.{Local, or_again}
+use Rattle.host_calls.specs.Scene.{Local}
 use Rattle.host_calls.specs.Parts.{Scene, with_local, plainly}
 use Rattle.host_calls.specs.Calls.{reacts}
 use Rattle.socket_laws.specs.Histories.{left_by}
@@ -37,10 +37,6 @@ module _ (hosts : List Ip) (flying : List Packet) (x : SocketsRecord × Wanted) 
   pub tries : {A B : Type 0} (asked : Result B Refusal) (rest : Result (A × Scene) Refusal) → RowMoves hosts flying x rest → RowMoves hosts flying x (asked >> rest)
   tries (Ok b) rest h = h
   tries (Err why) rest h = refused why
-
-  pub again : {A : Type 0} (nonblocking : Bool) (row : Result (A × Scene) Refusal) → RowMoves hosts flying x row → RowMoves hosts flying x (or_again nonblocking row)
-  again nonblocking (Ok a) h = h
-  again nonblocking (Err why) h = refused _
 
   pub reacting : (row : Result (ℕ × Scene) Refusal) → RowMoves hosts flying x row → RowMoves hosts flying x (reacts row)
   reacting (Ok (value, s)) h = answers _ s (h.moves value s refl)

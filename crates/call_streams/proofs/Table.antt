@@ -1,8 +1,6 @@
 -- the whole table, ends of processes, arrivals and alarms
 use Rattle.std.proofs.Common.{◌≡◌, ℕ, zero, suc, ◌*◌, nat_lt, List, ◌++◌, Contains, Option, Some, None, Result, Ok, Err, refl}
-use Rattle.sim_base.specs.Refusals.{refuse_if}
 use Rattle.sim_base.specs.declared.address.Ip.{Ip}
-use Rattle.sim_base.specs.declared.errno.Errno.TheVariants.{Einval}
 use Rattle.sim_base.specs.declared.object.ObjectId.{ObjectId}
 use Rattle.sim_base.specs.declared.packet.Packet.{Packet}
 use Rattle.sim_base.specs.declared.time.Time.{Time}
@@ -22,23 +20,25 @@ use Rattle.host_calls.specs.declared.call.NetworkCall.{NetworkCall}
 use Rattle.host_calls.specs.declared.call.NetworkCall.TheVariants as network
 use Rattle.host_calls.specs.declared.descriptors.Descriptor.{Descriptor}
 use Rattle.host_calls.specs.declared.parts.Known.{Known}
+use Rattle.host_calls.specs.declared.plan.Plan.{Plan}
+use Rattle.host_calls.specs.declared.plan.Plan.TheVariants as plan
+use Rattle.host_calls.specs.declared.polling.PollPlan.{PollPlan}
 use Rattle.host_calls.specs.declared.parts.Reaction.{Reaction}
 use Rattle.host_calls.specs.declared.parts.Reaction.TheVariants.{Value, Waits}
 use Rattle.host_calls.specs.declared.parts.Shared.{Shared}
 use Rattle.host_calls.specs.declared.parts.Task.{Task}
 use Rattle.host_calls.specs.declared.parts.Why.{Why}
-use Rattle.host_calls.specs.declared.sockets.SocketNumber.{SocketNumber}
 use Rattle.host_calls.specs.Call.{call_of}
 use Rattle.host_calls.specs.Closing.{ends, closes, close, closed_by, closed_one, closed_below}
 use Rattle.host_calls.specs.Descriptors.{descriptor}
 use Rattle.host_calls.specs.Events.{arrives, timer_number, rung, alarmed, ended_by, ended}
 use Rattle.host_calls.specs.Parts.{PartsRecord, Place, place_in, Scene, local_of, plainly}
 use Rattle.host_calls.specs.Files.{reads, writes}
-use Rattle.host_calls.specs.Sockets.{socket_number, socket, bind, listen, accept, getsockname, getpeername, sendto, recvfrom, getsockopt, shutdown}
+use Rattle.host_calls.specs.Sockets.{socket, bind, listen, accepts, getsockname, getpeername, sends_by, receives, getsockopt, shutdown}
 use Rattle.host_calls.specs.Starting.{task_starts}
 use Rattle.host_calls.specs.Times.{first_timer, timer_object, at_nanos, rings_at, next_ring}
-use Rattle.host_calls.specs.Polling.{entry_size, max_entries, poll_entries, poll_found, polled, ppoll}
-use Rattle.host_calls.specs.Calls.{arg, message_of, room_of, plain_row, network_row, open_by, read_by, read, write_by, write, row, row_of, deadline_object, with_alarm, blocks_by, blocked, all_ended, cleared, answered, scene_at, call_by, call}
+use Rattle.host_calls.specs.Polling.{entry_size, poll_entries, polled, polls}
+use Rattle.host_calls.specs.Calls.{arg, plain_row, network_row, asked, done, row, row_of, deadline_object, with_alarm, blocks_by, blocked, all_ended, cleared, answered, scene_at, call_by, call}
 use Rattle.host_files.specs.Files.{timer_at}
 use Rattle.socket_laws.specs.Histories.{SocketsAct as act}
 use Rattle.socket_streams.specs.Records.{packets_of}
@@ -47,8 +47,8 @@ use Rattle.socket_streams.proofs.Moving.{moves_none, moves_by, moves_both, moves
 use Rattle.socket_streams.proofs.Wants.{alarm-packets}
 use Rattle.call_streams.specs.Parts.{sockets_in}
 use Rattle.call_streams.proofs.PlainRows.{plain_rests, reads_rest, writes_rest}
-use Rattle.call_streams.proofs.Rows.{sockets_at, RowMoves, answers, refused, asks, tries, reacting, plain_moves}
-use Rattle.call_streams.proofs.NetworkRows.{socket_moves, bind_moves, listen_moves, accept_moves, connect_moves, getsockname_moves, getpeername_moves, send_moves, sendto_moves, recv_moves, recvfrom_moves, getsockopt_moves, shutdown_moves}
+use Rattle.call_streams.proofs.Rows.{sockets_at, RowMoves, answers, refused, asks, reacting, plain_moves}
+use Rattle.call_streams.proofs.NetworkRows.{socket_moves, bind_moves, listen_moves, accept_moves, connect_moves, getsockname_moves, getpeername_moves, send_moves, recv_moves, getsockopt_moves, shutdown_moves}
 
 module _ (hosts : List Ip) (flying : List Packet) where
   abbrev M : SocketsRecord × Wanted → SocketsRecord × Wanted → Type 0
@@ -63,6 +63,7 @@ module _ (hosts : List Ip) (flying : List Packet) where
   ends_move now (kind.ReadEnd k) shared t = moves_none hosts flying (t, shared.outlet)
   ends_move now (kind.WriteEnd k) shared t = moves_none hosts flying (t, shared.outlet)
   ends_move now (kind.Timer k) shared t = moves_none hosts flying (t, shared.outlet)
+  ends_move now (kind.Eventfd k) shared t = moves_none hosts flying (t, shared.outlet)
   ends_move now (kind.Udp k) shared t = moves_by hosts flying now (act.close_udp k) t shared.outlet tt
   ends_move now (kind.Tcp k) shared t = moves_by hosts flying now (act.close_tcp k) t shared.outlet tt
 
@@ -114,12 +115,10 @@ module _ (hosts : List Ip) (flying : List Packet) where
   answered_move now process number args (Err (refusal.End state)) before h = all_ended_move now before
 
   -- ppoll(2)
-  ppoll_moves : (now : Time) (at count limit_at : ℕ) (s : Scene) → RowMoves hosts flying (sockets_at s) (ppoll now at count limit_at s)
-  ppoll_moves now at count limit_at s =
-      tries hosts flying (sockets_at s) (refuse_if (nat_lt max_entries count) (refusal.Errno Einval)) _
-      (asks hosts flying (sockets_at s) (poll_entries at (entry_size * count) s.task.memory) _
-      (λ entries e. asks hosts flying (sockets_at s) (poll_found now count limit_at entries s) (λ found. Ok (found, polled now at count entries s))
-      (λ found k. answers hosts flying (sockets_at s) found (polled now at count entries s) (moves_none hosts flying (sockets_at s)))))
+  polls_move : (now : Time) (p : PollPlan) (s : Scene) → RowMoves hosts flying (sockets_at s) (polls now p s)
+  polls_move now p s =
+      asks hosts flying (sockets_at s) (poll_entries p.at (entry_size * p.count) s.task.memory) (λ entries. Ok (p.found, polled now p.at p.count entries s))
+      (λ entries e. answers hosts flying (sockets_at s) p.found (polled now p.at p.count entries s) (moves_none hosts flying (sockets_at s)))
 
   -- an end of a process
   ended_move_by : (now : Time) (o : Option Task) (p : Place) → M (p.sockets, p.shared.outlet) ((ended_by now o p).sockets, (ended_by now o p).shared.outlet)
@@ -159,23 +158,20 @@ module _ (known : Known) (flying : List Packet) where
   abbrev R : {A : Type 0} → Scene → Result (A × Scene) Refusal → Type 0
   R s r = RowMoves known.book flying (sockets_at s) r
 
-  read_moves_by : (now : Time) (d : Descriptor) (o : Result SocketNumber Refusal) (at n : ℕ) (s : Scene) → R s (read_by known now d o at n s)
-  read_moves_by now d (Ok socket) at n s = recv_moves known.book flying now (open_by d socket) 0 (room_of at n 0 0) s
-  read_moves_by now d (Err why) at n s = plain_moves known.book flying s (reads known.hosts now d at n (local_of s)) (reads_rest known.hosts now d at n s.task s.shared)
-
-  read_moves : (now : Time) (fd at n : ℕ) (s : Scene) → R s (read known now fd at n s)
-  read_moves now fd at n s =
-      asks known.book flying (sockets_at s) (descriptor fd s.task s.shared.files) _
-      (λ d e. read_moves_by now d (socket_number d.file.object) at n s)
-
-  write_moves_by : (now : Time) (process : ℕ) (d : Descriptor) (o : Result SocketNumber Refusal) (at n : ℕ) (s : Scene) → R s (write_by known now process d o at n s)
-  write_moves_by now process d (Ok socket) at n s = send_moves known.book flying now (open_by d socket) 0 (message_of at n 0 0) s
-  write_moves_by now process d (Err why) at n s = plain_moves known.book flying s (writes process d at n (local_of s)) (writes_rest process d at n s.task s.shared)
-
-  write_moves : (now : Time) (process fd at n : ℕ) (s : Scene) → R s (write known now process fd at n s)
-  write_moves now process fd at n s =
-      asks known.book flying (sockets_at s) (descriptor fd s.task s.shared.files) _
-      (λ d e. write_moves_by now process d (socket_number d.file.object) at n s)
+  -- what is done that was asked
+  done_moves : (now : Time) (process : ℕ) (p : Plan) (s : Scene) → R s (done known now process p s)
+  done_moves now process (plan.Read t) s =
+      let r = reads known.hosts now t (local_of s) in
+      reacting known.book flying (sockets_at s) (plainly r s) (plain_moves known.book flying s r (reads_rest known.hosts now t s.task s.shared))
+  done_moves now process (plan.Write t) s =
+      let r = writes process t (local_of s) in
+      reacting known.book flying (sockets_at s) (plainly r s) (plain_moves known.book flying s r (writes_rest process t s.task s.shared))
+  done_moves now process (plan.Accept a) s = reacting known.book flying (sockets_at s) (accepts a s) (accept_moves known.book flying a s)
+  done_moves now process (plan.Connect c) s = connect_moves known.book flying now c s
+  done_moves now process (plan.Send m) s = reacting known.book flying (sockets_at s) (sends_by known.book now m s) (send_moves known.book flying now m s)
+  done_moves now process (plan.Receive r) s = reacting known.book flying (sockets_at s) (receives now r s) (recv_moves known.book flying now r s)
+  done_moves now process plan.Sleep s = answers known.book flying (sockets_at s) _ _ (moves_none known.book flying (sockets_at s))
+  done_moves now process (plan.Poll p) s = reacting known.book flying (sockets_at s) (polls now p s) (polls_move known.book flying now p s)
 
   network_moves : (now : Time) (call : NetworkCall) (args : List ℕ) (s : Scene) → R s (network_row known now call args s)
   network_moves now network.Socket args s =
@@ -184,19 +180,10 @@ module _ (known : Known) (flying : List Packet) where
       reacting known.book flying (sockets_at s) (bind known.book (arg args 0) (arg args 1) (arg args 2) s) (bind_moves known.book flying (arg args 0) (arg args 1) (arg args 2) s)
   network_moves now network.Listen args s =
       reacting known.book flying (sockets_at s) (listen (arg args 0) (arg args 1) s) (listen_moves known.book flying (arg args 0) (arg args 1) s)
-  network_moves now network.Accept args s =
-      reacting known.book flying (sockets_at s) (accept (arg args 0) (arg args 1) (arg args 2) s) (accept_moves known.book flying (arg args 0) (arg args 1) (arg args 2) s)
-  network_moves now network.Connect args s = connect_moves known.book flying now (arg args 0) (arg args 1) (arg args 2) s
   network_moves now network.Getsockname args s =
       reacting known.book flying (sockets_at s) (getsockname (arg args 0) (arg args 1) (arg args 2) s) (getsockname_moves known.book flying (arg args 0) (arg args 1) (arg args 2) s)
   network_moves now network.Getpeername args s =
       reacting known.book flying (sockets_at s) (getpeername (arg args 0) (arg args 1) (arg args 2) s) (getpeername_moves known.book flying (arg args 0) (arg args 1) (arg args 2) s)
-  network_moves now network.Sendto args s =
-      let message = message_of (arg args 1) (arg args 2) (arg args 4) (arg args 5) in
-      reacting known.book flying (sockets_at s) (sendto known.book now (arg args 0) (arg args 3) message s) (sendto_moves known.book flying now (arg args 0) (arg args 3) message s)
-  network_moves now network.Recvfrom args s =
-      let room = room_of (arg args 1) (arg args 2) (arg args 4) (arg args 5) in
-      reacting known.book flying (sockets_at s) (recvfrom now (arg args 0) (arg args 3) room s) (recvfrom_moves known.book flying now (arg args 0) (arg args 3) room s)
   network_moves now network.Getsockopt args s =
       reacting known.book flying (sockets_at s) (getsockopt now (arg args 0) (arg args 1) (arg args 2) (arg args 3) (arg args 4) s) (getsockopt_moves known.book flying now (arg args 0) (arg args 1) (arg args 2) (arg args 3) (arg args 4) s)
   network_moves now network.Shutdown args s =
@@ -207,14 +194,10 @@ module _ (known : Known) (flying : List Packet) where
       reacting known.book flying (sockets_at s) (plainly (plain_row now process p args (local_of s)) s)
       (plain_moves known.book flying s (plain_row now process p args (local_of s)) (plain_rests now process p args s.task s.shared))
   row_moves now process (system_call.Network n) args s = network_moves now n args s
+  row_moves now process (system_call.Waiting w) args s =
+      asks known.book flying (sockets_at s) (asked known now w args s) _ (λ p e. done_moves now process p s)
   row_moves now process system_call.Close args s =
       reacting known.book flying (sockets_at s) (close now (arg args 0) s) (close_moves known.book flying now (arg args 0) s)
-  row_moves now process system_call.Read args s =
-      reacting known.book flying (sockets_at s) (read known now (arg args 0) (arg args 1) (arg args 2) s) (read_moves now (arg args 0) (arg args 1) (arg args 2) s)
-  row_moves now process system_call.Write args s =
-      reacting known.book flying (sockets_at s) (write known now process (arg args 0) (arg args 1) (arg args 2) s) (write_moves now process (arg args 0) (arg args 1) (arg args 2) s)
-  row_moves now process system_call.Ppoll args s =
-      reacting known.book flying (sockets_at s) (ppoll now (arg args 0) (arg args 1) (arg args 2) s) (ppoll_moves known.book flying now (arg args 0) (arg args 1) (arg args 2) s)
   row_moves now process system_call.Exit args s = refused known.book flying (sockets_at s) _
 
   row_of_moves : (now : Time) (process : ℕ) (o : Option Call) (args : List ℕ) (s : Scene) → R s (row_of known now process o args s)

@@ -1,6 +1,6 @@
 -- the sockets of every host of a run have a history
 use Rattle.std.proofs.Common.{◌≡◌, ℕ, ◌≤◌, ◌||◌, true, false, List, Some, slice_get, Ok, sym, ap, subst, ◌∙◌}
-use Rattle.sim_base.specs.Addresses.{loopback, is_same_ip, is_local}
+use Rattle.sim_base.specs.Addresses.{loopback, is_same_ip}
 use Rattle.sim_base.specs.declared.address.Ip.{Ip}
 use Rattle.sim_base.specs.declared.address.Addr.{Addr}
 use Rattle.sim_base.specs.declared.time.Time.{Time}
@@ -17,7 +17,7 @@ use Rattle.host_state.specs.declared.row.Row.{Row}
 use Rattle.host_state.specs.HostRecord.{HostRecord}
 use Rattle.host_state.specs.World.{World, IsResult, opening_world}
 use Rattle.world_order.specs.World as order
-use Rattle.socket_laws.specs.Apart.{BoundApart}
+use Rattle.socket_laws.specs.Apart.{BoundApart, BoundHere}
 use Rattle.socket_laws.specs.Histories.{SocketsAct, sockets_of}
 use Rattle.socket_laws.specs.Pairs.{live_records}
 use Rattle.socket_laws.proofs.ApartActs.{bound_apart}
@@ -25,9 +25,7 @@ use Rattle.socket_laws.proofs.ApartTakers.{one_takes}
 use Rattle.socket_laws.proofs.HistoryKeeps.{history_rests}
 use Rattle.socket_laws.proofs.HistoryPairs.{history_single}
 use Rattle.socket_laws.proofs.ListenActs.{one_listens}
-use Rattle.socket_laws.proofs.SourceEnds.{connect_source, connect_to}
-use Rattle.socket_streams.specs.May.{ArePlain}
-use Rattle.socket_streams.proofs.Rows.{used_here}
+use Rattle.socket_laws.proofs.HereActs.{history_here, history_connects}
 use Rattle.run_streams.specs.Run.{IsReached, HasHistory}
 use Rattle.run_streams.specs.Run.IsReached.{turns}
 use Rattle.run_streams.proofs.Worlds.{IsKnown, run_led}
@@ -76,19 +74,13 @@ module _ (net : Net) (rows : List Row) (w : World) (i : ℕ) (h : HostRecord) (r
       after_all (λ t. accepts_at k t ≡ Some (r, rest) → r.control.timer ≡ false)
       (λ draws acts a. history_rests net.known.book here draws acts k r rest a) e
 
-  -- what its sockets are bound to is an address of the host
-  plain : ArePlain here h.parts.sockets
-  plain = subst (λ (own : Ip). ArePlain own h.parts.sockets) (sym known.good.address) known.good.plain
-
-  pub local : (k : ℕ) (s : TcpSocket) (end : Addr) → slice_get h.parts.sockets.tcp k ≡ Some s → s.bound ≡ Some end → is_local here end.ip ≡ true
-  local k s end there bound = (plain.sockets k s there).here end bound
+  pub local : BoundHere here h.parts.sockets
+  local = after_all (BoundHere here) (λ draws acts. history_here net.known.book here draws acts)
 
   pub connects : (k : ℕ) (to own : Addr) → connect_asked net.known.book k to h.parts.sockets ≡ Ok own → is_same_ip to.ip loopback ≡ true → (is_same_ip own.ip loopback || is_same_ip own.ip here) ≡ true
   connects k to own e inside =
-      let t = h.parts.sockets in
-      let source = connect_source net.known.book k to own t e in
-      let used : is_local t.own source.0.ip ≡ true = ap (λ (ip : Ip). is_local ip source.0.ip) plain.host ∙ used_here here k t source.0 plain source.1.0 in
-      subst (λ (ip : Ip). (is_same_ip own.ip loopback || is_same_ip own.ip ip) ≡ true) plain.host (connect_to net.known.book k to own source.0 t e source.1.0 used inside)
+      after_all (λ t. connect_asked net.known.book k to t ≡ Ok own → (is_same_ip own.ip loopback || is_same_ip own.ip here) ≡ true)
+      (λ draws acts a. history_connects net.known.book here draws acts k to own a inside) e
 
 -- the result of a run is reached
 pub result_reached : (net : Net) (first result w : World) → IsReached net first w → IsResult net result w → IsReached net first result

@@ -2,7 +2,7 @@
 #![tactic(auto)]
 
 ghost use Rattle.std.specs.Prelude.{◌≡◌, ℕ, ◌≤◌, ◌||◌, List, Ok, Some, true, false, slice_get};
-ghost use Rattle.sim_base.specs.Addresses.{loopback, is_same_ip, is_local};
+ghost use Rattle.sim_base.specs.Addresses.{loopback, is_same_ip};
 ghost use Rattle.sim_base.specs.declared.address.Addr.{Addr};
 ghost use Rattle.sock_udp.specs.Socket.{UdpState, takes};
 ghost use Rattle.sock_tcp.specs.connection.Tcb.{Tcb};
@@ -16,7 +16,7 @@ ghost use Rattle.host_state.specs.declared.net.Net.{Net};
 ghost use Rattle.host_state.specs.declared.row.Row.{Row};
 ghost use Rattle.host_state.specs.HostRecord.{HostRecord};
 ghost use Rattle.host_state.specs.World.{World, IsResult, opening_world};
-ghost use Rattle.socket_laws.specs.Apart.{BoundApart};
+ghost use Rattle.socket_laws.specs.Apart.{BoundApart, BoundHere};
 ghost use Rattle.socket_laws.specs.Pairs.{live_records};
 ghost use Rattle.run_streams.specs.Nets.{host_records, world_records};
 ghost use Rattle.run_streams.specs.Run.{IsReached, HasHistory, AreOutside, ArePlaced};
@@ -58,9 +58,7 @@ pub fn hosts_sockets()
         → IsReached net (opening_world rows) w → slice_get w.hosts i ≡ Some h
         → (k : ℕ) (r : Tcb) (rest : Listen) → accepts_at k h.parts.sockets ≡ Some (r, rest) → r.control.timer ≡ false }
     ensures local { (net : Net) (rows : List Row) (w : World) (i : ℕ) (h : HostRecord)
-        → IsReached net (opening_world rows) w → slice_get w.hosts i ≡ Some h
-        → (k : ℕ) (s : TcpSocket) (end : Addr) → slice_get h.parts.sockets.tcp k ≡ Some s → s.bound ≡ Some end
-        → is_local h.row.address end.ip ≡ true }
+        → IsReached net (opening_world rows) w → slice_get w.hosts i ≡ Some h → BoundHere h.row.address h.parts.sockets }
     ensures loopback { (net : Net) (rows : List Row) (w : World) (i : ℕ) (h : HostRecord)
         → IsReached net (opening_world rows) w → slice_get w.hosts i ≡ Some h
         → (k : ℕ) (to own : Addr) → connect_asked net.known.book k to h.parts.sockets ≡ Ok own → is_same_ip to.ip loopback ≡ true

@@ -1,19 +1,19 @@
 -- each call on sockets, arrival and alarm
-use Rattle.std.proofs.Common.{◌≡◌, inl, inr, ⊎_elim, ℕ, ℤ, ◌%◌, ◌^◌, ◌==◌, ◌||◌, not, Bool, true, false, List, [], ◌∷◌, ◌++◌, length, Contains, Option, Some, None, is_some, option_map, Result, Ok, Err, slice_get, set, flat_map, refl, sym, ap, subst, ◌∙◌, arith}
+use Rattle.std.proofs.Common.{◌≡◌, inl, inr, ⊎_elim, ℕ, ℤ, ◌%◌, ◌^◌, ◌||◌, Bool, true, false, List, [], ◌∷◌, ◌++◌, length, Contains, Option, Some, None, is_some, Result, Ok, Err, slice_get, set, flat_map, refl, sym, ap, subst, ◌∙◌, arith}
 use Rattle.std.specs.List.{position}
 use Rattle.std.specs.List.Sorted.{IsPermutation}
 use Rattle.std.proofs.lemmas.List.Sorted.{IsPermutation-refl, IsPermutation-sym, IsPermutation-cons, IsPermutation-trans, IsPermutation-append_left}
-use Rattle.sim_base.specs.Addresses.{any, loopback, is_same_ip, is_local, with_port, at_free_port, at_port, least_free_port, is_taken}
+use Rattle.sim_base.specs.Addresses.{loopback, is_same_ip, is_local}
 use Rattle.sim_base.specs.Refusals.{◌>>=◌, ◌>>◌, refuse_if, or_refuse}
 use Rattle.sim_base.specs.declared.address.Ip.{Ip}
 use Rattle.sim_base.specs.declared.address.Addr.{Addr}
-use Rattle.sim_base.specs.declared.errno.Errno.TheVariants.{Ealready, Einval, Eisconn, Eaddrnotavail, Eaddrinuse}
+use Rattle.sim_base.specs.declared.errno.Errno.TheVariants.{Ealready, Eisconn}
 use Rattle.sim_base.specs.declared.object.ObjectId.{ObjectId}
 use Rattle.sim_base.specs.declared.packet.Load.{Load}
 use Rattle.sim_base.specs.declared.packet.Load.TheVariants.{Udp, Tcp}
 use Rattle.sim_base.specs.declared.packet.Packet.{Packet}
 use Rattle.sim_base.specs.declared.time.Time.{Time}
-use Rattle.sock_udp.specs.Socket.{UdpState, or_else}
+use Rattle.sock_udp.specs.Socket.{UdpState}
 use Rattle.sock_tcp.specs.declared.connection.effects.Shut.{Shut}
 use Rattle.sock_tcp.specs.segment.Refusal.{refusal_of}
 use Rattle.sock_tcp.specs.segment.State.{is_syn_sent}
@@ -22,7 +22,6 @@ use Rattle.sock_tcp.specs.connection.Tcb.{Tcb, changed}
 use Rattle.sock_tcp.specs.connection.Process.{shuts, error_taken}
 use Rattle.sock_tcp.specs.listener.Listen.{Listen, fresh_listen}
 use Rattle.tcp_laws.specs.Acts.Act.{write, read, flow, shut, error_read}
-use Rattle.tcp_laws.proofs.Tests.{by_test}
 use Rattle.tcp_streams.specs.Net.{IsVoid}
 use Rattle.tcp_streams.proofs.Members.{IsIn-from_Contains}
 use Rattle.tcp_streams.proofs.Voids.{refusal_void}
@@ -31,10 +30,10 @@ use Rattle.host_sockets.specs.declared.error.Refusal.TheVariants as refusal
 use Rattle.host_sockets.specs.Refusals.{stop_kept}
 use Rattle.host_sockets.specs.Wanted.{Wanted, sends, draws_word}
 use Rattle.host_sockets.specs.TcpSocket.{TcpSocket, fresh, with_bound, has_record}
-use Rattle.host_sockets.specs.Sockets.{SocketsRecord, changes_in, changes_at, put_tcp, tcp_ends, bound_ends}
+use Rattle.host_sockets.specs.Sockets.{SocketsRecord, changes_in, changes_at, put_tcp}
 use Rattle.host_sockets.specs.TcpActs.{acts_at, record_acts}
 use Rattle.host_sockets.specs.Udp.{with_slot, acted_udp}
-use Rattle.host_sockets.specs.Binding.{bind_begins, bind_begun, bind_asked, binds_tcp, end_to_use, bound_to_use, listen_to, listening, listen_begun, listen_asked, listens_tcp}
+use Rattle.host_sockets.specs.Binding.{bind_asked, binds_tcp, bound_to_use, listen_to, listening, listen_begun, listen_asked, listens_tcp}
 use Rattle.host_sockets.specs.Accepting.{accept_asked, accepts_in, accepts_of, accepts_at, given_up, accepted, placed, accepts_tcp}
 use Rattle.host_sockets.specs.Connecting.{connect_error, refuse_connected, connect_begins, connect_begun, connect_asked, opens, connects, error_takes, connect_waited, without_change, connects_taking, connect_answers}
 use Rattle.host_sockets.specs.Moving.{send_asked, takes_written, sends_taking, recv_asked, gives_read, receives_taking, may_shut, shuts_tcp}
@@ -44,8 +43,9 @@ use Rattle.host_sockets.specs.Arriving.{record_takes, datagram_in, datagram_at, 
 use Rattle.host_sockets.specs.Alarms.{socket_expires, place_of, alarm_comes}
 use Rattle.socket_laws.specs.Histories.{left_by}
 use Rattle.socket_laws.proofs.LivePairs.{left_asked, left_after, left_told, Taken, taken_row, after_ok, change_ok, left_opens}
-use Rattle.socket_laws.proofs.SourceEnds.{first_ok, next_ok, bound_is, connect_source, connect_from, connect_to}
-use Rattle.socket_laws.proofs.ApartTcp.{bind_ok, then_ok}
+use Rattle.socket_laws.proofs.SourceEnds.{first_ok, next_ok, connect_source, connect_from, connect_to}
+use Rattle.socket_laws.proofs.ApartTcp.{then_ok}
+use Rattle.socket_laws.proofs.HereActs.{IsBoundHere, used_here, bound_here}
 use Rattle.socket_laws.proofs.Sums.{position_holds}
 use Rattle.socket_streams.specs.Records.{own_record, kept_records, records_at, records_of, packets_of, net_of}
 use Rattle.socket_streams.specs.Inside.{IsHome, IsInside}
@@ -148,26 +148,16 @@ begun_at hosts to (Some x) s why at e =
     let same : x ≡ s = cc in subst Begins same (connect_fresh hosts to x e)
 
 -- and the ends of its record stay inside
-any_local : (own ip : Ip) → is_same_ip ip any ≡ true → is_local own ip ≡ true
-any_local own ip e = ap (λ (b : Bool). (b || is_same_ip ip loopback) || is_same_ip ip own) e
-
-here_used : (own : Ip) (ends : List Addr) (o : Option Addr) (bound : Addr) → ((at : Addr) → o ≡ Some at → is_local own at.ip ≡ true) → or_refuse (or_else o (at_free_port ends any)) (refusal.Errno Eaddrnotavail) ≡ Ok bound → is_local own bound.ip ≡ true
-here_used own ends o bound here e =
-    ⊎_elim (λ at. here bound at) (λ every. any_local own bound.ip every) (bound_is o ends bound e)
-
-used_at : (own : Ip) (t : SocketsRecord) (o : Option TcpSocket) (why : Refusal) (bound : Addr) → ((s : TcpSocket) → o ≡ Some s → IsPlain own s) → (or_refuse o why >>= λ s. end_to_use t s) ≡ Ok bound → is_local own bound.ip ≡ true
-used_at own t None why bound plain e = cc
-used_at own t (Some s) why bound plain e = here_used own (tcp_ends t) s.bound bound (plain s refl).here e
-
-pub used_here : (own : Ip) (k : ℕ) (t : SocketsRecord) (bound : Addr) → ArePlain own t → bound_to_use k t ≡ Ok bound → is_local own bound.ip ≡ true
-used_here own k t bound plain e = used_at own t (slice_get t.tcp k) _ bound (λ s at. plain.sockets k s at) e
+-- what a socket is bound to is an address of the host
+bound_there : (own : Ip) (k : ℕ) (t : SocketsRecord) → ArePlain own t → (s : TcpSocket) → slice_get t.tcp k ≡ Some s → IsBoundHere own s.bound
+bound_there own k t plain s at = (plain.sockets k s at).here
 
 connect_inside : (own : Ip) (hosts : List Ip) (k : ℕ) (to local : Addr) (t : SocketsRecord) → is_same_ip own loopback ≡ false → ArePlain own t → connect_asked hosts k to t ≡ Ok local → IsInside own local to
 connect_inside own hosts k to local t apart plain e =
     let outside : is_same_ip t.own loopback ≡ false = ap (λ (ip : Ip). is_same_ip ip loopback) plain.host ∙ apart in
     let source = connect_source hosts k to local t e in
     let here : is_local t.own source.0.ip ≡ true =
-    ap (λ (ip : Ip). is_local ip source.0.ip) plain.host ∙ used_here own k t source.0 plain source.1.0 in
+    ap (λ (ip : Ip). is_local ip source.0.ip) plain.host ∙ used_here own k t source.0 (bound_there own k t plain) source.1.0 in
     record {
       from = λ at. ap (λ (b : Bool). b || is_same_ip to.ip own) (connect_from hosts k to local t outside e at);
       to = λ at. subst (λ (ip : Ip). IsHome ip local.ip) plain.host (connect_to hosts k to local source.0 t e source.1.0 here at);
@@ -190,41 +180,6 @@ module _ (scope : Addr → Addr → Bool) (own : Ip) (others : List Tcb) (flying
       let done = left_opens (connect_asked hosts k to t) (λ local. acts_at k (opens now k local to) t w) b left e in
       subst (Goal scope own others flying t w) done.1.1 (opens_reach hosts now k to done.0 t w plain done.1.0))
       (error_reach scope own others flying now k t w plain) (rests_reach scope own others flying t w plain)
-
--- bind(2): what is asked for is an address of the host
-not_not : (b : Bool) → not b ≡ false → b ≡ true
-not_not true e = refl
-not_not false e = cc
-
-local_at : (own : Ip) (at : Addr) (o : Option TcpSocket) (why : Refusal) → (or_refuse o why >>= λ s. bind_begins own at s) ≡ Ok tt → is_local own at.ip ≡ true
-local_at own at None why e = cc
-local_at own at (Some s) why e =
-    not_not (is_local own at.ip) (refused_not (not (is_local own at.ip)) (refusal.Errno Eaddrnotavail) (next_ok (refuse_if (is_some s.bound) (refusal.Errno Einval)) _ tt e))
-
-free_at : (at end : Addr) (o : Option ℕ) (why : Refusal) → or_refuse (option_map (at_port at.ip) o) why ≡ Ok end → end.ip ≡ at.ip
-free_at at end None why e = cc
-free_at at end (Some port) why e =
-    let same : at_port at.ip port ≡ end = cc in ap (λ (x : Addr). x.ip) (sym same)
-
-ported : (ends : List Addr) (at end : Addr) (why : Refusal) → or_refuse (with_port ends at) why ≡ Ok end → end.ip ≡ at.ip
-ported ends at end why =
-    by_test (λ (o : Option Addr). or_refuse o why ≡ Ok end → end.ip ≡ at.ip) (at.port == 0) (at_free_port ends at.ip) (Some at)
-    (λ zero e. free_at at end (least_free_port ends) why e)
-    (λ given e. let same : at ≡ end = cc in ap (λ (x : Addr). x.ip) (sym same))
-
-free_end : (taken : Bool) (why : Refusal) (found end : Addr) → (refuse_if taken why >> Ok found) ≡ Ok end → found ≡ end
-free_end true why found end e = cc
-free_end false why found end e = cc
-
-bound_here : (own : Ip) (k : ℕ) (at end : Addr) (t : SocketsRecord) → t.own ≡ own → bind_asked k at t ≡ Ok end → is_local own end.ip ≡ true
-bound_here own k at end t host e =
-    let here = local_at t.own at (slice_get t.tcp k) _ (first_ok (bind_begun k at t) _ end e) in
-    let found = bind_ok (or_refuse (with_port (tcp_ends t) at) (refusal.Errno Eaddrnotavail)) (λ (x : Addr). refuse_if (is_taken (bound_ends t) x) (refusal.Errno Eaddrinuse) >> Ok x) end (then_ok (bind_begun k at t) _ end e) in
-    let same = free_end (is_taken (bound_ends t) found.0) (refusal.Errno Eaddrinuse) found.0 end found.1.1 in
-    let ip = ported (tcp_ends t) at found.0 (refusal.Errno Eaddrnotavail) found.1.0 in
-    subst (λ (x : Ip). is_local x end.ip ≡ true) host
-    (subst (λ (x : Addr). is_local t.own x.ip ≡ true) same
-    (subst (λ (x : Ip). is_local t.own x ≡ true) (sym ip) here))
 
 -- listen(2): what listens has no record
 unconnected : (o : Option TcpSocket) (s : TcpSocket) (why other : Refusal) → o ≡ Some s → (or_refuse o why >>= λ x. refuse_if (is_some x.tcb) other) ≡ Ok tt → s.tcb ≡ None
@@ -299,7 +254,7 @@ module _ (scope : Addr → Addr → Bool) (own : Ip) (others : List Tcb) (flying
       left_asked (λ (x : SocketsRecord). Reaches scope own others flying (t, w) (x, w)) (listen_asked k t) (λ at. (tt, changes_at k (listening at n) t)) t
       (λ at e.
       let used = then_ok (listen_begun k t) (bound_to_use k t) at e in
-      let local = used_here own k t at plain used in
+      let local = used_here own k t at (bound_there own k t plain) used in
       changes_reach scope own others flying k (listening at n) t w plain
       (λ s there here.
       let none = unconnected (slice_get t.tcp k) s _ _ there (first_ok (listen_begun k t) _ at e) in (

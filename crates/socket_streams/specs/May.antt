@@ -1,5 +1,5 @@
 -- what may happen at a host's sockets, and what they are then
-use Rattle.std.specs.Prelude.{◌≡◌, ◌⊎◌, ℕ, true, false, List, [], ◌∷◌, ◌++◌, Contains, slice_get, Option, Some, None}
+use Rattle.std.specs.Prelude.{◌≡◌, ◌⊎◌, ℕ, true, List, [], ◌∷◌, ◌++◌, Contains, slice_get, Option, Some, None}
 use Rattle.sim_base.specs.Addresses.{is_local}
 use Rattle.sim_base.specs.declared.address.Ip.{Ip}
 use Rattle.sim_base.specs.declared.address.Addr.{Addr}
