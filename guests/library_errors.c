@@ -1,11 +1,16 @@
 /* Error numbers and their texts, and functions whose call the machine doesn't have. */
+#include <dirent.h>
 #include <errno.h>
 #include <fcntl.h>
+#include <net/if.h>
 #include <signal.h>
+#include <spawn.h>
 #include <stdio.h>
 #include <string.h>
+#include <sys/mman.h>
 #include <sys/socket.h>
 #include <sys/stat.h>
+#include <sys/utsname.h>
 #include <sys/wait.h>
 #include <unistd.h>
 
@@ -46,6 +51,7 @@ static void refused(void)
 static void without_a_call(void)
 {
     struct stat about;
+    struct utsname names;
     int status;
 
     tell("fork", fork());
@@ -60,6 +66,11 @@ static void without_a_call(void)
     tell("alarm", (long)(int)alarm(1));
     tell("socketpair", socketpair(AF_UNIX, SOCK_STREAM, 0, (int[2]){0}));
     tell("kill", kill(1, SIGTERM));
+    tell("mmap", (long)mmap(NULL, 4096, PROT_READ, MAP_PRIVATE | MAP_ANONYMOUS, -1, 0));
+    tell("opendir", opendir("/") != NULL);
+    tell("uname", uname(&names));
+    tell("if_nametoindex", (long)if_nametoindex("lo"));
+    tell("posix_spawn", posix_spawn(NULL, "/bin/true", NULL, NULL, NULL, NULL));
 }
 
 int main(void)

@@ -29,6 +29,8 @@ static void texts(void)
     printf("%s\n", inet_ntop(AF_INET, bytes, text, 11));
     printf("%d ", inet_pton(AF_INET6, "::1", bytes));
     printf("%s\n", strerror(errno));
+    printf("%d%d%d%d\n", !!IN6_IS_ADDR_UNSPECIFIED(&in6addr_any), !!IN6_IS_ADDR_LOOPBACK(&in6addr_loopback),
+           !!IN6_IS_ADDR_LOOPBACK(&in6addr_any), !!IN6_IS_ADDR_V4MAPPED(&in6addr_any));
     printf("%04x %08x\n", ntohs(htons(0x1234)), (unsigned)ntohl(htonl(0x12345678)));
 }
 

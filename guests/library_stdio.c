@@ -96,19 +96,26 @@ static void small_blocks(void)
 static void streams(void)
 {
     int ends[2];
-    char line[32];
+    char line[32], *whole = NULL;
+    size_t room;
     FILE *in, *out;
 
     printf("%d %d\n", getchar() == EOF, feof(stdin) != 0);
     pipe(ends);
     in = fdopen(ends[0], "r");
     out = fdopen(ends[1], "w");
-    fprintf(out, "one %d\ntwo", 1);
+    fprintf(out, "one %d\n%0200d\nlast\ntwo", 1, 7);
     fclose(out);
     printf("%s", fgets(line, sizeof line, in));
+    printf("%d ", (int)getline(&whole, &room, in));
+    printf("%d %s", (int)getline(&whole, &room, in), whole);
     printf("%s\n", fgets(line, sizeof line, in));
-    printf("%d\n", fgets(line, sizeof line, in) == NULL);
+    printf("%d ", fgets(line, sizeof line, in) == NULL);
+    printf("%d\n", (int)getline(&whole, &room, in));
+    free(whole);
     fclose(in);
+    fflush(stdout);
+    printf("%d\n", dprintf(1, "%s %d\n", "dprintf", 42));
     printf("%d ", fopen("/there/is/none", "r") == NULL);
     printf("%s\n", strerror(errno));
     fprintf(stderr, "an error ");

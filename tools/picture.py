@@ -24,7 +24,7 @@ def plots():
     try:
         import matplotlib
     except ImportError:
-        raise Fault("matplotlib isn't there (Debian: python3-matplotlib)") from None
+        raise Fault(f"{sys.executable} has no matplotlib (Debian: python3-matplotlib, for /usr/bin/python3)") from None
     matplotlib.use("Agg")
     # the same picture has the same bytes
     matplotlib.rcParams.update({"svg.hashsalt": "shadow", "font.size": 9, "axes.grid": True, "grid.alpha": 0.3,

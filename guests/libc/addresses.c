@@ -1,10 +1,13 @@
 /* Addresses as texts. */
 #include <arpa/inet.h>
 #include <errno.h>
+#include <netinet/in.h>
 #include <stdio.h>
 #include <stdlib.h>
 #include <string.h>
 #include <sys/socket.h>
+
+const struct in6_addr in6addr_any = IN6ADDR_ANY_INIT, in6addr_loopback = IN6ADDR_LOOPBACK_INIT;
 
 /* a decimal number of at most three digits up to 255, without a zero before it, and the place behind it; or null */
 static const char *byte_of(const char *text, unsigned char *byte)

@@ -1,6 +1,9 @@
 /* The three streams that are there at the start. Standard output and errors go out line by line, a call a line, so that
  * what a process wrote is there also where it never ends. */
+#include <stdarg.h>
 #include <stdio-bufio.h>
+#include <stdio.h>
+#include <stdlib.h>
 #include <unistd.h>
 
 #define ROOM 1024
@@ -28,6 +31,60 @@ char *fgets(char *restrict line, int size, FILE *restrict stream)
         return NULL;
     line[used] = 0;
     return line;
+}
+
+/* a line with its end, in memory that grows with it */
+ssize_t getdelim(char **line, size_t *room, int end, FILE *stream)
+{
+    size_t used = 0;
+    int byte = EOF;
+
+    if (!*line)
+        *room = 0;
+    do {
+        if (used + 1 >= *room) {
+            size_t wider = *room < 64 ? 128 : *room * 2;
+            char *moved = realloc(*line, wider);
+
+            if (!moved)
+                return -1;
+            *line = moved;
+            *room = wider;
+        }
+        byte = getc(stream);
+        if (byte != EOF)
+            (*line)[used++] = (char)byte;
+    } while (byte != EOF && byte != end);
+    (*line)[used] = 0;
+    return used > 0 ? (ssize_t)used : -1;
+}
+
+ssize_t getline(char **line, size_t *room, FILE *stream)
+{
+    return getdelim(line, room, '\n', stream);
+}
+
+int vdprintf(int fd, const char *format, va_list rest)
+{
+    char *text;
+    int size = vasprintf(&text, format, rest), written;
+
+    if (size < 0)
+        return -1;
+    written = (int)write(fd, text, (size_t)size);
+    free(text);
+    return written;
+}
+
+int dprintf(int fd, const char *format, ...)
+{
+    va_list rest;
+    int written;
+
+    va_start(rest, format);
+    written = vdprintf(fd, format, rest);
+    va_end(rest);
+    return written;
 }
 
 /* the last of all destructors */

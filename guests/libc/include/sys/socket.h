@@ -8,6 +8,8 @@
 #include <sys/uio.h>
 
 typedef uint32_t socklen_t;
+/* glibc's sign of it, which programs look for */
+#define __socklen_t_defined
 typedef uint16_t sa_family_t;
 
 #define AF_UNSPEC 0
