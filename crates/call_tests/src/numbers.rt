@@ -191,9 +191,17 @@ fn a_timer_tells_its_expiries(rt: HostRuntime) -> Result<(), Fail> {
         sets(&mut files, *set, *first, *interval);
         assert_eq!(rt; kept(&files, 1), Some((1, 9, *interval)));
         let told = expiries(&files, *now);
-        assert_eq!(rt; told, Some((*count, *count, *due)), "{set} {first} {interval} {now}");
+        assert_eq!(rt;
+            told,
+            Some((*count, *count, *due)),
+            "{set} {first} {interval} {now}"
+        );
         let reads = (takes(&mut files, 1, *now), takes(&mut files, 1, *now));
-        assert_eq!(rt; reads, (Some(*count), Some(0)), "{set} {first} {interval} {now}");
+        assert_eq!(rt;
+            reads,
+            (Some(*count), Some(0)),
+            "{set} {first} {interval} {now}"
+        );
     }
     sets(&mut files, 10, 20, 5);
     for (now, count) in &READS {

@@ -46,22 +46,25 @@ fn config_word<'a>(alloc: Global) -> Arg<'a>
 fn command<'a>(alloc: Global) -> Result<Command<'a>, AllocError>
     ensures { IfOk result (λ c. app_of c ≡ shadow_command) }
 {
+    // Each is made where it is taken, so that no other one is held where memory lacks.
     let seed = option(alloc, "seed");
-    let parallelism = short_option(alloc, 'p', "parallelism");
-    let data_directory = short_option(alloc, 'd', "data-directory");
-    let stop_time = option(alloc, "stop-time");
-    let budget = option(alloc, "budget");
-    let self_load = option(alloc, "self-load");
-    let show_config = show_config(alloc);
-    let config_word = config_word(alloc);
     let one = Command::new(alloc, "shadow").arg(seed)?;
+    let parallelism = short_option(alloc, 'p', "parallelism");
     let two = one.arg(parallelism)?;
+    let data_directory = short_option(alloc, 'd', "data-directory");
     let three = two.arg(data_directory)?;
+    let stop_time = option(alloc, "stop-time");
     let four = three.arg(stop_time)?;
+    let budget = option(alloc, "budget");
     let five = four.arg(budget)?;
+    let self_load = option(alloc, "self-load");
     let six = five.arg(self_load)?;
-    let seven = six.arg(show_config)?;
-    seven.arg(config_word)
+    let read_capture = option(alloc, "read-capture");
+    let seven = six.arg(read_capture)?;
+    let show_config = show_config(alloc);
+    let eight = seven.arg(show_config)?;
+    let config_word = config_word(alloc);
+    eight.arg(config_word)
 }
 
 /// What clap finds in the words.

@@ -11,7 +11,6 @@ ghost use Rattle.net_run.specs.Shown.{files_named, unmet_by, status_by};
 
 use crate::output::put_pieces;
 use crate::process_pieces::{push_line, push_named};
-use crate::queueing::move_all;
 use host_state::{HostListing, Listing, Piece, ProcessListing, bytes_of, log_piece, numbers};
 use out_text::Summary;
 use sim_base::{Bytes, NoMemory, Place, Sink, State, Text, WriteError};
@@ -50,8 +49,7 @@ fn push_rest(
         Bytes::new(alloc),
         Bytes::new(alloc),
         bytes_of(exit),
-    )?;
-    Ok(())
+    )
 }
 
 /// The files of all processes of a host.
@@ -200,11 +198,11 @@ fn make_ending(
     ensures pieces { IfOk result (λ e. map put_of e.pieces.items ≡ spec.ending (map said hosts.now) (map (λ v. v.items) states.now) summary) }
     ensures status { IfOk result (λ e. e.status ≡ status_by (spec.unmet_of_hosts (map said hosts.now) (map (λ v. v.items) states.now))) }
 {
-    let unmet = unmet(alloc, hosts, states)?;
+    let mut unmet = unmet(alloc, hosts, states)?;
     let status = status(&unmet);
     let mut pieces = Vec::new(alloc);
     pieces.push(log_piece(alloc, Text::new(alloc))?)?;
-    move_all(&mut pieces, unmet)?;
+    pieces.append(&mut unmet)?;
     push_summary(alloc, &mut pieces, summary)?;
     Ok(Ending { pieces, status })
 }

@@ -5,7 +5,6 @@ mod ending;
 mod notes;
 mod output;
 mod process_pieces;
-mod queueing;
 
 pub use ending::put_rest;
 pub use notes::put_notes;

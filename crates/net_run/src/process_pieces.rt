@@ -1,6 +1,6 @@
 //! The pieces of one process.
 
-ghost use Rattle.std.specs.Prelude.{◌≡◌, ◌++◌, ◌+◌, ◌<◌, ◌^◌, List, IfOk, OnOk, map};
+ghost use Rattle.std.specs.Prelude.{◌≡◌, ◌++◌, ◌∷◌, [], ◌+◌, ◌<◌, ◌^◌, List, IfOk, OnOk, map};
 ghost use Rattle.sim_base.specs.declared.outside.sink.Place.TheVariants as place;
 ghost use Rattle.out_text.specs.Files.{file_name, state_line};
 ghost use Rattle.host_state.specs.Files.{put_of};
@@ -24,6 +24,22 @@ fn meets(expected: State, state: State) -> bool
     }
 }
 
+/// A file of a process, behind other pieces.
+fn push_file(
+    alloc: Global,
+    pieces: &mut Vec<Piece>,
+    host: &str,
+    program: &str,
+    pid: u32,
+    kind: FileKind,
+    bytes: Bytes,
+) -> Result<(), NoMemory>
+    ensures { OnOk result (map put_of pieces.new.items ≡ map put_of pieces.old.items ++ (place.File (file_name host.now program.now pid kind), bytes) ∷ []) }
+{
+    pieces.push(file_piece(alloc, host, program, pid, kind, bytes)?)?;
+    Ok(())
+}
+
 /// The three files of a process, behind other pieces.
 pub(crate) fn push_named(
     alloc: Global,
@@ -37,13 +53,9 @@ pub(crate) fn push_named(
 ) -> Result<(), NoMemory>
     ensures { OnOk result (map put_of pieces.new.items ≡ map put_of pieces.old.items ++ spec.files_named host.now program.now pid stdout stderr exit) }
 {
-    let stdout = file_piece(alloc, host, program, pid, FileKind::Stdout, stdout)?;
-    let stderr = file_piece(alloc, host, program, pid, FileKind::Stderr, stderr)?;
-    let exit = file_piece(alloc, host, program, pid, FileKind::Exit, exit)?;
-    pieces.push(stdout)?;
-    pieces.push(stderr)?;
-    pieces.push(exit)?;
-    Ok(())
+    push_file(alloc, pieces, host, program, pid, FileKind::Stdout, stdout)?;
+    push_file(alloc, pieces, host, program, pid, FileKind::Stderr, stderr)?;
+    push_file(alloc, pieces, host, program, pid, FileKind::Exit, exit)
 }
 
 /// The line of a process if its final state is another one, behind other pieces.

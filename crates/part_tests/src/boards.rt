@@ -74,12 +74,7 @@ fn shown(alloc: Global, rows: &[Vec<u32>]) -> Result<String, Fail> {
 }
 
 // One carrier puts so many parcels for one of the hosts, and the boards are closed.
-fn one_carrier(
-    rt: &HostRuntime,
-    hosts: u32,
-    to: u32,
-    puts: u32,
-) -> Result<(Tally, String), Fail>
+fn one_carrier(rt: &HostRuntime, hosts: u32, to: u32, puts: u32) -> Result<(Tally, String), Fail>
     requires { (hosts ≤ 16) × (to < hosts) }
 {
     let (boards, mut carriers) = Boards::open(rt.alloc(), hosts, 1)?;

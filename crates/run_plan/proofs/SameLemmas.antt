@@ -34,13 +34,14 @@ use Rattle.shd_config.specs.declared.config.GraphSource.TheVariants as source
 use Rattle.shd_config.specs.declared.config.HostConfig.{HostConfig}
 use Rattle.shd_config.specs.declared.overrides.Overrides.{Overrides}
 use Rattle.run_plan.specs.Addresses.{IsLeastOpen, AreAddressesFrom, given_addresses, first_address}
+use Rattle.run_plan.specs.Captured.{captured}
 use Rattle.run_plan.specs.Configured.{IsTreeFault, HoldsTreeOf, tree_of, or_config_fault, configured}
 use Rattle.run_plan.specs.File.{file, read, reads}
 use Rattle.run_plan.specs.HostRows.{AreInOrder, HaveAddresses, rows_of, host_rows}
 use Rattle.run_plan.specs.Network.{one_gbit_switch, graph_at, network}
 use Rattle.run_plan.specs.Outcomes.{Outcomes, gives, some_that, ◌>>=◌}
 use Rattle.run_plan.specs.Plan.{nodes_of, IsRouteFault, routed, nanos_of, line_of_host, settings_of, run_of, plan_of}
-use Rattle.run_plan.specs.Planned.{or_words_fault, manner_of, runs, shown_or_run, file_planned, self_load_planned, planned_of, planned}
+use Rattle.run_plan.specs.Planned.{or_words_fault, manner_of, runs, shown_or_run, file_planned, self_load_planned, capture_planned, planned_of, planned}
 use Rattle.run_plan.specs.Program.{program}
 use Rattle.run_plan.specs.Programs.{programs_of, images}
 use Rattle.run_plan.specs.Rates.{all_rates}
@@ -54,7 +55,6 @@ use Rattle.run_plan.specs.declared.fault.ReadStop.TheVariants.{Refused, ReadFail
 use Rattle.run_plan.specs.declared.host_row.HostRow.{HostRow}
 use Rattle.run_plan.specs.declared.plan.Plan.{Plan}
 use Rattle.run_plan.specs.declared.planned.Manner.{Manner}
-use Rattle.run_plan.specs.declared.planned.Planned.{Planned}
 use Rattle.run_plan.specs.declared.planned.Planned.TheVariants as plan
 use Rattle.run_plan.proofs.StableLemmas.{one_order}
 
@@ -297,9 +297,16 @@ self_loads_agree m hosts =
     let c : Config = self_load_config m.overrides hosts in
     shown_or_run_agree m.shows_config c (run_of ring_files (codes "self-load") (self_load_graph hosts) c) (runs m.budget true) (runs_agree ring_files (codes "self-load") (self_load_graph hosts) c)
 
+captures_agree : (held : Held) (name : List ℕ) → Both Equal (capture_planned held name) (capture_planned held name)
+unfolding capture_planned
+captures_agree held name =
+    one_then Equal (read held name) _ (reads_one name (file held name))
+    (λ bytes h. one_then Equal (gives (captured name bytes)) _ (gives_one (captured name bytes)) (λ c k. gives_one (Ok (plan.Lists c))))
+
 subjects_agree : (held : Held) (m : Manner) (x : Subject) → Both Equal (planned_of held m x) (planned_of held m x)
 subjects_agree held m (subject.File name) = files_agree m held name
 subjects_agree held m (subject.SelfLoad hosts) = self_loads_agree m hosts
+subjects_agree held m (subject.Capture name) = captures_agree held name
 
 -- two answers for one input agree
 pub answers_agree : (words : List (List ℕ)) (held : Held) → Both Equal (planned words held) (planned words held)

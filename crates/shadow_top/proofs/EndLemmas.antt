@@ -10,13 +10,13 @@ use Rattle.host_state.specs.Logs.{lines_of}
 use Rattle.host_state.specs.World.{World}
 use Rattle.host_state.specs.declared.files.listed.Listing.{Listing}
 use Rattle.out_text.specs.declared.summary.Summary.{Summary}
-use Rattle.net_run.specs.Grown.{HaveOwnFiles, IsUnderway}
+use Rattle.net_run.specs.Grown.{HaveOwnFiles}
 use Rattle.host_state.specs.Listed.{HostNames, HasIds, listed, listed_process, names_in, names_of}
 use Rattle.net_run.specs.Parts.{Between}
 use Rattle.host_state.specs.Files.{Put, first_id}
 use Rattle.net_run.specs.Pieces.{with_pieces, PutsFront}
 use Rattle.net_run.specs.Rest.{all_rest, rest_in, summary_in, unmet_of_hosts, TellsStates}
-use Rattle.net_run.specs.Shown.{run_pieces, status_by, status_of}
+use Rattle.net_run.specs.Shown.{run_pieces, status_by}
 use Rattle.net_run.proofs.FrontLemmas.{front_none}
 use Rattle.net_run.proofs.StandingLemmas.{part-end}
 use Rattle.net_run.proofs.ToldLemmas.{status-told, summary-of_lines}

@@ -1,3 +1,4 @@
+pub mod CaptureLemmas
 pub mod EndLemmas
 pub mod OneShown
 pub mod OpenedLemmas

@@ -13,11 +13,13 @@ use Rattle.run_plan.specs.declared.fault.Fault.TheVariants.{Exists}
 use Rattle.run_plan.specs.declared.planned.Planned.{Planned}
 use Rattle.run_plan.specs.declared.planned.Planned.TheVariants as plan
 use Rattle.run_plan.specs.declared.planned.Run.{Run}
+use Rattle.shadow_top.specs.Captured.{AreLinesOf}
 use Rattle.shadow_top.specs.Input.{Input, IsFirstFault, IsReached, directory_of}
 use Rattle.shadow_top.specs.Shown.{IsShown, IsRunTo, pieces_of}
 use Rattle.shadow_top.specs.declared.opened.Opened.{Opened}
 use Rattle.shd_config.specs.Shown.{shown}
 use Rattle.shd_config.specs.declared.config.Config.{Config}
+use Rattle.pcap_text.specs.declared.capture.Capture.{Capture}
 use Rattle.shadow_top.specs.declared.stop.Stop.{Stop}
 use Rattle.shadow_top.specs.declared.stop.Stop.TheVariants.{Refused, ReadFailed, WriteFailed, NoMemory}
 
@@ -90,6 +92,18 @@ ShowsConfig config c new (Err (ReadFailed file)) = ⊥
 ShowsConfig config c new (Err WriteFailed) = AddsFront place.Out (shown config) (Some c) new
 ShowsConfig config c new (Err NoMemory) = AddsFront place.Out (shown config) (Some c) new
 
+-- nothing was put, or a front of the lines of a capture
+abbrev pub ListsFront : Capture → Content → Option Content → Type 0
+ListsFront capture c new = (new ≡ Some c) ⊎ ((lines : List ℕ) × AreLinesOf capture.records lines × AddsFront place.Out lines (Some c) new)
+
+-- what listing a capture leaves
+abbrev pub ListsCapture : Capture → Content → Option Content → Result ℕ Stop → Type 0
+ListsCapture capture c new (Ok status) = (lines : List ℕ) × AreLinesOf capture.records lines × (new ≡ Some (add place.Out lines c)) × (status ≡ 0)
+ListsCapture capture c new (Err (Refused fault)) = ⊥
+ListsCapture capture c new (Err (ReadFailed file)) = ⊥
+ListsCapture capture c new (Err WriteFailed) = ListsFront capture c new
+ListsCapture capture c new (Err NoMemory) = ListsFront capture c new
+
 -- what stands is what a world shows; or each place holds a front of that
 abbrev pub Reports : Bool → World → Content → Option Content → Result ℕ Stop → Type 0
 Reports load w c new (Ok status) = (new ≡ Some (with_pieces (run_pieces load w) c)) × (status ≡ status_of w)
@@ -137,6 +151,7 @@ RunsPlan run c new (Err NoMemory) = RunsInPart run c new
 abbrev pub CarriesOut : Planned → Content → Option Content → Result ℕ Stop → Type 0
 CarriesOut (plan.Shows config) c new r = ShowsConfig config c new r
 CarriesOut (plan.Runs run) c new r = RunsPlan run c new r
+CarriesOut (plan.Lists capture) c new r = ListsCapture capture c new r
 
 -- what making a data directory leaves
 abbrev pub BeginsSo : List ℕ → Option Content → Option Content → Result (Unit {0}) Stop → Type 0

@@ -9,10 +9,12 @@ use Rattle.net_run.specs.Shown.{pieces, status_of}
 use Rattle.run_plan.specs.Line.{line_of}
 use Rattle.run_plan.specs.declared.fault.Fault.{Fault}
 use Rattle.run_plan.specs.declared.planned.Run.{Run}
-use Rattle.shadow_top.specs.Input.{Input, IsFirstFault, IsToShow, IsToRun, directory_of}
+use Rattle.shadow_top.specs.Captured.{AreLinesOf}
+use Rattle.shadow_top.specs.Input.{Input, IsFirstFault, IsToShow, IsToRun, IsToList, directory_of}
 use Rattle.shadow_top.specs.Opened.{rows_of, net_of}
 use Rattle.shd_config.specs.Shown.{shown}
 use Rattle.shd_config.specs.declared.config.Config.{Config}
+use Rattle.pcap_text.specs.declared.capture.Capture.{Capture}
 
 -- a refused input gets the line of its first fault on the error stream
 pub record IsRefused (i : Input) (old new : Content) (status : ℕ) : Type 0 where
@@ -26,6 +28,15 @@ pub record IsConfigShown (i : Input) (old new : Content) (status : ℕ) : Type 0
   pub config : Config
   pub asked : IsToShow i config
   pub text : new ≡ add place.Out (shown config) old
+  pub status_is : status ≡ 0
+
+-- the lines of a capture that is to be listed are put on the output
+pub record IsCaptureListed (i : Input) (old new : Content) (status : ℕ) : Type 0 where
+  pub capture : Capture
+  pub asked : IsToList i capture
+  pub lines : List ℕ
+  pub lines_are : AreLinesOf capture.records lines
+  pub text : new ≡ add place.Out lines old
   pub status_is : status ≡ 0
 
 -- the result of a run: the world that its hosts reach when no event is due before the stop
@@ -48,4 +59,5 @@ pub record IsRun (i : Input) (old new : Content) (status : ℕ) : Type 0 where
 pub data IsShown (i : Input) (old new : Content) (status : ℕ) : Type 0 where
   refused : IsRefused i old new status → IsShown i old new status
   configured : IsConfigShown i old new status → IsShown i old new status
+  listed : IsCaptureListed i old new status → IsShown i old new status
   ran : IsRun i old new status → IsShown i old new status

@@ -1,6 +1,7 @@
 //! The simulator's top call.
 #![tactic(auto)]
 
+mod captured;
 mod ending;
 pub mod laws;
 mod opened;

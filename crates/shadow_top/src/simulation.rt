@@ -14,6 +14,7 @@ ghost use Rattle.shadow_top.specs.Input.{input};
 ghost use Rattle.shadow_top.specs.Outcome.{Outcome};
 ghost use Rattle.shadow_top.specs.Stop.{CountsSource, CountsSink, NoReadFailed};
 
+use crate::captured::list_capture;
 use crate::ending::put_end;
 use crate::opened::{Opened, open};
 use crate::rounds::put_rounds;
@@ -216,6 +217,7 @@ fn carry_out<K: Sink, G: Gate + Sync, R: Threads + Sync + AllocGlobal>(
     match planned {
         Planned::Shows(config) => show_config(rt.alloc(), sink, &config),
         Planned::Runs(run) => run_plan(rt, cores, gate, run, sink),
+        Planned::Lists(capture) => list_capture(rt.alloc(), sink, &capture),
     }
 }
 

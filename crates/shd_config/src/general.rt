@@ -113,7 +113,13 @@ fn read_pairs(
 {
     let mut draft = new_general();
     for pair in pairs {
-        read_key(alloc, overrides, key_of(pair.key.as_str()), &mut draft, pair)?;
+        read_key(
+            alloc,
+            overrides,
+            key_of(pair.key.as_str()),
+            &mut draft,
+            pair,
+        )?;
     }
     Ok(draft)
 }

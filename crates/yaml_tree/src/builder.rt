@@ -91,6 +91,24 @@ impl Builder {
         Ok(())
     }
 
+    /// What was made of nodes. The rest is let go.
+    pub fn into_made(self) -> MadeNodes
+        ensures { result ≡ self.nodes }
+    {
+        let Builder {
+            alloc: _,
+            hashing: _,
+            nodes,
+            open_rows: _,
+            cells: _,
+            value: _,
+            name: _,
+            literal: _,
+            names: _,
+        } = self;
+        nodes
+    }
+
     /// The value, which is a null on this line where none has come.
     #[tactic(auto, unfolding(crate::specs::Builder::valued, crate::specs::Builder::put_node))]
     fn take_value(&mut self, line: usize) -> Result<Known, NoMemory>

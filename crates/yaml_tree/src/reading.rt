@@ -131,19 +131,8 @@ fn finish(builder: Builder, empty: bool) -> Result<Tree, NoMemory>
 {
     let mut builder = builder;
     let root = builder.finish()?;
-    let Builder {
-        alloc: _,
-        hashing: _,
-        nodes,
-        open_rows: _,
-        cells: _,
-        value: _,
-        name: _,
-        literal: _,
-        names: _,
-    } = builder;
     Ok(Tree {
-        nodes: nodes.into_nodes()?,
+        nodes: builder.into_made().into_nodes()?,
         root,
         empty,
     })
