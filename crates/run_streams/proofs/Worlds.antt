@@ -81,7 +81,7 @@ module _ (net : Net) (S : Packet → Type 0) (own : Ip) (n : ℕ) where
 
 pub row_carries : (net : Net) (S : Packet → Type 0) (row : Row) → Carries S row.address row.host.index (host_begins row).link
 row_carries net S row =
-    all_carry net S row.address row.host.index 0 row.processes.items (new_link row) (record { number = refl; up = tt; down = tt; made = tt })
+    all_carry net S row.address row.host.index 0 row.processes (new_link row) (record { number = refl; up = tt; down = tt; made = tt })
 
 pub row_good : (net : Net) (row : Row) → IsGood row.address row.host.index (opening row).host
 row_good net row =
