@@ -110,13 +110,14 @@ static inline int pipe2(int ends[2], int flags)
     return shadow_call(59, (long)ends, flags, 0);
 }
 
-/* EBADF; EINVAL: a timer and a size below 8; EFAULT; EAGAIN. Of a socket: as recvfrom. */
+/* EBADF; EINVAL: a timer or an eventfd and a size below 8; EFAULT; EAGAIN. Of a socket: as recvfrom. */
 static inline ssize_t read(int fd, void *into, size_t size)
 {
     return shadow_call(63, fd, (long)into, (long)size);
 }
 
-/* EBADF; EINVAL: a timer; EFAULT; EAGAIN. A pipe without a reader ends the process by SIGPIPE. To a socket: as sendto. */
+/* EBADF; EINVAL: a timer, or an eventfd and a size below 8; EFAULT; EINVAL: an eventfd and 2^64 - 1; EAGAIN. A pipe without a
+ * reader ends the process by SIGPIPE. To a socket: as sendto. */
 static inline ssize_t write(int fd, const void *bytes, size_t size)
 {
     return shadow_call(64, fd, (long)bytes, (long)size);
@@ -211,6 +212,18 @@ struct pollfd {
 static inline int ppoll(struct pollfd *entries, unsigned count, const struct timespec *time)
 {
     return shadow_call6(414, (long)entries, (long)count, (long)time, 0, 0, 0);
+}
+
+/* ---- counters that can be waited for */
+#define EFD_SEMAPHORE 1
+#define EFD_NONBLOCK O_NONBLOCK
+#define EFD_CLOEXEC O_CLOEXEC
+
+/* A read gives the count as 8 bytes, and it is 0 then; of a semaphore 1, which is taken off. A write adds 8 bytes' number. EINVAL:
+ * flags; EMFILE. */
+static inline int eventfd2(unsigned count, int flags)
+{
+    return shadow_call(19, (long)count, flags, 0);
 }
 
 /* ---- sockets */

@@ -11,18 +11,19 @@ use Rattle.host_sockets.specs.declared.error.Refusal.{Refusal}
 use Rattle.host_sockets.specs.declared.error.Refusal.TheVariants as refusal
 use Rattle.host_calls.specs.declared.call.Call.{Call}
 use Rattle.host_calls.specs.declared.call.Call.TheVariants as system_call
-use Rattle.host_calls.specs.declared.call.PlainCall.TheVariants as plain
+use Rattle.host_calls.specs.declared.call.WaitingCall.{WaitingCall}
+use Rattle.host_calls.specs.declared.call.WaitingCall.TheVariants as waiting
 use Rattle.host_calls.specs.declared.parts.Known.{Known}
 use Rattle.host_calls.specs.declared.parts.Task.{Task}
 use Rattle.host_calls.specs.declared.parts.Why.{Why}
 use Rattle.host_calls.specs.Call.{call_of}
-use Rattle.host_calls.specs.Calls.{arg, waits, poll_waits, scene_at, answers_by, answers}
+use Rattle.host_calls.specs.Calls.{arg, asked, waits, scene_at, answers_by, answers}
 use Rattle.call_laws.specs.Laws.{kept_by, kept_call, takes_time}
 use Rattle.host_calls.specs.Parts.{PartsRecord, Place, Scene, place_in}
-use Rattle.host_calls.specs.Polling.{entry_size, poll_limit, poll_time, poll_entries, nothing_came, count_told, poll_found, poll_asked}
+use Rattle.host_calls.specs.Polling.{entry_size, poll_limit, poll_time, poll_entries, nothing_came, count_told, poll_found, poll_plan}
 use Rattle.host_calls.specs.Times.{kept_or, at_nanos, deadline_of, sleep_time, sleep_asked}
 use Rattle.guest_args.specs.Time.{deadline_after}
-use Rattle.call_laws.proofs.Waits.{Never, is_wait-is, nevers, never_bind, never_then, never_refuse_if, ends_bind}
+use Rattle.call_laws.proofs.Waits.{Never, is_wait-is, nevers, never_bind, never_then, never_refuse_if}
 
 -- the first deadline is kept
 kept_or-first : (kept : Option Why) (why : Why) (deadline computed : Time) → kept ≡ Some why → why.deadline ≡ Some deadline → kept_or kept computed ≡ deadline
@@ -79,46 +80,45 @@ poll_entries-never : (at size : ℕ) (task : Task) → Never (poll_entries at si
 poll_entries-never at size task = search nevers
 
 poll-never : (now : Time) (at count limit_at : ℕ) (s : Scene) (why : Why) (deadline : Time) → (limit_at == 0) ≡ false → s.task.kept ≡ Some why → why.deadline ≡ Some deadline
-    → deadline.nanos ≤ now.nanos → Never (poll_waits now at count limit_at s)
+    → deadline.nanos ≤ now.nanos → Never (poll_plan now at count limit_at s)
 poll-never now at count limit_at s why deadline given e first come =
-    ends_bind (poll_asked now at count limit_at s) _ (λ found. refl)
-    ∙ never_then (refuse_if (nat_lt 256 count) (refusal.Errno Einval)) _ (never_refuse_if (nat_lt 256 count) Einval)
+    never_then (refuse_if (nat_lt 256 count) (refusal.Errno Einval)) _ (never_refuse_if (nat_lt 256 count) Einval)
     (never_bind (poll_entries at (entry_size * count) s.task.memory) _ (poll_entries-never at (entry_size * count) s.task)
-    (λ entries. poll_found-never now count limit_at entries s why deadline given e first come))
+    (λ entries. never_bind (poll_found now count limit_at entries s) _ (poll_found-never now count limit_at entries s why deadline given e first come) (λ found. refl)))
 
 not-is : (b : Bool) → not b ≡ true → b ≡ false
 not-is true e = cc
 not-is false e = refl
 
+asked-never : (known : Known) (now : Time) (w : WaitingCall) (args : List ℕ) (s : Scene) (why : Why) (deadline : Time) → takes_time (Some (system_call.Waiting w)) args ≡ true
+    → s.task.kept ≡ Some why → why.deadline ≡ Some deadline → deadline.nanos ≤ now.nanos → Never (asked known now w args s)
+asked-never known now waiting.Read args s why deadline timed e first come = cc
+asked-never known now waiting.Write args s why deadline timed e first come = cc
+asked-never known now waiting.Accept args s why deadline timed e first come = cc
+asked-never known now waiting.Connect args s why deadline timed e first come = cc
+asked-never known now waiting.Sendto args s why deadline timed e first come = cc
+asked-never known now waiting.Recvfrom args s why deadline timed e first come = cc
+asked-never known now waiting.ClockNanosleep args s why deadline timed e first come =
+    never_then (sleep_asked now (arg args 0) (arg args 1) (arg args 2) s.task) _ (sleep-never now (arg args 0) (arg args 1) (arg args 2) s.task why deadline e first come) refl
+asked-never known now waiting.Ppoll args s why deadline timed e first come =
+    never_bind (poll_plan now (arg args 0) (arg args 1) (arg args 2) s) _
+    (poll-never now (arg args 0) (arg args 1) (arg args 2) s why deadline (not-is (arg args 2 == 0) timed) e first come) (λ p. refl)
+
 waits-never : (known : Known) (now : Time) (c : Option Call) (args : List ℕ) (s : Scene) (why : Why) (deadline : Time) → takes_time c args ≡ true → s.task.kept ≡ Some why
-    → why.deadline ≡ Some deadline → deadline.nanos ≤ now.nanos → Never (waits known now c args s)
+    → why.deadline ≡ Some deadline → deadline.nanos ≤ now.nanos → waits known now c args s ≡ false
 waits-never known now None args s why deadline timed e first come = refl
-waits-never known now (Some (system_call.Plain plain.ClockNanosleep)) args s why deadline timed e first come =
-    sleep-never now (arg args 0) (arg args 1) (arg args 2) s.task why deadline e first come
-waits-never known now (Some (system_call.Plain plain.Fcntl)) args s why deadline timed e first come = refl
-waits-never known now (Some (system_call.Plain plain.Openat)) args s why deadline timed e first come = refl
-waits-never known now (Some (system_call.Plain plain.Pipe2)) args s why deadline timed e first come = refl
-waits-never known now (Some (system_call.Plain plain.TimerfdCreate)) args s why deadline timed e first come = refl
-waits-never known now (Some (system_call.Plain plain.Getpid)) args s why deadline timed e first come = refl
-waits-never known now (Some (system_call.Plain plain.Setsockopt)) args s why deadline timed e first come = refl
-waits-never known now (Some (system_call.Plain plain.Brk)) args s why deadline timed e first come = refl
-waits-never known now (Some (system_call.Plain plain.Getrandom)) args s why deadline timed e first come = refl
-waits-never known now (Some (system_call.Plain plain.ClockGettime)) args s why deadline timed e first come = refl
-waits-never known now (Some (system_call.Plain plain.TimerfdSettime)) args s why deadline timed e first come = refl
-waits-never known now (Some (system_call.Network n)) args s why deadline timed e first come = cc
+waits-never known now (Some (system_call.Plain p)) args s why deadline timed e first come = refl
+waits-never known now (Some (system_call.Network n)) args s why deadline timed e first come = refl
+waits-never known now (Some (system_call.Waiting w)) args s why deadline timed e first come =
+    is_wait-is (asked known now w args s) ∙ asked-never known now w args s why deadline timed e first come
 waits-never known now (Some system_call.Close) args s why deadline timed e first come = refl
-waits-never known now (Some system_call.Read) args s why deadline timed e first come = cc
-waits-never known now (Some system_call.Write) args s why deadline timed e first come = cc
-waits-never known now (Some system_call.Ppoll) args s why deadline timed e first come =
-    poll-never now (arg args 0) (arg args 1) (arg args 2) s why deadline (not-is (arg args 2 == 0) timed) e first come
 waits-never known now (Some system_call.Exit) args s why deadline timed e first come = refl
 
 place-come : (known : Known) (now : Time) (why : Why) (deadline : Time) (task : Option Task) (p : Place) → kept_by task ≡ Some why → why.deadline ≡ Some deadline
     → takes_time (call_of why.number) why.args ≡ true → deadline.nanos ≤ now.nanos → answers_by known now why task p ≡ true
 place-come known now why deadline None p e first timed come = refl
 place-come known now why deadline (Some task) p e first timed come =
-    ap not (is_wait-is (waits known now (call_of why.number) why.args (scene_at task p))
-    ∙ waits-never known now (call_of why.number) why.args (scene_at task p) why deadline timed e first come)
+    ap not (waits-never known now (call_of why.number) why.args (scene_at task p) why deadline timed e first come)
 
 -- a call whose deadline has come answers
 pub deadline-answers : (known : Known) (now : Time) (process : ℕ) (why : Why) (h : PartsRecord) (deadline : Time) → kept_call process h ≡ Some why → why.deadline ≡ Some deadline

@@ -1,8 +1,6 @@
 -- The call that a process waits in.
-use Rattle.std.proofs.Common.{◌≡◌, ℕ, Bool, true, false, not, List, Option, Some, None, Result, Ok, Err, refl, sym, ◌∙◌, ◌*◌, nat_lt}
-use Rattle.sim_base.specs.declared.errno.Errno.TheVariants.{Einval}
+use Rattle.std.proofs.Common.{◌≡◌, ℕ, Bool, true, false, not, List, Option, Some, None, Result, Ok, Err, refl, sym, ◌∙◌}
 use Rattle.sim_base.specs.declared.time.Time.{Time}
-use Rattle.sim_base.specs.Refusals.{refuse_if}
 use Rattle.host_files.specs.Slots.{at}
 use Rattle.host_sockets.specs.declared.error.Refusal.{Refusal}
 use Rattle.host_sockets.specs.declared.error.Refusal.TheVariants as refusal
@@ -11,7 +9,13 @@ use Rattle.host_calls.specs.declared.call.Call.{Call}
 use Rattle.host_calls.specs.declared.call.Call.TheVariants as system_call
 use Rattle.host_calls.specs.declared.call.NetworkCall.{NetworkCall}
 use Rattle.host_calls.specs.declared.call.NetworkCall.TheVariants as network
+use Rattle.host_calls.specs.declared.call.WaitingCall.{WaitingCall}
+use Rattle.host_calls.specs.declared.call.WaitingCall.TheVariants as waiting
 use Rattle.host_calls.specs.declared.descriptors.Descriptor.{Descriptor}
+use Rattle.host_calls.specs.declared.plan.Plan.{Plan}
+use Rattle.host_calls.specs.declared.plan.Plan.TheVariants as plan
+use Rattle.host_calls.specs.declared.plan.Transfer.{Transfer}
+use Rattle.host_calls.specs.declared.polling.PollPlan.{PollPlan}
 use Rattle.host_calls.specs.declared.parts.Known.{Known}
 use Rattle.host_calls.specs.declared.parts.Reaction.{Reaction}
 use Rattle.host_calls.specs.declared.parts.Reaction.TheVariants.{Value, Waits}
@@ -19,92 +23,103 @@ use Rattle.host_calls.specs.declared.parts.Task.{Task}
 use Rattle.host_calls.specs.declared.parts.Why.{Why}
 use Rattle.host_calls.specs.declared.sockets.SocketNumber.{SocketNumber}
 use Rattle.host_calls.specs.Call.{call_of}
-use Rattle.host_calls.specs.Calls.{arg, message_of, room_of, open_by, plain_row, read, read_by, write, write_by, read_waits, read_waits_by, write_waits, write_waits_by, poll_waits, network_row, network_waits, row_of, waits, answered, blocks_by, in_scene, call_scene, call_by, scene_at, answers_scene, answers_by, call, answers}
+use Rattle.host_calls.specs.Times.{sleep_asked}
+use Rattle.std.specs.Prelude.{IfOk}
+use Rattle.host_calls.specs.Calls.{arg, message_of, room_of, open_by, plain_row, read_plan_of, write_plan_of, asked, done, network_row, row_of, waits, answered, blocks_by, in_scene, call_scene, call_by, scene_at, answers_scene, answers_by, call, answers}
 use Rattle.host_calls.specs.Closing.{close}
 use Rattle.host_calls.specs.Descriptors.{descriptor}
-use Rattle.host_calls.specs.Files.{read_asked, reads, write_asked, writes}
+use Rattle.host_calls.specs.Files.{file_read_plan, reads, file_write_plan, writes}
 use Rattle.call_laws.specs.Laws.{is_block, kept_by, kept_call}
 use Rattle.host_calls.specs.Parts.{PartsRecord, Place, Scene, local_of, place_in, plainly}
-use Rattle.host_calls.specs.Polling.{entry_size, poll_entries, poll_found, poll_asked, ppoll}
+use Rattle.host_calls.specs.Polling.{poll_plan, polls}
 use Rattle.host_calls.specs.Scene.{Local}
-use Rattle.host_calls.specs.Sockets.{socket, bind, listen, accept, getsockname, getpeername, sendto, recvfrom, getsockopt, shutdown, open_socket, socket_number}
-use Rattle.call_laws.proofs.Waits.{Never, Same, waits_in, reaction_waits, is_wait-is, nevers, same_bind, same_then, ends_bind, ends_then, reacts-is, plainly-is}
-use Rattle.call_laws.proofs.PlainWaits.{plain_same}
-use Rattle.call_laws.proofs.SocketWaits.{accept-same, connect-same, send-same, recv-same}
+use Rattle.host_calls.specs.Sockets.{socket, bind, listen, accept_plan, accepts, connect_plan, getsockname, getpeername, send_plan, sendto_plan, sends_by, recv_plan, recvfrom_plan, receives, getsockopt, shutdown, open_socket, socket_number}
+use Rattle.call_laws.proofs.Waits.{Never, reaction_waits, is_wait-is, nevers, reacts-is, plainly-is, asked_then, gives_bind, gives_then, gives_map}
+use Rattle.call_laws.proofs.PlainWaits.{plain-never}
+use Rattle.call_laws.proofs.SocketWaits.{accept-settles, connect-settles, send-settles, recv-settles}
 use Rattle.call_laws.proofs.SocketNevers.{socket-never, bind-never, listen-never, getsockname-never, getpeername-never, getsockopt-never, shutdown-never}
 
--- calls on sockets
-network-same : (known : Known) (now : Time) (n : NetworkCall) (args : List ℕ) (s : Scene) (why : Why) → s.task.kept ≡ Some why
-    → reaction_waits (network_row known now n args s) ≡ waits_in (network_waits known n args s)
-network-same known now network.Socket args s why e =
+-- calls on sockets that never wait
+network-never : (known : Known) (now : Time) (n : NetworkCall) (args : List ℕ) (s : Scene) → reaction_waits (network_row known now n args s) ≡ false
+network-never known now network.Socket args s =
     reacts-is (socket (arg args 0) (arg args 1) (arg args 2) s) ∙ socket-never (arg args 0) (arg args 1) (arg args 2) s
-network-same known now network.Bind args s why e =
+network-never known now network.Bind args s =
     reacts-is (bind known.book (arg args 0) (arg args 1) (arg args 2) s) ∙ bind-never known.book (arg args 0) (arg args 1) (arg args 2) s
-network-same known now network.Listen args s why e = reacts-is (listen (arg args 0) (arg args 1) s) ∙ listen-never (arg args 0) (arg args 1) s
-network-same known now network.Accept args s why e =
-    reacts-is (accept (arg args 0) (arg args 1) (arg args 2) s) ∙ accept-same (arg args 0) (arg args 1) (arg args 2) s
-network-same known now network.Connect args s why e = connect-same known.book now (arg args 0) (arg args 1) (arg args 2) s why e
-network-same known now network.Getsockname args s why e =
+network-never known now network.Listen args s = reacts-is (listen (arg args 0) (arg args 1) s) ∙ listen-never (arg args 0) (arg args 1) s
+network-never known now network.Getsockname args s =
     reacts-is (getsockname (arg args 0) (arg args 1) (arg args 2) s) ∙ getsockname-never (arg args 0) (arg args 1) (arg args 2) s
-network-same known now network.Getpeername args s why e =
+network-never known now network.Getpeername args s =
     reacts-is (getpeername (arg args 0) (arg args 1) (arg args 2) s) ∙ getpeername-never (arg args 0) (arg args 1) (arg args 2) s
-network-same known now network.Sendto args s why e =
-    reacts-is (sendto known.book now (arg args 0) (arg args 3) (message_of (arg args 1) (arg args 2) (arg args 4) (arg args 5)) s)
-    ∙ same_bind (open_socket (arg args 0) (local_of s)) _ _ (λ socket. send-same known.book now socket (arg args 3) (message_of (arg args 1) (arg args 2) (arg args 4) (arg args 5)) s)
-network-same known now network.Recvfrom args s why e =
-    reacts-is (recvfrom now (arg args 0) (arg args 3) (room_of (arg args 1) (arg args 2) (arg args 4) (arg args 5)) s)
-    ∙ same_bind (open_socket (arg args 0) (local_of s)) _ _ (λ socket. recv-same now socket (arg args 3) (room_of (arg args 1) (arg args 2) (arg args 4) (arg args 5)) s)
-network-same known now network.Getsockopt args s why e =
+network-never known now network.Getsockopt args s =
     reacts-is (getsockopt now (arg args 0) (arg args 1) (arg args 2) (arg args 3) (arg args 4) s)
     ∙ getsockopt-never now (arg args 0) (arg args 1) (arg args 2) (arg args 3) (arg args 4) s
-network-same known now network.Shutdown args s why e = reacts-is (shutdown now (arg args 0) (arg args 1) s) ∙ shutdown-never now (arg args 0) (arg args 1) s
+network-never known now network.Shutdown args s = reacts-is (shutdown now (arg args 0) (arg args 1) s) ∙ shutdown-never now (arg args 0) (arg args 1) s
 
--- read(2) and write(2)
-read_by-same : (known : Known) (now : Time) (d : Descriptor) (n : Result SocketNumber Refusal) (at count : ℕ) (s : Scene)
-    → Same (read_by known now d n at count s) (read_waits_by now d n at count s)
-read_by-same known now d (Ok socket) at count s = recv-same now (open_by d socket) 0 (room_of at count 0 0) s
-read_by-same known now d (Err e) at count s =
-    plainly-is (reads known.hosts now d at count (local_of s)) s ∙ ends_then (read_asked now d at count (local_of s)) _ refl
+-- what is done after a call was asked doesn't wait
+abbrev Settles : Known → Time → ℕ → Scene → Plan → Type 0
+Settles known now process s p = reaction_waits (done known now process p s) ≡ false
 
-read-same : (known : Known) (now : Time) (fd at count : ℕ) (s : Scene) → Same (read known now fd at count s) (read_waits now fd at count s)
-read-same known now fd at count s =
-    same_bind (descriptor fd s.task s.shared.files) _ _ (λ d. read_by-same known now d (socket_number d.file.object) at count s)
+read_plan_of-settles : (known : Known) (now : Time) (process : ℕ) (d : Descriptor) (n : Result SocketNumber Refusal) (at count : ℕ) (s : Scene)
+    → IfOk (read_plan_of now d n at count s) (Settles known now process s)
+read_plan_of-settles known now process d (Ok socket) at count s =
+    gives_map (recv_plan (open_by d socket) 0 (room_of at count 0 0) s.task.memory s.sockets) (λ r. plan.Receive r) _ _ (recv-settles now (open_by d socket) 0 (room_of at count 0 0) s)
+    (λ r h. reacts-is (receives now r s) ∙ h)
+read_plan_of-settles known now process d (Err e) at count s =
+    gives_bind (file_read_plan now d at count (local_of s)) _ _
+    (λ t e. reacts-is (plainly (reads known.hosts now t (local_of s)) s) ∙ plainly-is (reads known.hosts now t (local_of s)) s)
 
-write_by-same : (known : Known) (now : Time) (process : ℕ) (d : Descriptor) (n : Result SocketNumber Refusal) (at count : ℕ) (s : Scene)
-    → Same (write_by known now process d n at count s) (write_waits_by known d n at count s)
-write_by-same known now process d (Ok socket) at count s = send-same known.book now (open_by d socket) 0 (message_of at count 0 0) s
-write_by-same known now process d (Err e) at count s =
-    plainly-is (writes process d at count (local_of s)) s
-    ∙ ends_then (write_asked d at count (local_of s)) _ (search nevers)
+writes-never : (process : ℕ) (t : Transfer) (s : Scene) → Never (writes process t (local_of s))
+writes-never process t s = search nevers
 
-write-same : (known : Known) (now : Time) (process fd at count : ℕ) (s : Scene) → Same (write known now process fd at count s) (write_waits known fd at count s)
-write-same known now process fd at count s =
-    same_bind (descriptor fd s.task s.shared.files) _ _ (λ d. write_by-same known now process d (socket_number d.file.object) at count s)
+write_plan_of-settles : (known : Known) (now : Time) (process : ℕ) (d : Descriptor) (n : Result SocketNumber Refusal) (at count : ℕ) (s : Scene)
+    → IfOk (write_plan_of known d n at count s) (Settles known now process s)
+write_plan_of-settles known now process d (Ok socket) at count s =
+    gives_map (send_plan known.book (open_by d socket) 0 (message_of at count 0 0) s.task.memory s.sockets) (λ m. plan.Send m) _ _
+    (send-settles known.book now (open_by d socket) 0 (message_of at count 0 0) s) (λ m h. reacts-is (sends_by known.book now m s) ∙ h)
+write_plan_of-settles known now process d (Err e) at count s =
+    gives_bind (file_write_plan d at count (local_of s)) _ _
+    (λ t e. reacts-is (plainly (writes process t (local_of s)) s) ∙ plainly-is (writes process t (local_of s)) s ∙ writes-never process t s)
 
--- ppoll(2)
-ppoll-same : (now : Time) (at count limit_at : ℕ) (s : Scene) → Same (ppoll now at count limit_at s) (poll_waits now at count limit_at s)
-ppoll-same now at count limit_at s =
-    same_then (refuse_if (nat_lt 256 count) (refusal.Errno Einval)) _ _ (same_bind (poll_entries at (entry_size * count) s.task.memory) _ _
-    (λ entries. ends_bind (poll_found now count limit_at entries s) _ (λ found. refl)))
-    ∙ sym (ends_bind (poll_asked now at count limit_at s) _ (λ found. refl))
+polls-never : (now : Time) (p : PollPlan) (s : Scene) → Never (polls now p s)
+polls-never now p s = search nevers
+
+asked-settles : (known : Known) (now : Time) (process : ℕ) (w : WaitingCall) (args : List ℕ) (s : Scene) (why : Why) → s.task.kept ≡ Some why
+    → IfOk (asked known now w args s) (Settles known now process s)
+asked-settles known now process waiting.Read args s why e =
+    gives_bind (descriptor (arg args 0) s.task s.shared.files) _ _ (λ d f. read_plan_of-settles known now process d (socket_number d.file.object) (arg args 1) (arg args 2) s)
+asked-settles known now process waiting.Write args s why e =
+    gives_bind (descriptor (arg args 0) s.task s.shared.files) _ _ (λ d f. write_plan_of-settles known now process d (socket_number d.file.object) (arg args 1) (arg args 2) s)
+asked-settles known now process waiting.Accept args s why e =
+    gives_map (accept_plan (arg args 0) (arg args 1) (arg args 2) s) (λ a. plan.Accept a) _ _ (accept-settles (arg args 0) (arg args 1) (arg args 2) s)
+    (λ a h. reacts-is (accepts a s) ∙ h)
+asked-settles known now process waiting.Connect args s why e =
+    gives_map (connect_plan (arg args 0) (arg args 1) (arg args 2) s) (λ c. plan.Connect c) _ _
+    (connect-settles known.book now (arg args 0) (arg args 1) (arg args 2) s why e) (λ c h. h)
+asked-settles known now process waiting.Sendto args s why e =
+    gives_map (sendto_plan known.book (arg args 0) (arg args 3) (message_of (arg args 1) (arg args 2) (arg args 4) (arg args 5)) s) (λ m. plan.Send m) _ _
+    (gives_bind (open_socket (arg args 0) (local_of s)) _ _ (λ socket f. send-settles known.book now socket (arg args 3) (message_of (arg args 1) (arg args 2) (arg args 4) (arg args 5)) s))
+    (λ m h. reacts-is (sends_by known.book now m s) ∙ h)
+asked-settles known now process waiting.Recvfrom args s why e =
+    gives_map (recvfrom_plan (arg args 0) (arg args 3) (room_of (arg args 1) (arg args 2) (arg args 4) (arg args 5)) s) (λ r. plan.Receive r) _ _
+    (gives_bind (open_socket (arg args 0) (local_of s)) _ _ (λ socket f. recv-settles now socket (arg args 3) (room_of (arg args 1) (arg args 2) (arg args 4) (arg args 5)) s))
+    (λ r h. reacts-is (receives now r s) ∙ h)
+asked-settles known now process waiting.ClockNanosleep args s why e = gives_then (sleep_asked now (arg args 0) (arg args 1) (arg args 2) s.task) _ _ (λ u f. refl)
+asked-settles known now process waiting.Ppoll args s why e =
+    gives_bind (poll_plan now (arg args 0) (arg args 1) (arg args 2) s) _ _ (λ p f. reacts-is (polls now p s) ∙ polls-never now p s)
 
 close-never : (now : Time) (fd : ℕ) (s : Scene) → Never (close now fd s)
 close-never now fd s = search nevers
 
 row-same : (known : Known) (now : Time) (process : ℕ) (c : Option Call) (args : List ℕ) (s : Scene) (why : Why) → s.task.kept ≡ Some why
-    → reaction_waits (row_of known now process c args s) ≡ waits_in (waits known now c args s)
+    → reaction_waits (row_of known now process c args s) ≡ waits known now c args s
 row-same known now process None args s why e = refl
 row-same known now process (Some (system_call.Plain p)) args s why e =
     reacts-is (plainly (plain_row now process p args (local_of s)) s) ∙ plainly-is (plain_row now process p args (local_of s)) s
-    ∙ plain_same now process p args s.task s.shared
-row-same known now process (Some (system_call.Network n)) args s why e = network-same known now n args s why e
+    ∙ plain-never now process p args s.task s.shared
+row-same known now process (Some (system_call.Network n)) args s why e = network-never known now n args s
+row-same known now process (Some (system_call.Waiting w)) args s why e =
+    asked_then (asked known now w args s) _ (asked-settles known now process w args s why e) ∙ sym (is_wait-is (asked known now w args s))
 row-same known now process (Some system_call.Close) args s why e = reacts-is (close now (arg args 0) s) ∙ close-never now (arg args 0) s
-row-same known now process (Some system_call.Read) args s why e =
-    reacts-is (read known now (arg args 0) (arg args 1) (arg args 2) s) ∙ read-same known now (arg args 0) (arg args 1) (arg args 2) s
-row-same known now process (Some system_call.Write) args s why e =
-    reacts-is (write known now process (arg args 0) (arg args 1) (arg args 2) s) ∙ write-same known now process (arg args 0) (arg args 1) (arg args 2) s
-row-same known now process (Some system_call.Ppoll) args s why e =
-    reacts-is (ppoll now (arg args 0) (arg args 1) (arg args 2) s) ∙ ppoll-same now (arg args 0) (arg args 1) (arg args 2) s
 row-same known now process (Some system_call.Exit) args s why e = refl
 
 -- a process waits where its row does
@@ -129,7 +144,7 @@ scene-answers : (known : Known) (now : Time) (process : ℕ) (why : Why) (s : Sc
     → is_block (call_scene known now process why.number why.args s).0 ≡ not (answers_scene known now why s)
 scene-answers known now process why s e =
     answered-waits now process why.number why.args (row_of known now process (call_of why.number) why.args s) s
-    ∙ row-same known now process (call_of why.number) why.args s why e ∙ sym (is_wait-is (waits known now (call_of why.number) why.args s)) ∙ not-not _
+    ∙ row-same known now process (call_of why.number) why.args s why e ∙ not-not _
 
 place-answers : (known : Known) (now : Time) (process : ℕ) (why : Why) (task : Option Task) (p : Place) → kept_by task ≡ Some why
     → is_block (call_by known now process why.number why.args task p).0 ≡ not (answers_by known now why task p)

@@ -5,6 +5,8 @@ pub mod KeptCall
 pub mod KeptErrors
 pub mod NewDescriptors
 pub mod PlainWaits
+pub mod ReadyCalls
+pub mod ReadyObjects
 pub mod SocketNevers
 pub mod SocketWaits
 pub mod Waits

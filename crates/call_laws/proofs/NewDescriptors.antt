@@ -1,27 +1,36 @@
 -- A new descriptor is the least free one.
-use Rattle.std.proofs.Common.{◌≡◌, ℕ, ◌+◌, ◌-◌, ◌==◌, ◌%◌, Bool, not, Option, Some, None, Result, Ok, Err, refl, sym, ap, ◌∙◌, ◌||◌, nat_lt}
+use Rattle.std.proofs.Common.{◌≡◌, ℕ, ◌+◌, ◌-◌, ◌==◌, ◌%◌, not, List, Option, Some, None, Result, Ok, Err, refl, sym, ap, ◌∙◌, ◌||◌, nat_lt}
 use Rattle.sim_base.specs.declared.errno.Errno.TheVariants.{Eacces, Eafnosupport, Efault, Einval, Emfile, Enoent, Eprotonosupport}
 use Rattle.sim_base.specs.Refusals.{◌>>=◌, ◌>>◌, refuse_if, or_refuse}
 use Rattle.guest_args.specs.Span.{can_write}
 use Rattle.host_fds.specs.Descriptors.{Descriptors, limit, IsLowestFree}
 use Rattle.host_sockets.specs.declared.error.Refusal.{Refusal}
 use Rattle.host_sockets.specs.declared.error.Refusal.TheVariants as refusal
-use Rattle.host_sockets.specs.Accepting.{accept_asked, accepts_tcp}
+use Rattle.host_sockets.specs.Accepting.{accept_asked, accept_ready, accepts_tcp}
 use Rattle.host_sockets.specs.Sockets.{SocketsRecord}
+use Rattle.host_calls.specs.declared.accepting.AcceptPlan.{AcceptPlan}
 use Rattle.host_calls.specs.declared.accepting.NewPlace.{NewPlace}
 use Rattle.host_calls.specs.declared.binding.NewSocket.{NewSocket}
 use Rattle.host_calls.specs.declared.files.Ends.{Ends}
+use Rattle.host_calls.specs.declared.call.WaitingCall.TheVariants as waiting
+use Rattle.host_calls.specs.declared.parts.Known.{Known}
+use Rattle.host_calls.specs.declared.parts.Reaction.{Reaction}
+use Rattle.host_calls.specs.declared.parts.Reaction.TheVariants.{Value, Waits}
+use Rattle.host_calls.specs.declared.plan.Plan.TheVariants as plan
+use Rattle.sim_base.specs.declared.time.Time.{Time}
+use Rattle.host_calls.specs.Calls.{arg, reacts, done, waiting_row}
 use Rattle.host_calls.specs.declared.parts.Task.{Task}
 use Rattle.host_calls.specs.declared.parts.Shared.{Shared}
 use Rattle.host_calls.specs.declared.sockets.OpenSocket.{OpenSocket}
 use Rattle.host_calls.specs.Descriptors.{lowest_free, free_from}
 use Rattle.host_calls.specs.Files.{path_length, is_hosts_path, openat_asked, openat, second_end, pipe2_asked}
-use Rattle.host_calls.specs.Flags.{beside_open}
+use Rattle.host_calls.specs.Eventfd.{eventfd_asked, eventfd2}
+use Rattle.host_calls.specs.Flags.{beside_open, beside_eventfd}
 use Rattle.call_laws.specs.Laws.{IsFirstFree}
 use Rattle.host_calls.specs.Parts.{Scene, local_of}
 use Rattle.host_calls.specs.Scene.{Local, or_again}
 use Rattle.guest_args.specs.Address.{inet}
-use Rattle.host_calls.specs.Sockets.{is_stream, protocol_of, socket_asked, socket, tcp_number, result_address, accept_place, accept_call, accept, open_socket}
+use Rattle.host_calls.specs.Sockets.{is_stream, protocol_of, socket_asked, socket, tcp_number, result_address, accept_place, accept_plan_of, accept_plan, accepted_by, accepts, open_socket}
 use Rattle.host_calls.specs.Times.{create_asked, timerfd_create}
 use Rattle.call_laws.proofs.DescriptorLaws.{first_free-IsFirstFree, lowest_free-IsLowestFree}
 
@@ -38,9 +47,19 @@ or_refuse_ok : {A : Type 0} (o : Option A) (x : Refusal) (a : A) → or_refuse o
 or_refuse_ok None x a e = cc
 or_refuse_ok (Some b) x a e = cc
 
-again_ok : {A : Type 0} (b : Bool) (r : Result A Refusal) (a : A) → or_again b r ≡ Ok a → r ≡ Ok a
-again_ok b (Ok c) a e = e
-again_ok b (Err x) a e = cc
+map_ok : {A B C : Type 0} (r : Result A Refusal) (g : A → B) (f : B → Result C Refusal) (c : C) (P : Type 0) → (r >>= λ a. Ok (g a)) >>= f ≡ Ok c
+    → ((a : A) → r ≡ Ok a → f (g a) ≡ Ok c → P) → P
+map_ok (Ok a) g f c P e k = k a refl e
+map_ok (Err x) g f c P e k = let no : ⊥ = cc in absurd no
+
+abbrev value_of : Result (Reaction × Scene) Refusal → ℕ
+value_of (Ok (Value n, s)) = n
+value_of (Ok (Waits, s)) = 0
+value_of (Err x) = 0
+
+reacts_ok : {A : Type 0} (r : Result A Refusal) (n fd : ℕ) (f : A → Scene) (after : Scene) → reacts (r >>= λ a. Ok (n, f a)) ≡ Ok (Value fd, after) → n ≡ fd
+reacts_ok (Ok a) n fd f after e = ap value_of e
+reacts_ok (Err x) n fd f after e = let no : ⊥ = cc in absurd no
 
 abbrev answer_of : {S : Type 0} → Result (ℕ × S) Refusal → ℕ
 answer_of (Ok (n, s)) = n
@@ -77,6 +96,16 @@ timerfd_create-least clock flags fd task shared after e =
     bind_ok (create_asked clock flags task) _ (fd, after) (IsLowestFree task.table fd) e
     (λ n p q. lowest_free-IsLowestFree task.table fd (create_asked-least clock flags n task p ∙ ap (λ (k : ℕ). Some k) (ap (answer_of {S = Local}) q)))
 
+-- eventfd(2)
+eventfd_asked-least : (flags fd : ℕ) (task : Task) → eventfd_asked flags task ≡ Ok fd → lowest_free task.table ≡ Some fd
+eventfd_asked-least flags fd task e =
+    or_refuse_ok (lowest_free task.table) (refusal.Errno Emfile) fd (then_ok (refuse_if (not (beside_eventfd flags == 0)) (refusal.Errno Einval)) _ fd e)
+
+pub eventfd2-least : (count flags fd : ℕ) (task : Task) (shared : Shared) (after : Local) → eventfd2 count flags (task, shared) ≡ Ok (fd, after) → IsLowestFree task.table fd
+eventfd2-least count flags fd task shared after e =
+    bind_ok (eventfd_asked flags task) _ (fd, after) (IsLowestFree task.table fd) e
+    (λ n p q. lowest_free-IsLowestFree task.table fd (eventfd_asked-least flags n task p ∙ ap (λ (k : ℕ). Some k) (ap (answer_of {S = Local}) q)))
+
 -- socket(2)
 socket_asked-least : (family type protocol : ℕ) (task : Task) (new : NewSocket) → socket_asked family type protocol task ≡ Ok new → lowest_free task.table ≡ Some new.fd
 socket_asked-least family type protocol task new e =
@@ -97,17 +126,30 @@ accept_place-least k at size_at task t new e =
     (λ place p q. bind_ok (or_refuse (lowest_free task.table) (refusal.Errno Emfile)) _ new (lowest_free task.table ≡ Some new.fd) q
     (λ fd p' q'. or_refuse_ok (lowest_free task.table) (refusal.Errno Emfile) fd p' ∙ ap (λ (n : ℕ). Some n) (ap place_fd q')))
 
-accept_call-least : (o : OpenSocket) (at size_at fd : ℕ) (s after : Scene) → accept_call o at size_at s ≡ Ok (fd, after) → lowest_free s.task.table ≡ Some fd
-accept_call-least o at size_at fd s after e =
-    bind_ok (tcp_number o.number) _ (fd, after) (lowest_free s.task.table ≡ Some fd) e
-    (λ k p q. bind_ok (accept_place k at size_at s.task s.sockets) _ (fd, after) (lowest_free s.task.table ≡ Some fd) q
-    (λ new p' q'. bind_ok (accepts_tcp k s.sockets) _ (fd, after) (lowest_free s.task.table ≡ Some fd) q'
-    (λ a p'' q''. accept_place-least k at size_at s.task s.sockets new p' ∙ ap (λ (n : ℕ). Some n) (ap (answer_of {S = Scene}) q''))))
+abbrev plan_fd : Result AcceptPlan Refusal → ℕ
+plan_fd (Ok a) = a.new.fd
+plan_fd (Err x) = 0
 
-pub accept-least : (from at size_at fd : ℕ) (s after : Scene) → accept from at size_at s ≡ Ok (fd, after) → IsLowestFree s.task.table fd
-accept-least from at size_at fd s after e =
-    bind_ok (open_socket from (local_of s)) _ (fd, after) (IsLowestFree s.task.table fd) e
-    (λ o p q. lowest_free-IsLowestFree s.task.table fd (accept_call-least o at size_at fd s after (again_ok o.nonblocking (accept_call o at size_at s) (fd, after) q)))
+accept_plan_of-least : (o : OpenSocket) (at size_at : ℕ) (task : Task) (t : SocketsRecord) (a : AcceptPlan) → accept_plan_of o at size_at task t ≡ Ok a → lowest_free task.table ≡ Some a.new.fd
+accept_plan_of-least o at size_at task t a e =
+    bind_ok (tcp_number o.number) _ a (lowest_free task.table ≡ Some a.new.fd) e
+    (λ k p q. bind_ok (accept_place k at size_at task t) _ a (lowest_free task.table ≡ Some a.new.fd) q
+    (λ new p' q'. accept_place-least k at size_at task t new p' ∙ ap (λ (n : ℕ). Some n) (ap plan_fd (then_ok (or_again o.nonblocking (accept_ready k t)) _ a q'))))
+
+accept_plan-least : (from at size_at : ℕ) (s : Scene) (a : AcceptPlan) → accept_plan from at size_at s ≡ Ok a → lowest_free s.task.table ≡ Some a.new.fd
+accept_plan-least from at size_at s a e =
+    bind_ok (open_socket from (local_of s)) _ a (lowest_free s.task.table ≡ Some a.new.fd) e (λ o p q. accept_plan_of-least o at size_at s.task s.sockets a q)
+
+accepts_fd : (a : AcceptPlan) (fd : ℕ) (s after : Scene) → reacts (accepts a s) ≡ Ok (Value fd, after) → a.new.fd ≡ fd
+accepts_fd a fd s after e =
+    reacts_ok (accepts_tcp a.listener s.sockets) a.new.fd fd (λ x. accepted_by a.new x.0 x.1 s) after e
+
+pub accept-least : (known : Known) (now : Time) (process : ℕ) (args : List ℕ) (fd : ℕ) (s after : Scene) → waiting_row known now process waiting.Accept args s ≡ Ok (Value fd, after)
+    → IsLowestFree s.task.table fd
+accept-least known now process args fd s after e =
+    map_ok (accept_plan (arg args 0) (arg args 1) (arg args 2) s) (λ a. plan.Accept a) (λ p. done known now process p s) (Value fd, after) (IsLowestFree s.task.table fd) e
+    (λ a p q. lowest_free-IsLowestFree s.task.table fd
+    (accept_plan-least (arg args 0) (arg args 1) (arg args 2) s a p ∙ ap (λ (n : ℕ). Some n) (accepts_fd a fd s after q)))
 
 -- pipe(2)
 abbrev reading_of : Result Ends Refusal → ℕ

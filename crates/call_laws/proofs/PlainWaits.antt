@@ -1,4 +1,4 @@
--- Of the calls that need no sockets only clock_nanosleep waits.
+-- Calls that need no sockets and never wait.
 use Rattle.std.proofs.Common.{ℕ, zero, suc, ◌+◌, Bool, List, Ok, refl, nat_lt}
 use Rattle.sim_base.specs.declared.errno.Errno.TheVariants.{Efault, Einval}
 use Rattle.sim_base.specs.declared.time.Time.{Time}
@@ -16,13 +16,14 @@ use Rattle.guest_args.specs.Span.{span}
 use Rattle.guest_args.specs.Time.{timespec}
 use Rattle.host_timers.specs.declared.clock.Moment.{Moment}
 use Rattle.host_calls.specs.declared.times.Setting.{Setting}
-use Rattle.host_calls.specs.Calls.{arg, plain_row, plain_waits}
+use Rattle.host_calls.specs.Calls.{arg, plain_row}
+use Rattle.host_calls.specs.Eventfd.{eventfd2}
 use Rattle.host_calls.specs.Files.{fcntl, fcntl_by, length_from, openat, pipe2_asked, pipe2}
 use Rattle.host_calls.specs.Guest.{getrandom}
 use Rattle.host_calls.specs.Scene.{Local}
 use Rattle.host_calls.specs.Sockets.{setsockopt}
 use Rattle.host_calls.specs.Times.{clock_gettime, timerfd_create, timer_number, old_timer, settime_asked, timerfd_settime}
-use Rattle.call_laws.proofs.Waits.{Never, Same, nevers, never_bind, never_then, never_or_refuse, never_refuse_if, ends_then}
+use Rattle.call_laws.proofs.Waits.{Never, nevers, never_bind, never_then, never_or_refuse, never_refuse_if}
 
 fcntl_by-never : (command flags : ℕ) (d : Descriptor) (s : Local) → Never (fcntl_by command flags d s)
 fcntl_by-never command flags d (task, shared) = search nevers
@@ -47,6 +48,9 @@ pipe2-never at flags task shared = never_bind (pipe2_asked at flags task) _ (pip
 timerfd_create-never : (clock flags : ℕ) (task : Task) (shared : Shared) → Never (timerfd_create clock flags (task, shared))
 timerfd_create-never clock flags task shared = search nevers
 
+eventfd2-never : (count flags : ℕ) (task : Task) (shared : Shared) → Never (eventfd2 count flags (task, shared))
+eventfd2-never count flags task shared = search nevers
+
 setsockopt-never : (fd level option at n : ℕ) (task : Task) (shared : Shared) → Never (setsockopt fd level option at n (task, shared))
 setsockopt-never fd level option at n task shared = search nevers
 
@@ -64,6 +68,7 @@ timer_number-never (kind.Hosts read) = refl
 timer_number-never (kind.ReadEnd k) = refl
 timer_number-never (kind.WriteEnd k) = refl
 timer_number-never (kind.Timer k) = refl
+timer_number-never (kind.Eventfd k) = refl
 timer_number-never (kind.Udp k) = refl
 timer_number-never (kind.Tcp k) = refl
 
@@ -87,16 +92,15 @@ timerfd_settime-never now fd flags at old_at task shared =
     never_bind (old_timer now fd task shared.files) _ (old_timer-never now fd task shared)
     (λ old. never_bind (settime_asked flags at old_at task) _ (settime_asked-never flags at old_at task) (λ s. refl))
 
-pub plain_same : (now : Time) (process : ℕ) (p : PlainCall) (args : List ℕ) (task : Task) (shared : Shared)
-    → Same (plain_row now process p args (task, shared)) (plain_waits now p args task)
-plain_same now process plain.Fcntl args task shared = fcntl-never (arg args 0) (arg args 1) (arg args 2) task shared
-plain_same now process plain.Openat args task shared = openat-never (arg args 1) (arg args 2) task shared
-plain_same now process plain.Pipe2 args task shared = pipe2-never (arg args 0) (arg args 1) task shared
-plain_same now process plain.TimerfdCreate args task shared = timerfd_create-never (arg args 0) (arg args 1) task shared
-plain_same now process plain.Getpid args task shared = refl
-plain_same now process plain.Setsockopt args task shared = setsockopt-never (arg args 0) (arg args 1) (arg args 2) (arg args 3) (arg args 4) task shared
-plain_same now process plain.Brk args task shared = refl
-plain_same now process plain.Getrandom args task shared = getrandom-never (arg args 0) (arg args 1) (arg args 2) task shared
-plain_same now process plain.ClockGettime args task shared = clock_gettime-never now (arg args 0) (arg args 1) task shared
-plain_same now process plain.ClockNanosleep args task shared = ends_then _ _ refl
-plain_same now process plain.TimerfdSettime args task shared = timerfd_settime-never now (arg args 0) (arg args 1) (arg args 2) (arg args 3) task shared
+pub plain-never : (now : Time) (process : ℕ) (p : PlainCall) (args : List ℕ) (task : Task) (shared : Shared) → Never (plain_row now process p args (task, shared))
+plain-never now process plain.Eventfd2 args task shared = eventfd2-never (arg args 0) (arg args 1) task shared
+plain-never now process plain.Fcntl args task shared = fcntl-never (arg args 0) (arg args 1) (arg args 2) task shared
+plain-never now process plain.Openat args task shared = openat-never (arg args 1) (arg args 2) task shared
+plain-never now process plain.Pipe2 args task shared = pipe2-never (arg args 0) (arg args 1) task shared
+plain-never now process plain.TimerfdCreate args task shared = timerfd_create-never (arg args 0) (arg args 1) task shared
+plain-never now process plain.Getpid args task shared = refl
+plain-never now process plain.Setsockopt args task shared = setsockopt-never (arg args 0) (arg args 1) (arg args 2) (arg args 3) (arg args 4) task shared
+plain-never now process plain.Brk args task shared = refl
+plain-never now process plain.Getrandom args task shared = getrandom-never (arg args 0) (arg args 1) (arg args 2) task shared
+plain-never now process plain.ClockGettime args task shared = clock_gettime-never now (arg args 0) (arg args 1) task shared
+plain-never now process plain.TimerfdSettime args task shared = timerfd_settime-never now (arg args 0) (arg args 1) (arg args 2) (arg args 3) task shared

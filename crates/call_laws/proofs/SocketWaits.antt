@@ -1,16 +1,18 @@
--- Of the calls on sockets accept, connect, send and recv wait, exactly where what they wait for says so.
+-- Of the calls on sockets accept, connect, send and recv wait, exactly where they are asked what they would do.
 use Rattle.std.proofs.Common.{◌≡◌, ℕ, zero, suc, ◌+◌, Bool, false, not, List, [], ◌∷◌, length, Option, Some, None, is_some, is_none, Result, Ok, Err, refl, ap, ◌∙◌, nat_lt, if◌then◌else◌, arith}
 use Rattle.std.proofs.lemmas.Bool.Decides.{nat_tests}
+use Rattle.std.specs.Prelude.{IfOk}
 use Rattle.sim_base.specs.declared.address.Addr.{Addr}
 use Rattle.sim_base.specs.declared.address.Ip.{Ip}
 use Rattle.sim_base.specs.declared.errno.Errno as errno_type
-use Rattle.sim_base.specs.declared.errno.Errno.TheVariants.{Ebadf}
+use Rattle.sim_base.specs.declared.errno.Errno.TheVariants.{Ebadf, Efault}
 use Rattle.sim_base.specs.declared.time.Time.{Time}
-use Rattle.sim_base.specs.Refusals.{◌>>=◌, or_refuse}
+use Rattle.sim_base.specs.Refusals.{◌>>=◌, or_refuse, refuse_if}
 use Rattle.guest_mem.specs.Memory.{Memory, with_first, byte_for, read}
 use Rattle.guest_mem.specs.declared.right.Right.{Right}
 use Rattle.guest_mem.specs.declared.right.Right.TheVariants.{Read}
-use Rattle.guest_args.specs.Span.{counted, span}
+use Rattle.guest_args.specs.declared.address.AddressPlace.{AddressPlace}
+use Rattle.guest_args.specs.Span.{counted, span, can_read}
 use Rattle.sock_udp.specs.Socket.{UdpState}
 use Rattle.sock_udp.specs.declared.datagram.Datagram.{Datagram}
 use Rattle.host_sockets.specs.declared.error.Refusal.{Refusal}
@@ -28,13 +30,15 @@ use Rattle.host_calls.specs.declared.parts.Reaction.{Reaction}
 use Rattle.host_calls.specs.declared.parts.Why.{Why}
 use Rattle.host_calls.specs.declared.receiving.Room.{Room}
 use Rattle.host_calls.specs.declared.sending.Message.{Message}
+use Rattle.host_calls.specs.declared.sending.StreamSend.{StreamSend}
 use Rattle.host_calls.specs.declared.sockets.OpenSocket.{OpenSocket}
 use Rattle.host_calls.specs.declared.sockets.SocketNumber.{SocketNumber}
 use Rattle.host_calls.specs.declared.sockets.SocketNumber.TheVariants as number
 use Rattle.host_calls.specs.Flags.{has, msg_nosignal}
 use Rattle.host_calls.specs.Parts.{Scene, local_of}
-use Rattle.host_calls.specs.Sockets.{tcp_number, address, given_address, accept_place, accept_call, accept, accept_wait, accept_waits, connected, connect_udp, connect_again, connect_call, connect, connect_wait, connect_waits, refuse_flags, is_quick, send_udp, send_tcp, send_call, send, send_tcp_wait, send_wait, send_waits, recv_place, recv_call, recv, recv_wait, recv_waits, open_socket}
-use Rattle.call_laws.proofs.Waits.{Never, Same, waits_in, reaction_waits, nevers, never_bind, same_bind, same_then, ends_bind, ends_then, same_again, span_same}
+use Rattle.host_calls.specs.Scene.{or_again, kept_answers}
+use Rattle.host_calls.specs.Sockets.{tcp_number, address, given_address, accept_place, accept_plan, accepts, connected, connect_udp, connect_again, connect_call, connect_ready, connect_plan, connects, refuse_flags, is_quick, send_udp, send_tcp, send_plan_of, send_plan, sends_by, recv_place, recv_ready, recv_plan, recv_by, receives, open_socket}
+use Rattle.call_laws.proofs.Waits.{Never, Same, waits_in, reaction_waits, nevers, never_bind, same_bind, same_then, ends_bind, ends_then, gives_bind, gives_then, ok_never, kept-never, again_kept-never, span-never}
 
 -- where a row answers a reaction
 reaction_bind : {A : Type 0} (r : Result A Refusal) (f : A → Result (Reaction × Scene) Refusal) → ((a : A) → reaction_waits (f a) ≡ false) → reaction_waits (r >>= f) ≡ waits_in r
@@ -105,15 +109,11 @@ accepts-same : (k : ℕ) (t : SocketsRecord) → Same (accepts_tcp k t) (accept_
 unfolding accepts_tcp
 accepts-same k t = same_then (accept_asked k t) _ _ (ends_bind (or_refuse (accepts_at k t) (refusal.Wait None)) _ (λ a. refl) ∙ or_wait-is (accepts_at k t))
 
-accept_call-same : (socket : OpenSocket) (at size_at : ℕ) (s : Scene) → Same (accept_call socket at size_at s) (accept_wait socket at size_at s.task s.sockets)
-accept_call-same socket at size_at s =
-    same_bind (tcp_number socket.number) _ _ (λ k. same_bind (accept_place k at size_at s.task s.sockets) _ _
-    (λ new. ends_bind (accepts_tcp k s.sockets) _ (λ a. refl) ∙ accepts-same k s.sockets))
-
-pub accept-same : (fd at size_at : ℕ) (s : Scene) → Same (accept fd at size_at s) (accept_waits fd at size_at s)
-accept-same fd at size_at s =
-    same_bind (open_socket fd (local_of s)) _ _
-    (λ socket. same_again socket.nonblocking (accept_call socket at size_at s) (accept_wait socket at size_at s.task s.sockets) (accept_call-same socket at size_at s))
+pub accept-settles : (fd at size_at : ℕ) (s : Scene) → IfOk (accept_plan fd at size_at s) (λ a. Never (accepts a s))
+accept-settles fd at size_at s =
+    gives_bind (open_socket fd (local_of s)) _ _ (λ socket e. gives_bind (tcp_number socket.number) _ _ (λ k f. gives_bind (accept_place k at size_at s.task s.sockets) _ _
+    (λ new g. gives_then (or_again socket.nonblocking (accept_ready k s.sockets)) _ _
+    (λ u h. ends_bind (accepts_tcp k s.sockets) _ (λ a. refl) ∙ accepts-same k s.sockets ∙ ok_never socket.nonblocking (accept_ready k s.sockets) u h))))
 
 -- connect(2) that is called again
 connected-answers : (reply : Reply (Unit {0})) (s : Scene) → reaction_waits (Ok (connected reply, s)) ≡ false
@@ -132,15 +132,21 @@ kept_branch : (o : Option Why) (why : Why) (x y : Result (Reaction × Scene) Ref
 kept_branch None why x y e = cc
 kept_branch (Some first) why x y e = refl
 
-connect_call-same : (hosts : List Ip) (now : Time) (nonblocking : Bool) (n : SocketNumber) (at size : ℕ) (s : Scene) (why : Why) → s.task.kept ≡ Some why
-    → reaction_waits (connect_call hosts now nonblocking n at size s) ≡ waits_in (connect_wait n s.sockets)
-connect_call-same hosts now nonblocking (number.Udp k) at size s why e = connect_udp-never hosts k at size s
-connect_call-same hosts now nonblocking (number.Tcp k) at size s why e = kept_branch s.task.kept why _ _ e ∙ connect_again-same now k s
+ready_branch : (o : Option Why) (why : Why) (r : Result (Unit {0}) Refusal) (u : Unit {0}) → o ≡ Some why → (if is_some o then kept_answers r else Ok tt) ≡ Ok u → Never r
+ready_branch None why r u e h = cc
+ready_branch (Some first) why r u e h = kept-never r u h
 
-pub connect-same : (hosts : List Ip) (now : Time) (fd at size : ℕ) (s : Scene) (why : Why) → s.task.kept ≡ Some why
-    → reaction_waits (connect hosts now fd at size s) ≡ waits_in (connect_waits fd s)
-connect-same hosts now fd at size s why e =
-    reaction_same (open_socket fd (local_of s)) _ _ (λ socket. connect_call-same hosts now socket.nonblocking socket.number at size s why e)
+connect_call-settles : (hosts : List Ip) (now : Time) (nonblocking : Bool) (n : SocketNumber) (at size : ℕ) (s : Scene) (why : Why) (u : Unit {0}) → s.task.kept ≡ Some why
+    → connect_ready n s ≡ Ok u → reaction_waits (connect_call hosts now nonblocking n at size s) ≡ false
+connect_call-settles hosts now nonblocking (number.Udp k) at size s why u e ready = connect_udp-never hosts k at size s
+connect_call-settles hosts now nonblocking (number.Tcp k) at size s why u e ready =
+    kept_branch s.task.kept why _ _ e ∙ connect_again-same now k s ∙ ready_branch s.task.kept why (connect_waited k s.sockets) u e ready
+
+pub connect-settles : (hosts : List Ip) (now : Time) (fd at size : ℕ) (s : Scene) (why : Why) → s.task.kept ≡ Some why
+    → IfOk (connect_plan fd at size s) (λ c. reaction_waits (connects hosts now c s) ≡ false)
+connect-settles hosts now fd at size s why e =
+    gives_bind (open_socket fd (local_of s)) _ _ (λ socket f. gives_then (connect_ready socket.number s) _ _
+    (λ u ready. connect_call-settles hosts now socket.nonblocking socket.number at size s why u e ready))
 
 -- a span of so many bytes has so many
 with_first-length : (b : Option ℕ) (o : Option (List ℕ)) (k : ℕ) → ((bytes : List ℕ) → o ≡ Some bytes → length bytes ≡ k) → (bytes : List ℕ) → with_first b o ≡ Some bytes → length bytes ≡ suc k
@@ -160,23 +166,25 @@ unfolding sends_taking
 sends-same hosts now k bytes to quiet t w =
     taking-is now k (sends_bytes hosts now k bytes to quiet t w) t w ∙ ends_then (send_asked hosts k (length bytes) to quiet t) _ refl
 
-send_tcp-same : (hosts : List Ip) (now : Time) (k : ℕ) (quiet : Bool) (message : Message) (s : Scene)
-    → Same (send_tcp hosts now k quiet message s) (send_tcp_wait hosts k quiet message s.task.memory s.sockets)
-send_tcp-same hosts now k quiet message s =
-    span_same (span (counted message.n) message.at s.task.memory) _ _ (λ bytes is. same_bind (given_address message.to_at message.size s.task.memory) _ _
-    (λ to. ends_bind (sends_taking hosts now k bytes to quiet s.sockets s.shared.outlet) _ (λ a. refl) ∙ sends-same hosts now k bytes to quiet s.sockets s.shared.outlet
-    ∙ ap (λ (count : ℕ). waits_in (send_asked hosts k count to quiet s.sockets)) (read-length Read (counted message.n) s.task.memory message.at bytes is)))
+send_tcp-never : (hosts : List Ip) (now : Time) (d : StreamSend) (s : Scene) → Never (send_asked hosts d.place (counted d.n) d.to d.quiet s.sockets) → Never (send_tcp hosts now d s)
+send_tcp-never hosts now d s h =
+    span-never (span (counted d.n) d.at s.task.memory) _ (λ bytes is. ends_bind (sends_taking hosts now d.place bytes d.to d.quiet s.sockets s.shared.outlet) _ (λ a. refl)
+    ∙ sends-same hosts now d.place bytes d.to d.quiet s.sockets s.shared.outlet
+    ∙ ap (λ (count : ℕ). waits_in (send_asked hosts d.place count d.to d.quiet s.sockets)) (read-length Read (counted d.n) s.task.memory d.at bytes is) ∙ h)
 
-send_call-same : (hosts : List Ip) (now : Time) (n : SocketNumber) (quiet : Bool) (message : Message) (s : Scene)
-    → Same (send_call hosts now n quiet message s) (send_wait hosts n quiet message s.task.memory s.sockets)
-send_call-same hosts now (number.Udp k) quiet message s = send_udp-never hosts k message s
-send_call-same hosts now (number.Tcp k) quiet message s = send_tcp-same hosts now k quiet message s
+send_plan_of-settles : (hosts : List Ip) (now : Time) (n : SocketNumber) (nonblocking quiet : Bool) (message : Message) (s : Scene)
+    → IfOk (send_plan_of hosts n nonblocking quiet message s.task.memory s.sockets) (λ m. Never (sends_by hosts now m s))
+send_plan_of-settles hosts now (number.Udp k) nonblocking quiet message s = send_udp-never hosts k message s
+send_plan_of-settles hosts now (number.Tcp k) nonblocking quiet message s =
+    gives_then (refuse_if (not (can_read (counted message.n) message.at s.task.memory)) (refusal.Errno Efault)) _ _
+    (λ u e. gives_bind (given_address message.to_at message.size s.task.memory) _ _ (λ to f.
+    gives_then (or_again nonblocking (kept_answers (send_asked hosts k (counted message.n) to quiet s.sockets))) _ _
+    (λ v g. send_tcp-never hosts now _ s (again_kept-never nonblocking (send_asked hosts k (counted message.n) to quiet s.sockets) v g))))
 
-pub send-same : (hosts : List Ip) (now : Time) (socket : OpenSocket) (flags : ℕ) (message : Message) (s : Scene)
-    → Same (send hosts now socket flags message s) (send_waits hosts socket flags message s.task.memory s.sockets)
-send-same hosts now socket flags message s =
-    same_then (refuse_flags flags) _ _ (same_again (is_quick socket.nonblocking flags) (send_call hosts now socket.number (has msg_nosignal flags) message s)
-    (send_wait hosts socket.number (has msg_nosignal flags) message s.task.memory s.sockets) (send_call-same hosts now socket.number (has msg_nosignal flags) message s))
+pub send-settles : (hosts : List Ip) (now : Time) (socket : OpenSocket) (flags : ℕ) (message : Message) (s : Scene)
+    → IfOk (send_plan hosts socket flags message s.task.memory s.sockets) (λ m. Never (sends_by hosts now m s))
+send-settles hosts now socket flags message s =
+    gives_then (refuse_flags flags) _ _ (λ u e. send_plan_of-settles hosts now socket.number (is_quick socket.nonblocking flags) (has msg_nosignal flags) message s)
 
 -- recv(2)
 is_positive : (n : ℕ) → false ≡ not (nat_lt 0 (suc n))
@@ -195,14 +203,16 @@ receives-same : (now : Time) (k count : ℕ) (t : SocketsRecord) (w : Wanted) �
 unfolding receives_taking
 receives-same now k count t w = taking-is now k (receives_bytes now k count t w) t w ∙ ends_then (recv_asked k t) _ refl
 
-recv_call-same : (now : Time) (n : SocketNumber) (room : Room) (s : Scene) → Same (recv_call now n room s) (recv_wait n room s.task.memory s.sockets)
-recv_call-same now (number.Udp k) room s =
-    same_bind (recv_place room s.task.memory) _ _ (λ place. ends_bind (receives_udp k (counted room.n) s.sockets) _ (λ a. refl) ∙ receives_udp-same k (counted room.n) s.sockets)
-recv_call-same now (number.Tcp k) room s =
-    same_bind (recv_place room s.task.memory) _ _
-    (λ place. ends_bind (receives_taking now k (counted room.n) s.sockets s.shared.outlet) _ (λ a. refl) ∙ receives-same now k (counted room.n) s.sockets s.shared.outlet)
+recv_by-never : (now : Time) (b : Bool) (n : SocketNumber) (at count : ℕ) (place : Option AddressPlace) (s : Scene) (u : Unit {0}) → or_again b (recv_ready n s.sockets) ≡ Ok u
+    → Never (recv_by now n at count place s)
+recv_by-never now b (number.Udp k) at count place s u h =
+    ends_bind (receives_udp k (counted count) s.sockets) _ (λ a. refl) ∙ receives_udp-same k (counted count) s.sockets ∙ ok_never b (recv_udp_asked k s.sockets) u h
+recv_by-never now b (number.Tcp k) at count place s u h =
+    ends_bind (receives_taking now k (counted count) s.sockets s.shared.outlet) _ (λ a. refl) ∙ receives-same now k (counted count) s.sockets s.shared.outlet
+    ∙ again_kept-never b (recv_asked k s.sockets) u h
 
-pub recv-same : (now : Time) (socket : OpenSocket) (flags : ℕ) (room : Room) (s : Scene) → Same (recv now socket flags room s) (recv_waits socket flags room s.task.memory s.sockets)
-recv-same now socket flags room s =
-    same_then (refuse_flags flags) _ _ (same_again (is_quick socket.nonblocking flags) (recv_call now socket.number room s)
-    (recv_wait socket.number room s.task.memory s.sockets) (recv_call-same now socket.number room s))
+pub recv-settles : (now : Time) (socket : OpenSocket) (flags : ℕ) (room : Room) (s : Scene) → IfOk (recv_plan socket flags room s.task.memory s.sockets) (λ r. Never (receives now r s))
+recv-settles now socket flags room s =
+    gives_then (refuse_flags flags) _ _ (λ u e. gives_bind (recv_place room s.task.memory) _ _ (λ place f.
+    gives_then (or_again (is_quick socket.nonblocking flags) (recv_ready socket.number s.sockets)) _ _
+    (λ v g. recv_by-never now (is_quick socket.nonblocking flags) socket.number room.at room.n place s v g)))

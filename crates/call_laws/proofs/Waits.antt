@@ -1,5 +1,6 @@
--- Which calls wait: a row waits exactly where what it waits for says so.
-use Rattle.std.proofs.Common.{◌≡◌, ℕ, Bool, true, false, not, ◌&&◌, List, Option, Some, None, is_some, Result, Ok, Err, refl, sym, ap, ◌∙◌, if◌then◌else◌}
+-- Which calls wait: a row waits exactly where it is asked what it would do.
+use Rattle.std.proofs.Common.{◌≡◌, ℕ, Bool, true, false, not, ◌&&◌, List, Option, Some, None, Result, Ok, Err, refl, ap, ◌∙◌, if◌then◌else◌}
+use Rattle.std.specs.Prelude.{IfOk}
 use Rattle.sim_base.specs.declared.errno.Errno as errno_type
 use Rattle.sim_base.specs.declared.errno.Errno.TheVariants.{Ebadf, Efault}
 use Rattle.sim_base.specs.declared.object.ObjectId.{ObjectId}
@@ -9,6 +10,7 @@ use Rattle.host_files.specs.declared.file.Object.TheVariants as kind
 use Rattle.host_files.specs.Files.{FilesState, file_at}
 use Rattle.host_sockets.specs.declared.error.Refusal.{Refusal}
 use Rattle.host_sockets.specs.declared.error.Refusal.TheVariants as refusal
+use Rattle.host_calls.specs.declared.plan.Plan.{Plan}
 use Rattle.host_calls.specs.declared.parts.Reaction.{Reaction}
 use Rattle.host_calls.specs.declared.parts.Reaction.TheVariants.{Value, Waits}
 use Rattle.host_calls.specs.declared.parts.Task.{Task}
@@ -17,7 +19,7 @@ use Rattle.std.specs.FinMap as map
 use Rattle.host_calls.specs.Calls.{reacts, is_wait}
 use Rattle.host_calls.specs.Descriptors.{descriptor, descriptor_by}
 use Rattle.host_calls.specs.Parts.{Scene, plainly}
-use Rattle.host_calls.specs.Scene.{Local, or_again}
+use Rattle.host_calls.specs.Scene.{Local, or_again, kept_answers}
 use Rattle.host_calls.specs.Sockets.{socket_number, open_socket}
 
 abbrev pub tells_wait : Refusal → Bool
@@ -43,8 +45,8 @@ Same r q = waits_in r ≡ waits_in q
 abbrev pub Never : {A : Type 0} → Result A Refusal → Type 0
 Never r = waits_in r ≡ false
 
-pub is_wait-is : (r : Result (Unit {0}) Refusal) → is_wait r ≡ waits_in r
-is_wait-is (Ok tt) = refl
+pub is_wait-is : (r : Result Plan Refusal) → is_wait r ≡ waits_in r
+is_wait-is (Ok plan) = refl
 is_wait-is (Err (refusal.Wait until)) = refl
 is_wait-is (Err (refusal.Errno errno)) = refl
 is_wait-is (Err (refusal.Kept errno)) = refl
@@ -98,9 +100,6 @@ again_is false (Err (refusal.Kept errno)) = refl
 again_is true (Err (refusal.End state)) = refl
 again_is false (Err (refusal.End state)) = refl
 
-pub same_again : {A B : Type 0} (b : Bool) (r : Result A Refusal) (q : Result B Refusal) → Same r q → Same (or_again b r) (or_again b q)
-same_again b r q h = again_is b r ∙ ap (λ (x : Bool). not b && x) h ∙ sym (again_is b q)
-
 never_not : (b : Bool) → (not b && false) ≡ false
 never_not true = refl
 never_not false = refl
@@ -132,6 +131,7 @@ socket_number-never (kind.Hosts read) = refl
 socket_number-never (kind.ReadEnd k) = refl
 socket_number-never (kind.WriteEnd k) = refl
 socket_number-never (kind.Timer k) = refl
+socket_number-never (kind.Eventfd k) = refl
 socket_number-never (kind.Udp k) = refl
 socket_number-never (kind.Tcp k) = refl
 
@@ -139,10 +139,46 @@ pub open_socket-never : (fd : ℕ) (task : Task) (shared : Shared) → Never (op
 open_socket-never fd task shared =
     never_bind (descriptor fd task shared.files) _ (descriptor-never fd task shared.files) (λ d. never_bind (socket_number d.file.object) _ (socket_number-never d.file.object) (λ n. refl))
 
--- bytes that are read, where the row takes them and what it waits for only tests their span
-pub span_same : {B C : Type 0} (o : Option (List ℕ)) (f : List ℕ → Result B Refusal) (q : Result C Refusal) → ((bytes : List ℕ) → o ≡ Some bytes → Same (f bytes) q)
-    → Same (or_refuse o (refusal.Errno Efault) >>= f) (refuse_if (not (is_some o)) (refusal.Errno Efault) >> q)
-span_same None f q k = refl
-span_same (Some bytes) f q k = k bytes refl
+-- a row waits nowhere but where it is asked
+pub asked_then : {A : Type 0} (r : Result A Refusal) (f : A → Result (Reaction × Scene) Refusal) → IfOk r (λ a. reaction_waits (f a) ≡ false) → reaction_waits (r >>= f) ≡ waits_in r
+asked_then (Ok a) f h = h
+asked_then (Err e) f h = refl
+
+-- what is known of what a row gives
+pub gives_bind : {A B : Type 0} (r : Result A Refusal) (f : A → Result B Refusal) (P : B → Type 0) → ((a : A) → r ≡ Ok a → IfOk (f a) P) → IfOk (r >>= f) P
+gives_bind (Ok a) f P k = k a refl
+gives_bind (Err e) f P k = tt
+
+pub gives_then : {A B : Type 0} (r : Result A Refusal) (q : Result B Refusal) (P : B → Type 0) → ((a : A) → r ≡ Ok a → IfOk q P) → IfOk (r >> q) P
+gives_then (Ok a) q P k = k a refl
+gives_then (Err e) q P k = tt
+
+pub gives_map : {A B : Type 0} (r : Result A Refusal) (f : A → B) (P : A → Type 0) (Q : B → Type 0) → IfOk r P → ((a : A) → P a → Q (f a)) → IfOk (r >>= λ a. Ok (f a)) Q
+gives_map (Ok a) f P Q h k = k a h
+gives_map (Err e) f P Q h k = tt
+
+-- what was asked and didn't wait
+pub ok_never : {A : Type 0} (b : Bool) (r : Result A Refusal) (a : A) → or_again b r ≡ Ok a → Never r
+ok_never b (Ok c) a e = refl
+ok_never b (Err x) a e = cc
+
+pub kept-never : (r : Result (Unit {0}) Refusal) (u : Unit {0}) → kept_answers r ≡ Ok u → Never r
+kept-never (Ok c) u e = refl
+kept-never (Err (refusal.Kept errno)) u e = refl
+kept-never (Err (refusal.Wait until)) u e = cc
+kept-never (Err (refusal.Errno errno)) u e = refl
+kept-never (Err (refusal.End state)) u e = refl
+
+pub again_kept-never : (b : Bool) (r : Result (Unit {0}) Refusal) (u : Unit {0}) → or_again b (kept_answers r) ≡ Ok u → Never r
+again_kept-never b (Ok c) u e = refl
+again_kept-never b (Err (refusal.Kept errno)) u e = refl
+again_kept-never b (Err (refusal.Wait until)) u e = cc
+again_kept-never b (Err (refusal.Errno errno)) u e = refl
+again_kept-never b (Err (refusal.End state)) u e = refl
+
+-- bytes that are read
+pub span-never : {A : Type 0} (o : Option (List ℕ)) (f : List ℕ → Result A Refusal) → ((bytes : List ℕ) → o ≡ Some bytes → Never (f bytes)) → Never (or_refuse o (refusal.Errno Efault) >>= f)
+span-never None f k = refl
+span-never (Some bytes) f k = k bytes refl
 
 pub ruleset nevers = (never_bind, never_then, never_if, never_or_refuse, never_refuse_if, never_again, descriptor-never, socket_number-never, open_socket-never)

@@ -5,7 +5,7 @@ use Rattle.host_fds.specs.Descriptors.{Descriptors}
 use Rattle.host_files.specs.Slots.{at}
 use Rattle.host_calls.specs.declared.call.Call.{Call}
 use Rattle.host_calls.specs.declared.call.Call.TheVariants as system_call
-use Rattle.host_calls.specs.declared.call.PlainCall.TheVariants as plain
+use Rattle.host_calls.specs.declared.call.WaitingCall.TheVariants as waiting
 use Rattle.host_calls.specs.declared.parts.Answer.{Answer}
 use Rattle.host_calls.specs.declared.parts.Answer.TheVariants as answer
 use Rattle.host_calls.specs.declared.parts.Task.{Task}
@@ -38,8 +38,8 @@ kept_call process h = kept_by (at process h.tasks)
 
 -- a call that is handed the time to which it waits: clock_nanosleep(2), and ppoll(2) where its pointer isn't null
 abbrev pub takes_time : Option Call → List ℕ → Bool
-takes_time (Some (system_call.Plain plain.ClockNanosleep)) args = true
-takes_time (Some system_call.Ppoll) args = not (arg args 2 == 0)
+takes_time (Some (system_call.Waiting waiting.ClockNanosleep)) args = true
+takes_time (Some (system_call.Waiting waiting.Ppoll)) args = not (arg args 2 == 0)
 takes_time _ args = false
 
 -- the first free number of so many from one on

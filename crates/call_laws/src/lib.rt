@@ -17,18 +17,22 @@ ghost use Rattle.sim_base.specs.declared.address.Addr.{Addr};
 ghost use Rattle.sim_base.specs.declared.address.Ip.{Ip};
 ghost use Rattle.host_calls.specs.declared.files.Ends.{Ends};
 ghost use Rattle.host_calls.specs.declared.parts.Answer.TheVariants as answer;
+ghost use Rattle.host_calls.specs.declared.call.WaitingCall.TheVariants as waiting;
 ghost use Rattle.host_calls.specs.declared.parts.Known.{Known};
+ghost use Rattle.host_calls.specs.declared.parts.Reaction.TheVariants.{Value};
 ghost use Rattle.host_calls.specs.declared.parts.Shared.{Shared};
 ghost use Rattle.host_calls.specs.declared.parts.Task.{Task};
 ghost use Rattle.host_calls.specs.declared.parts.Why.{Why};
 ghost use Rattle.host_calls.specs.Call.{call_of};
-ghost use Rattle.host_calls.specs.Calls.{call, call_scene, cleared, row_of, answers};
+ghost use Rattle.host_calls.specs.Calls.{call, call_scene, cleared, row_of, waiting_row, answers};
 ghost use Rattle.host_calls.specs.Events.{ended};
+ghost use Rattle.host_calls.specs.Eventfd.{eventfd2};
 ghost use Rattle.host_calls.specs.Files.{openat, pipe2_asked};
 ghost use Rattle.call_laws.specs.Laws.{is_block, kept_call, takes_time, IsFirstFree, TakesError};
+ghost use Rattle.call_laws.specs.Readiness.{AnswersWhere, would_read, would_accept, would_write, would_connect};
 ghost use Rattle.host_calls.specs.Parts.{PartsRecord, Scene};
 ghost use Rattle.host_calls.specs.Scene.{Local, negative};
-ghost use Rattle.host_calls.specs.Sockets.{socket, accept};
+ghost use Rattle.host_calls.specs.Sockets.{socket};
 ghost use Rattle.host_calls.specs.Times.{timerfd_create};
 
 /// The call that a process waits in would answer exactly where making it again doesn't wait.
@@ -47,8 +51,9 @@ pub fn deadline_answers()
 pub fn new_descriptors()
     ensures file { (path flags fd : ℕ) (task : Task) (shared : Shared) (after : Local) → openat path flags (task, shared) ≡ Ok (fd, after) → IsLowestFree task.table fd }
     ensures timer { (clock flags fd : ℕ) (task : Task) (shared : Shared) (after : Local) → timerfd_create clock flags (task, shared) ≡ Ok (fd, after) → IsLowestFree task.table fd }
+    ensures eventfd { (count flags fd : ℕ) (task : Task) (shared : Shared) (after : Local) → eventfd2 count flags (task, shared) ≡ Ok (fd, after) → IsLowestFree task.table fd }
     ensures socket { (family type protocol fd : ℕ) (s after : Scene) → socket family type protocol s ≡ Ok (fd, after) → IsLowestFree s.task.table fd }
-    ensures connection { (from at size_at fd : ℕ) (s after : Scene) → accept from at size_at s ≡ Ok (fd, after) → IsLowestFree s.task.table fd }
+    ensures connection { (known : Known) (now : Time) (process : ℕ) (args : List ℕ) (fd : ℕ) (s after : Scene) → waiting_row known now process waiting.Accept args s ≡ Ok (Value fd, after) → IsLowestFree s.task.table fd }
     ensures reading_end { (at flags : ℕ) (task : Task) (fds : Ends) → pipe2_asked at flags task ≡ Ok fds → IsLowestFree task.table fds.reading }
     ensures writing_end { (at flags : ℕ) (task : Task) (fds : Ends) → pipe2_asked at flags task ≡ Ok fds
         → IsFirstFree task.table (fds.reading + 1) (limit - (fds.reading + 1)) fds.writing }
@@ -81,4 +86,17 @@ pub fn ends_of_processes()
     ensures by_call { (known : Known) (now : Time) (process number : ℕ) (args : List ℕ) (h : PartsRecord) (state : State) (fd : ℕ)
         → (call known now process number args h).0 ≡ answer.End state → fd < limit
         → IfSome (at process (call known now process number args h).1.tasks) (λ task. map.get task.table fd ≡ None) }
+{}
+
+/// Readiness and answers agree: a call that a process waits in, and that isn't refused, answers
+/// exactly where `poll(2)` tells of its descriptor what the call waits for. A pipe whose other end is
+/// let go and a TCP socket whose connection is over answer too, and so does a write of no bytes; a
+/// write to an eventfd goes by its room for the number that is added.
+pub fn readiness_and_answers()
+    ensures read { AnswersWhere would_read waiting.Read }
+    ensures recvfrom { AnswersWhere would_read waiting.Recvfrom }
+    ensures accept { AnswersWhere would_accept waiting.Accept }
+    ensures write { AnswersWhere would_write waiting.Write }
+    ensures sendto { AnswersWhere would_write waiting.Sendto }
+    ensures connect { AnswersWhere would_connect waiting.Connect }
 {}

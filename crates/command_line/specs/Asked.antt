@@ -1,5 +1,5 @@
 -- What a command line asks for, or its first fault.
-use Rattle.std.specs.Prelude.{◌≡◌, ℕ, ◌-◌, ◌^◌, ◌&&◌, List, length, Option, Some, None, option_map, option_and_then, unwrap_or, Result, Ok, Err, Bool, if◌then◌else◌, nat_le, nat_lt}
+use Rattle.std.specs.Prelude.{◌≡◌, ℕ, ◌&&◌, List, length, Option, Some, None, option_map, option_and_then, unwrap_or, Result, Ok, Err, Bool, if◌then◌else◌, nat_le, nat_lt}
 use Rattle.std.specs.Char.{is_ascii_digit}
 use Rattle.std.specs.List.{list_all}
 use Rattle.std.specs.Str.Parse.{digits_value}
@@ -20,7 +20,7 @@ use Rattle.command_line.specs.declared.fault.WordsError.TheVariants.{Refused, No
 use Rattle.command_line.specs.declared.fault.WordsFault.{WordsFault}
 use Rattle.command_line.specs.declared.fault.WordsFault.TheVariants.{Usage, BadOption}
 use Rattle.command_line.specs.declared.name.OptionName.{OptionName}
-use Rattle.command_line.specs.declared.name.OptionName.TheVariants.{Seed, Parallelism, DataDirectory, StopTime, Budget, SelfLoad}
+use Rattle.command_line.specs.declared.name.OptionName.TheVariants.{Seed, Parallelism, DataDirectory, StopTime, Budget, SelfLoad, ReadCapture}
 
 -- ---- values
 
@@ -50,21 +50,24 @@ read_option name read (Some text) = or_refuse (option_map (λ a. Some a) (read t
 
 -- ---- what is to be read
 
--- a configuration's name, or the text of a self-load's size
+-- a configuration's name, the text of a self-load's size, or a capture's name
 pub data Chosen : Type 0 where
   config : Text → Chosen
   self_load : Text → Chosen
+  capture : Text → Chosen
 
--- exactly one of the two is given
-abbrev pub chosen : Option Text → Option Text → Result Chosen WordsFault
-chosen (Some name) None = Ok (config name)
-chosen None (Some size) = Ok (self_load size)
-chosen _ _ = Err Usage
+-- exactly one of the three is given
+abbrev pub chosen : Option Text → Option Text → Option Text → Result Chosen WordsFault
+chosen (Some name) None None = Ok (config name)
+chosen None (Some size) None = Ok (self_load size)
+chosen None None (Some name) = Ok (capture name)
+chosen _ _ _ = Err Usage
 
 -- the choice of the code
 abbrev pub choice_of : Choice → Chosen
 choice_of (choice.Config name) = config name.now
 choice_of (choice.SelfLoad size) = self_load size.now
+choice_of (choice.Capture name) = capture name.now
 
 -- `-` is the name of standard input; a self-load has two hosts at least
 abbrev pub subject_of : Chosen → Result Subject WordsFault
@@ -72,6 +75,7 @@ subject_of (config name) = Ok (subject.File name)
 subject_of (self_load size) = do
   hosts ← or_refuse (number_within 2 most_ring_hosts size) (BadOption SelfLoad)
   Ok (subject.SelfLoad hosts)
+subject_of (capture name) = Ok (subject.Capture name)
 
 -- how many instructions a turn takes at most, and where nothing is said
 abbrev pub greatest_budget : ℕ
@@ -100,7 +104,7 @@ budget_of rows = read_option Budget (number_within 1 greatest_budget) (value_of 
 unfoldable pub asked : List Text → Result Asked WordsFault
 asked words = do
   rows ← found words
-  choice ← chosen (config_of rows) (value_of SelfLoad rows)
+  choice ← chosen (config_of rows) (value_of SelfLoad rows) (value_of ReadCapture rows)
   seed ← seed_of rows
   parallelism ← parallelism_of rows
   directory ← data_directory_of rows

@@ -7,7 +7,7 @@ use Rattle.clap.specs.Simple.{App, matches_of, new_app, new_rule, with_rule}
 use Rattle.clap.specs.Walk.{Row, Rule, Text, first_of, is_empty}
 use Rattle.clap.specs.declared.builder.action.ArgAction.TheVariants.{Set, SetTrue}
 use Rattle.command_line.specs.declared.name.OptionName.{OptionName}
-use Rattle.command_line.specs.declared.name.OptionName.TheVariants.{Seed, Parallelism, DataDirectory, StopTime, Budget, SelfLoad}
+use Rattle.command_line.specs.declared.name.OptionName.TheVariants.{Seed, Parallelism, DataDirectory, StopTime, Budget, SelfLoad, ReadCapture}
 use Rattle.command_line.specs.declared.fault.WordsFault.{WordsFault}
 use Rattle.command_line.specs.declared.fault.WordsFault.TheVariants.{Usage}
 
@@ -18,6 +18,7 @@ name_text DataDirectory = codes "data-directory"
 name_text StopTime = codes "stop-time"
 name_text Budget = codes "budget"
 name_text SelfLoad = codes "self-load"
+name_text ReadCapture = codes "read-capture"
 
 -- --NAME VALUE
 abbrev pub option_rule : Text → Rule
@@ -42,11 +43,11 @@ show_config_rule = record (new_rule (codes "show-config")) { long = Some (codes 
 abbrev pub config_rule : Rule
 config_rule = record (new_rule (codes "CONFIG")) { action = Some Set }
 
--- shadow [--seed N] [-p|--parallelism N] [-d|--data-directory DIR] [--stop-time T] [--budget N] [--self-load N] [--show-config] [CONFIG]
+-- shadow [--seed N] [-p|--parallelism N] [-d|--data-directory DIR] [--stop-time T] [--budget N] [--self-load N] [--read-capture FILE] [--show-config] [CONFIG]
 unfoldable pub shadow_command : App
-shadow_command = with_rule (with_rule (with_rule (with_rule (with_rule (with_rule (with_rule (with_rule (new_app (codes "shadow"))
+shadow_command = with_rule (with_rule (with_rule (with_rule (with_rule (with_rule (with_rule (with_rule (with_rule (new_app (codes "shadow"))
     (option_rule (name_text Seed))) (short_option_rule letter_p (name_text Parallelism))) (short_option_rule letter_d (name_text DataDirectory)))
-    (option_rule (name_text StopTime))) (option_rule (name_text Budget))) (option_rule (name_text SelfLoad))) show_config_rule) config_rule
+    (option_rule (name_text StopTime))) (option_rule (name_text Budget))) (option_rule (name_text SelfLoad))) (option_rule (name_text ReadCapture))) show_config_rule) config_rule
 
 -- what the words give to the options, the flag and the word, where clap takes them
 unfoldable pub found : List Text → Result (List Row) WordsFault

@@ -27,6 +27,8 @@ pub enum Subject {
     File(Name),
     /// The configuration that is made for so many hosts.
     SelfLoad(u32),
+    /// A capture; `-` is standard input.
+    Capture(Name),
 }
 
 /// What a command line asks for.
@@ -50,15 +52,21 @@ pub struct Asked {
 enum Choice<'a> {
     Config(&'a str),
     SelfLoad(&'a str),
+    Capture(&'a str),
 }
 
-/// Exactly one of a configuration's name and a self-load's size.
-fn choose<'a>(config: Option<&'a str>, self_load: Option<&'a str>) -> Result<Choice<'a>, WordsError>
-    ensures { Meets choice_of (chosen (option_map (λ s. s.now) config.entry) (option_map (λ s. s.now) self_load.entry)) result }
+/// Exactly one of a configuration's name, a self-load's size and a capture's name.
+fn choose<'a>(
+    config: Option<&'a str>,
+    self_load: Option<&'a str>,
+    capture: Option<&'a str>,
+) -> Result<Choice<'a>, WordsError>
+    ensures { Meets choice_of (chosen (option_map (λ s. s.now) config.entry) (option_map (λ s. s.now) self_load.entry) (option_map (λ s. s.now) capture.entry)) result }
 {
-    match (config, self_load) {
-        (Some(name), None) => Ok(Choice::Config(name)),
-        (None, Some(size)) => Ok(Choice::SelfLoad(size)),
+    match (config, self_load, capture) {
+        (Some(name), None, None) => Ok(Choice::Config(name)),
+        (None, Some(size), None) => Ok(Choice::SelfLoad(size)),
+        (None, None, Some(name)) => Ok(Choice::Capture(name)),
         _ => Err(WordsError::Refused(WordsFault::Usage)),
     }
 }
@@ -124,6 +132,10 @@ fn read_subject(alloc: Global, choice: Choice<'_>) -> Result<Subject, WordsError
             Some(hosts) => Ok(Subject::SelfLoad(hosts)),
             None => Err(bad(OptionName::SelfLoad)),
         },
+        Choice::Capture(name) => {
+            let name = Name::from_str(alloc, name)?;
+            Ok(Subject::Capture(name))
+        }
     }
 }
 
@@ -137,7 +149,8 @@ pub fn read_words(alloc: Global, words: &[String]) -> Result<Asked, WordsError>
     let matches = command::find(alloc, words)?;
     let config = command::config(&matches);
     let self_load = command::value(&matches, OptionName::SelfLoad);
-    let choice = choose(config, self_load)?;
+    let capture = command::value(&matches, OptionName::ReadCapture);
+    let choice = choose(config, self_load, capture)?;
     let seed = number_option(&matches, OptionName::Seed, 0, u32::MAX)?;
     let parallelism = number_option(&matches, OptionName::Parallelism, 0, u32::MAX)?;
     let data_directory = read_data_directory(alloc, &matches)?;

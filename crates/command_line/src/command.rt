@@ -59,10 +59,12 @@ fn command<'a>(alloc: Global) -> Result<Command<'a>, AllocError>
     let five = four.arg(budget)?;
     let self_load = option(alloc, "self-load");
     let six = five.arg(self_load)?;
+    let read_capture = option(alloc, "read-capture");
+    let seven = six.arg(read_capture)?;
     let show_config = show_config(alloc);
-    let seven = six.arg(show_config)?;
+    let eight = seven.arg(show_config)?;
     let config_word = config_word(alloc);
-    seven.arg(config_word)
+    eight.arg(config_word)
 }
 
 /// What clap finds in the words.

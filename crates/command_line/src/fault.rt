@@ -9,8 +9,8 @@ use std::alloc::AllocError;
 /// The first fault of a command line.
 #[derive(Clone, Copy, PartialEq, Eq)]
 pub enum WordsFault {
-    /// The words are not of the command's form, or ask for help or a version; or both CONFIG and
-    /// `--self-load` are given, or neither.
+    /// The words are not of the command's form, or ask for help or a version; or not exactly one of
+    /// CONFIG, `--self-load` and `--read-capture` is given.
     Usage,
     /// The value of this option is not of its form, or out of its range.
     BadOption(OptionName),

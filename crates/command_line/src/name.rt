@@ -12,6 +12,7 @@ pub enum OptionName {
     StopTime,
     Budget,
     SelfLoad,
+    ReadCapture,
 }
 
 impl OptionName {
@@ -26,6 +27,7 @@ impl OptionName {
             OptionName::StopTime => "stop-time",
             OptionName::Budget => "budget",
             OptionName::SelfLoad => "self-load",
+            OptionName::ReadCapture => "read-capture",
         }
     }
 }

@@ -29,6 +29,17 @@ pub fn four(memory: &Mem, at: u32) -> Option<[u8; 4]>
     }
 }
 
+/// The 8 bytes from an address on, where each may be read.
+pub fn eight(memory: &Mem, at: u32) -> Option<[u8; 8]>
+    ensures { result ≡ spec.span 8 at memory.now }
+{
+    let mut into = [0; 8];
+    match memory.copy_out(at, &mut into) {
+        Ok(()) => Some(into),
+        Err(Bad) => None,
+    }
+}
+
 /// The 16 bytes from an address on, where each may be read.
 pub fn sixteen(memory: &Mem, at: u32) -> Option<[u8; 16]>
     ensures { result ≡ spec.span 16 at memory.now }

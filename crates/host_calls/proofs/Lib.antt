@@ -1,4 +1,3 @@
-pub mod Nonblocking
 pub mod Closed
 pub mod Entries
 pub mod Free

@@ -1,11 +1,11 @@
 -- The table of system calls: which row a number has, what its answer is to a guest, and whether one that waits would answer.
-use Rattle.std.specs.Prelude.{◌≡◌, ℕ, ◌%◌, Bool, true, false, not, List, slice_index, Option, Some, None, Result, Ok, Err}
+use Rattle.std.specs.Prelude.{◌≡◌, ◌≤◌, ℕ, ◌%◌, Bool, true, false, not, List, slice_index, Option, Some, None, Result, Ok, Err}
 use Rattle.sim_base.specs.declared.errno.Errno.TheVariants.{Enosys}
 use Rattle.sim_base.specs.declared.object.ObjectId.{ObjectId}
 use Rattle.sim_base.specs.declared.state.State.{State}
 use Rattle.sim_base.specs.declared.state.State.TheVariants.{Exited}
 use Rattle.sim_base.specs.declared.time.Time.{Time}
-use Rattle.sim_base.specs.Refusals.{◌>>=◌}
+use Rattle.sim_base.specs.Refusals.{◌>>=◌, ◌>>◌}
 use Rattle.host_sockets.specs.declared.error.Refusal.{Refusal}
 use Rattle.host_sockets.specs.declared.error.Refusal.TheVariants as refusal
 use Rattle.host_sockets.specs.declared.sockets.Sockets.{Sockets}
@@ -19,6 +19,8 @@ use Rattle.host_calls.specs.declared.call.PlainCall.{PlainCall}
 use Rattle.host_calls.specs.declared.call.PlainCall.TheVariants as plain
 use Rattle.host_calls.specs.declared.call.NetworkCall.{NetworkCall}
 use Rattle.host_calls.specs.declared.call.NetworkCall.TheVariants as network
+use Rattle.host_calls.specs.declared.call.WaitingCall.{WaitingCall}
+use Rattle.host_calls.specs.declared.call.WaitingCall.TheVariants as waiting
 use Rattle.host_calls.specs.declared.descriptors.Descriptor.{Descriptor}
 use Rattle.host_calls.specs.declared.parts.Answer.{Answer}
 use Rattle.host_calls.specs.declared.parts.Answer.TheVariants as answer
@@ -28,20 +30,23 @@ use Rattle.host_calls.specs.declared.parts.Reaction.TheVariants.{Value, Waits}
 use Rattle.host_calls.specs.declared.parts.Shared.{Shared}
 use Rattle.host_calls.specs.declared.parts.Task.{Task}
 use Rattle.host_calls.specs.declared.parts.Why.{Why}
+use Rattle.host_calls.specs.declared.plan.Plan.{Plan}
+use Rattle.host_calls.specs.declared.plan.Plan.TheVariants as plan
 use Rattle.host_calls.specs.declared.receiving.Room.{Room}
 use Rattle.host_calls.specs.declared.sending.Message.{Message}
 use Rattle.host_calls.specs.declared.sockets.OpenSocket.{OpenSocket}
 use Rattle.host_calls.specs.declared.sockets.SocketNumber.{SocketNumber}
 use Rattle.host_calls.specs.Call.{call_of}
 use Rattle.host_calls.specs.Closing.{close, all_closed}
-use Rattle.host_calls.specs.Descriptors.{descriptor}
-use Rattle.host_calls.specs.Files.{fcntl, openat, pipe2, read_asked, reads, write_asked, writes}
+use Rattle.host_calls.specs.Descriptors.{descriptor, IsFree}
+use Rattle.host_calls.specs.Eventfd.{eventfd2}
+use Rattle.host_calls.specs.Files.{fcntl, openat, pipe2, file_read_plan, reads, file_write_plan, writes}
 use Rattle.host_calls.specs.Guest.{getpid, brk, getrandom}
 use Rattle.host_calls.specs.Parts.{PartsRecord, PartsStand, Place, PlaceStands, place_of, place_in, with_place, Scene, scene, local_of, plainly}
-use Rattle.host_calls.specs.Polling.{poll_asked, ppoll}
+use Rattle.host_calls.specs.Polling.{max_entries, poll_plan, polls}
 use Rattle.host_calls.specs.Scene.{Local, Is, negative}
-use Rattle.host_calls.specs.Sockets.{socket, bind, listen, accept, accept_waits, connect, connect_waits, getsockname, getpeername, socket_number, open_socket, send, sendto, send_waits, recv, recvfrom, recv_waits, setsockopt, getsockopt, shutdown}
-use Rattle.host_calls.specs.Times.{clock_gettime, sleep_asked, clock_nanosleep, timerfd_create, timerfd_settime}
+use Rattle.host_calls.specs.Sockets.{socket, bind, listen, accept_plan, accepts, connect_plan, connects, getsockname, getpeername, socket_number, send_plan, sendto_plan, sends_by, recv_plan, recvfrom_plan, receives, setsockopt, getsockopt, shutdown}
+use Rattle.host_calls.specs.Times.{clock_gettime, sleep_asked, timerfd_create, timerfd_settime}
 
 -- argument n of six
 abbrev pub arg : List ℕ → ℕ → ℕ
@@ -59,6 +64,7 @@ abbrev pub answers_brk : ℕ × Task → Shared → Result (ℕ × Local) Refusa
 answers_brk (value, task) shared = Ok (value, (task, shared))
 
 abbrev pub plain_row : Time → ℕ → PlainCall → List ℕ → Local → Result (ℕ × Local) Refusal
+plain_row now process plain.Eventfd2 args s = eventfd2 (arg args 0) (arg args 1) s
 plain_row now process plain.Fcntl args s = fcntl (arg args 0) (arg args 1) (arg args 2) s
 plain_row now process plain.Openat args s = openat (arg args 1) (arg args 2) s
 plain_row now process plain.Pipe2 args s = pipe2 (arg args 0) (arg args 1) s
@@ -68,7 +74,6 @@ plain_row now process plain.Setsockopt args s = setsockopt (arg args 0) (arg arg
 plain_row now process plain.Brk args (task, shared) = answers_brk (brk (arg args 0) task) shared
 plain_row now process plain.Getrandom args s = getrandom (arg args 0) (arg args 1) (arg args 2) s
 plain_row now process plain.ClockGettime args s = clock_gettime now (arg args 0) (arg args 1) s
-plain_row now process plain.ClockNanosleep args s = clock_nanosleep now (arg args 0) (arg args 1) (arg args 2) s
 plain_row now process plain.TimerfdSettime args s = timerfd_settime now (arg args 0) (arg args 1) (arg args 2) (arg args 3) s
 
 -- a row that answers a value
@@ -80,14 +85,8 @@ abbrev pub network_row : Known → Time → NetworkCall → List ℕ → Scene �
 network_row known now network.Socket args s = reacts (socket (arg args 0) (arg args 1) (arg args 2) s)
 network_row known now network.Bind args s = reacts (bind known.book (arg args 0) (arg args 1) (arg args 2) s)
 network_row known now network.Listen args s = reacts (listen (arg args 0) (arg args 1) s)
-network_row known now network.Accept args s = reacts (accept (arg args 0) (arg args 1) (arg args 2) s)
-network_row known now network.Connect args s = connect known.book now (arg args 0) (arg args 1) (arg args 2) s
 network_row known now network.Getsockname args s = reacts (getsockname (arg args 0) (arg args 1) (arg args 2) s)
 network_row known now network.Getpeername args s = reacts (getpeername (arg args 0) (arg args 1) (arg args 2) s)
-network_row known now network.Sendto args s =
-    reacts (sendto known.book now (arg args 0) (arg args 3) (message_of (arg args 1) (arg args 2) (arg args 4) (arg args 5)) s)
-network_row known now network.Recvfrom args s =
-    reacts (recvfrom now (arg args 0) (arg args 3) (room_of (arg args 1) (arg args 2) (arg args 4) (arg args 5)) s)
 network_row known now network.Getsockopt args s = reacts (getsockopt now (arg args 0) (arg args 1) (arg args 2) (arg args 3) (arg args 4) s)
 network_row known now network.Shutdown args s = reacts (shutdown now (arg args 0) (arg args 1) s)
 
@@ -95,23 +94,76 @@ network_row known now network.Shutdown args s = reacts (shutdown now (arg args 0
 abbrev pub open_by : Descriptor → SocketNumber → OpenSocket
 open_by d socket = record { nonblocking = d.file.nonblocking; number = socket }
 
-abbrev pub read_by : Known → Time → Descriptor → Result SocketNumber Refusal → ℕ → ℕ → Scene → Result (ℕ × Scene) Refusal
-read_by known now d (Ok socket) at n s = recv now (open_by d socket) 0 (room_of at n 0 0) s
-read_by known now d (Err refusal) at n s = plainly (reads known.hosts now d at n (local_of s)) s
+abbrev pub read_plan_of : Time → Descriptor → Result SocketNumber Refusal → ℕ → ℕ → Scene → Result Plan Refusal
+read_plan_of now d (Ok socket) at n s = do
+  r ← recv_plan (open_by d socket) 0 (room_of at n 0 0) s.task.memory s.sockets
+  Ok (plan.Receive r)
+read_plan_of now d (Err refusal) at n s = do
+  t ← file_read_plan now d at n (local_of s)
+  Ok (plan.Read t)
 
-abbrev pub read : Known → Time → ℕ → ℕ → ℕ → Scene → Result (ℕ × Scene) Refusal
-read known now fd at n s = do
+abbrev pub read_plan : Time → ℕ → ℕ → ℕ → Scene → Result Plan Refusal
+read_plan now fd at n s = do
   d ← descriptor fd s.task s.shared.files
-  read_by known now d (socket_number d.file.object) at n s
+  read_plan_of now d (socket_number d.file.object) at n s
 
-abbrev pub write_by : Known → Time → ℕ → Descriptor → Result SocketNumber Refusal → ℕ → ℕ → Scene → Result (ℕ × Scene) Refusal
-write_by known now process d (Ok socket) at n s = send known.book now (open_by d socket) 0 (message_of at n 0 0) s
-write_by known now process d (Err refusal) at n s = plainly (writes process d at n (local_of s)) s
+abbrev pub write_plan_of : Known → Descriptor → Result SocketNumber Refusal → ℕ → ℕ → Scene → Result Plan Refusal
+write_plan_of known d (Ok socket) at n s = do
+  m ← send_plan known.book (open_by d socket) 0 (message_of at n 0 0) s.task.memory s.sockets
+  Ok (plan.Send m)
+write_plan_of known d (Err refusal) at n s = do
+  t ← file_write_plan d at n (local_of s)
+  Ok (plan.Write t)
 
-abbrev pub write : Known → Time → ℕ → ℕ → ℕ → ℕ → Scene → Result (ℕ × Scene) Refusal
-write known now process fd at n s = do
+abbrev pub write_plan : Known → ℕ → ℕ → ℕ → Scene → Result Plan Refusal
+write_plan known fd at n s = do
   d ← descriptor fd s.task s.shared.files
-  write_by known now process d (socket_number d.file.object) at n s
+  write_plan_of known d (socket_number d.file.object) at n s
+
+-- what a call that may wait would do in a scene, or what refuses it, or that it waits. It changes nothing
+abbrev pub asked : Known → Time → WaitingCall → List ℕ → Scene → Result Plan Refusal
+asked known now waiting.Read args s = read_plan now (arg args 0) (arg args 1) (arg args 2) s
+asked known now waiting.Write args s = write_plan known (arg args 0) (arg args 1) (arg args 2) s
+asked known now waiting.Accept args s = do
+  a ← accept_plan (arg args 0) (arg args 1) (arg args 2) s
+  Ok (plan.Accept a)
+asked known now waiting.Connect args s = do
+  c ← connect_plan (arg args 0) (arg args 1) (arg args 2) s
+  Ok (plan.Connect c)
+asked known now waiting.Sendto args s = do
+  m ← sendto_plan known.book (arg args 0) (arg args 3) (message_of (arg args 1) (arg args 2) (arg args 4) (arg args 5)) s
+  Ok (plan.Send m)
+asked known now waiting.Recvfrom args s = do
+  r ← recvfrom_plan (arg args 0) (arg args 3) (room_of (arg args 1) (arg args 2) (arg args 4) (arg args 5)) s
+  Ok (plan.Receive r)
+asked known now waiting.ClockNanosleep args s = do
+  sleep_asked now (arg args 0) (arg args 1) (arg args 2) s.task
+  Ok plan.Sleep
+asked known now waiting.Ppoll args s = do
+  p ← poll_plan now (arg args 0) (arg args 1) (arg args 2) s
+  Ok (plan.Poll p)
+
+-- what is then done. Of a UDP socket that sends, and of a TCP socket that connects, this also has what refuses
+abbrev pub done : Known → Time → ℕ → Plan → Scene → Result (Reaction × Scene) Refusal
+done known now process (plan.Read t) s = reacts (plainly (reads known.hosts now t (local_of s)) s)
+done known now process (plan.Write t) s = reacts (plainly (writes process t (local_of s)) s)
+done known now process (plan.Accept a) s = reacts (accepts a s)
+done known now process (plan.Connect c) s = connects known.book now c s
+done known now process (plan.Send m) s = reacts (sends_by known.book now m s)
+done known now process (plan.Receive r) s = reacts (receives now r s)
+done known now process plan.Sleep s = Ok (Value 0, s)
+done known now process (plan.Poll p) s = reacts (polls now p s)
+
+-- what the code has to know of a plan: a new descriptor is free, and no more than so many entries are polled
+abbrev pub Fits : Plan → Task → Type 0
+Fits (plan.Accept a) task = IsFree a.new.fd task.table
+Fits (plan.Poll p) task = p.count ≤ max_entries
+Fits _ task = Unit {0}
+
+abbrev pub waiting_row : Known → Time → ℕ → WaitingCall → List ℕ → Scene → Result (Reaction × Scene) Refusal
+waiting_row known now process w args s = do
+  p ← asked known now w args s
+  done known now process p s
 
 -- exit(2): the process has exited with the low byte of the status
 abbrev pub exited : ℕ → State
@@ -121,10 +173,8 @@ exited status = Exited (status % 256)
 abbrev pub row : Known → Time → ℕ → Call → List ℕ → Scene → Result (Reaction × Scene) Refusal
 row known now process (system_call.Plain p) args s = reacts (plainly (plain_row now process p args (local_of s)) s)
 row known now process (system_call.Network n) args s = network_row known now n args s
+row known now process (system_call.Waiting w) args s = waiting_row known now process w args s
 row known now process system_call.Close args s = reacts (close now (arg args 0) s)
-row known now process system_call.Read args s = reacts (read known now (arg args 0) (arg args 1) (arg args 2) s)
-row known now process system_call.Write args s = reacts (write known now process (arg args 0) (arg args 1) (arg args 2) s)
-row known now process system_call.Ppoll args s = reacts (ppoll now (arg args 0) (arg args 1) (arg args 2) s)
 row known now process system_call.Exit args s = Err (refusal.End (exited (arg args 0)))
 
 abbrev pub row_of : Known → Time → ℕ → Option Call → List ℕ → Scene → Result (Reaction × Scene) Refusal
@@ -214,68 +264,17 @@ SceneCalled (b, s) a task shared c = (a ≡ b) × ((task ≡ s.task) × ((shared
 abbrev pub IsCalled : Answer × Local → Answer → Task → Shared → Type 0
 IsCalled (b, s) a task shared = (a ≡ b) × Is s task shared
 
--- what a call that may wait waits for: Ok, a refusal, or Wait
-abbrev pub read_waits_by : Time → Descriptor → Result SocketNumber Refusal → ℕ → ℕ → Scene → Result (Unit {0}) Refusal
-read_waits_by now d (Ok socket) at n s = recv_waits (open_by d socket) 0 (room_of at n 0 0) s.task.memory s.sockets
-read_waits_by now d (Err refusal) at n s = read_asked now d at n (local_of s)
-
-abbrev pub read_waits : Time → ℕ → ℕ → ℕ → Scene → Result (Unit {0}) Refusal
-read_waits now fd at n s = do
-  d ← descriptor fd s.task s.shared.files
-  read_waits_by now d (socket_number d.file.object) at n s
-
-abbrev pub write_waits_by : Known → Descriptor → Result SocketNumber Refusal → ℕ → ℕ → Scene → Result (Unit {0}) Refusal
-write_waits_by known d (Ok socket) at n s = send_waits known.book (open_by d socket) 0 (message_of at n 0 0) s.task.memory s.sockets
-write_waits_by known d (Err refusal) at n s = write_asked d at n (local_of s)
-
-abbrev pub write_waits : Known → ℕ → ℕ → ℕ → Scene → Result (Unit {0}) Refusal
-write_waits known fd at n s = do
-  d ← descriptor fd s.task s.shared.files
-  write_waits_by known d (socket_number d.file.object) at n s
-
-abbrev pub sendto_waits : Known → ℕ → ℕ → Message → Scene → Result (Unit {0}) Refusal
-sendto_waits known fd flags message s = do
-  socket ← open_socket fd (local_of s)
-  send_waits known.book socket flags message s.task.memory s.sockets
-
-abbrev pub recvfrom_waits : ℕ → ℕ → Room → Scene → Result (Unit {0}) Refusal
-recvfrom_waits fd flags room s = do
-  socket ← open_socket fd (local_of s)
-  recv_waits socket flags room s.task.memory s.sockets
-
-abbrev pub poll_waits : Time → ℕ → ℕ → ℕ → Scene → Result (Unit {0}) Refusal
-poll_waits now at count limit_at s = do
-  found ← poll_asked now at count limit_at s
-  Ok tt
-
--- the other calls never wait
-abbrev pub plain_waits : Time → PlainCall → List ℕ → Task → Result (Unit {0}) Refusal
-plain_waits now plain.ClockNanosleep args task = sleep_asked now (arg args 0) (arg args 1) (arg args 2) task
-plain_waits now _ args task = Ok tt
-
-abbrev pub network_waits : Known → NetworkCall → List ℕ → Scene → Result (Unit {0}) Refusal
-network_waits known network.Accept args s = accept_waits (arg args 0) (arg args 1) (arg args 2) s
-network_waits known network.Connect args s = connect_waits (arg args 0) s
-network_waits known network.Sendto args s = sendto_waits known (arg args 0) (arg args 3) (message_of (arg args 1) (arg args 2) (arg args 4) (arg args 5)) s
-network_waits known network.Recvfrom args s = recvfrom_waits (arg args 0) (arg args 3) (room_of (arg args 1) (arg args 2) (arg args 4) (arg args 5)) s
-network_waits known _ args s = Ok tt
-
-abbrev pub waits : Known → Time → Option Call → List ℕ → Scene → Result (Unit {0}) Refusal
-waits known now None args s = Ok tt
-waits known now (Some (system_call.Plain p)) args s = plain_waits now p args s.task
-waits known now (Some (system_call.Network n)) args s = network_waits known n args s
-waits known now (Some system_call.Close) args s = Ok tt
-waits known now (Some system_call.Read) args s = read_waits now (arg args 0) (arg args 1) (arg args 2) s
-waits known now (Some system_call.Write) args s = write_waits known (arg args 0) (arg args 1) (arg args 2) s
-waits known now (Some system_call.Ppoll) args s = poll_waits now (arg args 0) (arg args 1) (arg args 2) s
-waits known now (Some system_call.Exit) args s = Ok tt
-
-abbrev pub is_wait : Result (Unit {0}) Refusal → Bool
+-- whether a call waits: the others never do
+abbrev pub is_wait : Result Plan Refusal → Bool
 is_wait (Err (refusal.Wait deadline)) = true
 is_wait _ = false
 
+abbrev pub waits : Known → Time → Option Call → List ℕ → Scene → Bool
+waits known now (Some (system_call.Waiting w)) args s = is_wait (asked known now w args s)
+waits known now _ args s = false
+
 abbrev pub answers_scene : Known → Time → Why → Scene → Bool
-answers_scene known now why s = not (is_wait (waits known now (call_of why.number) why.args s))
+answers_scene known now why s = not (waits known now (call_of why.number) why.args s)
 
 -- a process that isn't there waits for nothing
 abbrev pub answers_by : Known → Time → Why → Option Task → Place → Bool

@@ -8,7 +8,7 @@ use Rattle.host_fds.specs.Descriptors.{limit}
 use Rattle.host_fds.specs.declared.pipe.End.TheVariants.{Reading, Writing}
 use Rattle.host_files.specs.declared.file.Object.{Object}
 use Rattle.host_files.specs.declared.file.Object.TheVariants as kind
-use Rattle.host_files.specs.Files.{FilesState, closed, pipe_shut, timer_ended}
+use Rattle.host_files.specs.Files.{FilesState, closed, pipe_shut, timer_ended, eventfd_ended}
 use Rattle.host_sockets.specs.declared.error.Refusal.{Refusal}
 use Rattle.host_sockets.specs.Wanted.{Wanted}
 use Rattle.host_sockets.specs.declared.sockets.Sockets.{Sockets}
@@ -22,7 +22,7 @@ use Rattle.host_calls.specs.declared.parts.Shared.{Shared}
 use Rattle.host_calls.specs.Descriptors.{descriptor}
 use Rattle.host_calls.specs.Parts.{Scene}
 
--- what a file was an end of: a pipe loses the end, a timer is gone, and a socket is closed
+-- what a file was an end of: a pipe loses the end, a timer or an eventfd is gone, and a socket is closed
 abbrev pub with_files : FilesState → Shared → SocketsRecord → Shared × SocketsRecord
 with_files files shared t = (record shared { files = files }, t)
 
@@ -33,6 +33,7 @@ abbrev pub ends : Time → Object → Shared → SocketsRecord → Shared × Soc
 ends now (kind.ReadEnd k) shared t = with_files (pipe_shut Reading k shared.files) shared t
 ends now (kind.WriteEnd k) shared t = with_files (pipe_shut Writing k shared.files) shared t
 ends now (kind.Timer k) shared t = with_files (timer_ended k shared.files) shared t
+ends now (kind.Eventfd k) shared t = with_files (eventfd_ended k shared.files) shared t
 ends now (kind.Udp k) shared t = (shared, closes_udp k t)
 ends now (kind.Tcp k) shared t = with_wanted (closes_tcp now k t shared.outlet) shared
 ends now _ shared t = (shared, t)

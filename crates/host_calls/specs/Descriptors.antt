@@ -1,5 +1,5 @@
 -- The descriptors of a process.
-use Rattle.std.specs.Prelude.{ℕ, zero, suc, ◌+◌, ◌-◌, Option, Some, None, is_none, Result, Ok, Err, if◌then◌else◌}
+use Rattle.std.specs.Prelude.{◌≡◌, ◌<◌, ℕ, zero, suc, ◌+◌, ◌-◌, Option, Some, None, is_none, Result, Ok, Err, if◌then◌else◌}
 use Rattle.std.specs.FinMap as map
 use Rattle.sim_base.specs.declared.object.ObjectId.{ObjectId}
 use Rattle.sim_base.specs.declared.errno.Errno.TheVariants.{Ebadf}
@@ -25,6 +25,11 @@ free_from fds from = first_free fds from (limit - from)
 -- the least free number of all: that of a new descriptor
 abbrev pub lowest_free : Descriptors → Option ℕ
 lowest_free fds = free_from fds 0
+
+-- a number that a new descriptor may have
+pub record IsFree (fd : ℕ) (fds : Descriptors) : Type 0 where
+  pub in_range : fd < limit
+  pub is_free : map.get fds fd ≡ None
 
 -- what a descriptor names: an open file, with its number
 abbrev pub descriptor_by : Option ObjectId → FilesState → Result Descriptor Refusal

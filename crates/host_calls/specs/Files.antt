@@ -9,7 +9,7 @@ use Rattle.sim_base.specs.declared.time.Time.{Time}
 use Rattle.sim_base.specs.Refusals.{◌>>=◌, ◌>>◌, refuse_if, or_refuse}
 use Rattle.guest_mem.specs.Memory.{Memory, load}
 use Rattle.guest_mem.specs.declared.right.Right.TheVariants.{Read}
-use Rattle.guest_args.specs.Span.{counted, span, can_read, can_write, filled, int_size}
+use Rattle.guest_args.specs.Span.{counted, span, can_read, can_write, int_size}
 use Rattle.host_fds.specs.Descriptors.{Descriptors}
 use Rattle.host_fds.specs.Pipe.{PipeState, room}
 use Rattle.host_files.specs.declared.file.File.{File}
@@ -21,11 +21,13 @@ use Rattle.host_sockets.specs.declared.error.Refusal.TheVariants.{Errno, End}
 use Rattle.host_sockets.specs.Refusals.{waits_if}
 use Rattle.host_calls.specs.declared.descriptors.Descriptor.{Descriptor}
 use Rattle.host_calls.specs.declared.files.Ends.{Ends}
+use Rattle.host_calls.specs.declared.plan.Transfer.{Transfer}
 use Rattle.host_calls.specs.declared.parts.Task.{Task}
 use Rattle.host_calls.specs.declared.parts.Shared.{Shared}
+use Rattle.host_calls.specs.Eventfd.{eventfd_empty, eventfd_read_by, eventfd_full, eventfd_write_by}
 use Rattle.host_calls.specs.Flags.{o_nonblock, has, beside_open}
-use Rattle.host_calls.specs.Numbers.{f_getfd, f_setfd, f_getfl, f_setfl, o_rdonly, o_accmode, path_max, stdout_fileno, stderr_fileno, expiries_size}
-use Rattle.host_calls.specs.Scene.{Local, or_again}
+use Rattle.host_calls.specs.Numbers.{f_getfd, f_setfd, f_getfl, f_setfl, o_rdonly, o_accmode, path_max, stdout_fileno, stderr_fileno, expiries_size, eventfd_size}
+use Rattle.host_calls.specs.Scene.{Local, or_again, tell_memory}
 use Rattle.host_calls.specs.Descriptors.{free_from, lowest_free, descriptor, opens, with_file}
 
 -- fcntl(2). Of the flags only O_NONBLOCK is kept (this project's own profile)
@@ -104,9 +106,6 @@ write_end nonblocking k = record { nonblocking = nonblocking; object = kind.Writ
 abbrev pub new_pipe : Local → Local
 new_pipe (task, shared) = (task, record shared { files = with_pipe shared.files })
 
-abbrev pub tell_memory : ℕ → List ℕ → Local → Local
-tell_memory at bytes (task, shared) = (record task { memory = filled at bytes task.memory }, shared)
-
 abbrev pub ends_bytes : Ends → List ℕ
 ends_bytes fds = to_le_bytes w32 fds.reading ++ to_le_bytes w32 fds.writing
 
@@ -131,12 +130,13 @@ pipe2 at flags (task, shared) = do
   fds ← pipe2_asked at flags task
   Ok (0, tell_memory at (ends_bytes fds) (with_ends fds (has o_nonblock flags) (next_pipe shared.files) (task, shared)))
 
--- read(2): what cannot be read, and what a timer has no room for
+-- read(2): what cannot be read, and what a timer or an eventfd has no room for
 abbrev pub may_read : Object → ℕ → Result (Unit {0}) Refusal
 may_read kind.Output n = Err (Errno Ebadf)
 may_read kind.Errors n = Err (Errno Ebadf)
 may_read (kind.WriteEnd k) n = Err (Errno Ebadf)
 may_read (kind.Timer k) n = refuse_if (nat_lt n expiries_size) (Errno Einval)
+may_read (kind.Eventfd k) n = refuse_if (nat_lt n eventfd_size) (Errno Einval)
 may_read _ n = Ok tt
 
 -- a pipe without bytes has a writer, and an expiry of a timer is to come
@@ -151,13 +151,18 @@ pipe_drained k files = do
 abbrev pub wait_to_read : Time → Object → FilesState → Result (Unit {0}) Refusal
 wait_to_read now (kind.ReadEnd k) files = pipe_drained k files
 wait_to_read now (kind.Timer k) files = waits_if (timer_count now.nanos k files == 0)
+wait_to_read now (kind.Eventfd k) files = eventfd_empty k files
 wait_to_read now _ files = Ok tt
 
-abbrev pub read_asked : Time → Descriptor → ℕ → ℕ → Local → Result (Unit {0}) Refusal
-read_asked now d at n (task, shared) = do
+abbrev pub transfer : Descriptor → ℕ → ℕ → Transfer
+transfer d at n = record { d = d; at = at; n = n }
+
+abbrev pub file_read_plan : Time → Descriptor → ℕ → ℕ → Local → Result Transfer Refusal
+file_read_plan now d at n (task, shared) = do
   may_read d.file.object n
   refuse_if (not (can_write (counted n) at task.memory)) (Errno Efault)
   or_again d.file.nonblocking (wait_to_read now d.file.object shared.files)
+  Ok (transfer d at n)
 
 -- what a read of so many bytes gives, and what it leaves
 abbrev pub text_left : List ℕ → ℕ → ℕ → List ℕ
@@ -180,23 +185,23 @@ abbrev pub is_read_by : List ℕ → Time → Descriptor → Object → ℕ → 
 is_read_by text now d (kind.Hosts read) at count s = (length (text_left text read count), hosts_read text d read at count s)
 is_read_by text now d (kind.ReadEnd k) at count (task, shared) = (length (pipe_gives count k shared.files), pipe_read_by k at count (task, shared))
 is_read_by text now d (kind.Timer k) at count s = (expiries_size, timer_read_by now k at s)
+is_read_by text now d (kind.Eventfd k) at count s = (eventfd_size, eventfd_read_by k at s)
 is_read_by text now d _ at count s = (0, s)
 
 abbrev pub is_read : List ℕ → Time → Descriptor → ℕ → ℕ → Local → ℕ × Local
 is_read text now d at count s = is_read_by text now d d.file.object at count s
 
-abbrev pub reads : List ℕ → Time → Descriptor → ℕ → ℕ → Local → Result (ℕ × Local) Refusal
-reads text now d at n s = do
-  read_asked now d at n s
-  Ok (is_read text now d at (counted n) s)
+abbrev pub reads : List ℕ → Time → Transfer → Local → Result (ℕ × Local) Refusal
+reads text now t s = Ok (is_read text now t.d t.at (counted t.n) s)
 
--- write(2): what cannot be written
-abbrev pub may_write : Object → Result (Unit {0}) Refusal
-may_write kind.Input = Err (Errno Ebadf)
-may_write (kind.Hosts read) = Err (Errno Ebadf)
-may_write (kind.ReadEnd k) = Err (Errno Ebadf)
-may_write (kind.Timer k) = Err (Errno Einval)
-may_write _ = Ok tt
+-- write(2): what cannot be written, and what is too short for an eventfd
+abbrev pub may_write : Object → ℕ → Result (Unit {0}) Refusal
+may_write kind.Input n = Err (Errno Ebadf)
+may_write (kind.Hosts read) n = Err (Errno Ebadf)
+may_write (kind.ReadEnd k) n = Err (Errno Ebadf)
+may_write (kind.Timer k) n = Err (Errno Einval)
+may_write (kind.Eventfd k) n = refuse_if (nat_lt n eventfd_size) (Errno Einval)
+may_write _ n = Ok tt
 
 -- a pipe without reader ends the process, and one without room has it wait
 abbrev pub pipe_full : ℕ → ℕ → FilesState → Result (Unit {0}) Refusal
@@ -205,15 +210,17 @@ pipe_full count k files = do
   refuse_if (not p.has_reader) (End (Signaled SigPipe))
   waits_if (nat_lt 0 count && (room p == 0))
 
-abbrev pub wait_to_write : ℕ → Object → FilesState → Result (Unit {0}) Refusal
-wait_to_write count (kind.WriteEnd k) files = pipe_full count k files
-wait_to_write count _ files = Ok tt
+abbrev pub wait_to_write : ℕ → ℕ → Object → Memory → FilesState → Result (Unit {0}) Refusal
+wait_to_write at count (kind.WriteEnd k) memory files = pipe_full count k files
+wait_to_write at count (kind.Eventfd k) memory files = eventfd_full at k memory files
+wait_to_write at count _ memory files = Ok tt
 
-abbrev pub write_asked : Descriptor → ℕ → ℕ → Local → Result (Unit {0}) Refusal
-write_asked d at n (task, shared) = do
-  may_write d.file.object
+abbrev pub file_write_plan : Descriptor → ℕ → ℕ → Local → Result Transfer Refusal
+file_write_plan d at n (task, shared) = do
+  may_write d.file.object n
   refuse_if (not (can_read (counted n) at task.memory)) (Errno Efault)
-  or_again d.file.nonblocking (wait_to_write (counted n) d.file.object shared.files)
+  or_again d.file.nonblocking (wait_to_write at (counted n) d.file.object task.memory shared.files)
+  Ok (transfer d at n)
 
 -- what a process wrote to its standard output or to its standard error
 abbrev pub with_output : ℕ → ℕ → List ℕ → Shared → Shared
@@ -224,20 +231,21 @@ abbrev pub count_written : List ℕ → Object → FilesState → ℕ
 count_written bytes kind.Output files = length bytes
 count_written bytes kind.Errors files = length bytes
 count_written bytes (kind.WriteEnd k) files = pipe_takes bytes k files
+count_written bytes (kind.Eventfd k) files = eventfd_size
 count_written bytes _ files = 0
 
 abbrev pub after_write : ℕ → List ℕ → Object → Shared → Shared
 after_write process bytes kind.Output shared = with_output process stdout_fileno bytes shared
 after_write process bytes kind.Errors shared = with_output process stderr_fileno bytes shared
 after_write process bytes (kind.WriteEnd k) shared = record shared { files = pipe_written bytes k shared.files }
+after_write process bytes (kind.Eventfd k) shared = eventfd_write_by bytes k shared
 after_write process bytes _ shared = shared
 
 abbrev pub is_written : ℕ → Descriptor → List ℕ → Local → ℕ × Local
 is_written process d bytes (task, shared) =
     (count_written bytes d.file.object shared.files, (task, after_write process bytes d.file.object shared))
 
-abbrev pub writes : ℕ → Descriptor → ℕ → ℕ → Local → Result (ℕ × Local) Refusal
-writes process d at n (task, shared) = do
-  write_asked d at n (task, shared)
-  bytes ← or_refuse (span (counted n) at task.memory) (Errno Efault)
-  Ok (is_written process d bytes (task, shared))
+abbrev pub writes : ℕ → Transfer → Local → Result (ℕ × Local) Refusal
+writes process t (task, shared) = do
+  bytes ← or_refuse (span (counted t.n) t.at task.memory) (Errno Efault)
+  Ok (is_written process t.d bytes (task, shared))

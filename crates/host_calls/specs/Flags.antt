@@ -17,12 +17,20 @@ msg_dontwait = 0x40
 abbrev pub msg_nosignal : ℕ
 msg_nosignal = 0x4000
 
+-- EFD_SEMAPHORE
+abbrev pub efd_semaphore : ℕ
+efd_semaphore = 1
+
 abbrev pub has : ℕ → ℕ → Bool
 has flag flags = not (bit_and flags flag == 0)
 
 -- the bits beside O_NONBLOCK and O_CLOEXEC
 abbrev pub beside_open : ℕ → ℕ
 beside_open flags = bit_and flags (max_u32 - (o_nonblock + o_cloexec))
+
+-- the bits beside EFD_SEMAPHORE, O_NONBLOCK and O_CLOEXEC
+abbrev pub beside_eventfd : ℕ → ℕ
+beside_eventfd flags = bit_and flags (max_u32 - (efd_semaphore + (o_nonblock + o_cloexec)))
 
 -- the bits beside MSG_DONTWAIT and MSG_NOSIGNAL
 abbrev pub beside_message : ℕ → ℕ

@@ -11,5 +11,6 @@ pub mod Sockets
 pub mod Closing
 pub mod Call
 pub mod Calls
+pub mod Eventfd
 pub mod Events
 pub mod Starting

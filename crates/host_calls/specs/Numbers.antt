@@ -89,6 +89,11 @@ itimerspec_size = 32
 abbrev pub expiries_size : ℕ
 expiries_size = 8
 
+-- ---- eventfd(2): the bytes of what is read and written
+
+abbrev pub eventfd_size : ℕ
+eventfd_size = 8
+
 -- ---- getrandom(2)
 
 abbrev pub grnd_nonblock : ℕ

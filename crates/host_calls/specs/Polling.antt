@@ -10,12 +10,14 @@ use Rattle.guest_args.specs.Span.{span, can_write, filled, int_size}
 use Rattle.guest_args.specs.Time.{timespec, deadline_after, timespec_size}
 use Rattle.host_fds.specs.Pipe.{PipeState}
 use Rattle.host_fds.specs.Pipe as pipe
+use Rattle.host_fds.specs.Eventfd as eventfd
+use Rattle.host_fds.specs.declared.eventfd.Eventfd.{Eventfd}
 use Rattle.host_fds.specs.declared.pipe.End.{End}
 use Rattle.host_fds.specs.declared.pipe.End.TheVariants.{Reading, Writing}
 use Rattle.host_timers.specs.declared.clock.Moment.{Moment}
 use Rattle.host_files.specs.declared.file.Object.{Object}
 use Rattle.host_files.specs.declared.file.Object.TheVariants as kind
-use Rattle.host_files.specs.Files.{FilesState, pipe_at, timer_count}
+use Rattle.host_files.specs.Files.{FilesState, pipe_at, timer_count, eventfd_at}
 use Rattle.host_sockets.specs.declared.error.Refusal.{Refusal}
 use Rattle.host_sockets.specs.declared.error.Refusal.TheVariants.{Errno, Wait}
 use Rattle.host_sockets.specs.Sockets.{SocketsRecord}
@@ -23,6 +25,7 @@ use Rattle.sock_tcp.specs.connection.Ready.{bit_if}
 use Rattle.host_sockets.specs.Ready.{tcp_ready, udp_ready}
 use Rattle.host_calls.specs.declared.descriptors.Descriptor.{Descriptor}
 use Rattle.host_calls.specs.declared.parts.Task.{Task}
+use Rattle.host_calls.specs.declared.polling.PollPlan.{PollPlan}
 use Rattle.host_calls.specs.Descriptors.{descriptor}
 use Rattle.host_calls.specs.Parts.{Scene}
 use Rattle.host_calls.specs.Times.{at_nanos, kept_or}
@@ -34,6 +37,10 @@ pipe_ready (Some p) end = pipe.ready p end
 abbrev pub timer_ready : Time → ℕ → FilesState → ℕ
 timer_ready now k files = bit_if (nat_lt 0 (timer_count now.nanos k files)) pollin
 
+abbrev pub eventfd_ready : Option Eventfd → ℕ
+eventfd_ready None = 0
+eventfd_ready (Some e) = eventfd.ready e
+
 -- the readiness of each kind of object
 abbrev pub object_ready : Time → Object → FilesState → SocketsRecord → ℕ
 object_ready now kind.Input files sockets = pollin
@@ -43,6 +50,7 @@ object_ready now (kind.Hosts read) files sockets = pollin + pollout
 object_ready now (kind.ReadEnd k) files sockets = pipe_ready (pipe_at k files) Reading
 object_ready now (kind.WriteEnd k) files sockets = pipe_ready (pipe_at k files) Writing
 object_ready now (kind.Timer k) files sockets = timer_ready now k files
+object_ready now (kind.Eventfd k) files sockets = eventfd_ready (eventfd_at k files)
 object_ready now (kind.Udp k) files sockets = udp_ready k sockets
 object_ready now (kind.Tcp k) files sockets = tcp_ready k sockets
 
@@ -124,19 +132,18 @@ poll_found now count limit_at entries s = do
   refuse_if (nothing_came now (count_told now s count entries) deadline) (Wait deadline)
   Ok (count_told now s count entries)
 
-abbrev pub poll_asked : Time → ℕ → ℕ → ℕ → Scene → Result ℕ Refusal
-poll_asked now at count limit_at s = do
+abbrev pub poll_plan : Time → ℕ → ℕ → ℕ → Scene → Result PollPlan Refusal
+poll_plan now at count limit_at s = do
   refuse_if (nat_lt max_entries count) (Errno Einval)
   entries ← poll_entries at (entry_size * count) s.task.memory
-  poll_found now count limit_at entries s
+  found ← poll_found now count limit_at entries s
+  Ok (record { at = at; count = count; found = found })
 
 abbrev pub polled : Time → ℕ → ℕ → List ℕ → Scene → Scene
 polled now at count entries s =
     record s { task = record s.task { memory = filled at (told_entries now s count entries) s.task.memory } }
 
-abbrev pub ppoll : Time → ℕ → ℕ → ℕ → Scene → Result (ℕ × Scene) Refusal
-ppoll now at count limit_at s = do
-  refuse_if (nat_lt max_entries count) (Errno Einval)
-  entries ← poll_entries at (entry_size * count) s.task.memory
-  found ← poll_found now count limit_at entries s
-  Ok (found, polled now at count entries s)
+abbrev pub polls : Time → PollPlan → Scene → Result (ℕ × Scene) Refusal
+polls now p s = do
+  entries ← poll_entries p.at (entry_size * p.count) s.task.memory
+  Ok (p.found, polled now p.at p.count entries s)

@@ -34,18 +34,24 @@ use Rattle.host_sockets.specs.Moving.{send_asked, sends_taking, recv_asked, rece
 use Rattle.host_sockets.specs.Names.{tcp_name, udp_name, tcp_peer, udp_peer, takes_error}
 use Rattle.host_calls.specs.declared.sockets.SocketNumber.{SocketNumber}
 use Rattle.host_calls.specs.declared.sockets.SocketNumber.TheVariants as number
+use Rattle.host_calls.specs.declared.accepting.AcceptPlan.{AcceptPlan}
 use Rattle.host_calls.specs.declared.accepting.NewPlace.{NewPlace}
 use Rattle.host_calls.specs.declared.binding.NewSocket.{NewSocket}
+use Rattle.host_calls.specs.declared.connecting.ConnectPlan.{ConnectPlan}
 use Rattle.host_calls.specs.declared.options.Asked.{Asked}
+use Rattle.host_calls.specs.declared.receiving.RecvPlan.{RecvPlan}
 use Rattle.host_calls.specs.declared.receiving.Room.{Room}
 use Rattle.host_calls.specs.declared.sending.Message.{Message}
+use Rattle.host_calls.specs.declared.sending.SendPlan.{SendPlan}
+use Rattle.host_calls.specs.declared.sending.SendPlan.TheVariants as sending
+use Rattle.host_calls.specs.declared.sending.StreamSend.{StreamSend}
 use Rattle.host_calls.specs.declared.sockets.OpenSocket.{OpenSocket}
 use Rattle.host_calls.specs.declared.parts.Task.{Task}
 use Rattle.host_calls.specs.declared.parts.Reaction.{Reaction}
 use Rattle.host_calls.specs.declared.parts.Reaction.TheVariants.{Value, Waits}
 use Rattle.host_calls.specs.Flags.{o_nonblock, msg_dontwait, msg_nosignal, has, beside_open, beside_message}
 use Rattle.host_calls.specs.Numbers.{sock_stream, sock_dgram, ipproto_tcp, ipproto_udp, sol_socket, so_reuseaddr, so_type, so_error, so_keepalive, tcp_nodelay, shut_rd, shut_wr, shut_rdwr}
-use Rattle.host_calls.specs.Scene.{Local, negative, or_again}
+use Rattle.host_calls.specs.Scene.{Local, negative, or_again, kept_answers}
 use Rattle.host_calls.specs.Descriptors.{lowest_free, descriptor, opens}
 use Rattle.host_calls.specs.Parts.{Scene, local_of, with_local, with_sockets, with_wanted}
 
@@ -172,31 +178,25 @@ accept_place k at size_at task t = do
   fd ← or_refuse (lowest_free task.table) (Errno Emfile)
   Ok (record { fd = fd; place = place })
 
+abbrev pub accept_plan_of : OpenSocket → ℕ → ℕ → Task → SocketsRecord → Result AcceptPlan Refusal
+accept_plan_of socket at size_at task t = do
+  k ← tcp_number socket.number
+  new ← accept_place k at size_at task t
+  or_again socket.nonblocking (accept_ready k t)
+  Ok (record { listener = k; new = new })
+
+abbrev pub accept_plan : ℕ → ℕ → ℕ → Scene → Result AcceptPlan Refusal
+accept_plan fd at size_at s = do
+  socket ← open_socket fd (local_of s)
+  accept_plan_of socket at size_at s.task s.sockets
+
 abbrev pub accepted_by : NewPlace → Accepted → SocketsRecord → Scene → Scene
 accepted_by new accepted t s = tell_address new.place accepted.peer (with_tcp_file new.fd false (accepted.socket, t) s)
 
-abbrev pub accept_call : OpenSocket → ℕ → ℕ → Scene → Result (ℕ × Scene) Refusal
-accept_call socket at size_at s = do
-  k ← tcp_number socket.number
-  new ← accept_place k at size_at s.task s.sockets
-  (accepted, t) ← accepts_tcp k s.sockets
-  Ok (new.fd, accepted_by new accepted t s)
-
-abbrev pub accept : ℕ → ℕ → ℕ → Scene → Result (ℕ × Scene) Refusal
-accept fd at size_at s = do
-  socket ← open_socket fd (local_of s)
-  or_again socket.nonblocking (accept_call socket at size_at s)
-
-abbrev pub accept_wait : OpenSocket → ℕ → ℕ → Task → SocketsRecord → Result (Unit {0}) Refusal
-accept_wait socket at size_at task t = do
-  k ← tcp_number socket.number
-  new ← accept_place k at size_at task t
-  accept_ready k t
-
-abbrev pub accept_waits : ℕ → ℕ → ℕ → Scene → Result (Unit {0}) Refusal
-accept_waits fd at size_at s = do
-  socket ← open_socket fd (local_of s)
-  or_again socket.nonblocking (accept_wait socket at size_at s.task s.sockets)
+abbrev pub accepts : AcceptPlan → Scene → Result (ℕ × Scene) Refusal
+accepts accepting s = do
+  (accepted, t) ← accepts_tcp accepting.listener s.sockets
+  Ok (accepting.new.fd, accepted_by accepting.new accepted t s)
 
 -- connect(2): a TCP socket sends its SYN, and waits or answers EINPROGRESS
 abbrev pub connecting : Bool → Reply (Unit {0}) → Reaction
@@ -230,19 +230,20 @@ connect_call hosts now nonblocking (number.Udp k) at size s = connect_udp hosts 
 connect_call hosts now nonblocking (number.Tcp k) at size s =
     if is_some s.task.kept then connect_again now k s else connect_tcp hosts now nonblocking k at size s
 
-abbrev pub connect : List Ip → Time → ℕ → ℕ → ℕ → Scene → Result (Reaction × Scene) Refusal
-connect hosts now fd at size s = do
-  socket ← open_socket fd (local_of s)
-  connect_call hosts now socket.nonblocking socket.number at size s
+abbrev pub connects : List Ip → Time → ConnectPlan → Scene → Result (Reaction × Scene) Refusal
+connects hosts now connecting s =
+    connect_call hosts now connecting.socket.nonblocking connecting.socket.number connecting.at connecting.size s
 
-abbrev pub connect_wait : SocketNumber → SocketsRecord → Result (Unit {0}) Refusal
-connect_wait (number.Udp k) t = Ok tt
-connect_wait (number.Tcp k) t = connect_waited k t
+-- one that has sent its SYN waits while its record is connecting
+abbrev pub connect_ready : SocketNumber → Scene → Result (Unit {0}) Refusal
+connect_ready (number.Udp k) s = Ok tt
+connect_ready (number.Tcp k) s = if is_some s.task.kept then kept_answers (connect_waited k s.sockets) else Ok tt
 
-abbrev pub connect_waits : ℕ → Scene → Result (Unit {0}) Refusal
-connect_waits fd s = do
+abbrev pub connect_plan : ℕ → ℕ → ℕ → Scene → Result ConnectPlan Refusal
+connect_plan fd at size s = do
   socket ← open_socket fd (local_of s)
-  connect_wait socket.number s.sockets
+  connect_ready socket.number s
+  Ok (record { socket = socket; at = at; size = size })
 
 -- getsockname(2), getpeername(2)
 abbrev pub name_of : SocketNumber → SocketsRecord → Result Addr Refusal
@@ -274,6 +275,29 @@ refuse_flags flags = refuse_if (not (beside_message flags == 0)) (Errno Einval)
 abbrev pub is_quick : Bool → ℕ → Bool
 is_quick nonblocking flags = nonblocking || has msg_dontwait flags
 
+-- what waits: nothing but a TCP socket without room
+abbrev pub send_tcp_plan : List Ip → ℕ → Bool → Bool → Message → Memory → SocketsRecord → Result SendPlan Refusal
+send_tcp_plan hosts k nonblocking quiet message memory t = do
+  refuse_if (not (can_read (counted message.n) message.at memory)) (Errno Efault)
+  to ← given_address message.to_at message.size memory
+  or_again nonblocking (kept_answers (send_asked hosts k (counted message.n) to quiet t))
+  Ok (sending.Stream (record { place = k; quiet = quiet; to = to; at = message.at; n = message.n }))
+
+abbrev pub send_plan_of : List Ip → SocketNumber → Bool → Bool → Message → Memory → SocketsRecord → Result SendPlan Refusal
+send_plan_of hosts (number.Udp k) nonblocking quiet message memory t = Ok (sending.Datagram (record { place = k; message = message }))
+send_plan_of hosts (number.Tcp k) nonblocking quiet message memory t = send_tcp_plan hosts k nonblocking quiet message memory t
+
+-- also write(2), without flags and address
+abbrev pub send_plan : List Ip → OpenSocket → ℕ → Message → Memory → SocketsRecord → Result SendPlan Refusal
+send_plan hosts socket flags message memory t = do
+  refuse_flags flags
+  send_plan_of hosts socket.number (is_quick socket.nonblocking flags) (has msg_nosignal flags) message memory t
+
+abbrev pub sendto_plan : List Ip → ℕ → ℕ → Message → Scene → Result SendPlan Refusal
+sendto_plan hosts fd flags message s = do
+  socket ← open_socket fd (local_of s)
+  send_plan hosts socket flags message s.task.memory s.sockets
+
 abbrev pub packet_sent : Packet → SocketsRecord → Scene → Scene
 packet_sent packet t s = with_wanted (t, sends (packet ∷ []) s.shared.outlet) s
 
@@ -285,47 +309,15 @@ send_udp hosts k message s = do
   (packet, t) ← sends_udp hosts k bytes to s.sockets
   Ok (length bytes, packet_sent packet t s)
 
-abbrev pub send_tcp : List Ip → Time → ℕ → Bool → Message → Scene → Result (ℕ × Scene) Refusal
-send_tcp hosts now k quiet message s = do
-  bytes ← or_refuse (span (counted message.n) message.at s.task.memory) (Errno Efault)
-  to ← given_address message.to_at message.size s.task.memory
-  (reply, after) ← sends_taking hosts now k bytes to quiet s.sockets s.shared.outlet
+abbrev pub send_tcp : List Ip → Time → StreamSend → Scene → Result (ℕ × Scene) Refusal
+send_tcp hosts now stream s = do
+  bytes ← or_refuse (span (counted stream.n) stream.at s.task.memory) (Errno Efault)
+  (reply, after) ← sends_taking hosts now stream.place bytes stream.to stream.quiet s.sockets s.shared.outlet
   Ok (value_of reply, with_wanted after s)
 
-abbrev pub send_call : List Ip → Time → SocketNumber → Bool → Message → Scene → Result (ℕ × Scene) Refusal
-send_call hosts now (number.Udp k) quiet message s = send_udp hosts k message s
-send_call hosts now (number.Tcp k) quiet message s = send_tcp hosts now k quiet message s
-
-abbrev pub send_again : List Ip → Time → OpenSocket → ℕ → Message → Scene → Result (ℕ × Scene) Refusal
-send_again hosts now socket flags message s =
-    or_again (is_quick socket.nonblocking flags) (send_call hosts now socket.number (has msg_nosignal flags) message s)
-
--- also write(2), without flags and address
-abbrev pub send : List Ip → Time → OpenSocket → ℕ → Message → Scene → Result (ℕ × Scene) Refusal
-send hosts now socket flags message s = do
-  refuse_flags flags
-  send_again hosts now socket flags message s
-
-abbrev pub sendto : List Ip → Time → ℕ → ℕ → Message → Scene → Result (ℕ × Scene) Refusal
-sendto hosts now fd flags message s = do
-  socket ← open_socket fd (local_of s)
-  send hosts now socket flags message s
-
--- what waits: nothing but a TCP socket without room
-abbrev pub send_tcp_wait : List Ip → ℕ → Bool → Message → Memory → SocketsRecord → Result (Unit {0}) Refusal
-send_tcp_wait hosts k quiet message memory t = do
-  refuse_if (not (can_read (counted message.n) message.at memory)) (Errno Efault)
-  to ← given_address message.to_at message.size memory
-  send_asked hosts k (counted message.n) to quiet t
-
-abbrev pub send_wait : List Ip → SocketNumber → Bool → Message → Memory → SocketsRecord → Result (Unit {0}) Refusal
-send_wait hosts (number.Udp k) quiet message memory t = Ok tt
-send_wait hosts (number.Tcp k) quiet message memory t = send_tcp_wait hosts k quiet message memory t
-
-abbrev pub send_waits : List Ip → OpenSocket → ℕ → Message → Memory → SocketsRecord → Result (Unit {0}) Refusal
-send_waits hosts socket flags message memory t = do
-  refuse_flags flags
-  or_again (is_quick socket.nonblocking flags) (send_wait hosts socket.number (has msg_nosignal flags) message memory t)
+abbrev pub sends_by : List Ip → Time → SendPlan → Scene → Result (ℕ × Scene) Refusal
+sends_by hosts now (sending.Datagram datagram) s = send_udp hosts datagram.place datagram.message s
+sends_by hosts now (sending.Stream stream) s = send_tcp hosts now stream s
 
 -- recv(2): the bytes go to the guest, and so does the sender's address where it is wanted
 abbrev pub recv_place : Room → Memory → Result (Option AddressPlace) Refusal
@@ -336,11 +328,27 @@ recv_place room memory = do
 abbrev pub with_memory : Memory → Scene → Scene
 with_memory memory s = record s { task = record s.task { memory = memory } }
 
-abbrev pub recv_udp : ℕ → Room → Scene → Result (ℕ × Scene) Refusal
-recv_udp k room s = do
-  place ← recv_place room s.task.memory
-  (datagram, t) ← receives_udp k (counted room.n) s.sockets
-  Ok (length datagram.bytes, with_sockets t (with_memory (answered place datagram.from (filled room.at datagram.bytes s.task.memory)) s))
+abbrev pub recv_ready : SocketNumber → SocketsRecord → Result (Unit {0}) Refusal
+recv_ready (number.Udp k) t = recv_udp_asked k t
+recv_ready (number.Tcp k) t = kept_answers (recv_asked k t)
+
+-- also read(2), without flags and address
+abbrev pub recv_plan : OpenSocket → ℕ → Room → Memory → SocketsRecord → Result RecvPlan Refusal
+recv_plan socket flags room memory t = do
+  refuse_flags flags
+  place ← recv_place room memory
+  or_again (is_quick socket.nonblocking flags) (recv_ready socket.number t)
+  Ok (record { number = socket.number; at = room.at; n = room.n; from = place })
+
+abbrev pub recvfrom_plan : ℕ → ℕ → Room → Scene → Result RecvPlan Refusal
+recvfrom_plan fd flags room s = do
+  socket ← open_socket fd (local_of s)
+  recv_plan socket flags room s.task.memory s.sockets
+
+abbrev pub recv_udp : ℕ → ℕ → ℕ → Option AddressPlace → Scene → Result (ℕ × Scene) Refusal
+recv_udp k at n place s = do
+  (datagram, t) ← receives_udp k (counted n) s.sockets
+  Ok (length datagram.bytes, with_sockets t (with_memory (answered place datagram.from (filled at datagram.bytes s.task.memory)) s))
 
 -- of a TCP socket the sender is its peer
 abbrev pub with_peer : Option AddressPlace → Result Addr Refusal → Memory → Memory
@@ -355,43 +363,17 @@ abbrev pub with_received : ℕ → ℕ → Option AddressPlace → Reply (List �
 with_received k at place (Done bytes) t memory = with_peer place (tcp_peer k t) (filled at bytes memory)
 with_received k at place (Failed errno) t memory = memory
 
-abbrev pub recv_tcp : Time → ℕ → Room → Scene → Result (ℕ × Scene) Refusal
-recv_tcp now k room s = do
-  place ← recv_place room s.task.memory
-  (reply, (t, w)) ← receives_taking now k (counted room.n) s.sockets s.shared.outlet
-  Ok (received_count reply, with_wanted (t, w) (with_memory (with_received k room.at place reply t s.task.memory) s))
+abbrev pub recv_tcp : Time → ℕ → ℕ → ℕ → Option AddressPlace → Scene → Result (ℕ × Scene) Refusal
+recv_tcp now k at n place s = do
+  (reply, (t, w)) ← receives_taking now k (counted n) s.sockets s.shared.outlet
+  Ok (received_count reply, with_wanted (t, w) (with_memory (with_received k at place reply t s.task.memory) s))
 
-abbrev pub recv_call : Time → SocketNumber → Room → Scene → Result (ℕ × Scene) Refusal
-recv_call now (number.Udp k) room s = recv_udp k room s
-recv_call now (number.Tcp k) room s = recv_tcp now k room s
+abbrev pub recv_by : Time → SocketNumber → ℕ → ℕ → Option AddressPlace → Scene → Result (ℕ × Scene) Refusal
+recv_by now (number.Udp k) at n place s = recv_udp k at n place s
+recv_by now (number.Tcp k) at n place s = recv_tcp now k at n place s
 
-abbrev pub recv_again : Time → OpenSocket → ℕ → Room → Scene → Result (ℕ × Scene) Refusal
-recv_again now socket flags room s = or_again (is_quick socket.nonblocking flags) (recv_call now socket.number room s)
-
--- also read(2), without flags and address
-abbrev pub recv : Time → OpenSocket → ℕ → Room → Scene → Result (ℕ × Scene) Refusal
-recv now socket flags room s = do
-  refuse_flags flags
-  recv_again now socket flags room s
-
-abbrev pub recvfrom : Time → ℕ → ℕ → Room → Scene → Result (ℕ × Scene) Refusal
-recvfrom now fd flags room s = do
-  socket ← open_socket fd (local_of s)
-  recv now socket flags room s
-
-abbrev pub recv_ready : SocketNumber → SocketsRecord → Result (Unit {0}) Refusal
-recv_ready (number.Udp k) t = recv_udp_asked k t
-recv_ready (number.Tcp k) t = recv_asked k t
-
-abbrev pub recv_wait : SocketNumber → Room → Memory → SocketsRecord → Result (Unit {0}) Refusal
-recv_wait socket room memory t = do
-  place ← recv_place room memory
-  recv_ready socket t
-
-abbrev pub recv_waits : OpenSocket → ℕ → Room → Memory → SocketsRecord → Result (Unit {0}) Refusal
-recv_waits socket flags room memory t = do
-  refuse_flags flags
-  or_again (is_quick socket.nonblocking flags) (recv_wait socket.number room memory t)
+abbrev pub receives : Time → RecvPlan → Scene → Result (ℕ × Scene) Refusal
+receives now r s = recv_by now r.number r.at r.n r.from s
 
 -- setsockopt(2): SO_REUSEADDR, SO_KEEPALIVE and TCP_NODELAY may be set, and have no effect
 abbrev pub may_set : ℕ → ℕ → Bool

@@ -25,9 +25,8 @@ use Rattle.host_calls.specs.declared.times.OldTimer.{OldTimer}
 use Rattle.host_calls.specs.declared.times.Setting.{Setting}
 use Rattle.host_calls.specs.Flags.{o_nonblock, has, beside_open}
 use Rattle.host_calls.specs.Numbers.{timer_abstime, itimerspec_size}
-use Rattle.host_calls.specs.Scene.{Local}
+use Rattle.host_calls.specs.Scene.{Local, tell_memory}
 use Rattle.host_calls.specs.Descriptors.{lowest_free, descriptor, opens}
-use Rattle.host_calls.specs.Files.{tell_memory}
 
 -- clock_gettime(2)
 abbrev pub clock_gettime : Time → ℕ → ℕ → Local → Result (ℕ × Local) Refusal
@@ -60,11 +59,6 @@ sleep_asked now clock flags at task = do
   time ← sleep_time clock flags at task
   let deadline = kept_or task.kept (at_nanos (deadline_of flags clock now time))
   refuse_if (nat_lt now.nanos deadline.nanos) (Wait (Some deadline))
-
-abbrev pub clock_nanosleep : Time → ℕ → ℕ → ℕ → Local → Result (ℕ × Local) Refusal
-clock_nanosleep now clock flags at (task, shared) = do
-  sleep_asked now clock flags at task
-  Ok (0, (task, shared))
 
 -- timerfd_create(2)
 abbrev pub timer_file : Bool → ℕ → File

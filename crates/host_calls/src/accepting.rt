@@ -5,11 +5,11 @@ ghost use Rattle.std.specs.FinMap as map;
 ghost use Rattle.host_fds.specs.Descriptors.{limit};
 ghost use Rattle.host_sockets.specs.Sockets.{SocketsRecord};
 ghost use Rattle.host_sockets.specs.StandsFor.{Stand};
+ghost use Rattle.host_calls.specs.Descriptors.{IsFree};
 ghost use Rattle.host_calls.specs.Parts.{Answers, scene};
-ghost use Rattle.host_calls.specs.Scene.{or_again};
 ghost use Rattle.host_calls.specs.Sockets as spec;
 
-use crate::again::{again, or_again};
+use crate::again::or_again;
 use crate::descriptors::{lowest_free, open};
 use crate::parts::{Shared, Task};
 use crate::sockets::{OpenSocket, open_socket, result_address, tcp_number};
@@ -44,19 +44,57 @@ fn accept_place(
     }
 }
 
-fn accept_call(
+/// Which listener gives a connection, and what is done with it.
+#[derive(Clone, Copy, PartialEq, Eq)]
+pub struct AcceptPlan {
+    pub listener: usize,
+    pub new: NewPlace,
+}
+
+fn accept_plan_of(
     socket: OpenSocket,
     at: u32,
     size_at: u32,
+    task: &Task,
+    sockets: &Sockets,
+) -> Result<AcceptPlan, Refusal>
+    ensures asked { (t : SocketsRecord) → Stand sockets.now t → result ≡ spec.accept_plan_of socket at size_at task.now t }
+    ensures fits { IfOk result (λ a. IsFree a.new.fd task.now.table) }
+{
+    let listener = tcp_number(socket.number)?;
+    let new = accept_place(listener, at, size_at, task, sockets)?;
+    or_again(socket.nonblocking, sockets.accept_ready(listener))?;
+    Ok(AcceptPlan { listener, new })
+}
+
+/// What refuses an accept, and whether it waits.
+pub(crate) fn accept_plan(
+    fd: u32,
+    at: u32,
+    size_at: u32,
+    task: &Task,
+    shared: &Shared,
+    sockets: &Sockets,
+) -> Result<AcceptPlan, Refusal>
+    ensures asked { (t : SocketsRecord) → Stand sockets.now t → result ≡ spec.accept_plan fd at size_at (scene (task.now, shared.now) t) }
+    ensures fits { IfOk result (λ a. IsFree a.new.fd task.now.table) }
+{
+    let socket = open_socket(fd, task, shared)?;
+    accept_plan_of(socket, at, size_at, task, sockets)
+}
+
+/// `accept(2)`.
+pub(crate) fn accept(
+    accepting: AcceptPlan,
     task: &mut Task,
     shared: &mut Shared,
     sockets: &mut Sockets,
 ) -> Result<u32, CallError>
-    ensures { (t : SocketsRecord) → Stand sockets.old t → Answers (spec.accept_call socket at size_at (scene (task.old, shared.old) t)) (task.old, shared.old) t (task.new, shared.new) sockets.new result }
+    requires { IsFree accepting.new.fd task.old.table }
+    ensures { (t : SocketsRecord) → Stand sockets.old t → Answers (spec.accepts accepting (scene (task.old, shared.old) t)) (task.old, shared.old) t (task.new, shared.new) sockets.new result }
 {
-    let place = tcp_number(socket.number)?;
-    let new = accept_place(place, at, size_at, task, sockets)?;
-    let accepted = sockets.accept_tcp(place)?;
+    let new = accepting.new;
+    let accepted = sockets.accept_tcp(accepting.listener)?;
     let file = File {
         nonblocking: false,
         object: Object::Tcp(accepted.socket),
@@ -64,65 +102,4 @@ fn accept_call(
     open(new.fd, file, task, shared)?;
     answer(&mut task.memory, new.place, accepted.peer);
     Ok(new.fd)
-}
-
-fn accept_again(
-    socket: OpenSocket,
-    at: u32,
-    size_at: u32,
-    task: &mut Task,
-    shared: &mut Shared,
-    sockets: &mut Sockets,
-) -> Result<u32, CallError>
-    ensures { (t : SocketsRecord) → Stand sockets.old t → Answers (or_again socket.nonblocking (spec.accept_call socket at size_at (scene (task.old, shared.old) t))) (task.old, shared.old) t (task.new, shared.new) sockets.new result }
-{
-    let accepted = accept_call(socket, at, size_at, task, shared, sockets);
-    again(socket.nonblocking, accepted)
-}
-
-/// `accept(2)`.
-pub(crate) fn accept(
-    fd: u32,
-    at: u32,
-    size_at: u32,
-    task: &mut Task,
-    shared: &mut Shared,
-    sockets: &mut Sockets,
-) -> Result<u32, CallError>
-    ensures { (t : SocketsRecord) → Stand sockets.old t → Answers (spec.accept fd at size_at (scene (task.old, shared.old) t)) (task.old, shared.old) t (task.new, shared.new) sockets.new result }
-{
-    let socket = open_socket(fd, task, shared)?;
-    accept_again(socket, at, size_at, task, shared, sockets)
-}
-
-fn accept_wait(
-    socket: OpenSocket,
-    at: u32,
-    size_at: u32,
-    task: &Task,
-    sockets: &Sockets,
-) -> Result<(), Refusal>
-    ensures { (t : SocketsRecord) → Stand sockets.now t → result ≡ spec.accept_wait socket at size_at task.now t }
-{
-    let place = tcp_number(socket.number)?;
-    let _new = accept_place(place, at, size_at, task, sockets)?;
-    sockets.accept_ready(place)
-}
-
-/// What an accept waits for.
-pub(crate) fn accept_waits(
-    fd: u32,
-    at: u32,
-    size_at: u32,
-    task: &Task,
-    shared: &Shared,
-    sockets: &Sockets,
-) -> Result<(), Refusal>
-    ensures { (t : SocketsRecord) → Stand sockets.now t → result ≡ spec.accept_waits fd at size_at (scene (task.now, shared.now) t) }
-{
-    let socket = open_socket(fd, task, shared)?;
-    or_again(
-        socket.nonblocking,
-        accept_wait(socket, at, size_at, task, sockets),
-    )
 }

@@ -3,7 +3,7 @@
 ghost use Rattle.std.specs.Prelude.{◌≡◌};
 ghost use Rattle.host_calls.specs.Scene as spec;
 
-use host_sockets::{CallError, Refusal};
+use host_sockets::Refusal;
 use sim_base::Errno;
 
 /// What a refusal is where a descriptor may be nonblocking: a call that would wait answers EAGAIN.
@@ -34,16 +34,16 @@ pub(crate) fn or_again(nonblocking: bool, asked: Result<(), Refusal>) -> Result<
     }
 }
 
-/// What a call answers, where its descriptor may be nonblocking.
-pub(crate) fn again(nonblocking: bool, answered: Result<u32, CallError>) -> Result<u32, CallError>
-    ensures { result ≡ spec.again nonblocking answered }
+/// An error that a connection kept answers a call, which takes it.
+pub(crate) fn kept_answers(asked: Result<(), Refusal>) -> Result<(), Refusal>
+    ensures { result ≡ spec.kept_answers asked }
 {
-    match answered {
-        Ok(value) => Ok(value),
-        Err(CallError::Refused(refusal)) => {
-            Err(CallError::Refused(again_refusal(nonblocking, refusal)))
-        }
-        Err(CallError::NoMemory) => Err(CallError::NoMemory),
+    match asked {
+        Ok(()) => Ok(()),
+        Err(Refusal::Kept(_)) => Ok(()),
+        Err(Refusal::Errno(errno)) => Err(Refusal::Errno(errno)),
+        Err(Refusal::Wait(until)) => Err(Refusal::Wait(until)),
+        Err(Refusal::End(state)) => Err(Refusal::End(state)),
     }
 }
 

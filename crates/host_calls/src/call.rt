@@ -10,16 +10,16 @@ pub enum Call {
     Plain(PlainCall),
     /// One on sockets alone.
     Network(NetworkCall),
+    /// One that may wait.
+    Waiting(WaitingCall),
     Close,
-    Read,
-    Write,
-    Ppoll,
     Exit,
 }
 
-/// A call that needs no sockets.
+/// A call that needs no sockets and never waits.
 #[derive(Clone, Copy, PartialEq, Eq)]
 pub enum PlainCall {
+    Eventfd2,
     Fcntl,
     Openat,
     Pipe2,
@@ -29,24 +29,32 @@ pub enum PlainCall {
     Brk,
     Getrandom,
     ClockGettime,
-    ClockNanosleep,
     TimerfdSettime,
 }
 
-/// A call on sockets alone.
+/// A call on sockets alone that never waits.
 #[derive(Clone, Copy, PartialEq, Eq)]
 pub enum NetworkCall {
     Socket,
     Bind,
     Listen,
-    Accept,
-    Connect,
     Getsockname,
     Getpeername,
-    Sendto,
-    Recvfrom,
     Getsockopt,
     Shutdown,
+}
+
+/// A call that may wait.
+#[derive(Clone, Copy, PartialEq, Eq)]
+pub enum WaitingCall {
+    Read,
+    Write,
+    Accept,
+    Connect,
+    Sendto,
+    Recvfrom,
+    ClockNanosleep,
+    Ppoll,
 }
 
 impl PlainCall {
@@ -54,6 +62,7 @@ impl PlainCall {
         ensures { result ≡ spec.plain_of number }
     {
         match number {
+            19 => Some(PlainCall::Eventfd2),
             25 => Some(PlainCall::Fcntl),
             56 => Some(PlainCall::Openat),
             59 => Some(PlainCall::Pipe2),
@@ -63,7 +72,6 @@ impl PlainCall {
             214 => Some(PlainCall::Brk),
             278 => Some(PlainCall::Getrandom),
             403 => Some(PlainCall::ClockGettime),
-            407 => Some(PlainCall::ClockNanosleep),
             411 => Some(PlainCall::TimerfdSettime),
             _ => None,
         }
@@ -78,12 +86,8 @@ impl NetworkCall {
             198 => Some(NetworkCall::Socket),
             200 => Some(NetworkCall::Bind),
             201 => Some(NetworkCall::Listen),
-            202 => Some(NetworkCall::Accept),
-            203 => Some(NetworkCall::Connect),
             204 => Some(NetworkCall::Getsockname),
             205 => Some(NetworkCall::Getpeername),
-            206 => Some(NetworkCall::Sendto),
-            207 => Some(NetworkCall::Recvfrom),
             209 => Some(NetworkCall::Getsockopt),
             210 => Some(NetworkCall::Shutdown),
             _ => None,
@@ -91,17 +95,31 @@ impl NetworkCall {
     }
 }
 
-/// The calls on files of every kind, and those that end a process.
-fn file_call_of(number: u32) -> Option<Call>
-    ensures { result ≡ spec.file_call_of number }
+impl WaitingCall {
+    fn of(number: u32) -> Option<WaitingCall>
+        ensures { result ≡ spec.waiting_of number }
+    {
+        match number {
+            63 => Some(WaitingCall::Read),
+            64 => Some(WaitingCall::Write),
+            202 => Some(WaitingCall::Accept),
+            203 => Some(WaitingCall::Connect),
+            206 => Some(WaitingCall::Sendto),
+            207 => Some(WaitingCall::Recvfrom),
+            407 => Some(WaitingCall::ClockNanosleep),
+            414 => Some(WaitingCall::Ppoll),
+            _ => None,
+        }
+    }
+}
+
+fn other_of(number: u32) -> Option<Call>
+    ensures { result ≡ spec.other_of number }
 {
     match number {
         57 => Some(Call::Close),
-        63 => Some(Call::Read),
-        64 => Some(Call::Write),
         93 => Some(Call::Exit),
         94 => Some(Call::Exit),
-        414 => Some(Call::Ppoll),
         _ => None,
     }
 }
@@ -117,6 +135,9 @@ impl Call {
         if let Some(call) = NetworkCall::of(number) {
             return Some(Call::Network(call));
         }
-        file_call_of(number)
+        if let Some(call) = WaitingCall::of(number) {
+            return Some(Call::Waiting(call));
+        }
+        other_of(number)
     }
 }

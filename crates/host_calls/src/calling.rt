@@ -8,27 +8,21 @@ ghost use Rattle.host_calls.specs.Calls as spec;
 ghost use Rattle.host_calls.specs.Parts.{Answers, PartsRecord, PartsStand, scene, Scene, local_of};
 ghost use Rattle.host_calls.specs.Parts.{place as place_at, Leaves};
 ghost use Rattle.host_calls.specs.Scene.{Does};
-ghost use Rattle.host_calls.specs.Sockets.{socket_number};
 
-use crate::accepting::accept;
+use crate::acting::act;
 use crate::again::negative;
 use crate::all::Parts;
+use crate::asking::asked;
 use crate::binding::{bind, listen, socket};
-use crate::call::{Call, NetworkCall, PlainCall};
+use crate::call::{Call, NetworkCall, PlainCall, WaitingCall};
 use crate::closing::{close, close_task};
-use crate::connecting::connect;
-use crate::descriptors::{Descriptor, look_up};
+use crate::eventfd::eventfd2;
 use crate::files::{fcntl, openat, pipe2};
 use crate::guest::{brk, getpid, getrandom};
 use crate::naming::{getpeername, getsockname, shutdown};
 use crate::options::{getsockopt, setsockopt};
 use crate::parts::{Answer, Known, Reaction, Shared, Task, Why};
-use crate::polling::ppoll;
-use crate::receiving::{Room, recv, recvfrom};
-use crate::sending::{Message, send, sendto};
-use crate::sockets::{OpenSocket, SocketNumber, socket_number};
-use crate::times::{clock_gettime, clock_nanosleep, timerfd_create, timerfd_settime};
-use crate::{reading, writing};
+use crate::times::{clock_gettime, timerfd_create, timerfd_settime};
 use host_sockets::{CallError, Refusal, Sockets};
 use sim_base::{Errno, NoMemory, ObjectId, State, Time};
 
@@ -45,6 +39,7 @@ fn plain_row(
     ensures { Does (spec.plain_row now process call args (task.old, shared.old)) (task.old, shared.old) (task.new, shared.new) result }
 {
     match call {
+        PlainCall::Eventfd2 => eventfd2(task, shared, args[0], args[1]),
         PlainCall::Fcntl => fcntl(task, shared, args[0], args[1], args[2]),
         PlainCall::Openat => openat(task, shared, args[1], args[2]),
         PlainCall::Pipe2 => pipe2(task, shared, args[0], args[1]),
@@ -59,9 +54,6 @@ fn plain_row(
         }
         PlainCall::Getrandom => getrandom(task, shared, args[0], args[1], args[2]),
         PlainCall::ClockGettime => clock_gettime(task, shared, now, args[0], args[1]),
-        PlainCall::ClockNanosleep => {
-            clock_nanosleep(task, shared, now, args[0], args[1], args[2])
-        }
         PlainCall::TimerfdSettime => {
             timerfd_settime(task, shared, now, args[0], args[1], args[2], args[3])
         }
@@ -81,7 +73,7 @@ fn network_row(
     ensures { (t : SocketsRecord) → Stand sockets.old t → Answers (spec.network_row known.now now call args (scene (task.old, shared.old) t)) (task.old, shared.old) t (task.new, shared.new) sockets.new result }
 {
     let hosts = &known.book;
-    let [a, b, c, d, e, f] = args;
+    let [a, b, c, d, e, _f] = args;
     match call {
         NetworkCall::Socket => {
             let value = socket(a, b, c, task, shared, sockets)?;
@@ -95,26 +87,12 @@ fn network_row(
             let value = listen(a, b, task, shared, sockets)?;
             Ok(Reaction::Value(value))
         }
-        NetworkCall::Accept => {
-            let value = accept(a, b, c, task, shared, sockets)?;
-            Ok(Reaction::Value(value))
-        }
-        NetworkCall::Connect => connect(hosts, now, a, b, c, task, shared, sockets),
         NetworkCall::Getsockname => {
             let value = getsockname(a, b, c, task, shared, sockets)?;
             Ok(Reaction::Value(value))
         }
         NetworkCall::Getpeername => {
             let value = getpeername(a, b, c, task, shared, sockets)?;
-            Ok(Reaction::Value(value))
-        }
-        NetworkCall::Sendto => {
-            let message = message_of(b, c, e, f);
-            let value = sendto(hosts, now, a, d, message, task, shared, sockets)?;
-            Ok(Reaction::Value(value))
-        }
-        NetworkCall::Recvfrom => {
-            let value = recvfrom(now, a, d, room_of(b, c, e, f), task, shared, sockets)?;
             Ok(Reaction::Value(value))
         }
         NetworkCall::Getsockopt => {
@@ -128,117 +106,22 @@ fn network_row(
     }
 }
 
-pub(crate) fn message_of(at: u32, n: u32, to_at: u32, size: u32) -> Message
-    ensures { result ≡ spec.message_of at n to_at size }
-{
-    Message { at, n, to_at, size }
-}
-
-pub(crate) fn room_of(at: u32, n: u32, from_at: u32, size_at: u32) -> Room
-    ensures { result ≡ spec.room_of at n from_at size_at }
-{
-    Room {
-        at,
-        n,
-        from_at,
-        size_at,
-    }
-}
-
-fn read_by(
-    known: &Known,
-    now: Time,
-    d: Descriptor,
-    at: u32,
-    n: u32,
-    task: &mut Task,
-    shared: &mut Shared,
-    sockets: &mut Sockets,
-) -> Result<u32, CallError>
-    requires { now.nanos ≤ latest_time }
-    ensures { (t : SocketsRecord) → Stand sockets.old t → Answers (spec.read_by known.now now d (socket_number d.file.object) at n (scene (task.old, shared.old) t)) (task.old, shared.old) t (task.new, shared.new) sockets.new result }
-{
-    match socket_number(d.file.object) {
-        Ok(number) => {
-            let socket = open_by(d, number);
-            recv(now, socket, 0, room_of(at, n, 0, 0), task, shared, sockets)
-        }
-        Err(_) => {
-            let value = reading::read(known.hosts.as_slice(), now, d, at, n, task, shared)?;
-            Ok(value)
-        }
-    }
-}
-
-pub(crate) fn open_by(d: Descriptor, number: SocketNumber) -> OpenSocket
-    ensures { result ≡ spec.open_by d number }
-{
-    OpenSocket {
-        nonblocking: d.file.nonblocking,
-        number,
-    }
-}
-
-/// `read(2)`.
-fn read(
-    known: &Known,
-    now: Time,
-    fd: u32,
-    at: u32,
-    n: u32,
-    task: &mut Task,
-    shared: &mut Shared,
-    sockets: &mut Sockets,
-) -> Result<u32, CallError>
-    requires { now.nanos ≤ latest_time }
-    ensures { (t : SocketsRecord) → Stand sockets.old t → Answers (spec.read known.now now fd at n (scene (task.old, shared.old) t)) (task.old, shared.old) t (task.new, shared.new) sockets.new result }
-{
-    let d = look_up(fd, task, &shared.files)?;
-    read_by(known, now, d, at, n, task, shared, sockets)
-}
-
-fn write_by(
+/// The row of a call that may wait.
+fn waiting_row(
     known: &Known,
     now: Time,
     process: u32,
-    d: Descriptor,
-    at: u32,
-    n: u32,
-    task: &Task,
+    call: WaitingCall,
+    args: [u32; 6],
+    task: &mut Task,
     shared: &mut Shared,
     sockets: &mut Sockets,
-) -> Result<u32, CallError>
-    ensures { (t : SocketsRecord) → Stand sockets.old t → Answers (spec.write_by known.now now process d (socket_number d.file.object) at n (scene (task.now, shared.old) t)) (task.now, shared.old) t (task.now, shared.new) sockets.new result }
+) -> Result<Reaction, CallError>
+    requires { now.nanos ≤ latest_time }
+    ensures { (t : SocketsRecord) → Stand sockets.old t → Answers (spec.waiting_row known.now now process call args (scene (task.old, shared.old) t)) (task.old, shared.old) t (task.new, shared.new) sockets.new result }
 {
-    match socket_number(d.file.object) {
-        Ok(number) => {
-            let socket = open_by(d, number);
-            let message = message_of(at, n, 0, 0);
-            send(&known.book, now, socket, 0, message, task, shared, sockets)
-        }
-        Err(_) => {
-            let value = writing::write(process, d, at, n, task, shared)?;
-            Ok(value)
-        }
-    }
-}
-
-/// `write(2)`.
-fn write(
-    known: &Known,
-    now: Time,
-    process: u32,
-    fd: u32,
-    at: u32,
-    n: u32,
-    task: &Task,
-    shared: &mut Shared,
-    sockets: &mut Sockets,
-) -> Result<u32, CallError>
-    ensures { (t : SocketsRecord) → Stand sockets.old t → Answers (spec.write known.now now process fd at n (scene (task.now, shared.old) t)) (task.now, shared.old) t (task.now, shared.new) sockets.new result }
-{
-    let d = look_up(fd, task, &shared.files)?;
-    write_by(known, now, process, d, at, n, task, shared, sockets)
+    let plan = asked(known, now, call, args, task, shared, sockets)?;
+    act(known, now, process, plan, task, shared, sockets)
 }
 
 /// The row of a call.
@@ -261,22 +144,11 @@ fn row(
             Ok(Reaction::Value(value))
         }
         Call::Network(call) => network_row(known, now, call, args, task, shared, sockets),
+        Call::Waiting(call) => {
+            waiting_row(known, now, process, call, args, task, shared, sockets)
+        }
         Call::Close => {
             let value = close(now, args[0], task, shared, sockets)?;
-            Ok(Reaction::Value(value))
-        }
-        Call::Read => {
-            let value = read(known, now, args[0], args[1], args[2], task, shared, sockets)?;
-            Ok(Reaction::Value(value))
-        }
-        Call::Write => {
-            let value = write(
-                known, now, process, args[0], args[1], args[2], task, shared, sockets,
-            )?;
-            Ok(Reaction::Value(value))
-        }
-        Call::Ppoll => {
-            let value = ppoll(now, args[0], args[1], args[2], task, shared, sockets)?;
             Ok(Reaction::Value(value))
         }
         Call::Exit => Err(CallError::Refused(Refusal::End(exited(args[0])))),

@@ -35,6 +35,10 @@ fn end_object(
             shared.files.end_timer(place);
             Ok(())
         }
+        Object::Eventfd(place) => {
+            shared.files.end_eventfd(place);
+            Ok(())
+        }
         Object::Udp(place) => {
             sockets.close_udp(place);
             Ok(())

@@ -3,13 +3,14 @@
 ghost use Rattle.std.specs.Prelude.{◌≡◌};
 ghost use Rattle.host_sockets.specs.Sockets.{SocketsRecord};
 ghost use Rattle.host_sockets.specs.StandsFor.{Stand};
+ghost use Rattle.host_calls.specs.declared.parts.Shared.{Shared};
 ghost use Rattle.host_calls.specs.Parts.{Answers, scene};
 ghost use Rattle.host_calls.specs.Scene as guest;
 ghost use Rattle.host_calls.specs.Sockets as spec;
 
-use crate::again::negative;
+use crate::again::{kept_answers, negative};
 use crate::parts::{Reaction, Shared, Task};
-use crate::sockets::{SocketNumber, address, open_socket};
+use crate::sockets::{OpenSocket, SocketNumber, address, open_socket};
 use host_sockets::{CallError, Refusal, Reply, Sockets};
 use sim_base::{Book, Errno, Time};
 
@@ -121,52 +122,66 @@ fn connect_call(
     }
 }
 
+/// A socket, and the address that it is connected to.
+#[derive(Clone, Copy, PartialEq, Eq)]
+pub struct ConnectPlan {
+    pub socket: OpenSocket,
+    pub at: u32,
+    pub size: u32,
+}
+
 /// `connect(2)`.
 pub(crate) fn connect(
     hosts: &Book,
     now: Time,
-    fd: u32,
-    at: u32,
-    size: u32,
+    connecting: ConnectPlan,
     task: &Task,
     shared: &mut Shared,
     sockets: &mut Sockets,
 ) -> Result<Reaction, CallError>
-    ensures { (t : SocketsRecord) → Stand sockets.old t → Answers (spec.connect hosts.now now fd at size (scene (task.now, shared.old) t)) (task.now, shared.old) t (task.now, shared.new) sockets.new result }
+    ensures { (t : SocketsRecord) → Stand sockets.old t → Answers (spec.connects hosts.now now connecting (scene (task.now, shared.old) t)) (task.now, shared.old) t (task.now, shared.new) sockets.new result }
 {
-    let socket = open_socket(fd, task, shared)?;
-    let reaction = connect_call(
+    connect_call(
         hosts,
         now,
-        socket.nonblocking,
-        socket.number,
-        at,
-        size,
+        connecting.socket.nonblocking,
+        connecting.socket.number,
+        connecting.at,
+        connecting.size,
         task,
         shared,
         sockets,
-    )?;
-    Ok(reaction)
+    )
 }
 
-fn connect_wait(number: SocketNumber, sockets: &Sockets) -> Result<(), Refusal>
-    ensures { (t : SocketsRecord) → Stand sockets.now t → result ≡ spec.connect_wait number t }
+/// One that has sent its SYN waits while its connection is sought.
+fn connect_ready(number: SocketNumber, task: &Task, sockets: &Sockets) -> Result<(), Refusal>
+    ensures { (t : SocketsRecord) (shared : Shared) → Stand sockets.now t → result ≡ spec.connect_ready number (scene (task.now, shared) t) }
 {
     match number {
         SocketNumber::Udp(_) => Ok(()),
-        SocketNumber::Tcp(place) => sockets.connect_waited(place),
+        SocketNumber::Tcp(place) => {
+            if task.kept.is_some() {
+                kept_answers(sockets.connect_waited(place))
+            } else {
+                Ok(())
+            }
+        }
     }
 }
 
 /// What a connect waits for that has sent its SYN.
-pub(crate) fn connect_waits(
+pub(crate) fn connect_plan(
     fd: u32,
+    at: u32,
+    size: u32,
     task: &Task,
     shared: &Shared,
     sockets: &Sockets,
-) -> Result<(), Refusal>
-    ensures { (t : SocketsRecord) → Stand sockets.now t → result ≡ spec.connect_waits fd (scene (task.now, shared.now) t) }
+) -> Result<ConnectPlan, Refusal>
+    ensures { (t : SocketsRecord) → Stand sockets.now t → result ≡ spec.connect_plan fd at size (scene (task.now, shared.now) t) }
 {
     let socket = open_socket(fd, task, shared)?;
-    connect_wait(socket.number, sockets)
+    connect_ready(socket.number, task, sockets)?;
+    Ok(ConnectPlan { socket, at, size })
 }

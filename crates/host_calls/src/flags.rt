@@ -9,6 +9,9 @@ pub(crate) const O_NONBLOCK: u32 = 0x800;
 /// O_CLOEXEC, which has no effect.
 const O_CLOEXEC: u32 = 0x80000;
 
+/// EFD_SEMAPHORE.
+pub(crate) const EFD_SEMAPHORE: u32 = 1;
+
 /// MSG_DONTWAIT.
 pub(crate) const MSG_DONTWAIT: u32 = 0x40;
 
@@ -17,6 +20,9 @@ pub(crate) const MSG_NOSIGNAL: u32 = 0x4000;
 
 /// The bits beside O_NONBLOCK and O_CLOEXEC.
 const BESIDE_OPEN: u32 = !(O_NONBLOCK | O_CLOEXEC);
+
+/// The bits beside EFD_SEMAPHORE, O_NONBLOCK and O_CLOEXEC.
+const BESIDE_EVENTFD: u32 = !(EFD_SEMAPHORE | O_NONBLOCK | O_CLOEXEC);
 
 /// The bits beside MSG_DONTWAIT and MSG_NOSIGNAL.
 const BESIDE_MESSAGE: u32 = !(MSG_DONTWAIT | MSG_NOSIGNAL);
@@ -33,6 +39,13 @@ pub(crate) fn beside_open(flags: u32) -> u32
     ensures { result ≡ spec.beside_open flags }
 {
     flags & BESIDE_OPEN
+}
+
+/// The flags beside EFD_SEMAPHORE, O_NONBLOCK and O_CLOEXEC.
+pub(crate) fn beside_eventfd(flags: u32) -> u32
+    ensures { result ≡ spec.beside_eventfd flags }
+{
+    flags & BESIDE_EVENTFD
 }
 
 /// The flags beside MSG_DONTWAIT and MSG_NOSIGNAL.

@@ -3,14 +3,17 @@
 #![tactic(auto)]
 
 mod accepting;
+mod acting;
 mod again;
 mod all;
+mod asking;
 mod binding;
 mod call;
 mod calling;
 mod closing;
 mod connecting;
 mod descriptors;
+mod eventfd;
 mod events;
 mod files;
 mod flags;
@@ -19,6 +22,7 @@ mod naming;
 mod options;
 mod outputs;
 mod parts;
+mod plan;
 mod polling;
 mod reading;
 mod receiving;

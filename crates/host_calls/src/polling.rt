@@ -4,7 +4,7 @@ ghost use Rattle.std.specs.Prelude.{◌≡◌, ◌+◌, ◌*◌, ◌<◌, ◌≤
 ghost use Rattle.sim_base.specs.Units.{latest_time};
 ghost use Rattle.host_sockets.specs.Sockets.{SocketsRecord};
 ghost use Rattle.host_sockets.specs.StandsFor.{Stand};
-ghost use Rattle.host_files.specs.Files.{pipe_at};
+ghost use Rattle.host_files.specs.Files.{pipe_at, eventfd_at};
 ghost use Rattle.host_calls.specs.Parts.{Answers, scene};
 ghost use Rattle.host_calls.specs.Polling as spec;
 
@@ -41,6 +41,15 @@ fn timer_ready(now: Time, place: usize, files: &Files) -> u16
     }
 }
 
+fn eventfd_ready(place: usize, files: &Files) -> u16
+    ensures { result ≡ spec.eventfd_ready (eventfd_at place files.now) }
+{
+    match files.eventfd(place) {
+        Some(eventfd) => eventfd.ready(),
+        None => 0,
+    }
+}
+
 /// What an object is ready for, by the bits of `poll(2)`.
 fn object_ready(now: Time, object: Object, files: &Files, sockets: &Sockets) -> u16
     requires { now.nanos ≤ latest_time }
@@ -54,6 +63,7 @@ fn object_ready(now: Time, object: Object, files: &Files, sockets: &Sockets) -> 
         Object::ReadEnd(place) => pipe_ready(place, End::Reading, files),
         Object::WriteEnd(place) => pipe_ready(place, End::Writing, files),
         Object::Timer(place) => timer_ready(now, place, files),
+        Object::Eventfd(place) => eventfd_ready(place, files),
         Object::Udp(place) => sockets.udp_ready(place),
         Object::Tcp(place) => sockets.tcp_ready(place),
     }
@@ -256,8 +266,16 @@ fn poll_found(
     Ok(found)
 }
 
-/// What a poll waits for.
-pub(crate) fn poll_asked(
+/// The entries of a poll, and how many of them tell of something.
+#[derive(Clone, Copy, PartialEq, Eq)]
+pub struct PollPlan {
+    pub at: u32,
+    pub count: u32,
+    pub found: u32,
+}
+
+/// What refuses a poll, and whether it waits.
+pub(crate) fn poll_plan(
     now: Time,
     at: u32,
     count: u32,
@@ -265,41 +283,46 @@ pub(crate) fn poll_asked(
     task: &Task,
     shared: &Shared,
     sockets: &Sockets,
-) -> Result<u32, Refusal>
+) -> Result<PollPlan, Refusal>
     requires { now.nanos ≤ latest_time }
-    ensures { (t : SocketsRecord) → Stand sockets.now t → result ≡ spec.poll_asked now at count limit_at (scene (task.now, shared.now) t) }
+    ensures asked { (t : SocketsRecord) → Stand sockets.now t → result ≡ spec.poll_plan now at count limit_at (scene (task.now, shared.now) t) }
+    ensures fits { IfOk result (λ p. p.count ≤ spec.max_entries) }
 {
     if count > MOST {
         return Err(Refusal::Errno(Errno::Einval));
     }
-    let count = count as usize;
     let mut entries = [0; 2048];
-    let entries = &mut entries[..8 * count];
+    let entries = &mut entries[..8 * count as usize];
     poll_entries(at, entries, &task.memory)?;
-    poll_found(now, count, limit_at, entries, task, shared, sockets)
+    let found = poll_found(
+        now,
+        count as usize,
+        limit_at,
+        entries,
+        task,
+        shared,
+        sockets,
+    )?;
+    Ok(PollPlan { at, count, found })
 }
 
 /// `ppoll(2)`.
 pub(crate) fn ppoll(
     now: Time,
-    at: u32,
-    count: u32,
-    limit_at: u32,
+    polling: PollPlan,
     task: &mut Task,
     shared: &Shared,
     sockets: &Sockets,
 ) -> Result<u32, CallError>
-    requires { now.nanos ≤ latest_time }
-    ensures { (t : SocketsRecord) → Stand sockets.now t → Answers (spec.ppoll now at count limit_at (scene (task.old, shared.now) t)) (task.old, shared.now) t (task.new, shared.now) sockets.now result }
+    requires now { now.nanos ≤ latest_time }
+    requires count { polling.count ≤ spec.max_entries }
+    ensures { (t : SocketsRecord) → Stand sockets.now t → Answers (spec.polls now polling (scene (task.old, shared.now) t)) (task.old, shared.now) t (task.new, shared.now) sockets.now result }
 {
-    if count > MOST {
-        return Err(CallError::Refused(Refusal::Errno(Errno::Einval)));
-    }
+    let PollPlan { at, count, found } = polling;
     let count = count as usize;
     let mut entries = [0; 2048];
     let entries = &mut entries[..8 * count];
     poll_entries(at, entries, &task.memory)?;
-    let found = poll_found(now, count, limit_at, entries, task, shared, sockets)?;
     let alloc = shared.files.allocator();
     let bytes = told_entries(alloc, now, count, entries, task, shared, sockets)?;
     fill(&mut task.memory, at, bytes.as_slice());

@@ -1,7 +1,11 @@
 //! read, where no socket is meant.
 
-ghost use Rattle.std.specs.Prelude.{◌≡◌, ◌+◌, ◌≤◌, length, max, OnOk, IfOk};
+ghost use Rattle.std.specs.Prelude.{nat_lt, ◌≡◌, ◌+◌, ◌≤◌, length, max, OnOk, IfOk};
 ghost use Rattle.sim_base.specs.Units.{latest_time};
+ghost use Rattle.sim_base.specs.declared.errno.Errno.TheVariants.{Einval};
+ghost use Rattle.sim_base.specs.Refusals.{refuse_if};
+ghost use Rattle.host_sockets.specs.declared.error.Refusal.TheVariants as refusal;
+ghost use Rattle.host_calls.specs.Numbers.{eventfd_size};
 ghost use Rattle.host_files.specs.Files as files_spec;
 ghost use Rattle.host_files.specs.Files.{pipe_gives};
 ghost use Rattle.guest_args.specs.Span.{most};
@@ -10,7 +14,9 @@ ghost use Rattle.host_calls.specs.Scene.{Does, Is};
 
 use crate::again::or_again;
 use crate::descriptors::Descriptor;
+use crate::eventfd::{eventfd_empty, read_eventfd};
 use crate::parts::{Shared, Task};
+use crate::plan::Transfer;
 use guest_args::{counted, fill};
 use guest_mem::Right;
 use host_fds::Pipe;
@@ -18,7 +24,18 @@ use host_files::{File, Files, Object};
 use host_sockets::{CallError, Refusal};
 use sim_base::{Errno, NoMemory, Time};
 
-/// What cannot be read, and what a timer has no room for.
+/// Whether there is room for a number of 8 bytes.
+pub(crate) fn may_hold(n: u32) -> Result<(), Refusal>
+    ensures { result ≡ refuse_if (nat_lt n eventfd_size) (refusal.Errno Einval) }
+{
+    if n < 8 {
+        Err(Refusal::Errno(Errno::Einval))
+    } else {
+        Ok(())
+    }
+}
+
+/// What cannot be read, and what a timer or an eventfd has no room for.
 fn may_read(object: Object, n: u32) -> Result<(), Refusal>
     ensures { result ≡ spec.may_read object n }
 {
@@ -26,13 +43,8 @@ fn may_read(object: Object, n: u32) -> Result<(), Refusal>
         Object::Output => Err(Refusal::Errno(Errno::Ebadf)),
         Object::Errors => Err(Refusal::Errno(Errno::Ebadf)),
         Object::WriteEnd(_) => Err(Refusal::Errno(Errno::Ebadf)),
-        Object::Timer(_) => {
-            if n < 8 {
-                Err(Refusal::Errno(Errno::Einval))
-            } else {
-                Ok(())
-            }
-        }
+        Object::Timer(_) => may_hold(n),
+        Object::Eventfd(_) => may_hold(n),
         Object::Input => Ok(()),
         Object::Hosts(_) => Ok(()),
         Object::ReadEnd(_) => Ok(()),
@@ -86,6 +98,7 @@ fn wait_to_read(now: Time, object: Object, files: &Files) -> Result<(), Refusal>
                 Ok(())
             }
         }
+        Object::Eventfd(place) => eventfd_empty(place, files),
         Object::Input => Ok(()),
         Object::Output => Ok(()),
         Object::Errors => Ok(()),
@@ -97,25 +110,24 @@ fn wait_to_read(now: Time, object: Object, files: &Files) -> Result<(), Refusal>
 }
 
 /// What refuses a read, and whether it waits.
-pub(crate) fn read_asked(
+pub(crate) fn read_plan(
     now: Time,
     d: Descriptor,
     at: u32,
     n: u32,
     task: &Task,
     shared: &Shared,
-) -> Result<(), Refusal>
+) -> Result<Transfer, Refusal>
     requires { now.nanos ≤ latest_time }
-    ensures { result ≡ spec.read_asked now d at n (task.now, shared.now) }
+    ensures { result ≡ spec.file_read_plan now d at n (task.now, shared.now) }
 {
     may_read(d.file.object, n)?;
     if !task.memory.is_open(Right::Write, at, counted(n)) {
         return Err(Refusal::Errno(Errno::Efault));
     }
-    or_again(
-        d.file.nonblocking,
-        wait_to_read(now, d.file.object, &shared.files),
-    )
+    let ready = wait_to_read(now, d.file.object, &shared.files);
+    or_again(d.file.nonblocking, ready)?;
+    Ok(Transfer { d, at, n })
 }
 
 /// The bytes of a text from one on, at most so many.
@@ -201,6 +213,10 @@ fn read_done(
             read_timer(now, place, at, task, shared);
             Ok(8)
         }
+        Object::Eventfd(place) => {
+            read_eventfd(place, at, task, shared);
+            Ok(8)
+        }
         Object::Input => Ok(0),
         Object::Output => Ok(0),
         Object::Errors => Ok(0),
@@ -214,16 +230,14 @@ fn read_done(
 pub(crate) fn read(
     text: &[u8],
     now: Time,
-    d: Descriptor,
-    at: u32,
-    n: u32,
+    transfer: Transfer,
     task: &mut Task,
     shared: &mut Shared,
 ) -> Result<u32, CallError>
     requires { now.nanos ≤ latest_time }
-    ensures { Does (spec.reads text.now now d at n (task.old, shared.old)) (task.old, shared.old) (task.new, shared.new) result }
+    ensures { Does (spec.reads text.now now transfer (task.old, shared.old)) (task.old, shared.old) (task.new, shared.new) result }
 {
-    read_asked(now, d, at, n, task, shared)?;
+    let Transfer { d, at, n } = transfer;
     let moved = read_done(text, now, d, at, counted(n), task, shared)?;
     Ok(moved)
 }

@@ -9,7 +9,7 @@ ghost use Rattle.guest_args.specs.Span.{most};
 ghost use Rattle.host_calls.specs.Parts.{Answers, scene};
 ghost use Rattle.host_calls.specs.Sockets as spec;
 
-use crate::again::{again, negative, or_again};
+use crate::again::{kept_answers, negative, or_again};
 use crate::parts::{Shared, Task};
 use crate::sending::{is_quick, refuse_flags};
 use crate::sockets::{OpenSocket, SocketNumber, open_socket, result_address};
@@ -36,19 +36,76 @@ fn recv_place(room: Room, memory: &Mem) -> Result<Option<AddressPlace>, Refusal>
     result_address(memory, room.from_at, room.size_at)
 }
 
+/// What is received, and where it goes: at most so many bytes to an address, and the sender's
+/// address to its own place.
+#[derive(Clone, Copy, PartialEq, Eq)]
+pub struct RecvPlan {
+    pub number: SocketNumber,
+    pub at: u32,
+    pub n: u32,
+    pub from: Option<AddressPlace>,
+}
+
+fn recv_ready(number: SocketNumber, sockets: &Sockets) -> Result<(), Refusal>
+    ensures { (t : SocketsRecord) → Stand sockets.now t → result ≡ spec.recv_ready number t }
+{
+    match number {
+        SocketNumber::Udp(place) => sockets.recv_udp_asked(place),
+        SocketNumber::Tcp(place) => kept_answers(sockets.recv_asked(place)),
+    }
+}
+
+/// What refuses a receive, and whether it waits.
+pub(crate) fn recv_plan(
+    socket: OpenSocket,
+    flags: u32,
+    room: Room,
+    memory: &Mem,
+    sockets: &Sockets,
+) -> Result<RecvPlan, Refusal>
+    ensures { (t : SocketsRecord) → Stand sockets.now t → result ≡ spec.recv_plan socket flags room memory.now t }
+{
+    refuse_flags(flags)?;
+    let from = recv_place(room, memory)?;
+    let quick = is_quick(socket.nonblocking, flags);
+    or_again(quick, recv_ready(socket.number, sockets))?;
+    Ok(RecvPlan {
+        number: socket.number,
+        at: room.at,
+        n: room.n,
+        from,
+    })
+}
+
+/// What refuses a `recvfrom(2)`, and whether it waits.
+pub(crate) fn recvfrom_plan(
+    fd: u32,
+    flags: u32,
+    room: Room,
+    task: &Task,
+    shared: &Shared,
+    sockets: &Sockets,
+) -> Result<RecvPlan, Refusal>
+    ensures { (t : SocketsRecord) → Stand sockets.now t → result ≡ spec.recvfrom_plan fd flags room (scene (task.now, shared.now) t) }
+{
+    let socket = open_socket(fd, task, shared)?;
+    recv_plan(socket, flags, room, &task.memory, sockets)
+}
+
 fn recv_udp(
     place: usize,
-    room: Room,
+    at: u32,
+    n: u32,
+    from: Option<AddressPlace>,
     task: &mut Task,
     shared: &Shared,
     sockets: &mut Sockets,
 ) -> Result<u32, CallError>
-    ensures { (t : SocketsRecord) → Stand sockets.old t → Answers (spec.recv_udp place room (scene (task.old, shared.now) t)) (task.old, shared.now) t (task.new, shared.now) sockets.new result }
+    ensures { (t : SocketsRecord) → Stand sockets.old t → Answers (spec.recv_udp place at n from (scene (task.old, shared.now) t)) (task.old, shared.now) t (task.new, shared.now) sockets.new result }
 {
-    let to = recv_place(room, &task.memory)?;
-    let datagram = sockets.recv_udp(place, counted(room.n))?;
-    fill(&mut task.memory, room.at, datagram.bytes.as_slice());
-    answer(&mut task.memory, to, datagram.from);
+    let datagram = sockets.recv_udp(place, counted(n))?;
+    fill(&mut task.memory, at, datagram.bytes.as_slice());
+    answer(&mut task.memory, from, datagram.from);
     Ok(datagram.bytes.len() as u32)
 }
 
@@ -87,116 +144,38 @@ fn received(
 fn recv_tcp(
     now: Time,
     place: usize,
-    room: Room,
+    at: u32,
+    n: u32,
+    from: Option<AddressPlace>,
     task: &mut Task,
     shared: &mut Shared,
     sockets: &mut Sockets,
 ) -> Result<u32, CallError>
-    ensures { (t : SocketsRecord) → Stand sockets.old t → Answers (spec.recv_tcp now place room (scene (task.old, shared.old) t)) (task.old, shared.old) t (task.new, shared.new) sockets.new result }
+    ensures { (t : SocketsRecord) → Stand sockets.old t → Answers (spec.recv_tcp now place at n from (scene (task.old, shared.old) t)) (task.old, shared.old) t (task.new, shared.new) sockets.new result }
 {
-    let to = recv_place(room, &task.memory)?;
-    let reply = sockets.recv_tcp(&mut shared.outlet, now, place, counted(room.n))?;
-    let count = received(place, room.at, to, reply, &mut task.memory, sockets);
+    let reply = sockets.recv_tcp(&mut shared.outlet, now, place, counted(n))?;
+    let count = received(place, at, from, reply, &mut task.memory, sockets);
     Ok(count)
 }
 
-fn recv_call(
-    now: Time,
-    number: SocketNumber,
-    room: Room,
-    task: &mut Task,
-    shared: &mut Shared,
-    sockets: &mut Sockets,
-) -> Result<u32, CallError>
-    ensures { (t : SocketsRecord) → Stand sockets.old t → Answers (spec.recv_call now number room (scene (task.old, shared.old) t)) (task.old, shared.old) t (task.new, shared.new) sockets.new result }
-{
-    match number {
-        SocketNumber::Udp(place) => recv_udp(place, room, task, shared, sockets),
-        SocketNumber::Tcp(place) => recv_tcp(now, place, room, task, shared, sockets),
-    }
-}
-
-fn recv_again(
-    now: Time,
-    socket: OpenSocket,
-    flags: u32,
-    room: Room,
-    task: &mut Task,
-    shared: &mut Shared,
-    sockets: &mut Sockets,
-) -> Result<u32, CallError>
-    ensures { (t : SocketsRecord) → Stand sockets.old t → Answers (spec.recv_again now socket flags room (scene (task.old, shared.old) t)) (task.old, shared.old) t (task.new, shared.new) sockets.new result }
-{
-    let received = recv_call(now, socket.number, room, task, shared, sockets);
-    again(is_quick(socket.nonblocking, flags), received)
-}
-
-/// Receives on a socket.
+/// Receives on a socket (`recv(2)`).
 pub(crate) fn recv(
     now: Time,
-    socket: OpenSocket,
-    flags: u32,
-    room: Room,
+    receiving: RecvPlan,
     task: &mut Task,
     shared: &mut Shared,
     sockets: &mut Sockets,
 ) -> Result<u32, CallError>
-    ensures { (t : SocketsRecord) → Stand sockets.old t → Answers (spec.recv now socket flags room (scene (task.old, shared.old) t)) (task.old, shared.old) t (task.new, shared.new) sockets.new result }
+    ensures { (t : SocketsRecord) → Stand sockets.old t → Answers (spec.receives now receiving (scene (task.old, shared.old) t)) (task.old, shared.old) t (task.new, shared.new) sockets.new result }
 {
-    refuse_flags(flags)?;
-    recv_again(now, socket, flags, room, task, shared, sockets)
-}
-
-/// `recvfrom(2)`.
-pub(crate) fn recvfrom(
-    now: Time,
-    fd: u32,
-    flags: u32,
-    room: Room,
-    task: &mut Task,
-    shared: &mut Shared,
-    sockets: &mut Sockets,
-) -> Result<u32, CallError>
-    ensures { (t : SocketsRecord) → Stand sockets.old t → Answers (spec.recvfrom now fd flags room (scene (task.old, shared.old) t)) (task.old, shared.old) t (task.new, shared.new) sockets.new result }
-{
-    let socket = open_socket(fd, task, shared)?;
-    recv(now, socket, flags, room, task, shared, sockets)
-}
-
-fn recv_ready(number: SocketNumber, sockets: &Sockets) -> Result<(), Refusal>
-    ensures { (t : SocketsRecord) → Stand sockets.now t → result ≡ spec.recv_ready number t }
-{
+    let RecvPlan {
+        number,
+        at,
+        n,
+        from,
+    } = receiving;
     match number {
-        SocketNumber::Udp(place) => sockets.recv_udp_asked(place),
-        SocketNumber::Tcp(place) => sockets.recv_asked(place),
+        SocketNumber::Udp(place) => recv_udp(place, at, n, from, task, shared, sockets),
+        SocketNumber::Tcp(place) => recv_tcp(now, place, at, n, from, task, shared, sockets),
     }
-}
-
-fn recv_wait(
-    number: SocketNumber,
-    room: Room,
-    memory: &Mem,
-    sockets: &Sockets,
-) -> Result<(), Refusal>
-    ensures { (t : SocketsRecord) → Stand sockets.now t → result ≡ spec.recv_wait number room memory.now t }
-{
-    let _to = recv_place(room, memory)?;
-    recv_ready(number, sockets)
-}
-
-/// What a receive waits for.
-pub(crate) fn recv_waits(
-    socket: OpenSocket,
-    flags: u32,
-    room: Room,
-    memory: &Mem,
-    sockets: &Sockets,
-) -> Result<(), Refusal>
-    ensures { (t : SocketsRecord) → Stand sockets.now t → result ≡ spec.recv_waits socket flags room memory.now t }
-{
-    refuse_flags(flags)?;
-    or_again(
-        is_quick(socket.nonblocking, flags),
-        recv_wait(socket.number, room, memory, sockets),
-    )
 }

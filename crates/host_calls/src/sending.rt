@@ -8,14 +8,14 @@ ghost use Rattle.guest_args.specs.Span.{most};
 ghost use Rattle.host_calls.specs.Parts.{Answers, scene};
 ghost use Rattle.host_calls.specs.Sockets as spec;
 
-use crate::again::{again, negative, or_again};
+use crate::again::{kept_answers, negative, or_again};
 use crate::flags::{MSG_DONTWAIT, MSG_NOSIGNAL, beside_message, has};
 use crate::parts::{Shared, Task};
 use crate::sockets::{OpenSocket, SocketNumber, given_address, open_socket};
 use guest_args::{block, counted};
 use guest_mem::Right;
 use host_sockets::{CallError, Refusal, Reply, Sockets};
-use sim_base::{Book, Errno, Time};
+use sim_base::{Addr, Book, Errno, Time};
 
 /// What is sent: so many bytes from an address on, and the address that is given beside them, if
 /// its pointer isn't null.
@@ -25,6 +25,30 @@ pub struct Message {
     pub n: u32,
     pub to_at: u32,
     pub size: u32,
+}
+
+/// What a UDP socket sends. What refuses it is tried as it is done.
+#[derive(Clone, Copy, PartialEq, Eq)]
+pub struct DatagramSend {
+    pub place: usize,
+    pub message: Message,
+}
+
+/// What a TCP socket sends: so many bytes from an address on.
+#[derive(Clone, Copy, PartialEq, Eq)]
+pub struct StreamSend {
+    pub place: usize,
+    pub quiet: bool,
+    pub to: Option<Addr>,
+    pub at: u32,
+    pub n: u32,
+}
+
+/// What a socket sends.
+#[derive(Clone, Copy, PartialEq, Eq)]
+pub enum SendPlan {
+    Datagram(DatagramSend),
+    Stream(StreamSend),
 }
 
 /// MSG_DONTWAIT and MSG_NOSIGNAL alone may be given.
@@ -78,156 +102,128 @@ fn send_udp(
 fn send_tcp(
     hosts: &Book,
     now: Time,
-    place: usize,
-    quiet: bool,
-    message: Message,
+    stream: StreamSend,
     task: &Task,
     shared: &mut Shared,
     sockets: &mut Sockets,
 ) -> Result<u32, CallError>
-    ensures { (t : SocketsRecord) → Stand sockets.old t → Answers (spec.send_tcp hosts.now now place quiet message (scene (task.now, shared.old) t)) (task.now, shared.old) t (task.now, shared.new) sockets.new result }
+    ensures { (t : SocketsRecord) → Stand sockets.old t → Answers (spec.send_tcp hosts.now now stream (scene (task.now, shared.old) t)) (task.now, shared.old) t (task.now, shared.new) sockets.new result }
 {
+    let StreamSend {
+        place,
+        quiet,
+        to,
+        at,
+        n,
+    } = stream;
     let alloc = shared.files.allocator();
-    let Some(bytes) = block(alloc, &task.memory, message.at, counted(message.n))? else {
+    let Some(bytes) = block(alloc, &task.memory, at, counted(n))? else {
         return Err(CallError::Refused(Refusal::Errno(Errno::Efault)));
     };
-    let to = given_address(&task.memory, message.to_at, message.size)?;
     let outlet = &mut shared.outlet;
     let reply = sockets.send_tcp(hosts, outlet, now, place, bytes.as_slice(), to, quiet)?;
     Ok(value_of(reply))
 }
 
-fn send_call(
+/// Sends on a socket (`send(2)`).
+pub(crate) fn send(
     hosts: &Book,
     now: Time,
-    number: SocketNumber,
-    quiet: bool,
-    message: Message,
+    sending: SendPlan,
     task: &Task,
     shared: &mut Shared,
     sockets: &mut Sockets,
 ) -> Result<u32, CallError>
-    ensures { (t : SocketsRecord) → Stand sockets.old t → Answers (spec.send_call hosts.now now number quiet message (scene (task.now, shared.old) t)) (task.now, shared.old) t (task.now, shared.new) sockets.new result }
+    ensures { (t : SocketsRecord) → Stand sockets.old t → Answers (spec.sends_by hosts.now now sending (scene (task.now, shared.old) t)) (task.now, shared.old) t (task.now, shared.new) sockets.new result }
+{
+    match sending {
+        SendPlan::Datagram(datagram) => send_udp(
+            hosts,
+            datagram.place,
+            datagram.message,
+            task,
+            shared,
+            sockets,
+        ),
+        SendPlan::Stream(stream) => send_tcp(hosts, now, stream, task, shared, sockets),
+    }
+}
+
+fn send_tcp_plan(
+    hosts: &Book,
+    place: usize,
+    nonblocking: bool,
+    quiet: bool,
+    message: Message,
+    task: &Task,
+    sockets: &Sockets,
+) -> Result<SendPlan, Refusal>
+    ensures { (t : SocketsRecord) → Stand sockets.now t → result ≡ spec.send_tcp_plan hosts.now place nonblocking quiet message task.now.memory t }
+{
+    let Message { at, n, to_at, size } = message;
+    if !task.memory.is_open(Right::Read, at, counted(n)) {
+        return Err(Refusal::Errno(Errno::Efault));
+    }
+    let to = given_address(&task.memory, to_at, size)?;
+    let asked = sockets.send_asked(hosts, place, counted(n), to, quiet);
+    or_again(nonblocking, kept_answers(asked))?;
+    Ok(SendPlan::Stream(StreamSend {
+        place,
+        quiet,
+        to,
+        at,
+        n,
+    }))
+}
+
+fn send_plan_of(
+    hosts: &Book,
+    number: SocketNumber,
+    nonblocking: bool,
+    quiet: bool,
+    message: Message,
+    task: &Task,
+    sockets: &Sockets,
+) -> Result<SendPlan, Refusal>
+    ensures { (t : SocketsRecord) → Stand sockets.now t → result ≡ spec.send_plan_of hosts.now number nonblocking quiet message task.now.memory t }
 {
     match number {
-        SocketNumber::Udp(place) => send_udp(hosts, place, message, task, shared, sockets),
+        SocketNumber::Udp(place) => Ok(SendPlan::Datagram(DatagramSend { place, message })),
         SocketNumber::Tcp(place) => {
-            send_tcp(hosts, now, place, quiet, message, task, shared, sockets)
+            send_tcp_plan(hosts, place, nonblocking, quiet, message, task, sockets)
         }
     }
 }
 
-fn send_again(
+/// What refuses a send, and whether it waits.
+pub(crate) fn send_plan(
     hosts: &Book,
-    now: Time,
     socket: OpenSocket,
     flags: u32,
     message: Message,
     task: &Task,
-    shared: &mut Shared,
-    sockets: &mut Sockets,
-) -> Result<u32, CallError>
-    ensures { (t : SocketsRecord) → Stand sockets.old t → Answers (spec.send_again hosts.now now socket flags message (scene (task.now, shared.old) t)) (task.now, shared.old) t (task.now, shared.new) sockets.new result }
-{
-    let quiet = has(MSG_NOSIGNAL, flags);
-    let sent = send_call(
-        hosts,
-        now,
-        socket.number,
-        quiet,
-        message,
-        task,
-        shared,
-        sockets,
-    );
-    again(is_quick(socket.nonblocking, flags), sent)
-}
-
-/// Sends on a socket.
-pub(crate) fn send(
-    hosts: &Book,
-    now: Time,
-    socket: OpenSocket,
-    flags: u32,
-    message: Message,
-    task: &Task,
-    shared: &mut Shared,
-    sockets: &mut Sockets,
-) -> Result<u32, CallError>
-    ensures { (t : SocketsRecord) → Stand sockets.old t → Answers (spec.send hosts.now now socket flags message (scene (task.now, shared.old) t)) (task.now, shared.old) t (task.now, shared.new) sockets.new result }
+    sockets: &Sockets,
+) -> Result<SendPlan, Refusal>
+    ensures { (t : SocketsRecord) → Stand sockets.now t → result ≡ spec.send_plan hosts.now socket flags message task.now.memory t }
 {
     refuse_flags(flags)?;
-    send_again(hosts, now, socket, flags, message, task, shared, sockets)
+    let quick = is_quick(socket.nonblocking, flags);
+    let quiet = has(MSG_NOSIGNAL, flags);
+    send_plan_of(hosts, socket.number, quick, quiet, message, task, sockets)
 }
 
-/// `sendto(2)`.
-pub(crate) fn sendto(
+/// What refuses a `sendto(2)`, and whether it waits.
+pub(crate) fn sendto_plan(
     hosts: &Book,
-    now: Time,
     fd: u32,
     flags: u32,
     message: Message,
     task: &Task,
-    shared: &mut Shared,
-    sockets: &mut Sockets,
-) -> Result<u32, CallError>
-    ensures { (t : SocketsRecord) → Stand sockets.old t → Answers (spec.sendto hosts.now now fd flags message (scene (task.now, shared.old) t)) (task.now, shared.old) t (task.now, shared.new) sockets.new result }
+    shared: &Shared,
+    sockets: &Sockets,
+) -> Result<SendPlan, Refusal>
+    ensures { (t : SocketsRecord) → Stand sockets.now t → result ≡ spec.sendto_plan hosts.now fd flags message (scene (task.now, shared.now) t) }
 {
     let socket = open_socket(fd, task, shared)?;
-    send(hosts, now, socket, flags, message, task, shared, sockets)
-}
-
-fn send_tcp_wait(
-    hosts: &Book,
-    place: usize,
-    quiet: bool,
-    message: Message,
-    task: &Task,
-    sockets: &Sockets,
-) -> Result<(), Refusal>
-    ensures { (t : SocketsRecord) → Stand sockets.now t → result ≡ spec.send_tcp_wait hosts.now place quiet message task.now.memory t }
-{
-    if !task
-        .memory
-        .is_open(Right::Read, message.at, counted(message.n))
-    {
-        return Err(Refusal::Errno(Errno::Efault));
-    }
-    let to = given_address(&task.memory, message.to_at, message.size)?;
-    sockets.send_asked(hosts, place, counted(message.n), to, quiet)
-}
-
-fn send_wait(
-    hosts: &Book,
-    number: SocketNumber,
-    quiet: bool,
-    message: Message,
-    task: &Task,
-    sockets: &Sockets,
-) -> Result<(), Refusal>
-    ensures { (t : SocketsRecord) → Stand sockets.now t → result ≡ spec.send_wait hosts.now number quiet message task.now.memory t }
-{
-    match number {
-        SocketNumber::Udp(_) => Ok(()),
-        SocketNumber::Tcp(place) => send_tcp_wait(hosts, place, quiet, message, task, sockets),
-    }
-}
-
-/// What a send waits for.
-pub(crate) fn send_waits(
-    hosts: &Book,
-    socket: OpenSocket,
-    flags: u32,
-    message: Message,
-    task: &Task,
-    sockets: &Sockets,
-) -> Result<(), Refusal>
-    ensures { (t : SocketsRecord) → Stand sockets.now t → result ≡ spec.send_waits hosts.now socket flags message task.now.memory t }
-{
-    refuse_flags(flags)?;
-    let quiet = has(MSG_NOSIGNAL, flags);
-    or_again(
-        is_quick(socket.nonblocking, flags),
-        send_wait(hosts, socket.number, quiet, message, task, sockets),
-    )
+    send_plan(hosts, socket, flags, message, task, sockets)
 }

@@ -40,6 +40,7 @@ pub(crate) fn socket_number(object: Object) -> Result<SocketNumber, Refusal>
         Object::ReadEnd(_) => Err(Refusal::Errno(Errno::Enotsock)),
         Object::WriteEnd(_) => Err(Refusal::Errno(Errno::Enotsock)),
         Object::Timer(_) => Err(Refusal::Errno(Errno::Enotsock)),
+        Object::Eventfd(_) => Err(Refusal::Errno(Errno::Enotsock)),
     }
 }
 

@@ -95,7 +95,7 @@ fn sleep_time(clock: u32, flags: u32, at: u32, task: &Task) -> Result<Moment, Re
     }
 }
 
-/// What refuses a sleep, and whether it waits.
+/// What refuses a `clock_nanosleep(2)`, and whether it waits.
 pub(crate) fn sleep_asked(
     now: Time,
     clock: u32,
@@ -112,22 +112,6 @@ pub(crate) fn sleep_asked(
         return Err(Refusal::Wait(Some(deadline)));
     }
     Ok(())
-}
-
-/// `clock_nanosleep(2)`.
-pub(crate) fn clock_nanosleep(
-    task: &Task,
-    shared: &Shared,
-    now: Time,
-    clock: u32,
-    flags: u32,
-    at: u32,
-) -> Result<u32, CallError>
-    requires { now.nanos ≤ latest_time }
-    ensures { Does (spec.clock_nanosleep now clock flags at (task.now, shared.now)) (task.now, shared.now) (task.now, shared.now) result }
-{
-    sleep_asked(now, clock, flags, at, task)?;
-    Ok(0)
 }
 
 fn create_asked(task: &Task, clock: u32, flags: u32) -> Result<u32, Refusal>
@@ -263,6 +247,7 @@ fn timer_number(object: Object) -> Result<usize, Refusal>
         Object::Hosts(_) => Err(Refusal::Errno(Errno::Einval)),
         Object::ReadEnd(_) => Err(Refusal::Errno(Errno::Einval)),
         Object::WriteEnd(_) => Err(Refusal::Errno(Errno::Einval)),
+        Object::Eventfd(_) => Err(Refusal::Errno(Errno::Einval)),
         Object::Udp(_) => Err(Refusal::Errno(Errno::Einval)),
         Object::Tcp(_) => Err(Refusal::Errno(Errno::Einval)),
     }

@@ -7,22 +7,26 @@ ghost use Rattle.host_calls.specs.Scene.{Does};
 
 use crate::again::or_again;
 use crate::descriptors::Descriptor;
+use crate::eventfd::{eventfd_full, write_eventfd};
 use crate::parts::{Output, Shared, Task};
+use crate::plan::Transfer;
+use crate::reading::may_hold;
 use guest_args::{block, counted};
-use guest_mem::Right;
+use guest_mem::{Mem, Right};
 use host_files::{Files, Object};
 use host_sockets::{CallError, Refusal};
 use sim_base::{Bytes, Errno, NoMemory, Signal, State};
 
-/// What cannot be written.
-fn may_write(object: Object) -> Result<(), Refusal>
-    ensures { result ≡ spec.may_write object }
+/// What cannot be written, and what is too short for an eventfd.
+fn may_write(object: Object, n: u32) -> Result<(), Refusal>
+    ensures { result ≡ spec.may_write object n }
 {
     match object {
         Object::Input => Err(Refusal::Errno(Errno::Ebadf)),
         Object::Hosts(_) => Err(Refusal::Errno(Errno::Ebadf)),
         Object::ReadEnd(_) => Err(Refusal::Errno(Errno::Ebadf)),
         Object::Timer(_) => Err(Refusal::Errno(Errno::Einval)),
+        Object::Eventfd(_) => may_hold(n),
         Object::Output => Ok(()),
         Object::Errors => Ok(()),
         Object::WriteEnd(_) => Ok(()),
@@ -48,11 +52,18 @@ fn pipe_full(count: usize, place: usize, files: &Files) -> Result<(), Refusal>
     }
 }
 
-fn wait_to_write(count: usize, object: Object, files: &Files) -> Result<(), Refusal>
-    ensures { result ≡ spec.wait_to_write count object files.now }
+fn wait_to_write(
+    at: u32,
+    count: usize,
+    object: Object,
+    memory: &Mem,
+    files: &Files,
+) -> Result<(), Refusal>
+    ensures { result ≡ spec.wait_to_write at count object memory.now files.now }
 {
     match object {
         Object::WriteEnd(place) => pipe_full(count, place, files),
+        Object::Eventfd(place) => eventfd_full(at, place, memory, files),
         Object::Input => Ok(()),
         Object::Output => Ok(()),
         Object::Errors => Ok(()),
@@ -65,23 +76,23 @@ fn wait_to_write(count: usize, object: Object, files: &Files) -> Result<(), Refu
 }
 
 /// What refuses a write, and whether it waits.
-pub(crate) fn write_asked(
+pub(crate) fn write_plan(
     d: Descriptor,
     at: u32,
     n: u32,
     task: &Task,
     shared: &Shared,
-) -> Result<(), Refusal>
-    ensures { result ≡ spec.write_asked d at n (task.now, shared.now) }
+) -> Result<Transfer, Refusal>
+    ensures { result ≡ spec.file_write_plan d at n (task.now, shared.now) }
 {
-    may_write(d.file.object)?;
+    may_write(d.file.object, n)?;
     if !task.memory.is_open(Right::Read, at, counted(n)) {
         return Err(Refusal::Errno(Errno::Efault));
     }
-    or_again(
-        d.file.nonblocking,
-        wait_to_write(counted(n), d.file.object, &shared.files),
-    )
+    let object = d.file.object;
+    let ready = wait_to_write(at, counted(n), object, &task.memory, &shared.files);
+    or_again(d.file.nonblocking, ready)?;
+    Ok(Transfer { d, at, n })
 }
 
 fn put_out(
@@ -121,6 +132,10 @@ fn write_done(
             Ok(count)
         }
         Object::WriteEnd(place) => Ok(shared.files.write_pipe(place, &bytes) as u32),
+        Object::Eventfd(place) => {
+            write_eventfd(place, &bytes, shared);
+            Ok(8)
+        }
         Object::Input => Ok(0),
         Object::Hosts(_) => Ok(0),
         Object::ReadEnd(_) => Ok(0),
@@ -133,15 +148,13 @@ fn write_done(
 /// `write(2)`.
 pub(crate) fn write(
     process: u32,
-    d: Descriptor,
-    at: u32,
-    n: u32,
+    transfer: Transfer,
     task: &Task,
     shared: &mut Shared,
 ) -> Result<u32, CallError>
-    ensures { Does (spec.writes process d at n (task.now, shared.old)) (task.now, shared.old) (task.now, shared.new) result }
+    ensures { Does (spec.writes process transfer (task.now, shared.old)) (task.now, shared.old) (task.now, shared.new) result }
 {
-    write_asked(d, at, n, task, shared)?;
+    let Transfer { d, at, n } = transfer;
     match block(shared.files.allocator(), &task.memory, at, counted(n))? {
         Some(bytes) => {
             let moved = write_done(process, d, bytes, shared)?;

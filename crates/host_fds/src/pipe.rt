@@ -123,7 +123,7 @@ impl Pipe {
 }
 
 /// The bit, where it holds.
-fn bit(bit: u16, holds: bool) -> u16
+pub(crate) fn bit(bit: u16, holds: bool) -> u16
     ensures { result ≡ spec.bit_of bit holds }
 {
     if holds { bit } else { 0 }

@@ -3,20 +3,23 @@ use Rattle.std.specs.Prelude.{ℕ, ◌||◌, List, [], take, Option, Some, None,
 use Rattle.sim_base.specs.declared.object.ObjectId.{ObjectId}
 use Rattle.host_fds.specs.Pipe.{PipeState, new_pipe, count_taken}
 use Rattle.host_fds.specs.Pipe as pipe
+use Rattle.host_fds.specs.Eventfd as eventfd
+use Rattle.host_fds.specs.declared.eventfd.Eventfd.{Eventfd}
 use Rattle.host_fds.specs.declared.pipe.End.{End}
 use Rattle.host_timers.specs.Timer as timer
 use Rattle.host_files.specs.declared.file.File.{File}
 use Rattle.host_files.specs.declared.timer.KeptTimer.{KeptTimer}
 use Rattle.host_files.specs.Slots.{at, free_place, added, without, acts}
 
--- the open files, pipes and timers of a host by their numbers
+-- the open files, pipes, timers and eventfds of a host by their numbers
 pub record FilesState : Type 0 where
   pub files : List (Option File)
   pub pipes : List (Option PipeState)
   pub timers : List (Option KeptTimer)
+  pub eventfds : List (Option Eventfd)
 
 abbrev pub no_files : FilesState
-no_files = record { files = []; pipes = []; timers = [] }
+no_files = record { files = []; pipes = []; timers = []; eventfds = [] }
 
 -- the open file that a descriptor names
 abbrev pub file_at : ObjectId → FilesState → Option File
@@ -135,3 +138,40 @@ timer_read now place s = timer_acts (after_count now) place s
 
 abbrev pub timer_ended : ℕ → FilesState → FilesState
 timer_ended place s = record s { timers = without place s.timers }
+
+-- eventfd(2): a new one
+abbrev pub next_eventfd : FilesState → ℕ
+next_eventfd s = free_place s.eventfds
+
+abbrev pub with_eventfd : Eventfd → FilesState → FilesState
+with_eventfd e s = record s { eventfds = added e s.eventfds }
+
+abbrev pub eventfd_at : ℕ → FilesState → Option Eventfd
+eventfd_at place s = at place s.eventfds
+
+-- every act on an eventfd goes through here
+abbrev pub eventfd_acts : (Eventfd → Option Eventfd) → ℕ → FilesState → FilesState
+eventfd_acts act place s = record s { eventfds = acts act place s.eventfds }
+
+-- what a read takes
+abbrev pub taken_of : Option Eventfd → ℕ
+taken_of None = 0
+taken_of (Some e) = eventfd.taken e
+
+abbrev pub eventfd_taken : ℕ → FilesState → ℕ
+eventfd_taken place s = taken_of (eventfd_at place s)
+
+abbrev pub after_taken : Eventfd → Option Eventfd
+after_taken e = Some (eventfd.read e)
+
+abbrev pub eventfd_read : ℕ → FilesState → FilesState
+eventfd_read place s = eventfd_acts after_taken place s
+
+abbrev pub after_added : ℕ → Eventfd → Option Eventfd
+after_added number e = Some (eventfd.written number e)
+
+abbrev pub eventfd_written : ℕ → ℕ → FilesState → FilesState
+eventfd_written number place s = eventfd_acts (after_added number) place s
+
+abbrev pub eventfd_ended : ℕ → FilesState → FilesState
+eventfd_ended place s = record s { eventfds = without place s.eventfds }

@@ -17,6 +17,8 @@ pub enum Object {
     WriteEnd(usize),
     /// The timer with this number.
     Timer(usize),
+    /// The eventfd with this number.
+    Eventfd(usize),
     /// The UDP socket with this number.
     Udp(usize),
     /// The TCP socket with this number.

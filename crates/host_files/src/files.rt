@@ -8,20 +8,21 @@ ghost use Rattle.host_files.specs.Slots as act;
 use crate::file::File;
 use crate::slots::{add, at, free};
 use crate::timer::KeptTimer;
-use host_fds::{End, Pipe};
+use host_fds::{End, Eventfd, Pipe};
 use host_timers::Timer;
 use sim_base::{NoMemory, ObjectId, Time};
 use std::alloc::Global;
 use std::marker::Model;
 
-/// The open files, pipes and timers of a host, each by its number.
+/// The open files, pipes, timers and eventfds of a host, each by its number.
 ///
-/// Contracts see three lists. A number that is not taken names nothing, and acts on nothing.
+/// Contracts see four lists. A number that is not taken names nothing, and acts on nothing.
 #[derive(Drop)]
 pub struct Files {
     files: Vec<Option<File>>,
     pipes: Vec<Option<Pipe>>,
     timers: Vec<Option<KeptTimer>>,
+    eventfds: Vec<Option<Eventfd>>,
     alloc: Global,
 }
 
@@ -30,7 +31,7 @@ impl Model for Files {
 
     ghost Value = { FilesState };
 
-    ghost view = { λ f. record { files = f.files.items; pipes = f.pipes.items; timers = f.timers.items } };
+    ghost view = { λ f. record { files = f.files.items; pipes = f.pipes.items; timers = f.timers.items; eventfds = f.eventfds.items } };
 }
 
 impl Files {
@@ -42,6 +43,7 @@ impl Files {
             files: Vec::new(alloc),
             pipes: Vec::new(alloc),
             timers: Vec::new(alloc),
+            eventfds: Vec::new(alloc),
             alloc,
         }
     }
@@ -201,6 +203,48 @@ impl Files {
     {
         free(self.timers.as_mut_slice(), place);
     }
+
+    /// Makes an eventfd, and answers its number, the least free one.
+    pub fn new_eventfd(&mut self, eventfd: Eventfd) -> Result<usize, NoMemory>
+        ensures number { IfOk result (λ place. place ≡ spec.next_eventfd self.old) }
+        ensures made { IfOk result (λ _. self.new ≡ spec.with_eventfd eventfd self.old) }
+    {
+        add(&mut self.eventfds, eventfd)
+    }
+
+    /// The eventfd with a number.
+    pub fn eventfd(&self, place: usize) -> Option<Eventfd>
+        ensures { result ≡ spec.eventfd_at place self.now }
+    {
+        at(self.eventfds.as_slice(), place).copied()
+    }
+
+    /// Reads from an eventfd, and answers what it takes.
+    pub fn read_eventfd(&mut self, place: usize) -> u64
+        ensures count { result ≡ spec.eventfd_taken place self.old }
+        ensures taken { self.new ≡ spec.eventfd_read place self.old }
+    {
+        if place >= self.eventfds.len() {
+            return 0;
+        }
+        read_eventfd_slot(&mut self.eventfds[place])
+    }
+
+    /// Adds a number to an eventfd, where there is room for it.
+    pub fn write_eventfd(&mut self, place: usize, number: u64)
+        ensures { self.new ≡ spec.eventfd_written number place self.old }
+    {
+        if place < self.eventfds.len() {
+            write_eventfd_slot(&mut self.eventfds[place], number);
+        }
+    }
+
+    /// Ends an eventfd, whose number is then free.
+    pub fn end_eventfd(&mut self, place: usize)
+        ensures { self.new ≡ spec.eventfd_ended place self.old }
+    {
+        free(self.eventfds.as_mut_slice(), place);
+    }
 }
 
 fn replace_slot(slot: &mut Option<File>, file: File)
@@ -273,5 +317,23 @@ fn read_timer_slot(slot: &mut Option<KeptTimer>, now: Time) -> u64
     match slot {
         Some(kept) => kept.timer.read(now),
         None => 0,
+    }
+}
+
+fn read_eventfd_slot(slot: &mut Option<Eventfd>) -> u64
+    ensures count { result ≡ spec.taken_of slot.old }
+    ensures taken { slot.new ≡ act.after spec.after_taken slot.old }
+{
+    match slot {
+        Some(eventfd) => eventfd.read(),
+        None => 0,
+    }
+}
+
+fn write_eventfd_slot(slot: &mut Option<Eventfd>, number: u64)
+    ensures { slot.new ≡ act.after (spec.after_added number) slot.old }
+{
+    if let Some(eventfd) = slot {
+        eventfd.write(number);
     }
 }

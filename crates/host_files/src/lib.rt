@@ -1,4 +1,5 @@
-//! What the descriptors of a host's processes name: open files, pipes and timers, each by a number.
+//! What the descriptors of a host's processes name: open files, pipes, timers and eventfds, each by a
+//! number.
 #![tactic(auto)]
 
 mod file;

@@ -28,9 +28,9 @@ with_bound at s = record s { bound = Some at }
 abbrev pub with_tcb : Tcb → TcpSocket → TcpSocket
 with_tcb r s = record s { tcb = Some r }
 
--- a place that a new socket may take: a closed socket's whose record, if it had one, was let go
+-- a place that a new socket may take: a closed socket's without a listener, whose record, if it had one, was let go
 abbrev pub is_free : TcpSocket → Bool
-is_free s = not (s.held || is_some s.tcb)
+is_free s = not (s.held || (is_some s.tcb || is_some s.listen))
 
 -- a socket is connected while it has a record that isn't in SYN-SENT, also one that is over
 abbrev pub connected : Option Tcb → Option Tcb

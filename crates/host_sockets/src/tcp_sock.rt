@@ -69,7 +69,7 @@ impl TcpSock {
     pub(crate) fn is_free(&self) -> bool
         ensures { (s : TcpSocket) → SocketStands self.now s → result ≡ is_free s }
     {
-        !(self.held || self.conn.is_some())
+        !(self.held || self.conn.is_some() || self.listener.is_some())
     }
 
     /// Whether it has the live connection of two ends.

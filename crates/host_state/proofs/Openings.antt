@@ -87,7 +87,7 @@ new-opens net row within = record {
 
 pub opens-fit : (net : Net) (row : Row) → FitsNet net row → OpensFit net row.host.index (opening row)
 opens-fit net row fits =
-    let k : Opens net row.host.index (host_begins row).link = all-opens net row.host.index 0 row.processes.items (new_link row) (new-opens net row fits.within) in
+    let k : Opens net row.host.index (host_begins row).link = all-opens net row.host.index 0 row.processes (new_link row) (new-opens net row fits.within) in
     record {
       host = record { number = k.number; within = k.within; limited = k.limited; up = k.up; down = k.down; made = refl; lines = refl };
       clock = k.time;

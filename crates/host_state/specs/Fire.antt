@@ -40,18 +40,18 @@ is_not_started _ = false
 -- registers and memory of a process at its start, where its texts fit a stack
 abbrev pub ready_image : ProcessRow → ProgramImage → Option Started
 ready_image row image =
-    if texts_fit row.arguments.items row.environment.items
+    if texts_fit row.arguments row.environment
     then Some (record {
-      cpu = start_cpu image row.arguments.items row.environment.items;
-      memory = start_memory image row.arguments.items row.environment.items;
+      cpu = start_cpu image row.arguments row.environment;
+      memory = start_memory image row.arguments row.environment;
     })
     else None
 
 abbrev pub ready_row : Net → ProcessRow → Option Started
-ready_row net row = option_and_then (ready_image row) (slice_get net.images.items row.image)
+ready_row net row = option_and_then (ready_image row) (slice_get net.images row.image)
 
 unfoldable pub ready : Net → Row → ℕ → Option Started
-ready net row p = option_and_then (ready_row net) (slice_get row.processes.items p)
+ready net row p = option_and_then (ready_row net) (slice_get row.processes p)
 
 abbrev pub begins_so : Net → ℕ → Started → HostRecord → HostRecord
 begins_so net p s host =
@@ -98,7 +98,7 @@ is_shut net p None host = host
 is_shut net p (Some signal) host = follows net p (is_killed net p signal host)
 
 abbrev pub shutdown_signal : Row → ℕ → Option Signal
-shutdown_signal row p = option_map (λ process. process.shutdown_signal) (slice_get row.processes.items p)
+shutdown_signal row p = option_map (λ process. process.shutdown_signal) (slice_get row.processes p)
 
 abbrev pub shuts_if : Net → ℕ → Option Running → HostRecord → HostRecord
 shuts_if net p None host = host

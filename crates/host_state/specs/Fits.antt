@@ -1,9 +1,8 @@
 -- What the law of rounds asks of hosts and events.
-use Rattle.std.specs.Prelude.{◌≡◌, ◌≢◌, ℕ, ◌-◌, ◌^◌, ◌<◌, ◌≤◌, [], length, All, Option, Some, None, IsSome, nat_lt, if◌then◌else◌}
+use Rattle.std.specs.Prelude.{◌≡◌, ◌≢◌, ℕ, ◌^◌, ◌<◌, ◌≤◌, [], length, All, Option, Some, None, IsSome, nat_lt, if◌then◌else◌}
 use Rattle.sim_base.specs.declared.event.Event.{Event}
 use Rattle.sim_base.specs.declared.event.What.{What}
 use Rattle.sim_base.specs.declared.event.What.TheVariants as what
-use Rattle.sim_base.specs.declared.packet.Packet.{Packet}
 use Rattle.sim_base.specs.declared.size.TheConstants.{MAX_PACKET}
 use Rattle.sim_base.specs.declared.time.Time.{Time}
 use Rattle.sim_base.specs.Addresses.{host_at}
@@ -56,7 +55,7 @@ pub record IsHostOf (net : Net) (i : ℕ) (host : HostRecord) : Type 0 where
 -- a row of a net
 pub record FitsNet (net : Net) (row : Row) : Type 0 where
   pub within : row.host.index < length net.known.book
-  pub few : length row.processes.items ≤ most_processes
+  pub few : length row.processes ≤ most_processes
 
 -- a host at the beginning, which has fired nothing and written nothing, and its events
 pub record OpensFit (net : Net) (i : ℕ) (f : Fired HostRecord Line) : Type 0 where

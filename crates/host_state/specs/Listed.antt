@@ -18,7 +18,7 @@ listed_process row = record { program = program_of row.path; expected = expected
 
 -- what a host's row says
 abbrev pub listed : Row → HostNames
-listed row = record { name = row.name; processes = map listed_process row.processes.items }
+listed row = record { name = row.name; processes = map listed_process row.processes }
 
 -- the same of all hosts of a world
 abbrev pub names_in : World → List HostNames

@@ -29,9 +29,9 @@ begins_all p (row ∷ rows) link = begins_all (p + 1) rows (begins_process p row
 abbrev pub host_begins : Row → HostRecord
 host_begins row = record {
   row = row;
-  link = begins_all 0 row.processes.items (new_link row);
-  processes = replicate (length row.processes.items) process.NotStarted;
-  parts = no_parts row.address (host_generator row.seed row.host.index) (length row.processes.items);
+  link = begins_all 0 row.processes (new_link row);
+  processes = replicate (length row.processes) process.NotStarted;
+  parts = no_parts row.address (host_generator row.seed row.host.index) (length row.processes);
   written = [];
 }
 

@@ -32,8 +32,8 @@ told cost = (record { nanos = cost.latency }, cost.reliability)
 -- the route from a host to another one, by their numbers
 unfoldable pub route_from : Net → ℕ → ℕ → Option (Time × ℕ)
 route_from net host other = do
-  from ← slice_get net.nodes.items host
-  to ← slice_get net.nodes.items other
+  from ← slice_get net.nodes host
+  to ← slice_get net.nodes other
   option_map told (route_in net.routes from to)
 
 -- the route to the host that has an address, if that is another one

@@ -40,10 +40,10 @@ pub(crate) struct Made {
 fn ready(alloc: Global, net: &Net, row: &Row, process: u32) -> Result<Option<Started>, NoMemory>
     ensures { IfOk result (λ started. started ≡ spec.ready net.now row.now process) }
 {
-    let Some(process) = row.processes.get(process as usize) else {
+    let Some(process) = row.processes.as_slice().get(process as usize) else {
         return Ok(None);
     };
-    let Some(image) = net.images.get(process.image) else {
+    let Some(image) = net.images.as_slice().get(process.image) else {
         return Ok(None);
     };
     let arguments = process.arguments.as_slice();
@@ -146,7 +146,7 @@ impl Body {
     fn shutdown_signal(&self, process: u32) -> Option<Signal>
         ensures { result ≡ spec.shutdown_signal self.now.row process }
     {
-        let row = self.row.processes.get(process as usize)?;
+        let row = self.row.processes.as_slice().get(process as usize)?;
         Some(row.shutdown_signal)
     }
 

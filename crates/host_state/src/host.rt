@@ -1,6 +1,6 @@
 //! What a host is.
 
-ghost use Rattle.std.specs.Prelude.{◌≡◌, ◌≤◌, ◌<◌, ◌∷◌, ◌^◌, [], false, length, replicate, option_map, slice_get, IfOk, IfErr, IfSome, IfNone, OnOk, OnErr, All, vec_len};
+ghost use Rattle.std.specs.Prelude.{◌≡◌, ◌≤◌, ◌<◌, ◌∷◌, ◌^◌, [], false, length, replicate, option_map, slice_get, IfOk, IfErr, IfSome, IfNone, OnOk, OnErr, All};
 ghost use Rattle.sim_base.specs.Limits.{most_processes};
 ghost use Rattle.sim_base.specs.Units.{latest_time};
 ghost use Rattle.event_order.specs.Events.{IsBefore, IsLeastDue, IsOrdered, has_key, with_event};
@@ -98,11 +98,11 @@ impl Host {
     /// The host of a row at the beginning, which holds the events that start and shut down its
     /// processes.
     pub fn new(row: Row, net: &Net) -> Result<Host, NoMemory>
-        requires { vec_len row.processes ≤ most_processes }
+        requires { length row.processes ≤ most_processes }
         ensures { IfOk result (Begins row) }
     {
         let alloc = *net.nodes.allocator();
-        let count = row.processes.len();
+        let count = row.processes.as_slice().len();
         let draws = Draws::for_host(row.seed, row.host.index);
         let parts = Parts::new(alloc, row.address, draws, count)?;
         let mut link = Link::new(alloc, &row);

@@ -9,6 +9,76 @@ use elf_load::Image;
 use host_calls::Known;
 use net_routes::Routes;
 use sim_base::{Event, Ip, Time, What};
+use std::alloc::Global;
+use std::marker::Model;
+
+/// The nodes of hosts, which contracts see as a list of numbers.
+#[derive(Drop)]
+pub struct Nodes {
+    ids: Vec<u32>,
+}
+
+impl Model for Nodes {
+    ghost use Rattle.std.specs.Prelude.{List, ℕ};
+
+    ghost Value = { List ℕ };
+
+    ghost view = { λ n. n.ids.items };
+}
+
+impl Nodes {
+    pub fn as_slice(&self) -> &[u32]
+        ensures { result.now ≡ self.now }
+    {
+        self.ids.as_slice()
+    }
+
+    pub fn allocator(&self) -> &Global {
+        self.ids.allocator()
+    }
+}
+
+impl From<Vec<u32>> for Nodes {
+    ghost from_gives = { λ v n. n ≡ v.items };
+
+    fn from(ids: Vec<u32>) -> Nodes {
+        Nodes { ids }
+    }
+}
+
+/// The images of programs, which contracts see as a list.
+#[derive(Drop)]
+pub struct Images {
+    items: Vec<Image>,
+}
+
+impl Model for Images {
+    ghost use Rattle.std.specs.Prelude.{List};
+    ghost use Rattle.std.specs.Coded.{coded_list};
+    ghost use Rattle.elf_load.specs.ProgramImage.{ProgramImage, program_image_code};
+
+    ghost Value = { List ProgramImage };
+
+    ghost coded = { coded_list program_image_code };
+
+    ghost view = { λ i. i.items.items };
+}
+
+impl Images {
+    pub fn as_slice(&self) -> &[Image]
+        ensures { result.now ≡ self.now }
+    {
+        self.items.as_slice()
+    }
+}
+
+impl From<Vec<Image>> for Images {
+    ghost from_gives = { λ v i. i ≡ v.items };
+
+    fn from(items: Vec<Image>) -> Images {
+        Images { items }
+    }
+}
 
 /// What is lent to all hosts: the routes between nodes, the hosts' addresses and nodes, the times of
 /// the experiment, the budget of instructions between two calls, and the images of programs.
@@ -17,14 +87,14 @@ pub struct Net {
     pub routes: Routes,
     pub known: Known,
     /// The node of each host.
-    pub nodes: Vec<u32>,
+    pub nodes: Nodes,
     /// Before this time packets pass all lanes at once, and none is lost.
     pub bootstrap_end: Time,
     /// No event that is due at this time or later fires.
     pub stop: Time,
     /// How many instructions a process may run from one call to the next.
     pub budget: u64,
-    pub images: Vec<Image>,
+    pub images: Images,
 }
 
 impl Net {
@@ -33,8 +103,9 @@ impl Net {
     fn route_from(&self, host: u32, other: u32) -> Option<(Time, u32)>
         ensures { result ≡ route_from self.now host other }
     {
-        let from = *self.nodes.get(host as usize)?;
-        let to = *self.nodes.get(other as usize)?;
+        let nodes = self.nodes.as_slice();
+        let from = *nodes.get(host as usize)?;
+        let to = *nodes.get(other as usize)?;
         self.routes.find(from, to)
     }
 

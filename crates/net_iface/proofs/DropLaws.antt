@@ -151,7 +151,7 @@ treated_spared Codel from now since left c s h =
     let j = cond (is_good now since left) (false, None) (ripened now c.above) in
     subst (IsSparedBy from) (sym (above_decided now j.0 (record c { above = j.1 }))) (judged_spared from now c.above (is_good now since left) s h)
 
-good_spared : (rule : QueueRule) (now since : Time) (left : ℕ) (c : CodelState) → is_good now since left ≡ true → IsSparedUnder rule now (treated rule now since left c).1.above
+pub good_spared : (rule : QueueRule) (now since : Time) (left : ℕ) (c : CodelState) → is_good now since left ≡ true → IsSparedUnder rule now (treated rule now since left c).1.above
 good_spared Fifo now since left c good = tt
 good_spared Codel now since left c good =
     let j = cond (is_good now since left) (false, None) (ripened now c.above) in

@@ -3,10 +3,12 @@
 //! dropped before any packet leaves.
 
 ghost use Rattle.std.specs.Prelude.{◌≡◌, [], List, false, IsTrue};
+ghost use Rattle.sim_base.specs.declared.packet.Packet.{Packet};
 ghost use Rattle.sim_base.specs.declared.time.Time.{Time};
+ghost use Rattle.net_iface.specs.declared.lane.Pushed.TheVariants.{Leaves};
 ghost use Rattle.net_iface.specs.declared.lane.Waiting.{Waiting};
 ghost use Rattle.net_iface.specs.Codel.{is_good};
-ghost use Rattle.net_iface.specs.Lane.{LaneState, waiting_bytes, taken_front, leaving};
+ghost use Rattle.net_iface.specs.Lane.{LaneState, waiting_bytes, treated, pushed, taken_front, leaving};
 ghost use Rattle.net_iface.specs.Acts.{LaneAct, lane_after_all, all_bytes_left, LeavesWithin, IsSpared, AreFrom, DropNothing};
 
 /// Over any acts what leaves is at most the tokens that were there and those that came since.
@@ -21,6 +23,13 @@ pub fn a_good_packet_spares_others()
     ensures release { (now : Time) (front : Waiting) (behind : LaneState) → IsTrue (is_good now front.since (waiting_bytes behind.waiting)) → (leaving now (taken_front now front behind).1 behind.waiting).dropped ≡ [] }
     ensures follows { (now : Time) (front : Waiting) (behind : LaneState) (acts : List LaneAct) → IsTrue (is_good now front.since (waiting_bytes behind.waiting)) → AreFrom now acts → DropNothing now acts (leaving now (taken_front now front behind).1 behind.waiting).lane }
     ensures spared { (from : Time) (acts : List LaneAct) (lane : LaneState) → IsSpared from lane → AreFrom from acts → DropNothing from acts lane }
+{}
+
+/// A packet that a push lets through counts as taken with no wait: the rule doesn't drop it, and less
+/// than an interval after it nothing is dropped.
+pub fn a_push_takes_what_it_lets_through()
+    ensures taken { (now : Time) (packet : Packet) (lane : LaneState) → (pushed now packet lane).0 ≡ Leaves packet → (false, (pushed now packet lane).1.codel) ≡ treated lane.rule now now 0 lane.codel }
+    ensures spares { (now : Time) (packet : Packet) (lane : LaneState) (acts : List LaneAct) → (pushed now packet lane).0 ≡ Leaves packet → AreFrom now acts → DropNothing now acts (pushed now packet lane).1 }
 {}
 
 /// Behind a packet that leaves, a release drops nothing.

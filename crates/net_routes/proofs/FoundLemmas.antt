@@ -16,6 +16,7 @@ use Rattle.net_routes.specs.RouteRows.{IsRouteRow, NamesLack}
 use Rattle.net_routes.specs.Needed.{IsAt, IsNeeded}
 use Rattle.net_routes.specs.Net.{IsNet}
 use Rattle.net_routes.specs.Routes.{IsRefusal, route_at}
+use Rattle.net_routes.specs.Table.{IsTable}
 use Rattle.net_routes.specs.Walk.{IsRoute, hops}
 use Rattle.net_routes.proofs.RouteLemmas.{HasRoutesFrom, HasRoutesBelow, routes_from, routes_whole, routes_sound, refused}
 
@@ -133,42 +134,49 @@ refused_behind g net nodes stops shortest ss e up all is found same (IsStopped.b
     refused_at g net nodes stops shortest (slice_index_or ss i none).row rows i from e up all is at
     (below_found g net nodes stops shortest ss rows (Err e ∷ rest) i is found same parts (omega arith)) (found i none there) err
 
--- each route that hosts need is there
-pub whole_found : (g : Graph) (net : Net) (nodes stops ids : List ℕ) (shortest : Bool) (ss : List Search) (rows : List (List (Option Cost))) → ids ≡ stops → IsStrictlyIncreasing stops → ((id : ℕ) → Contains stops id ↔ Contains nodes id)
-    → IsNet (hops g) net.places net.rows.items → AllFound net nodes ids shortest ss → map (λ (s : Search). s.from) ss ≡ ids → map (λ (l : List (Option Cost)). let r : Result (List (Option Cost)) RouteError = Ok l in r) rows ≡ rows_found ss
-    → (a b : ℕ) → IsNeeded nodes a b → (c : Cost) × (route_at stops rows a b ≡ Some c) × IsRoute g shortest a b c
-whole_found g net nodes stops ids shortest ss rows is up all net_is found from parts a b need =
-    let oks : List (Result (List (Option Cost)) RouteError) = map (λ (l : List (Option Cost)). let r : Result (List (Option Cost)) RouteError = Ok l in r) rows in
-    let long : length stops ≤ length rows =
-    omega (
-      arith,
-      ap (λ (l : List ℕ). length l) is,
-      ap (λ (l : List ℕ). length l) from,
-      length-map ss (λ (s : Search). s.from),
-      ap (λ (l : List (Result (List (Option Cost)) RouteError)). length l) parts,
-      length-map ss (λ (s : Search). s.row),
-      length-map rows (λ (l : List (Option Cost)). let r : Result (List (Option Cost)) RouteError = Ok l in r),
-    ) in
-    let B : List ℕ → Type 0 = λ xs. HasRoutesBelow (length rows) g shortest nodes xs rows in
-    routes_whole g shortest nodes stops rows (length rows) up all long
-    (subst B is (below_found g net nodes ids shortest ss rows [] (length rows) net_is found from (append-nil oks ∙ parts) (omega arith))) a b need
+abbrev pub oks : List (List (Option Cost)) → List (Result (List (Option Cost)) RouteError)
+oks rows = map (λ (l : List (Option Cost)). let r : Result (List (Option Cost)) RouteError = Ok l in r) rows
 
--- and each that is kept is a route
-pub sound_found : (g : Graph) (net : Net) (nodes stops ids : List ℕ) (shortest : Bool) (ss : List Search) (rows : List (List (Option Cost))) → ids ≡ stops
-    → IsNet (hops g) net.places net.rows.items → AllFound net nodes ids shortest ss → map (λ (s : Search). s.from) ss ≡ ids → map (λ (l : List (Option Cost)). let r : Result (List (Option Cost)) RouteError = Ok l in r) rows ≡ rows_found ss
-    → (a b : ℕ) (c : Cost) → route_at stops rows a b ≡ Some c → IsRoute g shortest a b c
-sound_found g net nodes stops ids shortest ss rows is net_is found from parts =
-    let oks : List (Result (List (Option Cost)) RouteError) = map (λ (l : List (Option Cost)). let r : Result (List (Option Cost)) RouteError = Ok l in r) rows in
-    let long : length stops ≤ length rows =
-    omega (
-      arith,
-      ap (λ (l : List ℕ). length l) is,
-      ap (λ (l : List ℕ). length l) from,
-      length-map ss (λ (s : Search). s.from),
-      ap (λ (l : List (Result (List (Option Cost)) RouteError)). length l) parts,
-      length-map ss (λ (s : Search). s.row),
-      length-map rows (λ (l : List (Option Cost)). let r : Result (List (Option Cost)) RouteError = Ok l in r),
-    ) in
-    let B : List ℕ → Type 0 = λ xs. HasRoutesBelow (length rows) g shortest nodes xs rows in
-    routes_sound g shortest nodes stops rows (length rows) long
-    (subst B is (below_found g net nodes ids shortest ss rows [] (length rows) net_is found from (append-nil oks ∙ parts) (omega arith)))
+-- all searches were made from the stops, and gave these rows
+pub record AreRowsFound (g : Graph) (net : Net) (nodes stops ids : List ℕ) (shortest : Bool) (ss : List Search) (rows : List (List (Option Cost))) : Type 0 where
+  pub is : ids ≡ stops
+  pub net_is : IsNet (hops g) net.places net.rows.items
+  pub found : AllFound net nodes ids shortest ss
+  pub from : map (λ (s : Search). s.from) ss ≡ ids
+  pub parts : oks rows ≡ rows_found ss
+
+module _ (g : Graph) (net : Net) (nodes stops ids : List ℕ) (shortest : Bool) (ss : List Search) (rows : List (List (Option Cost))) (h : AreRowsFound g net nodes stops ids shortest ss rows) where
+  as_many : length rows ≡ length stops
+  as_many =
+      omega (
+        arith,
+        ap (λ (l : List ℕ). length l) h.is,
+        ap (λ (l : List ℕ). length l) h.from,
+        length-map ss (λ (s : Search). s.from),
+        ap (λ (l : List (Result (List (Option Cost)) RouteError)). length l) h.parts,
+        length-map ss (λ (s : Search). s.row),
+        length-map rows (λ (l : List (Option Cost)). let r : Result (List (Option Cost)) RouteError = Ok l in r),
+      )
+
+  all_below : HasRoutesBelow (length rows) g shortest nodes stops rows
+  all_below =
+      let B : List ℕ → Type 0 = λ xs. HasRoutesBelow (length rows) g shortest nodes xs rows in
+      subst B h.is (below_found g net nodes ids shortest ss rows [] (length rows) h.net_is h.found h.from (append-nil (oks rows) ∙ h.parts) (omega arith))
+
+  -- each route that hosts need is there
+  pub whole_found : IsStrictlyIncreasing stops → ((id : ℕ) → Contains stops id ↔ Contains nodes id) → (a b : ℕ) → IsNeeded nodes a b → (c : Cost) × (route_at stops rows a b ≡ Some c) × IsRoute g shortest a b c
+  whole_found up all a b need = routes_whole g shortest nodes stops rows (length rows) up all (omega (arith, as_many)) all_below a b need
+
+  -- and each that is kept is a route
+  pub sound_found : (a b : ℕ) (c : Cost) → route_at stops rows a b ≡ Some c → IsRoute g shortest a b c
+  sound_found = routes_sound g shortest nodes stops rows (length rows) (omega (arith, as_many)) all_below
+
+  -- at each pair of places
+  pub table_found : IsStrictlyIncreasing stops → ((id : ℕ) → Contains stops id ↔ Contains nodes id) → IsTable g shortest nodes (record { stops = stops; rows = rows })
+  table_found up all = record {
+    rising = up;
+    stops = all;
+    height = as_many;
+    width = λ i a at. (all_below i a (omega (arith, at.within, as_many)) at).size;
+    each = λ i j a b at there. (all_below i a (omega (arith, at.within, as_many)) at).each j b there;
+  }

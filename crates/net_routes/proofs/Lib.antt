@@ -9,6 +9,7 @@ pub mod NetLemmas
 pub mod RouteRowLemmas
 pub mod RouteLemmas
 pub mod RouteLaws
+pub mod TableLemmas
 pub mod LeastLemmas
 pub mod StopLemmas
 pub mod Values

@@ -83,7 +83,8 @@ place_or ids id None e up h =
 pub place_there : (ids : List ℕ) (id : ℕ) → IsStrictlyIncreasing ids → Contains ids id → (i : ℕ) × (place_of ids id ≡ Some i) × IsAt ids i id
 place_there ids id up h = place_or ids id (place_of ids id) refl up h
 
-rises : (ids : List ℕ) → IsStrictlyIncreasing ids → (i j : ℕ) → i ≤ j → j < length ids → get_or ids i 0 ≤ get_or ids j 0
+-- no id falls below an earlier one
+pub rises : (ids : List ℕ) → IsStrictlyIncreasing ids → (i j : ℕ) → i ≤ j → j < length ids → get_or ids i 0 ≤ get_or ids j 0
 rises ids up i j le within =
     ⊎_elim
     (λ (lt : i < j). omega (arith, AllPairs-from_increasing ids up i j 0 lt within))

@@ -15,12 +15,14 @@ use Rattle.net_routes.specs.declared.error.RouteError.{RouteError}
 use Rattle.net_routes.specs.declared.error.RouteError.TheVariants as errors
 use Rattle.net_routes.specs.RouteRows.{IsRouteRow, IsFirstLack, NamesLack}
 use Rattle.net_routes.specs.Routes.{route_at, IsLeastLack, IsRefusal}
+use Rattle.net_routes.specs.Table.{IsRouteIfAny}
 use Rattle.net_routes.proofs.ListLemmas.{some_same}
 use Rattle.net_routes.proofs.PlaceLemmas.{place_at, at_rises, at_is, at_contains, contains_at, place_found}
 
--- a row with the routes that hosts need from a node
+-- a row with the routes from a node, among them those that hosts need
 pub record HasRoutesFrom (g : Graph) (shortest : Bool) (nodes stops : List ℕ) (from : ℕ) (row : List (Option Cost)) : Type 0 where
-  pub each : (k to : ℕ) (c : Cost) → IsAt stops k to → get_or row k None ≡ Some c → IsRoute g shortest from to c
+  pub size : length row ≡ length stops
+  pub each : (k to : ℕ) → IsAt stops k to → IsRouteIfAny g shortest from to (get_or row k None)
   pub whole : (k to : ℕ) → IsAt stops k to → IsNeeded nodes from to → (c : Cost) × (get_or row k None ≡ Some c) × IsRoute g shortest from to c
 
 false_some : (o : Option Cost) → is_some o ≡ true → (c : Cost) × (o ≡ Some c)
@@ -40,9 +42,17 @@ is_route g shortest a b found c k e = record {
       subst P (some_same w.0 c (sym w.1 ∙ e)) w.2;
 }
 
+none_found : (c : Cost) (o : Option Cost) → o ≡ None → o ≡ Some c → ⊥
+none_found c o n e = cc
+
+route_if_any : (g : Graph) (shortest : Bool) (a b : ℕ) (found : ℕ → Option Cost) (o : Option Cost) → IsBest (Goes (hops g) shortest a) found → found b ≡ o → IsRouteIfAny g shortest a b o
+route_if_any g shortest a b found (Some c) k e = is_route g shortest a b found c k e
+route_if_any g shortest a b found None k e = λ c h. let w = k.least b c h in none_found w.0 (found b) e w.1
+
 pub routes_from : (g : Graph) (shortest : Bool) (nodes stops : List ℕ) (from : ℕ) (found : ℕ → Option Cost) (row : List (Option Cost)) → IsBest (Goes (hops g) shortest from) found → IsRouteRow nodes stops from found row → HasRoutesFrom g shortest nodes stops from row
 routes_from g shortest nodes stops from found row best is = record {
-  each = λ k to c at e. is_route g shortest from to found c best (sym (is.each k to at) ∙ e);
+  size = is.size;
+  each = λ k to at. route_if_any g shortest from to found (get_or row k None) best (sym (is.each k to at));
   whole = λ k to at need.
       let w = false_some (found to) (is.whole k to at need) in
       (w.0, is.each k to at ∙ w.1, is_route g shortest from to found w.0 best w.1);
@@ -96,7 +106,7 @@ sound_at g shortest nodes stops rows count a b c None q all below e f h = absurd
 sound_at g shortest nodes stops rows count a b c (Some i) None all below e f h = absurd (let never : ⊥ = cc in never)
 sound_at g shortest nodes stops rows count a b c (Some i) (Some j) all below e f h =
     let at = place_at stops a i e in
-    (below i a (omega (arith, at.within, all)) at).each j b c (place_at stops b j f) h
+    subst (IsRouteIfAny g shortest a b) h ((below i a (omega (arith, at.within, all)) at).each j b (place_at stops b j f))
 
 -- each cost that is kept is a route
 pub routes_sound : (g : Graph) (shortest : Bool) (nodes stops : List ℕ) (rows : List (List (Option Cost))) (count : ℕ) → length stops ≤ count → HasRoutesBelow count g shortest nodes stops rows
@@ -110,9 +120,6 @@ pub some_there : (o : Option Cost) (c : Cost) → o ≡ Some c → IsSome o
 some_there o c e = ap (λ (q : Option Cost). is_some q) e
 
 -- REFUSALS
-
-none_found : (c : Cost) (o : Option Cost) → o ≡ None → o ≡ Some c → ⊥
-none_found c o n e = cc
 
 pub lack_least : (g : Graph) (shortest : Bool) (nodes stops : List ℕ) (rows : List (List (Option Cost))) (i from to : ℕ) (found : ℕ → Option Cost) → IsStrictlyIncreasing stops → ((id : ℕ) → Contains stops id ↔ Contains nodes id) → IsAt stops i from
     → HasRoutesBelow i g shortest nodes stops rows → IsBest (Goes (hops g) shortest from) found → IsFirstLack nodes stops from found to → IsLeastLack g shortest nodes from to

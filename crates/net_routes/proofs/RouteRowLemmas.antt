@@ -9,7 +9,7 @@ use Rattle.net_routes.specs.declared.cost.Cost.{Cost}
 use Rattle.net_routes.specs.declared.error.RouteError.{RouteError}
 use Rattle.net_routes.specs.declared.error.RouteError.TheVariants as errors
 use Rattle.net_routes.specs.Needed.{IsAt, IsNeeded}
-use Rattle.net_routes.specs.RouteRows.{IsRouteRow, IsFirstLack, NamesLack}
+use Rattle.net_routes.specs.RouteRows.{IsFirstLack, NamesLack}
 use Rattle.net_routes.proofs.PlaceLemmas.{at_is, at_contains}
 
 -- HOSTS ON A NODE
@@ -157,12 +157,6 @@ row_more nodes stops from found row i node c size at is needed below = record {
       let S : Option Cost → Type 0 = λ o. IsSome o in
       subst S (is ∙ ap found (sym ends)) (needed (subst N ends need)))
       (cases_lt k i);
-}
-
-pub row_whole : (nodes stops : List ℕ) (from : ℕ) (found : ℕ → Option Cost) (row : List (Option Cost)) (i : ℕ) → length stops ≤ i → IsRowBelow i nodes stops from found row → IsRouteRow nodes stops from found row
-row_whole nodes stops from found row i all below = record {
-  each = λ k to at. below.each k to (omega (arith, at.within, all)) at;
-  whole = λ k to at need. below.whole k to (omega (arith, at.within, all)) at need;
 }
 
 -- what stops a row

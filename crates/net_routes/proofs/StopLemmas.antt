@@ -84,7 +84,7 @@ both_at stops rows a b (Some i) (Some j) e f h = record {
 stops_of_route : (nodes stops : List ℕ) (r : Routes) (a b : ℕ) → stops ≡ r.stops → HasRoutes nodes r → IsNeeded nodes a b → AreAt stops a b
 stops_of_route nodes stops r a b same has need =
     let P : List ℕ → Type 0 = λ xs. AreAt xs a b in
-    subst P (sym same) (both_at r.stops r.rows.items a b (place_of r.stops a) (place_of r.stops b) refl refl (has a b need))
+    subst P (sym same) (both_at r.stops r.rows a b (place_of r.stops a) (place_of r.stops b) refl refl (has a b need))
 
 needed_at : (nodes stops : List ℕ) (a b : ℕ) (at : AreAt stops a b) → IsNeeded nodes a b → IsNeededAt nodes stops at.first at.second
 needed_at nodes stops a b at need =

@@ -7,5 +7,6 @@ pub mod Net
 pub mod Search
 pub mod RouteRows
 pub mod Routes
+pub mod Table
 pub mod Least
 pub mod Found

@@ -1,6 +1,5 @@
 -- The routes of all hosts.
-use Rattle.std.specs.Prelude.{◌≡◌, ℕ, ◌<◌, ◌≤◌, Bool, ◌⊎◌, List, [], Option, IsSome, IsSomeAnd, None, Some, option_and_then}
-use Rattle.std.specs.List.{slice_index_or}
+use Rattle.std.specs.Prelude.{◌≡◌, ℕ, ◌<◌, ◌≤◌, Bool, ◌⊎◌, List, Option, IsSome, IsSomeAnd, Some, option_and_then}
 use Rattle.gml_graph.specs.declared.graph.Graph.{Graph}
 use Rattle.net_routes.specs.declared.cost.Cost.{Cost}
 use Rattle.net_routes.specs.declared.error.RouteError.{RouteError}
@@ -9,14 +8,15 @@ use Rattle.net_routes.specs.declared.table.Routes.{Routes}
 use Rattle.net_routes.specs.Walk.{Goes, IsRoute, hops}
 use Rattle.net_routes.specs.Needed.{IsNeeded}
 use Rattle.net_routes.specs.Places.{place_of}
+use Rattle.net_routes.specs.RouteRows.{cost_at}
 
--- the cost at the places of two nodes
+-- the cost that rows keep for a pair of nodes
 abbrev pub route_at : List ℕ → List (List (Option Cost)) → ℕ → ℕ → Option Cost
-route_at stops rows a b = option_and_then (λ i. option_and_then (λ j. slice_index_or (slice_index_or rows i []) j None) (place_of stops b)) (place_of stops a)
+route_at stops rows a b = option_and_then (λ i. option_and_then (λ j. cost_at rows i j) (place_of stops b)) (place_of stops a)
 
 -- the cost that is kept for a pair of nodes
 abbrev pub route_in : Routes → ℕ → ℕ → Option Cost
-route_in r a b = route_at r.stops r.rows.items a b
+route_in r a b = route_at r.stops r.rows a b
 
 -- each needed pair has a cost
 abbrev pub HasRoutes : List ℕ → Routes → Type 0

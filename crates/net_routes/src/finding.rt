@@ -3,12 +3,14 @@
 ghost use Rattle.std.specs.Prelude.{◌≡◌, ◌<◌, All, Contains, IfOk, IfErr, Ok, map};
 ghost use Rattle.net_routes.specs.Found.{IsReady, AreStops, IsToSearch, IsFound, IsSearched, AreSearched, rows_found, IsStopped};
 ghost use Rattle.net_routes.specs.Routes.{HasRoutes, AreRoutes, AreSound, IsRefusal};
+ghost use Rattle.net_routes.specs.Table.{IsTable};
 
 use crate::error::RouteError;
 use crate::hop::hops_of;
 use crate::net::Net;
 use crate::node_ids::NodeIds;
 use crate::route_row::{RouteRow, row_from};
+use crate::route_rows::RouteRows;
 use crate::table::Routes;
 use gml_graph::Graph;
 use sim_base::NoMemory;
@@ -141,7 +143,8 @@ fn found_rows(alloc: Global, searches: Vec<Search>) -> Result<Vec<RouteRow>, Rou
 /// The routes that hosts on these nodes need, one entry for each host, found by so many workers
 /// side by side. With `shortest` a route between two nodes is the best walk, of any length;
 /// otherwise, and from a node to itself, it is the best edge. The best one takes the least time,
-/// and of those that do most arrives.
+/// and of those that do most arrives. The table has all routes between nodes of hosts, also those
+/// that no hosts need, so graph and nodes determine it.
 pub fn routes<R: Threads + Sync>(
     rt: &R,
     alloc: Global,
@@ -154,6 +157,7 @@ pub fn routes<R: Threads + Sync>(
     ensures ok { IfOk result (AreRoutes graph.now shortest nodes.now) }
     ensures whole { IfOk result (HasRoutes nodes.now) }
     ensures sound { IfOk result (AreSound graph.now shortest) }
+    ensures table { IfOk result (IsTable graph.now shortest nodes.now) }
     ensures err { IfErr result (IsRefusal graph.now shortest nodes.now) }
 {
     let hops = hops_of(alloc, graph)?;
@@ -172,5 +176,8 @@ pub fn routes<R: Threads + Sync>(
         &mut searches,
     );
     let rows = found_rows(alloc, searches)?;
-    Ok(Routes { stops, rows })
+    Ok(Routes {
+        stops,
+        rows: RouteRows::from(rows),
+    })
 }

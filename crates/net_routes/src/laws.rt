@@ -1,6 +1,7 @@
 //! Laws of the definitions, with `shortest` and without: a pair has at most one route, so two values
-//! that are both the routes of a graph for the same hosts agree on each pair that they need; where
-//! hosts have their routes nothing is refused for the lack of one; and at most one pair is refused.
+//! that are both the routes of a graph for the same hosts agree on each pair that they need; a graph
+//! and the nodes of hosts have one table; where hosts have their routes nothing is refused for the
+//! lack of one; and at most one pair is refused.
 
 ghost use Rattle.std.specs.Prelude.{◌≡◌, ℕ, Bool, List};
 ghost use Rattle.gml_graph.specs.declared.graph.Graph.{Graph};
@@ -10,6 +11,7 @@ ghost use Rattle.net_routes.specs.declared.table.Routes.{Routes};
 ghost use Rattle.net_routes.specs.Walk.{IsRoute};
 ghost use Rattle.net_routes.specs.Needed.{IsNeeded};
 ghost use Rattle.net_routes.specs.Routes.{route_in, AreRoutes, LacksRoute, IsRefusal};
+ghost use Rattle.net_routes.specs.Table.{IsTable};
 
 /// A pair of nodes has one route at most.
 pub fn one_route()
@@ -19,6 +21,11 @@ pub fn one_route()
 /// All routes of a graph for the same hosts keep the same for each needed pair.
 pub fn same_routes()
     ensures { (g : Graph) (shortest : Bool) (nodes : List ℕ) (r s : Routes) → AreRoutes g shortest nodes r → AreRoutes g shortest nodes s → (a b : ℕ) → IsNeeded nodes a b → route_in r a b ≡ route_in s a b }
+{}
+
+/// A graph and the nodes of hosts have one table of routes.
+pub fn one_table()
+    ensures { (g : Graph) (shortest : Bool) (nodes : List ℕ) (r s : Routes) → IsTable g shortest nodes r → IsTable g shortest nodes s → r ≡ s }
 {}
 
 /// Where hosts have their routes no pair lacks one, so none is refused.

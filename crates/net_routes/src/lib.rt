@@ -12,6 +12,7 @@ pub mod laws;
 mod net;
 mod node_ids;
 mod route_row;
+mod route_rows;
 mod search;
 mod table;
 

@@ -5,7 +5,8 @@ ghost use Rattle.net_routes.specs.Routes.{route_in, HasRoutes};
 ghost use Rattle.net_routes.specs.Least.{lesser, IsLatency, IsLeastIf, IsFromTo, IsNeededLatency, IsNeededTo, IsLookahead};
 
 use crate::node_ids::NodeIds;
-use crate::route_row::{RouteRow, hosts_on, is_needed};
+use crate::route_row::{hosts_on, is_needed};
+use crate::route_rows::RouteRows;
 use sim_base::Time;
 
 /// The routes between the nodes of hosts: of each the latency, and what arrives of 10^9 packets
@@ -13,7 +14,7 @@ use sim_base::Time;
 #[derive(Drop)]
 pub struct Routes {
     pub(crate) stops: NodeIds,
-    pub(crate) rows: Vec<RouteRow>,
+    pub(crate) rows: RouteRows,
 }
 
 impl Routes {
@@ -23,8 +24,8 @@ impl Routes {
         ensures { result ≡ option_map (λ c. (record { nanos = c.latency }, c.reliability))
             (route_in self.now from to) }
     {
-        let row = self.rows.get(self.stops.find(from)?)?;
-        let cost = row.get(self.stops.find(to)?)?;
+        let row = self.stops.find(from)?;
+        let cost = self.rows.get(row, self.stops.find(to)?)?;
         Some((
             Time {
                 nanos: cost.latency,

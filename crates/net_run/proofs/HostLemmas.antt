@@ -50,7 +50,7 @@ name_of_host h = h.name
 own-each : (hs : List HostRecord) → IsDistinct bytes_eq (map name_of_host (names_of_hosts hs)) → AllByRecursion HasIds (names_of_hosts hs) → AreOwn (names_of_hosts hs)
 own-each [] apart ids = tt
 own-each (h ∷ hs) apart ids = (
-  record { ids = ids.0; plain = plain-listed h.row.processes.items },
+  record { ids = ids.0; plain = plain-listed h.row.processes },
   IsDistinct-head bytes_eq h.row.name (map name_of_host (names_of_hosts hs)) apart,
   own-each hs (IsDistinct-tail bytes_eq h.row.name (map name_of_host (names_of_hosts hs)) apart) ids.1,
 )
@@ -152,12 +152,12 @@ whole-host : (at : Place) (h : HostRecord) → IsOwn (listed h.row) → Splits a
 whole-host at h own =
     let ids = own.ids in
     let name = h.row.name in
-    subst (λ (zs : List Put). Splits at (host_grown (listed h.row) h.written) (host_rest (listed h.row) (map state_of h.processes)) zs) (files-listed h 0 h.row.processes.items)
+    subst (λ (zs : List Put). Splits at (host_grown (listed h.row) h.written) (host_rest (listed h.row) (map state_of h.processes)) zs) (files-listed h 0 h.row.processes)
     (splits-processes at name (process_whole h)
     (λ p process t. touched-named at name process.program (first_id + p) (written_to p 1 h.written) (written_to p 2 h.written) (state_line (state_at (map state_of h.processes) p)) t)
     (process_grown name h.written) (process_rest name (map state_of h.processes))
     (λ p process plain small. whole-of_process at name process.program (first_id + p) (written_to p 1 h.written) (written_to p 2 h.written) (state_line (state_at (map state_of h.processes) p)))
-    0 (map listed_process h.row.processes.items) own.plain (omega arith))
+    0 (map listed_process h.row.processes) own.plain (omega arith))
 
 abbrev pub written_by : List HostRecord → List (List Output)
 written_by hs = map (λ (h : HostRecord). h.written) hs

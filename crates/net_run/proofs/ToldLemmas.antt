@@ -66,7 +66,7 @@ there [] i below = absurd (omega arith)
 there (x ∷ xs) zero below = (x, refl)
 there (x ∷ xs) (suc i) below = there xs i (omega arith)
 
-told-state : (h : HostRecord) (states : List State) (p : ℕ) → TellsStates h states → p < length h.row.processes.items → state_at states p ≡ state_at (map state_of h.processes) p
+told-state : (h : HostRecord) (states : List State) (p : ℕ) → TellsStates h states → p < length h.row.processes → state_at states p ≡ state_at (map state_of h.processes) p
 told-state h states p tells below =
     let count = tells.count in
     let s = there states p (omega arith) in
@@ -95,9 +95,9 @@ module _ (by : List ℕ → List State → ℕ → ProcessListing → List Put)
   same-by_host [] states count tells = refl
   same-by_host (h ∷ hs) [] count tells = absurd (omega arith)
   same-by_host (h ∷ hs) (told ∷ states) count tells =
-      let count_is = listed-count listed_process h.row.processes.items in
+      let count_is = listed-count listed_process h.row.processes in
       let here : each (listed h.row) told ≡ each (listed h.row) (map state_of h.processes) =
-      same-by_process (by h.row.name told) (by h.row.name (map state_of h.processes)) 0 (map listed_process h.row.processes.items)
+      same-by_process (by h.row.name told) (by h.row.name (map state_of h.processes)) 0 (map listed_process h.row.processes)
       (λ p process below. same h.row.name told (map state_of h.processes) p process (told-state h told p (tells 0 h told refl refl) (omega arith))) in
       let later = same-by_host hs states (omega arith) (λ k g told a b. tells (suc k) g told a b) in
       ap (λ (l : List Put). l ++ by_host each (names_of_hosts hs) states) here ∙ ap (λ (l : List Put). each (listed h.row) (map state_of h.processes) ++ l) later

@@ -88,7 +88,7 @@ unmet-processes h p (row ∷ rows) =
 unmet-hosts : (hs : List HostRecord) → rest.unmet_of_hosts (names_of_hosts hs) (states_by hs) ≡ flat_map host_unmet hs
 unmet-hosts [] = refl
 unmet-hosts (h ∷ hs) =
-    ap (λ (l : List Put). l ++ rest.unmet_of_hosts (names_of_hosts hs) (states_by hs)) (unmet-processes h 0 h.row.processes.items) ∙ ap (λ (l : List Put). host_unmet h ++ l) (unmet-hosts hs)
+    ap (λ (l : List Put). l ++ rest.unmet_of_hosts (names_of_hosts hs) (states_by hs)) (unmet-processes h 0 h.row.processes) ∙ ap (λ (l : List Put). host_unmet h ++ l) (unmet-hosts hs)
 
 -- what is told at the end of a world is what a run shows
 pub unmet-of_world : (w : World) → rest.unmet_of_hosts (names_in w) (states_in w) ≡ unmet w
@@ -121,7 +121,7 @@ unmet-in_no_file name h p (row ∷ rows) =
 
 all-in_no_file : (name : List ℕ) (hs : List HostRecord) → is_touched (place.File name) (flat_map host_unmet hs) ≡ false
 all-in_no_file name [] = refl
-all-in_no_file name (h ∷ hs) = neither (place.File name) (host_unmet h) (flat_map host_unmet hs) (unmet-in_no_file name h 0 h.row.processes.items) (all-in_no_file name hs)
+all-in_no_file name (h ∷ hs) = neither (place.File name) (host_unmet h) (flat_map host_unmet hs) (unmet-in_no_file name h 0 h.row.processes) (all-in_no_file name hs)
 
 summary-in_no_file : (name : List ℕ) (load : Bool) (w : World) → is_touched (place.File name) (summary load w) ≡ false
 summary-in_no_file name true w = refl

@@ -65,5 +65,5 @@ rest_in load w = all_rest (names_in w) (states_in w) (summary_in load w)
 
 -- the states of a host's processes as they are told, each by its place
 pub record TellsStates (h : HostRecord) (states : List State) : Type 0 where
-  pub count : length states ≡ length h.row.processes.items
+  pub count : length states ≡ length h.row.processes
   pub each : (p : ℕ) (state : State) → slice_get states p ≡ Some state → state ≡ process_state p h

@@ -39,7 +39,7 @@ files_from h p [] = []
 files_from h p (row ∷ rows) = process_files h p row ++ files_from h (p + 1) rows
 
 abbrev pub host_files : HostRecord → List Put
-host_files h = files_from h 0 h.row.processes.items
+host_files h = files_from h 0 h.row.processes
 
 -- ---- the packet log
 
@@ -80,7 +80,7 @@ unmet_from h p [] = []
 unmet_from h p (row ∷ rows) = process_unmet h p row ++ unmet_from h (p + 1) rows
 
 abbrev pub host_unmet : HostRecord → List Put
-host_unmet h = unmet_from h 0 h.row.processes.items
+host_unmet h = unmet_from h 0 h.row.processes
 
 -- in the order of hosts and ids
 abbrev pub unmet : World → List Put

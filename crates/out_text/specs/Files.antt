@@ -1,5 +1,5 @@
--- The names and the last lines of a process's files (this project's own profile).
-use Rattle.std.specs.Prelude.{ℕ, List, ◌++◌, codes}
+-- The names and the last lines of a process's files, and the names of captures (this project's own profile).
+use Rattle.std.specs.Prelude.{ℕ, List, ◌++◌, Bool, true, false, codes}
 use Rattle.std.specs.Fmt.{decimal}
 use Rattle.sim_base.specs.Signal.{signal_name}
 use Rattle.sim_base.specs.declared.state.State.{State}
@@ -30,3 +30,12 @@ process_text host program pid = host ++ (codes "/" ++ (program ++ (codes "." ++ 
 -- hosts/HOST/PROGRAM.PID and a suffix, below the data directory
 abbrev pub file_name : List ℕ → List ℕ → ℕ → FileKind → List ℕ
 file_name host program pid kind = codes "hosts/" ++ (host ++ (codes "/" ++ (program ++ (codes "." ++ (decimal pid ++ file_suffix kind)))))
+
+-- the interface whose packets a capture has: that of loopback, or that to the network
+abbrev pub interface_name : Bool → List ℕ
+interface_name true = codes "lo"
+interface_name false = codes "eth0"
+
+-- hosts/HOST/INTERFACE.pcap, below the data directory
+abbrev pub capture_name : List ℕ → Bool → List ℕ
+capture_name host loopback = codes "hosts/" ++ (host ++ (codes "/" ++ (interface_name loopback ++ codes ".pcap")))

@@ -1,4 +1,5 @@
 pub mod Address
+pub mod Captured
 pub mod Faults
 pub mod Files
 pub mod Hosts

@@ -8,6 +8,7 @@ use Rattle.sim_base.specs.declared.act.Act.{Act}
 use Rattle.sim_base.specs.declared.act.Act.TheVariants.{Send, Lost, FullUp, FullDown, Recv, SockFull, NoPort, Codel}
 use Rattle.sim_base.specs.declared.packet.Load.{Load}
 use Rattle.sim_base.specs.declared.packet.Load.TheVariants.{Udp, Tcp}
+use Rattle.sim_base.specs.declared.packet.Packet.{Packet}
 use Rattle.out_text.specs.Address.{addr_text}
 use Rattle.out_text.specs.declared.log.LogLine.{LogLine}
 
@@ -45,10 +46,13 @@ abbrev pub segment_words : Load → List (List ℕ)
 segment_words (Udp text) = []
 segment_words (Tcp flags seq ack window text) = flags_word flags ∷ decimal seq ∷ decimal ack ∷ []
 
--- TIME HOST ACT PROTO SRC DST SIZE, the time in nanoseconds, and of a segment FLAGS SEQ ACK
+-- PROTO SRC DST SIZE, and of a segment FLAGS SEQ ACK
+abbrev pub packet_words : Packet → List (List ℕ)
+packet_words p = protocol_word p.load ∷ addr_text p.from ∷ addr_text p.to ∷ decimal (packet_size p) ∷ segment_words p.load
+
+-- TIME HOST ACT, the time in nanoseconds, and the words of the packet
 abbrev pub log_words : LogLine → List (List ℕ)
-log_words l = decimal l.time.nanos ∷ l.host ∷ act_word l.act ∷ protocol_word l.packet.load
-    ∷ addr_text l.packet.from ∷ addr_text l.packet.to ∷ decimal (packet_size l.packet) ∷ segment_words l.packet.load
+log_words l = decimal l.time.nanos ∷ l.host ∷ act_word l.act ∷ packet_words l.packet
 
 -- the words with a space between each two, and a line end
 abbrev pub log_line : LogLine → List ℕ

@@ -1,7 +1,7 @@
-//! The names of a process's files, and its last state.
+//! The names of a process's files, its last state, and the names of captures.
 
 ghost use Rattle.std.specs.Prelude.{◌≡◌, ◌++◌, Some, OnOk, OnErr};
-ghost use Rattle.out_text.specs.Files.{state_text, state_line, file_suffix, file_name};
+ghost use Rattle.out_text.specs.Files.{state_text, state_line, file_suffix, file_name, interface_name, capture_name};
 
 use sim_base::{NoMemory, State, Text};
 use std::alloc::Global;
@@ -72,5 +72,26 @@ pub fn file_name(
 {
     let suffix = suffix(kind);
     let name = format!(in alloc; "hosts/{host}/{program}.{pid}{suffix}")?;
+    into.push_str(name.as_str())
+}
+
+fn interface(loopback: bool) -> &'static str
+    ensures { result.now ≡ interface_name loopback }
+{
+    if loopback { "lo" } else { "eth0" }
+}
+
+/// Adds the name of a capture of a host, below the data directory, or leaves the text as it was.
+pub fn capture_name(
+    alloc: Global,
+    into: &mut Text,
+    host: &str,
+    loopback: bool,
+) -> Result<(), NoMemory>
+    ensures ok { OnOk result (into.new ≡ into.old ++ capture_name host.now loopback) }
+    ensures err { OnErr result (into.new ≡ into.old) }
+{
+    let interface = interface(loopback);
+    let name = format!(in alloc; "hosts/{host}/{interface}.pcap")?;
     into.push_str(name.as_str())
 }

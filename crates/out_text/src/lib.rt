@@ -2,6 +2,7 @@
 #![tactic(auto)]
 
 mod address;
+mod captured;
 mod faults;
 mod files;
 mod hosts;
@@ -9,8 +10,9 @@ pub mod laws;
 mod log;
 mod summary;
 
+pub use captured::{cut_line, packet_line};
 pub use faults::{FaultText, fault_line, note_line};
-pub use files::{FileKind, file_name, state_line};
+pub use files::{FileKind, capture_name, file_name, state_line};
 pub use hosts::{HostLine, hosts_text};
 pub use log::{LogLine, log_line};
 pub use summary::{Summary, summary_line};

@@ -3,7 +3,7 @@
 ghost use Rattle.std.specs.Prelude.{◌≡◌, ◌++◌, Some, OnOk, OnErr};
 ghost use Rattle.std.specs.List.{join_with_byte};
 ghost use Rattle.sim_base.specs.Ascii.{space};
-ghost use Rattle.out_text.specs.Log.{act_word, protocol_word, is_set, letter, flags_word, log_words, log_line};
+ghost use Rattle.out_text.specs.Log.{act_word, protocol_word, is_set, letter, flags_word, packet_words, log_words, log_line};
 
 use crate::address::ShownAddr;
 use sim_base::{ACK, Act, FIN, Load, Name, NoMemory, Packet, RST, SYN, Text, Time};
@@ -75,17 +75,20 @@ impl fmt::Display for ShownFlags {
     }
 }
 
-/// The line without its end.
-impl fmt::Display for LogLine {
-    ghost output = { λ line. Some (join_with_byte space (log_words line)) };
+/// A packet, which is written as its words.
+#[derive(Clone, Copy)]
+pub struct ShownPacket<'a>(pub &'a Packet);
+
+impl fmt::Display for ShownPacket<'_> {
+    ghost output = { λ shown. Some (join_with_byte space (packet_words shown.0.now)) };
 
     fn fmt<W: fmt::Write>(&self, f: &mut fmt::Formatter<W>) -> fmt::Result {
-        let (time, host, act) = (self.time.nanos, self.host.as_str(), word(self.act));
-        let protocol = protocol(&self.packet.load);
-        let (from, to) = (ShownAddr(self.packet.from), ShownAddr(self.packet.to));
-        let size = self.packet.size();
-        match &self.packet.load {
-            Load::Udp(_) => write!(f, "{time} {host} {act} {protocol} {from} {to} {size}"),
+        let packet = self.0;
+        let protocol = protocol(&packet.load);
+        let (from, to) = (ShownAddr(packet.from), ShownAddr(packet.to));
+        let size = packet.size();
+        match &packet.load {
+            Load::Udp(_) => write!(f, "{protocol} {from} {to} {size}"),
             Load::Tcp {
                 flags,
                 seq,
@@ -93,12 +96,20 @@ impl fmt::Display for LogLine {
                 ..
             } => {
                 let flags = ShownFlags(*flags);
-                write!(
-                    f,
-                    "{time} {host} {act} {protocol} {from} {to} {size} {flags} {seq} {ack}"
-                )
+                write!(f, "{protocol} {from} {to} {size} {flags} {seq} {ack}")
             }
         }
+    }
+}
+
+/// The line without its end.
+impl fmt::Display for LogLine {
+    ghost output = { λ line. Some (join_with_byte space (log_words line)) };
+
+    fn fmt<W: fmt::Write>(&self, f: &mut fmt::Formatter<W>) -> fmt::Result {
+        let (time, host, act) = (self.time.nanos, self.host.as_str(), word(self.act));
+        let packet = ShownPacket(&self.packet);
+        write!(f, "{time} {host} {act} {packet}")
     }
 }
 

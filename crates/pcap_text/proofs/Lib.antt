@@ -1,5 +1,5 @@
 pub mod Datagrams
-pub mod Records
+pub mod RecordLemmas
 pub mod Sums
 pub mod Verified
 pub mod Written

@@ -3,7 +3,7 @@ use Rattle.std.proofs.Common.{◌≡◌, ℕ, ◌+◌, ◌-◌, ◌*◌, ◌≤�
 use Rattle.sim_base.specs.declared.packet.Load.{Load}
 use Rattle.sim_base.specs.declared.packet.Load.TheVariants.{Udp, Tcp}
 use Rattle.sim_base.specs.declared.packet.Packet.{Packet}
-use Rattle.pcap_text.specs.Checksum.{carried, sum_on, ones_sum, checksum, all_ones}
+use Rattle.pcap_text.specs.Checksum.{carried, sum_on, checksum, all_ones}
 use Rattle.pcap_text.specs.Datagram.{udp_front, tcp_front, pseudo_header, segment_of, segment_check, udp_sent, sent}
 
 -- a whole word at the front

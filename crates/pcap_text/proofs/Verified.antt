@@ -1,6 +1,6 @@
 -- Bytes with their checksum in its field have the sum FFFF.
-use Rattle.std.proofs.Common.{◌≡◌, ℕ, zero, suc, ◌+◌, ◌-◌, ◌*◌, ◌/◌, ◌%◌, ◌^◌, ◌<◌, ◌≤◌, Bool, true, false, cond, List, [], ◌∷◌, ◌++◌, length, take, drop, refl, sym, ap, subst, ◌∙◌, arith, inl, inr}
-use Rattle.std.specs.Prelude.{◌==◌, nat_lt}
+use Rattle.std.proofs.Common.{◌≡◌, ℕ, ◌+◌, ◌-◌, ◌*◌, ◌^◌, ◌<◌, ◌≤◌, Bool, true, false, cond, List, [], ◌∷◌, ◌++◌, length, refl, subst, arith, inl, inr}
+use Rattle.std.specs.Prelude.{◌==◌}
 use Rattle.std.specs.Int.{w16, w32, to_be_bytes}
 use Rattle.std.specs.List.{AllByRecursion}
 use Rattle.std.proofs.lemmas.Bool.{cases_lt, eqb-true, lt-ltb, le-ltb}
@@ -10,9 +10,9 @@ use Rattle.sim_base.specs.declared.packet.Load.{Load}
 use Rattle.sim_base.specs.declared.packet.Load.TheVariants.{Udp, Tcp}
 use Rattle.sim_base.specs.declared.packet.Packet.{Packet}
 use Rattle.pcap_text.specs.Checksum.{carried, sum_on, ones_sum, checksum, Verifies, all_ones}
-use Rattle.pcap_text.specs.Datagram.{protocol, ip_header, udp_front, tcp_front, segment_of, segment, pseudo_header, udp_sent, ip_check, segment_check, datagram_bytes, longest}
+use Rattle.pcap_text.specs.Datagram.{protocol, ip_header, segment, pseudo_header, udp_sent, ip_check, segment_check, datagram_bytes, longest}
 use Rattle.pcap_text.specs.Laws.{IsByte, IsText, IsWhole, ChecksumsVerify}
-use Rattle.pcap_text.specs.Packets.{Fits, FitsAddr, FitsLoad}
+use Rattle.pcap_text.specs.Packets.{FitsLoad}
 
 abbrev AreBytes : List ℕ → Type 0
 AreBytes bytes = AllByRecursion IsByte bytes

@@ -1,6 +1,6 @@
 -- What was written is read again.
-use Rattle.std.proofs.Common.{◌≡◌, ℕ, ◌+◌, ◌-◌, ◌*◌, ◌/◌, ◌%◌, ◌^◌, ◌<◌, ◌≤◌, Bool, false, List, [], ◌∷◌, ◌++◌, length, take, drop, map, Option, Some, None, Result, Ok, Err, refl, sym, ap, ◌∙◌, arith, length-append}
-use Rattle.std.specs.Prelude.{◌||◌, nat_lt, nat_le}
+use Rattle.std.proofs.Common.{◌≡◌, ℕ, ◌+◌, ◌-◌, ◌*◌, ◌/◌, ◌%◌, ◌^◌, ◌<◌, ◌≤◌, Bool, false, List, [], ◌∷◌, ◌++◌, length, take, drop, map, Option, Some, None, Ok, refl, sym, ap, ◌∙◌, arith, length-append}
+use Rattle.std.specs.Prelude.{nat_lt}
 use Rattle.std.specs.Int.{w32, to_le_bytes, from_le_bytes}
 use Rattle.std.specs.List.{flat_map, AllByRecursion}
 use Rattle.std.proofs.lemmas.Bool.{le-ltb, lt-leb, or_from}
@@ -10,16 +10,14 @@ use Rattle.sim_base.specs.Packet.{packet_size, max_packet}
 use Rattle.sim_base.specs.declared.packet.Packet.{Packet}
 use Rattle.sim_base.specs.Units.{second, unix_start}
 use Rattle.pcap_text.specs.declared.capture.Record.{Record}
-use Rattle.pcap_text.specs.declared.fault.PcapFault.{PcapFault}
-use Rattle.pcap_text.specs.declared.fault.PcapKind.{PcapKind}
 use Rattle.pcap_text.specs.declared.fault.PcapKind.TheVariants.{Truncated, Magic, Version, Link, Time, Length}
 use Rattle.pcap_text.specs.Datagram.{datagram_bytes}
-use Rattle.pcap_text.specs.Laws.{Taken, MayBeRecorded, written, whole_record, IsReadBack}
+use Rattle.pcap_text.specs.Laws.{Taken, MayBeRecorded, whole_record, IsReadBack}
 use Rattle.pcap_text.specs.Packets.{IsEach}
-use Rattle.pcap_text.specs.Reading.{Check, first, head_checks, record_checks, record_of, seconds_of, nanos_of, kept_of, whole_of, records, behind, pcap}
+use Rattle.pcap_text.specs.Reading.{first, head_checks, record_checks, record_of, seconds_of, nanos_of, kept_of, whole_of, records, behind, pcap}
 use Rattle.pcap_text.specs.Writing.{head, record_front, packet_record, head_size, front_size}
 use Rattle.pcap_text.proofs.Datagrams.{datagram_size, is_datagram}
-use Rattle.pcap_text.proofs.Records.{joined, one_more}
+use Rattle.pcap_text.proofs.RecordLemmas.{joined, one_more}
 
 none_of : (a b c : Bool) → a ≡ false → b ≡ false → c ≡ false → first ((a, Truncated) ∷ (b, Time) ∷ (c, Length) ∷ []) ≡ None
 none_of a b c p q r =

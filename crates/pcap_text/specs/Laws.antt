@@ -10,7 +10,7 @@ use Rattle.sim_base.specs.declared.time.Time.{Time}
 use Rattle.pcap_text.specs.declared.capture.Record.{Record}
 use Rattle.pcap_text.specs.Checksum.{Verifies}
 use Rattle.pcap_text.specs.Datagram.{datagram_bytes, pseudo_header}
-use Rattle.pcap_text.specs.Packets.{Fits, FitsAddr, FitsLoad, IsEach}
+use Rattle.pcap_text.specs.Packets.{Fits, IsEach}
 use Rattle.pcap_text.specs.Reading.{pcap}
 use Rattle.pcap_text.specs.Writing.{head, packet_record}
 

@@ -7,6 +7,7 @@ use Rattle.sim_base.specs.declared.packet.Load.TheVariants.{Udp, Tcp}
 use Rattle.sim_base.specs.declared.packet.Packet.{Packet}
 use Rattle.sim_base.specs.Packet.{ipv4_header, udp_header, tcp_header}
 use Rattle.pcap_text.specs.Datagram.{udp_protocol, tcp_protocol, datagram}
+use Rattle.pcap_text.specs.declared.capture.Record.{Record}
 
 -- the numbers that the two and the four bytes at a place hold, big-endian
 abbrev pub half : List ℕ → ℕ → ℕ
@@ -58,3 +59,14 @@ pub record Fits (p : Packet) : Type 0 where
 -- what was found is each packet whose datagram the bytes are: there is at most one
 abbrev pub IsEach : List ℕ → Option Packet → Type 0
 IsEach bytes found = (p : Packet) → Fits p → datagram p ≡ Some bytes → found ≡ Some p
+
+-- a record keeps the whole datagram of a packet
+pub record KeepsWhole (r : Record) (p : Packet) : Type 0 where
+  pub whole : length r.kept ≡ r.whole
+  pub fits : Fits p
+  pub datagram_is : datagram p ≡ Some r.kept
+
+-- the packet of which a record keeps the whole datagram, if there is one
+abbrev pub IsPacketIn : Record → Option Packet → Type 0
+IsPacketIn r (Some p) = KeepsWhole r p
+IsPacketIn r None = (p : Packet) → ¬ (KeepsWhole r p)

@@ -82,21 +82,13 @@ records unit size at (suc skip) (b ∷ bytes) = records unit size (at + 1) skip 
 records unit size at zero (b ∷ bytes) =
     before at (first (record_checks unit size (b ∷ bytes))) (record_of unit (b ∷ bytes)) (records unit size (at + 1) (front_size - 1 + kept_of (b ∷ bytes)) bytes)
 
--- what a capture tells: its capture size and its records
-pub record Recording : Type 0 where
-  pub size : ℕ
-  pub records : List Record
-
-abbrev pub recording : Capture → Recording
-recording c = record { size = c.size; records = c.records.items }
-
-abbrev pub behind : Option PcapKind → ℕ → Result (List Record) PcapFault → Result Recording PcapFault
+abbrev pub behind : Option PcapKind → ℕ → Result (List Record) PcapFault → Result Capture PcapFault
 behind (Some kind) size rs = Err (record { at = 0; kind = kind })
 behind None size (Ok rs) = Ok (record { size = size; records = rs })
 behind None size (Err fault) = Err fault
 
 -- what the bytes of a capture tell, or their first fault
-unfoldable pub pcap : List ℕ → Result Recording PcapFault
+unfoldable pub pcap : List ℕ → Result Capture PcapFault
 pcap bytes = behind (first (head_checks bytes)) (size_of bytes) (records (unit_of bytes) (size_of bytes) head_size 0 (drop head_size bytes))
 
 -- a refusal tells the fault, or that memory ran out

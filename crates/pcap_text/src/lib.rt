@@ -10,7 +10,7 @@ mod packets;
 mod reading;
 mod writing;
 
-pub use capture::{Capture, Record};
+pub use capture::{Capture, Record, Records};
 pub use fault::{PcapError, PcapFault, PcapKind};
 pub use laws::{checksums_verify, one_datagram, reads_back};
 pub use packets::packet_of;

@@ -34,7 +34,8 @@ fn word(bytes: &[u8], at: usize) -> u32
 fn end_at(bytes: &[u8], ip: usize, port: usize) -> Addr
     requires ip { ip + 4 ≤ length bytes.now }
     requires port { port + 2 ≤ length bytes.now }
-    ensures { result ≡ spec.end_at bytes.now ip port }
+    ensures value { result ≡ spec.end_at bytes.now ip port }
+    ensures fits { spec.FitsAddr result }
 {
     Addr {
         ip: Ip {
@@ -46,8 +47,10 @@ fn end_at(bytes: &[u8], ip: usize, port: usize) -> Addr
 
 /// The packet with these headers that carries a load.
 fn packet_with(bytes: &[u8], load: Load) -> Packet
-    requires { spec.udp_headers ≤ length bytes.now }
-    ensures { result ≡ spec.packet_with bytes.now load }
+    requires length { spec.udp_headers ≤ length bytes.now }
+    requires load { spec.FitsLoad load }
+    ensures value { result ≡ spec.packet_with bytes.now load }
+    ensures fits { spec.Fits result }
 {
     Packet {
         from: end_at(bytes, 12, 20),
@@ -67,7 +70,8 @@ fn text_at(alloc: Global, bytes: &[u8], at: usize) -> Result<Bytes, NoMemory>
 
 fn udp_at(alloc: Global, bytes: &[u8]) -> Result<Load, NoMemory>
     requires { spec.udp_headers ≤ length bytes.now }
-    ensures { IfOk result (λ load. load ≡ spec.udp_at bytes.now) }
+    ensures value { IfOk result (λ load. load ≡ spec.udp_at bytes.now) }
+    ensures fits { IfOk result spec.FitsLoad }
 {
     let text = text_at(alloc, bytes, IPV4_HEADER + UDP_HEADER)?;
     Ok(Load::Udp(text))
@@ -75,7 +79,8 @@ fn udp_at(alloc: Global, bytes: &[u8]) -> Result<Load, NoMemory>
 
 fn tcp_at(alloc: Global, bytes: &[u8]) -> Result<Load, NoMemory>
     requires { spec.tcp_headers ≤ length bytes.now }
-    ensures { IfOk result (λ load. load ≡ spec.tcp_at bytes.now) }
+    ensures value { IfOk result (λ load. load ≡ spec.tcp_at bytes.now) }
+    ensures fits { IfOk result spec.FitsLoad }
 {
     let text = text_at(alloc, bytes, IPV4_HEADER + TCP_HEADER)?;
     Ok(Load::Tcp {
@@ -90,7 +95,8 @@ fn tcp_at(alloc: Global, bytes: &[u8]) -> Result<Load, NoMemory>
 /// The packet that the fields of a datagram tell.
 #[tactic(auto, unfolding(crate::specs::Packets::fields))]
 fn fields(alloc: Global, bytes: &[u8]) -> Result<Option<Packet>, NoMemory>
-    ensures { IfOk result (λ found. found ≡ spec.fields bytes.now) }
+    ensures value { IfOk result (λ found. found ≡ spec.fields bytes.now) }
+    ensures fits { IfOk result (λ found. IfSome found spec.Fits) }
 {
     if bytes.len() >= IPV4_HEADER + UDP_HEADER && bytes[9] == UDP {
         let load = udp_at(alloc, bytes)?;
@@ -115,6 +121,7 @@ fn is_datagram_of(alloc: Global, bytes: &[u8], packet: &Packet) -> Result<bool, 
 /// The packet whose datagram the bytes are, if they are one.
 pub fn packet_of(alloc: Global, bytes: &[u8]) -> Result<Option<Packet>, NoMemory>
     ensures found { IfOk result (λ found. IfSome found (λ p. datagram p ≡ Some bytes.now)) }
+    ensures fits { IfOk result (λ found. IfSome found spec.Fits) }
     ensures only { IfOk result (spec.IsEach bytes.now) }
 {
     if bytes.len() > LONGEST {

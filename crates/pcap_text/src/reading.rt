@@ -5,7 +5,7 @@ ghost use Rattle.sim_base.specs.Units.{microsecond};
 ghost use Rattle.pcap_text.specs.Reading as spec;
 ghost use Rattle.pcap_text.specs.Writing.{head_size, front_size};
 
-use crate::capture::{Capture, Record};
+use crate::capture::{Capture, Record, Records};
 use crate::fault::{PcapError, PcapKind};
 use crate::writing::{SECOND, START, front};
 use sim_base::{Bytes, Time};
@@ -140,13 +140,13 @@ fn read_records(alloc: Global, head: Head, bytes: &[u8]) -> Result<Vec<Record>, 
 /// What a capture tells, or its first fault.
 #[tactic(auto, unfolding(crate::specs::Reading::pcap))]
 pub fn read_pcap(alloc: Global, bytes: &[u8]) -> Result<Capture, PcapError>
-    ensures read { IfOk result (λ capture. spec.pcap bytes.now ≡ Ok (spec.recording capture)) }
+    ensures read { IfOk result (λ capture. spec.pcap bytes.now ≡ Ok capture) }
     ensures refused { IfErr result (spec.IsRefusal (spec.pcap bytes.now)) }
 {
     let head = Head::read(bytes)?;
     let records = read_records(alloc, head, bytes)?;
     Ok(Capture {
         size: head.size,
-        records,
+        records: Records::from(records),
     })
 }

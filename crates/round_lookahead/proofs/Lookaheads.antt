@@ -30,20 +30,20 @@ route-costs nodes routes i j from to route None from_is to_is kept is = absurd (
 route-costs nodes routes i j from to route (Some cost) from_is to_is kept is =
     record { from = from; to = to; cost = cost; from_is = from_is; to_is = to_is; cost_is = kept; route_is = (let e : Some (told cost) ≡ Some route = is in cc) }
 
-route-leads : (net : Net) (i j from : ℕ) (route : Time × ℕ) (b : Option ℕ) → slice_get net.nodes.items i ≡ Some from → slice_get net.nodes.items j ≡ b
-    → option_and_then (λ (to : ℕ). option_map told (route_in net.routes from to)) b ≡ Some route → IsRouteOf net.nodes.items net.routes i j route
+route-leads : (net : Net) (i j from : ℕ) (route : Time × ℕ) (b : Option ℕ) → slice_get net.nodes i ≡ Some from → slice_get net.nodes j ≡ b
+    → option_and_then (λ (to : ℕ). option_map told (route_in net.routes from to)) b ≡ Some route → IsRouteOf net.nodes net.routes i j route
 route-leads net i j from route None from_is at is = absurd (cc)
-route-leads net i j from route (Some to) from_is at is = route-costs net.nodes.items net.routes i j from to route (route_in net.routes from to) from_is at refl is
+route-leads net i j from route (Some to) from_is at is = route-costs net.nodes net.routes i j from to route (route_in net.routes from to) from_is at refl is
 
-route-begins : (net : Net) (i j : ℕ) (route : Time × ℕ) (a : Option ℕ) → slice_get net.nodes.items i ≡ a
-    → option_and_then (λ (from : ℕ). option_and_then (λ (to : ℕ). option_map told (route_in net.routes from to)) (slice_get net.nodes.items j)) a ≡ Some route
-    → IsRouteOf net.nodes.items net.routes i j route
+route-begins : (net : Net) (i j : ℕ) (route : Time × ℕ) (a : Option ℕ) → slice_get net.nodes i ≡ a
+    → option_and_then (λ (from : ℕ). option_and_then (λ (to : ℕ). option_map told (route_in net.routes from to)) (slice_get net.nodes j)) a ≡ Some route
+    → IsRouteOf net.nodes net.routes i j route
 route-begins net i j route None at is = absurd (cc)
-route-begins net i j route (Some from) at is = route-leads net i j from route (slice_get net.nodes.items j) at refl is
+route-begins net i j route (Some from) at is = route-leads net i j from route (slice_get net.nodes j) at refl is
 
-route-found : (net : Net) (i j : ℕ) (route : Time × ℕ) → route_from net i j ≡ Some route → IsRouteOf net.nodes.items net.routes i j route
+route-found : (net : Net) (i j : ℕ) (route : Time × ℕ) → route_from net i j ≡ Some route → IsRouteOf net.nodes net.routes i j route
 unfolding route_from
-route-found net i j route is = route-begins net i j route (slice_get net.nodes.items i) refl is
+route-found net i j route is = route-begins net i j route (slice_get net.nodes i) refl is
 
 is-at : (xs : List ℕ) (i x : ℕ) → slice_get xs i ≡ Some x → IsAt xs i x
 is-at xs i x at = record { within = below-get xs i x at; is = get_or_from_slice_get xs i x 0 at }
@@ -62,6 +62,6 @@ latency-is nodes routes (Some time) i j latency reliability least others route =
     let same : route.cost.latency ≡ latency.nanos = ap (λ (r : Time × ℕ). r.0.nanos) route.route_is in
     omega (arith, bound, same)
 
-pub is-lookahead : (net : Net) (lookahead : Option Time) → IsLookahead net.nodes.items net.routes (nanos_of lookahead) → IsLookaheadOf net (nanos_of lookahead)
+pub is-lookahead : (net : Net) (lookahead : Option Time) → IsLookahead net.nodes net.routes (nanos_of lookahead) → IsLookaheadOf net (nanos_of lookahead)
 is-lookahead net lookahead least i j latency reliability others is =
-    latency-is net.nodes.items net.routes lookahead i j latency reliability least others (route-found net i j (latency, reliability) is)
+    latency-is net.nodes net.routes lookahead i j latency reliability least others (route-found net i j (latency, reliability) is)

@@ -1,5 +1,5 @@
 -- No two hosts of a configuration have one name.
-use Rattle.std.proofs.Common.{◌≡◌, ◌≢◌, ◌∙◌, ℕ, ◌+◌, ◌≤◌, Bool, true, false, List, [], ◌∷◌, ◌++◌, length, map, Option, Some, None, is_some, Result, Ok, Err, IfOk, IfSome, refl, sym, ap, subst, append_assoc, append-nil, arith, codes}
+use Rattle.std.proofs.Common.{◌≡◌, ◌≢◌, ◌∙◌, ℕ, ◌≤◌, Bool, true, false, List, [], ◌∷◌, ◌++◌, length, map, Option, Some, None, is_some, Result, Ok, Err, IfOk, IfSome, refl, sym, ap, subst, append_assoc, append-nil, arith, codes}
 use Rattle.std.specs.Prelude.{if◌then◌else◌}
 use Rattle.std.specs.Option.{option_map}
 use Rattle.std.proofs.lemmas.Bool.{false≢true}
@@ -9,7 +9,7 @@ use Rattle.yaml_tree.specs.Said.Said.{null, text, unknown, sequence, mapping, wi
 use Rattle.yaml_tree.specs.Trees.{Holds}
 use Rattle.yaml_tree.specs.declared.tree.Tree.{Tree}
 use Rattle.yaml_merge.specs.Merge.{keys_of, merged}
-use Rattle.yaml_merge.specs.Plain.{is_null, line_of, pairs_in}
+use Rattle.yaml_merge.specs.Plain.{line_of, pairs_in}
 use Rattle.yaml_merge.specs.SaidAt.{said_of}
 use Rattle.yaml_merge.specs.declared.fault.MergeFault.{MergeFault}
 use Rattle.yaml_merge.specs.declared.plain.Pair.{Pair}
@@ -33,7 +33,7 @@ use Rattle.shd_config.specs.declared.key.Key.TheVariants as keys
 use Rattle.shd_config.specs.declared.options.HostOptions.{HostOptions}
 use Rattle.shd_config.specs.declared.overrides.Overrides.{Overrides}
 use Rattle.shd_config.specs.declared.reading.RootDraft.{RootDraft}
-use Rattle.run_plan.proofs.NameCounts.{is_one, is_one-other, copies, copies-append}
+use Rattle.run_plan.proofs.NameCounts.{is_one-other, copies, copies-append}
 use Rattle.run_plan.proofs.TreeKeys.{IsOnce, tree_kind, tree_once}
 use Rattle.run_plan.proofs.MergedKeys.{merged_once}
 

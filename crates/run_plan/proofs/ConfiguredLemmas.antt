@@ -1,5 +1,5 @@
 -- The configuration of a text.
-use Rattle.std.proofs.Common.{◌≡◌, List, ℕ, Bool, refl, subst, inl, inr}
+use Rattle.std.proofs.Common.{List, ℕ, refl, inl, inr}
 use Rattle.std.specs.Prelude.{Result, Err}
 use Rattle.yaml_tree.specs.Trees.{is_empty}
 use Rattle.yaml_tree.specs.declared.tree.Tree.{Tree}

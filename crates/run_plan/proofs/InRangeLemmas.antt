@@ -6,12 +6,12 @@ use Rattle.sim_base.specs.Quantity.{time_of_text}
 use Rattle.sim_base.specs.declared.time.Time.{Time}
 use Rattle.sim_base.specs.Refusals.{◌>>=◌, or_refuse}
 use Rattle.command_line.specs.Asked.{asked, Chosen, chosen, subject_of, seed_of, parallelism_of, data_directory_of, stop_of, budget_of, number_within, is_decimal, if_within, read_option, some_text, stop_time_of}
-use Rattle.command_line.specs.Asked.Chosen.{config, self_load}
+use Rattle.command_line.specs.Asked.Chosen.{config, self_load, capture}
 use Rattle.command_line.specs.Command.{found, config_of, value_of}
 use Rattle.command_line.specs.declared.name.OptionName.TheVariants as option
 use Rattle.command_line.specs.declared.asked.Asked.{Asked}
 use Rattle.command_line.specs.declared.asked.Subject.{Subject}
-use Rattle.command_line.specs.declared.asked.Subject.TheVariants.{File, SelfLoad}
+use Rattle.command_line.specs.declared.asked.Subject.TheVariants.{File, SelfLoad, Capture}
 use Rattle.command_line.specs.declared.fault.WordsFault.{WordsFault}
 use Rattle.command_line.specs.declared.fault.WordsFault.TheVariants.{BadOption}
 use Rattle.command_line.specs.declared.name.OptionName.{OptionName}
@@ -39,6 +39,7 @@ subject_range : (choice : Chosen) (s : Subject) → subject_of choice ≡ Ok s �
 subject_range (config name) s e = let same : File name ≡ s = cc in subst IsInRange same tt
 subject_range (self_load size) s e = then_ok (or_refuse (number_within 2 4096 size) _) (λ hosts. Ok (SelfLoad hosts)) s (IsInRange s)
     (λ hosts h k. let same : SelfLoad hosts ≡ s = cc in subst IsInRange same (number_range size hosts _ (is_decimal size) refl h)) e
+subject_range (capture name) s e = let same : Capture name ≡ s = cc in subst IsInRange same tt
 
 -- ---- what is overridden
 
@@ -91,7 +92,7 @@ pub asked_in_range : (words : List (List ℕ)) (a : Asked) → asked words ≡ O
 unfolding asked
 asked_in_range words a e =
     then_ok (found words) _ a (AreInRange a) (λ rows r0 e0.
-    then_ok (chosen (config_of rows) (value_of option.SelfLoad rows)) _ a (AreInRange a) (λ choice r1 e1.
+    then_ok (chosen (config_of rows) (value_of option.SelfLoad rows) (value_of option.ReadCapture rows)) _ a (AreInRange a) (λ choice r1 e1.
     then_ok (seed_of rows) _ a (AreInRange a) (λ seed r2 e2.
     then_ok (parallelism_of rows) _ a (AreInRange a) (λ parallelism r3 e3.
     then_ok (data_directory_of rows) _ a (AreInRange a) (λ directory r4 e4.

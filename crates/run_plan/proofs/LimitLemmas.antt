@@ -1,5 +1,5 @@
 -- The limits of configurations are those of plans.
-use Rattle.std.proofs.Common.{◌≡◌, ◌≢◌, ℕ, ◌+◌, ◌*◌, ◌/◌, ◌%◌, ◌^◌, ◌<◌, ◌≤◌, List, [], ◌∷◌, length, map, All, get_or, sum_by, decimal, suc, Result, Ok, Err, unwrap_or, IfSome, IfOk, Option, Some, None, refl, sym, ap, subst, ◌∙◌, arith, div-le_self, mod-lt, inl, inr, codes}
+use Rattle.std.proofs.Common.{◌≡◌, ℕ, ◌+◌, ◌%◌, ◌^◌, ◌<◌, ◌≤◌, List, [], ◌∷◌, length, map, All, Result, Ok, Err, unwrap_or, IfSome, IfOk, Option, Some, None, sym, subst, ◌∙◌, arith, div-le_self, mod-lt, codes}
 use Rattle.std.specs.List.{range_with_len}
 use Rattle.std.specs.List.Sorted.{IsPermutation}
 use Rattle.std.proofs.lemmas.List.{length-map}
@@ -9,10 +9,8 @@ use Rattle.std.proofs.lemmas.List.Sorted.{All-permutation, length_permutation}
 use Rattle.std.proofs.lemmas.Fmt.{length-decimal-le}
 use Rattle.gml_graph.specs.declared.graph.Graph.{Graph}
 use Rattle.shd_config.specs.Limits.{MayStop, IsSomeText, HasFewProcesses, HasFewBytes, HaveFewBytes, MayOverride, IsWithinLimits}
-use Rattle.shd_config.specs.Process.{texts_size}
 use Rattle.shd_config.specs.declared.config.Config.{Config}
 use Rattle.shd_config.specs.declared.config.HostConfig.{HostConfig}
-use Rattle.shd_config.specs.declared.config.ProcessConfig.{ProcessConfig}
 use Rattle.shd_config.specs.declared.overrides.Overrides.{Overrides}
 use Rattle.run_plan.specs.HostRows.{host_rows}
 use Rattle.run_plan.specs.Limits.{KeepsToLimits}

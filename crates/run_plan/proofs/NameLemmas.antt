@@ -1,5 +1,5 @@
 -- Names that stand at one place alone.
-use Rattle.std.proofs.Common.{◌≡◌, ◌∙◌, ℕ, zero, suc, ◌+◌, ◌*◌, ◌/◌, ◌%◌, ◌<◌, ◌≤◌, Bool, true, false, List, [], ◌∷◌, ◌++◌, map, Some, None, slice_get, IsPermutation, Result, Ok, Err, IfOk, refl, sym, ap, subst, arith, codes, decimal, mod-lt, ◌==◌}
+use Rattle.std.proofs.Common.{◌≡◌, ◌∙◌, ℕ, zero, suc, ◌+◌, ◌*◌, ◌/◌, ◌%◌, ◌<◌, ◌≤◌, Bool, true, false, List, [], ◌∷◌, map, Some, slice_get, Result, Ok, Err, IfOk, refl, sym, ap, subst, arith, decimal, mod-lt, ◌==◌}
 use Rattle.std.specs.Cmp.Lexicographic.{pointwise, same_text}
 use Rattle.std.specs.List.{range_with_len}
 use Rattle.std.proofs.Math.Nat.{div-add-mod, div-div-eq-div-mul}
@@ -17,14 +17,13 @@ use Rattle.yaml_tree.specs.Trees.{Holds, is_empty}
 use Rattle.yaml_tree.specs.declared.tree.Tree.{Tree}
 use Rattle.run_plan.specs.Configured.{or_config_fault}
 use Rattle.run_plan.specs.HostRows.{host_rows}
-use Rattle.run_plan.specs.Names.{AreApart, AreHostsApart, AreRowsApart}
+use Rattle.run_plan.specs.Names.{AreApart, AreHostsApart}
 use Rattle.run_plan.specs.Outcomes.{Meets, gives}
 use Rattle.run_plan.specs.SelfLoad.{host_name, ring_host, self_load_config}
-use Rattle.run_plan.specs.declared.fault.Fault.{Fault}
 use Rattle.run_plan.specs.declared.fault.ReadStop.{ReadStop}
 use Rattle.run_plan.specs.declared.host_row.HostRow.{HostRow}
 use Rattle.run_plan.proofs.ConfigNames.{config_names}
-use Rattle.run_plan.proofs.NameCounts.{one_if, is_one, is_one-same, copies, copies-there, copies-permutation, some_is, one_place}
+use Rattle.run_plan.proofs.NameCounts.{one_if, copies, copies-permutation, some_is, one_place}
 use Rattle.run_plan.proofs.RowLengthLemmas.{rows_moved}
 
 -- ---- places and counts

@@ -1,13 +1,12 @@
 -- Routes take time.
-use Rattle.std.proofs.Common.{◌≡◌, ℕ, ◌+◌, ◌<◌, List, [], ◌∷◌, length, fold, Option, Some, None, Bool, refl, subst, ap, arith}
-use Rattle.std.specs.Prelude.{Contains, IsSomeAnd}
+use Rattle.std.proofs.Common.{◌≡◌, ℕ, ◌<◌, List, [], ◌∷◌, length, fold, Option, Some, Bool, subst, arith}
+use Rattle.std.specs.Prelude.{IsSomeAnd}
 use Rattle.gml_graph.specs.declared.graph.Graph.{Graph}
 use Rattle.gml_graph.specs.Edges.{AreEdges}
 use Rattle.net_routes.specs.declared.cost.Cost.{Cost}
 use Rattle.net_routes.specs.declared.hop.Hop.{Hop}
 use Rattle.net_routes.specs.declared.table.Routes.{Routes}
-use Rattle.net_routes.specs.Cost.{nothing, and_then}
-use Rattle.net_routes.specs.Needed.{IsNeeded}
+use Rattle.net_routes.specs.Cost.{nothing}
 use Rattle.net_routes.specs.Routes.{AreRoutes, route_in}
 use Rattle.net_routes.specs.Walk.{IsRoute, Leads, AreHops, hops, then_hop, cost_of}
 use Rattle.net_routes.proofs.HopLemmas.{hops_sound}

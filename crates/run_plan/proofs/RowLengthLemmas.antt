@@ -7,7 +7,7 @@ use Rattle.sim_base.specs.declared.address.Ip.{Ip}
 use Rattle.gml_graph.specs.declared.graph.Graph.{Graph}
 use Rattle.gml_graph.specs.declared.graph.Node.{Node}
 use Rattle.shd_config.specs.declared.config.HostConfig.{HostConfig}
-use Rattle.run_plan.specs.Addresses.{AreAddressesFrom, first_address, given_addresses}
+use Rattle.run_plan.specs.Addresses.{AreAddressesFrom, first_address}
 use Rattle.run_plan.specs.HostRows.{rows_of, host_rows}
 use Rattle.run_plan.specs.Programs.{programs_of}
 use Rattle.run_plan.specs.Rates.{rates_of, rates_behind}

@@ -1,29 +1,25 @@
 -- Two answers for one input agree.
-use Rattle.std.proofs.Common.{◌≡◌, ℕ, ◌+◌, ◌<◌, ◌≤◌, Bool, true, false, List, [], ◌∷◌, length, map, option_map, Option, Some, None, Result, Ok, Err, refl, sym, ap, subst, ◌∙◌, arith, inl, inr, le_antisymm, codes}
+use Rattle.std.proofs.Common.{◌≡◌, ℕ, ◌+◌, ◌<◌, Bool, true, false, List, [], ◌∷◌, length, map, Option, Some, None, Result, Ok, Err, refl, sym, subst, ◌∙◌, arith, inl, inr, le_antisymm, codes}
 use Rattle.std.specs.Ordering.{nat_cmp, is_lt}
 use Rattle.std.specs.Cmp.Lexicographic.{slice_cmp}
 use Rattle.std.proofs.lemmas.Cmp.{nat_list_cmp_total}
 use Rattle.std.proofs.lemmas.List.Sorted.{ranks_by}
 use Rattle.elf_load.specs.ProgramImage.{ProgramImage}
 use Rattle.command_line.specs.Asked.{asked}
-use Rattle.command_line.specs.declared.asked.Asked.{Asked}
 use Rattle.command_line.specs.declared.asked.Subject.{Subject}
 use Rattle.command_line.specs.declared.asked.Subject.TheVariants as subject
 use Rattle.gml_graph.specs.declared.graph.Graph.{Graph}
 use Rattle.net_routes.specs.Least.{IsLookahead}
 use Rattle.net_routes.specs.Needed.{IsNeeded}
-use Rattle.net_routes.specs.Routes.{route_in}
-use Rattle.net_routes.specs.declared.cost.Cost.{Cost}
 use Rattle.net_routes.specs.declared.table.Routes.{Routes}
-use Rattle.net_routes.proofs.RouteLaws.{same_routes, no_lack, one_least_lack}
+use Rattle.net_routes.proofs.RouteLaws.{no_lack, one_least_lack}
+use Rattle.net_routes.proofs.TableLemmas.{one_table}
 use Rattle.out_text.specs.Hosts.{hosts_text}
 use Rattle.sim_base.specs.Files.{Held}
 use Rattle.sim_base.specs.declared.address.Ip.{Ip}
 use Rattle.sim_base.specs.declared.time.Time.{Time}
 use Rattle.yaml_tree.specs.Said.{Said}
-use Rattle.yaml_tree.specs.Tree.{IsFaultOf}
 use Rattle.yaml_tree.specs.Trees.{Holds, is_empty}
-use Rattle.yaml_tree.specs.declared.fault.YamlFault.{YamlFault}
 use Rattle.yaml_tree.specs.declared.tree.Tree.{Tree}
 use Rattle.yaml_tree.proofs.FlowLaws.{flow_reader}
 use Rattle.yaml_tree.proofs.RuleLaws.{one_tree, no_fault}
@@ -38,18 +34,19 @@ use Rattle.shd_config.specs.declared.config.GraphSource.TheVariants as source
 use Rattle.shd_config.specs.declared.config.HostConfig.{HostConfig}
 use Rattle.shd_config.specs.declared.overrides.Overrides.{Overrides}
 use Rattle.run_plan.specs.Addresses.{IsLeastOpen, AreAddressesFrom, given_addresses, first_address}
+use Rattle.run_plan.specs.Captured.{captured}
 use Rattle.run_plan.specs.Configured.{IsTreeFault, HoldsTreeOf, tree_of, or_config_fault, configured}
 use Rattle.run_plan.specs.File.{file, read, reads}
 use Rattle.run_plan.specs.HostRows.{AreInOrder, HaveAddresses, rows_of, host_rows}
 use Rattle.run_plan.specs.Network.{one_gbit_switch, graph_at, network}
 use Rattle.run_plan.specs.Outcomes.{Outcomes, gives, some_that, ◌>>=◌}
 use Rattle.run_plan.specs.Plan.{nodes_of, IsRouteFault, routed, nanos_of, line_of_host, settings_of, run_of, plan_of}
-use Rattle.run_plan.specs.Planned.{or_words_fault, manner_of, runs, shown_or_run, file_planned, self_load_planned, planned_of, planned}
+use Rattle.run_plan.specs.Planned.{or_words_fault, manner_of, runs, shown_or_run, file_planned, self_load_planned, capture_planned, planned_of, planned}
 use Rattle.run_plan.specs.Program.{program}
 use Rattle.run_plan.specs.Programs.{programs_of, images}
 use Rattle.run_plan.specs.Rates.{all_rates}
 use Rattle.run_plan.specs.Ring.{ring_files}
-use Rattle.run_plan.specs.Same.{Agree, AreSamePlans, AreSameRuns, AreSame}
+use Rattle.run_plan.specs.Same.{Agree}
 use Rattle.run_plan.specs.SelfLoad.{self_load_config, self_load_graph}
 use Rattle.run_plan.specs.declared.fault.Fault.{Fault}
 use Rattle.run_plan.specs.declared.fault.Fault.TheVariants as fault
@@ -58,9 +55,7 @@ use Rattle.run_plan.specs.declared.fault.ReadStop.TheVariants.{Refused, ReadFail
 use Rattle.run_plan.specs.declared.host_row.HostRow.{HostRow}
 use Rattle.run_plan.specs.declared.plan.Plan.{Plan}
 use Rattle.run_plan.specs.declared.planned.Manner.{Manner}
-use Rattle.run_plan.specs.declared.planned.Planned.{Planned}
 use Rattle.run_plan.specs.declared.planned.Planned.TheVariants as plan
-use Rattle.run_plan.specs.declared.rates.Rates.{Rates}
 use Rattle.run_plan.proofs.StableLemmas.{one_order}
 
 -- ---- steps
@@ -128,19 +123,6 @@ reads_one name d (Err (Refused f)) (Err (ReadFailed n)) h k = tt
 reads_one name d (Err (Refused f)) (Err NoMemory) h k = tt
 reads_one name d (Err (ReadFailed n)) s h k = tt
 reads_one name d (Err NoMemory) s h k = tt
-
--- two values that are the same are given
-same_given : {A : Type 0} (Same : A → A → Type 0) (p q : A) → Same p q → Both Same (gives (Ok p)) (gives (Ok q))
-same_given Same p q e (Ok a) (Ok b) h k = subst (λ x. Same x b) (ok_same (Ok p) p a refl h) (subst (λ y. Same p y) (ok_same (Ok q) q b refl k) e)
-same_given Same p q e (Ok a) (Err (Refused f)) h k = ok_err (Ok q) q f refl k
-same_given Same p q e (Ok a) (Err (ReadFailed n)) h k = tt
-same_given Same p q e (Ok a) (Err NoMemory) h k = tt
-same_given Same p q e (Err (Refused f)) (Ok b) h k = ok_err (Ok p) p f refl h
-same_given Same p q e (Err (Refused f)) (Err (Refused g)) h k = absurd (ok_err (Ok p) p f refl h)
-same_given Same p q e (Err (Refused f)) (Err (ReadFailed n)) h k = tt
-same_given Same p q e (Err (Refused f)) (Err NoMemory) h k = tt
-same_given Same p q e (Err (ReadFailed n)) s h k = tt
-same_given Same p q e (Err NoMemory) s h k = tt
 
 some_both : {A : Type 0} (P Q : A → Type 0) (Same : A → A → Type 0) → ((a b : A) → P a → Q b → Same a b) → Both Same (some_that P) (some_that Q)
 some_both P Q Same one (Ok a) (Ok b) h k = one a b h k
@@ -233,11 +215,8 @@ rows_agree name graph hosts =
 -- ---- routes
 
 module _ (g : Graph) (shortest : Bool) (nodes : List ℕ) where
-  abbrev KeepTheSame : Routes → Routes → Type 0
-  KeepTheSame r s = (a b : ℕ) → IsNeeded nodes a b → route_in r a b ≡ route_in s a b
-
   no_route_fault : (r : Routes) (f : Fault) → routed g shortest nodes (Ok r) → IsRouteFault g shortest nodes f → ⊥
-  no_route_fault r (fault.NoRoute a b) h k = no_lack g shortest nodes r a b h k.lacks
+  no_route_fault r (fault.NoRoute a b) h k = no_lack g shortest nodes r a b h.0 k.lacks
   no_route_fault r _ h k = k
 
   one_route_fault : (f f' : Fault) → IsRouteFault g shortest nodes f → IsRouteFault g shortest nodes f' → f ≡ f'
@@ -245,8 +224,8 @@ module _ (g : Graph) (shortest : Bool) (nodes : List ℕ) where
   one_route_fault (fault.NoRoute a b) _ h k = absurd k
   one_route_fault _ f' h k = absurd h
 
-  routes_agree : Both KeepTheSame (routed g shortest nodes) (routed g shortest nodes)
-  routes_agree (Ok r) (Ok s) h k = same_routes g shortest nodes r s h k
+  routes_agree : Both Equal (routed g shortest nodes) (routed g shortest nodes)
+  routes_agree (Ok r) (Ok s) h k = one_table g shortest nodes r s h.1 k.1
   routes_agree (Ok r) (Err (Refused f)) h k = no_route_fault r f h k
   routes_agree (Ok r) (Err (ReadFailed n)) h k = tt
   routes_agree (Ok r) (Err NoMemory) h k = tt
@@ -257,21 +236,18 @@ module _ (g : Graph) (shortest : Bool) (nodes : List ℕ) where
   routes_agree (Err (ReadFailed n)) s h k = tt
   routes_agree (Err NoMemory) s h k = tt
 
-  module _ (r s : Routes) (same : KeepTheSame r s) where
-    no_pair : (a b : ℕ) → length nodes < 2 → IsNeeded nodes a b → ⊥
-    no_pair a b few needed = let one : needed.first ≡ needed.second = (let p = needed.from.within in let q = needed.to.within in omega (arith, p, q, few)) in needed.others one
+-- ---- the lookahead
 
-    latency_same : (a b : ℕ) → IsNeeded nodes a b → option_map (λ (c : Cost). c.latency) (route_in r a b) ≡ option_map (λ (c : Cost). c.latency) (route_in s a b)
-    latency_same a b needed = ap (option_map (λ (c : Cost). c.latency)) (same a b needed)
+module _ (nodes : List ℕ) (routes : Routes) where
+  no_pair : (a b : ℕ) → length nodes < 2 → IsNeeded nodes a b → ⊥
+  no_pair a b few needed = let one : needed.first ≡ needed.second = (let p = needed.from.within in let q = needed.to.within in omega (arith, p, q, few)) in needed.others one
 
-    lookahead_same : (t u : Option Time) → IsLookahead nodes r (nanos_of t) → IsLookahead nodes s (nanos_of u) → t ≡ u
-    lookahead_same None None h k = refl
-    lookahead_same None (Some u) h k = absurd (no_pair k.from k.to h k.needed)
-    lookahead_same (Some t) None h k = absurd (no_pair h.from h.to k h.needed)
-    lookahead_same (Some t) (Some u) h k =
-        let nanos : t.nanos ≡ u.nanos =
-        le_antisymm (h.each k.from k.to u.nanos k.needed (latency_same k.from k.to k.needed ∙ k.is)) (k.each h.from h.to t.nanos h.needed (sym (latency_same h.from h.to h.needed) ∙ h.is)) in
-        λ i. Some (record { nanos = nanos i })
+  lookahead_same : (t u : Option Time) → IsLookahead nodes routes (nanos_of t) → IsLookahead nodes routes (nanos_of u) → t ≡ u
+  lookahead_same None None h k = refl
+  lookahead_same None (Some u) h k = absurd (no_pair k.from k.to h k.needed)
+  lookahead_same (Some t) None h k = absurd (no_pair h.from h.to k h.needed)
+  lookahead_same (Some t) (Some u) h k =
+      let nanos : t.nanos ≡ u.nanos = le_antisymm (h.each k.from k.to u.nanos k.needed k.is) (k.each h.from h.to t.nanos h.needed h.is) in λ i. Some (record { nanos = nanos i })
 
 -- ---- the plan
 
@@ -289,46 +265,51 @@ abbrev made : Config → List HostRow → Routes → List ProgramImage → Optio
 made c rows routes found lookahead =
     record { settings = settings_of c; rows = rows; routes = routes; lookahead = lookahead; images = found; hosts_text = hosts_text (map line_of_host rows) }
 
-runs_agree : (held : Held) (name : List ℕ) (g : Graph) (c : Config) → Both AreSamePlans (run_of held name g c) (run_of held name g c)
+runs_agree : (held : Held) (name : List ℕ) (g : Graph) (c : Config) → Both Equal (run_of held name g c) (run_of held name g c)
 unfolding run_of
 runs_agree held name g c =
-    one_then AreSamePlans (host_rows name g c.hosts) _ (rows_agree name g c.hosts)
-    (λ rows h. both_then (KeepTheSame g c.use_shortest_path (nodes_of rows)) AreSamePlans (routed g c.use_shortest_path (nodes_of rows)) (routed g c.use_shortest_path (nodes_of rows)) _ _ (routes_agree g c.use_shortest_path (nodes_of rows))
-    (λ r s hr hs same. both_then Equal AreSamePlans (images held (programs_of c.hosts)) (images held (programs_of c.hosts)) _ _ (images_agree held (programs_of c.hosts))
-    (λ xs ys hx hy found. both_then Equal AreSamePlans (some_that (λ (t : Option Time). IsLookahead (nodes_of rows) r (nanos_of t))) (some_that (λ (t : Option Time). IsLookahead (nodes_of rows) s (nanos_of t))) _ _
-    (some_both (λ (t : Option Time). IsLookahead (nodes_of rows) r (nanos_of t)) (λ (t : Option Time). IsLookahead (nodes_of rows) s (nanos_of t)) Equal (lookahead_same g c.use_shortest_path (nodes_of rows) r s same))
-    (λ t u ht hu least. same_given AreSamePlans (made c rows r xs t) (made c rows s ys u) (record { settings = refl; rows = refl; routes = same; lookahead = least; images = found; hosts_text = refl })))))
+    one_then Equal (host_rows name g c.hosts) _ (rows_agree name g c.hosts)
+    (λ rows h. one_then Equal (routed g c.use_shortest_path (nodes_of rows)) _ (routes_agree g c.use_shortest_path (nodes_of rows))
+    (λ routes k. one_then Equal (images held (programs_of c.hosts)) _ (images_agree held (programs_of c.hosts))
+    (λ found m. one_then Equal (some_that (λ (t : Option Time). IsLookahead (nodes_of rows) routes (nanos_of t))) _
+    (some_both (λ (t : Option Time). IsLookahead (nodes_of rows) routes (nanos_of t)) (λ (t : Option Time). IsLookahead (nodes_of rows) routes (nanos_of t)) Equal (lookahead_same (nodes_of rows) routes))
+    (λ t n. gives_one (Ok (made c rows routes found t))))))
 
-plans_agree : (held : Held) (name : List ℕ) (c : Config) → Both AreSamePlans (plan_of held name c) (plan_of held name c)
+plans_agree : (held : Held) (name : List ℕ) (c : Config) → Both Equal (plan_of held name c) (plan_of held name c)
 unfolding plan_of
-plans_agree held name c = one_then AreSamePlans (network held name c.graph) _ (networks_agree held name c.graph) (λ g h. runs_agree held name g c)
+plans_agree held name c = one_then Equal (network held name c.graph) _ (networks_agree held name c.graph) (λ g h. runs_agree held name g c)
 
 -- ---- what is asked
 
-shown_or_run_agree : (b : Bool) (c : Config) (outcomes : Outcomes Plan) (budget : ℕ) (load : Bool) → Both AreSamePlans outcomes outcomes
-    → Both AreSame (shown_or_run b c outcomes (runs budget load)) (shown_or_run b c outcomes (runs budget load))
-shown_or_run_agree true c outcomes budget load one = same_given AreSame (plan.Shows c) (plan.Shows c) refl
-shown_or_run_agree false c outcomes budget load one =
-    both_then AreSamePlans AreSame outcomes outcomes _ _ one (λ p q h k same. same_given AreSame (runs budget load p) (runs budget load q) (record { plans = same; budget = refl; self_load = refl }))
+shown_or_run_agree : (b : Bool) (c : Config) (outcomes : Outcomes Plan) (run : Plan → Planned) → Both Equal outcomes outcomes → Both Equal (shown_or_run b c outcomes run) (shown_or_run b c outcomes run)
+shown_or_run_agree true c outcomes run one = gives_one (Ok (plan.Shows c))
+shown_or_run_agree false c outcomes run one = one_then Equal outcomes _ one (λ p h. gives_one (Ok (run p)))
 
-files_agree : (m : Manner) (held : Held) (name : List ℕ) → Both AreSame (file_planned m held name) (file_planned m held name)
+files_agree : (m : Manner) (held : Held) (name : List ℕ) → Both Equal (file_planned m held name) (file_planned m held name)
 unfolding file_planned
 files_agree m held name =
-    one_then AreSame (read held name) _ (reads_one name (file held name))
-    (λ text h. one_then AreSame (configured name text m.overrides) _ (configs_agree name text m.overrides) (λ c k. shown_or_run_agree m.shows_config c (plan_of held name c) m.budget false (plans_agree held name c)))
+    one_then Equal (read held name) _ (reads_one name (file held name))
+    (λ text h. one_then Equal (configured name text m.overrides) _ (configs_agree name text m.overrides) (λ c k. shown_or_run_agree m.shows_config c (plan_of held name c) (runs m.budget false) (plans_agree held name c)))
 
-self_loads_agree : (m : Manner) (hosts : ℕ) → Both AreSame (self_load_planned m hosts) (self_load_planned m hosts)
+self_loads_agree : (m : Manner) (hosts : ℕ) → Both Equal (self_load_planned m hosts) (self_load_planned m hosts)
 unfolding self_load_planned
 self_loads_agree m hosts =
     let c : Config = self_load_config m.overrides hosts in
-    shown_or_run_agree m.shows_config c (run_of ring_files (codes "self-load") (self_load_graph hosts) c) m.budget true (runs_agree ring_files (codes "self-load") (self_load_graph hosts) c)
+    shown_or_run_agree m.shows_config c (run_of ring_files (codes "self-load") (self_load_graph hosts) c) (runs m.budget true) (runs_agree ring_files (codes "self-load") (self_load_graph hosts) c)
 
-subjects_agree : (held : Held) (m : Manner) (x : Subject) → Both AreSame (planned_of held m x) (planned_of held m x)
+captures_agree : (held : Held) (name : List ℕ) → Both Equal (capture_planned held name) (capture_planned held name)
+unfolding capture_planned
+captures_agree held name =
+    one_then Equal (read held name) _ (reads_one name (file held name))
+    (λ bytes h. one_then Equal (gives (captured name bytes)) _ (gives_one (captured name bytes)) (λ c k. gives_one (Ok (plan.Lists c))))
+
+subjects_agree : (held : Held) (m : Manner) (x : Subject) → Both Equal (planned_of held m x) (planned_of held m x)
 subjects_agree held m (subject.File name) = files_agree m held name
 subjects_agree held m (subject.SelfLoad hosts) = self_loads_agree m hosts
+subjects_agree held m (subject.Capture name) = captures_agree held name
 
 -- two answers for one input agree
-pub answers_agree : (words : List (List ℕ)) (held : Held) → Both AreSame (planned words held) (planned words held)
+pub answers_agree : (words : List (List ℕ)) (held : Held) → Both Equal (planned words held) (planned words held)
 unfolding planned
 answers_agree words held =
-    one_then AreSame (gives (or_words_fault (asked words))) _ (gives_one (or_words_fault (asked words))) (λ a h. subjects_agree held (manner_of a) a.subject)
+    one_then Equal (gives (or_words_fault (asked words))) _ (gives_one (or_words_fault (asked words))) (λ a h. subjects_agree held (manner_of a) a.subject)

@@ -1,4 +1,5 @@
 pub mod Addresses
+pub mod Captured
 pub mod Configured
 pub mod File
 pub mod HostRows

@@ -1,7 +1,10 @@
 -- The line of each fault of an input.
 use Rattle.std.specs.Prelude.{ℕ, List, ◌++◌, Some, codes}
+use Rattle.std.specs.Fmt.{decimal}
 use Rattle.elf_load.specs.Fault.{word_of}
 use Rattle.gml_graph.specs.Fault as graph
+use Rattle.pcap_text.specs.Fault as pcap
+use Rattle.pcap_text.specs.declared.fault.PcapFault.{PcapFault}
 use Rattle.yaml_tree.specs.declared.fault.FaultKind.{FaultKind}
 use Rattle.yaml_tree.specs.declared.fault.FaultKind.TheVariants as tree
 use Rattle.shd_config.specs.declared.fault.ConfigKind.{ConfigKind}
@@ -11,7 +14,7 @@ use Rattle.command_line.specs.Command.{name_text}
 use Rattle.command_line.specs.declared.fault.WordsFault.{WordsFault}
 use Rattle.command_line.specs.declared.fault.WordsFault.TheVariants.{Usage, BadOption}
 use Rattle.run_plan.specs.declared.fault.Fault.{Fault}
-use Rattle.run_plan.specs.declared.fault.Fault.TheVariants.{Words, NotFound, TooLong, Tree, Config, Graph, Host, NoRoute, Elf, Exists}
+use Rattle.run_plan.specs.declared.fault.Fault.TheVariants.{Words, NotFound, TooLong, Tree, Config, Graph, Host, NoRoute, Elf, Exists, Capture}
 use Rattle.run_plan.specs.declared.fault.HostFault.{HostFault}
 use Rattle.run_plan.specs.declared.fault.HostFault.TheVariants.{UnknownNode, NoBandwidth, DuplicateAddress}
 
@@ -41,6 +44,10 @@ abbrev pub words_line : WordsFault → List ℕ
 words_line Usage = usage_line
 words_line (BadOption name) = bad_option_line (name_text name)
 
+-- capture KIND at N
+abbrev pub capture_text : PcapFault → List ℕ
+capture_text fault = codes "capture " ++ (pcap.word_of fault.kind ++ (codes " at " ++ decimal fault.at))
+
 -- the line that tells a fault
 abbrev pub line_of : Fault → List ℕ
 line_of (Words fault) = words_line fault
@@ -53,3 +60,4 @@ line_of (Host file line host kind) = at_line file line (told_at (Some (codes "ho
 line_of (NoRoute from to) = no_route_line from to
 line_of (Elf path fault) = file_line path (codes "ELF " ++ word_of fault)
 line_of (Exists directory) = file_line directory (codes "exists")
+line_of (Capture file fault) = file_line file (capture_text fault)

@@ -4,7 +4,7 @@ use Rattle.shd_config.specs.declared.config.HostConfig.{HostConfig}
 use Rattle.run_plan.specs.declared.host_row.HostRow.{HostRow}
 use Rattle.run_plan.specs.declared.plan.Plan.{Plan}
 use Rattle.run_plan.specs.declared.planned.Planned.{Planned}
-use Rattle.run_plan.specs.declared.planned.Planned.TheVariants.{Shows, Runs}
+use Rattle.run_plan.specs.declared.planned.Planned.TheVariants.{Shows, Runs, Lists}
 
 -- each name stands at one place alone
 abbrev pub AreApart : List (List ℕ) → Type 0
@@ -22,3 +22,4 @@ AreRowsApart plan = AreApart (map (λ (r : HostRow). r.config.name) plan.rows)
 abbrev pub AreNamesApart : Planned → Type 0
 AreNamesApart (Shows config) = AreHostsApart config.hosts
 AreNamesApart (Runs run) = AreRowsApart run.plan
+AreNamesApart (Lists capture) = Unit {0}

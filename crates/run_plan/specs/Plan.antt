@@ -3,6 +3,7 @@ use Rattle.std.specs.Prelude.{ℕ, List, map, Option, option_map, Ok, Err, Bool}
 use Rattle.sim_base.specs.Files.{Held}
 use Rattle.gml_graph.specs.declared.graph.Graph.{Graph}
 use Rattle.net_routes.specs.Routes.{AreRoutes, IsLeastLack}
+use Rattle.net_routes.specs.Table.{IsTable}
 use Rattle.net_routes.specs.Least.{IsLookahead}
 use Rattle.net_routes.specs.declared.table.Routes.{Routes}
 use Rattle.out_text.specs.Hosts.{hosts_text}
@@ -29,9 +30,9 @@ abbrev pub IsRouteFault : Graph → Bool → List ℕ → Fault → Type 0
 IsRouteFault g shortest nodes (fault.NoRoute from to) = IsLeastLack g shortest nodes from to
 IsRouteFault g shortest nodes _ = ⊥
 
--- the routes that hosts on these nodes need, or the least pair that lacks one
+-- the table of routes between the nodes of hosts, with those that hosts need; or the least pair that lacks one
 abbrev pub routed : Graph → Bool → List ℕ → Outcomes Routes
-routed g shortest nodes (Ok routes) = AreRoutes g shortest nodes routes
+routed g shortest nodes (Ok routes) = AreRoutes g shortest nodes routes × IsTable g shortest nodes routes
 routed g shortest nodes (Err (Refused f)) = IsRouteFault g shortest nodes f
 routed g shortest nodes (Err (ReadFailed file)) = ⊥
 routed g shortest nodes (Err NoMemory) = Unit {0}

@@ -4,9 +4,10 @@ use Rattle.sim_base.specs.Files.{Held}
 use Rattle.command_line.specs.Asked.{asked}
 use Rattle.command_line.specs.declared.asked.Asked.{Asked}
 use Rattle.command_line.specs.declared.asked.Subject.{Subject}
-use Rattle.command_line.specs.declared.asked.Subject.TheVariants.{File, SelfLoad}
+use Rattle.command_line.specs.declared.asked.Subject.TheVariants.{File, SelfLoad, Capture}
 use Rattle.command_line.specs.declared.fault.WordsFault.{WordsFault}
 use Rattle.shd_config.specs.declared.config.Config.{Config}
+use Rattle.run_plan.specs.Captured.{captured}
 use Rattle.run_plan.specs.Configured.{configured}
 use Rattle.run_plan.specs.InRange.{overrides_of}
 use Rattle.run_plan.specs.File.{read}
@@ -19,7 +20,7 @@ use Rattle.run_plan.specs.declared.fault.Fault.TheVariants.{Words}
 use Rattle.run_plan.specs.declared.plan.Plan.{Plan}
 use Rattle.run_plan.specs.declared.planned.Manner.{Manner}
 use Rattle.run_plan.specs.declared.planned.Planned.{Planned}
-use Rattle.run_plan.specs.declared.planned.Planned.TheVariants.{Shows, Runs}
+use Rattle.run_plan.specs.declared.planned.Planned.TheVariants.{Shows, Runs, Lists}
 
 abbrev pub or_words_fault : Result Asked WordsFault → Result Asked Fault
 or_words_fault (Ok a) = Ok a
@@ -55,9 +56,17 @@ self_load_planned m hosts =
     let config = self_load_config m.overrides hosts in
     shown_or_run m.shows_config config (run_of ring_files (codes "self-load") (self_load_graph hosts) config) (runs m.budget true)
 
+-- the capture in a file, whatever else is asked
+unfoldable pub capture_planned : Held → List ℕ → Outcomes Planned
+capture_planned held name = do
+  bytes ← read held name
+  capture ← gives (captured name bytes)
+  gives (Ok (Lists capture))
+
 abbrev pub planned_of : Held → Manner → Subject → Outcomes Planned
 planned_of held m (File name) = file_planned m held name
 planned_of held m (SelfLoad hosts) = self_load_planned m hosts
+planned_of held m (Capture name) = capture_planned held name
 
 -- the plan of a call with these words, or its first fault, or the file that it comes to with no fault before it
 unfoldable pub planned : List (List ℕ) → Held → Outcomes Planned

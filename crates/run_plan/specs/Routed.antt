@@ -8,7 +8,7 @@ use Rattle.net_routes.specs.Routes.{HasRoutes, route_in}
 use Rattle.run_plan.specs.Plan.{nodes_of, nanos_of}
 use Rattle.run_plan.specs.declared.plan.Plan.{Plan}
 use Rattle.run_plan.specs.declared.planned.Planned.{Planned}
-use Rattle.run_plan.specs.declared.planned.Planned.TheVariants.{Shows, Runs}
+use Rattle.run_plan.specs.declared.planned.Planned.TheVariants.{Shows, Runs, Lists}
 
 -- each route that hosts need takes a nanosecond at least
 abbrev pub TakeTime : List ℕ → Routes → Type 0
@@ -24,3 +24,4 @@ pub record IsRouted (plan : Plan) : Type 0 where
 abbrev pub IsRoutedIfRun : Planned → Type 0
 IsRoutedIfRun (Shows config) = Unit {0}
 IsRoutedIfRun (Runs run) = IsRouted run.plan
+IsRoutedIfRun (Lists capture) = Unit {0}

@@ -1,14 +1,7 @@
 -- When two answers for one input agree.
-use Rattle.std.specs.Prelude.{◌≡◌, ℕ, Result, Ok, Err}
-use Rattle.net_routes.specs.Needed.{IsNeeded}
-use Rattle.net_routes.specs.Routes.{route_in}
-use Rattle.run_plan.specs.Plan.{nodes_of}
+use Rattle.std.specs.Prelude.{◌≡◌, Result, Ok, Err}
 use Rattle.run_plan.specs.declared.fault.ReadStop.{ReadStop}
 use Rattle.run_plan.specs.declared.fault.ReadStop.TheVariants.{Refused, ReadFailed, NoMemory}
-use Rattle.run_plan.specs.declared.plan.Plan.{Plan}
-use Rattle.run_plan.specs.declared.planned.Planned.{Planned}
-use Rattle.run_plan.specs.declared.planned.Planned.TheVariants.{Shows, Runs}
-use Rattle.run_plan.specs.declared.planned.Run.{Run}
 
 -- Two values are the same, or two refusals are of one fault; none is a value where the other is a refusal. A read that failed and
 -- want of memory are no matter of the input.
@@ -23,24 +16,3 @@ Agree Same (Err (Refused f)) (Err (ReadFailed file)) = Unit {0}
 Agree Same (Err (Refused f)) (Err NoMemory) = Unit {0}
 Agree Same (Err (ReadFailed file)) s = Unit {0}
 Agree Same (Err NoMemory) s = Unit {0}
-
--- two plans are equal in all but what their routes keep for pairs of nodes that no hosts need
-pub record AreSamePlans (p q : Plan) : Type 0 where
-  pub settings : p.settings ≡ q.settings
-  pub rows : p.rows ≡ q.rows
-  pub routes : (a b : ℕ) → IsNeeded (nodes_of p.rows) a b → route_in p.routes a b ≡ route_in q.routes a b
-  pub lookahead : p.lookahead ≡ q.lookahead
-  pub images : p.images ≡ q.images
-  pub hosts_text : p.hosts_text ≡ q.hosts_text
-
-pub record AreSameRuns (r s : Run) : Type 0 where
-  pub plans : AreSamePlans r.plan s.plan
-  pub budget : r.budget ≡ s.budget
-  pub self_load : r.is_self_load ≡ s.is_self_load
-
--- two configurations that are shown are equal, and two runs are the same
-abbrev pub AreSame : Planned → Planned → Type 0
-AreSame (Shows c) (Shows d) = c ≡ d
-AreSame (Shows c) (Runs s) = ⊥
-AreSame (Runs r) (Shows d) = ⊥
-AreSame (Runs r) (Runs s) = AreSameRuns r s

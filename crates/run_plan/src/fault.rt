@@ -5,6 +5,7 @@ ghost use Rattle.std.specs.Prelude.{◌≡◌};
 use command_line::WordsFault;
 use elf_load::ElfFault;
 use gml_graph::GmlFault;
+use pcap_text::PcapFault;
 use shd_config::ConfigFault;
 use sim_base::{Name, NoMemory};
 use std::alloc::{AllocError, AllocFailed};
@@ -62,6 +63,8 @@ pub enum Fault {
     Elf(Name, ElfFault),
     /// The data directory is there.
     Exists(Name),
+    /// The file's bytes are no capture.
+    Capture(Name, PcapFault),
 }
 
 /// Why the reading stops before its end.

@@ -1,17 +1,17 @@
-//! Laws of the definitions: two answers for one input agree, so that it has one plan or one first fault.
+//! Laws of the definitions: two answers for one input are equal, so that it has one plan or one first fault.
 
 ghost use Rattle.std.specs.Prelude.{◌≡◌, ℕ, List, Result, Ok, Err};
 ghost use Rattle.sim_base.specs.Files.{Held};
 ghost use Rattle.run_plan.specs.Planned.{planned};
-ghost use Rattle.run_plan.specs.Same.{Agree, AreSame};
+ghost use Rattle.run_plan.specs.Same.{Agree};
 ghost use Rattle.run_plan.specs.declared.fault.Fault.{Fault};
 ghost use Rattle.run_plan.specs.declared.fault.ReadStop.{ReadStop};
 ghost use Rattle.run_plan.specs.declared.fault.ReadStop.TheVariants.{Refused};
 ghost use Rattle.run_plan.specs.declared.planned.Planned.{Planned};
 
-/// Two answers for one input agree.
+/// Two answers for one input agree: two plans are equal, and so are two first faults.
 pub fn one_plan()
-    ensures { (words : List (List ℕ)) (held : Held) (r s : Result Planned ReadStop) → planned words held r → planned words held s → Agree AreSame r s }
+    ensures { (words : List (List ℕ)) (held : Held) (r s : Result Planned ReadStop) → planned words held r → planned words held s → Agree (λ p q. p ≡ q) r s }
 {}
 
 /// An input has one first fault, and a refused one has no plan.

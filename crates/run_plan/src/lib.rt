@@ -2,6 +2,7 @@
 #![tactic(auto)]
 
 mod addresses;
+mod captured;
 mod configured;
 mod fault;
 mod file;

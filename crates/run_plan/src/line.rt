@@ -4,13 +4,14 @@ ghost use Rattle.std.specs.Prelude.{◌≡◌, ◌++◌, Some, OnOk, OnErr, IfOk
 ghost use Rattle.elf_load.specs.Fault.{word_of};
 ghost use Rattle.gml_graph.specs.Fault as graph;
 ghost use Rattle.out_text.specs.Faults.{at_line, text_name, told_at, file_line};
-ghost use Rattle.run_plan.specs.Line.{tree_word, config_word, host_word, words_line, line_of};
+ghost use Rattle.run_plan.specs.Line.{tree_word, config_word, host_word, words_line, capture_text, line_of};
 
 use crate::fault::{Fault, HostFault};
 use command_line::WordsFault;
 use elf_load::ElfFault;
 use gml_graph::GmlFault;
 use out_text::{FaultText, fault_line};
+use pcap_text::PcapFault;
 use shd_config::{ConfigFault, ConfigKind};
 use sim_base::{Name, NoMemory, Text};
 use std::alloc::{AllocError, Global};
@@ -59,6 +60,14 @@ fn elf_text(alloc: Global, fault: ElfFault) -> Result<String, AllocError>
 {
     let word = fault.word();
     format!(in alloc; "ELF {word}")
+}
+
+/// The kind of fault of a capture, and where it stands.
+fn capture_text(alloc: Global, fault: PcapFault) -> Result<String, AllocError>
+    ensures { IfOk result (λ text. string_bytes text ≡ capture_text fault) }
+{
+    let (kind, at) = (fault.kind.word(), fault.at);
+    format!(in alloc; "capture {kind} at {at}")
 }
 
 /// The key of a host.
@@ -218,5 +227,9 @@ pub fn tell(alloc: Global, into: &mut Text, fault: &Fault) -> Result<(), NoMemor
             whole_file_line(alloc, into, path, what.as_str())
         }
         Fault::Exists(directory) => whole_file_line(alloc, into, directory, "exists"),
+        Fault::Capture(file, fault) => {
+            let what = capture_text(alloc, *fault)?;
+            whole_file_line(alloc, into, file, what.as_str())
+        }
     }
 }

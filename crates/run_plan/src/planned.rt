@@ -4,13 +4,14 @@ ghost use Rattle.std.specs.Prelude.{◌≡◌, ◌<◌, ◌≤◌, map, string_b
 ghost use Rattle.sim_base.specs.Limits.{most_ring_hosts};
 ghost use Rattle.command_line.specs.Asked.{asked};
 ghost use Rattle.run_plan.specs.Outcomes.{gives, Meets, CountsSource};
-ghost use Rattle.run_plan.specs.Planned.{or_words_fault, shown_or_run, file_planned, self_load_planned, planned_of, planned};
+ghost use Rattle.run_plan.specs.Planned.{or_words_fault, shown_or_run, file_planned, self_load_planned, capture_planned, planned_of, planned};
 ghost use Rattle.run_plan.specs.InRange.{IsInRange, overrides_of};
 ghost use Rattle.run_plan.specs.Limits.{AreLimitsKept};
 ghost use Rattle.run_plan.specs.Names.{AreNamesApart};
 ghost use Rattle.run_plan.specs.Routed.{IsRoutedIfRun};
 ghost use Rattle.shd_config.specs.Limits.{MayOverride};
 
+use crate::captured::parse_capture;
 use crate::configured::configure;
 use crate::fault::{Fault, ReadStop};
 use crate::file::read_file;
@@ -19,6 +20,7 @@ use crate::plan::{Plan, read_plan_of, read_run};
 use crate::ring::ring_bytes;
 use crate::self_load::{self_load_config, self_load_graph};
 use command_line::{Asked, Subject, WordsError, read_words};
+use pcap_text::Capture;
 use shd_config::{Config, Overrides};
 use sim_base::{Name, NoMemory, Source};
 use std::alloc::Global;
@@ -41,6 +43,8 @@ pub enum Planned {
     Shows(Config),
     /// The plan is run.
     Runs(Run),
+    /// The records of the capture are listed.
+    Lists(Capture),
 }
 
 /// What the words ask for.
@@ -130,6 +134,21 @@ fn plan_self_load<R: Threads + Sync>(
     }))
 }
 
+/// The capture in a file.
+#[tactic(auto, unfolding(crate::specs::Planned::capture_planned))]
+fn plan_capture<S: Source>(alloc: Global, source: &mut S, name: &Name) -> Result<Planned, ReadStop>
+    ensures told { IfSome (S.held source.old) (λ held. Meets (λ p. p) (capture_planned held name.now) result) }
+    ensures limits { IfOk result AreLimitsKept }
+    ensures routed { IfOk result IsRoutedIfRun }
+    ensures apart { IfOk result AreNamesApart }
+    ensures same { S.held source.new ≡ S.held source.old }
+    ensures count { CountsSource result (S.faults source.old) (S.faults source.new) }
+{
+    let bytes = read_file(alloc, source, name.as_str())?;
+    let capture = parse_capture(alloc, name.as_str(), &bytes)?;
+    Ok(Planned::Lists(capture))
+}
+
 /// The plan of a call with these words, or its first fault, on a machine of so many cores, which
 /// changes nothing of it.
 #[tactic(auto, unfolding(crate::specs::Planned::planned))]
@@ -169,5 +188,6 @@ pub fn read_plan<R: Threads + Sync, S: Source>(
     match subject {
         Subject::File(name) => plan_file(rt, alloc, source, &manner, &name, cores),
         Subject::SelfLoad(hosts) => plan_self_load(rt, alloc, &manner, hosts, cores),
+        Subject::Capture(name) => plan_capture(alloc, source, &name),
     }
 }

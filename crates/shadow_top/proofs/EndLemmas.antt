@@ -10,13 +10,13 @@ use Rattle.host_state.specs.Logs.{lines_of}
 use Rattle.host_state.specs.World.{World}
 use Rattle.host_state.specs.declared.files.listed.Listing.{Listing}
 use Rattle.out_text.specs.declared.summary.Summary.{Summary}
-use Rattle.net_run.specs.Grown.{HaveOwnFiles, IsUnderway}
+use Rattle.net_run.specs.Grown.{HaveOwnFiles}
 use Rattle.host_state.specs.Listed.{HostNames, HasIds, listed, listed_process, names_in, names_of}
 use Rattle.net_run.specs.Parts.{Between}
 use Rattle.host_state.specs.Files.{Put, first_id}
 use Rattle.net_run.specs.Pieces.{with_pieces, PutsFront}
 use Rattle.net_run.specs.Rest.{all_rest, rest_in, summary_in, unmet_of_hosts, TellsStates}
-use Rattle.net_run.specs.Shown.{run_pieces, status_by, status_of}
+use Rattle.net_run.specs.Shown.{run_pieces, status_by}
 use Rattle.net_run.proofs.FrontLemmas.{front_none}
 use Rattle.net_run.proofs.StandingLemmas.{part-end}
 use Rattle.net_run.proofs.ToldLemmas.{status-told, summary-of_lines}
@@ -81,7 +81,7 @@ few-processes names i count below ids counted =
 pub all-more : (c : rounds.World) (w : World) → WorldStands c w → (old new : List (Vec State Global)) (v : Vec State Global) (n count : ℕ) → new ≡ old ++ v ∷ [] → length old ≡ n
     → ((k : ℕ) (h : HostRecord) (states : Vec State Global) → slice_get w.hosts k ≡ Some h → slice_get old k ≡ Some states → TellsStates h states.items)
     → ((names : HostNames) → slice_get (names_of c.listing) n ≡ Some names → count ≡ length names.processes)
-    → ((h : HostRecord) → WorldStands c w → slice_get w.hosts n ≡ Some h → count ≡ length h.row.processes.items → TellsStates h v.items)
+    → ((h : HostRecord) → WorldStands c w → slice_get w.hosts n ≡ Some h → count ≡ length h.row.processes → TellsStates h v.items)
     → (k : ℕ) (h : HostRecord) (states : Vec State Global) → slice_get w.hosts k ≡ Some h → slice_get new k ≡ Some states → TellsStates h states.items
 all-more c w at old new v n count is long each counted here k h states there told =
     ⊎_elim
@@ -90,7 +90,7 @@ all-more c w at old new v n count is long each counted here k h states there tol
     (let at_n : slice_get w.hosts n ≡ Some h = subst (λ (i : ℕ). slice_get w.hosts i ≡ Some h) (r.0 ∙ long) there in
     let listed_there : slice_get (names_of c.listing) n ≡ Some (listed h.row) =
     ap (λ (ns : List HostNames). slice_get ns n) at.listed ∙ get-map (λ (x : HostRecord). listed x.row) w.hosts n h at_n in
-    subst (λ (s : Vec State Global). TellsStates h s.items) r.1 (here h at at_n (counted (listed h.row) listed_there ∙ length-map h.row.processes.items listed_process))))
+    subst (λ (s : Vec State Global). TellsStates h s.items) r.1 (here h at at_n (counted (listed h.row) listed_there ∙ length-map h.row.processes listed_process))))
     (at-more old v states k (sym (ap (λ (l : List (Vec State Global)). slice_get l k) is) ∙ told))
 
 -- ---- the summary

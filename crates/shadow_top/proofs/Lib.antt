@@ -1,7 +1,10 @@
+pub mod CaptureLemmas
 pub mod EndLemmas
+pub mod OneShown
 pub mod OpenedLemmas
 pub mod PartLemmas
 pub mod PlanLemmas
 pub mod RoundLemmas
 pub mod RunLemmas
 pub mod ShadowLemmas
+pub mod UntouchedLemmas

@@ -1,5 +1,5 @@
 -- The rows of a run are those of its net.
-use Rattle.std.proofs.Common.{◌≡◌, ◌≢◌, ℕ, zero, suc, ◌+◌, ◌^◌, ◌<◌, ◌≤◌, List, [], ◌∷◌, length, map, All, Option, Some, None, option_map, slice_get, refl, sym, ap, subst, ◌∙◌, arith}
+use Rattle.std.proofs.Common.{◌≡◌, ◌≢◌, ℕ, zero, suc, ◌+◌, ◌<◌, ◌≤◌, List, [], ◌∷◌, length, map, All, Option, Some, None, option_map, slice_get, refl, sym, ap, subst, ◌∙◌, arith}
 use Rattle.std.specs.Prelude.{option_and_then}
 use Rattle.std.proofs.lemmas.Option.{get_or_from_slice_get}
 use Rattle.std.proofs.lemmas.List.Elements.{All-head, All-tail}
@@ -22,18 +22,18 @@ use Rattle.run_plan.specs.Routed.{TakeTime, IsRouted}
 use Rattle.run_plan.specs.declared.host_row.HostRow.{HostRow}
 use Rattle.run_plan.specs.declared.plan.Settings.{Settings}
 use Rattle.run_plan.specs.declared.planned.Run.{Run}
-use Rattle.sim_base.specs.declared.address.Ip.{Ip}
 use Rattle.sim_base.specs.declared.time.Time.{Time}
 use Rattle.shd_config.specs.declared.config.ProcessConfig.{ProcessConfig}
-use Rattle.shadow_top.specs.Opened.{Host, said_process, said_host, processes_of, host_of, hosts_from, cut_lookahead, IsNetOf, AreRowsOf}
+use Rattle.shadow_top.specs.Opened.{processes_of, row_of, rows_from, rows_of, net_of, cut_lookahead, Opens, HasOpened}
+use Rattle.shadow_top.specs.declared.opened.Opened.{Opened}
 
 length-map : {A B : Type 0} (f : A → B) (xs : List A) → length (map f xs) ≡ length xs
 length-map f [] = refl
 length-map f (x ∷ xs) = ap suc (length-map f xs)
 
-length-hosts : (s : Settings) (n : ℕ) (hs : List HostRow) → length (hosts_from s n hs) ≡ length hs
-length-hosts s n [] = refl
-length-hosts s n (h ∷ hs) = ap suc (length-hosts s (n + 1) hs)
+length-rows : (s : Settings) (n : ℕ) (hs : List HostRow) → length (rows_from s n hs) ≡ length hs
+length-rows s n [] = refl
+length-rows s n (h ∷ hs) = ap suc (length-rows s (n + 1) hs)
 
 -- a host has no more processes than its configuration
 few_processes : (cs : List ProcessConfig) (images : List ℕ) → length (processes_of cs images) ≤ length cs
@@ -42,33 +42,21 @@ few_processes (c ∷ cs) [] = omega arith
 few_processes (c ∷ cs) (image ∷ images) = let rest = few_processes cs images in omega (arith, rest)
 
 -- what is known of the row of a host
-pub record IsRowAt (number : ℕ) (row : Row) : Type 0 where
-  pub number_is : row.host.index ≡ number
-  pub few : length row.processes.items ≤ 64
+record IsRowAt (number : ℕ) (row : Row) : Type 0 where
+  number_is : row.host.index ≡ number
+  few : length row.processes ≤ 64
 
-row_is : (s : Settings) (number : ℕ) (h : HostRow) (row : Row) → said_host row ≡ host_of s number h → length h.config.processes ≤ 64 → IsRowAt number row
-row_is s number h row same few =
-    let count : length row.processes.items ≡ length (processes_of h.config.processes h.images) =
-    sym (length-map said_process row.processes.items) ∙ ap (λ (x : Host). length x.processes) same in
-    let bound = few_processes h.config.processes h.images in
-    record { number_is = ap (λ (x : Host). x.number) same; few = omega (arith, count, bound, few) }
+row_is : (s : Settings) (number : ℕ) (h : HostRow) → length h.config.processes ≤ 64 → IsRowAt number (row_of s number h)
+row_is s number h few = let bound = few_processes h.config.processes h.images in record { number_is = refl; few = omega (arith, bound, few) }
 
-head_is : {A : Type 0} (x y : A) (xs ys : List A) → (x ∷ xs) ≡ (y ∷ ys) → x ≡ y
-head_is x y xs ys same = cc
-
-tail_is : {A : Type 0} (x y : A) (xs ys : List A) → (x ∷ xs) ≡ (y ∷ ys) → xs ≡ ys
-tail_is x y xs ys same = cc
-
-rows_at : (s : Settings) (n : ℕ) (hs : List HostRow) (rows : List Row) → map said_host rows ≡ hosts_from s n hs
-    → All (λ (h : HostRow). length h.config.processes ≤ 64) hs → (i : ℕ) (row : Row) → slice_get rows i ≡ Some row → IsRowAt (n + i) row
-rows_at s n hs [] same few i row at = absurd (cc)
-rows_at s n [] (r ∷ rs) same few i row at = absurd (cc)
-rows_at s n (h ∷ hs) (r ∷ rs) same few zero row at =
-    let is : r ≡ row = cc in
+rows_at : (s : Settings) (n : ℕ) (hs : List HostRow) → All (λ (h : HostRow). length h.config.processes ≤ 64) hs → (i : ℕ) (row : Row) → slice_get (rows_from s n hs) i ≡ Some row → IsRowAt (n + i) row
+rows_at s n [] few i row at = absurd (cc)
+rows_at s n (h ∷ hs) few zero row at =
+    let is : row_of s n h ≡ row = cc in
     let place : n ≡ n + zero = omega arith in
-    subst (λ (k : ℕ). IsRowAt k row) place (subst (IsRowAt n) is (row_is s n h r (head_is (said_host r) (host_of s n h) (map said_host rs) (hosts_from s (n + 1) hs) same) (All-head (λ (x : HostRow). length x.config.processes ≤ 64) h hs few)))
-rows_at s n (h ∷ hs) (r ∷ rs) same few (suc i) row at =
-    let there = rows_at s (n + 1) hs rs (tail_is (said_host r) (host_of s n h) (map said_host rs) (hosts_from s (n + 1) hs) same) (All-tail (λ (x : HostRow). length x.config.processes ≤ 64) h hs few) i row at in
+    subst (λ (k : ℕ). IsRowAt k row) place (subst (IsRowAt n) is (row_is s n h (All-head (λ (x : HostRow). length x.config.processes ≤ 64) h hs few)))
+rows_at s n (h ∷ hs) few (suc i) row at =
+    let there = rows_at s (n + 1) hs (All-tail (λ (x : HostRow). length x.config.processes ≤ 64) h hs few) i row at in
     let place : (n + 1) + i ≡ n + suc i = omega arith in
     subst (λ (k : ℕ). IsRowAt k row) place there
 
@@ -78,20 +66,19 @@ slice_within (y ∷ ys) zero x at = omega arith
 slice_within (y ∷ ys) (suc i) x at = let rest = slice_within ys i x at in omega (arith, rest)
 
 -- each host has a name in the book
-length-book : (run : Run) (net : Net) → IsNetOf run net → length net.known.book ≡ length run.plan.rows
-length-book run net net_is = ap (λ (b : List Ip). length b) net_is.book ∙ length-map (λ (h : HostRow). h.address) run.plan.rows
+length-book : (run : Run) → length (net_of run).known.book ≡ length run.plan.rows
+length-book run = length-map (λ (h : HostRow). h.address) run.plan.rows
 
-pub rows_fit : (run : Run) (net : Net) (rows : List Row) → KeepsToLimits run.plan → AreRowsOf run rows → IsNetOf run net → AreHostRows net rows
-rows_fit run net rows within same net_is =
+rows_fit : (run : Run) → KeepsToLimits run.plan → AreHostRows (net_of run) (rows_of run)
+rows_fit run within =
     let hs : List HostRow = run.plan.rows in
-    let count : length rows ≡ length net.known.book =
-    sym (length-map said_host rows) ∙ ap (λ (xs : List Host). length xs) same ∙ length-hosts run.plan.settings 0 hs ∙ sym (length-book run net net_is) in
-    let at : (i : ℕ) (row : Row) → slice_get rows i ≡ Some row → IsRowAt i row = λ i row is. subst (λ (k : ℕ). IsRowAt k row) (let e : 0 + i ≡ i = omega arith in e) (rows_at run.plan.settings 0 hs rows same within.processes i row is) in
+    let count : length (rows_of run) ≡ length (net_of run).known.book = length-rows run.plan.settings 0 hs ∙ sym (length-book run) in
+    let at : (i : ℕ) (row : Row) → slice_get (rows_of run) i ≡ Some row → IsRowAt i row = λ i row is. subst (λ (k : ℕ). IsRowAt k row) (let e : 0 + i ≡ i = omega arith in e) (rows_at run.plan.settings 0 hs within.processes i row is) in
     record {
       count = count;
       places = λ i row is. (at i row is).number_is;
       fit = λ i row is. record {
-        within = (let here = slice_within rows i row is in let number = (at i row is).number_is in omega (arith, here, count, number));
+        within = (let here = slice_within (rows_of run) i row is in let number = (at i row is).number_is in omega (arith, here, count, number));
         few = (at i row is).few;
       };
     }
@@ -114,20 +101,20 @@ route_costs nodes routes i j from to route None from_is to_is kept is = absurd (
 route_costs nodes routes i j from to route (Some cost) from_is to_is kept is =
     record { from = from; to = to; cost = cost; from_is = from_is; to_is = to_is; cost_is = kept; route_is = (let e : Some (told cost) ≡ Some route = is in cc) }
 
-route_leads : (net : Net) (i j from : ℕ) (route : Time × ℕ) (b : Option ℕ) → slice_get net.nodes.items i ≡ Some from → slice_get net.nodes.items j ≡ b
-    → option_and_then (λ (to : ℕ). option_map told (route_in net.routes from to)) b ≡ Some route → IsRouteOf net.nodes.items net.routes i j route
+route_leads : (net : Net) (i j from : ℕ) (route : Time × ℕ) (b : Option ℕ) → slice_get net.nodes i ≡ Some from → slice_get net.nodes j ≡ b
+    → option_and_then (λ (to : ℕ). option_map told (route_in net.routes from to)) b ≡ Some route → IsRouteOf net.nodes net.routes i j route
 route_leads net i j from route None from_is at is = absurd (cc)
-route_leads net i j from route (Some to) from_is at is = route_costs net.nodes.items net.routes i j from to route (route_in net.routes from to) from_is at refl is
+route_leads net i j from route (Some to) from_is at is = route_costs net.nodes net.routes i j from to route (route_in net.routes from to) from_is at refl is
 
-route_begins : (net : Net) (i j : ℕ) (route : Time × ℕ) (a : Option ℕ) → slice_get net.nodes.items i ≡ a
-    → option_and_then (λ (from : ℕ). option_and_then (λ (to : ℕ). option_map told (route_in net.routes from to)) (slice_get net.nodes.items j)) a ≡ Some route
-    → IsRouteOf net.nodes.items net.routes i j route
+route_begins : (net : Net) (i j : ℕ) (route : Time × ℕ) (a : Option ℕ) → slice_get net.nodes i ≡ a
+    → option_and_then (λ (from : ℕ). option_and_then (λ (to : ℕ). option_map told (route_in net.routes from to)) (slice_get net.nodes j)) a ≡ Some route
+    → IsRouteOf net.nodes net.routes i j route
 route_begins net i j route None at is = absurd (cc)
-route_begins net i j route (Some from) at is = route_leads net i j from route (slice_get net.nodes.items j) at refl is
+route_begins net i j route (Some from) at is = route_leads net i j from route (slice_get net.nodes j) at refl is
 
-route_found : (net : Net) (i j : ℕ) (route : Time × ℕ) → route_from net i j ≡ Some route → IsRouteOf net.nodes.items net.routes i j route
+route_found : (net : Net) (i j : ℕ) (route : Time × ℕ) → route_from net i j ≡ Some route → IsRouteOf net.nodes net.routes i j route
 unfolding route_from
-route_found net i j route is = route_begins net i j route (slice_get net.nodes.items i) refl is
+route_found net i j route is = route_begins net i j route (slice_get net.nodes i) refl is
 
 is_at : (xs : List ℕ) (i x : ℕ) → slice_get xs i ≡ Some x → IsAt xs i x
 is_at xs i x at = record { within = slice_within xs i x at; is = get_or_from_slice_get xs i x 0 at }
@@ -161,33 +148,35 @@ is_short : (lookahead : Option Time) → IsShort (nanos_of (cut_lookahead lookah
 is_short None = tt
 is_short (Some time) = omega arith
 
-pub rounds_fit : (run : Run) (net : Net) → KeepsToLimits run.plan → IsRouted run.plan → IsNetOf run net → HasRounds net (nanos_of (cut_lookahead run.plan.lookahead))
-rounds_fit run net within routed net_is =
-    let book = length-book run net net_is in
+rounds_fit : (run : Run) → KeepsToLimits run.plan → IsRouted run.plan → HasRounds (net_of run) (nanos_of (cut_lookahead run.plan.lookahead))
+rounds_fit run within routed =
+    let book = length-book run in
     record {
-      stop = (let same_stop = ap (λ t. t.nanos) net_is.stop in let early = within.stop.1 in omega (arith, same_stop, early));
+      stop = (let early = within.stop.1 in omega (arith, early));
       some = (let some = within.some in omega (arith, book, some));
       few = (let few = within.few in omega (arith, book, few));
       routes = λ i j latency reliability others is.
-          (let route = route_found net i j (latency, reliability) is in
-          latency_is (nodes_of run.plan.rows) run.plan.routes run.plan.lookahead i j latency reliability routed.lookahead others
-          (subst (λ (r : Routes). IsRouteOf (nodes_of run.plan.rows) r i j (latency, reliability)) net_is.routes
-          (subst (λ (ns : List ℕ). IsRouteOf ns net.routes i j (latency, reliability)) net_is.nodes route)));
+          latency_is (nodes_of run.plan.rows) run.plan.routes run.plan.lookahead i j latency reliability routed.lookahead others (route_found (net_of run) i j (latency, reliability) is);
       short = is_short run.plan.lookahead;
       ahead = is_ahead (nodes_of run.plan.rows) run.plan.routes run.plan.lookahead routed.lookahead routed.later;
     }
 
 -- ---- names
 
-names_said : (rows : List Row) → map (λ (h : Host). h.name) (map said_host rows) ≡ map (λ (row : Row). row.name) rows
-names_said [] = refl
-names_said (row ∷ rows) = ap (λ (names : List (List ℕ)). row.name ∷ names) (names_said rows)
-
-names_from : (s : Settings) (n : ℕ) (hs : List HostRow) → map (λ (h : Host). h.name) (hosts_from s n hs) ≡ map (λ (h : HostRow). h.config.name) hs
+names_from : (s : Settings) (n : ℕ) (hs : List HostRow) → map (λ (row : Row). row.name) (rows_from s n hs) ≡ map (λ (h : HostRow). h.config.name) hs
 names_from s n [] = refl
 names_from s n (h ∷ hs) = ap (λ (names : List (List ℕ)). h.config.name ∷ names) (names_from s (n + 1) hs)
 
 -- no two rows have one name
-pub names_fit : (run : Run) (rows : List Row) → AreRowsApart run.plan → AreRowsOf run rows → AreApart (map (λ (row : Row). row.name) rows)
-names_fit run rows apart same =
-    subst AreApart (sym (sym (names_said rows) ∙ ap (map (λ (h : Host). h.name)) same ∙ names_from run.plan.settings 0 run.plan.rows)) apart
+names_fit : (run : Run) → AreRowsApart run.plan → AreApart (map (λ (row : Row). row.name) (rows_of run))
+names_fit run apart = subst AreApart (sym (names_from run.plan.settings 0 run.plan.rows)) apart
+
+-- ---- the whole
+
+pub opened_fits : (run : Run) (opened : Opened) → KeepsToLimits run.plan → IsRouted run.plan → AreRowsApart run.plan → Opens run opened → HasOpened opened
+opened_fits run opened within routed apart opens = record {
+  rows = subst (λ (net : Net). AreHostRows net opened.rows.items) (sym opens.net) (subst (AreHostRows (net_of run)) (sym opens.rows) (rows_fit run within));
+  rounds = subst (λ (net : Net). HasRounds net (nanos_of opened.lookahead)) (sym opens.net)
+      (subst (λ (l : Option Time). HasRounds (net_of run) (nanos_of l)) (sym opens.lookahead) (rounds_fit run within routed));
+  names = subst (λ (rows : List Row). AreApart (map (λ (row : Row). row.name) rows)) (sym opens.rows) (names_fit run apart);
+}

@@ -2,6 +2,8 @@
 use Rattle.std.proofs.Common.{◌≡◌, ℕ, Bool, false, List, Option, Some, None, Result, Ok, Err, IfSome, refl, sym, ap, subst, ◌∙◌, inl, inr}
 use Rattle.sim_base.specs.Sink.{Content, begun}
 use Rattle.host_state.specs.World.{World, IsResult, opening_world}
+use Rattle.host_state.specs.declared.net.Net.{Net}
+use Rattle.host_state.specs.declared.row.Row.{Row}
 use Rattle.net_run.specs.Parts.{Between}
 use Rattle.host_state.specs.Files.{Put}
 use Rattle.net_run.specs.Pieces.{with_pieces}
@@ -10,7 +12,7 @@ use Rattle.run_plan.specs.declared.fault.Fault.TheVariants.{Exists}
 use Rattle.run_plan.specs.declared.planned.Run.{Run}
 use Rattle.shadow_top.specs.Contract.{RunsOpened, RunsPlan, BeginsSo}
 use Rattle.shadow_top.specs.Input.{directory_of}
-use Rattle.shadow_top.specs.Opened.{Opens}
+use Rattle.shadow_top.specs.Opened.{Opens, rows_of}
 use Rattle.shadow_top.specs.Shown.{IsRunTo, pieces_of}
 use Rattle.shadow_top.specs.declared.opened.Opened.{Opened}
 use Rattle.shadow_top.specs.declared.stop.Stop.{Stop}
@@ -18,7 +20,8 @@ use Rattle.shadow_top.specs.declared.stop.Stop.TheVariants.{Refused, ReadFailed,
 
 -- the result of an opened run is the run's
 run_to : (run : Run) (opened : Opened) (w : World) → Opens run opened → IsResult opened.net w (opening_world opened.rows.items) → IsRunTo run w
-run_to run opened w opens result = record { rows = opened.rows.items; net = opened.net; rows_are = opens.rows; net_is = opens.net; result = result }
+run_to run opened w opens result =
+    subst (λ (net : Net). IsResult net w (opening_world (rows_of run))) opens.net (subst (λ (rows : List Row). IsResult opened.net w (opening_world rows)) opens.rows result)
 
 -- its pieces are the run's
 same_pieces : (run : Run) (opened : Opened) (w : World) → Opens run opened → pieces opened.notes opened.is_self_load w ≡ pieces_of run w

@@ -1,5 +1,5 @@
 -- The rounds of a run, and what is put meanwhile.
-use Rattle.std.proofs.Common.{◌≡◌, ℕ, ◌≤◌, ⊎_elim, List, All, Option, Some, option_map, Err, Result, length, map, sym, ap, subst, refl, ◌∙◌}
+use Rattle.std.proofs.Common.{◌≡◌, ℕ, ◌≤◌, ⊎_elim, List, All, Option, option_map, Err, Result, length, sym, ap, subst, refl, ◌∙◌}
 use Rattle.std.specs.Prelude.{flat_map}
 use Rattle.std.proofs.lemmas.List.{length-map}
 use Rattle.sim_base.specs.Sink.{Content}
@@ -9,7 +9,7 @@ use Rattle.sim_base.specs.declared.outside.sink.WriteError.TheVariants as write
 use Rattle.host_state.specs.Files.{Put}
 use Rattle.host_state.specs.HostRecord.{HostRecord}
 use Rattle.host_state.specs.Listed.{HostNames, listed, names_in, names_of}
-use Rattle.host_state.specs.World.{World, IsResult}
+use Rattle.host_state.specs.World.{World}
 use Rattle.host_state.proofs.Gaining.{names-kept}
 use Rattle.net_run.specs.Grown.{IsUnderway}
 use Rattle.net_run.specs.Pieces.{with_pieces, PutsFront}

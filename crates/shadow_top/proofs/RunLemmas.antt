@@ -6,7 +6,7 @@ use Rattle.sim_base.specs.declared.outside.sink.WriteError.TheVariants as write
 use Rattle.host_state.specs.World.{World, IsResult, opening_world}
 use Rattle.host_state.specs.declared.net.Net.{Net}
 use Rattle.host_state.specs.declared.row.Row.{Row}
-use Rattle.net_run.specs.Grown.{HaveOwnFiles, IsUnderway}
+use Rattle.net_run.specs.Grown.{IsUnderway}
 use Rattle.host_state.specs.Listed.{HostNames, HasIds, listed, names_in, names_of}
 use Rattle.net_run.specs.Parts.{Between}
 use Rattle.net_run.specs.Pieces.{with_pieces, PutsFront}
@@ -21,7 +21,7 @@ use Rattle.round_lookahead.proofs.WorldOpenings.{opened-between}
 use Rattle.round_lookahead.proofs.WorldSteps.{simulation, between-settled}
 use Rattle.run_plan.specs.Names.{AreApart}
 use Rattle.world_order.proofs.Results.{at_least_one}
-use Rattle.shadow_top.specs.Contract.{Reports, RunsNoted, PutsSome, RunsOpened}
+use Rattle.shadow_top.specs.Contract.{RunsNoted, PutsSome, RunsOpened}
 use Rattle.shadow_top.specs.Ending.{PutsEnd}
 use Rattle.shadow_top.specs.Opened.{HasOpened}
 use Rattle.shadow_top.specs.Rounds.{StandsAt, HasAllRounds, PutsInPart, PutsRounds}

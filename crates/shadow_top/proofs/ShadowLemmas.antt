@@ -19,13 +19,16 @@ use Rattle.run_plan.specs.declared.planned.Planned.TheVariants as plan
 use Rattle.run_plan.specs.declared.planned.Run.{Run}
 use Rattle.shd_config.specs.Shown.{shown}
 use Rattle.shd_config.specs.declared.config.Config.{Config}
-use Rattle.shadow_top.specs.Contract.{Shows, TellsReadFailed, ShowsPart, TellsPart, Runs, CarriesOut, RunsPlan, RunsInPart, ShowsConfig, TellsLine, Tells, read_failed_line}
-use Rattle.shadow_top.specs.Input.{Input, input, IsFirstFault, IsToShow, IsToRun, IsReached, IsPlanned, directory_of}
+use Rattle.pcap_text.specs.declared.capture.Capture.{Capture}
+use Rattle.shadow_top.specs.Captured.{AreLinesOf}
+use Rattle.shadow_top.specs.Contract.{Shows, TellsReadFailed, ShowsPart, TellsPart, Runs, CarriesOut, RunsPlan, RunsInPart, ShowsConfig, ListsFront, ListsCapture, TellsLine, Tells, read_failed_line}
+use Rattle.shadow_top.specs.Input.{Input, input, IsFirstFault, IsToShow, IsToRun, IsToList, IsReached, IsPlanned, directory_of}
 use Rattle.shadow_top.specs.Outcome.{Told, Outcome, showed, failed_reading, failed_writing, wanted_memory}
-use Rattle.shadow_top.specs.Shown.{IsShown, IsRunTo, pieces_of, refused, configured, ran}
+use Rattle.shadow_top.specs.Shown.{IsShown, IsRunTo, pieces_of, refused, configured, listed, ran}
 use Rattle.shadow_top.specs.Stop.{CountsSource, CountsSink, of_reading}
 use Rattle.shadow_top.specs.declared.stop.Stop.{Stop}
 use Rattle.shadow_top.specs.declared.stop.Stop.TheVariants.{Refused, ReadFailed, WriteFailed, NoMemory}
+use Rattle.shadow_top.proofs.OneShown.{one_shown}
 use Rattle.shadow_top.proofs.PartLemmas.{part-begun, part-line, part-text}
 
 -- ---- what is shown
@@ -36,9 +39,16 @@ refused_shown i old fault first = refused (record { fault = fault; first = first
 pub config_shown : (i : Input) (old : Content) (config : Config) → IsToShow i config → IsShown i old (add place.Out (shown config) old) 0
 config_shown i old config asked = configured (record { config = config; asked = asked; text = refl; status_is = refl })
 
+pub list_shown : (i : Input) (old : Content) (capture : Capture) (lines : List ℕ) → IsToList i capture → AreLinesOf capture.records lines → IsShown i old (add place.Out lines old) 0
+list_shown i old capture lines asked are = listed (record { capture = capture; asked = asked; lines = lines; lines_are = are; text = refl; status_is = refl })
+
 pub run_shown : (i : Input) (old : Content) (run : Run) (w : World) → IsToRun i run → IsRunTo run w
     → IsShown i old (with_pieces (pieces_of run w) (begun (directory_of run) old)) (status_of w)
 run_shown i old run w asked result = ran (record { run = run; asked = asked; world = w; result = result; content = refl; status_is = refl })
+
+-- nothing else is
+shows : (i : Input) (old whole : Content) (new : Option Content) (status : ℕ) → new ≡ Some whole → IsShown i old whole status → Shows i old new status
+shows i old whole new status is shown_is = record { whole = whole; new_is = is; shown = shown_is; only = λ other another also. one_shown i old other whole another status also shown_is }
 
 -- a front of the line of a refusal
 pub part_of_line : (i : Input) (old : Content) (fault : Fault) (new : Option Content) → IsFirstFault i fault → AddsFront place.Err (line_of fault) (Some old) new → ShowsPart i old new
@@ -51,6 +61,16 @@ pub part_of_config : (i : Input) (old : Content) (config : Config) (new : Option
 part_of_config i old config new asked front =
     let (now, now_is, part) = part-text old (shown config) new front in
     inr (record { now = now; whole = add place.Out (shown config) old; status = 0; new_is = now_is; shown = config_shown i old config asked; part = part })
+
+-- a front of the lines of a capture
+part_of_list : (i : Input) (old : Content) (capture : Capture) (new : Option Content) → IsToList i capture → ListsFront capture old new → ShowsPart i old new
+part_of_list i old capture new asked told =
+    ⊎_elim
+    (λ (same : new ≡ Some old). inl same)
+    (λ (some : (lines : List ℕ) × AreLinesOf capture.records lines × AddsFront place.Out lines (Some old) new).
+    let (now, now_is, part) = part-text old some.0 new some.2 in
+    inr (record { now = now; whole = add place.Out some.0 old; status = 0; new_is = now_is; shown = list_shown i old capture some.0 asked some.1; part = part }))
+    told
 
 -- a front of the pieces of a run, place by place
 pub part_of_pieces : (i : Input) (old : Content) (run : Run) (w : World) (new : Option Content) → IsToRun i run → IsRunTo run w
@@ -79,11 +99,8 @@ runs_stopped words (Some h) (Some c) read.NoMemory met = inl refl
 
 -- a configuration was shown
 shows_by : (i : Input) (c : Content) (new : Option Content) (config : Config) (r : Result ℕ Stop) → IsToShow i config → ShowsConfig config c new r → Runs i c new r
-shows_by i c new config (Ok status) asked (new_is, status_is) = record {
-  whole = add place.Out (shown config) c;
-  new_is = new_is;
-  shown = subst (IsShown i c (add place.Out (shown config) c)) (sym status_is) (config_shown i c config asked);
-}
+shows_by i c new config (Ok status) asked (new_is, status_is) =
+    shows i c (add place.Out (shown config) c) new status new_is (subst (IsShown i c (add place.Out (shown config) c)) (sym status_is) (config_shown i c config asked))
 shows_by i c new config (Err (Refused fault)) asked told = absurd told
 shows_by i c new config (Err (ReadFailed file)) asked told = absurd told
 shows_by i c new config (Err WriteFailed) asked front = part_of_config i c config new asked front
@@ -97,6 +114,23 @@ runs_shown words None old new config r asked told = tt
 runs_shown words (Some h) None new config r asked told = tt
 runs_shown words (Some h) (Some c) new config r asked told = shows_by (input words h c) c new config r asked told
 
+-- a capture was listed
+lists_by : (i : Input) (c : Content) (new : Option Content) (capture : Capture) (r : Result ℕ Stop) → IsToList i capture → ListsCapture capture c new r → Runs i c new r
+lists_by i c new capture (Ok status) asked (lines, are, new_is, status_is) =
+    shows i c (add place.Out lines c) new status new_is (subst (IsShown i c (add place.Out lines c)) (sym status_is) (list_shown i c capture lines asked are))
+lists_by i c new capture (Err (Refused fault)) asked told = absurd told
+lists_by i c new capture (Err (ReadFailed file)) asked told = absurd told
+lists_by i c new capture (Err WriteFailed) asked front = part_of_list i c capture new asked front
+lists_by i c new capture (Err NoMemory) asked front = part_of_list i c capture new asked front
+
+runs_listed : (words : List (List ℕ)) (held : Option Held) (old new : Option Content) (capture : Capture) (r : Result ℕ Stop)
+    → IfSome held (λ h. Meets (λ (p : Planned). p) (planned words h) (let r : Result Planned ReadStop = Ok (plan.Lists capture) in r))
+    → IfSome old (λ c. ListsCapture capture c new r)
+    → IfSome held (λ h. IfSome old (λ c. Runs (input words h c) c new r))
+runs_listed words None old new capture r asked told = tt
+runs_listed words (Some h) None new capture r asked told = tt
+runs_listed words (Some h) (Some c) new capture r asked told = lists_by (input words h c) c new capture r asked told
+
 -- a plan was run
 in_part : (i : Input) (c : Content) (new : Option Content) (run : Run) → IsPlanned i (Ok (plan.Runs run)) → i.there ≡ c.there → RunsInPart run c new → ShowsPart i c new
 in_part i c new run asked there told =
@@ -107,12 +141,10 @@ in_part i c new run asked there told =
     told
 
 runs_by : (i : Input) (c : Content) (new : Option Content) (run : Run) (r : Result ℕ Stop) → IsPlanned i (Ok (plan.Runs run)) → i.there ≡ c.there → RunsPlan run c new r → Runs i c new r
-runs_by i c new run (Ok status) asked there (free, w, result, new_is, status_is) = record {
-  whole = with_pieces (pieces_of run w) (begun (directory_of run) c);
-  new_is = new_is;
-  shown = subst (IsShown i c (with_pieces (pieces_of run w) (begun (directory_of run) c))) (sym status_is)
-      (run_shown i c run w (record { asked = asked; free = ap (λ (t : List ℕ → Bool). t (directory_of run)) there ∙ free }) result);
-}
+runs_by i c new run (Ok status) asked there (free, w, result, new_is, status_is) =
+    shows i c (with_pieces (pieces_of run w) (begun (directory_of run) c)) new status new_is
+    (subst (IsShown i c (with_pieces (pieces_of run w) (begun (directory_of run) c))) (sym status_is)
+    (run_shown i c run w (record { asked = asked; free = ap (λ (t : List ℕ → Bool). t (directory_of run)) there ∙ free }) result))
 runs_by i c new run (Err (Refused fault)) asked there (is_there, fault_is, new_is) =
     (inr (record { run = run; asked = asked; there = ap (λ (t : List ℕ → Bool). t (directory_of run)) there ∙ is_there; fault_is = fault_is }), new_is)
 runs_by i c new run (Err (ReadFailed file)) asked there told = absurd told
@@ -134,6 +166,7 @@ pub runs_carried : (words : List (List ℕ)) (held : Option Held) (old new : Opt
     → IfSome held (λ h. IfSome old (λ c. Runs (input words h c) c new r))
 runs_carried words held old new (plan.Shows config) r asked told = runs_shown words held old new config r asked told
 runs_carried words held old new (plan.Runs run) r asked told = runs_planned words held old new run r asked told
+runs_carried words held old new (plan.Lists capture) r asked told = runs_listed words held old new capture r asked told
 
 -- ---- the whole, by its status
 
@@ -155,11 +188,8 @@ refused_line words held old mid new r r' w m w' status fault did reads writes to
     (λ (all : (status ≡ 2) × (new ≡ option_map (add place.Err (line_of fault)) mid) × (w' ≡ m)).
     showed (omega arith) reads (all.2 ∙ writes)
     (told_map {P = λ i c. IsFirstFault i fault × (mid ≡ Some c)} {Q = λ i c. Shows i c new status} words held old
-    (λ i c h. record {
-      whole = add place.Err (line_of fault) c;
-      new_is = all.1 ∙ ap (option_map (add place.Err (line_of fault))) h.1;
-      shown = subst (IsShown i c (add place.Err (line_of fault) c)) (sym all.0) (refused_shown i c fault h.0);
-    }) did))
+    (λ i c h. shows i c (add place.Err (line_of fault) c) new status (all.1 ∙ ap (option_map (add place.Err (line_of fault))) h.1)
+    (subst (IsShown i c (add place.Err (line_of fault) c)) (sym all.0) (refused_shown i c fault h.0))) did))
     (λ (rest : ((status ≡ 4) × AddsFront place.Err (line_of fault) mid new × Rose m w') ⊎ ((status ≡ 5) × AddsFront place.Err (line_of fault) mid new × (w' ≡ m))).
     ⊎_elim
     (λ (failed : (status ≡ 4) × AddsFront place.Err (line_of fault) mid new × Rose m w').

@@ -13,19 +13,22 @@ use Rattle.run_plan.specs.declared.fault.Fault.TheVariants.{Exists}
 use Rattle.run_plan.specs.declared.planned.Planned.{Planned}
 use Rattle.run_plan.specs.declared.planned.Planned.TheVariants as plan
 use Rattle.run_plan.specs.declared.planned.Run.{Run}
+use Rattle.shadow_top.specs.Captured.{AreLinesOf}
 use Rattle.shadow_top.specs.Input.{Input, IsFirstFault, IsReached, directory_of}
 use Rattle.shadow_top.specs.Shown.{IsShown, IsRunTo, pieces_of}
 use Rattle.shadow_top.specs.declared.opened.Opened.{Opened}
 use Rattle.shd_config.specs.Shown.{shown}
 use Rattle.shd_config.specs.declared.config.Config.{Config}
+use Rattle.pcap_text.specs.declared.capture.Capture.{Capture}
 use Rattle.shadow_top.specs.declared.stop.Stop.{Stop}
 use Rattle.shadow_top.specs.declared.stop.Stop.TheVariants.{Refused, ReadFailed, WriteFailed, NoMemory}
 
--- what is shown stands there now, and this is its status
+-- what is shown stands there now, and this is its status: this and nothing else is shown of the input
 pub record Shows (input : Input) (old : Content) (new : Option Content) (status : ℕ) : Type 0 where
   pub whole : Content
   pub new_is : new ≡ Some whole
   pub shown : IsShown input old whole status
+  pub only : (other : Content) (another : ℕ) → IsShown input old other another → (other ≡ whole) × (another ≡ status)
 
 -- the line of a file that could not be read
 abbrev pub read_failed_line : List ℕ → List ℕ
@@ -58,7 +61,20 @@ pub record TellsPart (input : Input) (old : Content) (new : Option Content) : Ty
   pub reached : IsReached input file
   pub part : IsPart old now (add place.Err (read_failed_line file) old)
 
+-- a line was added to the error stream, and all else stands as it stood
+pub record AddsLine (old : Content) (new : Option Content) : Type 0 where
+  pub line : List ℕ
+  pub new_is : new ≡ Some (add place.Err line old)
+
 -- ---- the steps of the program
+
+-- before its line is told, a refusal or a read that failed leaves all as it stood
+abbrev pub Keeps : Content → Option Content → Result ℕ Stop → Type 0
+Keeps old new (Ok status) = Unit {0}
+Keeps old new (Err (Refused fault)) = new ≡ Some old
+Keeps old new (Err (ReadFailed file)) = new ≡ Some old
+Keeps old new (Err WriteFailed) = Unit {0}
+Keeps old new (Err NoMemory) = Unit {0}
 
 -- what a run leaves before its stop is told
 abbrev pub Runs : Input → Content → Option Content → Result ℕ Stop → Type 0
@@ -75,6 +91,18 @@ ShowsConfig config c new (Err (Refused fault)) = ⊥
 ShowsConfig config c new (Err (ReadFailed file)) = ⊥
 ShowsConfig config c new (Err WriteFailed) = AddsFront place.Out (shown config) (Some c) new
 ShowsConfig config c new (Err NoMemory) = AddsFront place.Out (shown config) (Some c) new
+
+-- nothing was put, or a front of the lines of a capture
+abbrev pub ListsFront : Capture → Content → Option Content → Type 0
+ListsFront capture c new = (new ≡ Some c) ⊎ ((lines : List ℕ) × AreLinesOf capture.records lines × AddsFront place.Out lines (Some c) new)
+
+-- what listing a capture leaves
+abbrev pub ListsCapture : Capture → Content → Option Content → Result ℕ Stop → Type 0
+ListsCapture capture c new (Ok status) = (lines : List ℕ) × AreLinesOf capture.records lines × (new ≡ Some (add place.Out lines c)) × (status ≡ 0)
+ListsCapture capture c new (Err (Refused fault)) = ⊥
+ListsCapture capture c new (Err (ReadFailed file)) = ⊥
+ListsCapture capture c new (Err WriteFailed) = ListsFront capture c new
+ListsCapture capture c new (Err NoMemory) = ListsFront capture c new
 
 -- what stands is what a world shows; or each place holds a front of that
 abbrev pub Reports : Bool → World → Content → Option Content → Result ℕ Stop → Type 0
@@ -123,6 +151,7 @@ RunsPlan run c new (Err NoMemory) = RunsInPart run c new
 abbrev pub CarriesOut : Planned → Content → Option Content → Result ℕ Stop → Type 0
 CarriesOut (plan.Shows config) c new r = ShowsConfig config c new r
 CarriesOut (plan.Runs run) c new r = RunsPlan run c new r
+CarriesOut (plan.Lists capture) c new r = ListsCapture capture c new r
 
 -- what making a data directory leaves
 abbrev pub BeginsSo : List ℕ → Option Content → Option Content → Result (Unit {0}) Stop → Type 0

@@ -8,9 +8,10 @@ use Rattle.run_plan.specs.declared.fault.Fault.TheVariants.{Exists}
 use Rattle.run_plan.specs.declared.fault.ReadStop.{ReadStop}
 use Rattle.run_plan.specs.declared.fault.ReadStop.TheVariants.{Refused, ReadFailed}
 use Rattle.run_plan.specs.declared.planned.Planned.{Planned}
-use Rattle.run_plan.specs.declared.planned.Planned.TheVariants.{Shows, Runs}
+use Rattle.run_plan.specs.declared.planned.Planned.TheVariants.{Shows, Runs, Lists}
 use Rattle.run_plan.specs.declared.planned.Run.{Run}
 use Rattle.shd_config.specs.declared.config.Config.{Config}
+use Rattle.pcap_text.specs.declared.capture.Capture.{Capture}
 
 -- its words, the files by name, and which directories are there
 pub record Input : Type 0 where
@@ -43,6 +44,10 @@ IsFirstFault i fault = IsPlanned i (Err (Refused fault)) ⊎ IsInTheWay i fault
 -- the input is accepted, and its configuration is shown
 abbrev pub IsToShow : Input → Config → Type 0
 IsToShow i config = IsPlanned i (Ok (Shows config))
+
+-- the input is accepted, and the records of its capture are listed
+abbrev pub IsToList : Input → Capture → Type 0
+IsToList i capture = IsPlanned i (Ok (Lists capture))
 
 -- the input is accepted, and run
 pub record IsToRun (i : Input) (run : Run) : Type 0 where

@@ -1,3 +1,4 @@
+pub mod Captured
 pub mod Contract
 pub mod Ending
 pub mod Input

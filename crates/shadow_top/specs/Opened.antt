@@ -1,8 +1,7 @@
--- The rows of hosts and the net that a run begins with.
+-- The rows of hosts and the net that a run begins with: what is planned says all of them.
 use Rattle.std.specs.Prelude.{◌≡◌, ℕ, ◌+◌, ◌^◌, List, [], ◌∷◌, ◌++◌, map, Option, Some, None, codes, min}
-use Rattle.sim_base.specs.declared.address.Ip.{Ip}
-use Rattle.sim_base.specs.declared.signal.Signal.{Signal}
 use Rattle.sim_base.specs.declared.time.Time.{Time}
+use Rattle.host_calls.specs.declared.parts.Known.{Known}
 use Rattle.host_state.specs.declared.net.Net.{Net}
 use Rattle.host_state.specs.declared.row.FinalState.{FinalState}
 use Rattle.host_state.specs.declared.row.FinalState.TheVariants as state
@@ -38,31 +37,8 @@ abbrev pub lane_rule : config_rule.QueueRule → QueueRule
 lane_rule rule.Fifo = lane.Fifo
 lane_rule rule.Codel = lane.Codel
 
--- what the row of a process says
-pub record Process : Type 0 where
-  pub path : List ℕ
-  pub image : ℕ
-  pub arguments : List (List ℕ)
-  pub environment : List (List ℕ)
-  pub start : Time
-  pub shutdown : Option Time
-  pub signal : Signal
-  pub expected : FinalState
-
-abbrev pub said_process : ProcessRow → Process
-said_process r = record {
-  path = r.path;
-  image = r.image;
-  arguments = r.arguments.items;
-  environment = r.environment.items;
-  start = r.start;
-  shutdown = r.shutdown;
-  signal = r.shutdown_signal;
-  expected = r.expected;
-}
-
 -- a process of a configuration, and its image by its place; its path is its first argument
-abbrev pub process_of : ProcessConfig → ℕ → Process
+abbrev pub process_of : ProcessConfig → ℕ → ProcessRow
 process_of c image = record {
   path = c.path;
   image = image;
@@ -70,68 +46,50 @@ process_of c image = record {
   environment = map variable_text c.environment;
   start = c.start_time;
   shutdown = c.shutdown_time;
-  signal = c.shutdown_signal;
+  shutdown_signal = c.shutdown_signal;
   expected = state_of c.expected_final_state;
 }
 
-abbrev pub processes_of : List ProcessConfig → List ℕ → List Process
+abbrev pub processes_of : List ProcessConfig → List ℕ → List ProcessRow
 processes_of (c ∷ cs) (image ∷ images) = process_of c image ∷ processes_of cs images
 processes_of _ _ = []
 
--- what the row of a host says
-pub record Host : Type 0 where
-  pub number : ℕ
-  pub name : List ℕ
-  pub address : Ip
-  pub up : ℕ
-  pub down : ℕ
-  pub queue : QueueRule
-  pub seed : ℕ
-  pub processes : List Process
-
-abbrev pub said_host : Row → Host
-said_host r = record {
-  number = r.host.index;
-  name = r.name;
-  address = r.address;
-  up = r.bandwidth_up;
-  down = r.bandwidth_down;
-  queue = r.router_queue;
-  seed = r.seed;
-  processes = map said_process r.processes.items;
-}
-
 -- a host of a plan, by its number
-abbrev pub host_of : Settings → ℕ → HostRow → Host
-host_of settings number h = record {
-  number = number;
+abbrev pub row_of : Settings → ℕ → HostRow → Row
+row_of settings number h = record {
+  host = record { index = number };
   name = h.config.name;
   address = h.address;
-  up = h.rates.up;
-  down = h.rates.down;
-  queue = lane_rule settings.router_queue;
+  bandwidth_up = h.rates.up;
+  bandwidth_down = h.rates.down;
+  router_queue = lane_rule settings.router_queue;
   seed = settings.seed;
   processes = processes_of h.config.processes h.images;
 }
 
-abbrev pub hosts_from : Settings → ℕ → List HostRow → List Host
-hosts_from settings number [] = []
-hosts_from settings number (h ∷ hs) = host_of settings number h ∷ hosts_from settings (number + 1) hs
+abbrev pub rows_from : Settings → ℕ → List HostRow → List Row
+rows_from settings number [] = []
+rows_from settings number (h ∷ hs) = row_of settings number h ∷ rows_from settings (number + 1) hs
 
 -- the rows of a run: its hosts by their numbers, in the order of the plan
-abbrev pub AreRowsOf : Run → List Row → Type 0
-AreRowsOf run rows = map said_host rows ≡ hosts_from run.plan.settings 0 run.plan.rows
+abbrev pub rows_of : Run → List Row
+rows_of run = rows_from run.plan.settings 0 run.plan.rows
+
+-- the book of all addresses, and the text of /etc/hosts
+abbrev pub known_of : List HostRow → List ℕ → Known
+known_of hosts text = record { book = map (λ (h : HostRow). h.address) hosts; hosts = text }
 
 -- what is lent to all hosts
-pub record IsNetOf (run : Run) (net : Net) : Type 0 where
-  pub routes : net.routes ≡ run.plan.routes
-  pub book : net.known.book ≡ map (λ (h : HostRow). h.address) run.plan.rows
-  pub hosts : net.known.hosts ≡ run.plan.hosts_text
-  pub nodes : net.nodes.items ≡ nodes_of run.plan.rows
-  pub bootstrap : net.bootstrap_end ≡ run.plan.settings.bootstrap_end_time
-  pub stop : net.stop ≡ run.plan.settings.stop_time
-  pub budget : net.budget ≡ run.budget
-  pub images : net.images.items ≡ run.plan.images
+abbrev pub net_of : Run → Net
+net_of run = record {
+  routes = run.plan.routes;
+  known = known_of run.plan.rows run.plan.hosts_text;
+  nodes = nodes_of run.plan.rows;
+  bootstrap_end = run.plan.settings.bootstrap_end_time;
+  stop = run.plan.settings.stop_time;
+  budget = run.budget;
+  images = run.plan.images;
+}
 
 -- the greatest lookahead, which is past every stop
 abbrev pub greatest_lookahead : ℕ
@@ -149,8 +107,8 @@ pub record Opens (run : Run) (opened : Opened) : Type 0 where
   pub self_load : opened.is_self_load ≡ run.is_self_load
   pub parallelism : opened.parallelism ≡ run.plan.settings.parallelism
   pub lookahead : opened.lookahead ≡ cut_lookahead run.plan.lookahead
-  pub rows : AreRowsOf run opened.rows.items
-  pub net : IsNetOf run opened.net
+  pub rows : opened.rows.items ≡ rows_of run
+  pub net : opened.net ≡ net_of run
 
 -- its rows are those of its net, which can be run by rounds, and no two hosts have one name
 pub record HasOpened (opened : Opened) : Type 0 where

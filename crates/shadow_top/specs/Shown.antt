@@ -2,8 +2,6 @@
 use Rattle.std.specs.Prelude.{◌≡◌, ℕ, List}
 use Rattle.sim_base.specs.Sink.{Content, add, begun}
 use Rattle.sim_base.specs.declared.outside.sink.Place.TheVariants as place
-use Rattle.host_state.specs.declared.net.Net.{Net}
-use Rattle.host_state.specs.declared.row.Row.{Row}
 use Rattle.host_state.specs.World.{World, IsResult, opening_world}
 use Rattle.host_state.specs.Files.{Put}
 use Rattle.net_run.specs.Pieces.{with_pieces}
@@ -11,10 +9,12 @@ use Rattle.net_run.specs.Shown.{pieces, status_of}
 use Rattle.run_plan.specs.Line.{line_of}
 use Rattle.run_plan.specs.declared.fault.Fault.{Fault}
 use Rattle.run_plan.specs.declared.planned.Run.{Run}
-use Rattle.shadow_top.specs.Input.{Input, IsFirstFault, IsToShow, IsToRun, directory_of}
-use Rattle.shadow_top.specs.Opened.{AreRowsOf, IsNetOf}
+use Rattle.shadow_top.specs.Captured.{AreLinesOf}
+use Rattle.shadow_top.specs.Input.{Input, IsFirstFault, IsToShow, IsToRun, IsToList, directory_of}
+use Rattle.shadow_top.specs.Opened.{rows_of, net_of}
 use Rattle.shd_config.specs.Shown.{shown}
 use Rattle.shd_config.specs.declared.config.Config.{Config}
+use Rattle.pcap_text.specs.declared.capture.Capture.{Capture}
 
 -- a refused input gets the line of its first fault on the error stream
 pub record IsRefused (i : Input) (old new : Content) (status : ℕ) : Type 0 where
@@ -30,13 +30,18 @@ pub record IsConfigShown (i : Input) (old new : Content) (status : ℕ) : Type 0
   pub text : new ≡ add place.Out (shown config) old
   pub status_is : status ≡ 0
 
+-- the lines of a capture that is to be listed are put on the output
+pub record IsCaptureListed (i : Input) (old new : Content) (status : ℕ) : Type 0 where
+  pub capture : Capture
+  pub asked : IsToList i capture
+  pub lines : List ℕ
+  pub lines_are : AreLinesOf capture.records lines
+  pub text : new ≡ add place.Out lines old
+  pub status_is : status ≡ 0
+
 -- the result of a run: the world that its hosts reach when no event is due before the stop
-pub record IsRunTo (run : Run) (w : World) : Type 0 where
-  pub rows : List Row
-  pub net : Net
-  pub rows_are : AreRowsOf run rows
-  pub net_is : IsNetOf run net
-  pub result : IsResult net w (opening_world rows)
+abbrev pub IsRunTo : Run → World → Type 0
+IsRunTo run w = IsResult (net_of run) w (opening_world (rows_of run))
 
 abbrev pub pieces_of : Run → World → List Put
 pieces_of run w = pieces run.plan.settings.notes run.is_self_load w
@@ -54,4 +59,5 @@ pub record IsRun (i : Input) (old new : Content) (status : ℕ) : Type 0 where
 pub data IsShown (i : Input) (old new : Content) (status : ℕ) : Type 0 where
   refused : IsRefused i old new status → IsShown i old new status
   configured : IsConfigShown i old new status → IsShown i old new status
+  listed : IsCaptureListed i old new status → IsShown i old new status
   ran : IsRun i old new status → IsShown i old new status

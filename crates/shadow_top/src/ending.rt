@@ -25,7 +25,7 @@ fn host_states(
 ) -> Result<Vec<State>, NoMemory>
     requires host { host < length world.now.tasks.items }
     requires few { count ≤ 2 ^ 32 }
-    ensures { IfOk result (λ states. (w : HostWorld) (h : HostRecord) → WorldStands world.now w → slice_get w.hosts host ≡ Some h → count ≡ length h.row.processes.items → TellsStates h states.items) }
+    ensures { IfOk result (λ states. (w : HostWorld) (h : HostRecord) → WorldStands world.now w → slice_get w.hosts host ≡ Some h → count ≡ length h.row.processes → TellsStates h states.items) }
 {
     let mut states = Vec::new(alloc);
     for process in 0..count {

@@ -1,7 +1,9 @@
 //! The simulator's top call.
 #![tactic(auto)]
 
+mod captured;
 mod ending;
+pub mod laws;
 mod opened;
 mod rounds;
 mod simulation;

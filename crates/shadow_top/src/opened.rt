@@ -6,10 +6,10 @@ ghost use Rattle.run_plan.specs.Limits.{KeepsToLimits};
 ghost use Rattle.run_plan.specs.Names.{AreRowsApart};
 ghost use Rattle.run_plan.specs.Plan.{nodes_of};
 ghost use Rattle.run_plan.specs.Routed.{IsRouted};
-ghost use Rattle.shadow_top.specs.Opened.{variable_text, state_of, lane_rule, said_process, process_of, processes_of, said_host, host_of, hosts_from, cut_lookahead, Opens, HasOpened};
+ghost use Rattle.shadow_top.specs.Opened.{variable_text, state_of, lane_rule, process_of, processes_of, row_of, rows_from, known_of, cut_lookahead, Opens, HasOpened};
 
 use host_calls::Known;
-use host_state::{FinalState, Net, ProcessRow, Row};
+use host_state::{ByteTexts, FinalState, Images, Net, Nodes, ProcessRow, ProcessRows, Row};
 use net_iface::QueueRule;
 use run_plan::{HostRow, Plan, Run, Settings};
 use shd_config::{ProcessConfig, Variable};
@@ -88,13 +88,13 @@ fn state_of(state: shd_config::FinalState) -> FinalState
 
 /// A process, and the place of its image.
 fn process_row(alloc: Global, process: &ProcessConfig, image: usize) -> Result<ProcessRow, NoMemory>
-    ensures { IfOk result (λ row. said_process row ≡ process_of process.now image) }
+    ensures { IfOk result (λ row. row ≡ process_of process.now image) }
 {
     Ok(ProcessRow {
         path: Name::from_str(alloc, process.path.as_str())?,
         image,
-        arguments: arguments_of(alloc, &process.path, process.args.as_slice())?,
-        environment: environment_of(alloc, process.environment.as_slice())?,
+        arguments: ByteTexts::from(arguments_of(alloc, &process.path, process.args.as_slice())?),
+        environment: ByteTexts::from(environment_of(alloc, process.environment.as_slice())?),
         start: process.start_time,
         shutdown: process.shutdown_time,
         shutdown_signal: process.shutdown_signal,
@@ -107,7 +107,7 @@ fn process_rows(
     processes: &[ProcessConfig],
     images: &[usize],
 ) -> Result<Vec<ProcessRow>, NoMemory>
-    ensures { IfOk result (λ rows. map said_process rows.items ≡ processes_of processes.now images.now) }
+    ensures { IfOk result (λ rows. rows.items ≡ processes_of processes.now images.now) }
 {
     let mut rows = Vec::new(alloc);
     for (place, process) in processes.iter().enumerate() {
@@ -130,9 +130,10 @@ fn lane_rule(rule: shd_config::QueueRule) -> QueueRule
 
 /// The host with a number.
 fn row_of(alloc: Global, settings: &Settings, number: u32, host: &HostRow) -> Result<Row, NoMemory>
-    ensures { IfOk result (λ row. said_host row ≡ host_of settings.now number host.now) }
+    ensures { IfOk result (λ row. row ≡ row_of settings.now number host.now) }
 {
     let config = &host.config;
+    let processes = process_rows(alloc, config.processes.as_slice(), host.images.as_slice())?;
     Ok(Row {
         host: HostId { index: number },
         name: Name::from_str(alloc, config.name.as_str())?,
@@ -141,14 +142,14 @@ fn row_of(alloc: Global, settings: &Settings, number: u32, host: &HostRow) -> Re
         bandwidth_down: host.rates.down,
         router_queue: lane_rule(settings.router_queue),
         seed: settings.seed,
-        processes: process_rows(alloc, config.processes.as_slice(), host.images.as_slice())?,
+        processes: ProcessRows::from(processes),
     })
 }
 
 /// The hosts in their order.
 fn rows_of(alloc: Global, settings: &Settings, hosts: &[HostRow]) -> Result<Vec<Row>, NoMemory>
     requires { length hosts.now ≤ most_hosts }
-    ensures { IfOk result (λ rows. map said_host rows.items ≡ hosts_from settings.now 0 hosts.now) }
+    ensures { IfOk result (λ rows. rows.items ≡ rows_from settings.now 0 hosts.now) }
 {
     let mut rows = Vec::new(alloc);
     for (number, host) in hosts.iter().enumerate() {
@@ -180,8 +181,7 @@ fn nodes_of(alloc: Global, hosts: &[HostRow]) -> Result<Vec<u32>, NoMemory>
 /// The book of all addresses, and the text of `/etc/hosts`.
 fn known_of(alloc: Global, hosts: &[HostRow], text: Text) -> Result<Known, NoMemory>
     requires { length hosts.now ≤ most_hosts }
-    ensures book { IfOk result (λ k. k.book ≡ map (λ h. h.address) hosts.now) }
-    ensures hosts { IfOk result (λ k. k.hosts ≡ text) }
+    ensures { IfOk result (λ k. k ≡ known_of hosts.now text) }
 {
     let addresses = addresses_of(alloc, hosts)?;
     Ok(Known {
@@ -236,11 +236,11 @@ pub fn open(alloc: Global, run: Run) -> Result<Opened, NoMemory>
     let net = Net {
         routes,
         known,
-        nodes,
+        nodes: Nodes::from(nodes),
         bootstrap_end: bootstrap_end_time,
         stop: stop_time,
         budget: u64::from(budget),
-        images: images.into_vec(),
+        images: Images::from(images.into_vec()),
     };
     Ok(Opened {
         directory: data_directory,

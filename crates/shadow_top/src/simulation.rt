@@ -9,11 +9,12 @@ ghost use Rattle.run_plan.specs.Limits.{KeepsToLimits, AreLimitsKept};
 ghost use Rattle.run_plan.specs.Line.{line_of};
 ghost use Rattle.run_plan.specs.Names.{AreRowsApart, AreNamesApart};
 ghost use Rattle.run_plan.specs.Routed.{IsRouted, IsRoutedIfRun};
-ghost use Rattle.shadow_top.specs.Contract.{Shows, TellsReadFailed, ShowsPart, TellsPart, Runs, CarriesOut, RunsPlan, ShowsConfig, RunsOpened, RunsNoted, TellsLine, Tells, BeginsSo, read_failed_line};
+ghost use Rattle.shadow_top.specs.Contract.{AddsLine, Keeps, Shows, TellsReadFailed, ShowsPart, TellsPart, Runs, CarriesOut, RunsPlan, ShowsConfig, RunsOpened, RunsNoted, TellsLine, Tells, BeginsSo, read_failed_line};
 ghost use Rattle.shadow_top.specs.Input.{input};
 ghost use Rattle.shadow_top.specs.Outcome.{Outcome};
 ghost use Rattle.shadow_top.specs.Stop.{CountsSource, CountsSink, NoReadFailed};
 
+use crate::captured::list_capture;
 use crate::ending::put_end;
 use crate::opened::{Opened, open};
 use crate::rounds::put_rounds;
@@ -216,6 +217,7 @@ fn carry_out<K: Sink, G: Gate + Sync, R: Threads + Sync + AllocGlobal>(
     match planned {
         Planned::Shows(config) => show_config(rt.alloc(), sink, &config),
         Planned::Runs(run) => run_plan(rt, cores, gate, run, sink),
+        Planned::Lists(capture) => list_capture(rt.alloc(), sink, &capture),
     }
 }
 
@@ -230,6 +232,7 @@ fn run<S: Source, K: Sink, G: Gate + Sync, R: Threads + Sync + AllocGlobal>(
 ) -> Result<u8, Stop>
     ensures told { IfSome (S.held source.old) (λ held. IfSome (K.content sink.old)
         (λ c. Runs (input (map string_bytes words.now) held c) c (K.content sink.new) result)) }
+    ensures kept { IfSome (K.content sink.old) (λ c. Keeps c (K.content sink.new) result) }
     ensures status { IfOk result (λ status. status ≤ 1) }
     ensures reads { CountsSource result (S.faults source.old) (S.faults source.new) }
     ensures writes { CountsSink result (K.faults sink.old) (K.faults sink.new) }
@@ -249,8 +252,9 @@ fn run_and_tell<S: Source, K: Sink, G: Gate + Sync, R: Threads + Sync + AllocGlo
     source: &mut S,
     sink: &mut K,
 ) -> u8
-    ensures { Outcome (map string_bytes words.now) (S.held source.old) (K.content sink.old) (K.content sink.new)
+    ensures outcome { Outcome (map string_bytes words.now) (S.held source.old) (K.content sink.old) (K.content sink.new)
         (S.faults source.old) (S.faults source.new) (K.faults sink.old) (K.faults sink.new) result }
+    ensures untouched { IfSome (K.content sink.old) (λ c. 2 ≤ result → result ≤ 3 → AddsLine c (K.content sink.new)) }
 {
     match run(rt, cores, gate, words, source, sink) {
         Ok(status) => status,
@@ -289,6 +293,9 @@ pub fn shadow<S: Source, K: Sink, G: Gate + Sync, R: Threads + Sync + AllocGloba
     ensures read_failed { result ≡ 3 → Rose (S.faults source.old) (S.faults source.new) }
     ensures told_read_failed { IfSome (S.held source.old) (λ held. IfSome (K.content sink.old)
         (λ c. result ≡ 3 → TellsReadFailed (input (map string_bytes words.now) held c) c (K.content sink.new))) }
+
+    // After 2 and 3 a line was added, and all else stands as it stood, whatever the source tells of its files.
+    ensures untouched { IfSome (K.content sink.old) (λ c. 2 ≤ result → result ≤ 3 → AddsLine c (K.content sink.new)) }
 
     // 4: a write failed.
     ensures write_failed { result ≡ 4 → Rose (K.faults sink.old) (K.faults sink.new) }

@@ -47,14 +47,14 @@ loses_by false end xs k new none = loses_push end xs new none
 pub loses_put : {A : Type 0} (end : A → Option Addr) (xs : List A) (k : ℕ) (new : A) → end new ≡ None → Loses end xs (put_at k new xs)
 loses_put end xs k new none = loses_by (nat_lt k (length xs)) end xs k new none
 
-other : {A : Type 0} (end : A → Option Addr) (xs : List A) (k : ℕ) (new : A) (j : ℕ) (a : Addr) → k ≢ j → end_at end (set xs k new) j ≡ Some a → end_at end xs j ≡ Some a
+pub other : {A : Type 0} (end : A → Option Addr) (xs : List A) (k : ℕ) (new : A) (j : ℕ) (a : Addr) → k ≢ j → end_at end (set xs k new) j ≡ Some a → end_at end xs j ≡ Some a
 other end [] k new j a ne e = e
 other end (x ∷ xs) zero new zero a ne e = absurd (ne refl)
 other end (x ∷ xs) zero new (suc j) a ne e = e
 other end (x ∷ xs) (suc k) new zero a ne e = e
 other end (x ∷ xs) (suc k) new (suc j) a ne e = other end xs k new j a (λ same. ne (ap suc same)) e
 
-here : {A : Type 0} (end : A → Option Addr) (xs : List A) (k : ℕ) (new : A) (a : Addr) → end_at end (set xs k new) k ≡ Some a → end new ≡ Some a
+pub here : {A : Type 0} (end : A → Option Addr) (xs : List A) (k : ℕ) (new : A) (a : Addr) → end_at end (set xs k new) k ≡ Some a → end new ≡ Some a
 here end [] k new a e = cc
 here end (x ∷ xs) zero new a e = e
 here end (x ∷ xs) (suc k) new a e = here end xs k new a e

@@ -26,9 +26,9 @@ use Rattle.host_sockets.specs.Moving.{sends_bytes, send_asked, takes_written, se
 use Rattle.host_sockets.specs.Names.{error_asked, takes_error}
 use Rattle.host_sockets.specs.Arriving.{hearer, listener_hears, hears_in, record_takes, heard_at, segment_at, segment_arrives, arrives_by}
 use Rattle.socket_laws.specs.Apart.{BoundApart}
-use Rattle.socket_laws.specs.Histories.{SocketsAct, left_by, sockets_acted, sockets_after, sockets_of, make_udp, bind_udp, connect_udp, send_udp, recv_udp, close_udp, make_tcp, bind_tcp, listen_tcp, accept_tcp, connect_tcp, connect_again, send_tcp, recv_tcp, shut_tcp, take_error, close_tcp, arrival, alarm}
+use Rattle.socket_laws.specs.Histories.{SocketsAct, left_by, sockets_acted, sockets_after, sockets_of, make_udp, bind_udp, connect_udp, send_udp, recv_udp, close_udp, make_tcp, bind_tcp, listen_tcp, accept_tcp, connect_tcp, connect_again, send_tcp, recv_tcp, shut_tcp, take_error, close_tcp, arrival, alarm, elsewhere}
 use Rattle.socket_laws.proofs.ApartTcp.{Kept, kept_all, apart_kept, AsBefore, acts_kept, put_kept, record_as, turned_anew, heard_as, closes_kept, alarm_kept, bound_after, listening_after, accepted_after}
-use Rattle.socket_laws.proofs.ApartUdp.{makes_kept, closes_udp_kept, datagram_kept, binds_apart, connects_apart, sends_apart, receives_apart}
+use Rattle.socket_laws.proofs.ApartUdp.{makes_kept, closes_udp_kept, datagram_kept, binds_apart, connects_apart, sends_apart, receives_kept}
 
 -- a row keeps what is bound where it is made, and changes nothing where it is refused
 abbrev RowKeeps : {A : Type 0} → Result (A × (SocketsRecord × Wanted)) Refusal → SocketsRecord → Type 0
@@ -131,28 +131,67 @@ arrives_kept : (load : Load) (now : Time) (p : Packet) (t : SocketsRecord) (w : 
 arrives_kept (Udp bytes) now p t w = datagram_kept p.from p.to bytes t
 arrives_kept (Tcp flags seq ack window text) now p t w = segments_kept now p t w
 
+-- acts that bind no socket
+abbrev pub BindsNone : SocketsAct → Type 0
+BindsNone (bind_udp k at) = ⊥
+BindsNone (connect_udp k to) = ⊥
+BindsNone (send_udp k bytes to) = ⊥
+BindsNone (bind_tcp k at) = ⊥
+BindsNone (listen_tcp k count) = ⊥
+BindsNone _ = Unit {0}
+
+pub by_binding : (P : SocketsAct → Type 0) → ((k : ℕ) (at : Addr) → P (bind_udp k at)) → ((k : ℕ) (to : Addr) → P (connect_udp k to)) → ((k : ℕ) (bytes : List ℕ) (to : Option Addr) → P (send_udp k bytes to)) → ((k : ℕ) (at : Addr) → P (bind_tcp k at)) → ((k : ℕ) (count : ℤ) → P (listen_tcp k count)) → ((act : SocketsAct) → BindsNone act → P act) → (act : SocketsAct) → P act
+by_binding P bu cu su bt lt others (bind_udp k at) = bu k at
+by_binding P bu cu su bt lt others (connect_udp k to) = cu k to
+by_binding P bu cu su bt lt others (send_udp k bytes to) = su k bytes to
+by_binding P bu cu su bt lt others (bind_tcp k at) = bt k at
+by_binding P bu cu su bt lt others (listen_tcp k count) = lt k count
+by_binding P bu cu su bt lt others make_udp = others make_udp tt
+by_binding P bu cu su bt lt others (recv_udp k count) = others (recv_udp k count) tt
+by_binding P bu cu su bt lt others (close_udp k) = others (close_udp k) tt
+by_binding P bu cu su bt lt others make_tcp = others make_tcp tt
+by_binding P bu cu su bt lt others (accept_tcp k) = others (accept_tcp k) tt
+by_binding P bu cu su bt lt others (connect_tcp k to) = others (connect_tcp k to) tt
+by_binding P bu cu su bt lt others (connect_again k) = others (connect_again k) tt
+by_binding P bu cu su bt lt others (send_tcp k bytes to quiet) = others (send_tcp k bytes to quiet) tt
+by_binding P bu cu su bt lt others (recv_tcp k count) = others (recv_tcp k count) tt
+by_binding P bu cu su bt lt others (shut_tcp k how) = others (shut_tcp k how) tt
+by_binding P bu cu su bt lt others (take_error k) = others (take_error k) tt
+by_binding P bu cu su bt lt others (close_tcp k) = others (close_tcp k) tt
+by_binding P bu cu su bt lt others (arrival p) = others (arrival p) tt
+by_binding P bu cu su bt lt others (alarm object serial) = others (alarm object serial) tt
+by_binding P bu cu su bt lt others (elsewhere w) = others (elsewhere w) tt
+
+pub acted_kept : (hosts : List Ip) (now : Time) (act : SocketsAct) (t : SocketsRecord) (w : Wanted) → BindsNone act → Kept t (sockets_acted hosts now act t w).0
+unfolding connects_taking connect_answers sends_taking receives_taking shuts_tcp takes_error
+acted_kept hosts now make_udp t w b = makes_kept t
+acted_kept hosts now (bind_udp k at) t w b = absurd b
+acted_kept hosts now (connect_udp k to) t w b = absurd b
+acted_kept hosts now (send_udp k bytes to) t w b = absurd b
+acted_kept hosts now (recv_udp k count) t w b = receives_kept k count t
+acted_kept hosts now (close_udp k) t w b = closes_udp_kept k t
+acted_kept hosts now make_tcp t w b = put_kept (fresh true) t refl
+acted_kept hosts now (bind_tcp k at) t w b = absurd b
+acted_kept hosts now (listen_tcp k count) t w b = absurd b
+acted_kept hosts now (accept_tcp k) t w b = accepts_row k t
+acted_kept hosts now (connect_tcp k to) t w b = left_kept (connects_taking hosts now k to t w) t w (taking_keeps now k (connects hosts now k to t w) t w (connects_keeps hosts now k to t w))
+acted_kept hosts now (connect_again k) t w b = left_kept (connect_answers now k t w) t w (taking_keeps now k (without_change t w (connect_waited k t)) t w (unchanged_keeps t w (connect_waited k t)))
+acted_kept hosts now (send_tcp k bytes to quiet) t w b = left_kept (sends_taking hosts now k bytes to quiet t w) t w (taking_keeps now k (sends_bytes hosts now k bytes to quiet t w) t w (sends_keeps hosts now k bytes to quiet t w))
+acted_kept hosts now (recv_tcp k count) t w b = left_kept (receives_taking now k count t w) t w (taking_keeps now k (receives_bytes now k count t w) t w (receives_keeps now k count t w))
+acted_kept hosts now (shut_tcp k how) t w b = left_kept (shuts_tcp now k how t w) t w (then_keeps (may_shut k t) tt _ t (acts_kept k (record_acts now k (λ r. shuts how (begin r))) (λ s v. record_as now k _ s v) t w))
+acted_kept hosts now (take_error k) t w b = left_kept (takes_error now k t w) t w (error_keeps now k t w (error_asked k t))
+acted_kept hosts now (close_tcp k) t w b = closes_kept now k t w
+acted_kept hosts now (arrival p) t w b = arrives_kept p.load now p t w
+acted_kept hosts now (alarm object serial) t w b = alarm_kept now object serial t w
+acted_kept hosts now (elsewhere after) t w b = kept_all t
+
 -- each act
 acted_apart : (hosts : List Ip) (now : Time) (act : SocketsAct) (t : SocketsRecord) (w : Wanted) → BoundApart t → BoundApart (sockets_acted hosts now act t w).0
-unfolding connects_taking connect_answers sends_taking receives_taking shuts_tcp takes_error
-acted_apart hosts now make_udp t w h = apart_kept t _ h (makes_kept t)
-acted_apart hosts now (bind_udp k at) t w h = binds_apart hosts k at t h
-acted_apart hosts now (connect_udp k to) t w h = connects_apart hosts k to t h
-acted_apart hosts now (send_udp k bytes to) t w h = sends_apart hosts k bytes to t h
-acted_apart hosts now (recv_udp k count) t w h = receives_apart k count t h
-acted_apart hosts now (close_udp k) t w h = apart_kept t _ h (closes_udp_kept k t)
-acted_apart hosts now make_tcp t w h = apart_kept t _ h (put_kept (fresh true) t refl)
-acted_apart hosts now (bind_tcp k at) t w h = binds_row k at t h
-acted_apart hosts now (listen_tcp k count) t w h = listens_row k count t h
-acted_apart hosts now (accept_tcp k) t w h = apart_kept t _ h (accepts_row k t)
-acted_apart hosts now (connect_tcp k to) t w h = apart_kept t _ h (left_kept (connects_taking hosts now k to t w) t w (taking_keeps now k (connects hosts now k to t w) t w (connects_keeps hosts now k to t w)))
-acted_apart hosts now (connect_again k) t w h = apart_kept t _ h (left_kept (connect_answers now k t w) t w (taking_keeps now k (without_change t w (connect_waited k t)) t w (unchanged_keeps t w (connect_waited k t))))
-acted_apart hosts now (send_tcp k bytes to quiet) t w h = apart_kept t _ h (left_kept (sends_taking hosts now k bytes to quiet t w) t w (taking_keeps now k (sends_bytes hosts now k bytes to quiet t w) t w (sends_keeps hosts now k bytes to quiet t w)))
-acted_apart hosts now (recv_tcp k count) t w h = apart_kept t _ h (left_kept (receives_taking now k count t w) t w (taking_keeps now k (receives_bytes now k count t w) t w (receives_keeps now k count t w)))
-acted_apart hosts now (shut_tcp k how) t w h = apart_kept t _ h (left_kept (shuts_tcp now k how t w) t w (then_keeps (may_shut k t) tt _ t (acts_kept k (record_acts now k (λ r. shuts how (begin r))) (λ s v. record_as now k _ s v) t w)))
-acted_apart hosts now (take_error k) t w h = apart_kept t _ h (left_kept (takes_error now k t w) t w (error_keeps now k t w (error_asked k t)))
-acted_apart hosts now (close_tcp k) t w h = apart_kept t _ h (closes_kept now k t w)
-acted_apart hosts now (arrival p) t w h = apart_kept t _ h (arrives_kept p.load now p t w)
-acted_apart hosts now (alarm object serial) t w h = apart_kept t _ h (alarm_kept now object serial t w)
+acted_apart hosts now act t w h =
+    by_binding (λ x. BoundApart (sockets_acted hosts now x t w).0)
+    (λ k at. binds_apart hosts k at t h) (λ k to. connects_apart hosts k to t h) (λ k bytes to. sends_apart hosts k bytes to t h)
+    (λ k at. binds_row k at t h) (λ k count. listens_row k count t h)
+    (λ x none. apart_kept t _ h (acted_kept hosts now x t w none)) act
 
 apart_after : (hosts : List Ip) (acts : List (Time × SocketsAct)) (t : SocketsRecord) (w : Wanted) → BoundApart t → BoundApart (sockets_after hosts acts (t, w)).0
 apart_after hosts [] t w h = h

@@ -28,16 +28,17 @@ use Rattle.host_sockets.specs.Udp.{local_in}
 use Rattle.socket_laws.specs.Apart.{AreApart, tcp_end, BoundApart}
 use Rattle.socket_laws.proofs.Apart.{Loses, apart_loses, loses_set, loses_put, IsFree, apart_set, first_of_ends, free_among, free_port-is_taken}
 
--- what is bound afterwards was bound so before
+-- the host has its address, and what is bound afterwards was bound so before
 pub record Kept (t t' : SocketsRecord) : Type 0 where
+  pub own : t'.own ≡ t.own
   pub tcp : Loses tcp_end t.tcp t'.tcp
   pub udp : Loses local_in t.udp t'.udp
 
 pub kept_all : (t : SocketsRecord) → Kept t t
-kept_all t = record { tcp = λ k a e. e; udp = λ k a e. e }
+kept_all t = record { own = refl; tcp = λ k a e. e; udp = λ k a e. e }
 
 pub kept_twice : (t u v : SocketsRecord) → Kept t u → Kept u v → Kept t v
-kept_twice t u v h k = record { tcp = λ n a e. h.tcp n a (k.tcp n a e); udp = λ n a e. h.udp n a (k.udp n a e) }
+kept_twice t u v h k = record { own = k.own ∙ h.own; tcp = λ n a e. h.tcp n a (k.tcp n a e); udp = λ n a e. h.udp n a (k.udp n a e) }
 
 pub apart_kept : (t t' : SocketsRecord) → BoundApart t → Kept t t' → BoundApart t'
 apart_kept t t' h k = record { tcp = apart_loses tcp_end t.tcp t'.tcp h.tcp k.tcp; udp = apart_loses local_in t.udp t'.udp h.udp k.udp }
@@ -48,20 +49,20 @@ AsBefore s s' = (a : Addr) → s'.bound ≡ Some a → s.bound ≡ Some a
 -- an act at a place
 acts_there : (k : ℕ) (act : TcpSocket → Wanted → Acted) → ((s : TcpSocket) (w : Wanted) → AsBefore s (act s w).socket) → (o : Option TcpSocket) (t : SocketsRecord) (w : Wanted) → slice_get t.tcp k ≡ o → Kept t (acts_in k act o t w).0
 acts_there k act keeps None t w at = kept_all t
-acts_there k act keeps (Some s) t w at = record { tcp = loses_set tcp_end t.tcp k s (act s w).socket at (keeps s w); udp = λ j a e. e }
+acts_there k act keeps (Some s) t w at = record { own = refl; tcp = loses_set tcp_end t.tcp k s (act s w).socket at (keeps s w); udp = λ j a e. e }
 
 pub acts_kept : (k : ℕ) (act : TcpSocket → Wanted → Acted) → ((s : TcpSocket) (w : Wanted) → AsBefore s (act s w).socket) → (t : SocketsRecord) (w : Wanted) → Kept t (acts_at k act t w).0
 acts_kept k act keeps t w = acts_there k act keeps (slice_get t.tcp k) t w refl
 
 changes_there : (k : ℕ) (f : TcpSocket → TcpSocket) → ((s : TcpSocket) → AsBefore s (f s)) → (o : Option TcpSocket) (t : SocketsRecord) → slice_get t.tcp k ≡ o → Kept t (changes_in k f o t)
 changes_there k f keeps None t at = kept_all t
-changes_there k f keeps (Some s) t at = record { tcp = loses_set tcp_end t.tcp k s (f s) at (keeps s); udp = λ j a e. e }
+changes_there k f keeps (Some s) t at = record { own = refl; tcp = loses_set tcp_end t.tcp k s (f s) at (keeps s); udp = λ j a e. e }
 
 pub changes_kept : (k : ℕ) (f : TcpSocket → TcpSocket) → ((s : TcpSocket) → AsBefore s (f s)) → (t : SocketsRecord) → Kept t (changes_at k f t)
 changes_kept k f keeps t = changes_there k f keeps (slice_get t.tcp k) t refl
 
 pub put_kept : (s : TcpSocket) (t : SocketsRecord) → s.bound ≡ None → Kept t (put_tcp s t)
-put_kept s t none = record { tcp = loses_put tcp_end t.tcp (tcp_place t) s none; udp = λ j a e. e }
+put_kept s t none = record { own = refl; tcp = loses_put tcp_end t.tcp (tcp_place t) s none; udp = λ j a e. e }
 
 -- what acts do to a socket
 starts_as : (now : Time) (k : ℕ) (timer : Option Time) (s : TcpSocket) (w : Wanted) → AsBefore s (starts now k timer s w).0

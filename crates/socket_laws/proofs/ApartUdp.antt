@@ -25,11 +25,11 @@ use Rattle.socket_laws.proofs.ApartTcp.{Kept, kept_all, bind_ok, then_ok}
 -- a socket that is made or closed is unbound
 pub makes_kept : (t : SocketsRecord) → Kept t (new_udp t).1
 unfolding new_udp
-makes_kept t = record { tcp = λ k a e. e; udp = loses_put local_in t.udp (udp_place t) (Some new_socket) refl }
+makes_kept t = record { own = refl; tcp = λ k a e. e; udp = loses_put local_in t.udp (udp_place t) (Some new_socket) refl }
 
 pub closes_udp_kept : (k : ℕ) (t : SocketsRecord) → Kept t (closes_udp k t)
 unfolding closes_udp
-closes_udp_kept k t = record { tcp = λ j a e. e; udp = loses_unbound local_in t.udp k None refl }
+closes_udp_kept k t = record { own = refl; tcp = λ j a e. e; udp = loses_unbound local_in t.udp k None refl }
 
 -- a datagram that arrives
 arrives_by : (room : Bool) (from : Addr) (bytes : List ℕ) (u : UdpState) (a : Addr) → (let after : Bool × UdpState = if room then (true, record u { waiting = u.waiting ++ record { from = from; bytes = bytes } ∷ [] }) else (false, u) in after.1.local) ≡ Some a → u.local ≡ Some a
@@ -42,7 +42,7 @@ slot_as from bytes (Some u) a e = arrives_by (nat_lt (length u.waiting) limit) f
 
 in_kept : (from : Addr) (bytes : List ℕ) (k : ℕ) (o : Option (Option UdpState)) (t : SocketsRecord) → slice_get t.udp k ≡ o → Kept t (datagram_in from bytes k o t).1
 in_kept from bytes k None t there = kept_all t
-in_kept from bytes k (Some slot) t there = record { tcp = λ j a e. e; udp = loses_set local_in t.udp k slot (slot_arrives from bytes slot).1 there (slot_as from bytes slot) }
+in_kept from bytes k (Some slot) t there = record { own = refl; tcp = λ j a e. e; udp = loses_set local_in t.udp k slot (slot_arrives from bytes slot).1 there (slot_as from bytes slot) }
 
 at_kept : (from : Addr) (bytes : List ℕ) (o : Option ℕ) (t : SocketsRecord) → Kept t (datagram_at from bytes o t).1
 at_kept from bytes None t = kept_all t
@@ -56,7 +56,7 @@ datagram_kept from to bytes t = at_kept from bytes (position (takes_in from to) 
 abbrev Fits : ℕ → SocketsRecord → UdpState → Type 0
 Fits k t u = AreApart local_in (set t.udp k (Some u))
 
-there_of : (o : Option (Option UdpState)) (u : UdpState) → socket_in o ≡ Some u → o ≡ Some (Some u)
+pub there_of : (o : Option (Option UdpState)) (u : UdpState) → socket_in o ≡ Some u → o ≡ Some (Some u)
 there_of None u e = cc
 there_of (Some slot) u e = ap (λ (x : Option UdpState). Some x) e
 
@@ -71,11 +71,11 @@ after_call k t act (Some u) h fits = after_act k t (act u) h (fits u refl)
 udp_apart : {A : Type 0} (k : ℕ) (t : SocketsRecord) (act : UdpState → Result (A × UdpState) Refusal) → BoundApart t → ((u : UdpState) → slice_get t.udp k ≡ Some (Some u) → (a : A) (u' : UdpState) → act u ≡ Ok (a, u') → Fits k t u') → BoundApart (left_by (udp_acts act k t) t)
 udp_apart k t act h fits = after_call k t act (udp_in k t) h (λ u e. fits u (there_of (slice_get t.udp k) u e))
 
-errno_ok : {A : Type 0} (r : Result A Errno) (a : A) → by_errno r ≡ Ok a → r ≡ Ok a
+pub errno_ok : {A : Type 0} (r : Result A Errno) (a : A) → by_errno r ≡ Ok a → r ≡ Ok a
 errno_ok (Ok x) a e = cc
 errno_ok (Err x) a e = cc
 
-state_ok : (r : Result UdpState Refusal) (a : Unit {0}) (u : UdpState) → only_state r ≡ Ok (a, u) → r ≡ Ok u
+pub state_ok : (r : Result UdpState Refusal) (a : Unit {0}) (u : UdpState) → only_state r ≡ Ok (a, u) → r ≡ Ok u
 state_ok (Ok x) a u e =
     let same : (tt, x) ≡ (a, u) = cc in
     ap (λ (y : Unit {0} × UdpState). let r : Result UdpState Refusal = Ok y.1 in r) same
@@ -134,7 +134,7 @@ connects_apart hosts k to t h =
     (λ u there a u' e. connect_fits hosts k to t u u' h there (errno_ok _ u' (state_ok _ a u' e)))
 
 -- send(2)
-send_uses : (around : Surroundings) (size : ℕ) (to : Option Addr) (u : UdpState) (x : Addr × Addr) → address_and_destination around size to u ≡ Ok x → address_to_use around u ≡ Ok x.0
+pub send_uses : (around : Surroundings) (size : ℕ) (to : Option Addr) (u : UdpState) (x : Addr × Addr) → address_and_destination around size to u ≡ Ok x → address_to_use around u ≡ Ok x.0
 send_uses around size to u x e =
     let first = then_ok (refuse_if (nat_lt max_datagram size) Emsgsize) _ x e in
     let second = bind_ok (or_refuse (or_else to u.peer) Edestaddrreq) (λ (destination : Addr). reach around destination u >> (address_to_use around u >>= λ (bound : Addr). Ok (bound, destination))) x first in
@@ -167,8 +167,15 @@ oldest_as u (x ∷ behind) count d u' e = back _ _ d u' e
     back : (q : Datagram) (v : UdpState) (p : Datagram) (w : UdpState) → (let r : Result (Datagram × UdpState) Refusal = Ok (q, v) in r ≡ Ok (p, w)) → v.local ≡ w.local
     back q v p w e = let same : (q, v) ≡ (p, w) = cc in ap (λ (y : Datagram × UdpState). y.1.local) same
 
-pub receives_apart : (k count : ℕ) (t : SocketsRecord) → BoundApart t → BoundApart (left_by (receives_udp k count t) t)
+kept_after : {A : Type 0} (k : ℕ) (t : SocketsRecord) (u : UdpState) (r : Result (A × UdpState) Refusal) → slice_get t.udp k ≡ Some (Some u) → ((a : A) (u' : UdpState) → r ≡ Ok (a, u') → u.local ≡ u'.local) → Kept t (left_by (r >>= λ (answer, after). Ok (answer, with_slot k (Some after) t)) t)
+kept_after k t u (Ok (a, u')) there same =
+    record { own = refl; tcp = λ j b e. e; udp = loses_set local_in t.udp k (Some u) (Some u') there (λ b e. same a u' refl ∙ e) }
+kept_after k t u (Err why) there same = kept_all t
+
+kept_call : {A : Type 0} (k : ℕ) (t : SocketsRecord) (act : UdpState → Result (A × UdpState) Refusal) (o : Option UdpState) → udp_in k t ≡ o → ((u : UdpState) (a : A) (u' : UdpState) → act u ≡ Ok (a, u') → u.local ≡ u'.local) → Kept t (left_by (acted_udp act k o t) t)
+kept_call k t act None e same = kept_all t
+kept_call k t act (Some u) e same = kept_after k t u (act u) (there_of (slice_get t.udp k) u e) (same u)
+
+pub receives_kept : (k count : ℕ) (t : SocketsRecord) → Kept t (left_by (receives_udp k count t) t)
 unfolding receives_udp
-receives_apart k count t h =
-    udp_apart k t (λ u. oldest_datagram u u.waiting count) h
-    (λ u there d u' e. apart_loses local_in t.udp (set t.udp k (Some u')) h.udp (loses_set local_in t.udp k (Some u) (Some u') there (λ a f. oldest_as u u.waiting count d u' e ∙ f)))
+receives_kept k count t = kept_call k t (λ u. oldest_datagram u u.waiting count) (udp_in k t) refl (λ u d u' e. oldest_as u u.waiting count d u' e)

@@ -35,7 +35,7 @@ use Rattle.host_sockets.specs.declared.tcp_sock.KeptTimer.{KeptTimer}
 use Rattle.host_sockets.specs.ListenerActs.{dropped, heard}
 use Rattle.host_sockets.specs.Arriving.{arrives_by, datagram_arrives, datagram_at, datagram_in, heard_at, hears_in, listener_hears, segment_arrives, segment_at, hearer, takes_in, word_drawn}
 use Rattle.host_sockets.specs.Alarms.{alarm_comes, kept_expires, kept_timer, place_of, socket_expires, timer_expires}
-use Rattle.socket_laws.specs.Histories.SocketsAct.{accept_tcp, alarm, arrival, bind_tcp, bind_udp, close_tcp, close_udp, connect_again, connect_tcp, connect_udp, listen_tcp, make_tcp, make_udp, recv_tcp, recv_udp, send_tcp, send_udp, shut_tcp, take_error}
+use Rattle.socket_laws.specs.Histories.SocketsAct.{accept_tcp, alarm, arrival, bind_tcp, bind_udp, close_tcp, close_udp, connect_again, connect_tcp, connect_udp, elsewhere, listen_tcp, make_tcp, make_udp, recv_tcp, recv_udp, send_tcp, send_udp, shut_tcp, take_error}
 use Rattle.sock_tcp.specs.connection.Timer.{timer_of}
 use Rattle.socket_laws.specs.Waiting.{after_accept}
 use Rattle.socket_laws.proofs.Queueing.{Keeps, keeps_hears, keeps_timer, keeps_accept, keeps_fresh, rests_accepted}
@@ -306,6 +306,7 @@ acted_keeps hosts now (take_error k) t w h = error_keeps now k t w h
 acted_keeps hosts now (close_tcp k) t w h = close_keeps now k t w h
 acted_keeps hosts now (arrival p) t w h = load_keeps p.load now p t w h
 acted_keeps hosts now (alarm object serial) t w h = alarm_keeps now object serial t w h
+acted_keeps hosts now (elsewhere after) t w h = h
 
 after_keeps : (hosts : List Ip) (acts : List (Time × SocketsAct)) (t : SocketsRecord) (w : Wanted) → Rests t → Rests (sockets_after hosts acts (t, w)).0
 after_keeps hosts [] t w h = h

@@ -26,7 +26,7 @@ use Rattle.host_sockets.specs.Arriving.{takes_in, datagram_in, datagram_at, data
 use Rattle.host_sockets.specs.Alarms.{kept_timer, kept_expires, timer_expires, socket_expires, place_of, alarm_comes}
 use Rattle.socket_laws.specs.Pairs.{kept_in, live_of, live_records}
 use Rattle.socket_laws.specs.Histories.{SocketsAct, sockets_acted, sockets_after, sockets_of}
-use Rattle.socket_laws.specs.Histories.SocketsAct.{make_udp, bind_udp, connect_udp, send_udp, recv_udp, close_udp, make_tcp, bind_tcp, listen_tcp, accept_tcp, connect_tcp, connect_again, send_tcp, recv_tcp, shut_tcp, take_error, close_tcp, arrival, alarm}
+use Rattle.socket_laws.specs.Histories.SocketsAct.{make_udp, bind_udp, connect_udp, send_udp, recv_udp, close_udp, make_tcp, bind_tcp, listen_tcp, accept_tcp, connect_tcp, connect_again, send_tcp, recv_tcp, shut_tcp, take_error, close_tcp, arrival, alarm, elsewhere}
 use Rattle.socket_laws.proofs.Staying.{packet_stays, expiry_stays}
 use Rattle.socket_laws.proofs.Sums.{none_sum_both, none_found, position_holds, at_most_one}
 use Rattle.socket_laws.proofs.RecordPairs.{record_lowers, count, Matches, hears_count, timer_count, heard_live, none_live, matching}
@@ -148,6 +148,7 @@ acted_single own other hosts now (take_error k) t w h = error_single own other n
 acted_single own other hosts now (close_tcp k) t w h = close_single own other now k t w h
 acted_single own other hosts now (arrival p) t w h = load_single own other p.load now p t w h
 acted_single own other hosts now (alarm object serial) t w h = alarm_single own other now object serial t w h
+acted_single own other hosts now (elsewhere after) t w h = h
 
 after_single : (own other : Addr) (hosts : List Ip) (acts : List (Time × SocketsAct)) (t : SocketsRecord) (w : Wanted) → Single own other t → Single own other (sockets_after hosts acts (t, w)).0
 after_single own other hosts [] t w h = h

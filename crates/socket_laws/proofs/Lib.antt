@@ -3,6 +3,7 @@ pub mod ApartTcp
 pub mod ApartUdp
 pub mod ApartActs
 pub mod ApartTakers
+pub mod HereActs
 pub mod ListenEnds
 pub mod ListenActs
 pub mod LivePairs

@@ -31,7 +31,7 @@ use Rattle.host_sockets.specs.Moving.{sends_bytes, send_asked, takes_written, se
 use Rattle.host_sockets.specs.Names.{error_asked, takes_error}
 use Rattle.host_sockets.specs.Arriving.{takes_in, datagram_in, datagram_at, datagram_arrives, hearer, listener_hears, record_takes, heard_at, segment_at, segment_arrives, arrives_by}
 use Rattle.socket_laws.specs.Apart.{end_of, AreApart, tcp_end}
-use Rattle.socket_laws.specs.Histories.{SocketsAct, left_by, sockets_acted, sockets_after, sockets_of, make_udp, bind_udp, connect_udp, send_udp, recv_udp, close_udp, make_tcp, bind_tcp, listen_tcp, accept_tcp, connect_tcp, connect_again, send_tcp, recv_tcp, shut_tcp, take_error, close_tcp, arrival, alarm}
+use Rattle.socket_laws.specs.Histories.{SocketsAct, left_by, sockets_acted, sockets_after, sockets_of, make_udp, bind_udp, connect_udp, send_udp, recv_udp, close_udp, make_tcp, bind_tcp, listen_tcp, accept_tcp, connect_tcp, connect_again, send_tcp, recv_tcp, shut_tcp, take_error, close_tcp, arrival, alarm, elsewhere}
 use Rattle.socket_laws.proofs.ApartActs.{bound_apart}
 use Rattle.socket_laws.proofs.ListenEnds.{AllListen, put_all, acts_all, record_bound, opens_bound, hears_bound, alarm_all, closes_all, bound_all, listens_all, accepted_all}
 
@@ -171,6 +171,7 @@ acted_listens hosts now (take_error k) t w h = left_listens (takes_error now k t
 acted_listens hosts now (close_tcp k) t w h = closes_all now k t w h
 acted_listens hosts now (arrival p) t w h = arrives_listen p.load now p t w h
 acted_listens hosts now (alarm object serial) t w h = alarm_all now object serial t w h
+acted_listens hosts now (elsewhere after) t w h = h
 
 listen_after : (hosts : List Ip) (acts : List (Time × SocketsAct)) (t : SocketsRecord) (w : Wanted) → Listening t → Listening (sockets_after hosts acts (t, w)).0
 listen_after hosts [] t w h = h

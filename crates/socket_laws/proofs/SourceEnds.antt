@@ -19,11 +19,11 @@ use Rattle.host_sockets.specs.Binding.{bound_to_use, end_to_use}
 use Rattle.host_sockets.specs.Connecting.{refuse_connected, reach_from, reach, source_end, connect_begins, connect_begun, connect_asked}
 
 -- what a chain of questions answers
-first_ok : {B : Type 0} (a : Result (Unit {0}) Refusal) (b : Result B Refusal) (x : B) → (a >> b) ≡ Ok x → a ≡ Ok tt
+pub first_ok : {B : Type 0} (a : Result (Unit {0}) Refusal) (b : Result B Refusal) (x : B) → (a >> b) ≡ Ok x → a ≡ Ok tt
 first_ok (Ok u) b x e = refl
 first_ok (Err why) b x e = cc
 
-next_ok : {B : Type 0} (a : Result (Unit {0}) Refusal) (b : Result B Refusal) (x : B) → (a >> b) ≡ Ok x → b ≡ Ok x
+pub next_ok : {B : Type 0} (a : Result (Unit {0}) Refusal) (b : Result B Refusal) (x : B) → (a >> b) ≡ Ok x → b ≡ Ok x
 next_ok (Ok u) b x e = e
 next_ok (Err why) b x e = cc
 
@@ -61,7 +61,7 @@ free_any : (o : Option ℕ) (bound : Addr) → or_refuse (option_map (at_port an
 free_any None bound e = cc
 free_any (Some port) bound e = let same : at_port any port ≡ bound = cc in ap (λ (x : Addr). is_same_ip x.ip any) (sym same)
 
-bound_is : (o : Option Addr) (ends : List Addr) (bound : Addr) → or_refuse (or_else o (at_free_port ends any)) (refusal.Errno Eaddrnotavail) ≡ Ok bound → (o ≡ Some bound) ⊎ (is_same_ip bound.ip any ≡ true)
+pub bound_is : (o : Option Addr) (ends : List Addr) (bound : Addr) → or_refuse (or_else o (at_free_port ends any)) (refusal.Errno Eaddrnotavail) ≡ Ok bound → (o ≡ Some bound) ⊎ (is_same_ip bound.ip any ≡ true)
 bound_is None ends bound e = inr (free_any (least_free_port ends) bound e)
 bound_is (Some at) ends bound e = let same : at ≡ bound = cc in inl (ap (λ (x : Addr). Some x) same)
 

@@ -1,7 +1,8 @@
 -- no two sockets that are bound meet: their ports differ, or their addresses do and neither is 0.0.0.0
-use Rattle.std.specs.Prelude.{◌≡◌, ◌≢◌, ℕ, false, List, slice_get, Option, Some, None}
+use Rattle.std.specs.Prelude.{◌≡◌, ◌≢◌, ℕ, true, false, List, slice_get, Option, Some, None}
+use Rattle.sim_base.specs.declared.address.Ip.{Ip}
 use Rattle.sim_base.specs.declared.address.Addr.{Addr}
-use Rattle.sim_base.specs.Addresses.{meets}
+use Rattle.sim_base.specs.Addresses.{is_local, meets}
 use Rattle.host_sockets.specs.TcpSocket.{TcpSocket}
 use Rattle.host_sockets.specs.Sockets.{SocketsRecord}
 use Rattle.host_sockets.specs.Udp.{local_in}
@@ -25,3 +26,11 @@ tcp_end s = s.bound
 pub record BoundApart (t : SocketsRecord) : Type 0 where
   pub tcp : AreApart tcp_end t.tcp
   pub udp : AreApart local_in t.udp
+
+-- what sockets are bound to is an address of the host: 0.0.0.0, 127.0.0.1 or its own
+abbrev pub AreHere : {A : Type 0} → (A → Option Addr) → Ip → List A → Type 0
+AreHere end own sockets = (k : ℕ) (a : Addr) → end_at end sockets k ≡ Some a → is_local own a.ip ≡ true
+
+pub record BoundHere (own : Ip) (t : SocketsRecord) : Type 0 where
+  pub tcp : AreHere tcp_end own t.tcp
+  pub udp : AreHere local_in own t.udp

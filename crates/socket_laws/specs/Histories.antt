@@ -19,7 +19,8 @@ use Rattle.host_sockets.specs.Closing.{closes_tcp}
 use Rattle.host_sockets.specs.Arriving.{arrives}
 use Rattle.host_sockets.specs.Alarms.{alarm_comes}
 
--- a process calls, a packet arrives, or an alarm comes
+-- a process calls, a packet arrives, or an alarm comes; or elsewhere words are drawn, alarms get serials, and what is wanted is
+-- done or joined by other wants, so that anything may be wanted then
 pub data SocketsAct : Type 0 where
   make_udp : SocketsAct
   bind_udp : (k : ℕ) (at : Addr) → SocketsAct
@@ -40,6 +41,7 @@ pub data SocketsAct : Type 0 where
   close_tcp : (k : ℕ) → SocketsAct
   arrival : (p : Packet) → SocketsAct
   alarm : (object : ObjectId) (serial : ℕ) → SocketsAct
+  elsewhere : (w : Wanted) → SocketsAct
 
 -- a call that is refused changes nothing
 abbrev pub left_by : {A S : Type 0} → Result (A × S) Refusal → S → S
@@ -70,6 +72,7 @@ sockets_acted hosts now (take_error k) t w = left_by (takes_error now k t w) (t,
 sockets_acted hosts now (close_tcp k) t w = closes_tcp now k t w
 sockets_acted hosts now (arrival p) t w = (arrives now p t w).1
 sockets_acted hosts now (alarm object serial) t w = alarm_comes now object serial t w
+sockets_acted hosts now (elsewhere after) t w = (t, after)
 
 -- acts, one behind another, each at its moment
 abbrev pub sockets_after : List Ip → List (Time × SocketsAct) → SocketsRecord × Wanted → SocketsRecord × Wanted

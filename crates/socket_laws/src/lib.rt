@@ -11,7 +11,7 @@ ghost use Rattle.sock_tcp.specs.connection.Tcb.{Tcb};
 ghost use Rattle.sock_tcp.specs.listener.Listen.{Listen, accepts};
 ghost use Rattle.sock_udp.specs.Socket.{UdpState, takes};
 ghost use Rattle.host_sockets.specs.Accepting.{accepts_at};
-ghost use Rattle.socket_laws.specs.Apart.{BoundApart};
+ghost use Rattle.socket_laws.specs.Apart.{BoundApart, BoundHere};
 ghost use Rattle.host_sockets.specs.Binding.{bound_to_use};
 ghost use Rattle.host_sockets.specs.Connecting.{source_end, connect_asked};
 ghost use Rattle.socket_laws.specs.Histories.{SocketsAct, sockets_of};
@@ -48,7 +48,7 @@ pub fn sources()
 {}
 
 /// A connection that a socket opens from 127.0.0.1 goes there, and one that goes there comes from it
-/// or from the host's own address.
+/// or from the host's own address, as what its socket is bound to is an address of the host.
 pub fn loopback_inside()
     ensures from { (hosts : List Ip) (k : ℕ) (to own : Addr) (t : SocketsRecord)
         → is_same_ip t.own loopback ≡ false → connect_asked hosts k to t ≡ Ok own
@@ -57,6 +57,9 @@ pub fn loopback_inside()
         → connect_asked hosts k to t ≡ Ok own → bound_to_use k t ≡ Ok at → is_local t.own at.ip ≡ true
         → is_same_ip to.ip loopback ≡ true
         → (is_same_ip own.ip loopback || is_same_ip own.ip t.own) ≡ true }
+    ensures history { (hosts : List Ip) (host : Ip) (draws : List ℕ) (acts : List (Time × SocketsAct)) (k : ℕ) (to own : Addr)
+        → connect_asked hosts k to (sockets_of hosts host draws acts) ≡ Ok own → is_same_ip to.ip loopback ≡ true
+        → (is_same_ip own.ip loopback || is_same_ip own.ip host) ≡ true }
 {}
 
 /// Whatever happened at a host, no two of its sockets of one protocol that are bound meet: they
@@ -64,6 +67,12 @@ pub fn loopback_inside()
 pub fn bound_apart()
     ensures { (hosts : List Ip) (own : Ip) (draws : List ℕ) (acts : List (Time × SocketsAct))
         → BoundApart (sockets_of hosts own draws acts) }
+{}
+
+/// What they are bound to is an address of the host: 0.0.0.0, 127.0.0.1 or its own.
+pub fn bound_here()
+    ensures { (hosts : List Ip) (own : Ip) (draws : List ℕ) (acts : List (Time × SocketsAct))
+        → BoundHere own (sockets_of hosts own draws acts) }
 {}
 
 /// And at most one of its UDP sockets takes a datagram from one end to another.

@@ -1,12 +1,12 @@
 -- what a record keeps as its numbers are acknowledged
-use Rattle.std.proofs.Common.{◌≡◌, ℕ, ◌+◌, ◌≤◌, nat_lt, List, [], Bool, true, false, if◌then◌else◌, refl, sym, ap, subst, arith}
+use Rattle.std.proofs.Common.{◌≡◌, ℕ, ◌+◌, ◌≤◌, inl, nat_lt, List, [], Bool, true, false, if◌then◌else◌, refl, sym, ap, subst, arith}
 use Rattle.sock_tcp.specs.declared.segment.state.TcpState.{TcpState}
 use Rattle.sock_tcp.specs.declared.segment.state.TcpState.TheVariants.{SynSent, SynReceived, Established, FinWait1, FinWait2, CloseWait, Closing, LastAck, TimeWait, Ended, Vanished}
 use Rattle.sock_tcp.specs.segment.Refusal.{one_if}
 use Rattle.sock_tcp.specs.segment.State.{after_own_fin, is_opening, is_syn_sent, is_syn_received, is_synchronized}
 use Rattle.sock_tcp.specs.connection.Tcb.{Tcb, Turn, data_end, changed}
 use Rattle.sock_tcp.specs.connection.Timer.{needs_timer, judged, restarts}
-use Rattle.sock_tcp.specs.connection.Congestion.{CongestionEvent, after_event, flight_of, tells_loss}
+use Rattle.sock_tcp.specs.connection.Congestion.{CongestionEvent, Flight, after_event, flight_of, tells_loss}
 use Rattle.sock_tcp.specs.connection.Congestion.CongestionEvent.{opens, acknowledges, duplicates}
 use Rattle.sock_tcp.specs.connection.Arrival.{peer_known, established, establishes, own_fin_acknowledged, state_advanced, advanced, restarts_timer, advances, duplicate_heard, hears_duplicate}
 use Rattle.sim_base.specs.declared.packet.Packet.{Packet}
@@ -14,13 +14,14 @@ use Rattle.tcp_laws.specs.Received.{FitsTaken}
 use Rattle.tcp_laws.specs.Window.{FitWindow}
 use Rattle.sock_tcp.proofs.Connections.Phases.{opening_of}
 use Rattle.sock_tcp.proofs.Connections.Advance.{phase_advanced, not_all}
-use Rattle.tcp_laws.proofs.Tests.{by_test}
+use Rattle.tcp_laws.proofs.Tests.{by_test, by_tests}
 use Rattle.tcp_laws.proofs.Holds.{Kept, kept_after, Holds}
 use Rattle.tcp_laws.proofs.Sending.{holds_restarts, holds_judged, holds_sends_one}
 
 -- nothing is sent yet
-fits_none : (r : Tcb) (packets : List Packet) → packets ≡ [] → FitWindow r packets
-fits_none r packets e = subst (λ (xs : List Packet). FitWindow r xs) (sym e) tt
+fits_none : (again : Bool) (r : Tcb) (packets : List Packet) → packets ≡ [] → FitWindow again r packets
+fits_none again r packets e =
+    subst (λ (xs : List Packet). FitWindow again r xs) (sym e) (inl tt)
 
 -- the handshake of a passive open
 received_stage : (state : TcpState) (taken : Bool) (rcv : ℕ) → is_syn_received state ≡ true → FitsTaken state taken rcv → (taken ≡ false) × (1 ≤ rcv)
@@ -104,7 +105,7 @@ holds_established f r0 window t s sent h =
       sent = h.sent;
       flight = ap (after_event (opening_of_turn t)) h.flight;
       given = h.given;
-      fits = fits_none (established window r) t.sent sent;
+      fits = fits_none f.again (established window r) t.sent sent;
       buffered = omega (arith, h.buffered, o.1);
     }
 
@@ -144,7 +145,7 @@ holds_connected f r0 seq window t s sent h =
       sent = h.sent;
       flight = ap (after_event (opening_of_turn t)) h.flight;
       given = h.given;
-      fits = fits_none (established window (peer_known seq r)) t.sent sent;
+      fits = fits_none f.again (established window (peer_known seq r)) t.sent sent;
       buffered = omega (arith, h.buffered, o.1);
     }
 
@@ -198,7 +199,7 @@ holds_advanced f r0 by window t s b sent h =
       sent = h.sent;
       flight = ap (after_event (acknowledges by)) h.flight;
       given = h.given;
-      fits = fits_none (advanced by window r) t.sent sent;
+      fits = fits_none f.again (advanced by window r) t.sent sent;
       buffered = omega (arith, h.buffered);
     }
 
@@ -252,14 +253,23 @@ holds_duplicate_heard f r0 t sent h = record {
   sent = h.sent;
   flight = ap (after_event (duplicate_of_turn t)) h.flight;
   given = h.given;
-  fits = fits_none (duplicate_heard t.tcb) t.sent sent;
+  fits = fits_none f.again (duplicate_heard t.tcb) t.sent sent;
   buffered = h.buffered;
 }
 
-pub holds_hears_duplicate : (f : Kept) (r0 : Tcb) (t : Turn) → t.sent ≡ [] → Holds f r0 t → Holds (kept_after (duplicate_of_turn t) f) r0 (hears_duplicate t)
+-- where it tells of a loss, text goes out again
+abbrev pub kept_heard : Turn → Kept → Kept
+kept_heard t f = record (kept_after (duplicate_of_turn t) f) {
+  again = (if tells_loss t.tcb.una f.flight then true else f.again);
+}
+
+pub holds_hears_duplicate : (f : Kept) (r0 : Tcb) (t : Turn) → t.sent ≡ [] → Holds f r0 t → Holds (kept_heard t f) r0 (hears_duplicate t)
 unfolding hears_duplicate
 holds_hears_duplicate f r0 t sent h =
     let g = kept_after (duplicate_of_turn t) f in
     let u = changed duplicate_heard t in
     let k = holds_duplicate_heard f r0 t sent h in
-    by_test (Holds g r0) (tells_loss t.tcb.una (flight_of t.tcb)) _ _ (λ e. holds_sends_one g r0 u k) (λ e. k)
+    subst (λ (flight : Flight). Holds (record g { again = (if tells_loss t.tcb.una flight then true else f.again) }) r0 (hears_duplicate t)) h.flight
+    (by_tests (λ (v : Turn) (again : Bool). Holds (record g { again = again }) r0 v) (tells_loss t.tcb.una (flight_of t.tcb)) _ _ _ _
+    (λ e. holds_sends_one g r0 u sent k)
+    (λ e. k))

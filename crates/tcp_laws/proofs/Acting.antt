@@ -1,5 +1,5 @@
 -- every act on a record keeps what records keep
-use Rattle.std.proofs.Common.{◌≡◌, ℕ, ◌+◌, ◌-◌, ◌==◌, ◌≤◌, ◌^◌, ◌%◌, ◌&&◌, nat_lt, nat_le, List, [], ◌∷◌, ◌++◌, length, take, append-nil, not, Bool, true, false, if◌then◌else◌, refl, sym, subst, arith}
+use Rattle.std.proofs.Common.{◌≡◌, ℕ, ◌+◌, ◌-◌, ◌==◌, ◌≤◌, ◌^◌, ◌%◌, ◌&&◌, nat_lt, nat_le, List, [], ◌∷◌, ◌++◌, inl, length, take, append-nil, not, Bool, true, false, refl, sym, subst, arith}
 use Rattle.std.specs.Prelude.{fold}
 use Rattle.std.proofs.lemmas.Bool.Decides.{nat_tests}
 use Rattle.sim_base.specs.declared.errno.Errno.TheVariants.{Econnrefused, Econnreset, Etimedout}
@@ -28,10 +28,10 @@ use Rattle.tcp_laws.specs.Acts.{Act, acted}
 use Rattle.tcp_laws.specs.Acts.Act.{arrival, write, read, flow, shut, close, expiry, error_read}
 use Rattle.tcp_laws.specs.Order.{IsInOrder}
 use Rattle.tcp_laws.specs.Received.{IsCounted, given_by}
-use Rattle.tcp_laws.specs.Window.{opening_event, verdict_events, load_events, loss_events, running_events, expiry_events, events_of}
+use Rattle.tcp_laws.specs.Window.{opening_event, verdict_events, load_events, loss_events, running_events, expiry_events, events_of, any_tells, sends_again}
 use Rattle.sock_tcp.proofs.Segments.States.{is_synchronized_else}
-use Rattle.tcp_laws.proofs.Tests.{by_test}
-use Rattle.tcp_laws.proofs.Holds.{Kept, kept_of, kept_after, Holds, IsBuffered, holds_begin}
+use Rattle.tcp_laws.proofs.Tests.{by_test, by_tests}
+use Rattle.tcp_laws.proofs.Holds.{Kept, kept_of, kept_after, kept_again, Holds, holds_again, IsBuffered, holds_begin}
 use Rattle.tcp_laws.proofs.Sending.{and_left, same_number, opening_una, holds_sends_ack, holds_sends_syn_ack, holds_sends_refusal, holds_judged, holds_sends_one, holds_output}
 use Rattle.tcp_laws.proofs.Ends.{holds_ends, holds_vanishes, holds_shuts, holds_closes, holds_flows, holds_error_taken, holds_writes}
 use Rattle.tcp_laws.proofs.Receiving.{holds_receives, holds_reads}
@@ -106,8 +106,11 @@ abbrev pub flight_by : List CongestionEvent → Flight → Flight
 flight_by events f = fold (λ g e. after_event e g) f events
 
 abbrev pub kept_by : List CongestionEvent → Tcb → Kept
-kept_by events r =
-    record { flight = flight_by events (flight_of r); given = take r.read r.received }
+kept_by events r = record {
+  flight = flight_by events (flight_of r);
+  given = take r.read r.received;
+  again = any_tells r events;
+}
 
 abbrev Follows : Tcb → Turn → List CongestionEvent → Type 0
 Follows r t events = Holds (kept_by events r) r t
@@ -124,10 +127,6 @@ heard_twice r window h s b =
     let k = holds_hears_duplicate (kept_after (acknowledges 0) (kept_of r)) r t n.2 (holds_advances (kept_of r) r 0 window (begin r) s (omega arith) refl h) in
     subst (λ (m : ℕ). Holds (kept_by (duplicates r.una m ∷ []) r) r (hears_duplicate t)) n.1
     (subst (λ (m : ℕ). Holds (kept_by (duplicates m t.tcb.highest ∷ []) r) r (hears_duplicate t)) n.0 k)
-
-by_tests : {A B : Type 0} (P : A → B → Type 0) (b : Bool) (x y : A) (u v : B) → (b ≡ true → P x u) → (b ≡ false → P y v) → P (if b then x else y) (if b then u else v)
-by_tests P true x y u v then_case else_case = then_case refl
-by_tests P false x y u v then_case else_case = else_case refl
 
 noticed : (r : Tcb) (h : Header) (count by : ℕ) → Holds (kept_of r) r (begin r) → is_synchronized r.control.state ≡ true → r.una + by ≤ r.highest → Follows r (notices (is_duplicate by h count r) (advances by h.window (begin r))) (verdict_events (Advances by) h count r)
 unfolding notices
@@ -182,13 +181,17 @@ backed_off : (r : Tcb) → Holds (kept_of r) r (begin r) → Follows r (counts_e
 unfolding backs_off
 backed_off r k =
     by_tests (λ (b : Tcb) (events : List CongestionEvent). Follows r (counts_expiry (record (begin r) { tcb = b })) events) (is_synchronized r.control.state && is_in_flight r) _ _ _ _
-    (λ e. record { order = k.order; heard = k.heard; grown = k.grown; sent = tt; flight = refl; given = refl; fits = tt; buffered = k.buffered })
-    (λ e. record { order = k.order; heard = k.heard; grown = k.grown; sent = tt; flight = refl; given = refl; fits = tt; buffered = k.buffered })
+    (λ e. record { order = k.order; heard = k.heard; grown = k.grown; sent = tt; flight = refl; given = refl; fits = inl tt; buffered = k.buffered })
+    (λ e. record { order = k.order; heard = k.heard; grown = k.grown; sent = tt; flight = refl; given = refl; fits = inl tt; buffered = k.buffered })
 
-retries_hold : (r : Tcb) → Holds (kept_of r) r (begin r) → Follows r (retries_once (begin r)) (loss_events r)
+-- it may send text again
+abbrev Expires : Tcb → Turn → List CongestionEvent → Type 0
+Expires r t events = Holds (kept_again (kept_by events r)) r t
+
+retries_hold : (r : Tcb) → Holds (kept_of r) r (begin r) → Expires r (retries_once (begin r)) (loss_events r)
 unfolding retries_once
 retries_hold r k =
-    holds_sends_one (kept_by (loss_events r) r) r (counts_expiry (changed backs_off (begin r))) (backed_off r k)
+    holds_sends_one (kept_by (loss_events r) r) r (counts_expiry (changed backs_off (begin r))) refl (backed_off r k)
 
 gives_up_holds : (r : Tcb) → Holds (kept_of r) r (begin r) → Follows r (gives_up (begin r)) []
 unfolding gives_up
@@ -197,40 +200,44 @@ gives_up_holds r k =
     (λ e. holds_vanishes (kept_of r) r (begin r) k)
     (λ e. holds_ends (kept_of r) r Etimedout (begin r) k)
 
-running_holds : (r : Tcb) → Holds (kept_of r) r (begin r) → Follows r (expires_running (begin r)) (running_events r)
+running_holds : (r : Tcb) → Holds (kept_of r) r (begin r) → Expires r (expires_running (begin r)) (running_events r)
 unfolding expires_running
 running_holds r k =
-    by_tests (Follows r) (is_time_wait r.control.state) _ _ _ _
-    (λ e. holds_vanishes (kept_of r) r (begin r) k)
-    (λ e. by_tests (Follows r) (nat_lt r.control.retries 6) _ _ _ _ (λ m. retries_hold r k) (λ m. gives_up_holds r k))
+    by_tests (Expires r) (is_time_wait r.control.state) _ _ _ _
+    (λ e. holds_again (kept_of r) r _ (holds_vanishes (kept_of r) r (begin r) k))
+    (λ e.
+    by_tests (Expires r) (nat_lt r.control.retries 6) _ _ _ _
+    (λ m. retries_hold r k)
+    (λ m. holds_again (kept_of r) r _ (gives_up_holds r k)))
 
-expiry_holds : (r : Tcb) → Holds (kept_of r) r (begin r) → Follows r (expires (begin r)) (expiry_events r)
+expiry_holds : (r : Tcb) → Holds (kept_of r) r (begin r) → Expires r (expires (begin r)) (expiry_events r)
 unfolding expires
 expiry_holds r k =
-    by_tests (Follows r) r.control.timer _ _ _ _
-    (λ e. holds_judged (kept_by (running_events r) r) r (expires_running (begin r)) (running_holds r k))
-    (λ e. k)
+    by_tests (Expires r) r.control.timer _ _ _ _
+    (λ e. holds_judged (kept_again (kept_by (running_events r) r)) r (expires_running (begin r)) (running_holds r k))
+    (λ e. holds_again (kept_of r) r (begin r) k)
 
 -- every act
 abbrev pub kept_acting : Act → Tcb → Kept
 kept_acting act r = record {
   flight = flight_by (events_of act r) (flight_of r);
   given = take r.read r.received ++ given_by act r;
+  again = sends_again act r;
 }
 
-unread_as : (r : Tcb) (t : Turn) (flight : Flight) → Holds (record { flight = flight; given = take r.read r.received }) r t → Holds (record { flight = flight; given = take r.read r.received ++ [] }) r t
-unread_as r t flight h =
-    subst (λ (xs : List ℕ). Holds (record { flight = flight; given = xs }) r t) (sym (append-nil (take r.read r.received))) h
+unread_as : (r : Tcb) (t : Turn) (flight : Flight) (again : Bool) → Holds (record { flight = flight; given = take r.read r.received; again = again }) r t → Holds (record { flight = flight; given = take r.read r.received ++ []; again = again }) r t
+unread_as r t flight again h =
+    subst (λ (xs : List ℕ). Holds (record { flight = flight; given = xs; again = again }) r t) (sym (append-nil (take r.read r.received))) h
 
 act_holds : (act : Act) (r : Tcb) → Holds (kept_of r) r (begin r) → Holds (kept_acting act r) r (acted act r)
-act_holds (arrival p) r k = unread_as r _ _ (packet_holds p r k)
-act_holds (write bytes) r k = unread_as r _ _ (holds_writes bytes r k)
+act_holds (arrival p) r k = unread_as r _ _ _ (packet_holds p r k)
+act_holds (write bytes) r k = unread_as r _ _ _ (holds_writes bytes r k)
 act_holds (read count) r k = holds_reads count r k
-act_holds flow r k = unread_as r _ _ (holds_flows (kept_of r) r (begin r) k)
-act_holds (shut end) r k = unread_as r _ _ (holds_shuts (kept_of r) r end (begin r) k)
-act_holds close r k = unread_as r _ _ (holds_closes (kept_of r) r (begin r) k)
-act_holds expiry r k = unread_as r _ _ (expiry_holds r k)
-act_holds error_read r k = unread_as r _ _ (holds_error_taken (kept_of r) r (begin r) k)
+act_holds flow r k = unread_as r _ _ _ (holds_flows (kept_of r) r (begin r) k)
+act_holds (shut end) r k = unread_as r _ _ _ (holds_shuts (kept_of r) r end (begin r) k)
+act_holds close r k = unread_as r _ _ _ (holds_closes (kept_of r) r (begin r) k)
+act_holds expiry r k = unread_as r _ _ _ (expiry_holds r k)
+act_holds error_read r k = unread_as r _ _ _ (holds_error_taken (kept_of r) r (begin r) k)
 
 pub acts_keep : (act : Act) (r : Tcb) → IsInOrder r → IsCounted r → IsBuffered r → Holds (kept_acting act r) r (acted act r)
 acts_keep act r order heard buffered = act_holds act r (holds_begin r order heard buffered)

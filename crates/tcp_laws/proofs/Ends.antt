@@ -1,5 +1,5 @@
 -- what the ends of a record, and of its directions, keep
-use Rattle.std.proofs.Common.{◌≡◌, ℕ, ◌+◌, ◌-◌, ◌≤◌, ◌||◌, nat_lt, List, [], ◌++◌, length, take, Bool, true, false, not, if◌then◌else◌, refl, sym, ap, subst, append-nil, length-append, arith}
+use Rattle.std.proofs.Common.{◌≡◌, ℕ, ◌+◌, ◌-◌, ◌≤◌, ◌||◌, nat_lt, inl, List, [], ◌++◌, length, take, Bool, true, false, not, if◌then◌else◌, refl, sym, ap, subst, append-nil, length-append, arith}
 use Rattle.std.proofs.lemmas.List.{length-take, length-drop}
 use Rattle.sim_base.specs.declared.errno.Errno.{Errno}
 use Rattle.sock_tcp.specs.declared.connection.effects.Shut.{Shut}
@@ -248,7 +248,7 @@ holds_writes bytes r h =
       sent = tt;
       flight = refl;
       given = refl;
-      fits = tt;
+      fits = inl tt;
       buffered = subst (λ (n : ℕ). n ≤ r.una - 1 + 65535) (sym (length-append r.written more))
           (buffer_kept r.una (length r.written) (room r) (length more) h.buffered (ap (λ n. 65535 - n) (length-drop (r.una - 1) r.written)) (at_most_room bytes r));
     }

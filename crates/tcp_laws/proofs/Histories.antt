@@ -1,5 +1,5 @@
 -- what every history of acts keeps
-use Rattle.std.proofs.Common.{◌≡◌, ℕ, ◌+◌, ◌^◌, ◌<◌, List, [], ◌∷◌, ◌++◌, take, refl, sym, ap, subst, ◌∙◌, append_assoc, append-nil, arith}
+use Rattle.std.proofs.Common.{◌≡◌, ℕ, ◌+◌, ◌^◌, ◌<◌, inl, List, [], ◌∷◌, ◌++◌, take, false, refl, sym, ap, subst, ◌∙◌, append_assoc, append-nil, arith}
 use Rattle.std.proofs.lemmas.List.Sums.{fold-append}
 use Rattle.sim_base.specs.Packet.{syn_flag, ack_flag}
 use Rattle.sim_base.specs.declared.address.Addr.{Addr}
@@ -26,7 +26,7 @@ wire-zero iss h = omega arith
 
 -- a record that has just begun
 abbrev IsBegun : Turn → Type 0
-IsBegun t = Holds (record { flight = fresh_flight; given = [] }) t.tcb t
+IsBegun t = Holds (record { flight = fresh_flight; given = []; again = false }) t.tcb t
 
 opened_holds : (local peer : Addr) (iss : ℕ) → iss < 2 ^ 32 → IsBegun (opened local peer iss)
 unfolding opened fresh_tcb fresh_control
@@ -51,7 +51,7 @@ opened_holds local peer iss b =
       sent = (subst (λ (n : ℕ). SentBy r (without_ack r.control syn_flag n)) (wire-zero iss b) (syn_sent r 0 refl), tt);
       flight = refl;
       given = refl;
-      fits = (no_text_either r syn_flag iss, tt);
+      fits = inl (no_text_either r syn_flag iss, tt);
       buffered = omega arith;
     }
 
@@ -78,7 +78,7 @@ answered_holds local peer iss seq =
       sent = (syn_ack_sent r 0 refl, tt);
       flight = refl;
       given = refl;
-      fits = (no_text r (syn_flag + ack_flag) 0, tt);
+      fits = inl (no_text r (syn_flag + ack_flag) 0, tt);
       buffered = omega arith;
     }
 

@@ -244,7 +244,7 @@ read_given r count =
 
 abbrev pub kept_read : ℕ → Tcb → Kept
 kept_read count r =
-    record { flight = flight_of r; given = take r.read r.received ++ bytes_read count r }
+    record { flight = flight_of r; given = take r.read r.received ++ bytes_read count r; again = false }
 
 pub holds_reads : (count : ℕ) (r : Tcb) → Holds (kept_of r) r (begin r) → Holds (kept_read count r) r (changed (reads count) (begin r))
 unfolding reads

@@ -10,12 +10,13 @@ use Rattle.sock_tcp.specs.declared.segment.control.Control.{Control}
 use Rattle.sock_tcp.specs.declared.segment.header.Header.{Header}
 use Rattle.sock_tcp.specs.segment.Header.{header_of}
 use Rattle.sock_tcp.specs.segment.Number.{wire}
+use Rattle.sock_tcp.specs.connection.Retransmission.{probe_length}
 use Rattle.sock_tcp.specs.segment.Control.{without_ack, send_window}
 use Rattle.sock_tcp.specs.connection.Tcb.{Tcb, data_end}
 use Rattle.sock_tcp.specs.connection.Segment.{with_ack}
 use Rattle.sock_tcp.specs.connection.Output.{cut, pieces, text_segments}
 use Rattle.tcp_laws.specs.Sending.{IsAt, stream, Carries, LoadCarries, Sent, AreSent, AreOf}
-use Rattle.tcp_laws.specs.Window.{LoadWithin, AreWithin, FitWindow}
+use Rattle.tcp_laws.specs.Window.{LoadWithin, AreWithin, LoadAgain, FitWindow}
 use Rattle.tcp_laws.proofs.Places.{nothing_at, IsAt-take, IsAt-drop, IsAt-append}
 
 -- one more segment, and more of them
@@ -203,12 +204,15 @@ AreWithin-append iss una window (q ∷ packets) more h s =
 abbrev pub WithinOf : Tcb → Packet → Type 0
 WithinOf r p = LoadWithin r.iss r.una (send_window r.control) p.load
 
-pub within_push : (r : Tcb) (packets : List Packet) (p : Packet) → FitWindow r packets → WithinOf r p → FitWindow r (packets ++ p ∷ [])
-within_push r packets p h s = AreWithin-push r.iss r.una (send_window r.control) packets p h s
+pub within_push : (again : Bool) (r : Tcb) (packets : List Packet) (p : Packet) → FitWindow again r packets → WithinOf r p → FitWindow again r (packets ++ p ∷ [])
+within_push again r packets p (inl h) s = inl (AreWithin-push r.iss r.una (send_window r.control) packets p h s)
+within_push again r [] p (inr h) s = absurd h.1
+within_push again r (q ∷ packets) p (inr h) s = inr (h.0, (h.1.0, AreWithin-push r.iss r.una (send_window r.control) packets p h.1.1 s))
 
-pub within_append : (r : Tcb) (packets more : List Packet) → FitWindow r packets → FitWindow r more → FitWindow r (packets ++ more)
-within_append r packets more h s =
-    AreWithin-append r.iss r.una (send_window r.control) packets more h s
+pub within_append : (again : Bool) (r : Tcb) (packets more : List Packet) → FitWindow again r packets → AreWithin r.iss r.una (send_window r.control) more → FitWindow again r (packets ++ more)
+within_append again r packets more (inl h) s = inl (AreWithin-append r.iss r.una (send_window r.control) packets more h s)
+within_append again r [] more (inr h) s = absurd h.1
+within_append again r (q ∷ packets) more (inr h) s = inr (h.0, (h.1.0, AreWithin-append r.iss r.una (send_window r.control) packets more h.1.1 s))
 
 pub no_text : (r : Tcb) (flags offset : ℕ) → WithinOf r (with_ack r flags offset [])
 unfolding with_ack
@@ -218,10 +222,10 @@ pub no_text_either : (r : Tcb) (flags seq : ℕ) → WithinOf r (without_ack r.c
 unfolding without_ack
 no_text_either r flags seq = inl refl
 
-pub text_again : (r : Tcb) (text : List ℕ) → WithinOf r (with_ack r ack_flag r.una text)
+pub text_again : (r : Tcb) (text : List ℕ) → LoadAgain r.iss r.una r.control.window (with_ack r ack_flag r.una (take (probe_length r) text)).load
 unfolding with_ack
 text_again r text =
-    inr (record { offset = r.una; number = refl; from = omega arith; end = inl refl })
+    record { number = refl; most = omega (arith, length-take (probe_length r) text) }
 
 cut_within : (c : Control) (iss una limit ack window size count offset : ℕ) (text : List ℕ) → una ≤ offset → offset + length text ≤ una + limit → AreWithin iss una limit (text_segments c iss offset ack window (cut size count text))
 cut_within c iss una limit ack window size zero offset text a b = tt
@@ -230,7 +234,7 @@ cut_within c iss una limit ack window size (suc count) offset (x ∷ text) a b =
     let whole : List ℕ = x ∷ text in
     let first = length-take size whole in
     let rest = length-drop size whole in (
-      inr (record { offset = offset; number = refl; from = a; end = inr (omega (arith, first, b)) }),
+      inr (record { offset = offset; number = refl; from = a; end = omega (arith, first, b) }),
       cut_within c iss una limit ack window size count (offset + length (take size whole)) (drop size whole) (omega (arith, a)) (omega (arith, first, rest, b)),
     )
 

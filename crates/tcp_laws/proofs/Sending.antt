@@ -1,5 +1,5 @@
 -- what acts that send keep
-use Rattle.std.proofs.Common.{◌≡◌, ◌⊎◌, ⊎_elim, inl, inr, ℕ, ◌+◌, ◌-◌, ◌==◌, ◌≤◌, ◌&&◌, nat_lt, List, [], length, take, drop, min, max, Bool, true, false, refl, ap, ◌∙◌, arith}
+use Rattle.std.proofs.Common.{◌≡◌, ◌⊎◌, ⊎_elim, inl, inr, ℕ, ◌+◌, ◌-◌, ◌==◌, ◌≤◌, ◌&&◌, nat_lt, List, [], ◌∷◌, ◌++◌, length, take, drop, min, max, Bool, true, false, refl, sym, ap, subst, ◌∙◌, arith}
 use Rattle.std.proofs.lemmas.Bool.Decides.{nat_tests}
 use Rattle.std.proofs.lemmas.List.{length-take, length-drop}
 use Rattle.std.proofs.lemmas.Bool.{cases_lt}
@@ -19,7 +19,8 @@ use Rattle.sock_tcp.proofs.Connections.Phases.{bounds, opening_of, FitsPhase-nex
 use Rattle.tcp_laws.proofs.Tests.{by_test}
 use Rattle.tcp_laws.proofs.Places.{IsAt-take, IsAt-written}
 use Rattle.tcp_laws.proofs.Segments.{sent_push, sent_append, within_push, within_append, WithinOf, no_text, no_text_either, text_again, pieces_within, SentBy, ack_sent, syn_ack_sent, fin_sent, syn_sent, reset_sent, text_sent, pieces_sent}
-use Rattle.tcp_laws.proofs.Holds.{Kept, Holds, Sending, sending_of}
+use Rattle.tcp_laws.specs.Window.{LoadAgain, FitWindow}
+use Rattle.tcp_laws.proofs.Holds.{Kept, kept_again, Holds, holds_again, Sending, sending_of}
 
 -- one segment more
 holds_sends : (f : Kept) (r0 : Tcb) (p : Packet) (t : Turn) → SentBy t.tcb p → WithinOf t.tcb p → Holds f r0 t → Holds f r0 (sends p t)
@@ -30,7 +31,7 @@ holds_sends f r0 p t s w h = record {
   sent = sent_push t.tcb t.sent p h.sent s;
   flight = h.flight;
   given = h.given;
-  fits = within_push t.tcb t.sent p h.fits w;
+  fits = within_push f.again t.tcb t.sent p h.fits w;
   buffered = h.buffered;
 }
 
@@ -120,7 +121,7 @@ sending_sends_text f r0 t s h =
           (pieces_sent r.control r.iss r.written (wire r.irs r.rcv) (own_window r) r.nxt (to_send r) (text_within r.nxt (send_limit r - r.nxt) r.written (omega (arith, top)) n) (text_at r.nxt (send_limit r - r.nxt) r.written n));
       flight = h.flight;
       given = h.given;
-      fits = within_append r t.sent segments h.fits
+      fits = within_append f.again r t.sent segments h.fits
           (pieces_within r.control r.iss r.una (send_window r.control) (wire r.irs r.rcv) (own_window r) r.nxt (to_send r) h.order.unacknowledged (short r));
       buffered = h.buffered;
     }
@@ -160,7 +161,7 @@ sending_fin f r0 t s at w h =
       sent = sent_push r t.sent (with_ack r (fin_flag + ack_flag) r.nxt []) h.sent (fin_sent r r.nxt at w);
       flight = h.flight;
       given = h.given;
-      fits = within_push r t.sent (with_ack r (fin_flag + ack_flag) r.nxt []) h.fits (no_text r (fin_flag + ack_flag) r.nxt);
+      fits = within_push f.again r t.sent (with_ack r (fin_flag + ack_flag) r.nxt []) h.fits (no_text r (fin_flag + ack_flag) r.nxt);
       buffered = h.buffered;
     }
 
@@ -216,11 +217,15 @@ again_within : (una probe : ℕ) (written : List ℕ) → 1 ≤ una → una ≤ 
 again_within una probe written a b =
     omega (arith, length-take probe (drop (una - 1) written), length-drop (una - 1) written)
 
-sending_sends_again_text : (f : Kept) (r0 : Tcb) (t : Turn) → is_sending t.tcb.control.state ≡ true → Sending f r0 t → Sending f r0 (sends_again_text t)
+fits_one : (r : Tcb) (packets : List Packet) (p : Packet) → packets ≡ [] → LoadAgain r.iss r.una r.control.window p.load → FitWindow true r (packets ++ p ∷ [])
+fits_one r packets p e h =
+    subst (λ (xs : List Packet). FitWindow true r (xs ++ p ∷ [])) (sym e) (inr (refl, (h, tt)))
+
+sending_sends_again_text : (f : Kept) (r0 : Tcb) (t : Turn) → is_sending t.tcb.control.state ≡ true → t.sent ≡ [] → Sending (kept_again f) r0 t → Sending (kept_again f) r0 (sends_again_text t)
 unfolding sends_again_text
-sending_sends_again_text f r0 t s h =
+sending_sends_again_text f r0 t s none h =
     let r = t.tcb in
-    let from = sending_bounds f r0 t s h in
+    let from = sending_bounds (kept_again f) r0 t s h in
     let text : List ℕ = take (probe_length r) (unacknowledged r) in
     let within = again_within r.una (probe_length r) r.written from.0 from.1 in
     record {
@@ -235,7 +240,7 @@ sending_sends_again_text f r0 t s h =
       sent = sent_push r t.sent (with_ack r ack_flag r.una text) h.sent (text_sent r r.una text (omega (arith, from.1)) (text_at r.una (probe_length r) r.written from.0));
       flight = h.flight;
       given = h.given;
-      fits = within_push r t.sent (with_ack r ack_flag r.una text) h.fits (text_again r text);
+      fits = fits_one r t.sent (with_ack r ack_flag r.una text) none (text_again r (unacknowledged r));
       buffered = h.buffered;
     }
 
@@ -259,12 +264,13 @@ sending_goes_back f r0 t s h =
       buffered = h.buffered;
     }
 
-sending_sends_again : (f : Kept) (r0 : Tcb) (t : Turn) → is_sending t.tcb.control.state ≡ true → Sending f r0 t → Sending f r0 (sends_again t)
+sending_sends_again : (f : Kept) (r0 : Tcb) (t : Turn) → is_sending t.tcb.control.state ≡ true → t.sent ≡ [] → Sending (kept_again f) r0 t → Sending (kept_again f) r0 (sends_again t)
 unfolding sends_again
-sending_sends_again f r0 t s h =
-    by_test (Sending f r0) (nat_lt t.tcb.una (data_end t.tcb)) _ _
-    (λ e. sending_sends_again_text f r0 t s h)
-    (λ e. sending_sends_fin f r0 (changed (moves_next t.tcb.una) t) s (sending_goes_back f r0 t s h))
+sending_sends_again f r0 t s none h =
+    let g = kept_again f in
+    by_test (Sending g r0) (nat_lt t.tcb.una (data_end t.tcb)) _ _
+    (λ e. sending_sends_again_text f r0 t s none h)
+    (λ e. sending_sends_fin g r0 (changed (moves_next t.tcb.una) t) s (sending_goes_back g r0 t s h))
 
 control-sends_again_text : (t : Turn) → (sends_again_text t).tcb.control ≡ t.tcb.control
 unfolding sends_again_text
@@ -290,12 +296,14 @@ unfolding sends_syn_again
 holds_sends_syn_again f r0 t z h =
     by_test (Holds f r0) (is_syn_sent t.tcb.control.state) _ _ (λ e. holds_sends_syn f r0 t z h) (λ e. holds_sends_syn_ack f r0 t z h)
 
-pub holds_sends_one : (f : Kept) (r0 : Tcb) (t : Turn) → Holds f r0 t → Holds f r0 (sends_one t)
+pub holds_sends_one : (f : Kept) (r0 : Tcb) (t : Turn) → t.sent ≡ [] → Holds f r0 t → Holds (kept_again f) r0 (sends_one t)
 unfolding sends_one
-holds_sends_one f r0 t h =
-    by_test (Holds f r0) (is_opening t.tcb.control.state) _ _
-    (λ o. holds_sends_syn_again f r0 t (opening_una f r0 t o h) h)
+holds_sends_one f r0 t none h =
+    let g = kept_again f in
+    let k = holds_again f r0 t h in
+    by_test (Holds g r0) (is_opening t.tcb.control.state) _ _
+    (λ o. holds_sends_syn_again g r0 t (opening_una f r0 t o h) k)
     (λ o.
-    by_test (Holds f r0) (is_sending t.tcb.control.state) _ _
-    (λ s. holds_follows f r0 (sends_again t) (still t (sends_again t) (control-sends_again t) s) (sending_sends_again f r0 t s (sending_of f r0 t h)))
-    (λ s. h))
+    by_test (Holds g r0) (is_sending t.tcb.control.state) _ _
+    (λ s. holds_follows g r0 (sends_again t) (still t (sends_again t) (control-sends_again t) s) (sending_sends_again f r0 t s none (sending_of g r0 t k)))
+    (λ s. k))

@@ -1,5 +1,5 @@
 -- what congestion control makes of a record's acts (RFC 5681)
-use Rattle.std.specs.Prelude.{◌≡◌, ◌⊎◌, ℕ, ◌+◌, ◌≤◌, nat_lt, List, [], ◌∷◌, ◌++◌, length, ◌&&◌, if◌then◌else◌, ◌*◌}
+use Rattle.std.specs.Prelude.{◌≡◌, ◌⊎◌, ℕ, ◌+◌, ◌≤◌, nat_lt, List, [], ◌∷◌, ◌++◌, length, min, max, Bool, true, false, ◌&&◌, if◌then◌else◌, ◌*◌}
 use Rattle.sim_base.specs.Packet.{max_segment}
 use Rattle.sim_base.specs.declared.packet.Load.{Load}
 use Rattle.sim_base.specs.declared.packet.Load.TheVariants.{Udp, Tcp}
@@ -15,7 +15,7 @@ use Rattle.sock_tcp.specs.segment.State.{is_synchronized, is_time_wait}
 use Rattle.sock_tcp.specs.segment.Control.{send_window}
 use Rattle.sock_tcp.specs.connection.Tcb.{Tcb}
 use Rattle.sock_tcp.specs.connection.Timer.{is_in_flight}
-use Rattle.sock_tcp.specs.connection.Congestion.{CongestionEvent, is_duplicate}
+use Rattle.sock_tcp.specs.connection.Congestion.{CongestionEvent, flight_of, tells_loss, is_duplicate}
 use Rattle.sock_tcp.specs.connection.Congestion.CongestionEvent.{opens, acknowledges, duplicates, times_out}
 use Rattle.sock_tcp.specs.connection.Arrival.{verdict}
 use Rattle.tcp_laws.specs.Acts.{Act, acted}
@@ -77,12 +77,12 @@ pub record Bounded (c : Congestion) : Type 0 where
   pub threshold : 2 * max_segment ≤ c.ssthresh
 
 -- a text of so many bytes, from an offset on that the segment's number is that of, ends at most where the
--- windows do, or begins at what isn't acknowledged: the one segment that goes out again
+-- windows do
 pub record Within (iss una window seq count : ℕ) : Type 0 where
   pub offset : ℕ
   pub number : seq ≡ wire iss offset
   pub from : una ≤ offset
-  pub end : (offset ≡ una) ⊎ (offset + count ≤ una + window)
+  pub end : offset + count ≤ una + window
 
 abbrev pub LoadWithin : ℕ → ℕ → ℕ → Load → Type 0
 LoadWithin iss una window (Udp text) = ⊥
@@ -94,5 +94,45 @@ AreWithin iss una window [] = Unit {0}
 AreWithin iss una window (p ∷ packets) =
     LoadWithin iss una window p.load × AreWithin iss una window packets
 
-abbrev pub FitWindow : Tcb → List Packet → Type 0
-FitWindow r packets = AreWithin r.iss r.una (send_window r.control) packets
+-- a text that goes out again begins at what isn't acknowledged; it is one segment at most, and as long as
+-- the peer's window, or the one byte that probes a window of 0
+pub record Again (iss una peer seq count : ℕ) : Type 0 where
+  pub number : seq ≡ wire iss una
+  pub most : count ≤ min max_segment (max peer 1)
+
+abbrev pub LoadAgain : ℕ → ℕ → ℕ → Load → Type 0
+LoadAgain iss una peer (Udp text) = ⊥
+LoadAgain iss una peer (Tcp flags seq ack w text) = Again iss una peer seq (length text)
+
+abbrev pub FirstAgain : ℕ → ℕ → ℕ → ℕ → List Packet → Type 0
+FirstAgain iss una peer window [] = ⊥
+FirstAgain iss una peer window (p ∷ packets) =
+    LoadAgain iss una peer p.load × AreWithin iss una window packets
+
+-- a duplicate acknowledgement that tells of a loss
+abbrev pub tells : Tcb → CongestionEvent → Bool
+tells r (opens expired) = false
+tells r (acknowledges by) = false
+tells r (duplicates una highest) = tells_loss una (flight_of r)
+tells r (times_out retries una highest) = false
+
+abbrev pub any_tells : Tcb → List CongestionEvent → Bool
+any_tells r [] = false
+any_tells r (e ∷ events) = if tells r e then true else any_tells r events
+
+-- what sends a text again: an expiry of the timer, and the duplicate acknowledgement that tells of a loss
+abbrev pub sends_again : Act → Tcb → Bool
+sends_again (arrival p) r = any_tells r (load_events p.load r)
+sends_again (write bytes) r = false
+sends_again (read count) r = false
+sends_again flow r = false
+sends_again (shut end) r = false
+sends_again close r = false
+sends_again expiry r = true
+sends_again error_read r = false
+
+-- all texts end within the windows, but for the first where one goes out again
+abbrev pub FitWindow : Bool → Tcb → List Packet → Type 0
+FitWindow again r packets =
+    AreWithin r.iss r.una (send_window r.control) packets
+    ⊎ ((again ≡ true) × FirstAgain r.iss r.una r.control.window (send_window r.control) packets)

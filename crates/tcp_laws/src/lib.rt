@@ -10,7 +10,7 @@ ghost use Rattle.tcp_laws.specs.Order.{IsInOrder};
 ghost use Rattle.tcp_laws.specs.Received.{IsCounted, all_given};
 ghost use Rattle.tcp_laws.specs.Sending.{AreOf};
 ghost use Rattle.tcp_laws.specs.Growth.{GrowsTo};
-ghost use Rattle.tcp_laws.specs.Window.{all_events, Bounded, FitWindow};
+ghost use Rattle.tcp_laws.specs.Window.{all_events, Bounded, sends_again, FitWindow};
 
 /// An arriving number names the offset that is nearest to the expected one.
 pub fn nearest_offset()
@@ -72,9 +72,9 @@ pub fn window_bounded()
         → Bounded (record_of start acts).control.congestion }
 {}
 
-/// Text ends at most where the peer's window and the congestion window do, but for the one segment
-/// that goes out again.
+/// Text ends at most where the peer's window and the congestion window do, but for the single segment
+/// from SND.UNA on that an expiry or a third duplicate acknowledgement sends.
 pub fn text_within_windows()
     ensures { (start : Start) (acts : List Act) (act : Act) → IsStart start
-        → FitWindow (acted act (record_of start acts)).tcb (acted act (record_of start acts)).sent }
+        → FitWindow (sends_again act (record_of start acts)) (acted act (record_of start acts)).tcb (acted act (record_of start acts)).sent }
 {}

@@ -13,6 +13,5 @@ pub mod Steps
 pub mod Nets
 pub mod Promise
 pub mod Frames
-pub mod Slots
-pub mod Listening
+pub mod Voids
 pub mod Values

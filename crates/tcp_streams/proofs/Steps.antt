@@ -39,7 +39,7 @@ pub data Origin (m : Net) (r : Tcb) : Type 0 where
   acted_by : (before : Tcb) (act : Act) → Contains m.records before → MayAct m.flying before act → r ≡ (acted act before).tcb → Origin m r
   begun_as : (start : Start) → IsStart start → Follows m.flying start → r ≡ (begun_by start).tcb → Origin m r
 
-moved : (xs ys : List Tcb) (r : Tcb) → IsPermutation xs ys → Contains ys r → Contains xs r
+pub moved : (xs ys : List Tcb) (r : Tcb) → IsPermutation xs ys → Contains ys r → Contains xs r
 moved xs ys r p c = Contains-permutation ys xs r (IsPermutation-sym xs ys p) c
 
 pub origin : (scope : Addr → Addr → Bool) (m n : Net) (r : Tcb) → Step scope m n → Contains n.records r → Origin m r
@@ -87,7 +87,7 @@ step_evolves scope m n (goes_on q flies) all r c =
     record { after = r; among = moved n.records m.records r q c; grows = Grows-refl r }
 
 -- honest packets
-one_of : (r : Tcb) (packets : List Packet) (p : Packet) → AreOf r packets → IsIn p packets → SentBy r p
+pub one_of : (r : Tcb) (packets : List Packet) (p : Packet) → AreOf r packets → IsIn p packets → SentBy r p
 one_of r [] p h k = absurd k
 one_of r (q ∷ packets) p h (inl e) = subst (λ (x : Packet). SentBy r x) (sym e) h.0
 one_of r (q ∷ packets) p h (inr k) = one_of r packets p h.1 k

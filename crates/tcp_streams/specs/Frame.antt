@@ -25,7 +25,3 @@ pub record MovesOn (scope : Addr → Addr → Bool) (part : Net) (others : List 
   pub records : IsPermutation after.records (part.records ++ others)
   pub flying : (p : Packet) → Contains after.flying p
       → Contains part.flying p ⊎ (Contains before.flying p ⊎ Comes scope p)
-
--- a listener's records among others
-abbrev pub beside : List Tcb → List Tcb → List Packet → Net
-beside records others flying = record { records = records ++ others; flying = flying }

@@ -8,15 +8,15 @@ ghost use Rattle.sock_tcp.specs.declared.segment.header.Header.{Header};
 ghost use Rattle.sock_tcp.specs.declared.segment.number.Distance.TheVariants.{Ahead, Behind};
 ghost use Rattle.sock_tcp.specs.segment.Number.{wire, distance};
 ghost use Rattle.sock_tcp.specs.segment.Refusal.{refusal_of};
+ghost use Rattle.sock_tcp.specs.connection.Resets.{resets_of};
 ghost use Rattle.sock_tcp.specs.connection.Tcb.{Tcb};
-ghost use Rattle.sock_tcp.specs.listener.Listen.{Listen, hears, hears_timer, accepts, hears_close};
 ghost use Rattle.tcp_laws.specs.Acts.{Start, IsStart, begun_by, Act, acted};
 ghost use Rattle.tcp_laws.specs.Growth.{GrowsTo};
 ghost use Rattle.tcp_laws.specs.Sending.{AreOf, Carries};
 ghost use Rattle.tcp_streams.specs.Net.{Net, empty_net, IsVoid, Comes, Flies, Step, AreSteps, last_net};
 ghost use Rattle.tcp_streams.specs.Sound.{IsSound, ReceivesOn};
 ghost use Rattle.tcp_streams.specs.Heard.{HearsFrom, IsHeard, AreHonest};
-ghost use Rattle.tcp_streams.specs.Frame.{everywhere, inside, IsPart, MovesOn, beside};
+ghost use Rattle.tcp_streams.specs.Frame.{everywhere, inside, IsPart, MovesOn};
 ghost use Rattle.tcp_streams.specs.Stream.{is_at, IsOnce, IsSimple, stream_of, IsFaithful};
 
 /// The number of a segment names its own offset, seen from a record that has heard of its sender, which
@@ -73,27 +73,11 @@ pub fn streams()
         → IsFaithful (stream_of from to (last_net empty_net nets).records) }
 {}
 
-/// The calls of a listener are steps of a net that has its records: a segment that arrives, an expiry, an
-/// accept, after which the record stands outside, and a close, after which all do. Records that the
-/// listener lets go stay in the net.
-pub fn listeners_step()
-    ensures arrival { (scope : Addr → Addr → Bool) (l : Listen) (p : Packet) (word : ℕ) (others : List Tcb) (flying after : List Packet)
-        → Contains flying p → Flies scope flying (hears p word l).sent after
-        → (gone : List Tcb) × Step scope (beside l.records others flying) (beside (hears p word l).listen.records (gone ++ others) after) }
-    ensures expiry { (scope : Addr → Addr → Bool) (l : Listen) (own other : Addr) (others : List Tcb) (flying after : List Packet)
-        → Flies scope flying (hears_timer own other l).sent after
-        → (gone : List Tcb) × Step scope (beside l.records others flying) (beside (hears_timer own other l).listen.records (gone ++ others) after) }
-    ensures accept { (scope : Addr → Addr → Bool) (l rest : Listen) (r : Tcb) (others : List Tcb) (flying : List Packet)
-        → accepts l ≡ Some (r, rest)
-        → Step scope (beside l.records others flying) (beside rest.records (r ∷ others) flying) }
-    ensures close { (scope : Addr → Addr → Bool) (l : Listen) (others : List Tcb) (flying after : List Packet)
-        → Flies scope flying (hears_close l).sent after
-        → Step scope (beside l.records others flying) (beside (hears_close l).listen.records (l.records ++ others) after) }
-{}
-
-/// What answers a segment of no connection tells nothing of a stream.
+/// What answers a segment of no connection tells nothing of a stream, nor do the resets that a listener
+/// sends as it closes.
 pub fn refusals_void()
-    ensures { (p q : Packet) → refusal_of p ≡ Some q → IsVoid q.load }
+    ensures refusals { (p q : Packet) → refusal_of p ≡ Some q → IsVoid q.load }
+    ensures resets { (records : List Tcb) (p : Packet) → Contains (resets_of records) p → IsVoid p.load }
 {}
 
 /// Steps of a part of a net, as of one host among others, are steps of the whole; lists of steps join; what

@@ -1,4 +1,5 @@
-use Rattle.std.proofs.Common.{ℕ, List, refl, sym, ◌∙◌, subst}
+use Rattle.std.proofs.Common.{ℕ, List, refl, sym, ap, ◌∙◌, subst}
+use Rattle.std.specs.Prelude.{◌↔◌, Contains}
 use Rattle.std.proofs.lemmas.List.Elements.{Contains-get_or}
 use Rattle.std.proofs.lemmas.Result.{err_from_is_err_and}
 use Rattle.std.specs.List.Sorted.{IsStrictlyIncreasing}
@@ -7,7 +8,7 @@ use Rattle.net_routes.specs.Walk.{hops}
 use Rattle.net_routes.specs.Net.{IsNet}
 use Rattle.net_routes.specs.Routes.{route_at}
 use Rattle.net_routes.proofs.RouteLemmas.{some_route, some_there, stops_of}
-use Rattle.net_routes.proofs.FoundLemmas.{all_made, to_search, refused_behind, whole_found, sound_found}
+use Rattle.net_routes.proofs.FoundLemmas.{AreRowsFound, oks, all_made, to_search, refused_behind, whole_found, sound_found, table_found}
 use Rattle.net_routes.proofs.finding.routes.Goals as goal
 
 pub search_all-requires-clause-stops : goal.search_all-requires-clause-stops
@@ -36,42 +37,36 @@ returns-in_err-rows-clause-err g c =
     let from = made.1 ∙ c.in_ok-searches.ensures in
     rw (p.1, p.2) (refused_behind graph c.in_ok-net.net nodes ids c.args.shortest _ c.in_err-rows.field-0.0 (subst U (sym c.as_slice-ids.ensures.ids) c.as_slice-ids.ensures.rising) all net made.0 from c.in_err-rows.ensures.err)
 
-pub returns-clause-ok : goal.returns-clause-ok
-returns-clause-ok g c a b need =
-    let graph = c.args.graph.now in
+-- the rows that are kept
+rows_are : (g : _) (c : goal.After-drop-hops-2 g) → AreRowsFound c.args.graph.now c.in_ok-net.net c.args.nodes.now c.from-stops.result c.as_slice-ids.result.now c.args.shortest c.search_all.new.searches.items c.from.result
+rows_are g c =
     let nodes = c.args.nodes.now in
     let ids = c.as_slice-ids.result.now in
-    let stops = c.from-stops.result in
-    let rows = c.in_ok-rows.rows.items in
-    let all = stops_of stops stops c.in_ok-from_slice.field-0.items nodes refl c.in_ok-from_slice.ensures.items c.from-stops.ensures.ids in
     let N : List Hop → Type 0 = λ ss. IsNet ss c.in_ok-net.net.places c.in_ok-net.net.rows.items in
-    let net : IsNet (hops graph) c.in_ok-net.net.places c.in_ok-net.net.rows.items = subst N (c.as_slice.ensures.value ∙ c.in_ok-hops.ensures.hops) c.in_ok-net.ensures.net in
     let made = all_made c.in_ok-net.net nodes ids c.args.shortest _ _ c.search_all.ensures in
-    let from = made.1 ∙ c.in_ok-searches.ensures in
-    some_route graph c.args.shortest a b (route_at stops rows a b)
-    (whole_found graph c.in_ok-net.net nodes stops ids c.args.shortest _ rows c.as_slice-ids.ensures.ids c.as_slice-ids.ensures.rising all net made.0 from c.in_ok-rows.ensures.ok a b need)
+    record {
+      is = c.as_slice-ids.ensures.ids;
+      net_is = subst N (c.as_slice.ensures.value ∙ c.in_ok-hops.ensures.hops) c.in_ok-net.ensures.net;
+      found = made.0;
+      from = made.1 ∙ c.in_ok-searches.ensures;
+      parts = ap oks c.from.ensures ∙ c.in_ok-rows.ensures.ok;
+    }
+
+stops_are : (g : _) (c : goal.After-drop-hops-2 g) → (id : ℕ) → Contains c.from-stops.result id ↔ Contains c.args.nodes.now id
+stops_are g c = stops_of c.from-stops.result c.from-stops.result c.in_ok-from_slice.field-0.items c.args.nodes.now refl c.in_ok-from_slice.ensures.items c.from-stops.ensures.ids
+
+pub returns-clause-ok : goal.returns-clause-ok
+returns-clause-ok g c a b need =
+    let w = whole_found _ _ _ _ _ _ _ _ (rows_are g c) c.as_slice-ids.ensures.rising (stops_are g c) a b need in
+    some_route c.args.graph.now c.args.shortest a b (route_at c.from-stops.result c.from.result a b) w
 
 pub returns-clause-whole : goal.returns-clause-whole
 returns-clause-whole g c a b need =
-    let graph = c.args.graph.now in
-    let nodes = c.args.nodes.now in
-    let ids = c.as_slice-ids.result.now in
-    let stops = c.from-stops.result in
-    let rows = c.in_ok-rows.rows.items in
-    let all = stops_of stops stops c.in_ok-from_slice.field-0.items nodes refl c.in_ok-from_slice.ensures.items c.from-stops.ensures.ids in
-    let N : List Hop → Type 0 = λ ss. IsNet ss c.in_ok-net.net.places c.in_ok-net.net.rows.items in
-    let net : IsNet (hops graph) c.in_ok-net.net.places c.in_ok-net.net.rows.items = subst N (c.as_slice.ensures.value ∙ c.in_ok-hops.ensures.hops) c.in_ok-net.ensures.net in
-    let made = all_made c.in_ok-net.net nodes ids c.args.shortest _ _ c.search_all.ensures in
-    let from = made.1 ∙ c.in_ok-searches.ensures in
-    let w = whole_found graph c.in_ok-net.net nodes stops ids c.args.shortest _ rows c.as_slice-ids.ensures.ids c.as_slice-ids.ensures.rising all net made.0 from c.in_ok-rows.ensures.ok a b need in
-    some_there (route_at stops rows a b) w.0 w.1
+    let w = whole_found _ _ _ _ _ _ _ _ (rows_are g c) c.as_slice-ids.ensures.rising (stops_are g c) a b need in
+    some_there (route_at c.from-stops.result c.from.result a b) w.0 w.1
 
 pub returns-clause-sound : goal.returns-clause-sound
-returns-clause-sound g c =
-    let graph = c.args.graph.now in
-    let nodes = c.args.nodes.now in
-    let N : List Hop → Type 0 = λ ss. IsNet ss c.in_ok-net.net.places c.in_ok-net.net.rows.items in
-    let net : IsNet (hops graph) c.in_ok-net.net.places c.in_ok-net.net.rows.items = subst N (c.as_slice.ensures.value ∙ c.in_ok-hops.ensures.hops) c.in_ok-net.ensures.net in
-    let made = all_made c.in_ok-net.net nodes c.as_slice-ids.result.now c.args.shortest _ _ c.search_all.ensures in
-    let from = made.1 ∙ c.in_ok-searches.ensures in
-    sound_found graph c.in_ok-net.net nodes c.from-stops.result c.as_slice-ids.result.now c.args.shortest _ c.in_ok-rows.rows.items c.as_slice-ids.ensures.ids net made.0 from c.in_ok-rows.ensures.ok
+returns-clause-sound g c = sound_found _ _ _ _ _ _ _ _ (rows_are g c)
+
+pub returns-clause-table : goal.returns-clause-table
+returns-clause-table g c = table_found _ _ _ _ _ _ _ _ (rows_are g c) c.as_slice-ids.ensures.rising (stops_are g c)

@@ -1,4 +1,4 @@
-use Rattle.std.proofs.Common.{◌≡◌, ℕ, length}
+use Rattle.std.proofs.Common.{◌≡◌, length}
 use Rattle.pcap_text.specs.Checksum as spec
 use Rattle.pcap_text.proofs.checksum.sum_on.Given as goal
 

@@ -1,7 +1,7 @@
 use Rattle.std.proofs.Common.{◌≡◌, ◌∙◌, ℕ, ◌+◌, ap, drop, length, arith}
 use Rattle.std.proofs.lemmas.Result.{err_from_is_err_and}
 use Rattle.pcap_text.specs.Reading.{kept_of, records}
-use Rattle.pcap_text.proofs.Records.{takes, stops, is_done, some_left, none_left}
+use Rattle.pcap_text.proofs.RecordLemmas.{takes, stops, is_done, some_left, none_left}
 use Rattle.pcap_text.proofs.reading.read_records.Goals as goal
 use Rattle.pcap_text.specs.Writing.{head_size, front_size}
 

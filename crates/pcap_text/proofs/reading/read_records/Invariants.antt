@@ -1,6 +1,6 @@
 use Rattle.std.proofs.Common.{◌≡◌, ◌+◌, length, drop}
 use Rattle.pcap_text.specs.Reading.{records}
-use Rattle.pcap_text.proofs.Records.{joined}
+use Rattle.pcap_text.proofs.RecordLemmas.{joined}
 use Rattle.pcap_text.proofs.reading.read_records.Given as goal
 use Rattle.pcap_text.specs.Writing.{head_size}
 

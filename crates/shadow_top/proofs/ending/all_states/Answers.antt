@@ -1,4 +1,4 @@
-use Rattle.std.proofs.Common.{◌≡◌, ℕ, ◌<◌, ◌≤◌, ◌^◌, ◌∙◌, arith, length, All, Some, slice_get, ap, sym, subst}
+use Rattle.std.proofs.Common.{◌∙◌, arith, length, All, slice_get, ap, sym, subst}
 use Rattle.host_state.specs.Listed.{HasIds, names_of}
 use Rattle.host_state.specs.declared.files.listed.Listing.{Listing}
 use Rattle.shadow_top.proofs.EndLemmas.{none-there, one-more, all-more, few-hosts, few-processes, tasks-count}

@@ -1,4 +1,4 @@
-use Rattle.std.proofs.Common.{◌≡◌, ℕ, ◌∙◌, arith, length, Some, slice_get, ap}
+use Rattle.std.proofs.Common.{arith, length, ap}
 use Rattle.shadow_top.proofs.EndLemmas.{none-there, one-more, states-more}
 use Rattle.shadow_top.proofs.ending.host_states.Goals as goal
 

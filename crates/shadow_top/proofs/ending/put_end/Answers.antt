@@ -1,6 +1,5 @@
-use Rattle.std.proofs.Common.{◌≡◌, ◌∙◌, arith, List, Vec, Global, length, ap, sym, subst}
+use Rattle.std.proofs.Common.{◌∙◌, arith, length, ap, sym, subst}
 use Rattle.sim_base.specs.declared.outside.sink.WriteError.TheVariants as write
-use Rattle.sim_base.specs.declared.state.State.{State}
 use Rattle.host_state.specs.Listed.{names_of}
 use Rattle.host_state.specs.declared.files.listed.Listing.{Listing}
 use Rattle.shadow_top.specs.Ending.{TellsAll}

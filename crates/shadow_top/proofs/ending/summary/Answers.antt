@@ -1,5 +1,3 @@
-use Rattle.std.proofs.Common.{◌≡◌, refl, sym, subst, Some}
-use Rattle.net_run.specs.Rest.{summary_in}
 use Rattle.shadow_top.proofs.EndLemmas.{no-summary, summary-told}
 use Rattle.shadow_top.proofs.ending.summary.Goals as goal
 

@@ -1,4 +1,4 @@
-use Rattle.std.proofs.Common.{◌≡◌, inl, inr, List, map, option_map, refl, ap, subst, ◌∙◌}
+use Rattle.std.proofs.Common.{inl, inr, List, map, option_map, refl, ap, subst, ◌∙◌}
 use Rattle.std.proofs.lemmas.Result.{err_from_is_err_and}
 use Rattle.host_state.specs.Files.{put_of}
 use Rattle.host_state.specs.declared.files.piece.Piece.{Piece}

@@ -1,4 +1,4 @@
-use Rattle.std.proofs.Common.{◌≡◌, ap, sym, subst, All, Option}
+use Rattle.std.proofs.Common.{sym, subst, All, Option}
 use Rattle.std.proofs.lemmas.Result.{err_from_is_err_and}
 use Rattle.sim_base.specs.Sink.{Content}
 use Rattle.host_state.specs.Listed.{HasIds, names_of}

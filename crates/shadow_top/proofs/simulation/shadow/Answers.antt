@@ -7,4 +7,4 @@ pub returns-clause-headline : goal.returns-clause-headline
 returns-clause-headline g c =
     headline_of (map string_bytes c.args.words.now) (g.S.Source.held c.args.source.now) (g.K.Sink.content c.args.sink.now) (g.K.Sink.content c.run_and_tell.new.sink)
     (g.S.Source.faults c.args.source.now) (g.S.Source.faults c.run_and_tell.new.source) (g.K.Sink.faults c.args.sink.now) (g.K.Sink.faults c.run_and_tell.new.sink)
-    c.run_and_tell.result c.run_and_tell.ensures
+    c.run_and_tell.result c.run_and_tell.ensures.outcome

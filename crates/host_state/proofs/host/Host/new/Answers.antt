@@ -1,4 +1,4 @@
-use Rattle.std.proofs.Common.{◌≡◌, ℕ, List, [], length, replicate, ap, ◌∙◌, subst, refl, rules}
+use Rattle.std.proofs.Common.{◌≡◌, ℕ, List, [], length, replicate, ap, ◌∙◌, subst, refl}
 use Rattle.sim_base.specs.declared.event.Event.{Event}
 use Rattle.sim_base.specs.Draws.{host_generator}
 use Rattle.host_calls.specs.Parts.{PartsStand}
@@ -13,12 +13,12 @@ use Rattle.host_state.proofs.host.Host.new.Goals as goal
 
 pub returns : goal.returns
 returns c =
-    let rows : List ProcessRow = c.args.row.processes.items in
+    let rows : List ProcessRow = c.args.row.processes in
     let whole : LinkState = begins_all 0 rows (new_link c.args.row) in
     let grown : c.begin_all.new.self ≡ whole =
     c.in_ok-begin_all.ensures
-    ∙ (ap (λ (rs : List ProcessRow). begins_all 0 rs c.new-link.result) c.as_slice.ensures.value ∙ ap (begins_all 0 rows) c.new-link.ensures) in
-    let count : c.len-count.result ≡ length rows = search rules in
+    ∙ (ap (λ (rs : List ProcessRow). begins_all 0 rs c.new-link.result) c.as_slice.ensures ∙ ap (begins_all 0 rows) c.new-link.ensures) in
+    let count : length c.as_slice-count.result.now ≡ length rows = ap length c.as_slice-count.ensures in
     let counted : PartsStand c.in_ok-parts.parts (no_parts c.args.row.address c.for_host-draws.result (length rows)) =
     subst (λ (n : ℕ). PartsStand c.in_ok-parts.parts (no_parts c.args.row.address c.for_host-draws.result n)) count c.in_ok-parts.ensures in
     let parts : PartsStand c.in_ok-parts.parts (no_parts c.args.row.address (host_generator c.args.row.seed c.args.row.host.index) (length rows)) =

@@ -1,0 +1,32 @@
+//! What a call that may wait would do.
+
+use crate::accepting::AcceptPlan;
+use crate::connecting::ConnectPlan;
+use crate::descriptors::Descriptor;
+use crate::polling::PollPlan;
+use crate::receiving::RecvPlan;
+use crate::sending::SendPlan;
+
+/// What a call that may wait would do: it isn't refused, and doesn't wait.
+#[derive(Clone, Copy, PartialEq, Eq)]
+pub enum Plan {
+    /// It reads what is no socket.
+    Read(Transfer),
+    /// It writes to what is no socket.
+    Write(Transfer),
+    Accept(AcceptPlan),
+    Connect(ConnectPlan),
+    Send(SendPlan),
+    Receive(RecvPlan),
+    /// It has slept.
+    Sleep,
+    Poll(PollPlan),
+}
+
+/// So many bytes at an address of the guest, and the file that they come from or go to.
+#[derive(Clone, Copy, PartialEq, Eq)]
+pub struct Transfer {
+    pub d: Descriptor,
+    pub at: u32,
+    pub n: u32,
+}

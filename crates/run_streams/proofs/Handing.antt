@@ -1,0 +1,47 @@
+-- packets that are handed to a host's sockets
+use Rattle.std.proofs.Common.{ℕ, Bool, List, [], ◌∷◌, ◌++◌, Contains}
+use Rattle.std.proofs.lemmas.List.Elements.{Contains-append_left}
+use Rattle.sim_base.specs.declared.address.Ip.{Ip}
+use Rattle.sim_base.specs.declared.address.Addr.{Addr}
+use Rattle.sim_base.specs.declared.packet.Packet.{Packet}
+use Rattle.sock_tcp.specs.connection.Tcb.{Tcb}
+use Rattle.host_calls.specs.Events.{arrives}
+use Rattle.host_state.specs.declared.net.Net.{Net}
+use Rattle.host_state.specs.Arriving.{is_handed_over, are_handed_over}
+use Rattle.host_state.specs.Host.{with_link, with_parts}
+use Rattle.host_state.specs.HostRecord.{HostRecord}
+use Rattle.host_state.specs.Link.{LinkState, logs}
+use Rattle.socket_streams.specs.Records.{packets_of}
+use Rattle.call_streams.proofs.Table.{arrives_moves}
+use Rattle.run_streams.specs.Nets.{link_packets}
+use Rattle.run_streams.proofs.Every.{Every}
+use Rattle.run_streams.proofs.Links.{carries_logs}
+use Rattle.run_streams.proofs.Hosts.{IsGood, HostMoves, rests, on, parts_move, link_moves, settled}
+
+module _ (net : Net) (scope : Addr → Addr → Bool) (own : Ip) (n : ℕ) (others : List Tcb) (flying : List Packet) where
+  abbrev H : HostRecord → HostRecord → Type 0
+  H h k = HostMoves net scope own n others flying h k
+
+  abbrev then : (h k l : HostRecord) → H h k → (IsGood own n k → H k l) → H h l
+  then h k l first second = on net scope own n others flying h k l first second
+
+  pub handed : (packet : Packet) (h : HostRecord) → Contains flying packet → IsGood own n h → H h (is_handed_over net packet h)
+  unfolding is_handed_over
+  handed packet h c good =
+      let r = arrives h.link.time packet h.parts in
+      let m : LinkState = logs r.0 packet h.link in
+      let logged : HostRecord = with_link m h in
+      let arrived : HostRecord = with_parts r.1 logged in
+      let out = packets_of h.parts.shared.outlet in
+      then h logged _ (link_moves net scope own n others flying h m good (λ S f k. carries_logs net S own n r.0 packet h.link k))
+      (λ a. then logged arrived _
+      (parts_move net scope own n others flying logged r.1 a
+      (arrives_moves net.known.book (flying ++ link_packets m) h.link.time packet h.parts
+      (Contains-append_left (flying ++ link_packets m) out packet (Contains-append_left flying (link_packets m) packet c))))
+      (λ b. settled net scope own n others flying arrived b))
+
+  pub all_handed : (packets : List Packet) (h : HostRecord) → Every (λ p. Contains flying p) packets → IsGood own n h → H h (are_handed_over net packets h)
+  unfolding are_handed_over
+  all_handed [] h each good = rests net scope own n others flying h good
+  all_handed (p ∷ ps) h each good =
+      then h (is_handed_over net p h) _ (handed p h each.0 good) (λ next. all_handed ps (is_handed_over net p h) each.1 next)

@@ -1,0 +1,10 @@
+pub mod Every
+pub mod Lanes
+pub mod Links
+pub mod Hosts
+pub mod Handing
+pub mod Walk
+pub mod Firing
+pub mod Worlds
+pub mod Insides
+pub mod Histories

@@ -1,0 +1,5 @@
+use Rattle.shadow_top.proofs.OneShown.{one_shown}
+use Rattle.shadow_top.proofs.laws.one_shown.Goals as goal
+
+pub returns : goal.returns
+returns c = one_shown

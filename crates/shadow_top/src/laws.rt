@@ -1,0 +1,11 @@
+//! A law of the definitions: an input, and what stood before, determine what is shown.
+
+ghost use Rattle.std.specs.Prelude.{◌≡◌, ℕ};
+ghost use Rattle.sim_base.specs.Sink.{Content};
+ghost use Rattle.shadow_top.specs.Input.{Input};
+ghost use Rattle.shadow_top.specs.Shown.{IsShown};
+
+/// An input has at most one outcome: console, data directory and status.
+pub fn one_shown()
+    ensures { (i : Input) (old one other : Content) (status another : ℕ) → IsShown i old one status → IsShown i old other another → (one ≡ other) × (status ≡ another) }
+{}

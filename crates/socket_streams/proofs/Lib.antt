@@ -1,0 +1,11 @@
+pub mod Chains
+pub mod Slots
+pub mod Listening
+pub mod Wants
+pub mod Shares
+pub mod Turns
+pub mod Sockets
+pub mod Hosts
+pub mod Rows
+pub mod Acts
+pub mod Moving

@@ -1,0 +1,4 @@
+pub mod Records
+pub mod Inside
+pub mod Leads
+pub mod May

@@ -1,0 +1,68 @@
+-- what may happen at a host's sockets, and what they are then
+use Rattle.std.specs.Prelude.{◌≡◌, ◌⊎◌, ℕ, true, List, [], ◌∷◌, ◌++◌, Contains, slice_get, Option, Some, None}
+use Rattle.sim_base.specs.Addresses.{is_local}
+use Rattle.sim_base.specs.declared.address.Ip.{Ip}
+use Rattle.sim_base.specs.declared.address.Addr.{Addr}
+use Rattle.sim_base.specs.declared.packet.Packet.{Packet}
+use Rattle.sim_base.specs.declared.time.Time.{Time}
+use Rattle.sock_tcp.specs.connection.Tcb.{Tcb}
+use Rattle.sock_tcp.specs.listener.Listen.{Listen}
+use Rattle.host_sockets.specs.Wanted.{Wanted}
+use Rattle.host_sockets.specs.TcpSocket.{TcpSocket}
+use Rattle.host_sockets.specs.Sockets.{SocketsRecord}
+use Rattle.tcp_streams.specs.Net.{IsVoid}
+use Rattle.socket_laws.specs.Histories.{SocketsAct, sockets_acted, sockets_after}
+use Rattle.socket_laws.specs.Histories.SocketsAct.{make_udp, bind_udp, connect_udp, send_udp, recv_udp, close_udp, make_tcp, bind_tcp, listen_tcp, accept_tcp, connect_tcp, connect_again, send_tcp, recv_tcp, shut_tcp, take_error, close_tcp, arrival, alarm, elsewhere}
+use Rattle.socket_streams.specs.Records.{packets_of}
+
+-- a packet is on its way, or tells nothing of a stream
+abbrev pub MayFly : List Packet → Packet → Type 0
+MayFly flying p = Contains flying p ⊎ IsVoid p.load
+
+-- what arrives is on its way; and what is wanted elsewhere is on its way already, or tells nothing of a stream
+abbrev pub MayDo : List Packet → SocketsAct → Type 0
+MayDo flying (arrival p) = Contains flying p
+MayDo flying (elsewhere w) = (p : Packet) → Contains (packets_of w) p → MayFly flying p
+MayDo flying make_udp = Unit {0}
+MayDo flying (bind_udp k at) = Unit {0}
+MayDo flying (connect_udp k to) = Unit {0}
+MayDo flying (send_udp k bytes to) = Unit {0}
+MayDo flying (recv_udp k count) = Unit {0}
+MayDo flying (close_udp k) = Unit {0}
+MayDo flying make_tcp = Unit {0}
+MayDo flying (bind_tcp k at) = Unit {0}
+MayDo flying (listen_tcp k count) = Unit {0}
+MayDo flying (accept_tcp k) = Unit {0}
+MayDo flying (connect_tcp k to) = Unit {0}
+MayDo flying (connect_again k) = Unit {0}
+MayDo flying (send_tcp k bytes to quiet) = Unit {0}
+MayDo flying (recv_tcp k count) = Unit {0}
+MayDo flying (shut_tcp k how) = Unit {0}
+MayDo flying (take_error k) = Unit {0}
+MayDo flying (close_tcp k) = Unit {0}
+MayDo flying (alarm object serial) = Unit {0}
+
+abbrev pub MayAll : List Ip → List Packet → List (Time × SocketsAct) → SocketsRecord → Wanted → Type 0
+MayAll hosts flying [] t w = Unit {0}
+MayAll hosts flying ((now, act) ∷ acts) t w =
+    MayDo (flying ++ packets_of w) act
+    × MayAll hosts flying acts (sockets_acted hosts now act t w).0 (sockets_acted hosts now act t w).1
+
+-- acts that may happen lead from one state of a host's sockets to another
+pub record Moves (hosts : List Ip) (flying : List Packet) (x y : SocketsRecord × Wanted) : Type 0 where
+  pub acts : List (Time × SocketsAct)
+  pub may : MayAll hosts flying acts x.0 x.1
+  pub after : sockets_after hosts acts x ≡ y
+
+-- a socket that listens has no record of its own, and what a socket is bound to is an address of the host
+pub record Plain (own : Ip) (tcb : Option Tcb) (listen : Option Listen) (bound : Option Addr) : Type 0 where
+  pub listens : (l : Listen) → listen ≡ Some l → tcb ≡ None
+  pub here : (at : Addr) → bound ≡ Some at → is_local own at.ip ≡ true
+
+abbrev pub IsPlain : Ip → TcpSocket → Type 0
+IsPlain own s = Plain own s.tcb s.listen s.bound
+
+-- so are all sockets of a host with this address
+pub record ArePlain (own : Ip) (t : SocketsRecord) : Type 0 where
+  pub host : t.own ≡ own
+  pub sockets : (k : ℕ) (s : TcpSocket) → slice_get t.tcp k ≡ Some s → IsPlain own s
