@@ -9,7 +9,7 @@ use std::error::Error;
 use std::fmt;
 
 /// What is wrong with a text.
-#[derive(Clone, Copy, Debug, PartialEq, Eq)]
+#[derive(Clone, Copy, Debug)]
 pub enum GmlKind {
     /// Some byte breaks UTF-8.
     NotUtf8,
@@ -32,14 +32,14 @@ pub enum GmlKind {
 }
 
 /// The first fault of a text, with its line, from 1.
-#[derive(Clone, Copy, Debug, PartialEq, Eq)]
+#[derive(Clone, Copy, Debug)]
 pub struct GmlFault {
     pub line: u64,
     pub kind: GmlKind,
 }
 
 /// Why no graph was read.
-#[derive(Clone, Copy, Debug, PartialEq, Eq)]
+#[derive(Clone, Copy, Debug)]
 pub enum GmlError {
     /// The text has a fault.
     Fault(GmlFault),

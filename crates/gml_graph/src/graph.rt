@@ -8,7 +8,7 @@ use sim_base::Time;
 use std::marker::Model;
 
 /// A place of the network. The rates are in bits a second.
-#[derive(Clone, Copy, PartialEq, Eq)]
+#[derive(Clone, Copy)]
 pub struct Node {
     pub id: u32,
     pub bandwidth_up: Option<u64>,
@@ -16,7 +16,7 @@ pub struct Node {
 }
 
 /// A way from one node to another. The reliability is in units of 10^-9: 10^9 loses nothing.
-#[derive(Clone, Copy, PartialEq, Eq)]
+#[derive(Clone, Copy)]
 pub struct Edge {
     pub source: u32,
     pub target: u32,

@@ -12,7 +12,7 @@ const MOST_DIGITS: usize = 36;
 const MOST_EXPONENT_DIGITS: usize = 4;
 
 /// A number: `digits` times 10^`up` over 10^`down`, below 0 where it is negative.
-#[derive(Clone, Copy, PartialEq, Eq)]
+#[derive(Clone, Copy)]
 pub struct Decimal {
     pub digits: u128,
     pub up: u32,

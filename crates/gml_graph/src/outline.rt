@@ -17,7 +17,7 @@ use std::marker::Model;
 const GREATEST_DEPTH: u8 = 16;
 
 /// What stands behind a key.
-#[derive(Clone, Copy, PartialEq, Eq)]
+#[derive(Clone, Copy)]
 pub enum Value {
     Number(Decimal),
     Text(Quoted),
@@ -26,7 +26,7 @@ pub enum Value {
 }
 
 /// A pair: how many lists are open where it stands, its key with the key's line, and its value.
-#[derive(Clone, Copy, PartialEq, Eq)]
+#[derive(Clone, Copy)]
 pub struct OutlineRow {
     pub value: Value,
     pub line: u64,
@@ -35,7 +35,7 @@ pub struct OutlineRow {
 }
 
 /// A key whose value comes next.
-#[derive(Clone, Copy, PartialEq, Eq)]
+#[derive(Clone, Copy)]
 pub struct Waiting {
     pub line: u64,
     pub key: Key,

@@ -8,7 +8,7 @@ use crate::number::{Decimal, read_decimal};
 use sim_base::{Time, read_rate, read_time};
 
 /// The keys that mean something, somewhere.
-#[derive(Clone, Copy, PartialEq, Eq)]
+#[derive(Clone, Copy)]
 pub enum Key {
     Graph,
     Directed,
@@ -27,14 +27,14 @@ pub enum Key {
 }
 
 /// What a text between quotes says: the time and the rate that it spells, where it spells one.
-#[derive(Clone, Copy, PartialEq, Eq)]
+#[derive(Clone, Copy)]
 pub struct Quoted {
     pub time: Option<Time>,
     pub rate: Option<u64>,
 }
 
 /// A token of a text.
-#[derive(Clone, Copy, PartialEq, Eq)]
+#[derive(Clone, Copy)]
 pub enum Token {
     Name(Key),
     Number(Decimal),
@@ -50,7 +50,7 @@ pub enum Token {
 }
 
 /// A token and the line on which it begins, from 1.
-#[derive(Clone, Copy, PartialEq, Eq)]
+#[derive(Clone, Copy)]
 pub struct Lexeme {
     pub line: u64,
     pub token: Token,
