@@ -55,6 +55,7 @@ use Rattle.run_plan.specs.declared.fault.ReadStop.TheVariants.{Refused, ReadFail
 use Rattle.run_plan.specs.declared.host_row.HostRow.{HostRow}
 use Rattle.run_plan.specs.declared.plan.Plan.{Plan}
 use Rattle.run_plan.specs.declared.planned.Manner.{Manner}
+use Rattle.run_plan.specs.declared.planned.Planned.{Planned}
 use Rattle.run_plan.specs.declared.planned.Planned.TheVariants as plan
 use Rattle.run_plan.proofs.StableLemmas.{one_order}
 
