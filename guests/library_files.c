@@ -1,4 +1,4 @@
-/* Descriptors, clocks and timers: /etc/hosts, pipes, fcntl, poll and select, sleeps, timerfd, random bytes. */
+/* Descriptors, clocks and timers: /etc/hosts, pipes, fcntl, poll and select, sleeps, timerfd, eventfd, random bytes. */
 #define _GNU_SOURCE
 #include <errno.h>
 #include <fcntl.h>
@@ -6,6 +6,7 @@
 #include <stdint.h>
 #include <stdio.h>
 #include <string.h>
+#include <sys/eventfd.h>
 #include <sys/ioctl.h>
 #include <sys/random.h>
 #include <sys/select.h>
@@ -154,6 +155,58 @@ static void timers(void)
     close(fd);
 }
 
+static void tell_count(int fd)
+{
+    eventfd_t count = 0;
+
+    tell("eventfd_read", eventfd_read(fd, &count));
+    printf("%llu\n", (unsigned long long)count);
+}
+
+static void tell_readiness(int fd)
+{
+    struct pollfd entry = {.fd = fd, .events = POLLIN | POLLOUT};
+
+    tell("poll", poll(&entry, 1, 3));
+    printf("%d\n", entry.revents);
+}
+
+/* what writes add a read takes, whole or, of a semaphore, by 1 */
+static void counters(void)
+{
+    int whole = eventfd(5, EFD_NONBLOCK), semaphore = eventfd(2, EFD_SEMAPHORE | EFD_CLOEXEC), ends[2];
+    uint64_t numbers[2] = {7, 9};
+
+    tell("eventfd", whole);
+    tell("eventfd", semaphore);
+    tell("eventfd", eventfd(0, 4));
+    tell("flags", fcntl(whole, F_GETFL) & O_NONBLOCK);
+    tell("write", write(whole, numbers, sizeof numbers));
+    tell_readiness(whole);
+    tell_count(whole);
+    tell_count(whole);
+    tell_readiness(whole);
+    tell("eventfd_write", eventfd_write(whole, UINT64_MAX - 1));
+    tell_readiness(whole);
+    tell("eventfd_write", eventfd_write(whole, 1));
+    tell("eventfd_write", eventfd_write(whole, UINT64_MAX));
+    tell_count(whole);
+    tell("read", read(whole, numbers, 7));
+    tell("write", write(whole, numbers, 7));
+    tell_count(semaphore);
+    tell_count(semaphore);
+    passed();
+    tell("poll", poll(&(struct pollfd){.fd = semaphore, .events = POLLIN}, 1, 3));
+    printf("%lld\n", passed());
+    close(whole);
+    close(semaphore);
+    /* the writing end has the semaphore's number, and takes all */
+    tell("pipe", pipe(ends));
+    tell("write", write(ends[1], numbers, sizeof numbers));
+    close(ends[0]);
+    close(ends[1]);
+}
+
 static void random_bytes(void)
 {
     static unsigned char bytes[1000];
@@ -175,6 +228,7 @@ int main(void)
     pipes();
     full_pipe();
     timers();
+    counters();
     random_bytes();
     return 0;
 }

@@ -8,6 +8,7 @@
 #include <time.h>
 
 enum {
+    CALL_EVENTFD2 = 19,
     CALL_FCNTL = 25,
     CALL_OPENAT = 56,
     CALL_CLOSE = 57,

@@ -1,4 +1,4 @@
-/* Descriptors: files, pipes and what stands for them. */
+/* Descriptors: files, pipes, counters and what stands for them. */
 #include "call.h"
 
 #include <errno.h>
@@ -6,9 +6,13 @@
 #include <poll.h>
 #include <signal.h>
 #include <stdarg.h>
+#include <sys/eventfd.h>
 #include <sys/ioctl.h>
 #include <sys/socket.h>
 #include <unistd.h>
+
+/* which of the machine's 256 descriptors are eventfds */
+static char is_eventfd[256];
 
 int openat(int directory, const char *path, int flags, ...)
 {
@@ -27,7 +31,11 @@ int creat(const char *path, mode_t mode)
 
 int close(int fd)
 {
-    return CALL(CALL_CLOSE, fd);
+    int closed = CALL(CALL_CLOSE, fd);
+
+    if (closed == 0)
+        is_eventfd[fd] = 0;
+    return closed;
 }
 
 int pipe2(int ends[2], int flags)
@@ -69,7 +77,7 @@ static ssize_t write_some(int fd, const void *bytes, size_t size)
 }
 
 /* The machine's call writes what there is room for; this one goes on until all is written or the descriptor would block,
- * as Linux does. */
+ * as Linux does. Of an eventfd that is one number, also where more bytes are given. */
 ssize_t write(int fd, const void *bytes, size_t size)
 {
     const char *from = bytes;
@@ -81,8 +89,27 @@ ssize_t write(int fd, const void *bytes, size_t size)
         if (some <= 0)
             return done ? (ssize_t)done : some;
         done += (size_t)some;
-    } while (done < size);
+    } while (done < size && !is_eventfd[fd]);
     return (ssize_t)done;
+}
+
+int eventfd(unsigned count, int flags)
+{
+    int fd = CALL(CALL_EVENTFD2, count, flags);
+
+    if (fd >= 0)
+        is_eventfd[fd] = 1;
+    return fd;
+}
+
+int eventfd_read(int fd, eventfd_t *count)
+{
+    return read(fd, count, sizeof *count) == sizeof *count ? 0 : -1;
+}
+
+int eventfd_write(int fd, eventfd_t number)
+{
+    return write(fd, &number, sizeof number) == sizeof number ? 0 : -1;
 }
 
 int fcntl(int fd, int command, ...)
