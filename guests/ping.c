@@ -4,7 +4,7 @@
 
 int main(int argc, char **argv)
 {
-    char bytes[8];
+    char bytes[8] = {0};
     struct sockaddr_in to;
     struct timespec second = {1, 0};
     uint32_t count, answers = 0;
