@@ -16,8 +16,6 @@ general_has_no_effect _ = false
 
 abbrev pub option_has_no_effect : Option Key → Bool
 option_has_no_effect (Some keys.LogLevel) = true
-option_has_no_effect (Some keys.PcapEnabled) = true
-option_has_no_effect (Some keys.PcapCaptureSize) = true
 option_has_no_effect _ = false
 
 -- the path of a key below another one

@@ -27,10 +27,7 @@ fn general_has_no_effect(key: Option<Key>) -> bool
 fn option_has_no_effect(key: Option<Key>) -> bool
     ensures { result ≡ option_has_no_effect key }
 {
-    matches!(
-        key,
-        Some(Key::LogLevel | Key::PcapEnabled | Key::PcapCaptureSize)
-    )
+    matches!(key, Some(Key::LogLevel))
 }
 
 /// The pairs of the value of a pair, if it is a mapping.
