@@ -151,11 +151,6 @@ pub captured-end : (f : HostNames → Captured → List Put) (hosts : List HostL
     → puts ++ with_bytes (by_host f (map said hosts) cs) ≡ whole → puts ≡ whole
 captured-end f hosts cs puts whole none so_far = sym (append-nil puts) ∙ ap (λ (l : List Put). puts ++ with_bytes l) (sym (captured-none f hosts cs none)) ∙ so_far
 
--- one of two iterators has ended
-pub either-ended : {S T : Type 0} (P : S → Type 0) (Q : T → Type 0) (a b n : ℕ) → ((s : S) × (a ≡ 0) × P s) ⊎ ((t : T) × (b ≡ 0) × Q t) → b ≡ n → (a ≡ 0) ⊎ (n ≡ 0)
-either-ended P Q a b n (inl h) left = inl h.1
-either-ended P Q a b n (inr h) left = inr (sym left ∙ h.1)
-
 -- ---- one line of all
 
 at-listed : (hosts : List HostListing) (i : ℕ) (host : HostListing) → i < length hosts → host ≡ get_or hosts i host → slice_get (map said hosts) i ≡ Some (said host)

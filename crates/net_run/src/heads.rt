@@ -55,11 +55,7 @@ fn head_pieces(alloc: Global, hosts: &[HostListing]) -> Result<Vec<Piece>, NoMem
 }
 
 /// Puts the head of each capture, which is there from then on.
-pub fn put_heads<K: Sink>(
-    alloc: Global,
-    sink: &mut K,
-    listing: &Listing,
-) -> Result<(), WriteError>
+pub fn put_heads<K: Sink>(alloc: Global, sink: &mut K, listing: &Listing) -> Result<(), WriteError>
     ensures ok { OnOk result (K.content sink.new ≡ option_map (with_pieces (spec.all_heads (names_of listing.now))) (K.content sink.old)) }
     ensures err { OnErr result (PutsFront (spec.all_heads (names_of listing.now)) (K.content sink.old) (K.content sink.new)) }
     ensures count { CountsWrites result (K.faults sink.old) (K.faults sink.new) }

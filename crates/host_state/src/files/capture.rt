@@ -71,12 +71,7 @@ fn has_record(line: &Line) -> bool
 }
 
 /// The record of a line, behind others.
-fn push_record(
-    alloc: Global,
-    records: &mut Bytes,
-    size: u32,
-    line: &Line,
-) -> Result<(), NoMemory>
+fn push_record(alloc: Global, records: &mut Bytes, size: u32, line: &Line) -> Result<(), NoMemory>
     ensures { OnOk result (records.new ≡ records.old ++ lines.line_record size line.now) }
 {
     if !has_record(line) {

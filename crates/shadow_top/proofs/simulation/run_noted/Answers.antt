@@ -26,7 +26,6 @@ returns-in_err-put_run-clause-told g c =
 pub put_end-requires-clause-stands : goal.put_end-requires-clause-stands
 put_end-requires-clause-stands g c =
     let opened = c.args.opened in
-    let old : Option Content = g.K.Sink.content c.args.sink.now in
     let all = c.in_ok-put_run.ensures.told opened.rows.items c.in_ok-world.ensures.stands (begins_own opened c.in_ok-world.world c.requires c.in_ok-world.ensures.stands c.in_ok-world.ensures.ids) in
     (all.world, all.at)
 
