@@ -16,3 +16,4 @@ pub mod Stretches
 pub mod Paths
 pub mod Listings
 pub mod Gaining
+pub mod Capturing

@@ -4,6 +4,7 @@ use Rattle.std.specs.List.{filter}
 use Rattle.sim_base.specs.declared.outside.sink.Place.TheVariants as place
 use Rattle.host_calls.specs.declared.parts.Output.{Output}
 use Rattle.host_calls.specs.Numbers.{stdout_fileno, stderr_fileno}
+use Rattle.host_state.specs.Captured.{all_captures, no_head}
 use Rattle.host_state.specs.Files.{Put, first_id, written_to, log_name}
 use Rattle.host_state.specs.HostRecord.{HostRecord}
 use Rattle.host_state.specs.Listed.{HostNames, by_process, by_host}
@@ -43,8 +44,12 @@ told_line hosts l = record { time = l.time; host = listed_name (slice_get hosts 
 abbrev pub log_grown : List HostNames → List Line → Put
 log_grown hosts lines = (place.File log_name, flat_map log_line (map (told_line hosts) lines))
 
+-- what the hosts wrote, their captures with some bytes in front of the records, and the packet log
+abbrev pub grown_behind : (ℕ → List ℕ) → List HostNames → List (List Output) → List Line → List Put
+grown_behind front hosts outputs lines = hosts_grown hosts outputs ++ (all_captures front hosts lines ++ (log_grown hosts lines ∷ []))
+
 abbrev pub all_grown : List HostNames → List (List Output) → List Line → List Put
-all_grown hosts outputs lines = hosts_grown hosts outputs ++ (log_grown hosts lines ∷ [])
+all_grown hosts outputs lines = grown_behind no_head hosts outputs lines
 
 abbrev pub is_some : List ℕ → Bool
 is_some [] = false

@@ -1,4 +1,6 @@
 pub mod Arriving
+pub mod Captured
+pub mod Captures
 pub mod Extends
 pub mod Files
 pub mod Fire

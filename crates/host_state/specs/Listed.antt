@@ -1,5 +1,6 @@
--- What a listing tells of each host: its name, and of its processes the programs and the expected final states.
-use Rattle.std.specs.Prelude.{ℕ, ◌+◌, ◌≤◌, ◌^◌, List, [], ◌∷◌, ◌++◌, length, map}
+-- What a listing tells of each host: its name and address, its capture size, and of its processes the programs and the expected final states.
+use Rattle.std.specs.Prelude.{ℕ, ◌+◌, ◌≤◌, ◌^◌, List, [], ◌∷◌, ◌++◌, length, map, Option}
+use Rattle.sim_base.specs.declared.address.Ip.{Ip}
 use Rattle.host_state.specs.Files.{Put, first_id, program_of, expected_state}
 use Rattle.host_state.specs.HostRecord.{HostRecord}
 use Rattle.host_state.specs.World.{World}
@@ -11,6 +12,8 @@ use Rattle.host_state.specs.declared.files.listed.ProcessListing.{ProcessListing
 
 pub record HostNames : Type 0 where
   pub name : List ℕ
+  pub address : Ip
+  pub capture : Option ℕ
   pub processes : List ProcessListing
 
 abbrev pub listed_process : ProcessRow → ProcessListing
@@ -18,7 +21,7 @@ listed_process row = record { program = program_of row.path; expected = expected
 
 -- what a host's row says
 abbrev pub listed : Row → HostNames
-listed row = record { name = row.name; processes = map listed_process row.processes }
+listed row = record { name = row.name; address = row.address; capture = row.capture; processes = map listed_process row.processes }
 
 -- the same of all hosts of a world
 abbrev pub names_in : World → List HostNames
@@ -26,7 +29,7 @@ names_in w = map (λ (h : HostRecord). listed h.row) w.hosts
 
 -- what a listing says
 abbrev pub said : HostListing → HostNames
-said l = record { name = l.name; processes = l.processes.items }
+said l = record { name = l.name; address = l.address; capture = l.capture; processes = l.processes.items }
 
 abbrev pub names_of : Listing → List HostNames
 names_of l = map said l.hosts.items

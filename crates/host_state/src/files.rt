@@ -1,5 +1,6 @@
 //! The files that grow while a run goes on: whose they are, and what outputs and lines put there.
 
+pub(crate) mod capture;
 pub(crate) mod growing;
 pub(crate) mod listed;
 pub(crate) mod piece;

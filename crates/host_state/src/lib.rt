@@ -19,7 +19,7 @@ mod start;
 
 pub use files::growing::round_pieces;
 pub use files::listed::{HostListing, Listing, ProcessListing};
-pub use files::piece::{Piece, bytes_of, file_piece, log_piece, numbers};
+pub use files::piece::{Piece, bytes_of, capture_piece, file_piece, log_piece, numbers};
 pub use host::Host;
 pub use line::{Line, Logged};
 pub use net::{Images, Net, Nodes};

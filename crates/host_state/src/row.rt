@@ -111,5 +111,7 @@ pub struct Row {
     pub router_queue: QueueRule,
     /// The seed of the experiment.
     pub seed: u32,
+    /// The most bytes of a packet in its captures, where it has them.
+    pub capture: Option<u32>,
     pub processes: ProcessRows,
 }

@@ -45,7 +45,7 @@ two-of_three false true k e = refl
 two-of_three false false k e = absurd (cc)
 
 -- what follows in each of two files
-more-bytes : (i j : Bool) (a b x y : List ℕ) → (i ≡ true → j ≡ true → ⊥) → (if i then a ++ x else []) ++ ((if j then b ++ y else []) ++ [])
+pub more-bytes : (i j : Bool) (a b x y : List ℕ) → (i ≡ true → j ≡ true → ⊥) → (if i then a ++ x else []) ++ ((if j then b ++ y else []) ++ [])
     ≡ ((if i then a else []) ++ ((if j then b else []) ++ [])) ++ ((if i then x else []) ++ ((if j then y else []) ++ []))
 more-bytes true true a b x y not_both = absurd (not_both refl refl)
 more-bytes true false a b x y not_both = append-nil (a ++ x) ∙ ap (λ (l : List ℕ). l ++ x) (sym (append-nil a)) ∙ ap (λ (l : List ℕ). (a ++ []) ++ l) (sym (append-nil x))

@@ -7,6 +7,7 @@ mod SplitLemmas
 mod FileLemmas
 mod GrowthLemmas
 mod HostLemmas
+mod CaptureLemmas
 mod WholeLemmas
 pub mod PartLemmas
 pub mod GrownLemmas

@@ -1,4 +1,4 @@
--- The names of files: each tells its host, its process and its kind, and none is that of the packet log.
+-- The names of files: each tells its host, its process and its kind, and none is that of a capture or of the packet log.
 use Rattle.std.proofs.Common.{◌≡◌, ℕ, zero, suc, ◌+◌, ◌<◌, ◌^◌, Bool, true, false, not, ◌&&◌, ◌==◌, ◌≢◌, List, [], ◌∷◌, ◌++◌, length, take, drop, get_or, Option, Some, None, option_map, refl, sym, ap, ◌∙◌, ⊎_elim, arith, codes, append_assoc, eq-eqb, ne_eqb, length-drop, get_or-drop}
 use Rattle.std.specs.Prelude.{if◌then◌else◌}
 use Rattle.std.specs.Fmt.{decimal}
@@ -6,7 +6,7 @@ use Rattle.std.specs.Path.{rfind_below, rsplit_once}
 use Rattle.std.proofs.lemmas.Fmt.{decimal_injective}
 use Rattle.std.proofs.lemmas.Bool.{cases_eq}
 use Rattle.std.proofs.lemmas.List.{append_cancel_left}
-use Rattle.out_text.specs.Files.{file_name, file_suffix}
+use Rattle.out_text.specs.Files.{file_name, file_suffix, capture_name, interface_name}
 use Rattle.out_text.specs.Laws.{lacks}
 use Rattle.out_text.specs.declared.files.FileKind.{FileKind}
 use Rattle.out_text.specs.declared.files.FileKind.TheVariants.{Stdout, Stderr, Exit}
@@ -53,6 +53,66 @@ first_byte x y xs ys e = cc
 -- the packet log isn't a process's file
 pub log-is_no_file : (h p : List ℕ) (m : ℕ) (k : FileKind) → log_name ≡ file_name h p m k → ⊥
 log-is_no_file h p m k e = apart (first_byte 112 104 _ _ e)
+
+-- ---- captures
+
+abbrev capture_tail : Bool → List ℕ
+capture_tail loopback = interface_name loopback ++ codes ".pcap"
+
+capture_lacks_slash : (k : Bool) → lacks 47 (capture_tail k) ≡ true
+capture_lacks_slash true = refl
+capture_lacks_slash false = refl
+
+same_interface : (j k : Bool) → capture_tail j ≡ capture_tail k → j ≡ k
+same_interface true true e = refl
+same_interface false false e = refl
+same_interface true false e = absurd (let f : ◌≡◌ {A = ℕ} 108 101 = first_byte 108 101 _ _ e in omega arith)
+same_interface false true e = absurd (let f : ◌≡◌ {A = ℕ} 101 108 = first_byte 101 108 _ _ e in omega arith)
+
+-- a capture's name tells its host and its interface
+pub same-capture : (h g : List ℕ) (j k : Bool) → capture_name h j ≡ capture_name g k → (h ≡ g) × (j ≡ k)
+same-capture h g j k e =
+    let name = append_cancel_left (codes "hosts/") _ _ e in
+    let host = cut_at_last 47 h g (capture_tail j) (capture_tail k) (capture_lacks_slash j) (capture_lacks_slash k) name in
+    (host.0, same_interface j k host.1)
+
+-- the last byte of bytes that stand behind another one
+abbrev last_of : ℕ → List ℕ → ℕ
+last_of byte [] = byte
+last_of byte (x ∷ xs) = last_of x xs
+
+last-behind : (byte : ℕ) (xs : List ℕ) (y : ℕ) (ys : List ℕ) → last_of byte (xs ++ (y ∷ ys)) ≡ last_of y ys
+last-behind byte [] y ys = refl
+last-behind byte (x ∷ xs) y ys = last-behind x xs y ys
+
+last-of_capture : (g : List ℕ) (k : Bool) → last_of 0 (capture_name g k) ≡ 112
+last-of_capture g true = last-behind 47 g 47 (capture_tail true)
+last-of_capture g false = last-behind 47 g 47 (capture_tail false)
+
+abbrev last_of_kind : FileKind → ℕ
+last_of_kind Stdout = 116
+last_of_kind Stderr = 114
+last_of_kind Exit = 116
+
+last-of_suffix : (d : List ℕ) (k : FileKind) → last_of 46 (d ++ file_suffix k) ≡ last_of_kind k
+last-of_suffix d Stdout = last-behind 46 d 46 _
+last-of_suffix d Stderr = last-behind 46 d 46 _
+last-of_suffix d Exit = last-behind 46 d 46 _
+
+last-of_file : (h p : List ℕ) (m : ℕ) (k : FileKind) → last_of 0 (file_name h p m k) ≡ last_of_kind k
+last-of_file h p m k = last-behind 47 h 47 (tail p m k) ∙ last-behind 47 p 46 (decimal m ++ file_suffix k) ∙ last-of_suffix (decimal m) k
+
+other_end : (k : FileKind) → last_of_kind k ≡ 112 → ⊥
+other_end Stdout e = omega arith
+other_end Stderr e = omega arith
+other_end Exit e = omega arith
+
+-- a capture isn't a process's file, and not the packet log
+pub capture-is_no_file : (g h p : List ℕ) (loopback : Bool) (m : ℕ) (k : FileKind) → capture_name g loopback ≡ file_name h p m k → ⊥
+capture-is_no_file g h p loopback m k e = other_end k (sym (last-of_file h p m k) ∙ sym (ap (last_of 0) e) ∙ last-of_capture g loopback)
+
+pub log-is_no_capture : (h : List ℕ) (loopback : Bool) → log_name ≡ capture_name h loopback → ⊥
+log-is_no_capture h loopback e = apart (first_byte 112 104 _ _ e)
 
 -- ---- the part of a path behind its last slash has no slash
 

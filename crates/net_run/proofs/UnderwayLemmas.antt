@@ -10,7 +10,8 @@ use Rattle.host_state.specs.declared.row.Row.{Row}
 use Rattle.host_state.specs.Grown.{all_grown, with_bytes, Gains}
 use Rattle.net_run.specs.Grown.{IsGrown, HaveOwnFiles, IsUnderway}
 use Rattle.host_state.specs.Listed.{HostNames, listed, names_in}
-use Rattle.net_run.specs.Parts.{Between}
+use Rattle.net_run.specs.Heads.{all_heads}
+use Rattle.net_run.specs.Parts.{Grows, Between}
 use Rattle.host_state.specs.Files.{Put}
 use Rattle.net_run.specs.Pieces.{with_pieces, PutsFront}
 use Rattle.net_run.specs.Rest.{all_rest, rest_in, summary_in, unmet_of_hosts, TellsStates}
@@ -20,12 +21,15 @@ use Rattle.net_run.proofs.ExtendsLemmas.{gains-later}
 use Rattle.net_run.proofs.FrontLemmas.{with_append}
 use Rattle.host_state.proofs.Gaining.{names-kept}
 use Rattle.net_run.proofs.GrownLemmas.{opening-grown, round-grown, end-whole}
+use Rattle.net_run.proofs.PartLemmas.{Grows-trans, Grows-with_pieces, between-puts}
 use Rattle.net_run.proofs.StandingLemmas.{part-so_far, part-round, part-end}
 use Rattle.net_run.proofs.ToldLemmas.{opening-names, rest-told, status-told}
 
-pub underway-opening : (names : List HostNames) (rows : List Row) (begun : Content) → names ≡ map listed rows → HaveOwnFiles names → IsUnderway names begun (Some begun) (opening_world rows)
+-- the heads of captures were put
+pub underway-opening : (names : List HostNames) (rows : List Row) (begun : Content) → names ≡ map listed rows → HaveOwnFiles names → IsUnderway names begun (Some (with_pieces (all_heads names) begun)) (opening_world rows)
 underway-opening names rows begun names_are own =
-    record { names_are = names_are ∙ sym (opening-names rows); own = own; puts = []; grown = opening-grown rows; now_is = refl }
+    let same : names ≡ names_in (opening_world rows) = names_are ∙ sym (opening-names rows) in
+    record { names_are = same; own = own; puts = all_heads names; grown = subst (λ (hosts : List HostNames). IsGrown (opening_world rows) (all_heads hosts)) (sym same) (opening-grown rows); now_is = refl }
 
 module _ (names : List HostNames) (begun : Content) (now : Option Content) (w : World) (underway : IsUnderway names begun now w) where
   own_files : HaveOwnFiles (names_in w)
@@ -84,3 +88,21 @@ module _ (names : List HostNames) (begun : Content) (now : Option Content) (w : 
 
     pub underway-status : status_by (unmet_of_hosts names states) ≡ status_of w
     underway-status = ap (λ (hosts : List HostNames). status_by (unmet_of_hosts hosts states)) underway.names_are ∙ status-told w states count tells
+
+-- ---- the beginning
+
+-- a front of the heads was put
+pub underway-heads_part : (names : List HostNames) (rows : List Row) (begun : Content) (new : Option Content) → names ≡ map listed rows → HaveOwnFiles names → (load : Bool) (u : World)
+    → Extends (opening_world rows) u → PutsFront (all_heads names) (Some begun) new → Between begun new (with_pieces (run_pieces load u) begun)
+underway-heads_part names rows begun new names_are own load u later front =
+    let heads = with_pieces (all_heads names) begun in
+    let between = between-puts (all_heads names) begun new front in
+    let whole = underway-part names begun (Some heads) (opening_world rows) (underway-opening names rows begun names_are own) load u later in
+    record {
+      now = between.now;
+      now_is = between.now_is;
+      grown = between.grown;
+      rest = Grows-trans _ _ _ between.rest (at_heads heads whole.now whole.now_is whole.rest);
+    } where
+      at_heads : (heads now : Content) → Some heads ≡ Some now → Grows now (with_pieces (run_pieces load u) begun) → Grows heads (with_pieces (run_pieces load u) begun)
+      at_heads heads now is rest = subst (λ (c : Content). Grows c (with_pieces (run_pieces load u) begun)) (let e : now ≡ heads = cc in e) rest

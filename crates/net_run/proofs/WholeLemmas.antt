@@ -1,4 +1,4 @@
--- The packet log beside the files of processes, and the pieces of a run in two parts.
+-- Captures and the packet log beside the files of processes, and the pieces of a run in two parts.
 use Rattle.std.proofs.Common.{◌≡◌, ℕ, zero, suc, ◌+◌, Bool, true, false, List, [], ◌∷◌, ◌++◌, map, slice_get, refl, sym, ap, subst, ◌∙◌, append-nil}
 use Rattle.std.specs.Prelude.{◌||◌, if◌then◌else◌, flat_map}
 use Rattle.std.proofs.lemmas.Grind.{flat_map-append}
@@ -14,20 +14,24 @@ use Rattle.out_text.specs.Files.{state_text, process_text}
 use Rattle.out_text.specs.Faults.{unmet_line}
 use Rattle.out_text.specs.Log.{log_line}
 use Rattle.out_text.specs.declared.log.LogLine.{LogLine}
-use Rattle.host_state.specs.Grown.{AreGained, listed_name, told_line, log_grown, hosts_grown, all_grown, host_grown}
+use Rattle.pcap_text.specs.Writing.{head}
+use Rattle.host_state.specs.Captured.{all_captures, no_head}
+use Rattle.host_state.specs.Grown.{AreGained, listed_name, told_line, log_grown, hosts_grown, all_grown, grown_behind, host_grown}
 use Rattle.net_run.specs.Grown.{grown_in}
 use Rattle.host_state.specs.Listed.{HostNames, listed_process, names_in, by_process}
 use Rattle.host_state.specs.Files.{Put, first_id, program_of, log_name, expected_state}
 use Rattle.net_run.specs.Places.{is_place, bytes_at, is_touched}
 use Rattle.net_run.specs.Rest as rest
 use Rattle.net_run.specs.Rest.{ending, rest_in, states_in, summary_in, summary_rest}
-use Rattle.net_run.specs.Shown.{name_of, named, named_log, log_file, host_files, unmet, unmet_by, process_unmet, unmet_from, host_unmet, meets, summary, run_pieces}
+use Rattle.net_run.specs.Shown.{name_of, named, named_log, log_file, host_files, captures_in, unmet, unmet_by, process_unmet, unmet_from, host_unmet, meets, summary, run_pieces}
 use Rattle.host_state.specs.Logs.{lines_of}
 use Rattle.net_run.specs.World.{World}
+use Rattle.net_run.proofs.CaptureLemmas.{IsCapture, some-capture, more-captures}
+use Rattle.net_run.proofs.ContentLemmas.{untouched-bytes}
 use Rattle.net_run.proofs.FileLemmas.{IsFileOf, same-place, place-of_file}
 use Rattle.net_run.proofs.HostLemmas.{AreOwn, names_of_hosts, written_by, states_by, some-file, file-grown, file-rest, more-hosts, whole-hosts, state-of_host}
-use Rattle.net_run.proofs.NameLemmas.{log-is_no_file}
-use Rattle.net_run.proofs.SplitLemmas.{touched-append, Splits, splits-append}
+use Rattle.net_run.proofs.NameLemmas.{log-is_no_file, log-is_no_capture, capture-is_no_file}
+use Rattle.net_run.proofs.SplitLemmas.{bytes_at-append, touched-append, Splits, splits-append}
 
 -- ---- the packet log
 
@@ -52,15 +56,44 @@ more-log at hosts xs ys =
 no-log : (at : Place) → (name : List ℕ) × (to : ℕ) × IsFileOf name 0 to at → at ≡ place.File log_name → ⊥
 no-log at (name, to, file) is = log-is_no_file name file.program _ file.named.kind (same-place _ _ at is file.named.is)
 
-pub more-grown_all : (at : Place) (hosts : List HostNames) (xs ys zs : List (List Output)) (k l : List Line) → AreOwn hosts → AreGained xs ys zs
-    → Splits at (all_grown hosts xs k) (all_grown hosts ys l) (all_grown hosts zs (k ++ l))
-more-grown_all at hosts xs ys zs k l own gained =
-    splits-append at (hosts_grown hosts xs) (hosts_grown hosts ys) (hosts_grown hosts zs) (log_grown hosts k ∷ []) (log_grown hosts l ∷ []) (log_grown hosts (k ++ l) ∷ [])
-    (more-hosts at hosts xs ys zs own gained) (more-log at hosts k l)
-    (λ here log. no-log at (some-file at host_grown (file-grown at) hosts zs own here) (is_log (is_place (place.File log_name) at) refl log)) where
-      is_log : (b : Bool) → is_place (place.File log_name) at ≡ b → (b || false) ≡ true → at ≡ place.File log_name
-      is_log true e t = place-of_file log_name at e
-      is_log false e t = absurd (cc)
+is-log : (at : Place) (b : Bool) → is_place (place.File log_name) at ≡ b → (b || false) ≡ true → at ≡ place.File log_name
+is-log at true e t = place-of_file log_name at e
+is-log at false e t = absurd (cc)
+
+-- a capture isn't the packet log, and not a process's file
+no-log_capture : (at : Place) → (name : List ℕ) × IsCapture name at → at ≡ place.File log_name → ⊥
+no-log_capture at (name, capture) is = log-is_no_capture name capture.loopback (same-place _ _ at is capture.is)
+
+no-file_capture : (at : Place) → (name : List ℕ) × IsCapture name at → (name : List ℕ) × (to : ℕ) × IsFileOf name 0 to at → ⊥
+no-file_capture at (name, capture) (host, to, file) = capture-is_no_file name host file.program capture.loopback _ file.named.kind (same-place _ _ at capture.is file.named.is)
+
+-- one of two lists
+in-either : (at : Place) (ps qs : List Put) → is_touched at (ps ++ qs) ≡ true → (is_touched at ps ≡ true → ⊥) → (is_touched at qs ≡ true → ⊥) → ⊥
+in-either at ps qs e first second = go (is_touched at ps) (is_touched at qs) refl refl (sym (touched-append at ps qs) ∙ e) where
+  go : (a b : Bool) → is_touched at ps ≡ a → is_touched at qs ≡ b → (a || b) ≡ true → ⊥
+  go true b x y t = first x
+  go false true x y t = second y
+  go false false x y t = cc
+
+module _ (at : Place) (front : ℕ → List ℕ) (hosts : List HostNames) (xs ys zs : List (List Output)) (k l : List Line) (own : AreOwn hosts) (gained : AreGained xs ys zs) where
+  captures_and_log : (ℕ → List ℕ) → List Line → List Put
+  captures_and_log f lines = all_captures f hosts lines ++ (log_grown hosts lines ∷ [])
+
+  more-behind : Splits at (captures_and_log front k) (captures_and_log no_head l) (captures_and_log front (k ++ l))
+  more-behind =
+      splits-append at (all_captures front hosts k) (all_captures no_head hosts l) (all_captures front hosts (k ++ l)) (log_grown hosts k ∷ []) (log_grown hosts l ∷ []) (log_grown hosts (k ++ l) ∷ [])
+      (more-captures at front 0 hosts k l own) (more-log at hosts k l)
+      (λ here log. no-log_capture at (some-capture at front 0 hosts (k ++ l) here) (is-log at (is_place (place.File log_name) at) refl log))
+
+  pub more-grown_all : Splits at (grown_behind front hosts xs k) (all_grown hosts ys l) (grown_behind front hosts zs (k ++ l))
+  more-grown_all =
+      splits-append at (hosts_grown hosts xs) (hosts_grown hosts ys) (hosts_grown hosts zs) (captures_and_log front k) (captures_and_log no_head l) (captures_and_log front (k ++ l))
+      (more-hosts at hosts xs ys zs own gained) more-behind
+      (λ here other.
+      let file = some-file at host_grown (file-grown at) hosts zs own here in
+      in-either at (all_captures front hosts (k ++ l)) (log_grown hosts (k ++ l) ∷ []) other
+      (λ c. no-file_capture at (some-capture at front 0 hosts (k ++ l) c) file)
+      (λ log. no-log at file (is-log at (is_place (place.File log_name) at) refl log)))
 
 -- ---- what is told of a world
 
@@ -144,35 +177,116 @@ log-and_rest at text others = record {
   second = refl;
 }
 
+-- the third has at each place the bytes of the first and then those of the second; the first puts at places of the third, and the second at
+-- all of them but those of what is kept
+pub record Completes (at : Place) (kept xs ys zs : List Put) : Type 0 where
+  pub bytes : bytes_at at zs ≡ bytes_at at xs ++ bytes_at at ys
+  pub first : is_touched at xs ≡ true → is_touched at zs ≡ true
+  pub second : is_touched at kept ≡ false → is_touched at ys ≡ is_touched at zs
+
+pub around : (at : Place) (xs kept ys : List Put) → bytes_at at (xs ++ (kept ++ ys)) ≡ bytes_at at xs ++ (bytes_at at kept ++ bytes_at at ys)
+around at xs kept ys = bytes_at-append at xs (kept ++ ys) ∙ ap (λ (l : List ℕ). bytes_at at xs ++ l) (bytes_at-append at kept ys)
+
+around-touched : (at : Place) (xs kept ys : List Put) → is_touched at (xs ++ (kept ++ ys)) ≡ (is_touched at kept || is_touched at (xs ++ ys))
+around-touched at xs kept ys =
+    touched-append at xs (kept ++ ys) ∙ ap (λ (b : Bool). is_touched at xs || b) (touched-append at kept ys)
+    ∙ swap (is_touched at xs) (is_touched at kept) (is_touched at ys) ∙ ap (λ (b : Bool). is_touched at kept || b) (sym (touched-append at xs ys)) where
+      swap : (x c y : Bool) → (x || (c || y)) ≡ (c || (x || y))
+      swap true true y = refl
+      swap true false y = refl
+      swap false c y = refl
+
+-- nothing is put by either of two lists
+neither-bytes : (at : Place) (ps qs : List Put) → is_touched at (ps ++ qs) ≡ false → (bytes_at at ps ≡ []) × (bytes_at at qs ≡ [])
+neither-bytes at ps qs none = go (is_touched at ps) (is_touched at qs) refl refl (sym (touched-append at ps qs) ∙ none) where
+  go : (a b : Bool) → is_touched at ps ≡ a → is_touched at qs ≡ b → (a || b) ≡ false → (bytes_at at ps ≡ []) × (bytes_at at qs ≡ [])
+  go true b x y e = absurd (cc)
+  go false true x y e = absurd (cc)
+  go false false x y e = (untouched-bytes at ps x, untouched-bytes at qs y)
+
+-- what is whole already, at places of its own, in the middle of two lists that are completed
+module _ (at : Place) (kept xs xs' ys zs zs' : List Put) (s : Splits at (xs ++ xs') ys (zs ++ zs')) (apart : is_touched at kept ≡ true → is_touched at (zs ++ zs') ≡ true → ⊥) where
+  not_touched : (b : Bool) → is_touched at (zs ++ zs') ≡ b → is_touched at kept ≡ true → is_touched at (zs ++ zs') ≡ false
+  not_touched true e here = absurd (apart here e)
+  not_touched false e here = e
+
+  not_first : (b : Bool) → is_touched at (xs ++ xs') ≡ b → is_touched at (zs ++ zs') ≡ false → is_touched at (xs ++ xs') ≡ false
+  not_first true e none = absurd (let f : true ≡ false = sym (s.first e) ∙ none in cc)
+  not_first false e none = e
+
+  bytes-kept : (b : Bool) → is_touched at kept ≡ b → bytes_at at (zs ++ (kept ++ zs')) ≡ bytes_at at (xs ++ (kept ++ xs')) ++ bytes_at at ys
+  bytes-kept true here =
+      let none = not_touched (is_touched at (zs ++ zs')) refl here in
+      let z = neither-bytes at zs zs' none in
+      let x = neither-bytes at xs xs' (not_first (is_touched at (xs ++ xs')) refl none) in
+      let y = untouched-bytes at ys (s.second ∙ none) in
+      let k = bytes_at at kept in
+      around at zs kept zs' ∙ ap (λ (l : List ℕ). l ++ (k ++ bytes_at at zs')) z.0 ∙ ap (λ (l : List ℕ). k ++ l) z.1
+      ∙ sym (ap (λ (l : List ℕ). l ++ bytes_at at ys) (around at xs kept xs') ∙ ap (λ (l : List ℕ). (l ++ (k ++ bytes_at at xs')) ++ bytes_at at ys) x.0
+      ∙ ap (λ (l : List ℕ). (k ++ l) ++ bytes_at at ys) x.1 ∙ ap (λ (l : List ℕ). (k ++ []) ++ l) y ∙ append-nil (k ++ []))
+  bytes-kept false none =
+      let k = untouched-bytes at kept none in
+      around at zs kept zs' ∙ ap (λ (l : List ℕ). bytes_at at zs ++ (l ++ bytes_at at zs')) k ∙ sym (bytes_at-append at zs zs') ∙ s.bytes
+      ∙ ap (λ (l : List ℕ). l ++ bytes_at at ys) (bytes_at-append at xs xs' ∙ ap (λ (l : List ℕ). bytes_at at xs ++ (l ++ bytes_at at xs')) (sym k) ∙ sym (around at xs kept xs'))
+
+  first-kept : (b c : Bool) → is_touched at kept ≡ b → is_touched at (xs ++ xs') ≡ c → (b || c) ≡ true → (b || is_touched at (zs ++ zs')) ≡ true
+  first-kept true c e f t = refl
+  first-kept false true e f t = s.first f
+  first-kept false false e f t = absurd (cc)
+
+  pub completes-around : Completes at kept (xs ++ (kept ++ xs')) ys (zs ++ (kept ++ zs'))
+  completes-around = record {
+    bytes = bytes-kept (is_touched at kept) refl;
+    first = λ e. around-touched at zs kept zs' ∙ first-kept (is_touched at kept) (is_touched at (xs ++ xs')) refl refl (sym (around-touched at xs kept xs') ∙ e);
+    second = λ none. s.second ∙ sym (around-touched at zs kept zs' ∙ ap (λ (b : Bool). b || is_touched at (zs ++ zs')) none);
+  }
+
 -- what grew and what is put at the end are the pieces of a run
-pub whole-run : (at : Place) (load : Bool) (w : World) → AreOwn (names_in w) → Splits at (grown_in w) (rest_in load w) (run_pieces load w)
-whole-run at load w own = subst (λ (put : Put). Splits at (hosts_grown names written ++ (put ∷ [])) (rest_in load w) (run_pieces load w)) (sym (log-of_world w))
-    (subst (λ (l : List Put). Splits at (hosts_grown names written ++ (log_file w ∷ [])) (rest.hosts_rest names states ++ l) (run_pieces load w)) (sym (ending-of_world load w)) whole) where
-      names : List HostNames
-      names = names_in w
+module _ (at : Place) (load : Bool) (w : World) (own : AreOwn (names_in w)) where
+  names : List HostNames
+  names = names_in w
 
-      written : List (List Output)
-      written = written_by w.hosts
+  written : List (List Output)
+  written = written_by w.hosts
 
-      states : List (List State)
-      states = states_by w.hosts
+  states : List (List State)
+  states = states_by w.hosts
 
-      others : List Put
-      others = unmet w ++ summary load w
+  others : List Put
+  others = unmet w ++ summary load w
 
-      hosts : Splits at (hosts_grown names written) (rest.hosts_rest names states) (flat_map host_files w.hosts)
-      hosts = whole-hosts at w.hosts own
+  hosts : Splits at (hosts_grown names written) (rest.hosts_rest names states) (flat_map host_files w.hosts)
+  hosts = whole-hosts at w.hosts own
 
-      apart : (b c : Bool) → is_place (place.File log_name) at ≡ b → is_touched at others ≡ c → (b || c) ≡ true → is_touched at (flat_map host_files w.hosts) ≡ true → ⊥
-      apart true c e f t here = no-log at (some-file at rest.host_rest (file-rest at) names states own (hosts.second ∙ here)) (place-of_file log_name at e)
-      apart false true e f t here =
-          let file = some-file at rest.host_rest (file-rest at) names states own (hosts.second ∙ here) in
-          let none : is_touched at others ≡ false =
-          subst (λ (p : Place). is_touched p others ≡ false) (sym file.2.named.is) (neither _ (unmet w) (summary load w) (all-in_no_file _ w.hosts) (summary-in_no_file _ load w)) in
-          let e2 : true ≡ false = sym f ∙ none in
-          cc
-      apart false false e f t here = cc
+  -- a file isn't on the console
+  in_no_file : (name : List ℕ) → at ≡ place.File name → is_touched at others ≡ true → ⊥
+  in_no_file name is e =
+      let none : is_touched at others ≡ false = subst (λ (p : Place). is_touched p others ≡ false) (sym is) (neither _ (unmet w) (summary load w) (all-in_no_file _ w.hosts) (summary-in_no_file _ load w)) in
+      let e2 : true ≡ false = sym e ∙ none in
+      cc
 
-      whole : Splits at (hosts_grown names written ++ (log_file w ∷ [])) (rest.hosts_rest names states ++ (in_log [] ∷ others)) (run_pieces load w)
-      whole = splits-append at (hosts_grown names written) (rest.hosts_rest names states) (flat_map host_files w.hosts) (log_file w ∷ []) (in_log [] ∷ others) (log_file w ∷ others)
-          hosts (log-and_rest at (flat_map log_line (named_log w)) others) (λ here log. apart (is_place (place.File log_name) at) (is_touched at others) refl refl log here)
+  file_of : is_touched at (flat_map host_files w.hosts) ≡ true → (name : List ℕ) × (to : ℕ) × IsFileOf name 0 to at
+  file_of here = some-file at rest.host_rest (file-rest at) names states own (hosts.second ∙ here)
+
+  log_or : {P : Type 0} (b c : Bool) → is_place (place.File log_name) at ≡ b → is_touched at others ≡ c → (b || c) ≡ true → (at ≡ place.File log_name → P) → (is_touched at others ≡ true → P) → P
+  log_or true c e f t first second = first (place-of_file log_name at e)
+  log_or false true e f t first second = second f
+  log_or false false e f t first second = absurd (cc)
+
+  whole-files : Splits at (hosts_grown names written ++ (log_file w ∷ [])) (rest.hosts_rest names states ++ (in_log [] ∷ others)) (flat_map host_files w.hosts ++ (log_file w ∷ others))
+  whole-files = splits-append at (hosts_grown names written) (rest.hosts_rest names states) (flat_map host_files w.hosts) (log_file w ∷ []) (in_log [] ∷ others) (log_file w ∷ others)
+      hosts (log-and_rest at (flat_map log_line (named_log w)) others)
+      (λ here log.
+      let file = file_of here in
+      log_or (is_place (place.File log_name) at) (is_touched at others) refl refl log (no-log at file) (in_no_file _ file.2.named.is))
+
+  capture_apart : is_touched at (captures_in w) ≡ true → is_touched at (flat_map host_files w.hosts ++ (log_file w ∷ others)) ≡ true → ⊥
+  capture_apart here other =
+      let capture = some-capture at head 0 names (lines_of w.log) here in
+      in-either at (flat_map host_files w.hosts) (log_file w ∷ others) other (λ file. no-file_capture at capture (file_of file))
+      (λ log. log_or (is_place (place.File log_name) at) (is_touched at others) refl refl log (no-log_capture at capture) (in_no_file _ capture.1.is))
+
+  pub whole-run : Completes at (captures_in w) (grown_in w) (rest_in load w) (run_pieces load w)
+  whole-run = subst (λ (put : Put). Completes at (captures_in w) (hosts_grown names written ++ (captures_in w ++ (put ∷ []))) (rest_in load w) (run_pieces load w)) (sym (log-of_world w))
+      (subst (λ (l : List Put). Completes at (captures_in w) (hosts_grown names written ++ (captures_in w ++ (log_file w ∷ []))) (rest.hosts_rest names states ++ l) (run_pieces load w)) (sym (ending-of_world load w))
+      (completes-around at (captures_in w) (hosts_grown names written) (log_file w ∷ []) (rest.hosts_rest names states ++ (in_log [] ∷ others)) (flat_map host_files w.hosts) (log_file w ∷ others) whole-files capture_apart))

@@ -5,24 +5,27 @@ use Rattle.std.specs.Str.{bytes_eq}
 use Rattle.sim_base.specs.Sink.{Content}
 use Rattle.sim_base.specs.declared.outside.sink.Place.{Place}
 use Rattle.host_state.specs.Files.{Put}
-use Rattle.host_state.specs.Grown.{all_grown}
+use Rattle.pcap_text.specs.Writing.{head}
+use Rattle.host_state.specs.Grown.{grown_behind}
 use Rattle.host_state.specs.HostRecord.{HostRecord}
 use Rattle.host_state.specs.Listed.{HostNames, HasIds, names_in}
 use Rattle.host_state.specs.Logs.{lines_of}
+use Rattle.net_run.specs.Heads.{all_heads}
 use Rattle.net_run.specs.Pieces.{with_pieces}
 use Rattle.net_run.specs.Places.{bytes_at, is_touched}
 use Rattle.net_run.specs.World.{World}
 
 -- ---- what stands when a run has come to a world
 
--- all that its processes wrote to descriptors 1 and 2, and its packet log
+-- all that its processes wrote to descriptors 1 and 2, its captures and its packet log
 abbrev pub grown_in : World → List Put
-grown_in w = all_grown (names_in w) (map (λ (h : HostRecord). h.written) w.hosts) (lines_of w.log)
+grown_in w = grown_behind head (names_in w) (map (λ (h : HostRecord). h.written) w.hosts) (lines_of w.log)
 
--- what was put is at these places, and at each of them it is all of this
+-- what was put is at these places, and at each of them it is all of this; the captures are there
 pub record IsGrown (w : World) (puts : List Put) : Type 0 where
   pub places : (at : Place) → is_touched at puts ≡ true → is_touched at (grown_in w) ≡ true
   pub bytes : (at : Place) → bytes_at at puts ≡ bytes_at at (grown_in w)
+  pub captures : (at : Place) → is_touched at (all_heads (names_in w)) ≡ true → is_touched at puts ≡ true
 
 -- ---- hosts whose processes have files of their own
 

@@ -14,7 +14,10 @@ use Rattle.out_text.specs.Summary.{summary_of, summary_line}
 use Rattle.out_text.specs.declared.files.FileKind.TheVariants as kind
 use Rattle.out_text.specs.declared.log.LogLine.{LogLine}
 use Rattle.out_text.specs.declared.summary.Summary.{Summary}
+use Rattle.pcap_text.specs.Writing.{head}
+use Rattle.host_state.specs.Captured.{all_captures}
 use Rattle.host_state.specs.Files.{Put, first_id, program_of, written_to, expected_state, log_name}
+use Rattle.host_state.specs.Listed.{names_in}
 use Rattle.host_state.specs.Logs.{lines_of}
 use Rattle.net_run.specs.World.{World}
 
@@ -57,6 +60,12 @@ named_log w = map (named w.hosts) (lines_of w.log)
 abbrev pub log_file : World → Put
 log_file w = (place.File log_name, flat_map log_line (named_log w))
 
+-- ---- captures
+
+-- the two captures of each host that has a capture size: the head, and the records of the lines in the packet log that they have
+abbrev pub captures_in : World → List Put
+captures_in w = all_captures head (names_in w) (lines_of w.log)
+
 -- ---- expectations
 
 -- the final state is the one that is expected; a process that has not started meets every expectation
@@ -96,9 +105,9 @@ summary_puts false s = []
 abbrev pub summary : Bool → World → List Put
 summary load w = summary_puts load (summary_of (length w.hosts) (named_log w))
 
--- the files of all hosts, the packet log, the unmet expectations and, for a self-load, its summary
+-- the files of all hosts, their captures, the packet log, the unmet expectations and, for a self-load, its summary
 abbrev pub run_pieces : Bool → World → List Put
-run_pieces load w = flat_map host_files w.hosts ++ (log_file w ∷ (unmet w ++ summary load w))
+run_pieces load w = flat_map host_files w.hosts ++ (captures_in w ++ (log_file w ∷ (unmet w ++ summary load w)))
 
 -- a line on the error stream for each key without effect
 abbrev pub note_puts : List (List ℕ) → List Put

@@ -2,10 +2,12 @@
 #![tactic(auto)]
 
 mod ending;
+mod heads;
 mod notes;
 mod output;
 mod process_pieces;
 
 pub use ending::put_rest;
+pub use heads::put_heads;
 pub use notes::put_notes;
 pub use output::put_pieces;

@@ -9,11 +9,14 @@ use Rattle.sim_base.specs.declared.outside.sink.WriteError.TheVariants as write
 use Rattle.host_state.specs.Files.{Put}
 use Rattle.host_state.specs.HostRecord.{HostRecord}
 use Rattle.host_state.specs.Listed.{HostNames, listed, names_in, names_of}
-use Rattle.host_state.specs.World.{World}
+use Rattle.host_state.specs.World.{World, opening_world}
+use Rattle.host_state.specs.declared.row.Row.{Row}
 use Rattle.host_state.proofs.Gaining.{names-kept}
-use Rattle.net_run.specs.Grown.{IsUnderway}
+use Rattle.net_run.specs.Grown.{HaveOwnFiles, IsUnderway}
+use Rattle.net_run.specs.Heads.{all_heads}
 use Rattle.net_run.specs.Pieces.{with_pieces, PutsFront}
-use Rattle.net_run.proofs.UnderwayLemmas.{underway-part, underway-round, underway-round_part}
+use Rattle.net_run.proofs.UnderwayLemmas.{underway-opening, underway-heads_part, underway-part, underway-round, underway-round_part}
+use Rattle.net_run.proofs.ToldLemmas.{opening-names}
 use Rattle.round_lookahead.specs.Gains.{HasRound}
 use Rattle.round_lookahead.specs.Tasks.{waiting}
 use Rattle.round_lookahead.specs.WorldStands.{WorldStands}
@@ -43,8 +46,8 @@ pub record HasCome (c d : rounds.World) (start : World) (old now : Option Conten
   pub reached : HasReached c.net start d world
   pub stands : StandsAt world old now
 
-pub come-start : (c : rounds.World) (w : World) (old : Option Content) → WorldStands c w → StandsAt w old old → HasCome c c w old old
-come-start c w old at stands = record { world = w; reached = reached-start c.net c w refl at; stands = stands }
+pub come-start : (c : rounds.World) (w : World) (old now : Option Content) → WorldStands c w → StandsAt w old now → HasCome c c w old now
+come-start c w old now at stands = record { world = w; reached = reached-start c.net c w refl at; stands = stands }
 
 module _ (c d : rounds.World) (start : World) (old mid : Option Content) (come : HasCome c d start old mid) where
   -- no event is due any more
@@ -101,3 +104,35 @@ module _ (c d : rounds.World) (start : World) (old mid : Option Content) (come :
   come-stopped e workers new (ReadFailed file) same told = absurd told
   come-stopped e workers new WriteFailed same some = some-put e workers new same some
   come-stopped e workers new NoMemory same some = some-put e workers new same some
+
+-- ---- the beginning
+
+module _ (c : rounds.World) (rows : List Row) (at : WorldStands c (opening_world rows)) (own : HaveOwnFiles (names_of c.listing)) where
+  names : List HostNames
+  names = names_in (opening_world rows)
+
+  own_names : HaveOwnFiles names
+  own_names = subst HaveOwnFiles at.listed own
+
+  -- the heads of captures were put
+  pub heads-put : (old new : Option Content) → new ≡ option_map (with_pieces (all_heads (names_of c.listing))) old → StandsAt (opening_world rows) old new
+  heads-put old new put = λ begun is.
+      subst (λ (o : Option Content). IsUnderway names begun o (opening_world rows))
+      (sym (put ∙ ap (λ (hosts : List HostNames). option_map (with_pieces (all_heads hosts)) old) at.listed ∙ ap (option_map (with_pieces (all_heads names))) is))
+      (underway-opening names rows begun (opening-names rows) own_names)
+
+  heads-part : (old new : Option Content) → PutsFront (all_heads (names_of c.listing)) old new → PutsInPart c (opening_world rows) old new
+  heads-part old new front =
+      let (r, result, later) = reached-result c.net (opening_world rows) c (opening_world rows) (reached-start c.net c (opening_world rows) refl at) in (
+        r,
+        result,
+        λ begun is load.
+            underway-heads_part names rows begun new (opening-names rows) own_names load r later
+            (subst (λ (o : Option Content). PutsFront (all_heads names) o new) is (subst (λ (hosts : List HostNames). PutsFront (all_heads hosts) old new) at.listed front)),
+      )
+
+  -- or some of them
+  pub heads-stopped : (d : rounds.World) (old new : Option Content) (error : WriteError) → PutsFront (all_heads (names_of c.listing)) old new
+      → PutsRounds c d (opening_world rows) old new (let r : Result (Unit {0}) Stop = Err (of_writing error) in r)
+  heads-stopped d old new write.Failed front = heads-part old new front
+  heads-stopped d old new write.NoMemory front = heads-part old new front

@@ -6,7 +6,7 @@ use Rattle.sim_base.specs.declared.outside.sink.WriteError.TheVariants as write
 use Rattle.host_state.specs.World.{World, IsResult, opening_world}
 use Rattle.host_state.specs.declared.net.Net.{Net}
 use Rattle.host_state.specs.declared.row.Row.{Row}
-use Rattle.net_run.specs.Grown.{IsUnderway}
+use Rattle.net_run.specs.Grown.{HaveOwnFiles}
 use Rattle.host_state.specs.Listed.{HostNames, HasIds, listed, names_in, names_of}
 use Rattle.net_run.specs.Parts.{Between}
 use Rattle.net_run.specs.Pieces.{with_pieces, PutsFront}
@@ -14,7 +14,6 @@ use Rattle.net_run.specs.Shown.{note_puts, run_pieces, unmet}
 use Rattle.net_run.proofs.FrontLemmas.{with_append}
 use Rattle.net_run.proofs.PartLemmas.{Grows-refl, Grows-with_pieces}
 use Rattle.net_run.proofs.ToldLemmas.{opening-names, own-files}
-use Rattle.net_run.proofs.UnderwayLemmas.{underway-opening}
 use Rattle.round_lookahead.specs.WorldStands.{nanos_of, WorldStands}
 use Rattle.round_lookahead.specs.declared.world.world_state.World as rounds
 use Rattle.round_lookahead.proofs.WorldOpenings.{opened-between}
@@ -24,7 +23,7 @@ use Rattle.world_order.proofs.Results.{at_least_one}
 use Rattle.shadow_top.specs.Contract.{RunsNoted, PutsSome, RunsOpened}
 use Rattle.shadow_top.specs.Ending.{PutsEnd}
 use Rattle.shadow_top.specs.Opened.{HasOpened}
-use Rattle.shadow_top.specs.Rounds.{StandsAt, HasAllRounds, PutsInPart, PutsRounds}
+use Rattle.shadow_top.specs.Rounds.{HasAllRounds, PutsInPart, PutsRounds}
 use Rattle.shadow_top.specs.Stop.{of_writing}
 use Rattle.shadow_top.specs.declared.opened.Opened.{Opened}
 use Rattle.shadow_top.specs.declared.stop.Stop.{Stop}
@@ -53,15 +52,13 @@ names_listed : (rows : List Row) → map (λ (h : HostNames). h.name) (map liste
 names_listed [] = refl
 names_listed (row ∷ rows) = ap (λ (names : List (List ℕ)). row.name ∷ names) (names_listed rows)
 
--- where a run begins, nothing was put
-pub stands_begin : (opened : Opened) (c : rounds.World) (old : Option Content) → HasOpened opened → WorldStands c (opening_world opened.rows.items) → All HasIds (names_of c.listing)
-    → StandsAt (opening_world opened.rows.items) old old
-stands_begin opened c old has stands ids = λ begun is.
-    (let rows : List Row = opened.rows.items in
+-- the files of a run's hosts are apart
+pub begins_own : (opened : Opened) (c : rounds.World) → HasOpened opened → WorldStands c (opening_world opened.rows.items) → All HasIds (names_of c.listing) → HaveOwnFiles (names_of c.listing)
+begins_own opened c has stands ids =
+    let rows : List Row = opened.rows.items in
     let names : List HostNames = names_in (opening_world rows) in
     let apart : map (λ (h : HostNames). h.name) names ≡ map (λ (row : Row). row.name) rows = ap (map (λ (h : HostNames). h.name)) (opening-names rows) ∙ names_listed rows in
-    subst (λ (o : Option Content). IsUnderway names begun o (opening_world rows)) (sym is)
-    (underway-opening names rows begun (opening-names rows) (own-files names (subst AreApart (sym apart) has.names) (subst (All HasIds) stands.listed ids))))
+    subst HaveOwnFiles (sym stands.listed) (own-files names (subst AreApart (sym apart) has.names) (subst (All HasIds) stands.listed ids))
 
 -- ---- rounds and the end
 

@@ -1,5 +1,5 @@
 -- The rows of hosts and the net that a run begins with: what is planned says all of them.
-use Rattle.std.specs.Prelude.{◌≡◌, ℕ, ◌+◌, ◌^◌, List, [], ◌∷◌, ◌++◌, map, Option, Some, None, codes, min}
+use Rattle.std.specs.Prelude.{◌≡◌, ℕ, ◌+◌, ◌^◌, List, [], ◌∷◌, ◌++◌, map, Option, Some, None, codes, min, if◌then◌else◌}
 use Rattle.sim_base.specs.declared.time.Time.{Time}
 use Rattle.host_calls.specs.declared.parts.Known.{Known}
 use Rattle.host_state.specs.declared.net.Net.{Net}
@@ -18,6 +18,7 @@ use Rattle.run_plan.specs.declared.plan.Settings.{Settings}
 use Rattle.run_plan.specs.declared.planned.Run.{Run}
 use Rattle.shd_config.specs.declared.config.FinalState as config_state
 use Rattle.shd_config.specs.declared.config.FinalState.TheVariants as expected
+use Rattle.shd_config.specs.declared.config.HostConfig.{HostConfig}
 use Rattle.shd_config.specs.declared.config.ProcessConfig.{ProcessConfig}
 use Rattle.shd_config.specs.declared.config.QueueRule as config_rule
 use Rattle.shd_config.specs.declared.config.QueueRule.TheVariants as rule
@@ -54,6 +55,10 @@ abbrev pub processes_of : List ProcessConfig → List ℕ → List ProcessRow
 processes_of (c ∷ cs) (image ∷ images) = process_of c image ∷ processes_of cs images
 processes_of _ _ = []
 
+-- the capture size of a host whose packets are captured
+abbrev pub capture_of : HostConfig → Option ℕ
+capture_of config = if config.pcap_enabled then Some config.pcap_capture_size else None
+
 -- a host of a plan, by its number
 abbrev pub row_of : Settings → ℕ → HostRow → Row
 row_of settings number h = record {
@@ -65,6 +70,7 @@ row_of settings number h = record {
   router_queue = lane_rule settings.router_queue;
   seed = settings.seed;
   processes = processes_of h.config.processes h.images;
+  capture = capture_of h.config;
 }
 
 abbrev pub rows_from : Settings → ℕ → List HostRow → List Row

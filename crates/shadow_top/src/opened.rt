@@ -6,13 +6,13 @@ ghost use Rattle.run_plan.specs.Limits.{KeepsToLimits};
 ghost use Rattle.run_plan.specs.Names.{AreRowsApart};
 ghost use Rattle.run_plan.specs.Plan.{nodes_of};
 ghost use Rattle.run_plan.specs.Routed.{IsRouted};
-ghost use Rattle.shadow_top.specs.Opened.{variable_text, state_of, lane_rule, process_of, processes_of, row_of, rows_from, known_of, cut_lookahead, Opens, HasOpened};
+ghost use Rattle.shadow_top.specs.Opened.{variable_text, state_of, lane_rule, process_of, processes_of, capture_of, row_of, rows_from, known_of, cut_lookahead, Opens, HasOpened};
 
 use host_calls::Known;
 use host_state::{ByteTexts, FinalState, Images, Net, Nodes, ProcessRow, ProcessRows, Row};
 use net_iface::QueueRule;
 use run_plan::{HostRow, Plan, Run, Settings};
-use shd_config::{ProcessConfig, Variable};
+use shd_config::{HostConfig, ProcessConfig, Variable};
 use shd_values::Texts;
 use sim_base::{Book, Bytes, HostId, Ip, Name, NoMemory, Text, Time};
 use std::alloc::Global;
@@ -128,6 +128,17 @@ fn lane_rule(rule: shd_config::QueueRule) -> QueueRule
     }
 }
 
+/// The capture size of a host whose packets are captured.
+fn capture_of(host: &HostConfig) -> Option<u32>
+    ensures { result ≡ capture_of host.now }
+{
+    if host.pcap_enabled {
+        Some(host.pcap_capture_size)
+    } else {
+        None
+    }
+}
+
 /// The host with a number.
 fn row_of(alloc: Global, settings: &Settings, number: u32, host: &HostRow) -> Result<Row, NoMemory>
     ensures { IfOk result (λ row. row ≡ row_of settings.now number host.now) }
@@ -143,6 +154,7 @@ fn row_of(alloc: Global, settings: &Settings, number: u32, host: &HostRow) -> Re
         router_queue: lane_rule(settings.router_queue),
         seed: settings.seed,
         processes: ProcessRows::from(processes),
+        capture: capture_of(config),
     })
 }
 

@@ -1,15 +1,19 @@
 //! A run, round by round: what a round gains is put as soon as the round is over.
 
-ghost use Rattle.std.specs.Prelude.{◌≡◌, ◌<◌, ◌≤◌, Any, flat_map};
+ghost use Rattle.std.specs.Prelude.{◌≡◌, ◌<◌, ◌≤◌, Any, List, Option, flat_map};
+ghost use Rattle.sim_base.specs.Sink.{Content};
 ghost use Rattle.sim_base.specs.Limits.{most_workers};
-ghost use Rattle.host_state.specs.World.{World as HostWorld};
+ghost use Rattle.host_state.specs.Listed.{names_of};
+ghost use Rattle.host_state.specs.World.{World as HostWorld, opening_world};
+ghost use Rattle.host_state.specs.declared.row.Row.{Row};
+ghost use Rattle.net_run.specs.Grown.{HaveOwnFiles};
 ghost use Rattle.round_lookahead.specs.Tasks.{waiting};
 ghost use Rattle.round_lookahead.specs.WorldStands.{WorldStands};
 ghost use Rattle.shadow_top.specs.Rounds.{PutsRound, PutsRounds, StandsAt};
 ghost use Rattle.shadow_top.specs.Stop.{CountsSink, NoReadFailed};
 
 use crate::stop::Stop;
-use net_run::put_pieces;
+use net_run::{put_heads, put_pieces};
 use round_lookahead::World;
 use sim_base::Sink;
 use std::alloc::AllocGlobal;
@@ -39,7 +43,7 @@ fn put_next<K: Sink, G: Gate + Sync, R: Threads + Sync + AllocGlobal>(
 }
 
 /// Makes all rounds, and puts what each gained.
-pub(crate) fn put_rounds<K: Sink, G: Gate + Sync, R: Threads + Sync + AllocGlobal>(
+fn put_rounds<K: Sink, G: Gate + Sync, R: Threads + Sync + AllocGlobal>(
     rt: &R,
     workers: u32,
     gate: &G,
@@ -49,7 +53,7 @@ pub(crate) fn put_rounds<K: Sink, G: Gate + Sync, R: Threads + Sync + AllocGloba
     requires stands { (w : HostWorld) × WorldStands world.old w }
     requires workers { (0 < workers) × (workers ≤ most_workers) }
     ensures listing { world.new.listing ≡ world.old.listing }
-    ensures told { (w : HostWorld) → WorldStands world.old w → StandsAt w (K.content sink.old) (K.content sink.old) → PutsRounds world.old world.new w (K.content sink.old) (K.content sink.new) result }
+    ensures told { (w : HostWorld) (old : Option Content) → WorldStands world.old w → StandsAt w old (K.content sink.old) → PutsRounds world.old world.new w old (K.content sink.new) result }
     ensures reads { NoReadFailed result }
     ensures count { CountsSink result (K.faults sink.old) (K.faults sink.new) }
 {
@@ -57,4 +61,24 @@ pub(crate) fn put_rounds<K: Sink, G: Gate + Sync, R: Threads + Sync + AllocGloba
         put_next(rt, workers, gate, world, sink)?;
     }
     Ok(())
+}
+
+/// Puts the heads of captures, makes all rounds from the beginning, and puts what each gained.
+pub(crate) fn put_run<K: Sink, G: Gate + Sync, R: Threads + Sync + AllocGlobal>(
+    rt: &R,
+    workers: u32,
+    gate: &G,
+    world: &mut World,
+    sink: &mut K,
+) -> Result<(), Stop>
+    requires stands { (w : HostWorld) × WorldStands world.old w }
+    requires workers { (0 < workers) × (workers ≤ most_workers) }
+    ensures listing { world.new.listing ≡ world.old.listing }
+    ensures told { (rows : List Row) → WorldStands world.old (opening_world rows) → HaveOwnFiles (names_of world.old.listing)
+        → PutsRounds world.old world.new (opening_world rows) (K.content sink.old) (K.content sink.new) result }
+    ensures reads { NoReadFailed result }
+    ensures count { CountsSink result (K.faults sink.old) (K.faults sink.new) }
+{
+    put_heads(rt.alloc(), sink, world.listing())?;
+    put_rounds(rt, workers, gate, world, sink)
 }

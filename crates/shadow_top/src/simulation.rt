@@ -17,7 +17,7 @@ ghost use Rattle.shadow_top.specs.Stop.{CountsSource, CountsSink, NoReadFailed};
 use crate::captured::list_capture;
 use crate::ending::put_end;
 use crate::opened::{Opened, open};
-use crate::rounds::put_rounds;
+use crate::rounds::put_run;
 use crate::stop::Stop;
 use net_run::put_notes;
 use out_text::FaultText;
@@ -108,8 +108,8 @@ fn show_config<K: Sink>(alloc: Global, sink: &mut K, config: &Config) -> Result<
     }
 }
 
-/// Makes a run whose notes were written, and writes what it shows: what a round gains as soon as the
-/// round is over, and the rest at the end.
+/// Makes a run whose notes were written, and writes what it shows: the heads of captures, what a round
+/// gains as soon as the round is over, and the rest at the end.
 fn run_noted<K: Sink, G: Gate + Sync, R: Threads + Sync + AllocGlobal>(
     rt: &R,
     cores: u32,
@@ -134,7 +134,7 @@ fn run_noted<K: Sink, G: Gate + Sync, R: Threads + Sync + AllocGlobal>(
     } = opened;
     let workers = worker_count(parallelism, cores, rows.len() as u32);
     let mut world = World::start(alloc, rows, net, lookahead)?;
-    put_rounds(rt, workers, gate, &mut world, sink)?;
+    put_run(rt, workers, gate, &mut world, sink)?;
     let status = put_end(alloc, &world, is_self_load, sink)?;
     Ok(status)
 }

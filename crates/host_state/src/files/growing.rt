@@ -1,4 +1,4 @@
-//! What a round gained, as bytes for the files that grow: what processes wrote, and the packet log.
+//! What a round gained, as bytes for the files that grow: what processes wrote, the captures of hosts, and the packet log.
 
 ghost use Rattle.std.specs.Prelude.{◌≡◌, ◌++◌, ◌∷◌, [], IfOk, OnOk, map, flat_map, length, slice_get};
 ghost use Rattle.sim_base.specs.declared.outside.sink.Place.TheVariants as place;
@@ -9,6 +9,7 @@ ghost use Rattle.host_state.specs.Grown as spec;
 ghost use Rattle.host_state.specs.Listed.{said, names_of};
 ghost use Rattle.host_state.specs.Logs.{kept_lines};
 
+use crate::files::capture::push_captures;
 use crate::files::listed::{HostListing, Listing, ProcessListing};
 use crate::files::piece::{Piece, file_piece, log_piece, numbers, written_to};
 use crate::line::{Line, Logged};
@@ -162,7 +163,7 @@ fn push_lines(
 }
 
 /// The places and bytes that a round gained: what the processes of all hosts wrote, each host's by
-/// its place, and the lines of the packet log.
+/// its place, the records of its captures, and the lines of the packet log.
 pub fn round_pieces(
     alloc: Global,
     listing: &Listing,
@@ -174,6 +175,7 @@ pub fn round_pieces(
 {
     let hosts = listing.hosts.as_slice();
     let mut pieces = output_pieces(alloc, hosts, outputs)?;
+    push_captures(alloc, &mut pieces, hosts, &lines)?;
     push_lines(alloc, &mut pieces, hosts, lines)?;
     Ok(pieces)
 }

@@ -1,4 +1,4 @@
-//! What is told of each host: its name, and of its processes the programs and the expected final states.
+//! What is told of each host: its name and address, its capture size, and of its processes the programs and the expected final states.
 
 ghost use Rattle.std.specs.Prelude.{◌≡◌, ◌<◌, ◌≤◌, All, IfOk, Some, length, map, slice_get};
 ghost use Rattle.host_state.specs.Listed as spec;
@@ -6,7 +6,7 @@ ghost use Rattle.host_state.specs.Listed.{HostNames};
 
 use crate::files::piece::{expected_state, program};
 use crate::row::{ProcessRow, Row};
-use sim_base::{Name, NoMemory, State};
+use sim_base::{Ip, Name, NoMemory, State};
 use std::alloc::Global;
 
 /// A process of a host.
@@ -21,6 +21,9 @@ pub struct ProcessListing {
 #[derive(Drop)]
 pub struct HostListing {
     pub name: Name,
+    pub address: Ip,
+    /// The most bytes of a packet in its captures, where it has them.
+    pub capture: Option<u32>,
     pub processes: Vec<ProcessListing>,
 }
 
@@ -61,7 +64,12 @@ fn host_listing(alloc: Global, row: &Row) -> Result<HostListing, NoMemory>
     if processes.len() > MOST_PROCESSES {
         return Err(NoMemory);
     }
-    Ok(HostListing { name, processes })
+    Ok(HostListing {
+        name,
+        address: row.address,
+        capture: row.capture,
+        processes,
+    })
 }
 
 impl Listing {

@@ -2,7 +2,7 @@
 
 ghost use Rattle.std.specs.Prelude.{◌≡◌, ◌+◌, IfOk};
 ghost use Rattle.sim_base.specs.declared.outside.sink.Place.TheVariants as place;
-ghost use Rattle.out_text.specs.Files.{file_name};
+ghost use Rattle.out_text.specs.Files.{file_name, capture_name};
 ghost use Rattle.host_state.specs.Files as spec;
 ghost use Rattle.host_state.specs.Files.{put_of};
 
@@ -73,6 +73,23 @@ pub fn file_piece(
 {
     let mut name = Text::new(alloc);
     out_text::file_name(alloc, &mut name, host, program, pid, kind)?;
+    Ok(Piece {
+        place: Place::File(Name::from(name.into_string())),
+        bytes,
+    })
+}
+
+/// A capture of a host.
+pub fn capture_piece(
+    alloc: Global,
+    host: &str,
+    loopback: bool,
+    bytes: Bytes,
+) -> Result<Piece, NoMemory>
+    ensures { IfOk result (λ p. put_of p ≡ (place.File (capture_name host.now loopback), bytes)) }
+{
+    let mut name = Text::new(alloc);
+    out_text::capture_name(alloc, &mut name, host, loopback)?;
     Ok(Piece {
         place: Place::File(Name::from(name.into_string())),
         bytes,

@@ -7,7 +7,7 @@ use Rattle.shadow_top.proofs.rounds.put_rounds.Goals as goal
 pub rounds-init : goal.rounds-init
 rounds-init g c = record {
   at = c.requires.stands;
-  come = λ w at stands. come-start c.args.world.now w (g.K.Sink.content c.args.sink.now) at stands;
+  come = λ w old at stands. come-start c.args.world.now w old (g.K.Sink.content c.args.sink.now) at stands;
   listing = refl;
   count = refl;
 }
@@ -17,15 +17,14 @@ rounds-preserved g c =
     let i = c.rounds.invariant in
     let d = c.rounds.world in
     let e = c.put_next.new.world in
-    let old = g.K.Sink.content c.args.sink.now in
     let mid = g.K.Sink.content c.rounds.sink in
     let new = g.K.Sink.content c.put_next.new.sink in
     let told = c.in_ok-put_next.ensures.told in
     let here = told i.at.0 i.at.1 in
     record {
       at = (here.0, here.2.turns.stands);
-      come = λ w at stands.
-          (let come = i.come w at stands in
+      come = λ w old at stands.
+          (let come = i.come w old at stands in
           let r = told come.world come.reached.stands in
           come-further c.args.world.now d w old mid come e c.args.workers r.0 r.1 c.in_ok-put_next.ensures.net r.2 new r.3);
       listing = c.in_ok-put_next.ensures.listing ∙ i.listing;
@@ -39,15 +38,14 @@ rounds-smaller g c =
     round-smaller c.rounds.world c.put_next.new.world c.args.workers i.at.0 here.0 here.1 i.at.1 here.2 c.in_ok-put_next.ensures.net (c.finished.ensures.unfinished.0 c.rounds-test.true)
 
 pub returns-in_err-put_next-clause-told : goal.returns-in_err-put_next-clause-told
-returns-in_err-put_next-clause-told g c = λ w at stands.
-    (let come = c.rounds.invariant.come w at stands in
-    let old = g.K.Sink.content c.args.sink.now in
+returns-in_err-put_next-clause-told g c = λ w old at stands.
+    (let come = c.rounds.invariant.come w old at stands in
     let mid = g.K.Sink.content c.rounds.sink in
     let p = err_from_is_err_and c.from_residual.result c.from_residual.ensures.1 in
     rw (p.1, p.2) (come-stopped c.args.world.now c.rounds.world w old mid come c.put_next.new.world c.args.workers (g.K.Sink.content c.put_next.new.sink) c.in_err-put_next.field-0.0
     c.in_err-put_next.ensures.net (c.in_err-put_next.ensures.told come.world come.reached.stands)))
 
 pub returns-clause-told : goal.returns-clause-told
-returns-clause-told g c = λ w at stands.
-    come-end c.args.world.now c.rounds.world w (g.K.Sink.content c.args.sink.now) (g.K.Sink.content c.rounds.sink) (c.rounds.invariant.come w at stands)
+returns-clause-told g c = λ w old at stands.
+    come-end c.args.world.now c.rounds.world w old (g.K.Sink.content c.rounds.sink) (c.rounds.invariant.come w old at stands)
     (c.finished.ensures.finished.0 c.rounds-test.false)

@@ -1,4 +1,5 @@
-use Rattle.std.proofs.Common.{◌≡◌}
+use Rattle.std.proofs.Common.{◌≡◌, Option}
+use Rattle.sim_base.specs.Sink.{Content}
 use Rattle.host_state.specs.World.{World}
 use Rattle.round_lookahead.specs.WorldStands.{WorldStands}
 use Rattle.round_lookahead.proofs.Reaching.{world_left}
@@ -6,12 +7,11 @@ use Rattle.shadow_top.specs.Rounds.{StandsAt}
 use Rattle.shadow_top.proofs.RoundLemmas.{HasCome}
 use Rattle.shadow_top.proofs.rounds.put_rounds.Given as goal
 
--- the world stands for one; and where a run that began with the first world has come, if what stood there was begun
+-- the world stands for one; and where a run has come that began with the first world, if what stood there was put in it
 abbrev pub invariant-rounds : goal.invariant-rounds
 invariant-rounds g l = record {
   at : (w : World) × WorldStands l.world w;
-  come : (w : World) → WorldStands l.initial.world w → StandsAt w (g.K.Sink.content l.initial.sink) (g.K.Sink.content l.initial.sink)
-      → HasCome l.initial.world l.world w (g.K.Sink.content l.initial.sink) (g.K.Sink.content l.sink);
+  come : (w : World) (old : Option Content) → WorldStands l.initial.world w → StandsAt w old (g.K.Sink.content l.initial.sink) → HasCome l.initial.world l.world w old (g.K.Sink.content l.sink);
   listing : l.world.listing ≡ l.initial.world.listing;
   count : g.K.Sink.faults l.sink ≡ g.K.Sink.faults l.initial.sink;
 }

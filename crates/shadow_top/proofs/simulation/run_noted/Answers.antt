@@ -4,43 +4,42 @@ use Rattle.sim_base.specs.Sink.{Content}
 use Rattle.host_state.specs.Listed.{HasIds, names_of}
 use Rattle.host_state.specs.World.{opening_world}
 use Rattle.host_state.specs.declared.files.listed.Listing.{Listing}
-use Rattle.shadow_top.proofs.RunLemmas.{not_run, stands_begin, rounds_stopped, run_ended, end_stopped, ended_small}
+use Rattle.shadow_top.proofs.RunLemmas.{not_run, begins_own, rounds_stopped, run_ended, end_stopped, ended_small}
 use Rattle.shadow_top.proofs.simulation.run_noted.Goals as goal
 
 pub returns-in_err-world-clause-told : goal.returns-in_err-world-clause-told
 returns-in_err-world-clause-told g c =
     let p = err_from_is_err_and c.from_residual.result c.from_residual.ensures.1 in rw (p.1, p.2) (not_run c.args.opened (g.K.Sink.content c.args.sink.now) c.requires)
 
-pub put_rounds-requires-clause-stands : goal.put_rounds-requires-clause-stands
-put_rounds-requires-clause-stands g c κs lives = (opening_world c.args.opened.rows.items, c.in_ok-world.ensures.stands)
+pub put_run-requires-clause-stands : goal.put_run-requires-clause-stands
+put_run-requires-clause-stands g c κs lives = (opening_world c.args.opened.rows.items, c.in_ok-world.ensures.stands)
 
-pub returns-in_err-put_rounds-clause-told : goal.returns-in_err-put_rounds-clause-told
-returns-in_err-put_rounds-clause-told g c =
+pub returns-in_err-put_run-clause-told : goal.returns-in_err-put_run-clause-told
+returns-in_err-put_run-clause-told g c =
     let opened = c.args.opened in
     let world = c.in_ok-world.world in
     let old : Option Content = g.K.Sink.content c.args.sink.now in
-    let told = c.in_err-put_rounds.ensures.told (opening_world opened.rows.items) c.in_ok-world.ensures.stands (stands_begin opened world old c.requires c.in_ok-world.ensures.stands c.in_ok-world.ensures.ids) in
-    let p = err_from_is_err_and c.from_residual-in_err-put_rounds.result c.from_residual-in_err-put_rounds.ensures.1 in
-    rw (p.1, p.2) (rounds_stopped opened world c.in_ok-world.ensures.net old c.put_rounds.new.world (g.K.Sink.content c.put_rounds.new.sink) c.in_err-put_rounds.field-0.0 told)
+    let told = c.in_err-put_run.ensures.told opened.rows.items c.in_ok-world.ensures.stands (begins_own opened world c.requires c.in_ok-world.ensures.stands c.in_ok-world.ensures.ids) in
+    let p = err_from_is_err_and c.from_residual-in_err-put_run.result c.from_residual-in_err-put_run.ensures.1 in
+    rw (p.1, p.2) (rounds_stopped opened world c.in_ok-world.ensures.net old c.put_run.new.world (g.K.Sink.content c.put_run.new.sink) c.in_err-put_run.field-0.0 told)
 
 pub put_end-requires-clause-stands : goal.put_end-requires-clause-stands
 put_end-requires-clause-stands g c =
     let opened = c.args.opened in
-    let old : Option Content = g.K.Sink.content c.args.sink.now in
-    let all = c.in_ok-put_rounds.ensures.told (opening_world opened.rows.items) c.in_ok-world.ensures.stands (stands_begin opened c.in_ok-world.world old c.requires c.in_ok-world.ensures.stands c.in_ok-world.ensures.ids) in
+    let all = c.in_ok-put_run.ensures.told opened.rows.items c.in_ok-world.ensures.stands (begins_own opened c.in_ok-world.world c.requires c.in_ok-world.ensures.stands c.in_ok-world.ensures.ids) in
     (all.world, all.at)
 
 pub put_end-requires-clause-ids : goal.put_end-requires-clause-ids
-put_end-requires-clause-ids g c = subst (λ (l : Listing). All HasIds (names_of l)) (sym c.in_ok-put_rounds.ensures.listing) c.in_ok-world.ensures.ids
+put_end-requires-clause-ids g c = subst (λ (l : Listing). All HasIds (names_of l)) (sym c.in_ok-put_run.ensures.listing) c.in_ok-world.ensures.ids
 
 pub returns-in_err-status-clause-told : goal.returns-in_err-status-clause-told
 returns-in_err-status-clause-told g c =
     let opened = c.args.opened in
     let world = c.in_ok-world.world in
     let old : Option Content = g.K.Sink.content c.args.sink.now in
-    let all = c.in_ok-put_rounds.ensures.told (opening_world opened.rows.items) c.in_ok-world.ensures.stands (stands_begin opened world old c.requires c.in_ok-world.ensures.stands c.in_ok-world.ensures.ids) in
+    let all = c.in_ok-put_run.ensures.told opened.rows.items c.in_ok-world.ensures.stands (begins_own opened world c.requires c.in_ok-world.ensures.stands c.in_ok-world.ensures.ids) in
     let p = err_from_is_err_and c.from_residual-in_err-status.result c.from_residual-in_err-status.ensures.1 in
-    rw (p.1, p.2) (end_stopped opened world c.in_ok-world.ensures.net old c.put_rounds.new.world (g.K.Sink.content c.put_rounds.new.sink) (g.K.Sink.content c.put_end.new.sink) all c.in_err-status.field-0.0
+    rw (p.1, p.2) (end_stopped opened world c.in_ok-world.ensures.net old c.put_run.new.world (g.K.Sink.content c.put_run.new.sink) (g.K.Sink.content c.put_end.new.sink) all c.in_err-status.field-0.0
     (c.in_err-status.ensures.told all.world old all.at all.stands))
 
 pub returns-clause-told : goal.returns-clause-told
@@ -48,8 +47,8 @@ returns-clause-told g c =
     let opened = c.args.opened in
     let world = c.in_ok-world.world in
     let old : Option Content = g.K.Sink.content c.args.sink.now in
-    let all = c.in_ok-put_rounds.ensures.told (opening_world opened.rows.items) c.in_ok-world.ensures.stands (stands_begin opened world old c.requires c.in_ok-world.ensures.stands c.in_ok-world.ensures.ids) in
-    run_ended opened world c.in_ok-world.ensures.net old c.put_rounds.new.world (g.K.Sink.content c.put_rounds.new.sink) (g.K.Sink.content c.put_end.new.sink) all c.in_ok-status.status
+    let all = c.in_ok-put_run.ensures.told opened.rows.items c.in_ok-world.ensures.stands (begins_own opened world c.requires c.in_ok-world.ensures.stands c.in_ok-world.ensures.ids) in
+    run_ended opened world c.in_ok-world.ensures.net old c.put_run.new.world (g.K.Sink.content c.put_run.new.sink) (g.K.Sink.content c.put_end.new.sink) all c.in_ok-status.status
     (c.in_ok-status.ensures.told all.world old all.at all.stands)
 
 pub returns-clause-status : goal.returns-clause-status
@@ -57,5 +56,5 @@ returns-clause-status g c =
     let opened = c.args.opened in
     let world = c.in_ok-world.world in
     let old : Option Content = g.K.Sink.content c.args.sink.now in
-    let all = c.in_ok-put_rounds.ensures.told (opening_world opened.rows.items) c.in_ok-world.ensures.stands (stands_begin opened world old c.requires c.in_ok-world.ensures.stands c.in_ok-world.ensures.ids) in
+    let all = c.in_ok-put_run.ensures.told opened.rows.items c.in_ok-world.ensures.stands (begins_own opened world c.requires c.in_ok-world.ensures.stands c.in_ok-world.ensures.ids) in
     ended_small opened.is_self_load all.world old (g.K.Sink.content c.put_end.new.sink) c.in_ok-status.status (c.in_ok-status.ensures.told all.world old all.at all.stands)
