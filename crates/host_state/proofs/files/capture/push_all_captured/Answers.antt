@@ -9,5 +9,5 @@ use Rattle.host_state.proofs.files.capture.push_all_captured.Goals as goal
 pub returns : goal.returns
 returns c =
     let it = c.loop-host.host-iterator in
-    let ended : (length it.a.rest.now ≡ 0) ⊎ (length (into_iter_items it.b) ≡ 0) = elim c.in-None.ensures.steps [ inl h ↦ inl h.1 | inr h ↦ inr (sym c.loop-host.invariant.left ∙ h.1) ] in
+    let ended : (length it.a.rest.now ≡ 0) ⊎ (length (into_iter_items it.b) ≡ 0) = elim c.in-None.ensures.steps [ inl h ↦ inl h.1.0 | inr h ↦ inr (sym c.loop-host.invariant.left ∙ h.1.0) ] in
     captured-end (host_captures no_head) it.a.rest.now (into_iter_items it.b) (map put_of c.loop-host.pieces.items) _ ended c.loop-host.invariant.so_far
