@@ -17,6 +17,7 @@ mod sending;
 mod slice;
 mod start;
 
+pub use files::capture::Captured;
 pub use files::growing::round_pieces;
 pub use files::listed::{HostListing, Listing, ProcessListing};
 pub use files::piece::{Piece, bytes_of, capture_piece, file_piece, log_piece, numbers};

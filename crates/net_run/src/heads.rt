@@ -15,6 +15,29 @@ use host_state::{HostListing, Listing, Piece, capture_piece};
 use sim_base::{Bytes, NoMemory, Sink, WriteError};
 use std::alloc::Global;
 
+/// The head of a capture.
+fn head_bytes(alloc: Global, size: u32) -> Result<Bytes, NoMemory>
+    ensures { IfOk result (λ bytes. bytes ≡ head size) }
+{
+    let mut bytes = Bytes::new(alloc);
+    pcap_text::head(&mut bytes, size)?;
+    Ok(bytes)
+}
+
+/// A capture, behind other pieces.
+fn push_capture(
+    alloc: Global,
+    pieces: &mut Vec<Piece>,
+    host: &str,
+    loopback: bool,
+    bytes: Bytes,
+) -> Result<(), NoMemory>
+    ensures { OnOk result (map put_of pieces.new.items ≡ map put_of pieces.old.items ++ (place.File (capture_name host.now loopback), bytes) ∷ []) }
+{
+    pieces.push(capture_piece(alloc, host, loopback, bytes)?)?;
+    Ok(())
+}
+
 /// The head of a capture, behind other pieces.
 fn push_head(
     alloc: Global,
@@ -25,10 +48,8 @@ fn push_head(
 ) -> Result<(), NoMemory>
     ensures { OnOk result (map put_of pieces.new.items ≡ map put_of pieces.old.items ++ (place.File (capture_name host.now loopback), head size) ∷ []) }
 {
-    let mut bytes = Bytes::new(alloc);
-    pcap_text::head(&mut bytes, size)?;
-    pieces.push(capture_piece(alloc, host, loopback, bytes)?)?;
-    Ok(())
+    let bytes = head_bytes(alloc, size)?;
+    push_capture(alloc, pieces, host, loopback, bytes)
 }
 
 /// Those of a host.

@@ -20,7 +20,7 @@ use std::alloc::Global;
 
 /// What lines bring into the two captures of a host.
 #[derive(Drop)]
-pub(crate) struct Captured {
+pub struct Captured {
     pub eth0: Bytes,
     pub lo: Bytes,
 }
