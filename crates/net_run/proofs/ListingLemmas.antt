@@ -1,6 +1,10 @@
--- The notes of a configuration, one behind another.
-use Rattle.std.proofs.Common.{◌≡◌, ℕ, ◌+◌, ◌<◌, List, [], ◌∷◌, ◌++◌, length, drop, get_or, sym, ap, ◌∙◌, append_assoc}
+-- The notes of a configuration and the heads of captures, one behind another.
+use Rattle.std.proofs.Common.{◌≡◌, ℕ, ◌+◌, ◌<◌, Bool, true, false, List, [], ◌∷◌, ◌++◌, length, drop, get_or, Option, Some, sym, ap, ◌∙◌, append_assoc}
+use Rattle.sim_base.specs.declared.outside.sink.Place.TheVariants as place
+use Rattle.out_text.specs.Files.{capture_name}
+use Rattle.pcap_text.specs.Writing.{head}
 use Rattle.host_state.specs.Files.{Put}
+use Rattle.net_run.specs.Heads.{heads_by}
 use Rattle.net_run.specs.Shown.{note_puts}
 use Rattle.host_state.proofs.Listings.{drop_at}
 
@@ -10,3 +14,11 @@ notes-step notes i note old new whole below is new_is so_far =
     let rest = note_puts (drop (i + 1) notes) in
     ap (λ (l : List Put). l ++ rest) new_is ∙ append_assoc old (note_puts (note ∷ [])) rest
     ∙ ap (λ (l : List (List ℕ)). old ++ note_puts l) (sym (drop_at notes i note below is)) ∙ so_far
+
+-- the heads of both captures of a host
+pub heads-two : (old first second : List Put) (name told : List ℕ) (size : ℕ) (capture : Option ℕ) → capture ≡ Some size → told ≡ name
+    → first ≡ old ++ ((place.File (capture_name told false), head size) ∷ []) → second ≡ first ++ ((place.File (capture_name told true), head size) ∷ []) → second ≡ old ++ heads_by name capture
+heads-two old first second name told size capture is same one two =
+    two ∙ ap (λ (l : List Put). l ++ ((place.File (capture_name told true), head size) ∷ [])) one
+    ∙ append_assoc old ((place.File (capture_name told false), head size) ∷ []) ((place.File (capture_name told true), head size) ∷ [])
+    ∙ ap (λ (host : List ℕ). old ++ heads_by host (Some size)) same ∙ ap (λ (o : Option ℕ). old ++ heads_by name o) (sym is)

@@ -49,7 +49,8 @@ fn push_head(
     ensures { OnOk result (map put_of pieces.new.items ≡ map put_of pieces.old.items ++ (place.File (capture_name host.now loopback), head size) ∷ []) }
 {
     let bytes = head_bytes(alloc, size)?;
-    push_capture(alloc, pieces, host, loopback, bytes)
+    push_capture(alloc, pieces, host, loopback, bytes)?;
+    Ok(())
 }
 
 /// Those of a host.
@@ -61,7 +62,8 @@ fn push_heads(alloc: Global, pieces: &mut Vec<Piece>, host: &HostListing) -> Res
     };
     let name = host.name.as_str();
     push_head(alloc, pieces, name, false, size)?;
-    push_head(alloc, pieces, name, true, size)
+    push_head(alloc, pieces, name, true, size)?;
+    Ok(())
 }
 
 /// Those of all hosts.
