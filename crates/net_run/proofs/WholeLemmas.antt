@@ -76,7 +76,7 @@ in-either at ps qs e first second = go (is_touched at ps) (is_touched at qs) ref
   go false false x y t = cc
 
 module _ (at : Place) (front : ℕ → List ℕ) (hosts : List HostNames) (xs ys zs : List (List Output)) (k l : List Line) (own : AreOwn hosts) (gained : AreGained xs ys zs) where
-  captures_and_log : (ℕ → List ℕ) → List Line → List Put
+  abbrev captures_and_log : (ℕ → List ℕ) → List Line → List Put
   captures_and_log f lines = all_captures f hosts lines ++ (log_grown hosts lines ∷ [])
 
   more-behind : Splits at (captures_and_log front k) (captures_and_log no_head l) (captures_and_log front (k ++ l))
@@ -243,16 +243,16 @@ module _ (at : Place) (kept xs xs' ys zs zs' : List Put) (s : Splits at (xs ++ x
 
 -- what grew and what is put at the end are the pieces of a run
 module _ (at : Place) (load : Bool) (w : World) (own : AreOwn (names_in w)) where
-  names : List HostNames
+  abbrev names : List HostNames
   names = names_in w
 
-  written : List (List Output)
+  abbrev written : List (List Output)
   written = written_by w.hosts
 
-  states : List (List State)
+  abbrev states : List (List State)
   states = states_by w.hosts
 
-  others : List Put
+  abbrev others : List Put
   others = unmet w ++ summary load w
 
   hosts : Splits at (hosts_grown names written) (rest.hosts_rest names states) (flat_map host_files w.hosts)
