@@ -108,7 +108,7 @@ module _ (c d : rounds.World) (start : World) (old mid : Option Content) (come :
 -- ---- the beginning
 
 module _ (c : rounds.World) (rows : List Row) (at : WorldStands c (opening_world rows)) (own : HaveOwnFiles (names_of c.listing)) where
-  names : List HostNames
+  abbrev names : List HostNames
   names = names_in (opening_world rows)
 
   own_names : HaveOwnFiles names
