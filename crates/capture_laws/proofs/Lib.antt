@@ -1,1 +1,5 @@
+pub mod Lanes
+pub mod Keeping
+pub mod Acting
+pub mod Worlds
 pub mod Again
