@@ -1,5 +1,5 @@
 -- Each world that a run reaches has lines of packets that are not too large, at times before its stop.
-use Rattle.std.proofs.Common.{◌≡◌, ℕ, zero, suc, ◌≤◌, Bool, true, false, List, [], ◌∷◌, map, flat_map, Option, Some, None, nat_lt, slice_get, refl, sym, subst, arith}
+use Rattle.std.proofs.Common.{◌≡◌, ℕ, ◌+◌, zero, suc, ◌≤◌, Bool, true, false, List, [], ◌∷◌, map, flat_map, Option, Some, None, nat_lt, slice_get, refl, sym, subst, arith}
 use Rattle.std.specs.Prelude.{slice_set, if◌then◌else◌}
 use Rattle.std.specs.List.{AllByRecursion}
 use Rattle.std.proofs.lemmas.Bool.Decides.{nat_tests}
@@ -140,7 +140,7 @@ all_open : (p : ℕ) (rows : List ProcessRow) (l : LinkState) → Opens l → Op
 unfolding begins_all
 all_open p [] l k = k
 all_open p (row ∷ rows) l k =
-    all_open (suc p) rows (begins_process p row l) (shutdown_opens p row.shutdown (numbers row.start (what.Start p) l) (numbers_open l row.start (what.Start p) tt k))
+    all_open (p + 1) rows (begins_process p row l) (shutdown_opens p row.shutdown (numbers row.start (what.Start p) l) (numbers_open l row.start (what.Start p) tt k))
 
 row_opens : (row : Row) → Opens (host_begins row).link
 row_opens row = all_open 0 row.processes (new_link row) (record { up = tt; down = tt; made = tt; lines = refl })
