@@ -1,5 +1,5 @@
 -- What a command line asks for, or its first fault.
-use Rattle.std.specs.Prelude.{◌≡◌, ℕ, ◌&&◌, List, length, Option, Some, None, option_map, option_and_then, unwrap_or, Result, Ok, Err, Bool, if◌then◌else◌, nat_le, nat_lt}
+use Rattle.std.specs.Prelude.{◌≡◌, ℕ, ◌&&◌, List, length, Option, Some, None, option_map, option_and_then, unwrap_or, Result, Ok, Err, Bool, if◌then◌else◌, nat_le, nat_lt, codes}
 use Rattle.std.specs.Char.{is_ascii_digit}
 use Rattle.std.specs.List.{list_all}
 use Rattle.std.specs.Str.Parse.{digits_value}
@@ -8,7 +8,7 @@ use Rattle.sim_base.specs.Units.{latest_time, max_u32}
 use Rattle.sim_base.specs.Quantity.{time_of_text}
 use Rattle.sim_base.specs.declared.time.Time.{Time}
 use Rattle.clap.specs.Walk.{Row, Text}
-use Rattle.command_line.specs.Command.{found, value_of, config_of, shows_config}
+use Rattle.command_line.specs.Command.{found, value_of, config_of, is_given}
 use Rattle.sim_base.specs.Refusals.{◌>>=◌, or_refuse}
 use Rattle.command_line.specs.declared.asked.Asked.{Asked}
 use Rattle.command_line.specs.declared.asked.Choice.{Choice}
@@ -118,7 +118,8 @@ asked words = do
     data_directory = directory;
     stop_time = stop;
     budget = unwrap_or budget default_budget;
-    shows_config = shows_config rows;
+    streams = is_given (codes "streams") rows;
+    shows_config = is_given (codes "show-config") rows;
   })
 
 -- ---- what calls answer

@@ -1,4 +1,4 @@
--- The command: its options, its flag and its word, and what clap finds in the words of a call.
+-- The command: its options, its flags and its word, and what clap finds in the words of a call.
 use Rattle.std.specs.Prelude.{ℕ, List, Option, Some, Result, Ok, Err, Bool, false, if◌then◌else◌, codes}
 use Rattle.std.specs.Str.{bytes_eq}
 use Rattle.std.specs.Option.{option_map_or}
@@ -35,21 +35,22 @@ letter_d = 100
 abbrev pub short_option_rule : ℕ → Text → Rule
 short_option_rule letter name = record (option_rule name) { short = Some letter }
 
--- --show-config
-abbrev pub show_config_rule : Rule
-show_config_rule = record (new_rule (codes "show-config")) { long = Some (codes "show-config"); action = Some SetTrue }
+-- --NAME
+abbrev pub flag_rule : Text → Rule
+flag_rule name = record (new_rule name) { long = Some name; action = Some SetTrue }
 
 -- CONFIG
 abbrev pub config_rule : Rule
 config_rule = record (new_rule (codes "CONFIG")) { action = Some Set }
 
--- shadow [--seed N] [-p|--parallelism N] [-d|--data-directory DIR] [--stop-time T] [--budget N] [--self-load N] [--read-capture FILE] [--show-config] [CONFIG]
+-- shadow [--seed N] [-p|--parallelism N] [-d|--data-directory DIR] [--stop-time T] [--budget N] [--self-load N] [--streams] [--read-capture FILE] [--show-config] [CONFIG]
 unfoldable pub shadow_command : App
-shadow_command = with_rule (with_rule (with_rule (with_rule (with_rule (with_rule (with_rule (with_rule (with_rule (new_app (codes "shadow"))
+shadow_command = with_rule (with_rule (with_rule (with_rule (with_rule (with_rule (with_rule (with_rule (with_rule (with_rule (new_app (codes "shadow"))
     (option_rule (name_text Seed))) (short_option_rule letter_p (name_text Parallelism))) (short_option_rule letter_d (name_text DataDirectory)))
-    (option_rule (name_text StopTime))) (option_rule (name_text Budget))) (option_rule (name_text SelfLoad))) (option_rule (name_text ReadCapture))) show_config_rule) config_rule
+    (option_rule (name_text StopTime))) (option_rule (name_text Budget))) (option_rule (name_text SelfLoad))) (flag_rule (codes "streams"))) (option_rule (name_text ReadCapture)))
+    (flag_rule (codes "show-config"))) config_rule
 
--- what the words give to the options, the flag and the word, where clap takes them
+-- what the words give to the options, the flags and the word, where clap takes them
 unfoldable pub found : List Text → Result (List Row) WordsFault
 found words = if is_empty (fault_of shadow_command words) then Ok (matches_of shadow_command words) else Err Usage
 
@@ -61,6 +62,6 @@ value_of name rows = first_of (name_text name) rows
 abbrev pub config_of : List Row → Option Text
 config_of rows = first_of (codes "CONFIG") rows
 
--- whether the configuration is to be shown, and not run
-abbrev pub shows_config : List Row → Bool
-shows_config rows = option_map_or (λ text. bytes_eq text (codes "true")) (first_of (codes "show-config") rows) false
+-- whether the flag of this name is given
+abbrev pub is_given : Text → List Row → Bool
+is_given name rows = option_map_or (λ text. bytes_eq text (codes "true")) (first_of name rows) false

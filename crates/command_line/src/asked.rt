@@ -43,6 +43,8 @@ pub struct Asked {
     pub stop_time: Option<Time>,
     /// From 1 to 10^9.
     pub budget: u32,
+    /// What became of each connection is told at the end of a run.
+    pub streams: bool,
     /// The configuration is shown, and nothing is run.
     pub shows_config: bool,
 }
@@ -164,6 +166,7 @@ pub fn read_words(alloc: Global, words: &[String]) -> Result<Asked, WordsError>
         data_directory,
         stop_time,
         budget: budget.unwrap_or(DEFAULT_BUDGET),
-        shows_config: command::shows_config(&matches),
+        streams: command::is_given(&matches, "streams"),
+        shows_config: command::is_given(&matches, "show-config"),
     })
 }

@@ -3,7 +3,7 @@
 ghost use Rattle.std.specs.Prelude.{◌≡◌, false, IfOk, map, string_bytes, option_map};
 ghost use Rattle.clap.specs.Words.{app_of, found_of, rows_of, rule_of};
 ghost use Rattle.command_line.specs.Asked.{Meets};
-ghost use Rattle.command_line.specs.Command.{shadow_command, option_rule, short_option_rule, show_config_rule, config_rule, found, value_of, config_of, shows_config};
+ghost use Rattle.command_line.specs.Command.{shadow_command, option_rule, short_option_rule, flag_rule, config_rule, found, value_of, config_of, is_given};
 
 use crate::fault::{WordsError, WordsFault};
 use crate::name::OptionName;
@@ -27,13 +27,12 @@ fn short_option<'a>(alloc: Global, letter: char, name: &'a str) -> Arg<'a>
     option(alloc, name).short(letter)
 }
 
-fn show_config<'a>(alloc: Global) -> Arg<'a>
-    ensures rule { rule_of result ≡ show_config_rule }
+/// A flag by its long name.
+fn flag<'a>(alloc: Global, name: &'a str) -> Arg<'a>
+    ensures rule { rule_of result ≡ flag_rule name.entry.now }
     ensures local { result.global ≡ false }
 {
-    Arg::new(alloc, "show-config")
-        .long("show-config")
-        .action(ArgAction::SetTrue)
+    Arg::new(alloc, name).long(name).action(ArgAction::SetTrue)
 }
 
 fn config_word<'a>(alloc: Global) -> Arg<'a>
@@ -59,12 +58,14 @@ fn command<'a>(alloc: Global) -> Result<Command<'a>, AllocError>
     let five = four.arg(budget)?;
     let self_load = option(alloc, "self-load");
     let six = five.arg(self_load)?;
+    let streams = flag(alloc, "streams");
+    let seven = six.arg(streams)?;
     let read_capture = option(alloc, "read-capture");
-    let seven = six.arg(read_capture)?;
-    let show_config = show_config(alloc);
-    let eight = seven.arg(show_config)?;
+    let eight = seven.arg(read_capture)?;
+    let show_config = flag(alloc, "show-config");
+    let nine = eight.arg(show_config)?;
     let config_word = config_word(alloc);
-    eight.arg(config_word)
+    nine.arg(config_word)
 }
 
 /// What clap finds in the words.
@@ -95,11 +96,11 @@ pub fn config<'a>(matches: &ArgMatches<'a>) -> Option<&'a str>
     matches.get_str("CONFIG")
 }
 
-/// Whether the configuration is to be shown, and not run.
-pub fn shows_config(matches: &ArgMatches<'_>) -> bool
-    ensures { result ≡ shows_config (rows_of (found_of matches.now)) }
+/// Whether the flag of this name is given.
+pub fn is_given(matches: &ArgMatches<'_>, name: &str) -> bool
+    ensures { result ≡ is_given name.now (rows_of (found_of matches.now)) }
 {
-    match matches.get_str("show-config") {
+    match matches.get_str(name) {
         Some(text) => text == "true",
         None => false,
     }

@@ -19,7 +19,7 @@ use host_sockets::{CallError, Refusal, Sockets};
 use sim_base::Errno;
 
 /// The descriptor that an accepted connection gets, and where its peer's address goes.
-#[derive(Clone, Copy, PartialEq, Eq)]
+#[derive(Clone, Copy)]
 pub struct NewPlace {
     pub fd: u32,
     pub place: Option<AddressPlace>,
@@ -45,7 +45,7 @@ fn accept_place(
 }
 
 /// Which listener gives a connection, and what is done with it.
-#[derive(Clone, Copy, PartialEq, Eq)]
+#[derive(Clone, Copy)]
 pub struct AcceptPlan {
     pub listener: usize,
     pub new: NewPlace,

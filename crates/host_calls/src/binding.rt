@@ -26,7 +26,7 @@ const IPPROTO_TCP: u32 = 6;
 const IPPROTO_UDP: u32 = 17;
 
 /// A socket that is to be made, and the descriptor that it gets.
-#[derive(Clone, Copy, PartialEq, Eq)]
+#[derive(Clone, Copy)]
 pub struct NewSocket {
     /// Whether it is one of TCP.
     pub stream: bool,

@@ -4,7 +4,7 @@ ghost use Rattle.std.specs.Prelude.{◌≡◌};
 ghost use Rattle.host_calls.specs.Call as spec;
 
 /// A system call by its name.
-#[derive(Clone, Copy, PartialEq, Eq)]
+#[derive(Clone, Copy)]
 pub enum Call {
     /// One that needs no sockets.
     Plain(PlainCall),
@@ -17,7 +17,7 @@ pub enum Call {
 }
 
 /// A call that needs no sockets and never waits.
-#[derive(Clone, Copy, PartialEq, Eq)]
+#[derive(Clone, Copy)]
 pub enum PlainCall {
     Eventfd2,
     Fcntl,
@@ -33,7 +33,7 @@ pub enum PlainCall {
 }
 
 /// A call on sockets alone that never waits.
-#[derive(Clone, Copy, PartialEq, Eq)]
+#[derive(Clone, Copy)]
 pub enum NetworkCall {
     Socket,
     Bind,
@@ -45,7 +45,7 @@ pub enum NetworkCall {
 }
 
 /// A call that may wait.
-#[derive(Clone, Copy, PartialEq, Eq)]
+#[derive(Clone, Copy)]
 pub enum WaitingCall {
     Read,
     Write,

@@ -123,7 +123,7 @@ fn connect_call(
 }
 
 /// A socket, and the address that it is connected to.
-#[derive(Clone, Copy, PartialEq, Eq)]
+#[derive(Clone, Copy)]
 pub struct ConnectPlan {
     pub socket: OpenSocket,
     pub at: u32,

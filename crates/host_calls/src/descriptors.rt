@@ -13,7 +13,7 @@ use host_sockets::Refusal;
 use sim_base::{Errno, NoMemory, ObjectId};
 
 /// What a descriptor names: an open file, with its number.
-#[derive(Clone, Copy, PartialEq, Eq)]
+#[derive(Clone, Copy)]
 pub struct Descriptor {
     pub id: ObjectId,
     pub file: File,

@@ -142,7 +142,7 @@ pub(crate) fn openat(
 }
 
 /// The descriptors of a pipe's ends.
-#[derive(Clone, Copy, PartialEq, Eq)]
+#[derive(Clone, Copy)]
 pub struct Ends {
     pub reading: u32,
     pub writing: u32,

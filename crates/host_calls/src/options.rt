@@ -91,7 +91,7 @@ fn option_place(at: u32, size_at: u32, memory: &Mem) -> Result<(), Refusal>
 }
 
 /// What is asked for of which socket, once nothing refuses it.
-#[derive(Clone, Copy, PartialEq, Eq)]
+#[derive(Clone, Copy)]
 pub struct Asked {
     pub number: SocketNumber,
     pub error: bool,

@@ -15,7 +15,7 @@ pub struct Known {
 }
 
 /// A call that waits: its number, its arguments, and its deadline where it has one.
-#[derive(Clone, Copy, PartialEq, Eq)]
+#[derive(Clone, Copy)]
 pub struct Why {
     pub number: u32,
     pub args: [u32; 6],
@@ -23,7 +23,7 @@ pub struct Why {
 }
 
 /// What a call answers.
-#[derive(Clone, Copy, PartialEq, Eq)]
+#[derive(Clone, Copy)]
 pub enum Answer {
     /// This value, or the negative of an error number.
     Value(u32),
@@ -34,7 +34,7 @@ pub enum Answer {
 }
 
 /// What a row of the table answers that isn't refused.
-#[derive(Clone, Copy, PartialEq, Eq)]
+#[derive(Clone, Copy)]
 pub enum Reaction {
     Value(u32),
     /// The call has acted, and waits: a connection is sought.

@@ -8,7 +8,7 @@ use crate::receiving::RecvPlan;
 use crate::sending::SendPlan;
 
 /// What a call that may wait would do: it isn't refused, and doesn't wait.
-#[derive(Clone, Copy, PartialEq, Eq)]
+#[derive(Clone, Copy)]
 pub enum Plan {
     /// It reads what is no socket.
     Read(Transfer),
@@ -24,7 +24,7 @@ pub enum Plan {
 }
 
 /// So many bytes at an address of the guest, and the file that they come from or go to.
-#[derive(Clone, Copy, PartialEq, Eq)]
+#[derive(Clone, Copy)]
 pub struct Transfer {
     pub d: Descriptor,
     pub at: u32,

@@ -267,7 +267,7 @@ fn poll_found(
 }
 
 /// The entries of a poll, and how many of them tell of something.
-#[derive(Clone, Copy, PartialEq, Eq)]
+#[derive(Clone, Copy)]
 pub struct PollPlan {
     pub at: u32,
     pub count: u32,

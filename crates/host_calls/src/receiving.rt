@@ -19,7 +19,7 @@ use host_sockets::{CallError, Refusal, Reply, Sockets};
 use sim_base::{Bytes, Errno, Time};
 
 /// Where what is received goes: so many bytes to an address, and the sender's address.
-#[derive(Clone, Copy, PartialEq, Eq)]
+#[derive(Clone, Copy)]
 pub struct Room {
     pub at: u32,
     pub n: u32,
@@ -38,7 +38,7 @@ fn recv_place(room: Room, memory: &Mem) -> Result<Option<AddressPlace>, Refusal>
 
 /// What is received, and where it goes: at most so many bytes to an address, and the sender's
 /// address to its own place.
-#[derive(Clone, Copy, PartialEq, Eq)]
+#[derive(Clone, Copy)]
 pub struct RecvPlan {
     pub number: SocketNumber,
     pub at: u32,

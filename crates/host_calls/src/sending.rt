@@ -19,7 +19,7 @@ use sim_base::{Addr, Book, Errno, Time};
 
 /// What is sent: so many bytes from an address on, and the address that is given beside them, if
 /// its pointer isn't null.
-#[derive(Clone, Copy, PartialEq, Eq)]
+#[derive(Clone, Copy)]
 pub struct Message {
     pub at: u32,
     pub n: u32,
@@ -28,14 +28,14 @@ pub struct Message {
 }
 
 /// What a UDP socket sends. What refuses it is tried as it is done.
-#[derive(Clone, Copy, PartialEq, Eq)]
+#[derive(Clone, Copy)]
 pub struct DatagramSend {
     pub place: usize,
     pub message: Message,
 }
 
 /// What a TCP socket sends: so many bytes from an address on.
-#[derive(Clone, Copy, PartialEq, Eq)]
+#[derive(Clone, Copy)]
 pub struct StreamSend {
     pub place: usize,
     pub quiet: bool,
@@ -45,7 +45,7 @@ pub struct StreamSend {
 }
 
 /// What a socket sends.
-#[derive(Clone, Copy, PartialEq, Eq)]
+#[derive(Clone, Copy)]
 pub enum SendPlan {
     Datagram(DatagramSend),
     Stream(StreamSend),

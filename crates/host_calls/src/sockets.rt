@@ -12,14 +12,14 @@ use host_sockets::Refusal;
 use sim_base::{Addr, Errno};
 
 /// A socket by its number.
-#[derive(Clone, Copy, PartialEq, Eq)]
+#[derive(Clone, Copy)]
 pub enum SocketNumber {
     Udp(usize),
     Tcp(usize),
 }
 
 /// The socket that a descriptor names.
-#[derive(Clone, Copy, PartialEq, Eq)]
+#[derive(Clone, Copy)]
 pub struct OpenSocket {
     /// Whether calls that would wait answer EAGAIN.
     pub nonblocking: bool,

@@ -22,7 +22,7 @@ use host_timers::{Clock, Moment, Timer};
 use sim_base::{Errno, NoMemory, ObjectId, Time};
 
 /// How a timer is set.
-#[derive(Clone, Copy, PartialEq, Eq)]
+#[derive(Clone, Copy)]
 pub struct Setting {
     pub interval: Moment,
     pub value: Moment,

@@ -13,3 +13,5 @@ pub mod EndsFound
 pub mod Turning
 pub mod FirstAmong
 pub mod AnyPlace
+pub mod Telling
+pub mod Going

@@ -14,8 +14,8 @@ below place n h = grind (arith, nat_tests)
 above : (place n : ℕ) → n ≤ place → nat_lt place n ≡ false
 above place n h = grind (arith, nat_tests)
 
-pub put_within : (c c' : Sockets) (t : SocketsRecord) (place : ℕ) (sock : TcpSock) (s : TcpSocket) → Stand c t → SocketStands sock s → place < length c.tcp.items → c'.own ≡ c.own → c'.udp.items ≡ c.udp.items → c'.tcp.items ≡ set c.tcp.items place sock → Stand c' (record t { tcp = put_at place s t.tcp })
-put_within c c' t place sock s h stands b own udp tcp =
+pub put_within : (c c' : Sockets) (t : SocketsRecord) (place : ℕ) (sock : TcpSock) (s : TcpSocket) → Stand c t → SocketStands sock s → place < length c.tcp.items → c'.own ≡ c.own → c'.udp.items ≡ c.udp.items → c'.tcp.items ≡ set c.tcp.items place sock → c'.gone.items ≡ c.gone.items → Stand c' (record t { tcp = put_at place s t.tcp })
+put_within c c' t place sock s h stands b own udp tcp gone =
     let same = same_length c.tcp.items t.tcp h.tcp in
     let within : nat_lt place (length t.tcp) ≡ true = below place (length t.tcp) (omega arith) in
     record {
@@ -24,10 +24,11 @@ put_within c c' t place sock s h stands b own udp tcp =
       tcp = subst (λ (xs : List TcpSock). AllStand xs (put_at place s t.tcp)) (sym tcp)
           (subst (λ (b : Bool). AllStand (set c.tcp.items place sock) (if b then set t.tcp place s else t.tcp ++ s ∷ [])) (sym within)
           (stands_set c.tcp.items t.tcp place sock s h.tcp stands));
+      gone = gone ∙ h.gone;
     }
 
-pub put_behind : (c c' : Sockets) (t : SocketsRecord) (place : ℕ) (sock : TcpSock) (s : TcpSocket) → Stand c t → SocketStands sock s → length c.tcp.items ≤ place → c'.own ≡ c.own → c'.udp.items ≡ c.udp.items → c'.tcp.items ≡ c.tcp.items ++ sock ∷ [] → Stand c' (record t { tcp = put_at place s t.tcp })
-put_behind c c' t place sock s h stands b own udp tcp =
+pub put_behind : (c c' : Sockets) (t : SocketsRecord) (place : ℕ) (sock : TcpSock) (s : TcpSocket) → Stand c t → SocketStands sock s → length c.tcp.items ≤ place → c'.own ≡ c.own → c'.udp.items ≡ c.udp.items → c'.tcp.items ≡ c.tcp.items ++ sock ∷ [] → c'.gone.items ≡ c.gone.items → Stand c' (record t { tcp = put_at place s t.tcp })
+put_behind c c' t place sock s h stands b own udp tcp gone =
     let same = same_length c.tcp.items t.tcp h.tcp in
     let past : nat_lt place (length t.tcp) ≡ false = above place (length t.tcp) (omega arith) in
     record {
@@ -36,4 +37,5 @@ put_behind c c' t place sock s h stands b own udp tcp =
       tcp = subst (λ (xs : List TcpSock). AllStand xs (put_at place s t.tcp)) (sym tcp)
           (subst (λ (b : Bool). AllStand (c.tcp.items ++ sock ∷ []) (if b then set t.tcp place s else t.tcp ++ s ∷ [])) (sym past)
           (stands_push c.tcp.items t.tcp sock s h.tcp stands));
+      gone = gone ∙ h.gone;
     }

@@ -1,7 +1,10 @@
 -- an act of a socket is an act of all, and what is asked of one is asked of all
-use Rattle.std.proofs.Common.{◌≡◌, ℕ, ◌<◌, ◌≤◌, List, length, get_or, set, Option, Some, None, slice_get, Result, Err, refl, sym, ap, subst, ◌∙◌}
+use Rattle.std.proofs.Common.{◌≡◌, ℕ, ◌<◌, ◌≤◌, List, ◌++◌, length, map, get_or, set, Option, Some, None, slice_get, Result, Err, refl, sym, ap, subst, ◌∙◌}
+use Rattle.std.proofs.lemmas.List.{map-append}
 use Rattle.sim_base.specs.declared.errno.Errno.TheVariants.{Ebadf}
 use Rattle.sim_base.specs.Refusals.{◌>>=◌, or_refuse}
+use Rattle.sock_tcp.specs.declared.connection.carried.Carried.{Carried}
+use Rattle.sock_tcp.specs.connection.Carried.{carried_of, with_gone}
 use Rattle.sock_tcp.specs.connection.Tcb.{Tcb}
 use Rattle.host_sockets.specs.declared.error.Refusal.{Refusal}
 use Rattle.host_sockets.specs.declared.error.Refusal.TheVariants as refusal
@@ -18,20 +21,37 @@ use Rattle.host_sockets.proofs.Places.{socket_at, no_socket_at, stands_at, stand
 stands_there : (c : Sockets) (t : SocketsRecord) (k : ℕ) (old : TcpSock) (s : TcpSocket) → Stand c t → old ≡ get_or c.tcp.items k old → slice_get t.tcp k ≡ Some s → SocketStands old s
 stands_there c t k old s h is e = subst (λ (x : TcpSock). SocketStands x s) (sym is) (stands_at c.tcp.items t.tcp k s old h.tcp e)
 
+-- what stands for a record does so by its fields alone
+pub stand_same : (c c' : Sockets) (t : SocketsRecord) → c'.own ≡ c.own → c'.udp.items ≡ c.udp.items → c'.tcp.items ≡ c.tcp.items → c'.gone.items ≡ c.gone.items → Stand c t → Stand c' t
+stand_same c c' t own udp tcp gone h = record {
+  own = own ∙ h.own;
+  udp = udp ∙ h.udp;
+  tcp = subst (λ (xs : List TcpSock). AllStand xs t.tcp) (sym tcp) h.tcp;
+  gone = gone ∙ h.gone;
+}
+
 -- with another socket at a place, which stands for another there
-pub stand_with : (c c' : Sockets) (t : SocketsRecord) (k : ℕ) (new : TcpSock) (s : TcpSocket) (gone : List Tcb) → Stand c t → SocketStands new s → c'.own ≡ c.own → c'.udp.items ≡ c.udp.items → c'.tcp.items ≡ set c.tcp.items k new → Stand c' (record (with_tcp k s t) { gone = gone })
-stand_with c c' t k new s gone h stands own udp tcp = record {
+pub stand_with : (c c' : Sockets) (t : SocketsRecord) (k : ℕ) (new : TcpSock) (s : TcpSocket) (gone : List Tcb) → Stand c t → SocketStands new s → c'.own ≡ c.own → c'.udp.items ≡ c.udp.items → c'.tcp.items ≡ set c.tcp.items k new → c'.gone.items ≡ map carried_of gone → Stand c' (record (with_tcp k s t) { gone = gone })
+stand_with c c' t k new s gone h stands own udp tcp kept = record {
   own = own ∙ h.own;
   udp = udp ∙ h.udp;
   tcp = subst (λ (xs : List TcpSock). AllStand xs (set t.tcp k s)) (sym tcp) (stands_set c.tcp.items t.tcp k new s h.tcp stands);
+  gone = kept;
 }
 
-pub leaves_acted : (c c' : Sockets) (t : SocketsRecord) (w w' : Wanted) (k : ℕ) (old new : TcpSock) (act : TcpSocket → Wanted → Acted) → Stand c t → k < length c.tcp.items → old ≡ get_or c.tcp.items k old → ((s : TcpSocket) → SocketStands old s → Brings new w' (act s w)) → c'.own ≡ c.own → c'.udp.items ≡ c.udp.items → c'.tcp.items ≡ set c.tcp.items k new → Leaves c' w' (acts_at k act t w)
+-- what is kept of the records that an act lets go stands behind the others
+kept_behind : (kept before : List Carried) (gone was : List Tcb) → kept ≡ with_gone gone before → before ≡ map carried_of was → kept ≡ map carried_of (was ++ gone)
+kept_behind kept before gone was e h = e ∙ (ap (λ xs. xs ++ map carried_of gone) h ∙ sym (map-append carried_of was gone))
+
+pub leaves_acted : (c c' : Sockets) (t : SocketsRecord) (w w' : Wanted) (k : ℕ) (old new : TcpSock) (act : TcpSocket → Wanted → Acted) → Stand c t → k < length c.tcp.items → old ≡ get_or c.tcp.items k old → ((s : TcpSocket) → SocketStands old s → Brings new w' c.gone.items c'.gone.items (act s w)) → c'.own ≡ c.own → c'.udp.items ≡ c.udp.items → c'.tcp.items ≡ set c.tcp.items k new → Leaves c' w' (acts_at k act t w)
 leaves_acted c c' t w w' k old new act h b is acts own udp tcp =
     let found = socket_at c.tcp.items t.tcp k h.tcp b in
     let brings = acts found.0 (stands_there c t k old found.0 h is found.1) in
     subst (λ (o : Option TcpSocket). Leaves c' w' (acts_in k act o t w)) (sym found.1)
-    (record { sockets = stand_with c c' t k new (act found.0 w).socket _ h brings.socket own udp tcp; wanted = brings.wanted })
+    (record {
+      sockets = stand_with c c' t k new (act found.0 w).socket _ h brings.socket own udp tcp (kept_behind c'.gone.items c.gone.items (act found.0 w).gone t.gone brings.gone h.gone);
+      wanted = brings.wanted;
+    })
 
 pub leaves_none : (c : Sockets) (t : SocketsRecord) (w : Wanted) (k : ℕ) (act : TcpSocket → Wanted → Acted) → Stand c t → length c.tcp.items ≤ k → Leaves c w (acts_at k act t w)
 leaves_none c t w k act h b =
@@ -39,7 +59,7 @@ leaves_none c t w k act h b =
     (record { sockets = h; wanted = refl })
 
 -- the same where the number is told by an equation
-pub leaves_acted_by : (c c' : Sockets) (t : SocketsRecord) (w w' : Wanted) (k n : ℕ) (old new : TcpSock) (act : ℕ → TcpSocket → Wanted → Acted) → k ≡ n → Stand c t → k < length c.tcp.items → old ≡ get_or c.tcp.items k old → ((s : TcpSocket) → SocketStands old s → Brings new w' (act k s w)) → c'.own ≡ c.own → c'.udp.items ≡ c.udp.items → c'.tcp.items ≡ set c.tcp.items k new → Leaves c' w' (acts_at n (act n) t w)
+pub leaves_acted_by : (c c' : Sockets) (t : SocketsRecord) (w w' : Wanted) (k n : ℕ) (old new : TcpSock) (act : ℕ → TcpSocket → Wanted → Acted) → k ≡ n → Stand c t → k < length c.tcp.items → old ≡ get_or c.tcp.items k old → ((s : TcpSocket) → SocketStands old s → Brings new w' c.gone.items c'.gone.items (act k s w)) → c'.own ≡ c.own → c'.udp.items ≡ c.udp.items → c'.tcp.items ≡ set c.tcp.items k new → Leaves c' w' (acts_at n (act n) t w)
 leaves_acted_by c c' t w w' k n old new act e h b is acts own udp tcp =
     subst (λ (m : ℕ). Leaves c' w' (acts_at m (act m) t w)) e (leaves_acted c c' t w w' k old new (act k) h b is acts own udp tcp)
 
@@ -47,11 +67,11 @@ pub leaves_none_by : (c : Sockets) (t : SocketsRecord) (w : Wanted) (k n : ℕ) 
 leaves_none_by c t w k n act e h b = subst (λ (m : ℕ). Leaves c w (acts_at m (act m) t w)) e (leaves_none c t w k (act k) h b)
 
 -- a change that wants nothing
-pub stand_changed : (c c' : Sockets) (t : SocketsRecord) (k : ℕ) (old new : TcpSock) (f : TcpSocket → TcpSocket) → Stand c t → k < length c.tcp.items → old ≡ get_or c.tcp.items k old → ((s : TcpSocket) → SocketStands old s → SocketStands new (f s)) → c'.own ≡ c.own → c'.udp.items ≡ c.udp.items → c'.tcp.items ≡ set c.tcp.items k new → Stand c' (changes_at k f t)
-stand_changed c c' t k old new f h b is changes own udp tcp =
+pub stand_changed : (c c' : Sockets) (t : SocketsRecord) (k : ℕ) (old new : TcpSock) (f : TcpSocket → TcpSocket) → Stand c t → k < length c.tcp.items → old ≡ get_or c.tcp.items k old → ((s : TcpSocket) → SocketStands old s → SocketStands new (f s)) → c'.own ≡ c.own → c'.udp.items ≡ c.udp.items → c'.tcp.items ≡ set c.tcp.items k new → c'.gone.items ≡ c.gone.items → Stand c' (changes_at k f t)
+stand_changed c c' t k old new f h b is changes own udp tcp gone =
     let found = socket_at c.tcp.items t.tcp k h.tcp b in
     subst (λ (o : Option TcpSocket). Stand c' (changes_in k f o t)) (sym found.1)
-    (stand_with c c' t k new (f found.0) _ h (changes found.0 (stands_there c t k old found.0 h is found.1)) own udp tcp)
+    (stand_with c c' t k new (f found.0) _ h (changes found.0 (stands_there c t k old found.0 h is found.1)) own udp tcp (gone ∙ h.gone))
 
 pub stand_unchanged : (c : Sockets) (t : SocketsRecord) (k : ℕ) (f : TcpSocket → TcpSocket) → Stand c t → length c.tcp.items ≤ k → Stand c (changes_at k f t)
 stand_unchanged c t k f h b =

@@ -1,22 +1,31 @@
 -- acts on the connections that a listener keeps, and a connection that it gives
 use Rattle.std.proofs.Common.{◌≡◌, ℕ, ◌<◌, ◌≤◌, List, length, get_or, set, Option, Some, None, slice_get, Result, Ok, refl, sym, ap, subst, ◌∙◌}
 use Rattle.sim_base.specs.declared.address.Addr.{Addr}
+use Rattle.sim_base.specs.declared.packet.Packet.{Packet}
 use Rattle.sim_base.specs.declared.time.Time.{Time}
 use Rattle.sim_base.specs.Refusals.{◌>>=◌, ◌>>◌, or_refuse}
 use Rattle.sock_tcp.specs.declared.connection.conn.Conn.{Conn}
 use Rattle.sock_tcp.specs.declared.listener.Listener.{Listener}
 use Rattle.sock_tcp.specs.declared.segment.control.Control.{Control}
+use Rattle.sock_tcp.specs.declared.connection.carried.Carried.{Carried}
+use Rattle.sock_tcp.specs.connection.Carried.{with_gone}
 use Rattle.sock_tcp.specs.connection.Tcb.{Tcb}
 use Rattle.sock_tcp.specs.connection.StandsFor.{StandsFor}
-use Rattle.sock_tcp.specs.listener.Listen.{Listen, Heard, accepts}
-use Rattle.sock_tcp.specs.listener.ListensFor.{ListensFor, AcceptsAs}
+use Rattle.sock_tcp.specs.declared.connection.effects.Effects.{Effects}
+use Rattle.sock_tcp.specs.connection.Arrival.{takes_packet}
+use Rattle.sock_tcp.specs.connection.Process.{expires}
+use Rattle.sock_tcp.specs.listener.Dropped.{dropped}
+use Rattle.sock_tcp.specs.listener.Listen.{Listen, Heard, hears, hears_timer, accepts}
+use Rattle.sock_tcp.specs.listener.ListensFor.{ListensFor, Hears, AcceptsAs}
 use Rattle.host_sockets.specs.declared.error.Refusal.{Refusal}
 use Rattle.host_sockets.specs.declared.error.Refusal.TheVariants as refusal
 use Rattle.host_sockets.specs.declared.reply.Accepted.{Accepted}
 use Rattle.host_sockets.specs.declared.sockets.Sockets.{Sockets}
 use Rattle.host_sockets.specs.declared.tcp_sock.KeptTimer.{KeptTimer}
 use Rattle.host_sockets.specs.declared.tcp_sock.TcpSock.{TcpSock}
-use Rattle.host_sockets.specs.Wanted.{Wanted, sends}
+use Rattle.host_sockets.specs.Wanted.{Wanted, sends, draws_word}
+use Rattle.host_sockets.specs.Alarms.{kept_expires}
+use Rattle.host_sockets.specs.Arriving.{word_drawn, hears_in}
 use Rattle.host_sockets.specs.TcpSocket.{TcpSocket}
 use Rattle.host_sockets.specs.Sockets.{SocketsRecord, changes_at, changes_in}
 use Rattle.host_sockets.specs.ListenerActs.{with_listen, with_timers, timers_kept, timer_starts, heard}
@@ -26,15 +35,38 @@ use Rattle.host_sockets.proofs.Places.{no_socket_at, socket_same}
 use Rattle.host_sockets.proofs.SocketActs.{socket_there, stand_with}
 
 -- an act on a record that a listener keeps: what it started and left
-pub brings_heard : (now : Time) (k : ℕ) (own other : Addr) (h : Heard) (gone : List Tcb) (s : TcpSocket) (w w1 v : Wanted) (timer : Option Time) (new : TcpSock) → w1 ≡ sends h.sent w → timer ≡ h.timer → SocketStands new (with_timers (timers_kept own other h.listen (timer_starts now k own other timer s.timers w1).0) (with_listen h.listen s)) → v ≡ (timer_starts now k own other timer s.timers w1).1 → Brings new v (heard now k own other h gone s w)
+pub brings_heard : (now : Time) (k : ℕ) (own other : Addr) (h : Heard) (gone : List Tcb) (s : TcpSocket) (w w1 v : Wanted) (timer : Option Time) (new : TcpSock) (before kept : List Carried) → w1 ≡ sends h.sent w → timer ≡ h.timer → SocketStands new (with_timers (timers_kept own other h.listen (timer_starts now k own other timer s.timers w1).0) (with_listen h.listen s)) → v ≡ (timer_starts now k own other timer s.timers w1).1 → kept ≡ with_gone gone before → Brings new v before kept (heard now k own other h gone s w)
 unfolding heard
-brings_heard now k own other h gone s w w1 v timer new sent started stands e =
+brings_heard now k own other h gone s w w1 v timer new before kept sent started stands e left =
     let same : timer_starts now k own other timer s.timers w1 ≡ timer_starts now k own other h.timer s.timers (sends h.sent w) =
     ap (λ (x : Wanted). timer_starts now k own other timer s.timers x) sent ∙ ap (λ (o : Option Time). timer_starts now k own other o s.timers (sends h.sent w)) started in
     record {
       socket = subst (λ (p : List KeptTimer × Wanted). SocketStands new (with_timers (timers_kept own other h.listen p.0) (with_listen h.listen s))) same stands;
       wanted = e ∙ ap (λ (p : List KeptTimer × Wanted). p.1) same;
+      gone = left;
     }
+
+-- a listener that took a segment, and what its socket brings about
+pub hears_there : (now : Time) (p : Packet) (k : ℕ) (old new : TcpSock) (s : TcpSocket) (o : Option Listen) (before' after' : Listener) (w w1 v : Wanted) (effects : Effects) (before left : List Carried) → SocketStands old s → ListenerStands (Some before') o → Hears (hears p (draws_word w).0) before' after' effects → ((l : Listen) → ListensFor before' l → w1 ≡ word_drawn p l w) → ((l : Listen) → ListensFor before' l → left ≡ with_gone (dropped (takes_packet p) p.to p.from l) before) → ((s : TcpSocket) (h : Heard) (gone : List Tcb) (before left : List Carried) → SocketStands (record old { listener = Some after' }) (with_listen h.listen s) → effects.segments.items ≡ h.sent → effects.timer ≡ h.timer → left ≡ with_gone gone before → Brings new v before left (heard now k p.to p.from h gone s w1)) → Brings new v before left (hears_in now p k o s w)
+hears_there now p k old new s None before' after' w w1 v effects before left h stands told drawn kept brings = absurd stands
+hears_there now p k old new s (Some l) before' after' w w1 v effects before left h stands told drawn kept brings =
+    let heard_is = hears p (draws_word w).0 l in
+    let gone = dropped (takes_packet p) p.to p.from l in
+    let tells = told l stands in
+    let there : SocketStands (record old { listener = Some after' }) (with_listen heard_is.listen s) =
+    record { held = h.held; bound = h.bound; conn = h.conn; listener = tells.listen; serial = h.serial; timers = h.timers } in
+    subst (λ (x : Wanted). Brings new v before left (heard now k p.to p.from heard_is gone s x)) (drawn l stands)
+    (brings s heard_is gone before left there tells.segments tells.timer (kept l stands))
+
+-- the same of a timer
+pub expires_there : (now : Time) (k : ℕ) (timer : KeptTimer) (old new : TcpSock) (s : TcpSocket) (o : Option Listen) (before' after' : Listener) (w v : Wanted) (effects : Effects) (before left : List Carried) → SocketStands old s → ListenerStands (Some before') o → Hears (hears_timer timer.own timer.other) before' after' effects → ((l : Listen) → ListensFor before' l → left ≡ with_gone (dropped expires timer.own timer.other l) before) → ((s : TcpSocket) (h : Heard) (gone : List Tcb) (before left : List Carried) → SocketStands (record old { listener = Some after' }) (with_listen h.listen s) → effects.segments.items ≡ h.sent → effects.timer ≡ h.timer → left ≡ with_gone gone before → Brings new v before left (heard now k timer.own timer.other h gone s w)) → Brings new v before left (kept_expires now k timer o s w)
+expires_there now k timer old new s None before' after' w v effects before left h stands told kept brings = absurd stands
+expires_there now k timer old new s (Some l) before' after' w v effects before left h stands told kept brings =
+    let heard_is = hears_timer timer.own timer.other l in
+    let tells = told l stands in
+    let there : SocketStands (record old { listener = Some after' }) (with_listen heard_is.listen s) =
+    record { held = h.held; bound = h.bound; conn = h.conn; listener = tells.listen; serial = h.serial; timers = h.timers } in
+    brings s heard_is (dropped expires timer.own timer.other l) before left there tells.segments tells.timer (kept l stands)
 
 -- what a listener gives, and its timers without that of the connection
 gives_up : (old new : TcpSock) (s : TcpSocket) (k' : Listener) (conn : Conn) (control : Control) (l : Listen) (a : Option (Tcb × Listen)) → SocketStands old s → AcceptsAs a l (Some conn) k' → ((r : Tcb) → StandsFor conn r → control ≡ r.control) → ((s : TcpSocket) (l : Listen) → SocketStands (record old { listener = Some k' }) s → s.listen ≡ Some l → SocketStands new (with_timers (timers_kept control.local control.peer l s.timers) s)) → TakesConn a s (Some conn) new
@@ -50,19 +82,19 @@ takes_conn old new s (Some l) k k' conn control h stands accepted told keeps =
     gives_up old new s k' conn control l (accepts l) h (accepted l stands) told keeps
 
 -- of the socket with a number
-takes_from : (c c' : Sockets) (t : SocketsRecord) (k : ℕ) (new : TcpSock) (s : TcpSocket) (a : Option (Tcb × Listen)) (result : Option Conn) → Stand c t → slice_get t.tcp k ≡ Some s → TakesConn a s result new → c'.own ≡ c.own → c'.udp.items ≡ c.udp.items → c'.tcp.items ≡ set c.tcp.items k new → TakesAt a k t result c'
-takes_from c c' t k new s None None h at takes own udp tcp =
-    subst (λ (xs : List TcpSocket). Stand c' (record t { tcp = xs })) (socket_same t.tcp k s at) (stand_with c c' t k new s t.gone h takes own udp tcp)
-takes_from c c' t k new s None (Some conn) h at takes own udp tcp = absurd takes
-takes_from c c' t k new s (Some (r, rest)) None h at takes own udp tcp = absurd takes
-takes_from c c' t k new s (Some (r, rest)) (Some conn) h at takes own udp tcp =
-    (takes.0, subst (λ (o : Option TcpSocket). Stand c' (changes_in k (given_up r rest) o t)) (sym at) (stand_with c c' t k new (given_up r rest s) t.gone h takes.1 own udp tcp))
+takes_from : (c c' : Sockets) (t : SocketsRecord) (k : ℕ) (new : TcpSock) (s : TcpSocket) (a : Option (Tcb × Listen)) (result : Option Conn) → Stand c t → slice_get t.tcp k ≡ Some s → TakesConn a s result new → c'.own ≡ c.own → c'.udp.items ≡ c.udp.items → c'.tcp.items ≡ set c.tcp.items k new → c'.gone.items ≡ c.gone.items → TakesAt a k t result c'
+takes_from c c' t k new s None None h at takes own udp tcp gone =
+    subst (λ (xs : List TcpSocket). Stand c' (record t { tcp = xs })) (socket_same t.tcp k s at) (stand_with c c' t k new s t.gone h takes own udp tcp (gone ∙ h.gone))
+takes_from c c' t k new s None (Some conn) h at takes own udp tcp gone = absurd takes
+takes_from c c' t k new s (Some (r, rest)) None h at takes own udp tcp gone = absurd takes
+takes_from c c' t k new s (Some (r, rest)) (Some conn) h at takes own udp tcp gone =
+    (takes.0, subst (λ (o : Option TcpSocket). Stand c' (changes_in k (given_up r rest) o t)) (sym at) (stand_with c c' t k new (given_up r rest s) t.gone h takes.1 own udp tcp (gone ∙ h.gone)))
 
-pub takes_at : (c c' : Sockets) (t : SocketsRecord) (k : ℕ) (old new : TcpSock) (result : Option Conn) → Stand c t → k < length c.tcp.items → old ≡ get_or c.tcp.items k old → ((s : TcpSocket) → SocketStands old s → TakesConn (accepts_in s.listen) s result new) → c'.own ≡ c.own → c'.udp.items ≡ c.udp.items → c'.tcp.items ≡ set c.tcp.items k new → TakesAt (accepts_at k t) k t result c'
-takes_at c c' t k old new result h b is takes own udp tcp =
+pub takes_at : (c c' : Sockets) (t : SocketsRecord) (k : ℕ) (old new : TcpSock) (result : Option Conn) → Stand c t → k < length c.tcp.items → old ≡ get_or c.tcp.items k old → ((s : TcpSocket) → SocketStands old s → TakesConn (accepts_in s.listen) s result new) → c'.own ≡ c.own → c'.udp.items ≡ c.udp.items → c'.tcp.items ≡ set c.tcp.items k new → c'.gone.items ≡ c.gone.items → TakesAt (accepts_at k t) k t result c'
+takes_at c c' t k old new result h b is takes own udp tcp gone =
     let found = socket_there c t k old h b is in
     subst (λ (o : Option TcpSocket). TakesAt (accepts_of o) k t result c') (sym found.1.0)
-    (takes_from c c' t k new found.0 (accepts_in found.0.listen) result h found.1.0 (takes found.0 found.1.1) own udp tcp)
+    (takes_from c c' t k new found.0 (accepts_in found.0.listen) result h found.1.0 (takes found.0 found.1.1) own udp tcp gone)
 
 pub takes_none : (c : Sockets) (t : SocketsRecord) (k : ℕ) → Stand c t → length c.tcp.items ≤ k → TakesAt (accepts_at k t) k t None c
 takes_none c t k h b = subst (λ (o : Option TcpSocket). TakesAt (accepts_of o) k t None c) (sym (no_socket_at c.tcp.items t.tcp k h.tcp b)) h

@@ -43,33 +43,35 @@ pub told_no_udp : {A : Type 0} (c : Sockets) (t : SocketsRecord) (k : ℕ) (f : 
 told_no_udp c t k f h b =
     ap (λ (o : Option (Option UdpState)). f (socket_in o)) (sym (ap (λ (slots : List (Option UdpState)). slice_get slots k) (sym h.udp) ∙ slot_past c.udp.items k b))
 
-pub stand_slot : (c c' : Sockets) (t : SocketsRecord) (k : ℕ) (new : Option UdpState) → Stand c t → c'.own ≡ c.own → c'.udp.items ≡ set c.udp.items k new → c'.tcp.items ≡ c.tcp.items → Stand c' (with_slot k new t)
-stand_slot c c' t k new h own udp tcp = record {
+pub stand_slot : (c c' : Sockets) (t : SocketsRecord) (k : ℕ) (new : Option UdpState) → Stand c t → c'.own ≡ c.own → c'.udp.items ≡ set c.udp.items k new → c'.tcp.items ≡ c.tcp.items → c'.gone.items ≡ c.gone.items → Stand c' (with_slot k new t)
+stand_slot c c' t k new h own udp tcp gone = record {
   own = own ∙ h.own;
   udp = udp ∙ ap (λ (slots : List (Option UdpState)). set slots k new) h.udp;
   tcp = subst (λ xs. AllStand xs t.tcp) (sym tcp) h.tcp;
+  gone = gone ∙ h.gone;
 }
 
-stand_same_slot : (c c' : Sockets) (t : SocketsRecord) (k : ℕ) (old new : Option UdpState) → Stand c t → slice_get t.udp k ≡ Some old → new ≡ old → c'.own ≡ c.own → c'.udp.items ≡ set c.udp.items k new → c'.tcp.items ≡ c.tcp.items → Stand c' t
-stand_same_slot c c' t k old new h at e own udp tcp = record {
+stand_same_slot : (c c' : Sockets) (t : SocketsRecord) (k : ℕ) (old new : Option UdpState) → Stand c t → slice_get t.udp k ≡ Some old → new ≡ old → c'.own ≡ c.own → c'.udp.items ≡ set c.udp.items k new → c'.tcp.items ≡ c.tcp.items → c'.gone.items ≡ c.gone.items → Stand c' t
+stand_same_slot c c' t k old new h at e own udp tcp gone = record {
   own = own ∙ h.own;
   udp = udp ∙ (ap (λ (slots : List (Option UdpState)). set slots k new) h.udp ∙ (ap (set t.udp k) e ∙ set_same t.udp k old at));
   tcp = subst (λ xs. AllStand xs t.tcp) (sym tcp) h.tcp;
+  gone = gone ∙ h.gone;
 }
 
 -- by cases on what stood there and what the act answers
-does : {A : Type 0} (act : UdpState → Result (A × UdpState) Refusal) (c c' : Sockets) (t : SocketsRecord) (k : ℕ) (old new : Option UdpState) (result : Result A CallError) → Stand c t → slice_get t.udp k ≡ Some old → SlotDoes act old new result → c'.own ≡ c.own → c'.udp.items ≡ set c.udp.items k new → c'.tcp.items ≡ c.tcp.items → Becomes (acted_udp act k (socket_in (Some old)) t) t c' result
-does act c c' t k None new (Ok a) h at d own udp tcp = absurd d
-does act c c' t k None new (Err (error.Refused why)) h at d own udp tcp = (ap (λ (r : Refusal). Err r) (sym d.0), stand_same_slot c c' t k None new h at d.1 own udp tcp)
-does act c c' t k None new (Err error.NoMemory) h at d own udp tcp = tt
-does act c c' t k (Some u) new (Ok a) h at d own udp tcp = (with_slot k (Some d.0) t, (rw d.1.0 refl, stand_slot c c' t k (Some d.0) h own (udp ∙ ap (set c.udp.items k) d.1.1) tcp))
-does act c c' t k (Some u) new (Err (error.Refused why)) h at d own udp tcp = (rw d.0 refl, stand_same_slot c c' t k (Some u) new h at d.1 own udp tcp)
-does act c c' t k (Some u) new (Err error.NoMemory) h at d own udp tcp = tt
+does : {A : Type 0} (act : UdpState → Result (A × UdpState) Refusal) (c c' : Sockets) (t : SocketsRecord) (k : ℕ) (old new : Option UdpState) (result : Result A CallError) → Stand c t → slice_get t.udp k ≡ Some old → SlotDoes act old new result → c'.own ≡ c.own → c'.udp.items ≡ set c.udp.items k new → c'.tcp.items ≡ c.tcp.items → c'.gone.items ≡ c.gone.items → Becomes (acted_udp act k (socket_in (Some old)) t) t c' result
+does act c c' t k None new (Ok a) h at d own udp tcp gone = absurd d
+does act c c' t k None new (Err (error.Refused why)) h at d own udp tcp gone = (ap (λ (r : Refusal). Err r) (sym d.0), stand_same_slot c c' t k None new h at d.1 own udp tcp gone)
+does act c c' t k None new (Err error.NoMemory) h at d own udp tcp gone = tt
+does act c c' t k (Some u) new (Ok a) h at d own udp tcp gone = (with_slot k (Some d.0) t, (rw d.1.0 refl, stand_slot c c' t k (Some d.0) h own (udp ∙ ap (set c.udp.items k) d.1.1) tcp gone))
+does act c c' t k (Some u) new (Err (error.Refused why)) h at d own udp tcp gone = (rw d.0 refl, stand_same_slot c c' t k (Some u) new h at d.1 own udp tcp gone)
+does act c c' t k (Some u) new (Err error.NoMemory) h at d own udp tcp gone = tt
 
-pub becomes_udp : {A : Type 0} (act : UdpState → Result (A × UdpState) Refusal) (c c' : Sockets) (t : SocketsRecord) (k : ℕ) (old new : Option UdpState) (result : Result A CallError) → Stand c t → k < length c.udp.items → old ≡ get_or c.udp.items k old → SlotDoes act old new result → c'.own ≡ c.own → c'.udp.items ≡ set c.udp.items k new → c'.tcp.items ≡ c.tcp.items → Becomes (udp_acts act k t) t c' result
-becomes_udp act c c' t k old new result h b is d own udp tcp =
+pub becomes_udp : {A : Type 0} (act : UdpState → Result (A × UdpState) Refusal) (c c' : Sockets) (t : SocketsRecord) (k : ℕ) (old new : Option UdpState) (result : Result A CallError) → Stand c t → k < length c.udp.items → old ≡ get_or c.udp.items k old → SlotDoes act old new result → c'.own ≡ c.own → c'.udp.items ≡ set c.udp.items k new → c'.tcp.items ≡ c.tcp.items → c'.gone.items ≡ c.gone.items → Becomes (udp_acts act k t) t c' result
+becomes_udp act c c' t k old new result h b is d own udp tcp gone =
     let at = slot_at c t k old h b is in
-    subst (λ (o : Option (Option UdpState)). Becomes (acted_udp act k (socket_in o) t) t c' result) (sym at) (does act c c' t k old new result h at d own udp tcp)
+    subst (λ (o : Option (Option UdpState)). Becomes (acted_udp act k (socket_in o) t) t c' result) (sym at) (does act c c' t k old new result h at d own udp tcp gone)
 
 pub refused_udp : {A : Type 0} (act : UdpState → Result (A × UdpState) Refusal) (c : Sockets) (t : SocketsRecord) (k : ℕ) → Stand c t → length c.udp.items ≤ k → Becomes {A = A} (udp_acts act k t) t c (Err (error.Refused (refusal.Errno Ebadf)))
 refused_udp act c t k h b = (sym (told_no_udp c t k (λ o. acted_udp act k o t) h b), h)

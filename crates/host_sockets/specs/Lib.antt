@@ -19,3 +19,6 @@ pub mod SocketsStand
 pub mod Ends
 pub mod StandsFor
 pub mod Indexing
+pub mod Records
+pub mod Streams
+pub mod Told

@@ -1,13 +1,11 @@
 -- what acts on the records that a listener keeps do to its socket
-use Rattle.std.specs.Prelude.{ℕ, Bool, not, ◌&&◌, List, [], ◌∷◌, ◌++◌, slice_get, filter, Option, Some, None, if◌then◌else◌}
+use Rattle.std.specs.Prelude.{ℕ, Bool, not, ◌&&◌, List, [], ◌∷◌, ◌++◌, filter, Option, Some, None, if◌then◌else◌}
 use Rattle.sim_base.specs.declared.address.Addr.{Addr}
 use Rattle.sim_base.specs.declared.time.Time.{Time}
 use Rattle.sim_base.specs.Addresses.{is_same}
-use Rattle.sock_tcp.specs.segment.State.{is_over}
-use Rattle.sock_tcp.specs.connection.Begin.{begin}
-use Rattle.sock_tcp.specs.connection.Pairs.{place_in}
-use Rattle.sock_tcp.specs.connection.Tcb.{Tcb, Turn}
+use Rattle.sock_tcp.specs.connection.Tcb.{Tcb}
 use Rattle.sock_tcp.specs.listener.Listen.{Listen, Heard, is_kept}
+pub use Rattle.sock_tcp.specs.listener.Dropped.{dropped_by, dropped}
 use Rattle.host_sockets.specs.declared.tcp_sock.KeptTimer.{KeptTimer}
 use Rattle.host_sockets.specs.Wanted.{Wanted, sends, wants_alarm, due_after}
 use Rattle.host_sockets.specs.TcpSocket.{TcpSocket}
@@ -40,16 +38,6 @@ timer_starts now k own other None timers w = (timers, w)
 timer_starts now k own other (Some length) timers w =
     let alarm = wants_alarm (object_of k) (due_after now length) w in
     (with_timer own other alarm.0 timers, alarm.1)
-
--- the record of two ends that an act ends before it was ESTABLISHED: the listener keeps it no more
-abbrev pub dropped_by : (Turn → Turn) → Option Tcb → List Tcb
-dropped_by act None = []
-dropped_by act (Some r) =
-    let after = (act (begin r)).tcb in
-    if is_over after.control.state && not after.control.was_established then after ∷ [] else []
-
-unfoldable pub dropped : (Turn → Turn) → Addr → Addr → Listen → List Tcb
-dropped act own other l = dropped_by act (slice_get l.records (place_in own other l.records))
 
 -- EVERY act on a record of two ends that a listener keeps, or makes, is this: its segments are sent, then its timer starts, and
 -- a record that the listener keeps no more is let go

@@ -1,6 +1,8 @@
--- what the code's sockets stand for. Of the records that were let go it keeps nothing
-use Rattle.std.specs.Prelude.{◌≡◌, Result, Ok, Err}
+-- what the code's sockets stand for. Of the records that were let go it keeps what they carried
+use Rattle.std.specs.Prelude.{◌≡◌, List, map, Result, Ok, Err}
 use Rattle.sim_base.specs.declared.act.Act.{Act}
+use Rattle.sock_tcp.specs.declared.connection.carried.Carried.{Carried}
+use Rattle.sock_tcp.specs.connection.Carried.{carried_of, with_gone}
 use Rattle.host_sockets.specs.declared.error.CallError.{CallError}
 use Rattle.host_sockets.specs.declared.error.CallError.TheVariants as error
 use Rattle.host_sockets.specs.declared.error.Refusal.{Refusal}
@@ -15,11 +17,13 @@ pub record Stand (c : Sockets) (t : SocketsRecord) : Type 0 where
   pub own : c.own ≡ t.own
   pub udp : c.udp.items ≡ t.udp
   pub tcp : AllStand c.tcp.items t.tcp
+  pub gone : c.gone.items ≡ map carried_of t.gone
 
--- an act on a socket leaves this
-pub record Brings (c : TcpSock) (w : Wanted) (a : Acted) : Type 0 where
+-- an act on a socket leaves this. What was kept of records that are gone is followed by those that it lets go
+pub record Brings (c : TcpSock) (w : Wanted) (before left : List Carried) (a : Acted) : Type 0 where
   pub socket : SocketStands c a.socket
   pub wanted : w ≡ a.wanted
+  pub gone : left ≡ with_gone a.gone before
 
 -- a call that can't refuse leaves this
 pub record Leaves (c : Sockets) (w : Wanted) (after : SocketsRecord × Wanted) : Type 0 where

@@ -29,7 +29,7 @@ impl Sockets {
         }
         self.turn_to(k);
         let sock = &mut self.tcp[k];
-        sock.take_error(outlet, now, k)?;
+        sock.take_error(outlet, now, k, &mut self.gone)?;
         Ok(())
     }
 
@@ -103,7 +103,7 @@ impl Sockets {
         }
         self.turn_to(k);
         let sock = &mut self.tcp[k];
-        sock.open(outlet, now, k, own, other)?;
+        sock.open(outlet, now, k, own, other, &mut self.gone)?;
         Ok(())
     }
 

@@ -63,7 +63,7 @@ impl Sockets {
         }
         self.turn_to(k);
         let sock = &mut self.tcp[k];
-        sock.arrive(outlet, now, k, packet)?;
+        sock.arrive(outlet, now, k, packet, &mut self.gone)?;
         Ok(())
     }
 
@@ -83,7 +83,7 @@ impl Sockets {
         }
         self.turn_to(k);
         let sock = &mut self.tcp[k];
-        sock.hear(outlet, now, k, packet)?;
+        sock.hear(outlet, now, k, packet, &mut self.gone)?;
         Ok(())
     }
 
@@ -197,7 +197,7 @@ impl Sockets {
         }
         self.turn_to(k);
         let sock = &mut self.tcp[k];
-        sock.expire(outlet, now, k, serial)?;
+        sock.expire(outlet, now, k, serial, &mut self.gone)?;
         Ok(())
     }
 }

@@ -6,7 +6,7 @@ use sim_base::{Errno, NoMemory, State, Time};
 use std::alloc::AllocError;
 
 /// Why a call does not answer what it was asked for.
-#[derive(Clone, Copy, PartialEq, Eq)]
+#[derive(Clone, Copy)]
 pub enum Refusal {
     /// It is refused by this number.
     Errno(Errno),
@@ -19,7 +19,7 @@ pub enum Refusal {
 }
 
 /// Why a call gave no answer.
-#[derive(Clone, Copy, PartialEq, Eq)]
+#[derive(Clone, Copy)]
 pub enum CallError {
     /// It is refused, or waits, or ends the process.
     Refused(Refusal),

@@ -8,7 +8,7 @@ use crate::outlet::Outlet;
 use crate::tcp_sock::{KeptTimer, TcpSock};
 use crate::turned::start;
 use sim_base::{Addr, NoMemory, Packet, Time};
-use sock_tcp::{Conn, Effects};
+use sock_tcp::{Carried, Conn, Effects};
 
 fn is_timer_of(timer: KeptTimer, own: Addr, other: Addr) -> bool
     ensures { result ≡ is_timer_of own other timer }
@@ -46,6 +46,8 @@ fn kept_timer(timers: &[KeptTimer], serial: u64) -> Option<KeptTimer>
 
 impl TcpSock {
     ghost use Rattle.std.specs.Prelude.{◌≡◌, ◌<◌, ◌^◌, List, Some, OnOk};
+    ghost use Rattle.sock_tcp.specs.declared.connection.carried.Carried.{Carried};
+    ghost use Rattle.sock_tcp.specs.connection.Carried.{with_gone};
     ghost use Rattle.sock_tcp.specs.connection.Tcb.{Tcb};
     ghost use Rattle.sock_tcp.specs.listener.Listen.{Listen, Heard};
     ghost use Rattle.host_sockets.specs.TcpSocket.{TcpSocket};
@@ -102,9 +104,9 @@ impl TcpSock {
         effects: Effects,
     ) -> Result<(), NoMemory>
         requires { place < 2 ^ 63 }
-        ensures { OnOk result ((s : TcpSocket) (h : Heard) (gone : List Tcb) → SocketStands self.old (with_listen h.listen s)
-            → effects.segments.items ≡ h.sent → effects.timer ≡ h.timer
-            → Brings self.new outlet.new (heard now place own other h gone s outlet.old)) }
+        ensures { OnOk result ((s : TcpSocket) (h : Heard) (dropped : List Tcb) (before gone : List Carried) → SocketStands self.old (with_listen h.listen s)
+            → effects.segments.items ≡ h.sent → effects.timer ≡ h.timer → gone ≡ with_gone dropped before
+            → Brings self.new outlet.new before gone (heard now place own other h dropped s outlet.old)) }
     {
         let Effects { segments, timer } = effects;
         outlet.send_all(segments)?;
@@ -120,13 +122,14 @@ impl TcpSock {
         now: Time,
         place: usize,
         packet: &Packet,
+        gone: &mut Vec<Carried>,
     ) -> Result<(), NoMemory>
         requires { place < 2 ^ 63 }
         ensures { OnOk result ((s : TcpSocket) → SocketStands self.old s
-            → Brings self.new outlet.new (listener_hears now packet.now place s outlet.old)) }
+            → Brings self.new outlet.new gone.old.items gone.new.items (listener_hears now packet.now place s outlet.old)) }
     {
         if let Some(listener) = &mut self.listener {
-            let effects = outlet.hear(listener, packet)?;
+            let effects = outlet.hear(listener, packet, gone)?;
             self.bring_heard(outlet, now, place, packet.to, packet.from, effects)?;
             return Ok(());
         }
@@ -140,13 +143,14 @@ impl TcpSock {
         now: Time,
         place: usize,
         timer: KeptTimer,
+        gone: &mut Vec<Carried>,
     ) -> Result<(), NoMemory>
         requires { place < 2 ^ 63 }
         ensures { OnOk result ((s : TcpSocket) → SocketStands self.old s
-            → Brings self.new outlet.new (kept_expires now place timer s.listen s outlet.old)) }
+            → Brings self.new outlet.new gone.old.items gone.new.items (kept_expires now place timer s.listen s outlet.old)) }
     {
         if let Some(listener) = &mut self.listener {
-            let effects = listener.timer(timer.own, timer.other)?;
+            let effects = listener.timer(timer.own, timer.other, gone)?;
             self.bring_heard(outlet, now, place, timer.own, timer.other, effects)?;
             return Ok(());
         }
@@ -160,17 +164,18 @@ impl TcpSock {
         now: Time,
         place: usize,
         serial: u64,
+        gone: &mut Vec<Carried>,
     ) -> Result<(), NoMemory>
         requires { place < 2 ^ 63 }
         ensures { OnOk result ((s : TcpSocket) → SocketStands self.old s
-            → Brings self.new outlet.new (socket_expires now place serial s outlet.old)) }
+            → Brings self.new outlet.new gone.old.items gone.new.items (socket_expires now place serial s outlet.old)) }
     {
         if self.serial == serial {
-            self.expire_conn(outlet, now, place)?;
+            self.expire_conn(outlet, now, place, gone)?;
             return Ok(());
         }
         if let Some(timer) = kept_timer(self.timers.as_slice(), serial) {
-            self.expire_kept(outlet, now, place, timer)?;
+            self.expire_kept(outlet, now, place, timer, gone)?;
         }
         Ok(())
     }

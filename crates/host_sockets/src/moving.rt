@@ -53,7 +53,7 @@ impl Sockets {
         }
         self.turn_to(k);
         let sock = &mut self.tcp[k];
-        let count = sock.write(outlet, now, k, bytes)?;
+        let count = sock.write(outlet, now, k, bytes, &mut self.gone)?;
         Ok(count)
     }
 
@@ -147,7 +147,7 @@ impl Sockets {
         }
         self.turn_to(k);
         let sock = &mut self.tcp[k];
-        let bytes = sock.read(outlet, now, k, count)?;
+        let bytes = sock.read(outlet, now, k, count, &mut self.gone)?;
         Ok(bytes)
     }
 
@@ -229,7 +229,7 @@ impl Sockets {
         }
         self.turn_to(k);
         let sock = &mut self.tcp[k];
-        sock.shut(outlet, now, k, how)?;
+        sock.shut(outlet, now, k, how, &mut self.gone)?;
         Ok(())
     }
 
@@ -265,7 +265,7 @@ impl Sockets {
         }
         self.turn_to(k);
         let sock = &mut self.tcp[k];
-        sock.close(outlet, now, k)?;
+        sock.close(outlet, now, k, &mut self.gone)?;
         Ok(())
     }
 }

@@ -4,13 +4,13 @@ ghost use Rattle.std.specs.Prelude.{◌≡◌, ◌++◌, ◌∷◌, [], OnOk, If
 ghost use Rattle.host_sockets.specs.Wanted as spec;
 
 use sim_base::{Draws, NoMemory, ObjectId, Packet, Time};
-use sock_tcp::{Effects, Listener};
+use sock_tcp::{Carried, Effects, Listener};
 use std::alloc::Global;
 use std::marker::Model;
 use std::mem;
 
 /// What an act wants: a packet to be sent, or an alarm to be made.
-#[derive(PartialEq, Eq, Drop)]
+#[derive(Drop)]
 pub enum Want {
     Send(Packet),
     /// The object is to be told of this serial at the moment `due`.
@@ -39,6 +39,9 @@ impl Model for Outlet {
 }
 
 impl Outlet {
+    ghost use Rattle.sock_tcp.specs.connection.Arrival.{takes_packet};
+    ghost use Rattle.sock_tcp.specs.connection.Carried.{with_gone};
+    ghost use Rattle.sock_tcp.specs.listener.Dropped.{dropped};
     ghost use Rattle.sock_tcp.specs.listener.Listen.{Listen, hears};
     ghost use Rattle.sock_tcp.specs.listener.ListensFor.{ListensFor, Hears};
     ghost use Rattle.host_sockets.specs.Arriving.{word_drawn};
@@ -102,16 +105,19 @@ impl Outlet {
         mem::replace(&mut self.wants, Vec::new(alloc))
     }
 
-    /// A listener takes a segment, and draws the first number of a connection that it makes.
+    /// A listener takes a segment, and draws the first number of a connection that it makes. What a
+    /// connection carried that it lets go is kept.
     pub(crate) fn hear(
         &mut self,
         listener: &mut Listener,
         packet: &Packet,
+        gone: &mut Vec<Carried>,
     ) -> Result<Effects, NoMemory>
         ensures hears { IfOk result (Hears (hears packet.now (spec.draws_word self.old).0) listener.old listener.new) }
         ensures wanted { OnOk result ((l : Listen) → ListensFor listener.old l → self.new ≡ word_drawn packet.now l self.old) }
+        ensures gone { OnOk result ((l : Listen) → ListensFor listener.old l → gone.new.items ≡ with_gone (dropped (takes_packet packet.now) packet.now.to packet.now.from l) gone.old.items) }
     {
-        let effects = listener.arrive(packet, &mut self.draws)?;
+        let effects = listener.arrive(packet, &mut self.draws, gone)?;
         Ok(effects)
     }
 }

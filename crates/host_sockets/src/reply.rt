@@ -3,7 +3,7 @@
 use sim_base::{Addr, Errno};
 
 /// What a call on a TCP socket answers that may meet the error of a connection.
-#[derive(Clone, Copy, PartialEq, Eq)]
+#[derive(Clone, Copy)]
 pub enum Reply<T> {
     /// It did what it was asked for.
     Done(T),
@@ -12,7 +12,7 @@ pub enum Reply<T> {
 }
 
 /// A connection that was accepted.
-#[derive(Clone, Copy, PartialEq, Eq)]
+#[derive(Clone, Copy)]
 pub struct Accepted {
     /// The number of the new socket.
     pub socket: usize,

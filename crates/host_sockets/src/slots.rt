@@ -10,7 +10,7 @@ use crate::tcp_sock::TcpSock;
 use sim_base::Addr;
 
 /// Which socket is looked for.
-#[derive(Clone, Copy, PartialEq, Eq)]
+#[derive(Clone, Copy)]
 pub enum Sought {
     /// A place that a new socket may take.
     Free,

@@ -7,16 +7,18 @@ use crate::index::Index;
 use crate::slots::{Sought, place_in};
 use crate::tcp_sock::TcpSock;
 use sim_base::{Ip, NoMemory};
+use sock_tcp::Carried;
 use sock_udp::UdpSock;
 use std::alloc::Global;
 
-/// The sockets of a host, by their numbers, and the connections that closed ones leave behind. After
-/// a call that answers want of memory nothing is known of them.
+/// The sockets of a host, by their numbers, the connections that closed ones leave behind, and what
+/// those carried that are gone. After a call that answers want of memory nothing is known of them.
 #[derive(Drop)]
 pub struct Sockets {
     pub(crate) own: Ip,
     pub(crate) udp: Vec<Option<UdpSock>>,
     pub(crate) tcp: Vec<TcpSock>,
+    pub(crate) gone: Vec<Carried>,
     pub(crate) index: Index,
     ghost indexed: { Indexes index tcp.items } by { Prim.hlevel props },
 }
@@ -35,6 +37,7 @@ impl Sockets {
             own,
             udp: Vec::new(alloc),
             tcp: Vec::new(alloc),
+            gone: Vec::new(alloc),
             index: Index::new(alloc),
         }
     }
@@ -55,6 +58,7 @@ impl Sockets {
         ensures own { self.new.own ≡ self.old.own }
         ensures udp { self.new.udp ≡ self.old.udp }
         ensures tcp { self.new.tcp ≡ self.old.tcp }
+        ensures gone { self.new.gone ≡ self.old.gone }
         ensures acts { self.new.index.last ≡ k }
         ensures stands { (t : SocketsRecord) → Stand self.old t → Stand self.new t }
     {

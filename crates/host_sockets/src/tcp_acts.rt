@@ -8,7 +8,7 @@ ghost use Rattle.sock_tcp.specs.connection.Tcb.{Tcb};
 use crate::outlet::Outlet;
 use crate::tcp_sock::TcpSock;
 use sim_base::{Addr, Bytes, NoMemory, Packet, Time};
-use sock_tcp::{Conn, Effects, Opened, Shut};
+use sock_tcp::{Carried, Conn, Effects, Opened, Shut};
 use std::alloc::Global;
 
 impl TcpSock {
@@ -29,14 +29,15 @@ impl TcpSock {
         now: Time,
         place: usize,
         packet: &Packet,
+        gone: &mut Vec<Carried>,
     ) -> Result<(), NoMemory>
         requires { place < 2 ^ 63 }
         ensures { OnOk result ((s : TcpSocket) → SocketStands self.old s
-            → Brings self.new outlet.new (record_takes now packet.now place s outlet.old)) }
+            → Brings self.new outlet.new gone.old.items gone.new.items (record_takes now packet.now place s outlet.old)) }
     {
         if let Some(conn) = &mut self.conn {
             let effects = conn.arrive(packet)?;
-            self.bring_about(outlet, now, place, effects)?;
+            self.bring_about(outlet, now, place, effects, gone)?;
             return Ok(());
         }
         Ok(())
@@ -48,14 +49,15 @@ impl TcpSock {
         outlet: &mut Outlet,
         now: Time,
         place: usize,
+        gone: &mut Vec<Carried>,
     ) -> Result<(), NoMemory>
         requires { place < 2 ^ 63 }
         ensures { OnOk result ((s : TcpSocket) → SocketStands self.old s
-            → Brings self.new outlet.new (record_acts now place (λ r. expires (begin r)) s outlet.old)) }
+            → Brings self.new outlet.new gone.old.items gone.new.items (record_acts now place (λ r. expires (begin r)) s outlet.old)) }
     {
         if let Some(conn) = &mut self.conn {
             let effects = conn.timer()?;
-            self.bring_about(outlet, now, place, effects)?;
+            self.bring_about(outlet, now, place, effects, gone)?;
             return Ok(());
         }
         Ok(())
@@ -68,14 +70,15 @@ impl TcpSock {
         now: Time,
         place: usize,
         how: Shut,
+        gone: &mut Vec<Carried>,
     ) -> Result<(), NoMemory>
         requires { place < 2 ^ 63 }
         ensures { OnOk result ((s : TcpSocket) → SocketStands self.old s
-            → Brings self.new outlet.new (record_acts now place (λ r. shuts how (begin r)) s outlet.old)) }
+            → Brings self.new outlet.new gone.old.items gone.new.items (record_acts now place (λ r. shuts how (begin r)) s outlet.old)) }
     {
         if let Some(conn) = &mut self.conn {
             let effects = conn.app_shut(how)?;
-            self.bring_about(outlet, now, place, effects)?;
+            self.bring_about(outlet, now, place, effects, gone)?;
             return Ok(());
         }
         Ok(())
@@ -88,17 +91,18 @@ impl TcpSock {
         now: Time,
         place: usize,
         bytes: &[u8],
+        gone: &mut Vec<Carried>,
     ) -> Result<usize, NoMemory>
         requires { place < 2 ^ 63 }
         ensures count { IfOk result (λ count. (s : TcpSocket) → SocketStands self.old s → count ≡ count_taken bytes.now s.tcb) }
         ensures at_most { IfOk result (λ count. count ≤ length bytes.now) }
         ensures brings { OnOk result ((s : TcpSocket) → SocketStands self.old s
-            → Brings self.new outlet.new (takes_written now place bytes.now s outlet.old)) }
+            → Brings self.new outlet.new gone.old.items gone.new.items (takes_written now place bytes.now s outlet.old)) }
     {
         if let Some(conn) = &mut self.conn {
             let count = conn.app_write(bytes).min(bytes.len());
             let effects = conn.flow()?;
-            self.bring_about(outlet, now, place, effects)?;
+            self.bring_about(outlet, now, place, effects, gone)?;
             return Ok(count);
         }
         Ok(0)
@@ -111,18 +115,19 @@ impl TcpSock {
         now: Time,
         place: usize,
         count: usize,
+        gone: &mut Vec<Carried>,
     ) -> Result<Bytes, NoMemory>
         requires { place < 2 ^ 63 }
         ensures given { IfOk result (λ bytes. (s : TcpSocket) → SocketStands self.old s → bytes ≡ bytes_given count s.tcb) }
         ensures at_most { IfOk result (λ bytes. length bytes ≤ count) }
         ensures brings { OnOk result ((s : TcpSocket) → SocketStands self.old s
-            → Brings self.new outlet.new (gives_read now place count s outlet.old)) }
+            → Brings self.new outlet.new gone.old.items gone.new.items (gives_read now place count s outlet.old)) }
     {
         let alloc = self.alloc();
         if let Some(conn) = &mut self.conn {
             let bytes = read_bytes(alloc, conn, count)?;
             let effects = conn.flow()?;
-            self.bring_about(outlet, now, place, effects)?;
+            self.bring_about(outlet, now, place, effects, gone)?;
             return Ok(bytes);
         }
         Ok(Bytes::new(alloc))
@@ -135,15 +140,16 @@ impl TcpSock {
         outlet: &mut Outlet,
         now: Time,
         place: usize,
+        gone: &mut Vec<Carried>,
     ) -> Result<(), NoMemory>
         requires { place < 2 ^ 63 }
         ensures { OnOk result ((s : TcpSocket) → SocketStands self.old s
-            → Brings self.new outlet.new (error_takes now place s outlet.old)) }
+            → Brings self.new outlet.new gone.old.items gone.new.items (error_takes now place s outlet.old)) }
     {
         let alloc = self.alloc();
         if let Some(conn) = &mut self.conn {
             conn.take_error();
-            self.bring_about(outlet, now, place, Effects::none(alloc))?;
+            self.bring_about(outlet, now, place, Effects::none(alloc), gone)?;
             return Ok(());
         }
         Ok(())
@@ -157,16 +163,17 @@ impl TcpSock {
         place: usize,
         own: Addr,
         other: Addr,
+        gone: &mut Vec<Carried>,
     ) -> Result<(), NoMemory>
         requires { place < 2 ^ 63 }
         ensures { OnOk result ((s : TcpSocket) → SocketStands self.old s
-            → Brings self.new outlet.new (opens now place own other s outlet.old)) }
+            → Brings self.new outlet.new gone.old.items gone.new.items (opens now place own other s outlet.old)) }
     {
         let word = outlet.word();
         let first = (word % (1 << 32)) as u32;
         let Opened { conn, effects } = Conn::open(self.alloc(), own, other, first)?;
         self.conn = Some(conn);
-        self.bring_about(outlet, now, place, effects)?;
+        self.bring_about(outlet, now, place, effects, gone)?;
         Ok(())
     }
 }

@@ -3,7 +3,7 @@
 use crate::outlet::Outlet;
 use crate::tcp_sock::TcpSock;
 use sim_base::{NoMemory, Time};
-use sock_tcp::Effects;
+use sock_tcp::{Carried, Effects};
 
 impl TcpSock {
     ghost use Rattle.std.specs.Prelude.{◌≡◌, ◌<◌, ◌^◌, None, OnOk};
@@ -15,14 +15,20 @@ impl TcpSock {
     ghost use Rattle.host_sockets.specs.StandsFor.{SocketStands, Brings};
 
     /// Its connection, if it has one, is closed.
-    fn close_conn(&mut self, outlet: &mut Outlet, now: Time, place: usize) -> Result<(), NoMemory>
+    fn close_conn(
+        &mut self,
+        outlet: &mut Outlet,
+        now: Time,
+        place: usize,
+        gone: &mut Vec<Carried>,
+    ) -> Result<(), NoMemory>
         requires { place < 2 ^ 63 }
         ensures { OnOk result ((s : TcpSocket) → SocketStands self.old s
-            → Brings self.new outlet.new (record_acts now place (λ r. closes (begin r)) s outlet.old)) }
+            → Brings self.new outlet.new gone.old.items gone.new.items (record_acts now place (λ r. closes (begin r)) s outlet.old)) }
     {
         if let Some(conn) = &mut self.conn {
             let effects = conn.app_close()?;
-            self.bring_about(outlet, now, place, effects)?;
+            self.bring_about(outlet, now, place, effects, gone)?;
             return Ok(());
         }
         Ok(())
@@ -44,19 +50,20 @@ impl TcpSock {
         outlet: &mut Outlet,
         now: Time,
         place: usize,
+        gone: &mut Vec<Carried>,
     ) -> Result<(), NoMemory>
         requires { place < 2 ^ 63 }
         ensures { OnOk result ((s : TcpSocket) → SocketStands self.old s
-            → Brings self.new outlet.new (closed now place s outlet.old)) }
+            → Brings self.new outlet.new gone.old.items gone.new.items (closed now place s outlet.old)) }
     {
         if let Some(listener) = &mut self.listener {
-            let Effects { segments, timer: _ } = listener.close()?;
+            let Effects { segments, timer: _ } = listener.close(gone)?;
             outlet.send_all(segments)?;
             *self = TcpSock::fresh(self.alloc(), false);
             return Ok(());
         }
         self.release();
-        self.close_conn(outlet, now, place)?;
+        self.close_conn(outlet, now, place, gone)?;
         Ok(())
     }
 }

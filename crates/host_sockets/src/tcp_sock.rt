@@ -9,7 +9,7 @@ use sock_tcp::{Conn, Control, Listener};
 use std::alloc::Global;
 
 /// The timer of a connection that a listener keeps: the two ends, and the serial of its alarm.
-#[derive(Clone, Copy, PartialEq, Eq)]
+#[derive(Clone, Copy)]
 pub struct KeptTimer {
     pub own: Addr,
     pub other: Addr,

@@ -8,7 +8,7 @@ ghost use Rattle.host_sockets.specs.TcpActs.{object_of};
 use crate::outlet::Outlet;
 use crate::tcp_sock::TcpSock;
 use sim_base::{NoMemory, ObjectId, Time};
-use sock_tcp::{Control, Effects};
+use sock_tcp::{Carried, Control, Effects};
 
 /// Objects from here on are TCP sockets, by their numbers.
 const FIRST_OBJECT: u64 = 1 << 33;
@@ -59,6 +59,7 @@ pub(crate) fn start(
 
 impl TcpSock {
     ghost use Rattle.std.specs.Prelude.{◌≡◌, ◌<◌, ◌^◌, Some, OnOk, IfOk};
+    ghost use Rattle.sock_tcp.specs.connection.Carried.{with_gone};
     ghost use Rattle.sock_tcp.specs.connection.Tcb.{Tcb, Turn};
     ghost use Rattle.sock_tcp.specs.connection.Timer.{timer_of};
     ghost use Rattle.host_sockets.specs.Wanted.{Wanted};
@@ -104,17 +105,21 @@ impl TcpSock {
         self.bound = bound;
     }
 
-    /// Lets a connection go that is done with.
-    fn let_go(&mut self)
-        ensures { (s : TcpSocket) (r : Tcb) (w : Wanted) → SocketStands self.old s → s.tcb ≡ Some r
-            → SocketStands self.new (let_go r s w).socket }
+    /// Lets a connection go that is done with. What it carried is kept.
+    #[tactic(auto, using(crate::proofs::Going::goes, crate::proofs::Going::stays))]
+    fn let_go(&mut self, gone: &mut Vec<Carried>) -> Result<(), NoMemory>
+        ensures socket { OnOk result ((s : TcpSocket) (r : Tcb) (w : Wanted) → SocketStands self.old s → s.tcb ≡ Some r
+            → SocketStands self.new (let_go r s w).socket) }
+        ensures gone { OnOk result ((s : TcpSocket) (r : Tcb) (w : Wanted) → SocketStands self.old s → s.tcb ≡ Some r
+            → gone.new.items ≡ with_gone (let_go r s w).gone gone.old.items) }
     {
         if let Some(conn) = &self.conn {
-            let control = conn.control();
-            if self.is_done(control) {
+            if self.is_done(conn.control()) {
+                gone.push(conn.carried())?;
                 self.refresh();
             }
         }
+        Ok(())
     }
 
     /// Brings about what an act on its connection does: its segments are sent, then its timer
@@ -126,16 +131,17 @@ impl TcpSock {
         now: Time,
         place: usize,
         effects: Effects,
+        gone: &mut Vec<Carried>,
     ) -> Result<(), NoMemory>
         requires { place < 2 ^ 63 }
         ensures { OnOk result ((s : TcpSocket) (t : Turn) → SocketStands self.old (with_tcb t.tcb s)
             → effects.segments.items ≡ t.sent → effects.timer ≡ timer_of t
-            → Brings self.new outlet.new (turned now place t s outlet.old)) }
+            → Brings self.new outlet.new gone.old.items gone.new.items (turned now place t s outlet.old)) }
     {
         let Effects { segments, timer } = effects;
         outlet.send_all(segments)?;
         self.start_timer(outlet, now, place, timer)?;
-        self.let_go();
+        self.let_go(gone)?;
         Ok(())
     }
 }

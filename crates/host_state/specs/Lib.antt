@@ -27,3 +27,4 @@ pub mod Start
 pub mod Step
 pub mod Stretches
 pub mod World
+pub mod WorldStreams

@@ -16,12 +16,14 @@ mod running;
 mod sending;
 mod slice;
 mod start;
+mod streams;
 
 pub use files::capture::Captured;
 pub use files::growing::round_pieces;
 pub use files::listed::{HostListing, Listing, ProcessListing};
 pub use files::piece::{Piece, bytes_of, capture_piece, file_piece, log_piece, numbers};
 pub use host::Host;
+pub use host_sockets::HostStream;
 pub use line::{Line, Logged};
 pub use net::{Images, Net, Nodes};
 pub use outbox::Outbox;

@@ -3,7 +3,7 @@
 use sim_base::{Act, HostId, Key, Packet, Time};
 
 /// What happened to a packet, when and at which host.
-#[derive(PartialEq, Eq, Drop)]
+#[derive(Drop)]
 pub struct Line {
     pub time: Time,
     pub host: HostId,
@@ -12,7 +12,7 @@ pub struct Line {
 }
 
 /// A line with the key of the event whose firing it is from.
-#[derive(PartialEq, Eq, Drop)]
+#[derive(Drop)]
 pub struct Logged {
     pub key: Key,
     pub line: Line,

@@ -7,7 +7,7 @@ use sim_base::{Bytes, HostId, Ip, Name, Signal, Time};
 use std::marker::Model;
 
 /// The state in which a process is expected to be at the stop.
-#[derive(Clone, Copy, PartialEq, Eq)]
+#[derive(Clone, Copy)]
 pub enum FinalState {
     /// It ended by an exit with this status.
     Exited(u8),

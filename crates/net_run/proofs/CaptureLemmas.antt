@@ -17,7 +17,7 @@ use Rattle.host_state.specs.Files.{Put}
 use Rattle.host_state.specs.Listed.{HostNames, by_host}
 use Rattle.host_state.specs.declared.files.capture.Captured.{Captured}
 use Rattle.host_state.specs.declared.line.Line.{Line}
-use Rattle.net_run.specs.Heads.{heads_by, host_heads, all_heads}
+use Rattle.net_run.specs.Heads.{heads_by, all_heads}
 use Rattle.net_run.specs.Places.{is_place, is_touched}
 use Rattle.net_run.proofs.FileLemmas.{place-of_file, same-place}
 use Rattle.net_run.proofs.GrowthLemmas.{more-bytes}

@@ -1,5 +1,5 @@
 -- What a later world gained.
-use Rattle.std.proofs.Common.{List, [], ◌∷◌, map, ap, ◌∙◌}
+use Rattle.std.proofs.Common.{List, [], ◌∷◌, ap, ◌∙◌}
 use Rattle.std.proofs.lemmas.List.{map-append}
 use Rattle.host_calls.specs.declared.parts.Output.{Output}
 use Rattle.host_state.specs.Extends.{AreLater, Extends}

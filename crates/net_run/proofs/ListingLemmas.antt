@@ -1,5 +1,5 @@
 -- The notes of a configuration and the heads of captures, one behind another.
-use Rattle.std.proofs.Common.{◌≡◌, ℕ, ◌+◌, ◌<◌, Bool, true, false, List, [], ◌∷◌, ◌++◌, length, drop, get_or, Option, Some, sym, ap, ◌∙◌, append_assoc}
+use Rattle.std.proofs.Common.{◌≡◌, ℕ, ◌+◌, ◌<◌, true, false, List, [], ◌∷◌, ◌++◌, length, drop, get_or, Option, Some, sym, ap, ◌∙◌, append_assoc}
 use Rattle.sim_base.specs.declared.outside.sink.Place.TheVariants as place
 use Rattle.out_text.specs.Files.{capture_name}
 use Rattle.pcap_text.specs.Writing.{head}

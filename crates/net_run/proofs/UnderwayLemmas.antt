@@ -1,5 +1,5 @@
 -- A run that is under way: its files have grown as far as its world, round by round, and at the end they are those of the run.
-use Rattle.std.proofs.Common.{◌≡◌, ℕ, List, [], ◌++◌, length, map, slice_get, Bool, Option, Some, option_map, refl, sym, ap, subst, ◌∙◌}
+use Rattle.std.proofs.Common.{◌≡◌, ℕ, List, ◌++◌, length, map, slice_get, Bool, Option, Some, option_map, refl, sym, ap, subst, ◌∙◌}
 use Rattle.sim_base.specs.Sink.{Content}
 use Rattle.sim_base.specs.declared.state.State.{State}
 use Rattle.host_calls.specs.declared.parts.Output.{Output}
@@ -21,7 +21,7 @@ use Rattle.net_run.proofs.ExtendsLemmas.{gains-later}
 use Rattle.net_run.proofs.FrontLemmas.{with_append}
 use Rattle.host_state.proofs.Gaining.{names-kept}
 use Rattle.net_run.proofs.GrownLemmas.{opening-grown, round-grown, end-whole}
-use Rattle.net_run.proofs.PartLemmas.{Grows-trans, Grows-with_pieces, between-puts}
+use Rattle.net_run.proofs.PartLemmas.{Grows-trans, between-puts}
 use Rattle.net_run.proofs.StandingLemmas.{part-so_far, part-round, part-end}
 use Rattle.net_run.proofs.ToldLemmas.{opening-names, rest-told, status-told}
 

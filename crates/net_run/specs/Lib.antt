@@ -6,3 +6,4 @@ pub mod Heads
 pub mod Grown
 pub mod Rest
 pub mod Parts
+pub mod Streams

@@ -1,5 +1,5 @@
 -- What is shown of the result of a run.
-use Rattle.std.specs.Prelude.{◌≡◌, ℕ, ◌+◌, List, [], ◌∷◌, ◌++◌, length, map, flat_map, slice_get, Option, Some, None, Bool, true, false, if◌then◌else◌, ◌==◌}
+use Rattle.std.specs.Prelude.{ℕ, ◌+◌, List, [], ◌∷◌, ◌++◌, length, map, flat_map, slice_get, Option, Some, None, Bool, true, false, if◌then◌else◌, ◌==◌}
 use Rattle.sim_base.specs.Signal.{signal_number}
 use Rattle.sim_base.specs.declared.outside.sink.Place.TheVariants as place
 use Rattle.sim_base.specs.declared.state.State.{State}
@@ -19,6 +19,7 @@ use Rattle.host_state.specs.Captured.{all_captures}
 use Rattle.host_state.specs.Files.{Put, first_id, program_of, written_to, expected_state, log_name}
 use Rattle.host_state.specs.Listed.{names_in}
 use Rattle.host_state.specs.Logs.{lines_of}
+use Rattle.net_run.specs.Streams.{stream_puts}
 use Rattle.net_run.specs.World.{World}
 
 -- ---- files
@@ -113,9 +114,13 @@ run_pieces load w = flat_map host_files w.hosts ++ (captures_in w ++ (log_file w
 abbrev pub note_puts : List (List ℕ) → List Put
 note_puts notes = map (λ (path : List ℕ). let p : Put = (place.Err, note_line path) in p) notes
 
--- what stands in the new data directory and on the streams: the notes, and then what the run shows
-abbrev pub pieces : List (List ℕ) → Bool → World → List Put
-pieces notes load w = note_puts notes ++ run_pieces load w
+-- and behind all else the lines of its connections, where they are asked for
+abbrev pub all_pieces : Bool → Bool → World → List Put
+all_pieces load streams w = run_pieces load w ++ stream_puts streams w
+
+-- what stands in the new data directory, on the output and on the error stream: the notes, and then what the run shows
+abbrev pub pieces : List (List ℕ) → Bool → Bool → World → List Put
+pieces notes load streams w = note_puts notes ++ all_pieces load streams w
 
 -- 0 where each expectation is met, and else 1
 abbrev pub status_by : List Put → ℕ

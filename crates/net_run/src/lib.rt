@@ -6,8 +6,10 @@ mod heads;
 mod notes;
 mod output;
 mod process_pieces;
+mod streams;
 
 pub use ending::put_rest;
 pub use heads::put_heads;
 pub use notes::put_notes;
 pub use output::put_pieces;
+pub use streams::put_streams;

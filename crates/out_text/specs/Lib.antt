@@ -5,4 +5,5 @@ pub mod Files
 pub mod Hosts
 pub mod Laws
 pub mod Log
+pub mod Streams
 pub mod Summary

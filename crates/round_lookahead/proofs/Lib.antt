@@ -28,3 +28,4 @@ pub mod WorldOpenings
 pub mod RoundPieces
 pub mod Reaching
 pub mod Lookaheads
+pub mod StreamSteps

@@ -33,9 +33,9 @@ module _ (config : Config) (plan : Outcomes Plan) (run : Plan → Planned) where
 module _ (m : Manner) (held : Held) (name : List ℕ) where
   module _ (text : List ℕ) (h : read held name (Ok text)) where
     module _ (config : Config) (k : configured name text m.overrides (Ok config)) where
-      pub file_run : (p : Plan) → m.shows_config ≡ false → plan_of held name config (Ok p) → file_planned m held name (Ok (runs m.budget false p))
+      pub file_run : (p : Plan) → m.shows_config ≡ false → plan_of held name config (Ok p) → file_planned m held name (Ok (runs m false p))
       unfolding file_planned
-      file_run p e n = (text, h, (config, k, is_run config (plan_of held name config) (runs m.budget false) m.shows_config p e n))
+      file_run p e n = (text, h, (config, k, is_run config (plan_of held name config) (runs m false) m.shows_config p e n))
 
 -- ---- a self-load
 
@@ -47,14 +47,14 @@ module _ (m : Manner) (hosts : ℕ) where
   unfolding self_load_planned
   self_load_lacks_memory =
       let config : Config = self_load_config m.overrides hosts in
-      lacks_memory config (self_run m hosts) (runs m.budget true) m.shows_config
+      lacks_memory config (self_run m hosts) (runs m true) m.shows_config
       (rows_stop ring_files (codes "self-load") (self_load_graph hosts) config NoMemory (rows_lack_memory (codes "self-load") (self_load_graph hosts) config.hosts))
 
   pub self_load_run : (p : Plan) (bytes : List ℕ) (graph : Graph) (config : Config) → m.shows_config ≡ false → bytes ≡ ring → graph ≡ self_load_graph hosts → config ≡ self_load_config m.overrides hosts
-      → run_of (one_file (codes "ring") bytes) (codes "self-load") graph config (Ok p) → self_load_planned m hosts (Ok (runs m.budget true p))
+      → run_of (one_file (codes "ring") bytes) (codes "self-load") graph config (Ok p) → self_load_planned m hosts (Ok (runs m true p))
   unfolding self_load_planned
   self_load_run p bytes graph config e b g c h =
-      is_run (self_load_config m.overrides hosts) (self_run m hosts) (runs m.budget true) m.shows_config p e
+      is_run (self_load_config m.overrides hosts) (self_run m hosts) (runs m true) m.shows_config p e
       (subst (λ (bs : List ℕ). run_of (one_file (codes "ring") bs) (codes "self-load") (self_load_graph hosts) (self_load_config m.overrides hosts) (Ok p)) b
       (subst (λ (gr : Graph). run_of (one_file (codes "ring") bytes) (codes "self-load") gr (self_load_config m.overrides hosts) (Ok p)) g
       (subst (λ (co : Config). run_of (one_file (codes "ring") bytes) (codes "self-load") graph co (Ok p)) c h)))

@@ -290,13 +290,13 @@ files_agree : (m : Manner) (held : Held) (name : List ℕ) → Both Equal (file_
 unfolding file_planned
 files_agree m held name =
     one_then Equal (read held name) _ (reads_one name (file held name))
-    (λ text h. one_then Equal (configured name text m.overrides) _ (configs_agree name text m.overrides) (λ c k. shown_or_run_agree m.shows_config c (plan_of held name c) (runs m.budget false) (plans_agree held name c)))
+    (λ text h. one_then Equal (configured name text m.overrides) _ (configs_agree name text m.overrides) (λ c k. shown_or_run_agree m.shows_config c (plan_of held name c) (runs m false) (plans_agree held name c)))
 
 self_loads_agree : (m : Manner) (hosts : ℕ) → Both Equal (self_load_planned m hosts) (self_load_planned m hosts)
 unfolding self_load_planned
 self_loads_agree m hosts =
     let c : Config = self_load_config m.overrides hosts in
-    shown_or_run_agree m.shows_config c (run_of ring_files (codes "self-load") (self_load_graph hosts) c) (runs m.budget true) (runs_agree ring_files (codes "self-load") (self_load_graph hosts) c)
+    shown_or_run_agree m.shows_config c (run_of ring_files (codes "self-load") (self_load_graph hosts) c) (runs m true) (runs_agree ring_files (codes "self-load") (self_load_graph hosts) c)
 
 captures_agree : (held : Held) (name : List ℕ) → Both Equal (capture_planned held name) (capture_planned held name)
 unfolding capture_planned

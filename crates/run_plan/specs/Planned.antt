@@ -31,12 +31,13 @@ abbrev pub manner_of : Asked → Manner
 manner_of a = record {
   overrides = overrides_of a;
   budget = a.budget;
+  streams = a.streams;
   shows_config = a.shows_config;
 }
 
--- to run a plan, with this budget of instructions between two calls; a self-load tells its summary at the end
-abbrev pub runs : ℕ → Bool → Plan → Planned
-runs budget is_self_load plan = Runs (record { plan = plan; budget = budget; is_self_load = is_self_load })
+-- to run a plan, with this budget of instructions between two calls; a self-load tells its summary at the end, and its streams are told if they are asked for
+abbrev pub runs : Manner → Bool → Plan → Planned
+runs m is_self_load plan = Runs (record { plan = plan; budget = m.budget; is_self_load = is_self_load; streams = m.streams })
 
 -- a configuration is shown, or its plan goes on
 abbrev pub shown_or_run : Bool → Config → Outcomes Plan → (Plan → Planned) → Outcomes Planned
@@ -48,13 +49,13 @@ unfoldable pub file_planned : Manner → Held → List ℕ → Outcomes Planned
 file_planned m held name = do
   text ← read held name
   config ← configured name text m.overrides
-  shown_or_run m.shows_config config (plan_of held name config) (runs m.budget false)
+  shown_or_run m.shows_config config (plan_of held name config) (runs m false)
 
 -- the configuration, the graph and the guest of a self-load stand for those that are read
 unfoldable pub self_load_planned : Manner → ℕ → Outcomes Planned
 self_load_planned m hosts =
     let config = self_load_config m.overrides hosts in
-    shown_or_run m.shows_config config (run_of ring_files (codes "self-load") (self_load_graph hosts) config) (runs m.budget true)
+    shown_or_run m.shows_config config (run_of ring_files (codes "self-load") (self_load_graph hosts) config) (runs m true)
 
 -- the capture in a file, whatever else is asked
 unfoldable pub capture_planned : Held → List ℕ → Outcomes Planned

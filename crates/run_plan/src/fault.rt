@@ -12,7 +12,7 @@ use std::alloc::{AllocError, AllocFailed};
 use yaml_tree::YamlFault;
 
 /// What is wrong with a host, in the order in which it is told.
-#[derive(Clone, Copy, PartialEq, Eq)]
+#[derive(Clone, Copy)]
 pub enum HostFault {
     /// The graph has no node of its number.
     UnknownNode,

@@ -34,6 +34,8 @@ pub struct Run {
     pub budget: u32,
     /// Whether the counts of packets are told at the end.
     pub is_self_load: bool,
+    /// Whether what became of each connection is told at the end.
+    pub streams: bool,
 }
 
 /// What is asked for.
@@ -65,6 +67,7 @@ fn parse_words(alloc: Global, words: &[String]) -> Result<Asked, ReadStop>
 pub struct Manner {
     pub overrides: Overrides,
     pub budget: u32,
+    pub streams: bool,
     pub shows_config: bool,
 }
 
@@ -96,6 +99,7 @@ fn plan_file<R: Threads + Sync, S: Source>(
         plan,
         budget: manner.budget,
         is_self_load: false,
+        streams: manner.streams,
     }))
 }
 
@@ -131,6 +135,7 @@ fn plan_self_load<R: Threads + Sync>(
         plan,
         budget: manner.budget,
         is_self_load: true,
+        streams: manner.streams,
     }))
 }
 
@@ -173,6 +178,7 @@ pub fn read_plan<R: Threads + Sync, S: Source>(
         data_directory,
         stop_time,
         budget,
+        streams,
         shows_config,
     } = parse_words(alloc, words)?;
     let manner = Manner {
@@ -183,6 +189,7 @@ pub fn read_plan<R: Threads + Sync, S: Source>(
             stop_time,
         },
         budget,
+        streams,
         shows_config,
     };
     match subject {

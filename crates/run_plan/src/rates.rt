@@ -13,7 +13,7 @@ use sim_base::{Ip, Name, NoMemory};
 use std::alloc::Global;
 
 /// The rates of a host in bits a second, at least 1.
-#[derive(Clone, Copy, PartialEq, Eq)]
+#[derive(Clone, Copy)]
 pub struct Rates {
     pub up: u64,
     pub down: u64,

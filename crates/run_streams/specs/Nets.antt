@@ -14,7 +14,8 @@ use Rattle.host_state.specs.Link.{LinkState}
 use Rattle.host_state.specs.World.{World}
 use Rattle.world_order.specs.Round.{events_at}
 use Rattle.tcp_streams.specs.Net.{Net}
-use Rattle.socket_streams.specs.Records.{records_of, packets_of, net_with}
+use Rattle.host_sockets.specs.Records.{records_of}
+use Rattle.socket_streams.specs.Records.{packets_of, net_with}
 
 -- a packet on its way to another host, or past the network to its own
 abbrev pub carried_by : What → Option Packet

@@ -28,6 +28,15 @@ between-first ps qs c new front =
       rest = subst (λ (d : Content). Grows b.now d) (sym (with_append ps qs c)) (Grows-trans _ _ _ b.rest (Grows-with_pieces qs (with_pieces ps c)));
     }
 
+-- a front of the first pieces was put, place by place
+pub between-more : (ps qs : List Put) (c : Content) (new : Option Content) → Between c new (with_pieces ps c) → Between c new (with_pieces (ps ++ qs) c)
+between-more ps qs c new b = record {
+  now = b.now;
+  now_is = b.now_is;
+  grown = b.grown;
+  rest = subst (λ (d : Content). Grows b.now d) (sym (with_append ps qs c)) (Grows-trans _ _ _ b.rest (Grows-with_pieces qs (with_pieces ps c)));
+}
+
 is_between : (old new whole : List ℕ) → IsPrefix old new → IsPrefix new whole → IsBetween old new whole
 is_between old new whole p q = record { added = p.rest; rest = q.rest; new_is = p.whole; whole_is = q.whole }
 

@@ -24,9 +24,11 @@ run_to run opened w opens result =
     subst (λ (net : Net). IsResult net w (opening_world (rows_of run))) opens.net (subst (λ (rows : List Row). IsResult opened.net w (opening_world rows)) opens.rows result)
 
 -- its pieces are the run's
-same_pieces : (run : Run) (opened : Opened) (w : World) → Opens run opened → pieces opened.notes opened.is_self_load w ≡ pieces_of run w
+same_pieces : (run : Run) (opened : Opened) (w : World) → Opens run opened → pieces opened.notes opened.is_self_load opened.streams w ≡ pieces_of run w
 same_pieces run opened w opens =
-    ap (λ (notes : List (List ℕ)). pieces notes opened.is_self_load w) opens.notes ∙ ap (λ (load : Bool). pieces run.plan.settings.notes load w) opens.self_load
+    ap (λ (notes : List (List ℕ)). pieces notes opened.is_self_load opened.streams w) opens.notes
+    ∙ ap (λ (load : Bool). pieces run.plan.settings.notes load opened.streams w) opens.self_load
+    ∙ ap (λ (streams : Bool). pieces run.plan.settings.notes run.is_self_load streams w) opens.streams
 
 ran_by : (run : Run) (opened : Opened) (c : Content) (new : Option Content) (r : Result ℕ Stop) → Opens run opened → c.there (directory_of run) ≡ false
     → RunsOpened opened (begun (directory_of run) c) new r → RunsPlan run c new r

@@ -10,7 +10,8 @@ use Rattle.net_run.specs.Grown.{HaveOwnFiles}
 use Rattle.host_state.specs.Listed.{HostNames, HasIds, listed, names_in, names_of}
 use Rattle.net_run.specs.Parts.{Between}
 use Rattle.net_run.specs.Pieces.{with_pieces, PutsFront}
-use Rattle.net_run.specs.Shown.{note_puts, run_pieces, unmet}
+use Rattle.net_run.specs.Shown.{note_puts, run_pieces, all_pieces, unmet}
+use Rattle.net_run.specs.Streams.{stream_puts}
 use Rattle.net_run.proofs.FrontLemmas.{with_append}
 use Rattle.net_run.proofs.PartLemmas.{Grows-refl, Grows-with_pieces}
 use Rattle.net_run.proofs.ToldLemmas.{opening-names, own-files}
@@ -21,7 +22,7 @@ use Rattle.round_lookahead.proofs.WorldSteps.{simulation, between-settled}
 use Rattle.run_plan.specs.Names.{AreApart}
 use Rattle.world_order.proofs.Results.{at_least_one}
 use Rattle.shadow_top.specs.Contract.{RunsNoted, PutsSome, RunsOpened}
-use Rattle.shadow_top.specs.Ending.{PutsEnd}
+use Rattle.shadow_top.specs.Ending.{PutsAll}
 use Rattle.shadow_top.specs.Opened.{HasOpened}
 use Rattle.shadow_top.specs.Rounds.{HasAllRounds, PutsInPart, PutsRounds}
 use Rattle.shadow_top.specs.Stop.{of_writing}
@@ -29,7 +30,7 @@ use Rattle.shadow_top.specs.declared.opened.Opened.{Opened}
 use Rattle.shadow_top.specs.declared.stop.Stop.{Stop}
 use Rattle.shadow_top.specs.declared.stop.Stop.TheVariants.{Refused, ReadFailed, WriteFailed, NoMemory}
 use Rattle.shadow_top.proofs.EndLemmas.{small}
-use Rattle.shadow_top.proofs.PartLemmas.{between-after, between-first}
+use Rattle.shadow_top.proofs.PartLemmas.{between-after, between-first, between-more}
 
 -- a run has a result
 pub ran_exists : (opened : Opened) → HasOpened opened → (w : World) × IsResult opened.net w (opening_world opened.rows.items)
@@ -44,7 +45,7 @@ pub not_run : (opened : Opened) (old : Option Content) → HasOpened opened → 
 not_run opened None has = tt
 not_run opened (Some c) has =
     let (w, result) = ran_exists opened has in
-    (w, result, record { now = c; now_is = refl; grown = Grows-refl c; rest = Grows-with_pieces (run_pieces opened.is_self_load w) c })
+    (w, result, record { now = c; now_is = refl; grown = Grows-refl c; rest = Grows-with_pieces (all_pieces opened.is_self_load opened.streams w) c })
 
 -- ---- the beginning
 
@@ -62,8 +63,8 @@ begins_own opened c has stands ids =
 
 -- ---- rounds and the end
 
-pub ended_small : (load : Bool) (w : World) (old new : Option Content) (status : ℕ) → PutsEnd load w old new (let r : Result ℕ WriteError = Ok status in r) → status ≤ 1
-ended_small load w old new status told = subst (λ (s : ℕ). s ≤ 1) (sym told.1) (small (unmet w))
+pub ended_small : (load streams : Bool) (w : World) (old new : Option Content) (status : ℕ) → PutsAll load streams w old new (let r : Result ℕ WriteError = Ok status in r) → status ≤ 1
+ended_small load streams w old new status told = subst (λ (s : ℕ). s ≤ 1) (sym told.1) (small (unmet w))
 
 module _ (opened : Opened) (c : rounds.World) (same : c.net ≡ opened.net) (old : Option Content) where
   abbrev start : World
@@ -73,9 +74,10 @@ module _ (opened : Opened) (c : rounds.World) (same : c.net ≡ opened.net) (old
   result_of w result = subst (λ (n : Net). IsResult n w start) same result
 
   part_of : (new : Option Content) → PutsInPart c start old new → (o : Option Content) → o ≡ old
-      → IfSome o (λ begun. (w : World) × IsResult opened.net w start × Between begun new (with_pieces (run_pieces opened.is_self_load w) begun))
+      → IfSome o (λ begun. (w : World) × IsResult opened.net w start × Between begun new (with_pieces (all_pieces opened.is_self_load opened.streams w) begun))
   part_of new part None is = tt
-  part_of new (w, result, stands) (Some begun) is = (w, result_of w result, stands begun (sym is) opened.is_self_load)
+  part_of new (w, result, stands) (Some begun) is =
+      (w, result_of w result, between-more (run_pieces opened.is_self_load w) (stream_puts opened.streams w) begun new (stands begun (sym is) opened.is_self_load))
 
   -- a round stopped
   pub rounds_stopped : (d : rounds.World) (new : Option Content) (stop : Stop) → PutsRounds c d start old new (let r : Result (Unit {0}) Stop = Err stop in r)
@@ -86,23 +88,23 @@ module _ (opened : Opened) (c : rounds.World) (same : c.net ≡ opened.net) (old
   rounds_stopped d new NoMemory told = part_of new told old refl
 
   module _ (d : rounds.World) (mid new : Option Content) (all : HasAllRounds c d start old mid) where
-    ended_at : (status : ℕ) → PutsEnd opened.is_self_load all.world old new (let r : Result ℕ WriteError = Ok status in r) → (o : Option Content) → o ≡ old
+    ended_at : (status : ℕ) → PutsAll opened.is_self_load opened.streams all.world old new (let r : Result ℕ WriteError = Ok status in r) → (o : Option Content) → o ≡ old
         → IfSome o (λ begun. RunsNoted opened begun new (Ok status))
     ended_at status told None is = tt
     ended_at status (told, status_is) (Some begun) is = (all.world, result_of all.world all.result, (told begun (sym is), status_is))
 
     -- all was put
-    pub run_ended : (status : ℕ) → PutsEnd opened.is_self_load all.world old new (let r : Result ℕ WriteError = Ok status in r) → IfSome old (λ begun. RunsNoted opened begun new (Ok status))
+    pub run_ended : (status : ℕ) → PutsAll opened.is_self_load opened.streams all.world old new (let r : Result ℕ WriteError = Ok status in r) → IfSome old (λ begun. RunsNoted opened begun new (Ok status))
     run_ended status told = ended_at status told old refl
 
-    stopped_at : (error : WriteError) → PutsEnd opened.is_self_load all.world old new (let r : Result ℕ WriteError = Err error in r) → (o : Option Content) → o ≡ old
+    stopped_at : (error : WriteError) → PutsAll opened.is_self_load opened.streams all.world old new (let r : Result ℕ WriteError = Err error in r) → (o : Option Content) → o ≡ old
         → IfSome o (λ begun. RunsNoted opened begun new (Err (of_writing error)))
     stopped_at error told None is = tt
     stopped_at write.Failed told (Some begun) is = (all.world, result_of all.world all.result, told begun (sym is))
     stopped_at write.NoMemory told (Some begun) is = (all.world, result_of all.world all.result, told begun (sym is))
 
     -- a write failed at the end
-    pub end_stopped : (error : WriteError) → PutsEnd opened.is_self_load all.world old new (let r : Result ℕ WriteError = Err error in r)
+    pub end_stopped : (error : WriteError) → PutsAll opened.is_self_load opened.streams all.world old new (let r : Result ℕ WriteError = Err error in r)
         → IfSome old (λ begun. RunsNoted opened begun new (Err (of_writing error)))
     end_stopped error told = stopped_at error told old refl
 
@@ -110,11 +112,11 @@ module _ (opened : Opened) (c : rounds.World) (same : c.net ≡ opened.net) (old
 
 noted_here : (opened : Opened) (c : Content) (new : Option Content) (r : Result ℕ Stop) → RunsNoted opened (with_pieces (note_puts opened.notes) c) new r → RunsOpened opened c new r
 noted_here opened c new (Ok status) (w, result, told) =
-    (w, result, told.0 ∙ ap Some (sym (with_append (note_puts opened.notes) (run_pieces opened.is_self_load w) c)), told.1)
+    (w, result, told.0 ∙ ap Some (sym (with_append (note_puts opened.notes) (all_pieces opened.is_self_load opened.streams w) c)), told.1)
 noted_here opened c new (Err (Refused fault)) (w, result, told) = absurd told
 noted_here opened c new (Err (ReadFailed file)) (w, result, told) = absurd told
-noted_here opened c new (Err WriteFailed) (w, result, part) = (w, result, between-after (note_puts opened.notes) (run_pieces opened.is_self_load w) c new part)
-noted_here opened c new (Err NoMemory) (w, result, part) = (w, result, between-after (note_puts opened.notes) (run_pieces opened.is_self_load w) c new part)
+noted_here opened c new (Err WriteFailed) (w, result, part) = (w, result, between-after (note_puts opened.notes) (all_pieces opened.is_self_load opened.streams w) c new part)
+noted_here opened c new (Err NoMemory) (w, result, part) = (w, result, between-after (note_puts opened.notes) (all_pieces opened.is_self_load opened.streams w) c new part)
 
 -- the notes were put, and the run was made
 pub noted : (opened : Opened) (old mid new : Option Content) (r : Result ℕ Stop) → mid ≡ option_map (with_pieces (note_puts opened.notes)) old
@@ -132,4 +134,4 @@ pub notes_stopped : (opened : Opened) (old new : Option Content) (e : WriteError
 notes_stopped opened None new e has some = tt
 notes_stopped opened (Some c) new e has some =
     let (w, result) = ran_exists opened has in
-    stopped_by opened c new e (w, result, between-first (note_puts opened.notes) (run_pieces opened.is_self_load w) c new some)
+    stopped_by opened c new e (w, result, between-first (note_puts opened.notes) (all_pieces opened.is_self_load opened.streams w) c new some)

@@ -7,7 +7,7 @@ use Rattle.out_text.specs.Faults.{file_line}
 use Rattle.host_state.specs.World.{World, IsResult, opening_world}
 use Rattle.net_run.specs.Parts.{IsPart, Between}
 use Rattle.net_run.specs.Pieces.{with_pieces}
-use Rattle.net_run.specs.Shown.{pieces, run_pieces, status_of}
+use Rattle.net_run.specs.Shown.{pieces, all_pieces, status_of}
 use Rattle.run_plan.specs.Line.{line_of}
 use Rattle.run_plan.specs.declared.fault.Fault.TheVariants.{Exists}
 use Rattle.run_plan.specs.declared.planned.Planned.{Planned}
@@ -105,27 +105,27 @@ ListsCapture capture c new (Err WriteFailed) = ListsFront capture c new
 ListsCapture capture c new (Err NoMemory) = ListsFront capture c new
 
 -- what stands is what a world shows; or each place holds a front of that
-abbrev pub Reports : Bool → World → Content → Option Content → Result ℕ Stop → Type 0
-Reports load w c new (Ok status) = (new ≡ Some (with_pieces (run_pieces load w) c)) × (status ≡ status_of w)
-Reports load w c new (Err (Refused fault)) = ⊥
-Reports load w c new (Err (ReadFailed file)) = ⊥
-Reports load w c new (Err WriteFailed) = Between c new (with_pieces (run_pieces load w) c)
-Reports load w c new (Err NoMemory) = Between c new (with_pieces (run_pieces load w) c)
+abbrev pub Reports : Bool → Bool → World → Content → Option Content → Result ℕ Stop → Type 0
+Reports load streams w c new (Ok status) = (new ≡ Some (with_pieces (all_pieces load streams w) c)) × (status ≡ status_of w)
+Reports load streams w c new (Err (Refused fault)) = ⊥
+Reports load streams w c new (Err (ReadFailed file)) = ⊥
+Reports load streams w c new (Err WriteFailed) = Between c new (with_pieces (all_pieces load streams w) c)
+Reports load streams w c new (Err NoMemory) = Between c new (with_pieces (all_pieces load streams w) c)
 
 -- what a run leaves whose notes were put
 abbrev pub RunsNoted : Opened → Content → Option Content → Result ℕ Stop → Type 0
-RunsNoted opened c new r = (w : World) × IsResult opened.net w (opening_world opened.rows.items) × Reports opened.is_self_load w c new r
+RunsNoted opened c new r = (w : World) × IsResult opened.net w (opening_world opened.rows.items) × Reports opened.is_self_load opened.streams w c new r
 
 -- a front of the pieces of an opened run's result was put, place by place
 abbrev pub PutsSome : Opened → Content → Option Content → Type 0
 PutsSome opened c new =
-    (w : World) × IsResult opened.net w (opening_world opened.rows.items) × Between c new (with_pieces (pieces opened.notes opened.is_self_load w) c)
+    (w : World) × IsResult opened.net w (opening_world opened.rows.items) × Between c new (with_pieces (pieces opened.notes opened.is_self_load opened.streams w) c)
 
 -- what a run leaves whose data directory was made
 abbrev pub RunsOpened : Opened → Content → Option Content → Result ℕ Stop → Type 0
 RunsOpened opened c new (Ok status) =
     (w : World) × IsResult opened.net w (opening_world opened.rows.items)
-    × (new ≡ Some (with_pieces (pieces opened.notes opened.is_self_load w) c)) × (status ≡ status_of w)
+    × (new ≡ Some (with_pieces (pieces opened.notes opened.is_self_load opened.streams w) c)) × (status ≡ status_of w)
 RunsOpened opened c new (Err (Refused fault)) = ⊥
 RunsOpened opened c new (Err (ReadFailed file)) = ⊥
 RunsOpened opened c new (Err WriteFailed) = PutsSome opened c new

@@ -9,7 +9,7 @@ use Rattle.host_state.specs.World.{World}
 use Rattle.net_run.specs.Parts.{Between}
 use Rattle.net_run.specs.Pieces.{with_pieces}
 use Rattle.net_run.specs.Rest.{TellsStates}
-use Rattle.net_run.specs.Shown.{run_pieces, status_of}
+use Rattle.net_run.specs.Shown.{run_pieces, all_pieces, status_of}
 
 -- the states of all processes are told, those of each host at its place
 pub record TellsAll (w : World) (told : List (Vec State Global)) : Type 0 where
@@ -20,3 +20,8 @@ pub record TellsAll (w : World) (told : List (Vec State Global)) : Type 0 where
 abbrev pub PutsEnd : Bool → World → Option Content → Option Content → Result ℕ WriteError → Type 0
 PutsEnd load w old new (Ok status) = ((begun : Content) → old ≡ Some begun → new ≡ Some (with_pieces (run_pieces load w) begun)) × (status ≡ status_of w)
 PutsEnd load w old new (Err error) = (begun : Content) → old ≡ Some begun → Between begun new (with_pieces (run_pieces load w) begun)
+
+-- the same with the lines of connections behind it, where they are asked for
+abbrev pub PutsAll : Bool → Bool → World → Option Content → Option Content → Result ℕ WriteError → Type 0
+PutsAll load streams w old new (Ok status) = ((begun : Content) → old ≡ Some begun → new ≡ Some (with_pieces (all_pieces load streams w) begun)) × (status ≡ status_of w)
+PutsAll load streams w old new (Err error) = (begun : Content) → old ≡ Some begun → Between begun new (with_pieces (all_pieces load streams w) begun)

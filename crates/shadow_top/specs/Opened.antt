@@ -111,6 +111,7 @@ pub record Opens (run : Run) (opened : Opened) : Type 0 where
   pub directory : opened.directory ≡ run.plan.settings.data_directory
   pub notes : opened.notes ≡ run.plan.settings.notes
   pub self_load : opened.is_self_load ≡ run.is_self_load
+  pub streams : opened.streams ≡ run.streams
   pub parallelism : opened.parallelism ≡ run.plan.settings.parallelism
   pub lookahead : opened.lookahead ≡ cut_lookahead run.plan.lookahead
   pub rows : opened.rows.items ≡ rows_of run

@@ -44,7 +44,7 @@ abbrev pub IsRunTo : Run → World → Type 0
 IsRunTo run w = IsResult (net_of run) w (opening_world (rows_of run))
 
 abbrev pub pieces_of : Run → World → List Put
-pieces_of run w = pieces run.plan.settings.notes run.is_self_load w
+pieces_of run w = pieces run.plan.settings.notes run.is_self_load run.streams w
 
 -- one that is run has the pieces of its result in the new data directory and on the console
 pub record IsRun (i : Input) (old new : Content) (status : ℕ) : Type 0 where

@@ -1,4 +1,4 @@
-//! The end of a run: the final states, the unmet expectations and the summary.
+//! The end of a run: the final states, the unmet expectations and the summary, and the lines of connections.
 
 ghost use Rattle.std.specs.Prelude.{◌≡◌, ◌<◌, ◌≤◌, ◌^◌, All, IfOk, Option, length, slice_get};
 ghost use Rattle.sim_base.specs.Sink.{CountsWrites, Content};
@@ -7,9 +7,10 @@ ghost use Rattle.host_state.specs.World.{World as HostWorld};
 ghost use Rattle.host_state.specs.Listed.{HasIds, names_of};
 ghost use Rattle.net_run.specs.Rest.{summary_in, TellsStates};
 ghost use Rattle.round_lookahead.specs.WorldStands.{WorldStands};
-ghost use Rattle.shadow_top.specs.Ending.{TellsAll, PutsEnd};
+ghost use Rattle.shadow_top.specs.Ending.{TellsAll, PutsEnd, PutsAll};
 ghost use Rattle.shadow_top.specs.Rounds.{StandsAt};
 
+use crate::streams::put_if_asked;
 use net_run::put_rest;
 use out_text::Summary;
 use round_lookahead::World;
@@ -67,8 +68,8 @@ fn summary(world: &World, hosts: u32, is_self_load: bool) -> Option<Summary>
     })
 }
 
-/// Puts what is left when all rounds are made, and gives the status.
-pub(crate) fn put_end<K: Sink>(
+/// Puts the final states, the unmet expectations and, for a self-load, its summary, and gives the status.
+fn put_end<K: Sink>(
     alloc: Global,
     world: &World,
     is_self_load: bool,
@@ -87,4 +88,22 @@ pub(crate) fn put_end<K: Sink>(
     let hosts = listing.host_count() as u32;
     let summary = summary(world, hosts, is_self_load);
     put_rest(alloc, sink, listing, states.as_slice(), summary)
+}
+
+/// Puts what is left when all rounds are made, and gives the status.
+pub(crate) fn put_ending<K: Sink>(
+    alloc: Global,
+    world: &World,
+    is_self_load: bool,
+    streams: bool,
+    sink: &mut K,
+) -> Result<u8, WriteError>
+    requires stands { (w : HostWorld) × WorldStands world.now w }
+    requires ids { All HasIds (names_of world.now.listing) }
+    ensures told { (w : HostWorld) (old : Option Content) → WorldStands world.now w → StandsAt w old (K.content sink.old) → PutsAll is_self_load streams w old (K.content sink.new) result }
+    ensures count { CountsWrites result (K.faults sink.old) (K.faults sink.new) }
+{
+    let status = put_end(alloc, world, is_self_load, sink)?;
+    put_if_asked(alloc, world, streams, sink)?;
+    Ok(status)
 }

@@ -8,6 +8,7 @@ mod opened;
 mod rounds;
 mod simulation;
 mod stop;
+mod streams;
 
 pub use simulation::shadow;
 pub use steal_workers::{Gate, OpenGate};

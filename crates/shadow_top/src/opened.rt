@@ -29,6 +29,8 @@ pub struct Opened {
     pub notes: Texts,
     /// Whether the counts of packets are told at the end.
     pub is_self_load: bool,
+    /// Whether what became of each connection is told at the end.
+    pub streams: bool,
     /// How many workers are asked for; 0 stands for as many as there are cores.
     pub parallelism: u32,
     /// No packet from one host to another takes less time. With one host there is none.
@@ -224,6 +226,7 @@ pub fn open(alloc: Global, run: Run) -> Result<Opened, NoMemory>
         plan,
         budget,
         is_self_load,
+        streams,
     } = run;
     let Plan {
         settings,
@@ -258,6 +261,7 @@ pub fn open(alloc: Global, run: Run) -> Result<Opened, NoMemory>
         directory: data_directory,
         notes,
         is_self_load,
+        streams,
         parallelism,
         lookahead: cut_lookahead(lookahead),
         rows,

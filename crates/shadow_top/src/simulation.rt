@@ -15,7 +15,7 @@ ghost use Rattle.shadow_top.specs.Outcome.{Outcome};
 ghost use Rattle.shadow_top.specs.Stop.{CountsSource, CountsSink, NoReadFailed};
 
 use crate::captured::list_capture;
-use crate::ending::put_end;
+use crate::ending::put_ending;
 use crate::opened::{Opened, open};
 use crate::rounds::put_run;
 use crate::stop::Stop;
@@ -126,6 +126,7 @@ fn run_noted<K: Sink, G: Gate + Sync, R: Threads + Sync + AllocGlobal>(
     let alloc = rt.alloc();
     let Opened {
         is_self_load,
+        streams,
         parallelism,
         lookahead,
         rows,
@@ -135,7 +136,7 @@ fn run_noted<K: Sink, G: Gate + Sync, R: Threads + Sync + AllocGlobal>(
     let workers = worker_count(parallelism, cores, rows.len() as u32);
     let mut world = World::start(alloc, rows, net, lookahead)?;
     put_run(rt, workers, gate, &mut world, sink)?;
-    let status = put_end(alloc, &world, is_self_load, sink)?;
+    let status = put_ending(alloc, &world, is_self_load, streams, sink)?;
     Ok(status)
 }
 

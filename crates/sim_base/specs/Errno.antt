@@ -1,14 +1,16 @@
 -- the error numbers of RISC-V Linux (errno(3))
 use Rattle.std.specs.Prelude.{ℕ}
 use Rattle.sim_base.specs.declared.errno.Errno.{Errno}
-use Rattle.sim_base.specs.declared.errno.Errno.TheVariants.{Enoent, Ebadf, Eagain, Eacces, Efault, Einval, Emfile, Epipe, Enosys, Enotsock, Edestaddrreq, Emsgsize, Enoprotoopt, Eprotonosupport, Eopnotsupp, Eafnosupport, Eaddrinuse, Eaddrnotavail, Enetunreach, Econnreset, Eisconn, Enotconn, Etimedout, Econnrefused, Ealready, Einprogress}
+use Rattle.sim_base.specs.declared.errno.Errno.TheVariants.{Eperm, Enoent, Ebadf, Eagain, Eacces, Efault, Eexist, Einval, Emfile, Epipe, Enosys, Enotsock, Edestaddrreq, Emsgsize, Enoprotoopt, Eprotonosupport, Eopnotsupp, Eafnosupport, Eaddrinuse, Eaddrnotavail, Enetunreach, Econnreset, Eisconn, Enotconn, Etimedout, Econnrefused, Ealready, Einprogress}
 
 abbrev pub errno_number : Errno → ℕ
+errno_number Eperm = 1
 errno_number Enoent = 2
 errno_number Ebadf = 9
 errno_number Eagain = 11
 errno_number Eacces = 13
 errno_number Efault = 14
+errno_number Eexist = 17
 errno_number Einval = 22
 errno_number Emfile = 24
 errno_number Epipe = 32

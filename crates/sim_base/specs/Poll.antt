@@ -15,3 +15,7 @@ pollhup = 16
 
 abbrev pub pollnval : ℕ
 pollnval = 32
+
+-- POLLRDHUP: the peer has ended its writing
+abbrev pub pollrdhup : ℕ
+pollrdhup = 0x2000

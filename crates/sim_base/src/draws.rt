@@ -10,7 +10,7 @@ use std::marker::Model;
 
 /// A host's generator, xoshiro256++ of Blackman and Vigna. Each host has its own. Contracts see its
 /// state.
-#[derive(Clone, PartialEq, Eq, Drop)]
+#[derive(Drop)]
 pub struct Draws {
     generator: Xoshiro256PlusPlus,
 }

@@ -6,11 +6,13 @@ ghost use Rattle.sim_base.specs.Errno.{errno_number};
 /// Why a system call refused. The guest gets the negative of the number.
 #[derive(Clone, Copy, Debug, PartialEq, Eq)]
 pub enum Errno {
+    Eperm,
     Enoent,
     Ebadf,
     Eagain,
     Eacces,
     Efault,
+    Eexist,
     Einval,
     Emfile,
     Epipe,
@@ -39,11 +41,13 @@ impl Errno {
         ensures { result ≡ errno_number self }
     {
         match self {
+            Errno::Eperm => 1,
             Errno::Enoent => 2,
             Errno::Ebadf => 9,
             Errno::Eagain => 11,
             Errno::Eacces => 13,
             Errno::Efault => 14,
+            Errno::Eexist => 17,
             Errno::Einval => 22,
             Errno::Emfile => 24,
             Errno::Epipe => 32,

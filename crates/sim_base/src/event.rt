@@ -6,7 +6,7 @@ use crate::object::ObjectId;
 use crate::packet::Packet;
 
 /// What an event does. A process is named by its place in its host's list, from 0.
-#[derive(Clone, PartialEq, Eq, Drop)]
+#[derive(Drop)]
 pub enum What {
     /// The process is made and runs a slice.
     Start(u32),
@@ -28,14 +28,14 @@ pub enum What {
 }
 
 /// Something that happens at a moment of simulated time.
-#[derive(Clone, PartialEq, Eq, Drop)]
+#[derive(Drop)]
 pub struct Event {
     pub key: Key,
     pub what: What,
 }
 
 /// A packet that one host made for another, with the key of the event that it will be there.
-#[derive(Clone, PartialEq, Eq, Drop)]
+#[derive(Drop)]
 pub struct Parcel {
     pub key: Key,
     pub to: HostId,

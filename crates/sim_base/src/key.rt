@@ -11,7 +11,7 @@ use crate::time::Time;
 use std::cmp::Ordering;
 
 /// Whether an event is a packet of another host, or the host's own.
-#[derive(Clone, Copy, PartialEq, Eq, PartialOrd, Ord, Hash)]
+#[derive(Clone, Copy, PartialEq, Eq)]
 pub enum Kind {
     Packet,
     Local,
@@ -30,7 +30,7 @@ impl Kind {
 }
 
 /// What tells events apart and puts them in order: no two events have the same key.
-#[derive(Clone, Copy, PartialEq, Eq, Hash)]
+#[derive(Clone, Copy, PartialEq, Eq)]
 pub struct Key {
     /// When the event fires.
     pub due: Time,

@@ -45,7 +45,7 @@ pub use outside::{
     MemSink, MemSource, Place, ReadError, Sink, Source, WriteError, put_all, read_all,
 };
 pub use packet::{ACK, FIN, Load, Packet, RST, SYN};
-pub use poll::{POLLERR, POLLHUP, POLLIN, POLLNVAL, POLLOUT};
+pub use poll::{POLLERR, POLLHUP, POLLIN, POLLNVAL, POLLOUT, POLLRDHUP};
 pub use ports::{at_free_port, is_taken, least_free_port, with_port};
 pub use quantity::{read_rate, read_time};
 pub use signal::Signal;

@@ -14,3 +14,6 @@ pub const POLLHUP: u16 = 16;
 
 /// The descriptor is not open.
 pub const POLLNVAL: u16 = 32;
+
+/// The peer has ended its writing.
+pub const POLLRDHUP: u16 = 0x2000;

@@ -12,7 +12,7 @@ ghost use Rattle.sim_base.specs.Quantity.{factor_in, quantity, table, same_name,
 use crate::time::Time;
 
 /// How names of units are compared.
-#[derive(Clone, Copy, PartialEq, Eq)]
+#[derive(Clone, Copy)]
 enum Letters {
     AsWritten,
     InEitherCase,

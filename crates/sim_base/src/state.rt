@@ -3,7 +3,7 @@
 use crate::signal::Signal;
 
 /// The state of a process.
-#[derive(Clone, Copy, PartialEq, Eq)]
+#[derive(Clone, Copy)]
 pub enum State {
     /// Its start has not come.
     NotStarted,

@@ -7,3 +7,4 @@ pub mod Received
 pub mod ProcessCalls
 pub mod Places
 pub mod ResetSteps
+pub mod CarriedSteps

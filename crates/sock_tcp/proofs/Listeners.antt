@@ -1,3 +1,4 @@
 pub mod QueuePlaces
 pub mod ListenActs
+pub mod Dropping
 pub mod ListenEnds

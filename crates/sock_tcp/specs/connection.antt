@@ -8,6 +8,7 @@ pub mod Retransmission
 pub mod Arrival
 pub mod Process
 pub mod Begin
+pub mod Carried
 pub mod StandsFor
 pub mod Pairs
 pub mod Resets

@@ -1,3 +1,4 @@
 pub mod Listen
+pub mod Dropped
 pub mod Ready
 pub mod ListensFor

@@ -3,6 +3,7 @@
 mod acknowledgement;
 mod arrival;
 mod calls;
+mod carried;
 mod congestion;
 mod conn;
 mod effects;
@@ -18,6 +19,7 @@ mod segment;
 mod text;
 mod timer;
 
+pub use carried::{Carried, Counts, add_carried};
 pub use conn::{BUFFER_SIZE, Conn};
 pub use effects::{Draft, Effects, Opened, Shut};
 pub use lookup::place_in;

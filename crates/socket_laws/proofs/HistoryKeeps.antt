@@ -32,7 +32,8 @@ use Rattle.sim_base.specs.declared.packet.Packet.{Packet}
 use Rattle.sock_tcp.specs.connection.Arrival.{takes_packet}
 use Rattle.tcp_laws.proofs.Tests.{by_test}
 use Rattle.host_sockets.specs.declared.tcp_sock.KeptTimer.{KeptTimer}
-use Rattle.host_sockets.specs.ListenerActs.{dropped, heard}
+use Rattle.sock_tcp.specs.listener.Dropped.{dropped}
+use Rattle.host_sockets.specs.ListenerActs.{heard}
 use Rattle.host_sockets.specs.Arriving.{arrives_by, datagram_arrives, datagram_at, datagram_in, heard_at, hears_in, listener_hears, segment_arrives, segment_at, hearer, takes_in, word_drawn}
 use Rattle.host_sockets.specs.Alarms.{alarm_comes, kept_expires, kept_timer, place_of, socket_expires, timer_expires}
 use Rattle.socket_laws.specs.Histories.SocketsAct.{accept_tcp, alarm, arrival, bind_tcp, bind_udp, close_tcp, close_udp, connect_again, connect_tcp, connect_udp, elsewhere, listen_tcp, make_tcp, make_udp, recv_tcp, recv_udp, send_tcp, send_udp, shut_tcp, take_error}

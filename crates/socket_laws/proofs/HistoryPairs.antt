@@ -20,7 +20,7 @@ use Rattle.host_sockets.specs.Wanted.{Wanted, draws_word, nothing_wanted}
 use Rattle.host_sockets.specs.TcpSocket.{TcpSocket, has_record, keeps_record, keeps_record_in}
 use Rattle.host_sockets.specs.Sockets.{SocketsRecord, no_sockets}
 use Rattle.host_sockets.specs.TcpActs.{Acted, acts_at}
-use Rattle.host_sockets.specs.ListenerActs.{dropped}
+use Rattle.sock_tcp.specs.listener.Dropped.{dropped}
 use Rattle.host_sockets.specs.Udp.{udp_in, new_udp, binds_udp, connects_udp, sends_udp, receives_udp, closes_udp}
 use Rattle.host_sockets.specs.Arriving.{takes_in, datagram_in, datagram_at, datagram_arrives, word_drawn, hears_in, listener_hears, asked_listener, or_place, heard_at, segment_at, segment_arrives, arrives_by}
 use Rattle.host_sockets.specs.Alarms.{kept_timer, kept_expires, timer_expires, socket_expires, place_of, alarm_comes}

@@ -15,3 +15,4 @@ pub mod SourceEnds
 pub mod Staying
 pub mod Sums
 pub mod Waiting
+pub mod Telling

@@ -2,3 +2,4 @@ pub mod Histories
 pub mod Pairs
 pub mod Apart
 pub mod Waiting
+pub mod Told

@@ -1,7 +1,8 @@
 //! Laws of the sockets of a host, over everything that may happen at it. No code that runs.
 #![tactic(auto)]
 
-ghost use Rattle.std.specs.Prelude.{◌≡◌, ◌≤◌, ◌||◌, ℕ, ℤ, List, Option, Some, Ok, false, true, slice_get};
+ghost use Rattle.std.specs.Prelude.{◌≡◌, ◌≤◌, ◌||◌, ℕ, ℤ, List, Option, Some, Ok, false, true, slice_get, find, filter};
+ghost use Rattle.std.specs.List.Sorted.{IsStrictlySortedBy};
 ghost use Rattle.sim_base.specs.Addresses.{loopback, is_same_ip, is_local};
 ghost use Rattle.sim_base.specs.declared.address.Addr.{Addr};
 ghost use Rattle.sim_base.specs.declared.address.Ip.{Ip};
@@ -17,6 +18,9 @@ ghost use Rattle.host_sockets.specs.Connecting.{source_end, connect_asked};
 ghost use Rattle.socket_laws.specs.Histories.{SocketsAct, sockets_of};
 ghost use Rattle.socket_laws.specs.Pairs.{live_records};
 ghost use Rattle.host_sockets.specs.Sockets.{SocketsRecord};
+ghost use Rattle.host_sockets.specs.Records.{records_of};
+ghost use Rattle.host_sockets.specs.Streams.{pair_order, streams_of};
+ghost use Rattle.socket_laws.specs.Told.{is_between, is_of, told_of};
 ghost use Rattle.host_sockets.specs.Udp.{local_in, udp_in, sends_udp};
 ghost use Rattle.host_sockets.specs.TcpSocket.{TcpSocket, listens_to};
 ghost use Rattle.socket_laws.specs.Waiting.{ListenAct, listen_of};
@@ -87,4 +91,11 @@ pub fn one_listens()
     ensures { (hosts : List Ip) (own : Ip) (draws : List ℕ) (acts : List (Time × SocketsAct)) (to : Addr) (i j : ℕ) (a b : TcpSocket)
         → slice_get (sockets_of hosts own draws acts).tcp i ≡ Some a → listens_to to a ≡ true
         → slice_get (sockets_of hosts own draws acts).tcp j ≡ Some b → listens_to to b ≡ true → i ≡ j }
+{}
+
+/// What a host tells of two ends: nothing where it never had a connection of them; what the only one
+/// carried; of more that the ends were used again. It is told in the order of the ends, once of each.
+pub fn streams_told()
+    ensures told { (own peer : Addr) (t : SocketsRecord) → find (is_of own peer) (streams_of t) ≡ told_of (filter (is_between own peer) (records_of t)) }
+    ensures order { (t : SocketsRecord) → IsStrictlySortedBy pair_order (streams_of t) }
 {}

@@ -10,9 +10,10 @@ use Rattle.sock_tcp.specs.connection.Tcb.{Tcb}
 use Rattle.host_sockets.specs.Wanted.{Wanted}
 use Rattle.host_sockets.specs.Sockets.{SocketsRecord, no_sockets}
 use Rattle.host_sockets.specs.Udp.{udp_in, new_udp, binds_udp, connects_udp, sends_udp, receives_udp, closes_udp}
+use Rattle.host_sockets.specs.Records.{records_of}
 use Rattle.socket_laws.specs.Histories.{SocketsAct, sockets_acted, sockets_after}
 use Rattle.socket_laws.specs.Histories.SocketsAct.{make_udp, bind_udp, connect_udp, send_udp, recv_udp, close_udp, make_tcp, bind_tcp, listen_tcp, accept_tcp, connect_tcp, connect_again, send_tcp, recv_tcp, shut_tcp, take_error, close_tcp, arrival, alarm, elsewhere}
-use Rattle.socket_streams.specs.Records.{records_of, packets_of, net_of}
+use Rattle.socket_streams.specs.Records.{packets_of, net_of}
 use Rattle.socket_streams.specs.Leads.{Leads}
 use Rattle.socket_streams.specs.May.{MayDo, MayAll, Moves, ArePlain}
 use Rattle.socket_streams.proofs.Chains.{both, goes}

@@ -15,7 +15,8 @@ use Rattle.host_sockets.specs.Wanted.{Wanted}
 use Rattle.host_sockets.specs.TcpSocket.{TcpSocket, is_free}
 use Rattle.host_sockets.specs.Sockets.{SocketsRecord, with_tcp, changes_in, changes_at, put_at, tcp_place, put_tcp}
 use Rattle.host_sockets.specs.TcpActs.{Acted, acts_in, acts_at}
-use Rattle.socket_streams.specs.Records.{own_record, kept_records, records_at, records_of, packets_of, net_with, net_of}
+use Rattle.host_sockets.specs.Records.{own_record, kept_records, records_at, records_of}
+use Rattle.socket_streams.specs.Records.{packets_of, net_with, net_of}
 use Rattle.socket_streams.specs.Leads.{Leads}
 use Rattle.socket_streams.specs.May.{IsPlain, ArePlain}
 use Rattle.socket_streams.proofs.Chains.{both, goes}

@@ -24,7 +24,7 @@ use Rattle.tcp_laws.proofs.Tests.{by_test}
 use Rattle.tcp_streams.specs.Net.{MayAct, AsksFrom}
 use Rattle.tcp_streams.proofs.Members.{IsIn-from_Contains, found}
 use Rattle.tcp_streams.proofs.Ends.{and_left, and_right, same_end}
-use Rattle.host_sockets.specs.ListenerActs.{dropped_by, dropped}
+use Rattle.sock_tcp.specs.listener.Dropped.{dropped_by, dropped}
 use Rattle.socket_streams.specs.Records.{net_with}
 use Rattle.socket_streams.specs.Leads.{Leads}
 use Rattle.socket_streams.proofs.Chains.{goes, acts_among, begins_among}

@@ -41,13 +41,14 @@ use Rattle.host_sockets.specs.Names.{error_asked, takes_error}
 use Rattle.host_sockets.specs.Closing.{closed, closes_tcp}
 use Rattle.host_sockets.specs.Arriving.{record_takes, datagram_in, datagram_at, datagram_arrives, takes_in, listener_hears, hearer, refusal_sent, heard_at, segment_at, segment_arrives, arrives_by}
 use Rattle.host_sockets.specs.Alarms.{socket_expires, place_of, alarm_comes}
+use Rattle.host_sockets.specs.Records.{own_record, kept_records, records_at, records_of}
 use Rattle.socket_laws.specs.Histories.{left_by}
 use Rattle.socket_laws.proofs.LivePairs.{left_asked, left_after, left_told, Taken, taken_row, after_ok, change_ok, left_opens}
 use Rattle.socket_laws.proofs.SourceEnds.{first_ok, next_ok, connect_source, connect_from, connect_to}
 use Rattle.socket_laws.proofs.ApartTcp.{then_ok}
 use Rattle.socket_laws.proofs.HereActs.{IsBoundHere, used_here, bound_here}
 use Rattle.socket_laws.proofs.Sums.{position_holds}
-use Rattle.socket_streams.specs.Records.{own_record, kept_records, records_at, records_of, packets_of, net_of}
+use Rattle.socket_streams.specs.Records.{packets_of, net_of}
 use Rattle.socket_streams.specs.Inside.{IsHome, IsInside}
 use Rattle.socket_streams.specs.May.{IsPlain, ArePlain}
 use Rattle.socket_streams.proofs.Chains.{goes}

@@ -16,11 +16,13 @@ use Rattle.host_sockets.specs.declared.tcp_sock.KeptTimer.{KeptTimer}
 use Rattle.host_sockets.specs.Wanted.{Wanted, sends, draws_word}
 use Rattle.host_sockets.specs.TcpSocket.{TcpSocket, has_record, has_record_in}
 use Rattle.host_sockets.specs.TcpActs.{Acted}
-use Rattle.host_sockets.specs.ListenerActs.{timer_starts, dropped, heard}
+use Rattle.sock_tcp.specs.listener.Dropped.{dropped}
+use Rattle.host_sockets.specs.ListenerActs.{timer_starts, heard}
 use Rattle.host_sockets.specs.Closing.{unheld, closes_in, closed}
 use Rattle.host_sockets.specs.Arriving.{record_takes, word_drawn, hears_in, listener_hears}
 use Rattle.host_sockets.specs.Alarms.{kept_timer, kept_expires, timer_expires, socket_expires}
-use Rattle.socket_streams.specs.Records.{own_record, kept_records, records_at, packets_of, net_with}
+use Rattle.host_sockets.specs.Records.{own_record, kept_records, records_at}
+use Rattle.socket_streams.specs.Records.{packets_of, net_with}
 use Rattle.socket_streams.specs.Leads.{Leads}
 use Rattle.socket_streams.specs.May.{IsPlain}
 use Rattle.socket_streams.proofs.Chains.{goes}

@@ -17,7 +17,8 @@ use Rattle.tcp_streams.specs.Net.{MayAct}
 use Rattle.host_sockets.specs.Wanted.{Wanted, sends}
 use Rattle.host_sockets.specs.TcpSocket.{TcpSocket, with_tcb}
 use Rattle.host_sockets.specs.TcpActs.{Acted, unacted, is_let_go, starts, turned, turned_in, record_acts}
-use Rattle.socket_streams.specs.Records.{own_record, kept_records, records_at, packets_of, net_with}
+use Rattle.host_sockets.specs.Records.{own_record, kept_records, records_at}
+use Rattle.socket_streams.specs.Records.{packets_of, net_with}
 use Rattle.socket_streams.specs.Inside.{IsInside}
 use Rattle.socket_streams.specs.Leads.{Leads}
 use Rattle.socket_streams.specs.May.{IsPlain}

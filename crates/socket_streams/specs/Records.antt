@@ -1,30 +1,13 @@
 -- the net of a host's sockets: all records that they have and ever let go, and the packets that are wanted
-use Rattle.std.specs.Prelude.{List, [], ◌∷◌, ◌++◌, filter_map, flat_map, Option, Some, None}
+use Rattle.std.specs.Prelude.{List, ◌++◌, filter_map, Option, Some, None}
 use Rattle.sim_base.specs.declared.packet.Packet.{Packet}
 use Rattle.sock_tcp.specs.connection.Tcb.{Tcb}
-use Rattle.sock_tcp.specs.listener.Listen.{Listen}
 use Rattle.host_sockets.specs.declared.outlet.Want.{Want}
 use Rattle.host_sockets.specs.declared.outlet.Want.TheVariants.{Send, Alarm}
 use Rattle.host_sockets.specs.Wanted.{Wanted}
-use Rattle.host_sockets.specs.TcpSocket.{TcpSocket}
 use Rattle.host_sockets.specs.Sockets.{SocketsRecord}
+use Rattle.host_sockets.specs.Records.{records_of}
 use Rattle.tcp_streams.specs.Net.{Net}
-
--- a socket's own record, and those that its listener keeps
-abbrev pub own_record : Option Tcb → List Tcb
-own_record None = []
-own_record (Some r) = r ∷ []
-
-abbrev pub kept_records : Option Listen → List Tcb
-kept_records None = []
-kept_records (Some l) = l.records
-
-abbrev pub records_at : TcpSocket → List Tcb
-records_at s = own_record s.tcb ++ kept_records s.listen
-
--- of all sockets of a host, those let go among them
-abbrev pub records_of : SocketsRecord → List Tcb
-records_of t = flat_map records_at t.tcp ++ t.gone
 
 -- a packet that is wanted is on its way
 abbrev pub packet_in : Want → Option Packet

@@ -49,6 +49,7 @@ fn done(
     draws: &mut Draws,
     act: Act,
 ) -> Result<Effects, Fail> {
+    let mut gone = Vec::new(alloc);
     let effects = match act {
         Act::Begins(backlog) => {
             *listener = Listener::new(alloc, end(0, 10_000), backlog);
@@ -59,9 +60,11 @@ fn done(
             listener.set_backlog(backlog);
             Effects::none(alloc)
         }
-        Act::Comes(port, line) => listener.arrive(&segment(alloc, port, line)?, draws)?,
-        Act::Expires(port) => listener.timer(end(1, 10_000), end(2, port))?,
-        Act::Closes => listener.close()?,
+        Act::Comes(port, line) => {
+            listener.arrive(&segment(alloc, port, line)?, draws, &mut gone)?
+        },
+        Act::Expires(port) => listener.timer(end(1, 10_000), end(2, port), &mut gone)?,
+        Act::Closes => listener.close(&mut gone)?,
         Act::Meets(line) => met(alloc, line)?,
         Act::Keeps(_) | Act::Accepts => Effects::none(alloc),
     };

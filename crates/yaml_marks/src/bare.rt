@@ -9,7 +9,7 @@ use crate::piece::Bracket;
 use std::marker::Model;
 
 /// What a piece is, whatever its text.
-#[derive(Clone, Copy, PartialEq, Eq)]
+#[derive(Clone, Copy)]
 pub enum PieceKind {
     Opening(Bracket),
     Closing(Bracket),

@@ -10,7 +10,7 @@ use sim_base::NoMemory;
 use std::alloc::Global;
 
 /// Where a reader of escapes is.
-#[derive(Clone, Copy, PartialEq, Eq)]
+#[derive(Clone, Copy)]
 pub enum Escape {
     Outside,
     /// Behind a backslash.
@@ -20,7 +20,7 @@ pub enum Escape {
 }
 
 /// What a byte adds to the text.
-#[derive(Clone, Copy, PartialEq, Eq)]
+#[derive(Clone, Copy)]
 pub enum Added {
     Nothing,
     Byte(u8),

@@ -1,7 +1,7 @@
 //! What no rule admits.
 
 /// Why no rule admits a token.
-#[derive(Clone, Copy, PartialEq, Eq)]
+#[derive(Clone, Copy)]
 pub enum Odd {
     /// An indicator that would begin a value of YAML beyond the profile: unsupported where a value may
     /// begin.

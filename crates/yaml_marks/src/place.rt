@@ -8,7 +8,7 @@ ghost use Rattle.yaml_marks.specs.declared.token.Token.{Token};
 use crate::scan::{is_blank, spaces};
 use crate::token::{Token, Tokens};
 
-#[derive(Clone, Copy, PartialEq, Eq)]
+#[derive(Clone, Copy)]
 pub enum LinePlace {
     /// Outside of literal blocks.
     Outside {

@@ -12,7 +12,7 @@ use std::marker::Model;
 use yaml_marks::Scalar;
 
 /// What a key names: the line of the key, and the number of its value's node.
-#[derive(Clone, Copy, PartialEq, Eq)]
+#[derive(Clone, Copy)]
 pub struct Child {
     pub line: usize,
     pub node: u32,

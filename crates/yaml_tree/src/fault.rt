@@ -9,7 +9,7 @@ use std::fmt;
 
 /// The kinds of fault. Where a token of a line can't stand, the first such one is `Syntax` or
 /// `Unsupported`; where each can, the first that applies of the last four is told.
-#[derive(Clone, Copy, Debug, PartialEq, Eq)]
+#[derive(Clone, Copy, Debug)]
 pub enum FaultKind {
     /// The text isn't UTF-8.
     NotUtf8,
@@ -28,14 +28,14 @@ pub enum FaultKind {
 }
 
 /// A fault, with the line (from 1) up to which the text is no accepted text.
-#[derive(Clone, Copy, Debug, PartialEq, Eq)]
+#[derive(Clone, Copy, Debug)]
 pub struct YamlFault {
     pub line: usize,
     pub kind: FaultKind,
 }
 
 /// Why no tree was made.
-#[derive(Clone, Copy, Debug, PartialEq, Eq)]
+#[derive(Clone, Copy, Debug)]
 pub enum TreeError {
     Fault(YamlFault),
     NoMemory,
@@ -63,7 +63,7 @@ impl From<NoMemory> for TreeError {
 }
 
 /// Why a part of a line was refused.
-#[derive(Clone, Copy, PartialEq, Eq)]
+#[derive(Clone, Copy)]
 pub(crate) enum Stop {
     Fault(FaultKind),
     NoMemory,

@@ -136,7 +136,7 @@ fn levels_above(levels: u8) -> u8
 }
 
 /// A node that is whole, with the measure of its tree.
-#[derive(Clone, Copy, PartialEq, Eq)]
+#[derive(Clone, Copy)]
 pub(crate) struct Known {
     pub node: u32,
     pub measure: Measure,

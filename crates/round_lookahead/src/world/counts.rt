@@ -10,7 +10,7 @@ use sim_base::Act;
 
 /// How many lines of the packet log tell `send`, `lost` and `recv`. A count stands still at
 /// 2^64 - 1.
-#[derive(Clone, Copy, PartialEq, Eq)]
+#[derive(Clone, Copy)]
 pub struct Counts {
     pub sent: u64,
     pub lost: u64,

@@ -99,6 +99,7 @@ pub record AdvancesTo (c c' : Conn) (state : TcpState) (by window : ℕ) : Type 
   pub duplicates : c'.duplicates ≡ still_counted by c.duplicates
   pub recover : c'.recover ≡ c.recover - by
   pub rcv : c'.rcv ≡ c.rcv
+  pub counts : c'.counts ≡ c.counts
   pub send : c'.send.items ≡ keep_last (length c.send.items - by) c.send.items
   pub receive : c'.receive ≡ c.receive
 
@@ -130,6 +131,7 @@ stands_advanced c c' r state by window h s b st e =
       duplicates = e.duplicates ∙ counted_in_both (nat_lt 0 by) c.duplicates r.duplicates h.duplicates;
       recover = omega (arith, h.recover, e.recover);
       rcv = e.rcv ∙ h.rcv;
+      counts = e.counts ∙ h.counts;
       send = e.send ∙ (kept_items c.send.items by ∙ (ap (drop by) h.send ∙ (drop-drop by (r.una - 1) r.written ∙ ap (λ n. drop n r.written) place)));
       receive = ap (λ x. x.items) e.receive ∙ h.receive;
       read = h.read;

@@ -12,6 +12,8 @@ use Rattle.sock_tcp.specs.segment.State.{phase_of, is_over, is_opening, after_wr
 use Rattle.sock_tcp.specs.connection.Tcb.{Tcb, data_end, unread, with_control}
 use Rattle.sock_tcp.specs.segment.Control.{takes_bytes, finds_end, control_read, writing_ended}
 use Rattle.sock_tcp.specs.connection.Process.{room, bytes_taken, writes, raises_window, reads}
+use Rattle.sock_tcp.specs.declared.connection.carried.Counts.{Counts}
+use Rattle.sock_tcp.specs.connection.Carried.{counted, counts_of}
 use Rattle.sock_tcp.specs.connection.StandsFor.{StandsFor, FitsPhase}
 
 -- the numbers and lists stay
@@ -22,6 +24,7 @@ pub record SameLists (c c' : Conn) : Type 0 where
   pub duplicates : c'.duplicates ≡ c.duplicates
   pub recover : c'.recover ≡ c.recover
   pub rcv : c'.rcv ≡ c.rcv
+  pub counts : c'.counts ≡ c.counts
   pub send : c'.send ≡ c.send
   pub receive : c'.receive ≡ c.receive
 
@@ -35,6 +38,7 @@ stands_control c c' r f h e k p = record {
   duplicates = e.duplicates ∙ h.duplicates;
   recover = e.recover ∙ h.recover;
   rcv = e.rcv ∙ h.rcv;
+  counts = e.counts ∙ h.counts;
   send = ap (λ (b : Buffer ℕ). b.items) e.send ∙ h.send;
   receive = ap (λ (b : Buffer ℕ). b.items) e.receive ∙ h.receive;
   read = h.read;
@@ -118,6 +122,20 @@ fitting bytes room =
     let e : min (length bytes) room ≡ min room (length bytes) = omega arith in
     ap (λ n. take n bytes) e ∙ take_min room bytes
 
+-- the counts of a write and of a read
+counted_more : (count n more : ℕ) → count ≡ counted n → counted (count + more) ≡ counted (n + more)
+counted_more count n more e = omega (arith, e)
+
+wrote : (k : Counts) (r : Tcb) (count : ℕ) (taken : List ℕ) → k ≡ counts_of r → count ≡ length taken → record k { written = counted (k.written + count) } ≡ counts_of (record r { written = r.written ++ taken })
+wrote k r count taken e n =
+    let more : counted (k.written + count) ≡ counted (length (r.written ++ taken)) = ap (λ m. counted (k.written + m)) n ∙ (counted_more k.written (length r.written) (length taken) (ap (λ x. x.written) e) ∙ ap counted (sym (length-append r.written taken))) in
+    ap (λ (m : ℕ). record k { written = m }) more ∙ ap (λ (x : Counts). record x { written = counted (length (r.written ++ taken)) }) e
+
+was_read : (k : Counts) (r : Tcb) (count given : ℕ) → k ≡ counts_of r → count ≡ given → record k { read = counted (k.read + count) } ≡ counts_of (record r { read = r.read + given })
+was_read k r count given e n =
+    let more : counted (k.read + count) ≡ counted (r.read + given) = ap (λ m. counted (k.read + m)) n ∙ counted_more k.read r.read given (ap (λ x. x.read) e) in
+    ap (λ (m : ℕ). record k { read = m }) more ∙ ap (λ (x : Counts). record x { read = counted (r.read + given) }) e
+
 -- what a write changes
 pub record WritesTo (c c' : Conn) (bytes : List ℕ) : Type 0 where
   pub control : c'.control ≡ c.control
@@ -127,6 +145,7 @@ pub record WritesTo (c c' : Conn) (bytes : List ℕ) : Type 0 where
   pub duplicates : c'.duplicates ≡ c.duplicates
   pub recover : c'.recover ≡ c.recover
   pub rcv : c'.rcv ≡ c.rcv
+  pub counts : c'.counts ≡ record c.counts { written = counted (c.counts.written + min (length bytes) (65535 - length c.send.items)) }
   pub send : c'.send.items ≡ c.send.items ++ take (min (length bytes) (65535 - length c.send.items)) bytes
   pub receive : c'.receive ≡ c.receive
 
@@ -138,6 +157,7 @@ stands_writes c c' r bytes h b e =
     let within = within_written r.control.state r.control.fin_wanted r.una r.nxt r.highest (data_end r) t (omega (arith, h.next)) (omega arith) h.phase in
     let room_is : 65535 - length c.send.items ≡ room r = ap (λ n. 65535 - n) (ap length h.send) in
     let more : take (min (length bytes) (65535 - length c.send.items)) bytes ≡ taken = fitting bytes (65535 - length c.send.items) ∙ (ap (λ n. take n bytes) room_is ∙ sym (bytes_taken-open bytes r t)) in
+    let count : min (length bytes) (65535 - length c.send.items) ≡ length taken = written_count c r bytes h b in
     let longer : data_end r ≤ 1 + length (r.written ++ taken) = omega (arith, length-append r.written taken) in
     record {
       control = e.control ∙ h.control;
@@ -147,6 +167,7 @@ stands_writes c c' r bytes h b e =
       duplicates = e.duplicates ∙ h.duplicates;
       recover = e.recover ∙ h.recover;
       rcv = e.rcv ∙ h.rcv;
+      counts = e.counts ∙ wrote c.counts r _ (bytes_taken bytes r) h.counts count;
       send = e.send ∙ (ap (λ items. items ++ take (min (length bytes) (65535 - length c.send.items)) bytes) h.send ∙ (ap (λ xs. drop (r.una - 1) r.written ++ xs) more ∙ sym (drop-append-le (r.una - 1) r.written taken (omega (arith, within)))));
       receive = ap (λ (b : Buffer ℕ). b.items) e.receive ∙ h.receive;
       read = h.read;
@@ -169,6 +190,7 @@ pub record ReadsTo (c c' : Conn) (asked : ℕ) : Type 0 where
   pub duplicates : c'.duplicates ≡ c.duplicates
   pub recover : c'.recover ≡ c.recover
   pub rcv : c'.rcv ≡ c.rcv
+  pub counts : c'.counts ≡ record c.counts { read = counted (c.counts.read + min asked (length c.receive.items)) }
   pub send : c'.send ≡ c.send
   pub receive : c'.receive.items ≡ drop (min asked (length c.receive.items)) c.receive.items
 
@@ -190,6 +212,7 @@ stands_reads c c' r asked h e =
       duplicates = e.duplicates ∙ h.duplicates;
       recover = e.recover ∙ h.recover;
       rcv = e.rcv ∙ h.rcv;
+      counts = e.counts ∙ was_read c.counts r _ given h.counts (ap (min asked) waiting);
       send = ap (λ (b : Buffer ℕ). b.items) e.send ∙ h.send;
       receive = rest;
       read = omega (arith, h.read);

@@ -27,6 +27,7 @@ pub record SendsTo (c c' : Conn) (limit : ℕ) : Type 0 where
   pub duplicates : c'.duplicates ≡ c.duplicates
   pub recover : c'.recover ≡ c.recover
   pub rcv : c'.rcv ≡ c.rcv
+  pub counts : c'.counts ≡ c.counts
   pub send : c'.send ≡ c.send
   pub receive : c'.receive ≡ c.receive
 
@@ -78,6 +79,7 @@ stands_sends_text c c' d d' limit t h e sending b at segments started =
         duplicates = e.duplicates ∙ h.conn.duplicates;
         recover = e.recover ∙ h.conn.recover;
         rcv = e.rcv ∙ h.conn.rcv;
+        counts = e.counts ∙ h.conn.counts;
         send = ap (λ b. b.items) e.send ∙ h.conn.send;
         receive = ap (λ b. b.items) e.receive ∙ h.conn.receive;
         read = h.conn.read;
@@ -102,6 +104,7 @@ stands_sends_no_text c d limit t h b at =
         duplicates = h.conn.duplicates;
         recover = h.conn.recover;
         rcv = h.conn.rcv;
+        counts = h.conn.counts;
         send = h.conn.send;
         receive = h.conn.receive;
         read = h.conn.read;
@@ -135,6 +138,7 @@ stands_sends_again_text c c' d d' count text p t h e sending counted text_is p_i
         duplicates = e.duplicates ∙ h.conn.duplicates;
         recover = e.recover ∙ h.conn.recover;
         rcv = e.rcv ∙ h.conn.rcv;
+        counts = e.counts ∙ h.conn.counts;
         send = ap (λ b. b.items) e.send ∙ h.conn.send;
         receive = ap (λ b. b.items) e.receive ∙ h.conn.receive;
         read = h.conn.read;

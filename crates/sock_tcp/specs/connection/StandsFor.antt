@@ -7,6 +7,7 @@ use Rattle.sock_tcp.specs.declared.segment.state.Phase.{Phase}
 use Rattle.sock_tcp.specs.declared.segment.state.Phase.TheVariants.{Opening, Open, Ending, Finished, Over}
 use Rattle.sock_tcp.specs.segment.Number.{wire}
 use Rattle.sock_tcp.specs.segment.State.{phase_of}
+use Rattle.sock_tcp.specs.connection.Carried.{counts_of}
 use Rattle.sock_tcp.specs.connection.Tcb.{Tcb, Turn, data_end}
 use Rattle.sock_tcp.specs.connection.Timer.{timer_of}
 use Rattle.sock_tcp.specs.connection.Begin.{begin}
@@ -35,6 +36,8 @@ pub record StandsFor (c : Conn) (r : Tcb) : Type 0 where
   pub duplicates : c.duplicates ≡ min most_duplicates r.duplicates
   pub recover : c.recover ≡ r.recover - r.una
   pub rcv : c.rcv ≡ wire r.irs r.rcv
+  -- the code's counts stand still at 2^30
+  pub counts : c.counts ≡ counts_of r
   -- what isn't acknowledged yet, and what isn't read yet
   pub send : c.send.items ≡ drop (r.una - 1) r.written
   pub receive : c.receive.items ≡ drop r.read r.received

@@ -1,5 +1,6 @@
 //! The calls on a connection.
 
+use crate::connection::carried::Counts;
 use crate::connection::conn::{BUFFER_SIZE, Conn};
 use crate::connection::effects::{Draft, Effects, Opened, Shut};
 use crate::segment::{Control, Header, TcpState, number_at};
@@ -42,6 +43,7 @@ impl Conn {
             duplicates: 0,
             recover: 0,
             rcv,
+            counts: Counts::none(),
             send,
             receive,
         })

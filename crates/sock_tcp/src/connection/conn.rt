@@ -3,6 +3,7 @@
 ghost use Rattle.std.specs.Prelude.{◌≡◌, ◌+◌, ◌≤◌, length};
 ghost use Rattle.sock_tcp.specs.connection.Tcb.{buffer_size};
 
+use crate::connection::carried::Counts;
 use crate::segment::Control;
 use circular_buffer::HeapCircularBuffer;
 
@@ -12,8 +13,8 @@ pub const BUFFER_SIZE: usize = 65_535;
 /// A connection. It keeps the number of the first byte that isn't acknowledged (SND.UNA), how far
 /// the next one to send (SND.NXT) and the highest one sent are from it, how many duplicate
 /// acknowledgements came since more was acknowledged, at most 255, and what was the highest when a loss
-/// was last noticed, what it sends and wasn't acknowledged yet, and what it received and wasn't read
-/// yet. After a call that answers want of memory nothing is known of it.
+/// was last noticed, how much it carried, what it sends and wasn't acknowledged yet, and what it received
+/// and wasn't read yet. After a call that answers want of memory nothing is known of it.
 #[derive(Drop)]
 pub struct Conn {
     pub(crate) control: Control,
@@ -23,6 +24,7 @@ pub struct Conn {
     pub(crate) duplicates: u8,
     pub(crate) recover: usize,
     pub(crate) rcv: u32,
+    pub(crate) counts: Counts,
     pub(crate) send: HeapCircularBuffer<u8>,
     pub(crate) receive: HeapCircularBuffer<u8>,
     ghost send_room: { send.capacity ≡ buffer_size },

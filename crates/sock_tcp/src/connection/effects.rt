@@ -34,7 +34,7 @@ pub struct Opened {
 }
 
 /// Which directions of a connection a process ends.
-#[derive(Clone, Copy, PartialEq, Eq)]
+#[derive(Clone, Copy)]
 pub enum Shut {
     Reading,
     Writing,

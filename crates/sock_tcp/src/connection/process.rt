@@ -29,7 +29,9 @@ impl Conn {
         ensures stands { (r : Tcb) → StandsFor self.old r → StandsFor self.new (writes bytes.now r) }
     {
         if self.control.takes_bytes() {
-            self.send.fill_from_slice(bytes)
+            let count = self.send.fill_from_slice(bytes);
+            self.counts = self.counts.wrote(count);
+            count
         } else {
             0
         }
@@ -47,6 +49,7 @@ impl Conn {
         let count = self.receive.read_into(into);
         let owes = raises_window(before, self.own_window());
         self.control = self.control.after_read(owes, found);
+        self.counts = self.counts.was_read(count);
         count
     }
 

@@ -1,6 +1,6 @@
 //! The calls on a listener (RFC 9293, sections 3.10.4 and 3.10.7.2).
 
-use crate::connection::{Draft, Effects, bit_if, place_in, reset_all};
+use crate::connection::{Carried, Draft, Effects, add_carried, bit_if, place_in, reset_all};
 use crate::listener::Listener;
 use sim_base::{Addr, Draws, NoMemory, POLLIN, Packet};
 
@@ -8,6 +8,10 @@ impl Listener {
     ghost use Rattle.std.specs.Prelude.{◌≡◌, ◌<◌, length, nat_lt, is_some, IfSome, IfOk, OnOk, if◌then◌else◌};
     ghost use Rattle.sim_base.specs.Draws.{draw};
     ghost use Rattle.sock_tcp.specs.connection.Pairs.{place_in};
+    ghost use Rattle.sock_tcp.specs.connection.Arrival.{takes_packet};
+    ghost use Rattle.sock_tcp.specs.connection.Process.{expires};
+    ghost use Rattle.sock_tcp.specs.connection.Carried.{with_gone};
+    ghost use Rattle.sock_tcp.specs.listener.Dropped.{dropped};
     ghost use Rattle.sock_tcp.specs.listener.Listen.{Listen, hears, is_kept, takes_word, hears_timer, hears_close};
     ghost use Rattle.sock_tcp.specs.listener.Ready.{readiness};
     ghost use Rattle.sock_tcp.specs.listener.ListensFor.{ListensFor, Hears};
@@ -36,35 +40,61 @@ impl Listener {
 
     /// Takes a segment of a kept connection's pair, or a SYN to the listener's port (RFC 9293,
     /// section 3.10.7.2). A SYN that makes a connection draws its first number. The timer that it
-    /// starts is that of the connection between the segment's two ends.
-    pub fn arrive(&mut self, segment: &Packet, draws: &mut Draws) -> Result<Effects, NoMemory>
+    /// starts is that of the connection between the segment's two ends. What a connection carried
+    /// that is let go is kept.
+    pub fn arrive(
+        &mut self,
+        segment: &Packet,
+        draws: &mut Draws,
+        gone: &mut Vec<Carried>,
+    ) -> Result<Effects, NoMemory>
         ensures hears { IfOk result (Hears (hears segment.now (draw draws.old).0) self.old self.new) }
         ensures draws { OnOk result ((l : Listen) → ListensFor self.old l
             → draws.new ≡ (if takes_word segment.now l then (draw draws.old).1 else draws.old)) }
+        ensures gone { OnOk result ((l : Listen) → ListensFor self.old l
+            → gone.new.items ≡ with_gone (dropped (takes_packet segment.now) segment.now.to segment.now.from l) gone.old.items) }
     {
         if let Some(place) = self.place_of(segment.to, segment.from) {
-            let effects = self.record_arrive(place, segment)?;
+            let effects = self.record_arrive(place, segment, gone)?;
             return Ok(effects);
         }
         let heard = self.hear_new(segment, draws)?;
         Ok(heard)
     }
 
-    /// The timer of a kept connection expires.
-    pub fn timer(&mut self, local: Addr, peer: Addr) -> Result<Effects, NoMemory>
-        ensures { IfOk result (Hears (hears_timer local peer) self.old self.new) }
+    /// The timer of a kept connection expires. What a connection carried that is let go is kept.
+    pub fn timer(
+        &mut self,
+        local: Addr,
+        peer: Addr,
+        gone: &mut Vec<Carried>,
+    ) -> Result<Effects, NoMemory>
+        ensures hears { IfOk result (Hears (hears_timer local peer) self.old self.new) }
+        ensures gone { OnOk result ((l : Listen) → ListensFor self.old l
+            → gone.new.items ≡ with_gone (dropped expires local peer l) gone.old.items) }
     {
         if let Some(place) = self.place_of(local, peer) {
-            let effects = self.record_expire(place)?;
+            let effects = self.record_expire(place, gone)?;
             return Ok(effects);
         }
         Ok(Effects::none(self.alloc()))
     }
 
-    /// Resets each connection that wasn't accepted, in the order of their SYNs.
-    pub fn close(&mut self) -> Result<Effects, NoMemory>
-        ensures { IfOk result (Hears hears_close self.old self.new) }
+    /// Adds what each connection that wasn't accepted carried so far, in the order of their SYNs.
+    pub fn add_carried(&self, all: &mut Vec<Carried>) -> Result<(), NoMemory>
+        ensures { OnOk result ((l : Listen) → ListensFor self.now l → all.new.items ≡ with_gone l.records all.old.items) }
     {
+        add_carried(self.records.as_slice(), all)?;
+        Ok(())
+    }
+
+    /// Resets each connection that wasn't accepted, in the order of their SYNs. What they carried is
+    /// kept.
+    pub fn close(&mut self, gone: &mut Vec<Carried>) -> Result<Effects, NoMemory>
+        ensures hears { IfOk result (Hears hears_close self.old self.new) }
+        ensures gone { OnOk result ((l : Listen) → ListensFor self.old l → gone.new.items ≡ with_gone l.records gone.old.items) }
+    {
+        self.add_carried(gone)?;
         let mut draft = Draft::new(self.alloc());
         reset_all(self.records.as_slice(), &mut draft)?;
         self.records.clear();

@@ -3,7 +3,7 @@
 ghost use Rattle.std.specs.Prelude.{◌≡◌, map};
 ghost use Rattle.sock_tcp.specs.listener.Listen.{place_past};
 
-use crate::connection::Conn;
+use crate::connection::{Carried, Conn};
 use crate::listener::Listener;
 use sim_base::NoMemory;
 
@@ -24,10 +24,12 @@ fn move_up(places: &mut [usize], gone: usize)
 }
 
 impl Listener {
-    ghost use Rattle.std.specs.Prelude.{◌<◌, length, slice_get, Some, IfSome, OnOk};
+    ghost use Rattle.std.specs.Prelude.{◌<◌, [], ◌∷◌, length, slice_get, Some, IfSome, OnOk};
     ghost use Rattle.sock_tcp.specs.connection.Tcb.{Tcb};
+    ghost use Rattle.sock_tcp.specs.connection.Carried.{with_gone};
     ghost use Rattle.sock_tcp.specs.connection.StandsFor.{StandsFor};
     ghost use Rattle.sock_tcp.specs.listener.Listen.{Listen, places_past, without, settled, accepts};
+    ghost use Rattle.sock_tcp.specs.listener.Dropped.{dropped_after};
     ghost use Rattle.sock_tcp.specs.listener.ListensFor.{ListensFor, Accepts};
 
     /// The connection at a place leaves the accept queue, and those behind it move up.
@@ -53,13 +55,32 @@ impl Listener {
         conn
     }
 
-    /// After an act of the connection at a place: where it became ESTABLISHED by it, it waits behind
-    /// the others, and one of the SYN queue that is over leaves.
-    pub(crate) fn settle(&mut self, place: usize, before: bool) -> Result<(), NoMemory>
+    /// The connection at a place is let go, and what it carried is kept.
+    fn let_go(&mut self, place: usize, gone: &mut Vec<Carried>) -> Result<(), NoMemory>
         requires { place < length self.old.records.items }
-        ensures { OnOk result ((l : Listen) → ListensFor self.old l
+        ensures gone { OnOk result ((l : Listen) → ListensFor self.old l
+            → (r : Tcb) → slice_get l.records place ≡ Some r → gone.new.items ≡ with_gone (r ∷ []) gone.old.items) }
+        ensures rest { OnOk result ((l : Listen) → ListensFor self.old l → ListensFor self.new (without place l)) }
+    {
+        gone.push(self.records[place].carried())?;
+        let _gone = self.take_out(place);
+        Ok(())
+    }
+
+    /// After an act of the connection at a place: where it became ESTABLISHED by it, it waits behind
+    /// the others, and one of the SYN queue that is over is let go.
+    pub(crate) fn settle(
+        &mut self,
+        place: usize,
+        before: bool,
+        gone: &mut Vec<Carried>,
+    ) -> Result<(), NoMemory>
+        requires { place < length self.old.records.items }
+        ensures settled { OnOk result ((l : Listen) → ListensFor self.old l
             → (r : Tcb) → slice_get l.records place ≡ Some r
             → ListensFor self.new (settled place before r l)) }
+        ensures gone { OnOk result ((l : Listen) → ListensFor self.old l
+            → (r : Tcb) → slice_get l.records place ≡ Some r → gone.new.items ≡ with_gone (dropped_after r) gone.old.items) }
     {
         let control = self.records[place].control();
         if control.was_established {
@@ -67,7 +88,7 @@ impl Listener {
                 self.accept_queue.push(place)?;
             }
         } else if control.state.is_over() {
-            let _gone = self.take_out(place);
+            self.let_go(place, gone)?;
         }
         Ok(())
     }

@@ -14,7 +14,7 @@ const INITIAL_WINDOW: u16 = 4_380;
 const LOSS_WINDOW: u16 = 1_460;
 
 /// The congestion control of a connection, in bytes (RFC 5681).
-#[derive(Clone, Copy, PartialEq, Eq)]
+#[derive(Clone, Copy)]
 pub struct Congestion {
     /// The congestion window: how many bytes may be in flight.
     pub cwnd: u16,

@@ -10,7 +10,7 @@ use std::alloc::Global;
 
 /// State, flags and timer of a record (RFC 9293, section 3.3.1), which the code and the definition
 /// share.
-#[derive(Clone, Copy, PartialEq, Eq)]
+#[derive(Clone, Copy)]
 pub struct Control {
     /// The own end, and the other one.
     pub local: Addr,

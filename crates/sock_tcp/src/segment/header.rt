@@ -6,7 +6,7 @@ ghost use Rattle.sock_tcp.specs.segment.Header.{header_of, has_flag};
 use sim_base::{ACK, FIN, RST, SYN};
 
 /// What a segment's header says beside its ports.
-#[derive(Clone, Copy, PartialEq, Eq)]
+#[derive(Clone, Copy)]
 pub struct Header {
     pub fin: bool,
     pub syn: bool,

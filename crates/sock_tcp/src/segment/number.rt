@@ -4,7 +4,7 @@ ghost use Rattle.std.specs.Prelude.{◌≡◌};
 ghost use Rattle.sock_tcp.specs.segment.Number.{wire, distance};
 
 /// How far an arriving number is from the expected one.
-#[derive(Clone, Copy, PartialEq, Eq)]
+#[derive(Clone, Copy)]
 pub enum Distance {
     /// The expected number or one after it.
     Ahead(u32),

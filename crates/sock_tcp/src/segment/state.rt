@@ -5,7 +5,7 @@ ghost use Rattle.sock_tcp.specs.segment.State.{phase_of, after_writing, after_ow
 
 /// The state of a connection. LISTEN is a `Listener`'s, and CLOSED is split by how a record came
 /// there.
-#[derive(Clone, Copy, PartialEq, Eq)]
+#[derive(Clone, Copy)]
 pub enum TcpState {
     SynSent,
     SynReceived,
@@ -23,7 +23,7 @@ pub enum TcpState {
 }
 
 /// How far a record has come.
-#[derive(Clone, Copy, PartialEq, Eq)]
+#[derive(Clone, Copy)]
 pub enum Phase {
     /// Before ESTABLISHED.
     Opening,

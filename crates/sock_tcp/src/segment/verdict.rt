@@ -9,7 +9,7 @@ use crate::segment::number::{Distance, distance_to, number_at};
 use crate::segment::state::TcpState;
 
 /// What a segment's header brings about.
-#[derive(Clone, Copy, PartialEq, Eq)]
+#[derive(Clone, Copy)]
 pub enum Verdict {
     /// It is dropped.
     Dropped,

@@ -12,6 +12,7 @@ returns c =
     let four = one_more _ _ _ _ _ c.in_ok-four.ensures c.option-stop_time.ensures.local three c.option-stop_time.ensures.rule in
     let five = one_more _ _ _ _ _ c.in_ok-five.ensures c.option-budget.ensures.local four c.option-budget.ensures.rule in
     let six = one_more _ _ _ _ _ c.in_ok-six.ensures c.option-self_load.ensures.local five c.option-self_load.ensures.rule in
-    let seven = one_more _ _ _ _ _ c.in_ok-seven.ensures c.option-read_capture.ensures.local six c.option-read_capture.ensures.rule in
-    let eight = one_more _ _ _ _ _ c.in_ok-eight.ensures c.show_config-show_config.ensures.local seven c.show_config-show_config.ensures.rule in
-    IfOk-weaker c.arg-9.result _ _ (λ last adds. one_more _ last _ _ _ adds c.config_word-config_word.ensures.local eight c.config_word-config_word.ensures.rule) c.arg-9.ensures
+    let seven = one_more _ _ _ _ _ c.in_ok-seven.ensures c.flag-streams.ensures.local six c.flag-streams.ensures.rule in
+    let eight = one_more _ _ _ _ _ c.in_ok-eight.ensures c.option-read_capture.ensures.local seven c.option-read_capture.ensures.rule in
+    let nine = one_more _ _ _ _ _ c.in_ok-nine.ensures c.flag-show_config.ensures.local eight c.flag-show_config.ensures.rule in
+    IfOk-weaker c.arg-10.result _ _ (λ last adds. one_more _ last _ _ _ adds c.config_word-config_word.ensures.local nine c.config_word-config_word.ensures.rule) c.arg-10.ensures

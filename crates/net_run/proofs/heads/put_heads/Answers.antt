@@ -1,9 +1,9 @@
-use Rattle.std.proofs.Common.{◌≡◌, List, map, option_map, ap, subst, ◌∙◌}
+use Rattle.std.proofs.Common.{List, map, ap, subst, ◌∙◌}
 use Rattle.host_state.specs.Files.{Put, put_of}
 use Rattle.host_state.specs.Listed.{said, names_of}
 use Rattle.host_state.specs.declared.files.listed.HostListing.{HostListing}
 use Rattle.net_run.specs.Heads.{all_heads}
-use Rattle.net_run.specs.Pieces.{with_pieces, PutsFront}
+use Rattle.net_run.specs.Pieces.{PutsFront}
 use Rattle.net_run.proofs.FrontLemmas.{front_none}
 use Rattle.net_run.proofs.PieceLemmas.{on_err}
 use Rattle.net_run.proofs.heads.put_heads.Goals as goal

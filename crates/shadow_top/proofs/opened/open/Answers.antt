@@ -10,6 +10,7 @@ returns-clause-opened c =
       directory = c.args.run.plan.settings.data_directory;
       notes = c.args.run.plan.settings.notes;
       is_self_load = c.args.run.is_self_load;
+      streams = c.args.run.streams;
       parallelism = c.args.run.plan.settings.parallelism;
       lookahead = c.cut_lookahead.result;
       rows = c.in_ok-rows.rows;

@@ -23,14 +23,14 @@ returns-in_err-put_run-clause-told g c =
     let p = err_from_is_err_and c.from_residual-in_err-put_run.result c.from_residual-in_err-put_run.ensures.1 in
     rw (p.1, p.2) (rounds_stopped opened world c.in_ok-world.ensures.net old c.put_run.new.world (g.K.Sink.content c.put_run.new.sink) c.in_err-put_run.field-0.0 told)
 
-pub put_end-requires-clause-stands : goal.put_end-requires-clause-stands
-put_end-requires-clause-stands g c =
+pub put_ending-requires-clause-stands : goal.put_ending-requires-clause-stands
+put_ending-requires-clause-stands g c =
     let opened = c.args.opened in
     let all = c.in_ok-put_run.ensures.told opened.rows.items c.in_ok-world.ensures.stands (begins_own opened c.in_ok-world.world c.requires c.in_ok-world.ensures.stands c.in_ok-world.ensures.ids) in
     (all.world, all.at)
 
-pub put_end-requires-clause-ids : goal.put_end-requires-clause-ids
-put_end-requires-clause-ids g c = subst (λ (l : Listing). All HasIds (names_of l)) (sym c.in_ok-put_run.ensures.listing) c.in_ok-world.ensures.ids
+pub put_ending-requires-clause-ids : goal.put_ending-requires-clause-ids
+put_ending-requires-clause-ids g c = subst (λ (l : Listing). All HasIds (names_of l)) (sym c.in_ok-put_run.ensures.listing) c.in_ok-world.ensures.ids
 
 pub returns-in_err-status-clause-told : goal.returns-in_err-status-clause-told
 returns-in_err-status-clause-told g c =
@@ -39,7 +39,7 @@ returns-in_err-status-clause-told g c =
     let old : Option Content = g.K.Sink.content c.args.sink.now in
     let all = c.in_ok-put_run.ensures.told opened.rows.items c.in_ok-world.ensures.stands (begins_own opened world c.requires c.in_ok-world.ensures.stands c.in_ok-world.ensures.ids) in
     let p = err_from_is_err_and c.from_residual-in_err-status.result c.from_residual-in_err-status.ensures.1 in
-    rw (p.1, p.2) (end_stopped opened world c.in_ok-world.ensures.net old c.put_run.new.world (g.K.Sink.content c.put_run.new.sink) (g.K.Sink.content c.put_end.new.sink) all c.in_err-status.field-0.0
+    rw (p.1, p.2) (end_stopped opened world c.in_ok-world.ensures.net old c.put_run.new.world (g.K.Sink.content c.put_run.new.sink) (g.K.Sink.content c.put_ending.new.sink) all c.in_err-status.field-0.0
     (c.in_err-status.ensures.told all.world old all.at all.stands))
 
 pub returns-clause-told : goal.returns-clause-told
@@ -48,7 +48,7 @@ returns-clause-told g c =
     let world = c.in_ok-world.world in
     let old : Option Content = g.K.Sink.content c.args.sink.now in
     let all = c.in_ok-put_run.ensures.told opened.rows.items c.in_ok-world.ensures.stands (begins_own opened world c.requires c.in_ok-world.ensures.stands c.in_ok-world.ensures.ids) in
-    run_ended opened world c.in_ok-world.ensures.net old c.put_run.new.world (g.K.Sink.content c.put_run.new.sink) (g.K.Sink.content c.put_end.new.sink) all c.in_ok-status.status
+    run_ended opened world c.in_ok-world.ensures.net old c.put_run.new.world (g.K.Sink.content c.put_run.new.sink) (g.K.Sink.content c.put_ending.new.sink) all c.in_ok-status.status
     (c.in_ok-status.ensures.told all.world old all.at all.stands)
 
 pub returns-clause-status : goal.returns-clause-status
@@ -57,4 +57,4 @@ returns-clause-status g c =
     let world = c.in_ok-world.world in
     let old : Option Content = g.K.Sink.content c.args.sink.now in
     let all = c.in_ok-put_run.ensures.told opened.rows.items c.in_ok-world.ensures.stands (begins_own opened world c.requires c.in_ok-world.ensures.stands c.in_ok-world.ensures.ids) in
-    ended_small opened.is_self_load all.world old (g.K.Sink.content c.put_end.new.sink) c.in_ok-status.status (c.in_ok-status.ensures.told all.world old all.at all.stands)
+    ended_small opened.is_self_load opened.streams all.world old (g.K.Sink.content c.put_ending.new.sink) c.in_ok-status.status (c.in_ok-status.ensures.told all.world old all.at all.stands)

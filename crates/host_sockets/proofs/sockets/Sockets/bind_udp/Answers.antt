@@ -15,4 +15,4 @@ unfolding binds_udp
 returns c = λ t h.
     let around = around_same c.args.self.now t c.args.hosts.now c.as_slice.result.now h (c.as_slice.ensures.value ∙ c.in_ok-bound.ensures t h) in
     let does = subst (λ (around : Surroundings). SlotDoes (λ u. only_state (by_errno (bind around c.args.at u))) c.index_mut-slot.result.now c.bind.new.slot c.bind.result) around c.bind.ensures in
-    becomes_udp (λ (u : UdpState). only_state (by_errno (bind (udp_around c.args.hosts.now t) c.args.at u))) c.args.self.now _ t c.args.k c.index_mut-slot.result.now c.bind.new.slot c.bind.result h (omega (arith, c.args.self.now.udp.ok.0)) c.index_mut-slot.ensures.value does refl refl refl
+    becomes_udp (λ (u : UdpState). only_state (by_errno (bind (udp_around c.args.hosts.now t) c.args.at u))) c.args.self.now _ t c.args.k c.index_mut-slot.result.now c.bind.new.slot c.bind.result h (omega (arith, c.args.self.now.udp.ok.0)) c.index_mut-slot.ensures.value does refl refl refl refl

@@ -15,4 +15,4 @@ unfolding connects_udp
 returns c = λ t h.
     let around = around_same c.args.self.now t c.args.hosts.now c.as_slice.result.now h (c.as_slice.ensures.value ∙ c.in_ok-bound.ensures t h) in
     let does = subst (λ (around : Surroundings). SlotDoes (λ u. only_state (by_errno (connect around c.args.to u))) c.index_mut-slot.result.now c.connect.new.slot c.connect.result) around c.connect.ensures in
-    becomes_udp (λ (u : UdpState). only_state (by_errno (connect (udp_around c.args.hosts.now t) c.args.to u))) c.args.self.now _ t c.args.k c.index_mut-slot.result.now c.connect.new.slot c.connect.result h (omega (arith, c.args.self.now.udp.ok.0)) c.index_mut-slot.ensures.value does refl refl refl
+    becomes_udp (λ (u : UdpState). only_state (by_errno (connect (udp_around c.args.hosts.now t) c.args.to u))) c.args.self.now _ t c.args.k c.index_mut-slot.result.now c.connect.new.slot c.connect.result h (omega (arith, c.args.self.now.udp.ok.0)) c.index_mut-slot.ensures.value does refl refl refl refl

@@ -5,7 +5,7 @@ use Rattle.host_sockets.proofs.sockets.Sockets.push_tcp.Goals as goal
 
 pub returns : goal.returns
 returns c = λ t s place b h stands.
-    put_behind c.turn_to.new.self _ t place c.args.sock s (c.turn_to.ensures.stands t h) stands (subst (λ v. length v.items ≤ place) (sym c.turn_to.ensures.tcp) b) refl refl c.in_ok-push.ensures.items
+    put_behind c.turn_to.new.self _ t place c.args.sock s (c.turn_to.ensures.stands t h) stands (subst (λ v. length v.items ≤ place) (sym c.turn_to.ensures.tcp) b) refl refl c.in_ok-push.ensures.items refl
 
 pub invariant_of-self : goal.invariant_of-self
 invariant_of-self c =

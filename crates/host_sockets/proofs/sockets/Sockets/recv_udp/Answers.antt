@@ -11,4 +11,4 @@ returns-then-k-len-clause-row c = λ t h. refused_udp (λ (u : UdpState). oldest
 pub returns-clause-row : goal.returns-clause-row
 unfolding receives_udp
 returns-clause-row c = λ t h.
-    becomes_udp (λ (u : UdpState). oldest_datagram u u.waiting c.args.count) c.args.self.now _ t c.args.k c.index_mut-slot.result.now c.recv.new.slot c.recv.result h (omega (arith, c.args.self.now.udp.ok.0)) c.index_mut-slot.ensures.value c.recv.ensures.does refl refl refl
+    becomes_udp (λ (u : UdpState). oldest_datagram u u.waiting c.args.count) c.args.self.now _ t c.args.k c.index_mut-slot.result.now c.recv.new.slot c.recv.result h (omega (arith, c.args.self.now.udp.ok.0)) c.index_mut-slot.ensures.value c.recv.ensures.does refl refl refl refl

@@ -18,4 +18,4 @@ returns c = λ t h.
     let within : c.args.k < length c.args.self.now.udp.items = omega (arith, c.args.self.now.udp.ok.0) in
     let same = sends_enough c.args.self.now t c.args.k c.index_mut-slot.result.now c.as_slice.result.now c.args.hosts.now c.args.bytes.now c.args.to h within c.index_mut-slot.ensures.value enough in
     let does = slot_same (λ (u : UdpState). by_errno (send (surrounded c.args.self.now.own c.args.hosts.now c.as_slice.result.now) c.args.bytes.now c.args.to u)) (λ (u : UdpState). by_errno (send (udp_around c.args.hosts.now t) c.args.bytes.now c.args.to u)) c.index_mut-slot.result.now c.send.new.slot c.send.result same c.send.ensures in
-    becomes_udp (λ (u : UdpState). by_errno (send (udp_around c.args.hosts.now t) c.args.bytes.now c.args.to u)) c.args.self.now _ t c.args.k c.index_mut-slot.result.now c.send.new.slot c.send.result h within c.index_mut-slot.ensures.value does refl refl refl
+    becomes_udp (λ (u : UdpState). by_errno (send (udp_around c.args.hosts.now t) c.args.bytes.now c.args.to u)) c.args.self.now _ t c.args.k c.index_mut-slot.result.now c.send.new.slot c.send.result h within c.index_mut-slot.ensures.value does refl refl refl refl

@@ -10,4 +10,4 @@ returns c = λ r h.
     let kept = ap (λ (b : Buffer ℕ). b.items) c.truncate_front.ensures ∙ ap (λ n. keep_last n c.args.self.now.send.items) rest in
     let control = ap (λ (x : Congestion). record c.args.self.now.control { state = c.state_advanced-self.result; window = c.args.window; congestion = x }) c.acknowledged-self.ensures in
     stands_advanced c.args.self.now _ r c.state_advanced-self.result c.args.by c.args.window h c.requires.synchronized c.requires.within (c.state_advanced-self.ensures r h)
-    (record { control = control; una = c.number_at-self.ensures; sent = c.saturating_sub-self.ensures; highest = omega arith; duplicates = c.still_counted-self.ensures; recover = c.saturating_sub-self-2.ensures; rcv = refl; send = kept; receive = refl })
+    (record { control = control; una = c.number_at-self.ensures; sent = c.saturating_sub-self.ensures; highest = omega arith; duplicates = c.still_counted-self.ensures; recover = c.saturating_sub-self-2.ensures; rcv = refl; counts = refl; send = kept; receive = refl })

@@ -1,0 +1,48 @@
+-- The lines of connections, behind all else that is put at the end of a run.
+use Rattle.std.proofs.Common.{◌≡◌, ℕ, Bool, true, List, ◌++◌, Option, Some, option_map, Result, Ok, Err, sym, ap, subst, ◌∙◌}
+use Rattle.sim_base.specs.Sink.{Content}
+use Rattle.sim_base.specs.declared.outside.sink.WriteError.{WriteError}
+use Rattle.host_state.specs.Files.{Put}
+use Rattle.host_state.specs.Listed.{HostNames, names_in, names_of}
+use Rattle.host_state.specs.World.{World}
+use Rattle.host_state.specs.WorldStreams.{streams_in}
+use Rattle.host_state.specs.declared.files.listed.Listing.{Listing}
+use Rattle.out_text.specs.declared.streams.Stream.{Stream}
+use Rattle.net_run.specs.Pieces.{with_pieces, PutsFront}
+use Rattle.net_run.specs.Shown.{run_pieces}
+use Rattle.net_run.specs.Streams.{told_puts, stream_puts}
+use Rattle.net_run.proofs.FrontLemmas.{with_append}
+use Rattle.net_run.proofs.PartLemmas.{between-puts}
+use Rattle.round_lookahead.specs.WorldStands.{WorldStands}
+use Rattle.round_lookahead.specs.declared.world.world_state.World as rounds
+use Rattle.shadow_top.specs.Ending.{PutsEnd, PutsAll}
+use Rattle.shadow_top.proofs.PartLemmas.{between-after, between-more}
+
+-- what is told of a world's connections, by what the code lists
+pub lines-are : (c : rounds.World) (w : World) → WorldStands c w → (listing : Listing) (streams es : List Stream) → listing ≡ c.listing → es ≡ streams → streams ≡ streams_in w
+    → told_puts (names_of listing) es ≡ stream_puts true w
+lines-are c w at listing streams es is same told =
+    ap (λ (l : Listing). told_puts (names_of l) es) is ∙ ap (λ (ns : List HostNames). told_puts ns es) at.listed ∙ ap (λ (l : List Stream). told_puts (names_in w) l) (same ∙ told)
+
+module _ (load streams : Bool) (w : World) (old mid new : Option Content) where
+  abbrev rest : List Put
+  rest = run_pieces load w
+
+  abbrev lines : List Put
+  lines = stream_puts streams w
+
+  -- both were put
+  pub all-told : (status : ℕ) → PutsEnd load w old mid (let r : Result ℕ WriteError = Ok status in r) → new ≡ option_map (with_pieces lines) mid
+      → PutsAll load streams w old new (let r : Result ℕ WriteError = Ok status in r)
+  all-told status told put = (λ begun is. put ∙ ap (option_map (with_pieces lines)) (told.0 begun is) ∙ ap Some (sym (with_append rest lines begun)), told.1)
+
+  -- a front of what stands before them
+  pub all-stopped : (error : WriteError) → PutsEnd load w old new (let r : Result ℕ WriteError = Err error in r)
+      → PutsAll load streams w old new (let r : Result ℕ WriteError = Err error in r)
+  all-stopped error told = λ begun is. between-more rest lines begun new (told begun is)
+
+  -- a front of them
+  pub all-in_part : (status : ℕ) (error : WriteError) → PutsEnd load w old mid (let r : Result ℕ WriteError = Ok status in r) → PutsFront lines mid new
+      → PutsAll load streams w old new (let r : Result ℕ WriteError = Err error in r)
+  all-in_part status error told front = λ begun is.
+      between-after rest lines begun new (between-puts lines (with_pieces rest begun) new (subst (λ (o : Option Content). PutsFront lines o new) (told.0 begun is) front))
