@@ -1,5 +1,5 @@
 -- the whole table, ends of processes, arrivals and alarms
-use Rattle.std.proofs.Common.{◌≡◌, ℕ, zero, suc, ◌*◌, nat_lt, List, ◌++◌, Contains, Option, Some, None, Result, Ok, Err, refl}
+use Rattle.std.proofs.Common.{◌≡◌, ℕ, zero, suc, ◌*◌, nat_lt, List, [], ◌∷◌, ◌++◌, Contains, Option, Some, None, Result, Ok, Err, refl}
 use Rattle.sim_base.specs.declared.address.Ip.{Ip}
 use Rattle.sim_base.specs.declared.object.ObjectId.{ObjectId}
 use Rattle.sim_base.specs.declared.packet.Packet.{Packet}
@@ -42,7 +42,7 @@ use Rattle.host_calls.specs.Calls.{arg, plain_row, network_row, asked, done, row
 use Rattle.host_files.specs.Files.{timer_at}
 use Rattle.socket_laws.specs.Histories.{SocketsAct as act}
 use Rattle.socket_streams.specs.Records.{packets_of}
-use Rattle.socket_streams.specs.May.{Moves}
+use Rattle.socket_streams.specs.May.{Moves, MovesFreely}
 use Rattle.socket_streams.proofs.Moving.{moves_none, moves_by, moves_both, moves_quietly}
 use Rattle.socket_streams.proofs.Wants.{alarm-packets}
 use Rattle.call_streams.specs.Parts.{sockets_in}
@@ -132,8 +132,11 @@ module _ (hosts : List Ip) (flying : List Packet) where
   starts_move process memory h = moves_none hosts flying (sockets_in h)
 
   -- an arrival
-  pub arrives_moves : (now : Time) (packet : Packet) (h : PartsRecord) → Contains (flying ++ packets_of h.shared.outlet) packet → M (sockets_in h) (sockets_in (arrives now packet h).1)
+  pub arrives_moves : (now : Time) (packet : Packet) (h : PartsRecord) → Contains flying packet → M (sockets_in h) (sockets_in (arrives now packet h).1)
   arrives_moves now packet h c = moves_by hosts flying now (act.arrival packet) h.sockets h.shared.outlet c
+
+  pub arrives_freely : (now : Time) (packet : Packet) (h : PartsRecord) → Contains (flying ++ packets_of h.shared.outlet) packet → MovesFreely hosts flying (sockets_in h) (sockets_in (arrives now packet h).1)
+  arrives_freely now packet h c = record { acts = (now, act.arrival packet) ∷ []; may = (c, tt); after = refl }
 
   -- an alarm
   rings_quiet : (k : ℕ) (o : Option ℕ) (shared : Shared) → packets_of (rings_at k o shared).outlet ≡ packets_of shared.outlet

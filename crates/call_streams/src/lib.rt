@@ -12,12 +12,12 @@ ghost use Rattle.host_calls.specs.Calls.{call};
 ghost use Rattle.host_calls.specs.Events.{arrives, alarmed, ended};
 ghost use Rattle.host_calls.specs.Parts.{PartsRecord};
 ghost use Rattle.host_calls.specs.Starting.{task_starts};
+ghost use Rattle.socket_streams.specs.May.{Moves, MovesFreely};
 ghost use Rattle.socket_streams.specs.Records.{packets_of};
-ghost use Rattle.socket_streams.specs.May.{Moves};
 ghost use Rattle.call_streams.specs.Parts.{sockets_in};
 
 /// What a call, the start and the end of a process, an arrival and an alarm do to a host's sockets are
-/// acts that may happen there; what arrives is on its way.
+/// acts that may happen there; what arrives is on its way, and but for arrivals nothing does.
 pub fn calls_move()
     ensures call { (known : Known) (now : Time) (process number : ℕ) (args : List ℕ) (flying : List Packet) (h : PartsRecord)
         → Moves known.book flying (sockets_in h) (sockets_in (call known now process number args h).1) }
@@ -27,6 +27,9 @@ pub fn calls_move()
         → Moves hosts flying (sockets_in h) (sockets_in (ended now process h)) }
     ensures arrival { (hosts : List Ip) (now : Time) (packet : Packet) (flying : List Packet) (h : PartsRecord)
         → Contains (flying ++ packets_of h.shared.outlet) packet
+        → MovesFreely hosts flying (sockets_in h) (sockets_in (arrives now packet h).1) }
+    ensures comes { (hosts : List Ip) (now : Time) (packet : Packet) (flying : List Packet) (h : PartsRecord)
+        → Contains flying packet
         → Moves hosts flying (sockets_in h) (sockets_in (arrives now packet h).1) }
     ensures alarm { (hosts : List Ip) (now : Time) (object : ObjectId) (serial : ℕ) (flying : List Packet) (h : PartsRecord)
         → Moves hosts flying (sockets_in h) (sockets_in (alarmed now object serial h)) }

@@ -11,7 +11,6 @@ use Rattle.host_state.specs.Arriving.{is_handed_over, are_handed_over}
 use Rattle.host_state.specs.Host.{with_link, with_parts}
 use Rattle.host_state.specs.HostRecord.{HostRecord}
 use Rattle.host_state.specs.Link.{LinkState, logs}
-use Rattle.socket_streams.specs.Records.{packets_of}
 use Rattle.call_streams.proofs.Table.{arrives_moves}
 use Rattle.run_streams.specs.Nets.{link_packets}
 use Rattle.run_streams.proofs.Every.{Every}
@@ -32,12 +31,11 @@ module _ (net : Net) (scope : Addr → Addr → Bool) (own : Ip) (n : ℕ) (othe
       let m : LinkState = logs r.0 packet h.link in
       let logged : HostRecord = with_link m h in
       let arrived : HostRecord = with_parts r.1 logged in
-      let out = packets_of h.parts.shared.outlet in
       then h logged _ (link_moves net scope own n others flying h m good (λ S f k. carries_logs net S own n r.0 packet h.link k))
       (λ a. then logged arrived _
       (parts_move net scope own n others flying logged r.1 a
       (arrives_moves net.known.book (flying ++ link_packets m) h.link.time packet h.parts
-      (Contains-append_left (flying ++ link_packets m) out packet (Contains-append_left flying (link_packets m) packet c))))
+      (Contains-append_left flying (link_packets m) packet c)))
       (λ b. settled net scope own n others flying arrived b))
 
   pub all_handed : (packets : List Packet) (h : HostRecord) → Every (λ p. Contains flying p) packets → IsGood own n h → H h (are_handed_over net packets h)

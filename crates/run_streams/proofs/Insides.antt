@@ -205,7 +205,7 @@ others_do net i h events more from housed =
       };
     })
 
-rest_there : (w : World) (e : Event) (rest : List Event) → IsPermutation w.events (e ∷ rest) → (x : Event) → Contains rest x → Contains w.events x
+pub rest_there : (w : World) (e : Event) (rest : List Event) → IsPermutation w.events (e ∷ rest) → (x : Event) → Contains rest x → Contains w.events x
 rest_there w e rest taken x c =
     Contains-permutation (e ∷ rest) w.events x (IsPermutation-sym w.events (e ∷ rest) taken) (Contains-there e x rest c)
 
@@ -330,7 +330,7 @@ turn_housed net w v k all =
 
 -- ---- the opening world
 
-rows_at : (P : ℕ → HostRecord → Type 0) (rows : List Row) → ((i : ℕ) (row : Row) → slice_get rows i ≡ Some row → P i (opening row).host) → AllAt P (map (λ (row : Row). (opening row).host) rows)
+pub rows_at : (P : ℕ → HostRecord → Type 0) (rows : List Row) → ((i : ℕ) (row : Row) → slice_get rows i ≡ Some row → P i (opening row).host) → AllAt P (map (λ (row : Row). (opening row).host) rows)
 rows_at P [] f i h e = cc
 rows_at P (row ∷ rows) f zero h e = let same : (opening row).host ≡ h = cc in subst (P 0) same (f 0 row refl)
 rows_at P (row ∷ rows) f (suc i) h e = rows_at (λ j x. P (suc j) x) rows (λ j r q. f (suc j) r q) i h e

@@ -8,3 +8,10 @@ pub mod Firing
 pub mod Worlds
 pub mod Insides
 pub mod Histories
+pub mod HomeLinks
+pub mod HomeWalk
+pub mod Homes
+pub mod Kept
+pub mod Alone
+pub mod Counts
+pub mod Lines

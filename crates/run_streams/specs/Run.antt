@@ -1,5 +1,5 @@
 -- the worlds that a run reaches
-use Rattle.std.specs.Prelude.{◌≡◌, ℕ, false, List, Some, slice_get}
+use Rattle.std.specs.Prelude.{◌≡◌, ℕ, false, true, List, map, Some, slice_get}
 use Rattle.sim_base.specs.Addresses.{loopback, is_same_ip}
 use Rattle.sim_base.specs.declared.time.Time.{Time}
 use Rattle.host_state.specs.declared.net.Net.{Net}
@@ -29,3 +29,15 @@ AreOutside rows =
 -- each row is that of the host of its place
 abbrev pub ArePlaced : List Row → Type 0
 ArePlaced rows = (i : ℕ) (row : Row) → slice_get rows i ≡ Some row → row.host.index ≡ i
+
+-- no two rows have one address
+abbrev pub AreApart : List Row → Type 0
+AreApart rows =
+    (i j : ℕ) (a b : Row) → slice_get rows i ≡ Some a → slice_get rows j ≡ Some b → is_same_ip a.address b.address ≡ true → i ≡ j
+
+-- the rows of a net's hosts: each in its place, at an address of its own that isn't 127.0.0.1, and that the net knows
+pub record AreHosts (net : Net) (rows : List Row) : Type 0 where
+  pub outside : AreOutside rows
+  pub placed : ArePlaced rows
+  pub apart : AreApart rows
+  pub listed : net.known.book ≡ map (λ (row : Row). row.address) rows

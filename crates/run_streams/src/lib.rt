@@ -1,7 +1,7 @@
 //! Streams of TCP in a run, and the sockets of its hosts. Definitions and laws, and no code that runs.
 #![tactic(auto)]
 
-ghost use Rattle.std.specs.Prelude.{◌≡◌, ℕ, ◌≤◌, ◌||◌, List, Ok, Some, true, false, slice_get};
+ghost use Rattle.std.specs.Prelude.{◌≡◌, ℕ, ◌≤◌, ◌||◌, List, Contains, Bool, Ok, Some, true, false, slice_get};
 ghost use Rattle.sim_base.specs.Addresses.{loopback, is_same_ip};
 ghost use Rattle.sim_base.specs.declared.address.Addr.{Addr};
 ghost use Rattle.sock_udp.specs.Socket.{UdpState, takes};
@@ -16,10 +16,14 @@ ghost use Rattle.host_state.specs.declared.net.Net.{Net};
 ghost use Rattle.host_state.specs.declared.row.Row.{Row};
 ghost use Rattle.host_state.specs.HostRecord.{HostRecord};
 ghost use Rattle.host_state.specs.World.{World, IsResult, opening_world};
+ghost use Rattle.host_state.specs.WorldStreams.{streams_in};
+ghost use Rattle.out_text.specs.declared.streams.Fate.TheVariants.{Counted};
+ghost use Rattle.out_text.specs.declared.streams.Stream.{Stream};
 ghost use Rattle.socket_laws.specs.Apart.{BoundApart, BoundHere};
 ghost use Rattle.socket_laws.specs.Pairs.{live_records};
+ghost use Rattle.socket_streams.specs.Home.{AreAtHome};
 ghost use Rattle.run_streams.specs.Nets.{host_records, world_records};
-ghost use Rattle.run_streams.specs.Run.{IsReached, HasHistory, AreOutside, ArePlaced};
+ghost use Rattle.run_streams.specs.Run.{IsReached, HasHistory, AreOutside, ArePlaced, AreHosts};
 
 /// In every world that a run reaches, its result among them, what was read at one end is a front of what
 /// was written at the other, and all of it where the reader saw the end, for ends that had one record each
@@ -35,7 +39,8 @@ pub fn runs_faithful()
 {}
 
 /// In every world that a run reaches, the sockets of each host have a history, so that what is said of
-/// every history holds of them; and what they are bound to is an address of the host.
+/// every history holds of them; what they are bound to is an address of the host, and so is the own end
+/// of each of its connections, as packets come to the host that has their address.
 pub fn hosts_sockets()
     ensures history { (net : Net) (rows : List Row) (w : World) (i : ℕ) (h : HostRecord)
         → IsReached net (opening_world rows) w → slice_get w.hosts i ≡ Some h → HasHistory net h }
@@ -63,4 +68,17 @@ pub fn hosts_sockets()
         → IsReached net (opening_world rows) w → slice_get w.hosts i ≡ Some h
         → (k : ℕ) (to own : Addr) → connect_asked net.known.book k to h.parts.sockets ≡ Ok own → is_same_ip to.ip loopback ≡ true
         → (is_same_ip own.ip loopback || is_same_ip own.ip h.row.address) ≡ true }
+    ensures home { (net : Net) (rows : List Row) (w : World) (i : ℕ) (h : HostRecord) → AreHosts net rows
+        → IsReached net (opening_world rows) w → slice_get w.hosts i ≡ Some h → AreAtHome h.row.address (host_records h) }
+{}
+
+/// What is told of the connections of a world that a run reaches holds: of each direction that is counted no
+/// more bytes were read than were written, and as many where the reader saw the end.
+pub fn lines_hold()
+    ensures most { (net : Net) (rows : List Row) (w : World) (s : Stream) (n m : ℕ) (ended : Bool) → AreHosts net rows
+        → IsReached net (opening_world rows) w
+        → Contains (streams_in w) s → s.fate ≡ Counted n m ended → m ≤ n }
+    ensures whole { (net : Net) (rows : List Row) (w : World) (s : Stream) (n m : ℕ) → AreHosts net rows
+        → IsReached net (opening_world rows) w
+        → Contains (streams_in w) s → s.fate ≡ Counted n m true → m ≡ n }
 {}

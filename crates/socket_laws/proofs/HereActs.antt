@@ -30,9 +30,9 @@ use Rattle.socket_laws.proofs.LivePairs.{left_asked}
 use Rattle.socket_laws.proofs.SourceEnds.{first_ok, connect_source, connect_to}
 
 -- the host has its address, and its sockets are bound there
-record Here (host : Ip) (t : SocketsRecord) : Type 0 where
-  own : t.own ≡ host
-  bound : BoundHere host t
+pub record Here (host : Ip) (t : SocketsRecord) : Type 0 where
+  pub own : t.own ≡ host
+  pub bound : BoundHere host t
 
 abbrev pub IsBoundHere : Ip → Option Addr → Type 0
 IsBoundHere own o = (a : Addr) → o ≡ Some a → is_local own a.ip ≡ true
@@ -128,7 +128,7 @@ binds_here own k at t h =
     left_asked (Here own) (bind_asked k at t) (λ end. (tt, changes_at k (with_bound end) t)) t
     (λ end e. changed_here own k (with_bound end) end (slice_get t.tcp k) t refl (λ s. refl) (bound_here own k at end t h.own e) h) h
 
-tcp_bound : (own : Ip) (k : ℕ) (t : SocketsRecord) → Here own t → (s : TcpSocket) → slice_get t.tcp k ≡ Some s → IsBoundHere own s.bound
+pub tcp_bound : (own : Ip) (k : ℕ) (t : SocketsRecord) → Here own t → (s : TcpSocket) → slice_get t.tcp k ≡ Some s → IsBoundHere own s.bound
 tcp_bound own k t h s there a e = h.bound.tcp k a (ap (end_of tcp_end) there ∙ e)
 
 listens_here : (own : Ip) (k : ℕ) (count : ℤ) (t : SocketsRecord) → Here own t → Here own (left_by (listens_tcp k count t) t)
@@ -223,20 +223,20 @@ here_kept own t t' h k = record {
   bound = record { tcp = λ j a e. h.bound.tcp j a (k.tcp j a e); udp = λ j a e. h.bound.udp j a (k.udp j a e) };
 }
 
-acted_here : (own : Ip) (hosts : List Ip) (now : Time) (act : SocketsAct) (t : SocketsRecord) (w : Wanted) → Here own t → Here own (sockets_acted hosts now act t w).0
+pub acted_here : (own : Ip) (hosts : List Ip) (now : Time) (act : SocketsAct) (t : SocketsRecord) (w : Wanted) → Here own t → Here own (sockets_acted hosts now act t w).0
 acted_here own hosts now act t w h =
     by_binding (λ x. Here own (sockets_acted hosts now x t w).0)
     (λ k at. binds_slot own hosts k at t h) (λ k to. connects_slot own hosts k to t h) (λ k bytes to. sends_slot own hosts k bytes to t h)
     (λ k at. binds_here own k at t h) (λ k count. listens_here own k count t h)
     (λ x none. here_kept own t _ h (acted_kept hosts now x t w none)) act
 
-here_after : (own : Ip) (hosts : List Ip) (acts : List (Time × SocketsAct)) (t : SocketsRecord) (w : Wanted) → Here own t → Here own (sockets_after hosts acts (t, w)).0
+pub here_after : (own : Ip) (hosts : List Ip) (acts : List (Time × SocketsAct)) (t : SocketsRecord) (w : Wanted) → Here own t → Here own (sockets_after hosts acts (t, w)).0
 here_after own hosts [] t w h = h
 here_after own hosts ((now, act) ∷ acts) t w h =
     let after = sockets_acted hosts now act t w in
     here_after own hosts acts after.0 after.1 (acted_here own hosts now act t w h)
 
-here_always : (hosts : List Ip) (own : Ip) (draws : List ℕ) (acts : List (Time × SocketsAct)) → Here own (sockets_of hosts own draws acts)
+pub here_always : (hosts : List Ip) (own : Ip) (draws : List ℕ) (acts : List (Time × SocketsAct)) → Here own (sockets_of hosts own draws acts)
 here_always hosts own draws acts =
     here_after own hosts acts (no_sockets own) (nothing_wanted draws) (record { own = refl; bound = record { tcp = λ k a e. cc; udp = λ k a e. cc } })
 

@@ -9,3 +9,4 @@ pub mod Hosts
 pub mod Rows
 pub mod Acts
 pub mod Moving
+pub mod HomeActs

@@ -19,7 +19,7 @@ module _ (hosts : List Ip) (flying : List Packet) where
   pub moves_none : (x : SocketsRecord × Wanted) → Moves hosts flying x x
   moves_none x = record { acts = []; may = tt; after = refl }
 
-  pub moves_by : (now : Time) (act : SocketsAct) (t : SocketsRecord) (w : Wanted) → MayDo (flying ++ packets_of w) act → Moves hosts flying (t, w) (sockets_acted hosts now act t w)
+  pub moves_by : (now : Time) (act : SocketsAct) (t : SocketsRecord) (w : Wanted) → MayDo flying (flying ++ packets_of w) act → Moves hosts flying (t, w) (sockets_acted hosts now act t w)
   moves_by now act t w may = record { acts = (now, act) ∷ []; may = (may, tt); after = refl }
 
   after-append : (acts more : List (Time × SocketsAct)) (t : SocketsRecord) (w : Wanted) → sockets_after hosts (acts ++ more) (t, w) ≡ sockets_after hosts more (sockets_after hosts acts (t, w))

@@ -2,3 +2,4 @@ pub mod Records
 pub mod Inside
 pub mod Leads
 pub mod May
+pub mod Home

@@ -19,36 +19,49 @@ use Rattle.socket_streams.specs.Records.{packets_of}
 abbrev pub MayFly : List Packet → Packet → Type 0
 MayFly flying p = Contains flying p ⊎ IsVoid p.load
 
--- what arrives is on its way; and what is wanted elsewhere is on its way already, or tells nothing of a stream
-abbrev pub MayDo : List Packet → SocketsAct → Type 0
-MayDo flying (arrival p) = Contains flying p
-MayDo flying (elsewhere w) = (p : Packet) → Contains (packets_of w) p → MayFly flying p
-MayDo flying make_udp = Unit {0}
-MayDo flying (bind_udp k at) = Unit {0}
-MayDo flying (connect_udp k to) = Unit {0}
-MayDo flying (send_udp k bytes to) = Unit {0}
-MayDo flying (recv_udp k count) = Unit {0}
-MayDo flying (close_udp k) = Unit {0}
-MayDo flying make_tcp = Unit {0}
-MayDo flying (bind_tcp k at) = Unit {0}
-MayDo flying (listen_tcp k count) = Unit {0}
-MayDo flying (accept_tcp k) = Unit {0}
-MayDo flying (connect_tcp k to) = Unit {0}
-MayDo flying (connect_again k) = Unit {0}
-MayDo flying (send_tcp k bytes to quiet) = Unit {0}
-MayDo flying (recv_tcp k count) = Unit {0}
-MayDo flying (shut_tcp k how) = Unit {0}
-MayDo flying (take_error k) = Unit {0}
-MayDo flying (close_tcp k) = Unit {0}
-MayDo flying (alarm object serial) = Unit {0}
+-- what arrives is given; and what is wanted elsewhere is on its way already, or tells nothing of a stream
+abbrev pub MayDo : List Packet → List Packet → SocketsAct → Type 0
+MayDo given flying (arrival p) = Contains given p
+MayDo given flying (elsewhere w) = (p : Packet) → Contains (packets_of w) p → MayFly flying p
+MayDo given flying make_udp = Unit {0}
+MayDo given flying (bind_udp k at) = Unit {0}
+MayDo given flying (connect_udp k to) = Unit {0}
+MayDo given flying (send_udp k bytes to) = Unit {0}
+MayDo given flying (recv_udp k count) = Unit {0}
+MayDo given flying (close_udp k) = Unit {0}
+MayDo given flying make_tcp = Unit {0}
+MayDo given flying (bind_tcp k at) = Unit {0}
+MayDo given flying (listen_tcp k count) = Unit {0}
+MayDo given flying (accept_tcp k) = Unit {0}
+MayDo given flying (connect_tcp k to) = Unit {0}
+MayDo given flying (connect_again k) = Unit {0}
+MayDo given flying (send_tcp k bytes to quiet) = Unit {0}
+MayDo given flying (recv_tcp k count) = Unit {0}
+MayDo given flying (shut_tcp k how) = Unit {0}
+MayDo given flying (take_error k) = Unit {0}
+MayDo given flying (close_tcp k) = Unit {0}
+MayDo given flying (alarm object serial) = Unit {0}
 
+-- acts, of which what arrives is on its way by then
+abbrev pub MayAllFreely : List Ip → List Packet → List (Time × SocketsAct) → SocketsRecord → Wanted → Type 0
+MayAllFreely hosts flying [] t w = Unit {0}
+MayAllFreely hosts flying ((now, act) ∷ acts) t w =
+    MayDo (flying ++ packets_of w) (flying ++ packets_of w) act
+    × MayAllFreely hosts flying acts (sockets_acted hosts now act t w).0 (sockets_acted hosts now act t w).1
+
+-- and acts of which it was so before all of them
 abbrev pub MayAll : List Ip → List Packet → List (Time × SocketsAct) → SocketsRecord → Wanted → Type 0
 MayAll hosts flying [] t w = Unit {0}
 MayAll hosts flying ((now, act) ∷ acts) t w =
-    MayDo (flying ++ packets_of w) act
+    MayDo flying (flying ++ packets_of w) act
     × MayAll hosts flying acts (sockets_acted hosts now act t w).0 (sockets_acted hosts now act t w).1
 
--- acts that may happen lead from one state of a host's sockets to another
+-- such acts lead from one state of a host's sockets to another
+pub record MovesFreely (hosts : List Ip) (flying : List Packet) (x y : SocketsRecord × Wanted) : Type 0 where
+  pub acts : List (Time × SocketsAct)
+  pub may : MayAllFreely hosts flying acts x.0 x.1
+  pub after : sockets_after hosts acts x ≡ y
+
 pub record Moves (hosts : List Ip) (flying : List Packet) (x y : SocketsRecord × Wanted) : Type 0 where
   pub acts : List (Time × SocketsAct)
   pub may : MayAll hosts flying acts x.0 x.1

@@ -1,4 +1,5 @@
 use Rattle.run_streams.proofs.Histories.{history, pairs, bound, taker, listener, accepted, local, connects}
+use Rattle.run_streams.proofs.Homes.{records_home}
 use Rattle.run_streams.proofs.hosts_sockets.Goals as goal
 
 pub returns-clause-history : goal.returns-clause-history
@@ -24,3 +25,6 @@ returns-clause-local c = local
 
 pub returns-clause-loopback : goal.returns-clause-loopback
 returns-clause-loopback c = connects
+
+pub returns-clause-home : goal.returns-clause-home
+returns-clause-home c = λ net rows w i h are reached at. records_home net rows are w reached i h at
