@@ -15,15 +15,18 @@ use Rattle.host_calls.specs.declared.call.WaitingCall.{WaitingCall}
 use Rattle.host_calls.specs.declared.call.WaitingCall.TheVariants as waiting
 use Rattle.host_calls.specs.declared.parts.Known.{Known}
 use Rattle.host_calls.specs.declared.parts.Task.{Task}
+use Rattle.host_calls.specs.declared.parts.Shared.{Shared}
 use Rattle.host_calls.specs.declared.parts.Why.{Why}
 use Rattle.host_calls.specs.Call.{call_of}
 use Rattle.host_calls.specs.Calls.{arg, asked, waits, scene_at, answers_by, answers}
 use Rattle.call_laws.specs.Laws.{kept_by, kept_call, takes_time}
+use Rattle.host_files.specs.Epolls.{epoll_at}
+use Rattle.host_calls.specs.Epoll.{is_negative, time_of_ms, wait_deadline, wait_place, has_due, waits_for, wait_plan}
 use Rattle.host_calls.specs.Parts.{PartsRecord, Place, Scene, place_in}
-use Rattle.host_calls.specs.Polling.{entry_size, poll_limit, poll_time, poll_entries, nothing_came, count_told, poll_found, poll_plan}
+use Rattle.host_calls.specs.Polling.{has_come, entry_size, poll_limit, poll_time, poll_entries, nothing_came, count_told, poll_found, poll_plan}
 use Rattle.host_calls.specs.Times.{kept_or, at_nanos, deadline_of, sleep_time, sleep_asked}
 use Rattle.guest_args.specs.Time.{deadline_after}
-use Rattle.call_laws.proofs.Waits.{Never, is_wait-is, nevers, never_bind, never_then, never_refuse_if}
+use Rattle.call_laws.proofs.Waits.{Never, is_wait-is, nevers, epoll_number-never, never_bind, never_then, never_refuse_if}
 
 -- the first deadline is kept
 kept_or-first : (kept : Option Why) (why : Why) (deadline computed : Time) → kept ≡ Some why → why.deadline ≡ Some deadline → kept_or kept computed ≡ deadline
@@ -86,6 +89,26 @@ poll-never now at count limit_at s why deadline given e first come =
     (never_bind (poll_entries at (entry_size * count) s.task.memory) _ (poll_entries-never at (entry_size * count) s.task)
     (λ entries. never_bind (poll_found now count limit_at entries s) _ (poll_found-never now count limit_at entries s why deadline given e first come) (λ found. refl)))
 
+-- epoll_pwait(2)
+due-never : (due : Bool) (now deadline : Time) → deadline.nanos ≤ now.nanos → Never (refuse_if (not due && not (has_come now (Some deadline))) (refusal.Wait (Some deadline)))
+due-never true now deadline come = refl
+due-never false now deadline come = let past : nat_le deadline.nanos now.nanos ≡ true = grind (arith, nat_tests) in rw past refl
+
+limited-never : (negative : Bool) (now deadline : Time) (place : ℕ) (s : Scene) → negative ≡ false → deadline.nanos ≤ now.nanos
+    → Never (waits_for now (if negative then None else Some deadline) place s)
+limited-never true now deadline place s e come = cc
+limited-never false now deadline place s e come = due-never (has_due now s (epoll_at place s.task.epolls)) now deadline come
+
+wait_place-never : (epfd at count : ℕ) (task : Task) (shared : Shared) → Never (wait_place epfd at count (task, shared))
+wait_place-never epfd at count task shared = search (nevers, epoll_number-never) depth 8
+
+wait-never : (now : Time) (epfd at count ms : ℕ) (s : Scene) (why : Why) (deadline : Time) → is_negative ms ≡ false → s.task.kept ≡ Some why → why.deadline ≡ Some deadline
+    → deadline.nanos ≤ now.nanos → Never (wait_plan now epfd at count ms s)
+wait-never now epfd at count ms s why deadline given e first come =
+    never_bind (wait_place epfd at count (s.task, s.shared)) _ (wait_place-never epfd at count s.task s.shared)
+    (λ p. never_then (waits_for now (wait_deadline now ms s.task) p.place s) _
+    (limited-never (is_negative ms) now (kept_or s.task.kept (at_nanos (deadline_after now.nanos (time_of_ms ms)))) p.place s given (kept_or-come s.task.kept why deadline _ now e first come)) refl)
+
 not-is : (b : Bool) → not b ≡ true → b ≡ false
 not-is true e = cc
 not-is false e = refl
@@ -103,6 +126,9 @@ asked-never known now waiting.ClockNanosleep args s why deadline timed e first c
 asked-never known now waiting.Ppoll args s why deadline timed e first come =
     never_bind (poll_plan now (arg args 0) (arg args 1) (arg args 2) s) _
     (poll-never now (arg args 0) (arg args 1) (arg args 2) s why deadline (not-is (arg args 2 == 0) timed) e first come) (λ p. refl)
+asked-never known now waiting.EpollWait args s why deadline timed e first come =
+    never_bind (wait_plan now (arg args 0) (arg args 1) (arg args 2) (arg args 3) s) _
+    (wait-never now (arg args 0) (arg args 1) (arg args 2) (arg args 3) s why deadline (not-is (is_negative (arg args 3)) timed) e first come) (λ p. refl)
 
 waits-never : (known : Known) (now : Time) (c : Option Call) (args : List ℕ) (s : Scene) (why : Why) (deadline : Time) → takes_time c args ≡ true → s.task.kept ≡ Some why
     → why.deadline ≡ Some deadline → deadline.nanos ≤ now.nanos → waits known now c args s ≡ false

@@ -28,6 +28,7 @@ use Rattle.std.specs.Prelude.{IfOk}
 use Rattle.host_calls.specs.Calls.{arg, message_of, room_of, open_by, plain_row, read_plan_of, write_plan_of, asked, done, network_row, row_of, waits, answered, blocks_by, in_scene, call_scene, call_by, scene_at, answers_scene, answers_by, call, answers}
 use Rattle.host_calls.specs.Closing.{close}
 use Rattle.host_calls.specs.Descriptors.{descriptor}
+use Rattle.host_calls.specs.Epoll.{wait_plan}
 use Rattle.host_calls.specs.Files.{file_read_plan, reads, file_write_plan, writes}
 use Rattle.call_laws.specs.Laws.{is_block, kept_by, kept_call}
 use Rattle.host_calls.specs.Parts.{PartsRecord, Place, Scene, local_of, place_in, plainly}
@@ -106,6 +107,8 @@ asked-settles known now process waiting.Recvfrom args s why e =
 asked-settles known now process waiting.ClockNanosleep args s why e = gives_then (sleep_asked now (arg args 0) (arg args 1) (arg args 2) s.task) _ _ (λ u f. refl)
 asked-settles known now process waiting.Ppoll args s why e =
     gives_bind (poll_plan now (arg args 0) (arg args 1) (arg args 2) s) _ _ (λ p f. reacts-is (polls now p s) ∙ polls-never now p s)
+asked-settles known now process waiting.EpollWait args s why e =
+    gives_bind (wait_plan now (arg args 0) (arg args 1) (arg args 2) (arg args 3) s) _ _ (λ p f. refl)
 
 close-never : (now : Time) (fd : ℕ) (s : Scene) → Never (close now fd s)
 close-never now fd s = search nevers

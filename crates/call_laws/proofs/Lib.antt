@@ -9,4 +9,5 @@ pub mod ReadyCalls
 pub mod ReadyObjects
 pub mod SocketNevers
 pub mod SocketWaits
+pub mod Telling
 pub mod Waits

@@ -25,7 +25,8 @@ use Rattle.host_calls.specs.declared.sockets.OpenSocket.{OpenSocket}
 use Rattle.host_calls.specs.Descriptors.{lowest_free, free_from}
 use Rattle.host_calls.specs.Files.{path_length, is_hosts_path, openat_asked, openat, second_end, pipe2_asked}
 use Rattle.host_calls.specs.Eventfd.{eventfd_asked, eventfd2}
-use Rattle.host_calls.specs.Flags.{beside_open, beside_eventfd}
+use Rattle.host_calls.specs.Epoll.{epoll_asked, epoll_create1}
+use Rattle.host_calls.specs.Flags.{beside_cloexec, beside_open, beside_eventfd}
 use Rattle.call_laws.specs.Laws.{IsFirstFree}
 use Rattle.host_calls.specs.Parts.{Scene, local_of}
 use Rattle.host_calls.specs.Scene.{Local, or_again}
@@ -105,6 +106,16 @@ pub eventfd2-least : (count flags fd : ℕ) (task : Task) (shared : Shared) (aft
 eventfd2-least count flags fd task shared after e =
     bind_ok (eventfd_asked flags task) _ (fd, after) (IsLowestFree task.table fd) e
     (λ n p q. lowest_free-IsLowestFree task.table fd (eventfd_asked-least flags n task p ∙ ap (λ (k : ℕ). Some k) (ap (answer_of {S = Local}) q)))
+
+-- epoll_create(2)
+epoll_asked-least : (flags fd : ℕ) (task : Task) → epoll_asked flags task ≡ Ok fd → lowest_free task.table ≡ Some fd
+epoll_asked-least flags fd task e =
+    or_refuse_ok (lowest_free task.table) (refusal.Errno Emfile) fd (then_ok (refuse_if (not (beside_cloexec flags == 0)) (refusal.Errno Einval)) _ fd e)
+
+pub epoll_create1-least : (flags fd : ℕ) (task : Task) (shared : Shared) (after : Local) → epoll_create1 flags (task, shared) ≡ Ok (fd, after) → IsLowestFree task.table fd
+epoll_create1-least flags fd task shared after e =
+    bind_ok (epoll_asked flags task) _ (fd, after) (IsLowestFree task.table fd) e
+    (λ n p q. lowest_free-IsLowestFree task.table fd (epoll_asked-least flags n task p ∙ ap (λ (k : ℕ). Some k) (ap (answer_of {S = Local}) q)))
 
 -- socket(2)
 socket_asked-least : (family type protocol : ℕ) (task : Task) (new : NewSocket) → socket_asked family type protocol task ≡ Ok new → lowest_free task.table ≡ Some new.fd

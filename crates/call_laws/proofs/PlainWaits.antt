@@ -17,13 +17,17 @@ use Rattle.guest_args.specs.Time.{timespec}
 use Rattle.host_timers.specs.declared.clock.Moment.{Moment}
 use Rattle.host_calls.specs.declared.times.Setting.{Setting}
 use Rattle.host_calls.specs.Calls.{arg, plain_row}
+use Rattle.host_calls.specs.declared.controlling.Operation.{Operation}
+use Rattle.host_calls.specs.declared.controlling.Operation.TheVariants as operation
+use Rattle.host_files.specs.Epolls.{epoll_at}
+use Rattle.host_calls.specs.Epoll.{epoll_create1, watched, operation_of, may_watch, watch_at, change_of, has_entry, ctl_asked, epoll_ctl}
 use Rattle.host_calls.specs.Eventfd.{eventfd2}
 use Rattle.host_calls.specs.Files.{fcntl, fcntl_by, length_from, openat, pipe2_asked, pipe2}
 use Rattle.host_calls.specs.Guest.{getrandom}
 use Rattle.host_calls.specs.Scene.{Local}
 use Rattle.host_calls.specs.Sockets.{setsockopt}
 use Rattle.host_calls.specs.Times.{clock_gettime, timerfd_create, timer_number, old_timer, settime_asked, timerfd_settime}
-use Rattle.call_laws.proofs.Waits.{Never, nevers, never_bind, never_then, never_or_refuse, never_refuse_if}
+use Rattle.call_laws.proofs.Waits.{Never, nevers, epoll_number-never, never_bind, never_then, never_or_refuse, never_refuse_if}
 
 fcntl_by-never : (command flags : ℕ) (d : Descriptor) (s : Local) → Never (fcntl_by command flags d s)
 fcntl_by-never command flags d (task, shared) = search nevers
@@ -51,6 +55,46 @@ timerfd_create-never clock flags task shared = search nevers
 eventfd2-never : (count flags : ℕ) (task : Task) (shared : Shared) → Never (eventfd2 count flags (task, shared))
 eventfd2-never count flags task shared = search nevers
 
+epoll_create1-never : (flags : ℕ) (task : Task) (shared : Shared) → Never (epoll_create1 flags (task, shared))
+epoll_create1-never flags task shared = search nevers
+
+watched-never : (epfd fd : ℕ) (task : Task) (shared : Shared) → Never (watched epfd fd (task, shared))
+watched-never epfd fd task shared = search (nevers, epoll_number-never) depth 8
+
+operation_of-never : (op : ℕ) → Never (operation_of op)
+operation_of-never op = search nevers
+
+may_watch-never : (object : Object) → Never (may_watch object)
+may_watch-never kind.Input = refl
+may_watch-never kind.Output = refl
+may_watch-never kind.Errors = refl
+may_watch-never (kind.Hosts read) = refl
+may_watch-never (kind.ReadEnd k) = refl
+may_watch-never (kind.WriteEnd k) = refl
+may_watch-never (kind.Timer k) = refl
+may_watch-never (kind.Eventfd k) = refl
+may_watch-never (kind.Epoll k) = refl
+may_watch-never (kind.Udp k) = refl
+may_watch-never (kind.Tcp k) = refl
+
+watch_at-never : (fd at : ℕ) (memory : Memory) → Never (watch_at fd at memory)
+watch_at-never fd at memory = search nevers
+
+change_of-never : (does : Operation) (fd at : ℕ) (there : Bool) (memory : Memory) → Never (change_of does fd at there memory)
+change_of-never operation.Add fd at there memory = search (nevers, watch_at-never)
+change_of-never operation.Modify fd at there memory = search (nevers, watch_at-never)
+change_of-never operation.Delete fd at there memory = search nevers
+
+ctl_asked-never : (epfd op fd at : ℕ) (task : Task) (shared : Shared) → Never (ctl_asked epfd op fd at (task, shared))
+ctl_asked-never epfd op fd at task shared =
+    never_bind (watched epfd fd (task, shared)) _ (watched-never epfd fd task shared)
+    (λ (place, object). never_bind (operation_of op) _ (operation_of-never op)
+    (λ does. never_then (may_watch object) _ (may_watch-never object)
+    (never_bind (change_of does fd at (has_entry fd (epoll_at place task.epolls)) task.memory) _ (change_of-never does fd at _ task.memory) (λ change. refl))))
+
+epoll_ctl-never : (epfd op fd at : ℕ) (task : Task) (shared : Shared) → Never (epoll_ctl epfd op fd at (task, shared))
+epoll_ctl-never epfd op fd at task shared = never_bind (ctl_asked epfd op fd at (task, shared)) _ (ctl_asked-never epfd op fd at task shared) (λ c. refl)
+
 setsockopt-never : (fd level option at n : ℕ) (task : Task) (shared : Shared) → Never (setsockopt fd level option at n (task, shared))
 setsockopt-never fd level option at n task shared = search nevers
 
@@ -69,6 +113,7 @@ timer_number-never (kind.ReadEnd k) = refl
 timer_number-never (kind.WriteEnd k) = refl
 timer_number-never (kind.Timer k) = refl
 timer_number-never (kind.Eventfd k) = refl
+timer_number-never (kind.Epoll k) = refl
 timer_number-never (kind.Udp k) = refl
 timer_number-never (kind.Tcp k) = refl
 
@@ -94,6 +139,8 @@ timerfd_settime-never now fd flags at old_at task shared =
 
 pub plain-never : (now : Time) (process : ℕ) (p : PlainCall) (args : List ℕ) (task : Task) (shared : Shared) → Never (plain_row now process p args (task, shared))
 plain-never now process plain.Eventfd2 args task shared = eventfd2-never (arg args 0) (arg args 1) task shared
+plain-never now process plain.EpollCreate args task shared = epoll_create1-never (arg args 0) task shared
+plain-never now process plain.EpollCtl args task shared = epoll_ctl-never (arg args 0) (arg args 1) (arg args 2) (arg args 3) task shared
 plain-never now process plain.Fcntl args task shared = fcntl-never (arg args 0) (arg args 1) (arg args 2) task shared
 plain-never now process plain.Openat args task shared = openat-never (arg args 1) (arg args 2) task shared
 plain-never now process plain.Pipe2 args task shared = pipe2-never (arg args 0) (arg args 1) task shared

@@ -1,10 +1,10 @@
 -- A call that a process waits in answers where readiness says so.
-use Rattle.std.proofs.Common.{◌≡◌, ℕ, ◌==◌, ◌||◌, Bool, true, false, not, List, Option, Some, None, is_some, Result, Ok, Err, refl, sym, ap, subst, ◌∙◌, nat_lt, if◌then◌else◌, arith}
+use Rattle.std.proofs.Common.{◌≡◌, ℕ, ◌*◌, ◌==◌, ◌||◌, Bool, true, false, not, List, Option, Some, None, is_some, Result, Ok, Err, refl, sym, ap, subst, ◌∙◌, nat_lt, min, if◌then◌else◌, arith}
 use Rattle.std.proofs.lemmas.Bool.Decides.{nat_tests}
 use Rattle.sim_base.specs.declared.address.Addr.{Addr}
 use Rattle.sim_base.specs.declared.address.Ip.{Ip}
 use Rattle.sim_base.specs.declared.errno.Errno as errno_type
-use Rattle.sim_base.specs.declared.errno.Errno.TheVariants.{Efault}
+use Rattle.sim_base.specs.declared.errno.Errno.TheVariants.{Efault, Einval}
 use Rattle.sim_base.specs.declared.time.Time.{Time}
 use Rattle.sim_base.specs.Refusals.{◌>>=◌, ◌>>◌, refuse_if, or_refuse}
 use Rattle.guest_args.specs.Span.{counted, can_read, can_write}
@@ -25,6 +25,7 @@ use Rattle.host_calls.specs.declared.call.WaitingCall.TheVariants as waiting
 use Rattle.host_calls.specs.declared.connecting.ConnectPlan.{ConnectPlan}
 use Rattle.host_calls.specs.declared.sending.SendPlan.{SendPlan}
 use Rattle.host_calls.specs.declared.descriptors.Descriptor.{Descriptor}
+use Rattle.host_calls.specs.declared.epoll.WaitPlan.{WaitPlan}
 use Rattle.guest_mem.specs.Memory.{Memory}
 use Rattle.host_sockets.specs.TcpSocket.{TcpSocket}
 use Rattle.sim_base.specs.Poll.{pollout}
@@ -41,13 +42,14 @@ use Rattle.host_calls.specs.declared.sockets.SocketNumber.TheVariants as number
 use Rattle.host_calls.specs.Calls.{arg, message_of, room_of, open_by, read_plan_of, write_plan_of, asked, waits}
 use Rattle.host_calls.specs.Descriptors.{descriptor}
 use Rattle.host_calls.specs.Files.{may_read, wait_to_read, transfer, may_write, wait_to_write}
+use Rattle.host_calls.specs.Epoll.{epoll_number, event_size, is_negative, most_told, wait_deadline, waits_for}
 use Rattle.host_calls.specs.Eventfd.{number_at, number_fits}
 use Rattle.host_calls.specs.Flags.{has, msg_nosignal}
 use Rattle.host_calls.specs.Parts.{Scene}
 use Rattle.host_calls.specs.Scene.{or_again, kept_answers}
 use Rattle.host_calls.specs.Sockets.{socket_number, given_address, accept_place, accept_plan_of, connect_ready, refuse_flags, is_quick, send_tcp_plan, send_plan, recv_place, recv_ready, recv_plan}
-use Rattle.call_laws.specs.Readiness.{is_refused, takes_number, is_ready, writing_ended, would_read, would_accept, would_write, would_connect, IsWhole, AnswersWhere}
-use Rattle.call_laws.proofs.ReadyObjects.{Tells, eventfd_read-tells, fits-tells, may_write_by, tells_kept, read_end-tells, write_end-tells, timer-tells, recv_udp-tells, send_udp-holds, recv-tells, send-tells, accept-tells, connect-tells}
+use Rattle.call_laws.specs.Readiness.{is_refused, takes_number, is_ready, writing_ended, would_read, would_accept, would_write, would_connect, would_wait, IsWhole, AnswersWhere}
+use Rattle.call_laws.proofs.ReadyObjects.{Tells, eventfd_read-tells, fits-tells, may_write_by, tells_kept, read_end-tells, write_end-tells, timer-tells, epoll-tells, recv_udp-tells, send_udp-holds, recv-tells, send-tells, accept-tells, connect-tells}
 use Rattle.call_laws.proofs.Waits.{waits_in, is_wait-is}
 
 -- a call that isn't refused answers exactly where a test holds
@@ -199,6 +201,7 @@ read-agrees now args (kind.ReadEnd k) d at n s whole = file-reads now (kind.Read
 read-agrees now args (kind.WriteEnd k) d at n s whole = refused _
 read-agrees now args (kind.Timer k) d at n s whole = file-reads now (kind.Timer k) d at n s _ (may_time n) (timer-tells (timer_count now.nanos k s.shared.files))
 read-agrees now args (kind.Eventfd k) d at n s whole = file-reads now (kind.Eventfd k) d at n s _ (may_time n) (eventfd_read-tells (eventfd_at k s.shared.files))
+read-agrees now args (kind.Epoll k) d at n s whole = refused _
 read-agrees now args (kind.Udp k) d at n s whole = recv-agrees (open_by d (number.Udp k)) 0 (room_of at n 0 0) s _ (udp-reads now args k s)
 read-agrees now args (kind.Tcp k) d at n s whole = recv-agrees (open_by d (number.Tcp k)) 0 (room_of at n 0 0) s _ (tcp-reads now args k s whole)
 
@@ -216,6 +219,7 @@ recvfrom-agrees now args (kind.ReadEnd k) d flags room s whole = refused _
 recvfrom-agrees now args (kind.WriteEnd k) d flags room s whole = refused _
 recvfrom-agrees now args (kind.Timer k) d flags room s whole = refused _
 recvfrom-agrees now args (kind.Eventfd k) d flags room s whole = refused _
+recvfrom-agrees now args (kind.Epoll k) d flags room s whole = refused _
 recvfrom-agrees now args (kind.Udp k) d flags room s whole = recv-agrees (open_by d (number.Udp k)) flags room s _ (udp-reads now args k s)
 recvfrom-agrees now args (kind.Tcp k) d flags room s whole = recv-agrees (open_by d (number.Tcp k)) flags room s _ (tcp-reads now args k s whole)
 
@@ -237,6 +241,7 @@ accept-agrees now args (kind.ReadEnd k) d at size_at s whole = refused _
 accept-agrees now args (kind.WriteEnd k) d at size_at s whole = refused _
 accept-agrees now args (kind.Timer k) d at size_at s whole = refused _
 accept-agrees now args (kind.Eventfd k) d at size_at s whole = refused _
+accept-agrees now args (kind.Epoll k) d at size_at s whole = refused _
 accept-agrees now args (kind.Udp k) d at size_at s whole = refused _
 accept-agrees now args (kind.Tcp k) d at size_at s whole = accept_tcp-agrees now args d k at size_at s whole
 
@@ -353,6 +358,7 @@ write-agrees known now args (kind.WriteEnd k) d s whole = file-writes (kind.Writ
 write-agrees known now args (kind.Timer k) d s whole = refused _
 write-agrees known now args (kind.Eventfd k) d s whole =
     file-writes (kind.Eventfd k) d (arg args 1) (arg args 2) s _ (may_time (arg args 2)) (eventfd_write-tells (number_at (arg args 1) s.task.memory) (eventfd_at k s.shared.files) (number_at-only (arg args 1) s.task.memory))
+write-agrees known now args (kind.Epoll k) d s whole = refused _
 write-agrees known now args (kind.Udp k) d s whole = send-agrees now args (number.Udp k) d.file.nonblocking 0 (arg args 1) 0 0 known.book s whole
 write-agrees known now args (kind.Tcp k) d s whole = send-agrees now args (number.Tcp k) d.file.nonblocking 0 (arg args 1) 0 0 known.book s whole
 
@@ -368,6 +374,7 @@ sendto-agrees now args (kind.ReadEnd k) d flags at to_at size hosts s whole = re
 sendto-agrees now args (kind.WriteEnd k) d flags at to_at size hosts s whole = refused _
 sendto-agrees now args (kind.Timer k) d flags at to_at size hosts s whole = refused _
 sendto-agrees now args (kind.Eventfd k) d flags at to_at size hosts s whole = refused _
+sendto-agrees now args (kind.Epoll k) d flags at to_at size hosts s whole = refused _
 sendto-agrees now args (kind.Udp k) d flags at to_at size hosts s whole = send-agrees now args (number.Udp k) d.file.nonblocking flags at to_at size hosts s whole
 sendto-agrees now args (kind.Tcp k) d flags at to_at size hosts s whole = send-agrees now args (number.Tcp k) d.file.nonblocking flags at to_at size hosts s whole
 
@@ -389,10 +396,42 @@ connect-agrees now args (kind.ReadEnd k) d at size s why kept = refused _
 connect-agrees now args (kind.WriteEnd k) d at size s why kept = refused _
 connect-agrees now args (kind.Timer k) d at size s why kept = refused _
 connect-agrees now args (kind.Eventfd k) d at size s why kept = refused _
+connect-agrees now args (kind.Epoll k) d at size s why kept = refused _
 connect-agrees now args (kind.Udp k) d at size s why kept = λ e. refl
 connect-agrees now args (kind.Tcp k) d at size s why kept =
     agree_map (connect_ready (number.Tcp k) s >> Ok (connection (open_by d (number.Tcp k)) at size)) (λ c. plan.Connect c) _
     (agree_last (connect_ready (number.Tcp k) s) _ _ (tcp-connects now args k s why kept))
+
+-- epoll_pwait(2)
+open_epoll : (none shut : Bool) (p : WaitPlan) (q : WaitPlan → Result (Unit {0}) Refusal) (holds : Bool) → Tells (q p) holds
+    → Agrees (((refuse_if none (refusal.Errno Einval) >> (refuse_if shut (refusal.Errno Efault) >> Ok p)) >>= λ x. q x >> Ok x) >>= λ x. Ok (plan.EpollWait x)) holds
+open_epoll true shut p q holds tells = refused holds
+open_epoll false true p q holds tells = refused holds
+open_epoll false false p q holds tells = agree_map (q p >> Ok p) (λ x. plan.EpollWait x) holds (agree_last (q p) p holds tells)
+
+abbrev waits_by : Time → ℕ → ℕ → ℕ → Scene → Result ℕ Refusal → Result Plan Refusal
+waits_by now at count ms s number =
+    ((number >>= λ place. refuse_if (count == 0 || is_negative count) (refusal.Errno Einval)
+    >> (refuse_if (not (can_write (event_size * min count most_told) at s.task.memory)) (refusal.Errno Efault)
+    >> Ok (record { place = place; at = at; room = min count most_told })))
+    >>= λ p. waits_for now (wait_deadline now ms s.task) p.place s >> Ok p) >>= λ p. Ok (plan.EpollWait p)
+
+wait-agrees : (now : Time) (args : List ℕ) (object : Object) (s : Scene)
+    → Agrees (waits_by now (arg args 1) (arg args 2) (arg args 3) s (epoll_number object)) (would_wait args now object s)
+wait-agrees now args kind.Input s = refused _
+wait-agrees now args kind.Output s = refused _
+wait-agrees now args kind.Errors s = refused _
+wait-agrees now args (kind.Hosts read) s = refused _
+wait-agrees now args (kind.ReadEnd k) s = refused _
+wait-agrees now args (kind.WriteEnd k) s = refused _
+wait-agrees now args (kind.Timer k) s = refused _
+wait-agrees now args (kind.Eventfd k) s = refused _
+wait-agrees now args (kind.Epoll k) s =
+    open_epoll (arg args 2 == 0 || is_negative (arg args 2)) (not (can_write (event_size * min (arg args 2) most_told) (arg args 1) s.task.memory))
+    (record { place = k; at = arg args 1; room = min (arg args 2) most_told }) (λ p. waits_for now (wait_deadline now (arg args 3) s.task) p.place s) _
+    (epoll-tells now (wait_deadline now (arg args 3) s.task) k s)
+wait-agrees now args (kind.Udp k) s = refused _
+wait-agrees now args (kind.Tcp k) s = refused _
 
 -- the calls of the table
 abbrev Agreeing : (List ℕ → Time → Object → Scene → Bool) → WaitingCall → Type 0
@@ -431,6 +470,9 @@ write-answers known now args s d why kept e whole =
 pub sendto-answers : Agreeing would_write waiting.Sendto
 sendto-answers known now args s d why kept e whole =
     rw e (sendto-agrees now args d.file.object d (arg args 3) (arg args 1) (arg args 4) (arg args 5) known.book s whole)
+
+pub wait-answers : Agreeing would_wait waiting.EpollWait
+wait-answers known now args s d why kept e whole = rw e (wait-agrees now args d.file.object s)
 
 pub connect-answers : Agreeing would_connect waiting.Connect
 connect-answers known now args s d why kept e whole = rw e (connect-agrees now args d.file.object d (arg args 1) (arg args 2) s why kept)

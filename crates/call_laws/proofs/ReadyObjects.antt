@@ -4,11 +4,14 @@ use Rattle.std.proofs.lemmas.Bool.Decides.{nat_tests}
 use Rattle.std.specs.Prelude.{IsSome}
 use Rattle.sim_base.specs.declared.errno.Errno.{Errno}
 use Rattle.sim_base.specs.declared.errno.Errno.TheVariants.{Ebadf, Einval, Enotconn}
+use Rattle.sim_base.specs.declared.time.Time.{Time}
 use Rattle.sim_base.specs.Refusals.{◌>>=◌, ◌>>◌, refuse_if, or_refuse}
+use Rattle.host_fds.specs.declared.epoll.Watch.{Watch}
 use Rattle.host_fds.specs.Pipe.{PipeState, bit_of, room}
 use Rattle.host_fds.specs.Eventfd as eventfd
 use Rattle.host_fds.specs.declared.eventfd.Eventfd.{Eventfd}
 use Rattle.host_fds.specs.declared.pipe.End.TheVariants.{Reading, Writing}
+use Rattle.host_files.specs.Epolls.{epoll_at}
 use Rattle.sock_udp.specs.Socket.{UdpState}
 use Rattle.sock_tcp.specs.declared.segment.state.TcpState.{TcpState}
 use Rattle.sock_tcp.specs.declared.segment.state.TcpState.TheVariants.{SynSent, SynReceived, Established, FinWait1, FinWait2, CloseWait, Closing, LastAck, TimeWait, Ended, Vanished}
@@ -28,10 +31,13 @@ use Rattle.host_sockets.specs.Connecting.{connect_ends, connect_error}
 use Rattle.host_sockets.specs.Moving.{may_recv, would_read}
 use Rattle.host_sockets.specs.Ready.{ready_of, ready_in, udp_ready_in}
 use Rattle.host_sockets.specs.Udp.{recv_asked_in}
+use Rattle.host_calls.specs.Epoll.{has_due, waits_for}
 use Rattle.host_calls.specs.Eventfd.{number_fits}
 use Rattle.host_calls.specs.Files.{is_drained}
 use Rattle.host_calls.specs.Flags.{has}
-use Rattle.host_calls.specs.Polling.{pipe_ready, eventfd_ready}
+use Rattle.host_calls.specs.Parts.{Scene}
+use Rattle.host_calls.specs.Polling.{has_come}
+use Rattle.host_calls.specs.Ready.{pipe_ready, eventfd_ready, epoll_ready, some_due}
 use Rattle.host_calls.specs.Scene.{kept_answers}
 use Rattle.call_laws.specs.Readiness.{room_in, has_no_writer, has_no_reader, record_is_over, is_connecting, IsOwnRecord, AreWhole, IsWholeSocket}
 
@@ -133,6 +139,22 @@ pub eventfd_read-tells : (o : Option Eventfd) → Tells (or_refuse o (refusal.Er
 eventfd_read-tells None = tt
 eventfd_read-tells (Some e) =
     tells_if (e.count == 0) _ (not_zero e.count ∙ sym (in_eventfd (nat_lt 0 e.count) (nat_lt e.count eventfd.most)) ∙ or_nothing (has 1 (eventfd_ready (Some e))))
+
+-- epolls
+due_or_come : (due come : Bool) (deadline : Option Time) → Tells (refuse_if (not due && not come) (refusal.Wait deadline)) (due || come)
+due_or_come true come deadline = refl
+due_or_come false true deadline = refl
+due_or_come false false deadline = refl
+
+has_due-is : (now : Time) (s : Scene) (slot : Option (List Watch)) → has_due now s slot ≡ has 1 (epoll_ready now s slot)
+has_due-is now s None = refl
+has_due-is now s (Some entries) = sym (in_timer (some_due now s entries))
+
+pub epoll-tells : (now : Time) (deadline : Option Time) (k : ℕ) (s : Scene)
+    → Tells (waits_for now deadline k s) (has 1 (epoll_ready now s (epoll_at k s.task.epolls)) || has_come now deadline)
+epoll-tells now deadline k s =
+    subst (λ (b : Bool). Tells (waits_for now deadline k s) (b || has_come now deadline)) (has_due-is now s (epoll_at k s.task.epolls))
+    (due_or_come (has_due now s (epoll_at k s.task.epolls)) (has_come now deadline) deadline)
 
 not_not : (b : Bool) → not (not b) ≡ b
 not_not true = refl

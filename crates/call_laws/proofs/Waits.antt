@@ -18,6 +18,7 @@ use Rattle.host_calls.specs.declared.parts.Shared.{Shared}
 use Rattle.std.specs.FinMap as map
 use Rattle.host_calls.specs.Calls.{reacts, is_wait}
 use Rattle.host_calls.specs.Descriptors.{descriptor, descriptor_by}
+use Rattle.host_calls.specs.Epoll.{epoll_number}
 use Rattle.host_calls.specs.Parts.{Scene, plainly}
 use Rattle.host_calls.specs.Scene.{Local, or_again, kept_answers}
 use Rattle.host_calls.specs.Sockets.{socket_number, open_socket}
@@ -132,8 +133,22 @@ socket_number-never (kind.ReadEnd k) = refl
 socket_number-never (kind.WriteEnd k) = refl
 socket_number-never (kind.Timer k) = refl
 socket_number-never (kind.Eventfd k) = refl
+socket_number-never (kind.Epoll k) = refl
 socket_number-never (kind.Udp k) = refl
 socket_number-never (kind.Tcp k) = refl
+
+pub epoll_number-never : (object : Object) → Never (epoll_number object)
+epoll_number-never kind.Input = refl
+epoll_number-never kind.Output = refl
+epoll_number-never kind.Errors = refl
+epoll_number-never (kind.Hosts read) = refl
+epoll_number-never (kind.ReadEnd k) = refl
+epoll_number-never (kind.WriteEnd k) = refl
+epoll_number-never (kind.Timer k) = refl
+epoll_number-never (kind.Eventfd k) = refl
+epoll_number-never (kind.Epoll k) = refl
+epoll_number-never (kind.Udp k) = refl
+epoll_number-never (kind.Tcp k) = refl
 
 pub open_socket-never : (fd : ℕ) (task : Task) (shared : Shared) → Never (open_socket fd (task, shared))
 open_socket-never fd task shared =

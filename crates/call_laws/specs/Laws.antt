@@ -20,6 +20,7 @@ use Rattle.host_sockets.specs.Wanted.{Wanted}
 use Rattle.host_sockets.specs.TcpActs.{acts_at}
 use Rattle.host_sockets.specs.Connecting.{error_takes}
 use Rattle.host_calls.specs.Calls.{arg}
+use Rattle.host_calls.specs.Epoll.{is_negative}
 use Rattle.host_calls.specs.Parts.{PartsRecord}
 
 -- whether the process waits
@@ -36,10 +37,12 @@ kept_by (Some task) = task.kept
 abbrev pub kept_call : ℕ → PartsRecord → Option Why
 kept_call process h = kept_by (at process h.tasks)
 
--- a call that is handed the time to which it waits: clock_nanosleep(2), and ppoll(2) where its pointer isn't null
+-- a call that is handed the time to which it waits: clock_nanosleep(2), ppoll(2) where its pointer isn't null, and epoll_pwait(2) where its
+-- milliseconds aren't negative
 abbrev pub takes_time : Option Call → List ℕ → Bool
 takes_time (Some (system_call.Waiting waiting.ClockNanosleep)) args = true
 takes_time (Some (system_call.Waiting waiting.Ppoll)) args = not (arg args 2 == 0)
+takes_time (Some (system_call.Waiting waiting.EpollWait)) args = not (is_negative (arg args 3))
 takes_time _ args = false
 
 -- the first free number of so many from one on

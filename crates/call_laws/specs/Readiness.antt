@@ -25,10 +25,12 @@ use Rattle.host_calls.specs.declared.plan.Plan.{Plan}
 use Rattle.host_calls.specs.Call.{call_of}
 use Rattle.host_calls.specs.Calls.{arg, asked, answers_scene}
 use Rattle.host_calls.specs.Descriptors.{descriptor}
+use Rattle.host_calls.specs.Epoll.{wait_deadline}
 use Rattle.host_calls.specs.Eventfd.{number_at}
 use Rattle.host_calls.specs.Flags.{has}
 use Rattle.host_calls.specs.Parts.{Scene}
-use Rattle.host_calls.specs.Polling.{object_ready}
+use Rattle.host_calls.specs.Polling.{has_come}
+use Rattle.host_calls.specs.Ready.{readiness}
 
 -- a call that answers an error number without being asked what it waits for, and without having tried what it would do
 abbrev pub is_refused : Result Plan Refusal → Bool
@@ -37,7 +39,7 @@ is_refused _ = false
 
 -- whether poll(2) would tell a bit of an object
 abbrev pub is_ready : ℕ → Time → Object → Scene → Bool
-is_ready bit now object s = has bit (object_ready now object s.shared.files s.sockets)
+is_ready bit now object s = has bit (readiness now object s)
 
 -- ends of which readiness tells by other bits: of a pipe, that the other end is let go, and of a TCP socket, that its record is over
 abbrev pub has_no_writer : Option PipeState → Bool
@@ -95,6 +97,10 @@ is_connected _ s = true
 
 abbrev pub would_connect : List ℕ → Time → Object → Scene → Bool
 would_connect args now object s = is_connected object s
+
+-- epoll_pwait(2), which also answers once its deadline has come
+abbrev pub would_wait : List ℕ → Time → Object → Scene → Bool
+would_wait args now object s = is_ready pollin now object s || has_come now (wait_deadline now (arg args 3) s.task)
 
 -- sockets as the acts on them leave them: a socket that is open is there, a record of its own isn't one that a listener keeps and has
 -- no error while it is connecting, and the accept queue of a listener names records of its own

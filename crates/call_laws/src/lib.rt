@@ -1,12 +1,13 @@
 //! Laws of the table of system calls. No code that runs.
 #![tactic(auto)]
 
-ghost use Rattle.std.specs.Prelude.{◌≡◌, ◌+◌, ◌-◌, ◌<◌, ◌≤◌, ℕ, Bool, List, length, not, true, Option, Some, None, Result, Ok, Err, IfSome};
+ghost use Rattle.std.specs.Prelude.{◌≡◌, ◌+◌, ◌-◌, ◌<◌, ◌==◌, ◌≤◌, ℕ, Bool, List, length, not, true, Option, Some, None, Result, Ok, Err, IfOk, IfSome};
 ghost use Rattle.std.specs.FinMap as map;
 ghost use Rattle.sim_base.specs.declared.errno.Errno.{Errno};
 ghost use Rattle.sim_base.specs.declared.state.State.{State};
 ghost use Rattle.sim_base.specs.declared.time.Time.{Time};
 ghost use Rattle.host_fds.specs.Descriptors.{limit, IsLowestFree};
+ghost use Rattle.host_files.specs.Epolls.{epoll_at};
 ghost use Rattle.host_files.specs.Slots.{at};
 ghost use Rattle.host_sockets.specs.declared.error.Refusal.TheVariants as refusal;
 ghost use Rattle.host_sockets.specs.Sockets.{SocketsRecord};
@@ -26,10 +27,11 @@ ghost use Rattle.host_calls.specs.declared.parts.Why.{Why};
 ghost use Rattle.host_calls.specs.Call.{call_of};
 ghost use Rattle.host_calls.specs.Calls.{call, call_scene, cleared, row_of, waiting_row, answers};
 ghost use Rattle.host_calls.specs.Events.{ended};
+ghost use Rattle.host_calls.specs.Epoll.{epoll_create1, wait_plan, has_due, epoll_waits};
 ghost use Rattle.host_calls.specs.Eventfd.{eventfd2};
 ghost use Rattle.host_calls.specs.Files.{openat, pipe2_asked};
 ghost use Rattle.call_laws.specs.Laws.{is_block, kept_call, takes_time, IsFirstFree, TakesError};
-ghost use Rattle.call_laws.specs.Readiness.{AnswersWhere, would_read, would_accept, would_write, would_connect};
+ghost use Rattle.call_laws.specs.Readiness.{AnswersWhere, would_read, would_accept, would_write, would_connect, would_wait};
 ghost use Rattle.host_calls.specs.Parts.{PartsRecord, Scene};
 ghost use Rattle.host_calls.specs.Scene.{Local, negative};
 ghost use Rattle.host_calls.specs.Sockets.{socket};
@@ -47,11 +49,18 @@ pub fn deadline_answers()
         → why.deadline ≡ Some deadline → takes_time (call_of why.number) why.args ≡ true → deadline.nanos ≤ now.nanos → answers known now process why h ≡ true }
 {}
 
+/// A wait for an epoll tells of no entry exactly where none is due, so only once its deadline has come.
+pub fn waits_tell()
+    ensures { (now : Time) (epfd at count ms : ℕ) (s : Scene) → IfOk (wait_plan now epfd at count ms s) (λ p.
+        IfOk (epoll_waits now p s) (λ (told, after). (told == 0) ≡ not (has_due now s (epoll_at p.place s.task.epolls)))) }
+{}
+
 /// A new descriptor is the least free one; of a new pipe the writing end has the next free one.
 pub fn new_descriptors()
     ensures file { (path flags fd : ℕ) (task : Task) (shared : Shared) (after : Local) → openat path flags (task, shared) ≡ Ok (fd, after) → IsLowestFree task.table fd }
     ensures timer { (clock flags fd : ℕ) (task : Task) (shared : Shared) (after : Local) → timerfd_create clock flags (task, shared) ≡ Ok (fd, after) → IsLowestFree task.table fd }
     ensures eventfd { (count flags fd : ℕ) (task : Task) (shared : Shared) (after : Local) → eventfd2 count flags (task, shared) ≡ Ok (fd, after) → IsLowestFree task.table fd }
+    ensures epoll { (flags fd : ℕ) (task : Task) (shared : Shared) (after : Local) → epoll_create1 flags (task, shared) ≡ Ok (fd, after) → IsLowestFree task.table fd }
     ensures socket { (family type protocol fd : ℕ) (s after : Scene) → socket family type protocol s ≡ Ok (fd, after) → IsLowestFree s.task.table fd }
     ensures connection { (known : Known) (now : Time) (process : ℕ) (args : List ℕ) (fd : ℕ) (s after : Scene) → waiting_row known now process waiting.Accept args s ≡ Ok (Value fd, after) → IsLowestFree s.task.table fd }
     ensures reading_end { (at flags : ℕ) (task : Task) (fds : Ends) → pipe2_asked at flags task ≡ Ok fds → IsLowestFree task.table fds.reading }
@@ -91,7 +100,8 @@ pub fn ends_of_processes()
 /// Readiness and answers agree: a call that a process waits in, and that isn't refused, answers
 /// exactly where `poll(2)` tells of its descriptor what the call waits for. A pipe whose other end is
 /// let go and a TCP socket whose connection is over answer too, and so does a write of no bytes; a
-/// write to an eventfd goes by its room for the number that is added.
+/// write to an eventfd goes by its room for the number that is added, and a wait for an epoll also
+/// answers once its deadline has come.
 pub fn readiness_and_answers()
     ensures read { AnswersWhere would_read waiting.Read }
     ensures recvfrom { AnswersWhere would_read waiting.Recvfrom }
@@ -99,4 +109,5 @@ pub fn readiness_and_answers()
     ensures write { AnswersWhere would_write waiting.Write }
     ensures sendto { AnswersWhere would_write waiting.Sendto }
     ensures connect { AnswersWhere would_connect waiting.Connect }
+    ensures epoll_wait { AnswersWhere would_wait waiting.EpollWait }
 {}

@@ -10,7 +10,7 @@ use Rattle.sock_udp.specs.Socket.{UdpState, address_and_destination, packet_betw
 use Rattle.host_sockets.specs.declared.error.Refusal.{Refusal}
 use Rattle.host_sockets.specs.Refusals.{by_errno}
 use Rattle.host_sockets.specs.Sockets.{SocketsRecord}
-use Rattle.host_sockets.specs.Udp.{udp_in, udp_around, acted_udp, with_slot, sends_udp}
+use Rattle.host_sockets.specs.Udp.{udp_in, udp_around, acted_udp, with_udp, sends_udp}
 use Rattle.tcp_streams.specs.Net.{IsVoid}
 
 packet_of : Packet → Result (Packet × SocketsRecord) Refusal → Packet
@@ -20,7 +20,7 @@ packet_of p (Err why) = p
 abbrev sent_row : Surroundings → List ℕ → ℕ → UdpState → SocketsRecord → Result (Addr × Addr) Errno → Result (Packet × SocketsRecord) Refusal
 sent_row around bytes k u t ends = do
   (answer, after) ← by_errno (ends >>= λ (bound, destination). Ok (packet_between around bytes bound destination, record u { local = Some bound }))
-  Ok (answer, with_slot k (Some after) t)
+  Ok (answer, with_udp k u after t)
 
 void_row : (around : Surroundings) (bytes : List ℕ) (k : ℕ) (u : UdpState) (t : SocketsRecord) (ends : Result (Addr × Addr) Errno) (b : Packet × SocketsRecord) → sent_row around bytes k u t ends ≡ Ok b → IsVoid b.0.load
 unfolding packet_of

@@ -26,6 +26,8 @@ use Rattle.host_calls.specs.Numbers.{f_getfd, f_setfd, f_getfl, f_setfl, grnd_no
 use Rattle.host_calls.specs.Scene.{Local, tell_memory}
 use Rattle.host_calls.specs.Descriptors.{descriptor, opens}
 use Rattle.host_calls.specs.Files.{fcntl_by, fcntl, hosts_file, openat_asked, openat, ends_bytes, with_ends, pipe2_asked, pipe2, is_read_by, reads, after_write, writes}
+use Rattle.host_files.specs.Epolls.{next_epoll}
+use Rattle.host_calls.specs.Epoll.{epoll_asked, epoll_file, new_epoll, epoll_create1, ctl_asked, controlled, epoll_ctl}
 use Rattle.host_calls.specs.Eventfd.{eventfd_asked, eventfd_file, new_eventfd, eventfd2}
 use Rattle.host_calls.specs.Guest.{getpid, brk, words, words_in, random_count, random_told, getrandom}
 use Rattle.host_calls.specs.Sockets.{setsockopt_asked, setsockopt}
@@ -94,6 +96,7 @@ read_rests_by text now d (kind.ReadEnd k) at count task shared = refl
 read_rests_by text now d (kind.WriteEnd k) at count task shared = refl
 read_rests_by text now d (kind.Timer k) at count task shared = refl
 read_rests_by text now d (kind.Eventfd k) at count task shared = refl
+read_rests_by text now d (kind.Epoll k) at count task shared = refl
 read_rests_by text now d (kind.Udp k) at count task shared = refl
 read_rests_by text now d (kind.Tcp k) at count task shared = refl
 
@@ -109,6 +112,7 @@ write_rests_by process bytes (kind.ReadEnd k) shared = refl
 write_rests_by process bytes (kind.WriteEnd k) shared = refl
 write_rests_by process bytes (kind.Timer k) shared = refl
 write_rests_by process bytes (kind.Eventfd k) shared = refl
+write_rests_by process bytes (kind.Epoll k) shared = refl
 write_rests_by process bytes (kind.Udp k) shared = refl
 write_rests_by process bytes (kind.Tcp k) shared = refl
 
@@ -155,6 +159,14 @@ eventfd_rests : (count flags : ℕ) (task : Task) (shared : Shared) → Rests sh
 eventfd_rests count flags task shared =
     asks_rests shared.outlet (eventfd_asked flags task) _ (λ fd. answers_rest shared.outlet fd (opens fd (eventfd_file flags (next_eventfd shared.files)) (new_eventfd count flags (task, shared))) refl)
 
+epoll_create_rests : (flags : ℕ) (task : Task) (shared : Shared) → Rests shared.outlet (epoll_create1 flags (task, shared))
+epoll_create_rests flags task shared =
+    asks_rests shared.outlet (epoll_asked flags task) _ (λ fd. answers_rest shared.outlet fd (opens fd (epoll_file (next_epoll task.epolls)) (new_epoll (task, shared))) refl)
+
+epoll_ctl_rests : (epfd op fd at : ℕ) (task : Task) (shared : Shared) → Rests shared.outlet (epoll_ctl epfd op fd at (task, shared))
+epoll_ctl_rests epfd op fd at task shared =
+    asks_rests shared.outlet (ctl_asked epfd op fd at (task, shared)) _ (λ c. answers_rest shared.outlet 0 (controlled c (task, shared)) refl)
+
 settime_rests : (now : Time) (fd flags at old_at : ℕ) (task : Task) (shared : Shared) → Rests shared.outlet (timerfd_settime now fd flags at old_at (task, shared))
 settime_rests now fd flags at old_at task shared =
     asks_rests shared.outlet (old_timer now fd task shared.files) _
@@ -164,6 +176,8 @@ settime_rests now fd flags at old_at task shared =
 -- each of the plain calls
 pub plain_rests : (now : Time) (process : ℕ) (call : PlainCall) (args : List ℕ) (task : Task) (shared : Shared) → Rests shared.outlet (plain_row now process call args (task, shared))
 plain_rests now process plain.Eventfd2 args task shared = eventfd_rests (arg args 0) (arg args 1) task shared
+plain_rests now process plain.EpollCreate args task shared = epoll_create_rests (arg args 0) task shared
+plain_rests now process plain.EpollCtl args task shared = epoll_ctl_rests (arg args 0) (arg args 1) (arg args 2) (arg args 3) task shared
 plain_rests now process plain.Fcntl args task shared = fcntl_rows (arg args 0) (arg args 1) (arg args 2) task shared
 plain_rests now process plain.Openat args task shared = openat_rests (arg args 1) (arg args 2) task shared
 plain_rests now process plain.Pipe2 args task shared = pipe2_rests (arg args 0) (arg args 1) task shared

@@ -37,6 +37,9 @@ use Rattle.host_calls.specs.Files.{reads, writes}
 use Rattle.host_calls.specs.Sockets.{socket, bind, listen, accepts, getsockname, getpeername, sends_by, receives, getsockopt, shutdown}
 use Rattle.host_calls.specs.Starting.{task_starts}
 use Rattle.host_calls.specs.Times.{first_timer, timer_object, at_nanos, rings_at, next_ring}
+use Rattle.host_calls.specs.declared.epoll.WaitPlan.{WaitPlan}
+use Rattle.host_files.specs.Epolls.{epoll_at}
+use Rattle.host_calls.specs.Epoll.{all_seen, told_of, epoll_waits}
 use Rattle.host_calls.specs.Polling.{entry_size, poll_entries, polled, polls}
 use Rattle.host_calls.specs.Calls.{arg, plain_row, network_row, asked, done, row, row_of, deadline_object, with_alarm, blocks_by, blocked, all_ended, cleared, answered, scene_at, call_by, call}
 use Rattle.host_files.specs.Files.{timer_at}
@@ -64,6 +67,7 @@ module _ (hosts : List Ip) (flying : List Packet) where
   ends_move now (kind.WriteEnd k) shared t = moves_none hosts flying (t, shared.outlet)
   ends_move now (kind.Timer k) shared t = moves_none hosts flying (t, shared.outlet)
   ends_move now (kind.Eventfd k) shared t = moves_none hosts flying (t, shared.outlet)
+  ends_move now (kind.Epoll k) shared t = moves_none hosts flying (t, shared.outlet)
   ends_move now (kind.Udp k) shared t = moves_by hosts flying now (act.close_udp k) t shared.outlet tt
   ends_move now (kind.Tcp k) shared t = moves_by hosts flying now (act.close_tcp k) t shared.outlet tt
 
@@ -113,6 +117,12 @@ module _ (hosts : List Ip) (flying : List Packet) where
   answered_move now process number args (Err (refusal.Kept errno)) before h = moves_none hosts flying (sockets_at before)
   answered_move now process number args (Err (refusal.Wait deadline)) before h = blocked_move process _ before
   answered_move now process number args (Err (refusal.End state)) before h = all_ended_move now before
+
+  -- epoll_pwait(2)
+  waits_move : (now : Time) (p : WaitPlan) (s : Scene) → RowMoves hosts flying (sockets_at s) (epoll_waits now p s)
+  waits_move now p s =
+      let told = told_of p (all_seen now s (epoll_at p.place s.task.epolls)) s in
+      answers hosts flying (sockets_at s) told.0 told.1 (moves_none hosts flying (sockets_at s))
 
   -- ppoll(2)
   polls_move : (now : Time) (p : PollPlan) (s : Scene) → RowMoves hosts flying (sockets_at s) (polls now p s)
@@ -175,6 +185,7 @@ module _ (known : Known) (flying : List Packet) where
   done_moves now process (plan.Receive r) s = reacting known.book flying (sockets_at s) (receives now r s) (recv_moves known.book flying now r s)
   done_moves now process plan.Sleep s = answers known.book flying (sockets_at s) _ _ (moves_none known.book flying (sockets_at s))
   done_moves now process (plan.Poll p) s = reacting known.book flying (sockets_at s) (polls now p s) (polls_move known.book flying now p s)
+  done_moves now process (plan.EpollWait p) s = reacting known.book flying (sockets_at s) (epoll_waits now p s) (waits_move known.book flying now p s)
 
   network_moves : (now : Time) (call : NetworkCall) (args : List ℕ) (s : Scene) → R s (network_row known now call args s)
   network_moves now network.Socket args s =

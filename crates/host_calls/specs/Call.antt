@@ -13,6 +13,8 @@ use Rattle.host_calls.specs.declared.call.WaitingCall.TheVariants as waiting
 abbrev pub plain_of : ℕ → Option PlainCall
 plain_of n =
     if n == 19 then Some plain.Eventfd2
+    else if n == 20 then Some plain.EpollCreate
+    else if n == 21 then Some plain.EpollCtl
     else if n == 25 then Some plain.Fcntl
     else if n == 56 then Some plain.Openat
     else if n == 59 then Some plain.Pipe2
@@ -40,7 +42,8 @@ network_of n =
 -- calls that may wait
 abbrev pub waiting_of : ℕ → Option WaitingCall
 waiting_of n =
-    if n == 63 then Some waiting.Read
+    if n == 22 then Some waiting.EpollWait
+    else if n == 63 then Some waiting.Read
     else if n == 64 then Some waiting.Write
     else if n == 202 then Some waiting.Accept
     else if n == 203 then Some waiting.Connect

@@ -39,6 +39,7 @@ use Rattle.host_calls.specs.declared.sockets.SocketNumber.{SocketNumber}
 use Rattle.host_calls.specs.Call.{call_of}
 use Rattle.host_calls.specs.Closing.{close, all_closed}
 use Rattle.host_calls.specs.Descriptors.{descriptor, IsFree}
+use Rattle.host_calls.specs.Epoll.{epoll_create1, epoll_ctl, wait_plan, epoll_waits}
 use Rattle.host_calls.specs.Eventfd.{eventfd2}
 use Rattle.host_calls.specs.Files.{fcntl, openat, pipe2, file_read_plan, reads, file_write_plan, writes}
 use Rattle.host_calls.specs.Guest.{getpid, brk, getrandom}
@@ -65,6 +66,8 @@ answers_brk (value, task) shared = Ok (value, (task, shared))
 
 abbrev pub plain_row : Time → ℕ → PlainCall → List ℕ → Local → Result (ℕ × Local) Refusal
 plain_row now process plain.Eventfd2 args s = eventfd2 (arg args 0) (arg args 1) s
+plain_row now process plain.EpollCreate args s = epoll_create1 (arg args 0) s
+plain_row now process plain.EpollCtl args s = epoll_ctl (arg args 0) (arg args 1) (arg args 2) (arg args 3) s
 plain_row now process plain.Fcntl args s = fcntl (arg args 0) (arg args 1) (arg args 2) s
 plain_row now process plain.Openat args s = openat (arg args 1) (arg args 2) s
 plain_row now process plain.Pipe2 args s = pipe2 (arg args 0) (arg args 1) s
@@ -142,6 +145,9 @@ asked known now waiting.ClockNanosleep args s = do
 asked known now waiting.Ppoll args s = do
   p ← poll_plan now (arg args 0) (arg args 1) (arg args 2) s
   Ok (plan.Poll p)
+asked known now waiting.EpollWait args s = do
+  p ← wait_plan now (arg args 0) (arg args 1) (arg args 2) (arg args 3) s
+  Ok (plan.EpollWait p)
 
 -- what is then done. Of a UDP socket that sends, and of a TCP socket that connects, this also has what refuses
 abbrev pub done : Known → Time → ℕ → Plan → Scene → Result (Reaction × Scene) Refusal
@@ -153,6 +159,7 @@ done known now process (plan.Send m) s = reacts (sends_by known.book now m s)
 done known now process (plan.Receive r) s = reacts (receives now r s)
 done known now process plan.Sleep s = Ok (Value 0, s)
 done known now process (plan.Poll p) s = reacts (polls now p s)
+done known now process (plan.EpollWait p) s = reacts (epoll_waits now p s)
 
 -- what the code has to know of a plan: a new descriptor is free, and no more than so many entries are polled
 abbrev pub Fits : Plan → Task → Type 0

@@ -8,6 +8,7 @@ use Rattle.host_fds.specs.Descriptors.{limit}
 use Rattle.host_fds.specs.declared.pipe.End.TheVariants.{Reading, Writing}
 use Rattle.host_files.specs.declared.file.Object.{Object}
 use Rattle.host_files.specs.declared.file.Object.TheVariants as kind
+use Rattle.host_files.specs.Epolls.{EpollsState, forgotten, epoll_ended}
 use Rattle.host_files.specs.Files.{FilesState, closed, pipe_shut, timer_ended, eventfd_ended}
 use Rattle.host_sockets.specs.declared.error.Refusal.{Refusal}
 use Rattle.host_sockets.specs.Wanted.{Wanted}
@@ -42,6 +43,14 @@ ends now _ shared t = (shared, t)
 abbrev pub Ended : Shared × SocketsRecord → Shared → Sockets → Type 0
 Ended after shared c = (shared ≡ after.0) × Stand c after.1
 
+-- no epoll has an entry of a closed descriptor, and an epoll that it named is gone
+abbrev pub without_epoll : Object → EpollsState → EpollsState
+without_epoll (kind.Epoll k) epolls = epoll_ended k epolls
+without_epoll _ epolls = epolls
+
+abbrev pub forgets : ℕ → Object → Task → Task
+forgets fd object task = record task { epolls = forgotten fd (without_epoll object task.epolls) }
+
 -- the descriptor and the file are gone
 abbrev pub without_file : ℕ → ObjectId → Task → Shared × SocketsRecord → Scene
 without_file fd id task (shared, t) = record {
@@ -51,7 +60,7 @@ without_file fd id task (shared, t) = record {
 }
 
 abbrev pub closes : Time → ℕ → Descriptor → Scene → Scene
-closes now fd d s = without_file fd d.id s.task (ends now d.file.object s.shared s.sockets)
+closes now fd d s = without_file fd d.id (forgets fd d.file.object s.task) (ends now d.file.object s.shared s.sockets)
 
 -- close(2)
 abbrev pub close : Time → ℕ → Scene → Result (ℕ × Scene) Refusal

@@ -130,11 +130,12 @@ pipe2 at flags (task, shared) = do
   fds ← pipe2_asked at flags task
   Ok (0, tell_memory at (ends_bytes fds) (with_ends fds (has o_nonblock flags) (next_pipe shared.files) (task, shared)))
 
--- read(2): what cannot be read, and what a timer or an eventfd has no room for
+-- read(2): what cannot be read, an epoll among it, and what a timer or an eventfd has no room for
 abbrev pub may_read : Object → ℕ → Result (Unit {0}) Refusal
 may_read kind.Output n = Err (Errno Ebadf)
 may_read kind.Errors n = Err (Errno Ebadf)
 may_read (kind.WriteEnd k) n = Err (Errno Ebadf)
+may_read (kind.Epoll k) n = Err (Errno Einval)
 may_read (kind.Timer k) n = refuse_if (nat_lt n expiries_size) (Errno Einval)
 may_read (kind.Eventfd k) n = refuse_if (nat_lt n eventfd_size) (Errno Einval)
 may_read _ n = Ok tt
@@ -200,6 +201,7 @@ may_write kind.Input n = Err (Errno Ebadf)
 may_write (kind.Hosts read) n = Err (Errno Ebadf)
 may_write (kind.ReadEnd k) n = Err (Errno Ebadf)
 may_write (kind.Timer k) n = Err (Errno Einval)
+may_write (kind.Epoll k) n = Err (Errno Einval)
 may_write (kind.Eventfd k) n = refuse_if (nat_lt n eventfd_size) (Errno Einval)
 may_write _ n = Ok tt
 

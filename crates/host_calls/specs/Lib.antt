@@ -6,7 +6,9 @@ pub mod Files
 pub mod Times
 pub mod Guest
 pub mod Parts
+pub mod Ready
 pub mod Polling
+pub mod Epoll
 pub mod Sockets
 pub mod Closing
 pub mod Call

@@ -101,3 +101,14 @@ grnd_nonblock = 1
 
 abbrev pub grnd_random : ℕ
 grnd_random = 2
+
+-- ---- epoll_ctl(2): what is done with an entry
+
+abbrev pub epoll_ctl_add : ℕ
+epoll_ctl_add = 1
+
+abbrev pub epoll_ctl_del : ℕ
+epoll_ctl_del = 2
+
+abbrev pub epoll_ctl_mod : ℕ
+epoll_ctl_mod = 3

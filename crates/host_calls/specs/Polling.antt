@@ -1,68 +1,33 @@
--- What objects are ready for, and ppoll(2).
+-- ppoll(2).
 use Rattle.std.specs.Prelude.{ℕ, zero, suc, ◌+◌, ◌*◌, ◌^◌, ◌==◌, ◌&&◌, Bool, false, not, List, [], ◌++◌, take, drop, Option, Some, None, Result, Ok, Err, nat_lt, nat_le, bit_and, bit_or, if◌then◌else◌}
 use Rattle.std.specs.Int.{w16, w32, from_le_bytes, to_le_bytes}
 use Rattle.sim_base.specs.declared.errno.Errno.TheVariants.{Efault, Einval}
 use Rattle.sim_base.specs.declared.time.Time.{Time}
-use Rattle.sim_base.specs.Poll.{pollin, pollout, pollerr, pollhup, pollnval}
+use Rattle.sim_base.specs.Poll.{pollerr, pollhup, pollnval}
 use Rattle.sim_base.specs.Refusals.{◌>>=◌, ◌>>◌, refuse_if, or_refuse}
 use Rattle.guest_mem.specs.Memory.{Memory}
 use Rattle.guest_args.specs.Span.{span, can_write, filled, int_size}
 use Rattle.guest_args.specs.Time.{timespec, deadline_after, timespec_size}
-use Rattle.host_fds.specs.Pipe.{PipeState}
-use Rattle.host_fds.specs.Pipe as pipe
-use Rattle.host_fds.specs.Eventfd as eventfd
-use Rattle.host_fds.specs.declared.eventfd.Eventfd.{Eventfd}
-use Rattle.host_fds.specs.declared.pipe.End.{End}
-use Rattle.host_fds.specs.declared.pipe.End.TheVariants.{Reading, Writing}
 use Rattle.host_timers.specs.declared.clock.Moment.{Moment}
-use Rattle.host_files.specs.declared.file.Object.{Object}
-use Rattle.host_files.specs.declared.file.Object.TheVariants as kind
-use Rattle.host_files.specs.Files.{FilesState, pipe_at, timer_count, eventfd_at}
 use Rattle.host_sockets.specs.declared.error.Refusal.{Refusal}
 use Rattle.host_sockets.specs.declared.error.Refusal.TheVariants.{Errno, Wait}
-use Rattle.host_sockets.specs.Sockets.{SocketsRecord}
-use Rattle.sock_tcp.specs.connection.Ready.{bit_if}
-use Rattle.host_sockets.specs.Ready.{tcp_ready, udp_ready}
 use Rattle.host_calls.specs.declared.descriptors.Descriptor.{Descriptor}
 use Rattle.host_calls.specs.declared.parts.Task.{Task}
 use Rattle.host_calls.specs.declared.polling.PollPlan.{PollPlan}
 use Rattle.host_calls.specs.Descriptors.{descriptor}
 use Rattle.host_calls.specs.Parts.{Scene}
+use Rattle.host_calls.specs.Ready.{readiness}
 use Rattle.host_calls.specs.Times.{at_nanos, kept_or}
-
-abbrev pub pipe_ready : Option PipeState → End → ℕ
-pipe_ready None end = 0
-pipe_ready (Some p) end = pipe.ready p end
-
-abbrev pub timer_ready : Time → ℕ → FilesState → ℕ
-timer_ready now k files = bit_if (nat_lt 0 (timer_count now.nanos k files)) pollin
-
-abbrev pub eventfd_ready : Option Eventfd → ℕ
-eventfd_ready None = 0
-eventfd_ready (Some e) = eventfd.ready e
-
--- the readiness of each kind of object
-abbrev pub object_ready : Time → Object → FilesState → SocketsRecord → ℕ
-object_ready now kind.Input files sockets = pollin
-object_ready now kind.Output files sockets = pollout
-object_ready now kind.Errors files sockets = pollout
-object_ready now (kind.Hosts read) files sockets = pollin + pollout
-object_ready now (kind.ReadEnd k) files sockets = pipe_ready (pipe_at k files) Reading
-object_ready now (kind.WriteEnd k) files sockets = pipe_ready (pipe_at k files) Writing
-object_ready now (kind.Timer k) files sockets = timer_ready now k files
-object_ready now (kind.Eventfd k) files sockets = eventfd_ready (eventfd_at k files)
-object_ready now (kind.Udp k) files sockets = udp_ready k sockets
-object_ready now (kind.Tcp k) files sockets = tcp_ready k sockets
 
 -- what is told of a descriptor: of its readiness what is asked for, POLLERR and POLLHUP. A descriptor that is free gives
 -- POLLNVAL, and a negative one nothing
-abbrev pub told : Time → ℕ → Result Descriptor Refusal → FilesState → SocketsRecord → ℕ
-told now events (Err refusal) files sockets = pollnval
-told now events (Ok d) files sockets = bit_and (object_ready now d.file.object files sockets) (bit_or events (pollerr + pollhup))
+abbrev pub told : Time → ℕ → Result Descriptor Refusal → Scene → ℕ
+told now events (Err refusal) s = pollnval
+told now events (Ok d) s = bit_and (readiness now d.file.object s) (bit_or events (pollerr + pollhup))
 
 abbrev pub events_at : Time → Scene → ℕ → ℕ → ℕ
 events_at now s fd events =
-    if nat_le (2 ^ 31) fd then 0 else told now events (descriptor fd s.task s.shared.files) s.shared.files s.sockets
+    if nat_le (2 ^ 31) fd then 0 else told now events (descriptor fd s.task s.shared.files) s
 
 -- the bytes of an entry: the descriptor, the events that are asked for, and those that came
 abbrev pub entry_size : ℕ

@@ -16,7 +16,7 @@ use Rattle.host_calls.specs.Descriptors.{opens}
 use Rattle.host_calls.specs.Parts.{PartsRecord, place, with_place}
 
 abbrev pub fresh_task : Memory → Task
-fresh_task memory = record { table = map.empty; memory = memory; kept = None }
+fresh_task memory = record { table = map.empty; epolls = []; memory = memory; kept = None }
 
 abbrev pub std_file : Object → File
 std_file object = record { nonblocking = false; object = object }

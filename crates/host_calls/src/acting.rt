@@ -9,6 +9,7 @@ ghost use Rattle.host_calls.specs.Parts.{Answers, scene};
 
 use crate::accepting::accept;
 use crate::connecting::connect;
+use crate::epoll::epoll_wait;
 use crate::parts::{Known, Reaction, Shared, Task};
 use crate::plan::Plan;
 use crate::polling::ppoll;
@@ -59,6 +60,10 @@ pub(crate) fn act(
         Plan::Sleep => Ok(Reaction::Value(0)),
         Plan::Poll(polling) => {
             let value = ppoll(now, polling, task, shared, sockets)?;
+            Ok(Reaction::Value(value))
+        }
+        Plan::EpollWait(waiting) => {
+            let value = epoll_wait(now, waiting, task, shared, sockets)?;
             Ok(Reaction::Value(value))
         }
     }

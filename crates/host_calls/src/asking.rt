@@ -12,6 +12,7 @@ use crate::accepting::accept_plan;
 use crate::call::WaitingCall;
 use crate::connecting::connect_plan;
 use crate::descriptors::{Descriptor, look_up};
+use crate::epoll::wait_plan;
 use crate::parts::{Known, Shared, Task};
 use crate::plan::Plan;
 use crate::polling::poll_plan;
@@ -175,6 +176,10 @@ pub(crate) fn asked(
         WaitingCall::Ppoll => {
             let polling = poll_plan(now, a, b, c, task, shared, sockets)?;
             Ok(Plan::Poll(polling))
+        }
+        WaitingCall::EpollWait => {
+            let waiting = wait_plan(now, a, b, c, d, task, shared, sockets)?;
+            Ok(Plan::EpollWait(waiting))
         }
     }
 }

@@ -20,6 +20,8 @@ pub enum Call {
 #[derive(Clone, Copy)]
 pub enum PlainCall {
     Eventfd2,
+    EpollCreate,
+    EpollCtl,
     Fcntl,
     Openat,
     Pipe2,
@@ -55,6 +57,7 @@ pub enum WaitingCall {
     Recvfrom,
     ClockNanosleep,
     Ppoll,
+    EpollWait,
 }
 
 impl PlainCall {
@@ -63,6 +66,8 @@ impl PlainCall {
     {
         match number {
             19 => Some(PlainCall::Eventfd2),
+            20 => Some(PlainCall::EpollCreate),
+            21 => Some(PlainCall::EpollCtl),
             25 => Some(PlainCall::Fcntl),
             56 => Some(PlainCall::Openat),
             59 => Some(PlainCall::Pipe2),
@@ -100,6 +105,7 @@ impl WaitingCall {
         ensures { result ≡ spec.waiting_of number }
     {
         match number {
+            22 => Some(WaitingCall::EpollWait),
             63 => Some(WaitingCall::Read),
             64 => Some(WaitingCall::Write),
             202 => Some(WaitingCall::Accept),

@@ -16,6 +16,7 @@ use crate::asking::asked;
 use crate::binding::{bind, listen, socket};
 use crate::call::{Call, NetworkCall, PlainCall, WaitingCall};
 use crate::closing::{close, close_task};
+use crate::controlling::{epoll_create, epoll_ctl};
 use crate::eventfd::eventfd2;
 use crate::files::{fcntl, openat, pipe2};
 use crate::guest::{brk, getpid, getrandom};
@@ -40,6 +41,8 @@ fn plain_row(
 {
     match call {
         PlainCall::Eventfd2 => eventfd2(task, shared, args[0], args[1]),
+        PlainCall::EpollCreate => epoll_create(task, shared, args[0]),
+        PlainCall::EpollCtl => epoll_ctl(task, shared, args[0], args[1], args[2], args[3]),
         PlainCall::Fcntl => fcntl(task, shared, args[0], args[1], args[2]),
         PlainCall::Openat => openat(task, shared, args[1], args[2]),
         PlainCall::Pipe2 => pipe2(task, shared, args[0], args[1]),

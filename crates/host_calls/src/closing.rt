@@ -3,13 +3,14 @@
 ghost use Rattle.std.specs.Prelude.{◌≡◌, OnOk};
 ghost use Rattle.host_sockets.specs.Sockets.{SocketsRecord};
 ghost use Rattle.host_sockets.specs.StandsFor.{Stand};
+ghost use Rattle.host_files.specs.Epolls.{forgotten};
 ghost use Rattle.host_calls.specs.Closing as spec;
 ghost use Rattle.host_calls.specs.Parts.{Answers, Leaves, scene};
 
 use crate::descriptors::{Descriptor, look_up};
 use crate::parts::{Shared, Task};
 use host_fds::{End, Table};
-use host_files::Object;
+use host_files::{Epolls, Object};
 use host_sockets::{CallError, Sockets};
 use sim_base::{NoMemory, Time};
 
@@ -47,10 +48,37 @@ fn end_object(
             sockets.close_tcp(&mut shared.outlet, now, place)?;
             Ok(())
         }
+        Object::Epoll(_) => Ok(()),
         Object::Input => Ok(()),
         Object::Output => Ok(()),
         Object::Errors => Ok(()),
         Object::Hosts(_) => Ok(()),
+    }
+}
+
+/// No epoll has an entry of a closed descriptor, and an epoll that it named is gone.
+fn forget(fd: u32, object: Object, epolls: &mut Epolls)
+    ensures { epolls.new ≡ forgotten fd (spec.without_epoll object epolls.old) }
+{
+    end_epoll(object, epolls);
+    epolls.forget(fd);
+}
+
+fn end_epoll(object: Object, epolls: &mut Epolls)
+    ensures { epolls.new ≡ spec.without_epoll object epolls.old }
+{
+    match object {
+        Object::Epoll(place) => epolls.end(place),
+        Object::Input => {}
+        Object::Output => {}
+        Object::Errors => {}
+        Object::Hosts(_) => {}
+        Object::ReadEnd(_) => {}
+        Object::WriteEnd(_) => {}
+        Object::Timer(_) => {}
+        Object::Eventfd(_) => {}
+        Object::Udp(_) => {}
+        Object::Tcp(_) => {}
     }
 }
 
@@ -66,6 +94,7 @@ fn close_file(
 {
     end_object(now, d.file.object, shared, sockets)?;
     shared.files.close(d.id);
+    forget(fd, d.file.object, &mut task.epolls);
     let _object = task.table.close(fd);
     Ok(())
 }

@@ -41,10 +41,7 @@ pub(crate) fn eventfd2(
     ensures { Does (spec.eventfd2 count flags (task.old, shared.old)) (task.old, shared.old) (task.new, shared.new) result }
 {
     let fd = eventfd_asked(task, flags)?;
-    let eventfd = Eventfd {
-        count: u64::from(count),
-        semaphore: has(EFD_SEMAPHORE, flags),
-    };
+    let eventfd = Eventfd::new(u64::from(count), has(EFD_SEMAPHORE, flags));
     let place = shared.files.new_eventfd(eventfd)?;
     let file = File {
         nonblocking: has(O_NONBLOCK, flags),

@@ -3,7 +3,7 @@
 use crate::outputs::Outputs;
 use guest_mem::Mem;
 use host_fds::Table;
-use host_files::Files;
+use host_files::{Epolls, Files};
 use host_sockets::Outlet;
 use sim_base::{Book, Bytes, State, Time};
 
@@ -41,10 +41,11 @@ pub enum Reaction {
     Waits,
 }
 
-/// A process: its descriptors, its memory, and the call that it waits in.
+/// A process: its descriptors, its epolls, its memory, and the call that it waits in.
 #[derive(Drop)]
 pub struct Task {
     pub table: Table,
+    pub epolls: Epolls,
     pub memory: Mem,
     pub kept: Option<Why>,
 }

@@ -3,6 +3,7 @@
 use crate::accepting::AcceptPlan;
 use crate::connecting::ConnectPlan;
 use crate::descriptors::Descriptor;
+use crate::epoll::WaitPlan;
 use crate::polling::PollPlan;
 use crate::receiving::RecvPlan;
 use crate::sending::SendPlan;
@@ -21,6 +22,7 @@ pub enum Plan {
     /// It has slept.
     Sleep,
     Poll(PollPlan),
+    EpollWait(WaitPlan),
 }
 
 /// So many bytes at an address of the guest, and the file that they come from or go to.

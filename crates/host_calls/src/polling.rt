@@ -1,73 +1,22 @@
-//! What objects are ready for, and ppoll.
+//! ppoll.
 
 ghost use Rattle.std.specs.Prelude.{◌≡◌, ◌+◌, ◌*◌, ◌<◌, ◌≤◌, length, take, drop, Ok, Err, IfOk, IfErr, OnOk};
 ghost use Rattle.sim_base.specs.Units.{latest_time};
 ghost use Rattle.host_sockets.specs.Sockets.{SocketsRecord};
 ghost use Rattle.host_sockets.specs.StandsFor.{Stand};
-ghost use Rattle.host_files.specs.Files.{pipe_at, eventfd_at};
 ghost use Rattle.host_calls.specs.Parts.{Answers, scene};
 ghost use Rattle.host_calls.specs.Polling as spec;
 
 use crate::descriptors::look_up;
 use crate::parts::{Shared, Task};
-use crate::reading::timer_count;
+use crate::ready::readiness;
 use crate::times::kept_or;
 use guest_args::{deadline_after, fill, sixteen, timespec};
 use guest_mem::{Bad, Mem, Right};
-use host_fds::End;
-use host_files::{Files, Object};
 use host_sockets::{CallError, Refusal, Sockets};
 use host_timers::Moment;
-use sim_base::{Errno, NoMemory, POLLERR, POLLHUP, POLLIN, POLLNVAL, POLLOUT, Time};
+use sim_base::{Errno, NoMemory, POLLERR, POLLHUP, POLLNVAL, Time};
 use std::alloc::Global;
-
-fn pipe_ready(place: usize, end: End, files: &Files) -> u16
-    ensures { result ≡ spec.pipe_ready (pipe_at place files.now) end }
-{
-    match files.pipe(place) {
-        Some(pipe) => pipe.ready(end),
-        None => 0,
-    }
-}
-
-fn timer_ready(now: Time, place: usize, files: &Files) -> u16
-    requires { now.nanos ≤ latest_time }
-    ensures { result ≡ spec.timer_ready now place files.now }
-{
-    if timer_count(now, place, files) > 0 {
-        POLLIN
-    } else {
-        0
-    }
-}
-
-fn eventfd_ready(place: usize, files: &Files) -> u16
-    ensures { result ≡ spec.eventfd_ready (eventfd_at place files.now) }
-{
-    match files.eventfd(place) {
-        Some(eventfd) => eventfd.ready(),
-        None => 0,
-    }
-}
-
-/// What an object is ready for, by the bits of `poll(2)`.
-fn object_ready(now: Time, object: Object, files: &Files, sockets: &Sockets) -> u16
-    requires { now.nanos ≤ latest_time }
-    ensures { (t : SocketsRecord) → Stand sockets.now t → result ≡ spec.object_ready now object files.now t }
-{
-    match object {
-        Object::Input => POLLIN,
-        Object::Output => POLLOUT,
-        Object::Errors => POLLOUT,
-        Object::Hosts(_) => POLLIN + POLLOUT,
-        Object::ReadEnd(place) => pipe_ready(place, End::Reading, files),
-        Object::WriteEnd(place) => pipe_ready(place, End::Writing, files),
-        Object::Timer(place) => timer_ready(now, place, files),
-        Object::Eventfd(place) => eventfd_ready(place, files),
-        Object::Udp(place) => sockets.udp_ready(place),
-        Object::Tcp(place) => sockets.tcp_ready(place),
-    }
-}
 
 /// What is told of a descriptor of which events are asked for.
 fn told(now: Time, fd: u32, events: u16, task: &Task, shared: &Shared, sockets: &Sockets) -> u16
@@ -79,8 +28,7 @@ fn told(now: Time, fd: u32, events: u16, task: &Task, shared: &Shared, sockets: 
     }
     match look_up(fd, task, &shared.files) {
         Ok(d) => {
-            object_ready(now, d.file.object, &shared.files, sockets)
-                & (events | (POLLERR + POLLHUP))
+            readiness(now, d.file.object, task, shared, sockets) & (events | (POLLERR + POLLHUP))
         }
         Err(_) => POLLNVAL,
     }
@@ -219,7 +167,7 @@ fn poll_deadline(now: Time, at: u32, task: &Task) -> Result<Option<Time>, Refusa
     Ok(Some(kept_or(task.kept, deadline_after(now, time))))
 }
 
-fn has_come(now: Time, deadline: Option<Time>) -> bool
+pub(crate) fn has_come(now: Time, deadline: Option<Time>) -> bool
     ensures { result ≡ spec.has_come now deadline }
 {
     match deadline {

@@ -35,7 +35,7 @@ pub(crate) fn may_hold(n: u32) -> Result<(), Refusal>
     }
 }
 
-/// What cannot be read, and what a timer or an eventfd has no room for.
+/// What cannot be read, an epoll among it, and what a timer or an eventfd has no room for.
 fn may_read(object: Object, n: u32) -> Result<(), Refusal>
     ensures { result ≡ spec.may_read object n }
 {
@@ -43,6 +43,7 @@ fn may_read(object: Object, n: u32) -> Result<(), Refusal>
         Object::Output => Err(Refusal::Errno(Errno::Ebadf)),
         Object::Errors => Err(Refusal::Errno(Errno::Ebadf)),
         Object::WriteEnd(_) => Err(Refusal::Errno(Errno::Ebadf)),
+        Object::Epoll(_) => Err(Refusal::Errno(Errno::Einval)),
         Object::Timer(_) => may_hold(n),
         Object::Eventfd(_) => may_hold(n),
         Object::Input => Ok(()),
@@ -104,6 +105,7 @@ fn wait_to_read(now: Time, object: Object, files: &Files) -> Result<(), Refusal>
         Object::Errors => Ok(()),
         Object::Hosts(_) => Ok(()),
         Object::WriteEnd(_) => Ok(()),
+        Object::Epoll(_) => Ok(()),
         Object::Udp(_) => Ok(()),
         Object::Tcp(_) => Ok(()),
     }
@@ -221,6 +223,7 @@ fn read_done(
         Object::Output => Ok(0),
         Object::Errors => Ok(0),
         Object::WriteEnd(_) => Ok(0),
+        Object::Epoll(_) => Ok(0),
         Object::Udp(_) => Ok(0),
         Object::Tcp(_) => Ok(0),
     }

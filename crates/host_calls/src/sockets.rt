@@ -41,6 +41,7 @@ pub(crate) fn socket_number(object: Object) -> Result<SocketNumber, Refusal>
         Object::WriteEnd(_) => Err(Refusal::Errno(Errno::Enotsock)),
         Object::Timer(_) => Err(Refusal::Errno(Errno::Enotsock)),
         Object::Eventfd(_) => Err(Refusal::Errno(Errno::Enotsock)),
+        Object::Epoll(_) => Err(Refusal::Errno(Errno::Enotsock)),
     }
 }
 

@@ -11,7 +11,7 @@ use crate::outputs::Outputs;
 use crate::parts::{Shared, Task};
 use guest_mem::Mem;
 use host_fds::Table;
-use host_files::{File, Files, Object};
+use host_files::{Epolls, File, Files, Object};
 use host_sockets::{Outlet, Sockets};
 use sim_base::{Draws, Ip, NoMemory};
 use std::alloc::Global;
@@ -32,6 +32,7 @@ fn start(alloc: Global, memory: Mem, shared: &mut Shared) -> Result<Task, NoMemo
 {
     let mut task = Task {
         table: Table::new(alloc)?,
+        epolls: Epolls::new(alloc),
         memory,
         kept: None,
     };

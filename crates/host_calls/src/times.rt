@@ -248,6 +248,7 @@ fn timer_number(object: Object) -> Result<usize, Refusal>
         Object::ReadEnd(_) => Err(Refusal::Errno(Errno::Einval)),
         Object::WriteEnd(_) => Err(Refusal::Errno(Errno::Einval)),
         Object::Eventfd(_) => Err(Refusal::Errno(Errno::Einval)),
+        Object::Epoll(_) => Err(Refusal::Errno(Errno::Einval)),
         Object::Udp(_) => Err(Refusal::Errno(Errno::Einval)),
         Object::Tcp(_) => Err(Refusal::Errno(Errno::Einval)),
     }

@@ -26,6 +26,7 @@ fn may_write(object: Object, n: u32) -> Result<(), Refusal>
         Object::Hosts(_) => Err(Refusal::Errno(Errno::Ebadf)),
         Object::ReadEnd(_) => Err(Refusal::Errno(Errno::Ebadf)),
         Object::Timer(_) => Err(Refusal::Errno(Errno::Einval)),
+        Object::Epoll(_) => Err(Refusal::Errno(Errno::Einval)),
         Object::Eventfd(_) => may_hold(n),
         Object::Output => Ok(()),
         Object::Errors => Ok(()),
@@ -70,6 +71,7 @@ fn wait_to_write(
         Object::Hosts(_) => Ok(()),
         Object::ReadEnd(_) => Ok(()),
         Object::Timer(_) => Ok(()),
+        Object::Epoll(_) => Ok(()),
         Object::Udp(_) => Ok(()),
         Object::Tcp(_) => Ok(()),
     }
@@ -140,6 +142,7 @@ fn write_done(
         Object::Hosts(_) => Ok(0),
         Object::ReadEnd(_) => Ok(0),
         Object::Timer(_) => Ok(0),
+        Object::Epoll(_) => Ok(0),
         Object::Udp(_) => Ok(0),
         Object::Tcp(_) => Ok(0),
     }

@@ -1,10 +1,14 @@
-//! The descriptors of a process, pipes, and eventfds.
+//! The descriptors of a process, pipes, eventfds and epolls, and how often objects became ready.
 #![tactic(auto)]
 
+mod epoll;
 mod eventfd;
 mod pipe;
+mod rises;
 mod table;
 
+pub use epoll::{Entry, Epoll, Seen, Watch};
 pub use eventfd::Eventfd;
 pub use pipe::{End, Pipe};
+pub use rises::Rises;
 pub use table::Table;

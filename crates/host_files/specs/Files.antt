@@ -1,11 +1,13 @@
 -- What the descriptors of a host's processes name.
-use Rattle.std.specs.Prelude.{ℕ, ◌||◌, List, [], take, Option, Some, None, if◌then◌else◌}
+use Rattle.std.specs.Prelude.{ℕ, ◌+◌, ◌||◌, min, List, [], take, Option, Some, None, if◌then◌else◌}
 use Rattle.sim_base.specs.declared.object.ObjectId.{ObjectId}
 use Rattle.host_fds.specs.Pipe.{PipeState, new_pipe, count_taken}
 use Rattle.host_fds.specs.Pipe as pipe
 use Rattle.host_fds.specs.Eventfd as eventfd
 use Rattle.host_fds.specs.declared.eventfd.Eventfd.{Eventfd}
 use Rattle.host_fds.specs.declared.pipe.End.{End}
+use Rattle.host_fds.specs.declared.rises.Rises.{Rises}
+use Rattle.host_fds.specs.Rises.{no_rises, most}
 use Rattle.host_timers.specs.Timer as timer
 use Rattle.host_files.specs.declared.file.File.{File}
 use Rattle.host_files.specs.declared.timer.KeptTimer.{KeptTimer}
@@ -94,7 +96,7 @@ pipe_shut end place s = pipe_acts (after_shut end) place s
 
 -- timerfd_create(2): a new timer, which is off
 abbrev pub new_timer : ℕ → KeptTimer
-new_timer clock = record { timer = timer.off; clock = clock; serial = 0 }
+new_timer clock = record { timer = timer.off; clock = clock; serial = 0; earlier = 0 }
 
 abbrev pub next_timer : FilesState → ℕ
 next_timer s = free_place s.timers
@@ -109,9 +111,16 @@ timer_at place s = at place s.timers
 abbrev pub timer_acts : (KeptTimer → Option KeptTimer) → ℕ → FilesState → FilesState
 timer_acts act place s = record s { timers = acts act place s.timers }
 
+-- how often it expired so far, as it was set before and as it is set now
+abbrev pub expiries : ℕ → KeptTimer → ℕ
+expiries now t = min (t.earlier + timer.expired t.timer now) most
+
+abbrev pub timer_rises : ℕ → KeptTimer → Rises
+timer_rises now t = record no_rises { input = expiries now t }
+
 -- timerfd_settime(2): from now on alarms with this serial are the timer's
 abbrev pub after_set : ℕ → ℕ → ℕ → ℕ → KeptTimer → Option KeptTimer
-after_set now first interval serial t = Some (record t { timer = timer.set now first interval; serial = serial })
+after_set now first interval serial t = Some (record t { timer = timer.set now first interval; serial = serial; earlier = expiries now t })
 
 abbrev pub timer_set : ℕ → ℕ → ℕ → ℕ → ℕ → FilesState → FilesState
 timer_set now first interval serial place s = timer_acts (after_set now first interval serial) place s

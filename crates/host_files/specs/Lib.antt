@@ -1,2 +1,3 @@
+pub mod Epolls
 pub mod Files
 pub mod Slots

@@ -19,6 +19,8 @@ pub enum Object {
     Timer(usize),
     /// The eventfd with this number.
     Eventfd(usize),
+    /// The epoll with this number, of the process that the file is open in.
+    Epoll(usize),
     /// The UDP socket with this number.
     Udp(usize),
     /// The TCP socket with this number.

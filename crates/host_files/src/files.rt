@@ -149,6 +149,7 @@ impl Files {
             timer: Timer::new(),
             clock,
             serial: 0,
+            earlier: 0,
         };
         add(&mut self.timers, timer)
     }
@@ -296,6 +297,7 @@ fn set_slot(slot: &mut Option<KeptTimer>, now: Time, first: Time, interval: Time
     ensures { slot.new ≡ act.after (spec.after_set now.nanos first.nanos interval.nanos serial) slot.old }
 {
     if let Some(kept) = slot {
+        kept.earlier = kept.expiries(now);
         kept.timer.set(now, first, interval);
         kept.serial = serial;
     }

@@ -1,6 +1,7 @@
 pub mod AcceptQueue
 pub mod AsksAt
 pub mod BoundSends
+pub mod Endings
 pub mod Gathering
 pub mod Places
 pub mod Placing

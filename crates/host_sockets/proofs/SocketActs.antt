@@ -13,43 +13,50 @@ use Rattle.host_sockets.specs.declared.tcp_sock.TcpSock.{TcpSock}
 use Rattle.host_sockets.specs.Wanted.{Wanted}
 use Rattle.host_sockets.specs.TcpSocket.{TcpSocket}
 use Rattle.host_sockets.specs.Sockets.{SocketsRecord, tcp_at, with_tcp, changes_at, changes_in}
+use Rattle.host_sockets.specs.declared.glance.Glance.{Glance}
+use Rattle.host_sockets.specs.Rises.{tcp_glance, moved_at}
 use Rattle.host_sockets.specs.TcpActs.{Acted, acts_in, acts_at}
 use Rattle.host_sockets.specs.StandsFor.{SocketStands, AllStand, Stand, Brings, Leaves}
+use Rattle.host_sockets.proofs.Endings.{ActEnds}
 use Rattle.host_sockets.proofs.Places.{socket_at, no_socket_at, stands_at, stands_set}
 
 -- the socket that was read at a place
-stands_there : (c : Sockets) (t : SocketsRecord) (k : ℕ) (old : TcpSock) (s : TcpSocket) → Stand c t → old ≡ get_or c.tcp.items k old → slice_get t.tcp k ≡ Some s → SocketStands old s
+pub stands_there : (c : Sockets) (t : SocketsRecord) (k : ℕ) (old : TcpSock) (s : TcpSocket) → Stand c t → old ≡ get_or c.tcp.items k old → slice_get t.tcp k ≡ Some s → SocketStands old s
 stands_there c t k old s h is e = subst (λ (x : TcpSock). SocketStands x s) (sym is) (stands_at c.tcp.items t.tcp k s old h.tcp e)
 
 -- what stands for a record does so by its fields alone
-pub stand_same : (c c' : Sockets) (t : SocketsRecord) → c'.own ≡ c.own → c'.udp.items ≡ c.udp.items → c'.tcp.items ≡ c.tcp.items → c'.gone.items ≡ c.gone.items → Stand c t → Stand c' t
-stand_same c c' t own udp tcp gone h = record {
+pub stand_same : (c c' : Sockets) (t : SocketsRecord) → c'.own ≡ c.own → c'.udp.items ≡ c.udp.items → c'.tcp.items ≡ c.tcp.items → c'.udp_risen.items ≡ c.udp_risen.items → c'.tcp_risen.items ≡ c.tcp_risen.items → c'.gone.items ≡ c.gone.items → Stand c t → Stand c' t
+stand_same c c' t own udp tcp udp_risen tcp_risen gone h = record {
   own = own ∙ h.own;
   udp = udp ∙ h.udp;
   tcp = subst (λ (xs : List TcpSock). AllStand xs t.tcp) (sym tcp) h.tcp;
+  udp_risen = udp_risen ∙ h.udp_risen;
+  tcp_risen = tcp_risen ∙ h.tcp_risen;
   gone = gone ∙ h.gone;
 }
 
 -- with another socket at a place, which stands for another there
-pub stand_with : (c c' : Sockets) (t : SocketsRecord) (k : ℕ) (new : TcpSock) (s : TcpSocket) (gone : List Tcb) → Stand c t → SocketStands new s → c'.own ≡ c.own → c'.udp.items ≡ c.udp.items → c'.tcp.items ≡ set c.tcp.items k new → c'.gone.items ≡ map carried_of gone → Stand c' (record (with_tcp k s t) { gone = gone })
-stand_with c c' t k new s gone h stands own udp tcp kept = record {
-  own = own ∙ h.own;
-  udp = udp ∙ h.udp;
-  tcp = subst (λ (xs : List TcpSock). AllStand xs (set t.tcp k s)) (sym tcp) (stands_set c.tcp.items t.tcp k new s h.tcp stands);
-  gone = kept;
+pub stand_with : (c c' : Sockets) (t : SocketsRecord) (k : ℕ) (new : TcpSock) (before : Glance) (old s : TcpSocket) (kept : List Carried) (gone : List Tcb) → Stand c t → SocketStands new s → before ≡ tcp_glance old → ActEnds c c' k before new kept → kept ≡ map carried_of gone → Stand c' (record (with_tcp k old s t) { gone = gone })
+stand_with c c' t k new before old s kept gone h stands seen ends left = record {
+  own = ends.own ∙ h.own;
+  udp = ends.udp ∙ h.udp;
+  tcp = subst (λ (xs : List TcpSock). AllStand xs (set t.tcp k s)) (sym ends.tcp) (stands_set c.tcp.items t.tcp k new s h.tcp stands);
+  udp_risen = ends.udp_risen ∙ h.udp_risen;
+  tcp_risen = ends.tcp_risen s stands ∙ (ap (λ (g : Glance). moved_at k g (tcp_glance s) c.tcp_risen.items) seen ∙ ap (moved_at k (tcp_glance old) (tcp_glance s)) h.tcp_risen);
+  gone = ends.gone ∙ left;
 }
 
 -- what is kept of the records that an act lets go stands behind the others
 kept_behind : (kept before : List Carried) (gone was : List Tcb) → kept ≡ with_gone gone before → before ≡ map carried_of was → kept ≡ map carried_of (was ++ gone)
 kept_behind kept before gone was e h = e ∙ (ap (λ xs. xs ++ map carried_of gone) h ∙ sym (map-append carried_of was gone))
 
-pub leaves_acted : (c c' : Sockets) (t : SocketsRecord) (w w' : Wanted) (k : ℕ) (old new : TcpSock) (act : TcpSocket → Wanted → Acted) → Stand c t → k < length c.tcp.items → old ≡ get_or c.tcp.items k old → ((s : TcpSocket) → SocketStands old s → Brings new w' c.gone.items c'.gone.items (act s w)) → c'.own ≡ c.own → c'.udp.items ≡ c.udp.items → c'.tcp.items ≡ set c.tcp.items k new → Leaves c' w' (acts_at k act t w)
-leaves_acted c c' t w w' k old new act h b is acts own udp tcp =
+pub leaves_acted : (c c' : Sockets) (t : SocketsRecord) (w w' : Wanted) (k : ℕ) (old new : TcpSock) (before : Glance) (kept : List Carried) (act : TcpSocket → Wanted → Acted) → Stand c t → k < length c.tcp.items → old ≡ get_or c.tcp.items k old → ((s : TcpSocket) → SocketStands old s → Brings new w' c.gone.items kept (act s w)) → ((s : TcpSocket) → slice_get t.tcp k ≡ Some s → before ≡ tcp_glance s) → ActEnds c c' k before new kept → Leaves c' w' (acts_at k act t w)
+leaves_acted c c' t w w' k old new before kept act h b is acts seen ends =
     let found = socket_at c.tcp.items t.tcp k h.tcp b in
     let brings = acts found.0 (stands_there c t k old found.0 h is found.1) in
     subst (λ (o : Option TcpSocket). Leaves c' w' (acts_in k act o t w)) (sym found.1)
     (record {
-      sockets = stand_with c c' t k new (act found.0 w).socket _ h brings.socket own udp tcp (kept_behind c'.gone.items c.gone.items (act found.0 w).gone t.gone brings.gone h.gone);
+      sockets = stand_with c c' t k new before found.0 (act found.0 w).socket kept _ h brings.socket (seen found.0 found.1) ends (kept_behind kept c.gone.items (act found.0 w).gone t.gone brings.gone h.gone);
       wanted = brings.wanted;
     })
 
@@ -59,19 +66,19 @@ leaves_none c t w k act h b =
     (record { sockets = h; wanted = refl })
 
 -- the same where the number is told by an equation
-pub leaves_acted_by : (c c' : Sockets) (t : SocketsRecord) (w w' : Wanted) (k n : ℕ) (old new : TcpSock) (act : ℕ → TcpSocket → Wanted → Acted) → k ≡ n → Stand c t → k < length c.tcp.items → old ≡ get_or c.tcp.items k old → ((s : TcpSocket) → SocketStands old s → Brings new w' c.gone.items c'.gone.items (act k s w)) → c'.own ≡ c.own → c'.udp.items ≡ c.udp.items → c'.tcp.items ≡ set c.tcp.items k new → Leaves c' w' (acts_at n (act n) t w)
-leaves_acted_by c c' t w w' k n old new act e h b is acts own udp tcp =
-    subst (λ (m : ℕ). Leaves c' w' (acts_at m (act m) t w)) e (leaves_acted c c' t w w' k old new (act k) h b is acts own udp tcp)
+pub leaves_acted_by : (c c' : Sockets) (t : SocketsRecord) (w w' : Wanted) (k n : ℕ) (old new : TcpSock) (before : Glance) (kept : List Carried) (act : ℕ → TcpSocket → Wanted → Acted) → k ≡ n → Stand c t → k < length c.tcp.items → old ≡ get_or c.tcp.items k old → ((s : TcpSocket) → SocketStands old s → Brings new w' c.gone.items kept (act k s w)) → ((s : TcpSocket) → slice_get t.tcp k ≡ Some s → before ≡ tcp_glance s) → ActEnds c c' k before new kept → Leaves c' w' (acts_at n (act n) t w)
+leaves_acted_by c c' t w w' k n old new before kept act e h b is acts seen ends =
+    subst (λ (m : ℕ). Leaves c' w' (acts_at m (act m) t w)) e (leaves_acted c c' t w w' k old new before kept (act k) h b is acts seen ends)
 
 pub leaves_none_by : (c : Sockets) (t : SocketsRecord) (w : Wanted) (k n : ℕ) (act : ℕ → TcpSocket → Wanted → Acted) → k ≡ n → Stand c t → length c.tcp.items ≤ k → Leaves c w (acts_at n (act n) t w)
 leaves_none_by c t w k n act e h b = subst (λ (m : ℕ). Leaves c w (acts_at m (act m) t w)) e (leaves_none c t w k (act k) h b)
 
 -- a change that wants nothing
-pub stand_changed : (c c' : Sockets) (t : SocketsRecord) (k : ℕ) (old new : TcpSock) (f : TcpSocket → TcpSocket) → Stand c t → k < length c.tcp.items → old ≡ get_or c.tcp.items k old → ((s : TcpSocket) → SocketStands old s → SocketStands new (f s)) → c'.own ≡ c.own → c'.udp.items ≡ c.udp.items → c'.tcp.items ≡ set c.tcp.items k new → c'.gone.items ≡ c.gone.items → Stand c' (changes_at k f t)
-stand_changed c c' t k old new f h b is changes own udp tcp gone =
+pub stand_changed : (c c' : Sockets) (t : SocketsRecord) (k : ℕ) (old new : TcpSock) (before : Glance) (f : TcpSocket → TcpSocket) → Stand c t → k < length c.tcp.items → old ≡ get_or c.tcp.items k old → ((s : TcpSocket) → SocketStands old s → SocketStands new (f s)) → ((s : TcpSocket) → slice_get t.tcp k ≡ Some s → before ≡ tcp_glance s) → ActEnds c c' k before new c.gone.items → Stand c' (changes_at k f t)
+stand_changed c c' t k old new before f h b is changes seen ends =
     let found = socket_at c.tcp.items t.tcp k h.tcp b in
     subst (λ (o : Option TcpSocket). Stand c' (changes_in k f o t)) (sym found.1)
-    (stand_with c c' t k new (f found.0) _ h (changes found.0 (stands_there c t k old found.0 h is found.1)) own udp tcp (gone ∙ h.gone))
+    (stand_with c c' t k new before found.0 (f found.0) c.gone.items _ h (changes found.0 (stands_there c t k old found.0 h is found.1)) (seen found.0 found.1) ends h.gone)
 
 pub stand_unchanged : (c : Sockets) (t : SocketsRecord) (k : ℕ) (f : TcpSocket → TcpSocket) → Stand c t → length c.tcp.items ≤ k → Stand c (changes_at k f t)
 stand_unchanged c t k f h b =

@@ -1,7 +1,6 @@
 -- acts on the connections that a listener keeps, and a connection that it gives
 use Rattle.std.proofs.Common.{◌≡◌, ℕ, ◌<◌, ◌≤◌, List, length, get_or, set, Option, Some, None, slice_get, Result, Ok, refl, sym, ap, subst, ◌∙◌}
 use Rattle.sim_base.specs.declared.address.Addr.{Addr}
-use Rattle.sim_base.specs.declared.packet.Packet.{Packet}
 use Rattle.sim_base.specs.declared.time.Time.{Time}
 use Rattle.sim_base.specs.Refusals.{◌>>=◌, ◌>>◌, or_refuse}
 use Rattle.sock_tcp.specs.declared.connection.conn.Conn.{Conn}
@@ -11,27 +10,31 @@ use Rattle.sock_tcp.specs.declared.connection.carried.Carried.{Carried}
 use Rattle.sock_tcp.specs.connection.Carried.{with_gone}
 use Rattle.sock_tcp.specs.connection.Tcb.{Tcb}
 use Rattle.sock_tcp.specs.connection.StandsFor.{StandsFor}
+use Rattle.sock_tcp.specs.listener.Listen.{Listen, Heard, accepts, hears, hears_timer}
+use Rattle.sock_tcp.specs.listener.ListensFor.{ListensFor, AcceptsAs, Hears}
+use Rattle.sim_base.specs.declared.packet.Packet.{Packet}
 use Rattle.sock_tcp.specs.declared.connection.effects.Effects.{Effects}
 use Rattle.sock_tcp.specs.connection.Arrival.{takes_packet}
 use Rattle.sock_tcp.specs.connection.Process.{expires}
 use Rattle.sock_tcp.specs.listener.Dropped.{dropped}
-use Rattle.sock_tcp.specs.listener.Listen.{Listen, Heard, hears, hears_timer, accepts}
-use Rattle.sock_tcp.specs.listener.ListensFor.{ListensFor, Hears, AcceptsAs}
+use Rattle.host_sockets.specs.Alarms.{kept_expires}
+use Rattle.host_sockets.specs.Arriving.{word_drawn, hears_in}
 use Rattle.host_sockets.specs.declared.error.Refusal.{Refusal}
 use Rattle.host_sockets.specs.declared.error.Refusal.TheVariants as refusal
 use Rattle.host_sockets.specs.declared.reply.Accepted.{Accepted}
 use Rattle.host_sockets.specs.declared.sockets.Sockets.{Sockets}
 use Rattle.host_sockets.specs.declared.tcp_sock.KeptTimer.{KeptTimer}
 use Rattle.host_sockets.specs.declared.tcp_sock.TcpSock.{TcpSock}
+use Rattle.host_sockets.specs.declared.glance.Glance.{Glance}
+use Rattle.host_sockets.specs.Rises.{tcp_glance}
 use Rattle.host_sockets.specs.Wanted.{Wanted, sends, draws_word}
-use Rattle.host_sockets.specs.Alarms.{kept_expires}
-use Rattle.host_sockets.specs.Arriving.{word_drawn, hears_in}
 use Rattle.host_sockets.specs.TcpSocket.{TcpSocket}
 use Rattle.host_sockets.specs.Sockets.{SocketsRecord, changes_at, changes_in}
 use Rattle.host_sockets.specs.ListenerActs.{with_listen, with_timers, timers_kept, timer_starts, heard}
 use Rattle.host_sockets.specs.Accepting.{accepts_in, accepts_of, accepts_at, given_up, placed, TakesConn, TakesAt}
-use Rattle.host_sockets.specs.StandsFor.{SocketStands, ListenerStands, Stand, Brings, Becomes}
-use Rattle.host_sockets.proofs.Places.{no_socket_at, socket_same}
+use Rattle.host_sockets.specs.StandsFor.{SocketStands, ListenerStands, AllStand, Stand, Brings, Becomes}
+use Rattle.host_sockets.proofs.Endings.{ActEnds}
+use Rattle.host_sockets.proofs.Places.{no_socket_at, socket_same, stands_set}
 use Rattle.host_sockets.proofs.SocketActs.{socket_there, stand_with}
 
 -- an act on a record that a listener keeps: what it started and left
@@ -82,19 +85,34 @@ takes_conn old new s (Some l) k k' conn control h stands accepted told keeps =
     gives_up old new s k' conn control l (accepts l) h (accepted l stands) told keeps
 
 -- of the socket with a number
-takes_from : (c c' : Sockets) (t : SocketsRecord) (k : ℕ) (new : TcpSock) (s : TcpSocket) (a : Option (Tcb × Listen)) (result : Option Conn) → Stand c t → slice_get t.tcp k ≡ Some s → TakesConn a s result new → c'.own ≡ c.own → c'.udp.items ≡ c.udp.items → c'.tcp.items ≡ set c.tcp.items k new → c'.gone.items ≡ c.gone.items → TakesAt a k t result c'
-takes_from c c' t k new s None None h at takes own udp tcp gone =
-    subst (λ (xs : List TcpSocket). Stand c' (record t { tcp = xs })) (socket_same t.tcp k s at) (stand_with c c' t k new s t.gone h takes own udp tcp (gone ∙ h.gone))
-takes_from c c' t k new s None (Some conn) h at takes own udp tcp gone = absurd takes
-takes_from c c' t k new s (Some (r, rest)) None h at takes own udp tcp gone = absurd takes
-takes_from c c' t k new s (Some (r, rest)) (Some conn) h at takes own udp tcp gone =
-    (takes.0, subst (λ (o : Option TcpSocket). Stand c' (changes_in k (given_up r rest) o t)) (sym at) (stand_with c c' t k new (given_up r rest s) t.gone h takes.1 own udp tcp (gone ∙ h.gone)))
+takes_from : (c c' : Sockets) (t : SocketsRecord) (k : ℕ) (new : TcpSock) (before : Glance) (s : TcpSocket) (a : Option (Tcb × Listen)) (conn : Conn) → Stand c t → slice_get t.tcp k ≡ Some s → TakesConn a s (Some conn) new → before ≡ tcp_glance s → ActEnds c c' k before new c.gone.items → TakesAt a k t (Some conn) c'
+takes_from c c' t k new before s None conn h at takes seen ends = absurd takes
+takes_from c c' t k new before s (Some (r, rest)) conn h at takes seen ends =
+    (takes.0, subst (λ (o : Option TcpSocket). Stand c' (changes_in k (given_up r rest) o t)) (sym at) (stand_with c c' t k new before s (given_up r rest s) c.gone.items t.gone h takes.1 seen ends h.gone))
 
-pub takes_at : (c c' : Sockets) (t : SocketsRecord) (k : ℕ) (old new : TcpSock) (result : Option Conn) → Stand c t → k < length c.tcp.items → old ≡ get_or c.tcp.items k old → ((s : TcpSocket) → SocketStands old s → TakesConn (accepts_in s.listen) s result new) → c'.own ≡ c.own → c'.udp.items ≡ c.udp.items → c'.tcp.items ≡ set c.tcp.items k new → c'.gone.items ≡ c.gone.items → TakesAt (accepts_at k t) k t result c'
-takes_at c c' t k old new result h b is takes own udp tcp gone =
+pub takes_at : (c c' : Sockets) (t : SocketsRecord) (k : ℕ) (old new : TcpSock) (before : Glance) (conn : Conn) → Stand c t → k < length c.tcp.items → old ≡ get_or c.tcp.items k old → ((s : TcpSocket) → SocketStands old s → TakesConn (accepts_in s.listen) s (Some conn) new) → ((s : TcpSocket) → slice_get t.tcp k ≡ Some s → before ≡ tcp_glance s) → ActEnds c c' k before new c.gone.items → TakesAt (accepts_at k t) k t (Some conn) c'
+takes_at c c' t k old new before conn h b is takes seen ends =
     let found = socket_there c t k old h b is in
-    subst (λ (o : Option TcpSocket). TakesAt (accepts_of o) k t result c') (sym found.1.0)
-    (takes_from c c' t k new found.0 (accepts_in found.0.listen) result h found.1.0 (takes found.0 found.1.1) own udp tcp gone)
+    subst (λ (o : Option TcpSocket). TakesAt (accepts_of o) k t (Some conn) c') (sym found.1.0)
+    (takes_from c c' t k new before found.0 (accepts_in found.0.listen) conn h found.1.0 (takes found.0 found.1.1) (seen found.0 found.1.0) ends)
+
+-- where none waits nothing changes
+none_from : (c c' : Sockets) (t : SocketsRecord) (k : ℕ) (new : TcpSock) (s : TcpSocket) (a : Option (Tcb × Listen)) → Stand c t → slice_get t.tcp k ≡ Some s → TakesConn a s None new → c'.own ≡ c.own → c'.udp.items ≡ c.udp.items → c'.tcp.items ≡ set c.tcp.items k new → c'.udp_risen.items ≡ c.udp_risen.items → c'.tcp_risen.items ≡ c.tcp_risen.items → c'.gone.items ≡ c.gone.items → TakesAt a k t None c'
+none_from c c' t k new s (Some (r, rest)) h at takes own udp tcp udp_risen tcp_risen gone = absurd takes
+none_from c c' t k new s None h at takes own udp tcp udp_risen tcp_risen gone = record {
+  own = own ∙ h.own;
+  udp = udp ∙ h.udp;
+  tcp = subst (λ (xs : List TcpSock). AllStand xs t.tcp) (sym tcp) (subst (AllStand (set c.tcp.items k new)) (socket_same t.tcp k s at) (stands_set c.tcp.items t.tcp k new s h.tcp takes));
+  udp_risen = udp_risen ∙ h.udp_risen;
+  tcp_risen = tcp_risen ∙ h.tcp_risen;
+  gone = gone ∙ h.gone;
+}
+
+pub none_at : (c c' : Sockets) (t : SocketsRecord) (k : ℕ) (old new : TcpSock) → Stand c t → k < length c.tcp.items → old ≡ get_or c.tcp.items k old → ((s : TcpSocket) → SocketStands old s → TakesConn (accepts_in s.listen) s None new) → c'.own ≡ c.own → c'.udp.items ≡ c.udp.items → c'.tcp.items ≡ set c.tcp.items k new → c'.udp_risen.items ≡ c.udp_risen.items → c'.tcp_risen.items ≡ c.tcp_risen.items → c'.gone.items ≡ c.gone.items → TakesAt (accepts_at k t) k t None c'
+none_at c c' t k old new h b is takes own udp tcp udp_risen tcp_risen gone =
+    let found = socket_there c t k old h b is in
+    subst (λ (o : Option TcpSocket). TakesAt (accepts_of o) k t None c') (sym found.1.0)
+    (none_from c c' t k new found.0 (accepts_in found.0.listen) h found.1.0 (takes found.0 found.1.1) own udp tcp udp_risen tcp_risen gone)
 
 pub takes_none : (c : Sockets) (t : SocketsRecord) (k : ℕ) → Stand c t → length c.tcp.items ≤ k → TakesAt (accepts_at k t) k t None c
 takes_none c t k h b = subst (λ (o : Option TcpSocket). TakesAt (accepts_of o) k t None c) (sym (no_socket_at c.tcp.items t.tcp k h.tcp b)) h

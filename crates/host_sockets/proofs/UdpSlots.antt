@@ -1,18 +1,23 @@
 -- an act in the place of a UDP socket is an act of all
 use Rattle.std.proofs.Common.{◌≡◌, ℕ, zero, suc, ◌<◌, ◌≤◌, List, [], ◌∷◌, length, get_or, set, Option, Some, None, slice_get, Result, Ok, Err, refl, sym, ap, subst, ◌∙◌, arith}
 use Rattle.sim_base.specs.Addresses.{Surroundings}
+use Rattle.sim_base.specs.declared.act.Act.{Act}
 use Rattle.sim_base.specs.declared.address.Addr.{Addr}
 use Rattle.sim_base.specs.declared.address.Ip.{Ip}
 use Rattle.sim_base.specs.declared.errno.Errno.TheVariants.{Ebadf}
-use Rattle.sock_udp.specs.Socket.{UdpState}
+use Rattle.sock_udp.specs.Socket.{UdpState, arrive}
 use Rattle.host_sockets.specs.declared.error.CallError.{CallError}
 use Rattle.host_sockets.specs.declared.error.CallError.TheVariants as error
 use Rattle.host_sockets.specs.declared.error.Refusal.{Refusal}
 use Rattle.host_sockets.specs.declared.error.Refusal.TheVariants as refusal
 use Rattle.host_sockets.specs.declared.sockets.Sockets.{Sockets}
+use Rattle.host_sockets.specs.declared.glance.Glance.{Glance}
+use Rattle.host_sockets.specs.Rises.{udp_glance, slot_glance, moved_at}
 use Rattle.host_sockets.specs.Sockets.{SocketsRecord}
 use Rattle.host_sockets.specs.StandsFor.{AllStand, Stand, Becomes}
-use Rattle.host_sockets.specs.Udp.{udp_in, socket_in, with_slot, udp_acts, acted_udp, udp_ends, udp_around, SlotDoes}
+use Rattle.host_sockets.specs.Udp.{udp_in, socket_in, with_udp, udp_acts, acted_udp, udp_ends, udp_around, SlotDoes}
+use Rattle.host_sockets.specs.Arriving.{slot_arrives, datagram_in}
+use Rattle.host_sockets.proofs.Endings.{UdpActEnds, same_moved}
 
 slot_there : (slots : List (Option UdpState)) (k : ℕ) (d : Option UdpState) → k < length slots → slice_get slots k ≡ Some (get_or slots k d)
 slot_there [] k d b = absurd (omega arith)
@@ -43,35 +48,68 @@ pub told_no_udp : {A : Type 0} (c : Sockets) (t : SocketsRecord) (k : ℕ) (f : 
 told_no_udp c t k f h b =
     ap (λ (o : Option (Option UdpState)). f (socket_in o)) (sym (ap (λ (slots : List (Option UdpState)). slice_get slots k) (sym h.udp) ∙ slot_past c.udp.items k b))
 
-pub stand_slot : (c c' : Sockets) (t : SocketsRecord) (k : ℕ) (new : Option UdpState) → Stand c t → c'.own ≡ c.own → c'.udp.items ≡ set c.udp.items k new → c'.tcp.items ≡ c.tcp.items → c'.gone.items ≡ c.gone.items → Stand c' (with_slot k new t)
-stand_slot c c' t k new h own udp tcp gone = record {
+pub stand_slot : (c c' : Sockets) (t : SocketsRecord) (k : ℕ) (new : Option UdpState) → Stand c t → c'.own ≡ c.own → c'.udp.items ≡ set c.udp.items k new → c'.tcp.items ≡ c.tcp.items → c'.udp_risen.items ≡ c.udp_risen.items → c'.tcp_risen.items ≡ c.tcp_risen.items → c'.gone.items ≡ c.gone.items → Stand c' (record t { udp = set t.udp k new })
+stand_slot c c' t k new h own udp tcp udp_risen tcp_risen gone = record {
   own = own ∙ h.own;
   udp = udp ∙ ap (λ (slots : List (Option UdpState)). set slots k new) h.udp;
   tcp = subst (λ xs. AllStand xs t.tcp) (sym tcp) h.tcp;
+  udp_risen = udp_risen ∙ h.udp_risen;
+  tcp_risen = tcp_risen ∙ h.tcp_risen;
   gone = gone ∙ h.gone;
 }
 
-stand_same_slot : (c c' : Sockets) (t : SocketsRecord) (k : ℕ) (old new : Option UdpState) → Stand c t → slice_get t.udp k ≡ Some old → new ≡ old → c'.own ≡ c.own → c'.udp.items ≡ set c.udp.items k new → c'.tcp.items ≡ c.tcp.items → c'.gone.items ≡ c.gone.items → Stand c' t
-stand_same_slot c c' t k old new h at e own udp tcp gone = record {
-  own = own ∙ h.own;
-  udp = udp ∙ (ap (λ (slots : List (Option UdpState)). set slots k new) h.udp ∙ (ap (set t.udp k) e ∙ set_same t.udp k old at));
-  tcp = subst (λ xs. AllStand xs t.tcp) (sym tcp) h.tcp;
-  gone = gone ∙ h.gone;
+-- another socket stands at the place, and its rises have moved on
+stand_udp : (c c' : Sockets) (t : SocketsRecord) (k : ℕ) (before : Glance) (old new : UdpState) → Stand c t → before ≡ udp_glance old → UdpActEnds c c' k before (Some new) → Stand c' (with_udp k old new t)
+stand_udp c c' t k before old new h seen ends = record {
+  own = ends.own ∙ h.own;
+  udp = ends.udp ∙ ap (λ (slots : List (Option UdpState)). set slots k (Some new)) h.udp;
+  tcp = subst (λ xs. AllStand xs t.tcp) (sym ends.tcp) h.tcp;
+  udp_risen = ends.udp_risen ∙ (ap (λ (g : Glance). moved_at k g (udp_glance new) c.udp_risen.items) seen ∙ ap (moved_at k (udp_glance old) (udp_glance new)) h.udp_risen);
+  tcp_risen = ends.tcp_risen ∙ h.tcp_risen;
+  gone = ends.gone ∙ h.gone;
+}
+
+-- or the same one, and they haven't
+stand_same_udp : (c c' : Sockets) (t : SocketsRecord) (k : ℕ) (before : Glance) (old new : Option UdpState) → Stand c t → slice_get t.udp k ≡ Some old → new ≡ old → before ≡ slot_glance old → UdpActEnds c c' k before new → Stand c' t
+stand_same_udp c c' t k before old new h at e seen ends = record {
+  own = ends.own ∙ h.own;
+  udp = ends.udp ∙ (ap (λ (slots : List (Option UdpState)). set slots k new) h.udp ∙ (ap (set t.udp k) e ∙ set_same t.udp k old at));
+  tcp = subst (λ xs. AllStand xs t.tcp) (sym ends.tcp) h.tcp;
+  udp_risen = ends.udp_risen
+      ∙ (ap (λ (g : Glance). moved_at k g (slot_glance new) c.udp_risen.items) seen
+      ∙ (ap (λ (o : Option UdpState). moved_at k (slot_glance old) (slot_glance o) c.udp_risen.items) e
+      ∙ (same_moved (slot_glance old) c.udp_risen.items k ∙ h.udp_risen)));
+  tcp_risen = ends.tcp_risen ∙ h.tcp_risen;
+  gone = ends.gone ∙ h.gone;
 }
 
 -- by cases on what stood there and what the act answers
-does : {A : Type 0} (act : UdpState → Result (A × UdpState) Refusal) (c c' : Sockets) (t : SocketsRecord) (k : ℕ) (old new : Option UdpState) (result : Result A CallError) → Stand c t → slice_get t.udp k ≡ Some old → SlotDoes act old new result → c'.own ≡ c.own → c'.udp.items ≡ set c.udp.items k new → c'.tcp.items ≡ c.tcp.items → c'.gone.items ≡ c.gone.items → Becomes (acted_udp act k (socket_in (Some old)) t) t c' result
-does act c c' t k None new (Ok a) h at d own udp tcp gone = absurd d
-does act c c' t k None new (Err (error.Refused why)) h at d own udp tcp gone = (ap (λ (r : Refusal). Err r) (sym d.0), stand_same_slot c c' t k None new h at d.1 own udp tcp gone)
-does act c c' t k None new (Err error.NoMemory) h at d own udp tcp gone = tt
-does act c c' t k (Some u) new (Ok a) h at d own udp tcp gone = (with_slot k (Some d.0) t, (rw d.1.0 refl, stand_slot c c' t k (Some d.0) h own (udp ∙ ap (set c.udp.items k) d.1.1) tcp gone))
-does act c c' t k (Some u) new (Err (error.Refused why)) h at d own udp tcp gone = (rw d.0 refl, stand_same_slot c c' t k (Some u) new h at d.1 own udp tcp gone)
-does act c c' t k (Some u) new (Err error.NoMemory) h at d own udp tcp gone = tt
+does : {A : Type 0} (act : UdpState → Result (A × UdpState) Refusal) (c c' : Sockets) (t : SocketsRecord) (k : ℕ) (before : Glance) (old new : Option UdpState) (result : Result A CallError) → Stand c t → slice_get t.udp k ≡ Some old → before ≡ slot_glance old → SlotDoes act old new result → UdpActEnds c c' k before new → Becomes (acted_udp act k (socket_in (Some old)) t) t c' result
+does act c c' t k before None new (Ok a) h at seen d ends = absurd d
+does act c c' t k before None new (Err (error.Refused why)) h at seen d ends = (ap (λ (r : Refusal). Err r) (sym d.0), stand_same_udp c c' t k before None new h at d.1 seen ends)
+does act c c' t k before None new (Err error.NoMemory) h at seen d ends = tt
+does act c c' t k before (Some u) new (Ok a) h at seen d ends =
+    (with_udp k u d.0 t, (rw d.1.0 refl, stand_udp c c' t k before u d.0 h seen (subst (UdpActEnds c c' k before) d.1.1 ends)))
+does act c c' t k before (Some u) new (Err (error.Refused why)) h at seen d ends = (rw d.0 refl, stand_same_udp c c' t k before (Some u) new h at d.1 seen ends)
+does act c c' t k before (Some u) new (Err error.NoMemory) h at seen d ends = tt
 
-pub becomes_udp : {A : Type 0} (act : UdpState → Result (A × UdpState) Refusal) (c c' : Sockets) (t : SocketsRecord) (k : ℕ) (old new : Option UdpState) (result : Result A CallError) → Stand c t → k < length c.udp.items → old ≡ get_or c.udp.items k old → SlotDoes act old new result → c'.own ≡ c.own → c'.udp.items ≡ set c.udp.items k new → c'.tcp.items ≡ c.tcp.items → c'.gone.items ≡ c.gone.items → Becomes (udp_acts act k t) t c' result
-becomes_udp act c c' t k old new result h b is d own udp tcp gone =
+pub becomes_udp : {A : Type 0} (act : UdpState → Result (A × UdpState) Refusal) (c c' : Sockets) (t : SocketsRecord) (k : ℕ) (before : Glance) (old new : Option UdpState) (result : Result A CallError) → Stand c t → k < length c.udp.items → old ≡ get_or c.udp.items k old → before ≡ slot_glance old → SlotDoes act old new result → UdpActEnds c c' k before new → Becomes (udp_acts act k t) t c' result
+becomes_udp act c c' t k before old new result h b is seen d ends =
     let at = slot_at c t k old h b is in
-    subst (λ (o : Option (Option UdpState)). Becomes (acted_udp act k (socket_in o) t) t c' result) (sym at) (does act c c' t k old new result h at d own udp tcp gone)
+    subst (λ (o : Option (Option UdpState)). Becomes (acted_udp act k (socket_in o) t) t c' result) (sym at) (does act c c' t k before old new result h at seen d ends)
+
+-- a datagram that arrives
+pub arrived_udp : (c c' : Sockets) (t : SocketsRecord) (k : ℕ) (before : Glance) (from : Addr) (bytes : List ℕ) (old new : Option UdpState) (act : Act) → Stand c t → k < length c.udp.items → old ≡ get_or c.udp.items k old → before ≡ slot_glance old → (act, new) ≡ slot_arrives from bytes old → UdpActEnds c c' k before new → (act ≡ (datagram_in from bytes k (udp_in k t) t).0) × Stand c' (datagram_in from bytes k (udp_in k t) t).1
+arrived_udp c c' t k before from bytes old new act h b is seen e ends =
+    let at = slot_at c t k old h b is in
+    subst (λ (o : Option (Option UdpState)). (act ≡ (datagram_in from bytes k (socket_in o) t).0) × Stand c' (datagram_in from bytes k (socket_in o) t).1) (sym at) (by_slot old at seen e)
+  where
+    by_slot : (old : Option UdpState) → slice_get t.udp k ≡ Some old → before ≡ slot_glance old → (act, new) ≡ slot_arrives from bytes old → (act ≡ (datagram_in from bytes k old t).0) × Stand c' (datagram_in from bytes k old t).1
+    by_slot None at seen e = (ap (λ (x : Act × Option UdpState). x.0) e, stand_same_udp c c' t k before None new h at (ap (λ (x : Act × Option UdpState). x.1) e) seen ends)
+    by_slot (Some u) at seen e = (
+      ap (λ (x : Act × Option UdpState). x.0) e,
+      stand_udp c c' t k before u (arrive from bytes u).1 h seen (subst (UdpActEnds c c' k before) (ap (λ (x : Act × Option UdpState). x.1) e) ends),
+    )
 
 pub refused_udp : {A : Type 0} (act : UdpState → Result (A × UdpState) Refusal) (c : Sockets) (t : SocketsRecord) (k : ℕ) → Stand c t → length c.udp.items ≤ k → Becomes {A = A} (udp_acts act k t) t c (Err (error.Refused (refusal.Errno Ebadf)))
 refused_udp act c t k h b = (sym (told_no_udp c t k (λ o. acted_udp act k o t) h b), h)

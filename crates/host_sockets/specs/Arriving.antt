@@ -17,7 +17,7 @@ use Rattle.host_sockets.specs.TcpSocket.{TcpSocket, has_record, keeps_record, li
 use Rattle.host_sockets.specs.Sockets.{SocketsRecord}
 use Rattle.host_sockets.specs.TcpActs.{Acted, unacted, record_acts, acts_at}
 use Rattle.host_sockets.specs.ListenerActs.{dropped, heard}
-use Rattle.host_sockets.specs.Udp.{with_slot}
+use Rattle.host_sockets.specs.Udp.{udp_in, with_udp}
 
 -- a datagram goes to the socket that takes it, if one does
 abbrev pub takes_in : Addr → Addr → Option UdpState → Bool
@@ -31,13 +31,13 @@ abbrev pub slot_arrives : Addr → List ℕ → Option UdpState → Act × Optio
 slot_arrives from bytes None = (NoPort, None)
 slot_arrives from bytes (Some u) = (taken_act (arrive from bytes u).0, Some (arrive from bytes u).1)
 
-abbrev pub datagram_in : Addr → List ℕ → ℕ → Option (Option UdpState) → SocketsRecord → Act × SocketsRecord
+abbrev pub datagram_in : Addr → List ℕ → ℕ → Option UdpState → SocketsRecord → Act × SocketsRecord
 datagram_in from bytes k None t = (NoPort, t)
-datagram_in from bytes k (Some slot) t = ((slot_arrives from bytes slot).0, with_slot k (slot_arrives from bytes slot).1 t)
+datagram_in from bytes k (Some u) t = (taken_act (arrive from bytes u).0, with_udp k u (arrive from bytes u).1 t)
 
 abbrev pub datagram_at : Addr → List ℕ → Option ℕ → SocketsRecord → Act × SocketsRecord
 datagram_at from bytes None t = (NoPort, t)
-datagram_at from bytes (Some k) t = datagram_in from bytes k (slice_get t.udp k) t
+datagram_at from bytes (Some k) t = datagram_in from bytes k (udp_in k t) t
 
 unfoldable pub datagram_arrives : Addr → Addr → List ℕ → SocketsRecord → Act × SocketsRecord
 datagram_arrives from to bytes t = datagram_at from bytes (position (takes_in from to) t.udp) t

@@ -1,6 +1,7 @@
 pub mod Wanted
 pub mod Refusals
 pub mod TcpSocket
+pub mod Rises
 pub mod Sockets
 pub mod Lookup
 pub mod TcpActs

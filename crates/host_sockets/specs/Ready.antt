@@ -1,23 +1,12 @@
--- what sockets are ready for, by the bits of poll(2)
-use Rattle.std.specs.Prelude.{ℕ, ◌+◌, slice_get, Option, Some, None}
-use Rattle.sim_base.specs.Poll.{pollout, pollhup}
+-- what sockets are ready for, by the bits of poll(2), and how often they became it
+use Rattle.std.specs.Prelude.{ℕ, slice_get, Option, Some, None}
+use Rattle.host_fds.specs.declared.rises.Rises.{Rises}
 use Rattle.sock_udp.specs.Socket.{UdpState, ready}
-use Rattle.sock_tcp.specs.connection.Tcb.{Tcb}
-use Rattle.sock_tcp.specs.connection.Ready as connection
-use Rattle.sock_tcp.specs.listener.Listen.{Listen}
-use Rattle.sock_tcp.specs.listener.Ready as listener
+pub use Rattle.host_sockets.specs.Rises.{ready_of}
+use Rattle.host_sockets.specs.Rises.{bits_of, rises_at}
 use Rattle.host_sockets.specs.TcpSocket.{TcpSocket}
 use Rattle.host_sockets.specs.Sockets.{SocketsRecord}
 use Rattle.host_sockets.specs.Udp.{udp_in}
-
--- a fresh socket, bound or not, can be written and has been hung up
-abbrev pub fresh_ready : ℕ
-fresh_ready = pollout + pollhup
-
-abbrev pub ready_of : Option Tcb → Option Listen → ℕ
-ready_of (Some r) listen = connection.readiness r
-ready_of None (Some l) = listener.readiness l
-ready_of None None = fresh_ready
 
 abbrev pub ready_in : Option TcpSocket → ℕ
 ready_in None = 0
@@ -26,9 +15,24 @@ ready_in (Some s) = ready_of s.tcb s.listen
 abbrev pub tcp_ready : ℕ → SocketsRecord → ℕ
 tcp_ready k t = ready_in (slice_get t.tcp k)
 
+-- the same with POLLRDHUP, where the peer's FIN was taken
+abbrev pub seen_in : Option TcpSocket → ℕ
+seen_in None = 0
+seen_in (Some s) = bits_of s
+
+abbrev pub tcp_seen : ℕ → SocketsRecord → ℕ
+tcp_seen k t = seen_in (slice_get t.tcp k)
+
 abbrev pub udp_ready_in : Option UdpState → ℕ
 udp_ready_in None = 0
 udp_ready_in (Some u) = ready u
 
 abbrev pub udp_ready : ℕ → SocketsRecord → ℕ
 udp_ready k t = udp_ready_in (udp_in k t)
+
+-- how often each bit came to hold since the socket with a number was made
+abbrev pub tcp_rises : ℕ → SocketsRecord → Rises
+tcp_rises k t = rises_at k t.tcp_risen
+
+abbrev pub udp_rises : ℕ → SocketsRecord → Rises
+udp_rises k t = rises_at k t.udp_risen

@@ -17,6 +17,8 @@ pub record Stand (c : Sockets) (t : SocketsRecord) : Type 0 where
   pub own : c.own ≡ t.own
   pub udp : c.udp.items ≡ t.udp
   pub tcp : AllStand c.tcp.items t.tcp
+  pub udp_risen : c.udp_risen.items ≡ t.udp_risen
+  pub tcp_risen : c.tcp_risen.items ≡ t.tcp_risen
   pub gone : c.gone.items ≡ map carried_of t.gone
 
 -- an act on a socket leaves this. What was kept of records that are gone is followed by those that it lets go

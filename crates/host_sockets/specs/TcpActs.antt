@@ -64,12 +64,12 @@ abbrev pub record_acts : Time → ℕ → (Tcb → Turn) → TcpSocket → Wante
 record_acts now k act s w = turned_in now k act s.tcb s w
 
 -- an act of the socket with a number, if there is one
-abbrev pub with_acted : ℕ → Acted → SocketsRecord → SocketsRecord × Wanted
-with_acted k a t = (record (with_tcp k a.socket t) { gone = t.gone ++ a.gone }, a.wanted)
+abbrev pub with_acted : ℕ → TcpSocket → Acted → SocketsRecord → SocketsRecord × Wanted
+with_acted k s a t = (record (with_tcp k s a.socket t) { gone = t.gone ++ a.gone }, a.wanted)
 
 abbrev pub acts_in : ℕ → (TcpSocket → Wanted → Acted) → Option TcpSocket → SocketsRecord → Wanted → SocketsRecord × Wanted
 acts_in k act None t w = (t, w)
-acts_in k act (Some s) t w = with_acted k (act s w) t
+acts_in k act (Some s) t w = with_acted k s (act s w) t
 
 abbrev pub acts_at : ℕ → (TcpSocket → Wanted → Acted) → SocketsRecord → Wanted → SocketsRecord × Wanted
 acts_at k act t w = acts_in k act (slice_get t.tcp k) t w

@@ -8,6 +8,7 @@ use Rattle.sim_base.specs.declared.packet.Packet.{Packet}
 use Rattle.sim_base.specs.Packet.{max_datagram}
 use Rattle.sim_base.specs.Addresses.{Surroundings}
 use Rattle.sim_base.specs.Refusals.{◌>>=◌, ◌>>◌, refuse_if, or_refuse}
+use Rattle.host_fds.specs.Rises.{no_rises}
 use Rattle.sock_udp.specs.declared.datagram.Datagram.{Datagram}
 use Rattle.sock_udp.specs.Socket.{UdpState, new_socket, bind, connect, send}
 use Rattle.host_sockets.specs.declared.error.CallError.{CallError}
@@ -16,6 +17,7 @@ use Rattle.host_sockets.specs.declared.error.Refusal.{Refusal}
 use Rattle.host_sockets.specs.declared.error.Refusal.TheVariants as refusal
 use Rattle.host_sockets.specs.Refusals.{by_errno, waits_if}
 use Rattle.host_sockets.specs.TcpSocket.{bound_end}
+use Rattle.host_sockets.specs.Rises.{udp_glance, moved_at}
 use Rattle.host_sockets.specs.Sockets.{SocketsRecord, put_at}
 
 -- the place that a UDP socket of a number has, while it isn't closed
@@ -26,19 +28,27 @@ socket_in (Some place) = place
 abbrev pub udp_in : ℕ → SocketsRecord → Option UdpState
 udp_in k t = socket_in (slice_get t.udp k)
 
-abbrev pub with_slot : ℕ → Option UdpState → SocketsRecord → SocketsRecord
-with_slot k slot t = record t { udp = slice_set t.udp k slot }
+-- EVERY act on a socket ends so: it is put back, and its rises move on
+abbrev pub with_udp : ℕ → UdpState → UdpState → SocketsRecord → SocketsRecord
+with_udp k old new t = record t {
+  udp = slice_set t.udp k (Some new);
+  udp_risen = moved_at k (udp_glance old) (udp_glance new) t.udp_risen;
+}
 
 -- socket(2): the least free number is the new socket's
 abbrev pub udp_place : SocketsRecord → ℕ
 udp_place t = position_or_len is_none t.udp
 
+-- that it is made is no rise
+abbrev pub put_udp_at : ℕ → UdpState → SocketsRecord → SocketsRecord
+put_udp_at k u t = record t { udp = put_at k (Some u) t.udp; udp_risen = put_at k no_rises t.udp_risen }
+
 unfoldable pub new_udp : SocketsRecord → ℕ × SocketsRecord
-new_udp t = (udp_place t, record t { udp = put_at (udp_place t) (Some new_socket) t.udp })
+new_udp t = (udp_place t, put_udp_at (udp_place t) new_socket t)
 
 -- close(2): what waits in it is dropped
 unfoldable pub closes_udp : ℕ → SocketsRecord → SocketsRecord
-closes_udp k t = with_slot k None t
+closes_udp k t = record t { udp = slice_set t.udp k None }
 
 -- what the UDP sockets are bound to
 abbrev pub local_in : Option UdpState → Option Addr
@@ -59,7 +69,7 @@ abbrev pub acted_udp : {A : Type 0} → (UdpState → Result (A × UdpState) Ref
 acted_udp act k socket t = do
   u ← or_refuse socket (refusal.Errno Ebadf)
   (answer, after) ← act u
-  Ok (answer, with_slot k (Some after) t)
+  Ok (answer, with_udp k u after t)
 
 abbrev pub udp_acts : {A : Type 0} → (UdpState → Result (A × UdpState) Refusal) → ℕ → SocketsRecord → Result (A × SocketsRecord) Refusal
 udp_acts act k t = acted_udp act k (udp_in k t) t

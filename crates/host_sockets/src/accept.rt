@@ -107,9 +107,11 @@ impl Sockets {
         if k >= self.tcp.len() {
             return None;
         }
-        self.turn_to(k);
+        let before = self.begin_act(k);
         let sock = &mut self.tcp[k];
-        sock.take_conn()
+        let conn = sock.take_conn()?;
+        self.end_act(k, before);
+        Some(conn)
     }
 
     /// Puts an accepted connection into a new socket.

@@ -110,9 +110,10 @@ impl Sockets {
         if k >= self.tcp.len() {
             return;
         }
-        self.turn_to(k);
+        let before = self.begin_act(k);
         let sock = &mut self.tcp[k];
         sock.bind(at);
+        self.end_act(k, before);
     }
 
     /// Binds the TCP socket with a number to an address, for port 0 at the least port from 10000 up
@@ -157,9 +158,10 @@ impl Sockets {
             return;
         }
         let alloc = self.alloc();
-        self.turn_to(k);
+        let before = self.begin_act(k);
         let sock = &mut self.tcp[k];
         sock.listen(alloc, at, backlog);
+        self.end_act(k, before);
     }
 
     /// Makes the TCP socket with a number listen, or changes how many connections its queue holds: as

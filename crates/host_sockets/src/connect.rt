@@ -27,9 +27,10 @@ impl Sockets {
         if k >= self.tcp.len() {
             return Ok(());
         }
-        self.turn_to(k);
+        let before = self.begin_act(k);
         let sock = &mut self.tcp[k];
         sock.take_error(outlet, now, k, &mut self.gone)?;
+        self.end_act(k, before);
         Ok(())
     }
 
@@ -101,9 +102,10 @@ impl Sockets {
         if k >= self.tcp.len() {
             return Ok(());
         }
-        self.turn_to(k);
+        let before = self.begin_act(k);
         let sock = &mut self.tcp[k];
         sock.open(outlet, now, k, own, other, &mut self.gone)?;
+        self.end_act(k, before);
         Ok(())
     }
 

@@ -61,9 +61,10 @@ impl Sockets {
         if k >= self.tcp.len() {
             return Ok(());
         }
-        self.turn_to(k);
+        let before = self.begin_act(k);
         let sock = &mut self.tcp[k];
         sock.arrive(outlet, now, k, packet, &mut self.gone)?;
+        self.end_act(k, before);
         Ok(())
     }
 
@@ -81,9 +82,10 @@ impl Sockets {
         if k >= self.tcp.len() {
             return Ok(());
         }
-        self.turn_to(k);
+        let before = self.begin_act(k);
         let sock = &mut self.tcp[k];
         sock.hear(outlet, now, k, packet, &mut self.gone)?;
+        self.end_act(k, before);
         Ok(())
     }
 
@@ -195,9 +197,10 @@ impl Sockets {
         if k >= self.tcp.len() {
             return Ok(());
         }
-        self.turn_to(k);
+        let before = self.begin_act(k);
         let sock = &mut self.tcp[k];
         sock.expire(outlet, now, k, serial, &mut self.gone)?;
+        self.end_act(k, before);
         Ok(())
     }
 }

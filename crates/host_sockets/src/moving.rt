@@ -51,9 +51,10 @@ impl Sockets {
         if k >= self.tcp.len() {
             return Ok(0);
         }
-        self.turn_to(k);
+        let before = self.begin_act(k);
         let sock = &mut self.tcp[k];
         let count = sock.write(outlet, now, k, bytes, &mut self.gone)?;
+        self.end_act(k, before);
         Ok(count)
     }
 
@@ -145,9 +146,10 @@ impl Sockets {
         if k >= self.tcp.len() {
             return Ok(Bytes::new(self.alloc()));
         }
-        self.turn_to(k);
+        let before = self.begin_act(k);
         let sock = &mut self.tcp[k];
         let bytes = sock.read(outlet, now, k, count, &mut self.gone)?;
+        self.end_act(k, before);
         Ok(bytes)
     }
 
@@ -227,9 +229,10 @@ impl Sockets {
         if k >= self.tcp.len() {
             return Ok(());
         }
-        self.turn_to(k);
+        let before = self.begin_act(k);
         let sock = &mut self.tcp[k];
         sock.shut(outlet, now, k, how, &mut self.gone)?;
+        self.end_act(k, before);
         Ok(())
     }
 
@@ -263,9 +266,10 @@ impl Sockets {
         if k >= self.tcp.len() {
             return Ok(());
         }
-        self.turn_to(k);
+        let before = self.begin_act(k);
         let sock = &mut self.tcp[k];
         sock.close(outlet, now, k, &mut self.gone)?;
+        self.end_act(k, before);
         Ok(())
     }
 }

@@ -12,7 +12,7 @@ impl TcpSock {
 
     /// What it is ready for: as its connection is, or its listener, and a fresh one is ready to be
     /// written and hung up.
-    fn ready(&self) -> u16
+    pub(crate) fn ready(&self) -> u16
         ensures { (s : TcpSocket) → SocketStands self.now s → result ≡ ready_of s.tcb s.listen }
     {
         if let Some(conn) = &self.conn {
@@ -28,7 +28,7 @@ impl TcpSock {
 impl Sockets {
     ghost use Rattle.std.specs.Prelude.{◌≡◌};
     ghost use Rattle.host_sockets.specs.Sockets.{SocketsRecord};
-    ghost use Rattle.host_sockets.specs.Ready.{tcp_ready};
+    ghost use Rattle.host_sockets.specs.Ready.{tcp_ready, tcp_seen};
     ghost use Rattle.host_sockets.specs.StandsFor.{Stand};
 
     /// What the TCP socket with a number is ready for; a number without a socket for nothing.
@@ -39,5 +39,15 @@ impl Sockets {
             return 0;
         }
         self.tcp[k].ready()
+    }
+
+    /// The same with `POLLRDHUP`, where the peer's FIN was taken.
+    pub fn tcp_seen(&self, k: usize) -> u16
+        ensures { (t : SocketsRecord) → Stand self.now t → result ≡ tcp_seen k t }
+    {
+        if k >= self.tcp.len() {
+            return 0;
+        }
+        self.tcp[k].bits()
     }
 }

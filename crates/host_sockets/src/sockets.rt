@@ -4,20 +4,25 @@ ghost use Rattle.std.proofs.Props.{props};
 ghost use Rattle.host_sockets.specs.Indexing.{Indexes};
 
 use crate::index::Index;
+use crate::rises::put_none;
 use crate::slots::{Sought, place_in};
 use crate::tcp_sock::TcpSock;
+use host_fds::Rises;
 use sim_base::{Ip, NoMemory};
 use sock_tcp::Carried;
 use sock_udp::UdpSock;
 use std::alloc::Global;
 
-/// The sockets of a host, by their numbers, the connections that closed ones leave behind, and what
-/// those carried that are gone. After a call that answers want of memory nothing is known of them.
+/// The sockets of a host and their rises, by their numbers, the connections that closed ones leave
+/// behind, and what those carried that are gone. After a call that answers want of memory nothing is
+/// known of them.
 #[derive(Drop)]
 pub struct Sockets {
     pub(crate) own: Ip,
     pub(crate) udp: Vec<Option<UdpSock>>,
     pub(crate) tcp: Vec<TcpSock>,
+    pub(crate) udp_risen: Vec<Rises>,
+    pub(crate) tcp_risen: Vec<Rises>,
     pub(crate) gone: Vec<Carried>,
     pub(crate) index: Index,
     ghost indexed: { Indexes index tcp.items } by { Prim.hlevel props },
@@ -26,7 +31,7 @@ pub struct Sockets {
 impl Sockets {
     ghost use Rattle.std.specs.Prelude.{◌≡◌, ◌<◌, ◌≤◌, ℕ, length, IfOk, OnOk};
     ghost use Rattle.host_sockets.specs.TcpSocket.{TcpSocket};
-    ghost use Rattle.host_sockets.specs.Sockets.{SocketsRecord, no_sockets, put_at, tcp_place, put_tcp, new_tcp};
+    ghost use Rattle.host_sockets.specs.Sockets.{SocketsRecord, no_sockets, put_tcp_at, tcp_place, put_tcp, new_tcp};
     ghost use Rattle.host_sockets.specs.StandsFor.{SocketStands, Stand};
 
     /// The sockets of a host with this address, which has none yet.
@@ -37,6 +42,8 @@ impl Sockets {
             own,
             udp: Vec::new(alloc),
             tcp: Vec::new(alloc),
+            udp_risen: Vec::new(alloc),
+            tcp_risen: Vec::new(alloc),
             gone: Vec::new(alloc),
             index: Index::new(alloc),
         }
@@ -58,6 +65,8 @@ impl Sockets {
         ensures own { self.new.own ≡ self.old.own }
         ensures udp { self.new.udp ≡ self.old.udp }
         ensures tcp { self.new.tcp ≡ self.old.tcp }
+        ensures udp_risen { self.new.udp_risen ≡ self.old.udp_risen }
+        ensures tcp_risen { self.new.tcp_risen ≡ self.old.tcp_risen }
         ensures gone { self.new.gone ≡ self.old.gone }
         ensures acts { self.new.index.last ≡ k }
         ensures stands { (t : SocketsRecord) → Stand self.old t → Stand self.new t }
@@ -73,36 +82,40 @@ impl Sockets {
     }
 
     /// Puts a TCP socket at a place of the list.
-    fn set_tcp(&mut self, place: usize, sock: TcpSock)
+    fn set_tcp(&mut self, place: usize, sock: TcpSock) -> Result<(), NoMemory>
         requires { place < length self.old.tcp.items }
-        ensures { (t : SocketsRecord) (s : TcpSocket) → Stand self.old t → SocketStands sock s
-            → Stand self.new (record t { tcp = put_at place s t.tcp }) }
+        ensures { OnOk result ((t : SocketsRecord) (s : TcpSocket) → Stand self.old t → SocketStands sock s
+            → Stand self.new (put_tcp_at place s t)) }
     {
         self.turn_to(place);
         self.tcp[place] = sock;
+        put_none(&mut self.tcp_risen, place)?;
+        Ok(())
     }
 
-    /// Puts a TCP socket behind the list.
-    fn push_tcp(&mut self, sock: TcpSock) -> Result<(), NoMemory>
-        ensures { OnOk result ((t : SocketsRecord) (s : TcpSocket) (place : ℕ) → length self.old.tcp.items ≤ place → Stand self.old t → SocketStands sock s
-            → Stand self.new (record t { tcp = put_at place s t.tcp })) }
+    /// Puts a TCP socket behind the list, which ends before a place.
+    fn push_tcp(&mut self, place: usize, sock: TcpSock) -> Result<(), NoMemory>
+        requires { length self.old.tcp.items ≤ place }
+        ensures { OnOk result ((t : SocketsRecord) (s : TcpSocket) → Stand self.old t → SocketStands sock s
+            → Stand self.new (put_tcp_at place s t)) }
     {
         let behind = self.tcp.len();
         self.turn_to(behind);
         self.tcp.push(sock)?;
+        put_none(&mut self.tcp_risen, place)?;
         Ok(())
     }
 
     /// Puts a TCP socket at a place of the list, or behind it.
     fn put_tcp_at(&mut self, place: usize, sock: TcpSock) -> Result<(), NoMemory>
         ensures { OnOk result ((t : SocketsRecord) (s : TcpSocket) → Stand self.old t → SocketStands sock s
-            → Stand self.new (record t { tcp = put_at place s t.tcp })) }
+            → Stand self.new (put_tcp_at place s t)) }
     {
         if place < self.tcp.len() {
-            self.set_tcp(place, sock);
+            self.set_tcp(place, sock)?;
             return Ok(());
         }
-        self.push_tcp(sock)?;
+        self.push_tcp(place, sock)?;
         Ok(())
     }
 

@@ -1,6 +1,8 @@
 //! Calls on UDP sockets, and datagrams that arrive.
 
 use crate::error::{CallError, Refusal};
+use crate::glance::slot_glance;
+use crate::rises::put_none;
 use crate::sockets::Sockets;
 use crate::udp_slot;
 use sim_base::{Act, Addr, Around, Book, Errno, NoMemory, Packet};
@@ -8,11 +10,11 @@ use sock_udp::{Datagram, UdpSock};
 
 impl Sockets {
     ghost use Rattle.std.specs.Prelude.{◌≡◌, ◌≤◌, length, position, Some, IfOk, OnOk};
-    ghost use Rattle.host_sockets.specs.Sockets.{SocketsRecord, put_at};
+    ghost use Rattle.host_sockets.specs.Sockets.{SocketsRecord};
     ghost use Rattle.host_sockets.specs.Arriving.{takes_in, datagram_at, datagram_arrives};
     ghost use Rattle.host_sockets.specs.Names.{udp_name, udp_peer};
     ghost use Rattle.host_sockets.specs.Ready.{udp_ready};
-    ghost use Rattle.host_sockets.specs.Udp.{udp_bound, IsEnoughFor, udp_place, new_udp, closes_udp, udp_ends, binds_udp, connects_udp, udp_fits, sends_udp, recv_udp_asked, receives_udp};
+    ghost use Rattle.host_sockets.specs.Udp.{udp_bound, IsEnoughFor, udp_place, put_udp_at, new_udp, closes_udp, udp_ends, binds_udp, connects_udp, udp_fits, sends_udp, recv_udp_asked, receives_udp};
     ghost use Rattle.host_sockets.specs.StandsFor.{Stand, Becomes};
 
     /// The least number that a new UDP socket may take.
@@ -23,13 +25,10 @@ impl Sockets {
     }
 
     fn put_udp_at(&mut self, place: usize, sock: UdpSock) -> Result<(), NoMemory>
-        ensures { OnOk result ((t : SocketsRecord) → Stand self.old t → Stand self.new (record t { udp = put_at place (Some sock) t.udp })) }
+        ensures { OnOk result ((t : SocketsRecord) → Stand self.old t → Stand self.new (put_udp_at place sock t)) }
     {
-        if place < self.udp.len() {
-            self.udp[place] = Some(sock);
-            return Ok(());
-        }
-        self.udp.push(Some(sock))?;
+        udp_slot::put(&mut self.udp, place, sock)?;
+        put_none(&mut self.udp_risen, place)?;
         Ok(())
     }
 
@@ -84,7 +83,10 @@ impl Sockets {
             return Err(CallError::Refused(Refusal::Errno(Errno::Ebadf)));
         }
         let slot = &mut self.udp[k];
-        udp_slot::bind(slot, &around, at)
+        let before = slot_glance(slot);
+        let answer = udp_slot::bind(slot, &around, at);
+        self.end_udp_act(k, before);
+        answer
     }
 
     /// Connects the UDP socket with a number to another end, and binds it if it is unbound
@@ -104,7 +106,10 @@ impl Sockets {
             return Err(CallError::Refused(Refusal::Errno(Errno::Ebadf)));
         }
         let slot = &mut self.udp[k];
-        udp_slot::connect(slot, &around, to)
+        let before = slot_glance(slot);
+        let answer = udp_slot::connect(slot, &around, to);
+        self.end_udp_act(k, before);
+        answer
     }
 
     /// Whether a datagram of so many bytes may be sent from the UDP socket with a number, before the
@@ -166,7 +171,10 @@ impl Sockets {
             return Err(CallError::Refused(Refusal::Errno(Errno::Ebadf)));
         }
         let slot = &mut self.udp[k];
-        udp_slot::send(slot, &around, bytes, to)
+        let before = slot_glance(slot);
+        let answer = udp_slot::send(slot, &around, bytes, to);
+        self.end_udp_act(k, before);
+        answer
     }
 
     /// Whether a datagram waits in the UDP socket with a number. Refused by `Ebadf` where there is
@@ -193,7 +201,10 @@ impl Sockets {
         }
         let alloc = self.alloc();
         let slot = &mut self.udp[k];
-        udp_slot::recv(slot, alloc, count)
+        let before = slot_glance(slot);
+        let answer = udp_slot::recv(slot, alloc, count);
+        self.end_udp_act(k, before);
+        answer
     }
 
     /// The own end of the UDP socket with a number: what it is bound to, or 0.0.0.0:0
@@ -247,7 +258,9 @@ impl Sockets {
             return Ok(Act::NoPort);
         }
         let slot = &mut self.udp[k];
+        let before = slot_glance(slot);
         let act = udp_slot::arrive(slot, from, bytes)?;
+        self.end_udp_act(k, before);
         Ok(act)
     }
 

@@ -1,6 +1,6 @@
 //! The acts of a process on the place of a UDP socket.
 
-ghost use Rattle.std.specs.Prelude.{◌≡◌, ◌≤◌, ◌++◌, length, is_none, position, IfOk, OnOk};
+ghost use Rattle.std.specs.Prelude.{◌≡◌, ◌≤◌, ◌++◌, Some, length, is_none, position, IfOk, OnOk};
 ghost use Rattle.std.specs.List.{position_or_len};
 ghost use Rattle.sock_udp.specs.Socket.{bind, connect, send};
 ghost use Rattle.host_sockets.specs.Refusals.{by_errno};
@@ -8,6 +8,7 @@ ghost use Rattle.host_sockets.specs.Udp.{only_state, local_in, udp_end, fits_in,
 ghost use Rattle.host_sockets.specs.Arriving.{takes_in, slot_arrives};
 ghost use Rattle.host_sockets.specs.Names.{udp_name_in, udp_peer_in};
 ghost use Rattle.host_sockets.specs.Ready.{udp_ready_in};
+ghost use Rattle.host_sockets.specs.Sockets.{put_at};
 
 use crate::error::{CallError, Refusal};
 use crate::names::NOWHERE;
@@ -27,6 +28,22 @@ pub(crate) fn place(slots: &[Option<UdpSock>]) -> usize
     ensures { result ≡ position_or_len is_none slots.now }
 {
     first_free(slots).unwrap_or(slots.len())
+}
+
+/// Puts a socket at a place of the list, or behind it.
+pub(crate) fn put(
+    slots: &mut Vec<Option<UdpSock>>,
+    place: usize,
+    sock: UdpSock,
+) -> Result<(), NoMemory>
+    ensures { OnOk result (slots.new.items ≡ put_at place (Some sock) slots.old.items) }
+{
+    if place < slots.len() {
+        slots[place] = Some(sock);
+        return Ok(());
+    }
+    slots.push(Some(sock))?;
+    Ok(())
 }
 
 /// What a socket is bound to.

@@ -1,12 +1,13 @@
 -- two writes and two reads, with the bytes spelled out
-use Rattle.std.specs.Prelude.{◌≡◌, true, false, List, [], ◌∷◌, refl}
+use Rattle.std.specs.Prelude.{◌≡◌, false, List, [], ◌∷◌, refl}
 use Rattle.host_fds.specs.declared.pipe.End.TheVariants.{Writing}
-use Rattle.host_fds.specs.Pipe.{PipeState}
+use Rattle.host_fds.specs.Pipe.{PipeState, new_pipe}
+use Rattle.host_fds.specs.Rises.{no_rises}
 use Rattle.pipe_laws.specs.Acts.{PipeAct, Writes, Reads, LetsGo, pipe_after_all, taken, given}
 
 -- a pipe in which "ab" stands
 abbrev pub ab : PipeState
-ab = record { bytes = 97 ∷ 98 ∷ []; has_reader = true; has_writer = true }
+ab = record new_pipe { bytes = 97 ∷ 98 ∷ [] }
 
 -- "cd" is written, three bytes are read, "e" is written, and nine bytes are asked for
 abbrev pub acts : List PipeAct
@@ -31,5 +32,13 @@ first_write_alone_taken = refl
 given_in_order : given acts_with_an_end ab ≡ 97 ∷ 98 ∷ 99 ∷ []
 given_in_order = refl
 
-one_left : pipe_after_all acts_with_an_end ab ≡ record { bytes = 100 ∷ []; has_reader = true; has_writer = false }
+one_left : (pipe_after_all acts_with_an_end ab).bytes ≡ 100 ∷ []
 one_left = refl
+
+no_writer : (pipe_after_all acts_with_an_end ab).has_writer ≡ false
+no_writer = refl
+
+-- the reading end had bytes at first and its rises are those since: bytes that were put in, and the writing end that was let go; a write
+-- that was not taken is none
+rises_counted : (pipe_after_all acts_with_an_end new_pipe).read_rises ≡ record no_rises { input = 1; hangup = 1 }
+rises_counted = refl

@@ -9,14 +9,14 @@ use Rattle.sim_base.specs.Addresses.{Surroundings, any, is_taken, meets, at_free
 use Rattle.sim_base.specs.Packet.{max_datagram}
 use Rattle.sim_base.specs.Refusals.{◌>>=◌, ◌>>◌, refuse_if, or_refuse}
 use Rattle.sock_udp.specs.declared.datagram.Datagram.{Datagram}
-use Rattle.sock_udp.specs.Socket.{UdpState, new_socket, bind, connect, send, or_else, reach, address_to_bind, address_to_use, address_to_connect, address_and_destination, packet_between, limit}
+use Rattle.sock_udp.specs.Socket.{UdpState, new_socket, arrive, bind, connect, send, or_else, reach, address_to_bind, address_to_use, address_to_connect, address_and_destination, packet_between, limit}
 use Rattle.sock_udp.specs.SocketLaws.{address_to_bind-is_taken, address_to_use-is_taken}
 use Rattle.host_sockets.specs.declared.error.Refusal.{Refusal}
 use Rattle.host_sockets.specs.Refusals.{by_errno}
 use Rattle.host_sockets.specs.TcpSocket.{bound_end}
 use Rattle.host_sockets.specs.Sockets.{SocketsRecord}
-use Rattle.host_sockets.specs.Arriving.{takes_in, slot_arrives, datagram_in, datagram_at, datagram_arrives}
-use Rattle.host_sockets.specs.Udp.{socket_in, udp_in, with_slot, udp_place, new_udp, closes_udp, local_in, udp_end, udp_ends, udp_around, acted_udp, udp_acts, only_state, binds_udp, connects_udp, sends_udp, receives_udp, oldest_datagram}
+use Rattle.host_sockets.specs.Arriving.{takes_in, datagram_in, datagram_at, datagram_arrives}
+use Rattle.host_sockets.specs.Udp.{socket_in, udp_in, with_udp, udp_place, new_udp, closes_udp, local_in, udp_end, udp_ends, udp_around, acted_udp, udp_acts, only_state, binds_udp, connects_udp, sends_udp, receives_udp, oldest_datagram}
 use Rattle.socket_laws.specs.Histories.{left_by}
 use Rattle.socket_laws.specs.Apart.{AreApart, BoundApart}
 use Rattle.socket_laws.proofs.Apart.{apart_loses, loses_set, loses_unbound, loses_put, IsFree, apart_set, first_of_ends, free_among}
@@ -36,17 +36,21 @@ arrives_by : (room : Bool) (from : Addr) (bytes : List ℕ) (u : UdpState) (a : 
 arrives_by true from bytes u a e = e
 arrives_by false from bytes u a e = e
 
-slot_as : (from : Addr) (bytes : List ℕ) (slot : Option UdpState) (a : Addr) → local_in (slot_arrives from bytes slot).1 ≡ Some a → local_in slot ≡ Some a
-slot_as from bytes None a e = e
-slot_as from bytes (Some u) a e = arrives_by (nat_lt (length u.waiting) limit) from bytes u a e
+pub there_of : (o : Option (Option UdpState)) (u : UdpState) → socket_in o ≡ Some u → o ≡ Some (Some u)
+there_of None u e = cc
+there_of (Some slot) u e = ap (λ (x : Option UdpState). Some x) e
 
-in_kept : (from : Addr) (bytes : List ℕ) (k : ℕ) (o : Option (Option UdpState)) (t : SocketsRecord) → slice_get t.udp k ≡ o → Kept t (datagram_in from bytes k o t).1
+in_kept : (from : Addr) (bytes : List ℕ) (k : ℕ) (o : Option UdpState) (t : SocketsRecord) → udp_in k t ≡ o → Kept t (datagram_in from bytes k o t).1
 in_kept from bytes k None t there = kept_all t
-in_kept from bytes k (Some slot) t there = record { own = refl; tcp = λ j a e. e; udp = loses_set local_in t.udp k slot (slot_arrives from bytes slot).1 there (slot_as from bytes slot) }
+in_kept from bytes k (Some u) t there = record {
+  own = refl;
+  tcp = λ j a e. e;
+  udp = loses_set local_in t.udp k (Some u) (Some (arrive from bytes u).1) (there_of (slice_get t.udp k) u there) (arrives_by (nat_lt (length u.waiting) limit) from bytes u);
+}
 
 at_kept : (from : Addr) (bytes : List ℕ) (o : Option ℕ) (t : SocketsRecord) → Kept t (datagram_at from bytes o t).1
 at_kept from bytes None t = kept_all t
-at_kept from bytes (Some k) t = in_kept from bytes k (slice_get t.udp k) t refl
+at_kept from bytes (Some k) t = in_kept from bytes k (udp_in k t) t refl
 
 pub datagram_kept : (from to : Addr) (bytes : List ℕ) (t : SocketsRecord) → Kept t (datagram_arrives from to bytes t).1
 unfolding datagram_arrives
@@ -56,17 +60,13 @@ datagram_kept from to bytes t = at_kept from bytes (position (takes_in from to) 
 abbrev Fits : ℕ → SocketsRecord → UdpState → Type 0
 Fits k t u = AreApart local_in (set t.udp k (Some u))
 
-pub there_of : (o : Option (Option UdpState)) (u : UdpState) → socket_in o ≡ Some u → o ≡ Some (Some u)
-there_of None u e = cc
-there_of (Some slot) u e = ap (λ (x : Option UdpState). Some x) e
-
-after_act : {A : Type 0} (k : ℕ) (t : SocketsRecord) (r : Result (A × UdpState) Refusal) → BoundApart t → ((a : A) (u : UdpState) → r ≡ Ok (a, u) → Fits k t u) → BoundApart (left_by (r >>= λ (answer, after). Ok (answer, with_slot k (Some after) t)) t)
-after_act k t (Ok (a, u)) h fits = record { tcp = h.tcp; udp = fits a u refl }
-after_act k t (Err why) h fits = h
+after_act : {A : Type 0} (k : ℕ) (t : SocketsRecord) (v : UdpState) (r : Result (A × UdpState) Refusal) → BoundApart t → ((a : A) (u : UdpState) → r ≡ Ok (a, u) → Fits k t u) → BoundApart (left_by (r >>= λ (answer, after). Ok (answer, with_udp k v after t)) t)
+after_act k t v (Ok (a, u)) h fits = record { tcp = h.tcp; udp = fits a u refl }
+after_act k t v (Err why) h fits = h
 
 after_call : {A : Type 0} (k : ℕ) (t : SocketsRecord) (act : UdpState → Result (A × UdpState) Refusal) (o : Option UdpState) → BoundApart t → ((u : UdpState) → o ≡ Some u → (a : A) (u' : UdpState) → act u ≡ Ok (a, u') → Fits k t u') → BoundApart (left_by (acted_udp act k o t) t)
 after_call k t act None h fits = h
-after_call k t act (Some u) h fits = after_act k t (act u) h (fits u refl)
+after_call k t act (Some u) h fits = after_act k t u (act u) h (fits u refl)
 
 udp_apart : {A : Type 0} (k : ℕ) (t : SocketsRecord) (act : UdpState → Result (A × UdpState) Refusal) → BoundApart t → ((u : UdpState) → slice_get t.udp k ≡ Some (Some u) → (a : A) (u' : UdpState) → act u ≡ Ok (a, u') → Fits k t u') → BoundApart (left_by (udp_acts act k t) t)
 udp_apart k t act h fits = after_call k t act (udp_in k t) h (λ u e. fits u (there_of (slice_get t.udp k) u e))
@@ -167,7 +167,7 @@ oldest_as u (x ∷ behind) count d u' e = back _ _ d u' e
     back : (q : Datagram) (v : UdpState) (p : Datagram) (w : UdpState) → (let r : Result (Datagram × UdpState) Refusal = Ok (q, v) in r ≡ Ok (p, w)) → v.local ≡ w.local
     back q v p w e = let same : (q, v) ≡ (p, w) = cc in ap (λ (y : Datagram × UdpState). y.1.local) same
 
-kept_after : {A : Type 0} (k : ℕ) (t : SocketsRecord) (u : UdpState) (r : Result (A × UdpState) Refusal) → slice_get t.udp k ≡ Some (Some u) → ((a : A) (u' : UdpState) → r ≡ Ok (a, u') → u.local ≡ u'.local) → Kept t (left_by (r >>= λ (answer, after). Ok (answer, with_slot k (Some after) t)) t)
+kept_after : {A : Type 0} (k : ℕ) (t : SocketsRecord) (u : UdpState) (r : Result (A × UdpState) Refusal) → slice_get t.udp k ≡ Some (Some u) → ((a : A) (u' : UdpState) → r ≡ Ok (a, u') → u.local ≡ u'.local) → Kept t (left_by (r >>= λ (answer, after). Ok (answer, with_udp k u after t)) t)
 kept_after k t u (Ok (a, u')) there same =
     record { own = refl; tcp = λ j b e. e; udp = loses_set local_in t.udp k (Some u) (Some u') there (λ b e. same a u' refl ∙ e) }
 kept_after k t u (Err why) there same = kept_all t

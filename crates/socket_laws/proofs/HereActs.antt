@@ -17,7 +17,7 @@ use Rattle.host_sockets.specs.Refusals.{by_errno}
 use Rattle.host_sockets.specs.Wanted.{Wanted, nothing_wanted}
 use Rattle.host_sockets.specs.TcpSocket.{TcpSocket, with_bound}
 use Rattle.host_sockets.specs.Sockets.{SocketsRecord, no_sockets, changes_in, changes_at, tcp_ends, bound_ends}
-use Rattle.host_sockets.specs.Udp.{local_in, udp_in, udp_around, with_slot, acted_udp, only_state, binds_udp, connects_udp, sends_udp}
+use Rattle.host_sockets.specs.Udp.{local_in, udp_in, udp_around, with_udp, acted_udp, only_state, binds_udp, connects_udp, sends_udp}
 use Rattle.host_sockets.specs.Binding.{bind_begins, bind_begun, bind_asked, binds_tcp, end_to_use, bound_to_use, listening, listen_begun, listen_asked, listens_tcp}
 use Rattle.host_sockets.specs.Connecting.{connect_asked}
 use Rattle.socket_laws.specs.Apart.{end_of, end_at, tcp_end, AreHere, BoundHere}
@@ -140,15 +140,15 @@ listens_here own k count t h =
     changed_here own k (listening at count) at (slice_get t.tcp k) t refl (λ s. refl) local h) h
 
 -- bind(2), connect(2) and send(2) on UDP sockets
-slot_after : {A : Type 0} (own : Ip) (k : ℕ) (t : SocketsRecord) (r : Result (A × UdpState) Refusal) → Here own t → ((a : A) (u : UdpState) → r ≡ Ok (a, u) → IsBoundHere own u.local) → Here own (left_by (r >>= λ (answer, after). Ok (answer, with_slot k (Some after) t)) t)
-slot_after own k t (Ok (a, u)) h fits =
+slot_after : {A : Type 0} (own : Ip) (k : ℕ) (t : SocketsRecord) (v : UdpState) (r : Result (A × UdpState) Refusal) → Here own t → ((a : A) (u : UdpState) → r ≡ Ok (a, u) → IsBoundHere own u.local) → Here own (left_by (r >>= λ (answer, after). Ok (answer, with_udp k v after t)) t)
+slot_after own k t v (Ok (a, u)) h fits =
     record { own = h.own; bound = record { tcp = h.bound.tcp; udp = here_set local_in own t.udp k (Some u) h.bound.udp (fits a u refl) } }
-slot_after own k t (Err why) h fits = h
+slot_after own k t v (Err why) h fits = h
 
 slot_call : {A : Type 0} (own : Ip) (k : ℕ) (t : SocketsRecord) (act : UdpState → Result (A × UdpState) Refusal) (o : Option UdpState) → udp_in k t ≡ o → Here own t → ((u : UdpState) → IsBoundHere own u.local → (a : A) (u' : UdpState) → act u ≡ Ok (a, u') → IsBoundHere own u'.local) → Here own (left_by (acted_udp act k o t) t)
 slot_call own k t act None e h fits = h
 slot_call own k t act (Some u) e h fits =
-    slot_after own k t (act u) h (fits u (λ a is. h.bound.udp k a (ap (end_of local_in) (there_of (slice_get t.udp k) u e) ∙ is)))
+    slot_after own k t u (act u) h (fits u (λ a is. h.bound.udp k a (ap (end_of local_in) (there_of (slice_get t.udp k) u e) ∙ is)))
 
 -- the socket that an act leaves is bound to what the act used
 left_bound : (own : Ip) (u : UdpState) (at : Addr) → u.local ≡ Some at → is_local own at.ip ≡ true → IsBoundHere own u.local

@@ -16,7 +16,7 @@ use Rattle.host_sockets.specs.Wanted.{sends, Wanted, draws_word, nothing_wanted}
 use Rattle.host_sockets.specs.TcpSocket.{with_tcb, TcpSocket, fresh, has_record, with_bound}
 use Rattle.host_sockets.specs.Sockets.{SocketsRecord, changes_at, changes_in, no_sockets, put_tcp, tcp_place}
 use Rattle.host_sockets.specs.TcpActs.{turned, turned_in, is_let_go, starts, Acted, acts_at, acts_in, record_acts}
-use Rattle.host_sockets.specs.Udp.{acted_udp, binds_udp, closes_udp, connects_udp, new_udp, receives_udp, sends_udp, udp_in, with_slot}
+use Rattle.host_sockets.specs.Udp.{acted_udp, binds_udp, closes_udp, connects_udp, new_udp, receives_udp, sends_udp, udp_in, with_udp}
 use Rattle.host_sockets.specs.Binding.{bind_asked, binds_tcp, listen_asked, listen_to, listening, listens_tcp}
 use Rattle.host_sockets.specs.Accepting.{accept_asked, accepted, accepts_at, accepts_in, accepts_of, accepts_tcp, given_up, placed}
 use Rattle.host_sockets.specs.Connecting.{connect_answers, connect_asked, connect_waited, connects, connects_taking, error_takes, opens, without_change}
@@ -224,7 +224,7 @@ udp_keeps : {A : Type 0} (act : UdpState → Result (A × UdpState) Refusal) (k 
 udp_keeps act k None t h = h
 udp_keeps {A} act k (Some u) t h = by_answer (act u)
   where
-    by_answer : (answer : Result (A × UdpState) Refusal) → Rests (left_by (answer >>= λ (a, after). Ok (a, with_slot k (Some after) t)) t)
+    by_answer : (answer : Result (A × UdpState) Refusal) → Rests (left_by (answer >>= λ (a, after). Ok (a, with_udp k u after t)) t)
     by_answer (Ok (a, after)) = h
     by_answer (Err why) = h
 
@@ -269,13 +269,13 @@ segment_keeps : (now : Time) (p : Packet) (t : SocketsRecord) (w : Wanted) → R
 unfolding segment_arrives
 segment_keeps now p t w h = segment_keeps_at now p (position (has_record p.to p.from) t.tcp) t w h
 
-slot_keeps : (from : Addr) (bytes : List ℕ) (k : ℕ) (o : Option (Option UdpState)) (t : SocketsRecord) → Rests t → Rests (datagram_in from bytes k o t).1
+slot_keeps : (from : Addr) (bytes : List ℕ) (k : ℕ) (o : Option UdpState) (t : SocketsRecord) → Rests t → Rests (datagram_in from bytes k o t).1
 slot_keeps from bytes k None t h = h
-slot_keeps from bytes k (Some slot) t h = h
+slot_keeps from bytes k (Some u) t h = h
 
 taker_keeps : (from : Addr) (bytes : List ℕ) (o : Option ℕ) (t : SocketsRecord) → Rests t → Rests (datagram_at from bytes o t).1
 taker_keeps from bytes None t h = h
-taker_keeps from bytes (Some k) t h = slot_keeps from bytes k (slice_get t.udp k) t h
+taker_keeps from bytes (Some k) t h = slot_keeps from bytes k (udp_in k t) t h
 
 datagram_keeps : (from to : Addr) (bytes : List ℕ) (t : SocketsRecord) → Rests t → Rests (datagram_arrives from to bytes t).1
 unfolding datagram_arrives

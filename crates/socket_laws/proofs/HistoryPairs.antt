@@ -1,5 +1,5 @@
 -- over every history of a host's sockets two live records never have the same pair of ends
-use Rattle.std.proofs.Common.{◌≡◌, ℕ, ◌+◌, ◌≤◌, ◌==◌, List, [], ◌∷◌, true, false, Option, Some, None, slice_get, refl, sym, ap, ◌∙◌, arith}
+use Rattle.std.proofs.Common.{◌≡◌, ℕ, ◌+◌, ◌≤◌, ◌==◌, List, [], ◌∷◌, true, false, Option, Some, None, refl, sym, ap, ◌∙◌, arith}
 use Rattle.std.specs.List.{position}
 use Rattle.sim_base.specs.declared.address.Ip.{Ip}
 use Rattle.sim_base.specs.declared.address.Addr.{Addr}
@@ -110,13 +110,13 @@ unfolding segment_arrives
 segment_single own other now p t w h = segment_single_at own other now p (position (has_record p.to p.from) t.tcp) t w refl h
 
 -- a datagram
-slot_single : (own other from : Addr) (bytes : List ℕ) (k : ℕ) (o : Option (Option UdpState)) (t : SocketsRecord) → Single own other t → Single own other (datagram_in from bytes k o t).1
+slot_single : (own other from : Addr) (bytes : List ℕ) (k : ℕ) (o : Option UdpState) (t : SocketsRecord) → Single own other t → Single own other (datagram_in from bytes k o t).1
 slot_single own other from bytes k None t h = h
-slot_single own other from bytes k (Some slot) t h = h
+slot_single own other from bytes k (Some u) t h = h
 
 taker_single : (own other from : Addr) (bytes : List ℕ) (o : Option ℕ) (t : SocketsRecord) → Single own other t → Single own other (datagram_at from bytes o t).1
 taker_single own other from bytes None t h = h
-taker_single own other from bytes (Some k) t h = slot_single own other from bytes k (slice_get t.udp k) t h
+taker_single own other from bytes (Some k) t h = slot_single own other from bytes k (udp_in k t) t h
 
 datagram_single : (own other from to : Addr) (bytes : List ℕ) (t : SocketsRecord) → Single own other t → Single own other (datagram_arrives from to bytes t).1
 unfolding datagram_arrives

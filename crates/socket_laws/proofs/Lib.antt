@@ -15,4 +15,6 @@ pub mod SourceEnds
 pub mod Staying
 pub mod Sums
 pub mod Waiting
+pub mod RiseActs
+pub mod RisesMoved
 pub mod Telling

@@ -23,7 +23,7 @@ use Rattle.host_sockets.specs.Wanted.{Wanted, nothing_wanted}
 use Rattle.host_sockets.specs.TcpSocket.{TcpSocket, fresh, with_bound, has_record, listens_in, listens_to}
 use Rattle.host_sockets.specs.Sockets.{SocketsRecord, no_sockets, changes_at}
 use Rattle.host_sockets.specs.TcpActs.{acts_at, record_acts}
-use Rattle.host_sockets.specs.Udp.{udp_acts, acted_udp, udp_in, with_slot, binds_udp, connects_udp, sends_udp, receives_udp, new_udp, closes_udp}
+use Rattle.host_sockets.specs.Udp.{udp_acts, acted_udp, udp_in, with_udp, binds_udp, connects_udp, sends_udp, receives_udp, new_udp, closes_udp}
 use Rattle.host_sockets.specs.Binding.{bind_asked, binds_tcp, listen_asked, listening, listens_tcp}
 use Rattle.host_sockets.specs.Accepting.{accept_asked, accepts_at, accepts_tcp, given_up, placed}
 use Rattle.host_sockets.specs.Connecting.{connect_asked, connects, opens, error_takes, taking, without_change, connect_waited, connects_taking, connect_answers}
@@ -109,13 +109,13 @@ unfolding accepts_tcp
 accepts_row k t h = accepted_row k t (accept_asked k t) (accepts_at k t) refl h
 
 -- calls on UDP sockets leave those of TCP
-after_udp : {A : Type 0} (k : ℕ) (t : SocketsRecord) (r : Result (A × UdpState) Refusal) → Listening t → Listening (left_by (r >>= λ (answer, after). Ok (answer, with_slot k (Some after) t)) t)
-after_udp k t (Ok (a, u)) h = h
-after_udp k t (Err why) h = h
+after_udp : {A : Type 0} (k : ℕ) (t : SocketsRecord) (u : UdpState) (r : Result (A × UdpState) Refusal) → Listening t → Listening (left_by (r >>= λ (answer, after). Ok (answer, with_udp k u after t)) t)
+after_udp k t u (Ok (a, after)) h = h
+after_udp k t u (Err why) h = h
 
 udp_there : {A : Type 0} (k : ℕ) (t : SocketsRecord) (act : UdpState → Result (A × UdpState) Refusal) (o : Option UdpState) → Listening t → Listening (left_by (acted_udp act k o t) t)
 udp_there k t act None h = h
-udp_there k t act (Some u) h = after_udp k t (act u) h
+udp_there k t act (Some u) h = after_udp k t u (act u) h
 
 udp_row : {A : Type 0} (k : ℕ) (t : SocketsRecord) (act : UdpState → Result (A × UdpState) Refusal) → Listening t → Listening (left_by (udp_acts act k t) t)
 udp_row k t act h = udp_there k t act (udp_in k t) h
@@ -133,13 +133,13 @@ segments_listen : (now : Time) (p : Packet) (t : SocketsRecord) (w : Wanted) →
 unfolding segment_arrives
 segments_listen now p t w h = segment_listens now p (position (has_record p.to p.from) t.tcp) t w h
 
-in_listens : (from : Addr) (bytes : List ℕ) (k : ℕ) (o : Option (Option UdpState)) (t : SocketsRecord) → Listening t → Listening (datagram_in from bytes k o t).1
+in_listens : (from : Addr) (bytes : List ℕ) (k : ℕ) (o : Option UdpState) (t : SocketsRecord) → Listening t → Listening (datagram_in from bytes k o t).1
 in_listens from bytes k None t h = h
-in_listens from bytes k (Some slot) t h = h
+in_listens from bytes k (Some u) t h = h
 
 at_listens : (from : Addr) (bytes : List ℕ) (o : Option ℕ) (t : SocketsRecord) → Listening t → Listening (datagram_at from bytes o t).1
 at_listens from bytes None t h = h
-at_listens from bytes (Some k) t h = in_listens from bytes k (slice_get t.udp k) t h
+at_listens from bytes (Some k) t h = in_listens from bytes k (udp_in k t) t h
 
 datagram_listens : (from to : Addr) (bytes : List ℕ) (t : SocketsRecord) → Listening t → Listening (datagram_arrives from to bytes t).1
 unfolding datagram_arrives

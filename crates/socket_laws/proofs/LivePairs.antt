@@ -18,7 +18,7 @@ use Rattle.host_sockets.specs.Wanted.{Wanted, draws_word}
 use Rattle.host_sockets.specs.TcpSocket.{TcpSocket, fresh, with_bound, has_record, keeps_record}
 use Rattle.host_sockets.specs.Sockets.{SocketsRecord, changes_in, changes_at, tcp_place, put_tcp, has_pair}
 use Rattle.host_sockets.specs.TcpActs.{Acted, record_acts, acts_in, acts_at}
-use Rattle.host_sockets.specs.Udp.{with_slot, acted_udp}
+use Rattle.host_sockets.specs.Udp.{with_udp, acted_udp}
 use Rattle.host_sockets.specs.Binding.{bind_asked, binds_tcp, bound_to_use, listen_to, listening, listen_asked, listens_tcp}
 use Rattle.host_sockets.specs.Accepting.{accept_asked, accepts_in, accepts_of, accepts_at, given_up, accepted, placed, accepts_tcp}
 use Rattle.host_sockets.specs.Connecting.{source_end, connect_begun, connect_asked, opens, connects, error_takes, taking, connect_waited, without_change, connects_taking, connect_answers}
@@ -301,6 +301,6 @@ pub udp_single : {A : Type 0} (own other : Addr) (act : UdpState → Result (A �
 udp_single own other act k None t h = h
 udp_single {A} own other act k (Some u) t h = by_answer (act u)
   where
-    by_answer : (answer : Result (A × UdpState) Refusal) → Single own other (left_by (answer >>= λ (a, after). Ok (a, with_slot k (Some after) t)) t)
+    by_answer : (answer : Result (A × UdpState) Refusal) → Single own other (left_by (answer >>= λ (a, after). Ok (a, with_udp k u after t)) t)
     by_answer (Ok (a, after)) = h
     by_answer (Err why) = h

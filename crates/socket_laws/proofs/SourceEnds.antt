@@ -9,7 +9,7 @@ use Rattle.sim_base.specs.declared.address.Ip.{Ip}
 use Rattle.sim_base.specs.declared.address.Addr.{Addr}
 use Rattle.sock_udp.specs.Socket.{UdpState, or_else, address_and_destination, packet_between, send}
 use Rattle.host_sockets.specs.Refusals.{by_errno}
-use Rattle.host_sockets.specs.Udp.{socket_in, udp_in, with_slot, local_in, udp_around, acted_udp, sends_udp}
+use Rattle.host_sockets.specs.Udp.{socket_in, udp_in, with_udp, local_in, udp_around, acted_udp, sends_udp}
 use Rattle.tcp_laws.proofs.Tests.{by_test}
 use Rattle.host_sockets.specs.declared.error.Refusal.{Refusal}
 use Rattle.host_sockets.specs.declared.error.Refusal.TheVariants as refusal
@@ -130,16 +130,16 @@ SentFrom k host p t = (at : Addr) × ((local_in (udp_in k t) ≡ Some at) × (p.
 abbrev sent_row : Surroundings → List ℕ → ℕ → UdpState → SocketsRecord → Result (Addr × Addr) Errno → Result (Packet × SocketsRecord) Refusal
 sent_row around bytes k u t ends = do
   (answer, after) ← by_errno (ends >>= λ (bound, destination). Ok (packet_between around bytes bound destination, record u { local = Some bound }))
-  Ok (answer, with_slot k (Some after) t)
+  Ok (answer, with_udp k u after t)
 
 sent_from : (around : Surroundings) (bytes : List ℕ) (k : ℕ) (u : UdpState) (t t' : SocketsRecord) (ends : Result (Addr × Addr) Errno) (p : Packet) → slice_get t.udp k ≡ Some (Some u) → sent_row around bytes k u t ends ≡ Ok (p, t') → SentFrom k around.own p t'
 unfolding packet_in record_in
 sent_from around bytes k u t t' (Err errno) p at e = cc
 sent_from around bytes k u t t' (Ok (bound, destination)) p at e =
     let packet : packet_between around bytes bound destination ≡ p = ap (packet_in p) e in
-    let after : with_slot k (Some (record u { local = Some bound })) t ≡ t' = ap (record_in t) e in
+    let after : with_udp k u (record u { local = Some bound }) t ≡ t' = ap (record_in t) e in
     let there = set_there t.udp k (Some u) (Some (record u { local = Some bound })) at in
-    let local : local_in (udp_in k (with_slot k (Some (record u { local = Some bound })) t)) ≡ Some bound = ap (λ o. local_in (socket_in o)) there in
+    let local : local_in (udp_in k (with_udp k u (record u { local = Some bound }) t)) ≡ Some bound = ap (λ o. local_in (socket_in o)) there in
     (bound, (ap (λ x. local_in (udp_in k x)) (sym after) ∙ local, subst (λ (q : Packet). q.from ≡ source_end around.own bound q.to) packet refl))
 
 sent_slot : (hosts : List Ip) (k : ℕ) (bytes : List ℕ) (to : Option Addr) (t t' : SocketsRecord) (p : Packet) (o : Option (Option UdpState)) → slice_get t.udp k ≡ o → acted_udp (λ u. by_errno (send (udp_around hosts t) bytes to u)) k (socket_in o) t ≡ Ok (p, t') → SentFrom k t.own p t'

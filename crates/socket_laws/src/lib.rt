@@ -17,6 +17,8 @@ ghost use Rattle.host_sockets.specs.Binding.{bound_to_use};
 ghost use Rattle.host_sockets.specs.Connecting.{source_end, connect_asked};
 ghost use Rattle.socket_laws.specs.Histories.{SocketsAct, sockets_of};
 ghost use Rattle.socket_laws.specs.Pairs.{live_records};
+ghost use Rattle.host_sockets.specs.Ready.{tcp_rises, udp_rises};
+ghost use Rattle.socket_laws.specs.Rises.{AreCounted, tcp_rises_counted, udp_rises_counted};
 ghost use Rattle.host_sockets.specs.Sockets.{SocketsRecord};
 ghost use Rattle.host_sockets.specs.Records.{records_of};
 ghost use Rattle.host_sockets.specs.Streams.{pair_order, streams_of};
@@ -91,6 +93,15 @@ pub fn one_listens()
     ensures { (hosts : List Ip) (own : Ip) (draws : List ℕ) (acts : List (Time × SocketsAct)) (to : Addr) (i j : ℕ) (a b : TcpSocket)
         → slice_get (sockets_of hosts own draws acts).tcp i ≡ Some a → listens_to to a ≡ true
         → slice_get (sockets_of hosts own draws acts).tcp j ≡ Some b → listens_to to b ≡ true → i ≡ j }
+{}
+
+/// The rises that are kept of a socket are those of the definition: the number of acts, from the one on
+/// that made it, by which a bit came to hold, and for `POLLIN` also of those that put something in.
+pub fn rises_are_counted()
+    ensures tcp { (hosts : List Ip) (own : Ip) (draws : List ℕ) (acts : List (Time × SocketsAct)) (k : ℕ)
+        → AreCounted (tcp_rises k (sockets_of hosts own draws acts)) (λ bit. tcp_rises_counted bit k hosts own draws acts) }
+    ensures udp { (hosts : List Ip) (own : Ip) (draws : List ℕ) (acts : List (Time × SocketsAct)) (k : ℕ)
+        → AreCounted (udp_rises k (sockets_of hosts own draws acts)) (λ bit. udp_rises_counted bit k hosts own draws acts) }
 {}
 
 /// What a host tells of two ends: nothing where it never had a connection of them; what the only one

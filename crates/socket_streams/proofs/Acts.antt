@@ -33,12 +33,12 @@ module _ (scope : Addr → Addr → Bool) (hosts : List Ip) (own : Ip) (others :
 
   pub acted_reach : (now : Time) (act : SocketsAct) (t : SocketsRecord) (w : Wanted) → ArePlain own t → MayDo (flying ++ packets_of w) (flying ++ packets_of w) act → Reaches scope own others flying (t, w) (sockets_acted hosts now act t w)
   unfolding new_udp binds_udp connects_udp sends_udp receives_udp closes_udp
-  acted_reach now make_udp t w plain may = slots_reach scope own others flying t _ w plain
+  acted_reach now make_udp t w plain may = slots_reach scope own others flying t _ _ w plain
   acted_reach now (bind_udp k at) t w plain may = udp_reach scope own others flying _ k (udp_in k t) t w plain
   acted_reach now (connect_udp k to) t w plain may = udp_reach scope own others flying _ k (udp_in k t) t w plain
   acted_reach now (send_udp k bytes to) t w plain may = udp_reach scope own others flying _ k (udp_in k t) t w plain
   acted_reach now (recv_udp k n) t w plain may = udp_reach scope own others flying _ k (udp_in k t) t w plain
-  acted_reach now (close_udp k) t w plain may = slots_reach scope own others flying t _ w plain
+  acted_reach now (close_udp k) t w plain may = slots_reach scope own others flying t _ _ w plain
   acted_reach now make_tcp t w plain may = made_reach scope own others flying t w plain
   acted_reach now (bind_tcp k at) t w plain may = bind_reach scope own others flying k at t w plain
   acted_reach now (listen_tcp k n) t w plain may = listen_reach scope own others flying k n t w plain

@@ -27,6 +27,7 @@ use Rattle.sock_tcp.specs.listener.Listen.{Listen, Heard, fresh_listen, without,
 use Rattle.sock_tcp.specs.listener.Dropped.{dropped_by, dropped}
 use Rattle.tcp_laws.proofs.Tests.{by_test}
 use Rattle.tcp_streams.proofs.Members.{IsIn, IsIn-from_Contains}
+use Rattle.host_fds.specs.declared.rises.Rises.{Rises}
 use Rattle.host_sockets.specs.declared.error.Refusal.{Refusal}
 use Rattle.host_sockets.specs.declared.error.Refusal.TheVariants as refusal
 use Rattle.host_sockets.specs.declared.tcp_sock.KeptTimer.{KeptTimer}
@@ -34,7 +35,7 @@ use Rattle.host_sockets.specs.Wanted.{Wanted, draws_word, nothing_wanted, sends}
 use Rattle.host_sockets.specs.TcpSocket.{TcpSocket, fresh, with_bound, with_tcb}
 use Rattle.host_sockets.specs.Sockets.{SocketsRecord, no_sockets, changes_in, changes_at, tcp_place, put_tcp}
 use Rattle.host_sockets.specs.TcpActs.{Acted, is_let_go, starts, turned, turned_in, record_acts, acts_in, acts_at}
-use Rattle.host_sockets.specs.Udp.{udp_in, with_slot, acted_udp, new_udp, binds_udp, connects_udp, sends_udp, receives_udp, closes_udp}
+use Rattle.host_sockets.specs.Udp.{udp_in, with_udp, acted_udp, new_udp, binds_udp, connects_udp, sends_udp, receives_udp, closes_udp}
 use Rattle.host_sockets.specs.Binding.{bind_asked, binds_tcp, listen_to, listening, listen_asked, listens_tcp}
 use Rattle.host_sockets.specs.Accepting.{accept_asked, accepts_in, accepts_of, accepts_at, given_up, accepted, placed, accepts_tcp}
 use Rattle.host_sockets.specs.Connecting.{connect_asked, opens, connects, error_takes, connect_waited, without_change, connects_taking, connect_answers}
@@ -249,16 +250,16 @@ module _ (own : Ip) where
   unfolding segment_arrives
   segment_home now p t w to h = segment_home_at now p _ t w to h
 
-  slots_home : (t : SocketsRecord) (slots : List (Option UdpState)) → AtHome t → AtHome (record t { udp = slots })
-  slots_home t slots h = record { sockets = h.sockets; gone = h.gone }
+  slots_home : (t : SocketsRecord) (slots : List (Option UdpState)) (risen : List Rises) → AtHome t → AtHome (record t { udp = slots; udp_risen = risen })
+  slots_home t slots risen h = record { sockets = h.sockets; gone = h.gone }
 
-  datagram_home_in : (from : Addr) (bytes : List ℕ) (k : ℕ) (o : Option (Option UdpState)) (t : SocketsRecord) → AtHome t → AtHome (datagram_in from bytes k o t).1
+  datagram_home_in : (from : Addr) (bytes : List ℕ) (k : ℕ) (o : Option UdpState) (t : SocketsRecord) → AtHome t → AtHome (datagram_in from bytes k o t).1
   datagram_home_in from bytes k None t h = h
-  datagram_home_in from bytes k (Some slot) t h = slots_home t _ h
+  datagram_home_in from bytes k (Some u) t h = slots_home t _ _ h
 
   datagram_home_at : (from : Addr) (bytes : List ℕ) (o : Option ℕ) (t : SocketsRecord) → AtHome t → AtHome (datagram_at from bytes o t).1
   datagram_home_at from bytes None t h = h
-  datagram_home_at from bytes (Some k) t h = datagram_home_in from bytes k (slice_get t.udp k) t h
+  datagram_home_at from bytes (Some k) t h = datagram_home_in from bytes k (udp_in k t) t h
 
   datagram_home : (from to : Addr) (bytes : List ℕ) (t : SocketsRecord) → AtHome t → AtHome (datagram_arrives from to bytes t).1
   unfolding datagram_arrives
@@ -441,20 +442,20 @@ module _ (own : Ip) where
   udp_home act k None t h = h
   udp_home {A} act k (Some u) t h = by_answer (act u)
     where
-      by_answer : (answer : Result (A × UdpState) Refusal) → AtHome (left_by (answer >>= λ (a, after). Ok (a, with_slot k (Some after) t)) t)
-      by_answer (Ok (a, after)) = slots_home t _ h
+      by_answer : (answer : Result (A × UdpState) Refusal) → AtHome (left_by (answer >>= λ (a, after). Ok (a, with_udp k u after t)) t)
+      by_answer (Ok (a, after)) = slots_home t _ _ h
       by_answer (Err why) = h
 
   -- ---- each act
 
   pub acted_home : (hosts : List Ip) (now : Time) (act : SocketsAct) (t : SocketsRecord) (w : Wanted) → ComesHome own act → Here own t → AtHome t → AtHome (sockets_acted hosts now act t w).0
   unfolding new_udp binds_udp connects_udp sends_udp receives_udp closes_udp
-  acted_home hosts now make_udp t w comes here h = slots_home t _ h
+  acted_home hosts now make_udp t w comes here h = slots_home t _ _ h
   acted_home hosts now (bind_udp k at) t w comes here h = udp_home _ k (udp_in k t) t h
   acted_home hosts now (connect_udp k to) t w comes here h = udp_home _ k (udp_in k t) t h
   acted_home hosts now (send_udp k bytes to) t w comes here h = udp_home _ k (udp_in k t) t h
   acted_home hosts now (recv_udp k n) t w comes here h = udp_home _ k (udp_in k t) t h
-  acted_home hosts now (close_udp k) t w comes here h = slots_home t _ h
+  acted_home hosts now (close_udp k) t w comes here h = slots_home t _ _ h
   acted_home hosts now make_tcp t w comes here h = put_home (fresh true) t (fresh_home true) h
   acted_home hosts now (bind_tcp k at) t w comes here h = bind_home k at t h
   acted_home hosts now (listen_tcp k n) t w comes here h = listen_home k n t h

@@ -99,7 +99,7 @@ changes_reach_in scope own others flying k f (Some s) t w at plain keeps =
     IsPermutation-trans all (records_at s ++ share.rest) (flat_map records_at t.tcp)
     (subst (λ (xs : List Tcb). IsPermutation all (xs ++ share.rest)) d.1 (share.put (f s)))
     (IsPermutation-sym (flat_map records_at t.tcp) (records_at s ++ share.rest) share.here) in
-    same_reach scope own others flying t (with_tcp k (f s) t) w
+    same_reach scope own others flying t (with_tcp k s (f s) t) w
     (record { host = plain.host; sockets = set_hold (IsPlain own) t.tcp k (f s) plain.sockets d.0 })
     (IsPermutation-append_left t.gone all (flat_map records_at t.tcp) back)
 

@@ -13,6 +13,7 @@ use Rattle.sim_base.specs.declared.packet.Load.{Load}
 use Rattle.sim_base.specs.declared.packet.Load.TheVariants.{Udp, Tcp}
 use Rattle.sim_base.specs.declared.packet.Packet.{Packet}
 use Rattle.sim_base.specs.declared.time.Time.{Time}
+use Rattle.host_fds.specs.declared.rises.Rises.{Rises}
 use Rattle.sock_udp.specs.Socket.{UdpState}
 use Rattle.sock_tcp.specs.declared.connection.effects.Shut.{Shut}
 use Rattle.sock_tcp.specs.segment.Refusal.{refusal_of}
@@ -32,7 +33,7 @@ use Rattle.host_sockets.specs.Wanted.{Wanted, sends, draws_word}
 use Rattle.host_sockets.specs.TcpSocket.{TcpSocket, fresh, with_bound, has_record}
 use Rattle.host_sockets.specs.Sockets.{SocketsRecord, changes_in, changes_at, put_tcp}
 use Rattle.host_sockets.specs.TcpActs.{acts_at, record_acts}
-use Rattle.host_sockets.specs.Udp.{with_slot, acted_udp}
+use Rattle.host_sockets.specs.Udp.{udp_in, with_udp, acted_udp}
 use Rattle.host_sockets.specs.Binding.{bind_asked, binds_tcp, bound_to_use, listen_to, listening, listen_begun, listen_asked, listens_tcp}
 use Rattle.host_sockets.specs.Accepting.{accept_asked, accepts_in, accepts_of, accepts_at, given_up, accepted, placed, accepts_tcp}
 use Rattle.host_sockets.specs.Connecting.{connect_error, refuse_connected, connect_begins, connect_begun, connect_asked, opens, connects, error_takes, connect_waited, without_change, connects_taking, connect_answers}
@@ -287,9 +288,9 @@ module _ (scope : Addr → Addr → Bool) (own : Ip) (others : List Tcb) (flying
       (put_all (fresh true) t)
 
   -- UDP sockets have no records
-  pub slots_reach : (t : SocketsRecord) (slots : List (Option UdpState)) (w : Wanted) → ArePlain own t → Reaches scope own others flying (t, w) (record t { udp = slots }, w)
-  slots_reach t slots w plain =
-      same_reach scope own others flying t (record t { udp = slots }) w
+  pub slots_reach : (t : SocketsRecord) (slots : List (Option UdpState)) (risen : List Rises) (w : Wanted) → ArePlain own t → Reaches scope own others flying (t, w) (record t { udp = slots; udp_risen = risen }, w)
+  slots_reach t slots risen w plain =
+      same_reach scope own others flying t (record t { udp = slots; udp_risen = risen }) w
       (record { host = plain.host; sockets = plain.sockets })
       (IsPermutation-refl (records_of t))
 
@@ -297,8 +298,8 @@ module _ (scope : Addr → Addr → Bool) (own : Ip) (others : List Tcb) (flying
   udp_reach act k None t w plain = rests_reach scope own others flying t w plain
   udp_reach {A} act k (Some u) t w plain = by_answer (act u)
     where
-      by_answer : (answer : Result (A × UdpState) Refusal) → Reaches scope own others flying (t, w) (left_by (answer >>= λ (a, after). Ok (a, with_slot k (Some after) t)) t, w)
-      by_answer (Ok (a, after)) = slots_reach t _ w plain
+      by_answer : (answer : Result (A × UdpState) Refusal) → Reaches scope own others flying (t, w) (left_by (answer >>= λ (a, after). Ok (a, with_udp k u after t)) t, w)
+      by_answer (Ok (a, after)) = slots_reach t _ _ w plain
       by_answer (Err why) = rests_reach scope own others flying t w plain
 
   -- a segment arrives
@@ -330,13 +331,13 @@ module _ (scope : Addr → Addr → Bool) (own : Ip) (others : List Tcb) (flying
   segment_reach now p t w c plain = segment_reach_at now p (position (has_record p.to p.from) t.tcp) t w refl c plain
 
   -- a datagram arrives
-  datagram_reach_in : (from : Addr) (bytes : List ℕ) (k : ℕ) (o : Option (Option UdpState)) (t : SocketsRecord) (w : Wanted) → ArePlain own t → Reaches scope own others flying (t, w) ((datagram_in from bytes k o t).1, w)
+  datagram_reach_in : (from : Addr) (bytes : List ℕ) (k : ℕ) (o : Option UdpState) (t : SocketsRecord) (w : Wanted) → ArePlain own t → Reaches scope own others flying (t, w) ((datagram_in from bytes k o t).1, w)
   datagram_reach_in from bytes k None t w plain = rests_reach scope own others flying t w plain
-  datagram_reach_in from bytes k (Some slot) t w plain = slots_reach t _ w plain
+  datagram_reach_in from bytes k (Some u) t w plain = slots_reach t _ _ w plain
 
   datagram_reach_at : (from : Addr) (bytes : List ℕ) (o : Option ℕ) (t : SocketsRecord) (w : Wanted) → ArePlain own t → Reaches scope own others flying (t, w) ((datagram_at from bytes o t).1, w)
   datagram_reach_at from bytes None t w plain = rests_reach scope own others flying t w plain
-  datagram_reach_at from bytes (Some k) t w plain = datagram_reach_in from bytes k (slice_get t.udp k) t w plain
+  datagram_reach_at from bytes (Some k) t w plain = datagram_reach_in from bytes k (udp_in k t) t w plain
 
   datagram_reach : (from to : Addr) (bytes : List ℕ) (t : SocketsRecord) (w : Wanted) → ArePlain own t → Reaches scope own others flying (t, w) ((datagram_arrives from to bytes t).1, w)
   unfolding datagram_arrives

@@ -1,4 +1,4 @@
-use Rattle.call_laws.proofs.ReadyCalls.{answers-where, read-answers, recvfrom-answers, accept-answers, write-answers, sendto-answers, connect-answers}
+use Rattle.call_laws.proofs.ReadyCalls.{answers-where, read-answers, recvfrom-answers, accept-answers, write-answers, sendto-answers, connect-answers, wait-answers}
 use Rattle.call_laws.proofs.readiness_and_answers.Goals as goal
 
 pub returns : goal.returns
@@ -9,4 +9,5 @@ returns c = record {
   write = answers-where _ _ write-answers;
   sendto = answers-where _ _ sendto-answers;
   connect = answers-where _ _ connect-answers;
+  epoll_wait = answers-where _ _ wait-answers;
 }

@@ -1,5 +1,6 @@
-use Rattle.std.proofs.Common.{refl, arith}
+use Rattle.std.proofs.Common.{ap, arith}
 use Rattle.host_sockets.specs.TcpSocket.{with_bound}
+use Rattle.host_sockets.proofs.Endings.{act_ends}
 use Rattle.host_sockets.proofs.SocketActs.{stand_changed, stand_unchanged}
 use Rattle.host_sockets.proofs.Turning.{within_turned, turned_set}
 use Rattle.host_sockets.proofs.sockets.Sockets.bind_at.Goals as goal
@@ -9,7 +10,8 @@ returns-then-k-len c = λ t h. stand_unchanged c.args.self.now t c.args.k (with_
 
 pub returns : goal.returns
 returns c = λ t h.
-    stand_changed c.turn_to.new.self _ t c.args.k c.index_mut-sock.result.now c.bind.new.self (with_bound c.args.at) (c.turn_to.ensures.stands t h) (within_turned c.args.self.now c.turn_to.new.self c.args.k c.turn_to.ensures.tcp (omega (arith, c.args.self.now.tcp.ok.0))) c.index_mut-sock.ensures.value c.bind.ensures refl refl refl refl
+    stand_changed c.begin_act-before.new.self _ t c.args.k c.index_mut-sock.result.now c.bind.new.self c.begin_act-before.result (with_bound c.args.at) (c.begin_act-before.ensures.stands t h) (within_turned c.args.self.now c.begin_act-before.new.self c.args.k c.begin_act-before.ensures.tcp (omega (arith, c.args.self.now.tcp.ok.0))) c.index_mut-sock.ensures.value c.bind.ensures (λ s e. c.begin_act-before.ensures.seen t s h e)
+    (act_ends c.begin_act-before.new.self _ c.args.k c.begin_act-before.result c.bind.new.self c.begin_act-before.new.self.gone.items (within_turned c.args.self.now c.begin_act-before.new.self c.args.k c.begin_act-before.ensures.tcp (omega (arith, c.args.self.now.tcp.ok.0))) c.end_act.ensures.own c.end_act.ensures.udp (ap (λ v. v.items) c.end_act.ensures.tcp) c.end_act.ensures.udp_risen (ap (λ v. v.items) c.end_act.ensures.gone) c.end_act.ensures.tcp_risen)
 
 pub invariant_of-self : goal.invariant_of-self
-invariant_of-self c = record { indexed = turned_set c.turn_to.new.self c.args.k _ c.turn_to.ensures.acts }
+invariant_of-self c = record { indexed = turned_set c.begin_act-before.new.self c.args.k _ c.begin_act-before.ensures.acts }

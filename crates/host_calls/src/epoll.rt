@@ -1,0 +1,218 @@
+//! epoll_pwait.
+
+ghost use Rattle.std.specs.Prelude.{◌≡◌, ◌≤◌, length, map, flat_map, IfOk, IfSome, OnOk};
+ghost use Rattle.sim_base.specs.Units.{latest_time};
+ghost use Rattle.host_sockets.specs.Sockets.{SocketsRecord};
+ghost use Rattle.host_sockets.specs.StandsFor.{Stand};
+ghost use Rattle.host_files.specs.Epolls.{epoll_at, told_by};
+ghost use Rattle.host_calls.specs.Epoll as spec;
+ghost use Rattle.host_calls.specs.Parts.{Answers, scene};
+
+use crate::controlling::epoll_number;
+use crate::descriptors::look_up;
+use crate::parts::{Shared, Task};
+use crate::polling::has_come;
+use crate::ready::{seen, some_due};
+use crate::times::kept_or;
+use guest_args::{deadline_after, fill};
+use guest_mem::Right;
+use host_fds::{Entry, Seen, Watch};
+use host_sockets::{CallError, Refusal, Sockets};
+use host_timers::Moment;
+use sim_base::{Errno, NoMemory, Time};
+use std::alloc::Global;
+
+fn is_negative(word: u32) -> bool
+    ensures { result ≡ spec.is_negative word }
+{
+    word >= 1 << 31
+}
+
+fn time_of_ms(ms: u32) -> Moment
+    ensures { result ≡ spec.time_of_ms ms }
+{
+    Moment {
+        seconds: u64::from(ms / 1000),
+        nanos: ms % 1000 * 1_000_000,
+    }
+}
+
+fn wait_deadline(now: Time, ms: u32, task: &Task) -> Option<Time>
+    requires { now.nanos ≤ latest_time }
+    ensures { result ≡ spec.wait_deadline now ms task.now }
+{
+    if is_negative(ms) {
+        return None;
+    }
+    Some(kept_or(task.kept, deadline_after(now, time_of_ms(ms))))
+}
+
+/// The most entries that a call tells.
+const MOST: u32 = 256;
+
+/// The number of an epoll, where its entries are told, and how many there may be.
+#[derive(Clone, Copy)]
+pub struct WaitPlan {
+    pub place: usize,
+    pub at: u32,
+    pub room: u32,
+}
+
+fn wait_place(
+    epfd: u32,
+    at: u32,
+    count: u32,
+    task: &Task,
+    shared: &Shared,
+) -> Result<WaitPlan, Refusal>
+    ensures { result ≡ spec.wait_place epfd at count (task.now, shared.now) }
+{
+    let d = look_up(epfd, task, &shared.files)?;
+    let place = epoll_number(d.file.object)?;
+    if count == 0 || is_negative(count) {
+        return Err(Refusal::Errno(Errno::Einval));
+    }
+    let room = count.min(MOST);
+    if !task.memory.is_open(Right::Write, at, 16 * room as usize) {
+        return Err(Refusal::Errno(Errno::Efault));
+    }
+    Ok(WaitPlan { place, at, room })
+}
+
+fn has_due(now: Time, place: usize, task: &Task, shared: &Shared, sockets: &Sockets) -> bool
+    requires { now.nanos ≤ latest_time }
+    ensures { (t : SocketsRecord) → Stand sockets.now t → result ≡ spec.has_due now (scene (task.now, shared.now) t) (epoll_at place task.now.epolls) }
+{
+    match task.epolls.get(place) {
+        Some(epoll) => some_due(now, epoll.entries(), task, shared, sockets),
+        None => false,
+    }
+}
+
+/// It waits while no entry is due and its deadline is to come.
+fn waits_for(
+    now: Time,
+    deadline: Option<Time>,
+    place: usize,
+    task: &Task,
+    shared: &Shared,
+    sockets: &Sockets,
+) -> Result<(), Refusal>
+    requires { now.nanos ≤ latest_time }
+    ensures { (t : SocketsRecord) → Stand sockets.now t → result ≡ spec.waits_for now deadline place (scene (task.now, shared.now) t) }
+{
+    let due = has_due(now, place, task, shared, sockets);
+    if !due && !has_come(now, deadline) {
+        return Err(Refusal::Wait(deadline));
+    }
+    Ok(())
+}
+
+/// What refuses an `epoll_pwait(2)`, and whether it waits. It takes no memory.
+pub(crate) fn wait_plan(
+    now: Time,
+    epfd: u32,
+    at: u32,
+    count: u32,
+    ms: u32,
+    task: &Task,
+    shared: &Shared,
+    sockets: &Sockets,
+) -> Result<WaitPlan, Refusal>
+    requires { now.nanos ≤ latest_time }
+    ensures { (t : SocketsRecord) → Stand sockets.now t → result ≡ spec.wait_plan now epfd at count ms (scene (task.now, shared.now) t) }
+{
+    let waiting = wait_place(epfd, at, count, task, shared)?;
+    let deadline = wait_deadline(now, ms, task);
+    waits_for(now, deadline, waiting.place, task, shared, sockets)?;
+    Ok(waiting)
+}
+
+/// A `struct epoll_event`.
+fn event_bytes(entry: Entry) -> [u8; 16]
+    ensures { result ≡ spec.event_bytes entry }
+{
+    let [a, b, c, d] = entry.events.to_le_bytes();
+    let [e, f, g, h, i, j, k, l] = entry.data.to_le_bytes();
+    [a, b, c, d, 0, 0, 0, 0, e, f, g, h, i, j, k, l]
+}
+
+fn all_bytes(alloc: Global, entries: &[Entry]) -> Result<Vec<u8>, NoMemory>
+    ensures { IfOk result (λ bytes. bytes.items ≡ flat_map spec.event_bytes entries.now) }
+{
+    let mut bytes = Vec::new(alloc);
+    for place in 0..entries.len() {
+        bytes.extend_from_slice(&event_bytes(entries[place]))?;
+    }
+    Ok(bytes)
+}
+
+/// What is seen of the descriptors of some entries.
+fn seen_of(
+    alloc: Global,
+    now: Time,
+    entries: &[Watch],
+    task: &Task,
+    shared: &Shared,
+    sockets: &Sockets,
+) -> Result<Vec<Seen>, NoMemory>
+    requires { now.nanos ≤ latest_time }
+    ensures seen { IfOk result (λ all. (t : SocketsRecord) → Stand sockets.now t → all.items ≡ map (spec.seen_of now (scene (task.now, shared.now) t)) entries.now) }
+    ensures size { IfOk result (λ all. length all.items ≡ length entries.now) }
+{
+    let mut all = Vec::new(alloc);
+    for place in 0..entries.len() {
+        all.push(seen(now, entries[place].fd, task, shared, sockets))?;
+    }
+    Ok(all)
+}
+
+fn all_seen(
+    alloc: Global,
+    now: Time,
+    place: usize,
+    task: &Task,
+    shared: &Shared,
+    sockets: &Sockets,
+) -> Result<Vec<Seen>, NoMemory>
+    requires { now.nanos ≤ latest_time }
+    ensures seen { IfOk result (λ all. (t : SocketsRecord) → Stand sockets.now t → all.items ≡ spec.all_seen now (scene (task.now, shared.now) t) (epoll_at place task.now.epolls)) }
+    ensures size { IfOk result (λ all. IfSome (epoll_at place task.now.epolls) (λ entries. length all.items ≡ length entries)) }
+{
+    match task.epolls.get(place) {
+        Some(epoll) => seen_of(alloc, now, epoll.entries(), task, shared, sockets),
+        None => Ok(Vec::new(alloc)),
+    }
+}
+
+/// Tells what is due of what is seen, and answers how many entries that are.
+fn tell(alloc: Global, waiting: WaitPlan, all: &[Seen], task: &mut Task) -> Result<u32, NoMemory>
+    requires { IfSome (epoll_at waiting.place task.old.epolls) (λ entries. length all.now ≡ length entries) }
+    ensures count { IfOk result (λ found. found ≡ length (told_by waiting.room all.now (epoll_at waiting.place task.old.epolls))) }
+    ensures told { OnOk result (task.new ≡ spec.telling waiting all.now task.old) }
+{
+    let WaitPlan { place, at, room } = waiting;
+    let nothing = Entry { events: 0, data: 0 };
+    let mut into = vec![in alloc; nothing; room as usize]?;
+    let found = task.epolls.report(place, all, into.as_mut_slice());
+    let bytes = all_bytes(alloc, &into.as_slice()[..found])?;
+    fill(&mut task.memory, at, bytes.as_slice());
+    Ok(found as u32)
+}
+
+/// `epoll_pwait(2)`.
+pub(crate) fn epoll_wait(
+    now: Time,
+    waiting: WaitPlan,
+    task: &mut Task,
+    shared: &Shared,
+    sockets: &Sockets,
+) -> Result<u32, CallError>
+    requires { now.nanos ≤ latest_time }
+    ensures { (t : SocketsRecord) → Stand sockets.now t → Answers (spec.epoll_waits now waiting (scene (task.old, shared.now) t)) (task.old, shared.now) t (task.new, shared.now) sockets.now result }
+{
+    let alloc = shared.files.allocator();
+    let all = all_seen(alloc, now, waiting.place, task, shared, sockets)?;
+    let found = tell(alloc, waiting, all.as_slice(), task)?;
+    Ok(found)
+}

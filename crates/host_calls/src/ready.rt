@@ -1,0 +1,222 @@
+//! What objects are ready for, and what an epoll sees of them.
+
+ghost use Rattle.std.specs.Prelude.{◌≡◌, ◌≤◌};
+ghost use Rattle.sim_base.specs.Units.{latest_time};
+ghost use Rattle.host_sockets.specs.Sockets.{SocketsRecord};
+ghost use Rattle.host_sockets.specs.StandsFor.{Stand};
+ghost use Rattle.host_files.specs.Epolls.{epoll_at};
+ghost use Rattle.host_files.specs.Files.{pipe_at, timer_at, eventfd_at};
+ghost use Rattle.host_calls.specs.Parts.{scene};
+ghost use Rattle.host_calls.specs.Ready as spec;
+
+use crate::descriptors::look_up;
+use crate::parts::{Shared, Task};
+use crate::reading::timer_count;
+use host_fds::{End, Rises, Seen, Watch};
+use host_files::{Files, Object};
+use host_sockets::Sockets;
+use sim_base::{POLLIN, POLLOUT, Time};
+
+fn pipe_ready(place: usize, end: End, files: &Files) -> u16
+    ensures { result ≡ spec.pipe_ready (pipe_at place files.now) end }
+{
+    match files.pipe(place) {
+        Some(pipe) => pipe.ready(end),
+        None => 0,
+    }
+}
+
+fn timer_ready(now: Time, place: usize, files: &Files) -> u16
+    requires { now.nanos ≤ latest_time }
+    ensures { result ≡ spec.timer_ready now place files.now }
+{
+    if timer_count(now, place, files) > 0 {
+        POLLIN
+    } else {
+        0
+    }
+}
+
+fn eventfd_ready(place: usize, files: &Files) -> u16
+    ensures { result ≡ spec.eventfd_ready (eventfd_at place files.now) }
+{
+    match files.eventfd(place) {
+        Some(eventfd) => eventfd.ready(),
+        None => 0,
+    }
+}
+
+/// What an object that is no epoll is ready for, by the bits of `poll(2)`.
+fn object_ready(now: Time, object: Object, files: &Files, sockets: &Sockets) -> u16
+    requires { now.nanos ≤ latest_time }
+    ensures { (t : SocketsRecord) → Stand sockets.now t → result ≡ spec.object_ready now object files.now t }
+{
+    match object {
+        Object::Input => POLLIN,
+        Object::Output => POLLOUT,
+        Object::Errors => POLLOUT,
+        Object::Hosts(_) => POLLIN + POLLOUT,
+        Object::ReadEnd(place) => pipe_ready(place, End::Reading, files),
+        Object::WriteEnd(place) => pipe_ready(place, End::Writing, files),
+        Object::Timer(place) => timer_ready(now, place, files),
+        Object::Eventfd(place) => eventfd_ready(place, files),
+        Object::Epoll(_) => 0,
+        Object::Udp(place) => sockets.udp_ready(place),
+        Object::Tcp(place) => sockets.tcp_ready(place),
+    }
+}
+
+/// The bits that an epoll sees of an object: of a TCP socket `POLLRDHUP` too.
+fn bits_seen(now: Time, object: Object, files: &Files, sockets: &Sockets) -> u16
+    requires { now.nanos ≤ latest_time }
+    ensures { (t : SocketsRecord) → Stand sockets.now t → result ≡ spec.bits_seen now object files.now t }
+{
+    match object {
+        Object::Tcp(place) => sockets.tcp_seen(place),
+        Object::Input => object_ready(now, object, files, sockets),
+        Object::Output => object_ready(now, object, files, sockets),
+        Object::Errors => object_ready(now, object, files, sockets),
+        Object::Hosts(_) => object_ready(now, object, files, sockets),
+        Object::ReadEnd(_) => object_ready(now, object, files, sockets),
+        Object::WriteEnd(_) => object_ready(now, object, files, sockets),
+        Object::Timer(_) => object_ready(now, object, files, sockets),
+        Object::Eventfd(_) => object_ready(now, object, files, sockets),
+        Object::Epoll(_) => object_ready(now, object, files, sockets),
+        Object::Udp(_) => object_ready(now, object, files, sockets),
+    }
+}
+
+fn pipe_rises(place: usize, end: End, files: &Files) -> Rises
+    ensures { result ≡ spec.pipe_rises (pipe_at place files.now) end }
+{
+    match files.pipe(place) {
+        Some(pipe) => pipe.rises(end),
+        None => Rises::none(),
+    }
+}
+
+fn timer_rises(now: Time, place: usize, files: &Files) -> Rises
+    requires { now.nanos ≤ latest_time }
+    ensures { result ≡ spec.rises_of_timer now (timer_at place files.now) }
+{
+    match files.timer(place) {
+        Some(kept) => kept.rises(now),
+        None => Rises::none(),
+    }
+}
+
+fn eventfd_rises(place: usize, files: &Files) -> Rises
+    ensures { result ≡ spec.eventfd_rises (eventfd_at place files.now) }
+{
+    match files.eventfd(place) {
+        Some(eventfd) => eventfd.rises,
+        None => Rises::none(),
+    }
+}
+
+/// How often each bit came to hold for an object.
+fn object_rises(now: Time, object: Object, files: &Files, sockets: &Sockets) -> Rises
+    requires { now.nanos ≤ latest_time }
+    ensures { (t : SocketsRecord) → Stand sockets.now t → result ≡ spec.object_rises now object files.now t }
+{
+    match object {
+        Object::ReadEnd(place) => pipe_rises(place, End::Reading, files),
+        Object::WriteEnd(place) => pipe_rises(place, End::Writing, files),
+        Object::Timer(place) => timer_rises(now, place, files),
+        Object::Eventfd(place) => eventfd_rises(place, files),
+        Object::Udp(place) => sockets.udp_rises(place),
+        Object::Tcp(place) => sockets.tcp_rises(place),
+        Object::Input => Rises::none(),
+        Object::Output => Rises::none(),
+        Object::Errors => Rises::none(),
+        Object::Hosts(_) => Rises::none(),
+        Object::Epoll(_) => Rises::none(),
+    }
+}
+
+/// What is seen of a descriptor.
+pub(crate) fn seen(now: Time, fd: u32, task: &Task, shared: &Shared, sockets: &Sockets) -> Seen
+    requires { now.nanos ≤ latest_time }
+    ensures { (t : SocketsRecord) → Stand sockets.now t → result ≡ spec.seen now (scene (task.now, shared.now) t) fd }
+{
+    match look_up(fd, task, &shared.files) {
+        Ok(d) => Seen {
+            fd,
+            bits: u32::from(bits_seen(now, d.file.object, &shared.files, sockets)),
+            rises: object_rises(now, d.file.object, &shared.files, sockets),
+        },
+        Err(_) => Seen {
+            fd,
+            bits: 0,
+            rises: Rises::none(),
+        },
+    }
+}
+
+fn is_due(now: Time, watch: Watch, task: &Task, shared: &Shared, sockets: &Sockets) -> bool
+    requires { now.nanos ≤ latest_time }
+    ensures { (t : SocketsRecord) → Stand sockets.now t → result ≡ spec.is_due now (scene (task.now, shared.now) t) watch }
+{
+    watch.is_due(seen(now, watch.fd, task, shared, sockets))
+}
+
+/// Whether a wait would tell of some entry. It takes no memory.
+pub(crate) fn some_due(
+    now: Time,
+    entries: &[Watch],
+    task: &Task,
+    shared: &Shared,
+    sockets: &Sockets,
+) -> bool
+    requires { now.nanos ≤ latest_time }
+    ensures { (t : SocketsRecord) → Stand sockets.now t → result ≡ spec.some_due now (scene (task.now, shared.now) t) entries.now }
+{
+    for place in 0..entries.len() {
+        if is_due(now, entries[place], task, shared, sockets) {
+            return true;
+        }
+    }
+    false
+}
+
+fn epoll_ready(now: Time, place: usize, task: &Task, shared: &Shared, sockets: &Sockets) -> u16
+    requires { now.nanos ≤ latest_time }
+    ensures { (t : SocketsRecord) → Stand sockets.now t → result ≡ spec.epoll_ready now (scene (task.now, shared.now) t) (epoll_at place task.now.epolls) }
+{
+    match task.epolls.get(place) {
+        Some(epoll) => {
+            if some_due(now, epoll.entries(), task, shared, sockets) {
+                POLLIN
+            } else {
+                0
+            }
+        }
+        None => 0,
+    }
+}
+
+/// What an object is ready for, by the bits of `poll(2)`.
+pub(crate) fn readiness(
+    now: Time,
+    object: Object,
+    task: &Task,
+    shared: &Shared,
+    sockets: &Sockets,
+) -> u16
+    requires { now.nanos ≤ latest_time }
+    ensures { (t : SocketsRecord) → Stand sockets.now t → result ≡ spec.readiness now object (scene (task.now, shared.now) t) }
+{
+    match object {
+        Object::Epoll(place) => epoll_ready(now, place, task, shared, sockets),
+        Object::Input => object_ready(now, object, &shared.files, sockets),
+        Object::Output => object_ready(now, object, &shared.files, sockets),
+        Object::Errors => object_ready(now, object, &shared.files, sockets),
+        Object::Hosts(_) => object_ready(now, object, &shared.files, sockets),
+        Object::ReadEnd(_) => object_ready(now, object, &shared.files, sockets),
+        Object::WriteEnd(_) => object_ready(now, object, &shared.files, sockets),
+        Object::Timer(_) => object_ready(now, object, &shared.files, sockets),
+        Object::Eventfd(_) => object_ready(now, object, &shared.files, sockets),
+        Object::Udp(_) => object_ready(now, object, &shared.files, sockets),
+        Object::Tcp(_) => object_ready(now, object, &shared.files, sockets),
+    }
+}
