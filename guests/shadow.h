@@ -14,11 +14,13 @@ typedef int32_t ssize_t;
 typedef uint32_t socklen_t;
 
 /* ---- errors */
+#define EPERM 1
 #define ENOENT 2
 #define EBADF 9
 #define EAGAIN 11
 #define EACCES 13
 #define EFAULT 14
+#define EEXIST 17
 #define EINVAL 22
 #define EMFILE 24
 #define EPIPE 32
@@ -110,14 +112,14 @@ static inline int pipe2(int ends[2], int flags)
     return shadow_call(59, (long)ends, flags, 0);
 }
 
-/* EBADF; EINVAL: a timer or an eventfd and a size below 8; EFAULT; EAGAIN. Of a socket: as recvfrom. */
+/* EBADF; EINVAL: an epoll, or a timer or an eventfd and a size below 8; EFAULT; EAGAIN. Of a socket: as recvfrom. */
 static inline ssize_t read(int fd, void *into, size_t size)
 {
     return shadow_call(63, fd, (long)into, (long)size);
 }
 
-/* EBADF; EINVAL: a timer, or an eventfd and a size below 8; EFAULT; EINVAL: an eventfd and 2^64 - 1; EAGAIN. A pipe without a
- * reader ends the process by SIGPIPE. To a socket: as sendto. */
+/* EBADF; EINVAL: a timer or an epoll, or an eventfd and a size below 8; EFAULT; EINVAL: an eventfd and 2^64 - 1; EAGAIN. A pipe
+ * without a reader ends the process by SIGPIPE. To a socket: as sendto. */
 static inline ssize_t write(int fd, const void *bytes, size_t size)
 {
     return shadow_call(64, fd, (long)bytes, (long)size);
@@ -224,6 +226,52 @@ static inline int ppoll(struct pollfd *entries, unsigned count, const struct tim
 static inline int eventfd2(unsigned count, int flags)
 {
     return shadow_call(19, (long)count, flags, 0);
+}
+
+/* ---- waiting for many descriptors, which are named once */
+#define EPOLLIN POLLIN
+#define EPOLLOUT POLLOUT
+#define EPOLLERR POLLERR
+#define EPOLLHUP POLLHUP
+#define EPOLLRDHUP 0x2000
+#define EPOLLONESHOT 0x40000000u
+#define EPOLLET 0x80000000u
+#define EPOLL_CTL_ADD 1
+#define EPOLL_CTL_DEL 2
+#define EPOLL_CTL_MOD 3
+#define EPOLL_CLOEXEC O_CLOEXEC
+
+typedef union epoll_data {
+    void *ptr;
+    int fd;
+    uint32_t u32;
+    uint64_t u64;
+} epoll_data_t;
+
+/* 16 bytes: the data stands at the eighth */
+struct epoll_event {
+    uint32_t events;
+    epoll_data_t data;
+};
+
+/* EINVAL: flags; EMFILE. */
+static inline int epoll_create1(int flags)
+{
+    return shadow_call(20, flags, 0, 0);
+}
+
+/* EBADF: either one; EINVAL: no epoll, the epoll itself, the operation; EPERM: 0, 1, 2, /etc/hosts or an epoll; but for
+ * EPOLL_CTL_DEL: EFAULT, EINVAL: the events; EEXIST; ENOENT. */
+static inline int epoll_ctl(int epoll, int operation, int fd, const struct epoll_event *event)
+{
+    return shadow_call6(21, epoll, operation, fd, (long)event, 0, 0);
+}
+
+/* The number of events, at most `count`. It waits so many milliseconds, and without limit where they are negative. EBADF;
+ * EINVAL: no epoll, a count below 1; EFAULT. */
+static inline int epoll_pwait(int epoll, struct epoll_event *events, int count, int milliseconds)
+{
+    return shadow_call6(22, epoll, (long)events, count, milliseconds, 0, 0);
 }
 
 /* ---- sockets */

@@ -9,6 +9,9 @@
 
 enum {
     CALL_EVENTFD2 = 19,
+    CALL_EPOLL_CREATE1 = 20,
+    CALL_EPOLL_CTL = 21,
+    CALL_EPOLL_PWAIT = 22,
     CALL_FCNTL = 25,
     CALL_OPENAT = 56,
     CALL_CLOSE = 57,
