@@ -1,5 +1,5 @@
 -- what is left where an act on a socket ends
-use Rattle.std.proofs.Common.{◌≡◌, ℕ, zero, suc, ◌<◌, ◌≤◌, Bool, true, false, ◌&&◌, ◌||◌, not, nat_lt, if◌then◌else◌, List, [], ◌∷◌, ◌++◌, length, take, get_or, set, Option, Some, slice_get, refl, sym, ap, ◌∙◌, arith}
+use Rattle.std.proofs.Common.{◌≡◌, ℕ, zero, suc, ◌<◌, ◌≤◌, Bool, true, false, ◌&&◌, ◌||◌, not, nat_lt, List, [], ◌∷◌, ◌++◌, length, take, get_or, set, Option, Some, slice_get, refl, ap, ◌∙◌, arith}
 use Rattle.std.proofs.Math.Seq.{take-append_seam}
 use Rattle.std.proofs.lemmas.Bool.Decides.{nat_tests}
 use Rattle.host_fds.specs.Rises.{no_rises, counted, has_bit, rose}
@@ -11,7 +11,6 @@ use Rattle.host_sockets.specs.declared.sockets.Sockets.{Sockets}
 use Rattle.host_sockets.specs.declared.tcp_sock.TcpSock.{TcpSock}
 use Rattle.host_sockets.specs.TcpSocket.{TcpSocket}
 use Rattle.host_sockets.specs.Rises.{tcp_glance, slot_glance, risen, rises_at, moved_at}
-use Rattle.host_sockets.specs.Sockets.{put_at}
 use Rattle.host_sockets.specs.StandsFor.{SocketStands}
 
 -- another TCP socket at a place, whose rises have moved on, and what is kept of records that are gone
@@ -43,11 +42,6 @@ set_past [] k x b = refl
 set_past (y ∷ xs) zero x b = absurd (omega arith)
 set_past (y ∷ xs) (suc k) x b = ap (λ (ys : List _). y ∷ ys) (set_past xs k x (omega arith))
 
-pub rises_there : (kept : List Rises) (k : ℕ) (d : Rises) → k < length kept → rises_at k kept ≡ get_or kept k d
-rises_there [] k d b = absurd (omega arith)
-rises_there (r ∷ kept) zero d b = refl
-rises_there (r ∷ kept) (suc k) d b = rises_there kept k d (omega arith)
-
 pub rises_past : (kept : List Rises) (k : ℕ) → length kept ≤ k → rises_at k kept ≡ no_rises
 rises_past [] k b = refl
 rises_past (r ∷ kept) zero b = absurd (omega arith)
@@ -56,17 +50,6 @@ rises_past (r ∷ kept) (suc k) b = rises_past kept k (omega arith)
 -- a list of which each place was lent
 pub all_lent : (n : ℕ) (kept behind : List Rises) → n ≡ length kept → take n (kept ++ behind) ≡ kept
 all_lent n kept behind e = ap (λ (m : ℕ). take m (kept ++ behind)) e ∙ take-append_seam kept behind
-
--- at a place, or behind
-pub put_set : {A : Type 0} (xs : List A) (place : ℕ) (x : A) → place < length xs → put_at place x xs ≡ set xs place x
-put_set xs place x b =
-    let test : nat_lt place (length xs) ≡ true = grind (arith, nat_tests) in
-    ap (λ (c : Bool). if c then set xs place x else xs ++ x ∷ []) test
-
-pub put_push : {A : Type 0} (xs : List A) (place : ℕ) (x : A) → length xs ≤ place → put_at place x xs ≡ xs ++ x ∷ []
-put_push xs place x b =
-    let test : nat_lt place (length xs) ≡ false = grind (arith, nat_tests) in
-    ap (λ (c : Bool). if c then set xs place x else xs ++ x ∷ []) test
 
 set_there : {A : Type 0} (xs : List A) (k : ℕ) (x : A) → k < length xs → slice_get (set xs k x) k ≡ Some x
 set_there [] k x b = absurd (omega arith)

@@ -48,16 +48,6 @@ pub told_no_udp : {A : Type 0} (c : Sockets) (t : SocketsRecord) (k : ℕ) (f : 
 told_no_udp c t k f h b =
     ap (λ (o : Option (Option UdpState)). f (socket_in o)) (sym (ap (λ (slots : List (Option UdpState)). slice_get slots k) (sym h.udp) ∙ slot_past c.udp.items k b))
 
-pub stand_slot : (c c' : Sockets) (t : SocketsRecord) (k : ℕ) (new : Option UdpState) → Stand c t → c'.own ≡ c.own → c'.udp.items ≡ set c.udp.items k new → c'.tcp.items ≡ c.tcp.items → c'.udp_risen.items ≡ c.udp_risen.items → c'.tcp_risen.items ≡ c.tcp_risen.items → c'.gone.items ≡ c.gone.items → Stand c' (record t { udp = set t.udp k new })
-stand_slot c c' t k new h own udp tcp udp_risen tcp_risen gone = record {
-  own = own ∙ h.own;
-  udp = udp ∙ ap (λ (slots : List (Option UdpState)). set slots k new) h.udp;
-  tcp = subst (λ xs. AllStand xs t.tcp) (sym tcp) h.tcp;
-  udp_risen = udp_risen ∙ h.udp_risen;
-  tcp_risen = tcp_risen ∙ h.tcp_risen;
-  gone = gone ∙ h.gone;
-}
-
 -- another socket stands at the place, and its rises have moved on
 stand_udp : (c c' : Sockets) (t : SocketsRecord) (k : ℕ) (before : Glance) (old new : UdpState) → Stand c t → before ≡ udp_glance old → UdpActEnds c c' k before (Some new) → Stand c' (with_udp k old new t)
 stand_udp c c' t k before old new h seen ends = record {

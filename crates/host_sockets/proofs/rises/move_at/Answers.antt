@@ -1,7 +1,5 @@
-use Rattle.std.proofs.Common.{sym, ap, set, ◌∙◌, arith}
-use Rattle.host_fds.specs.declared.rises.Rises.{Rises}
-use Rattle.host_sockets.specs.Rises.{risen}
-use Rattle.host_sockets.proofs.Endings.{set_past, rises_there}
+use Rattle.std.proofs.Common.{sym, arith}
+use Rattle.host_sockets.proofs.Endings.{set_past}
 use Rattle.host_sockets.proofs.rises.move_at.Goals as goal
 
 pub returns-then-k-kept : goal.returns-then-k-kept

@@ -1,5 +1,5 @@
 use Rattle.std.proofs.Common.{sym, ◌∙◌, arith}
-use Rattle.host_sockets.proofs.Endings.{rises_past, rises_there}
+use Rattle.host_sockets.proofs.Endings.{rises_past}
 use Rattle.host_sockets.proofs.rises.rises_at.Goals as goal
 
 pub returns-then-k-kept : goal.returns-then-k-kept

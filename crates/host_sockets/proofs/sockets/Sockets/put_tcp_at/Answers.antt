@@ -1,4 +1,3 @@
-use Rattle.std.proofs.Common.{arith}
 use Rattle.host_sockets.proofs.sockets.Sockets.put_tcp_at.Goals as goal
 
 pub returns : goal.returns
