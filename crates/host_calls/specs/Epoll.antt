@@ -1,7 +1,7 @@
 -- epoll_create(2), epoll_ctl(2) and epoll_wait(2).
-use Rattle.std.specs.Prelude.{ℕ, ◌*◌, ◌/◌, ◌%◌, ◌^◌, ◌==◌, ◌&&◌, ◌||◌, Bool, false, not, min, List, [], ◌++◌, length, map, flat_map, take, drop, Option, Some, None, Result, Ok, Err, nat_lt, nat_le, if◌then◌else◌}
+use Rattle.std.specs.Prelude.{ℕ, ◌*◌, ◌/◌, ◌%◌, ◌^◌, ◌==◌, ◌&&◌, ◌||◌, Bool, false, not, min, List, [], ◌++◌, length, map, flat_map, take, drop, Option, Some, None, Result, Ok, Err, nat_le, if◌then◌else◌}
 use Rattle.std.specs.Int.{w32, w64, from_le_bytes, to_le_bytes}
-use Rattle.sim_base.specs.declared.errno.Errno.TheVariants.{Eperm, Ebadf, Eexist, Efault, Einval, Emfile, Enoent}
+use Rattle.sim_base.specs.declared.errno.Errno.TheVariants.{Eperm, Eexist, Efault, Einval, Emfile, Enoent}
 use Rattle.sim_base.specs.declared.time.Time.{Time}
 use Rattle.sim_base.specs.Refusals.{◌>>=◌, ◌>>◌, refuse_if, or_refuse}
 use Rattle.guest_mem.specs.Memory.{Memory}
@@ -25,7 +25,6 @@ use Rattle.host_calls.specs.declared.controlling.Operation.{Operation}
 use Rattle.host_calls.specs.declared.controlling.Operation.TheVariants as operation
 use Rattle.host_calls.specs.declared.epoll.WaitPlan.{WaitPlan}
 use Rattle.host_calls.specs.declared.parts.Task.{Task}
-use Rattle.host_calls.specs.declared.parts.Shared.{Shared}
 use Rattle.host_calls.specs.Descriptors.{lowest_free, descriptor, opens}
 use Rattle.host_calls.specs.Flags.{beside_cloexec, beside_epoll}
 use Rattle.host_calls.specs.Numbers.{epoll_ctl_add, epoll_ctl_del, epoll_ctl_mod}
