@@ -123,6 +123,7 @@ impl Sockets {
             → Answers (connects hosts.now now k to t outlet.old) t outlet.old self.new outlet.new result }
     {
         let own = self.end_to_connect(hosts, k, to)?;
+        self.make_room()?;
         self.open_at(outlet, now, k, own, to)?;
         Ok(())
     }

@@ -89,6 +89,14 @@ impl Sockets {
         Ok(())
     }
 
+    /// Whether the listener of the socket with a number makes a connection of a segment.
+    fn makes_record(&self, k: usize, packet: &Packet) -> bool {
+        match self.tcp.get(k) {
+            Some(sock) => sock.makes_record(packet),
+            None => false,
+        }
+    }
+
     /// The listener that a segment asks for a connection, if it does.
     fn asked_listener(&self, packet: &Packet) -> Option<usize>
         ensures { (t : SocketsRecord) → Stand self.now t → result ≡ asked_listener packet.now t }
@@ -115,6 +123,16 @@ impl Sockets {
         }
     }
 
+    /// Room is taken for what a connection carries that the socket with a number makes of a segment.
+    fn make_room_for(&mut self, k: usize, packet: &Packet) -> Result<(), NoMemory>
+        ensures { OnOk result ((t : SocketsRecord) → Stand self.old t → Stand self.new t) }
+    {
+        if self.makes_record(k, packet) {
+            self.make_room()?;
+        }
+        Ok(())
+    }
+
     /// A segment that reaches no connection of a socket.
     fn deliver_to_listener(
         &mut self,
@@ -126,6 +144,7 @@ impl Sockets {
             → Delivers act self.new outlet.new (heard_at now packet.now (hearer packet.now t) t outlet.old)) }
     {
         if let Some(k) = self.hearer(packet) {
+            self.make_room_for(k, packet)?;
             self.listener_arrive(outlet, now, k, packet)?;
             return Ok(Act::Recv);
         }

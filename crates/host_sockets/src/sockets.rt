@@ -14,8 +14,8 @@ use sock_udp::UdpSock;
 use std::alloc::Global;
 
 /// The sockets of a host and their rises, by their numbers, the connections that closed ones leave
-/// behind, and what those carried that are gone. After a call that answers want of memory nothing is
-/// known of them.
+/// behind, what those carried that are gone, and how many were made. After a call that answers want of
+/// memory nothing is known of them.
 #[derive(Drop)]
 pub struct Sockets {
     pub(crate) own: Ip,
@@ -24,6 +24,7 @@ pub struct Sockets {
     pub(crate) udp_risen: Vec<Rises>,
     pub(crate) tcp_risen: Vec<Rises>,
     pub(crate) gone: Vec<Carried>,
+    pub(crate) made: usize,
     pub(crate) index: Index,
     ghost indexed: { Indexes index tcp.items } by { Prim.hlevel props },
 }
@@ -45,6 +46,7 @@ impl Sockets {
             udp_risen: Vec::new(alloc),
             tcp_risen: Vec::new(alloc),
             gone: Vec::new(alloc),
+            made: 0,
             index: Index::new(alloc),
         }
     }
@@ -72,6 +74,16 @@ impl Sockets {
         ensures stands { (t : SocketsRecord) → Stand self.old t → Stand self.new t }
     {
         self.index.turn_to(self.tcp.as_slice(), k);
+    }
+
+    /// A connection is made. Room is taken for what it carries, so that none is wanted when it is let go.
+    pub(crate) fn make_room(&mut self) -> Result<(), NoMemory>
+        ensures { OnOk result ((t : SocketsRecord) → Stand self.old t → Stand self.new t) }
+    {
+        self.made = self.made.saturating_add(1);
+        self.gone
+            .reserve(self.made.saturating_sub(self.gone.len()))?;
+        Ok(())
     }
 
     /// The least number that a new TCP socket may take.

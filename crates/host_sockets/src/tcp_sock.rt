@@ -4,7 +4,7 @@ ghost use Rattle.std.specs.Prelude.{◌≡◌};
 ghost use Rattle.sock_tcp.specs.connection.Pairs.{is_pair};
 ghost use Rattle.sock_tcp.specs.listener.Listen.{listens_at};
 
-use sim_base::{Addr, Ip};
+use sim_base::{Addr, Ip, Packet};
 use sock_tcp::{Conn, Control, Listener};
 use std::alloc::Global;
 
@@ -98,6 +98,14 @@ impl TcpSock {
     {
         match &self.listener {
             Some(listener) => listens_at(listener.local(), to),
+            None => false,
+        }
+    }
+
+    /// Whether its listener makes a connection of a segment.
+    pub(crate) fn makes_record(&self, packet: &Packet) -> bool {
+        match &self.listener {
+            Some(listener) => listener.makes_record(packet),
             None => false,
         }
     }
