@@ -2,12 +2,15 @@
 #include <dirent.h>
 #include <errno.h>
 #include <fcntl.h>
+#include <glob.h>
+#include <ifaddrs.h>
 #include <net/if.h>
 #include <signal.h>
 #include <spawn.h>
 #include <stdio.h>
 #include <string.h>
 #include <sys/mman.h>
+#include <sys/signalfd.h>
 #include <sys/socket.h>
 #include <sys/stat.h>
 #include <sys/utsname.h>
@@ -52,6 +55,9 @@ static void without_a_call(void)
 {
     struct stat about;
     struct utsname names;
+    struct ifaddrs *addresses;
+    glob_t paths;
+    fpos_t place;
     int status;
 
     tell("fork", fork());
@@ -70,7 +76,24 @@ static void without_a_call(void)
     tell("opendir", opendir("/") != NULL);
     tell("uname", uname(&names));
     tell("if_nametoindex", (long)if_nametoindex("lo"));
+    tell("getifaddrs", getifaddrs(&addresses));
+    tell("signalfd", signalfd(-1, &(sigset_t){0}, SFD_NONBLOCK));
+    tell("glob", glob("/*", 0, NULL, &paths));
+    tell("fgetpos", fgetpos(stdin, &place));
     tell("posix_spawn", posix_spawn(NULL, "/bin/true", NULL, NULL, NULL, NULL));
+}
+
+/* a mask of signals is kept, and holds nothing back */
+static void masks(void)
+{
+    sigset_t terminate, old;
+
+    sigemptyset(&terminate);
+    sigaddset(&terminate, SIGTERM);
+    tell("sigprocmask", sigprocmask(SIG_BLOCK, &terminate, NULL));
+    tell("sigprocmask", sigprocmask(SIG_UNBLOCK, &terminate, &old));
+    tell("sigismember", sigismember(&old, SIGTERM) != 0);
+    tell("sigprocmask", sigprocmask(77, &terminate, NULL));
 }
 
 int main(void)
@@ -78,5 +101,6 @@ int main(void)
     texts();
     refused();
     without_a_call();
+    masks();
     return 0;
 }

@@ -63,3 +63,25 @@ long sysconf(int name)
         return -1;
     }
 }
+
+int getdtablesize(void)
+{
+    return 256;
+}
+
+/* there are no functions for a quick end */
+int at_quick_exit(void (*function)(void))
+{
+    (void)function;
+    return -1;
+}
+
+void quick_exit(int status)
+{
+    _exit(status);
+}
+
+char *secure_getenv(const char *name)
+{
+    return getenv(name);
+}

@@ -35,6 +35,43 @@ int sigaction(int number, const struct sigaction *wanted, struct sigaction *old)
     return 0;
 }
 
+/* no signal ever waits, so a mask holds none back; it is kept to be told */
+int sigprocmask(int how, const sigset_t *wanted, sigset_t *old)
+{
+    static sigset_t mask;
+    sigset_t was = mask;
+
+    if (wanted)
+        switch (how) {
+        case SIG_BLOCK:
+            mask |= *wanted;
+            break;
+        case SIG_UNBLOCK:
+            mask &= ~*wanted;
+            break;
+        case SIG_SETMASK:
+            mask = *wanted;
+            break;
+        default:
+            errno = EINVAL;
+            return -1;
+        }
+    if (old)
+        *old = was;
+    return 0;
+}
+
+int pthread_sigmask(int how, const sigset_t *wanted, sigset_t *old)
+{
+    return sigprocmask(how, wanted, old) ? errno : 0;
+}
+
+int sigpending(sigset_t *waiting)
+{
+    sigemptyset(waiting);
+    return 0;
+}
+
 int handles_broken_pipes(void)
 {
     _sig_func_ptr handler = signal(SIGPIPE, SIG_DFL);
