@@ -1,5 +1,6 @@
 """What the programs that draw have in common: words, colours, files, and what is said where something is wrong."""
 import argparse
+import importlib.util
 import os
 import sys
 from typing import Callable
@@ -8,6 +9,8 @@ from packets import Fault
 
 KINDS = (".svg", ".png")
 SECOND = 1_000_000_000
+# the Python that Debian's packages are for
+DEBIANS = "/usr/bin/python3"
 
 
 def parser(name: str, told: str) -> argparse.ArgumentParser:
@@ -24,7 +27,7 @@ def plots():
     try:
         import matplotlib
     except ImportError:
-        raise Fault(f"{sys.executable} has no matplotlib (Debian: python3-matplotlib, for /usr/bin/python3)") from None
+        raise Fault(f"{sys.executable} has no matplotlib (Debian: python3-matplotlib)") from None
     matplotlib.use("Agg")
     # the same picture has the same bytes
     matplotlib.rcParams.update({"svg.hashsalt": "shadow", "font.size": 9, "axes.grid": True, "grid.alpha": 0.3,
@@ -51,8 +54,15 @@ def save(figure, output: str, title: str) -> None:
         raise Fault(f"{output}: {error.strerror}") from None
 
 
+def go_where_matplotlib_is() -> None:
+    """Begins again under Debian's Python, where another one stands before it on the PATH and has no matplotlib."""
+    if importlib.util.find_spec("matplotlib") is None and sys.executable != DEBIANS and os.access(DEBIANS, os.X_OK):
+        os.execv(DEBIANS, [DEBIANS, *sys.argv])
+
+
 def run(name: str, main: Callable[[], None]) -> None:
     """Runs a program; what is wrong is told in a line, with status 2."""
+    go_where_matplotlib_is()
     try:
         main()
     except Fault as fault:
