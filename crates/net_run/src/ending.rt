@@ -1,7 +1,7 @@
 //! What is put when a run is over and its files have grown.
 
 ghost use Rattle.std.specs.Prelude.{◌≡◌, ◌+◌, ◌++◌, ◌∷◌, [], IfOk, OnOk, OnErr, map, length, option_map};
-ghost use Rattle.sim_base.specs.Sink.{CountsWrites};
+ghost use Rattle.sim_base.specs.Tally.{CountsWrites};
 ghost use Rattle.out_text.specs.Files.{state_line};
 ghost use Rattle.host_state.specs.Listed.{said, names_of};
 ghost use Rattle.host_state.specs.Files.{put_of, first_id};
@@ -75,7 +75,7 @@ fn put_states<K: Sink>(
 ) -> Result<(), WriteError>
     ensures ok { OnOk result (K.content sink.new ≡ option_map (with_pieces (spec.host_rest (said host.now) states.now)) (K.content sink.old)) }
     ensures err { OnErr result (PutsFront (spec.host_rest (said host.now) states.now) (K.content sink.old) (K.content sink.new)) }
-    ensures count { CountsWrites result (K.faults sink.old) (K.faults sink.new) }
+    ensures count { CountsWrites result (K.tally sink.old) (K.tally sink.new) }
 {
     let pieces = match rest_pieces(alloc, host, states) {
         Ok(pieces) => pieces,
@@ -95,7 +95,7 @@ fn put_all_states<K: Sink>(
     requires { length states.now ≡ length hosts.now }
     ensures ok { OnOk result (K.content sink.new ≡ option_map (with_pieces (spec.hosts_rest (map said hosts.now) (map (λ v. v.items) states.now))) (K.content sink.old)) }
     ensures err { OnErr result (PutsFront (spec.hosts_rest (map said hosts.now) (map (λ v. v.items) states.now)) (K.content sink.old) (K.content sink.new)) }
-    ensures count { CountsWrites result (K.faults sink.old) (K.faults sink.new) }
+    ensures count { CountsWrites result (K.tally sink.old) (K.tally sink.new) }
 {
     for place in 0..hosts.len() {
         put_states(alloc, sink, &hosts[place], states[place].as_slice())?;
@@ -220,7 +220,7 @@ pub fn put_rest<K: Sink>(
     ensures status { IfOk result (λ s. s ≡ status_by (spec.unmet_of_hosts (names_of listing.now) (map (λ v. v.items) states.now))) }
     ensures ok { OnOk result (K.content sink.new ≡ option_map (with_pieces (spec.all_rest (names_of listing.now) (map (λ v. v.items) states.now) summary)) (K.content sink.old)) }
     ensures err { OnErr result (PutsFront (spec.all_rest (names_of listing.now) (map (λ v. v.items) states.now) summary) (K.content sink.old) (K.content sink.new)) }
-    ensures count { CountsWrites result (K.faults sink.old) (K.faults sink.new) }
+    ensures count { CountsWrites result (K.tally sink.old) (K.tally sink.new) }
 {
     let hosts = listing.hosts.as_slice();
     put_all_states(alloc, sink, hosts, states)?;

@@ -1,7 +1,7 @@
 //! The heads of captures.
 
 ghost use Rattle.std.specs.Prelude.{◌≡◌, ◌∷◌, ◌++◌, [], IfOk, OnOk, OnErr, map, option_map};
-ghost use Rattle.sim_base.specs.Sink.{CountsWrites};
+ghost use Rattle.sim_base.specs.Tally.{CountsWrites};
 ghost use Rattle.sim_base.specs.declared.outside.sink.Place.TheVariants as place;
 ghost use Rattle.out_text.specs.Files.{capture_name};
 ghost use Rattle.pcap_text.specs.Writing.{head};
@@ -81,7 +81,7 @@ fn head_pieces(alloc: Global, hosts: &[HostListing]) -> Result<Vec<Piece>, NoMem
 pub fn put_heads<K: Sink>(alloc: Global, sink: &mut K, listing: &Listing) -> Result<(), WriteError>
     ensures ok { OnOk result (K.content sink.new ≡ option_map (with_pieces (spec.all_heads (names_of listing.now))) (K.content sink.old)) }
     ensures err { OnErr result (PutsFront (spec.all_heads (names_of listing.now)) (K.content sink.old) (K.content sink.new)) }
-    ensures count { CountsWrites result (K.faults sink.old) (K.faults sink.new) }
+    ensures count { CountsWrites result (K.tally sink.old) (K.tally sink.new) }
 {
     let pieces = match head_pieces(alloc, listing.hosts.as_slice()) {
         Ok(pieces) => pieces,

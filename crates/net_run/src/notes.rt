@@ -1,7 +1,7 @@
 //! The notes of a configuration.
 
 ghost use Rattle.std.specs.Prelude.{◌≡◌, ◌∷◌, ◌++◌, [], IfOk, OnOk, OnErr, map, option_map};
-ghost use Rattle.sim_base.specs.Sink.{CountsWrites};
+ghost use Rattle.sim_base.specs.Tally.{CountsWrites};
 ghost use Rattle.host_state.specs.Files.{put_of};
 ghost use Rattle.net_run.specs.Pieces.{with_pieces, PutsFront};
 ghost use Rattle.net_run.specs.Shown.{note_puts};
@@ -39,7 +39,7 @@ fn note_pieces(alloc: Global, notes: &[Text]) -> Result<Vec<Piece>, NoMemory>
 pub fn put_notes<K: Sink>(alloc: Global, sink: &mut K, notes: &[Text]) -> Result<(), WriteError>
     ensures ok { OnOk result (K.content sink.new ≡ option_map (with_pieces (note_puts notes.now)) (K.content sink.old)) }
     ensures err { OnErr result (PutsFront (note_puts notes.now) (K.content sink.old) (K.content sink.new)) }
-    ensures count { CountsWrites result (K.faults sink.old) (K.faults sink.new) }
+    ensures count { CountsWrites result (K.tally sink.old) (K.tally sink.new) }
 {
     let pieces = match note_pieces(alloc, notes) {
         Ok(pieces) => pieces,

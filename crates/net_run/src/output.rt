@@ -1,7 +1,7 @@
 //! Bytes to their places.
 
 ghost use Rattle.std.specs.Prelude.{◌≡◌, map, option_map, OnOk, OnErr};
-ghost use Rattle.sim_base.specs.Sink.{CountsWrites};
+ghost use Rattle.sim_base.specs.Tally.{CountsWrites};
 ghost use Rattle.host_state.specs.Files.{put_of};
 ghost use Rattle.net_run.specs.Pieces.{with_pieces, PutsFront};
 
@@ -14,7 +14,7 @@ pub fn put_pieces<K: Sink>(sink: &mut K, pieces: &[Piece]) -> Result<(), WriteEr
 
     // After an error some of the pieces were put, the last one perhaps in part.
     ensures err { OnErr result (PutsFront (map put_of pieces.now) (K.content sink.old) (K.content sink.new)) }
-    ensures count { CountsWrites result (K.faults sink.old) (K.faults sink.new) }
+    ensures count { CountsWrites result (K.tally sink.old) (K.tally sink.new) }
 {
     for piece in pieces {
         put_all(sink, &piece.place, piece.bytes.as_slice())?;

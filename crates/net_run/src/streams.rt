@@ -1,7 +1,7 @@
 //! What is told of connections when a run is over.
 
 ghost use Rattle.std.specs.Prelude.{◌≡◌, ◌++◌, IfOk, OnOk, OnErr, map, option_map, slice_get};
-ghost use Rattle.sim_base.specs.Sink.{CountsWrites};
+ghost use Rattle.sim_base.specs.Tally.{CountsWrites};
 ghost use Rattle.host_state.specs.Listed.{said, names_of};
 ghost use Rattle.net_run.specs.Pieces.{with_pieces, PutsFront};
 ghost use Rattle.net_run.specs.Streams as spec;
@@ -42,7 +42,7 @@ pub fn put_streams<K: Sink>(
 ) -> Result<(), WriteError>
     ensures ok { OnOk result (K.content sink.new ≡ option_map (with_pieces (spec.told_puts (names_of listing.now) streams.now)) (K.content sink.old)) }
     ensures err { OnErr result (PutsFront (spec.told_puts (names_of listing.now) streams.now) (K.content sink.old) (K.content sink.new)) }
-    ensures count { CountsWrites result (K.faults sink.old) (K.faults sink.new) }
+    ensures count { CountsWrites result (K.tally sink.old) (K.tally sink.new) }
 {
     match lines_of(alloc, listing.hosts.as_slice(), streams) {
         Ok(lines) => put_all(sink, &Place::Out, lines.as_bytes()),

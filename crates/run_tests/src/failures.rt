@@ -177,6 +177,7 @@ fn leaves_fronts_where_a_write_fails(rt: HostRuntime) -> Result<(), Fail> {
     for (there, write) in THERE.iter().zip(1..) {
         let (status, sink) = faulty(&rt, NEVER, write, false)?;
         assert_eq!(rt; status, 4, "write {write}");
+        assert_eq!(rt; sink.call_count(), write, "write {write}");
         assert_eq!(rt;
             sink.has_directory("shadow.data"),
             write > 1,

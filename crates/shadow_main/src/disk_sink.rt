@@ -2,7 +2,7 @@
 
 ghost use Rattle.std.specs.Prelude.{◌≡◌, ◌<◌, ◌≤◌, length, IfOk};
 
-use sim_base::{Place, Sink, WriteError};
+use sim_base::{Place, Sink, Tally, WriteError};
 use std::alloc::Global;
 use std::fs;
 use std::fs::{Files, OpenOptions};
@@ -18,8 +18,7 @@ struct OpenFile<F> {
     file: F,
 }
 
-/// Writes to two streams and to the files of a directory that it makes. It tells no bytes, and counts each failure but
-/// want of memory.
+/// Writes to two streams and to the files of a directory that it makes. It tells no bytes, and counts its calls.
 #[derive(Drop)]
 pub struct DiskSink<'a, R: Files, O, E> {
     files: &'a R,
@@ -29,7 +28,16 @@ pub struct DiskSink<'a, R: Files, O, E> {
     directory: String,
     /// The files that were opened last, which grow round by round.
     kept: Vec<OpenFile<R::File>>,
-    faults: u64,
+    tally: Tally,
+}
+
+/// Want of memory, or that the outside failed.
+fn write_error(error: &io::Error) -> WriteError {
+    if error.kind() == ErrorKind::OutOfMemory {
+        WriteError::NoMemory
+    } else {
+        WriteError::Failed
+    }
 }
 
 impl<'a, R: Files + AllocGlobal, O: Write, E: Write> DiskSink<'a, R, O, E> {
@@ -40,7 +48,7 @@ impl<'a, R: Files + AllocGlobal, O: Write, E: Write> DiskSink<'a, R, O, E> {
             err,
             directory: String::new(files.alloc()),
             kept: Vec::new(files.alloc()),
-            faults: 0,
+            tally: Tally::new(),
         }
     }
 
@@ -68,7 +76,7 @@ impl<'a, R: Files + AllocGlobal, O: Write, E: Write> DiskSink<'a, R, O, E> {
     /// was opened first is closed where they are too many.
     fn opened(&mut self, name: &str) -> io::Result<usize>
         ensures place { IfOk result (λ place. place < length self.new.kept.items) }
-        ensures faults { self.new.faults ≡ self.old.faults }
+        ensures tally { self.new.tally ≡ self.old.tally }
     {
         for (place, file) in self.kept.iter().enumerate() {
             if file.name.as_str() == name {
@@ -91,7 +99,7 @@ impl<'a, R: Files + AllocGlobal, O: Write, E: Write> DiskSink<'a, R, O, E> {
     /// Adds bytes to a file of the directory.
     fn put_file(&mut self, name: &str, piece: &[u8]) -> io::Result<usize>
         ensures fits { IfOk result (λ n. n ≤ length piece.now) }
-        ensures faults { self.new.faults ≡ self.old.faults }
+        ensures tally { self.new.tally ≡ self.old.tally }
     {
         let place = self.opened(name)?;
         self.kept[place].file.write(piece)
@@ -100,7 +108,7 @@ impl<'a, R: Files + AllocGlobal, O: Write, E: Write> DiskSink<'a, R, O, E> {
     fn put_some(&mut self, place: &Place, piece: &[u8]) -> io::Result<usize>
         ensures fits { IfOk result (λ n. n ≤ length piece.now) }
         ensures some { IfOk result (λ n. 0 < length piece.now → 0 < n) }
-        ensures faults { self.new.faults ≡ self.old.faults }
+        ensures tally { self.new.tally ≡ self.old.tally }
     {
         let taken = match place {
             Place::Out => self.out.write(piece)?,
@@ -113,11 +121,37 @@ impl<'a, R: Files + AllocGlobal, O: Write, E: Write> DiskSink<'a, R, O, E> {
         Ok(taken)
     }
 
-    fn make(&self, dir: &str) -> io::Result<String> {
+    fn create(&self, dir: &str) -> io::Result<String> {
         let alloc: Global = self.files.alloc();
         let directory = format!(in alloc; "{dir}/")?;
         fs::create_dir(self.files, dir)?;
         Ok(directory)
+    }
+
+    /// Makes a directory, before the call is counted.
+    fn make_directory(&mut self, dir: &str) -> Result<bool, WriteError>
+        ensures tally { self.new.tally ≡ self.old.tally }
+    {
+        match self.create(dir) {
+            Ok(directory) => {
+                self.directory = directory;
+                Ok(true)
+            }
+            Err(error) if error.kind() == ErrorKind::AlreadyExists => Ok(false),
+            Err(error) => Err(write_error(&error)),
+        }
+    }
+
+    /// Puts the front of a piece, before the call is counted.
+    fn put_front(&mut self, place: &Place, piece: &[u8]) -> Result<usize, WriteError>
+        ensures fits { IfOk result (λ n. n ≤ length piece.now) }
+        ensures some { IfOk result (λ n. 0 < length piece.now → 0 < n) }
+        ensures tally { self.new.tally ≡ self.old.tally }
+    {
+        match self.put_some(place, piece) {
+            Ok(taken) => Ok(taken),
+            Err(error) => Err(write_error(&error)),
+        }
     }
 }
 
@@ -126,31 +160,17 @@ impl<'a, R: Files + AllocGlobal, O: Write, E: Write> Sink for DiskSink<'a, R, O,
 
     ghost content = { λ _. None };
 
-    ghost faults = { λ s. s.faults };
+    ghost tally = { λ s. s.tally };
 
     fn begin(&mut self, dir: &str) -> Result<bool, WriteError> {
-        match self.make(dir) {
-            Ok(directory) => {
-                self.directory = directory;
-                Ok(true)
-            }
-            Err(error) if error.kind() == ErrorKind::AlreadyExists => Ok(false),
-            Err(error) if error.kind() == ErrorKind::OutOfMemory => Err(WriteError::NoMemory),
-            Err(_) => {
-                self.faults = self.faults.saturating_add(1);
-                Err(WriteError::Failed)
-            }
-        }
+        let answer = self.make_directory(dir);
+        self.tally.count(&answer);
+        answer
     }
 
     fn put(&mut self, place: &Place, piece: &[u8]) -> Result<usize, WriteError> {
-        match self.put_some(place, piece) {
-            Ok(taken) => Ok(taken),
-            Err(error) if error.kind() == ErrorKind::OutOfMemory => Err(WriteError::NoMemory),
-            Err(_) => {
-                self.faults = self.faults.saturating_add(1);
-                Err(WriteError::Failed)
-            }
-        }
+        let answer = self.put_front(place, piece);
+        self.tally.count(&answer);
+        answer
     }
 }

@@ -1,9 +1,11 @@
 -- What the steps of the program leave, put together.
-use Rattle.std.proofs.Common.{◌≡◌, ◌≢◌, ℕ, ◌≤◌, ◌⊎◌, inl, inr, ⊎_elim, Bool, false, List, Option, Some, None, option_map, Result, Ok, Err, IfSome, refl, sym, ap, subst, ◌∙◌, arith}
+use Rattle.std.proofs.Common.{◌≡◌, ◌≢◌, ℕ, ◌+◌, ◌<◌, ◌≤◌, ◌⊎◌, inl, inr, ⊎_elim, Bool, false, List, Option, Some, None, option_map, Result, Ok, Err, IfSome, refl, sym, ap, subst, ◌∙◌, arith}
 use Rattle.sim_base.specs.Faults.{Rose}
 use Rattle.sim_base.specs.Files.{Held}
 use Rattle.sim_base.specs.Sink.{Content, add, begun, AddsFront}
+use Rattle.sim_base.specs.Tally.{EndsByError, StopsAtError, one_more}
 use Rattle.sim_base.specs.declared.outside.sink.Place.TheVariants as place
+use Rattle.sim_base.specs.declared.outside.tally.Tally.{Tally}
 use Rattle.net_run.specs.Parts.{Between}
 use Rattle.net_run.specs.Pieces.{with_pieces}
 use Rattle.net_run.specs.Shown.{status_of}
@@ -175,29 +177,29 @@ told_map words None old f h = tt
 told_map words (Some x) None f h = tt
 told_map words (Some x) (Some c) f h = f (input words x c) c h
 
-pub outcome_ran : (words : List (List ℕ)) (held : Option Held) (old new : Option Content) (r r' w w' status : ℕ) → status ≤ 1 → r' ≡ r → w' ≡ w
+pub outcome_ran : (words : List (List ℕ)) (held : Option Held) (old new : Option Content) (r r' : ℕ) (w w' : Tally) (status : ℕ) → status ≤ 1 → r' ≡ r → CountsSink (let x : Result ℕ Stop = Ok status in x) w w'
     → IfSome held (λ h. IfSome old (λ c. Runs (input words h c) c new (Ok status))) → Outcome words held old new r r' w w' status
-outcome_ran words held old new r r' w w' status small reads writes did = showed (omega arith) reads writes did
+outcome_ran words held old new r r' w w' status small reads writes did = showed (omega arith) reads writes.0 writes.1 did
 
 -- a line that was meant for a refusal
-refused_line : (words : List (List ℕ)) (held : Option Held) (old mid new : Option Content) (r r' w m w' status : ℕ) (fault : Fault)
-    → IfSome held (λ h. IfSome old (λ c. IsFirstFault (input words h c) fault × (mid ≡ Some c))) → r' ≡ r → m ≡ w
+refused_line : (words : List (List ℕ)) (held : Option Held) (old mid new : Option Content) (r r' : ℕ) (w m w' : Tally) (status : ℕ) (fault : Fault)
+    → IfSome held (λ h. IfSome old (λ c. IsFirstFault (input words h c) fault × (mid ≡ Some c))) → r' ≡ r → m.faults ≡ w.faults → m.errors ≡ w.errors
     → TellsLine (line_of fault) 2 mid new m w' status → Outcome words held old new r r' w w' status
-refused_line words held old mid new r r' w m w' status fault did reads writes told =
+refused_line words held old mid new r r' w m w' status fault did reads faults errors told =
     ⊎_elim
-    (λ (all : (status ≡ 2) × (new ≡ option_map (add place.Err (line_of fault)) mid) × (w' ≡ m)).
-    showed (omega arith) reads (all.2 ∙ writes)
+    (λ (all : (status ≡ 2) × (new ≡ option_map (add place.Err (line_of fault)) mid) × (w'.faults ≡ m.faults) × (w'.errors ≡ m.errors)).
+    showed (omega arith) reads (all.2 ∙ faults) (all.3 ∙ errors)
     (told_map {P = λ i c. IsFirstFault i fault × (mid ≡ Some c)} {Q = λ i c. Shows i c new status} words held old
     (λ i c h. shows i c (add place.Err (line_of fault) c) new status (all.1 ∙ ap (option_map (add place.Err (line_of fault))) h.1)
     (subst (IsShown i c (add place.Err (line_of fault) c)) (sym all.0) (refused_shown i c fault h.0))) did))
-    (λ (rest : ((status ≡ 4) × AddsFront place.Err (line_of fault) mid new × Rose m w') ⊎ ((status ≡ 5) × AddsFront place.Err (line_of fault) mid new × (w' ≡ m))).
+    (λ (rest : ((status ≡ 4) × AddsFront place.Err (line_of fault) mid new × Rose m.faults w'.faults × EndsByError m.errors w') ⊎ ((status ≡ 5) × AddsFront place.Err (line_of fault) mid new × (w'.faults ≡ m.faults) × StopsAtError m.errors w')).
     ⊎_elim
-    (λ (failed : (status ≡ 4) × AddsFront place.Err (line_of fault) mid new × Rose m w').
-    failed_writing failed.0 (subst (λ (x : ℕ). Rose x w') writes failed.2)
+    (λ (failed : (status ≡ 4) × AddsFront place.Err (line_of fault) mid new × Rose m.faults w'.faults × EndsByError m.errors w').
+    failed_writing failed.0 (subst (λ (x : ℕ). Rose x w'.faults) faults failed.2) (subst (λ (x : ℕ). EndsByError x w') errors failed.3)
     (told_map {P = λ i c. IsFirstFault i fault × (mid ≡ Some c)} {Q = λ i c. ShowsPart i c new ⊎ (Rose r r' × TellsPart i c new)} words held old
     (λ i c h. inl (part_of_line i c fault new h.0 (subst (λ (o : Option Content). AddsFront place.Err (line_of fault) o new) h.1 failed.1))) did))
-    (λ (wanted : (status ≡ 5) × AddsFront place.Err (line_of fault) mid new × (w' ≡ m)).
-    wanted_memory wanted.0 (wanted.2 ∙ writes)
+    (λ (wanted : (status ≡ 5) × AddsFront place.Err (line_of fault) mid new × (w'.faults ≡ m.faults) × StopsAtError m.errors w').
+    wanted_memory wanted.0 (wanted.2 ∙ faults) (subst (λ (x : ℕ). StopsAtError x w') errors wanted.3)
     (told_map {P = λ i c. IsFirstFault i fault × (mid ≡ Some c)} {Q = λ i c. ShowsPart i c new ⊎ (Rose r r' × TellsPart i c new)} words held old
     (λ i c h. inl (part_of_line i c fault new h.0 (subst (λ (o : Option Content). AddsFront place.Err (line_of fault) o new) h.1 wanted.1))) did))
     rest)
@@ -209,55 +211,67 @@ part_of_failure i old file new reached front =
     let (now, now_is, part) = part-line old (read_failed_line file) new front in
     record { now = now; file = file; new_is = now_is; reached = reached; part = part }
 
-failed_line : (words : List (List ℕ)) (held : Option Held) (old mid new : Option Content) (r r' w m w' status : ℕ) (file : List ℕ)
-    → IfSome held (λ h. IfSome old (λ c. IsReached (input words h c) file × (mid ≡ Some c))) → Rose r r' → m ≡ w
+failed_line : (words : List (List ℕ)) (held : Option Held) (old mid new : Option Content) (r r' : ℕ) (w m w' : Tally) (status : ℕ) (file : List ℕ)
+    → IfSome held (λ h. IfSome old (λ c. IsReached (input words h c) file × (mid ≡ Some c))) → Rose r r' → m.faults ≡ w.faults → m.errors ≡ w.errors
     → TellsLine (read_failed_line file) 3 mid new m w' status → Outcome words held old new r r' w w' status
-failed_line words held old mid new r r' w m w' status file did rose writes told =
+failed_line words held old mid new r r' w m w' status file did rose faults errors told =
     ⊎_elim
-    (λ (all : (status ≡ 3) × (new ≡ option_map (add place.Err (read_failed_line file)) mid) × (w' ≡ m)).
-    failed_reading all.0 rose (all.2 ∙ writes)
+    (λ (all : (status ≡ 3) × (new ≡ option_map (add place.Err (read_failed_line file)) mid) × (w'.faults ≡ m.faults) × (w'.errors ≡ m.errors)).
+    failed_reading all.0 rose (all.2 ∙ faults) (all.3 ∙ errors)
     (told_map {P = λ i c. IsReached i file × (mid ≡ Some c)} {Q = λ i c. TellsReadFailed i c new} words held old
     (λ i c h. record { file = file; reached = h.0; new_is = all.1 ∙ ap (option_map (add place.Err (read_failed_line file))) h.1 }) did))
-    (λ (rest : ((status ≡ 4) × AddsFront place.Err (read_failed_line file) mid new × Rose m w') ⊎ ((status ≡ 5) × AddsFront place.Err (read_failed_line file) mid new × (w' ≡ m))).
+    (λ (rest : ((status ≡ 4) × AddsFront place.Err (read_failed_line file) mid new × Rose m.faults w'.faults × EndsByError m.errors w') ⊎ ((status ≡ 5) × AddsFront place.Err (read_failed_line file) mid new × (w'.faults ≡ m.faults) × StopsAtError m.errors w')).
     ⊎_elim
-    (λ (failed : (status ≡ 4) × AddsFront place.Err (read_failed_line file) mid new × Rose m w').
-    failed_writing failed.0 (subst (λ (x : ℕ). Rose x w') writes failed.2)
+    (λ (failed : (status ≡ 4) × AddsFront place.Err (read_failed_line file) mid new × Rose m.faults w'.faults × EndsByError m.errors w').
+    failed_writing failed.0 (subst (λ (x : ℕ). Rose x w'.faults) faults failed.2) (subst (λ (x : ℕ). EndsByError x w') errors failed.3)
     (told_map {P = λ i c. IsReached i file × (mid ≡ Some c)} {Q = λ i c. ShowsPart i c new ⊎ (Rose r r' × TellsPart i c new)} words held old
     (λ i c h. inr (rose, part_of_failure i c file new h.0 (subst (λ (o : Option Content). AddsFront place.Err (read_failed_line file) o new) h.1 failed.1))) did))
-    (λ (wanted : (status ≡ 5) × AddsFront place.Err (read_failed_line file) mid new × (w' ≡ m)).
-    wanted_memory wanted.0 (wanted.2 ∙ writes)
+    (λ (wanted : (status ≡ 5) × AddsFront place.Err (read_failed_line file) mid new × (w'.faults ≡ m.faults) × StopsAtError m.errors w').
+    wanted_memory wanted.0 (wanted.2 ∙ faults) (subst (λ (x : ℕ). StopsAtError x w') errors wanted.3)
     (told_map {P = λ i c. IsReached i file × (mid ≡ Some c)} {Q = λ i c. ShowsPart i c new ⊎ (Rose r r' × TellsPart i c new)} words held old
     (λ i c h. inr (rose, part_of_failure i c file new h.0 (subst (λ (o : Option Content). AddsFront place.Err (read_failed_line file) o new) h.1 wanted.1))) did))
     rest)
     told
 
-pub outcome_stopped : (words : List (List ℕ)) (held : Option Held) (old mid new : Option Content) (r r' w m w' status : ℕ) (stop : Stop)
+pub outcome_stopped : (words : List (List ℕ)) (held : Option Held) (old mid new : Option Content) (r r' : ℕ) (w m w' : Tally) (status : ℕ) (stop : Stop)
     → IfSome held (λ h. IfSome old (λ c. Runs (input words h c) c mid (Err stop)))
     → CountsSource (let x : Result ℕ Stop = Err stop in x) r r' → CountsSink (let x : Result ℕ Stop = Err stop in x) w m
     → Tells stop mid new m w' status → Outcome words held old new r r' w w' status
-outcome_stopped words held old mid new r r' w m w' status (Refused fault) did reads writes told = refused_line words held old mid new r r' w m w' status fault did reads writes told
-outcome_stopped words held old mid new r r' w m w' status (ReadFailed file) did reads writes told = failed_line words held old mid new r r' w m w' status file did reads writes told
+outcome_stopped words held old mid new r r' w m w' status (Refused fault) did reads writes told = refused_line words held old mid new r r' w m w' status fault did reads writes.0 writes.1 told
+outcome_stopped words held old mid new r r' w m w' status (ReadFailed file) did reads writes told = failed_line words held old mid new r r' w m w' status file did reads writes.0 writes.1 told
 outcome_stopped words held old mid new r r' w m w' status WriteFailed did reads writes (is, same, count) =
-    failed_writing is (subst (Rose w) (sym count) writes) (told_map {P = λ i c. ShowsPart i c mid} {Q = λ i c. ShowsPart i c new ⊎ (Rose r r' × TellsPart i c new)} words held old (λ i c h. inl (subst (ShowsPart i c) (sym same) h)) did)
+    failed_writing is (subst (λ (x : Tally). Rose w.faults x.faults) (sym count) writes.0) (subst (EndsByError w.errors) (sym count) writes.1) (told_map {P = λ i c. ShowsPart i c mid} {Q = λ i c. ShowsPart i c new ⊎ (Rose r r' × TellsPart i c new)} words held old (λ i c h. inl (subst (ShowsPart i c) (sym same) h)) did)
 outcome_stopped words held old mid new r r' w m w' status NoMemory did reads writes (is, same, count) =
-    wanted_memory is (count ∙ writes) (told_map {P = λ i c. ShowsPart i c mid} {Q = λ i c. ShowsPart i c new ⊎ (Rose r r' × TellsPart i c new)} words held old (λ i c h. inl (subst (ShowsPart i c) (sym same) h)) did)
+    wanted_memory is (ap (λ (x : Tally). x.faults) count ∙ writes.0) (subst (StopsAtError w.errors) (sym count) writes.1) (told_map {P = λ i c. ShowsPart i c mid} {Q = λ i c. ShowsPart i c new ⊎ (Rose r r' × TellsPart i c new)} words held old (λ i c h. inl (subst (ShowsPart i c) (sym same) h)) did)
 
 -- where neither count rose, and memory sufficed, what stands there is what is shown
-told_shows : (words : List (List ℕ)) (held : Option Held) (old new : Option Content) (r r' w w' status : ℕ) → Told words held old (λ i c. Shows i c new status)
-    → IfSome held (λ h. IfSome old (λ c. ¬ (Rose r r') → ¬ (Rose w w') → status ≢ 5 → Shows (input words h c) c new status))
+told_shows : (words : List (List ℕ)) (held : Option Held) (old new : Option Content) (r r' : ℕ) (w w' : Tally) (status : ℕ) → Told words held old (λ i c. Shows i c new status)
+    → IfSome held (λ h. IfSome old (λ c. ¬ (Rose r r') → ¬ (Rose w.faults w'.faults) → status ≢ 5 → Shows (input words h c) c new status))
 told_shows words None old new r r' w w' status told = tt
 told_shows words (Some h) None new r r' w w' status told = tt
 told_shows words (Some h) (Some c) new r r' w w' status told = λ reads writes memory. told
 
-not_told : (words : List (List ℕ)) (held : Option Held) (old new : Option Content) (r r' w w' status : ℕ) → (¬ (Rose r r') → ¬ (Rose w w') → status ≢ 5 → ⊥)
-    → IfSome held (λ h. IfSome old (λ c. ¬ (Rose r r') → ¬ (Rose w w') → status ≢ 5 → Shows (input words h c) c new status))
+not_told : (words : List (List ℕ)) (held : Option Held) (old new : Option Content) (r r' : ℕ) (w w' : Tally) (status : ℕ) → (¬ (Rose r r') → ¬ (Rose w.faults w'.faults) → status ≢ 5 → ⊥)
+    → IfSome held (λ h. IfSome old (λ c. ¬ (Rose r r') → ¬ (Rose w.faults w'.faults) → status ≢ 5 → Shows (input words h c) c new status))
 not_told words None old new r r' w w' status never = tt
 not_told words (Some h) None new r r' w w' status never = tt
 not_told words (Some h) (Some c) new r r' w w' status never = λ reads writes memory. absurd (never reads writes memory)
 
-pub headline_of : (words : List (List ℕ)) (held : Option Held) (old new : Option Content) (r r' w w' status : ℕ) → Outcome words held old new r r' w w' status
-    → IfSome held (λ h. IfSome old (λ c. ¬ (Rose r r') → ¬ (Rose w w') → status ≢ 5 → Shows (input words h c) c new status))
-headline_of words held old new r r' w w' status (showed small reads writes told) = told_shows words held old new r r' w w' status told
-headline_of words held old new r r' w w' status (failed_reading is rose writes told) = not_told words held old new r r' w w' status (λ reads writes' memory. reads rose)
-headline_of words held old new r r' w w' status (failed_writing is rose told) = not_told words held old new r r' w w' status (λ reads writes memory. writes rose)
-headline_of words held old new r r' w w' status (wanted_memory is writes told) = not_told words held old new r r' w w' status (λ reads writes' memory. memory is)
+pub headline_of : (words : List (List ℕ)) (held : Option Held) (old new : Option Content) (r r' : ℕ) (w w' : Tally) (status : ℕ) → Outcome words held old new r r' w w' status
+    → IfSome held (λ h. IfSome old (λ c. ¬ (Rose r r') → ¬ (Rose w.faults w'.faults) → status ≢ 5 → Shows (input words h c) c new status))
+headline_of words held old new r r' w w' status (showed small reads faults errors told) = told_shows words held old new r r' w w' status told
+headline_of words held old new r r' w w' status (failed_reading is rose faults errors told) = not_told words held old new r r' w w' status (λ reads writes' memory. reads rose)
+headline_of words held old new r r' w w' status (failed_writing is rose ends told) = not_told words held old new r r' w w' status (λ reads writes memory. writes rose)
+headline_of words held old new r r' w w' status (wanted_memory is faults stops told) = not_told words held old new r r' w w' status (λ reads writes' memory. memory is)
+
+-- a call that answered an error was the last, and the status says so
+by_error : (w w' : Tally) (status : ℕ) → 4 ≤ status → EndsByError w.errors w' → w.errors < w'.errors → (w'.errors ≡ w.errors + 1) × (w'.since ≡ 0) × (4 ≤ status)
+by_error w w' status says ends more = let e : w'.errors ≡ one_more w.errors = ends.errors in (omega (arith, e), ends.since, says)
+
+pub quiet_of : (words : List (List ℕ)) (held : Option Held) (old new : Option Content) (r r' : ℕ) (w w' : Tally) (status : ℕ) → Outcome words held old new r r' w w' status
+    → w.errors < w'.errors → (w'.errors ≡ w.errors + 1) × (w'.since ≡ 0) × (4 ≤ status)
+quiet_of words held old new r r' w w' status (showed small reads faults errors told) more = absurd (omega arith)
+quiet_of words held old new r r' w w' status (failed_reading is rose faults errors told) more = absurd (omega arith)
+quiet_of words held old new r r' w w' status (failed_writing is rose ends told) more = by_error w w' status (omega arith) ends more
+quiet_of words held old new r r' w w' status (wanted_memory is faults (inl same) told) more = absurd (omega arith)
+quiet_of words held old new r r' w w' status (wanted_memory is faults (inr ends) told) more = by_error w w' status (omega arith) ends more

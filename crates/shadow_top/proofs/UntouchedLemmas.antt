@@ -1,7 +1,8 @@
 -- What a refusal and a read that failed leave as it stood.
-use Rattle.std.proofs.Common.{◌≡◌, ℕ, ◌≤◌, ◌⊎◌, inl, inr, List, Option, Some, None, option_map, Result, Ok, Err, IfSome, refl, ap, ◌∙◌, arith}
+use Rattle.std.proofs.Common.{◌≡◌, ℕ, ◌≤◌, inl, inr, List, Option, Some, None, option_map, Result, Ok, Err, IfSome, refl, ap, ◌∙◌, arith}
 use Rattle.sim_base.specs.Sink.{Content, add}
 use Rattle.sim_base.specs.declared.outside.sink.Place.TheVariants as place
+use Rattle.sim_base.specs.declared.outside.tally.Tally.{Tally}
 use Rattle.run_plan.specs.Line.{line_of}
 use Rattle.run_plan.specs.declared.fault.ReadStop.{ReadStop}
 use Rattle.run_plan.specs.declared.fault.ReadStop.TheVariants as read
@@ -43,21 +44,21 @@ pub ran_untouched : (old new : Option Content) (status : ℕ) → status ≤ 1 �
 ran_untouched None new status small = tt
 ran_untouched (Some c) new status small = λ low high. absurd (omega arith)
 
-line_added : (line : List ℕ) (meant : ℕ) (c : Content) (mid new : Option Content) (m w' status : ℕ) → mid ≡ Some c → TellsLine line meant mid new m w' status
+line_added : (line : List ℕ) (meant : ℕ) (c : Content) (mid new : Option Content) (m w' : Tally) (status : ℕ) → mid ≡ Some c → TellsLine line meant mid new m w' status
     → 2 ≤ status → status ≤ 3 → AddsLine c new
 line_added line meant c mid new m w' status is (inl all) low high =
     record { line = line; new_is = all.1 ∙ ap (option_map (add place.Err line)) is }
 line_added line meant c mid new m w' status is (inr (inl failed)) low high = let four : status ≡ 4 = failed.0 in absurd (omega arith)
 line_added line meant c mid new m w' status is (inr (inr wanted)) low high = let five : status ≡ 5 = wanted.0 in absurd (omega arith)
 
-told_untouched : (c : Content) (mid new : Option Content) (m w' status : ℕ) (stop : Stop) → Keeps c mid (Err stop) → Tells stop mid new m w' status
+told_untouched : (c : Content) (mid new : Option Content) (m w' : Tally) (status : ℕ) (stop : Stop) → Keeps c mid (Err stop) → Tells stop mid new m w' status
     → 2 ≤ status → status ≤ 3 → AddsLine c new
 told_untouched c mid new m w' status (Refused fault) kept told low high = line_added (line_of fault) 2 c mid new m w' status kept told low high
 told_untouched c mid new m w' status (ReadFailed file) kept told low high = line_added (read_failed_line file) 3 c mid new m w' status kept told low high
 told_untouched c mid new m w' status WriteFailed kept told low high = let four : status ≡ 4 = told.0 in absurd (omega arith)
 told_untouched c mid new m w' status NoMemory kept told low high = let five : status ≡ 5 = told.0 in absurd (omega arith)
 
-pub stopped_untouched : (old mid new : Option Content) (m w' status : ℕ) (stop : Stop) → IfSome old (λ c. Keeps c mid (Err stop)) → Tells stop mid new m w' status
+pub stopped_untouched : (old mid new : Option Content) (m w' : Tally) (status : ℕ) (stop : Stop) → IfSome old (λ c. Keeps c mid (Err stop)) → Tells stop mid new m w' status
     → IfSome old (λ c. 2 ≤ status → status ≤ 3 → AddsLine c new)
 stopped_untouched None mid new m w' status stop kept told = tt
 stopped_untouched (Some c) mid new m w' status stop kept told = λ low high. told_untouched c mid new m w' status stop kept told low high

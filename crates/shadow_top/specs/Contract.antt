@@ -2,7 +2,9 @@
 use Rattle.std.specs.Prelude.{◌≡◌, ℕ, ◌⊎◌, List, Option, Some, option_map, IfSome, Result, Ok, Err, Bool, true, false, codes}
 use Rattle.sim_base.specs.Faults.{Rose}
 use Rattle.sim_base.specs.Sink.{Content, add, begun, AddsFront}
+use Rattle.sim_base.specs.Tally.{EndsByError, StopsAtError}
 use Rattle.sim_base.specs.declared.outside.sink.Place.TheVariants as place
+use Rattle.sim_base.specs.declared.outside.tally.Tally.{Tally}
 use Rattle.out_text.specs.Faults.{file_line}
 use Rattle.host_state.specs.World.{World, IsResult, opening_world}
 use Rattle.net_run.specs.Parts.{IsPart, Between}
@@ -161,15 +163,15 @@ BeginsSo directory old new (Err (ReadFailed file)) = ⊥
 BeginsSo directory old new (Err WriteFailed) = new ≡ old
 BeginsSo directory old new (Err NoMemory) = new ≡ old
 
--- a line was told, or its write failed, or memory ran out
-abbrev pub TellsLine : List ℕ → ℕ → Option Content → Option Content → ℕ → ℕ → ℕ → Type 0
+-- a line was told, or its write failed, or memory ran out; after an error of the sink it was not called again
+abbrev pub TellsLine : List ℕ → ℕ → Option Content → Option Content → Tally → Tally → ℕ → Type 0
 TellsLine line meant old new before now status =
-    ((status ≡ meant) × (new ≡ option_map (add place.Err line) old) × (now ≡ before))
-    ⊎ (((status ≡ 4) × AddsFront place.Err line old new × Rose before now)
-    ⊎ ((status ≡ 5) × AddsFront place.Err line old new × (now ≡ before)))
+    ((status ≡ meant) × (new ≡ option_map (add place.Err line) old) × (now.faults ≡ before.faults) × (now.errors ≡ before.errors))
+    ⊎ (((status ≡ 4) × AddsFront place.Err line old new × Rose before.faults now.faults × EndsByError before.errors now)
+    ⊎ ((status ≡ 5) × AddsFront place.Err line old new × (now.faults ≡ before.faults) × StopsAtError before.errors now))
 
--- what telling a stop leaves
-abbrev pub Tells : Stop → Option Content → Option Content → ℕ → ℕ → ℕ → Type 0
+-- what telling a stop leaves: after a write that failed, and where memory ran out, the sink was not called
+abbrev pub Tells : Stop → Option Content → Option Content → Tally → Tally → ℕ → Type 0
 Tells (Refused fault) old new before now status = TellsLine (line_of fault) 2 old new before now status
 Tells (ReadFailed file) old new before now status = TellsLine (read_failed_line file) 3 old new before now status
 Tells WriteFailed old new before now status = (status ≡ 4) × (new ≡ old) × (now ≡ before)

@@ -1,8 +1,10 @@
 -- Why a call stops before its end.
 use Rattle.std.specs.Prelude.{◌≡◌, ℕ, Result, Ok, Err}
 use Rattle.sim_base.specs.Faults.{Rose}
+use Rattle.sim_base.specs.Tally.{EndsByError, StopsAtError}
 use Rattle.sim_base.specs.declared.outside.sink.WriteError.{WriteError}
 use Rattle.sim_base.specs.declared.outside.sink.WriteError.TheVariants as write
+use Rattle.sim_base.specs.declared.outside.tally.Tally.{Tally}
 use Rattle.run_plan.specs.declared.fault.ReadStop.{ReadStop}
 use Rattle.run_plan.specs.declared.fault.ReadStop.TheVariants as read
 use Rattle.shadow_top.specs.declared.stop.Stop.{Stop}
@@ -17,12 +19,25 @@ CountsSource (Err WriteFailed) before now = now ≡ before
 CountsSource (Err NoMemory) before now = now ≡ before
 
 -- the sink's count of faults rises where a write failed, and stays at every other answer
-abbrev pub CountsSink : {A : Type 0} → Result A Stop → ℕ → ℕ → Type 0
-CountsSink (Ok a) before now = now ≡ before
-CountsSink (Err (Refused fault)) before now = now ≡ before
-CountsSink (Err (ReadFailed name)) before now = now ≡ before
-CountsSink (Err WriteFailed) before now = Rose before now
-CountsSink (Err NoMemory) before now = now ≡ before
+abbrev pub CountsSinkFaults : {A : Type 0} → Result A Stop → ℕ → ℕ → Type 0
+CountsSinkFaults (Ok a) before now = now ≡ before
+CountsSinkFaults (Err (Refused fault)) before now = now ≡ before
+CountsSinkFaults (Err (ReadFailed name)) before now = now ≡ before
+CountsSinkFaults (Err WriteFailed) before now = Rose before now
+CountsSinkFaults (Err NoMemory) before now = now ≡ before
+
+-- where a write failed the last call of the sink answered an error, and it alone; where memory was wanted it is that, or
+-- none did; at every other answer none did
+abbrev pub CountsSinkErrors : {A : Type 0} → Result A Stop → ℕ → Tally → Type 0
+CountsSinkErrors (Ok a) before now = now.errors ≡ before
+CountsSinkErrors (Err (Refused fault)) before now = now.errors ≡ before
+CountsSinkErrors (Err (ReadFailed name)) before now = now.errors ≡ before
+CountsSinkErrors (Err WriteFailed) before now = EndsByError before now
+CountsSinkErrors (Err NoMemory) before now = StopsAtError before now
+
+-- calls of the sink were made one by one, and none after one that answered an error
+abbrev pub CountsSink : {A : Type 0} → Result A Stop → Tally → Tally → Type 0
+CountsSink result before now = CountsSinkFaults result before.faults now.faults × CountsSinkErrors result before.errors now
 
 -- no read failed
 abbrev pub NoReadFailed : {A : Type 0} → Result A Stop → Type 0

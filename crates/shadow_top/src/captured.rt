@@ -45,7 +45,7 @@ pub(crate) fn list_capture<K: Sink>(
     ensures told { IfSome (K.content sink.old) (λ c. ListsCapture capture.now c (K.content sink.new) result) }
     ensures status { IfOk result (λ status. status ≤ 1) }
     ensures reads { NoReadFailed result }
-    ensures count { CountsSink result (K.faults sink.old) (K.faults sink.new) }
+    ensures count { CountsSink result (K.tally sink.old) (K.tally sink.new) }
 {
     let lines = capture_text(alloc, capture)?;
     match put_all(sink, &Place::Out, lines.as_bytes()) {

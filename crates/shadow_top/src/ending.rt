@@ -1,7 +1,8 @@
 //! The end of a run: the final states, the unmet expectations and the summary, and the lines of connections.
 
 ghost use Rattle.std.specs.Prelude.{◌≡◌, ◌<◌, ◌≤◌, ◌^◌, All, IfOk, Option, length, slice_get};
-ghost use Rattle.sim_base.specs.Sink.{CountsWrites, Content};
+ghost use Rattle.sim_base.specs.Sink.{Content};
+ghost use Rattle.sim_base.specs.Tally.{CountsWrites};
 ghost use Rattle.host_state.specs.HostRecord.{HostRecord};
 ghost use Rattle.host_state.specs.World.{World as HostWorld};
 ghost use Rattle.host_state.specs.Listed.{HasIds, names_of};
@@ -78,7 +79,7 @@ fn put_end<K: Sink>(
     requires stands { (w : HostWorld) × WorldStands world.now w }
     requires ids { All HasIds (names_of world.now.listing) }
     ensures told { (w : HostWorld) (old : Option Content) → WorldStands world.now w → StandsAt w old (K.content sink.old) → PutsEnd is_self_load w old (K.content sink.new) result }
-    ensures count { CountsWrites result (K.faults sink.old) (K.faults sink.new) }
+    ensures count { CountsWrites result (K.tally sink.old) (K.tally sink.new) }
 {
     let states = match all_states(alloc, world) {
         Ok(states) => states,
@@ -101,7 +102,7 @@ pub(crate) fn put_ending<K: Sink>(
     requires stands { (w : HostWorld) × WorldStands world.now w }
     requires ids { All HasIds (names_of world.now.listing) }
     ensures told { (w : HostWorld) (old : Option Content) → WorldStands world.now w → StandsAt w old (K.content sink.old) → PutsAll is_self_load streams w old (K.content sink.new) result }
-    ensures count { CountsWrites result (K.faults sink.old) (K.faults sink.new) }
+    ensures count { CountsWrites result (K.tally sink.old) (K.tally sink.new) }
 {
     let status = put_end(alloc, world, is_self_load, sink)?;
     put_if_asked(alloc, world, streams, sink)?;

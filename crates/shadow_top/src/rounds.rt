@@ -35,7 +35,7 @@ fn put_next<K: Sink, G: Gate + Sync, R: Threads + Sync + AllocGlobal>(
     ensures listing { world.new.listing ≡ world.old.listing }
     ensures told { (w : HostWorld) → WorldStands world.old w → PutsRound world.old world.new workers w (K.content sink.old) (K.content sink.new) result }
     ensures reads { NoReadFailed result }
-    ensures count { CountsSink result (K.faults sink.old) (K.faults sink.new) }
+    ensures count { CountsSink result (K.tally sink.old) (K.tally sink.new) }
 {
     let pieces = world.round(rt, rt.alloc(), workers, gate)?;
     put_pieces(sink, &pieces.files)?;
@@ -55,7 +55,7 @@ fn put_rounds<K: Sink, G: Gate + Sync, R: Threads + Sync + AllocGlobal>(
     ensures listing { world.new.listing ≡ world.old.listing }
     ensures told { (w : HostWorld) (old : Option Content) → WorldStands world.old w → StandsAt w old (K.content sink.old) → PutsRounds world.old world.new w old (K.content sink.new) result }
     ensures reads { NoReadFailed result }
-    ensures count { CountsSink result (K.faults sink.old) (K.faults sink.new) }
+    ensures count { CountsSink result (K.tally sink.old) (K.tally sink.new) }
 {
     'rounds: while !world.finished() {
         put_next(rt, workers, gate, world, sink)?;
@@ -77,7 +77,7 @@ pub(crate) fn put_run<K: Sink, G: Gate + Sync, R: Threads + Sync + AllocGlobal>(
     ensures told { (rows : List Row) → WorldStands world.old (opening_world rows) → HaveOwnFiles (names_of world.old.listing)
         → PutsRounds world.old world.new (opening_world rows) (K.content sink.old) (K.content sink.new) result }
     ensures reads { NoReadFailed result }
-    ensures count { CountsSink result (K.faults sink.old) (K.faults sink.new) }
+    ensures count { CountsSink result (K.tally sink.old) (K.tally sink.new) }
 {
     put_heads(rt.alloc(), sink, world.listing())?;
     put_rounds(rt, workers, gate, world, sink)

@@ -1,6 +1,6 @@
 //! The top call.
 
-ghost use Rattle.std.specs.Prelude.{◌≡◌, ◌≢◌, ◌<◌, ◌≤◌, ◌⊎◌, length, map, string_bytes, not, IfSome, IfOk, OnOk, OnErr, IfErr, option_map};
+ghost use Rattle.std.specs.Prelude.{◌≡◌, ◌≢◌, ◌+◌, ◌<◌, ◌≤◌, ◌⊎◌, length, map, string_bytes, not, IfSome, IfOk, OnOk, OnErr, IfErr, option_map};
 ghost use Rattle.sim_base.specs.Faults.{Rose};
 ghost use Rattle.sim_base.specs.Sink.{begun, add, AddsFront};
 ghost use Rattle.sim_base.specs.declared.outside.sink.Place.TheVariants as place;
@@ -33,7 +33,7 @@ use steal_workers::Gate;
 fn begin<K: Sink>(sink: &mut K, directory: Name) -> Result<(), Stop>
     ensures told { BeginsSo directory (K.content sink.old) (K.content sink.new) result }
     ensures reads { NoReadFailed result }
-    ensures count { CountsSink result (K.faults sink.old) (K.faults sink.new) }
+    ensures count { CountsSink result (K.tally sink.old) (K.tally sink.new) }
 {
     match sink.begin(directory.as_str()) {
         Ok(true) => Ok(()),
@@ -45,7 +45,7 @@ fn begin<K: Sink>(sink: &mut K, directory: Name) -> Result<(), Stop>
 
 /// Adds a line to the error stream.
 fn put_line<K: Sink>(sink: &mut K, line: &Text, status: u8) -> u8
-    ensures { TellsLine line.now status (K.content sink.old) (K.content sink.new) (K.faults sink.old) (K.faults sink.new) result }
+    ensures { TellsLine line.now status (K.content sink.old) (K.content sink.new) (K.tally sink.old) (K.tally sink.new) result }
 {
     match put_all(sink, &Place::Err, line.as_bytes()) {
         Ok(()) => status,
@@ -76,7 +76,7 @@ fn read_failed_text(alloc: Global, file: &Name) -> Result<Text, NoMemory>
 
 /// Tells why a run stopped before its end, and gives the status.
 fn tell_stop<K: Sink>(alloc: Global, sink: &mut K, stop: &Stop) -> u8
-    ensures { Tells stop.now (K.content sink.old) (K.content sink.new) (K.faults sink.old) (K.faults sink.new) result }
+    ensures { Tells stop.now (K.content sink.old) (K.content sink.new) (K.tally sink.old) (K.tally sink.new) result }
 {
     match stop {
         Stop::Refused(fault) => match fault_text(alloc, fault) {
@@ -97,7 +97,7 @@ fn show_config<K: Sink>(alloc: Global, sink: &mut K, config: &Config) -> Result<
     ensures told { IfSome (K.content sink.old) (λ c. ShowsConfig config.now c (K.content sink.new) result) }
     ensures status { IfOk result (λ status. status ≤ 1) }
     ensures reads { NoReadFailed result }
-    ensures count { CountsSink result (K.faults sink.old) (K.faults sink.new) }
+    ensures count { CountsSink result (K.tally sink.old) (K.tally sink.new) }
 {
     let mut text = Text::new(alloc);
     config.show(&mut text)?;
@@ -121,7 +121,7 @@ fn run_noted<K: Sink, G: Gate + Sync, R: Threads + Sync + AllocGlobal>(
     ensures told { IfSome (K.content sink.old) (λ c. RunsNoted opened c (K.content sink.new) result) }
     ensures status { IfOk result (λ status. status ≤ 1) }
     ensures reads { NoReadFailed result }
-    ensures count { CountsSink result (K.faults sink.old) (K.faults sink.new) }
+    ensures count { CountsSink result (K.tally sink.old) (K.tally sink.new) }
 {
     let alloc = rt.alloc();
     let Opened {
@@ -152,7 +152,7 @@ fn run_begun<K: Sink, G: Gate + Sync, R: Threads + Sync + AllocGlobal>(
     ensures told { IfSome (K.content sink.old) (λ c. RunsOpened opened c (K.content sink.new) result) }
     ensures status { IfOk result (λ status. status ≤ 1) }
     ensures reads { NoReadFailed result }
-    ensures count { CountsSink result (K.faults sink.old) (K.faults sink.new) }
+    ensures count { CountsSink result (K.tally sink.old) (K.tally sink.new) }
 {
     match put_notes(rt.alloc(), sink, opened.notes.as_slice()) {
         Ok(()) => run_noted(rt, cores, gate, opened, sink),
@@ -188,7 +188,7 @@ fn run_plan<K: Sink, G: Gate + Sync, R: Threads + Sync + AllocGlobal>(
     ensures told { IfSome (K.content sink.old) (λ c. RunsPlan run c (K.content sink.new) result) }
     ensures status { IfOk result (λ status. status ≤ 1) }
     ensures reads { NoReadFailed result }
-    ensures count { CountsSink result (K.faults sink.old) (K.faults sink.new) }
+    ensures count { CountsSink result (K.tally sink.old) (K.tally sink.new) }
 {
     match prepare(rt.alloc(), run) {
         Ok((opened, directory)) => match begin(sink, directory) {
@@ -213,7 +213,7 @@ fn carry_out<K: Sink, G: Gate + Sync, R: Threads + Sync + AllocGlobal>(
     ensures told { IfSome (K.content sink.old) (λ c. CarriesOut planned c (K.content sink.new) result) }
     ensures status { IfOk result (λ status. status ≤ 1) }
     ensures reads { NoReadFailed result }
-    ensures count { CountsSink result (K.faults sink.old) (K.faults sink.new) }
+    ensures count { CountsSink result (K.tally sink.old) (K.tally sink.new) }
 {
     match planned {
         Planned::Shows(config) => show_config(rt.alloc(), sink, &config),
@@ -236,7 +236,7 @@ fn run<S: Source, K: Sink, G: Gate + Sync, R: Threads + Sync + AllocGlobal>(
     ensures kept { IfSome (K.content sink.old) (λ c. Keeps c (K.content sink.new) result) }
     ensures status { IfOk result (λ status. status ≤ 1) }
     ensures reads { CountsSource result (S.faults source.old) (S.faults source.new) }
-    ensures writes { CountsSink result (K.faults sink.old) (K.faults sink.new) }
+    ensures writes { CountsSink result (K.tally sink.old) (K.tally sink.new) }
 {
     match read_plan(rt, rt.alloc(), words, source, cores) {
         Ok(planned) => carry_out(rt, cores, gate, planned, sink),
@@ -254,7 +254,7 @@ fn run_and_tell<S: Source, K: Sink, G: Gate + Sync, R: Threads + Sync + AllocGlo
     sink: &mut K,
 ) -> u8
     ensures outcome { Outcome (map string_bytes words.now) (S.held source.old) (K.content sink.old) (K.content sink.new)
-        (S.faults source.old) (S.faults source.new) (K.faults sink.old) (K.faults sink.new) result }
+        (S.faults source.old) (S.faults source.new) (K.tally sink.old) (K.tally sink.new) result }
     ensures untouched { IfSome (K.content sink.old) (λ c. 2 ≤ result → result ≤ 3 → AddsLine c (K.content sink.new)) }
 {
     match run(rt, cores, gate, words, source, sink) {
@@ -279,11 +279,11 @@ pub fn shadow<S: Source, K: Sink, G: Gate + Sync, R: Threads + Sync + AllocGloba
 ) -> u8
     // Where no call of source and sink failed and memory sufficed, what stands there is what the input shows.
     ensures headline { IfSome (S.held source.old) (λ held. IfSome (K.content sink.old)
-        (λ c. ¬ (Rose (S.faults source.old) (S.faults source.new)) → ¬ (Rose (K.faults sink.old) (K.faults sink.new)) → result ≢ 5
+        (λ c. ¬ (Rose (S.faults source.old) (S.faults source.new)) → ¬ (Rose (K.tally sink.old).faults (K.tally sink.new).faults) → result ≢ 5
         → Shows (input (map string_bytes words.now) held c) c (K.content sink.new) result)) }
 
     // Then the status is one of those that tell what was shown, or 5.
-    ensures known { ¬ (Rose (S.faults source.old) (S.faults source.new)) → ¬ (Rose (K.faults sink.old) (K.faults sink.new))
+    ensures known { ¬ (Rose (S.faults source.old) (S.faults source.new)) → ¬ (Rose (K.tally sink.old).faults (K.tally sink.new).faults)
         → (result ≤ 2) ⊎ (result ≡ 5) }
 
     // A status of 0, 1 or 2 tells what was shown, whatever failed.
@@ -299,7 +299,7 @@ pub fn shadow<S: Source, K: Sink, G: Gate + Sync, R: Threads + Sync + AllocGloba
     ensures untouched { IfSome (K.content sink.old) (λ c. 2 ≤ result → result ≤ 3 → AddsLine c (K.content sink.new)) }
 
     // 4: a write failed.
-    ensures write_failed { result ≡ 4 → Rose (K.faults sink.old) (K.faults sink.new) }
+    ensures write_failed { result ≡ 4 → Rose (K.tally sink.old).faults (K.tally sink.new).faults }
 
     // After 4 and 5 each place holds a front of what it would.
     ensures part { IfSome (S.held source.old) (λ held. IfSome (K.content sink.old)
@@ -308,7 +308,13 @@ pub fn shadow<S: Source, K: Sink, G: Gate + Sync, R: Threads + Sync + AllocGloba
 
     // A call that failed is never hidden.
     ensures after_read { S.faults source.old < S.faults source.new → 3 ≤ result }
-    ensures after_write { K.faults sink.old < K.faults sink.new → result ≡ 4 }
+    ensures after_write { (K.tally sink.old).faults < (K.tally sink.new).faults → result ≡ 4 }
+
+    // After a call of the sink that answered an error, want of memory among them, no call of it is made: none other
+    // answered one, none was made since, and the status says so.
+    ensures quiet_after_error { (K.tally sink.old).errors < (K.tally sink.new).errors
+        → ((K.tally sink.new).errors ≡ (K.tally sink.old).errors + 1) × ((K.tally sink.new).since ≡ 0) × (4 ≤ result) }
+    ensures quiet_after_4 { result ≡ 4 → (K.tally sink.new).since ≡ 0 }
     ensures within { result ≤ 5 }
 {
     run_and_tell(rt, cores, gate, words, source, sink)

@@ -1,7 +1,7 @@
 //! What a run tells of its connections, behind all else.
 
 ghost use Rattle.std.specs.Prelude.{◌≡◌, true, OnOk, OnErr, option_map};
-ghost use Rattle.sim_base.specs.Sink.{CountsWrites};
+ghost use Rattle.sim_base.specs.Tally.{CountsWrites};
 ghost use Rattle.host_state.specs.World.{World as HostWorld};
 ghost use Rattle.net_run.specs.Pieces.{with_pieces, PutsFront};
 ghost use Rattle.net_run.specs.Streams.{stream_puts};
@@ -17,7 +17,7 @@ fn put_lines<K: Sink>(alloc: Global, world: &World, sink: &mut K) -> Result<(), 
     requires stands { (w : HostWorld) × WorldStands world.now w }
     ensures ok { (w : HostWorld) → WorldStands world.now w → OnOk result (K.content sink.new ≡ option_map (with_pieces (stream_puts true w)) (K.content sink.old)) }
     ensures err { (w : HostWorld) → WorldStands world.now w → OnErr result (PutsFront (stream_puts true w) (K.content sink.old) (K.content sink.new)) }
-    ensures count { CountsWrites result (K.faults sink.old) (K.faults sink.new) }
+    ensures count { CountsWrites result (K.tally sink.old) (K.tally sink.new) }
 {
     match world.streams(alloc) {
         Ok(streams) => put_streams(alloc, sink, world.listing(), streams.as_slice()),
@@ -35,7 +35,7 @@ pub(crate) fn put_if_asked<K: Sink>(
     requires stands { (w : HostWorld) × WorldStands world.now w }
     ensures ok { (w : HostWorld) → WorldStands world.now w → OnOk result (K.content sink.new ≡ option_map (with_pieces (stream_puts streams w)) (K.content sink.old)) }
     ensures err { (w : HostWorld) → WorldStands world.now w → OnErr result (PutsFront (stream_puts streams w) (K.content sink.old) (K.content sink.new)) }
-    ensures count { CountsWrites result (K.faults sink.old) (K.faults sink.new) }
+    ensures count { CountsWrites result (K.tally sink.old) (K.tally sink.new) }
 {
     if streams {
         put_lines(alloc, world, sink)

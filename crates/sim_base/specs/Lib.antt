@@ -18,4 +18,5 @@ pub mod Refusals
 pub mod Signal
 pub mod Sink
 pub mod Source
+pub mod Tally
 pub mod Units

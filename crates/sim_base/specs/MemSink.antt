@@ -3,6 +3,7 @@ use Rattle.std.specs.Prelude.{ℕ}
 use Rattle.std.specs.BTreeMap.{btree_map_len}
 use Rattle.std.specs.BTreeSet.{contains_text}
 use Rattle.sim_base.specs.declared.outside.mem_sink.MemSink.{MemSink}
+use Rattle.sim_base.specs.declared.outside.tally.Tally.{Tally}
 use Rattle.sim_base.specs.Calls.{CallCount}
 use Rattle.sim_base.specs.Files.{files_of}
 use Rattle.sim_base.specs.Sink.{Content}
@@ -21,3 +22,7 @@ file_count s = btree_map_len s.files
 -- its calls so far, and which fail
 abbrev pub sink_calls : MemSink → CallCount
 sink_calls s = s.calls
+
+-- what these calls have answered
+abbrev pub sink_tally : MemSink → Tally
+sink_tally s = s.tally

@@ -4,8 +4,6 @@ use Rattle.std.specs.Str.{bytes_eq}
 use Rattle.sim_base.specs.declared.outside.sink.Place.{Place}
 use Rattle.sim_base.specs.declared.outside.sink.Place.TheVariants as place
 use Rattle.sim_base.specs.declared.outside.sink.WriteError.{WriteError}
-use Rattle.sim_base.specs.declared.outside.sink.WriteError.TheVariants.{Failed, NoMemory}
-use Rattle.sim_base.specs.Faults.{Rose}
 use Rattle.sim_base.specs.Files.{Held, no_files, add_to_file}
 
 -- which directories are there, the bytes of standard output and error, and the files of the
@@ -35,12 +33,6 @@ abbrev pub Begins : List ℕ → Result Bool WriteError → Option Content → O
 Begins dir (Ok true) old new = new ≡ option_map (begun dir) old
 Begins dir (Ok false) old new = new ≡ old
 Begins dir (Err e) old new = new ≡ old
-
--- the count of faults rises where the answer is that the outside failed, and stays at every other
-abbrev pub CountsWrites : {T : Type 0} → Result T WriteError → ℕ → ℕ → Type 0
-CountsWrites (Ok x) before now = now ≡ before
-CountsWrites (Err Failed) before now = Rose before now
-CountsWrites (Err NoMemory) before now = now ≡ before
 
 -- nothing changed, or some first bytes of the piece stand at the end of the place
 abbrev pub AddsFront : Place → List ℕ → Option Content → Option Content → Type 0

@@ -42,7 +42,7 @@ pub use memory::NoMemory;
 pub use name::Name;
 pub use object::ObjectId;
 pub use outside::{
-    MemSink, MemSource, Place, ReadError, Sink, Source, WriteError, put_all, read_all,
+    MemSink, MemSource, Place, ReadError, Sink, Source, Tally, WriteError, put_all, read_all,
 };
 pub use packet::{ACK, FIN, Load, Packet, RST, SYN};
 pub use poll::{POLLERR, POLLHUP, POLLIN, POLLNVAL, POLLOUT, POLLRDHUP};

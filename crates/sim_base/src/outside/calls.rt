@@ -43,6 +43,13 @@ impl Calls {
         Ok(())
     }
 
+    /// How many calls were made.
+    pub fn made(&self) -> u64
+        ensures { result ≡ self.now.made }
+    {
+        self.made
+    }
+
     /// Counts a call, and says whether it fails.
     pub fn next_fails(&mut self) -> bool
         ensures fails { IsTrue result ↔ Fails self.old }

@@ -2,7 +2,8 @@
 
 ghost use Rattle.std.specs.Prelude.{◌≡◌, ◌+◌, ◌<◌, ◌≤◌, length, take, option_map, IfSome, IfOk, OnOk, OnErr};
 ghost use Rattle.sim_base.specs.Source.{HasRead, EndsBy, CountsReads};
-ghost use Rattle.sim_base.specs.Sink.{add, AddsFront, CountsWrites};
+ghost use Rattle.sim_base.specs.Sink.{add, AddsFront};
+ghost use Rattle.sim_base.specs.Tally.{CountsWrites};
 
 use crate::outside::sink::{Place, Sink, WriteError};
 use crate::outside::source::{ReadError, Source};
@@ -58,7 +59,7 @@ pub fn put_all<S: Sink>(sink: &mut S, place: &Place, piece: &[u8]) -> Result<(),
 
     // After an error nothing was added, or a front of the piece.
     ensures err { OnErr result (AddsFront place.now piece.now (S.content sink.old) (S.content sink.new)) }
-    ensures count { CountsWrites result (S.faults sink.old) (S.faults sink.new) }
+    ensures count { CountsWrites result (S.tally sink.old) (S.tally sink.new) }
 {
     let mut rest = piece;
     loop {

@@ -1,14 +1,16 @@
 //! A sink in memory.
 
-ghost use Rattle.std.specs.Prelude.{◌≡◌, ◌++◌, ◌∷◌, [], option_map, Some, OnOk, OnErr};
+ghost use Rattle.std.specs.Prelude.{◌≡◌, ◌<◌, ◌≤◌, ◌++◌, ◌∷◌, [], length, take, not, option_map, Some, IfOk, OnOk, OnErr};
 ghost use Rattle.sim_base.specs.Calls.{no_calls};
 ghost use Rattle.sim_base.specs.Files.{files_of, add_to_file};
-ghost use Rattle.sim_base.specs.Sink.{nothing};
+ghost use Rattle.sim_base.specs.Sink.{nothing, add, Begins};
+ghost use Rattle.sim_base.specs.Tally.{no_calls_yet};
 
 use crate::memory::NoMemory;
 use crate::name::Name;
 use crate::outside::calls::Calls;
 use crate::outside::sink::{Place, Sink, WriteError};
+use crate::outside::tally::Tally;
 use std::alloc::Global;
 use std::collections::{BTreeMap, BTreeSet};
 
@@ -21,16 +23,18 @@ pub struct MemSink {
     err: Vec<u8>,
     files: BTreeMap<String, Vec<u8>>,
     calls: Calls,
+    tally: Tally,
     most: usize,
     alloc: Global,
 }
 
 impl MemSink {
-    ghost use Rattle.sim_base.specs.MemSink.{sink_content, sink_calls, file_count};
+    ghost use Rattle.sim_base.specs.MemSink.{sink_content, sink_calls, sink_tally, file_count};
 
     pub fn new(alloc: Global) -> MemSink
         ensures content { sink_content result ≡ nothing }
         ensures calls { sink_calls result ≡ no_calls }
+        ensures tally { sink_tally result ≡ no_calls_yet }
     {
         MemSink {
             directories: BTreeSet::new(alloc),
@@ -38,6 +42,7 @@ impl MemSink {
             err: Vec::new(alloc),
             files: BTreeMap::new(alloc),
             calls: Calls::new(alloc),
+            tally: Tally::new(),
             most: usize::MAX,
             alloc,
         }
@@ -48,6 +53,7 @@ impl MemSink {
         ensures ok { OnOk result (sink_calls self.new ≡ record (sink_calls self.old) { failing = (sink_calls self.old).failing ++ call ∷ [] }) }
         ensures err { OnErr result (sink_calls self.new ≡ sink_calls self.old) }
         ensures content { sink_content self.new ≡ sink_content self.old }
+        ensures tally { sink_tally self.new ≡ sink_tally self.old }
     {
         self.calls.fail_at(call)
     }
@@ -56,8 +62,16 @@ impl MemSink {
     pub fn short(&mut self, most: usize)
         ensures content { sink_content self.new ≡ sink_content self.old }
         ensures calls { sink_calls self.new ≡ sink_calls self.old }
+        ensures tally { sink_tally self.new ≡ sink_tally self.old }
     {
         self.most = most;
+    }
+
+    /// How many calls were made, those that failed among them.
+    pub fn call_count(&self) -> u64
+        ensures { result ≡ (sink_calls self.now).made }
+    {
+        self.calls.made()
     }
 
     /// Whether the directory is there.
@@ -97,6 +111,45 @@ impl MemSink {
     {
         self.files.len()
     }
+
+    /// Makes a directory, before the call is counted.
+    fn make_directory(&mut self, dir: &str) -> Result<bool, WriteError>
+        ensures told { IfOk result (λ made. made ≡ not ((sink_content self.old).there dir.now)) }
+        ensures made { Begins dir.now result (Some (sink_content self.old)) (Some (sink_content self.new)) }
+        ensures tally { sink_tally self.new ≡ sink_tally self.old }
+    {
+        if self.calls.next_fails() {
+            return Err(WriteError::Failed);
+        }
+        if self.directories.contains(dir) {
+            return Ok(false);
+        }
+        let name = String::from_str(self.alloc, dir)?;
+        self.directories.insert(name)?;
+        self.files = BTreeMap::new(self.alloc);
+        Ok(true)
+    }
+
+    /// Adds the front of a piece, before the call is counted.
+    fn add_front(&mut self, place: &Place, piece: &[u8]) -> Result<usize, WriteError>
+        ensures fits { IfOk result (λ n. n ≤ length piece.now) }
+        ensures some { IfOk result (λ n. 0 < length piece.now → 0 < n) }
+        ensures added { IfOk result (λ n. sink_content self.new ≡ add place.now (take n piece.now) (sink_content self.old)) }
+        ensures err { OnErr result (sink_content self.new ≡ sink_content self.old) }
+        ensures tally { sink_tally self.new ≡ sink_tally self.old }
+    {
+        if self.calls.next_fails() {
+            return Err(WriteError::Failed);
+        }
+        let taken = piece.len().min(self.most.max(1));
+        let (front, _) = piece.split_at(taken);
+        match place {
+            Place::Out => self.out.extend_from_slice(front)?,
+            Place::Err => self.err.extend_from_slice(front)?,
+            Place::File(name) => add_to_file(self.alloc, &mut self.files, name, front)?,
+        }
+        Ok(taken)
+    }
 }
 
 /// Adds a piece to the end of a file, which is made where it was not there.
@@ -122,36 +175,21 @@ fn add_to_file(
 
 impl Sink for MemSink {
     ghost use Rattle.std.specs.Prelude.{Some};
-    ghost use Rattle.sim_base.specs.MemSink.{sink_content, sink_calls};
+    ghost use Rattle.sim_base.specs.MemSink.{sink_content, sink_tally};
 
     ghost content = { λ s. Some (sink_content s) };
 
-    ghost faults = { λ s. (sink_calls s).faults };
+    ghost tally = { λ s. sink_tally s };
 
     fn begin(&mut self, dir: &str) -> Result<bool, WriteError> {
-        if self.calls.next_fails() {
-            return Err(WriteError::Failed);
-        }
-        if self.directories.contains(dir) {
-            return Ok(false);
-        }
-        let name = String::from_str(self.alloc, dir)?;
-        self.directories.insert(name)?;
-        self.files = BTreeMap::new(self.alloc);
-        Ok(true)
+        let answer = self.make_directory(dir);
+        self.tally.count(&answer);
+        answer
     }
 
     fn put(&mut self, place: &Place, piece: &[u8]) -> Result<usize, WriteError> {
-        if self.calls.next_fails() {
-            return Err(WriteError::Failed);
-        }
-        let taken = piece.len().min(self.most.max(1));
-        let (front, _) = piece.split_at(taken);
-        match place {
-            Place::Out => self.out.extend_from_slice(front)?,
-            Place::Err => self.err.extend_from_slice(front)?,
-            Place::File(name) => add_to_file(self.alloc, &mut self.files, name, front)?,
-        }
-        Ok(taken)
+        let answer = self.add_front(place, piece);
+        self.tally.count(&answer);
+        answer
     }
 }

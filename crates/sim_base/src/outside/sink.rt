@@ -1,7 +1,9 @@
 //! A sink for the console and the files of a directory.
 
-ghost use Rattle.std.specs.Prelude.{◌≡◌, ◌<◌, ◌≤◌, ℕ, Option, length, not, take, option_map, IfSome, IfOk, OnErr};
-ghost use Rattle.sim_base.specs.Sink.{Content, Begins, add, CountsWrites};
+ghost use Rattle.std.specs.Prelude.{◌≡◌, ◌<◌, ◌≤◌, Option, length, not, take, option_map, IfSome, IfOk, OnErr};
+ghost use Rattle.sim_base.specs.Sink.{Content, Begins, add};
+ghost use Rattle.sim_base.specs.Tally.{CountsCall};
+ghost use Rattle.sim_base.specs.declared.outside.tally.Tally.{Tally};
 
 use crate::memory::NoMemory;
 use crate::name::Name;
@@ -35,15 +37,16 @@ pub trait Sink {
     /// What stands where, or none where it does not tell.
     ghost content: { Self → Option Content };
 
-    /// How often the outside has failed.
-    ghost faults: { Self → ℕ };
+    /// How often the outside has failed, how many calls have answered an error, and how many were
+    /// made since the last that did.
+    ghost tally: { Self → Tally };
 
     /// Makes a directory without files, whose files are meant from then on. It answers false, and
     /// changes nothing, exactly where the directory is there.
     fn begin(&mut self, dir: &str) -> Result<bool, WriteError>
         ensures told { IfSome (content self.old) (λ c. IfOk result (λ made. made ≡ not (c.there dir.now))) }
         ensures made { Begins dir.now result (content self.old) (content self.new) }
-        ensures count { CountsWrites result (faults self.old) (faults self.new) };
+        ensures count { CountsCall result (tally self.old) (tally self.new) };
 
     /// Adds the front of a piece to the end of a place, and answers how many bytes these were, at
     /// least one of a piece that is not empty. A file is made where it is not there, by an empty
@@ -53,7 +56,7 @@ pub trait Sink {
         ensures some { IfOk result (λ n. 0 < length piece.now → 0 < n) }
         ensures added { IfOk result (λ n. content self.new ≡ option_map (add place.now (take n piece.now)) (content self.old)) }
         ensures err { OnErr result (content self.new ≡ content self.old) }
-        ensures count { CountsWrites result (faults self.old) (faults self.new) };
+        ensures count { CountsCall result (tally self.old) (tally self.new) };
 }
 
 impl fmt::Display for WriteError {

@@ -42,7 +42,8 @@ loop-place-preserved g c =
     record {
       whole = step-put here (left (i + 1)) old mid mid (left i) next _ put c.loop-place.invariant.whole;
       part = λ new some. c.loop-place.invariant.part new (step-front here (left (i + 1)) old mid new (left i) next put some);
-      count = c.in_ok-put_states.ensures.count ∙ c.loop-place.invariant.count;
+      faults = c.in_ok-put_states.ensures.count.0 ∙ c.loop-place.invariant.faults;
+      errors = c.in_ok-put_states.ensures.count.1 ∙ c.loop-place.invariant.errors;
     }
 
 pub returns-clause-ok : goal.returns-clause-ok

@@ -29,5 +29,6 @@ loop-piece-preserved g c =
           ∙ ap (λ (ps : List Put). option_map (with_pieces ps) old) (sym next) ∙ c.loop-piece.invariant.whole;
       part = λ new h. c.loop-piece.invariant.part new
           (subst (λ (ps : List Put). PutsFront ps old new) (sym next) (inr (subst (λ (o : Option Content). PutsFront rest o new) added h)));
-      count = c.in_ok-put_all.ensures.count ∙ c.loop-piece.invariant.count;
+      faults = c.in_ok-put_all.ensures.count.0 ∙ c.loop-piece.invariant.faults;
+      errors = c.in_ok-put_all.ensures.count.1 ∙ c.loop-piece.invariant.errors;
     }

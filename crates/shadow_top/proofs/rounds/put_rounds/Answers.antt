@@ -9,7 +9,8 @@ rounds-init g c = record {
   at = c.requires.stands;
   come = λ w old at stands. come-start c.args.world.now w old (g.K.Sink.content c.args.sink.now) at stands;
   listing = refl;
-  count = refl;
+  faults = refl;
+  errors = refl;
 }
 
 pub rounds-preserved : goal.rounds-preserved
@@ -28,7 +29,8 @@ rounds-preserved g c =
           let r = told come.world come.reached.stands in
           come-further c.args.world.now d w old mid come e c.args.workers r.0 r.1 c.in_ok-put_next.ensures.net r.2 new r.3);
       listing = c.in_ok-put_next.ensures.listing ∙ i.listing;
-      count = c.in_ok-put_next.ensures.count ∙ i.count;
+      faults = c.in_ok-put_next.ensures.count.0 ∙ i.faults;
+      errors = c.in_ok-put_next.ensures.count.1 ∙ i.errors;
     }
 
 pub rounds-smaller : goal.rounds-smaller

@@ -13,7 +13,8 @@ invariant-rounds g l = record {
   at : (w : World) × WorldStands l.world w;
   come : (w : World) (old : Option Content) → WorldStands l.initial.world w → StandsAt w old (g.K.Sink.content l.initial.sink) → HasCome l.initial.world l.world w old (g.K.Sink.content l.sink);
   listing : l.world.listing ≡ l.initial.world.listing;
-  count : g.K.Sink.faults l.sink ≡ g.K.Sink.faults l.initial.sink;
+  faults : (g.K.Sink.tally l.sink).faults ≡ (g.K.Sink.tally l.initial.sink).faults;
+  errors : (g.K.Sink.tally l.sink).errors ≡ (g.K.Sink.tally l.initial.sink).errors;
 }
 
 abbrev pub decreases-rounds : goal.decreases-rounds

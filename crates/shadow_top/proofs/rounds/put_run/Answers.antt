@@ -1,7 +1,7 @@
-use Rattle.std.proofs.Common.{List, Option, option_map, sym, ap, subst, ◌∙◌}
+use Rattle.std.proofs.Common.{Option, option_map, ap, subst, ◌∙◌}
 use Rattle.std.proofs.lemmas.Result.{err_from_is_err_and}
 use Rattle.sim_base.specs.Sink.{Content}
-use Rattle.host_state.specs.Listed.{HostNames, names_of}
+use Rattle.host_state.specs.Listed.{names_of}
 use Rattle.host_state.specs.World.{opening_world}
 use Rattle.host_state.specs.declared.files.listed.Listing.{Listing}
 use Rattle.net_run.specs.Heads.{all_heads}

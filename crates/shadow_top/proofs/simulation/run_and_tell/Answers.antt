@@ -11,11 +11,11 @@ returns-in-Ok-clause-untouched g c =
 pub returns-in-Err-clause-outcome : goal.returns-in-Err-clause-outcome
 returns-in-Err-clause-outcome g c =
     outcome_stopped (map string_bytes c.args.words.now) (g.S.Source.held c.args.source.now) (g.K.Sink.content c.args.sink.now) (g.K.Sink.content c.run.new.sink)
-    (g.K.Sink.content c.tell_stop.new.sink) (g.S.Source.faults c.args.source.now) (g.S.Source.faults c.run.new.source) (g.K.Sink.faults c.args.sink.now)
-    (g.K.Sink.faults c.run.new.sink) (g.K.Sink.faults c.tell_stop.new.sink) c.tell_stop.result c.in-Err.stop
+    (g.K.Sink.content c.tell_stop.new.sink) (g.S.Source.faults c.args.source.now) (g.S.Source.faults c.run.new.source) (g.K.Sink.tally c.args.sink.now)
+    (g.K.Sink.tally c.run.new.sink) (g.K.Sink.tally c.tell_stop.new.sink) c.tell_stop.result c.in-Err.stop
     c.in-Err.ensures.told c.in-Err.ensures.reads c.in-Err.ensures.writes c.tell_stop.ensures
 
 pub returns-in-Err-clause-untouched : goal.returns-in-Err-clause-untouched
 returns-in-Err-clause-untouched g c =
-    stopped_untouched (g.K.Sink.content c.args.sink.now) (g.K.Sink.content c.run.new.sink) (g.K.Sink.content c.tell_stop.new.sink) (g.K.Sink.faults c.run.new.sink)
-    (g.K.Sink.faults c.tell_stop.new.sink) c.tell_stop.result c.in-Err.stop c.in-Err.ensures.kept c.tell_stop.ensures
+    stopped_untouched (g.K.Sink.content c.args.sink.now) (g.K.Sink.content c.run.new.sink) (g.K.Sink.content c.tell_stop.new.sink) (g.K.Sink.tally c.run.new.sink)
+    (g.K.Sink.tally c.tell_stop.new.sink) c.tell_stop.result c.in-Err.stop c.in-Err.ensures.kept c.tell_stop.ensures

@@ -6,4 +6,5 @@ pub loop-taken-preserved : goal.loop-taken-preserved
 loop-taken-preserved g c = record {
   put = rw c.split_at.ensures.back (HasPut-more _ _ _ _ _ _ _ c.in_ok-taken.ensures.fits c.in_ok-taken.ensures.added c.loop-taken.invariant.put);
   faults = search rules;
+  errors = search rules;
 }

@@ -4,7 +4,7 @@ use Rattle.std.specs.Str.{bytes_eq}
 use Rattle.std.proofs.lemmas.Map.Text.{btree_set_updates_text}
 use Rattle.sim_base.specs.Files.{files_of, no_files}
 use Rattle.sim_base.proofs.FilesLemmas.{files_of-empty}
-use Rattle.sim_base.proofs.outside.mem_sink.MemSinkSink.begin.Goals as goal
+use Rattle.sim_base.proofs.outside.mem_sink.MemSink.make_directory.Goals as goal
 
 cond-or : (b x : Bool) → cond b true x ≡ (b || x)
 cond-or true x = refl
