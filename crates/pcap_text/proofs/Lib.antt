@@ -1,4 +1,5 @@
 pub mod Datagrams
+pub mod Folding
 pub mod RecordLemmas
 pub mod Sums
 pub mod Verified

@@ -1,18 +1,19 @@
 -- Bytes with their checksum in its field have the sum FFFF.
-use Rattle.std.proofs.Common.{◌≡◌, ℕ, ◌+◌, ◌-◌, ◌*◌, ◌^◌, ◌<◌, ◌≤◌, Bool, true, false, cond, List, [], ◌∷◌, ◌++◌, length, refl, subst, arith, inl, inr}
+use Rattle.std.proofs.Common.{◌≡◌, ℕ, ◌+◌, ◌-◌, ◌*◌, ◌^◌, ◌<◌, ◌≤◌, Bool, true, false, cond, List, [], ◌∷◌, ◌++◌, length, refl, subst, arith}
 use Rattle.std.specs.Prelude.{◌==◌}
 use Rattle.std.specs.Int.{w16, w32, to_be_bytes}
 use Rattle.std.specs.List.{AllByRecursion}
-use Rattle.std.proofs.lemmas.Bool.{cases_lt, eqb-true, lt-ltb, le-ltb}
+use Rattle.std.proofs.lemmas.Bool.{eqb-true}
 use Rattle.sim_base.specs.Packet.{packet_size, load_size, udp_header}
 use Rattle.sim_base.specs.declared.address.Addr.{Addr}
 use Rattle.sim_base.specs.declared.packet.Load.{Load}
 use Rattle.sim_base.specs.declared.packet.Load.TheVariants.{Udp, Tcp}
 use Rattle.sim_base.specs.declared.packet.Packet.{Packet}
-use Rattle.pcap_text.specs.Checksum.{carried, sum_on, ones_sum, checksum, Verifies, all_ones}
+use Rattle.pcap_text.specs.Checksum.{carried, sum_on, ones_sum, checksum, Verifies, all_ones, Folds}
 use Rattle.pcap_text.specs.Datagram.{protocol, ip_header, segment, pseudo_header, udp_sent, ip_check, segment_check, datagram_bytes, longest}
 use Rattle.pcap_text.specs.Laws.{IsByte, IsText, IsWhole, ChecksumsVerify}
 use Rattle.pcap_text.specs.Packets.{FitsLoad}
+use Rattle.pcap_text.proofs.Folding.{carried_folds}
 
 abbrev AreBytes : List ℕ → Type 0
 AreBytes bytes = AllByRecursion IsByte bytes
@@ -22,23 +23,6 @@ total : List ℕ → ℕ
 total [] = 0
 total (high ∷ []) = 256 * high
 total (high ∷ low ∷ rest) = 256 * high + low + total rest
-
--- the ones' complement sum is the sum up to multiples of FFFF, and 0 only for 0
-record Folds (sum folded : ℕ) : Type 0 where
-  times : ℕ
-  same : folded + all_ones * times ≡ sum
-  small : folded < 2 ^ 16
-  some : 0 < sum → 0 < folded
-
-some_more : (n m w : ℕ) → (0 < n → 0 < m) → 0 < n + w → 0 < m + w
-some_more n m w f some = elim (cases_lt 0 n) [ inl lt ↦ let k : 0 < m = f lt in omega arith | inr le ↦ omega arith ]
-
-carried_folds : (n m w : ℕ) → Folds n m → w < 2 ^ 16 → Folds (n + w) (carried m w)
-unfolding carried
-carried_folds n m w h below = elim (cases_lt (m + w) (2 ^ 16)) [
-  | inl lt ↦ rw (lt-ltb (m + w) (2 ^ 16) lt) (record { times = h.times; same = omega (arith, h.same); small = lt; some = some_more n m w h.some })
-  | inr le ↦ rw (le-ltb (m + w) (2 ^ 16) le) (record { times = h.times + 1; same = omega (arith, h.same); small = omega (arith, h.small); some = λ some. omega arith })
-]
 
 sum_folds : (bytes : List ℕ) (n m : ℕ) → AreBytes bytes → Folds n m → Folds (n + total bytes) (sum_on m bytes)
 unfolding sum_on total

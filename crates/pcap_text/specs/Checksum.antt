@@ -1,5 +1,5 @@
 -- The internet checksum (RFC 1071, section 1).
-use Rattle.std.specs.Prelude.{◌≡◌, ℕ, ◌+◌, ◌-◌, ◌*◌, ◌^◌, List, [], ◌∷◌, nat_lt, if◌then◌else◌}
+use Rattle.std.specs.Prelude.{◌≡◌, ℕ, ◌+◌, ◌-◌, ◌*◌, ◌<◌, ◌^◌, List, [], ◌∷◌, nat_lt, if◌then◌else◌}
 
 -- the word of 16 bits whose bits are all ones: zero, in ones' complement
 abbrev pub all_ones : ℕ
@@ -26,3 +26,16 @@ checksum bytes = all_ones - ones_sum bytes
 -- bytes with their checksum in its field have the sum of all ones
 abbrev pub Verifies : List ℕ → Type 0
 Verifies bytes = ones_sum bytes ≡ all_ones
+
+-- ---- wider words (RFC 1071, section 2): the sum comes out the same, folded at the end
+
+-- the ones' complement sum of two words of 64 bits
+unfoldable pub carried_wide : ℕ → ℕ → ℕ
+carried_wide a b = if nat_lt (a + b) (2 ^ 64) then a + b else a + b - (2 ^ 64 - 1)
+
+-- a sum folded into 16 bits: less by a multiple of all ones, and 0 for 0 alone
+pub record Folds (sum folded : ℕ) : Type 0 where
+  pub times : ℕ
+  pub same : folded + all_ones * times ≡ sum
+  pub small : folded < 2 ^ 16
+  pub some : 0 < sum → 0 < folded

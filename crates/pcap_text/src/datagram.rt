@@ -166,7 +166,8 @@ pub(crate) fn datagram(alloc: Global, packet: &Packet) -> Result<Bytes, NoMemory
     ensures bytes { IfOk result (λ bytes. bytes ≡ spec.datagram_bytes packet.now) }
     ensures size { IfOk result (λ bytes. length bytes ≡ packet_size packet.now) }
 {
-    let mut bytes = Bytes::from_slice(alloc, &ip_header(packet))?;
+    let mut bytes = Bytes::from(Vec::with_capacity(alloc, packet.size() as usize)?);
+    bytes.extend_from_slice(&ip_header(packet))?;
     match &packet.load {
         Load::Udp(text) => {
             let check = udp_check(packet, text);

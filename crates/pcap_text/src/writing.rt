@@ -66,7 +66,8 @@ fn record_bytes(alloc: Global, size: u32, time: Time, packet: &Packet) -> Result
     let whole = datagram(alloc, packet)?;
     let kept = front(whole.as_slice(), size);
     let front = record_front(time, kept.len() as u32, whole.len() as u32);
-    let mut bytes = Bytes::from_slice(alloc, &front)?;
+    let mut bytes = Bytes::from(Vec::with_capacity(alloc, front.len() + kept.len())?);
+    bytes.extend_from_slice(&front)?;
     bytes.extend_from_slice(kept)?;
     Ok(bytes)
 }
