@@ -1,9 +1,9 @@
 -- From what was found to routes.
-use Rattle.std.proofs.Common.{◌≡◌, ℕ, suc, ◌+◌, ◌<◌, ◌≤◌, Bool, List, [], ◌∷◌, ◌++◌, length, get_or, map, Option, Some, Ok, Err, Result, append-nil, refl, sym, ap, ◌∙◌, subst, ⊎_elim, arith}
-use Rattle.std.specs.Prelude.{Contains, IfOk, IfErr, ◌↔◌, slice_index_or}
+use Rattle.std.proofs.Common.{◌≡◌, ℕ, suc, ◌+◌, ◌-◌, ◌<◌, ◌≤◌, Bool, List, [], ◌∷◌, ◌++◌, length, get_or, map, take, drop, Option, Some, Ok, Err, Result, append-nil, refl, sym, ap, ◌∙◌, subst, ⊎_elim, arith}
+use Rattle.std.specs.Prelude.{All, Contains, IfOk, IfErr, ◌↔◌, slice_index_or}
 use Rattle.std.specs.List.Sorted.{IsStrictlyIncreasing}
-use Rattle.std.proofs.lemmas.List.{get_or-map, get_or_append_left, length-map, length-append}
-use Rattle.std.proofs.lemmas.List.Elements.{Contains-get_or}
+use Rattle.std.proofs.lemmas.List.{get_or-map, get_or_append_left, get_or-append_right, get_or-take, get_or-drop, length-map, length-append, length-take, length-drop}
+use Rattle.std.proofs.lemmas.Bool.{cases_lt}
 use Rattle.std.proofs.Math.Seq.{get_or-append_seam}
 use Rattle.gml_graph.specs.declared.graph.Graph.{Graph}
 use Rattle.net_routes.specs.declared.cost.Cost.{Cost}
@@ -11,7 +11,7 @@ use Rattle.net_routes.specs.declared.error.RouteError.{RouteError}
 use Rattle.net_routes.specs.declared.error.RouteError.TheVariants as errors
 use Rattle.net_routes.specs.declared.finding.Search.{Search}
 use Rattle.net_routes.specs.declared.net.Net.{Net}
-use Rattle.net_routes.specs.Found.{IsRowOrLack, IsFound, IsToSearch, AreSearched, IsStopped, rows_found}
+use Rattle.net_routes.specs.Found.{IsRowOrLack, IsFound, IsToSearch, AreSearched, IsStopped, rows_found, oks, most_at_once, AreFound, IsRefused}
 use Rattle.net_routes.specs.RouteRows.{IsRouteRow, NamesLack}
 use Rattle.net_routes.specs.Needed.{IsAt, IsNeeded}
 use Rattle.net_routes.specs.Net.{IsNet}
@@ -20,12 +20,16 @@ use Rattle.net_routes.specs.Table.{IsTable}
 use Rattle.net_routes.specs.Walk.{IsRoute, hops}
 use Rattle.net_routes.proofs.RouteLemmas.{HasRoutesFrom, HasRoutesBelow, routes_from, routes_whole, routes_sound, refused}
 
-none : Search
-none = record { from = 0; row = Err errors.NoMemory }
-
 -- all searches were made
 abbrev pub AllFound : Net → List ℕ → List ℕ → Bool → List Search → Type 0
 AllFound net nodes stops shortest ss = (k : ℕ) (e : Search) → k < length ss → IsFound net nodes stops shortest (slice_index_or ss k e).from (slice_index_or ss k e).row
+
+-- what stands past the end
+abbrev none : Result (List (Option Cost)) RouteError
+none = Err errors.NoMemory
+
+abbrev unmade : Search
+unmade = record { from = 0; row = none }
 
 not_both : (row : List (Option Cost)) (e : RouteError) → ◌≡◌ {A = Result (List (Option Cost)) RouteError} (Ok row) (Err e) → ⊥
 not_both row e h = cc
@@ -40,29 +44,22 @@ row_from_found g net nodes stops shortest from r row is found ok =
     routes_from g shortest nodes stops from w.found row (w.best (hops g) is) (subst P ok w.ok))
     found
 
-at_search : (ss : List Search) (stops : List ℕ) (i from : ℕ) → map (λ (s : Search). s.from) ss ≡ stops → IsAt stops i from → (i < length ss) × ((slice_index_or ss i none).from ≡ from)
-at_search ss stops i from same at =
-    let lt : i < length ss = omega (arith, at.within, ap (λ (l : List ℕ). length l) same, length-map ss (λ (s : Search). s.from)) in
-    (lt, sym (get_or-map (λ (s : Search). s.from) ss i none 0 lt) ∙ ap (λ (l : List ℕ). get_or l i 0) same ∙ at.is)
+pub as_many_oks : (rows : List (List (Option Cost))) → length (oks rows) ≡ length rows
+as_many_oks rows = length-map rows (λ (l : List (Option Cost)). let r : Result (List (Option Cost)) RouteError = Ok l in r)
 
-ok_at : (rows : List (List (Option Cost))) (rest : List (Result (List (Option Cost)) RouteError)) (ss : List Search) (i : ℕ) → map (λ (l : List (Option Cost)). let r : Result (List (Option Cost)) RouteError = Ok l in r) rows ++ rest ≡ rows_found ss → i < length rows → i < length ss
-    → (slice_index_or ss i none).row ≡ Ok (get_or rows i [])
-ok_at rows rest ss i parts lt there =
-    let oks : List (Result (List (Option Cost)) RouteError) = map (λ (l : List (Option Cost)). let r : Result (List (Option Cost)) RouteError = Ok l in r) rows in
-    let within : i < length oks = omega (arith, lt, length-map rows (λ (l : List (Option Cost)). let r : Result (List (Option Cost)) RouteError = Ok l in r)) in
-    sym (get_or-map (λ (s : Search). s.row) ss i none (Err errors.NoMemory) there)
-    ∙ ap (λ (l : List (Result (List (Option Cost)) RouteError)). get_or l i (Err errors.NoMemory)) (sym parts)
-    ∙ get_or_append_left oks rest (Err errors.NoMemory) i within
-    ∙ get_or-map (λ (l : List (Option Cost)). let r : Result (List (Option Cost)) RouteError = Ok l in r) rows i [] (Err errors.NoMemory) lt
+ok_at : (rows : List (List (Option Cost))) (rest found : List (Result (List (Option Cost)) RouteError)) (i : ℕ) → oks rows ++ rest ≡ found → i < length rows → get_or found i none ≡ Ok (get_or rows i [])
+ok_at rows rest found i parts lt =
+    ap (λ (l : List (Result (List (Option Cost)) RouteError)). get_or l i none) (sym parts)
+    ∙ get_or_append_left (oks rows) rest none i (omega (arith, lt, as_many_oks rows))
+    ∙ get_or-map (λ (l : List (Option Cost)). let r : Result (List (Option Cost)) RouteError = Ok l in r) rows i [] none lt
 
-pub below_found : (g : Graph) (net : Net) (nodes stops : List ℕ) (shortest : Bool) (ss : List Search) (rows : List (List (Option Cost))) (rest : List (Result (List (Option Cost)) RouteError)) (count : ℕ)
-    → IsNet (hops g) net.places net.rows.items → AllFound net nodes stops shortest ss → map (λ (s : Search). s.from) ss ≡ stops
-    → map (λ (l : List (Option Cost)). let r : Result (List (Option Cost)) RouteError = Ok l in r) rows ++ rest ≡ rows_found ss → count ≤ length rows → HasRoutesBelow count g shortest nodes stops rows
-below_found g net nodes stops shortest ss rows rest count is found same parts few i from lt at =
-    let w = at_search ss stops i from same at in
-    let ok = ok_at rows rest ss i parts (omega (arith, lt, few)) w.0 in
-    let P : ℕ → Type 0 = λ n. IsFound net nodes stops shortest n (slice_index_or ss i none).row in
-    row_from_found g net nodes stops shortest from (slice_index_or ss i none).row (get_or rows i []) is (subst P w.1 (found i none w.0)) ok
+-- WHAT WAS FOUND OF THE FIRST NODES
+
+pub below_found : (g : Graph) (net : Net) (nodes stops : List ℕ) (shortest : Bool) (rows : List (List (Option Cost))) (rest found : List (Result (List (Option Cost)) RouteError)) (count : ℕ)
+    → IsNet (hops g) net.places net.rows.items → AreFound net nodes stops shortest found → oks rows ++ rest ≡ found → count ≤ length rows → HasRoutesBelow count g shortest nodes stops rows
+below_found g net nodes stops shortest rows rest found count is are parts few i from lt at =
+    let within : i < length found = omega (arith, lt, few, as_many_oks rows, length-append (oks rows) rest, ap (λ (l : List (Result (List (Option Cost)) RouteError)). length l) parts) in
+    row_from_found g net nodes stops shortest from (get_or found i none) (get_or rows i []) is (are.each i from none within at) (ok_at rows rest found i parts (omega (arith, lt, few)))
 
 err_same : (a b : RouteError) → ◌≡◌ {A = Result (List (Option Cost)) RouteError} (Err a) (Err b) → a ≡ b
 err_same a b h = cc
@@ -94,89 +91,129 @@ pub all_made : (net : Net) (nodes stops : List ℕ) (shortest : Bool) (old new :
 all_made net nodes stops shortest old new h =
     (λ k e lt. (h.1 k e (omega (arith, lt, h.0))).found, same_from old new h.0 (λ k e lt. (h.1 k e lt).from))
 
+-- the searches from the next nodes were made
+module _ (net : Net) (nodes stops part : List ℕ) (shortest : Bool) (before : List (Result (List (Option Cost)) RouteError)) (ss : List Search) (from_part : map (λ (s : Search). s.from) ss ≡ part) (next : part ≡ take most_at_once (drop (length before) stops)) where
+  as_many : length ss ≡ length part
+  as_many = sym (length-map ss (λ (s : Search). s.from)) ∙ ap (λ (l : List ℕ). length l) from_part
+
+  part_short : length part ≤ length stops - length before
+  part_short = omega (arith, ap (λ (l : List ℕ). length l) next, length-take most_at_once (drop (length before) stops), length-drop (length before) stops)
+
+  part_within : length part ≤ most_at_once
+  part_within = omega (arith, ap (λ (l : List ℕ). length l) next, length-take most_at_once (drop (length before) stops))
+
+  -- from which node a search is
+  from_at : (k : ℕ) → k < length ss → (get_or ss k unmade).from ≡ get_or stops (length before + k) 0
+  from_at k lt =
+      let few : k < most_at_once = omega (arith, lt, as_many, part_within) in
+      sym (get_or-map (λ (s : Search). s.from) ss k unmade 0 lt)
+      ∙ ap (λ (l : List ℕ). get_or l k 0) (from_part ∙ next)
+      ∙ get_or-take most_at_once (drop (length before) stops) k 0 few
+      ∙ get_or-drop (length before) stops k 0
+
+  row_at : (k : ℕ) (d : Result (List (Option Cost)) RouteError) → k < length ss → get_or (rows_found ss) k d ≡ (get_or ss k unmade).row
+  row_at k d lt = get_or-map (λ (s : Search). s.row) ss k unmade d lt
+
+  found_later : AllFound net nodes stops shortest ss → (i from : ℕ) (d : Result (List (Option Cost)) RouteError) → length before ≤ i → i < length before + length ss → IsAt stops i from → IsFound net nodes stops shortest from (get_or (before ++ rows_found ss) i d)
+  found_later made i from d ge lt at =
+      let k : ℕ = i - length before in
+      let within : k < length ss = omega (arith, ge, lt) in
+      let place : length before + k ≡ i = omega (arith, ge) in
+      let its : (get_or ss k unmade).from ≡ from = from_at k within ∙ ap (λ (n : ℕ). get_or stops n 0) place ∙ at.is in
+      let row : get_or (before ++ rows_found ss) i d ≡ (get_or ss k unmade).row = get_or-append_right before (rows_found ss) (length before) i d refl ge ∙ row_at k d within in
+      let P : ℕ → Type 0 = λ n. IsFound net nodes stops shortest n (get_or ss k unmade).row in
+      let Q : Result (List (Option Cost)) RouteError → Type 0 = λ r. IsFound net nodes stops shortest from r in
+      subst Q (sym row) (subst P its (made k unmade within))
+
+  pub found_more : length before ≤ length stops → AreFound net nodes stops shortest before → AllFound net nodes stops shortest ss → AreFound net nodes stops shortest (before ++ rows_found ss)
+  found_more short are made =
+      let size : length (before ++ rows_found ss) ≡ length before + length ss = omega (arith, length-append before (rows_found ss), length-map ss (λ (s : Search). s.row)) in
+      record {
+        few = omega (arith, size, as_many, part_short, short);
+        each = λ i from d lt at. ⊎_elim
+            (λ (first : i < length before).
+            let Q : Result (List (Option Cost)) RouteError → Type 0 = λ r. IsFound net nodes stops shortest from r in
+            subst Q (sym (get_or_append_left before (rows_found ss) d i first)) (are.each i from d first at))
+            (λ (later : length before ≤ i). found_later made i from d later (omega (arith, lt, size)) at)
+            (cases_lt i (length before));
+      }
+
 -- a search stops those behind it
-pub stopped : (ss : List Search) (rows : List (List (Option Cost))) (left rest : List Search) (s : Search) (e : RouteError) → left ≡ s ∷ rest → s.row ≡ Err e
-    → map (λ (l : List (Option Cost)). let r : Result (List (Option Cost)) RouteError = Ok l in r) rows ++ rows_found left ≡ rows_found ss → IsStopped (rows_found ss) e
-stopped ss rows left rest s e is err parts =
+pub stopped : (found : List (Result (List (Option Cost)) RouteError)) (rows : List (List (Option Cost))) (left rest : List Search) (s : Search) (e : RouteError) → left ≡ s ∷ rest → s.row ≡ Err e
+    → oks rows ++ rows_found left ≡ found → IsStopped found e
+stopped found rows left rest s e is err parts =
     IsStopped.behind rows (rows_found rest)
-    (ap (λ (r : Result (List (Option Cost)) RouteError). map (λ (l : List (Option Cost)). let q : Result (List (Option Cost)) RouteError = Ok l in q) rows ++ r ∷ rows_found rest) (sym err)
-    ∙ ap (λ (l : List Search). map (λ (x : List (Option Cost)). let q : Result (List (Option Cost)) RouteError = Ok x in q) rows ++ rows_found l) (sym is) ∙ parts)
+    (ap (λ (r : Result (List (Option Cost)) RouteError). oks rows ++ r ∷ rows_found rest) (sym err)
+    ∙ ap (λ (l : List Search). oks rows ++ rows_found l) (sym is) ∙ parts)
 
 -- each search is from a node of hosts
-pub to_search : (nodes ids : List ℕ) (ss : List Search) → map (λ (s : Search). s.from) ss ≡ ids → ((id : ℕ) → Contains ids id ↔ Contains nodes id) → (k : ℕ) (d : Search) → k < length ss → IsToSearch nodes (slice_index_or ss k d)
-to_search nodes ids ss same all k d lt =
-    let within : k < length ids = omega (arith, lt, ap (λ (l : List ℕ). length l) same, length-map ss (λ (s : Search). s.from)) in
-    let is : get_or ids k 0 ≡ (slice_index_or ss k d).from = ap (λ (l : List ℕ). get_or l k 0) (sym same) ∙ get_or-map (λ (s : Search). s.from) ss k d 0 lt in
-    record { from = (all (slice_index_or ss k d).from).0 (subst (Contains ids) is (Contains-get_or ids k 0 within)) }
+part_all : (P : ℕ → Type 0) (stops : List ℕ) (n : ℕ) → All P stops → All P (take most_at_once (drop n stops))
+part_all P stops n all k d lt =
+    let few : k < most_at_once = omega (arith, lt, length-take most_at_once (drop n stops)) in
+    let within : n + k < length stops = omega (arith, lt, length-take most_at_once (drop n stops), length-drop n stops) in
+    subst P (sym (get_or-take most_at_once (drop n stops) k d few ∙ get_or-drop n stops k d)) (all (n + k) d within)
 
--- the error is that of the search behind the rows
-pub refused_behind : (g : Graph) (net : Net) (nodes stops : List ℕ) (shortest : Bool) (ss : List Search) (e : RouteError) → IsStrictlyIncreasing stops → ((id : ℕ) → Contains stops id ↔ Contains nodes id)
-    → IsNet (hops g) net.places net.rows.items → AllFound net nodes stops shortest ss → map (λ (s : Search). s.from) ss ≡ stops → IsStopped (rows_found ss) e → IsRefusal g shortest nodes e
-refused_behind g net nodes stops shortest ss e up all is found same (IsStopped.want memory) = let P : RouteError → Type 0 = λ x. IsRefusal g shortest nodes x in subst P (sym memory) tt
-refused_behind g net nodes stops shortest ss e up all is found same (IsStopped.behind rows rest parts) =
-    let oks : List (Result (List (Option Cost)) RouteError) = map (λ (l : List (Option Cost)). let r : Result (List (Option Cost)) RouteError = Ok l in r) rows in
+pub to_search : (nodes stops part : List ℕ) (n : ℕ) (ss : List Search) → All (Contains nodes) stops → part ≡ take most_at_once (drop n stops) → map (λ (s : Search). s.from) ss ≡ part → (k : ℕ) (d : Search) → k < length ss → IsToSearch nodes (slice_index_or ss k d)
+to_search nodes stops part n ss all next same k d lt =
+    let within : k < length part = omega (arith, lt, ap (λ (l : List ℕ). length l) same, length-map ss (λ (s : Search). s.from)) in
+    let is : get_or part k 0 ≡ (slice_index_or ss k d).from = ap (λ (l : List ℕ). get_or l k 0) (sym same) ∙ get_or-map (λ (s : Search). s.from) ss k d 0 lt in
+    record { from = subst (Contains nodes) is (subst (λ (l : List ℕ). All (Contains nodes) l) (sym next) (part_all (Contains nodes) stops n all) k 0 within) }
+
+-- REFUSALS
+
+-- the error is that of the node behind the rows
+refused_behind : (g : Graph) (net : Net) (nodes stops : List ℕ) (shortest : Bool) (found : List (Result (List (Option Cost)) RouteError)) (e : RouteError) → IsStrictlyIncreasing stops → ((id : ℕ) → Contains stops id ↔ Contains nodes id)
+    → IsNet (hops g) net.places net.rows.items → AreFound net nodes stops shortest found → IsStopped found e → IsRefusal g shortest nodes e
+refused_behind g net nodes stops shortest found e up all is are (IsStopped.want memory) = let P : RouteError → Type 0 = λ x. IsRefusal g shortest nodes x in subst P (sym memory) tt
+refused_behind g net nodes stops shortest found e up all is are (IsStopped.behind rows rest parts) =
     let i : ℕ = length rows in
-    let long : length oks ≡ i = length-map rows (λ (l : List (Option Cost)). let r : Result (List (Option Cost)) RouteError = Ok l in r) in
-    let size : length oks + (length rest + 1) ≡ length ss =
-    omega (arith, length-append oks (Err e ∷ rest), ap (λ (l : List (Result (List (Option Cost)) RouteError)). length l) parts, length-map ss (λ (s : Search). s.row)) in
-    let there : i < length ss = omega (arith, long, size) in
-    let err : (slice_index_or ss i none).row ≡ Err e =
-    sym (get_or-map (λ (s : Search). s.row) ss i none (Err errors.NoMemory) there)
-    ∙ ap (λ (l : List (Result (List (Option Cost)) RouteError)). get_or l i (Err errors.NoMemory)) (sym parts)
-    ∙ ap (λ (n : ℕ). get_or (oks ++ Err e ∷ rest) n (Err errors.NoMemory)) (sym long)
-    ∙ get_or-append_seam oks (Err e) rest (Err errors.NoMemory) in
-    let from : ℕ = (slice_index_or ss i none).from in
-    let long_stops : length stops ≡ length ss = sym (ap (λ (l : List ℕ). length l) same) ∙ length-map ss (λ (s : Search). s.from) in
-    let at : IsAt stops i from = record {
-      within = omega (arith, there, long_stops);
-      is = ap (λ (l : List ℕ). get_or l i 0) (sym same) ∙ get_or-map (λ (s : Search). s.from) ss i none 0 there;
-    } in
-    refused_at g net nodes stops shortest (slice_index_or ss i none).row rows i from e up all is at
-    (below_found g net nodes stops shortest ss rows (Err e ∷ rest) i is found same parts (omega arith)) (found i none there) err
+    let long : length (oks rows) ≡ i = as_many_oks rows in
+    let there : i < length found = omega (arith, long, length-append (oks rows) (Err e ∷ rest), ap (λ (l : List (Result (List (Option Cost)) RouteError)). length l) parts) in
+    let err : get_or found i none ≡ Err e =
+    ap (λ (l : List (Result (List (Option Cost)) RouteError)). get_or l i none) (sym parts)
+    ∙ ap (λ (n : ℕ). get_or (oks rows ++ Err e ∷ rest) n none) (sym long)
+    ∙ get_or-append_seam (oks rows) (Err e) rest none in
+    let from : ℕ = get_or stops i 0 in
+    let at : IsAt stops i from = record { within = omega (arith, there, are.few); is = refl } in
+    refused_at g net nodes stops shortest (get_or found i none) rows i from e up all is at
+    (below_found g net nodes stops shortest rows (Err e ∷ rest) found i is are parts (omega arith)) (are.each i from none there at) err
 
-abbrev pub oks : List (List (Option Cost)) → List (Result (List (Option Cost)) RouteError)
-oks rows = map (λ (l : List (Option Cost)). let r : Result (List (Option Cost)) RouteError = Ok l in r) rows
+pub refused_in : (g : Graph) (net : Net) (nodes stops : List ℕ) (shortest : Bool) (e : RouteError) → IsStrictlyIncreasing stops → ((id : ℕ) → Contains stops id ↔ Contains nodes id)
+    → IsNet (hops g) net.places net.rows.items → IsRefused net nodes stops shortest e → IsRefusal g shortest nodes e
+refused_in g net nodes stops shortest e up all is h = refused_behind g net nodes stops shortest h.found e up all is h.are h.stopped
 
--- all searches were made from the stops, and gave these rows
-pub record AreRowsFound (g : Graph) (net : Net) (nodes stops ids : List ℕ) (shortest : Bool) (ss : List Search) (rows : List (List (Option Cost))) : Type 0 where
+-- THE TABLE
+
+-- these rows were found from all stops
+pub record AreRowsFound (g : Graph) (net : Net) (nodes stops ids : List ℕ) (shortest : Bool) (rows : List (List (Option Cost))) : Type 0 where
   pub is : ids ≡ stops
   pub net_is : IsNet (hops g) net.places net.rows.items
-  pub found : AllFound net nodes ids shortest ss
-  pub from : map (λ (s : Search). s.from) ss ≡ ids
-  pub parts : oks rows ≡ rows_found ss
+  pub found : AreFound net nodes ids shortest (oks rows)
+  pub all : length rows ≡ length ids
 
-module _ (g : Graph) (net : Net) (nodes stops ids : List ℕ) (shortest : Bool) (ss : List Search) (rows : List (List (Option Cost))) (h : AreRowsFound g net nodes stops ids shortest ss rows) where
-  as_many : length rows ≡ length stops
-  as_many =
-      omega (
-        arith,
-        ap (λ (l : List ℕ). length l) h.is,
-        ap (λ (l : List ℕ). length l) h.from,
-        length-map ss (λ (s : Search). s.from),
-        ap (λ (l : List (Result (List (Option Cost)) RouteError)). length l) h.parts,
-        length-map ss (λ (s : Search). s.row),
-        length-map rows (λ (l : List (Option Cost)). let r : Result (List (Option Cost)) RouteError = Ok l in r),
-      )
+module _ (g : Graph) (net : Net) (nodes stops ids : List ℕ) (shortest : Bool) (rows : List (List (Option Cost))) (h : AreRowsFound g net nodes stops ids shortest rows) where
+  as_many_rows : length rows ≡ length stops
+  as_many_rows = h.all ∙ ap (λ (l : List ℕ). length l) h.is
 
   all_below : HasRoutesBelow (length rows) g shortest nodes stops rows
   all_below =
       let B : List ℕ → Type 0 = λ xs. HasRoutesBelow (length rows) g shortest nodes xs rows in
-      subst B h.is (below_found g net nodes ids shortest ss rows [] (length rows) h.net_is h.found h.from (append-nil (oks rows) ∙ h.parts) (omega arith))
+      subst B h.is (below_found g net nodes ids shortest rows [] (oks rows) (length rows) h.net_is h.found (append-nil (oks rows)) (omega arith))
 
   -- each route that hosts need is there
   pub whole_found : IsStrictlyIncreasing stops → ((id : ℕ) → Contains stops id ↔ Contains nodes id) → (a b : ℕ) → IsNeeded nodes a b → (c : Cost) × (route_at stops rows a b ≡ Some c) × IsRoute g shortest a b c
-  whole_found up all a b need = routes_whole g shortest nodes stops rows (length rows) up all (omega (arith, as_many)) all_below a b need
+  whole_found up all a b need = routes_whole g shortest nodes stops rows (length rows) up all (omega (arith, as_many_rows)) all_below a b need
 
   -- and each that is kept is a route
   pub sound_found : (a b : ℕ) (c : Cost) → route_at stops rows a b ≡ Some c → IsRoute g shortest a b c
-  sound_found = routes_sound g shortest nodes stops rows (length rows) (omega (arith, as_many)) all_below
+  sound_found = routes_sound g shortest nodes stops rows (length rows) (omega (arith, as_many_rows)) all_below
 
   -- at each pair of places
   pub table_found : IsStrictlyIncreasing stops → ((id : ℕ) → Contains stops id ↔ Contains nodes id) → IsTable g shortest nodes (record { stops = stops; rows = rows })
   table_found up all = record {
     rising = up;
     stops = all;
-    height = as_many;
-    width = λ i a at. (all_below i a (omega (arith, at.within, as_many)) at).size;
-    each = λ i j a b at there. (all_below i a (omega (arith, at.within, as_many)) at).each j b there;
+    height = as_many_rows;
+    width = λ i a at. (all_below i a (omega (arith, at.within, as_many_rows)) at).size;
+    each = λ i j a b at there. (all_below i a (omega (arith, at.within, as_many_rows)) at).each j b there;
   }

@@ -1,5 +1,7 @@
 pub mod ListLemmas
 pub mod CostLemmas
+pub mod NumberLemmas
+pub mod KeptRowLemmas
 pub mod FoundLemmas
 pub mod SearchLemmas
 pub mod HopLemmas

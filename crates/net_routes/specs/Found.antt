@@ -8,6 +8,7 @@ use Rattle.net_routes.specs.declared.net.Net.{Net}
 use Rattle.net_routes.specs.declared.hop.Hop.{Hop}
 use Rattle.net_routes.specs.Walk.{Goes}
 use Rattle.net_routes.specs.Path.{AreArcs, IsBest}
+use Rattle.net_routes.specs.Needed.{IsAt}
 use Rattle.net_routes.specs.Net.{IsNet}
 use Rattle.net_routes.specs.RouteRows.{IsRouteRow, NamesLack}
 
@@ -54,7 +55,26 @@ AreSearched net nodes stops shortest old new =
 abbrev pub rows_found : List Search → List (Result (List (Option Cost)) RouteError)
 rows_found searches = map (λ (s : Search). s.row) searches
 
+-- rows that were found
+abbrev pub oks : List (List (Option Cost)) → List (Result (List (Option Cost)) RouteError)
+oks rows = map (λ (row : List (Option Cost)). let r : Result (List (Option Cost)) RouteError = Ok row in r) rows
+
 -- memory ran out, or this is the error behind rows that were found
 pub data IsStopped (found : List (Result (List (Option Cost)) RouteError)) (e : RouteError) : Type 0 where
   want : e ≡ errors.NoMemory → IsStopped found e
-  behind : (rows : List (List (Option Cost))) (rest : List (Result (List (Option Cost)) RouteError)) → map Ok rows ++ Err e ∷ rest ≡ found → IsStopped found e
+  behind : (rows : List (List (Option Cost))) (rest : List (Result (List (Option Cost)) RouteError)) → oks rows ++ Err e ∷ rest ≡ found → IsStopped found e
+
+-- from so many nodes at most rows are found at once
+abbrev pub most_at_once : ℕ
+most_at_once = 256
+
+-- what was found from the first nodes, node by node
+pub record AreFound (net : Net) (nodes stops : List ℕ) (shortest : Bool) (found : List (Result (List (Option Cost)) RouteError)) : Type 0 where
+  pub few : length found ≤ length stops
+  pub each : (i from : ℕ) (r : Result (List (Option Cost)) RouteError) → i < length found → IsAt stops i from → IsFound net nodes stops shortest from (slice_index_or found i r)
+
+-- the first error from these nodes, or memory ran out
+pub record IsRefused (net : Net) (nodes stops : List ℕ) (shortest : Bool) (e : RouteError) : Type 0 where
+  pub found : List (Result (List (Option Cost)) RouteError)
+  pub are : AreFound net nodes stops shortest found
+  pub stopped : IsStopped found e

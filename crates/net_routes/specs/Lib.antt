@@ -6,6 +6,8 @@ pub mod Path
 pub mod Net
 pub mod Search
 pub mod RouteRows
+pub mod Numbers
+pub mod KeptRows
 pub mod Routes
 pub mod Table
 pub mod Least

@@ -6,7 +6,7 @@ ghost use Rattle.net_routes.specs.Cost.{nothing, and_then, IsAsGood};
 
 /// What a walk costs: the sum of its latencies in nanoseconds, and what arrives of 10^9 that are
 /// sent.
-#[derive(Clone, Copy, PartialEq, Eq)]
+#[derive(Clone, Copy, PartialEq, Eq, Hash)]
 pub struct Cost {
     pub latency: u64,
     pub reliability: u32,

@@ -1,7 +1,7 @@
 //! Finds the routes that hosts need.
 
-ghost use Rattle.std.specs.Prelude.{◌≡◌, ◌<◌, All, Contains, IfOk, IfErr, Ok, map};
-ghost use Rattle.net_routes.specs.Found.{IsReady, AreStops, IsToSearch, IsFound, IsSearched, AreSearched, rows_found, IsStopped};
+ghost use Rattle.std.specs.Prelude.{◌≡◌, ◌<◌, ◌++◌, All, Contains, IfOk, IfErr, OnOk, length, map, take, drop};
+ghost use Rattle.net_routes.specs.Found.{most_at_once, IsReady, AreStops, IsToSearch, IsFound, IsSearched, AreSearched, oks, rows_found, IsStopped, AreFound, IsRefused};
 ghost use Rattle.net_routes.specs.Routes.{HasRoutes, AreRoutes, AreSound, IsRefusal};
 ghost use Rattle.net_routes.specs.Table.{IsTable};
 
@@ -16,6 +16,9 @@ use gml_graph::Graph;
 use sim_base::NoMemory;
 use std::alloc::Global;
 use std::thread::{Threads, for_each_mut};
+
+/// From so many nodes at most rows are found at once.
+const AT_ONCE: usize = 256;
 
 /// A node, and the costs of the routes from it once they are found.
 #[derive(Drop)]
@@ -128,15 +131,86 @@ fn searches_from(alloc: Global, stops: &[u32]) -> Result<Vec<Search>, NoMemory>
     Ok(searches)
 }
 
-/// The rows that were found, or the first error.
-fn found_rows(alloc: Global, searches: Vec<Search>) -> Result<Vec<RouteRow>, RouteError>
-    ensures ok { IfOk result (λ rows. map Ok rows.items ≡ rows_found searches.items) }
-    ensures err { IfErr result (IsStopped (rows_found searches.items)) }
+/// The next of the nodes behind so many.
+fn next_stops(stops: &[u32], before: usize) -> &[u32]
+    requires { before < length stops.now }
+    ensures some { 0 < length result.now }
+    ensures next { result.now ≡ take most_at_once (drop before stops.now) }
 {
-    let mut rows = Vec::with_capacity(alloc, searches.len())?;
+    let rest = &stops[before..];
+    let (next, _) = rest.split_at(AT_ONCE.min(rest.len()));
+    next
+}
+
+/// Adds the rows that were found, up to the first error.
+fn add_found(alloc: Global, searches: Vec<Search>, rows: &mut RouteRows) -> Result<(), RouteError>
+    ensures ok { OnOk result (oks rows.new ≡ oks rows.old ++ rows_found searches.items) }
+    ensures err { IfErr result (IsStopped (oks rows.old ++ rows_found searches.items)) }
+{
     for each in searches {
-        rows.push(each.row?)?;
+        rows.push(alloc, each.row?)?;
     }
+    Ok(())
+}
+
+/// Finds the rows from the next nodes. Only these are kept as they were found for a while: the
+/// others need less room.
+fn find_next<R: Threads + Sync>(
+    rt: &R,
+    alloc: Global,
+    net: &Net,
+    nodes: &[u32],
+    stops: &[u32],
+    shortest: bool,
+    workers: u32,
+    rows: &mut RouteRows,
+) -> Result<(), RouteError>
+    requires net { IsReady net.now }
+    requires stops { AreStops nodes.now stops.now }
+    requires workers { 0 < workers }
+    requires left { length rows.old < length stops.now }
+    requires found { AreFound net.now nodes.now stops.now shortest (oks rows.old) }
+    ensures ok { OnOk result (AreFound net.now nodes.now stops.now shortest (oks rows.new)) }
+    ensures more { OnOk result (length rows.old < length rows.new) }
+    ensures err { IfErr result (IsRefused net.now nodes.now stops.now shortest) }
+{
+    let mut searches = searches_from(alloc, next_stops(stops, rows.len()))?;
+    search_all(
+        rt,
+        alloc,
+        net,
+        nodes,
+        stops,
+        shortest,
+        workers,
+        &mut searches,
+    );
+    add_found(alloc, searches, rows)
+}
+
+/// Finds the rows from all nodes of hosts.
+fn find_rows<R: Threads + Sync>(
+    rt: &R,
+    alloc: Global,
+    net: &Net,
+    nodes: &[u32],
+    stops: &[u32],
+    shortest: bool,
+    workers: u32,
+) -> Result<RouteRows, RouteError>
+    requires net { IsReady net.now }
+    requires stops { AreStops nodes.now stops.now }
+    requires workers { 0 < workers }
+    ensures ok { IfOk result
+        (λ rows. AreFound net.now nodes.now stops.now shortest (oks rows)) }
+    ensures all { IfOk result (λ rows. length rows ≡ length stops.now) }
+    ensures err { IfErr result (IsRefused net.now nodes.now stops.now shortest) }
+{
+    let mut rows = RouteRows::new(alloc);
+    while rows.len() < stops.len() {
+        find_next(rt, alloc, net, nodes, stops, shortest, workers, &mut rows)?;
+    }
+    rows.settle(alloc);
     Ok(rows)
 }
 
@@ -164,20 +238,6 @@ pub fn routes<R: Threads + Sync>(
     let net = Net::new(alloc, hops.as_slice())?;
     let stops = NodeIds::from(Vec::from_slice(alloc, nodes)?);
     let ids = stops.as_slice();
-    let mut searches = searches_from(alloc, ids)?;
-    search_all(
-        rt,
-        alloc,
-        &net,
-        nodes,
-        ids,
-        shortest,
-        workers,
-        &mut searches,
-    );
-    let rows = found_rows(alloc, searches)?;
-    Ok(Routes {
-        stops,
-        rows: RouteRows::from(rows),
-    })
+    let rows = find_rows(rt, alloc, &net, nodes, ids, shortest, workers)?;
+    Ok(Routes { stops, rows })
 }

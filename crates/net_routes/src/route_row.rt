@@ -1,6 +1,6 @@
 //! The costs of the routes from one node.
 
-ghost use Rattle.std.specs.Prelude.{◌≡◌, count_by, ◌==◌, Contains, All, MatchBool, IfOk, IfErr, OnErr, IsSome, None, slice_index_or};
+ghost use Rattle.std.specs.Prelude.{◌≡◌, count_by, ◌==◌, length, Contains, All, MatchBool, IfOk, IfErr, OnErr, IsSome, None, slice_index_or};
 ghost use Rattle.net_routes.specs.Needed.{IsNeeded};
 ghost use Rattle.net_routes.specs.Net.{cost_to};
 ghost use Rattle.net_routes.specs.RouteRows.{IsRouteRow, NamesLack};
@@ -29,6 +29,12 @@ impl Model for RouteRow {
 }
 
 impl RouteRow {
+    pub fn len(&self) -> usize
+        ensures { result ≡ length self.now }
+    {
+        self.costs.len()
+    }
+
     /// The cost at a place, if there is one.
     pub fn get(&self, place: usize) -> Option<Cost>
         ensures { result ≡ slice_index_or self.now place None }

@@ -1,4 +1,4 @@
-use Rattle.std.proofs.Common.{ℕ, List, refl, sym, ap, ◌∙◌, subst}
+use Rattle.std.proofs.Common.{ℕ, List, refl, sym, ◌∙◌, subst}
 use Rattle.std.specs.Prelude.{◌↔◌, Contains}
 use Rattle.std.proofs.lemmas.List.Elements.{Contains-get_or}
 use Rattle.std.proofs.lemmas.Result.{err_from_is_err_and}
@@ -8,24 +8,17 @@ use Rattle.net_routes.specs.Walk.{hops}
 use Rattle.net_routes.specs.Net.{IsNet}
 use Rattle.net_routes.specs.Routes.{route_at}
 use Rattle.net_routes.proofs.RouteLemmas.{some_route, some_there, stops_of}
-use Rattle.net_routes.proofs.FoundLemmas.{AreRowsFound, oks, all_made, to_search, refused_behind, whole_found, sound_found, table_found}
+use Rattle.net_routes.proofs.FoundLemmas.{AreRowsFound, refused_in, whole_found, sound_found, table_found}
 use Rattle.net_routes.proofs.finding.routes.Goals as goal
 
-pub search_all-requires-clause-stops : goal.search_all-requires-clause-stops
-search_all-requires-clause-stops g c κs within =
+pub find_rows-requires-clause-stops : goal.find_rows-requires-clause-stops
+find_rows-requires-clause-stops g c κs within =
     let ids = c.as_slice-ids.result.now in
     let all = stops_of ids c.from-stops.result c.in_ok-from_slice.field-0.items c.args.nodes.now c.as_slice-ids.ensures.ids c.in_ok-from_slice.ensures.items c.from-stops.ensures.ids in
     record { each = λ k d lt. (all _).0 (Contains-get_or ids k d lt) }
 
-pub search_all-requires-clause-from : goal.search_all-requires-clause-from
-search_all-requires-clause-from g c κs within =
-    let ids = c.as_slice-ids.result.now in
-    let all = stops_of ids c.from-stops.result c.in_ok-from_slice.field-0.items c.args.nodes.now c.as_slice-ids.ensures.ids c.in_ok-from_slice.ensures.items c.from-stops.ensures.ids in
-    to_search c.args.nodes.now ids c.in_ok-searches.searches.items c.in_ok-searches.ensures all
-
 pub returns-in_err-rows-clause-err : goal.returns-in_err-rows-clause-err
 returns-in_err-rows-clause-err g c =
-    let p = err_from_is_err_and c.from_residual-in_err-rows.result c.from_residual-in_err-rows.ensures.1 in
     let graph = c.args.graph.now in
     let nodes = c.args.nodes.now in
     let ids = c.as_slice-ids.result.now in
@@ -33,23 +26,18 @@ returns-in_err-rows-clause-err g c =
     let U : List ℕ → Type 0 = λ xs. IsStrictlyIncreasing xs in
     let N : List Hop → Type 0 = λ ss. IsNet ss c.in_ok-net.net.places c.in_ok-net.net.rows.items in
     let net : IsNet (hops graph) c.in_ok-net.net.places c.in_ok-net.net.rows.items = subst N (c.as_slice.ensures.value ∙ c.in_ok-hops.ensures.hops) c.in_ok-net.ensures.net in
-    let made = all_made c.in_ok-net.net nodes ids c.args.shortest _ _ c.search_all.ensures in
-    let from = made.1 ∙ c.in_ok-searches.ensures in
-    rw (p.1, p.2) (refused_behind graph c.in_ok-net.net nodes ids c.args.shortest _ c.in_err-rows.field-0.0 (subst U (sym c.as_slice-ids.ensures.ids) c.as_slice-ids.ensures.rising) all net made.0 from c.in_err-rows.ensures.err)
+    let p = err_from_is_err_and c.from_residual-in_err-rows.result c.from_residual-in_err-rows.ensures.1 in
+    rw (p.1, p.2) (refused_in graph c.in_ok-net.net nodes ids c.args.shortest c.in_err-rows.field-0.0 (subst U (sym c.as_slice-ids.ensures.ids) c.as_slice-ids.ensures.rising) all net c.in_err-rows.ensures.err)
 
 -- the rows that are kept
-rows_are : (g : _) (c : goal.After-drop-hops-2 g) → AreRowsFound c.args.graph.now c.in_ok-net.net c.args.nodes.now c.from-stops.result c.as_slice-ids.result.now c.args.shortest c.search_all.new.searches.items c.from.result
+rows_are : (g : _) (c : goal.After-drop-hops-2 g) → AreRowsFound c.args.graph.now c.in_ok-net.net c.args.nodes.now c.from-stops.result c.as_slice-ids.result.now c.args.shortest c.in_ok-rows.rows
 rows_are g c =
-    let nodes = c.args.nodes.now in
-    let ids = c.as_slice-ids.result.now in
     let N : List Hop → Type 0 = λ ss. IsNet ss c.in_ok-net.net.places c.in_ok-net.net.rows.items in
-    let made = all_made c.in_ok-net.net nodes ids c.args.shortest _ _ c.search_all.ensures in
     record {
       is = c.as_slice-ids.ensures.ids;
       net_is = subst N (c.as_slice.ensures.value ∙ c.in_ok-hops.ensures.hops) c.in_ok-net.ensures.net;
-      found = made.0;
-      from = made.1 ∙ c.in_ok-searches.ensures;
-      parts = ap oks c.from.ensures ∙ c.in_ok-rows.ensures.ok;
+      found = c.in_ok-rows.ensures.ok;
+      all = c.in_ok-rows.ensures.all;
     }
 
 stops_are : (g : _) (c : goal.After-drop-hops-2 g) → (id : ℕ) → Contains c.from-stops.result id ↔ Contains c.args.nodes.now id
@@ -57,16 +45,16 @@ stops_are g c = stops_of c.from-stops.result c.from-stops.result c.in_ok-from_sl
 
 pub returns-clause-ok : goal.returns-clause-ok
 returns-clause-ok g c a b need =
-    let w = whole_found _ _ _ _ _ _ _ _ (rows_are g c) c.as_slice-ids.ensures.rising (stops_are g c) a b need in
-    some_route c.args.graph.now c.args.shortest a b (route_at c.from-stops.result c.from.result a b) w
+    let w = whole_found _ _ _ _ _ _ _ (rows_are g c) c.as_slice-ids.ensures.rising (stops_are g c) a b need in
+    some_route c.args.graph.now c.args.shortest a b (route_at c.from-stops.result c.in_ok-rows.rows a b) w
 
 pub returns-clause-whole : goal.returns-clause-whole
 returns-clause-whole g c a b need =
-    let w = whole_found _ _ _ _ _ _ _ _ (rows_are g c) c.as_slice-ids.ensures.rising (stops_are g c) a b need in
-    some_there (route_at c.from-stops.result c.from.result a b) w.0 w.1
+    let w = whole_found _ _ _ _ _ _ _ (rows_are g c) c.as_slice-ids.ensures.rising (stops_are g c) a b need in
+    some_there (route_at c.from-stops.result c.in_ok-rows.rows a b) w.0 w.1
 
 pub returns-clause-sound : goal.returns-clause-sound
-returns-clause-sound g c = sound_found _ _ _ _ _ _ _ _ (rows_are g c)
+returns-clause-sound g c = sound_found _ _ _ _ _ _ _ (rows_are g c)
 
 pub returns-clause-table : goal.returns-clause-table
-returns-clause-table g c = table_found _ _ _ _ _ _ _ _ (rows_are g c) c.as_slice-ids.ensures.rising (stops_are g c)
+returns-clause-table g c = table_found _ _ _ _ _ _ _ (rows_are g c) c.as_slice-ids.ensures.rising (stops_are g c)

@@ -36,6 +36,11 @@ returns-in_err-images-clause-told g c =
     (subst (λ (ps : List (List ℕ)). images held ps (Err c.in_err-images.field-0.0)) e h))
     c.in_err-images.ensures.told)
 
+pub returns-in_err-hosts_text-clause-told : goal.returns-in_err-hosts_text-clause-told
+returns-in_err-hosts_text-clause-told g c =
+    let p = err_from_is_err_and c.from_residual-in_err-hosts_text.result c.from_residual-in_err-hosts_text.ensures.1 in rw (p.1, p.2)
+    (always_told (g.S.Source.held c.args.source.now) (λ held. rows_stop held c.args.name.now c.args.graph.now c.args.config _ (rows_lack_memory c.args.name.now c.args.graph.now c.args.config.hosts)))
+
 pub returns-clause-told : goal.returns-clause-told
 returns-clause-told g c =
     let n : c.deref-2.result.now ≡ nodes_of c.in_ok-rows.rows = c.deref-2.ensures.value ∙ (c.in_ok-nodes.ensures ∙ ap nodes_of c.as_slice-2.ensures) in

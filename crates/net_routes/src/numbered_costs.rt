@@ -1,0 +1,102 @@
+//! Costs under numbers.
+
+ghost use Rattle.std.specs.Prelude.{◌≡◌, [], IfOk, IfSome, Some, None, map, slice_get, slice_index_or};
+ghost use Rattle.net_routes.specs.Numbers.{KeepNumbers};
+
+use crate::cost::Cost;
+use crate::kept::Kept;
+use crate::route_row::RouteRow;
+use sim_base::NoMemory;
+use std::alloc::Global;
+use std::collections::HashMap;
+use std::marker::Model;
+
+/// Costs under numbers, the number of each being its index. A number takes two bytes, so there are
+/// at most 65,536.
+#[derive(Drop)]
+pub struct NumberedCosts {
+    costs: Vec<Kept>,
+    numbers: HashMap<Option<Cost>, u16>,
+}
+
+impl Model for NumberedCosts {
+    ghost use Rattle.std.specs.Prelude.{List, Option};
+    ghost use Rattle.std.specs.Option.{option_eq};
+    ghost use Rattle.std.specs.HashMap.{get};
+    ghost use Rattle.net_routes.specs.declared.cost.Cost.{Cost};
+    ghost use Rattle.net_routes.specs.Numbers.{same_cost, AreNumbers};
+
+    ghost Value = { List (Option Cost) };
+
+    ghost view = { λ n. n.costs.items };
+
+    ghost invariant = { λ n. AreNumbers n.costs.items (get (option_eq same_cost) n.numbers) };
+}
+
+impl NumberedCosts {
+    pub fn new(alloc: Global) -> NumberedCosts
+        ensures { result ≡ [] }
+    {
+        NumberedCosts {
+            costs: Vec::new(alloc),
+            numbers: HashMap::new(alloc),
+        }
+    }
+
+    /// The cost under a number, if there is one.
+    pub fn get(&self, number: u16) -> Option<Cost>
+        ensures { result ≡ slice_index_or self.now number None }
+    {
+        let place = number as usize;
+        if place < self.costs.len() {
+            self.costs[place].get()
+        } else {
+            None
+        }
+    }
+
+    /// The number of a cost. One that has none gets the next, and nothing where all are taken.
+    fn number_of(&mut self, cost: Option<Cost>) -> Result<Option<u16>, NoMemory>
+        ensures number { IfOk result (λ o. IfSome o (λ n. slice_get self.new n ≡ Some cost)) }
+        ensures kept { KeepNumbers self.old self.new }
+    {
+        if let Some(number) = self.numbers.get(&cost).copied() {
+            return Ok(Some(number));
+        }
+        match u16::try_from(self.costs.len()) {
+            Ok(number) => {
+                self.costs.push(Kept::from(cost))?;
+                self.numbers.insert(cost, number)?;
+                Ok(Some(number))
+            }
+            Err(_) => Ok(None),
+        }
+    }
+
+    /// The numbers of the costs of a row, or nothing where numbers don't last.
+    pub fn numbers_of(
+        &mut self,
+        alloc: Global,
+        row: &RouteRow,
+    ) -> Result<Option<Vec<u16>>, NoMemory>
+        ensures numbers { IfOk result
+            (λ o. IfSome o (λ numbers. map (slice_get self.new) numbers.items ≡ map Some row.now)) }
+        ensures kept { KeepNumbers self.old self.new }
+    {
+        let mut numbers = Vec::with_capacity(alloc, row.len())?;
+        for place in 0..row.len() {
+            match self.number_of(row.get(place))? {
+                Some(number) => numbers.push(number)?,
+                None => return Ok(None),
+            }
+        }
+        Ok(Some(numbers))
+    }
+
+    /// Lets go of what only new costs would need.
+    pub fn settle(&mut self, alloc: Global)
+        ensures { self.new ≡ self.old }
+    {
+        self.numbers = HashMap::new(alloc);
+    }
+}
