@@ -16,3 +16,6 @@ pub mod FirstAmong
 pub mod AnyPlace
 pub mod Telling
 pub mod Going
+pub mod RoomKnown
+pub mod PortsCounted
+pub mod PortsMet

@@ -23,3 +23,4 @@ pub mod Indexing
 pub mod Records
 pub mod Streams
 pub mod Told
+pub mod Given

@@ -1,9 +1,10 @@
 //! Calls that bind TCP sockets, and make them listen.
 
 use crate::error::{CallError, Refusal};
+use crate::index::NO_PLACE;
 use crate::sockets::Sockets;
 use crate::tcp_sock::TcpSock;
-use sim_base::{Addr, Errno, Ip, is_taken, with_port};
+use sim_base::{Addr, Errno, Ip};
 use sock_tcp::Listener;
 use std::alloc::Global;
 
@@ -92,13 +93,11 @@ impl Sockets {
         ensures { (t : SocketsRecord) → Stand self.now t → Asks (bind_asked k at t) result }
     {
         self.may_bind(k, at)?;
-        let ends = self.tcp_ends()?;
-        let end = match with_port(ends.as_slice(), at) {
+        let end = match self.end_asked(at)? {
             Some(end) => end,
             None => return Err(CallError::Refused(Refusal::Errno(Errno::Eaddrnotavail))),
         };
-        let bound = self.bound_ends()?;
-        if is_taken(bound.as_slice(), end) {
+        if self.is_met(at, end)? {
             return Err(CallError::Refused(Refusal::Errno(Errno::Eaddrinuse)));
         }
         Ok(end)
@@ -127,6 +126,7 @@ impl Sockets {
     pub fn bind_tcp(&mut self, k: usize, at: Addr) -> Result<(), CallError>
         ensures { (t : SocketsRecord) → Stand self.old t → Becomes (binds_tcp k at t) t self.new result }
     {
+        self.turn_to(NO_PLACE);
         let end = self.end_to_bind(k, at)?;
         self.bind_at(k, end);
         Ok(())
@@ -174,6 +174,7 @@ impl Sockets {
     pub fn listen_tcp(&mut self, k: usize, backlog: i32) -> Result<(), CallError>
         ensures { (t : SocketsRecord) → Stand self.old t → Becomes (listens_tcp k backlog t) t self.new result }
     {
+        self.turn_to(NO_PLACE);
         let at = self.end_to_listen(k)?;
         self.listen_at(k, at, backlog);
         Ok(())

@@ -1,6 +1,7 @@
 //! Calls that connect TCP sockets, and errors of connections.
 
 use crate::error::{CallError, Refusal};
+use crate::index::NO_PLACE;
 use crate::outlet::Outlet;
 use crate::reply::Reply;
 use crate::sockets::Sockets;
@@ -122,6 +123,7 @@ impl Sockets {
         ensures { (t : SocketsRecord) → Stand self.old t
             → Answers (connects hosts.now now k to t outlet.old) t outlet.old self.new outlet.new result }
     {
+        self.turn_to(NO_PLACE);
         let own = self.end_to_connect(hosts, k, to)?;
         self.make_room()?;
         self.open_at(outlet, now, k, own, to)?;

@@ -1,10 +1,23 @@
 //! The ends that the sockets of a host have.
 
+ghost use Rattle.std.specs.Prelude.{◌≡◌, option_map};
+ghost use Rattle.sim_base.specs.Addresses.{at_port};
+
 use crate::error::{CallError, Refusal};
 use crate::slots::Sought;
 use crate::sockets::Sockets;
 use crate::tcp_sock::TcpSock;
-use sim_base::{Addr, Errno, Ip, NoMemory, at_free_port};
+use sim_base::{Addr, Errno, Ip, NoMemory, at_free_port, is_taken};
+
+/// An address at a port, if there is one.
+fn at_port(ip: Ip, port: Option<u16>) -> Option<Addr>
+    ensures { result ≡ option_map (at_port ip) port }
+{
+    match port {
+        Some(port) => Some(Addr { ip, port }),
+        None => None,
+    }
+}
 
 impl TcpSock {
     ghost use Rattle.std.specs.Prelude.{◌≡◌, ◌||◌, ◌++◌, OnOk};
@@ -42,7 +55,8 @@ impl TcpSock {
 }
 
 impl Sockets {
-    ghost use Rattle.std.specs.Prelude.{◌≡◌, IfOk};
+    ghost use Rattle.std.specs.Prelude.{◌≡◌, Some, IfOk};
+    ghost use Rattle.sim_base.specs.Addresses.{at_free_port, with_port, is_taken};
     ghost use Rattle.host_sockets.specs.Sockets.{SocketsRecord, bound_ends, tcp_ends, has_pair};
     ghost use Rattle.host_sockets.specs.Binding.{bound_to_use};
     ghost use Rattle.host_sockets.specs.StandsFor.{Stand, Asks};
@@ -56,7 +70,7 @@ impl Sockets {
     }
 
     /// The ends that TCP sockets are bound to.
-    pub(crate) fn bound_ends(&self) -> Result<Vec<Addr>, NoMemory>
+    fn bound_ends(&self) -> Result<Vec<Addr>, NoMemory>
         ensures { IfOk result (λ ends. (t : SocketsRecord) → Stand self.now t → ends.items ≡ bound_ends t) }
     {
         let mut ends = Vec::new(self.alloc());
@@ -67,7 +81,7 @@ impl Sockets {
     }
 
     /// The ends that TCP sockets and their connections have.
-    pub(crate) fn tcp_ends(&self) -> Result<Vec<Addr>, NoMemory>
+    fn tcp_ends(&self) -> Result<Vec<Addr>, NoMemory>
         ensures { IfOk result (λ ends. (t : SocketsRecord) → Stand self.now t → ends.items ≡ tcp_ends t) }
     {
         let mut ends = Vec::new(self.alloc());
@@ -75,6 +89,41 @@ impl Sockets {
             sock.add_ends(&mut ends)?;
         }
         Ok(ends)
+    }
+
+    /// An address at the least port from 10000 up that no TCP socket or connection has. Where a socket
+    /// acts now, the ends of each are looked at.
+    fn free_end(&self, ip: Ip) -> Result<Option<Addr>, NoMemory>
+        ensures { IfOk result (λ end. (t : SocketsRecord) → Stand self.now t → end ≡ at_free_port (tcp_ends t) ip) }
+    {
+        if let Some(port) = self.index.free_port(self.tcp.as_slice()) {
+            return Ok(at_port(ip, port));
+        }
+        let ends = self.tcp_ends()?;
+        Ok(at_free_port(ends.as_slice(), ip))
+    }
+
+    /// The end that is asked for, for port 0 at the least free port.
+    pub(crate) fn end_asked(&self, at: Addr) -> Result<Option<Addr>, NoMemory>
+        ensures { IfOk result (λ end. (t : SocketsRecord) → Stand self.now t → end ≡ with_port (tcp_ends t) at) }
+    {
+        if at.port == 0 {
+            let end = self.free_end(at.ip)?;
+            return Ok(end);
+        }
+        Ok(Some(at))
+    }
+
+    /// Whether a socket is bound to what stands in the way of an end that was asked for. For port 0
+    /// none is: no socket has the port.
+    pub(crate) fn is_met(&self, at: Addr, end: Addr) -> Result<bool, NoMemory>
+        ensures { IfOk result (λ met. (t : SocketsRecord) → Stand self.now t → with_port (tcp_ends t) at ≡ Some end → met ≡ is_taken (bound_ends t) end) }
+    {
+        if at.port == 0 {
+            return Ok(false);
+        }
+        let bound = self.bound_ends()?;
+        Ok(is_taken(bound.as_slice(), end))
     }
 
     /// What the TCP socket with a number is bound to, or else 0.0.0.0 and the least free port.
@@ -87,8 +136,7 @@ impl Sockets {
         if let Some(at) = self.tcp[k].bound {
             return Ok(at);
         }
-        let ends = self.tcp_ends()?;
-        match at_free_port(ends.as_slice(), Ip::ANY) {
+        match self.free_end(Ip::ANY)? {
             Some(at) => Ok(at),
             None => Err(CallError::Refused(Refusal::Errno(Errno::Eaddrnotavail))),
         }

@@ -3,9 +3,8 @@
 ghost use Rattle.std.proofs.Props.{props};
 ghost use Rattle.host_sockets.specs.Indexing.{Indexes};
 
-use crate::index::Index;
+use crate::index::{Index, NO_PLACE};
 use crate::rises::put_none;
-use crate::slots::{Sought, place_in};
 use crate::tcp_sock::TcpSock;
 use host_fds::Rises;
 use sim_base::{Ip, NoMemory};
@@ -90,7 +89,7 @@ impl Sockets {
     fn tcp_place(&self) -> usize
         ensures { (t : SocketsRecord) → Stand self.now t → result ≡ tcp_place t }
     {
-        place_in(self.tcp.as_slice(), Sought::Free).unwrap_or(self.tcp.len())
+        self.index.free_place(self.tcp.as_slice())
     }
 
     /// Puts a TCP socket at a place of the list.
@@ -137,6 +136,7 @@ impl Sockets {
         ensures stands { OnOk result ((t : SocketsRecord) (s : TcpSocket) → Stand self.old t → SocketStands sock s
             → Stand self.new (put_tcp s t)) }
     {
+        self.turn_to(NO_PLACE);
         let place = self.tcp_place();
         self.put_tcp_at(place, sock)?;
         Ok(place)

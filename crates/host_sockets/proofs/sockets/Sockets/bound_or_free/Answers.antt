@@ -26,16 +26,14 @@ returns-in-Some c = λ t h.
     asks_at c.args.self.now t c.args.k c.index.result.now (end_to_use t) (Ok c.in-Some.at) h (omega (arith, c.args.self.now.tcp.ok.0)) c.index.ensures
     (λ s stands. ap (λ (o : Option Addr). or_refuse (or_else o (at_free_port (tcp_ends t) any)) (refusal.Errno Eaddrnotavail)) (sym stands.bound ∙ c.in-Some.is))
 
-pub returns-in-Some-at_free_port : goal.returns-in-Some-at_free_port
-returns-in-Some-at_free_port c = λ t h.
-    let ends = c.as_slice.ensures.value ∙ c.in_ok-ends.ensures t h in
-    let free = sym c.in-Some-at_free_port.is ∙ (c.at_free_port.ensures ∙ ap (λ (xs : List Addr). at_free_port xs any) ends) in
-    asks_at c.args.self.now t c.args.k c.index.result.now (end_to_use t) (Ok c.in-Some-at_free_port.at) h (omega (arith, c.args.self.now.tcp.ok.0)) c.index.ensures
-    (λ s stands. used t s None (Some c.in-Some-at_free_port.at) (sym c.in_default.is ∙ stands.bound) free)
+pub returns-in-Some-2 : goal.returns-in-Some-2
+returns-in-Some-2 c = λ t h.
+    let free = sym c.in-Some-2.is ∙ c.in_ok-at.ensures t h in
+    asks_at c.args.self.now t c.args.k c.index.result.now (end_to_use t) (Ok c.in-Some-2.at) h (omega (arith, c.args.self.now.tcp.ok.0)) c.index.ensures
+    (λ s stands. used t s None (Some c.in-Some-2.at) (sym c.in_default.is ∙ stands.bound) free)
 
-pub returns : goal.returns
-returns c = λ t h.
-    let ends = c.as_slice.ensures.value ∙ c.in_ok-ends.ensures t h in
-    let free = sym c.in-None.is ∙ (c.at_free_port.ensures ∙ ap (λ (xs : List Addr). at_free_port xs any) ends) in
+pub returns-in-None : goal.returns-in-None
+returns-in-None c = λ t h.
+    let free = sym c.in-None.is ∙ c.in_ok-at.ensures t h in
     asks_at c.args.self.now t c.args.k c.index.result.now (end_to_use t) (Err (error.Refused (refusal.Errno Eaddrnotavail))) h (omega (arith, c.args.self.now.tcp.ok.0)) c.index.ensures
     (λ s stands. used t s None None (sym c.in_default.is ∙ stands.bound) free)

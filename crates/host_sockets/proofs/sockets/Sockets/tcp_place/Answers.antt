@@ -1,8 +1,7 @@
-use Rattle.std.proofs.Common.{arith}
-use Rattle.host_sockets.specs.Lookup.{is_sought}
-use Rattle.host_sockets.specs.declared.slots.Sought.TheVariants.{Free}
-use Rattle.host_sockets.proofs.Places.{first_or_behind}
+use Rattle.std.proofs.Common.{List, sym, subst}
+use Rattle.host_sockets.specs.declared.tcp_sock.TcpSock.{TcpSock}
+use Rattle.host_sockets.specs.SocketsStand.{AllStand}
 use Rattle.host_sockets.proofs.sockets.Sockets.tcp_place.Goals as goal
 
 pub returns : goal.returns
-returns c = λ t h. first_or_behind (is_sought Free) c.args.self.now.tcp.items c.as_slice.result.now t.tcp c.place_in.result c.len.result c.unwrap_or.result h.tcp c.as_slice.ensures.value (c.place_in.ensures.place t.tcp) (omega (arith, c.args.self.now.tcp.ok.0)) c.unwrap_or.ensures
+returns c = λ t h. c.free_place.ensures t.tcp (subst (λ (xs : List TcpSock). AllStand xs t.tcp) (sym c.as_slice.ensures.value) h.tcp)

@@ -1,0 +1,10 @@
+use Rattle.std.proofs.Common.{ℕ, ◌+◌, Option, Some, sym, ap, ◌∙◌}
+use Rattle.host_sockets.specs.Given.{once}
+use Rattle.host_sockets.proofs.EndsFound.{on_ok}
+use Rattle.host_sockets.proofs.PortsCounted.{holds_same}
+use Rattle.host_sockets.proofs.given.count.Goals as goal
+
+pub returns-in-Some : goal.returns-in-Some
+returns-in-Some c = λ done f h.
+    holds_same c.add.new.self (λ n. f n + once (Some c.in-Some.port) n) (λ n. f n + once c.args.port n) (λ n. ap (λ (o : Option ℕ). f n + once o n) (sym c.in-Some.is))
+    (on_ok c.add.result _ (sym c.is_ok.ensures.value ∙ done) c.add.ensures f h)

@@ -1,0 +1,6 @@
+use Rattle.std.proofs.Common.{ℕ, ◌+◌}
+use Rattle.host_sockets.specs.Given.{once}
+use Rattle.host_sockets.proofs.given.recount.Goals as goal
+
+pub returns-then-count : goal.returns-then-count
+returns-then-count c = λ done f h. c.discount.ensures done (λ n. f n + once c.args.is n) (c.count.ensures c.if-count.true f h)
