@@ -4,3 +4,4 @@ pub mod Free
 pub mod Paths
 pub mod Random
 pub mod Reacting
+pub mod Waits

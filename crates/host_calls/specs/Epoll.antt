@@ -1,5 +1,5 @@
 -- epoll_create(2), epoll_ctl(2) and epoll_wait(2).
-use Rattle.std.specs.Prelude.{ℕ, ◌*◌, ◌/◌, ◌%◌, ◌^◌, ◌==◌, ◌&&◌, ◌||◌, Bool, false, not, min, List, [], ◌++◌, length, map, flat_map, take, drop, Option, Some, None, Result, Ok, Err, nat_le, if◌then◌else◌}
+use Rattle.std.specs.Prelude.{◌≡◌, ℕ, ◌-◌, ◌*◌, ◌/◌, ◌%◌, ◌^◌, ◌==◌, ◌&&◌, ◌||◌, Bool, false, not, min, List, [], ◌++◌, length, map, flat_map, take, drop, replicate, Option, Some, None, Result, Ok, Err, nat_le, if◌then◌else◌}
 use Rattle.std.specs.Int.{w32, w64, from_le_bytes, to_le_bytes}
 use Rattle.sim_base.specs.declared.errno.Errno.TheVariants.{Eperm, Eexist, Efault, Einval, Emfile, Enoent}
 use Rattle.sim_base.specs.declared.time.Time.{Time}
@@ -11,11 +11,13 @@ use Rattle.host_fds.specs.declared.epoll.Entry.{Entry}
 use Rattle.host_fds.specs.declared.epoll.Seen.{Seen}
 use Rattle.host_fds.specs.declared.epoll.Watch.{Watch}
 use Rattle.host_fds.specs.Epoll.{watches}
+use Rattle.host_fds.specs.Rises.{no_rises}
 use Rattle.host_timers.specs.declared.clock.Moment.{Moment}
 use Rattle.host_files.specs.declared.file.File.{File}
 use Rattle.host_files.specs.declared.file.Object.{Object}
 use Rattle.host_files.specs.declared.file.Object.TheVariants as kind
-use Rattle.host_files.specs.Epolls.{EpollsState, next_epoll, with_epoll, epoll_at, entry_put, entry_removed, told_by, entries_reported}
+use Rattle.host_files.specs.Epolls.{EpollsState, next_epoll, with_epoll, epoll_at, entry_put, entry_removed, told_by, after_report, entries_reported}
+use Rattle.host_files.specs.Slots.{after}
 use Rattle.host_sockets.specs.declared.error.Refusal.{Refusal}
 use Rattle.host_sockets.specs.declared.error.Refusal.TheVariants.{Errno, Wait}
 use Rattle.host_calls.specs.declared.controlling.Change.{Change}
@@ -195,3 +197,20 @@ told_of p all s = (length (told_by p.room all (epoll_at p.place s.task.epolls)),
 
 abbrev pub epoll_waits : Time → WaitPlan → Scene → Result (ℕ × Scene) Refusal
 epoll_waits now p s = Ok (told_of p (all_seen now s (epoll_at p.place s.task.epolls)) s)
+
+abbrev pub epoll_pwait : Time → ℕ → ℕ → ℕ → ℕ → Scene → Result (ℕ × Scene) Refusal
+epoll_pwait now epfd at count ms s = do
+  p ← wait_plan now epfd at count ms s
+  epoll_waits now p s
+
+-- what is seen of a descriptor that is ready for nothing, and that at the last places of so many
+abbrev pub nothing_seen : Seen
+nothing_seen = record { fd = 0; bits = 0; rises = no_rises }
+
+abbrev pub up_to : ℕ → List Seen → List Seen
+up_to place all = all ++ replicate (place - length all) nothing_seen
+
+-- what is seen tells the same of the entries of an epoll as something else that is seen, and leaves the same of them
+pub record TellAlike (entries : Option (List Watch)) (all others : List Seen) : Type 0 where
+  pub told : (room : ℕ) → told_by room all entries ≡ told_by room others entries
+  pub left : (room : ℕ) → after (after_report room all) entries ≡ after (after_report room others) entries

@@ -1,5 +1,5 @@
 -- What objects are ready for, by the bits of poll(2), and what an epoll sees of them.
-use Rattle.std.specs.Prelude.{ℕ, ◌+◌, Bool, List, Option, Some, None, Result, Ok, Err, nat_lt}
+use Rattle.std.specs.Prelude.{ℕ, ◌+◌, Bool, List, Option, Some, None, Result, Ok, Err, nat_lt, if◌then◌else◌}
 use Rattle.std.specs.List.{list_any}
 use Rattle.sim_base.specs.declared.time.Time.{Time}
 use Rattle.sim_base.specs.Poll.{pollin, pollout}
@@ -80,9 +80,12 @@ object_rises now (kind.Tcp k) files sockets = tcp_rises k sockets
 object_rises now _ files sockets = no_rises
 
 -- what is seen of a descriptor; one that is free is ready for nothing
+abbrev pub seen_as : Time → ℕ → Object → FilesState → SocketsRecord → Seen
+seen_as now fd object files sockets = record { fd = fd; bits = bits_seen now object files sockets; rises = object_rises now object files sockets }
+
 abbrev pub seen_by : Time → ℕ → Result Descriptor Refusal → FilesState → SocketsRecord → Seen
 seen_by now fd (Err refusal) files sockets = record { fd = fd; bits = 0; rises = no_rises }
-seen_by now fd (Ok d) files sockets = record { fd = fd; bits = bits_seen now d.file.object files sockets; rises = object_rises now d.file.object files sockets }
+seen_by now fd (Ok d) files sockets = seen_as now fd d.file.object files sockets
 
 abbrev pub seen : Time → Scene → ℕ → Seen
 seen now s fd = seen_by now fd (descriptor fd s.task s.shared.files) s.shared.files s.sockets
@@ -93,6 +96,13 @@ is_due now s w = epoll.is_due w (seen now s w.fd)
 
 abbrev pub some_due : Time → Scene → List Watch → Bool
 some_due now s entries = list_any (is_due now s) entries
+
+-- what is seen of an entry's descriptor, where the entry is due
+abbrev pub if_due : Watch → Seen → Option Seen
+if_due w s = if epoll.is_due w s then Some s else None
+
+abbrev pub seen_due : Time → Scene → Watch → Option Seen
+seen_due now s w = if_due w (seen now s w.fd)
 
 -- an epoll is ready where a wait would answer at once
 abbrev pub epoll_ready : Time → Scene → Option (List Watch) → ℕ

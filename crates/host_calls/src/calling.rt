@@ -17,6 +17,7 @@ use crate::binding::{bind, listen, socket};
 use crate::call::{Call, NetworkCall, PlainCall, WaitingCall};
 use crate::closing::{close, close_task};
 use crate::controlling::{epoll_create, epoll_ctl};
+use crate::epoll::epoll_pwait;
 use crate::eventfd::eventfd2;
 use crate::files::{fcntl, openat, pipe2};
 use crate::guest::{brk, getpid, getrandom};
@@ -109,8 +110,8 @@ fn network_row(
     }
 }
 
-/// The row of a call that may wait.
-fn waiting_row(
+/// The row of a call that is asked what it would do, and then does that.
+fn asked_row(
     known: &Known,
     now: Time,
     process: u32,
@@ -125,6 +126,29 @@ fn waiting_row(
 {
     let plan = asked(known, now, call, args, task, shared, sockets)?;
     act(known, now, process, plan, task, shared, sockets)
+}
+
+/// The row of a call that may wait. A wait for an epoll is asked and done at once, since either would look at each of
+/// its entries.
+fn waiting_row(
+    known: &Known,
+    now: Time,
+    process: u32,
+    call: WaitingCall,
+    args: [u32; 6],
+    task: &mut Task,
+    shared: &mut Shared,
+    sockets: &mut Sockets,
+) -> Result<Reaction, CallError>
+    requires { now.nanos ≤ latest_time }
+    ensures { (t : SocketsRecord) → Stand sockets.old t → Answers (spec.waiting_row known.now now process call args (scene (task.old, shared.old) t)) (task.old, shared.old) t (task.new, shared.new) sockets.new result }
+{
+    if let WaitingCall::EpollWait = call {
+        let [a, b, c, d, _e, _f] = args;
+        let value = epoll_pwait(now, a, b, c, d, task, shared, sockets)?;
+        return Ok(Reaction::Value(value));
+    }
+    asked_row(known, now, process, call, args, task, shared, sockets)
 }
 
 /// The row of a call.

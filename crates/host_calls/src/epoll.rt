@@ -1,22 +1,27 @@
 //! epoll_pwait.
 
-ghost use Rattle.std.specs.Prelude.{◌≡◌, ◌≤◌, length, map, flat_map, IfOk, IfSome, OnOk};
+ghost use Rattle.std.specs.Prelude.{◌≡◌, ◌+◌, ◌≤◌, ◌&&◌, not, min, nat_lt, [], ◌∷◌, ◌++◌, length, map, flat_map, Some, IfOk, IfSome, OnOk};
+ghost use Rattle.sim_base.specs.Refusals.{refuse_if};
 ghost use Rattle.sim_base.specs.Units.{latest_time};
+ghost use Rattle.host_sockets.specs.declared.error.Refusal.TheVariants.{Wait};
 ghost use Rattle.host_sockets.specs.Sockets.{SocketsRecord};
 ghost use Rattle.host_sockets.specs.StandsFor.{Stand};
-ghost use Rattle.host_files.specs.Epolls.{epoll_at, told_by};
+ghost use Rattle.host_files.specs.Epolls.{epoll_at, told_by, entries_reported};
 ghost use Rattle.host_calls.specs.Epoll as spec;
 ghost use Rattle.host_calls.specs.Parts.{Answers, scene};
+ghost use Rattle.host_calls.specs.Polling.{has_come as came};
+ghost use Rattle.host_calls.specs.Ready.{some_due as any_due};
 
 use crate::controlling::epoll_number;
 use crate::descriptors::look_up;
 use crate::parts::{Shared, Task};
 use crate::polling::has_come;
-use crate::ready::{seen, some_due};
+use crate::ready::{seen_due, some_due};
 use crate::times::kept_or;
 use guest_args::{deadline_after, fill};
 use guest_mem::Right;
-use host_fds::{Entry, Seen, Watch};
+use host_fds::{Entry, Rises, Seen, Watch};
+use host_files::Epolls;
 use host_sockets::{CallError, Refusal, Sockets};
 use host_timers::Moment;
 use sim_base::{Errno, NoMemory, Time};
@@ -89,20 +94,11 @@ fn has_due(now: Time, place: usize, task: &Task, shared: &Shared, sockets: &Sock
     }
 }
 
-/// It waits while no entry is due and its deadline is to come.
-fn waits_for(
-    now: Time,
-    deadline: Option<Time>,
-    place: usize,
-    task: &Task,
-    shared: &Shared,
-    sockets: &Sockets,
-) -> Result<(), Refusal>
-    requires { now.nanos ≤ latest_time }
-    ensures { (t : SocketsRecord) → Stand sockets.now t → result ≡ spec.waits_for now deadline place (scene (task.now, shared.now) t) }
+/// It waits unless an entry is due or its deadline has come.
+fn waits_unless(now: Time, deadline: Option<Time>, has_due: bool) -> Result<(), Refusal>
+    ensures { result ≡ refuse_if (not has_due && not (came now deadline)) (Wait deadline) }
 {
-    let due = has_due(now, place, task, shared, sockets);
-    if !due && !has_come(now, deadline) {
+    if !has_due && !has_come(now, deadline) {
         return Err(Refusal::Wait(deadline));
     }
     Ok(())
@@ -124,7 +120,8 @@ pub(crate) fn wait_plan(
 {
     let waiting = wait_place(epfd, at, count, task, shared)?;
     let deadline = wait_deadline(now, ms, task);
-    waits_for(now, deadline, waiting.place, task, shared, sockets)?;
+    let has_due = has_due(now, waiting.place, task, shared, sockets);
+    waits_unless(now, deadline, has_due)?;
     Ok(waiting)
 }
 
@@ -147,7 +144,30 @@ fn all_bytes(alloc: Global, entries: &[Entry]) -> Result<Vec<u8>, NoMemory>
     Ok(bytes)
 }
 
-/// What is seen of the descriptors of some entries.
+/// What is seen of a descriptor that is ready for nothing.
+fn nothing_seen() -> Seen
+    ensures { result ≡ spec.nothing_seen }
+{
+    Seen {
+        fd: 0,
+        bits: 0,
+        rises: Rises::none(),
+    }
+}
+
+/// Puts what is seen of an entry at its place, behind nothing that is seen of those before it that are not in yet.
+fn put_seen(all: &mut Vec<Seen>, place: usize, seen: Seen) -> Result<(), NoMemory>
+    requires { length all.old.items ≤ place }
+    ensures seen { OnOk result (all.new.items ≡ spec.up_to place all.old.items ++ seen ∷ []) }
+    ensures size { OnOk result (length all.new.items ≡ place + 1) }
+{
+    all.resize(place, nothing_seen())?;
+    all.push(seen)?;
+    Ok(())
+}
+
+/// What a wait has to know of some entries, up to the last that is due: what is seen of those that are due, and nothing
+/// of the others. It takes no memory where none is due.
 fn seen_of(
     alloc: Global,
     now: Time,
@@ -157,12 +177,16 @@ fn seen_of(
     sockets: &Sockets,
 ) -> Result<Vec<Seen>, NoMemory>
     requires { now.nanos ≤ latest_time }
-    ensures seen { IfOk result (λ all. (t : SocketsRecord) → Stand sockets.now t → all.items ≡ map (spec.seen_of now (scene (task.now, shared.now) t)) entries.now) }
-    ensures size { IfOk result (λ all. length all.items ≡ length entries.now) }
+    ensures alike { IfOk result (λ all. (t : SocketsRecord) → Stand sockets.now t → spec.TellAlike (Some entries.now) all.items (map (spec.seen_of now (scene (task.now, shared.now) t)) entries.now)) }
+    ensures due { IfOk result (λ all. (t : SocketsRecord) → Stand sockets.now t → nat_lt 0 (length all.items) ≡ any_due now (scene (task.now, shared.now) t) entries.now) }
+    ensures size { IfOk result (λ all. length all.items ≤ length entries.now) }
 {
     let mut all = Vec::new(alloc);
     for place in 0..entries.len() {
-        all.push(seen(now, entries[place].fd, task, shared, sockets))?;
+        match seen_due(now, &entries[place], task, shared, sockets) {
+            Some(seen) => put_seen(&mut all, place, seen)?,
+            None => {}
+        }
     }
     Ok(all)
 }
@@ -176,8 +200,9 @@ fn all_seen(
     sockets: &Sockets,
 ) -> Result<Vec<Seen>, NoMemory>
     requires { now.nanos ≤ latest_time }
-    ensures seen { IfOk result (λ all. (t : SocketsRecord) → Stand sockets.now t → all.items ≡ spec.all_seen now (scene (task.now, shared.now) t) (epoll_at place task.now.epolls)) }
-    ensures size { IfOk result (λ all. IfSome (epoll_at place task.now.epolls) (λ entries. length all.items ≡ length entries)) }
+    ensures alike { IfOk result (λ all. (t : SocketsRecord) → Stand sockets.now t → spec.TellAlike (epoll_at place task.now.epolls) all.items (spec.all_seen now (scene (task.now, shared.now) t) (epoll_at place task.now.epolls))) }
+    ensures due { IfOk result (λ all. (t : SocketsRecord) → Stand sockets.now t → nat_lt 0 (length all.items) ≡ spec.has_due now (scene (task.now, shared.now) t) (epoll_at place task.now.epolls)) }
+    ensures size { IfOk result (λ all. IfSome (epoll_at place task.now.epolls) (λ entries. length all.items ≤ length entries)) }
 {
     match task.epolls.get(place) {
         Some(epoll) => seen_of(alloc, now, epoll.entries(), task, shared, sockets),
@@ -185,22 +210,47 @@ fn all_seen(
     }
 }
 
+/// No more entries are told than are seen.
+fn room_used(room: u32, all: &[Seen]) -> usize
+    ensures { result ≡ min room (length all.now) }
+{
+    all.len().min(room as usize)
+}
+
+/// Reports what is due of what is seen, as many entries as there may be.
+fn report(
+    alloc: Global,
+    place: usize,
+    room: u32,
+    all: &[Seen],
+    epolls: &mut Epolls,
+) -> Result<Vec<Entry>, NoMemory>
+    requires { IfSome (epoll_at place epolls.old) (λ entries. length all.now ≤ length entries) }
+    ensures told { IfOk result (λ told. told.items ≡ told_by room all.now (epoll_at place epolls.old)) }
+    ensures few { IfOk result (λ told. length told.items ≤ room) }
+    ensures left { OnOk result (epolls.new ≡ entries_reported room all.now place epolls.old) }
+{
+    let nothing = Entry { events: 0, data: 0 };
+    let mut told = vec![in alloc; nothing; room_used(room, all)]?;
+    let found = epolls.report(place, all, told.as_mut_slice());
+    told.truncate(found);
+    Ok(told)
+}
+
 /// Tells what is due of what is seen, and answers how many entries that are.
 fn tell(alloc: Global, waiting: WaitPlan, all: &[Seen], task: &mut Task) -> Result<u32, NoMemory>
-    requires { IfSome (epoll_at waiting.place task.old.epolls) (λ entries. length all.now ≡ length entries) }
+    requires { IfSome (epoll_at waiting.place task.old.epolls) (λ entries. length all.now ≤ length entries) }
     ensures count { IfOk result (λ found. found ≡ length (told_by waiting.room all.now (epoll_at waiting.place task.old.epolls))) }
     ensures told { OnOk result (task.new ≡ spec.telling waiting all.now task.old) }
 {
     let WaitPlan { place, at, room } = waiting;
-    let nothing = Entry { events: 0, data: 0 };
-    let mut into = vec![in alloc; nothing; room as usize]?;
-    let found = task.epolls.report(place, all, into.as_mut_slice());
-    let bytes = all_bytes(alloc, &into.as_slice()[..found])?;
+    let told = report(alloc, place, room, all, &mut task.epolls)?;
+    let bytes = all_bytes(alloc, told.as_slice())?;
     fill(&mut task.memory, at, bytes.as_slice());
-    Ok(found as u32)
+    Ok(told.len() as u32)
 }
 
-/// `epoll_pwait(2)`.
+/// An `epoll_pwait(2)` that was asked what it would do.
 pub(crate) fn epoll_wait(
     now: Time,
     waiting: WaitPlan,
@@ -213,6 +263,35 @@ pub(crate) fn epoll_wait(
 {
     let alloc = shared.files.allocator();
     let all = all_seen(alloc, now, waiting.place, task, shared, sockets)?;
+    let found = tell(alloc, waiting, all.as_slice(), task)?;
+    Ok(found)
+}
+
+fn is_any_seen(all: &[Seen]) -> bool
+    ensures { result ≡ nat_lt 0 (length all.now) }
+{
+    !all.is_empty()
+}
+
+/// `epoll_pwait(2)`. It looks at each entry once, to see whether it waits and what it tells.
+pub(crate) fn epoll_pwait(
+    now: Time,
+    epfd: u32,
+    at: u32,
+    count: u32,
+    ms: u32,
+    task: &mut Task,
+    shared: &Shared,
+    sockets: &Sockets,
+) -> Result<u32, CallError>
+    requires { now.nanos ≤ latest_time }
+    ensures { (t : SocketsRecord) → Stand sockets.now t → Answers (spec.epoll_pwait now epfd at count ms (scene (task.old, shared.now) t)) (task.old, shared.now) t (task.new, shared.now) sockets.now result }
+{
+    let waiting = wait_place(epfd, at, count, task, shared)?;
+    let deadline = wait_deadline(now, ms, task);
+    let alloc = shared.files.allocator();
+    let all = all_seen(alloc, now, waiting.place, task, shared, sockets)?;
+    waits_unless(now, deadline, is_any_seen(all.as_slice()))?;
     let found = tell(alloc, waiting, all.as_slice(), task)?;
     Ok(found)
 }

@@ -134,30 +134,52 @@ fn object_rises(now: Time, object: Object, files: &Files, sockets: &Sockets) -> 
     }
 }
 
-/// What is seen of a descriptor.
-pub(crate) fn seen(now: Time, fd: u32, task: &Task, shared: &Shared, sockets: &Sockets) -> Seen
+/// What is seen of an object where an entry is due by it. Only where the entry asks for one of the bits that hold does
+/// it matter how often they came to hold.
+fn object_due(
+    now: Time,
+    watch: &Watch,
+    object: Object,
+    files: &Files,
+    sockets: &Sockets,
+) -> Option<Seen>
     requires { now.nanos ≤ latest_time }
-    ensures { (t : SocketsRecord) → Stand sockets.now t → result ≡ spec.seen now (scene (task.now, shared.now) t) fd }
+    ensures { (t : SocketsRecord) → Stand sockets.now t → result ≡ spec.if_due watch.now (spec.seen_as now watch.now.fd object files.now t) }
 {
-    match look_up(fd, task, &shared.files) {
-        Ok(d) => Seen {
-            fd,
-            bits: u32::from(bits_seen(now, d.file.object, &shared.files, sockets)),
-            rises: object_rises(now, d.file.object, &shared.files, sockets),
-        },
-        Err(_) => Seen {
-            fd,
-            bits: 0,
-            rises: Rises::none(),
-        },
+    let bits = u32::from(bits_seen(now, object, files, sockets));
+    if !watch.asks_for(bits) {
+        return None;
+    }
+    let seen = Seen {
+        fd: watch.fd,
+        bits,
+        rises: object_rises(now, object, files, sockets),
+    };
+    watch.is_due(seen).then_some(seen)
+}
+
+/// What is seen of an entry's descriptor, where the entry is due.
+pub(crate) fn seen_due(
+    now: Time,
+    watch: &Watch,
+    task: &Task,
+    shared: &Shared,
+    sockets: &Sockets,
+) -> Option<Seen>
+    requires { now.nanos ≤ latest_time }
+    ensures { (t : SocketsRecord) → Stand sockets.now t → result ≡ spec.seen_due now (scene (task.now, shared.now) t) watch.now }
+{
+    match look_up(watch.fd, task, &shared.files) {
+        Ok(d) => object_due(now, watch, d.file.object, &shared.files, sockets),
+        Err(_) => None,
     }
 }
 
-fn is_due(now: Time, watch: Watch, task: &Task, shared: &Shared, sockets: &Sockets) -> bool
+fn is_due(now: Time, watch: &Watch, task: &Task, shared: &Shared, sockets: &Sockets) -> bool
     requires { now.nanos ≤ latest_time }
-    ensures { (t : SocketsRecord) → Stand sockets.now t → result ≡ spec.is_due now (scene (task.now, shared.now) t) watch }
+    ensures { (t : SocketsRecord) → Stand sockets.now t → result ≡ spec.is_due now (scene (task.now, shared.now) t) watch.now }
 {
-    watch.is_due(seen(now, watch.fd, task, shared, sockets))
+    seen_due(now, watch, task, shared, sockets).is_some()
 }
 
 /// Whether a wait would tell of some entry. It takes no memory.
@@ -172,7 +194,7 @@ pub(crate) fn some_due(
     ensures { (t : SocketsRecord) → Stand sockets.now t → result ≡ spec.some_due now (scene (task.now, shared.now) t) entries.now }
 {
     for place in 0..entries.len() {
-        if is_due(now, entries[place], task, shared, sockets) {
+        if is_due(now, &entries[place], task, shared, sockets) {
             return true;
         }
     }

@@ -152,7 +152,7 @@ unchanged room seen first before place found found' ws ws' into into' h found_is
     (subst (λ ys. Reporting room seen first before place found ws ys) (sym into_is) h))
 
 module _ (room : ℕ) (seen : List Seen) (first : List Watch) (before : List Entry) (place found : ℕ) (ws : List Watch) (into : List Entry)
-    (h : Reporting room seen first before place found ws into) (all_seen : length seen ≤ place) (all_ws : length ws ≤ place) (size : length into ≡ room) where
+    (h : Reporting room seen first before place found ws into) (all_seen : length seen ≤ place) (size : length into ≡ room) where
   none_left : drop place seen ≡ []
   none_left = drop_of_length-le seen all_seen
 

@@ -38,9 +38,16 @@ put_in w entries = put_at (position_or_len (is_behind w.fd) entries) w entries
 abbrev pub with_watch : Watch → List Watch → List Watch
 with_watch w entries = put_in w (without w.fd entries)
 
--- of the bits that hold those that an entry asks for; POLLERR and POLLHUP always count
+-- of some bits those that an entry asks for; POLLERR and POLLHUP always count
+abbrev pub asked_of : Watch → ℕ → ℕ
+asked_of w bits = bit_and bits (bit_or w.events (pollerr + pollhup))
+
+abbrev pub asks_for : Watch → ℕ → Bool
+asks_for w bits = not (asked_of w bits == 0)
+
+-- of the bits that hold those that are told
 abbrev pub told_bits : Watch → Seen → ℕ
-told_bits w s = bit_and s.bits (bit_or w.events (pollerr + pollhup))
+told_bits w s = asked_of w s.bits
 
 -- a bit that is told, and came to hold since
 abbrev pub risen : ℕ → ℕ → ℕ → ℕ → Bool

@@ -65,10 +65,24 @@ fn has_risen(bits: u32, before: Rises, now: Rises) -> bool
 }
 
 impl Watch {
+    /// Of some bits those that it asks for.
+    fn asked_of(self, bits: u32) -> u32
+        ensures { result ≡ spec.asked_of self bits }
+    {
+        bits & (self.events | u32::from(POLLERR + POLLHUP))
+    }
+
+    /// Whether it asks for one of some bits; `POLLERR` and `POLLHUP` always count.
+    pub fn asks_for(self, bits: u32) -> bool
+        ensures { result ≡ spec.asks_for self bits }
+    {
+        self.asked_of(bits) != 0
+    }
+
     fn told_bits(self, seen: Seen) -> u32
         ensures { result ≡ spec.told_bits self seen }
     {
-        seen.bits & (self.events | u32::from(POLLERR + POLLHUP))
+        self.asked_of(seen.bits)
     }
 
     fn is_news(self, before: Rises, seen: Seen) -> bool
@@ -202,9 +216,10 @@ impl Epoll {
     }
 
     /// Tells the first entries that are due, as many as there are and as there is room for, and answers how many it
-    /// told. `seen` has what is seen of each entry's descriptor, in their order. It takes no memory.
+    /// told. `seen` has what is seen of the entries' descriptors, in their order; the entries behind those are not
+    /// told. It takes no memory.
     pub fn report(&mut self, seen: &[Seen], into: &mut [Entry]) -> usize
-        requires { length seen.now ≡ length self.old }
+        requires { length seen.now ≤ length self.old }
         ensures count { result ≡ length (spec.told (length into.old) seen.now self.old) }
         ensures told { into.new ≡ spec.told (length into.old) seen.now self.old ++ drop result into.old }
         ensures left { self.new ≡ spec.reported (length into.old) seen.now self.old }
@@ -215,14 +230,14 @@ impl Epoll {
 }
 
 fn report(entries: &mut [Watch], seen: &[Seen], into: &mut [Entry]) -> usize
-    requires { length seen.now ≡ length entries.old }
+    requires { length seen.now ≤ length entries.old }
     ensures count { result ≡ length (spec.told (length into.old) seen.now entries.old) }
     ensures told { into.new ≡ spec.told (length into.old) seen.now entries.old ++ drop result into.old }
     ensures left { entries.new ≡ spec.reported (length into.old) seen.now entries.old }
     ensures at_most { result ≤ length into.old }
 {
     let mut found = 0;
-    for place in 0..entries.len() {
+    for place in 0..seen.len() {
         let watch = entries[place];
         if found < into.len() && watch.is_due(seen[place]) {
             into[found] = watch.entry(seen[place]);

@@ -80,9 +80,9 @@ impl Epolls {
     }
 
     /// Tells the first entries of an epoll that are due, and answers how many it told. `seen` has what is seen of
-    /// each entry's descriptor, in their order.
+    /// the entries' descriptors, in their order; the entries behind those are not told.
     pub fn report(&mut self, place: usize, seen: &[Seen], into: &mut [Entry]) -> usize
-        requires { IfSome (spec.epoll_at place self.old) (λ entries. length seen.now ≡ length entries) }
+        requires { IfSome (spec.epoll_at place self.old) (λ entries. length seen.now ≤ length entries) }
         ensures count { result ≡ length (spec.told_by (length into.old) seen.now (spec.epoll_at place self.old)) }
         ensures told { into.new ≡ spec.told_by (length into.old) seen.now (spec.epoll_at place self.old) ++ drop result into.old }
         ensures left { self.new ≡ spec.entries_reported (length into.old) seen.now place self.old }
@@ -129,7 +129,7 @@ fn forget_all(slots: &mut [Option<Epoll>], fd: u32)
 }
 
 fn report_slot(slot: &mut Option<Epoll>, seen: &[Seen], into: &mut [Entry]) -> usize
-    requires { IfSome slot.old (λ entries. length seen.now ≡ length entries) }
+    requires { IfSome slot.old (λ entries. length seen.now ≤ length entries) }
     ensures count { result ≡ length (spec.told_by (length into.old) seen.now slot.old) }
     ensures told { into.new ≡ spec.told_by (length into.old) seen.now slot.old ++ drop result into.old }
     ensures left { slot.new ≡ act.after (spec.after_report (length into.old) seen.now) slot.old }

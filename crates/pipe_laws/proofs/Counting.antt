@@ -9,7 +9,7 @@ use Rattle.pipe_laws.specs.Acts.{PipeAct, Writes, Reads, LetsGo, pipe_after, pip
 use Rattle.pipe_laws.specs.Rises.{rises_in_each, rise_count}
 
 -- counts one after another
-abbrev run : List Bool → ℕ → ℕ
+abbrev pub run : List Bool → ℕ → ℕ
 run [] n = n
 run (b ∷ bs) n = run bs (counted b n)
 
@@ -22,7 +22,7 @@ run_is (false ∷ bs) n h =
     let none : count_by (λ b. b) (false ∷ bs) ≡ 0 + count_by (λ b. b) bs = sum_by_from (λ b. if b then 1 else 0) 0 bs in
     run_is bs n h ∙ omega arith
 
-counted_from_none : (bs : List Bool) → run bs 0 ≡ min (count_by (λ b. b) bs) most
+pub counted_from_none : (bs : List Bool) → run bs 0 ≡ min (count_by (λ b. b) bs) most
 counted_from_none bs = run_is bs 0 (omega arith) ∙ omega arith
 
 -- each kind of act moves each bit of each end by its own rises

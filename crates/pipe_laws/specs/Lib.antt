@@ -1,3 +1,4 @@
 pub mod Acts
+pub mod Eventfds
 pub mod Rises
 pub mod Watching

@@ -38,20 +38,17 @@ loop-place-preserved c =
 pub returns-clause-count : goal.returns-clause-count
 returns-clause-count c =
     let all_seen : length c.args.seen.now ≤ c.loop-place.place = omega arith in
-    let all_ws : length c.loop-place.entries ≤ c.loop-place.place = omega arith in
     let size : length c.loop-place.into ≡ length c.args.into.now = omega arith in
-    ends_count (length c.args.into.now) c.args.seen.now c.args.entries.now c.args.into.now c.loop-place.place c.loop-place.found c.loop-place.entries c.loop-place.into c.loop-place.invariant all_seen all_ws size
+    ends_count (length c.args.into.now) c.args.seen.now c.args.entries.now c.args.into.now c.loop-place.place c.loop-place.found c.loop-place.entries c.loop-place.into c.loop-place.invariant all_seen size
 
 pub returns-clause-told : goal.returns-clause-told
 returns-clause-told c =
     let all_seen : length c.args.seen.now ≤ c.loop-place.place = omega arith in
-    let all_ws : length c.loop-place.entries ≤ c.loop-place.place = omega arith in
     let size : length c.loop-place.into ≡ length c.args.into.now = omega arith in
-    ends_told (length c.args.into.now) c.args.seen.now c.args.entries.now c.args.into.now c.loop-place.place c.loop-place.found c.loop-place.entries c.loop-place.into c.loop-place.invariant all_seen all_ws size
+    ends_told (length c.args.into.now) c.args.seen.now c.args.entries.now c.args.into.now c.loop-place.place c.loop-place.found c.loop-place.entries c.loop-place.into c.loop-place.invariant all_seen size
 
 pub returns-clause-left : goal.returns-clause-left
 returns-clause-left c =
     let all_seen : length c.args.seen.now ≤ c.loop-place.place = omega arith in
-    let all_ws : length c.loop-place.entries ≤ c.loop-place.place = omega arith in
     let size : length c.loop-place.into ≡ length c.args.into.now = omega arith in
-    ends_left (length c.args.into.now) c.args.seen.now c.args.entries.now c.args.into.now c.loop-place.place c.loop-place.found c.loop-place.entries c.loop-place.into c.loop-place.invariant all_seen all_ws size
+    ends_left (length c.args.into.now) c.args.seen.now c.args.entries.now c.args.into.now c.loop-place.place c.loop-place.found c.loop-place.entries c.loop-place.into c.loop-place.invariant all_seen size
