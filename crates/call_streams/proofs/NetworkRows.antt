@@ -52,8 +52,8 @@ module _ (hosts : List Ip) (flying : List Packet) where
   made : (new : NewSocket) (nonblocking : Bool) (s : Scene) → M (sockets_at s) (sockets_at (with_socket new nonblocking s))
   made new nonblocking s =
       by_test (λ (x : Scene). M (sockets_at s) (sockets_at x)) new.stream _ _
-      (λ e. moves_by hosts flying any_time act.make_tcp s.sockets s.shared.outlet tt)
-      (λ e. moves_by hosts flying any_time act.make_udp s.sockets s.shared.outlet tt)
+      (λ e. moves_by hosts flying any_time act.make_tcp s.sockets s.shared.outlet tt tt)
+      (λ e. moves_by hosts flying any_time act.make_udp s.sockets s.shared.outlet tt tt)
 
   pub socket_moves : (family type protocol : ℕ) (s : Scene) → R s (socket family type protocol s)
   socket_moves family type protocol s =
@@ -63,9 +63,9 @@ module _ (hosts : List Ip) (flying : List Packet) where
   -- bind(2) and listen(2)
   bound : (socket : SocketNumber) (at : Addr) (t : SocketsRecord) (w : Wanted) (b : Unit {0} × SocketsRecord) → binds hosts socket at t ≡ Ok b → M (t, w) (b.1, w)
   bound (number.Udp k) at t w b e =
-      moves_alone hosts flying (binds_udp hosts k at t) b t w e (moves_by hosts flying any_time (act.bind_udp k at) t w tt)
+      moves_alone hosts flying (binds_udp hosts k at t) b t w e (moves_by hosts flying any_time (act.bind_udp k at) t w tt tt)
   bound (number.Tcp k) at t w b e =
-      moves_alone hosts flying (binds_tcp k at t) b t w e (moves_by hosts flying any_time (act.bind_tcp k at) t w tt)
+      moves_alone hosts flying (binds_tcp k at t) b t w e (moves_by hosts flying any_time (act.bind_tcp k at) t w tt tt)
 
   pub bind_moves : (fd at size : ℕ) (s : Scene) → R s (bind hosts fd at size s)
   bind_moves fd at size s =
@@ -81,7 +81,7 @@ module _ (hosts : List Ip) (flying : List Packet) where
       (λ k m. asks hosts flying (sockets_at s) (listens_tcp k (cast_signed w32 backlog) s.sockets) _
       (λ b q. answers hosts flying (sockets_at s) _ _
       (moves_alone hosts flying (listens_tcp k (cast_signed w32 backlog) s.sockets) b s.sockets s.shared.outlet q
-      (moves_by hosts flying any_time (act.listen_tcp k (cast_signed w32 backlog)) s.sockets s.shared.outlet tt)))))
+      (moves_by hosts flying any_time (act.listen_tcp k (cast_signed w32 backlog)) s.sockets s.shared.outlet tt tt)))))
 
   -- accept(2)
   pub accept_moves : (a : AcceptPlan) (s : Scene) → R s (accepts a s)
@@ -89,7 +89,7 @@ module _ (hosts : List Ip) (flying : List Packet) where
       asks hosts flying (sockets_at s) (accepts_tcp a.listener s.sockets) _
       (λ b q. answers hosts flying (sockets_at s) _ _
       (moves_alone hosts flying (accepts_tcp a.listener s.sockets) b s.sockets s.shared.outlet q
-      (moves_by hosts flying any_time (act.accept_tcp a.listener) s.sockets s.shared.outlet tt)))
+      (moves_by hosts flying any_time (act.accept_tcp a.listener) s.sockets s.shared.outlet tt tt)))
 
   -- connect(2)
   connecting_tcp : (now : Time) (nonblocking : Bool) (k at size : ℕ) (s : Scene) → R s (connect_tcp hosts now nonblocking k at size s)
@@ -98,14 +98,14 @@ module _ (hosts : List Ip) (flying : List Packet) where
       (λ to e. asks hosts flying (sockets_at s) (connects_taking hosts now k to s.sockets s.shared.outlet) _
       (λ b q. answers hosts flying (sockets_at s) _ _
       (moves_left hosts flying (connects_taking hosts now k to s.sockets s.shared.outlet) b s.sockets s.shared.outlet q
-      (moves_by hosts flying now (act.connect_tcp k to) s.sockets s.shared.outlet tt))))
+      (moves_by hosts flying now (act.connect_tcp k to) s.sockets s.shared.outlet tt tt))))
 
   connecting_again : (now : Time) (k : ℕ) (s : Scene) → R s (connect_again now k s)
   connecting_again now k s =
       asks hosts flying (sockets_at s) (connect_answers now k s.sockets s.shared.outlet) _
       (λ b q. answers hosts flying (sockets_at s) _ _
       (moves_left hosts flying (connect_answers now k s.sockets s.shared.outlet) b s.sockets s.shared.outlet q
-      (moves_by hosts flying now (act.connect_again k) s.sockets s.shared.outlet tt)))
+      (moves_by hosts flying now (act.connect_again k) s.sockets s.shared.outlet tt tt)))
 
   connecting_udp : (k at size : ℕ) (s : Scene) → R s (connect_udp hosts k at size s)
   connecting_udp k at size s =
@@ -113,7 +113,7 @@ module _ (hosts : List Ip) (flying : List Packet) where
       (λ to e. asks hosts flying (sockets_at s) (connects_udp hosts k to s.sockets) _
       (λ b q. answers hosts flying (sockets_at s) _ _
       (moves_alone hosts flying (connects_udp hosts k to s.sockets) b s.sockets s.shared.outlet q
-      (moves_by hosts flying any_time (act.connect_udp k to) s.sockets s.shared.outlet tt))))
+      (moves_by hosts flying any_time (act.connect_udp k to) s.sockets s.shared.outlet tt tt))))
 
   connecting : (now : Time) (nonblocking : Bool) (socket : SocketNumber) (at size : ℕ) (s : Scene) → R s (connect_call hosts now nonblocking socket at size s)
   connecting now nonblocking (number.Udp k) at size s = connecting_udp k at size s
@@ -148,8 +148,9 @@ module _ (hosts : List Ip) (flying : List Packet) where
       (λ b q. answers hosts flying (sockets_at s) _ _
       (moves_both hosts flying (s.sockets, s.shared.outlet) (b.1, s.shared.outlet) (b.1, sends (b.0 ∷ []) s.shared.outlet)
       (moves_alone hosts flying (sends_udp hosts k bytes to s.sockets) b s.sockets s.shared.outlet q
-      (moves_by hosts flying any_time (act.send_udp k bytes to) s.sockets s.shared.outlet tt))
-      (moves_sending hosts flying b.1 s.shared.outlet b.0 (datagram_void hosts k bytes to s.sockets b q)))))))
+      (moves_by hosts flying any_time (act.send_udp k bytes to) s.sockets s.shared.outlet tt tt))
+      (moves_sending hosts flying b.1 s.shared.outlet b.0 (datagram_void hosts k bytes to s.sockets b q)
+      (record { number = k; bytes = bytes; to = to; before = s.sockets; sent = q })))))))
 
   sending_tcp : (now : Time) (d : StreamSend) (s : Scene) → R s (send_tcp hosts now d s)
   sending_tcp now d s =
@@ -157,7 +158,7 @@ module _ (hosts : List Ip) (flying : List Packet) where
       (λ bytes e. asks hosts flying (sockets_at s) (sends_taking hosts now d.place bytes d.to d.quiet s.sockets s.shared.outlet) _
       (λ b q. answers hosts flying (sockets_at s) _ _
       (moves_left hosts flying (sends_taking hosts now d.place bytes d.to d.quiet s.sockets s.shared.outlet) b s.sockets s.shared.outlet q
-      (moves_by hosts flying now (act.send_tcp d.place bytes d.to d.quiet) s.sockets s.shared.outlet tt))))
+      (moves_by hosts flying now (act.send_tcp d.place bytes d.to d.quiet) s.sockets s.shared.outlet tt tt))))
 
   pub send_moves : (now : Time) (m : SendPlan) (s : Scene) → R s (sends_by hosts now m s)
   send_moves now (sending.Datagram d) s = sending_udp d.place d.message s
@@ -169,14 +170,14 @@ module _ (hosts : List Ip) (flying : List Packet) where
       asks hosts flying (sockets_at s) (receives_udp k (counted n) s.sockets) _
       (λ b q. answers hosts flying (sockets_at s) _ _
       (moves_alone hosts flying (receives_udp k (counted n) s.sockets) b s.sockets s.shared.outlet q
-      (moves_by hosts flying any_time (act.recv_udp k (counted n)) s.sockets s.shared.outlet tt)))
+      (moves_by hosts flying any_time (act.recv_udp k (counted n)) s.sockets s.shared.outlet tt tt)))
 
   receiving_tcp : (now : Time) (k at n : ℕ) (place : Option AddressPlace) (s : Scene) → R s (recv_tcp now k at n place s)
   receiving_tcp now k at n place s =
       asks hosts flying (sockets_at s) (receives_taking now k (counted n) s.sockets s.shared.outlet) _
       (λ b q. answers hosts flying (sockets_at s) _ _
       (moves_left hosts flying (receives_taking now k (counted n) s.sockets s.shared.outlet) b s.sockets s.shared.outlet q
-      (moves_by hosts flying now (act.recv_tcp k (counted n)) s.sockets s.shared.outlet tt)))
+      (moves_by hosts flying now (act.recv_tcp k (counted n)) s.sockets s.shared.outlet tt tt)))
 
   receiving : (now : Time) (socket : SocketNumber) (at n : ℕ) (place : Option AddressPlace) (s : Scene) → R s (recv_by now socket at n place s)
   receiving now (number.Udp k) at n place s = receiving_udp k at n place s
@@ -193,7 +194,7 @@ module _ (hosts : List Ip) (flying : List Packet) where
       asks hosts flying (sockets_at s) (takes_error now k s.sockets s.shared.outlet) _
       (λ b q. answers hosts flying (sockets_at s) _ _
       (moves_left hosts flying (takes_error now k s.sockets s.shared.outlet) b s.sockets s.shared.outlet q
-      (moves_by hosts flying now (act.take_error k) s.sockets s.shared.outlet tt)))
+      (moves_by hosts flying now (act.take_error k) s.sockets s.shared.outlet tt tt)))
 
   telling : (now : Time) (asked : Asked) (at size_at : ℕ) (s : Scene) → R s (told_option now asked at size_at s)
   telling now asked at size_at s =
@@ -213,7 +214,7 @@ module _ (hosts : List Ip) (flying : List Packet) where
       asks hosts flying (sockets_at s) (shuts_tcp now k how s.sockets s.shared.outlet) _
       (λ b q. answers hosts flying (sockets_at s) _ _
       (moves_left hosts flying (shuts_tcp now k how s.sockets s.shared.outlet) b s.sockets s.shared.outlet q
-      (moves_by hosts flying now (act.shut_tcp k how) s.sockets s.shared.outlet tt)))
+      (moves_by hosts flying now (act.shut_tcp k how) s.sockets s.shared.outlet tt tt)))
 
   pub shutdown_moves : (now : Time) (fd how : ℕ) (s : Scene) → R s (shutdown now fd how s)
   shutdown_moves now fd how s =

@@ -68,8 +68,8 @@ module _ (hosts : List Ip) (flying : List Packet) where
   ends_move now (kind.Timer k) shared t = moves_none hosts flying (t, shared.outlet)
   ends_move now (kind.Eventfd k) shared t = moves_none hosts flying (t, shared.outlet)
   ends_move now (kind.Epoll k) shared t = moves_none hosts flying (t, shared.outlet)
-  ends_move now (kind.Udp k) shared t = moves_by hosts flying now (act.close_udp k) t shared.outlet tt
-  ends_move now (kind.Tcp k) shared t = moves_by hosts flying now (act.close_tcp k) t shared.outlet tt
+  ends_move now (kind.Udp k) shared t = moves_by hosts flying now (act.close_udp k) t shared.outlet tt tt
+  ends_move now (kind.Tcp k) shared t = moves_by hosts flying now (act.close_tcp k) t shared.outlet tt tt
 
   closes_move : (now : Time) (fd : ℕ) (d : Descriptor) (s : Scene) → M (sockets_at s) (sockets_at (closes now fd d s))
   closes_move now fd d s = ends_move now d.file.object s.shared s.sockets
@@ -143,7 +143,7 @@ module _ (hosts : List Ip) (flying : List Packet) where
 
   -- an arrival
   pub arrives_moves : (now : Time) (packet : Packet) (h : PartsRecord) → Contains flying packet → M (sockets_in h) (sockets_in (arrives now packet h).1)
-  arrives_moves now packet h c = moves_by hosts flying now (act.arrival packet) h.sockets h.shared.outlet c
+  arrives_moves now packet h c = moves_by hosts flying now (act.arrival packet) h.sockets h.shared.outlet c tt
 
   pub arrives_freely : (now : Time) (packet : Packet) (h : PartsRecord) → Contains (flying ++ packets_of h.shared.outlet) packet → MovesFreely hosts flying (sockets_in h) (sockets_in (arrives now packet h).1)
   arrives_freely now packet h c = record { acts = (now, act.arrival packet) ∷ []; may = (c, tt); after = refl }
@@ -165,7 +165,7 @@ module _ (hosts : List Ip) (flying : List Packet) where
       (λ e. moves_none hosts flying (sockets_in h))
       (λ e. by_test (λ (x : PartsRecord). M (sockets_in h) (sockets_in x)) (nat_lt object.number first_object) _ _
       (λ k. rung_moves now object serial h)
-      (λ k. moves_by hosts flying now (act.alarm object serial) h.sockets h.shared.outlet tt))
+      (λ k. moves_by hosts flying now (act.alarm object serial) h.sockets h.shared.outlet tt tt))
 
 module _ (known : Known) (flying : List Packet) where
   abbrev R : {A : Type 0} → Scene → Result (A × Scene) Refusal → Type 0

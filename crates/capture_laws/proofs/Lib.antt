@@ -3,3 +3,4 @@ pub mod Keeping
 pub mod Acting
 pub mod Worlds
 pub mod Again
+pub mod Placing

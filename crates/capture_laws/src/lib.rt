@@ -1,7 +1,7 @@
 //! Captures of a run, read again. Definitions and laws, and no code that runs.
 #![tactic(auto)]
 
-ghost use Rattle.std.specs.Prelude.{◌≡◌, ℕ, ◌<◌, ◌≤◌, ◌^◌, List, Some, slice_get};
+ghost use Rattle.std.specs.Prelude.{◌≡◌, ℕ, ◌<◌, ◌≤◌, ◌^◌, List, Contains, Some, slice_get};
 ghost use Rattle.sim_base.specs.Packet.{max_packet};
 ghost use Rattle.sim_base.specs.Units.{latest_time};
 ghost use Rattle.sim_base.specs.declared.address.Ip.{Ip};
@@ -12,6 +12,12 @@ ghost use Rattle.host_state.specs.Captures.{eth0_of, lo_of};
 ghost use Rattle.host_state.specs.HostRecord.{HostRecord};
 ghost use Rattle.host_state.specs.Logs.{lines_of};
 ghost use Rattle.host_state.specs.World.{World, IsResult, opening_world};
+ghost use Rattle.world_order.specs.World.{Logged};
+ghost use Rattle.run_streams.specs.Run.{IsReached, AreHosts};
+ghost use Rattle.run_plan.specs.declared.planned.Run.{Run};
+ghost use Rattle.shadow_top.specs.Input.{Input, IsToRun};
+ghost use Rattle.shadow_top.specs.Opened.{rows_of, net_of};
+ghost use Rattle.capture_laws.specs.Loopback.{past_of, IsPlaced};
 ghost use Rattle.capture_laws.specs.ReadAgain.{AllFit, AllInRange, AreReadAgain};
 
 /// Reading the two captures that lines of a packet log give a host gives the host's lines again, each
@@ -35,4 +41,27 @@ pub fn runs_are_read_again()
     ensures { (net : Net) (rows : List Row) (result : World) (i : ℕ) (h : HostRecord) (size : ℕ) → net.stop.nanos ≤ latest_time
         → IsResult net result (opening_world rows) → slice_get result.hosts i ≡ Some h → max_packet ≤ size → size < 2 ^ 32
         → AllFit (lines_of result.log) → AreReadAgain size (eth0_of i h.row.address (lines_of result.log)) }
+{}
+
+/// In every world that a run reaches, its result among them, `lo` of a host has the lines of just the
+/// packets that the host sends to itself, past the network; and whether a line of the host is in `lo` or
+/// in `eth0` goes by the event that logged it: none has a packet that a Loop brought, and none in `eth0`
+/// one that stays at the host.
+pub fn loopback_is_past_the_network()
+    ensures lo { (net : Net) (rows : List Row) (w : World) (i : ℕ) (h : HostRecord) → AreHosts net rows
+        → IsReached net (opening_world rows) w → slice_get w.hosts i ≡ Some h
+        → lo_of i h.row.address (lines_of w.log) ≡ past_of i h.row.address (lines_of w.log) }
+    ensures lines { (net : Net) (rows : List Row) (w : World) (i : ℕ) (h : HostRecord) (l : Logged Line) → AreHosts net rows
+        → IsReached net (opening_world rows) w → slice_get w.hosts i ≡ Some h → Contains w.log l → l.line.host.index ≡ i
+        → IsPlaced net rows h.row.address l }
+{}
+
+/// The same of each input that is run.
+pub fn loopback_in_runs()
+    ensures lo { (i : Input) (run : Run) (w : World) (k : ℕ) (h : HostRecord) → IsToRun i run
+        → IsReached (net_of run) (opening_world (rows_of run)) w → slice_get w.hosts k ≡ Some h
+        → lo_of k h.row.address (lines_of w.log) ≡ past_of k h.row.address (lines_of w.log) }
+    ensures lines { (i : Input) (run : Run) (w : World) (k : ℕ) (h : HostRecord) (l : Logged Line) → IsToRun i run
+        → IsReached (net_of run) (opening_world (rows_of run)) w → slice_get w.hosts k ≡ Some h → Contains w.log l → l.line.host.index ≡ k
+        → IsPlaced (net_of run) (rows_of run) h.row.address l }
 {}

@@ -18,7 +18,7 @@ module _ (P : Packet → Type 0) where
   abbrev pub PushFits : Pushed → Type 0
   PushFits (Leaves packet) = P packet
   PushFits (Waits due) = Unit {0}
-  PushFits (Dropped packet) = Unit {0}
+  PushFits (Dropped packet) = P packet
 
   abbrev pub HasPushed : Pushed × LaneState → Type 0
   HasPushed t = PushFits t.0 × EachWaits t.1.waiting
@@ -33,7 +33,7 @@ module _ (P : Packet → Type 0) where
 
   push_behind : (now : Time) (packet : Packet) (lane : LaneState) → P packet → EachWaits lane.waiting → HasPushed (pushed_behind now packet lane)
   push_behind now packet lane here each =
-      by_test HasPushed (nat_lt (length lane.waiting) WAITING) _ _ (λ e. (tt, behind now packet lane.waiting here each)) (λ e. (tt, each))
+      by_test HasPushed (nat_lt (length lane.waiting) WAITING) _ _ (λ e. (tt, behind now packet lane.waiting here each)) (λ e. (here, each))
 
   push_on : (now : Time) (packet : Packet) (lane : LaneState) (ws : List Waiting) → P packet → EachWaits lane.waiting → HasPushed (pushed_on now packet lane ws)
   push_on now packet lane [] here each = push_first now packet lane here each
@@ -58,3 +58,18 @@ module _ (P : Packet → Type 0) where
 
   pub release_fits : (now : Time) (lane : LaneState) → EachWaits lane.waiting → Every P (released now lane).packets × EachWaits (released now lane).lane.waiting
   release_fits now lane each = leaving_fits now (lane_at now lane) lane.waiting each
+
+  -- and what it drops
+  taken_drops : (dropped : Bool) (packet : Packet) (left : Left) → P packet → Every P left.dropped → Every P (with_taken dropped packet left).dropped
+  taken_drops true packet left here each = (here, each)
+  taken_drops false packet left here each = each
+
+  leaving_drops : (now : Time) (lane : LaneState) (ws : List Waiting) → EachWaits ws → Every P (leaving now lane ws).dropped
+  leaving_drops now lane [] each = tt
+  leaving_drops now lane (w ∷ ws) each =
+      by_test (λ (left : Left). Every P left.dropped) (nat_le (waiting_size w) lane.bucket.tokens) _ _
+      (λ e. taken_drops _ w.packet _ each.0 (leaving_drops now (taken_front now w (with_rest lane ws)).1 ws each.1))
+      (λ e. tt)
+
+  pub release_drops : (now : Time) (lane : LaneState) → EachWaits lane.waiting → Every P (released now lane).dropped
+  release_drops now lane each = leaving_drops now (lane_at now lane) lane.waiting each

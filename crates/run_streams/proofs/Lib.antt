@@ -15,3 +15,4 @@ pub mod Kept
 pub mod Alone
 pub mod Counts
 pub mod Lines
+pub mod Logging

@@ -4,6 +4,10 @@
 ghost use Rattle.std.specs.Prelude.{◌≡◌, ℕ, ◌≤◌, ◌||◌, List, Contains, Bool, Ok, Some, true, false, slice_get};
 ghost use Rattle.sim_base.specs.Addresses.{loopback, is_same_ip};
 ghost use Rattle.sim_base.specs.declared.address.Addr.{Addr};
+ghost use Rattle.sim_base.specs.declared.address.Ip.{Ip};
+ghost use Rattle.sim_base.specs.declared.event.Event.{Event};
+ghost use Rattle.sim_base.specs.declared.event.What.TheVariants as what;
+ghost use Rattle.sim_base.specs.declared.packet.Packet.{Packet};
 ghost use Rattle.sock_udp.specs.Socket.{UdpState, takes};
 ghost use Rattle.sock_tcp.specs.connection.Tcb.{Tcb};
 ghost use Rattle.sock_tcp.specs.listener.Listen.{Listen};
@@ -12,17 +16,23 @@ ghost use Rattle.tcp_streams.specs.Stream.{IsSimple, stream_of, IsFaithful};
 ghost use Rattle.host_sockets.specs.Accepting.{accepts_at};
 ghost use Rattle.host_sockets.specs.Connecting.{connect_asked};
 ghost use Rattle.host_sockets.specs.TcpSocket.{TcpSocket, listens_to};
+ghost use Rattle.host_state.specs.declared.line.Line.{Line};
 ghost use Rattle.host_state.specs.declared.net.Net.{Net};
 ghost use Rattle.host_state.specs.declared.row.Row.{Row};
+ghost use Rattle.host_state.specs.Captures.{is_loopback};
+ghost use Rattle.host_state.specs.Fire.{fire};
+ghost use Rattle.host_state.specs.Home.{home};
 ghost use Rattle.host_state.specs.HostRecord.{HostRecord};
 ghost use Rattle.host_state.specs.World.{World, IsResult, opening_world};
 ghost use Rattle.host_state.specs.WorldStreams.{streams_in};
+ghost use Rattle.world_order.specs.World.{Logged};
 ghost use Rattle.out_text.specs.declared.streams.Fate.TheVariants.{Counted};
 ghost use Rattle.out_text.specs.declared.streams.Stream.{Stream};
 ghost use Rattle.socket_laws.specs.Apart.{BoundApart, BoundHere};
 ghost use Rattle.socket_laws.specs.Pairs.{live_records};
 ghost use Rattle.socket_streams.specs.Home.{AreAtHome};
 ghost use Rattle.run_streams.specs.Nets.{host_records, world_records};
+ghost use Rattle.run_streams.specs.Past.{TellsStays, WasLogged};
 ghost use Rattle.run_streams.specs.Run.{IsReached, HasHistory, AreOutside, ArePlaced, AreHosts};
 
 /// In every world that a run reaches, its result among them, what was read at one end is a front of what
@@ -81,4 +91,21 @@ pub fn lines_hold()
     ensures whole { (net : Net) (rows : List Row) (w : World) (s : Stream) (n m : ℕ) → AreHosts net rows
         → IsReached net (opening_world rows) w
         → Contains (streams_in w) s → s.fate ≡ Counted n m true → m ≡ n }
+{}
+
+/// In every world that a run reaches, a packet that comes to its host past the network, by a Loop, has
+/// addresses of that host at both ends, and one that is on its way through the network has not, whatever
+/// the host; so the lines that are logged as an event fires tell by addresses which packets stay at their
+/// host, and each line of the packet log was logged so.
+pub fn packets_stay()
+    ensures past { (net : Net) (rows : List Row) (w : World) (e : Event) (p : Packet) (h : HostRecord) → AreHosts net rows
+        → IsReached net (opening_world rows) w → Contains w.events e → e.what ≡ what.Loop p → slice_get w.hosts (home net e) ≡ Some h
+        → is_loopback h.row.address p ≡ true }
+    ensures network { (net : Net) (rows : List Row) (w : World) (e : Event) (p : Packet) (own : Ip) → AreHosts net rows
+        → IsReached net (opening_world rows) w → Contains w.events e → e.what ≡ what.Packet p → is_loopback own p ≡ false }
+    ensures lines { (net : Net) (rows : List Row) (w : World) (e : Event) (h : HostRecord) (line : Line) → AreHosts net rows
+        → IsReached net (opening_world rows) w → Contains w.events e → slice_get w.hosts (home net e) ≡ Some h
+        → Contains (fire net h e).lines line → TellsStays h.row.address e.what line }
+    ensures log { (net : Net) (rows : List Row) (w : World) (l : Logged Line) → AreHosts net rows
+        → IsReached net (opening_world rows) w → Contains w.log l → WasLogged net rows l }
 {}

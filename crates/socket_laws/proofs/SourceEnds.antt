@@ -19,11 +19,11 @@ use Rattle.host_sockets.specs.Binding.{bound_to_use, end_to_use}
 use Rattle.host_sockets.specs.Connecting.{refuse_connected, reach_from, reach, source_end, connect_begins, connect_begun, connect_asked}
 
 -- what a chain of questions answers
-pub first_ok : {B : Type 0} (a : Result (Unit {0}) Refusal) (b : Result B Refusal) (x : B) → (a >> b) ≡ Ok x → a ≡ Ok tt
+pub first_ok : {B E : Type 0} (a : Result (Unit {0}) E) (b : Result B E) (x : B) → (a >> b) ≡ Ok x → a ≡ Ok tt
 first_ok (Ok u) b x e = refl
 first_ok (Err why) b x e = cc
 
-pub next_ok : {B : Type 0} (a : Result (Unit {0}) Refusal) (b : Result B Refusal) (x : B) → (a >> b) ≡ Ok x → b ≡ Ok x
+pub next_ok : {B E : Type 0} (a : Result (Unit {0}) E) (b : Result B E) (x : B) → (a >> b) ≡ Ok x → b ≡ Ok x
 next_ok (Ok u) b x e = e
 next_ok (Err why) b x e = cc
 
@@ -41,7 +41,7 @@ connect_source hosts k to own t e =
     found_source (bound_to_use k t) (λ bound. source_end t.own bound to) (λ end. has_pair end to t) _ own (next_ok (connect_begun hosts k to t) _ own e)
 
 -- a socket that is bound to 127.0.0.1 connects to it alone
-not_refused : (inside local : Bool) (why : Refusal) → refuse_if (inside && not local) why ≡ Ok tt → inside ≡ true → local ≡ true
+pub not_refused : {E : Type 0} (inside local : Bool) (why : E) → refuse_if (inside && not local) why ≡ Ok tt → inside ≡ true → local ≡ true
 not_refused true true why e i = refl
 not_refused true false why e i = cc
 not_refused false local why e i = cc
@@ -57,13 +57,13 @@ begins_reach hosts to s e =
     first_ok (reach hosts to s) _ tt third
 
 -- what an unbound one is bound to is no single address
-free_any : (o : Option ℕ) (bound : Addr) → or_refuse (option_map (at_port any) o) (refusal.Errno Eaddrnotavail) ≡ Ok bound → is_same_ip bound.ip any ≡ true
-free_any None bound e = cc
-free_any (Some port) bound e = let same : at_port any port ≡ bound = cc in ap (λ (x : Addr). is_same_ip x.ip any) (sym same)
+free_any : {E : Type 0} (why : E) (o : Option ℕ) (bound : Addr) → or_refuse (option_map (at_port any) o) why ≡ Ok bound → is_same_ip bound.ip any ≡ true
+free_any why None bound e = cc
+free_any why (Some port) bound e = let same : at_port any port ≡ bound = cc in ap (λ (x : Addr). is_same_ip x.ip any) (sym same)
 
-pub bound_is : (o : Option Addr) (ends : List Addr) (bound : Addr) → or_refuse (or_else o (at_free_port ends any)) (refusal.Errno Eaddrnotavail) ≡ Ok bound → (o ≡ Some bound) ⊎ (is_same_ip bound.ip any ≡ true)
-bound_is None ends bound e = inr (free_any (least_free_port ends) bound e)
-bound_is (Some at) ends bound e = let same : at ≡ bound = cc in inl (ap (λ (x : Addr). Some x) same)
+pub bound_is : {E : Type 0} (why : E) (o : Option Addr) (ends : List Addr) (bound : Addr) → or_refuse (or_else o (at_free_port ends any)) why ≡ Ok bound → (o ≡ Some bound) ⊎ (is_same_ip bound.ip any ≡ true)
+bound_is why None ends bound e = inr (free_any why (least_free_port ends) bound e)
+bound_is why (Some at) ends bound e = let same : at ≡ bound = cc in inl (ap (λ (x : Addr). Some x) same)
 
 inside_with : (hosts : List Ip) (to : Ip) (o : Option Addr) (bound : Addr) → reach_from hosts to o ≡ Ok tt → (o ≡ Some bound) ⊎ (is_same_ip bound.ip any ≡ true) → is_same_ip bound.ip any ≡ false → is_same_ip bound.ip loopback ≡ true → is_same_ip to loopback ≡ true
 inside_with hosts to o bound r is other inside =
@@ -72,10 +72,10 @@ inside_with hosts to o bound r is other inside =
 inside_at : (hosts : List Ip) (to bound : Addr) (t : SocketsRecord) (o : Option TcpSocket) → (or_refuse o (refusal.Errno Ebadf) >>= λ s. connect_begins hosts to s) ≡ Ok tt → (or_refuse o (refusal.Errno Ebadf) >>= λ s. end_to_use t s) ≡ Ok bound → is_same_ip bound.ip any ≡ false → is_same_ip bound.ip loopback ≡ true → is_same_ip to.ip loopback ≡ true
 inside_at hosts to bound t None begun used other inside = cc
 inside_at hosts to bound t (Some s) begun used other inside =
-    inside_with hosts to.ip s.bound bound (begins_reach hosts to s begun) (bound_is s.bound (tcp_ends t) bound used) other inside
+    inside_with hosts to.ip s.bound bound (begins_reach hosts to s begun) (bound_is (refusal.Errno Eaddrnotavail) s.bound (tcp_ends t) bound used) other inside
 
 -- from 127.0.0.1 to it alone
-source_inside : (host bound to : Ip) → is_same_ip host loopback ≡ false → (is_same_ip bound any ≡ false → is_same_ip bound loopback ≡ true → is_same_ip to loopback ≡ true) → is_same_ip (source_ip host bound to) loopback ≡ true → is_same_ip to loopback ≡ true
+pub source_inside : (host bound to : Ip) → is_same_ip host loopback ≡ false → (is_same_ip bound any ≡ false → is_same_ip bound loopback ≡ true → is_same_ip to loopback ≡ true) → is_same_ip (source_ip host bound to) loopback ≡ true → is_same_ip to loopback ≡ true
 source_inside host bound to outside reaches =
     let P : Ip → Type 0 = λ ip. is_same_ip ip loopback ≡ true → is_same_ip to loopback ≡ true in
     by_test P (is_same_ip bound any) (if is_same_ip to loopback then loopback else host) bound
@@ -110,15 +110,15 @@ connect_to hosts k to own bound t e used here inside =
     ap (λ (x : Addr). is_same_ip x.ip loopback || is_same_ip x.ip t.own) is ∙ source_to t.own bound.ip to.ip here inside
 
 -- a datagram that is sent
-packet_in : Packet → Result (Packet × SocketsRecord) Refusal → Packet
+unfoldable pub packet_in : Packet → Result (Packet × SocketsRecord) Refusal → Packet
 packet_in p (Ok (q, t)) = q
 packet_in p (Err why) = p
 
-record_in : SocketsRecord → Result (Packet × SocketsRecord) Refusal → SocketsRecord
+unfoldable pub record_in : SocketsRecord → Result (Packet × SocketsRecord) Refusal → SocketsRecord
 record_in t (Ok (q, after)) = after
 record_in t (Err why) = t
 
-set_there : (slots : List (Option UdpState)) (k : ℕ) (x y : Option UdpState) → slice_get slots k ≡ Some x → slice_get (set slots k y) k ≡ Some y
+pub set_there : (slots : List (Option UdpState)) (k : ℕ) (x y : Option UdpState) → slice_get slots k ≡ Some x → slice_get (set slots k y) k ≡ Some y
 set_there [] k x y e = cc
 set_there (z ∷ slots) zero x y e = refl
 set_there (z ∷ slots) (suc k) x y e = set_there slots k x y e

@@ -10,3 +10,6 @@ pub mod Rows
 pub mod Acts
 pub mod Moving
 pub mod HomeActs
+pub mod Senders
+pub mod EndActs
+pub mod OwnEnds

@@ -27,11 +27,11 @@ pub alarm-packets : (object : ObjectId) (due : Time) (w : Wanted) → packets_of
 alarm-packets object due w =
     filter_map-append packet_in w.wants (Alarm object (next_serial w) due ∷ []) ∙ append-nil (packets_of w)
 
-starts-packets : (now : Time) (k : ℕ) (o : Option Time) (s : TcpSocket) (w : Wanted) → packets_of (starts now k o s w).1 ≡ packets_of w
+pub starts-packets : (now : Time) (k : ℕ) (o : Option Time) (s : TcpSocket) (w : Wanted) → packets_of (starts now k o s w).1 ≡ packets_of w
 starts-packets now k None s w = refl
 starts-packets now k (Some length) s w = alarm-packets (object_of k) (due_after now length) w
 
-timer_starts-packets : (now : Time) (k : ℕ) (a b : Addr) (o : Option Time) (timers : List KeptTimer) (w : Wanted) → packets_of (timer_starts now k a b o timers w).1 ≡ packets_of w
+pub timer_starts-packets : (now : Time) (k : ℕ) (a b : Addr) (o : Option Time) (timers : List KeptTimer) (w : Wanted) → packets_of (timer_starts now k a b o timers w).1 ≡ packets_of w
 timer_starts-packets now k a b None timers w = refl
 timer_starts-packets now k a b (Some length) timers w = alarm-packets (object_of k) (due_after now length) w
 

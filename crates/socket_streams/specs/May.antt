@@ -1,5 +1,5 @@
 -- what may happen at a host's sockets, and what they are then
-use Rattle.std.specs.Prelude.{◌≡◌, ◌⊎◌, ℕ, true, List, [], ◌∷◌, ◌++◌, Contains, slice_get, Option, Some, None}
+use Rattle.std.specs.Prelude.{◌≡◌, ◌⊎◌, ℕ, true, List, [], ◌∷◌, ◌++◌, Contains, slice_get, Option, Some, None, Ok}
 use Rattle.sim_base.specs.Addresses.{is_local}
 use Rattle.sim_base.specs.declared.address.Ip.{Ip}
 use Rattle.sim_base.specs.declared.address.Addr.{Addr}
@@ -10,6 +10,7 @@ use Rattle.sock_tcp.specs.listener.Listen.{Listen}
 use Rattle.host_sockets.specs.Wanted.{Wanted}
 use Rattle.host_sockets.specs.TcpSocket.{TcpSocket}
 use Rattle.host_sockets.specs.Sockets.{SocketsRecord}
+use Rattle.host_sockets.specs.Udp.{sends_udp}
 use Rattle.tcp_streams.specs.Net.{IsVoid}
 use Rattle.socket_laws.specs.Histories.{SocketsAct, sockets_acted, sockets_after}
 use Rattle.socket_laws.specs.Histories.SocketsAct.{make_udp, bind_udp, connect_udp, send_udp, recv_udp, close_udp, make_tcp, bind_tcp, listen_tcp, accept_tcp, connect_tcp, connect_again, send_tcp, recv_tcp, shut_tcp, take_error, close_tcp, arrival, alarm, elsewhere}
@@ -56,6 +57,24 @@ MayAll hosts flying ((now, act) ∷ acts) t w =
     MayDo flying (flying ++ packets_of w) act
     × MayAll hosts flying acts (sockets_acted hosts now act t w).0 (sockets_acted hosts now act t w).1
 
+-- a packet that a UDP socket of the host sent, and these are the sockets that the call left
+pub record HasSent (hosts : List Ip) (t : SocketsRecord) (p : Packet) : Type 0 where
+  pub number : ℕ
+  pub bytes : List ℕ
+  pub to : Option Addr
+  pub before : SocketsRecord
+  pub sent : sends_udp hosts number bytes to before ≡ Ok (p, t)
+
+-- what is wanted elsewhere was wanted before, or is such a packet
+abbrev pub IsTold : List Ip → SocketsRecord → Wanted → SocketsAct → Type 0
+IsTold hosts t w (elsewhere after) = (p : Packet) → Contains (packets_of after) p → Contains (packets_of w) p ⊎ HasSent hosts t p
+IsTold hosts t w _ = Unit {0}
+
+abbrev pub AreTold : List Ip → List (Time × SocketsAct) → SocketsRecord → Wanted → Type 0
+AreTold hosts [] t w = Unit {0}
+AreTold hosts ((now, act) ∷ acts) t w =
+    IsTold hosts t w act × AreTold hosts acts (sockets_acted hosts now act t w).0 (sockets_acted hosts now act t w).1
+
 -- such acts lead from one state of a host's sockets to another
 pub record MovesFreely (hosts : List Ip) (flying : List Packet) (x y : SocketsRecord × Wanted) : Type 0 where
   pub acts : List (Time × SocketsAct)
@@ -65,6 +84,7 @@ pub record MovesFreely (hosts : List Ip) (flying : List Packet) (x y : SocketsRe
 pub record Moves (hosts : List Ip) (flying : List Packet) (x y : SocketsRecord × Wanted) : Type 0 where
   pub acts : List (Time × SocketsAct)
   pub may : MayAll hosts flying acts x.0 x.1
+  pub told : AreTold hosts acts x.0 x.1
   pub after : sockets_after hosts acts x ≡ y
 
 -- a socket that listens has no record of its own, and what a socket is bound to is an address of the host

@@ -1,0 +1,7 @@
+pub mod Walk
+pub mod Apart
+pub mod Given
+pub mod Planned
+pub mod Rows
+pub mod Hosts
+pub mod Runs

@@ -1,0 +1,117 @@
+-- The hosts of a plan that is to be run are those of a configuration.
+use Rattle.std.proofs.Common.{◌≡◌, ℕ, Bool, true, false, List, [], Result, Ok, Err, IfOk, ap, subst, codes}
+use Rattle.sim_base.specs.Files.{Held}
+use Rattle.gml_graph.specs.declared.graph.Graph.{Graph}
+use Rattle.yaml_tree.specs.Trees.{is_empty}
+use Rattle.yaml_merge.specs.SaidAt.{said_of}
+use Rattle.command_line.specs.Asked.{asked}
+use Rattle.command_line.specs.declared.asked.Asked.{Asked}
+use Rattle.command_line.specs.declared.asked.Subject.{Subject}
+use Rattle.command_line.specs.declared.asked.Subject.TheVariants.{File, SelfLoad, Capture}
+use Rattle.command_line.specs.declared.fault.WordsFault.{WordsFault}
+use Rattle.shd_config.specs.Config.{config}
+use Rattle.shd_config.specs.declared.config.Config.{Config}
+use Rattle.shd_config.specs.declared.fault.ConfigFault.{ConfigFault}
+use Rattle.shd_config.specs.declared.overrides.Overrides.{Overrides}
+use Rattle.run_plan.specs.Configured.{or_config_fault, configured}
+use Rattle.run_plan.specs.HostRows.{host_rows}
+use Rattle.run_plan.specs.InRange.{IsInRange}
+use Rattle.run_plan.specs.Outcomes.{Outcomes}
+use Rattle.run_plan.specs.Plan.{run_of, plan_of}
+use Rattle.run_plan.specs.Planned.{or_words_fault, manner_of, runs, shown_or_run, file_planned, self_load_planned, capture_planned, planned_of, planned}
+use Rattle.run_plan.specs.Ring.{ring_files}
+use Rattle.run_plan.specs.SelfLoad.{self_load_config, self_load_graph}
+use Rattle.run_plan.specs.declared.fault.Fault.{Fault}
+use Rattle.run_plan.specs.declared.host_row.HostRow.{HostRow}
+use Rattle.run_plan.specs.declared.plan.Plan.{Plan}
+use Rattle.run_plan.specs.declared.planned.Manner.{Manner}
+use Rattle.run_plan.specs.declared.planned.Planned.{Planned}
+use Rattle.run_plan.specs.declared.planned.Planned.TheVariants.{Runs}
+use Rattle.run_plan.specs.declared.planned.Run.{Run}
+use Rattle.run_plan.proofs.InRangeLemmas.{asked_in_range}
+use Rattle.stream_lines.proofs.Given.{HasHosts, config_has, self_load_has}
+
+-- these are the rows of hosts of a configuration
+pub record AreRows (rows : List HostRow) : Type 0 where
+  pub name : List ℕ
+  pub graph : Graph
+  pub configuration : Config
+  pub are : host_rows name graph configuration.hosts (Ok rows)
+  pub hosts : HasHosts configuration
+
+-- ---- a plan
+
+abbrev rows_in : Result Plan Fault → List HostRow
+rows_in (Ok plan) = plan.rows
+rows_in (Err fault) = []
+
+run_rows : (held : Held) (name : List ℕ) (graph : Graph) (c : Config) (plan : Plan) → HasHosts c → run_of held name graph c (Ok plan) → AreRows plan.rows
+unfolding run_of
+run_rows held name graph c plan has (rows, h, (routes, k, (images, m, (lookahead, n, e)))) =
+    let same : rows ≡ plan.rows = ap rows_in e in
+    record { name = name; graph = graph; configuration = c; are = subst (λ (found : List HostRow). host_rows name graph c.hosts (Ok found)) same h; hosts = has }
+
+plan_rows : (held : Held) (name : List ℕ) (c : Config) (plan : Plan) → HasHosts c → plan_of held name c (Ok plan) → AreRows plan.rows
+unfolding plan_of
+plan_rows held name c plan has (graph, g, h) = run_rows held name graph c plan has h
+
+-- ---- a plan that is to be run
+
+abbrev plan_in : Plan → Planned → Plan
+plan_in other (Runs run) = run.plan
+plan_in other _ = other
+
+abbrev planned_in : Planned → Result Planned Fault → Planned
+planned_in other (Ok p) = p
+planned_in other (Err fault) = other
+
+is_run : (shows : Bool) (c : Config) (outcomes : Outcomes Plan) (m : Manner) (is_self_load : Bool) (run : Run) → ((plan : Plan) → outcomes (Ok plan) → AreRows plan.rows)
+    → shown_or_run shows c outcomes (runs m is_self_load) (Ok (Runs run)) → AreRows run.plan.rows
+is_run true c outcomes m is_self_load run each e = cc
+is_run false c outcomes m is_self_load run each (plan, h, e) =
+    let same : plan ≡ run.plan = ap (λ (r : Result Planned Fault). plan_in plan (planned_in (Runs run) r)) e in
+    subst (λ (p : Plan). AreRows p.rows) same (each plan h)
+
+-- ---- a file
+
+config_is : (name : List ℕ) (read : Result Config ConfigFault) (c : Config) → or_config_fault name read ≡ Ok c → read ≡ Ok c
+config_is name (Ok d) c e = cc
+config_is name (Err fault) c e = cc
+
+configured_has : (name text : List ℕ) (o : Overrides) (c : Config) → configured name text o (Ok c) → HasHosts c
+unfolding configured
+configured_has name text o c (tree, t, e) =
+    subst (λ (read : Result Config ConfigFault). IfOk read HasHosts) (config_is name (config o (is_empty tree) (said_of tree)) c e) (config_has o (is_empty tree) (said_of tree))
+
+file_rows : (m : Manner) (held : Held) (name : List ℕ) (run : Run) → file_planned m held name (Ok (Runs run)) → AreRows run.plan.rows
+unfolding file_planned
+file_rows m held name run (text, h, (c, k, s)) =
+    is_run m.shows_config c (plan_of held name c) m false run (λ plan p. plan_rows held name c plan (configured_has name text m.overrides c k) p) s
+
+-- ---- a self-load
+
+self_load_rows : (m : Manner) (hosts : ℕ) (held : Held) (run : Run) → IsInRange (SelfLoad hosts) → self_load_planned m hosts (Ok (Runs run)) → AreRows run.plan.rows
+unfolding self_load_planned
+self_load_rows m hosts held run range s =
+    let c : Config = self_load_config m.overrides hosts in
+    is_run m.shows_config c (run_of ring_files (codes "self-load") (self_load_graph hosts) c) m true run
+    (λ plan p. run_rows ring_files (codes "self-load") (self_load_graph hosts) c plan (self_load_has m.overrides hosts range.1) p) s
+
+-- ---- what is asked
+
+no_run : (m : Manner) (held : Held) (name : List ℕ) (run : Run) → capture_planned held name (Ok (Runs run)) → ⊥
+unfolding capture_planned
+no_run m held name run (bytes, h, (capture, k, e)) = cc
+
+subject_rows : (held : Held) (m : Manner) (subject : Subject) (run : Run) → IsInRange subject → planned_of held m subject (Ok (Runs run)) → AreRows run.plan.rows
+subject_rows held m (File name) run range h = file_rows m held name run h
+subject_rows held m (SelfLoad hosts) run range h = self_load_rows m hosts held run range h
+subject_rows held m (Capture name) run range h = absurd (no_run m held name run h)
+
+asked_is : (read : Result Asked WordsFault) (a : Asked) → or_words_fault read ≡ Ok a → read ≡ Ok a
+asked_is (Ok b) a e = cc
+asked_is (Err fault) a e = cc
+
+pub planned_rows : (words : List (List ℕ)) (held : Held) (run : Run) → planned words held (Ok (Runs run)) → AreRows run.plan.rows
+unfolding planned
+planned_rows words held run (a, e, h) = subject_rows held (manner_of a) a.subject run (asked_in_range words a (asked_is (asked words) a e)).subject h
