@@ -1,6 +1,5 @@
 pub mod BookLemmas
 pub mod DrawsLemmas
-pub mod FilesLemmas
 pub mod PortLemmas
 pub mod Putting
 pub mod QuantityLemmas

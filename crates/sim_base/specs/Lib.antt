@@ -1,7 +1,6 @@
 pub mod AddressLaws
 pub mod Addresses
 pub mod Ascii
-pub mod Calls
 pub mod Draws
 pub mod Errno
 pub mod Faults
@@ -9,8 +8,6 @@ pub mod Files
 pub mod Key
 pub mod KeyLaws
 pub mod Limits
-pub mod MemSink
-pub mod MemSource
 pub mod Packet
 pub mod Poll
 pub mod Quantity

@@ -41,9 +41,7 @@ pub use key::{Key, Kind};
 pub use memory::NoMemory;
 pub use name::Name;
 pub use object::ObjectId;
-pub use outside::{
-    MemSink, MemSource, Place, ReadError, Sink, Source, Tally, WriteError, put_all, read_all,
-};
+pub use outside::{Place, ReadError, Sink, Source, Tally, WriteError, put_all, read_all};
 pub use packet::{ACK, FIN, Load, Packet, RST, SYN};
 pub use poll::{POLLERR, POLLHUP, POLLIN, POLLNVAL, POLLOUT, POLLRDHUP};
 pub use ports::{at_free_port, is_taken, least_free_port, with_port};

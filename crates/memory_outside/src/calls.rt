@@ -1,9 +1,9 @@
 //! Which calls of an outside in memory fail.
 
 ghost use Rattle.std.specs.Prelude.{◌≡◌, ◌++◌, ◌∷◌, [], OnOk, OnErr, IsTrue, ◌↔◌};
-ghost use Rattle.sim_base.specs.Calls.{Makes, Fails, no_calls};
+ghost use Rattle.memory_outside.specs.Calls.{Makes, Fails, no_calls};
 
-use crate::memory::NoMemory;
+use sim_base::NoMemory;
 use std::alloc::Global;
 use std::marker::Model;
 
@@ -16,7 +16,7 @@ pub struct Calls {
 }
 
 impl Model for Calls {
-    ghost use Rattle.sim_base.specs.Calls.{CallCount};
+    ghost use Rattle.memory_outside.specs.Calls.{CallCount};
 
     ghost Value = { CallCount };
 

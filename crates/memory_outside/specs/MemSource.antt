@@ -1,7 +1,8 @@
 -- what a source in memory holds
-use Rattle.sim_base.specs.declared.outside.mem_source.MemSource.{MemSource}
-use Rattle.sim_base.specs.Calls.{CallCount}
-use Rattle.sim_base.specs.Files.{Held, files_of}
+use Rattle.memory_outside.specs.declared.source.MemSource.{MemSource}
+use Rattle.memory_outside.specs.Calls.{CallCount}
+use Rattle.sim_base.specs.Files.{Held}
+use Rattle.memory_outside.specs.Files.{files_of}
 
 -- the bytes of each file by its name
 abbrev pub mem_files : MemSource → Held

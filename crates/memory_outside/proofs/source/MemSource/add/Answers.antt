@@ -1,6 +1,6 @@
 use Rattle.std.proofs.Common.{string_bytes}
-use Rattle.sim_base.proofs.FilesLemmas.{files_of-with_file}
-use Rattle.sim_base.proofs.outside.mem_source.MemSource.add.Goals as goal
+use Rattle.memory_outside.proofs.FilesLemmas.{files_of-with_file}
+use Rattle.memory_outside.proofs.source.MemSource.add.Goals as goal
 
 pub returns-clause-ok : goal.returns-clause-ok
 returns-clause-ok c =

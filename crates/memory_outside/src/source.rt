@@ -1,13 +1,12 @@
 //! A source in memory.
 
 ghost use Rattle.std.specs.Prelude.{◌≡◌, ◌<◌, ◌≤◌, ◌++◌, ◌∷◌, [], length, OnOk, OnErr, string_bytes};
-ghost use Rattle.sim_base.specs.Calls.{no_calls};
+ghost use Rattle.memory_outside.specs.Calls.{no_calls};
 ghost use Rattle.sim_base.specs.Files.{no_files, with_file};
 ghost use Rattle.sim_base.specs.Source.{IsPiece};
 
-use crate::memory::NoMemory;
-use crate::outside::calls::Calls;
-use crate::outside::source::{ReadError, Source};
+use crate::calls::Calls;
+use sim_base::{NoMemory, ReadError, Source};
 use std::alloc::Global;
 use std::collections::BTreeMap;
 
@@ -35,7 +34,7 @@ fn copy_piece(bytes: &[u8], at: u64, into: &mut [u8], most: usize) -> usize
 }
 
 impl MemSource {
-    ghost use Rattle.sim_base.specs.MemSource.{mem_files, mem_calls};
+    ghost use Rattle.memory_outside.specs.MemSource.{mem_files, mem_calls};
 
     pub fn new(alloc: Global) -> MemSource
         ensures files { mem_files result ≡ no_files }
@@ -78,7 +77,7 @@ impl MemSource {
 
 impl Source for MemSource {
     ghost use Rattle.std.specs.Prelude.{Some};
-    ghost use Rattle.sim_base.specs.MemSource.{mem_files, mem_calls};
+    ghost use Rattle.memory_outside.specs.MemSource.{mem_files, mem_calls};
 
     ghost held = { λ s. Some (mem_files s) };
 

@@ -1,16 +1,14 @@
 //! A sink in memory.
 
 ghost use Rattle.std.specs.Prelude.{◌≡◌, ◌<◌, ◌≤◌, ◌++◌, ◌∷◌, [], length, take, not, option_map, Some, IfOk, OnOk, OnErr};
-ghost use Rattle.sim_base.specs.Calls.{no_calls};
-ghost use Rattle.sim_base.specs.Files.{files_of, add_to_file};
+ghost use Rattle.memory_outside.specs.Calls.{no_calls};
+ghost use Rattle.sim_base.specs.Files.{add_to_file};
+ghost use Rattle.memory_outside.specs.Files.{files_of};
 ghost use Rattle.sim_base.specs.Sink.{nothing, add, Begins};
 ghost use Rattle.sim_base.specs.Tally.{no_calls_yet};
 
-use crate::memory::NoMemory;
-use crate::name::Name;
-use crate::outside::calls::Calls;
-use crate::outside::sink::{Place, Sink, WriteError};
-use crate::outside::tally::Tally;
+use crate::calls::Calls;
+use sim_base::{Name, NoMemory, Place, Sink, Tally, WriteError};
 use std::alloc::Global;
 use std::collections::{BTreeMap, BTreeSet};
 
@@ -29,7 +27,7 @@ pub struct MemSink {
 }
 
 impl MemSink {
-    ghost use Rattle.sim_base.specs.MemSink.{sink_content, sink_calls, sink_tally, file_count};
+    ghost use Rattle.memory_outside.specs.MemSink.{sink_content, sink_calls, sink_tally, file_count};
 
     pub fn new(alloc: Global) -> MemSink
         ensures content { sink_content result ≡ nothing }
@@ -175,7 +173,7 @@ fn add_to_file(
 
 impl Sink for MemSink {
     ghost use Rattle.std.specs.Prelude.{Some};
-    ghost use Rattle.sim_base.specs.MemSink.{sink_content, sink_tally};
+    ghost use Rattle.memory_outside.specs.MemSink.{sink_content, sink_tally};
 
     ghost content = { λ s. Some (sink_content s) };
 
