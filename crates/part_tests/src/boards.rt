@@ -9,12 +9,18 @@ use std::test::*;
 use std::thread::{Threads, join};
 
 // Of some puts: the numbers that were claimed, and those numbers and parcels that were given back, as sets of bits.
-#[derive(Clone, Copy, Debug, PartialEq)]
+#[derive(Clone, Copy)]
 struct Tally {
     claimed: u64,
     back: u64,
     parcels_back: u64,
 }
+
+const NONE: Tally = Tally {
+    claimed: 0,
+    back: 0,
+    parcels_back: 0,
+};
 
 fn bit(n: u64) -> u64 {
     1 << n.min(63)
@@ -49,11 +55,7 @@ fn put_some(
     requires fresh { carrier.entries ≡ [] }
     ensures { result.0.boards ≡ carrier.boards }
 {
-    let mut tally = Tally {
-        claimed: 0,
-        back: 0,
-        parcels_back: 0,
-    };
+    let mut tally = NONE;
     for k in 0..count {
         let put = boards.put(&mut carrier, HostId { index: to }, first.wrapping_add(k));
         tally = with(tally, put);
@@ -61,9 +63,10 @@ fn put_some(
     (carrier, tally)
 }
 
-// The parcels of each host, with a comma behind each host.
-fn shown(alloc: Global, rows: &[Vec<u32>]) -> Result<String, Fail> {
-    let mut shown = String::new(alloc);
+// The tally in hexadecimal, and the parcels of each host, with a comma behind each host.
+fn shown(alloc: Global, tally: Tally, rows: &[Vec<u32>]) -> Result<String, Fail> {
+    let (claimed, back, parcels_back) = (tally.claimed, tally.back, tally.parcels_back);
+    let mut shown = format!(in alloc; "{claimed:x} {back:x} {parcels_back:x}: ")?;
     for row in rows {
         for parcel in row {
             write!(shown, "{parcel} ")?;
@@ -74,39 +77,29 @@ fn shown(alloc: Global, rows: &[Vec<u32>]) -> Result<String, Fail> {
 }
 
 // One carrier puts so many parcels for one of the hosts, and the boards are closed.
-fn one_carrier(rt: &HostRuntime, hosts: u32, to: u32, puts: u32) -> Result<(Tally, String), Fail>
+fn one_carrier(alloc: Global, hosts: u32, to: u32, puts: u32) -> Result<String, Fail>
     requires { (hosts ≤ 16) × (to < hosts) }
 {
-    let (boards, mut carriers) = Boards::open(rt.alloc(), hosts, 1)?;
+    let (boards, mut carriers) = Boards::open(alloc, hosts, 1)?;
     let Some(carrier) = carriers.pop() else {
         return Err(Fail::new("no carrier"));
     };
     let (carrier, tally) = put_some(&boards, carrier, to, 0, puts);
     carriers.push(carrier)?;
     match boards.close(carriers) {
-        Ok(drained) => Ok((tally, shown(rt.alloc(), drained.rows.as_slice())?)),
+        Ok(drained) => shown(alloc, tally, drained.rows.as_slice()),
         Err(_) => Err(Fail::new("no memory to close")),
     }
 }
 
 #[test]
 fn a_host_has_sixteen_places(rt: HostRuntime) -> Result<(), Fail> {
-    let (tally, rows) = one_carrier(&rt, 1, 0, 17)?;
-    let full = Tally {
-        claimed: 0x1FFFF,
-        back: 0x10000,
-        parcels_back: 0x10000,
-    };
-    assert_eq!(rt; tally, full);
-    assert_eq!(rt; rows.as_str(), "0 1 2 3 4 5 6 7 8 9 10 11 12 13 14 15 ,");
-    let (tally, rows) = one_carrier(&rt, 3, 1, 2)?;
-    let few = Tally {
-        claimed: 0b11,
-        back: 0,
-        parcels_back: 0,
-    };
-    assert_eq!(rt; tally, few);
-    assert_eq!(rt; rows.as_str(), ",0 1 ,,");
+    let full = "1ffff 10000 10000: 0 1 2 3 4 5 6 7 8 9 10 11 12 13 14 15 ,";
+    assert_eq!(rt; one_carrier(rt.alloc(), 1, 0, 17)?.as_str(), full);
+    assert_eq!(rt;
+        one_carrier(rt.alloc(), 3, 1, 2)?.as_str(),
+        "3 0 0: ,0 1 ,,"
+    );
     Ok(())
 }
 
@@ -117,17 +110,37 @@ fn nothing_is_drained_without_a_put(rt: HostRuntime) -> Result<(), Fail> {
     let Ok(drained) = boards.close(carriers) else {
         return Err(Fail::new("no memory to close"));
     };
-    assert_eq!(rt; shown(rt.alloc(), drained.rows.as_slice())?.as_str(), ",,,");
+    let text = shown(rt.alloc(), NONE, drained.rows.as_slice())?;
+    assert_eq!(rt; text.as_str(), "0 0 0: ,,,");
     Ok(())
 }
 
-// The parcels as a set of bits.
-fn set_of(parcels: &[u32]) -> u64 {
+// How many parcels there are, and which, as a set of bits.
+fn placed(rows: &[Vec<u32>]) -> (u64, u64) {
+    let mut count = 0u64;
     let mut set = 0;
-    for parcel in parcels {
-        set |= bit(u64::from(*parcel));
+    for row in rows {
+        for parcel in row {
+            count = count.wrapping_add(1);
+            set |= bit(u64::from(*parcel));
+        }
     }
-    set
+    (count, set)
+}
+
+// What two carriers claimed both, and one of them; what was given back of it; the parcels that lie there, those of them that
+// were given back, and all.
+fn told(first: Tally, second: Tally, rows: &[Vec<u32>]) -> [u64; 6] {
+    let (count, set) = placed(rows);
+    let back = first.parcels_back | second.parcels_back;
+    [
+        first.claimed & second.claimed,
+        first.claimed | second.claimed,
+        first.back | second.back,
+        count,
+        set & back,
+        set | back,
+    ]
 }
 
 // Two carriers put nine parcels each for one host, at once.
@@ -164,17 +177,7 @@ fn both(rt: &(impl Threads + Sync + AllocGlobal)) -> Result<(Tally, Tally, Vec<V
 #[test]
 fn two_carriers_put_at_once(rt: HostRuntime) -> Result<(), Fail> {
     let (first, second, rows) = both(&rt)?;
-    let claimed = (
-        first.claimed & second.claimed,
-        first.claimed | second.claimed,
-    );
-    assert_eq!(rt; claimed, (0, 0x3FFFF));
-    assert_eq!(rt; first.back | second.back, 0x30000);
-    let [row] = rows.as_slice() else {
-        return Err(Fail::new("one host has its parcels"));
-    };
-    let placed = set_of(row.as_slice());
-    let back = first.parcels_back | second.parcels_back;
-    assert_eq!(rt; (row.len(), placed & back, placed | back), (16, 0, 0x3FFFF));
+    let told = told(first, second, rows.as_slice());
+    assert_eq!(rt; told, [0, 0x3FFFF, 0x30000, 16, 0, 0x3FFFF]);
     Ok(())
 }

@@ -5,7 +5,7 @@ ghost use Rattle.std.specs.Prelude.{◌≡◌, ◌<◌};
 use crate::rows::parted;
 use elf_load::{ProgramHeader, executable, load};
 use guest_mem::{FetchHint, Mem};
-use rv32_machine::{Cpu, Insn, Outcome, Steps, TurnEnd, decode, step, turn};
+use rv32_machine::{Cpu, Steps, TurnEnd, turn};
 use std::alloc::{AllocError, Global};
 use std::marker::Brand;
 use std::sync::ledger::{Blank, Ledger};
@@ -97,27 +97,37 @@ fn name(end: TurnEnd) -> &'static str {
     }
 }
 
+/// Two pages of these rights, of which the first begins with these words.
+fn pages(alloc: Global, rights: &str, words: &str) -> Result<Mem, Fail> {
+    let rights = hexadecimal(rights)?;
+    let mut code = Vec::new(alloc);
+    for word in words.split_whitespace() {
+        code.push(hexadecimal(word)?)?;
+    }
+    let segments = [[0x10000, 0x1000, rights], [0x11000, 0x1000, rights]];
+    let bytes = file(alloc, segments, code.as_slice())?;
+    memory(alloc, &bytes)
+}
+
+/// How a turn ended.
+fn shown(alloc: Global, end: TurnEnd, cpu: &Cpu) -> Result<String, AllocError> {
+    let (end, pc, x10) = (name(end), cpu.pc, cpu.x[10]);
+    match cpu.reservation {
+        Some(place) => format!(in alloc; "{end} {pc:x} {x10:x} {place:x}"),
+        None => format!(in alloc; "{end} {pc:x} {x10:x} -"),
+    }
+}
+
 /// How the turn of a row ends.
 fn ended(alloc: Global, row: &str) -> Result<String, Fail> {
     let (rights, row) = parted(row, ' ')?;
     let (budget, row) = parted(row, ' ')?;
-    let (x10, row) = parted(row, ' ')?;
-    let mut words = Vec::new(alloc);
-    for word in row.split_whitespace() {
-        words.push(hexadecimal(word)?)?;
-    }
-    let rights = hexadecimal(rights)?;
-    let segments = [[0x10000, 0x1000, rights], [0x11000, 0x1000, rights]];
-    let bytes = file(alloc, segments, words.as_slice())?;
-    let mut mem = memory(alloc, &bytes)?;
+    let (x10, words) = parted(row, ' ')?;
     let mut cpu = start(hexadecimal(x10)?);
-    let end = name(ran(&mut cpu, &mut mem, budget.parse::<u64>()?));
-    let mut shown = format!(in alloc; "{end} {:x} {:x} ", cpu.pc, cpu.x[10])?;
-    match cpu.reservation {
-        Some(place) => write!(shown, "{place:x}")?,
-        None => write!(shown, "-")?,
-    }
-    Ok(shown)
+    let budget = budget.parse::<u64>()?;
+    let mut mem = pages(alloc, rights, words)?;
+    let end = ran(&mut cpu, &mut mem, budget);
+    Ok(shown(alloc, end, &cpu)?)
 }
 
 #[test]
@@ -129,25 +139,6 @@ fn turns_end_as_the_rows_say(rt: HostRuntime) -> Result<(), Fail> {
         assert_eq!(rt; shown.as_str(), wanted.trim(), "{title}");
     }
     Ok(())
-}
-
-#[test]
-fn one_instruction_runs(rt: HostRuntime) -> Result<(), Fail> {
-    // ADDI x10, x0, 7
-    let words = [0x00700513, 0, 0, 0, 0, 0, 0, 0];
-    let segments = [[0x10000, 0x1000, 7], [0x11000, 0x1000, 7]];
-    let bytes = file(rt.alloc(), segments, &words)?;
-    let mut mem = memory(rt.alloc(), &bytes)?;
-    let mut cpu = start(0);
-    let next = step(&mut cpu, &mut mem) == Outcome::Next;
-    assert_eq!(rt; (next, cpu.x[10]), (true, 7));
-    Ok(())
-}
-
-#[test]
-fn words_are_decoded(rt: HostRuntime) {
-    let decoded = [decode(0x0000_0073), decode(0x1005_25af)];
-    assert!(rt; decoded == [Some(Insn::Ecall), Some(Insn::LrW)]);
 }
 
 /// Two pages, of which the second may not be executed, and none behind them.

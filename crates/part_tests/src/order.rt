@@ -20,6 +20,15 @@ fn event(due: u64, kind: Kind, source: u32, number: u64) -> Event {
     }
 }
 
+/// When each event is due, its kind, whose it is, and its number.
+const EVENTS: [(u64, Kind, u32, u64); 5] = [
+    (2, Kind::Packet, 0, 0),
+    (1, Kind::Local, 0, 1),
+    (1, Kind::Packet, 2, 7),
+    (1, Kind::Packet, 1, 9),
+    (1, Kind::Packet, 1, 8),
+];
+
 /// An event that is not in the queue is added.
 fn adds(queue: &mut Queue, event: Event) -> bool {
     !queue.has_key(&event.key) && queue.add(event).is_ok()
@@ -33,23 +42,16 @@ fn takes(queue: &mut Queue) -> Option<u64> {
 #[test]
 fn the_least_key_comes_first(rt: HostRuntime) {
     let mut queue = Queue::new(rt.alloc());
-    let added = [
-        adds(&mut queue, event(2, Kind::Packet, 0, 0)),
-        adds(&mut queue, event(1, Kind::Local, 0, 1)),
-        adds(&mut queue, event(1, Kind::Packet, 2, 7)),
-        adds(&mut queue, event(1, Kind::Packet, 1, 9)),
-        adds(&mut queue, event(1, Kind::Packet, 1, 8)),
-    ];
-    assert_eq!(rt; (added, queue.len()), ([true; 5], 5));
-    assert!(rt; queue.least_due() == Some(nanos(1)));
-    let taken = [
-        takes(&mut queue),
-        takes(&mut queue),
-        takes(&mut queue),
-        takes(&mut queue),
-        takes(&mut queue),
-    ];
-    assert_eq!(rt; taken, [Some(8), Some(9), Some(7), Some(1), Some(0)]);
+    for (due, kind, source, number) in EVENTS {
+        assert!(rt;
+            adds(&mut queue, event(due, kind, source, number)),
+            "{number}"
+        );
+    }
+    assert!(rt; queue.len() == 5 && queue.least_due() == Some(nanos(1)));
+    for number in [8, 9, 7, 1, 0] {
+        assert_eq!(rt; takes(&mut queue), Some(number));
+    }
     assert!(rt; queue.is_empty() && queue.least_due() == None);
 }
 

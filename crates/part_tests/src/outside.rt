@@ -1,9 +1,7 @@
-//! Sources and sinks in memory with their faults, and texts that give back what they hold.
+//! Sources and sinks in memory with their faults.
 
-use sim_base::{
-    Addr, Bytes, Ip, Load, MemSink, MemSource, Name, Packet, Place, ReadError, Sink, Source, Text,
-    WriteError, put_all, read_all,
-};
+use memory_outside::{MemSink, MemSource};
+use sim_base::{Name, Place, ReadError, Sink, Source, WriteError, put_all, read_all};
 use std::alloc::Global;
 use std::test::Fail;
 
@@ -75,32 +73,4 @@ fn a_sink_takes_short_pieces(rt: HostRuntime) {
     assert_eq!(rt; (errors, piece, rest), (Ok(()), Ok(2), Ok(())));
     assert_eq!(rt; sink.err(), b"err".as_slice());
     assert_eq!(rt; sink.out(), b"out of it".as_slice());
-}
-
-#[test]
-fn texts_give_back_what_they_hold(rt: HostRuntime) -> Result<(), Fail> {
-    let mut text = Text::from_str(rt.alloc(), "exited ")?;
-    text.push_str("0")?;
-    assert_eq!(rt; text.as_str(), "exited 0");
-    assert_eq!(rt; text.clone()?.into_string().as_str(), "exited 0");
-    Ok(())
-}
-
-#[test]
-fn packets_have_a_size(rt: HostRuntime) -> Result<(), Fail> {
-    let end = Addr {
-        ip: Ip::LOOPBACK,
-        port: 7,
-    };
-    let other = Addr {
-        ip: Ip::ANY,
-        port: 9,
-    };
-    let packet = Packet {
-        from: end,
-        to: other,
-        load: Load::Udp(Bytes::from_slice(rt.alloc(), &[1, 2, 3])?),
-    };
-    assert!(rt; packet.size() == 31 && packet.clone()? == packet);
-    Ok(())
 }

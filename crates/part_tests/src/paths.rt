@@ -1,10 +1,12 @@
 //! The routes of graphs: their latency, and what arrives of 10^9.
 
+ghost use Rattle.std.specs.Prelude.{◌<◌};
+
 use crate::rows::parted;
 use gml_graph::{Graph, read_gml};
 use net_routes::routes;
 use sim_base::Time;
-use std::alloc::{AllocGlobal, Global};
+use std::alloc::{AllocError, AllocGlobal, Global};
 use std::test::Fail;
 use std::thread::Threads;
 
@@ -137,6 +139,22 @@ fn graph_of(alloc: Global, edges: &str) -> Result<Graph, Fail> {
     Ok(read_gml(alloc, text.as_bytes())?)
 }
 
+fn numbers(alloc: Global, text: &str) -> Result<Vec<u32>, Fail> {
+    let mut numbers = Vec::new(alloc);
+    for number in text.split_whitespace() {
+        numbers.push(number.parse::<u32>()?)?;
+    }
+    Ok(numbers)
+}
+
+/// A route's latency, and how many of 10^9 packets arrive.
+fn shown(alloc: Global, route: Option<(Time, u32)>) -> Result<String, AllocError> {
+    match route {
+        Some((time, arrives)) => format!(in alloc; "{} {arrives}", time.nanos),
+        None => String::from_str(alloc, "none"),
+    }
+}
+
 /// What is found where a row asks.
 fn found(
     rt: &(impl Threads + Sync + AllocGlobal),
@@ -147,16 +165,10 @@ fn found(
     let (from, asked) = parted(asked, ' ')?;
     let (to, asked) = parted(asked, ' ')?;
     let (kind, hosts) = parted(asked, ' ')?;
-    let mut nodes = Vec::new(alloc);
-    for node in hosts.split_whitespace() {
-        nodes.push(node.parse::<u32>()?)?;
-    }
+    let (from, to) = (from.parse::<u32>()?, to.parse::<u32>()?);
+    let nodes = numbers(alloc, hosts)?;
     let all = routes(rt, alloc, graph, nodes.as_slice(), kind == "shortest", 2)?;
-    let shown = match all.find(from.parse::<u32>()?, to.parse::<u32>()?) {
-        Some((time, arrives)) => format!(in alloc; "{} {arrives}", time.nanos)?,
-        None => String::from_str(alloc, "none")?,
-    };
-    Ok(shown)
+    Ok(shown(alloc, all.find(from, to))?)
 }
 
 #[test]
@@ -180,20 +192,41 @@ edge [ source 5 target 7 latency "2000000 ns" packet_loss 0.000000000 ]
 edge [ source 7 target 7 latency "1000000 ns" packet_loss 0.000000000 ]
 "#;
 
+/// The least latency between hosts on these nodes, in nanoseconds.
+fn least_between(
+    rt: &(impl Threads + Sync + AllocGlobal),
+    graph: &Graph,
+    nodes: &[u32],
+    shortest: bool,
+    workers: u32,
+) -> Result<Option<u64>, Fail>
+    requires { 0 < workers }
+{
+    let all = routes(rt, rt.alloc(), graph, nodes, shortest, workers)?;
+    match all.least_between(nodes) {
+        Some(time) => Ok(Some(time.nanos)),
+        None => Ok(None),
+    }
+}
+
 #[test]
 fn the_least_latency_is_that_of_all_hosts(rt: HostRuntime) -> Result<(), Fail> {
     let graph = graph_of(rt.alloc(), THREE)?;
-    let nodes = [7, 5];
-    let all = routes(&rt, rt.alloc(), &graph, &nodes, true, 1)?;
-    assert!(rt; all.least_between(&nodes) == Some(Time { nanos: 2_000_000 }));
+    let least = [
+        least_between(&rt, &graph, &[7, 5], true, 1)?,
+        least_between(&rt, &graph, &[5], true, 64)?,
+        least_between(&rt, &graph, &[7, 7, 5], false, 3)?,
+    ];
+    assert_eq!(rt; least, [Some(2_000_000), None, Some(1_000_000)]);
+    Ok(())
+}
+
+#[test]
+fn a_route_that_is_there_is_given(rt: HostRuntime) -> Result<(), Fail> {
+    let graph = graph_of(rt.alloc(), THREE)?;
+    let all = routes(&rt, rt.alloc(), &graph, &[7, 5], true, 1)?;
     if all.find(7, 5).is_some() {
         assert!(rt; all.get(7, 5) == (Time { nanos: 3_000_000 }, 750_000_000));
     }
-    let lone = [5];
-    let none = routes(&rt, rt.alloc(), &graph, &lone, true, 64)?;
-    assert!(rt; none.least_between(&lone) == None);
-    let shared = [7, 7, 5];
-    let more = routes(&rt, rt.alloc(), &graph, &shared, false, 3)?;
-    assert!(rt; more.least_between(&shared) == Some(Time { nanos: 1_000_000 }));
     Ok(())
 }

@@ -5,7 +5,7 @@ use Rattle.std.proofs.lemmas.List.Sums.{sum_by-cons, count_by-le-length}
 use Rattle.sim_base.specs.Addresses.{has_host}
 use Rattle.sim_base.specs.declared.address.Ip.{Ip}
 use Rattle.run_plan.specs.Addresses.{is_open, given_addresses, AreAddressesFrom}
-use Rattle.run_plan.specs.Room.{count_from, NextAddress}
+use Rattle.run_plan.specs.inside.Room.{count_from, NextAddress}
 
 -- ---- room
 

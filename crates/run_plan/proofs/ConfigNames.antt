@@ -1,6 +1,5 @@
 -- No two hosts of a configuration have one name.
 use Rattle.std.proofs.Common.{◌≡◌, ◌≢◌, ◌∙◌, ℕ, ◌≤◌, Bool, true, false, List, [], ◌∷◌, ◌++◌, length, map, Option, Some, None, is_some, Result, Ok, Err, IfOk, IfSome, refl, sym, ap, subst, append_assoc, append-nil, arith, codes}
-use Rattle.std.specs.Prelude.{if◌then◌else◌}
 use Rattle.std.specs.Option.{option_map}
 use Rattle.std.proofs.lemmas.Bool.{false≢true}
 use Rattle.sim_base.specs.Refusals.{◌>>=◌}
@@ -19,12 +18,10 @@ use Rattle.shd_config.specs.General.{general_at}
 use Rattle.shd_config.specs.Host.{options_at, new_host, host_row, finished_host, host_of, host_at, hosts_row, hosts_at, settled}
 use Rattle.shd_config.specs.Keys.{key_of}
 use Rattle.shd_config.specs.Network.{network_at}
-use Rattle.shd_config.specs.Steps.{needed, valued, checked, below, through, given, optional}
+use Rattle.shd_config.specs.Steps.{needed, through, given, optional}
 use Rattle.shd_config.specs.Values.{mapping_at, is_within}
 use Rattle.shd_config.specs.declared.config.Config.{Config}
 use Rattle.shd_config.specs.declared.config.HostConfig.{HostConfig}
-use Rattle.shd_config.specs.declared.fault.ConfigFault.{ConfigFault}
-use Rattle.shd_config.specs.declared.fault.ConfigKind.{ConfigKind}
 use Rattle.shd_config.specs.declared.fault.ConfigKind.TheVariants.{WrongType, OutOfRange, BadValue}
 use Rattle.shd_config.specs.declared.host.HostDraft.{HostDraft}
 use Rattle.shd_config.specs.declared.host.HostRead.{HostRead}
@@ -33,36 +30,10 @@ use Rattle.shd_config.specs.declared.key.Key.TheVariants as keys
 use Rattle.shd_config.specs.declared.options.HostOptions.{HostOptions}
 use Rattle.shd_config.specs.declared.overrides.Overrides.{Overrides}
 use Rattle.shd_config.specs.declared.reading.RootDraft.{RootDraft}
+use Rattle.shd_config.proofs.Walks.{then_has, then_all, checked_has, below_has, valued_has, needed_has, weaker, kept_or_read}
 use Rattle.run_plan.proofs.NameCounts.{is_one-other, copies, copies-append}
 use Rattle.run_plan.proofs.TreeKeys.{IsOnce, tree_kind, tree_once}
 use Rattle.run_plan.proofs.MergedKeys.{merged_once}
-
--- ---- steps
-
-abbrev Read : Type 0 → Type 0
-Read A = Result A ConfigFault
-
--- what a step gives has this, and what follows has that
-then_has : {A B : Type 0} (P : A → Type 0) (Q : B → Type 0) (first : Read A) (next : A → Read B) → IfOk first P → ((a : A) → P a → IfOk (next a) Q) → IfOk (first >>= next) Q
-then_has P Q (Ok a) next h k = k a h
-then_has P Q (Err f) next h k = tt
-
--- of a step nothing is known
-then_all : {A B : Type 0} (Q : B → Type 0) (first : Read A) (next : A → Read B) → ((a : A) → IfOk (next a) Q) → IfOk (first >>= next) Q
-then_all Q (Ok a) next k = k a
-then_all Q (Err f) next k = tt
-
-checked_has : {B : Type 0} (Q : B → Type 0) (kind : ConfigKind) (p : Pair) (t : Bool) (next : Unit {0} → Read B) → (t ≡ true → IfOk (next tt) Q) → IfOk (checked kind p t >>= next) Q
-checked_has Q kind p true next h = h refl
-checked_has Q kind p false next h = tt
-
-below_has : {A : Type 0} (P : A → Type 0) (p : Pair) (read : Read A) → IfOk read P → IfOk (below p read) P
-below_has P p (Ok a) h = h
-below_has P p (Err f) h = tt
-
-needed_has : {A : Type 0} (P : A → Type 0) (key : List ℕ) (line : ℕ) (o : Option A) → IfSome o P → IfOk (needed key line o) P
-needed_has P key line None h = tt
-needed_has P key line (Some a) h = h
 
 -- ---- the pairs of a mapping
 
@@ -124,10 +95,6 @@ record AreNamed (ns : List (List ℕ)) (all : List HostRead) : Type 0 where
   same : names all ≡ ns
   none : copies [] (names all) ≡ 0
 
-weaker : {A : Type 0} (P Q : A → Type 0) (read : Read A) → IfOk read P → ((a : A) → P a → Q a) → IfOk read Q
-weaker P Q (Ok a) h k = k a h
-weaker P Q (Err f) h k = tt
-
 one_named : (before : List HostRead) (p : Pair) → copies [] (names before) ≡ 0 → IfOk (hosts_row before p) (AreNamed (names before ++ p.key ∷ []))
 one_named before p none =
     then_has (HasName p.key) (AreNamed (names before ++ p.key ∷ [])) (host_at p) _ (host_named p)
@@ -141,10 +108,6 @@ all_named before (p ∷ ps) none =
     then_has (AreNamed (names before ++ p.key ∷ [])) (AreNamed (names before ++ keys_in (p ∷ ps))) (hosts_row before p) (λ next. through hosts_row next ps) (one_named before p none)
     (λ next h. subst (λ (ns : List (List ℕ)). IfOk (through hosts_row next ps) (AreNamed ns)) (ap (λ (ns : List (List ℕ)). ns ++ keys_in ps) h.same ∙ append_assoc (names before) (p.key ∷ []) (keys_in ps))
     (all_named next ps h.none))
-
-valued_has : {A : Type 0} (P : A → Type 0) (kind : ConfigKind) (p : Pair) (o : Option A) → IfSome o P → IfOk (valued kind p o) P
-valued_has P kind p None h = tt
-valued_has P kind p (Some a) h = h
 
 keys_once : (name : List ℕ) (s : Said) → IsOnce name s → copies name (keys_of s) ≤ 1
 keys_once name (with_pair before line key value) h = h.0
@@ -213,13 +176,9 @@ module _ (name : List ℕ) where
     key_few (Some keys.Experimental) d p s h = then_all IsRoot (optional p (experimental_at p)) _ (λ v. h)
     key_few _ d p s h = tt
 
-    row_few : (passed : Bool) (d : RootDraft) (p : Pair) → MayStand name p.value → IsRoot d → IfOk (if passed then Ok d else root_key o (key_of p.key) d p) IsRoot
-    row_few true d p s h = h
-    row_few false d p s h = key_few (key_of p.key) d p s h
-
     rows_few : (ps : List Pair) (d : RootDraft) → MayAllStand ps → IsRoot d → IfOk (through (root_row o) d ps) IsRoot
     rows_few [] d s h = h
-    rows_few (p ∷ ps) d s h = then_has IsRoot IsRoot (root_row o d p) (λ next. through (root_row o) next ps) (row_few (is_passed_over p) d p s.0 h) (λ next k. rows_few ps next s.1 k)
+    rows_few (p ∷ ps) d s h = then_has IsRoot IsRoot (root_row o d p) (λ next. through (root_row o) next ps) (kept_or_read IsRoot (is_passed_over p) d (root_key o (key_of p.key) d p) h (key_few (key_of p.key) d p s.0 h)) (λ next k. rows_few ps next s.1 k)
 
     finished_few : (told : List (List ℕ)) (line : ℕ) (d : RootDraft) → IsRoot d → IfOk (finished_root o told line d) HasFew
     finished_few told line d h =

@@ -14,7 +14,7 @@ use Rattle.yaml_tree.specs.declared.node.Value.{Value}
 use Rattle.yaml_tree.specs.declared.node.Value.TheVariants.{Null, Text, Sequence, Mapping}
 use Rattle.yaml_tree.specs.declared.tree.Tree.{Tree}
 use Rattle.yaml_merge.specs.Merge.{has, keys_of}
-use Rattle.yaml_merge.specs.Rows.{with_pairs}
+use Rattle.yaml_merge.specs.inside.Rows.{with_pairs}
 use Rattle.yaml_merge.specs.SaidAt.{valid_text, with_nodes, with_entries, value_said, node_said, said_at, said_of}
 use Rattle.yaml_merge.specs.declared.plain.Pair.{Pair}
 use Rattle.run_plan.proofs.NameCounts.{one_if, is_one, is_one-other, copies, copies-append, copies-absent}

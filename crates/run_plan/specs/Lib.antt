@@ -1,6 +1,7 @@
 pub mod Addresses
 pub mod Captured
 pub mod Configured
+pub mod Fault
 pub mod File
 pub mod HostRows
 pub mod InRange
@@ -15,8 +16,8 @@ pub mod Program
 pub mod Programs
 pub mod Rates
 pub mod Ring
-pub mod Room
 pub mod Routed
 pub mod Same
 pub mod SelfLoad
 pub mod Workers
+pub mod inside

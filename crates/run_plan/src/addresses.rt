@@ -3,7 +3,7 @@
 ghost use Rattle.std.specs.Prelude.{◌≡◌, ◌+◌, ◌*◌, ◌<◌, ◌≤◌, ◌^◌, length, IfOk};
 ghost use Rattle.sim_base.specs.Limits.{most_hosts};
 ghost use Rattle.run_plan.specs.Addresses.{first_address, is_open, given_addresses, IsLeastOpen, AreAddressesFrom, AreAddresses};
-ghost use Rattle.run_plan.specs.Room.{count_from, NextAddress};
+ghost use Rattle.run_plan.specs.inside.Room.{count_from, NextAddress};
 
 use sim_base::{Book, Ip, NoMemory};
 use std::alloc::Global;

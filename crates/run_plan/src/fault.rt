@@ -1,6 +1,7 @@
 //! Why an input is refused, and why the reading stops before its end.
 
 ghost use Rattle.std.specs.Prelude.{◌≡◌};
+ghost use Rattle.run_plan.specs.Fault.{word_of};
 
 use command_line::WordsFault;
 use elf_load::ElfFault;
@@ -20,6 +21,19 @@ pub enum HostFault {
     NoBandwidth,
     /// An earlier host was given its address.
     DuplicateAddress,
+}
+
+impl HostFault {
+    /// The words for messages.
+    pub fn word(self) -> &'static str
+        ensures { result.now ≡ word_of self }
+    {
+        match self {
+            HostFault::UnknownNode => "unknown node",
+            HostFault::NoBandwidth => "no bandwidth",
+            HostFault::DuplicateAddress => "duplicate address",
+        }
+    }
 }
 
 /// The first fault of an input.

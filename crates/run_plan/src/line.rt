@@ -1,10 +1,13 @@
 //! The line of each fault.
 
 ghost use Rattle.std.specs.Prelude.{◌≡◌, ◌++◌, Some, OnOk, OnErr, IfOk, codes, string_bytes};
-ghost use Rattle.elf_load.specs.Fault.{word_of};
+ghost use Rattle.elf_load.specs.Fault as elf;
 ghost use Rattle.gml_graph.specs.Fault as graph;
+ghost use Rattle.yaml_tree.specs.Fault as tree;
+ghost use Rattle.shd_config.specs.Fault as config;
+ghost use Rattle.run_plan.specs.Fault as host_fault;
 ghost use Rattle.out_text.specs.Faults.{at_line, text_name, told_at, file_line};
-ghost use Rattle.run_plan.specs.Line.{tree_word, config_word, host_word, words_line, capture_text, line_of};
+ghost use Rattle.run_plan.specs.Line.{words_line, capture_text, line_of};
 
 use crate::fault::{Fault, HostFault};
 use command_line::WordsFault;
@@ -12,51 +15,14 @@ use elf_load::ElfFault;
 use gml_graph::GmlFault;
 use out_text::{FaultText, fault_line};
 use pcap_text::PcapFault;
-use shd_config::{ConfigFault, ConfigKind};
+use shd_config::ConfigFault;
 use sim_base::{Name, NoMemory, Text};
 use std::alloc::{AllocError, Global};
-use yaml_tree::{FaultKind, YamlFault};
-
-fn tree_word(kind: FaultKind) -> &'static str
-    ensures { result.now ≡ tree_word kind }
-{
-    match kind {
-        FaultKind::NotUtf8 => "not UTF-8",
-        FaultKind::Syntax => "syntax",
-        FaultKind::Unsupported => "unsupported",
-        FaultKind::Duplicate => "duplicate key",
-        FaultKind::Alias => "unknown alias",
-        FaultKind::TooDeep => "too deep",
-        FaultKind::TooManyNodes => "too many nodes",
-    }
-}
-
-fn config_word(kind: ConfigKind) -> &'static str
-    ensures { result.now ≡ config_word kind }
-{
-    match kind {
-        ConfigKind::Missing => "missing",
-        ConfigKind::UnknownKey => "unknown key",
-        ConfigKind::WrongType => "wrong type",
-        ConfigKind::OutOfRange => "out of range",
-        ConfigKind::BadValue => "bad value",
-        ConfigKind::Unsupported => "unsupported",
-    }
-}
-
-fn host_word(kind: HostFault) -> &'static str
-    ensures { result.now ≡ host_word kind }
-{
-    match kind {
-        HostFault::UnknownNode => "unknown node",
-        HostFault::NoBandwidth => "no bandwidth",
-        HostFault::DuplicateAddress => "duplicate address",
-    }
-}
+use yaml_tree::YamlFault;
 
 /// The kind of fault of a program's file, behind its format.
 fn elf_text(alloc: Global, fault: ElfFault) -> Result<String, AllocError>
-    ensures { IfOk result (λ text. string_bytes text ≡ codes "ELF " ++ word_of fault) }
+    ensures { IfOk result (λ text. string_bytes text ≡ codes "ELF " ++ elf.word_of fault) }
 {
     let word = fault.word();
     format!(in alloc; "ELF {word}")
@@ -97,7 +63,7 @@ fn whole_file_line(alloc: Global, into: &mut Text, file: &Name, what: &str) -> R
 }
 
 fn tree_line(alloc: Global, into: &mut Text, file: &Name, fault: YamlFault) -> Result<(), NoMemory>
-    ensures ok { OnOk result (into.new ≡ into.old ++ at_line file.now fault.line (tree_word fault.kind)) }
+    ensures ok { OnOk result (into.new ≡ into.old ++ at_line file.now fault.line (tree.word_of fault.kind)) }
     ensures err { OnErr result (into.new ≡ into.old) }
 {
     let text = FaultText::At {
@@ -105,7 +71,7 @@ fn tree_line(alloc: Global, into: &mut Text, file: &Name, fault: YamlFault) -> R
         inline: false,
         line: fault.line as u64,
         path: None,
-        what: tree_word(fault.kind),
+        what: fault.kind.word(),
     };
     fault_line(alloc, into, &text)
 }
@@ -140,17 +106,16 @@ fn config_line(
     file: &Name,
     fault: &ConfigFault,
 ) -> Result<(), NoMemory>
-    ensures ok { OnOk result (into.new ≡ into.old ++ at_line file.now fault.now.line (told_at (Some fault.now.path) (config_word fault.now.kind))) }
+    ensures ok { OnOk result (into.new ≡ into.old ++ at_line file.now fault.now.line (told_at (Some fault.now.path) (config.word_of fault.now.kind))) }
     ensures err { OnErr result (into.new ≡ into.old) }
 {
-    let what = config_word(fault.kind);
     key_line(
         alloc,
         into,
         file.as_str(),
         fault.line,
         fault.path.as_str(),
-        what,
+        fault.kind.word(),
     )
 }
 
@@ -182,18 +147,11 @@ fn host_line(
     host: &Name,
     kind: HostFault,
 ) -> Result<(), NoMemory>
-    ensures ok { OnOk result (into.new ≡ into.old ++ at_line file.now line (told_at (Some (codes "hosts." ++ host.now)) (host_word kind))) }
+    ensures ok { OnOk result (into.new ≡ into.old ++ at_line file.now line (told_at (Some (codes "hosts." ++ host.now)) (host_fault.word_of kind))) }
     ensures err { OnErr result (into.new ≡ into.old) }
 {
     let path = host_path(alloc, host)?;
-    key_line(
-        alloc,
-        into,
-        file.as_str(),
-        line,
-        path.as_str(),
-        host_word(kind),
-    )
+    key_line(alloc, into, file.as_str(), line, path.as_str(), kind.word())
 }
 
 /// Adds the line of a fault, or leaves the text as it was.

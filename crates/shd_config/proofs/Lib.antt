@@ -1,2 +1,3 @@
 pub mod LimitLaws
 pub mod StepLaws
+pub mod Walks

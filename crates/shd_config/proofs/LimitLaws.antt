@@ -1,19 +1,16 @@
 -- Each configuration keeps to its limits.
 use Rattle.std.specs.Prelude.{if◌then◌else◌}
-use Rattle.std.proofs.Common.{◌≡◌, ℕ, ◌+◌, ◌≤◌, ◌&&◌, Bool, true, false, List, [], ◌∷◌, ◌++◌, length, map, All, Option, Some, None, IfSome, IfOk, Result, Ok, Err, unwrap_or, is_some, codes, suc, ◌-◌, refl, sym, ap, subst, ◌∙◌, arith, length-append, nat_le}
+use Rattle.std.proofs.Common.{◌≡◌, ℕ, ◌+◌, ◌≤◌, ◌&&◌, Bool, true, false, List, [], ◌∷◌, length, map, All, Option, Some, None, IfSome, IfOk, Result, Ok, Err, unwrap_or, is_some, codes, suc, ◌-◌, refl, sym, ap, subst, ◌∙◌, arith, nat_le}
 use Rattle.std.proofs.lemmas.Bool.{leb-true}
-use Rattle.std.proofs.lemmas.List.Elements.{All-nil, All-push, All-map, All-weaker}
+use Rattle.std.proofs.lemmas.List.Elements.{All-nil, All-map, All-weaker}
 use Rattle.sim_base.specs.Limits.{most_hosts, most_processes, most_text_bytes}
 use Rattle.sim_base.specs.Units.{max_u32, latest_time}
-use Rattle.sim_base.specs.Refusals.{◌>>=◌}
 use Rattle.sim_base.specs.declared.time.Time.{Time}
 use Rattle.yaml_tree.specs.Said.{Said}
 use Rattle.yaml_merge.specs.Merge.{merged}
-use Rattle.yaml_merge.specs.Plain.{is_null, line_of}
+use Rattle.yaml_merge.specs.Plain.{line_of}
 use Rattle.yaml_merge.specs.declared.plain.Pair.{Pair}
-use Rattle.shd_config.specs.declared.fault.ConfigKind.{ConfigKind}
 use Rattle.shd_config.specs.declared.fault.ConfigKind.TheVariants.{OutOfRange, BadValue}
-use Rattle.shd_config.specs.declared.fault.ConfigFault.{ConfigFault}
 use Rattle.shd_config.specs.declared.fault.ConfigError.{ConfigError}
 use Rattle.shd_config.specs.declared.config.Config.{Config}
 use Rattle.shd_config.specs.declared.config.HostConfig.{HostConfig}
@@ -27,90 +24,16 @@ use Rattle.shd_config.specs.declared.key.Key.TheVariants as keys
 use Rattle.shd_config.specs.declared.options.HostOptions.{HostOptions}
 use Rattle.shd_config.specs.declared.overrides.Overrides.{Overrides}
 use Rattle.shd_config.specs.declared.reading.RootDraft.{RootDraft}
-use Rattle.shd_config.specs.Steps.{Gives, needed, valued, checked, below, through, given, optional, item}
+use Rattle.shd_config.specs.Steps.{Gives, needed, checked, through, given, optional, item}
 use Rattle.shd_config.specs.Keys.{key_of}
 use Rattle.shd_config.specs.Values.{is_within, ranged, may_stop_at, stop_time_at, time_at, text_at, text_with, is_some_text, mapping_at, sequence_at, number_at, address_at, rate_at}
 use Rattle.shd_config.specs.General.{general_key, general_row, overridden, finished_general, general_of, general_at, new_general}
 use Rattle.shd_config.specs.Process.{process_at, process_in, process_item, processes_at, texts_size}
 use Rattle.shd_config.specs.Network.{network_at}
 use Rattle.shd_config.specs.Host.{options_at, new_host, host_key, host_row, finished_host, host_of, host_at, hosts_row, hosts_at, settled}
-use Rattle.shd_config.specs.Config.{root, new_root, experimental_at, root_key, root_row, general_or, finished_root, root_of, merged_config, wrong_merge, config, is_passed_over}
-use Rattle.shd_config.specs.Limits.{MayStop, IsSomeText, AreFewHosts, HasFewProcesses, HasFewBytes, HaveFewBytes, MayOverride, IsWithinLimits}
-
--- ---- steps
-
-abbrev Read : Type 0 → Type 0
-Read A = Result A ConfigFault
-
--- what a step gives has this, and what follows has that
-then_has : {A B : Type 0} (P : A → Type 0) (Q : B → Type 0) (first : Read A) (next : A → Read B) → IfOk first P → ((a : A) → P a → IfOk (next a) Q) → IfOk (first >>= next) Q
-then_has P Q (Ok a) next h k = k a h
-then_has P Q (Err f) next h k = tt
-
-always : {A : Type 0} (read : Read A) → IfOk read (λ _. Unit {0})
-always (Ok a) = tt
-always (Err f) = tt
-
--- of a step nothing is known
-then_all : {A B : Type 0} (Q : B → Type 0) (first : Read A) (next : A → Read B) → ((a : A) → IfOk (next a) Q) → IfOk (first >>= next) Q
-then_all Q (Ok a) next k = k a
-then_all Q (Err f) next k = tt
-
-checked_has : {B : Type 0} (Q : B → Type 0) (kind : ConfigKind) (p : Pair) (t : Bool) (next : Unit {0} → Read B) → (t ≡ true → IfOk (next tt) Q) → IfOk (checked kind p t >>= next) Q
-checked_has Q kind p true next h = h refl
-checked_has Q kind p false next h = tt
-
-below_has : {A : Type 0} (P : A → Type 0) (p : Pair) (read : Read A) → IfOk read P → IfOk (below p read) P
-below_has P p (Ok a) h = h
-below_has P p (Err f) h = tt
-
-needed_has : {A : Type 0} (P : A → Type 0) (key : List ℕ) (line : ℕ) (o : Option A) → IfSome o P → IfOk (needed key line o) P
-needed_has P key line None h = tt
-needed_has P key line (Some a) h = h
-
-some_has : {A : Type 0} (P : A → Type 0) (read : Read A) → IfOk read P → IfOk (read >>= λ x. Ok (Some x)) (λ o. IfSome o P)
-some_has P (Ok a) h = h
-some_has P (Err f) h = tt
-
-optional_by : {A : Type 0} (P : A → Type 0) (null : Bool) (read : Read A) → IfOk read P → IfOk (if null then Ok None else (read >>= λ x. Ok (Some x))) (λ o. IfSome o P)
-optional_by P true read h = tt
-optional_by P false read h = some_has P read h
-
-given_has : {A : Type 0} (P : A → Type 0) (b : Bool) (p : Pair) (read : Read A) → IfOk read P → IfOk (given b p read) (λ o. IfSome o P)
-given_has P b p read h = optional_by P (b && is_null p.value) read h
-
-optional_has : {A : Type 0} (P : A → Type 0) (p : Pair) (read : Read A) → IfOk read P → IfOk (optional p read) (λ o. IfSome o P)
-optional_has P p read h = optional_by P (is_null p.value) read h
-
-weaker : {A : Type 0} (P Q : A → Type 0) (read : Read A) → IfOk read P → ((a : A) → P a → Q a) → IfOk read Q
-weaker P Q (Ok a) h k = k a h
-weaker P Q (Err f) h k = tt
-
-through_keeps : {S A : Type 0} (P : S → Type 0) (step : S → A → Read S) → ((s : S) (a : A) → P s → IfOk (step s a) P) → (s : S) (xs : List A) → P s → IfOk (through step s xs) P
-through_keeps P step keeps s [] h = h
-through_keeps P step keeps s (x ∷ xs) h = then_has P P (step s x) (λ next. through step next xs) (keeps s x h) (λ next k. through_keeps P step keeps next xs k)
-
--- one more at the end
-pub record IsMore {B : Type 0} (P : B → Type 0) (before after : List B) : Type 0 where
-  pub last : B
-  pub has : P last
-  pub is : after ≡ before ++ last ∷ []
-
--- as many as these behind those before, and each has this
-pub record AreMore {B : Type 0} (P : B → Type 0) (count : ℕ) (all : List B) : Type 0 where
-  pub each : All P all
-  pub length_is : length all ≡ count
-
-through_pushes : {A B : Type 0} (P : B → Type 0) (step : List B → A → Read (List B)) → ((before : List B) (a : A) → IfOk (step before a) (IsMore P before)) → (before : List B) (xs : List A) → All P before
-    → IfOk (through step before xs) (AreMore P (length before + length xs))
-through_pushes {B = B} P step pushes before [] h = record { each = h; length_is = omega arith }
-through_pushes {B = B} P step pushes before (x ∷ xs) h =
-    then_has (IsMore P before) (AreMore P (length before + length (x ∷ xs))) (step before x) (λ next. through step next xs) (pushes before x)
-    (λ next more.
-    let count : length next ≡ length before + 1 = ap (λ (l : List B). length l) more.is ∙ length-append before (more.last ∷ []) in
-    let sum : length next + length xs ≡ length before + length (x ∷ xs) = omega (arith, count) in
-    subst (λ (n : ℕ). IfOk (through step next xs) (AreMore P n)) sum
-    (through_pushes P step pushes next xs (subst (All P) (sym more.is) (All-push P before more.last h more.has))))
+use Rattle.shd_config.specs.Config.{root, new_root, experimental_at, root_key, root_row, general_or, finished_root, root_of, merged_config, is_passed_over}
+use Rattle.shd_config.proofs.Walks.{Read, then_has, then_all, checked_has, below_has, needed_has, given_has, optional_has, weaker, kept_or_read, through_keeps, IsMore, AreMore, through_pushes}
+use Rattle.shd_config.specs.Limits.{MayStop, IsSomeText, HasFewProcesses, HasFewBytes, HaveFewBytes, MayOverride, IsWithinLimits}
 
 -- ---- values
 
@@ -295,10 +218,6 @@ module _ (o : Overrides) (may : MayOverride o) where
   root_key_has (Some keys.Experimental) d p h = then_all IsRoot (optional p (experimental_at p)) _ (λ v. h)
   root_key_has _ d p h = tt
 
-  row_by : (passed : Bool) (d : RootDraft) (p : Pair) → IsRoot d → IfOk (if passed then Ok d else root_key o (key_of p.key) d p) IsRoot
-  row_by true d p h = h
-  row_by false d p h = root_key_has (key_of p.key) d p h
-
   general_or_has : (line : ℕ) (g : Option General) → IfSome g IsGeneral → IfOk (general_or o line g) IsGeneral
   general_or_has line (Some g) h = h
   general_or_has line None h = absent (is_some o.stop_time) line
@@ -318,7 +237,7 @@ module _ (o : Overrides) (may : MayOverride o) where
   unfolding root_of
   root_of_has line pairs =
       then_has IsRoot IsWithinLimits (through (root_row o) new_root pairs) _
-      (through_keeps IsRoot (root_row o) (λ d p h. row_by (is_passed_over p) d p h) new_root pairs no_root) (λ d h. finished_root_has _ _ d h)
+      (through_keeps IsRoot (root_row o) (λ d p h. kept_or_read IsRoot (is_passed_over p) d (root_key o (key_of p.key) d p) h (root_key_has (key_of p.key) d p h)) new_root pairs no_root) (λ d h. finished_root_has _ _ d h)
 
   merged_config_has : (empty : Bool) (tree : Said) → IfOk (merged_config o empty tree) IsWithinLimits
   merged_config_has true tree = root_of_has 1 []

@@ -1,3 +1,4 @@
+pub mod Fault
 pub mod Bounds
 pub mod Steps
 pub mod Keys

@@ -16,7 +16,7 @@ pub enum GraphSource {
 }
 
 /// How a router's queue chooses the packets that it drops.
-#[derive(Clone, Copy, PartialEq, Eq)]
+#[derive(Clone, Copy)]
 pub enum QueueRule {
     /// It drops what comes while it is full.
     Fifo,
@@ -25,7 +25,7 @@ pub enum QueueRule {
 }
 
 /// The state in which a process is expected to be in the end.
-#[derive(Clone, Copy, PartialEq, Eq)]
+#[derive(Clone, Copy)]
 pub enum FinalState {
     /// It ended by an exit with this status.
     Exited(u8),

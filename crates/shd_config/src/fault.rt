@@ -1,12 +1,15 @@
 //! Why a tree has no configuration.
 
+ghost use Rattle.std.specs.Prelude.{◌≡◌};
+ghost use Rattle.shd_config.specs.Fault.{word_of};
+
 use sim_base::{NoMemory, Text};
 use std::alloc::{AllocError, AllocFailed};
 use std::error::Error;
 use std::fmt;
 
 /// The kinds of fault.
-#[derive(Clone, Copy, Debug, PartialEq, Eq)]
+#[derive(Clone, Copy, Debug)]
 pub enum ConfigKind {
     /// A key that is needed is absent.
     Missing,
@@ -38,12 +41,28 @@ pub enum ConfigError {
     NoMemory,
 }
 
+impl ConfigKind {
+    /// The words for messages.
+    pub fn word(self) -> &'static str
+        ensures { result.now ≡ word_of self }
+    {
+        match self {
+            ConfigKind::Missing => "missing",
+            ConfigKind::UnknownKey => "unknown key",
+            ConfigKind::WrongType => "wrong type",
+            ConfigKind::OutOfRange => "out of range",
+            ConfigKind::BadValue => "bad value",
+            ConfigKind::Unsupported => "unsupported",
+        }
+    }
+}
+
 impl fmt::Display for ConfigError {
     fn fmt<W: fmt::Write>(&self, f: &mut fmt::Formatter<W>) -> fmt::Result {
         match self {
             ConfigError::Fault(fault) => {
                 let path = fault.path.as_str();
-                write!(f, "line {}: {path}: {:?}", fault.line, fault.kind)
+                write!(f, "line {}: {path}: {}", fault.line, fault.kind.word())
             }
             ConfigError::NoMemory => f.write_str("out of memory"),
         }

@@ -16,7 +16,7 @@ use std::alloc::Global;
 use yaml_merge::Pair;
 
 /// The types of graphs.
-#[derive(Clone, Copy, PartialEq, Eq)]
+#[derive(Clone, Copy)]
 pub enum GraphKind {
     Gml,
     OneGbitSwitch,

@@ -4,7 +4,7 @@ ghost use Rattle.std.specs.Prelude.{◌≡◌};
 ghost use Rattle.shd_config.specs.Keys.{key_in, key_of, table};
 
 /// A key that a mapping of a configuration may have.
-#[derive(Clone, Copy, PartialEq, Eq)]
+#[derive(Clone, Copy)]
 pub enum Key {
     General,
     Network,

@@ -1,6 +1,6 @@
 //! Lists of the parts of a configuration.
 
-ghost use Rattle.std.specs.Prelude.{◌≡◌, ◌↔◌, [], length, IsTrue};
+ghost use Rattle.std.specs.Prelude.{◌≡◌};
 
 use crate::config::{HostConfig, ProcessConfig, Variable};
 use std::alloc::Global;
@@ -26,26 +26,6 @@ impl Variables {
         ensures { result.now ≡ self.now }
     {
         self.items.as_slice()
-    }
-
-    pub fn len(&self) -> usize
-        ensures { result ≡ length self.now }
-    {
-        self.items.len()
-    }
-
-    pub fn is_empty(&self) -> bool
-        ensures { IsTrue result ↔ (self.now ≡ []) }
-    {
-        self.items.is_empty()
-    }
-
-    /// Gives the variables back without taking memory.
-    pub fn into_vec(self) -> Vec<Variable>
-        ensures { result.items ≡ self }
-    {
-        let Variables { items } = self;
-        items
     }
 }
 
@@ -78,26 +58,6 @@ impl Processes {
     {
         self.items.as_slice()
     }
-
-    pub fn len(&self) -> usize
-        ensures { result ≡ length self.now }
-    {
-        self.items.len()
-    }
-
-    pub fn is_empty(&self) -> bool
-        ensures { IsTrue result ↔ (self.now ≡ []) }
-    {
-        self.items.is_empty()
-    }
-
-    /// Gives the processes back without taking memory.
-    pub fn into_vec(self) -> Vec<ProcessConfig>
-        ensures { result.items ≡ self }
-    {
-        let Processes { items } = self;
-        items
-    }
 }
 
 impl From<Vec<ProcessConfig>> for Processes {
@@ -128,18 +88,6 @@ impl Hosts {
         ensures { result.now ≡ self.now }
     {
         self.items.as_slice()
-    }
-
-    pub fn len(&self) -> usize
-        ensures { result ≡ length self.now }
-    {
-        self.items.len()
-    }
-
-    pub fn is_empty(&self) -> bool
-        ensures { IsTrue result ↔ (self.now ≡ []) }
-    {
-        self.items.is_empty()
     }
 
     /// The allocator that the list was made with.

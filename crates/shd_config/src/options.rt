@@ -13,7 +13,7 @@ use std::alloc::Global;
 use yaml_merge::Pair;
 
 /// The options of a host, or those of all hosts, that are given.
-#[derive(Clone, Copy, PartialEq, Eq)]
+#[derive(Clone, Copy)]
 pub struct HostOptions {
     pub pcap_enabled: Option<bool>,
     pub pcap_capture_size: Option<u32>,

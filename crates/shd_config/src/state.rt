@@ -15,7 +15,7 @@ use std::alloc::Global;
 use yaml_merge::Pair;
 
 /// What was read of a state.
-#[derive(Clone, Copy, PartialEq, Eq)]
+#[derive(Clone, Copy)]
 pub struct StateDraft {
     pub exited: Option<u8>,
     pub signaled: Option<Signal>,

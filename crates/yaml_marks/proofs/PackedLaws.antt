@@ -1,12 +1,12 @@
 -- Pieces that are kept apart from their texts.
 use Rattle.std.proofs.Common.{◌≡◌, ℕ, ◌+◌, ◌-◌, ◌||◌, ◌==◌, if◌then◌else◌, length-append, List, [], ◌∷◌, ◌++◌, Option, length, map, drop, refl, ap, sym, ◌∙◌, arith}
 use Rattle.std.proofs.lemmas.List.{map-append}
-use Rattle.yaml_marks.specs.Kept.{bytes_in}
+use Rattle.yaml_marks.specs.inside.Kept.{bytes_in}
 use Rattle.yaml_marks.specs.declared.piece.Piece.{Piece}
 use Rattle.yaml_marks.specs.declared.piece.Piece.TheVariants.{Opening, Closing, Comma, CellKey, CellScalar, CellName, CellCopy, OddPiece}
 use Rattle.yaml_marks.specs.declared.odd.Odd.TheVariants as odd
 use Rattle.yaml_marks.specs.Pieces.{closes_at, why_bracket}
-use Rattle.yaml_marks.specs.Packed.{bare, texts_of, with_text, with_texts, text_count, IsPacked}
+use Rattle.yaml_marks.specs.inside.Packed.{bare, texts_of, with_text, with_texts, text_count, IsPacked}
 
 -- ---- what is read again
 

@@ -1,10 +1,8 @@
-pub mod Kept
 pub mod Lines
-pub mod Escapes
 pub mod Scalars
 pub mod Spelling
 pub mod Literals
 pub mod Names
 pub mod Pieces
-pub mod Packed
 pub mod Tokens
+pub mod inside

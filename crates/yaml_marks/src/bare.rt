@@ -2,7 +2,7 @@
 
 ghost use Rattle.std.specs.Prelude.{◌≡◌, ◌<◌, Some};
 ghost use Rattle.yaml_marks.specs.Pieces.{open_after, is_last};
-ghost use Rattle.yaml_marks.specs.Packed.{piece_of};
+ghost use Rattle.yaml_marks.specs.inside.Packed.{piece_of};
 
 use crate::odd::Odd;
 use crate::piece::Bracket;
@@ -33,7 +33,7 @@ impl Model for BarePiece {
 
     ghost Value = { Piece };
 
-    ghost use Rattle.yaml_marks.specs.Packed.{piece_of};
+    ghost use Rattle.yaml_marks.specs.inside.Packed.{piece_of};
 
     ghost view = { λ p. piece_of p.kind };
 }

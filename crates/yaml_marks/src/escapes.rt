@@ -2,7 +2,7 @@
 
 ghost use Rattle.std.specs.Prelude.{◌≡◌, ◌<◌, ◌++◌, ◌^◌, List, ℕ, [], length, IfSome, IfOk, IsSome};
 ghost use Rattle.yaml_marks.specs.Scalars.{escaped_byte, hex_value, number_step, escape_step, added_bytes, unescaped};
-ghost use Rattle.yaml_marks.specs.Escapes.{IsInRange};
+ghost use Rattle.yaml_marks.specs.inside.Escapes.{IsInRange};
 ghost use Rattle.yaml_marks.specs.declared.escapes.Escape.TheVariants.{Outside};
 
 use crate::scalar::Scalar;

@@ -1,7 +1,7 @@
 //! What is kept of a text.
 
 ghost use Rattle.std.specs.Prelude.{◌≡◌, ◌≤◌, Some, length, take, IfOk};
-ghost use Rattle.yaml_marks.specs.Kept.{bytes_of, text_of};
+ghost use Rattle.yaml_marks.specs.inside.Kept.{bytes_of, text_of};
 
 use std::alloc::{AllocError, Global};
 

@@ -2,7 +2,7 @@
 
 ghost use Rattle.std.specs.Prelude.{◌≡◌, ◌++◌, ◌∷◌, [], IfOk, MatchOption, map, drop, length, option_to_list};
 ghost use Rattle.std.specs.Vec.Iter.{into_iter_items};
-ghost use Rattle.yaml_marks.specs.Packed.{piece_of, bare, texts_of, first_text, with_text};
+ghost use Rattle.yaml_marks.specs.inside.Packed.{piece_of, bare, texts_of, first_text, with_text};
 
 use crate::bare::{BarePiece, PieceKind};
 use crate::piece::Piece;
@@ -27,7 +27,7 @@ impl Model for Pieces {
 
     ghost Value = { List Piece };
 
-    ghost use Rattle.yaml_marks.specs.Packed.{with_texts, IsPacked};
+    ghost use Rattle.yaml_marks.specs.inside.Packed.{with_texts, IsPacked};
 
     ghost view = { λ p. with_texts p.bare.value.items p.texts.value.items };
 
@@ -91,7 +91,7 @@ impl Model for PiecesLeft {
 
     ghost Value = { List Piece };
 
-    ghost use Rattle.yaml_marks.specs.Packed.{with_texts};
+    ghost use Rattle.yaml_marks.specs.inside.Packed.{with_texts};
 
     ghost view = { λ p. with_texts (into_iter_items p.bare) (into_iter_items p.texts) };
 }

@@ -5,7 +5,7 @@ ghost use Rattle.std.proofs.Common.{rules};
 ghost use Rattle.std.specs.Cmp.Lexicographic.{pointwise};
 ghost use Rattle.std.specs.Cmp.Rules.{comparing, hashing};
 ghost use Rattle.std.specs.Hash as fed;
-ghost use Rattle.yaml_marks.specs.Kept.{bytes_of, text_of};
+ghost use Rattle.yaml_marks.specs.inside.Kept.{bytes_of, text_of};
 
 use crate::kept::Kept;
 use std::alloc::{AllocError, Global};
@@ -23,7 +23,7 @@ impl Model for Scalar {
 
     ghost Value = { List ℕ };
 
-    ghost use Rattle.yaml_marks.specs.Kept.{bytes_of};
+    ghost use Rattle.yaml_marks.specs.inside.Kept.{bytes_of};
 
     ghost view = { λ s. bytes_of s.kept };
 }

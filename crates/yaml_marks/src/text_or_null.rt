@@ -1,7 +1,7 @@
 //! What a scalar says.
 
 ghost use Rattle.std.specs.Prelude.{◌≡◌, Some, None};
-ghost use Rattle.yaml_marks.specs.Kept.{bytes_in};
+ghost use Rattle.yaml_marks.specs.inside.Kept.{bytes_in};
 
 use crate::kept::Kept;
 use crate::scalar::Scalar;
@@ -18,7 +18,7 @@ impl Model for TextOrNull {
 
     ghost Value = { Option (List ℕ) };
 
-    ghost use Rattle.yaml_marks.specs.Kept.{text_of};
+    ghost use Rattle.yaml_marks.specs.inside.Kept.{text_of};
 
     ghost view = { λ t. text_of t.kept };
 }

@@ -9,7 +9,7 @@ use Rattle.yaml_tree.specs.Trees.{Holds}
 use Rattle.yaml_tree.specs.declared.entries.Child.{Child}
 use Rattle.yaml_tree.specs.declared.node.Node.{Node}
 use Rattle.yaml_tree.specs.declared.tree.Tree.{Tree}
-use Rattle.yaml_merge.specs.Rows.{with_items}
+use Rattle.yaml_merge.specs.inside.Rows.{with_items}
 use Rattle.yaml_merge.specs.SaidAt.{valid_text, with_nodes, with_entries, node_said, said_at, said_of}
 
 -- ---- rows, by what is said at their nodes

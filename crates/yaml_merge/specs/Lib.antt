@@ -1,11 +1,6 @@
-pub mod SaidCode
-pub mod Rows
 pub mod Sources
-pub mod Inner
-pub mod Height
-pub mod Falls
 pub mod Plain
 pub mod SaidAt
 pub mod Plainness
 pub mod Merge
-pub mod Merging
+pub mod inside

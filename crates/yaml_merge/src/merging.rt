@@ -7,10 +7,10 @@ ghost use Rattle.yaml_tree.specs.Said.{Said};
 ghost use Rattle.yaml_tree.specs.Said.Said.{sequence, mapping};
 ghost use Rattle.yaml_tree.specs.Holds.{is_mapping};
 ghost use Rattle.yaml_tree.specs.Trees.{nodes_of, root_of, node_count};
-ghost use Rattle.yaml_merge.specs.Rows.{with_items, with_pairs};
+ghost use Rattle.yaml_merge.specs.inside.Rows.{with_items, with_pairs};
 ghost use Rattle.yaml_merge.specs.SaidAt.{valid_text, node_at, value_said, said_at, with_entries, is_mapping_value, may_merge_value, said_of};
 ghost use Rattle.yaml_merge.specs.Merge.{is_merge_key, may_merge, below, fault_below, put_value, item_place, with_merged, merged, new_pairs, keys_of};
-ghost use Rattle.yaml_merge.specs.Merging.{IsFault, IsBelow, Fails, Gives, items_left, pairs_left};
+ghost use Rattle.yaml_merge.specs.inside.Merging.{IsFault, IsBelow, Fails, Gives, items_left, pairs_left};
 ghost use Rattle.yaml_merge.specs.declared.fault.MergeFault.{MergeFault};
 
 use crate::fault::{MergeError, MergeFault};

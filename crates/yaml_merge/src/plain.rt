@@ -3,10 +3,10 @@
 ghost use Rattle.std.specs.Prelude.{◌≡◌, Option, IfOk};
 ghost use Rattle.std.specs.Option.{option_map};
 ghost use Rattle.yaml_tree.specs.Said.Said.{null, text, sequence, mapping};
-ghost use Rattle.yaml_merge.specs.Rows.{with_items, with_pairs};
+ghost use Rattle.yaml_merge.specs.inside.Rows.{with_items, with_pairs};
 ghost use Rattle.std.specs.List.{flat_map};
 ghost use Rattle.yaml_merge.specs.Sources.{pairs_of, sources};
-ghost use Rattle.yaml_merge.specs.Inner.{pairs_held, sources_held, null_inside, text_inside, items_inside, pairs_inside};
+ghost use Rattle.yaml_merge.specs.inside.Inner.{pairs_held, sources_held, null_inside, text_inside, items_inside, pairs_inside};
 ghost use Rattle.yaml_merge.specs.Plain.{text_in, items_in, pairs_in, is_null, line_of};
 
 use sim_base::{NoMemory, Text};
@@ -41,20 +41,20 @@ pub struct Pair {
 
 impl Model for Plain {
     ghost use Rattle.yaml_tree.specs.Said.{Said};
-    ghost use Rattle.yaml_merge.specs.SaidCode.{coded_said};
+    ghost use Rattle.yaml_merge.specs.inside.SaidCode.{coded_said};
 
     ghost Value = { Said };
 
     ghost coded = { coded_said };
 
-    ghost use Rattle.yaml_merge.specs.Height.{height};
-    ghost use Rattle.yaml_merge.specs.Inner.{said_of};
+    ghost use Rattle.yaml_merge.specs.inside.Height.{height};
+    ghost use Rattle.yaml_merge.specs.inside.Inner.{said_of};
 
     ghost view = { λ a. said_of a.line a.inner };
 
     ghost size = { height };
 
-    ghost use Rattle.yaml_merge.specs.Falls.{falls};
+    ghost use Rattle.yaml_merge.specs.inside.Falls.{falls};
 
     ghost size_decreases = { λ a h. falls a.line a.inner };
 }

@@ -2,7 +2,7 @@
 
 ghost use Rattle.std.specs.Prelude.{◌≡◌, [], not, IfOk};
 ghost use Rattle.yaml_merge.specs.Merge.{has};
-ghost use Rattle.yaml_merge.specs.Merging.{with_key, taken_of};
+ghost use Rattle.yaml_merge.specs.inside.Merging.{with_key, taken_of};
 
 use crate::merging::valid_text;
 use indexmap::IndexSet;

@@ -2,8 +2,8 @@
 use Rattle.std.proofs.Common.{◌≡◌, ℕ, ◌<◌, Bool, true, false, cond, List, [], ◌∷◌, Some, None, Result, Ok, Err, is_some, length, refl, sym, ap, ◌∙◌, arith, nat_lt}
 use Rattle.std.proofs.lemmas.Bool.{cond-true, cond-false}
 use Rattle.sim_base.specs.Refusals.{◌>>=◌}
-use Rattle.yaml_tree.specs.Stack.{PopsWhere, one_node}
-use Rattle.yaml_tree.specs.Builder.{settled_on, closed, valued, put_node, with_node, take_piece, take_pieces, take_token, take_tokens, Steps}
+use Rattle.yaml_tree.specs.inside.Stack.{PopsWhere, one_node}
+use Rattle.yaml_tree.specs.inside.Builder.{settled_on, closed, valued, put_node, with_node, take_piece, take_pieces, take_token, take_tokens, Steps}
 use Rattle.yaml_tree.specs.declared.node.Value.TheVariants.{Null}
 use Rattle.yaml_tree.specs.declared.stack.Open.{Open}
 use Rattle.yaml_tree.specs.declared.builder.Builder.{Builder}

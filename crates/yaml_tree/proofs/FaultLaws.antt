@@ -8,9 +8,9 @@ use Rattle.yaml_tree.specs.Flows.{SpellsFlow, FlowMayBegin, IsPieceKind, IsFirst
 use Rattle.yaml_marks.specs.Tokens.{tokens_of}
 use Rattle.yaml_tree.specs.Written.{Spells}
 use Rattle.yaml_tree.specs.Said.{Said, has_repeat, has_unknown, levels, size}
-use Rattle.yaml_tree.specs.Stack.{cut, measured}
+use Rattle.yaml_tree.specs.inside.Stack.{cut, measured}
 use Rattle.yaml_tree.specs.Tree.{Says, MayBegin, ValueMayBegin, KeyMayBegin, IsKindAt, IsMisfit, IsRefused, IsFirstRefused, line_of_break, IsFaultOf}
-use Rattle.yaml_tree.specs.Builder.{fault_of}
+use Rattle.yaml_tree.specs.inside.Builder.{fault_of}
 use Rattle.yaml_marks.specs.declared.token.Token.{Token}
 use Rattle.yaml_marks.specs.declared.token.Token.TheVariants.{Dash, Key, Scalar, Name, Copy, Bar, Body, Form, OddToken}
 use Rattle.yaml_marks.specs.declared.piece.Piece.{Piece}

@@ -4,9 +4,9 @@ use Rattle.std.specs.declared.alloc.Global.{Global}
 use Rattle.yaml_marks.specs.Lines.{lines_of, split_lines}
 use Rattle.yaml_marks.specs.Scalars.{plain_len, single_quoted, double_len, unescaped, bare_scan, scan_of, scalar_at}
 use Rattle.yaml_marks.specs.Pieces.{cell_len, bare_cell, cell_scan, found_at}
-use Rattle.yaml_tree.specs.Outline.{fault_from}
+use Rattle.yaml_tree.specs.inside.Outline.{fault_from}
 use Rattle.yaml_marks.specs.Tokens.{tokens_from, line_tokens, place_after, node_tokens}
-use Rattle.yaml_tree.specs.Builder.{begun, cell_closed, cell_copy, cell_key, cell_node, cell_opened, closed, ended, flushed, headed, judged, next_row, put_known, put_node, read_line, read_lines, settled_on, take_token, take_tokens, take_piece, take_pieces, valued, with_bar, with_copy, with_form, with_line, with_name, with_node, with_scalar}
+use Rattle.yaml_tree.specs.inside.Builder.{begun, cell_closed, cell_copy, cell_key, cell_node, cell_opened, closed, ended, flushed, headed, judged, next_row, put_known, put_node, read_line, read_lines, settled_on, take_token, take_tokens, take_piece, take_pieces, valued, with_bar, with_copy, with_form, with_line, with_name, with_node, with_scalar}
 use Rattle.yaml_tree.specs.Tree.{IsFirstRefused}
 use Rattle.yaml_tree.specs.declared.fault.FaultKind.{FaultKind}
 use Rattle.yaml_tree.specs.declared.fault.FaultKind.TheVariants.{Syntax, Unsupported, Duplicate, Alias}

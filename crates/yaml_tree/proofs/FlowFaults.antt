@@ -13,7 +13,7 @@ use Rattle.yaml_tree.specs.declared.shape.Shape.{Shape as Outlined}
 use Rattle.yaml_tree.specs.declared.fault.FaultKind.TheVariants.{Syntax, Unsupported}
 use Rattle.yaml_marks.specs.declared.odd.Odd.TheVariants as odd
 use Rattle.yaml_tree.specs.Flows.{Flow, has_cells, kind_behind_key, FlowMayBegin, IsPieceKind, IsFirstMisfit, IsFlowMisfit}
-use Rattle.yaml_tree.specs.Outline.{closed as outlined, takes_piece, takes_value, takes_key, behind, piece_fault, is_done, fault_from, flow_fault}
+use Rattle.yaml_tree.specs.inside.Outline.{closed as outlined, takes_piece, takes_value, takes_key, behind, piece_fault, is_done, fault_from, flow_fault}
 use Rattle.yaml_tree.proofs.Shapes.{CellPlace, Slot, Shape, bracket_of, closed, closed_by, end_piece, named_piece, value_piece, cell_piece, begun_form, with_piece, with_pieces, filled}
 use Rattle.yaml_tree.specs.Flows.Flow.{absent, called, form}
 use Rattle.yaml_tree.proofs.Shapes.CellPlace.{behind_key}

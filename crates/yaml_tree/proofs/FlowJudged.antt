@@ -1,7 +1,7 @@
 -- What the check of a flow form's pieces has found.
 use Rattle.std.specs.Prelude.{List, Option, Some, None}
 use Rattle.yaml_tree.specs.Flows.{Flow, SpellsFlow, IsFlowMisfit}
-use Rattle.yaml_tree.specs.Outline.{flow_fault}
+use Rattle.yaml_tree.specs.inside.Outline.{flow_fault}
 use Rattle.yaml_marks.specs.declared.piece.Piece.{Piece}
 use Rattle.yaml_tree.specs.declared.fault.FaultKind.{FaultKind}
 

@@ -14,8 +14,8 @@ use Rattle.yaml_tree.specs.Flows.Flow.{absent, word, called, item, pair, form}
 use Rattle.yaml_tree.specs.Said.{Said, Names, Meaning, flow_said, scalar_said, copied, begun_form, item_behind, pair_behind, has_key, from_line, given}
 use Rattle.yaml_tree.specs.Said.Said.{null, text, unknown, sequence, mapping, with_item, with_pair}
 use Rattle.yaml_tree.specs.Holds.{HoldsSaid, HoldsRows, Rows, IsNode, is_mapping, begins_on, scalar_value, with_row, rows_value}
-use Rattle.yaml_tree.specs.Stack.{new_open, measured, one_node, unknown_node, with_part, with_repeat, finished, collection, has_row, with_next_row}
-use Rattle.yaml_tree.specs.Builder.{find_name, named, begins_at, next_known, with_node, put_in, put_known, cell_node, flushed, is_curly, cell_opened, cell_closed, cell_closed_on, cell_key, cell_copy, copy_found, take_piece, take_pieces}
+use Rattle.yaml_tree.specs.inside.Stack.{new_open, measured, one_node, unknown_node, with_part, with_repeat, finished, collection, has_row, with_next_row}
+use Rattle.yaml_tree.specs.inside.Builder.{find_name, named, begins_at, next_known, with_node, put_in, put_known, cell_node, flushed, is_curly, cell_opened, cell_closed, cell_closed_on, cell_key, cell_copy, copy_found, take_piece, take_pieces}
 use Rattle.yaml_tree.specs.declared.known.Measure.{Measure}
 use Rattle.yaml_tree.specs.declared.known.Known.{Known}
 use Rattle.yaml_tree.specs.declared.known.GivenName.{GivenName}

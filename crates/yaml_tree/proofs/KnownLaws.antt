@@ -11,8 +11,8 @@ use Rattle.yaml_tree.specs.Entries.{with_entry}
 use Rattle.yaml_tree.specs.Said.{Said, Names, Meaning, from_line, has_key, has_repeat, has_unknown, levels, size}
 use Rattle.yaml_tree.specs.Said.Said.{null, text, unknown, sequence, mapping, with_item, with_pair}
 use Rattle.yaml_tree.specs.Holds.{HoldsSaid, HoldsRows, Rows, begins_on}
-use Rattle.yaml_tree.specs.Stack.{cut, measured, one_node, unknown_node, no_row, with_part, with_repeat}
-use Rattle.yaml_tree.specs.Builder.{find_name, named, begins_at}
+use Rattle.yaml_tree.specs.inside.Stack.{cut, measured, one_node, unknown_node, no_row, with_part, with_repeat}
+use Rattle.yaml_tree.specs.inside.Builder.{find_name, named, begins_at}
 use Rattle.yaml_tree.specs.declared.entries.Child.{Child}
 use Rattle.yaml_tree.specs.declared.known.Known.{Known}
 use Rattle.yaml_tree.specs.declared.known.GivenName.{GivenName}

@@ -6,7 +6,7 @@ use Rattle.std.proofs.lemmas.List.Folds.{list_all-append}
 use Rattle.sim_base.specs.Refusals.{◌>>=◌}
 use Rattle.yaml_marks.specs.Tokens.{has_content, next_place, line_tokens, tokens_from}
 use Rattle.yaml_tree.specs.Written.{is_name}
-use Rattle.yaml_tree.specs.Builder.{read_line, at_line, read_lines, ReadsLine}
+use Rattle.yaml_tree.specs.inside.Builder.{read_line, at_line, read_lines, ReadsLine}
 use Rattle.yaml_marks.specs.declared.place.LinePlace.{LinePlace}
 use Rattle.yaml_tree.specs.declared.builder.Builder.{Builder}
 use Rattle.yaml_tree.specs.declared.fault.YamlFault.{YamlFault}

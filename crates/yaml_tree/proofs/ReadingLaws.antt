@@ -17,9 +17,9 @@ use Rattle.yaml_tree.specs.Written.Written.{nothing}
 use Rattle.yaml_tree.specs.Said.{Said, tree_of, has_repeat, has_unknown, levels, size}
 use Rattle.yaml_tree.specs.Said.Said.{null, text, unknown, sequence, mapping, with_item, with_pair}
 use Rattle.yaml_tree.specs.Holds.{HoldsSaid}
-use Rattle.yaml_tree.specs.Stack.{cut, measured}
+use Rattle.yaml_tree.specs.inside.Stack.{cut, measured}
 use Rattle.yaml_tree.specs.Tree.{Says, IsTree, HasTree, MayBegin, ValueMayBegin, KeyMayBegin, kind_of, IsKindAt, IsMisfit, IsRefused, IsFirstRefused, IsTreeOf, IsFaultOf}
-use Rattle.yaml_tree.specs.Builder.{take_token, take_tokens, fault_of, judged_by, judged, read_line, read_lines, at_line, ReadsLine, fresh}
+use Rattle.yaml_tree.specs.inside.Builder.{take_token, take_tokens, fault_of, judged_by, judged, read_line, read_lines, at_line, ReadsLine, fresh}
 use Rattle.yaml_tree.specs.Trees.{Holds, RootIsIn, IsReading, IsErrorOf, root_number}
 use Rattle.yaml_tree.specs.declared.builder.Builder.{Builder}
 use Rattle.yaml_marks.specs.declared.token.Token.{Token}

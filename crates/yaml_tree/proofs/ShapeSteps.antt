@@ -5,14 +5,14 @@ use Rattle.std.proofs.lemmas.Bool.{cond-true, cond-false}
 use Rattle.yaml_marks.specs.declared.piece.Piece.{Piece}
 use Rattle.yaml_marks.specs.declared.piece.Piece.TheVariants.{Opening, Closing, Comma, CellKey, CellScalar, CellName, CellCopy, OddPiece}
 use Rattle.yaml_marks.specs.declared.odd.Odd.TheVariants as odd
-use Rattle.yaml_marks.specs.Packed.{bare}
+use Rattle.yaml_marks.specs.inside.Packed.{bare}
 use Rattle.yaml_marks.proofs.PackedLaws.{closes-bare}
 use Rattle.yaml_tree.specs.declared.shape.Shape.{Shape}
 use Rattle.yaml_tree.specs.declared.shape.Want.TheVariants as want
 use Rattle.yaml_tree.specs.declared.fault.FaultKind.TheVariants.{Syntax, Unsupported}
 use Rattle.yaml_tree.specs.Flows.{kind_behind_key}
 use Rattle.yaml_marks.proofs.BracketSteps.{here}
-use Rattle.yaml_tree.specs.Outline.{takes_key, takes_piece, behind, piece_fault, fault_from, flow_fault}
+use Rattle.yaml_tree.specs.inside.Outline.{takes_key, takes_piece, behind, piece_fault, fault_from, flow_fault}
 
 -- ---- the fault of pieces
 

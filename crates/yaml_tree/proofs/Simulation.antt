@@ -9,16 +9,16 @@ use Rattle.std.specs.declared.alloc.Global.{Global}
 use Rattle.yaml_marks.specs.Pieces.{why_bracket}
 use Rattle.yaml_tree.specs.Flows.{Flow, IsForm, SpellsFlow, IsFlowMisfit}
 use Rattle.yaml_tree.specs.Flows.Flow.{absent, word, called as naming, item, pair, form}
-use Rattle.yaml_tree.specs.Outline.{flow_fault}
+use Rattle.yaml_tree.specs.inside.Outline.{flow_fault}
 use Rattle.yaml_tree.specs.Written.{Written, depth, line_of, is_head, is_body_line}
 use Rattle.yaml_tree.specs.Written.Written.{nothing, leaf, literal, flowing, named, row}
 use Rattle.yaml_tree.specs.Said.{Said, Names, Meaning, said, from_line, scalar_said, flow_said, body_of, bodies_of, tree_of}
 use Rattle.yaml_tree.specs.Said.Said.{null, unknown}
 use Rattle.yaml_tree.specs.Holds.{HoldsSaid, IsNode, begins_on, scalar_value}
-use Rattle.yaml_tree.specs.Stack.{measured, one_node, unknown_node, with_part, measure_about}
+use Rattle.yaml_tree.specs.inside.Stack.{measured, one_node, unknown_node, with_part, measure_about}
 use Rattle.yaml_tree.specs.Tree.{kind_of}
 use Rattle.yaml_tree.specs.Trees.{root_number}
-use Rattle.yaml_tree.specs.Builder.{fresh, find_name, with_node, put_node, valued, known_of, settled, is_shallower, can_hold, can_name, with_scalar, with_name, put_found, with_copy, new_literal, with_bar, with_line_of, with_line, ended, take_pieces, formed, with_form, headed, unkeyed, refused, take_token, value_measure, measure, whole}
+use Rattle.yaml_tree.specs.inside.Builder.{fresh, find_name, with_node, put_node, valued, known_of, settled, is_shallower, can_hold, can_name, with_scalar, with_name, put_found, with_copy, new_literal, with_bar, with_line_of, with_line, ended, take_pieces, formed, with_form, headed, unkeyed, refused, take_token, value_measure, measure, whole}
 use Rattle.yaml_marks.specs.declared.piece.Piece.{Piece}
 use Rattle.yaml_marks.specs.declared.token.Token.{Token}
 use Rattle.yaml_marks.specs.declared.token.Token.TheVariants.{Dash, Key, Scalar, Name, Copy, Bar, Body, Form, OddToken}

@@ -7,8 +7,8 @@ use Rattle.yaml_tree.specs.Written.Written.{nothing, leaf, literal, flowing, nam
 use Rattle.yaml_tree.specs.Said.{Said, Meaning, begun_block, row_behind}
 use Rattle.yaml_tree.specs.Holds.{HoldsRows, no_rows, with_row, begins_on}
 use Rattle.yaml_tree.specs.Entries as entries
-use Rattle.yaml_tree.specs.Stack.{new_open, measured, no_row, with_part, with_repeat, finished, has_row, with_next_row}
-use Rattle.yaml_tree.specs.Builder.{valued, known_of, begun, next_row, headed_on, headed, settled}
+use Rattle.yaml_tree.specs.inside.Stack.{new_open, measured, no_row, with_part, with_repeat, finished, has_row, with_next_row}
+use Rattle.yaml_tree.specs.inside.Builder.{valued, known_of, begun, next_row, headed_on, headed, settled}
 use Rattle.yaml_marks.specs.declared.token.Token.{Token}
 use Rattle.yaml_marks.specs.declared.token.Token.TheVariants.{Dash, Key, Scalar, Name, Copy, Bar, Body, Form, OddToken}
 use Rattle.yaml_tree.specs.declared.fault.FaultKind.{FaultKind}

@@ -9,9 +9,9 @@ use Rattle.yaml_tree.specs.Said.Said.{null}
 use Rattle.yaml_tree.specs.Holds.{HoldsSaid, HoldsRows, Rows, IsNode, with_row, rows_value, begins_on}
 use Rattle.yaml_tree.specs.Written.{Written, depth, line_of, is_head}
 use Rattle.yaml_tree.specs.Written.Written.{nothing, leaf, literal, flowing, named, row}
-use Rattle.yaml_tree.specs.Stack.{measured, one_node, with_part, with_repeat, finished, collection}
-use Rattle.yaml_tree.specs.Builder.{begins_at, next_known, with_node, put_node, valued, known_of, closed, settled_on, ended, ended_of}
-use Rattle.yaml_tree.specs.Builder as steps
+use Rattle.yaml_tree.specs.inside.Stack.{measured, one_node, with_part, with_repeat, finished, collection}
+use Rattle.yaml_tree.specs.inside.Builder.{begins_at, next_known, with_node, put_node, valued, known_of, closed, settled_on, ended, ended_of}
+use Rattle.yaml_tree.specs.inside.Builder as steps
 use Rattle.yaml_marks.specs.declared.token.Token.{Token}
 use Rattle.yaml_marks.specs.declared.token.Token.TheVariants.{Dash, Key, Scalar, Name, Copy, Bar, Body, Form, OddToken}
 use Rattle.yaml_tree.specs.declared.literal.Literal.{Literal}

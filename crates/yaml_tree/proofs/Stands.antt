@@ -8,8 +8,8 @@ use Rattle.yaml_tree.specs.Said.Said.{null}
 use Rattle.yaml_tree.specs.Holds.{HoldsSaid, HoldsRows, Rows, begins_on}
 use Rattle.yaml_tree.specs.Written.{Written, depth, line_of, is_head, is_name, is_bar}
 use Rattle.yaml_tree.specs.Written.Written.{nothing, leaf, literal, flowing, named, row}
-use Rattle.yaml_tree.specs.Stack.{measured, with_repeat}
-use Rattle.yaml_tree.specs.Builder.{find_name}
+use Rattle.yaml_tree.specs.inside.Stack.{measured, with_repeat}
+use Rattle.yaml_tree.specs.inside.Builder.{find_name}
 use Rattle.yaml_marks.specs.declared.token.Token.{Token}
 use Rattle.yaml_marks.specs.declared.token.Token.TheVariants.{Key}
 use Rattle.yaml_tree.specs.declared.literal.Literal.{Literal}

@@ -1,15 +1,10 @@
+pub mod Fault
 pub mod Limits
 pub mod Entries
-pub mod Numbers
-pub mod Rows
 pub mod Flows
 pub mod Written
 pub mod Said
 pub mod Holds
 pub mod Tree
-pub mod Outline
-pub mod Stack
-pub mod Frames
-pub mod Gone
-pub mod Builder
 pub mod Trees
+pub mod inside

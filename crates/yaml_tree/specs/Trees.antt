@@ -2,7 +2,7 @@
 use Rattle.std.specs.Prelude.{◌≡◌, ◌<◌, ℕ, Bool, List, Result, Ok, Err, length}
 use Rattle.yaml_tree.specs.Said.{Said}
 use Rattle.yaml_tree.specs.Holds.{HoldsSaid}
-use Rattle.yaml_tree.specs.Builder.{whole, known_of}
+use Rattle.yaml_tree.specs.inside.Builder.{whole, known_of}
 use Rattle.yaml_tree.specs.declared.node.Node.{Node}
 use Rattle.yaml_tree.specs.Tree.{IsFaultOf}
 use Rattle.yaml_tree.specs.declared.tree.Tree.{Tree}

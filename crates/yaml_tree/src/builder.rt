@@ -1,9 +1,10 @@
 //! The builder: nodes that are whole, their names, and what is still open.
 
-ghost use Rattle.std.specs.Prelude.{◌≡◌, ◌+◌, ◌*◌, Some, None, OnOk, IfOk};
-ghost use Rattle.yaml_tree.specs.Builder.{next_known, with_node, put_node, valued, closed, settled, begun, next_row, headed, can_hold, can_name, with_scalar, with_name, with_copy, put_found, with_bar, with_line, ended, with_form, odd_kind, refused, take_token, take_tokens, Steps, judged, whole};
+ghost use Rattle.std.specs.Prelude.{◌≡◌, ◌+◌, ◌*◌, ◌∷◌, Some, None, OnOk, IfOk};
+ghost use Rattle.yaml_tree.specs.inside.Stack.{new_open, finished};
+ghost use Rattle.yaml_tree.specs.inside.Builder.{next_known, known_of, with_node, put_node, valued, closed, settled, begun, next_row, headed, can_hold, can_name, with_scalar, with_name, with_copy, put_found, with_bar, with_line, ended, with_form, odd_kind, refused, take_token, take_tokens, Steps, judged, whole};
 ghost use Rattle.yaml_tree.specs.Trees.{root_number};
-ghost use Rattle.yaml_tree.specs.Builder as machine;
+ghost use Rattle.yaml_tree.specs.inside.Builder as machine;
 ghost use Rattle.yaml_tree.specs.Holds.{scalar_value};
 ghost use Rattle.yaml_tree.specs.Tree.{kind_of};
 
@@ -59,7 +60,7 @@ impl Builder {
     }
 
     /// Makes a node, which takes the name that waits for one. No memory has room for 2^32 nodes.
-    #[tactic(auto, unfolding(crate::specs::Builder::with_node))]
+    #[tactic(auto, unfolding(crate::specs::inside::Builder::with_node))]
     pub fn make_node(
         &mut self,
         line: usize,
@@ -82,7 +83,7 @@ impl Builder {
     }
 
     /// Makes a node that is the value.
-    #[tactic(auto, unfolding(crate::specs::Builder::put_node))]
+    #[tactic(auto, unfolding(crate::specs::inside::Builder::put_node))]
     fn put_node(&mut self, line: usize, value: Value, measure: Measure) -> Result<(), NoMemory>
         ensures { OnOk result (self.new ≡ put_node line value measure self.old) }
     {
@@ -110,7 +111,7 @@ impl Builder {
     }
 
     /// The value, which is a null on this line where none has come.
-    #[tactic(auto, unfolding(crate::specs::Builder::valued, crate::specs::Builder::put_node))]
+    #[tactic(auto, unfolding(crate::specs::inside::Builder::valued, crate::specs::inside::Builder::put_node))]
     fn take_value(&mut self, line: usize) -> Result<Known, NoMemory>
         ensures { IfOk result (λ k. (self.new ≡ valued line self.old) × (self.new.value ≡ Some k)) }
     {
@@ -124,13 +125,20 @@ impl Builder {
         }
     }
 
+    /// Finishes the last row of a collection with the value.
+    fn finish_row(&mut self, last: Open) -> Result<Open, NoMemory>
+        ensures { IfOk result (λ rows. (self.new ≡ valued last.line self.old) × (rows ≡ finished last (known_of self.new.value))) }
+    {
+        let value = self.take_value(last.line)?;
+        last.finish_row(self.alloc, &self.hashing, value)
+    }
+
     /// Makes a collection, its last row finished, the value of the row around it.
-    #[tactic(auto, unfolding(crate::specs::Builder::closed))]
+    #[tactic(auto, unfolding(crate::specs::inside::Builder::closed))]
     fn close(&mut self, last: Open) -> Result<(), NoMemory>
         ensures { OnOk result (self.new ≡ closed last self.old) }
     {
-        let value = self.take_value(last.line)?;
-        let rows = last.finish_row(self.alloc, &self.hashing, value)?;
+        let rows = self.finish_row(last)?;
         let line = rows.first_line;
         let measure = rows.measure;
         let (collection, name) = rows.into_value(self.alloc, &self.hashing)?;
@@ -149,33 +157,39 @@ impl Builder {
     }
 
     /// Begins a collection.
-    #[tactic(auto, unfolding(crate::specs::Builder::begun))]
+    #[tactic(auto, unfolding(crate::specs::inside::Builder::begun))]
     fn begin(&mut self, depth: u128, mapping: bool, line: usize, key: Scalar) -> Result<(), Stop>
         ensures { Steps result self.new (begun depth mapping line key self.old) }
     {
         if self.value.is_some() {
             return Err(Stop::Fault(FaultKind::Syntax));
         }
-        let name = self.name.take();
-        let open = Open::new(self.alloc, depth, mapping, line, key, name);
-        self.open_rows.push(open)?;
+        self.open(depth, mapping, line, key)?;
         Ok(())
     }
 
+    /// Opens a collection, which takes the name that waits for a node.
+    fn open(&mut self, depth: u128, mapping: bool, line: usize, key: Scalar) -> Result<(), NoMemory>
+        ensures { OnOk result (self.new ≡ record self.old { open_rows = new_open depth mapping line key self.old.name ∷ self.old.open_rows; name = None }) }
+    {
+        let name = self.name.take();
+        let open = Open::new(self.alloc, depth, mapping, line, key, name);
+        self.open_rows.push(open)
+    }
+
     /// Begins the next row of a collection.
-    #[tactic(auto, unfolding(crate::specs::Builder::next_row))]
+    #[tactic(auto, unfolding(crate::specs::inside::Builder::next_row))]
     fn next_row(&mut self, last: Open, line: usize, key: Scalar) -> Result<(), NoMemory>
         ensures { OnOk result (self.new ≡ next_row last line key self.old) }
     {
-        let value = self.take_value(last.line)?;
-        let rows = last.finish_row(self.alloc, &self.hashing, value)?;
+        let rows = self.finish_row(last)?;
         self.open_rows.push(rows.with_next_row(line, key))?;
         self.value = None;
         Ok(())
     }
 
     /// Takes a key or a dash.
-    #[tactic(auto, unfolding(crate::specs::Builder::headed))]
+    #[tactic(auto, unfolding(crate::specs::inside::Builder::headed))]
     fn head(&mut self, depth: u128, mapping: bool, line: usize, key: Scalar) -> Result<(), Stop>
         ensures { Steps result self.new (headed depth mapping line key self.old) }
     {
@@ -207,7 +221,7 @@ impl Builder {
     }
 
     /// Takes a scalar.
-    #[tactic(auto, unfolding(crate::specs::Builder::with_scalar))]
+    #[tactic(auto, unfolding(crate::specs::inside::Builder::with_scalar))]
     fn scalar(&mut self, depth: u128, line: usize, text: TextOrNull) -> Result<(), Stop>
         ensures { Steps result self.new (with_scalar depth line text self.old) }
     {
@@ -219,7 +233,7 @@ impl Builder {
     }
 
     /// Takes a name.
-    #[tactic(auto, unfolding(crate::specs::Builder::with_name))]
+    #[tactic(auto, unfolding(crate::specs::inside::Builder::with_name))]
     fn give_name(&mut self, depth: u128, line: usize, text: Scalar) -> Result<(), Stop>
         ensures { Steps result self.new (with_name depth line text self.old) }
     {
@@ -244,7 +258,7 @@ impl Builder {
     }
 
     /// Takes a copy.
-    #[tactic(auto, unfolding(crate::specs::Builder::with_copy))]
+    #[tactic(auto, unfolding(crate::specs::inside::Builder::with_copy))]
     fn copy(&mut self, depth: u128, line: usize, name: &Scalar) -> Result<(), Stop>
         ensures { Steps result self.new (with_copy depth line name.now self.old) }
     {
@@ -257,7 +271,7 @@ impl Builder {
     }
 
     /// Takes the bar of a literal block.
-    #[tactic(auto, unfolding(crate::specs::Builder::with_bar))]
+    #[tactic(auto, unfolding(crate::specs::inside::Builder::with_bar))]
     fn bar(&mut self, depth: u128, line: usize, chomp: Chomp) -> Result<(), Stop>
         ensures { Steps result self.new (with_bar depth line chomp self.old) }
     {
@@ -274,7 +288,7 @@ impl Builder {
     }
 
     /// Takes a line of a literal block.
-    #[tactic(auto, unfolding(crate::specs::Builder::with_line))]
+    #[tactic(auto, unfolding(crate::specs::inside::Builder::with_line))]
     fn literal_line(&mut self, depth: u128, bytes: Scalar) -> Result<(), Stop>
         ensures { Steps result self.new (with_line depth bytes self.old) }
     {
@@ -289,7 +303,7 @@ impl Builder {
     }
 
     /// Makes the literal block that is open, if any, the value.
-    #[tactic(auto, unfolding(crate::specs::Builder::ended))]
+    #[tactic(auto, unfolding(crate::specs::inside::Builder::ended))]
     fn end_literal(&mut self) -> Result<(), NoMemory>
         ensures { OnOk result (self.new ≡ ended self.old) }
     {
@@ -304,7 +318,7 @@ impl Builder {
     }
 
     /// Takes a flow form.
-    #[tactic(auto, unfolding(crate::specs::Builder::with_form))]
+    #[tactic(auto, unfolding(crate::specs::inside::Builder::with_form))]
     fn form(&mut self, depth: u128, line: usize, pieces: Pieces) -> Result<(), Stop>
         ensures { Steps result self.new (with_form depth line pieces self.old) }
     {
@@ -352,7 +366,7 @@ impl Builder {
     }
 
     /// Takes a token.
-    #[tactic(auto, unfolding(crate::specs::Builder::take_token))]
+    #[tactic(auto, unfolding(crate::specs::inside::Builder::take_token))]
     pub fn take_token(&mut self, token: Token) -> Result<(), Stop>
         ensures { Steps result self.new (take_token token self.old) }
     {
@@ -398,7 +412,7 @@ impl Builder {
     }
 
     /// Closes all that is open, and gives the number of the root.
-    #[tactic(auto, unfolding(crate::specs::Builder::whole))]
+    #[tactic(auto, unfolding(crate::specs::inside::Builder::whole))]
     pub fn finish(&mut self) -> Result<u32, NoMemory>
         ensures { IfOk result (λ n. (n ≡ root_number self.old) × (self.new ≡ whole self.old)) }
     {
@@ -409,7 +423,7 @@ impl Builder {
     }
 
     /// The limits at a line's end.
-    #[tactic(auto, unfolding(crate::specs::Builder::judged))]
+    #[tactic(auto, unfolding(crate::specs::inside::Builder::judged))]
     pub fn judge(&self) -> Result<(), Stop>
         ensures { Steps result self.now (judged self.now) }
     {

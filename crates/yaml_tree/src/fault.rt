@@ -1,6 +1,7 @@
 //! Why a text has no tree.
 
 ghost use Rattle.std.specs.Prelude.{◌≡◌};
+ghost use Rattle.yaml_tree.specs.Fault.{word_of};
 
 use sim_base::NoMemory;
 use std::alloc::{AllocError, AllocFailed};
@@ -41,10 +42,27 @@ pub enum TreeError {
     NoMemory,
 }
 
+impl FaultKind {
+    /// The words for messages.
+    pub fn word(self) -> &'static str
+        ensures { result.now ≡ word_of self }
+    {
+        match self {
+            FaultKind::NotUtf8 => "not UTF-8",
+            FaultKind::Syntax => "syntax",
+            FaultKind::Unsupported => "unsupported",
+            FaultKind::Duplicate => "duplicate key",
+            FaultKind::Alias => "unknown alias",
+            FaultKind::TooDeep => "too deep",
+            FaultKind::TooManyNodes => "too many nodes",
+        }
+    }
+}
+
 impl fmt::Display for TreeError {
     fn fmt<W: fmt::Write>(&self, f: &mut fmt::Formatter<W>) -> fmt::Result {
         match self {
-            TreeError::Fault(fault) => write!(f, "line {}: {:?}", fault.line, fault.kind),
+            TreeError::Fault(fault) => write!(f, "line {}: {}", fault.line, fault.kind.word()),
             TreeError::NoMemory => f.write_str("out of memory"),
         }
     }

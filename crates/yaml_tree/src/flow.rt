@@ -1,7 +1,7 @@
 //! Flow forms, piece by piece given to the builder.
 
 ghost use Rattle.std.specs.Prelude.{◌≡◌, Some, None, OnOk, IfOk};
-ghost use Rattle.yaml_tree.specs.Builder.{put_known, cell_node, flushed, cell_opened, cell_closed, cell_key, copy_found, cell_copy, take_piece, take_pieces};
+ghost use Rattle.yaml_tree.specs.inside.Builder.{put_known, cell_node, flushed, cell_opened, cell_closed, cell_key, copy_found, cell_copy, take_piece, take_pieces};
 
 use crate::builder::{Builder, scalar_value};
 use crate::known::{GivenName, Known, Measure};
@@ -12,7 +12,7 @@ use yaml_marks::{Bracket, Piece, Pieces, Scalar};
 
 impl Builder {
     /// Makes a value a cell of the innermost bracket, or the whole form.
-    #[tactic(auto, unfolding(crate::specs::Builder::put_known))]
+    #[tactic(auto, unfolding(crate::specs::inside::Builder::put_known))]
     fn put_known(&mut self, known: Known) -> Result<(), NoMemory>
         ensures { OnOk result (self.new ≡ put_known known self.old) }
     {
@@ -29,7 +29,7 @@ impl Builder {
     }
 
     /// Makes a node that is a cell.
-    #[tactic(auto, unfolding(crate::specs::Builder::cell_node))]
+    #[tactic(auto, unfolding(crate::specs::inside::Builder::cell_node))]
     fn cell_node(&mut self, line: usize, value: Value, measure: Measure) -> Result<(), NoMemory>
         ensures { OnOk result (self.new ≡ cell_node line value measure self.old) }
     {
@@ -38,7 +38,7 @@ impl Builder {
     }
 
     /// Gives a name that nothing stands behind to a null.
-    #[tactic(auto, unfolding(crate::specs::Builder::flushed))]
+    #[tactic(auto, unfolding(crate::specs::inside::Builder::flushed))]
     fn flush(&mut self, line: usize) -> Result<(), NoMemory>
         ensures { OnOk result (self.new ≡ flushed line self.old) }
     {
@@ -48,7 +48,7 @@ impl Builder {
         Ok(())
     }
 
-    #[tactic(auto, unfolding(crate::specs::Builder::cell_opened))]
+    #[tactic(auto, unfolding(crate::specs::inside::Builder::cell_opened))]
     fn open_cell(&mut self, line: usize, bracket: Bracket) -> Result<(), NoMemory>
         ensures { OnOk result (self.new ≡ cell_opened line bracket self.old) }
     {
@@ -59,7 +59,7 @@ impl Builder {
         self.cells.push(open)
     }
 
-    #[tactic(auto, unfolding(crate::specs::Builder::cell_closed))]
+    #[tactic(auto, unfolding(crate::specs::inside::Builder::cell_closed))]
     fn close_cell(&mut self, line: usize) -> Result<(), NoMemory>
         ensures { OnOk result (self.new ≡ cell_closed line self.old) }
     {
@@ -76,7 +76,7 @@ impl Builder {
         }
     }
 
-    #[tactic(auto, unfolding(crate::specs::Builder::cell_key))]
+    #[tactic(auto, unfolding(crate::specs::inside::Builder::cell_key))]
     fn key_cell(&mut self, line: usize, key: Scalar) -> Result<(), NoMemory>
         ensures { OnOk result (self.new ≡ cell_key line key self.old) }
     {
@@ -95,7 +95,7 @@ impl Builder {
         }
     }
 
-    #[tactic(auto, unfolding(crate::specs::Builder::cell_copy))]
+    #[tactic(auto, unfolding(crate::specs::inside::Builder::cell_copy))]
     fn copy_cell(&mut self, line: usize, name: &Scalar) -> Result<(), NoMemory>
         ensures { OnOk result (self.new ≡ cell_copy line name.now self.old) }
     {
@@ -104,7 +104,7 @@ impl Builder {
     }
 
     /// Takes a piece.
-    #[tactic(auto, unfolding(crate::specs::Builder::take_piece))]
+    #[tactic(auto, unfolding(crate::specs::inside::Builder::take_piece))]
     fn take_piece(&mut self, line: usize, piece: Piece) -> Result<(), NoMemory>
         ensures { OnOk result (self.new ≡ take_piece line piece self.old) }
     {

@@ -1,8 +1,8 @@
 //! What is kept of a collection that is open.
 
 ghost use Rattle.std.specs.Prelude.{◌≡◌, Some, IfOk};
-ghost use Rattle.yaml_tree.specs.Frames.{mapping_of, open_of};
-ghost use Rattle.yaml_tree.specs.Stack.{new_open};
+ghost use Rattle.yaml_tree.specs.inside.Frames.{mapping_of, open_of};
+ghost use Rattle.yaml_tree.specs.inside.Stack.{new_open};
 ghost use Rattle.yaml_tree.specs.declared.frame.Frame.TheVariants.{Cells};
 
 use crate::growing::Growing;
@@ -64,10 +64,7 @@ impl Frame {
     {
         match u32::try_from(kept.depth) {
             Ok(depth) if kept.is_begun() => Frame::begun(alloc, depth, kept),
-            Ok(depth) if kept.is_rows() => {
-                let rows = OpenRows::of(depth, kept);
-                Ok(Frame::Rows(Box::new(alloc, rows)?))
-            }
+            Ok(depth) if kept.is_rows() => OpenRows::of(depth, kept).into_frame(alloc),
             _ => Frame::of_cells(alloc, kept),
         }
     }
@@ -86,25 +83,15 @@ impl Frame {
     fn begun(alloc: Global, depth: u32, kept: Open) -> Result<Frame, NoMemory>
         ensures { IfOk result (λ frame. open_of frame ≡ new_open depth kept.mapping kept.line kept.key kept.name) }
     {
-        let Open {
-            depth: _,
-            mapping,
-            first_line: _,
-            items: _,
-            entries: _,
-            line,
-            key,
-            name,
-            measure: _,
-        } = kept;
-        match name {
-            None => Ok(Frame::Begun {
+        let (mapping, line) = (kept.mapping, kept.line);
+        match kept.into_key_and_name() {
+            (key, None) => Ok(Frame::Begun {
                 mapping,
                 depth,
                 line,
                 key,
             }),
-            Some(name) => {
+            (key, Some(name)) => {
                 let named = NamedBegun {
                     mapping,
                     depth,
@@ -112,7 +99,7 @@ impl Frame {
                     key,
                     name,
                 };
-                Ok(Frame::Named(Box::new(alloc, named)?))
+                named.into_frame(alloc)
             }
         }
     }
@@ -155,11 +142,7 @@ impl Frame {
                 line,
                 measure,
                 items,
-            } => Open {
-                items,
-                measure,
-                ..Open::new(alloc, 0, false, line as usize, Scalar::new(), None)
-            },
+            } => Open::cells(alloc, line as usize, measure, items),
             Frame::Rows(rows) => Box::into_inner(rows).into_open(),
             Frame::Other(open) => Box::into_inner(open),
         }
@@ -190,6 +173,12 @@ impl Frame {
 }
 
 impl NamedBegun {
+    fn into_frame(self, alloc: Global) -> Result<Frame, NoMemory>
+        ensures { IfOk result (λ frame. open_of frame ≡ new_open self.depth self.mapping self.line self.key (Some self.name)) }
+    {
+        Ok(Frame::Named(Box::new(alloc, self)?))
+    }
+
     fn into_open(self, alloc: Global) -> Open
         ensures { result ≡ new_open self.depth self.mapping self.line self.key (Some self.name) }
     {
@@ -226,6 +215,12 @@ impl OpenRows {
             key,
             entries,
         }
+    }
+
+    fn into_frame(self, alloc: Global) -> Result<Frame, NoMemory>
+        ensures { IfOk result (λ frame. open_of frame ≡ mapping_of self.depth self.line self.key self.measure self.entries) }
+    {
+        Ok(Frame::Rows(Box::new(alloc, self)?))
     }
 
     fn into_open(self) -> Open

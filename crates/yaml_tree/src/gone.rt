@@ -21,7 +21,7 @@ impl Model for Gone {
 
     ghost Value = { List Node };
 
-    ghost use Rattle.yaml_tree.specs.Gone.{gone};
+    ghost use Rattle.yaml_tree.specs.inside.Gone.{gone};
 
     ghost view = { λ g. gone g.last };
 

@@ -5,7 +5,7 @@ ghost use Rattle.std.specs.List.{list_any};
 ghost use Rattle.std.specs.Cmp.Lexicographic.{pointwise};
 ghost use Rattle.indexmap.specs.IndexMap.{insert_all};
 ghost use Rattle.yaml_tree.specs.Entries.{has_key, with_entry};
-ghost use Rattle.yaml_tree.specs.Rows.{entries_of};
+ghost use Rattle.yaml_tree.specs.inside.Rows.{entries_of};
 
 use crate::entries::{Child, Entries};
 use crate::hashing::Hashing;
@@ -37,7 +37,7 @@ impl Model for Growing {
 
     ghost Value = { List (List ℕ × Child) };
 
-    ghost use Rattle.yaml_tree.specs.Rows.{entries_of};
+    ghost use Rattle.yaml_tree.specs.inside.Rows.{entries_of};
 
     ghost view = { λ g. entries_of g.rows };
 }

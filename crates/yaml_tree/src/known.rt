@@ -3,8 +3,8 @@
 ghost use Rattle.std.specs.Prelude.{◌≡◌, ◌==◌, ◌+◌, List, ℕ, [], OnOk};
 ghost use Rattle.std.specs.Cmp.Lexicographic.{pointwise};
 ghost use Rattle.indexmap.specs.IndexMap.{insert_entry};
-ghost use Rattle.yaml_tree.specs.Stack.{cut, one_node, unknown_node, no_row, with_part, with_repeat};
-ghost use Rattle.yaml_tree.specs.Builder.{find_name, begins_at, fault_of};
+ghost use Rattle.yaml_tree.specs.inside.Stack.{cut, one_node, unknown_node, no_row, with_part, with_repeat};
+ghost use Rattle.yaml_tree.specs.inside.Builder.{find_name, begins_at, fault_of};
 ghost use Rattle.yaml_tree.specs.declared.known.Known.{Known};
 
 use crate::fault::FaultKind;

@@ -1,6 +1,6 @@
 //! The nodes that are whole so far.
 
-ghost use Rattle.std.specs.Prelude.{◌≡◌, ◌++◌, ◌∷◌, [], length, IfSome, IfOk, OnOk};
+ghost use Rattle.std.specs.Prelude.{◌≡◌, ◌++◌, ◌∷◌, [], length, IfSome, IfOk, OnOk, IsTrue};
 
 use crate::gone::Gone;
 use crate::known::MOST_NODES;
@@ -52,7 +52,7 @@ impl MadeNodes {
     pub fn push(&mut self, node: Node, may_stand: bool) -> Result<(), NoMemory>
         ensures { OnOk result (self.new ≡ self.old ++ node ∷ []) }
     {
-        if may_stand && self.gone.is_empty() && self.kept.len() < MOST_NODES as usize {
+        if may_stand && has_room(&self.kept, &self.gone) {
             self.kept.push(node)
         } else {
             self.gone.push(node)
@@ -70,4 +70,11 @@ impl MadeNodes {
             Err(NoMemory)
         }
     }
+}
+
+/// Whether a node more may be kept.
+fn has_room(kept: &Nodes, gone: &Gone) -> bool
+    ensures { IsTrue result → gone.now ≡ [] }
+{
+    gone.is_empty() && kept.len() < MOST_NODES as usize
 }

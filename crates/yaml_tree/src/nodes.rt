@@ -44,8 +44,10 @@ impl Nodes {
     pub fn push(&mut self, node: Node) -> Result<(), NoMemory>
         ensures { OnOk result (self.new ≡ self.old ++ node ∷ []) }
     {
-        self.items.push(node)?;
-        Ok(())
+        match self.items.push(node) {
+            Ok(()) => Ok(()),
+            Err(_) => Err(NoMemory),
+        }
     }
 
     pub fn get(&self, number: usize) -> &Node

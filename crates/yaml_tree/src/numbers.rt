@@ -1,7 +1,7 @@
 //! The items of a sequence.
 
 ghost use Rattle.std.specs.Prelude.{◌≡◌, ◌++◌, ◌∷◌, ◌↔◌, List, ℕ, [], take, IsTrue, IfOk};
-ghost use Rattle.yaml_tree.specs.Numbers.{numbers_of};
+ghost use Rattle.yaml_tree.specs.inside.Numbers.{numbers_of};
 
 use std::alloc::{AllocError, Global};
 use std::marker::Model;

@@ -2,7 +2,7 @@
 
 ghost use Rattle.std.specs.Prelude.{◌≡◌, ◌+◌, ◌<◌, ◌≤◌, ◌^◌, List, ℕ, Bool, None, Ok, Err, length, take, count_by, IfOk, IfErr, false, ◌==◌, ◌||◌};
 ghost use Rattle.yaml_marks.specs.Lines.{split_lines, lines_of};
-ghost use Rattle.yaml_tree.specs.Builder.{Steps, Reads, ReadsLine, take_tokens, take_line, read_line, at_line, read_lines, fresh};
+ghost use Rattle.yaml_tree.specs.inside.Builder.{Steps, Reads, ReadsLine, take_tokens, take_line, read_line, at_line, read_lines, fresh};
 ghost use Rattle.yaml_tree.specs.Said.{Said};
 ghost use Rattle.yaml_marks.specs.Tokens.{has_content, place_after, line_tokens, next_place, tokens_of};
 ghost use Rattle.yaml_marks.specs.declared.place.LinePlace.TheVariants.{Outside};
@@ -74,7 +74,7 @@ fn are_names(tokens: &Tokens) -> bool
 }
 
 /// Reads a line, and tells where the next one stands, and whether it has no tokens but names.
-#[tactic(auto, unfolding(crate::specs::Builder::read_line))]
+#[tactic(auto, unfolding(crate::specs::inside::Builder::read_line))]
 fn read_line(
     builder: &mut Builder,
     begun: bool,

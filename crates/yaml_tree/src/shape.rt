@@ -1,7 +1,7 @@
 //! Whether pieces are a flow form.
 
 ghost use Rattle.std.specs.Prelude.{◌≡◌, ◌<◌, ◌∷◌, ◌↔◌, List, [], Some, IfOk, OnOk, IsTrue, length, drop};
-ghost use Rattle.yaml_tree.specs.Outline.{is_bracket_of, takes_value, takes_form, takes_name, takes_key, takes_comma, takes_closing, takes_piece, closed, behind, piece_fault, fault_from, flow_fault};
+ghost use Rattle.yaml_tree.specs.inside.Outline.{is_bracket_of, takes_value, takes_form, takes_name, takes_key, takes_comma, takes_closing, takes_piece, closed, behind, piece_fault, fault_from, flow_fault};
 ghost use Rattle.yaml_tree.specs.Flows.{kind_behind_key};
 ghost use Rattle.yaml_marks.specs.declared.piece.Bracket.{Bracket};
 ghost use Rattle.yaml_tree.specs.declared.shape.Want.TheVariants as want;
@@ -210,7 +210,7 @@ impl Shape {
     }
 
     /// The fault of pieces that end here, if any.
-    #[tactic(auto, unfolding(crate::specs::Outline::fault_from))]
+    #[tactic(auto, unfolding(crate::specs::inside::Outline::fault_from))]
     fn end_fault(&self) -> Option<FaultKind>
         ensures { result ≡ fault_from [] self.now }
     {

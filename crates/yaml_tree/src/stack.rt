@@ -1,8 +1,8 @@
 //! Collections that are still open.
 
 ghost use Rattle.std.specs.Prelude.{◌≡◌, ◌++◌, ◌∷◌, ◌↔◌, List, ℕ, [], None, OnOk, IfOk, IsTrue, length, true, nat_lt, ◌==◌};
-ghost use Rattle.yaml_tree.specs.Stack.{new_open, finished, collection, top_depth, has_row, with_next_row, measure_about, PopsWhere};
-ghost use Rattle.yaml_tree.specs.Frames.{sequence_of, mapping_of};
+ghost use Rattle.yaml_tree.specs.inside.Stack.{new_open, finished, collection, top_depth, has_row, with_next_row, measure_about, PopsWhere};
+ghost use Rattle.yaml_tree.specs.inside.Frames.{sequence_of, mapping_of, open_of};
 ghost use Rattle.yaml_tree.specs.declared.stack.Open.{Open};
 
 use crate::entries::Child;
@@ -59,6 +59,23 @@ impl Open {
         }
     }
 
+    /// A sequence of a flow form, on one line and without a name.
+    pub fn cells(alloc: Global, line: usize, measure: Measure, items: Numbers) -> Open
+        ensures { result ≡ sequence_of line measure items }
+    {
+        Open {
+            depth: 0,
+            mapping: false,
+            first_line: line,
+            items,
+            entries: Growing::new(alloc),
+            line,
+            key: Scalar::new(),
+            name: None,
+            measure,
+        }
+    }
+
     /// Whether it stands as it began: it has no finished row.
     pub fn is_begun(&self) -> bool
         ensures { IsTrue result ↔ self.now ≡ new_open self.now.depth self.now.mapping self.now.line self.now.key self.now.name }
@@ -86,6 +103,13 @@ impl Open {
         ensures { IsTrue result ↔ self.now ≡ mapping_of self.now.depth self.now.line self.now.key self.now.measure self.now.entries }
     {
         self.mapping && self.first_line == self.line && self.name.is_none() && self.items.is_empty()
+    }
+
+    /// The key of the row whose value comes, and the name of the collection.
+    pub fn into_key_and_name(self) -> (Scalar, Option<GivenName>)
+        ensures { result ≡ (self.key, self.name) }
+    {
+        (self.key, self.name)
     }
 
     /// Finishes the row with its value.
@@ -202,7 +226,7 @@ impl Model for Stack {
 
     ghost Value = { List Open };
 
-    ghost use Rattle.yaml_tree.specs.Frames.{open_of};
+    ghost use Rattle.yaml_tree.specs.inside.Frames.{open_of};
 
     ghost view = { λ s. reverse (map open_of s.frames.items) };
 }
@@ -220,6 +244,12 @@ impl Stack {
         ensures { OnOk result (self.new ≡ added ∷ self.old) }
     {
         let frame = Frame::of(*self.frames.allocator(), added)?;
+        self.push_frame(frame)
+    }
+
+    fn push_frame(&mut self, frame: Frame) -> Result<(), NoMemory>
+        ensures { OnOk result (self.new ≡ open_of frame ∷ self.old) }
+    {
         self.frames.push(frame)?;
         Ok(())
     }

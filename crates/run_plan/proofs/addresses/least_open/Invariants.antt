@@ -1,6 +1,6 @@
 use Rattle.std.proofs.Common.{◌≡◌, ℕ, ◌+◌, ◌-◌, ◌*◌, ◌<◌, ◌≤◌, ◌^◌, false}
 use Rattle.run_plan.specs.Addresses.{is_open}
-use Rattle.run_plan.specs.Room.{count_from}
+use Rattle.run_plan.specs.inside.Room.{count_from}
 use Rattle.run_plan.proofs.AddressLemmas.{passed_over}
 use Rattle.run_plan.proofs.addresses.least_open.Given as goal
 

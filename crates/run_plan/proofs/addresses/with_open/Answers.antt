@@ -2,7 +2,7 @@ use Rattle.std.proofs.Common.{◌≡◌, ◌∙◌, ◌+◌, ℕ, List, [], ◌�
 use Rattle.std.proofs.lemmas.List.{drop_more, at_drop_all, append-nil}
 use Rattle.sim_base.specs.declared.address.Ip.{Ip}
 use Rattle.run_plan.specs.Addresses.{first_address, AreAddressesFrom}
-use Rattle.run_plan.specs.Room.{NextAddress}
+use Rattle.run_plan.specs.inside.Room.{NextAddress}
 use Rattle.run_plan.proofs.AddressLemmas.{one_more, few_from}
 use Rattle.run_plan.proofs.addresses.with_open.Goals as goal
 

@@ -1,7 +1,7 @@
 use Rattle.std.proofs.Common.{◌+◌, ◌*◌, ◌≤◌, List, ◌++◌, drop}
 use Rattle.sim_base.specs.declared.address.Ip.{Ip}
 use Rattle.run_plan.specs.Addresses.{first_address, AreAddressesFrom}
-use Rattle.run_plan.specs.Room.{count_from}
+use Rattle.run_plan.specs.inside.Room.{count_from}
 use Rattle.run_plan.proofs.addresses.with_open.Given as goal
 
 abbrev pub invariant-loop-host : goal.invariant-loop-host

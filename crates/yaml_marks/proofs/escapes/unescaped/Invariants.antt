@@ -1,6 +1,6 @@
 use Rattle.std.proofs.Common.{◌≡◌, drop}
 use Rattle.yaml_marks.specs.Scalars.{unescaped, put_before}
-use Rattle.yaml_marks.specs.Escapes.{IsInRange}
+use Rattle.yaml_marks.specs.inside.Escapes.{IsInRange}
 use Rattle.yaml_marks.specs.declared.escapes.Escape.TheVariants.{Outside}
 use Rattle.yaml_marks.proofs.escapes.unescaped.Given as goal
 

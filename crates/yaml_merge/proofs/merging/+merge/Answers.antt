@@ -3,7 +3,7 @@ use Rattle.yaml_tree.specs.Said.Said.{sequence}
 use Rattle.yaml_tree.specs.Trees.{nodes_of}
 use Rattle.yaml_merge.specs.SaidAt.{value_said, said_at}
 use Rattle.yaml_merge.specs.Merge.{merged}
-use Rattle.yaml_merge.specs.Merging.{items_left}
+use Rattle.yaml_merge.specs.inside.Merging.{items_left}
 use Rattle.yaml_merge.proofs.SaidAtLaws.{said_at-found, said_at-none}
 use Rattle.yaml_merge.proofs.MergingLaws.{gives_same, merged-null, merged-nodes, merged-entries, items_go_on}
 use Rattle.yaml_merge.proofs.merging.+merge.Goals as goal

@@ -1,8 +1,8 @@
 use Rattle.std.proofs.Common.{◌≡◌, ◌+◌, ◌*◌, drop, vec_len}
 use Rattle.yaml_tree.specs.Said.Said.{sequence, mapping}
-use Rattle.yaml_merge.specs.Rows.{with_items, with_pairs}
+use Rattle.yaml_merge.specs.inside.Rows.{with_items, with_pairs}
 use Rattle.yaml_merge.specs.SaidAt.{said_at, with_entries}
-use Rattle.yaml_merge.specs.Merging.{items_left, pairs_left}
+use Rattle.yaml_merge.specs.inside.Merging.{items_left, pairs_left}
 use Rattle.yaml_merge.proofs.merging.+merge.Given as goal
 
 -- each call goes a level down, or passes the levels on to a helper

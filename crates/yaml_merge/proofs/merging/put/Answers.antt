@@ -1,6 +1,6 @@
 use Rattle.std.proofs.Common.{◌≡◌, ◌++◌, ◌∷◌, [], sym, ap, ◌∙◌}
 use Rattle.yaml_tree.specs.Said.Said.{mapping}
-use Rattle.yaml_merge.specs.Rows.{with_pairs}
+use Rattle.yaml_merge.specs.inside.Rows.{with_pairs}
 use Rattle.yaml_merge.specs.Merge.{new_pairs}
 use Rattle.yaml_merge.proofs.MergingLaws.{if_ok_more, put_merged, put_pair}
 use Rattle.yaml_merge.proofs.merging.put.Goals as goal

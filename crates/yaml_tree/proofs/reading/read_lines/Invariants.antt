@@ -2,7 +2,7 @@ use Rattle.std.proofs.Common.{◌≡◌, ◌+◌, ◌≤◌, ◌&&◌, length, f
 use Rattle.std.specs.List.{list_all}
 use Rattle.yaml_marks.specs.Lines.{split_lines}
 use Rattle.yaml_marks.specs.Tokens.{tokens_from}
-use Rattle.yaml_tree.specs.Builder.{read_lines}
+use Rattle.yaml_tree.specs.inside.Builder.{read_lines}
 use Rattle.yaml_tree.specs.Tree.{is_empty_document}
 use Rattle.yaml_tree.specs.Written.{is_name}
 use Rattle.yaml_marks.specs.declared.place.LinePlace.TheVariants.{Outside}

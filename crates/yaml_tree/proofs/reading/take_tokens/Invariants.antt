@@ -1,6 +1,6 @@
 use Rattle.std.proofs.Common.{◌≡◌}
 use Rattle.std.specs.Vec.Iter.{into_iter_items}
-use Rattle.yaml_tree.specs.Builder.{take_tokens}
+use Rattle.yaml_tree.specs.inside.Builder.{take_tokens}
 use Rattle.yaml_tree.proofs.reading.take_tokens.Given as goal
 
 -- what is left gives the whole

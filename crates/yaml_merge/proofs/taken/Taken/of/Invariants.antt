@@ -1,5 +1,5 @@
 use Rattle.std.proofs.Common.{◌≡◌, []}
-use Rattle.yaml_merge.specs.Merging.{taken_of}
+use Rattle.yaml_merge.specs.inside.Merging.{taken_of}
 use Rattle.yaml_merge.proofs.taken.Taken.of.Given as goal
 
 -- what is left gives the whole

@@ -1,5 +1,5 @@
 use Rattle.std.proofs.Common.{◌≡◌, length}
-use Rattle.yaml_tree.specs.Builder.{settled_on}
+use Rattle.yaml_tree.specs.inside.Builder.{settled_on}
 use Rattle.yaml_tree.proofs.builder.Builder.settle.Given as goal
 
 abbrev pub invariant-loop-last : goal.invariant-loop-last

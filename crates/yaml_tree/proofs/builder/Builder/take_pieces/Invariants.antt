@@ -1,5 +1,5 @@
 use Rattle.std.proofs.Common.{◌≡◌, length}
-use Rattle.yaml_tree.specs.Builder.{take_pieces}
+use Rattle.yaml_tree.specs.inside.Builder.{take_pieces}
 use Rattle.yaml_tree.proofs.builder.Builder.take_pieces.Given as goal
 
 -- what is left gives the whole

@@ -1,5 +1,5 @@
 use Rattle.std.proofs.Common.{arith, sym, ap, ◌∙◌}
-use Rattle.yaml_tree.specs.Rows.{entries_of}
+use Rattle.yaml_tree.specs.inside.Rows.{entries_of}
 use Rattle.yaml_tree.proofs.GrowingLaws.{empty_as_rows}
 use Rattle.yaml_tree.proofs.growing.Growing.is_empty.Goals as goal
 

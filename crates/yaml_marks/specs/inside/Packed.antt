@@ -1,6 +1,6 @@
 -- Pieces as they are kept: each without its text, and the texts in order.
 use Rattle.std.specs.Prelude.{◌≡◌, ℕ, ◌+◌, List, [], ◌∷◌, Option, Some, None, length, map, drop}
-use Rattle.yaml_marks.specs.Kept.{bytes_in}
+use Rattle.yaml_marks.specs.inside.Kept.{bytes_in}
 use Rattle.yaml_marks.specs.declared.piece.Piece.{Piece}
 use Rattle.yaml_marks.specs.declared.piece.Piece.TheVariants.{Opening, Closing, Comma, CellKey, CellScalar, CellName, CellCopy, OddPiece}
 use Rattle.yaml_marks.specs.declared.bare.PieceKind.{PieceKind}

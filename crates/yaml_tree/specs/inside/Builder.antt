@@ -6,8 +6,8 @@ use Rattle.indexmap.specs.IndexMap.{insert_entry}
 use Rattle.yaml_marks.specs.Literals.{block_text}
 use Rattle.yaml_marks.specs.Pieces.{why_bracket}
 use Rattle.yaml_marks.specs.Tokens.{has_content, line_tokens, next_place}
-use Rattle.yaml_tree.specs.Outline.{flow_fault}
-use Rattle.yaml_tree.specs.Stack.{one_node, unknown_node, new_open, finished, collection, with_next_row, measure_about}
+use Rattle.yaml_tree.specs.inside.Outline.{flow_fault}
+use Rattle.yaml_tree.specs.inside.Stack.{one_node, unknown_node, new_open, finished, collection, with_next_row, measure_about}
 use Rattle.yaml_tree.specs.Holds.{scalar_value}
 use Rattle.yaml_tree.specs.Tree.{kind_of}
 use Rattle.yaml_marks.specs.declared.piece.Bracket.{Bracket}

@@ -1,6 +1,6 @@
 -- What is kept of collections that are open.
 use Rattle.std.specs.Prelude.{ℕ, true, false, List, [], Some, None}
-use Rattle.yaml_tree.specs.Stack.{new_open}
+use Rattle.yaml_tree.specs.inside.Stack.{new_open}
 use Rattle.yaml_tree.specs.declared.entries.Child.{Child}
 use Rattle.yaml_tree.specs.declared.known.Measure.{Measure}
 use Rattle.yaml_tree.specs.declared.stack.Open.{Open}

@@ -1,0 +1,2 @@
+-- how far the walk over addresses may still go
+pub mod Room

@@ -1,0 +1,4 @@
+-- what stands while a line is read
+pub mod Escapes
+pub mod Kept
+pub mod Packed
