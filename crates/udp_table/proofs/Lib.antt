@@ -1,0 +1,5 @@
+mod Places
+mod Found
+mod Counted
+mod Takers
+mod Changed

@@ -1,0 +1,50 @@
+-- what the index of a table knows: which places are taken, how many sockets have each port, and which has each end
+use Rattle.std.specs.Prelude.{◌≡◌, ◌≢◌, ℕ, ◌+◌, ◌-◌, List, Option, Some, None, is_some, nat_lt, if◌then◌else◌, slice_index_or, min}
+use Rattle.std.specs.List.{sum_by}
+use Rattle.std.specs.HashMap.{get}
+use Rattle.sim_base.specs.declared.address.Addr.{Addr}
+use Rattle.sim_base.specs.Addresses.{is_same, first_given_port, given_ports}
+use Rattle.number_sets.specs.Sets.{has}
+use Rattle.number_sets.specs.Bags.{one, Holds}
+use Rattle.udp_table.specs.declared.ends.UdpEnds.{UdpEnds}
+use Rattle.udp_table.specs.declared.index.Index.{Index}
+use Rattle.udp_table.specs.Table.{local_in}
+
+-- the socket at a place; behind the last one there is none
+abbrev pub at_place : List (Option UdpEnds) → ℕ → Option UdpEnds
+at_place places k = slice_index_or places k None
+
+-- the number of a port: those that are given come first, so the least number that no socket has is that of the least free port
+abbrev pub port_number : ℕ → ℕ
+port_number port = if nat_lt port first_given_port then port + given_ports else port - first_given_port
+
+-- how many ends have the port with a number
+abbrev pub counted : ℕ → Option Addr → ℕ
+counted n None = 0
+counted n (Some at) = one (port_number at.port) n
+
+abbrev pub times : ℕ → Option UdpEnds → ℕ
+times n place = counted n (local_in place)
+
+-- each place that is bound is found by its end, and no other
+pub record Finds (found : Addr → Option ℕ) (local : ℕ → Option Addr) : Type 0 where
+  pub each : (k : ℕ) (at : Addr) → local k ≡ Some at → found at ≡ Some k
+  pub only : (k : ℕ) (at : Addr) → found at ≡ Some k → local k ≡ Some at
+
+pub record Indexes (i : Index) (places : List (Option UdpEnds)) : Type 0 where
+  pub taken : (k : ℕ) → has i.taken k ≡ is_some (at_place places k)
+  pub ports : Holds i.ports (λ n. sum_by (times n) places)
+  pub bound : Finds (get is_same i.bound) (λ k. local_in (at_place places k))
+
+-- the socket at one place changes
+pub record Changes (place : ℕ) (before after : Option UdpEnds) (old new : List (Option UdpEnds)) : Type 0 where
+  pub was : at_place old place ≡ before
+  pub is : at_place new place ≡ after
+  pub others : (k : ℕ) → k ≢ place → at_place new k ≡ at_place old k
+  pub sums : (n : ℕ) → sum_by (times n) new + times n before ≡ sum_by (times n) old + times n after
+
+-- the earlier one of two places, where there are any
+abbrev pub earlier : Option ℕ → Option ℕ → Option ℕ
+earlier None b = b
+earlier (Some a) None = Some a
+earlier (Some a) (Some b) = Some (min a b)

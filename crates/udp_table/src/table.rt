@@ -1,0 +1,153 @@
+//! The table of UDP sockets.
+
+ghost use Rattle.std.specs.Prelude.{◌≡◌, ◌<◌, ◌^◌, ℕ, List, Option, Some, is_none, position};
+ghost use Rattle.std.specs.List.{position_or_len};
+ghost use Rattle.udp_table.specs.Table.{takes_in};
+ghost use Rattle.udp_table.specs.declared.index.Index.{Index};
+ghost use Rattle.udp_table.specs.inside.Indexing.{Changes, Indexes};
+
+use crate::ends::{UdpEnds, takes};
+use crate::index::Index;
+use sim_base::{Addr, NoMemory};
+use std::alloc::Global;
+use std::marker::Model;
+
+/// What the UDP sockets of a host are bound and connected to, by their numbers; none has the number of
+/// a socket that was closed.
+///
+/// Contracts see the list. Where memory for the index is wanting it is given up, and each socket is
+/// looked at from then on.
+#[derive(Drop)]
+pub struct UdpTable {
+    places: Vec<Option<UdpEnds>>,
+    index: Option<Index>,
+}
+
+impl Model for UdpTable {
+    ghost use Rattle.std.specs.Prelude.{◌≡◌, List, Option, Some};
+    ghost use Rattle.udp_table.specs.declared.ends.UdpEnds.{UdpEnds};
+    ghost use Rattle.udp_table.specs.declared.index.Index.{Index};
+    ghost use Rattle.udp_table.specs.inside.Indexing.{Indexes};
+
+    ghost Value = { List (Option UdpEnds) };
+
+    ghost view = { λ t. t.places.items };
+
+    ghost invariant = { λ t. (i : Index) → t.index ≡ Some i → Indexes i t.places.items };
+}
+
+/// An index, if there is one, after the socket at a place changed.
+fn changed(
+    index: Option<Index>,
+    place: usize,
+    was: Option<UdpEnds>,
+    is: Option<UdpEnds>,
+) -> Option<Index>
+    requires { place < 2 ^ 63 }
+    ensures { (old new : List (Option UdpEnds)) → Changes place was is old new → ((i : Index) → index ≡ Some i → Indexes i old)
+        → (i : Index) → result ≡ Some i → Indexes i new }
+{
+    match index {
+        Some(mut index) => {
+            if index.change(place, was, is) {
+                Some(index)
+            } else {
+                None
+            }
+        }
+        None => None,
+    }
+}
+
+/// The first place without a socket: each is looked at.
+fn first_free(places: &[Option<UdpEnds>]) -> Option<usize>
+    ensures { result ≡ position is_none places.now }
+{
+    places.iter().position(|place| place.is_none())
+}
+
+/// The first place without a socket, or else the one behind all.
+fn free_place_in(places: &[Option<UdpEnds>]) -> usize
+    ensures { result ≡ position_or_len is_none places.now }
+{
+    first_free(places).unwrap_or(places.len())
+}
+
+/// The first socket that takes a datagram: each is looked at.
+fn taker_in(places: &[Option<UdpEnds>], from: Addr, to: Addr) -> Option<usize>
+    ensures { result ≡ position (takes_in from to) places.now }
+{
+    places.iter().position(|place| takes(*place, from, to))
+}
+
+impl UdpTable {
+    ghost use Rattle.std.specs.Prelude.{◌≡◌, ◌++◌, ◌∷◌, [], ℕ, Option, Some, slice_set, is_none, position, OnOk, OnErr};
+    ghost use Rattle.std.specs.List.{position_or_len};
+    ghost use Rattle.sim_base.specs.Addresses.{least_free_port};
+    ghost use Rattle.udp_table.specs.Table.{takes_in, bound_ends};
+
+    /// A table of no sockets. It takes no memory.
+    pub fn new(alloc: Global) -> UdpTable
+        ensures { result ≡ [] }
+    {
+        UdpTable {
+            places: Vec::new(alloc),
+            index: Some(Index::new(alloc)),
+        }
+    }
+
+    /// A socket has the number behind all.
+    pub fn push(&mut self, ends: UdpEnds) -> Result<(), NoMemory>
+        ensures pushed { OnOk result (self.new ≡ self.old ++ Some ends ∷ []) }
+        ensures unchanged { OnErr result (self.new ≡ self.old) }
+    {
+        let place = self.places.len();
+        self.places.push(Some(ends))?;
+        self.index = changed(self.index.take(), place, None, Some(ends));
+        Ok(())
+    }
+
+    /// A socket that has a number is bound or connected otherwise, made or closed.
+    pub fn set(&mut self, place: usize, is: Option<UdpEnds>)
+        ensures { self.new ≡ slice_set self.old place is }
+    {
+        if place >= self.places.len() {
+            return;
+        }
+        let was = self.places[place];
+        self.places[place] = is;
+        self.index = changed(self.index.take(), place, was, is);
+    }
+
+    /// The least number that no socket has.
+    pub fn free_place(&self) -> usize
+        ensures { result ≡ position_or_len is_none self.now }
+    {
+        match &self.index {
+            Some(index) => index.free_place(),
+            None => free_place_in(self.places.as_slice()),
+        }
+    }
+
+    /// The least port from 10000 up that no socket has, if there is one, where that is known: not where
+    /// memory was wanting.
+    pub fn free_port(&self) -> Option<Option<u16>>
+        ensures { (free : Option ℕ) → result ≡ Some free → free ≡ least_free_port (bound_ends self.now) }
+    {
+        match &self.index {
+            Some(index) => Some(index.free_port()),
+            None => None,
+        }
+    }
+
+    /// The number of the socket that takes a datagram from one end to another.
+    pub fn taker(&self, from: Addr, to: Addr) -> Option<usize>
+        ensures { result ≡ position (takes_in from to) self.now }
+    {
+        let places = self.places.as_slice();
+        match &self.index {
+            Some(index) => index.taker(places, from, to),
+            None => taker_in(places, from, to),
+        }
+    }
+}
