@@ -6,9 +6,9 @@ use Rattle.std.specs.FinMap as map
 use Rattle.sim_base.specs.declared.object.ObjectId.{ObjectId}
 use Rattle.sim_base.specs.declared.time.Time.{Time}
 use Rattle.host_fds.specs.Descriptors.{Descriptors, limit, IsLowestFree}
-use Rattle.host_sockets.specs.declared.error.Refusal.{Refusal}
-use Rattle.host_calls.specs.declared.descriptors.Descriptor.{Descriptor}
-use Rattle.host_calls.specs.Descriptors.{first_free, lowest_free, descriptor}
+use Rattle.host_wants.specs.declared.error.Refusal.{Refusal}
+use Rattle.file_calls.specs.declared.descriptors.Descriptor.{Descriptor}
+use Rattle.file_calls.specs.Descriptors.{first_free, lowest_free, descriptor}
 use Rattle.host_calls.specs.Closing.{closed_by, closed_one, closed_below, all_closed}
 use Rattle.call_laws.specs.Laws.{IsFirstFree}
 use Rattle.host_calls.specs.Parts.{Scene}

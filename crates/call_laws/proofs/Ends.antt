@@ -6,20 +6,20 @@ use Rattle.sim_base.specs.declared.state.State.{State}
 use Rattle.sim_base.specs.declared.time.Time.{Time}
 use Rattle.host_fds.specs.Descriptors.{limit}
 use Rattle.host_files.specs.Slots.{at}
-use Rattle.host_sockets.specs.declared.error.Refusal.{Refusal}
-use Rattle.host_sockets.specs.declared.error.Refusal.TheVariants as refusal
+use Rattle.host_wants.specs.declared.error.Refusal.{Refusal}
+use Rattle.host_wants.specs.declared.error.Refusal.TheVariants as refusal
 use Rattle.host_calls.specs.declared.parts.Answer.TheVariants as answer
 use Rattle.host_calls.specs.declared.parts.Known.{Known}
 use Rattle.host_calls.specs.declared.parts.Reaction.{Reaction}
 use Rattle.host_calls.specs.declared.parts.Reaction.TheVariants.{Value, Waits}
-use Rattle.host_calls.specs.declared.parts.Task.{Task}
-use Rattle.host_calls.specs.declared.parts.Why.{Why}
+use Rattle.file_calls.specs.declared.task.Task.{Task}
+use Rattle.file_calls.specs.declared.task.Why.{Why}
 use Rattle.host_sockets.specs.Sockets.{SocketsRecord}
 use Rattle.host_calls.specs.Call.{call_of}
 use Rattle.host_calls.specs.Calls.{scene_at, cleared, row_of, blocks_by, in_scene, answered, call_by, call_place, call}
 use Rattle.host_calls.specs.Events.{ended_by, ended_place, ended}
 use Rattle.host_calls.specs.Parts.{PartsRecord, Place, Scene, place_in}
-use Rattle.host_calls.specs.Scene.{Local}
+use Rattle.file_calls.specs.Scene.{Local}
 use Rattle.call_laws.proofs.DescriptorLaws.{all_closed-is_free}
 
 set-none : (tasks : List (Option Task)) (process fd : ℕ) (task : Option Task) → IfSome task (λ t. map.get t.table fd ≡ None) → IfSome (at process (slice_set tasks process task)) (λ t. map.get t.table fd ≡ None)

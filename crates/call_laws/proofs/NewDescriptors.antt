@@ -4,14 +4,14 @@ use Rattle.sim_base.specs.declared.errno.Errno.TheVariants.{Eacces, Eafnosupport
 use Rattle.sim_base.specs.Refusals.{◌>>=◌, ◌>>◌, refuse_if, or_refuse}
 use Rattle.guest_args.specs.Span.{can_write}
 use Rattle.host_fds.specs.Descriptors.{Descriptors, limit, IsLowestFree}
-use Rattle.host_sockets.specs.declared.error.Refusal.{Refusal}
-use Rattle.host_sockets.specs.declared.error.Refusal.TheVariants as refusal
+use Rattle.host_wants.specs.declared.error.Refusal.{Refusal}
+use Rattle.host_wants.specs.declared.error.Refusal.TheVariants as refusal
 use Rattle.host_sockets.specs.Accepting.{accept_asked, accept_ready, accepts_tcp}
 use Rattle.host_sockets.specs.Sockets.{SocketsRecord}
 use Rattle.host_calls.specs.declared.accepting.AcceptPlan.{AcceptPlan}
 use Rattle.host_calls.specs.declared.accepting.NewPlace.{NewPlace}
 use Rattle.host_calls.specs.declared.binding.NewSocket.{NewSocket}
-use Rattle.host_calls.specs.declared.files.Ends.{Ends}
+use Rattle.file_calls.specs.declared.files.Ends.{Ends}
 use Rattle.host_calls.specs.declared.call.WaitingCall.TheVariants as waiting
 use Rattle.host_calls.specs.declared.parts.Known.{Known}
 use Rattle.host_calls.specs.declared.parts.Reaction.{Reaction}
@@ -19,20 +19,20 @@ use Rattle.host_calls.specs.declared.parts.Reaction.TheVariants.{Value, Waits}
 use Rattle.host_calls.specs.declared.plan.Plan.TheVariants as plan
 use Rattle.sim_base.specs.declared.time.Time.{Time}
 use Rattle.host_calls.specs.Calls.{arg, reacts, done, waiting_row}
-use Rattle.host_calls.specs.declared.parts.Task.{Task}
-use Rattle.host_calls.specs.declared.parts.Shared.{Shared}
+use Rattle.file_calls.specs.declared.task.Task.{Task}
+use Rattle.file_calls.specs.declared.task.Shared.{Shared}
 use Rattle.host_calls.specs.declared.sockets.OpenSocket.{OpenSocket}
-use Rattle.host_calls.specs.Descriptors.{lowest_free, free_from}
-use Rattle.host_calls.specs.Files.{path_length, is_hosts_path, openat_asked, openat, second_end, pipe2_asked}
-use Rattle.host_calls.specs.Eventfd.{eventfd_asked, eventfd2}
-use Rattle.host_calls.specs.Epoll.{epoll_asked, epoll_create1}
-use Rattle.host_calls.specs.Flags.{beside_cloexec, beside_open, beside_eventfd}
+use Rattle.file_calls.specs.Descriptors.{lowest_free, free_from}
+use Rattle.file_calls.specs.Files.{path_length, is_hosts_path, openat_asked, openat, second_end, pipe2_asked}
+use Rattle.file_calls.specs.Eventfd.{eventfd_asked, eventfd2}
+use Rattle.file_calls.specs.EpollControl.{epoll_asked, epoll_create1}
+use Rattle.file_calls.specs.Flags.{beside_cloexec, beside_open, beside_eventfd}
 use Rattle.call_laws.specs.Laws.{IsFirstFree}
 use Rattle.host_calls.specs.Parts.{Scene, local_of}
-use Rattle.host_calls.specs.Scene.{Local, or_again}
+use Rattle.file_calls.specs.Scene.{Local, or_again}
 use Rattle.guest_args.specs.Address.{inet}
 use Rattle.host_calls.specs.Sockets.{is_stream, protocol_of, socket_asked, socket, tcp_number, result_address, accept_place, accept_plan_of, accept_plan, accepted_by, accepts, open_socket}
-use Rattle.host_calls.specs.Times.{create_asked, timerfd_create}
+use Rattle.file_calls.specs.Times.{create_asked, timerfd_create}
 use Rattle.call_laws.proofs.DescriptorLaws.{first_free-IsFirstFree, lowest_free-IsLowestFree}
 
 -- what answers wasn't refused on the way

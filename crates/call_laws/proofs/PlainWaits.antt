@@ -6,27 +6,27 @@ use Rattle.sim_base.specs.Refusals.{◌>>=◌, ◌>>◌, refuse_if, or_refuse}
 use Rattle.guest_mem.specs.Memory.{Memory}
 use Rattle.host_files.specs.declared.file.Object.{Object}
 use Rattle.host_files.specs.declared.file.Object.TheVariants as kind
-use Rattle.host_sockets.specs.declared.error.Refusal.TheVariants as refusal
+use Rattle.host_wants.specs.declared.error.Refusal.TheVariants as refusal
 use Rattle.host_calls.specs.declared.call.PlainCall.{PlainCall}
 use Rattle.host_calls.specs.declared.call.PlainCall.TheVariants as plain
-use Rattle.host_calls.specs.declared.descriptors.Descriptor.{Descriptor}
-use Rattle.host_calls.specs.declared.parts.Task.{Task}
-use Rattle.host_calls.specs.declared.parts.Shared.{Shared}
+use Rattle.file_calls.specs.declared.descriptors.Descriptor.{Descriptor}
+use Rattle.file_calls.specs.declared.task.Task.{Task}
+use Rattle.file_calls.specs.declared.task.Shared.{Shared}
 use Rattle.guest_args.specs.Span.{span}
 use Rattle.guest_args.specs.Time.{timespec}
 use Rattle.host_timers.specs.declared.clock.Moment.{Moment}
-use Rattle.host_calls.specs.declared.times.Setting.{Setting}
+use Rattle.file_calls.specs.declared.times.Setting.{Setting}
 use Rattle.host_calls.specs.Calls.{arg, plain_row}
-use Rattle.host_calls.specs.declared.controlling.Operation.{Operation}
-use Rattle.host_calls.specs.declared.controlling.Operation.TheVariants as operation
+use Rattle.file_calls.specs.declared.controlling.Operation.{Operation}
+use Rattle.file_calls.specs.declared.controlling.Operation.TheVariants as operation
 use Rattle.host_files.specs.Epolls.{epoll_at}
-use Rattle.host_calls.specs.Epoll.{epoll_create1, watched, operation_of, may_watch, watch_at, change_of, has_entry, ctl_asked, epoll_ctl}
-use Rattle.host_calls.specs.Eventfd.{eventfd2}
-use Rattle.host_calls.specs.Files.{fcntl, fcntl_by, length_from, openat, pipe2_asked, pipe2}
-use Rattle.host_calls.specs.Guest.{getrandom}
-use Rattle.host_calls.specs.Scene.{Local}
+use Rattle.file_calls.specs.EpollControl.{epoll_create1, watched, operation_of, may_watch, watch_at, change_of, has_entry, ctl_asked, epoll_ctl}
+use Rattle.file_calls.specs.Eventfd.{eventfd2}
+use Rattle.file_calls.specs.Files.{fcntl, fcntl_by, length_from, openat, pipe2_asked, pipe2}
+use Rattle.file_calls.specs.Guest.{getrandom}
+use Rattle.file_calls.specs.Scene.{Local}
 use Rattle.host_calls.specs.Sockets.{setsockopt}
-use Rattle.host_calls.specs.Times.{clock_gettime, timerfd_create, timer_number, old_timer, settime_asked, timerfd_settime}
+use Rattle.file_calls.specs.Times.{clock_gettime, timerfd_create, timer_number, old_timer, settime_asked, timerfd_settime}
 use Rattle.call_laws.proofs.Waits.{Never, nevers, epoll_number-never, never_bind, never_then, never_or_refuse, never_refuse_if}
 
 fcntl_by-never : (command flags : ℕ) (d : Descriptor) (s : Local) → Never (fcntl_by command flags d s)

@@ -21,9 +21,9 @@ use Rattle.sock_tcp.specs.connection.Tcb.{Tcb, unread}
 use Rattle.sock_tcp.specs.connection.Process as process
 use Rattle.sock_tcp.specs.connection.Ready.{bit_if, can_read, can_write, readiness}
 use Rattle.sock_tcp.specs.listener.Listen.{Listen, accepted_at, accepted_from, accepts}
-use Rattle.host_sockets.specs.declared.error.Refusal.{Refusal}
-use Rattle.host_sockets.specs.declared.error.Refusal.TheVariants as refusal
-use Rattle.host_sockets.specs.Refusals.{stop_kept, waits_if, broken_pipe}
+use Rattle.host_wants.specs.declared.error.Refusal.{Refusal}
+use Rattle.host_wants.specs.declared.error.Refusal.TheVariants as refusal
+use Rattle.host_wants.specs.Refusals.{stop_kept, waits_if, broken_pipe}
 use Rattle.host_sockets.specs.Sockets.{tcb_in}
 use Rattle.host_sockets.specs.TcpSocket.{TcpSocket, connected, kept_error}
 use Rattle.host_sockets.specs.Accepting.{accepts_in, accepts_of}
@@ -32,13 +32,13 @@ use Rattle.host_sockets.specs.Moving.{may_recv, would_read}
 use Rattle.host_sockets.specs.Ready.{ready_of, ready_in, udp_ready_in}
 use Rattle.host_sockets.specs.Udp.{recv_asked_in}
 use Rattle.host_calls.specs.Epoll.{has_due, waits_for}
-use Rattle.host_calls.specs.Eventfd.{number_fits}
-use Rattle.host_calls.specs.Files.{is_drained}
-use Rattle.host_calls.specs.Flags.{has}
+use Rattle.file_calls.specs.Eventfd.{number_fits}
+use Rattle.file_calls.specs.Files.{is_drained}
+use Rattle.file_calls.specs.Flags.{has}
 use Rattle.host_calls.specs.Parts.{Scene}
 use Rattle.host_calls.specs.Polling.{has_come}
 use Rattle.host_calls.specs.Ready.{pipe_ready, eventfd_ready, epoll_ready, some_due}
-use Rattle.host_calls.specs.Scene.{kept_answers}
+use Rattle.file_calls.specs.Scene.{kept_answers}
 use Rattle.call_laws.specs.Readiness.{room_in, has_no_writer, has_no_reader, record_is_over, is_connecting, IsOwnRecord, AreWhole, IsWholeSocket}
 
 -- what a step that may wait tells of a test: where the test holds it doesn't wait. An error number tells nothing

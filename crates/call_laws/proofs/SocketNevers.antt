@@ -6,14 +6,14 @@ use Rattle.sim_base.specs.declared.address.Ip.{Ip}
 use Rattle.sim_base.specs.declared.time.Time.{Time}
 use Rattle.guest_mem.specs.Memory.{Memory}
 use Rattle.sock_tcp.specs.declared.connection.effects.Shut.{Shut}
-use Rattle.host_sockets.specs.Wanted.{Wanted}
+use Rattle.host_wants.specs.Wanted.{Wanted}
 use Rattle.host_sockets.specs.Sockets.{SocketsRecord}
 use Rattle.host_sockets.specs.Binding.{binds_tcp, listens_tcp}
 use Rattle.host_sockets.specs.Moving.{shuts_tcp}
 use Rattle.sock_tcp.specs.connection.Tcb.{Tcb}
-use Rattle.host_calls.specs.declared.parts.Shared.{Shared}
+use Rattle.file_calls.specs.declared.task.Shared.{Shared}
 use Rattle.host_sockets.specs.Names.{peer_in, takes_error, tcp_peer}
-use Rattle.host_calls.specs.declared.parts.Task.{Task}
+use Rattle.file_calls.specs.declared.task.Task.{Task}
 use Rattle.host_calls.specs.declared.sockets.SocketNumber.{SocketNumber}
 use Rattle.host_calls.specs.declared.sockets.SocketNumber.TheVariants as number
 use Rattle.host_calls.specs.Parts.{Scene, local_of}

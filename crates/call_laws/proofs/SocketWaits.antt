@@ -15,28 +15,28 @@ use Rattle.guest_args.specs.declared.address.AddressPlace.{AddressPlace}
 use Rattle.guest_args.specs.Span.{counted, span, can_read}
 use Rattle.sock_udp.specs.Socket.{UdpState}
 use Rattle.sock_udp.specs.declared.datagram.Datagram.{Datagram}
-use Rattle.host_sockets.specs.declared.error.Refusal.{Refusal}
-use Rattle.host_sockets.specs.declared.error.Refusal.TheVariants as refusal
+use Rattle.host_wants.specs.declared.error.Refusal.{Refusal}
+use Rattle.host_wants.specs.declared.error.Refusal.TheVariants as refusal
 use Rattle.host_sockets.specs.declared.reply.Reply.{Reply}
 use Rattle.host_sockets.specs.declared.reply.Reply.TheVariants.{Done, Failed}
-use Rattle.host_sockets.specs.Refusals.{by_errno, waits_if}
-use Rattle.host_sockets.specs.Wanted.{Wanted}
+use Rattle.host_wants.specs.Refusals.{by_errno, waits_if}
+use Rattle.host_wants.specs.Wanted.{Wanted}
 use Rattle.host_sockets.specs.Sockets.{SocketsRecord}
 use Rattle.host_sockets.specs.Udp.{binds_udp, connects_udp, sends_udp, only_state, udp_fits, receives_udp, recv_udp_asked, oldest_datagram, udp_in}
 use Rattle.host_sockets.specs.Accepting.{accepts_tcp, accept_asked, accept_ready, accepts_at}
 use Rattle.host_sockets.specs.Connecting.{taking, without_change, connect_waited, connect_answers}
 use Rattle.host_sockets.specs.Moving.{send_asked, sends_bytes, sends_taking, recv_asked, receives_bytes, receives_taking}
 use Rattle.host_calls.specs.declared.parts.Reaction.{Reaction}
-use Rattle.host_calls.specs.declared.parts.Why.{Why}
+use Rattle.file_calls.specs.declared.task.Why.{Why}
 use Rattle.host_calls.specs.declared.receiving.Room.{Room}
 use Rattle.host_calls.specs.declared.sending.Message.{Message}
 use Rattle.host_calls.specs.declared.sending.StreamSend.{StreamSend}
 use Rattle.host_calls.specs.declared.sockets.OpenSocket.{OpenSocket}
 use Rattle.host_calls.specs.declared.sockets.SocketNumber.{SocketNumber}
 use Rattle.host_calls.specs.declared.sockets.SocketNumber.TheVariants as number
-use Rattle.host_calls.specs.Flags.{has, msg_nosignal}
+use Rattle.file_calls.specs.Flags.{has, msg_nosignal}
 use Rattle.host_calls.specs.Parts.{Scene, local_of}
-use Rattle.host_calls.specs.Scene.{or_again, kept_answers}
+use Rattle.file_calls.specs.Scene.{or_again, kept_answers}
 use Rattle.host_calls.specs.Sockets.{tcp_number, address, given_address, accept_place, accept_plan, accepts, connected, connect_udp, connect_again, connect_call, connect_ready, connect_plan, connects, refuse_flags, is_quick, send_udp, send_tcp, send_plan_of, send_plan, sends_by, recv_place, recv_ready, recv_plan, recv_by, receives, open_socket}
 use Rattle.call_laws.proofs.Waits.{Never, Same, waits_in, reaction_waits, nevers, never_bind, same_bind, same_then, ends_bind, ends_then, gives_bind, gives_then, ok_never, kept-never, again_kept-never, span-never}
 

@@ -8,19 +8,19 @@ use Rattle.sim_base.specs.Refusals.{◌>>=◌, ◌>>◌, refuse_if, or_refuse}
 use Rattle.host_files.specs.declared.file.Object.{Object}
 use Rattle.host_files.specs.declared.file.Object.TheVariants as kind
 use Rattle.host_files.specs.Files.{FilesState, file_at}
-use Rattle.host_sockets.specs.declared.error.Refusal.{Refusal}
-use Rattle.host_sockets.specs.declared.error.Refusal.TheVariants as refusal
+use Rattle.host_wants.specs.declared.error.Refusal.{Refusal}
+use Rattle.host_wants.specs.declared.error.Refusal.TheVariants as refusal
 use Rattle.host_calls.specs.declared.plan.Plan.{Plan}
 use Rattle.host_calls.specs.declared.parts.Reaction.{Reaction}
 use Rattle.host_calls.specs.declared.parts.Reaction.TheVariants.{Value, Waits}
-use Rattle.host_calls.specs.declared.parts.Task.{Task}
-use Rattle.host_calls.specs.declared.parts.Shared.{Shared}
+use Rattle.file_calls.specs.declared.task.Task.{Task}
+use Rattle.file_calls.specs.declared.task.Shared.{Shared}
 use Rattle.std.specs.FinMap as map
 use Rattle.host_calls.specs.Calls.{reacts, is_wait}
-use Rattle.host_calls.specs.Descriptors.{descriptor, descriptor_by}
-use Rattle.host_calls.specs.Epoll.{epoll_number}
+use Rattle.file_calls.specs.Descriptors.{descriptor, descriptor_by}
+use Rattle.file_calls.specs.EpollControl.{epoll_number}
 use Rattle.host_calls.specs.Parts.{Scene, plainly}
-use Rattle.host_calls.specs.Scene.{Local, or_again, kept_answers}
+use Rattle.file_calls.specs.Scene.{Local, or_again, kept_answers}
 use Rattle.host_calls.specs.Sockets.{socket_number, open_socket}
 
 abbrev pub tells_wait : Refusal → Bool

@@ -11,23 +11,23 @@ use Rattle.host_files.specs.Files.{pipe_at, eventfd_at}
 use Rattle.sock_tcp.specs.segment.State.{is_over, is_syn_sent, is_syn_received}
 use Rattle.sock_tcp.specs.connection.Tcb.{Tcb}
 use Rattle.sock_tcp.specs.listener.Listen.{Listen}
-use Rattle.host_sockets.specs.declared.error.Refusal.{Refusal}
-use Rattle.host_sockets.specs.declared.error.Refusal.TheVariants as refusal
+use Rattle.host_wants.specs.declared.error.Refusal.{Refusal}
+use Rattle.host_wants.specs.declared.error.Refusal.TheVariants as refusal
 use Rattle.host_sockets.specs.Sockets.{SocketsRecord, tcb_at}
 use Rattle.host_sockets.specs.TcpSocket.{TcpSocket}
 use Rattle.host_sockets.specs.Udp.{udp_in}
 use Rattle.host_calls.specs.declared.call.Call.TheVariants as system_call
 use Rattle.host_calls.specs.declared.call.WaitingCall.{WaitingCall}
-use Rattle.host_calls.specs.declared.descriptors.Descriptor.{Descriptor}
+use Rattle.file_calls.specs.declared.descriptors.Descriptor.{Descriptor}
 use Rattle.host_calls.specs.declared.parts.Known.{Known}
-use Rattle.host_calls.specs.declared.parts.Why.{Why}
+use Rattle.file_calls.specs.declared.task.Why.{Why}
 use Rattle.host_calls.specs.declared.plan.Plan.{Plan}
 use Rattle.host_calls.specs.Call.{call_of}
 use Rattle.host_calls.specs.Calls.{arg, asked, answers_scene}
-use Rattle.host_calls.specs.Descriptors.{descriptor}
+use Rattle.file_calls.specs.Descriptors.{descriptor}
 use Rattle.host_calls.specs.Epoll.{wait_deadline}
-use Rattle.host_calls.specs.Eventfd.{number_at}
-use Rattle.host_calls.specs.Flags.{has}
+use Rattle.file_calls.specs.Eventfd.{number_at}
+use Rattle.file_calls.specs.Flags.{has}
 use Rattle.host_calls.specs.Parts.{Scene}
 use Rattle.host_calls.specs.Polling.{has_come}
 use Rattle.host_calls.specs.Ready.{readiness}

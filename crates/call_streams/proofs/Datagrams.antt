@@ -7,8 +7,8 @@ use Rattle.sim_base.specs.declared.address.Addr.{Addr}
 use Rattle.sim_base.specs.declared.errno.Errno.{Errno}
 use Rattle.sim_base.specs.declared.packet.Packet.{Packet}
 use Rattle.sock_udp.specs.Socket.{UdpState, address_and_destination, packet_between, send}
-use Rattle.host_sockets.specs.declared.error.Refusal.{Refusal}
-use Rattle.host_sockets.specs.Refusals.{by_errno}
+use Rattle.host_wants.specs.declared.error.Refusal.{Refusal}
+use Rattle.host_wants.specs.Refusals.{by_errno}
 use Rattle.host_sockets.specs.Sockets.{SocketsRecord}
 use Rattle.host_sockets.specs.Udp.{udp_in, udp_around, acted_udp, with_udp, sends_udp}
 use Rattle.tcp_streams.specs.Net.{IsVoid}

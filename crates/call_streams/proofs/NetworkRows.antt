@@ -9,8 +9,8 @@ use Rattle.sim_base.specs.declared.time.Time.{Time}
 use Rattle.guest_args.specs.Span.{counted, span}
 use Rattle.tcp_laws.proofs.Tests.{by_test}
 use Rattle.sock_tcp.specs.declared.connection.effects.Shut.{Shut}
-use Rattle.host_sockets.specs.declared.error.Refusal.{Refusal}
-use Rattle.host_sockets.specs.Wanted.{Wanted, sends}
+use Rattle.host_wants.specs.declared.error.Refusal.{Refusal}
+use Rattle.host_wants.specs.Wanted.{Wanted, sends}
 use Rattle.host_sockets.specs.Sockets.{SocketsRecord}
 use Rattle.host_sockets.specs.Udp.{udp_fits, binds_udp, connects_udp, sends_udp, receives_udp}
 use Rattle.host_sockets.specs.Binding.{binds_tcp, listens_tcp}

@@ -10,28 +10,28 @@ use Rattle.guest_args.specs.Time.{timespec_of, timespec_size}
 use Rattle.host_timers.specs.Clock.{clock_at}
 use Rattle.host_files.specs.Files.{next_pipe, next_timer, next_eventfd}
 use Rattle.tcp_laws.proofs.Tests.{by_test}
-use Rattle.host_sockets.specs.declared.error.Refusal.{Refusal}
-use Rattle.host_sockets.specs.declared.error.Refusal.TheVariants.{Errno}
-use Rattle.host_sockets.specs.Wanted.{Wanted, draws_word}
+use Rattle.host_wants.specs.declared.error.Refusal.{Refusal}
+use Rattle.host_wants.specs.declared.error.Refusal.TheVariants.{Errno}
+use Rattle.host_wants.specs.Wanted.{Wanted, draws_word}
 use Rattle.host_calls.specs.declared.call.PlainCall.{PlainCall}
 use Rattle.host_calls.specs.declared.call.PlainCall.TheVariants as plain
-use Rattle.host_calls.specs.declared.descriptors.Descriptor.{Descriptor}
-use Rattle.host_calls.specs.declared.parts.Task.{Task}
-use Rattle.host_calls.specs.declared.plan.Transfer.{Transfer}
-use Rattle.host_calls.specs.declared.parts.Shared.{Shared}
-use Rattle.host_calls.specs.declared.times.OldTimer.{OldTimer}
-use Rattle.host_calls.specs.declared.times.Setting.{Setting}
-use Rattle.host_calls.specs.Flags.{o_nonblock, has}
-use Rattle.host_calls.specs.Numbers.{f_getfd, f_setfd, f_getfl, f_setfl, grnd_nonblock, grnd_random}
-use Rattle.host_calls.specs.Scene.{Local, tell_memory}
-use Rattle.host_calls.specs.Descriptors.{descriptor, opens}
-use Rattle.host_calls.specs.Files.{fcntl_by, fcntl, hosts_file, openat_asked, openat, ends_bytes, with_ends, pipe2_asked, pipe2, is_read_by, reads, after_write, writes}
+use Rattle.file_calls.specs.declared.descriptors.Descriptor.{Descriptor}
+use Rattle.file_calls.specs.declared.task.Task.{Task}
+use Rattle.file_calls.specs.declared.transfer.Transfer.{Transfer}
+use Rattle.file_calls.specs.declared.task.Shared.{Shared}
+use Rattle.file_calls.specs.declared.times.OldTimer.{OldTimer}
+use Rattle.file_calls.specs.declared.times.Setting.{Setting}
+use Rattle.file_calls.specs.Flags.{o_nonblock, has}
+use Rattle.file_calls.specs.Numbers.{f_getfd, f_setfd, f_getfl, f_setfl, grnd_nonblock, grnd_random}
+use Rattle.file_calls.specs.Scene.{Local, tell_memory}
+use Rattle.file_calls.specs.Descriptors.{descriptor, opens}
+use Rattle.file_calls.specs.Files.{fcntl_by, fcntl, hosts_file, openat_asked, openat, ends_bytes, with_ends, pipe2_asked, pipe2, is_read_by, reads, after_write, writes}
 use Rattle.host_files.specs.Epolls.{next_epoll}
-use Rattle.host_calls.specs.Epoll.{epoll_asked, epoll_file, new_epoll, epoll_create1, ctl_asked, controlled, epoll_ctl}
-use Rattle.host_calls.specs.Eventfd.{eventfd_asked, eventfd_file, new_eventfd, eventfd2}
-use Rattle.host_calls.specs.Guest.{getpid, brk, words, words_in, random_count, random_told, getrandom}
+use Rattle.file_calls.specs.EpollControl.{epoll_asked, epoll_file, new_epoll, epoll_create1, ctl_asked, controlled, epoll_ctl}
+use Rattle.file_calls.specs.Eventfd.{eventfd_asked, eventfd_file, new_eventfd, eventfd2}
+use Rattle.file_calls.specs.Guest.{getpid, brk, words, words_in, random_count, random_told, getrandom}
 use Rattle.host_calls.specs.Sockets.{setsockopt_asked, setsockopt}
-use Rattle.host_calls.specs.Times.{timer_object, at_nanos, clock_gettime, timer_file, new_timer, create_asked, timerfd_create, sets, set_by, old_timer, tell_setting, settime_asked, timerfd_settime}
+use Rattle.file_calls.specs.Times.{timer_object, at_nanos, clock_gettime, timer_file, new_timer, create_asked, timerfd_create, sets, set_by, old_timer, tell_setting, settime_asked, timerfd_settime}
 use Rattle.host_calls.specs.Calls.{arg, plain_row}
 use Rattle.socket_laws.specs.Histories.{left_by}
 use Rattle.socket_streams.specs.Records.{packets_of}

@@ -3,10 +3,10 @@ use Rattle.std.proofs.Common.{◌≡◌, ℕ, List, Result, Ok, Err, refl, ap, s
 use Rattle.sim_base.specs.Refusals.{◌>>=◌, ◌>>◌}
 use Rattle.sim_base.specs.declared.address.Ip.{Ip}
 use Rattle.sim_base.specs.declared.packet.Packet.{Packet}
-use Rattle.host_sockets.specs.declared.error.Refusal.{Refusal}
-use Rattle.host_sockets.specs.Wanted.{Wanted}
+use Rattle.host_wants.specs.declared.error.Refusal.{Refusal}
+use Rattle.host_wants.specs.Wanted.{Wanted}
 use Rattle.host_sockets.specs.Sockets.{SocketsRecord}
-use Rattle.host_calls.specs.Scene.{Local}
+use Rattle.file_calls.specs.Scene.{Local}
 use Rattle.host_calls.specs.Parts.{Scene, with_local, plainly}
 use Rattle.host_calls.specs.Calls.{reacts}
 use Rattle.socket_laws.specs.Histories.{left_by}

@@ -1,5 +1,5 @@
 -- the sockets of a host's parts, and what is wanted
-use Rattle.host_sockets.specs.Wanted.{Wanted}
+use Rattle.host_wants.specs.Wanted.{Wanted}
 use Rattle.host_sockets.specs.Sockets.{SocketsRecord}
 use Rattle.host_calls.specs.Parts.{PartsRecord}
 

@@ -6,7 +6,7 @@ use Rattle.host_sockets.specs.Sockets.{SocketsRecord}
 use Rattle.host_sockets.specs.StandsFor.{Stand}
 use Rattle.host_calls.specs.Closing.{closed_below, closed_one}
 use Rattle.host_calls.specs.Parts.{Leaves, Scene, scene}
-use Rattle.host_calls.specs.Scene.{Local}
+use Rattle.file_calls.specs.Scene.{Local}
 
 pub closed_none : (now : Time) (s : Scene) → closed_below now 0 s ≡ s
 unfolding closed_below

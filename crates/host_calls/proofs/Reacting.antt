@@ -1,11 +1,11 @@
 -- A row that answers a value.
 use Rattle.std.proofs.Common.{◌≡◌, ℕ, Result, Ok, ap}
-use Rattle.host_sockets.specs.declared.error.Refusal.{Refusal}
+use Rattle.host_wants.specs.declared.error.Refusal.{Refusal}
 use Rattle.host_sockets.specs.declared.sockets.Sockets.{Sockets}
 use Rattle.host_sockets.specs.Sockets.{SocketsRecord}
 use Rattle.host_sockets.specs.StandsFor.{Stand}
 use Rattle.host_calls.specs.declared.parts.Reaction.TheVariants.{Value}
-use Rattle.host_calls.specs.Scene.{Local}
+use Rattle.file_calls.specs.Scene.{Local}
 use Rattle.host_calls.specs.Parts.{Scene, scene}
 use Rattle.host_calls.specs.Calls.{reacts}
 

@@ -17,9 +17,9 @@ use Rattle.host_fds.specs.declared.epoll.Watch.{Watch}
 use Rattle.host_fds.specs.Epoll.{told, reported, is_told, is_due, entry_of, report_of}
 use Rattle.host_files.specs.Epolls.{EpollsState, epoll_at, told_by, after_report, entries_reported}
 use Rattle.host_files.specs.Slots.{after}
-use Rattle.host_sockets.specs.declared.error.CallError.{CallError}
-use Rattle.host_sockets.specs.declared.error.CallError.TheVariants.{Refused, NoMemory}
-use Rattle.host_sockets.specs.declared.error.Refusal.{Refusal}
+use Rattle.host_wants.specs.declared.error.CallError.{CallError}
+use Rattle.host_wants.specs.declared.error.CallError.TheVariants.{Refused, NoMemory}
+use Rattle.host_wants.specs.declared.error.Refusal.{Refusal}
 use Rattle.host_sockets.specs.declared.sockets.Sockets.{Sockets}
 use Rattle.host_sockets.specs.Sockets.{SocketsRecord}
 use Rattle.host_sockets.specs.StandsFor.{Stand}
@@ -28,13 +28,13 @@ use Rattle.host_calls.specs.declared.call.WaitingCall.TheVariants as waiting
 use Rattle.host_calls.specs.declared.epoll.WaitPlan.{WaitPlan}
 use Rattle.host_calls.specs.declared.parts.Known.{Known}
 use Rattle.host_calls.specs.declared.parts.Reaction.TheVariants.{Value}
-use Rattle.host_calls.specs.declared.parts.Shared.{Shared}
-use Rattle.host_calls.specs.declared.parts.Task.{Task}
+use Rattle.file_calls.specs.declared.task.Shared.{Shared}
+use Rattle.file_calls.specs.declared.task.Task.{Task}
 use Rattle.host_calls.specs.declared.plan.Plan.TheVariants as plan
 use Rattle.host_calls.specs.Calls.{arg, reacts, done, waiting_row}
 use Rattle.host_calls.specs.Epoll.{TellAlike, nothing_seen, up_to, event_bytes, all_seen, telling, told_of, wait_plan, epoll_waits, epoll_pwait}
 use Rattle.host_calls.specs.Parts.{Scene, scene, Answers}
-use Rattle.host_calls.specs.Scene.{Local}
+use Rattle.file_calls.specs.Scene.{Local}
 
 is_above : (n : ℕ) → 0 < n → nat_lt 0 n ≡ true
 is_above n h = grind (arith, nat_tests)

@@ -6,12 +6,12 @@ use Rattle.sim_base.specs.declared.state.State.{State}
 use Rattle.sim_base.specs.declared.state.State.TheVariants.{Exited}
 use Rattle.sim_base.specs.declared.time.Time.{Time}
 use Rattle.sim_base.specs.Refusals.{◌>>=◌, ◌>>◌}
-use Rattle.host_sockets.specs.declared.error.Refusal.{Refusal}
-use Rattle.host_sockets.specs.declared.error.Refusal.TheVariants as refusal
+use Rattle.host_wants.specs.declared.error.Refusal.{Refusal}
+use Rattle.host_wants.specs.declared.error.Refusal.TheVariants as refusal
 use Rattle.host_sockets.specs.declared.sockets.Sockets.{Sockets}
 use Rattle.host_sockets.specs.Sockets.{SocketsRecord}
 use Rattle.host_sockets.specs.StandsFor.{Stand}
-use Rattle.host_sockets.specs.Wanted.{wants_alarm}
+use Rattle.host_wants.specs.Wanted.{wants_alarm}
 use Rattle.host_calls.specs.declared.all.Parts.{Parts}
 use Rattle.host_calls.specs.declared.call.Call.{Call}
 use Rattle.host_calls.specs.declared.call.Call.TheVariants as system_call
@@ -21,15 +21,15 @@ use Rattle.host_calls.specs.declared.call.NetworkCall.{NetworkCall}
 use Rattle.host_calls.specs.declared.call.NetworkCall.TheVariants as network
 use Rattle.host_calls.specs.declared.call.WaitingCall.{WaitingCall}
 use Rattle.host_calls.specs.declared.call.WaitingCall.TheVariants as waiting
-use Rattle.host_calls.specs.declared.descriptors.Descriptor.{Descriptor}
+use Rattle.file_calls.specs.declared.descriptors.Descriptor.{Descriptor}
 use Rattle.host_calls.specs.declared.parts.Answer.{Answer}
 use Rattle.host_calls.specs.declared.parts.Answer.TheVariants as answer
 use Rattle.host_calls.specs.declared.parts.Known.{Known}
 use Rattle.host_calls.specs.declared.parts.Reaction.{Reaction}
 use Rattle.host_calls.specs.declared.parts.Reaction.TheVariants.{Value, Waits}
-use Rattle.host_calls.specs.declared.parts.Shared.{Shared}
-use Rattle.host_calls.specs.declared.parts.Task.{Task}
-use Rattle.host_calls.specs.declared.parts.Why.{Why}
+use Rattle.file_calls.specs.declared.task.Shared.{Shared}
+use Rattle.file_calls.specs.declared.task.Task.{Task}
+use Rattle.file_calls.specs.declared.task.Why.{Why}
 use Rattle.host_calls.specs.declared.plan.Plan.{Plan}
 use Rattle.host_calls.specs.declared.plan.Plan.TheVariants as plan
 use Rattle.host_calls.specs.declared.receiving.Room.{Room}
@@ -38,16 +38,17 @@ use Rattle.host_calls.specs.declared.sockets.OpenSocket.{OpenSocket}
 use Rattle.host_calls.specs.declared.sockets.SocketNumber.{SocketNumber}
 use Rattle.host_calls.specs.Call.{call_of}
 use Rattle.host_calls.specs.Closing.{close, all_closed}
-use Rattle.host_calls.specs.Descriptors.{descriptor, IsFree}
-use Rattle.host_calls.specs.Epoll.{epoll_create1, epoll_ctl, wait_plan, epoll_waits}
-use Rattle.host_calls.specs.Eventfd.{eventfd2}
-use Rattle.host_calls.specs.Files.{fcntl, openat, pipe2, file_read_plan, reads, file_write_plan, writes}
-use Rattle.host_calls.specs.Guest.{getpid, brk, getrandom}
+use Rattle.file_calls.specs.Descriptors.{descriptor, IsFree}
+use Rattle.file_calls.specs.EpollControl.{epoll_create1, epoll_ctl}
+use Rattle.host_calls.specs.Epoll.{wait_plan, epoll_waits}
+use Rattle.file_calls.specs.Eventfd.{eventfd2}
+use Rattle.file_calls.specs.Files.{fcntl, openat, pipe2, file_read_plan, reads, file_write_plan, writes}
+use Rattle.file_calls.specs.Guest.{getpid, brk, getrandom}
 use Rattle.host_calls.specs.Parts.{PartsRecord, PartsStand, Place, PlaceStands, place_of, place_in, with_place, Scene, scene, local_of, plainly}
 use Rattle.host_calls.specs.Polling.{max_entries, poll_plan, polls}
-use Rattle.host_calls.specs.Scene.{Local, Is, negative}
+use Rattle.file_calls.specs.Scene.{Local, Is, negative}
 use Rattle.host_calls.specs.Sockets.{socket, bind, listen, accept_plan, accepts, connect_plan, connects, getsockname, getpeername, socket_number, send_plan, sendto_plan, sends_by, recv_plan, recvfrom_plan, receives, setsockopt, getsockopt, shutdown}
-use Rattle.host_calls.specs.Times.{clock_gettime, sleep_asked, timerfd_create, timerfd_settime}
+use Rattle.file_calls.specs.Times.{clock_gettime, sleep_asked, timerfd_create, timerfd_settime}
 
 -- argument n of six
 abbrev pub arg : List ℕ → ℕ → ℕ

@@ -4,17 +4,17 @@ use Rattle.sim_base.specs.declared.act.Act.{Act}
 use Rattle.sim_base.specs.declared.object.ObjectId.{ObjectId}
 use Rattle.sim_base.specs.declared.packet.Packet.{Packet}
 use Rattle.sim_base.specs.declared.time.Time.{Time}
-use Rattle.host_sockets.specs.Wanted.{Wanted}
+use Rattle.host_wants.specs.Wanted.{Wanted}
 use Rattle.host_sockets.specs.Sockets.{SocketsRecord}
 use Rattle.host_sockets.specs.TcpActs.{first_object}
 use Rattle.host_sockets.specs.Arriving as arriving
 use Rattle.host_sockets.specs.Alarms.{alarm_comes}
 use Rattle.host_calls.specs.declared.all.Parts.{Parts}
-use Rattle.host_calls.specs.declared.parts.Task.{Task}
+use Rattle.file_calls.specs.declared.task.Task.{Task}
 use Rattle.host_calls.specs.Calls.{scene_at, cleared}
 use Rattle.host_calls.specs.Closing.{all_closed}
 use Rattle.host_calls.specs.Parts.{PartsRecord, PartsStand, Place, place_of, place_in, with_place}
-use Rattle.host_calls.specs.Times.{first_timer, rings}
+use Rattle.file_calls.specs.Times.{first_timer, rings}
 
 -- what the sockets leave
 abbrev pub with_wanted : SocketsRecord × Wanted → PartsRecord → PartsRecord

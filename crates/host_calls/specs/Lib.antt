@@ -1,10 +1,3 @@
-pub mod Scene
-pub mod Descriptors
-pub mod Flags
-pub mod Numbers
-pub mod Files
-pub mod Times
-pub mod Guest
 pub mod Parts
 pub mod Ready
 pub mod Polling
@@ -13,6 +6,5 @@ pub mod Sockets
 pub mod Closing
 pub mod Call
 pub mod Calls
-pub mod Eventfd
 pub mod Events
 pub mod Starting

@@ -1,17 +1,17 @@
 -- What a host's calls act on: its processes, what they share, and its sockets.
 use Rattle.std.specs.Prelude.{◌≡◌, ℕ, List, slice_set, Option, Some, Result, Ok, Err}
 use Rattle.host_files.specs.Slots.{at}
-use Rattle.host_sockets.specs.declared.error.Refusal.{Refusal}
-use Rattle.host_sockets.specs.declared.error.CallError.{CallError}
-use Rattle.host_sockets.specs.declared.error.CallError.TheVariants as error
+use Rattle.host_wants.specs.declared.error.Refusal.{Refusal}
+use Rattle.host_wants.specs.declared.error.CallError.{CallError}
+use Rattle.host_wants.specs.declared.error.CallError.TheVariants as error
 use Rattle.host_sockets.specs.Sockets.{SocketsRecord}
 use Rattle.host_sockets.specs.StandsFor.{Stand}
-use Rattle.host_sockets.specs.Wanted.{Wanted}
+use Rattle.host_wants.specs.Wanted.{Wanted}
 use Rattle.host_sockets.specs.declared.sockets.Sockets.{Sockets}
-use Rattle.host_calls.specs.Scene.{Local}
+use Rattle.file_calls.specs.Scene.{Local}
 use Rattle.host_calls.specs.declared.all.Parts.{Parts}
-use Rattle.host_calls.specs.declared.parts.Task.{Task}
-use Rattle.host_calls.specs.declared.parts.Shared.{Shared}
+use Rattle.file_calls.specs.declared.task.Task.{Task}
+use Rattle.file_calls.specs.declared.task.Shared.{Shared}
 
 -- a process is None before it starts, and where its host has let it go
 pub record PartsRecord : Type 0 where

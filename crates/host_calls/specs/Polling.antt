@@ -9,15 +9,15 @@ use Rattle.guest_mem.specs.Memory.{Memory}
 use Rattle.guest_args.specs.Span.{span, can_write, filled, int_size}
 use Rattle.guest_args.specs.Time.{timespec, deadline_after, timespec_size}
 use Rattle.host_timers.specs.declared.clock.Moment.{Moment}
-use Rattle.host_sockets.specs.declared.error.Refusal.{Refusal}
-use Rattle.host_sockets.specs.declared.error.Refusal.TheVariants.{Errno, Wait}
-use Rattle.host_calls.specs.declared.descriptors.Descriptor.{Descriptor}
-use Rattle.host_calls.specs.declared.parts.Task.{Task}
+use Rattle.host_wants.specs.declared.error.Refusal.{Refusal}
+use Rattle.host_wants.specs.declared.error.Refusal.TheVariants.{Errno, Wait}
+use Rattle.file_calls.specs.declared.descriptors.Descriptor.{Descriptor}
+use Rattle.file_calls.specs.declared.task.Task.{Task}
 use Rattle.host_calls.specs.declared.polling.PollPlan.{PollPlan}
-use Rattle.host_calls.specs.Descriptors.{descriptor}
+use Rattle.file_calls.specs.Descriptors.{descriptor}
 use Rattle.host_calls.specs.Parts.{Scene}
 use Rattle.host_calls.specs.Ready.{readiness}
-use Rattle.host_calls.specs.Times.{at_nanos, kept_or}
+use Rattle.file_calls.specs.Times.{at_nanos, kept_or}
 
 -- what is told of a descriptor: of its readiness what is asked for, POLLERR and POLLHUP. A descriptor that is free gives
 -- POLLNVAL, and a negative one nothing

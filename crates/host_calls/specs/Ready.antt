@@ -19,12 +19,12 @@ use Rattle.host_files.specs.declared.file.Object.TheVariants as kind
 use Rattle.host_files.specs.declared.timer.KeptTimer.{KeptTimer}
 use Rattle.host_files.specs.Epolls.{epoll_at}
 use Rattle.host_files.specs.Files.{FilesState, pipe_at, timer_at, timer_count, timer_rises, eventfd_at}
-use Rattle.host_sockets.specs.declared.error.Refusal.{Refusal}
+use Rattle.host_wants.specs.declared.error.Refusal.{Refusal}
 use Rattle.host_sockets.specs.Sockets.{SocketsRecord}
 use Rattle.sock_tcp.specs.connection.Ready.{bit_if}
 use Rattle.host_sockets.specs.Ready.{tcp_ready, tcp_seen, tcp_rises, udp_ready, udp_rises}
-use Rattle.host_calls.specs.declared.descriptors.Descriptor.{Descriptor}
-use Rattle.host_calls.specs.Descriptors.{descriptor}
+use Rattle.file_calls.specs.declared.descriptors.Descriptor.{Descriptor}
+use Rattle.file_calls.specs.Descriptors.{descriptor}
 use Rattle.host_calls.specs.Parts.{Scene}
 
 abbrev pub pipe_ready : Option PipeState → End → ℕ

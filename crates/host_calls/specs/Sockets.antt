@@ -19,12 +19,12 @@ use Rattle.sock_tcp.specs.declared.connection.effects.Shut.TheVariants.{Reading,
 use Rattle.host_files.specs.declared.file.File.{File}
 use Rattle.host_files.specs.declared.file.Object.{Object}
 use Rattle.host_files.specs.declared.file.Object.TheVariants as kind
-use Rattle.host_sockets.specs.declared.error.Refusal.{Refusal}
-use Rattle.host_sockets.specs.declared.error.Refusal.TheVariants.{Errno}
+use Rattle.host_wants.specs.declared.error.Refusal.{Refusal}
+use Rattle.host_wants.specs.declared.error.Refusal.TheVariants.{Errno}
 use Rattle.host_sockets.specs.declared.reply.Reply.{Reply}
 use Rattle.host_sockets.specs.declared.reply.Reply.TheVariants.{Done, Failed}
 use Rattle.host_sockets.specs.declared.reply.Accepted.{Accepted}
-use Rattle.host_sockets.specs.Wanted.{sends}
+use Rattle.host_wants.specs.Wanted.{sends}
 use Rattle.host_sockets.specs.Sockets.{SocketsRecord, new_tcp}
 use Rattle.host_sockets.specs.Udp.{new_udp, udp_bound, binds_udp, connects_udp, udp_fits, sends_udp, receives_udp, recv_udp_asked}
 use Rattle.host_sockets.specs.Binding.{tcp_bound, binds_tcp, listens_tcp}
@@ -46,13 +46,13 @@ use Rattle.host_calls.specs.declared.sending.SendPlan.{SendPlan}
 use Rattle.host_calls.specs.declared.sending.SendPlan.TheVariants as sending
 use Rattle.host_calls.specs.declared.sending.StreamSend.{StreamSend}
 use Rattle.host_calls.specs.declared.sockets.OpenSocket.{OpenSocket}
-use Rattle.host_calls.specs.declared.parts.Task.{Task}
+use Rattle.file_calls.specs.declared.task.Task.{Task}
 use Rattle.host_calls.specs.declared.parts.Reaction.{Reaction}
 use Rattle.host_calls.specs.declared.parts.Reaction.TheVariants.{Value, Waits}
-use Rattle.host_calls.specs.Flags.{o_nonblock, msg_dontwait, msg_nosignal, has, beside_open, beside_message}
-use Rattle.host_calls.specs.Numbers.{sock_stream, sock_dgram, ipproto_tcp, ipproto_udp, sol_socket, so_reuseaddr, so_type, so_error, so_keepalive, tcp_nodelay, shut_rd, shut_wr, shut_rdwr}
-use Rattle.host_calls.specs.Scene.{Local, negative, or_again, kept_answers}
-use Rattle.host_calls.specs.Descriptors.{lowest_free, descriptor, opens}
+use Rattle.file_calls.specs.Flags.{o_nonblock, msg_dontwait, msg_nosignal, has, beside_open, beside_message}
+use Rattle.file_calls.specs.Numbers.{sock_stream, sock_dgram, ipproto_tcp, ipproto_udp, sol_socket, so_reuseaddr, so_type, so_error, so_keepalive, tcp_nodelay, shut_rd, shut_wr, shut_rdwr}
+use Rattle.file_calls.specs.Scene.{Local, negative, or_again, kept_answers}
+use Rattle.file_calls.specs.Descriptors.{lowest_free, descriptor, opens}
 use Rattle.host_calls.specs.Parts.{Scene, local_of, with_local, with_sockets, with_wanted}
 
 -- the socket that a descriptor names

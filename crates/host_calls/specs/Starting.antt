@@ -8,11 +8,11 @@ use Rattle.host_files.specs.declared.file.Object.{Object}
 use Rattle.host_files.specs.declared.file.Object.TheVariants as kind
 use Rattle.host_files.specs.Files.{no_files}
 use Rattle.host_sockets.specs.Sockets.{no_sockets}
-use Rattle.host_sockets.specs.Wanted.{nothing_wanted}
-use Rattle.host_calls.specs.declared.parts.Task.{Task}
-use Rattle.host_calls.specs.declared.parts.Shared.{Shared}
-use Rattle.host_calls.specs.Scene.{Local}
-use Rattle.host_calls.specs.Descriptors.{opens}
+use Rattle.host_wants.specs.Wanted.{nothing_wanted}
+use Rattle.file_calls.specs.declared.task.Task.{Task}
+use Rattle.file_calls.specs.declared.task.Shared.{Shared}
+use Rattle.file_calls.specs.Scene.{Local}
+use Rattle.file_calls.specs.Descriptors.{opens}
 use Rattle.host_calls.specs.Parts.{PartsRecord, place, with_place}
 
 abbrev pub fresh_task : Memory → Task

@@ -5,17 +5,16 @@ ghost use Rattle.std.specs.FinMap as map;
 ghost use Rattle.host_fds.specs.Descriptors.{limit};
 ghost use Rattle.host_sockets.specs.Sockets.{SocketsRecord};
 ghost use Rattle.host_sockets.specs.StandsFor.{Stand};
-ghost use Rattle.host_calls.specs.Descriptors.{IsFree};
+ghost use Rattle.file_calls.specs.Descriptors.{IsFree};
 ghost use Rattle.host_calls.specs.Parts.{Answers, scene};
 ghost use Rattle.host_calls.specs.Sockets as spec;
 
-use crate::again::or_again;
-use crate::descriptors::{lowest_free, open};
-use crate::parts::{Shared, Task};
 use crate::sockets::{OpenSocket, open_socket, result_address, tcp_number};
+use file_calls::{Shared, Task, lowest_free, open, or_again};
 use guest_args::{AddressPlace, answer};
 use host_files::{File, Object};
-use host_sockets::{CallError, Refusal, Sockets};
+use host_sockets::Sockets;
+use host_wants::{CallError, Refusal};
 use sim_base::Errno;
 
 /// The descriptor that an accepted connection gets, and where its peer's address goes.

@@ -10,13 +10,14 @@ ghost use Rattle.host_calls.specs.Parts.{Answers, scene};
 use crate::accepting::accept;
 use crate::connecting::connect;
 use crate::epoll::epoll_wait;
-use crate::parts::{Known, Reaction, Shared, Task};
+use crate::parts::{Known, Reaction};
 use crate::plan::Plan;
 use crate::polling::ppoll;
 use crate::receiving::recv;
 use crate::sending::send;
-use crate::{reading, writing};
-use host_sockets::{CallError, Sockets};
+use file_calls::{Shared, Task, reading, writing};
+use host_sockets::Sockets;
+use host_wants::CallError;
 use sim_base::Time;
 
 /// Does what a call would do.

@@ -1,6 +1,6 @@
 //! All that a host's calls act on.
 
-use crate::parts::{Shared, Task};
+use file_calls::{Shared, Task};
 use host_sockets::Sockets;
 
 /// All that a host's calls act on: its processes by their numbers (None: it hasn't started, or the

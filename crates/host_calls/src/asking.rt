@@ -11,17 +11,16 @@ ghost use Rattle.host_calls.specs.Sockets.{socket_number};
 use crate::accepting::accept_plan;
 use crate::call::WaitingCall;
 use crate::connecting::connect_plan;
-use crate::descriptors::{Descriptor, look_up};
 use crate::epoll::wait_plan;
-use crate::parts::{Known, Shared, Task};
+use crate::parts::Known;
 use crate::plan::Plan;
 use crate::polling::poll_plan;
 use crate::receiving::{Room, recv_plan, recvfrom_plan};
 use crate::sending::{Message, send_plan, sendto_plan};
 use crate::sockets::{OpenSocket, SocketNumber, socket_number};
-use crate::times::sleep_asked;
-use crate::{reading, writing};
-use host_sockets::{Refusal, Sockets};
+use file_calls::{Descriptor, Shared, Task, look_up, reading, sleep_asked, writing};
+use host_sockets::Sockets;
+use host_wants::Refusal;
 use sim_base::Time;
 
 fn message_of(at: u32, n: u32, to_at: u32, size: u32) -> Message

@@ -8,13 +8,12 @@ ghost use Rattle.host_sockets.specs.StandsFor.{Stand, Becomes};
 ghost use Rattle.host_calls.specs.Parts.{Answers, scene};
 ghost use Rattle.host_calls.specs.Sockets as spec;
 
-use crate::descriptors::{lowest_free, open};
-use crate::flags::{O_NONBLOCK, beside_open, has};
-use crate::parts::{Shared, Task};
 use crate::sockets::{AF_INET, SocketNumber, address_bytes, inet_address, open_socket, tcp_number};
+use file_calls::{O_NONBLOCK, Shared, Task, beside_open, has, lowest_free, open};
 use guest_mem::Mem;
 use host_files::{File, Object};
-use host_sockets::{CallError, Refusal, Sockets};
+use host_sockets::Sockets;
+use host_wants::{CallError, Refusal};
 use sim_base::{Addr, Book, Errno};
 
 const SOCK_STREAM: u32 = 1;

@@ -7,25 +7,24 @@ ghost use Rattle.host_sockets.specs.StandsFor.{Stand};
 ghost use Rattle.host_calls.specs.Calls as spec;
 ghost use Rattle.host_calls.specs.Parts.{Answers, PartsRecord, PartsStand, scene, Scene, local_of};
 ghost use Rattle.host_calls.specs.Parts.{place as place_at, Leaves};
-ghost use Rattle.host_calls.specs.Scene.{Does};
+ghost use Rattle.file_calls.specs.Scene.{Does};
 
 use crate::acting::act;
-use crate::again::negative;
 use crate::all::Parts;
 use crate::asking::asked;
 use crate::binding::{bind, listen, socket};
 use crate::call::{Call, NetworkCall, PlainCall, WaitingCall};
 use crate::closing::{close, close_task};
-use crate::controlling::{epoll_create, epoll_ctl};
 use crate::epoll::epoll_pwait;
-use crate::eventfd::eventfd2;
-use crate::files::{fcntl, openat, pipe2};
-use crate::guest::{brk, getpid, getrandom};
 use crate::naming::{getpeername, getsockname, shutdown};
 use crate::options::{getsockopt, setsockopt};
-use crate::parts::{Answer, Known, Reaction, Shared, Task, Why};
-use crate::times::{clock_gettime, timerfd_create, timerfd_settime};
-use host_sockets::{CallError, Refusal, Sockets};
+use crate::parts::{Answer, Known, Reaction};
+use file_calls::{
+    Shared, Task, Why, brk, clock_gettime, epoll_create, epoll_ctl, eventfd2, fcntl, getpid,
+    getrandom, negative, openat, pipe2, timerfd_create, timerfd_settime,
+};
+use host_sockets::Sockets;
+use host_wants::{CallError, Refusal};
 use sim_base::{Errno, NoMemory, ObjectId, State, Time};
 
 /// The row of a call that needs no sockets.

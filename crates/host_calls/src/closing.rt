@@ -7,11 +7,11 @@ ghost use Rattle.host_files.specs.Epolls.{forgotten};
 ghost use Rattle.host_calls.specs.Closing as spec;
 ghost use Rattle.host_calls.specs.Parts.{Answers, Leaves, scene};
 
-use crate::descriptors::{Descriptor, look_up};
-use crate::parts::{Shared, Task};
+use file_calls::{Descriptor, Shared, Task, look_up};
 use host_fds::{End, Table};
 use host_files::{Epolls, Object};
-use host_sockets::{CallError, Sockets};
+use host_sockets::Sockets;
+use host_wants::CallError;
 use sim_base::{NoMemory, Time};
 
 /// Ends what a file was an end of.

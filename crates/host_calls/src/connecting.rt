@@ -3,15 +3,16 @@
 ghost use Rattle.std.specs.Prelude.{◌≡◌};
 ghost use Rattle.host_sockets.specs.Sockets.{SocketsRecord};
 ghost use Rattle.host_sockets.specs.StandsFor.{Stand};
-ghost use Rattle.host_calls.specs.declared.parts.Shared.{Shared};
+ghost use Rattle.file_calls.specs.declared.task.Shared.{Shared};
 ghost use Rattle.host_calls.specs.Parts.{Answers, scene};
-ghost use Rattle.host_calls.specs.Scene as guest;
+ghost use Rattle.file_calls.specs.Scene as guest;
 ghost use Rattle.host_calls.specs.Sockets as spec;
 
-use crate::again::{kept_answers, negative};
-use crate::parts::{Reaction, Shared, Task};
+use crate::parts::Reaction;
 use crate::sockets::{OpenSocket, SocketNumber, address, open_socket};
-use host_sockets::{CallError, Refusal, Reply, Sockets};
+use file_calls::{Shared, Task, kept_answers, negative};
+use host_sockets::{Reply, Sockets};
+use host_wants::{CallError, Refusal};
 use sim_base::{Book, Errno, Time};
 
 /// What a connect answers that has sent its SYN, or met a kept error.

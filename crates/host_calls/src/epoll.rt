@@ -3,7 +3,7 @@
 ghost use Rattle.std.specs.Prelude.{◌≡◌, ◌+◌, ◌≤◌, ◌&&◌, not, min, nat_lt, [], ◌∷◌, ◌++◌, length, map, flat_map, Some, IfOk, IfSome, OnOk};
 ghost use Rattle.sim_base.specs.Refusals.{refuse_if};
 ghost use Rattle.sim_base.specs.Units.{latest_time};
-ghost use Rattle.host_sockets.specs.declared.error.Refusal.TheVariants.{Wait};
+ghost use Rattle.host_wants.specs.declared.error.Refusal.TheVariants.{Wait};
 ghost use Rattle.host_sockets.specs.Sockets.{SocketsRecord};
 ghost use Rattle.host_sockets.specs.StandsFor.{Stand};
 ghost use Rattle.host_files.specs.Epolls.{epoll_at, told_by, entries_reported};
@@ -12,18 +12,16 @@ ghost use Rattle.host_calls.specs.Parts.{Answers, scene};
 ghost use Rattle.host_calls.specs.Polling.{has_come as came};
 ghost use Rattle.host_calls.specs.Ready.{some_due as any_due};
 
-use crate::controlling::epoll_number;
-use crate::descriptors::look_up;
-use crate::parts::{Shared, Task};
 use crate::polling::has_come;
 use crate::ready::{seen_due, some_due};
-use crate::times::kept_or;
+use file_calls::{Shared, Task, epoll_number, kept_or, look_up};
 use guest_args::{deadline_after, fill};
 use guest_mem::Right;
 use host_fds::{Entry, Rises, Seen, Watch};
 use host_files::Epolls;
-use host_sockets::{CallError, Refusal, Sockets};
+use host_sockets::Sockets;
 use host_timers::Moment;
+use host_wants::{CallError, Refusal};
 use sim_base::{Errno, NoMemory, Time};
 use std::alloc::Global;
 

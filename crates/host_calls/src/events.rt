@@ -10,8 +10,7 @@ ghost use Rattle.host_calls.specs.Parts.{place as place_at};
 
 use crate::all::Parts;
 use crate::calling::end_task;
-use crate::parts::{Shared, Task};
-use crate::times::{FIRST_TIMER, ring};
+use file_calls::{FIRST_TIMER, Shared, Task, ring};
 use host_sockets::Sockets;
 use sim_base::{Act, NoMemory, ObjectId, Packet, Time};
 

@@ -6,10 +6,11 @@ ghost use Rattle.host_sockets.specs.StandsFor.{Stand};
 ghost use Rattle.host_calls.specs.Parts.{Answers, scene};
 ghost use Rattle.host_calls.specs.Sockets as spec;
 
-use crate::parts::{Shared, Task};
 use crate::sockets::{SocketNumber, open_socket, result_address};
+use file_calls::{Shared, Task};
 use guest_args::answer;
-use host_sockets::{CallError, Refusal, Sockets};
+use host_sockets::Sockets;
+use host_wants::{CallError, Refusal};
 use sim_base::{Addr, Errno, Time};
 use sock_tcp::Shut;
 

@@ -4,14 +4,15 @@ ghost use Rattle.std.specs.Prelude.{◌≡◌};
 ghost use Rattle.host_sockets.specs.Sockets.{SocketsRecord};
 ghost use Rattle.host_sockets.specs.StandsFor.{Stand};
 ghost use Rattle.host_calls.specs.Parts.{Answers, scene};
-ghost use Rattle.host_calls.specs.Scene.{Does};
+ghost use Rattle.file_calls.specs.Scene.{Does};
 ghost use Rattle.host_calls.specs.Sockets as spec;
 
-use crate::parts::{Shared, Task};
 use crate::sockets::{SocketNumber, open_socket, word_at};
+use file_calls::{Shared, Task};
 use guest_args::{counted, fill};
 use guest_mem::{Mem, Right};
-use host_sockets::{CallError, Refusal, Sockets};
+use host_sockets::Sockets;
+use host_wants::{CallError, Refusal};
 use sim_base::{Errno, Time};
 
 /// SO_REUSEADDR (1, 2), SO_KEEPALIVE (1, 9) and TCP_NODELAY (6, 1) may be set.

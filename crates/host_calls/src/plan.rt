@@ -2,11 +2,11 @@
 
 use crate::accepting::AcceptPlan;
 use crate::connecting::ConnectPlan;
-use crate::descriptors::Descriptor;
 use crate::epoll::WaitPlan;
 use crate::polling::PollPlan;
 use crate::receiving::RecvPlan;
 use crate::sending::SendPlan;
+use file_calls::Transfer;
 
 /// What a call that may wait would do: it isn't refused, and doesn't wait.
 #[derive(Clone, Copy)]
@@ -23,12 +23,4 @@ pub enum Plan {
     Sleep,
     Poll(PollPlan),
     EpollWait(WaitPlan),
-}
-
-/// So many bytes at an address of the guest, and the file that they come from or go to.
-#[derive(Clone, Copy)]
-pub struct Transfer {
-    pub d: Descriptor,
-    pub at: u32,
-    pub n: u32,
 }

@@ -7,14 +7,13 @@ ghost use Rattle.host_sockets.specs.StandsFor.{Stand};
 ghost use Rattle.host_calls.specs.Parts.{Answers, scene};
 ghost use Rattle.host_calls.specs.Polling as spec;
 
-use crate::descriptors::look_up;
-use crate::parts::{Shared, Task};
 use crate::ready::readiness;
-use crate::times::kept_or;
+use file_calls::{Shared, Task, kept_or, look_up};
 use guest_args::{deadline_after, fill, sixteen, timespec};
 use guest_mem::{Bad, Mem, Right};
-use host_sockets::{CallError, Refusal, Sockets};
+use host_sockets::Sockets;
 use host_timers::Moment;
+use host_wants::{CallError, Refusal};
 use sim_base::{Errno, NoMemory, POLLERR, POLLHUP, POLLNVAL, Time};
 use std::alloc::Global;
 

@@ -9,9 +9,8 @@ ghost use Rattle.host_files.specs.Files.{pipe_at, timer_at, eventfd_at};
 ghost use Rattle.host_calls.specs.Parts.{scene};
 ghost use Rattle.host_calls.specs.Ready as spec;
 
-use crate::descriptors::look_up;
-use crate::parts::{Shared, Task};
-use crate::reading::timer_count;
+use file_calls::reading::timer_count;
+use file_calls::{Shared, Task, look_up};
 use host_fds::{End, Rises, Seen, Watch};
 use host_files::{Files, Object};
 use host_sockets::Sockets;

@@ -9,13 +9,13 @@ ghost use Rattle.guest_args.specs.Span.{most};
 ghost use Rattle.host_calls.specs.Parts.{Answers, scene};
 ghost use Rattle.host_calls.specs.Sockets as spec;
 
-use crate::again::{kept_answers, negative, or_again};
-use crate::parts::{Shared, Task};
 use crate::sending::{is_quick, refuse_flags};
 use crate::sockets::{OpenSocket, SocketNumber, open_socket, result_address};
+use file_calls::{Shared, Task, kept_answers, negative, or_again};
 use guest_args::{AddressPlace, answer, counted, fill};
 use guest_mem::{Mem, Right};
-use host_sockets::{CallError, Refusal, Reply, Sockets};
+use host_sockets::{Reply, Sockets};
+use host_wants::{CallError, Refusal};
 use sim_base::{Bytes, Errno, Time};
 
 /// Where what is received goes: so many bytes to an address, and the sender's address.

@@ -8,13 +8,14 @@ ghost use Rattle.guest_args.specs.Span.{most};
 ghost use Rattle.host_calls.specs.Parts.{Answers, scene};
 ghost use Rattle.host_calls.specs.Sockets as spec;
 
-use crate::again::{kept_answers, negative, or_again};
-use crate::flags::{MSG_DONTWAIT, MSG_NOSIGNAL, beside_message, has};
-use crate::parts::{Shared, Task};
 use crate::sockets::{OpenSocket, SocketNumber, given_address, open_socket};
+use file_calls::{
+    MSG_DONTWAIT, MSG_NOSIGNAL, Shared, Task, beside_message, has, kept_answers, negative, or_again,
+};
 use guest_args::{block, counted};
 use guest_mem::Right;
-use host_sockets::{CallError, Refusal, Reply, Sockets};
+use host_sockets::{Reply, Sockets};
+use host_wants::{CallError, Refusal};
 use sim_base::{Addr, Book, Errno, Time};
 
 /// What is sent: so many bytes from an address on, and the address that is given beside them, if

@@ -3,12 +3,11 @@
 ghost use Rattle.std.specs.Prelude.{◌≡◌};
 ghost use Rattle.host_calls.specs.Sockets as spec;
 
-use crate::descriptors::look_up;
-use crate::parts::{Shared, Task};
+use file_calls::{Shared, Task, look_up};
 use guest_args::{AddressPlace, address_span, family_of, four, sixteen, sockaddr_of, wanted_place};
 use guest_mem::{Mem, Right};
 use host_files::Object;
-use host_sockets::Refusal;
+use host_wants::Refusal;
 use sim_base::{Addr, Errno};
 
 /// A socket by its number.

@@ -2,17 +2,16 @@
 
 ghost use Rattle.std.specs.Prelude.{◌≡◌, ◌<◌, None, replicate, vec_len, IfOk, OnOk};
 ghost use Rattle.host_calls.specs.Parts.{PartsRecord, PartsStand};
-ghost use Rattle.host_calls.specs.Scene.{Is};
+ghost use Rattle.file_calls.specs.Scene.{Is};
 ghost use Rattle.host_calls.specs.Starting as spec;
 
 use crate::all::Parts;
-use crate::descriptors::open;
-use crate::outputs::Outputs;
-use crate::parts::{Shared, Task};
+use file_calls::{Outputs, Shared, Task, open};
 use guest_mem::Mem;
 use host_fds::Table;
 use host_files::{Epolls, File, Files, Object};
-use host_sockets::{Outlet, Sockets};
+use host_sockets::Sockets;
+use host_wants::Outlet;
 use sim_base::{Draws, Ip, NoMemory};
 use std::alloc::Global;
 

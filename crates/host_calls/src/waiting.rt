@@ -11,9 +11,11 @@ ghost use Rattle.host_calls.specs.Parts.{place as place_at};
 use crate::all::Parts;
 use crate::asking::asked;
 use crate::call::Call;
-use crate::parts::{Known, Shared, Task, Why};
+use crate::parts::Known;
 use crate::plan::Plan;
-use host_sockets::{Refusal, Sockets};
+use file_calls::{Shared, Task, Why};
+use host_sockets::Sockets;
+use host_wants::Refusal;
 use sim_base::Time;
 
 fn is_wait(asked: Result<Plan, Refusal>) -> bool

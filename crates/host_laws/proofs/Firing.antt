@@ -8,8 +8,8 @@ use Rattle.sim_base.specs.declared.event.Event.{Event}
 use Rattle.sim_base.specs.declared.event.What.{What}
 use Rattle.sim_base.specs.declared.event.What.TheVariants as what
 use Rattle.sim_base.specs.declared.time.Time.{Time}
-use Rattle.host_calls.specs.declared.parts.Task.{Task}
-use Rattle.host_calls.specs.declared.parts.Why.{Why}
+use Rattle.file_calls.specs.declared.task.Task.{Task}
+use Rattle.file_calls.specs.declared.task.Why.{Why}
 use Rattle.host_calls.specs.Calls.{answers}
 use Rattle.host_calls.specs.Parts.{PartsRecord}
 use Rattle.host_state.specs.declared.net.Net.{Net}

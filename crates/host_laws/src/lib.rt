@@ -5,7 +5,7 @@ ghost use Rattle.std.specs.Prelude.{◌≡◌, ◌≤◌, ◌++◌, ◌∷◌, �
 ghost use Rattle.sim_base.specs.Limits.{most_processes};
 ghost use Rattle.sim_base.specs.declared.event.Event.{Event};
 ghost use Rattle.host_calls.specs.Calls.{answers};
-ghost use Rattle.host_calls.specs.declared.parts.Why.{Why};
+ghost use Rattle.file_calls.specs.declared.task.Why.{Why};
 ghost use Rattle.host_state.specs.declared.net.Net.{Net};
 ghost use Rattle.host_state.specs.declared.row.Row.{Row};
 ghost use Rattle.host_state.specs.Fire.{has_acted, fire};

@@ -1,5 +1,5 @@
 -- whether any has it, by the places of those that have
-use Rattle.std.proofs.Common.{◌≡◌, ℕ, ◌+◌, ◌<◌, List, [], ◌∷◌, length, Bool, true, false, cond, not, ◌||◌, Some, is_some, refl, sym, ap, ◌∙◌, arith}
+use Rattle.std.proofs.Common.{◌≡◌, ◌+◌, ◌<◌, List, [], ◌∷◌, length, Bool, true, false, cond, not, ◌||◌, is_some, refl, sym, ap, ◌∙◌, arith}
 use Rattle.std.specs.List.{list_any, position, position_or_len}
 use Rattle.host_sockets.specs.TcpSocket.{TcpSocket}
 use Rattle.host_sockets.proofs.EndsFound.{by_bool}

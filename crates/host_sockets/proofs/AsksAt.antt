@@ -2,10 +2,10 @@
 use Rattle.std.proofs.Common.{◌≡◌, ℕ, ◌<◌, ◌≤◌, List, length, get_or, Option, Some, slice_get, Result, Err, sym, ap, subst, ◌∙◌, arith}
 use Rattle.sim_base.specs.declared.errno.Errno.TheVariants.{Ebadf}
 use Rattle.sim_base.specs.Refusals.{◌>>=◌, or_refuse}
-use Rattle.host_sockets.specs.declared.error.CallError.{CallError}
-use Rattle.host_sockets.specs.declared.error.CallError.TheVariants as error
-use Rattle.host_sockets.specs.declared.error.Refusal.{Refusal}
-use Rattle.host_sockets.specs.declared.error.Refusal.TheVariants as refusal
+use Rattle.host_wants.specs.declared.error.CallError.{CallError}
+use Rattle.host_wants.specs.declared.error.CallError.TheVariants as error
+use Rattle.host_wants.specs.declared.error.Refusal.{Refusal}
+use Rattle.host_wants.specs.declared.error.Refusal.TheVariants as refusal
 use Rattle.host_sockets.specs.declared.sockets.Sockets.{Sockets}
 use Rattle.host_sockets.specs.declared.tcp_sock.TcpSock.{TcpSock}
 use Rattle.host_sockets.specs.TcpSocket.{TcpSocket}

@@ -16,7 +16,7 @@ use Rattle.host_sockets.specs.StandsFor.{SocketStands}
 -- another TCP socket at a place, whose rises have moved on, and what is kept of records that are gone
 pub record ActEnds (c c' : Sockets) (k : ℕ) (before : Glance) (new : TcpSock) (kept : List Carried) : Type 0 where
   pub own : c'.own ≡ c.own
-  pub udp : c'.udp.items ≡ c.udp.items
+  pub udp : c'.udp.slots.items ≡ c.udp.slots.items
   pub tcp : c'.tcp.items ≡ set c.tcp.items k new
   pub udp_risen : c'.udp_risen.items ≡ c.udp_risen.items
   pub tcp_risen : (s : TcpSocket) → SocketStands new s → c'.tcp_risen.items ≡ moved_at k before (tcp_glance s) c.tcp_risen.items
@@ -25,7 +25,7 @@ pub record ActEnds (c c' : Sockets) (k : ℕ) (before : Glance) (new : TcpSock) 
 -- the same of a UDP socket
 pub record UdpActEnds (c c' : Sockets) (k : ℕ) (before : Glance) (new : Option UdpState) : Type 0 where
   pub own : c'.own ≡ c.own
-  pub udp : c'.udp.items ≡ set c.udp.items k new
+  pub udp : c'.udp.slots.items ≡ set c.udp.slots.items k new
   pub tcp : c'.tcp.items ≡ c.tcp.items
   pub udp_risen : c'.udp_risen.items ≡ moved_at k before (slot_glance new) c.udp_risen.items
   pub tcp_risen : c'.tcp_risen.items ≡ c.tcp_risen.items
@@ -63,22 +63,22 @@ pub act_ends : (c c' : Sockets) (k : ℕ) (before : Glance) (new : TcpSock) (kep
     → ActEnds c c' k before new kept
 act_ends c c' k before new kept b own udp tcp risen gone moves = record {
   own = own;
-  udp = ap (λ v. v.items) udp;
+  udp = ap (λ v. v.slots.items) udp;
   tcp = tcp;
   udp_risen = ap (λ v. v.items) risen;
   tcp_risen = λ s stands. moves new s (set_there c.tcp.items k new b) stands;
   gone = gone;
 }
 
-pub udp_act_ends : (c c' : Sockets) (k : ℕ) (before : Glance) (new : Option UdpState) → k < length c.udp.items
-    → c'.own ≡ c.own → c'.udp.items ≡ set c.udp.items k new → c'.tcp ≡ c.tcp → c'.tcp_risen ≡ c.tcp_risen → c'.gone ≡ c.gone
-    → ((slot : Option UdpState) → slice_get (set c.udp.items k new) k ≡ Some slot → c'.udp_risen.items ≡ moved_at k before (slot_glance slot) c.udp_risen.items)
+pub udp_act_ends : (c c' : Sockets) (k : ℕ) (before : Glance) (new : Option UdpState) → k < length c.udp.slots.items
+    → c'.own ≡ c.own → c'.udp.slots.items ≡ set c.udp.slots.items k new → c'.tcp ≡ c.tcp → c'.tcp_risen ≡ c.tcp_risen → c'.gone ≡ c.gone
+    → ((slot : Option UdpState) → slice_get (set c.udp.slots.items k new) k ≡ Some slot → c'.udp_risen.items ≡ moved_at k before (slot_glance slot) c.udp_risen.items)
     → UdpActEnds c c' k before new
 udp_act_ends c c' k before new b own udp tcp risen gone moves = record {
   own = own;
   udp = udp;
   tcp = ap (λ v. v.items) tcp;
-  udp_risen = moves new (set_there c.udp.items k new b);
+  udp_risen = moves new (set_there c.udp.slots.items k new b);
   tcp_risen = ap (λ v. v.items) risen;
   gone = ap (λ v. v.items) gone;
 }

@@ -1,5 +1,5 @@
 -- a live record is that of its two ends
-use Rattle.std.proofs.Common.{◌≡◌, ◌≢◌, ℕ, List, [], ◌∷◌, slice_get, Bool, true, false, not, cond, ◌&&◌, ◌||◌, ◌==◌, Option, Some, None, is_some, if◌then◌else◌, Result, Ok, Err, is_ok, OnOk, refl, sym, ap, subst, ◌∙◌}
+use Rattle.std.proofs.Common.{◌≡◌, ◌≢◌, ℕ, List, [], ◌∷◌, slice_get, Bool, true, false, not, ◌&&◌, ◌||◌, ◌==◌, Option, Some, None, is_some, if◌then◌else◌, Result, Ok, Err, is_ok, OnOk, refl, sym, ap, subst, ◌∙◌}
 use Rattle.std.specs.List.{list_any}
 use Rattle.std.proofs.lemmas.Bool.{eqb-true, eq-eqb}
 use Rattle.sim_base.specs.Addresses.{is_same}
@@ -10,9 +10,9 @@ use Rattle.sock_tcp.specs.listener.Listen.{Listen}
 use Rattle.host_sockets.specs.declared.tables.Ends.{Ends}
 use Rattle.host_sockets.specs.declared.tcp_sock.TcpSock.{TcpSock}
 use Rattle.host_sockets.specs.TcpSocket.{TcpSocket, has_record, has_record_in, keeps_record, keeps_record_in, listens_to, listens_in}
-use Rattle.host_sockets.specs.Ends.{same_ends, live_in, live_ends}
+use Rattle.host_sockets.specs.inside.Ends.{same_ends, live_in, live_ends}
 use Rattle.host_sockets.specs.SocketsStand.{SocketStands}
-use Rattle.host_sockets.specs.Indexing.{Finds}
+use Rattle.host_sockets.specs.inside.Indexing.{Finds}
 
 pub by_bool : {P : Type 0} (b : Bool) → (b ≡ true → P) → (b ≡ false → P) → P
 by_bool true holds fails = holds refl

@@ -1,13 +1,12 @@
 -- the first of some places whose socket is looked for
-use Rattle.std.proofs.Common.{◌≡◌, ◌≢◌, ℕ, zero, suc, ◌+◌, ◌<◌, ◌≤◌, ◌⊎◌, inl, inr, List, [], ◌∷◌, length, Bool, true, false, cond, not, ◌||◌, ◌==◌, nat_lt, Option, Some, None, slice_get, IfSome, if◌then◌else◌, refl, sym, ap, subst, ◌∙◌, arith}
+use Rattle.std.proofs.Common.{◌≡◌, ◌≢◌, ℕ, zero, suc, ◌+◌, ◌<◌, ◌≤◌, ◌⊎◌, inl, inr, List, [], ◌∷◌, length, Bool, true, false, cond, not, ◌||◌, ◌==◌, nat_lt, Option, Some, None, slice_get, if◌then◌else◌, refl, sym, ap, subst, ◌∙◌, arith}
 use Rattle.std.specs.List.{list_any, position, position_or_len}
 use Rattle.std.proofs.lemmas.Bool.{eqb-true, cases_eq}
 use Rattle.std.proofs.lemmas.Bool.Decides.{nat_tests}
-use Rattle.host_sockets.specs.declared.slots.Sought.{Sought}
 use Rattle.host_sockets.specs.declared.tcp_sock.TcpSock.{TcpSock}
 use Rattle.host_sockets.specs.TcpSocket.{TcpSocket}
 use Rattle.host_sockets.specs.SocketsStand.{SocketStands, AllStand}
-use Rattle.host_sockets.specs.Lookup.{earlier}
+use Rattle.host_sockets.specs.inside.Lookup.{earlier}
 use Rattle.host_sockets.proofs.EndsFound.{by_bool, some_is}
 use Rattle.host_sockets.proofs.Places.{same_length, socket_at, found, found_none}
 

@@ -8,7 +8,7 @@ use Rattle.sock_tcp.specs.connection.Tcb.{Tcb}
 use Rattle.host_sockets.specs.TcpActs.{Acted, unacted, is_let_go, fresh_again, let_go}
 use Rattle.host_sockets.specs.TcpSocket.{TcpSocket}
 use Rattle.host_sockets.specs.SocketsStand.{ConnStands}
-use Rattle.host_sockets.specs.Wanted.{Wanted}
+use Rattle.host_wants.specs.Wanted.{Wanted}
 
 pub record_is : (o : Option Conn) (q : Option Tcb) (conn : Conn) (r : Tcb) → ConnStands o q → o ≡ Some conn → q ≡ Some r → StandsFor conn r
 record_is None q conn r h e f = cc

@@ -1,12 +1,12 @@
 -- an index goes on finding what it found
-use Rattle.std.proofs.Common.{◌≡◌, ◌≢◌, ℕ, zero, suc, ◌≤◌, List, [], ◌∷◌, ◌++◌, length, set, Some, slice_get, refl, sym, ap, ◌∙◌, arith}
+use Rattle.std.proofs.Common.{◌≡◌, ◌≢◌, ℕ, zero, suc, List, [], ◌∷◌, ◌++◌, length, set, Some, slice_get, refl, sym, ap, ◌∙◌, arith}
 use Rattle.std.proofs.lemmas.List.{length-set, length-append}
 use Rattle.host_sockets.specs.declared.given.Given.{Given}
 use Rattle.host_sockets.specs.declared.index.Index.{Index}
 use Rattle.host_sockets.specs.declared.room.Room.{Room}
 use Rattle.host_sockets.specs.declared.tables.Tables.{Tables}
 use Rattle.host_sockets.specs.declared.tcp_sock.TcpSock.{TcpSock}
-use Rattle.host_sockets.specs.Indexing.{Indexes, FindsAll, FindsOthers, KnowsAll, KnowsOthers, CountsAll, CountsOthers}
+use Rattle.host_sockets.specs.inside.Indexing.{Indexes, FindsAll, FindsOthers, KnowsAll, KnowsOthers, CountsAll, CountsOthers}
 
 -- the sockets at other places stay
 other_set : (socks : List TcpSock) (k j : ℕ) (new c : TcpSock) → j ≢ k → slice_get (set socks k new) j ≡ Some c → slice_get socks j ≡ Some c

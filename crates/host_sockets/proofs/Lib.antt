@@ -8,6 +8,8 @@ pub mod Placing
 pub mod SocketActs
 pub mod Taking
 pub mod UdpSlots
+pub mod UdpTold
+pub mod PortGiven
 pub mod Written
 pub mod Indexed
 pub mod EndsFound

@@ -15,7 +15,7 @@ below place n h = grind (arith, nat_tests)
 above : (place n : ℕ) → n ≤ place → nat_lt place n ≡ false
 above place n h = grind (arith, nat_tests)
 
-pub put_within : (c c' : Sockets) (t : SocketsRecord) (place : ℕ) (sock : TcpSock) (s : TcpSocket) → Stand c t → SocketStands sock s → place < length c.tcp.items → c'.own ≡ c.own → c'.udp.items ≡ c.udp.items → c'.tcp.items ≡ set c.tcp.items place sock → c'.udp_risen.items ≡ c.udp_risen.items → c'.tcp_risen.items ≡ put_at place no_rises c.tcp_risen.items → c'.gone.items ≡ c.gone.items → Stand c' (put_tcp_at place s t)
+pub put_within : (c c' : Sockets) (t : SocketsRecord) (place : ℕ) (sock : TcpSock) (s : TcpSocket) → Stand c t → SocketStands sock s → place < length c.tcp.items → c'.own ≡ c.own → c'.udp.slots.items ≡ c.udp.slots.items → c'.tcp.items ≡ set c.tcp.items place sock → c'.udp_risen.items ≡ c.udp_risen.items → c'.tcp_risen.items ≡ put_at place no_rises c.tcp_risen.items → c'.gone.items ≡ c.gone.items → Stand c' (put_tcp_at place s t)
 put_within c c' t place sock s h stands b own udp tcp udp_risen tcp_risen gone =
     let same = same_length c.tcp.items t.tcp h.tcp in
     let within : nat_lt place (length t.tcp) ≡ true = below place (length t.tcp) (omega arith) in
@@ -30,7 +30,7 @@ put_within c c' t place sock s h stands b own udp tcp udp_risen tcp_risen gone =
       gone = gone ∙ h.gone;
     }
 
-pub put_behind : (c c' : Sockets) (t : SocketsRecord) (place : ℕ) (sock : TcpSock) (s : TcpSocket) → Stand c t → SocketStands sock s → length c.tcp.items ≤ place → c'.own ≡ c.own → c'.udp.items ≡ c.udp.items → c'.tcp.items ≡ c.tcp.items ++ sock ∷ [] → c'.udp_risen.items ≡ c.udp_risen.items → c'.tcp_risen.items ≡ put_at place no_rises c.tcp_risen.items → c'.gone.items ≡ c.gone.items → Stand c' (put_tcp_at place s t)
+pub put_behind : (c c' : Sockets) (t : SocketsRecord) (place : ℕ) (sock : TcpSock) (s : TcpSocket) → Stand c t → SocketStands sock s → length c.tcp.items ≤ place → c'.own ≡ c.own → c'.udp.slots.items ≡ c.udp.slots.items → c'.tcp.items ≡ c.tcp.items ++ sock ∷ [] → c'.udp_risen.items ≡ c.udp_risen.items → c'.tcp_risen.items ≡ put_at place no_rises c.tcp_risen.items → c'.gone.items ≡ c.gone.items → Stand c' (put_tcp_at place s t)
 put_behind c c' t place sock s h stands b own udp tcp udp_risen tcp_risen gone =
     let same = same_length c.tcp.items t.tcp h.tcp in
     let past : nat_lt place (length t.tcp) ≡ false = above place (length t.tcp) (omega arith) in

@@ -1,23 +1,23 @@
 -- the least port that is free, by how many ends have each
-use Rattle.std.proofs.Common.{◌≡◌, ◌≢◌, ℕ, zero, suc, ◌+◌, ◌-◌, ◌<◌, ◌≤◌, List, [], ◌∷◌, ◌++◌, length, get_or, replicate, max, ◌*◌, Bool, true, false, not, cond, ◌||◌, ◌==◌, Option, Some, None, nat_lt, if◌then◌else◌, slice_get, refl, sym, ap, subst, ◌∙◌, arith, inl, inr}
-use Rattle.std.specs.List.{flat_map, list_any, sum_by}
+use Rattle.std.proofs.Common.{◌≡◌, ◌≢◌, ℕ, zero, suc, ◌+◌, ◌-◌, ◌<◌, ◌≤◌, List, [], ◌∷◌, ◌++◌, length, get_or, replicate, max, ◌*◌, Bool, true, false, ◌||◌, ◌==◌, Option, Some, None, nat_lt, if◌then◌else◌, slice_get, refl, sym, ap, subst, ◌∙◌, arith, inl, inr}
+use Rattle.std.specs.List.{flat_map, sum_by}
 use Rattle.std.proofs.lemmas.Bool.{cases_eq, cases_lt}
 use Rattle.std.proofs.lemmas.Bool.Decides.{nat_tests}
 use Rattle.std.proofs.lemmas.List.Folds.{list_any-append, sum_by-replicate}
 use Rattle.std.proofs.lemmas.List.Sums.{sum_by-cons, sum_by-append}
 use Rattle.sim_base.specs.declared.address.Addr.{Addr}
-use Rattle.sim_base.specs.Addresses.{has_port, first_free_port, least_free_port, first_given_port, given_ports}
+use Rattle.sim_base.specs.Addresses.{has_port, first_free_port, least_free_port}
 use Rattle.sim_base.proofs.PortLemmas.{first_free_port-free, first_free_port-taken, first_free_port-none}
 use Rattle.sock_tcp.specs.connection.Tcb.{Tcb}
-use Rattle.number_sets.specs.Bags.{one, Holds}
+use Rattle.number_sets.specs.Bags.{Holds}
 use Rattle.number_sets.specs.declared.bag.NumberBag.{NumberBag}
 use Rattle.host_sockets.specs.declared.given.Given.{Given}
 use Rattle.host_sockets.specs.declared.given.Had.{Had}
 use Rattle.host_sockets.specs.declared.tcp_sock.TcpSock.{TcpSock}
 use Rattle.host_sockets.specs.TcpSocket.{TcpSocket, ends_of, bound_end, record_end}
 use Rattle.host_sockets.specs.SocketsStand.{SocketStands, AllStand}
-use Rattle.host_sockets.specs.Given.{given, given_end, own_end, had_of, no_ports, once, times}
-use Rattle.host_sockets.specs.Indexing.{Counts, CountsAll}
+use Rattle.host_sockets.specs.inside.Given.{given, given_end, own_end, had_of, no_ports, once, times}
+use Rattle.host_sockets.specs.inside.Indexing.{Counts, CountsAll}
 use Rattle.host_sockets.proofs.Places.{same_length}
 use Rattle.host_sockets.proofs.RoomKnown.{element_is}
 

@@ -6,7 +6,7 @@ use Rattle.std.proofs.lemmas.Bool.Decides.{nat_tests}
 use Rattle.host_sockets.specs.declared.tcp_sock.TcpSock.{TcpSock}
 use Rattle.host_sockets.specs.TcpSocket.{TcpSocket, is_free}
 use Rattle.host_sockets.specs.SocketsStand.{SocketStands, AllStand}
-use Rattle.host_sockets.specs.Indexing.{Knows}
+use Rattle.host_sockets.specs.inside.Indexing.{Knows}
 use Rattle.host_sockets.proofs.Endings.{read_there}
 
 differs_test : (n m : ℕ) → n ≢ m → (n == m) ≡ false

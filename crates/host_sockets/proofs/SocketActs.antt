@@ -6,11 +6,11 @@ use Rattle.sim_base.specs.Refusals.{◌>>=◌, or_refuse}
 use Rattle.sock_tcp.specs.declared.connection.carried.Carried.{Carried}
 use Rattle.sock_tcp.specs.connection.Carried.{carried_of, with_gone}
 use Rattle.sock_tcp.specs.connection.Tcb.{Tcb}
-use Rattle.host_sockets.specs.declared.error.Refusal.{Refusal}
-use Rattle.host_sockets.specs.declared.error.Refusal.TheVariants as refusal
+use Rattle.host_wants.specs.declared.error.Refusal.{Refusal}
+use Rattle.host_wants.specs.declared.error.Refusal.TheVariants as refusal
 use Rattle.host_sockets.specs.declared.sockets.Sockets.{Sockets}
 use Rattle.host_sockets.specs.declared.tcp_sock.TcpSock.{TcpSock}
-use Rattle.host_sockets.specs.Wanted.{Wanted}
+use Rattle.host_wants.specs.Wanted.{Wanted}
 use Rattle.host_sockets.specs.TcpSocket.{TcpSocket}
 use Rattle.host_sockets.specs.Sockets.{SocketsRecord, tcp_at, with_tcp, changes_at, changes_in}
 use Rattle.host_sockets.specs.declared.glance.Glance.{Glance}
@@ -25,7 +25,7 @@ pub stands_there : (c : Sockets) (t : SocketsRecord) (k : ℕ) (old : TcpSock) (
 stands_there c t k old s h is e = subst (λ (x : TcpSock). SocketStands x s) (sym is) (stands_at c.tcp.items t.tcp k s old h.tcp e)
 
 -- what stands for a record does so by its fields alone
-pub stand_same : (c c' : Sockets) (t : SocketsRecord) → c'.own ≡ c.own → c'.udp.items ≡ c.udp.items → c'.tcp.items ≡ c.tcp.items → c'.udp_risen.items ≡ c.udp_risen.items → c'.tcp_risen.items ≡ c.tcp_risen.items → c'.gone.items ≡ c.gone.items → Stand c t → Stand c' t
+pub stand_same : (c c' : Sockets) (t : SocketsRecord) → c'.own ≡ c.own → c'.udp.slots.items ≡ c.udp.slots.items → c'.tcp.items ≡ c.tcp.items → c'.udp_risen.items ≡ c.udp_risen.items → c'.tcp_risen.items ≡ c.tcp_risen.items → c'.gone.items ≡ c.gone.items → Stand c t → Stand c' t
 stand_same c c' t own udp tcp udp_risen tcp_risen gone h = record {
   own = own ∙ h.own;
   udp = udp ∙ h.udp;

@@ -19,15 +19,15 @@ use Rattle.sock_tcp.specs.connection.Process.{expires}
 use Rattle.sock_tcp.specs.listener.Dropped.{dropped}
 use Rattle.host_sockets.specs.Alarms.{kept_expires}
 use Rattle.host_sockets.specs.Arriving.{word_drawn, hears_in}
-use Rattle.host_sockets.specs.declared.error.Refusal.{Refusal}
-use Rattle.host_sockets.specs.declared.error.Refusal.TheVariants as refusal
+use Rattle.host_wants.specs.declared.error.Refusal.{Refusal}
+use Rattle.host_wants.specs.declared.error.Refusal.TheVariants as refusal
 use Rattle.host_sockets.specs.declared.reply.Accepted.{Accepted}
 use Rattle.host_sockets.specs.declared.sockets.Sockets.{Sockets}
 use Rattle.host_sockets.specs.declared.tcp_sock.KeptTimer.{KeptTimer}
 use Rattle.host_sockets.specs.declared.tcp_sock.TcpSock.{TcpSock}
 use Rattle.host_sockets.specs.declared.glance.Glance.{Glance}
 use Rattle.host_sockets.specs.Rises.{tcp_glance}
-use Rattle.host_sockets.specs.Wanted.{Wanted, sends, draws_word}
+use Rattle.host_wants.specs.Wanted.{Wanted, sends, draws_word}
 use Rattle.host_sockets.specs.TcpSocket.{TcpSocket}
 use Rattle.host_sockets.specs.Sockets.{SocketsRecord, changes_at, changes_in}
 use Rattle.host_sockets.specs.ListenerActs.{with_listen, with_timers, timers_kept, timer_starts, heard}
@@ -97,7 +97,7 @@ takes_at c c' t k old new before conn h b is takes seen ends =
     (takes_from c c' t k new before found.0 (accepts_in found.0.listen) conn h found.1.0 (takes found.0 found.1.1) (seen found.0 found.1.0) ends)
 
 -- where none waits nothing changes
-none_from : (c c' : Sockets) (t : SocketsRecord) (k : ℕ) (new : TcpSock) (s : TcpSocket) (a : Option (Tcb × Listen)) → Stand c t → slice_get t.tcp k ≡ Some s → TakesConn a s None new → c'.own ≡ c.own → c'.udp.items ≡ c.udp.items → c'.tcp.items ≡ set c.tcp.items k new → c'.udp_risen.items ≡ c.udp_risen.items → c'.tcp_risen.items ≡ c.tcp_risen.items → c'.gone.items ≡ c.gone.items → TakesAt a k t None c'
+none_from : (c c' : Sockets) (t : SocketsRecord) (k : ℕ) (new : TcpSock) (s : TcpSocket) (a : Option (Tcb × Listen)) → Stand c t → slice_get t.tcp k ≡ Some s → TakesConn a s None new → c'.own ≡ c.own → c'.udp.slots.items ≡ c.udp.slots.items → c'.tcp.items ≡ set c.tcp.items k new → c'.udp_risen.items ≡ c.udp_risen.items → c'.tcp_risen.items ≡ c.tcp_risen.items → c'.gone.items ≡ c.gone.items → TakesAt a k t None c'
 none_from c c' t k new s (Some (r, rest)) h at takes own udp tcp udp_risen tcp_risen gone = absurd takes
 none_from c c' t k new s None h at takes own udp tcp udp_risen tcp_risen gone = record {
   own = own ∙ h.own;
@@ -108,7 +108,7 @@ none_from c c' t k new s None h at takes own udp tcp udp_risen tcp_risen gone = 
   gone = gone ∙ h.gone;
 }
 
-pub none_at : (c c' : Sockets) (t : SocketsRecord) (k : ℕ) (old new : TcpSock) → Stand c t → k < length c.tcp.items → old ≡ get_or c.tcp.items k old → ((s : TcpSocket) → SocketStands old s → TakesConn (accepts_in s.listen) s None new) → c'.own ≡ c.own → c'.udp.items ≡ c.udp.items → c'.tcp.items ≡ set c.tcp.items k new → c'.udp_risen.items ≡ c.udp_risen.items → c'.tcp_risen.items ≡ c.tcp_risen.items → c'.gone.items ≡ c.gone.items → TakesAt (accepts_at k t) k t None c'
+pub none_at : (c c' : Sockets) (t : SocketsRecord) (k : ℕ) (old new : TcpSock) → Stand c t → k < length c.tcp.items → old ≡ get_or c.tcp.items k old → ((s : TcpSocket) → SocketStands old s → TakesConn (accepts_in s.listen) s None new) → c'.own ≡ c.own → c'.udp.slots.items ≡ c.udp.slots.items → c'.tcp.items ≡ set c.tcp.items k new → c'.udp_risen.items ≡ c.udp_risen.items → c'.tcp_risen.items ≡ c.tcp_risen.items → c'.gone.items ≡ c.gone.items → TakesAt (accepts_at k t) k t None c'
 none_at c c' t k old new h b is takes own udp tcp udp_risen tcp_risen gone =
     let found = socket_there c t k old h b is in
     subst (λ (o : Option TcpSocket). TakesAt (accepts_of o) k t None c') (sym found.1.0)

@@ -1,10 +1,10 @@
 -- a table of pairs, seen as what it tells
-use Rattle.std.proofs.Common.{◌≡◌, ℕ, zero, suc, ◌+◌, ◌<◌, List, [], ◌∷◌, ◌++◌, Bool, true, false, cond, Option, Some, None, is_some, map, refl, sym, ap, ◌∙◌, Ordering, Less, Equal, Greater}
+use Rattle.std.proofs.Common.{◌≡◌, List, [], ◌∷◌, Bool, true, false, cond, Option, Some, None, is_some, refl, ap, ◌∙◌, Ordering, Less, Equal, Greater}
 use Rattle.std.specs.BTreeMap.{insert_entry, is_at}
 use Rattle.std.specs.Cmp.{IsTotalOrder}
 use Rattle.std.specs.List.Sorted.{IsStrictlySortedBy}
 use Rattle.std.specs.Map.{keys_of, lookup}
-use Rattle.std.specs.Ordering.{is_eq, match_ordering, nat_cmp, on, then_cmp}
+use Rattle.std.specs.Ordering.{is_eq, match_ordering, on, then_cmp}
 use Rattle.std.proofs.lemmas.Cmp.{nat_cmp_total, on_total, then_total}
 use Rattle.std.proofs.lemmas.Map.{lookup-none}
 use Rattle.std.proofs.lemmas.Map.Entries.{none_below_head}
@@ -13,8 +13,8 @@ use Rattle.sim_base.specs.declared.address.Addr.{Addr}
 use Rattle.sock_tcp.specs.declared.connection.carried.Carried.{Carried}
 use Rattle.host_sockets.specs.declared.streams.HostStream.{HostStream}
 use Rattle.host_sockets.specs.declared.tables.Ends.{Ends}
-use Rattle.host_sockets.specs.Streams.{addr_order, stream_of, used_again, with_stream, with_carried}
-use Rattle.host_sockets.specs.Told.{told, all_told, unless}
+use Rattle.host_sockets.specs.Streams.{addr_order, stream_of, used_again, with_carried}
+use Rattle.host_sockets.specs.inside.Told.{told, all_told, unless}
 
 -- the order of ends
 abbrev pub ends_order : Ends → Ends → Ordering

@@ -2,7 +2,7 @@
 use Rattle.std.proofs.Common.{◌≡◌, ℕ, ◌<◌, List, [], ◌∷◌, ◌++◌, length, set, Bool, true, false, if◌then◌else◌, sym, subst}
 use Rattle.host_sockets.specs.declared.sockets.Sockets.{Sockets}
 use Rattle.host_sockets.specs.declared.tcp_sock.TcpSock.{TcpSock}
-use Rattle.host_sockets.specs.Indexing.{Indexes}
+use Rattle.host_sockets.specs.inside.Indexing.{Indexes}
 use Rattle.host_sockets.proofs.Indexed.{indexed_set, indexed_push}
 
 pub within_turned : (c c' : Sockets) (k : ℕ) → c'.tcp ≡ c.tcp → k < length c.tcp.items → k < length c'.tcp.items

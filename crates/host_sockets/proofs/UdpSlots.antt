@@ -6,10 +6,10 @@ use Rattle.sim_base.specs.declared.address.Addr.{Addr}
 use Rattle.sim_base.specs.declared.address.Ip.{Ip}
 use Rattle.sim_base.specs.declared.errno.Errno.TheVariants.{Ebadf}
 use Rattle.sock_udp.specs.Socket.{UdpState, arrive}
-use Rattle.host_sockets.specs.declared.error.CallError.{CallError}
-use Rattle.host_sockets.specs.declared.error.CallError.TheVariants as error
-use Rattle.host_sockets.specs.declared.error.Refusal.{Refusal}
-use Rattle.host_sockets.specs.declared.error.Refusal.TheVariants as refusal
+use Rattle.host_wants.specs.declared.error.CallError.{CallError}
+use Rattle.host_wants.specs.declared.error.CallError.TheVariants as error
+use Rattle.host_wants.specs.declared.error.Refusal.{Refusal}
+use Rattle.host_wants.specs.declared.error.Refusal.TheVariants as refusal
 use Rattle.host_sockets.specs.declared.sockets.Sockets.{Sockets}
 use Rattle.host_sockets.specs.declared.glance.Glance.{Glance}
 use Rattle.host_sockets.specs.Rises.{udp_glance, slot_glance, moved_at}
@@ -37,16 +37,16 @@ set_same [] k x e = refl
 set_same (y ∷ slots) zero x e = let same : y ≡ x = cc in ap (λ (z : Option UdpState). z ∷ slots) (sym same)
 set_same (y ∷ slots) (suc k) x e = ap (λ (zs : List (Option UdpState)). y ∷ zs) (set_same slots k x e)
 
-pub slot_at : (c : Sockets) (t : SocketsRecord) (k : ℕ) (slot : Option UdpState) → Stand c t → k < length c.udp.items → slot ≡ get_or c.udp.items k slot → slice_get t.udp k ≡ Some slot
+pub slot_at : (c : Sockets) (t : SocketsRecord) (k : ℕ) (slot : Option UdpState) → Stand c t → k < length c.udp.slots.items → slot ≡ get_or c.udp.slots.items k slot → slice_get t.udp k ≡ Some slot
 slot_at c t k slot h b is =
-    ap (λ (slots : List (Option UdpState)). slice_get slots k) (sym h.udp) ∙ (slot_there c.udp.items k slot b ∙ ap (λ (x : Option UdpState). Some x) (sym is))
+    ap (λ (slots : List (Option UdpState)). slice_get slots k) (sym h.udp) ∙ (slot_there c.udp.slots.items k slot b ∙ ap (λ (x : Option UdpState). Some x) (sym is))
 
-pub told_udp : {A : Type 0} (c : Sockets) (t : SocketsRecord) (k : ℕ) (slot : Option UdpState) (f : Option UdpState → A) → Stand c t → k < length c.udp.items → slot ≡ get_or c.udp.items k slot → f slot ≡ f (udp_in k t)
+pub told_udp : {A : Type 0} (c : Sockets) (t : SocketsRecord) (k : ℕ) (slot : Option UdpState) (f : Option UdpState → A) → Stand c t → k < length c.udp.slots.items → slot ≡ get_or c.udp.slots.items k slot → f slot ≡ f (udp_in k t)
 told_udp c t k slot f h b is = ap (λ (o : Option (Option UdpState)). f (socket_in o)) (sym (slot_at c t k slot h b is))
 
-pub told_no_udp : {A : Type 0} (c : Sockets) (t : SocketsRecord) (k : ℕ) (f : Option UdpState → A) → Stand c t → length c.udp.items ≤ k → f None ≡ f (udp_in k t)
+pub told_no_udp : {A : Type 0} (c : Sockets) (t : SocketsRecord) (k : ℕ) (f : Option UdpState → A) → Stand c t → length c.udp.slots.items ≤ k → f None ≡ f (udp_in k t)
 told_no_udp c t k f h b =
-    ap (λ (o : Option (Option UdpState)). f (socket_in o)) (sym (ap (λ (slots : List (Option UdpState)). slice_get slots k) (sym h.udp) ∙ slot_past c.udp.items k b))
+    ap (λ (o : Option (Option UdpState)). f (socket_in o)) (sym (ap (λ (slots : List (Option UdpState)). slice_get slots k) (sym h.udp) ∙ slot_past c.udp.slots.items k b))
 
 -- another socket stands at the place, and its rises have moved on
 stand_udp : (c c' : Sockets) (t : SocketsRecord) (k : ℕ) (before : Glance) (old new : UdpState) → Stand c t → before ≡ udp_glance old → UdpActEnds c c' k before (Some new) → Stand c' (with_udp k old new t)
@@ -83,13 +83,13 @@ does act c c' t k before (Some u) new (Ok a) h at seen d ends =
 does act c c' t k before (Some u) new (Err (error.Refused why)) h at seen d ends = (rw d.0 refl, stand_same_udp c c' t k before (Some u) new h at d.1 seen ends)
 does act c c' t k before (Some u) new (Err error.NoMemory) h at seen d ends = tt
 
-pub becomes_udp : {A : Type 0} (act : UdpState → Result (A × UdpState) Refusal) (c c' : Sockets) (t : SocketsRecord) (k : ℕ) (before : Glance) (old new : Option UdpState) (result : Result A CallError) → Stand c t → k < length c.udp.items → old ≡ get_or c.udp.items k old → before ≡ slot_glance old → SlotDoes act old new result → UdpActEnds c c' k before new → Becomes (udp_acts act k t) t c' result
+pub becomes_udp : {A : Type 0} (act : UdpState → Result (A × UdpState) Refusal) (c c' : Sockets) (t : SocketsRecord) (k : ℕ) (before : Glance) (old new : Option UdpState) (result : Result A CallError) → Stand c t → k < length c.udp.slots.items → old ≡ get_or c.udp.slots.items k old → before ≡ slot_glance old → SlotDoes act old new result → UdpActEnds c c' k before new → Becomes (udp_acts act k t) t c' result
 becomes_udp act c c' t k before old new result h b is seen d ends =
     let at = slot_at c t k old h b is in
     subst (λ (o : Option (Option UdpState)). Becomes (acted_udp act k (socket_in o) t) t c' result) (sym at) (does act c c' t k before old new result h at seen d ends)
 
 -- a datagram that arrives
-pub arrived_udp : (c c' : Sockets) (t : SocketsRecord) (k : ℕ) (before : Glance) (from : Addr) (bytes : List ℕ) (old new : Option UdpState) (act : Act) → Stand c t → k < length c.udp.items → old ≡ get_or c.udp.items k old → before ≡ slot_glance old → (act, new) ≡ slot_arrives from bytes old → UdpActEnds c c' k before new → (act ≡ (datagram_in from bytes k (udp_in k t) t).0) × Stand c' (datagram_in from bytes k (udp_in k t) t).1
+pub arrived_udp : (c c' : Sockets) (t : SocketsRecord) (k : ℕ) (before : Glance) (from : Addr) (bytes : List ℕ) (old new : Option UdpState) (act : Act) → Stand c t → k < length c.udp.slots.items → old ≡ get_or c.udp.slots.items k old → before ≡ slot_glance old → (act, new) ≡ slot_arrives from bytes old → UdpActEnds c c' k before new → (act ≡ (datagram_in from bytes k (udp_in k t) t).0) × Stand c' (datagram_in from bytes k (udp_in k t) t).1
 arrived_udp c c' t k before from bytes old new act h b is seen e ends =
     let at = slot_at c t k old h b is in
     subst (λ (o : Option (Option UdpState)). (act ≡ (datagram_in from bytes k (socket_in o) t).0) × Stand c' (datagram_in from bytes k (socket_in o) t).1) (sym at) (by_slot old at seen e)
@@ -101,7 +101,7 @@ arrived_udp c c' t k before from bytes old new act h b is seen e ends =
       stand_udp c c' t k before u (arrive from bytes u).1 h seen (subst (UdpActEnds c c' k before) (ap (λ (x : Act × Option UdpState). x.1) e) ends),
     )
 
-pub refused_udp : {A : Type 0} (act : UdpState → Result (A × UdpState) Refusal) (c : Sockets) (t : SocketsRecord) (k : ℕ) → Stand c t → length c.udp.items ≤ k → Becomes {A = A} (udp_acts act k t) t c (Err (error.Refused (refusal.Errno Ebadf)))
+pub refused_udp : {A : Type 0} (act : UdpState → Result (A × UdpState) Refusal) (c : Sockets) (t : SocketsRecord) (k : ℕ) → Stand c t → length c.udp.slots.items ≤ k → Becomes {A = A} (udp_acts act k t) t c (Err (error.Refused (refusal.Errno Ebadf)))
 refused_udp act c t k h b = (sym (told_no_udp c t k (λ o. acted_udp act k o t) h b), h)
 
 -- what the code gives a socket as its surroundings

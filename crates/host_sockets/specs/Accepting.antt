@@ -6,12 +6,12 @@ use Rattle.sock_tcp.specs.declared.connection.conn.Conn.{Conn}
 use Rattle.sock_tcp.specs.connection.StandsFor.{StandsFor}
 use Rattle.sock_tcp.specs.connection.Tcb.{Tcb}
 use Rattle.sock_tcp.specs.listener.Listen.{Listen, accepts}
-use Rattle.host_sockets.specs.declared.error.Refusal.{Refusal}
-use Rattle.host_sockets.specs.declared.error.Refusal.TheVariants as refusal
+use Rattle.host_wants.specs.declared.error.Refusal.{Refusal}
+use Rattle.host_wants.specs.declared.error.Refusal.TheVariants as refusal
 use Rattle.host_sockets.specs.declared.reply.Accepted.{Accepted}
 use Rattle.host_sockets.specs.declared.sockets.Sockets.{Sockets}
 use Rattle.host_sockets.specs.declared.tcp_sock.TcpSock.{TcpSock}
-use Rattle.host_sockets.specs.Refusals.{waits_if}
+use Rattle.host_wants.specs.Refusals.{waits_if}
 use Rattle.host_sockets.specs.TcpSocket.{TcpSocket, fresh, with_tcb}
 use Rattle.host_sockets.specs.ListenerActs.{with_listen, with_timers, timers_kept}
 use Rattle.host_sockets.specs.Sockets.{SocketsRecord, tcp_at, changes_at, tcp_place, put_tcp}

@@ -1,5 +1,5 @@
 -- the arrival of a packet at a host's sockets (RFC 768; RFC 9293, section 3.10.7)
-use Rattle.std.specs.Prelude.{ℕ, Bool, false, List, [], ◌∷◌, slice_get, position, Option, Some, None, if◌then◌else◌}
+use Rattle.std.specs.Prelude.{ℕ, Bool, false, List, [], ◌∷◌, position, Option, Some, None, if◌then◌else◌}
 use Rattle.sim_base.specs.declared.act.Act.{Act}
 use Rattle.sim_base.specs.declared.act.Act.TheVariants.{Recv, SockFull, NoPort}
 use Rattle.sim_base.specs.declared.address.Addr.{Addr}
@@ -12,7 +12,7 @@ use Rattle.sock_tcp.specs.segment.Refusal.{refusal_of}
 use Rattle.sock_tcp.specs.connection.Begin.{begin}
 use Rattle.sock_tcp.specs.connection.Arrival.{takes_packet}
 use Rattle.sock_tcp.specs.listener.Listen.{Listen, hears, takes_word, asks_in, load_header}
-use Rattle.host_sockets.specs.Wanted.{Wanted, sends, draws_word}
+use Rattle.host_wants.specs.Wanted.{Wanted, sends, draws_word}
 use Rattle.host_sockets.specs.TcpSocket.{TcpSocket, has_record, keeps_record, listens_to}
 use Rattle.host_sockets.specs.Sockets.{SocketsRecord}
 use Rattle.host_sockets.specs.TcpActs.{Acted, unacted, record_acts, acts_at}

@@ -7,8 +7,8 @@ use Rattle.sim_base.specs.Addresses.{any, is_local, is_taken, with_port, at_free
 use Rattle.sim_base.specs.Refusals.{◌>>=◌, ◌>>◌, refuse_if, or_refuse}
 use Rattle.sock_udp.specs.Socket.{or_else}
 use Rattle.sock_tcp.specs.listener.Listen.{Listen, queue_limit, fresh_listen}
-use Rattle.host_sockets.specs.declared.error.Refusal.{Refusal}
-use Rattle.host_sockets.specs.declared.error.Refusal.TheVariants.{Errno}
+use Rattle.host_wants.specs.declared.error.Refusal.{Refusal}
+use Rattle.host_wants.specs.declared.error.Refusal.TheVariants.{Errno}
 use Rattle.host_sockets.specs.TcpSocket.{TcpSocket, with_bound}
 use Rattle.host_sockets.specs.Sockets.{SocketsRecord, tcp_at, changes_at, bound_ends, tcp_ends}
 

@@ -4,7 +4,7 @@ use Rattle.sim_base.specs.declared.time.Time.{Time}
 use Rattle.sock_tcp.specs.connection.Begin.{begin}
 use Rattle.sock_tcp.specs.connection.Process.{closes}
 use Rattle.sock_tcp.specs.listener.Listen.{Listen, hears_close}
-use Rattle.host_sockets.specs.Wanted.{Wanted, sends}
+use Rattle.host_wants.specs.Wanted.{Wanted, sends}
 use Rattle.host_sockets.specs.TcpSocket.{TcpSocket, fresh}
 use Rattle.host_sockets.specs.Sockets.{SocketsRecord}
 use Rattle.host_sockets.specs.TcpActs.{Acted, record_acts, acts_at}

@@ -11,12 +11,12 @@ use Rattle.sock_tcp.specs.segment.State.{is_syn_sent}
 use Rattle.sock_tcp.specs.connection.Begin.{begin}
 use Rattle.sock_tcp.specs.connection.Tcb.{Tcb, changed}
 use Rattle.sock_tcp.specs.connection.Process.{opened, error_taken}
-use Rattle.host_sockets.specs.declared.error.Refusal.{Refusal}
-use Rattle.host_sockets.specs.declared.error.Refusal.TheVariants as refusal
+use Rattle.host_wants.specs.declared.error.Refusal.{Refusal}
+use Rattle.host_wants.specs.declared.error.Refusal.TheVariants as refusal
 use Rattle.host_sockets.specs.declared.reply.Reply.{Reply}
 use Rattle.host_sockets.specs.declared.reply.Reply.TheVariants.{Done, Failed}
-use Rattle.host_sockets.specs.Refusals.{stop_kept, waits_if}
-use Rattle.host_sockets.specs.Wanted.{Wanted, draws_word}
+use Rattle.host_wants.specs.Refusals.{stop_kept, waits_if}
+use Rattle.host_wants.specs.Wanted.{Wanted, draws_word}
 use Rattle.host_sockets.specs.TcpSocket.{TcpSocket}
 use Rattle.host_sockets.specs.Sockets.{SocketsRecord, tcp_at, has_pair}
 use Rattle.host_sockets.specs.TcpActs.{Acted, turned, record_acts, acts_at}

@@ -1,9 +1,6 @@
-pub mod Wanted
-pub mod Refusals
 pub mod TcpSocket
 pub mod Rises
 pub mod Sockets
-pub mod Lookup
 pub mod TcpActs
 pub mod ListenerActs
 pub mod Binding
@@ -17,10 +14,7 @@ pub mod Alarms
 pub mod Ready
 pub mod Names
 pub mod SocketsStand
-pub mod Ends
 pub mod StandsFor
-pub mod Indexing
 pub mod Records
 pub mod Streams
-pub mod Told
-pub mod Given
+pub mod inside

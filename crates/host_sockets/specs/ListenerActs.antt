@@ -7,7 +7,7 @@ use Rattle.sock_tcp.specs.connection.Tcb.{Tcb}
 use Rattle.sock_tcp.specs.listener.Listen.{Listen, Heard, is_kept}
 pub use Rattle.sock_tcp.specs.listener.Dropped.{dropped_by, dropped}
 use Rattle.host_sockets.specs.declared.tcp_sock.KeptTimer.{KeptTimer}
-use Rattle.host_sockets.specs.Wanted.{Wanted, sends, wants_alarm, due_after}
+use Rattle.host_wants.specs.Wanted.{Wanted, sends, wants_alarm, due_after}
 use Rattle.host_sockets.specs.TcpSocket.{TcpSocket}
 use Rattle.host_sockets.specs.TcpActs.{Acted, object_of}
 

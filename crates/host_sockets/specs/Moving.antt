@@ -11,12 +11,12 @@ use Rattle.sock_tcp.specs.segment.Control.{takes_bytes}
 use Rattle.sock_tcp.specs.connection.Begin.{begin}
 use Rattle.sock_tcp.specs.connection.Tcb.{Tcb, unread, changed}
 use Rattle.sock_tcp.specs.connection.Process.{room, bytes_taken, writes, bytes_read, reads, flows, shuts}
-use Rattle.host_sockets.specs.declared.error.Refusal.{Refusal}
-use Rattle.host_sockets.specs.declared.error.Refusal.TheVariants as refusal
+use Rattle.host_wants.specs.declared.error.Refusal.{Refusal}
+use Rattle.host_wants.specs.declared.error.Refusal.TheVariants as refusal
 use Rattle.host_sockets.specs.declared.reply.Reply.{Reply}
 use Rattle.host_sockets.specs.declared.reply.Reply.TheVariants.{Done, Failed}
-use Rattle.host_sockets.specs.Refusals.{stop_kept, waits_if, broken_pipe}
-use Rattle.host_sockets.specs.Wanted.{Wanted}
+use Rattle.host_wants.specs.Refusals.{stop_kept, waits_if, broken_pipe}
+use Rattle.host_wants.specs.Wanted.{Wanted}
 use Rattle.host_sockets.specs.TcpSocket.{TcpSocket, connected, kept_error}
 use Rattle.host_sockets.specs.Sockets.{SocketsRecord, tcp_at, tcb_at}
 use Rattle.host_sockets.specs.TcpActs.{Acted, record_acts, acts_at}

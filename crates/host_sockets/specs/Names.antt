@@ -8,9 +8,9 @@ use Rattle.sim_base.specs.Addresses.{any, at_port}
 use Rattle.sim_base.specs.Refusals.{◌>>=◌, or_refuse}
 use Rattle.sock_tcp.specs.connection.Tcb.{Tcb}
 use Rattle.sock_udp.specs.Socket.{UdpState}
-use Rattle.host_sockets.specs.declared.error.Refusal.{Refusal}
-use Rattle.host_sockets.specs.declared.error.Refusal.TheVariants as refusal
-use Rattle.host_sockets.specs.Wanted.{Wanted}
+use Rattle.host_wants.specs.declared.error.Refusal.{Refusal}
+use Rattle.host_wants.specs.declared.error.Refusal.TheVariants as refusal
+use Rattle.host_wants.specs.Wanted.{Wanted}
 use Rattle.host_sockets.specs.TcpSocket.{kept_error}
 use Rattle.host_sockets.specs.Sockets.{SocketsRecord, tcp_at}
 use Rattle.host_sockets.specs.TcpActs.{acts_at}

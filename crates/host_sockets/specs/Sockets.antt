@@ -9,8 +9,8 @@ use Rattle.host_fds.specs.declared.rises.Rises.{Rises}
 use Rattle.host_fds.specs.Rises.{no_rises}
 use Rattle.sock_tcp.specs.connection.Tcb.{Tcb}
 use Rattle.sock_udp.specs.Socket.{UdpState}
-use Rattle.host_sockets.specs.declared.error.Refusal.{Refusal}
-use Rattle.host_sockets.specs.declared.error.Refusal.TheVariants as refusal
+use Rattle.host_wants.specs.declared.error.Refusal.{Refusal}
+use Rattle.host_wants.specs.declared.error.Refusal.TheVariants as refusal
 use Rattle.host_sockets.specs.TcpSocket.{TcpSocket, fresh, is_free, bound_end, ends_of, has_record, keeps_record}
 use Rattle.host_sockets.specs.Rises.{tcp_glance, moved_at}
 

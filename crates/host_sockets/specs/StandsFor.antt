@@ -3,19 +3,19 @@ use Rattle.std.specs.Prelude.{◌≡◌, List, map, Result, Ok, Err}
 use Rattle.sim_base.specs.declared.act.Act.{Act}
 use Rattle.sock_tcp.specs.declared.connection.carried.Carried.{Carried}
 use Rattle.sock_tcp.specs.connection.Carried.{carried_of, with_gone}
-use Rattle.host_sockets.specs.declared.error.CallError.{CallError}
-use Rattle.host_sockets.specs.declared.error.CallError.TheVariants as error
-use Rattle.host_sockets.specs.declared.error.Refusal.{Refusal}
+use Rattle.host_wants.specs.declared.error.CallError.{CallError}
+use Rattle.host_wants.specs.declared.error.CallError.TheVariants as error
+use Rattle.host_wants.specs.declared.error.Refusal.{Refusal}
 use Rattle.host_sockets.specs.declared.sockets.Sockets.{Sockets}
 use Rattle.host_sockets.specs.declared.tcp_sock.TcpSock.{TcpSock}
 pub use Rattle.host_sockets.specs.SocketsStand.{ConnStands, ListenerStands, SocketStands, AllStand}
-use Rattle.host_sockets.specs.Wanted.{Wanted}
+use Rattle.host_wants.specs.Wanted.{Wanted}
 use Rattle.host_sockets.specs.Sockets.{SocketsRecord}
 use Rattle.host_sockets.specs.TcpActs.{Acted}
 
 pub record Stand (c : Sockets) (t : SocketsRecord) : Type 0 where
   pub own : c.own ≡ t.own
-  pub udp : c.udp.items ≡ t.udp
+  pub udp : c.udp.slots.items ≡ t.udp
   pub tcp : AllStand c.tcp.items t.tcp
   pub udp_risen : c.udp_risen.items ≡ t.udp_risen
   pub tcp_risen : c.tcp_risen.items ≡ t.tcp_risen

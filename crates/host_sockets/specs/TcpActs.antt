@@ -5,7 +5,7 @@ use Rattle.sim_base.specs.declared.time.Time.{Time}
 use Rattle.sock_tcp.specs.segment.State.{is_over}
 use Rattle.sock_tcp.specs.connection.Tcb.{Tcb, Turn}
 use Rattle.sock_tcp.specs.connection.Timer.{timer_of}
-use Rattle.host_sockets.specs.Wanted.{Wanted, sends, wants_alarm, due_after}
+use Rattle.host_wants.specs.Wanted.{Wanted, sends, wants_alarm, due_after}
 use Rattle.host_sockets.specs.TcpSocket.{TcpSocket, fresh, with_tcb}
 use Rattle.host_sockets.specs.Sockets.{SocketsRecord, with_tcp}
 

@@ -11,11 +11,11 @@ use Rattle.sim_base.specs.Refusals.{◌>>=◌, ◌>>◌, refuse_if, or_refuse}
 use Rattle.host_fds.specs.Rises.{no_rises}
 use Rattle.sock_udp.specs.declared.datagram.Datagram.{Datagram}
 use Rattle.sock_udp.specs.Socket.{UdpState, new_socket, bind, connect, send}
-use Rattle.host_sockets.specs.declared.error.CallError.{CallError}
-use Rattle.host_sockets.specs.declared.error.CallError.TheVariants as error
-use Rattle.host_sockets.specs.declared.error.Refusal.{Refusal}
-use Rattle.host_sockets.specs.declared.error.Refusal.TheVariants as refusal
-use Rattle.host_sockets.specs.Refusals.{by_errno, waits_if}
+use Rattle.host_wants.specs.declared.error.CallError.{CallError}
+use Rattle.host_wants.specs.declared.error.CallError.TheVariants as error
+use Rattle.host_wants.specs.declared.error.Refusal.{Refusal}
+use Rattle.host_wants.specs.declared.error.Refusal.TheVariants as refusal
+use Rattle.host_wants.specs.Refusals.{by_errno, waits_if}
 use Rattle.host_sockets.specs.TcpSocket.{bound_end}
 use Rattle.host_sockets.specs.Rises.{udp_glance, moved_at}
 use Rattle.host_sockets.specs.Sockets.{SocketsRecord, put_at}
@@ -124,6 +124,10 @@ udp_bound k t = is_some (local_in (udp_in k t))
 
 abbrev pub IsEnoughFor : ℕ → SocketsRecord → List Addr → Type 0
 IsEnoughFor k t ends = udp_bound k t ≡ false → ends ≡ udp_ends t
+
+-- to bind a socket at one end among some ends is to bind it at what it asks for among all
+abbrev pub BindsAlike : Addr → List Addr → Addr → SocketsRecord → Type 0
+BindsAlike end ends at t = (hosts : List Ip) (u : UdpState) → bind (record (udp_around hosts t) { bound = ends }) end u ≡ bind (udp_around hosts t) at u
 
 -- what the code does in a socket's place
 abbrev pub SlotDoes : {A : Type 0} → (UdpState → Result (A × UdpState) Refusal) → Option UdpState → Option UdpState → Result A CallError → Type 0

@@ -1,9 +1,9 @@
 //! Accepting connections.
 
-use crate::error::{CallError, Refusal};
 use crate::reply::Accepted;
 use crate::sockets::Sockets;
 use crate::tcp_sock::TcpSock;
+use host_wants::{CallError, Refusal};
 use sim_base::{Errno, NoMemory};
 use sock_tcp::Conn;
 use std::alloc::Global;
@@ -12,7 +12,7 @@ impl TcpSock {
     ghost use Rattle.std.specs.Prelude.{◌≡◌, is_none};
     ghost use Rattle.sim_base.specs.declared.errno.Errno.TheVariants.{Einval};
     ghost use Rattle.sim_base.specs.Refusals.{refuse_if};
-    ghost use Rattle.host_sockets.specs.declared.error.Refusal.TheVariants as refusal;
+    ghost use Rattle.host_wants.specs.declared.error.Refusal.TheVariants as refusal;
     ghost use Rattle.sock_tcp.specs.connection.StandsFor.{StandsFor};
     ghost use Rattle.sock_tcp.specs.connection.Tcb.{Tcb};
     ghost use Rattle.host_sockets.specs.TcpSocket.{TcpSocket};

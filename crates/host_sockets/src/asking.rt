@@ -3,12 +3,12 @@
 ghost use Rattle.std.specs.Prelude.{◌≡◌, Some};
 ghost use Rattle.sock_tcp.specs.connection.StandsFor.{StandsFor};
 ghost use Rattle.sock_tcp.specs.connection.Tcb.{Tcb};
-ghost use Rattle.host_sockets.specs.Refusals.{broken_pipe};
+ghost use Rattle.host_wants.specs.Refusals.{broken_pipe};
 ghost use Rattle.host_sockets.specs.Connecting.{refuse_connected, connect_ends, reach_from};
 ghost use Rattle.host_sockets.specs.Moving.{may_write, would_read, may_recv};
 
-use crate::error::Refusal;
 use crate::tcp_sock::TcpSock;
+use host_wants::Refusal;
 use sim_base::{Addr, Book, Errno, Ip, Signal, State, stays_inside};
 use sock_tcp::{Conn, Control};
 
@@ -116,7 +116,7 @@ impl TcpSock {
     ghost use Rattle.std.specs.Prelude.{◌≡◌, is_none, is_some};
     ghost use Rattle.sim_base.specs.declared.errno.Errno.TheVariants.{Enotconn, Eopnotsupp};
     ghost use Rattle.sim_base.specs.Refusals.{refuse_if};
-    ghost use Rattle.host_sockets.specs.declared.error.Refusal.TheVariants as refusal;
+    ghost use Rattle.host_wants.specs.declared.error.Refusal.TheVariants as refusal;
     ghost use Rattle.host_sockets.specs.TcpSocket.{TcpSocket, connected, kept_error};
     ghost use Rattle.host_sockets.specs.Connecting.{connect_begins, connect_ends};
     ghost use Rattle.host_sockets.specs.Moving.{reach_given, may_send, may_recv};

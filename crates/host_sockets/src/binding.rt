@@ -1,9 +1,9 @@
 //! Calls that bind TCP sockets, and make them listen.
 
-use crate::error::{CallError, Refusal};
 use crate::index::NO_PLACE;
 use crate::sockets::Sockets;
 use crate::tcp_sock::TcpSock;
+use host_wants::{CallError, Refusal};
 use sim_base::{Addr, Errno, Ip};
 use sock_tcp::Listener;
 use std::alloc::Global;
@@ -12,7 +12,7 @@ impl TcpSock {
     ghost use Rattle.std.specs.Prelude.{◌≡◌, ℤ, is_some};
     ghost use Rattle.sim_base.specs.declared.errno.Errno.TheVariants.{Einval};
     ghost use Rattle.sim_base.specs.Refusals.{refuse_if};
-    ghost use Rattle.host_sockets.specs.declared.error.Refusal.TheVariants as refusal;
+    ghost use Rattle.host_wants.specs.declared.error.Refusal.TheVariants as refusal;
     ghost use Rattle.host_sockets.specs.TcpSocket.{TcpSocket, with_bound};
     ghost use Rattle.host_sockets.specs.Binding.{bind_begins, listening};
     ghost use Rattle.host_sockets.specs.StandsFor.{SocketStands};

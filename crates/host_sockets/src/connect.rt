@@ -1,10 +1,9 @@
 //! Calls that connect TCP sockets, and errors of connections.
 
-use crate::error::{CallError, Refusal};
 use crate::index::NO_PLACE;
-use crate::outlet::Outlet;
 use crate::reply::Reply;
 use crate::sockets::Sockets;
+use host_wants::{CallError, Outlet, Refusal};
 use sim_base::{Addr, Book, Errno, NoMemory, Time, source_ip};
 
 impl Sockets {

@@ -3,10 +3,10 @@
 ghost use Rattle.std.specs.Prelude.{◌≡◌};
 ghost use Rattle.sock_tcp.specs.listener.Listen.{asks_in, load_header};
 
-use crate::outlet::Outlet;
 use crate::slots::Sought;
 use crate::sockets::Sockets;
 use crate::turned::place_of;
+use host_wants::Outlet;
 use sim_base::{Act, Load, NoMemory, ObjectId, Packet, Time};
 use sock_tcp::{Header, refusal};
 
@@ -33,7 +33,7 @@ impl Sockets {
     ghost use Rattle.std.specs.Prelude.{◌≡◌, ◌<◌, length, position, IfOk, IfSome, OnOk};
     ghost use Rattle.host_sockets.specs.TcpSocket.{TcpSocket};
     ghost use Rattle.host_sockets.specs.Sockets.{SocketsRecord};
-    ghost use Rattle.host_sockets.specs.Lookup.{is_sought};
+    ghost use Rattle.host_sockets.specs.inside.Lookup.{is_sought};
     ghost use Rattle.host_sockets.specs.TcpActs.{acts_at};
     ghost use Rattle.host_sockets.specs.Arriving.{asked_listener, hearer, record_takes, listener_hears, heard_at, segment_arrives, arrives};
     ghost use Rattle.host_sockets.specs.Alarms.{alarm_comes};

@@ -3,7 +3,7 @@
 ghost use Rattle.std.specs.Prelude.{◌≡◌, ◌≢◌, ℕ, ◌+◌, ◌-◌, ◌^◌, ◌<◌, ◌≤◌, true, length, max, slice_index_or};
 ghost use Rattle.std.specs.List.{sum_by};
 ghost use Rattle.number_sets.specs.Bags.{Holds};
-ghost use Rattle.host_sockets.specs.Given.{given_end, once, times, no_ports};
+ghost use Rattle.host_sockets.specs.inside.Given.{given_end, once, times, no_ports};
 
 use crate::tcp_sock::TcpSock;
 use number_sets::NumberBag;
@@ -57,7 +57,7 @@ impl TcpSock {
     ghost use Rattle.std.specs.Prelude.{◌≡◌};
     ghost use Rattle.host_sockets.specs.TcpSocket.{TcpSocket};
     ghost use Rattle.host_sockets.specs.SocketsStand.{SocketStands};
-    ghost use Rattle.host_sockets.specs.Given.{own_end, had_of};
+    ghost use Rattle.host_sockets.specs.inside.Given.{own_end, had_of};
 
     /// The own end of its connection, if it has one.
     fn own_end(&self) -> Option<Addr>
@@ -163,8 +163,8 @@ impl Given {
     ghost use Rattle.sim_base.specs.Addresses.{least_free_port};
     ghost use Rattle.host_sockets.specs.TcpSocket.{TcpSocket, ends_of};
     ghost use Rattle.host_sockets.specs.SocketsStand.{AllStand};
-    ghost use Rattle.host_sockets.specs.Given.{no_ports};
-    ghost use Rattle.host_sockets.specs.Indexing.{CountsOthers, CountsAll};
+    ghost use Rattle.host_sockets.specs.inside.Given.{no_ports};
+    ghost use Rattle.host_sockets.specs.inside.Indexing.{CountsOthers, CountsAll};
 
     /// No socket has a port.
     pub(crate) fn new(alloc: Global) -> Given

@@ -1,14 +1,21 @@
 //! What an act on a connection that a listener keeps brings about.
 
-ghost use Rattle.std.specs.Prelude.{◌≡◌, OnOk};
+ghost use Rattle.std.specs.Prelude.{◌≡◌, IfOk, OnOk};
+ghost use Rattle.sock_tcp.specs.connection.Arrival.{takes_packet};
+ghost use Rattle.sock_tcp.specs.connection.Carried.{with_gone};
+ghost use Rattle.sock_tcp.specs.listener.Dropped.{dropped};
+ghost use Rattle.sock_tcp.specs.listener.Listen.{Listen, hears};
+ghost use Rattle.sock_tcp.specs.listener.ListensFor.{ListensFor, Hears};
+ghost use Rattle.host_wants.specs.Wanted.{draws_word};
 ghost use Rattle.host_sockets.specs.ListenerActs.{is_timer_of, without_timer, with_timer};
 ghost use Rattle.host_sockets.specs.Alarms.{kept_timer};
+ghost use Rattle.host_sockets.specs.Arriving.{word_drawn};
 
-use crate::outlet::Outlet;
 use crate::tcp_sock::{KeptTimer, TcpSock};
 use crate::turned::start;
+use host_wants::Outlet;
 use sim_base::{Addr, NoMemory, Packet, Time};
-use sock_tcp::{Carried, Conn, Effects};
+use sock_tcp::{Carried, Conn, Effects, Listener};
 
 fn is_timer_of(timer: KeptTimer, own: Addr, other: Addr) -> bool
     ensures { result ≡ is_timer_of own other timer }
@@ -42,6 +49,22 @@ fn kept_timer(timers: &[KeptTimer], serial: u64) -> Option<KeptTimer>
     ensures { result ≡ kept_timer serial timers.now }
 {
     timers.iter().copied().find(|timer| timer.serial == serial)
+}
+
+/// A listener takes a segment, and draws the first number of a connection that it makes. What a
+/// connection carried that it lets go is kept.
+fn hear(
+    outlet: &mut Outlet,
+    listener: &mut Listener,
+    packet: &Packet,
+    gone: &mut Vec<Carried>,
+) -> Result<Effects, NoMemory>
+    ensures hears { IfOk result (Hears (hears packet.now (draws_word outlet.old).0) listener.old listener.new) }
+    ensures wanted { OnOk result ((l : Listen) → ListensFor listener.old l → outlet.new ≡ word_drawn packet.now l outlet.old) }
+    ensures gone { OnOk result ((l : Listen) → ListensFor listener.old l → gone.new.items ≡ with_gone (dropped (takes_packet packet.now) packet.now.to packet.now.from l) gone.old.items) }
+{
+    let effects = listener.arrive(packet, outlet.draws(), gone)?;
+    Ok(effects)
 }
 
 impl TcpSock {
@@ -129,7 +152,7 @@ impl TcpSock {
             → Brings self.new outlet.new gone.old.items gone.new.items (listener_hears now packet.now place s outlet.old)) }
     {
         if let Some(listener) = &mut self.listener {
-            let effects = outlet.hear(listener, packet, gone)?;
+            let effects = hear(outlet, listener, packet, gone)?;
             self.bring_heard(outlet, now, place, packet.to, packet.from, effects)?;
             return Ok(());
         }

@@ -4,7 +4,7 @@ ghost use Rattle.std.specs.Prelude.{◌≡◌, ℕ, Some};
 ghost use Rattle.host_sockets.specs.declared.given.Given.{Given};
 ghost use Rattle.host_sockets.specs.declared.room.Room.{Room};
 ghost use Rattle.host_sockets.specs.declared.tables.Tables.{Tables};
-ghost use Rattle.host_sockets.specs.Indexing.{FindsOthers, FindsAll, KnowsOthers, KnowsAll, CountsOthers, CountsAll};
+ghost use Rattle.host_sockets.specs.inside.Indexing.{FindsOthers, FindsAll, KnowsOthers, KnowsAll, CountsOthers, CountsAll};
 
 use crate::given::Given;
 use crate::room::{Room, free_place_in};
@@ -88,8 +88,8 @@ impl Index {
     ghost use Rattle.sim_base.specs.Addresses.{least_free_port};
     ghost use Rattle.host_sockets.specs.TcpSocket.{TcpSocket, is_free, ends_of};
     ghost use Rattle.host_sockets.specs.SocketsStand.{AllStand};
-    ghost use Rattle.host_sockets.specs.Lookup.{is_sought};
-    ghost use Rattle.host_sockets.specs.Indexing.{Indexes};
+    ghost use Rattle.host_sockets.specs.inside.Lookup.{is_sought};
+    ghost use Rattle.host_sockets.specs.inside.Indexing.{Indexes};
 
     /// An index of no sockets.
     pub(crate) fn new(alloc: Global) -> Index

@@ -1,9 +1,8 @@
 //! Calls that move bytes over connections, and end and close them.
 
-use crate::error::{CallError, Refusal};
-use crate::outlet::Outlet;
 use crate::reply::Reply;
 use crate::sockets::Sockets;
+use host_wants::{CallError, Outlet, Refusal};
 use sim_base::{Addr, Book, Bytes, Errno, NoMemory, Time};
 use sock_tcp::Shut;
 

@@ -1,8 +1,8 @@
 //! The ends of sockets.
 
-use crate::error::Refusal;
 use crate::sockets::Sockets;
 use crate::tcp_sock::TcpSock;
+use host_wants::Refusal;
 use sim_base::{Addr, Errno, Ip};
 
 /// The end of an unbound socket.

@@ -3,10 +3,10 @@
 ghost use Rattle.std.specs.Prelude.{◌≡◌, option_map};
 ghost use Rattle.sim_base.specs.Addresses.{at_port};
 
-use crate::error::{CallError, Refusal};
 use crate::slots::Sought;
 use crate::sockets::Sockets;
 use crate::tcp_sock::TcpSock;
+use host_wants::{CallError, Refusal};
 use sim_base::{Addr, Errno, Ip, NoMemory, at_free_port, is_taken};
 
 /// An address at a port, if there is one.

@@ -97,16 +97,16 @@ impl Sockets {
 
     /// An act on the UDP socket with a number ends: its rises move on.
     pub(crate) fn end_udp_act(&mut self, k: usize, before: Glance)
-        requires { k < length self.old.udp.items }
+        requires { k < length self.old.udp.slots.items }
         ensures own { self.new.own ≡ self.old.own }
         ensures udp { self.new.udp ≡ self.old.udp }
         ensures tcp { self.new.tcp ≡ self.old.tcp }
         ensures gone { self.new.gone ≡ self.old.gone }
         ensures tcp_risen { self.new.tcp_risen ≡ self.old.tcp_risen }
-        ensures udp_risen { (slot : Option UdpState) → slice_get self.old.udp.items k ≡ Some slot
+        ensures udp_risen { (slot : Option UdpState) → slice_get self.old.udp.slots.items k ≡ Some slot
             → self.new.udp_risen.items ≡ moved_at k before (slot_glance slot) self.old.udp_risen.items }
     {
-        let after = slot_glance(&self.udp[k]);
+        let after = slot_glance(&self.udp.slots[k]);
         move_at(self.udp_risen.as_mut_slice(), k, before, after);
     }
 

@@ -28,7 +28,7 @@ impl Room {
     ghost use Rattle.std.specs.List.{position_or_len};
     ghost use Rattle.host_sockets.specs.TcpSocket.{TcpSocket, is_free};
     ghost use Rattle.host_sockets.specs.SocketsStand.{AllStand};
-    ghost use Rattle.host_sockets.specs.Indexing.{KnowsOthers, KnowsAll};
+    ghost use Rattle.host_sockets.specs.inside.Indexing.{KnowsOthers, KnowsAll};
 
     /// Nothing is taken.
     pub(crate) fn new(alloc: Global) -> Room

@@ -3,7 +3,7 @@
 ghost use Rattle.std.specs.Prelude.{◌≡◌, ◌≢◌, ◌<◌, ◌⊎◌, ◌==◌, ℕ, true, List, Some, length, position, slice_get, IfSome};
 ghost use Rattle.std.specs.List.{list_any};
 ghost use Rattle.host_sockets.specs.TcpSocket.{TcpSocket};
-ghost use Rattle.host_sockets.specs.Lookup.{is_sought, earlier, IsSoughtAt};
+ghost use Rattle.host_sockets.specs.inside.Lookup.{is_sought, earlier, IsSoughtAt};
 ghost use Rattle.host_sockets.specs.SocketsStand.{SocketStands, AllStand};
 
 use crate::tcp_sock::TcpSock;
@@ -25,7 +25,7 @@ pub enum Sought {
 impl TcpSock {
     ghost use Rattle.std.specs.Prelude.{◌≡◌};
     ghost use Rattle.host_sockets.specs.TcpSocket.{TcpSocket};
-    ghost use Rattle.host_sockets.specs.Lookup.{is_sought};
+    ghost use Rattle.host_sockets.specs.inside.Lookup.{is_sought};
     ghost use Rattle.host_sockets.specs.SocketsStand.{SocketStands};
 
     /// Whether it is looked for.

@@ -1,15 +1,15 @@
 //! The sockets of a host.
 
 ghost use Rattle.std.proofs.Props.{props};
-ghost use Rattle.host_sockets.specs.Indexing.{Indexes};
+ghost use Rattle.host_sockets.specs.inside.Indexing.{Indexes};
 
 use crate::index::{Index, NO_PLACE};
 use crate::rises::put_none;
 use crate::tcp_sock::TcpSock;
+use crate::udp_socks::UdpSocks;
 use host_fds::Rises;
 use sim_base::{Ip, NoMemory};
 use sock_tcp::Carried;
-use sock_udp::UdpSock;
 use std::alloc::Global;
 
 /// The sockets of a host and their rises, by their numbers, the connections that closed ones leave
@@ -18,7 +18,7 @@ use std::alloc::Global;
 #[derive(Drop)]
 pub struct Sockets {
     pub(crate) own: Ip,
-    pub(crate) udp: Vec<Option<UdpSock>>,
+    pub(crate) udp: UdpSocks,
     pub(crate) tcp: Vec<TcpSock>,
     pub(crate) udp_risen: Vec<Rises>,
     pub(crate) tcp_risen: Vec<Rises>,
@@ -40,7 +40,7 @@ impl Sockets {
     {
         Sockets {
             own,
-            udp: Vec::new(alloc),
+            udp: UdpSocks::new(alloc),
             tcp: Vec::new(alloc),
             udp_risen: Vec::new(alloc),
             tcp_risen: Vec::new(alloc),

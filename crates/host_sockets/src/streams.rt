@@ -2,7 +2,7 @@
 
 ghost use Rattle.std.specs.Prelude.{◌≡◌, [], fold, IfOk, OnOk};
 ghost use Rattle.host_sockets.specs.Streams.{with_carried};
-ghost use Rattle.host_sockets.specs.Told.{told, all_told, unless};
+ghost use Rattle.host_sockets.specs.inside.Told.{told, all_told, unless};
 
 use crate::sockets::Sockets;
 use crate::tables::Ends;

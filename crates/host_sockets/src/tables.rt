@@ -6,7 +6,7 @@ ghost use Rattle.std.specs.HashMap.{get};
 ghost use Rattle.host_sockets.specs.declared.slots.Sought.TheVariants.{Record};
 ghost use Rattle.host_sockets.specs.TcpSocket.{TcpSocket};
 ghost use Rattle.host_sockets.specs.SocketsStand.{SocketStands};
-ghost use Rattle.host_sockets.specs.Ends.{same_ends, ends_in, live_ends};
+ghost use Rattle.host_sockets.specs.inside.Ends.{same_ends, ends_in, live_ends};
 
 use crate::slots::{Sought, first_among, place_in, sought_at};
 use crate::tcp_sock::TcpSock;
@@ -49,7 +49,7 @@ impl TcpSock {
     ghost use Rattle.std.specs.Prelude.{◌≡◌, is_some};
     ghost use Rattle.host_sockets.specs.TcpSocket.{TcpSocket};
     ghost use Rattle.host_sockets.specs.SocketsStand.{SocketStands};
-    ghost use Rattle.host_sockets.specs.Ends.{live_ends};
+    ghost use Rattle.host_sockets.specs.inside.Ends.{live_ends};
 
     /// The ends of its live connection, if it has one.
     fn live_ends(&self) -> Option<Ends>
@@ -173,8 +173,8 @@ impl Tables {
     ghost use Rattle.std.specs.Prelude.{◌≡◌, true, ◌<◌, List, [], length, position, IfSome};
     ghost use Rattle.host_sockets.specs.TcpSocket.{TcpSocket};
     ghost use Rattle.host_sockets.specs.SocketsStand.{AllStand};
-    ghost use Rattle.host_sockets.specs.Lookup.{is_sought};
-    ghost use Rattle.host_sockets.specs.Indexing.{FindsOthers, FindsAll};
+    ghost use Rattle.host_sockets.specs.inside.Lookup.{is_sought};
+    ghost use Rattle.host_sockets.specs.inside.Indexing.{FindsOthers, FindsAll};
 
     /// Tables without entries.
     pub(crate) fn new(alloc: Global) -> Tables

@@ -5,8 +5,8 @@ ghost use Rattle.sock_tcp.specs.connection.Process.{bytes_read, reads};
 ghost use Rattle.sock_tcp.specs.connection.StandsFor.{StandsFor};
 ghost use Rattle.sock_tcp.specs.connection.Tcb.{Tcb};
 
-use crate::outlet::Outlet;
 use crate::tcp_sock::TcpSock;
+use host_wants::Outlet;
 use sim_base::{Addr, Bytes, NoMemory, Packet, Time};
 use sock_tcp::{Carried, Conn, Effects, Opened, Shut};
 use std::alloc::Global;

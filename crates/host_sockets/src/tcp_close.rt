@@ -1,7 +1,7 @@
 //! What closing a socket does.
 
-use crate::outlet::Outlet;
 use crate::tcp_sock::TcpSock;
+use host_wants::Outlet;
 use sim_base::{NoMemory, Time};
 use sock_tcp::{Carried, Effects};
 

@@ -1,12 +1,12 @@
 //! What an act on the connection of a socket brings about.
 
 ghost use Rattle.std.specs.Prelude.{◌≡◌, ◌<◌, ◌^◌, IfOk};
-ghost use Rattle.host_sockets.specs.Wanted.{wants_alarm, due_after};
+ghost use Rattle.host_wants.specs.Wanted.{wants_alarm, due_after};
 ghost use Rattle.host_sockets.specs.Alarms.{place_of};
 ghost use Rattle.host_sockets.specs.TcpActs.{object_of};
 
-use crate::outlet::Outlet;
 use crate::tcp_sock::TcpSock;
+use host_wants::Outlet;
 use sim_base::{NoMemory, ObjectId, Time};
 use sock_tcp::{Carried, Control, Effects};
 
@@ -62,7 +62,7 @@ impl TcpSock {
     ghost use Rattle.sock_tcp.specs.connection.Carried.{with_gone};
     ghost use Rattle.sock_tcp.specs.connection.Tcb.{Tcb, Turn};
     ghost use Rattle.sock_tcp.specs.connection.Timer.{timer_of};
-    ghost use Rattle.host_sockets.specs.Wanted.{Wanted};
+    ghost use Rattle.host_wants.specs.Wanted.{Wanted};
     ghost use Rattle.host_sockets.specs.TcpSocket.{TcpSocket, with_tcb};
     ghost use Rattle.host_sockets.specs.TcpActs.{is_let_go, fresh_again, let_go, starts, turned};
     ghost use Rattle.host_sockets.specs.StandsFor.{SocketStands, Brings};

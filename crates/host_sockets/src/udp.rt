@@ -1,10 +1,10 @@
 //! Calls on UDP sockets, and datagrams that arrive.
 
-use crate::error::{CallError, Refusal};
 use crate::glance::slot_glance;
 use crate::rises::put_none;
 use crate::sockets::Sockets;
 use crate::udp_slot;
+use host_wants::{CallError, Refusal};
 use sim_base::{Act, Addr, Around, Book, Errno, NoMemory, Packet};
 use sock_udp::{Datagram, UdpSock};
 
@@ -14,20 +14,20 @@ impl Sockets {
     ghost use Rattle.host_sockets.specs.Arriving.{takes_in, datagram_at, datagram_arrives};
     ghost use Rattle.host_sockets.specs.Names.{udp_name, udp_peer};
     ghost use Rattle.host_sockets.specs.Ready.{udp_ready};
-    ghost use Rattle.host_sockets.specs.Udp.{udp_bound, IsEnoughFor, udp_place, put_udp_at, new_udp, closes_udp, udp_ends, binds_udp, connects_udp, udp_fits, sends_udp, recv_udp_asked, receives_udp};
+    ghost use Rattle.host_sockets.specs.Udp.{udp_bound, IsEnoughFor, udp_place, put_udp_at, new_udp, closes_udp, udp_ends, BindsAlike, binds_udp, connects_udp, udp_fits, sends_udp, recv_udp_asked, receives_udp};
     ghost use Rattle.host_sockets.specs.StandsFor.{Stand, Becomes};
 
     /// The least number that a new UDP socket may take.
     fn udp_place(&self) -> usize
         ensures { (t : SocketsRecord) → Stand self.now t → result ≡ udp_place t }
     {
-        udp_slot::place(self.udp.as_slice())
+        self.udp.free_place()
     }
 
     fn put_udp_at(&mut self, place: usize, sock: UdpSock) -> Result<(), NoMemory>
         ensures { OnOk result ((t : SocketsRecord) → Stand self.old t → Stand self.new (put_udp_at place sock t)) }
     {
-        udp_slot::put(&mut self.udp, place, sock)?;
+        self.udp.put(place, sock)?;
         put_none(&mut self.udp_risen, place)?;
         Ok(())
     }
@@ -49,10 +49,7 @@ impl Sockets {
     pub fn close_udp(&mut self, k: usize)
         ensures { (t : SocketsRecord) → Stand self.old t → Stand self.new (closes_udp k t) }
     {
-        if k >= self.udp.len() {
-            return;
-        }
-        self.udp[k] = None;
+        self.udp.close(k);
     }
 
     /// The ends that UDP sockets are bound to.
@@ -60,10 +57,24 @@ impl Sockets {
         ensures { IfOk result (λ ends. (t : SocketsRecord) → Stand self.now t → ends.items ≡ udp_ends t) }
     {
         let mut ends = Vec::new(self.alloc());
-        for slot in &self.udp {
+        for slot in &self.udp.slots {
             udp_slot::add_end(slot, &mut ends)?;
         }
         Ok(ends)
+    }
+
+    /// Where a socket is bound that asks for an end, and the ends that it must not meet there: none
+    /// where it gets a port that no socket has.
+    fn asked_end(&self, at: Addr) -> Result<(Addr, Vec<Addr>), NoMemory>
+        ensures { IfOk result (λ asked. (t : SocketsRecord) → Stand self.now t → BindsAlike asked.0 asked.1.items at t) }
+    {
+        if at.port == 0 {
+            if let Some(Some(port)) = self.udp.free_port() {
+                return Ok((Addr { ip: at.ip, port }, Vec::new(self.alloc())));
+            }
+        }
+        let ends = self.udp_ends()?;
+        Ok((at, ends))
     }
 
     /// Binds the UDP socket with a number to an address, for port 0 at the least port from 10000 up
@@ -73,18 +84,19 @@ impl Sockets {
     pub fn bind_udp(&mut self, hosts: &Book, k: usize, at: Addr) -> Result<(), CallError>
         ensures { (t : SocketsRecord) → Stand self.old t → Becomes (binds_udp hosts.now k at t) t self.new result }
     {
-        let bound = self.udp_ends()?;
+        let (end, bound) = self.asked_end(at)?;
         let around = Around {
             own: self.own,
             hosts,
             bound: bound.as_slice(),
         };
-        if k >= self.udp.len() {
+        if k >= self.udp.slots.len() {
             return Err(CallError::Refused(Refusal::Errno(Errno::Ebadf)));
         }
-        let slot = &mut self.udp[k];
+        let slot = &mut self.udp.slots[k];
         let before = slot_glance(slot);
-        let answer = udp_slot::bind(slot, &around, at);
+        let answer = udp_slot::bind(slot, &around, end);
+        self.udp.table.set(k, udp_slot::ends(slot));
         self.end_udp_act(k, before);
         answer
     }
@@ -102,12 +114,13 @@ impl Sockets {
             hosts,
             bound: bound.as_slice(),
         };
-        if k >= self.udp.len() {
+        if k >= self.udp.slots.len() {
             return Err(CallError::Refused(Refusal::Errno(Errno::Ebadf)));
         }
-        let slot = &mut self.udp[k];
+        let slot = &mut self.udp.slots[k];
         let before = slot_glance(slot);
         let answer = udp_slot::connect(slot, &around, to);
+        self.udp.table.set(k, udp_slot::ends(slot));
         self.end_udp_act(k, before);
         answer
     }
@@ -120,10 +133,10 @@ impl Sockets {
     pub fn udp_fits(&self, k: usize, count: usize, given: bool) -> Result<(), Refusal>
         ensures { (t : SocketsRecord) → Stand self.now t → result ≡ udp_fits k count given t }
     {
-        if k >= self.udp.len() {
+        if k >= self.udp.slots.len() {
             return Err(Refusal::Errno(Errno::Ebadf));
         }
-        udp_slot::fits(&self.udp[k], count, given)
+        udp_slot::fits(&self.udp.slots[k], count, given)
     }
 
     /// The ends of the other UDP sockets, where the socket with a number needs a port.
@@ -141,10 +154,10 @@ impl Sockets {
     pub fn bound_udp(&self, k: usize) -> bool
         ensures { (t : SocketsRecord) → Stand self.now t → result ≡ udp_bound k t }
     {
-        if k >= self.udp.len() {
+        if k >= self.udp.slots.len() {
             return false;
         }
-        udp_slot::local(&self.udp[k]).is_some()
+        udp_slot::local(&self.udp.slots[k]).is_some()
     }
 
     /// Makes the packet of a datagram from the UDP socket with a number, to an address or else to
@@ -167,12 +180,13 @@ impl Sockets {
             hosts,
             bound: bound.as_slice(),
         };
-        if k >= self.udp.len() {
+        if k >= self.udp.slots.len() {
             return Err(CallError::Refused(Refusal::Errno(Errno::Ebadf)));
         }
-        let slot = &mut self.udp[k];
+        let slot = &mut self.udp.slots[k];
         let before = slot_glance(slot);
         let answer = udp_slot::send(slot, &around, bytes, to);
+        self.udp.table.set(k, udp_slot::ends(slot));
         self.end_udp_act(k, before);
         answer
     }
@@ -182,10 +196,10 @@ impl Sockets {
     pub fn recv_udp_asked(&self, k: usize) -> Result<(), Refusal>
         ensures { (t : SocketsRecord) → Stand self.now t → result ≡ recv_udp_asked k t }
     {
-        if k >= self.udp.len() {
+        if k >= self.udp.slots.len() {
             return Err(Refusal::Errno(Errno::Ebadf));
         }
-        udp_slot::recv_asked(&self.udp[k])
+        udp_slot::recv_asked(&self.udp.slots[k])
     }
 
     /// Takes the oldest datagram of the UDP socket with a number, cut at so many bytes: what does
@@ -196,13 +210,14 @@ impl Sockets {
         ensures row { (t : SocketsRecord) → Stand self.old t → Becomes (receives_udp k count t) t self.new result }
         ensures at_most { IfOk result (λ datagram. length datagram.bytes ≤ count) }
     {
-        if k >= self.udp.len() {
+        if k >= self.udp.slots.len() {
             return Err(CallError::Refused(Refusal::Errno(Errno::Ebadf)));
         }
         let alloc = self.alloc();
-        let slot = &mut self.udp[k];
+        let slot = &mut self.udp.slots[k];
         let before = slot_glance(slot);
         let answer = udp_slot::recv(slot, alloc, count);
+        self.udp.table.set(k, udp_slot::ends(slot));
         self.end_udp_act(k, before);
         answer
     }
@@ -214,10 +229,10 @@ impl Sockets {
     pub fn udp_name(&self, k: usize) -> Result<Addr, Refusal>
         ensures { (t : SocketsRecord) → Stand self.now t → result ≡ udp_name k t }
     {
-        if k >= self.udp.len() {
+        if k >= self.udp.slots.len() {
             return Err(Refusal::Errno(Errno::Ebadf));
         }
-        udp_slot::name(&self.udp[k])
+        udp_slot::name(&self.udp.slots[k])
     }
 
     /// The end that the UDP socket with a number is connected to (`getpeername(2)`).
@@ -226,27 +241,27 @@ impl Sockets {
     pub fn udp_peer(&self, k: usize) -> Result<Addr, Refusal>
         ensures { (t : SocketsRecord) → Stand self.now t → result ≡ udp_peer k t }
     {
-        if k >= self.udp.len() {
+        if k >= self.udp.slots.len() {
             return Err(Refusal::Errno(Errno::Ebadf));
         }
-        udp_slot::peer(&self.udp[k])
+        udp_slot::peer(&self.udp.slots[k])
     }
 
     /// What the UDP socket with a number is ready for; a number without a socket for nothing.
     pub fn udp_ready(&self, k: usize) -> u16
         ensures { (t : SocketsRecord) → Stand self.now t → result ≡ udp_ready k t }
     {
-        if k >= self.udp.len() {
+        if k >= self.udp.slots.len() {
             return 0;
         }
-        udp_slot::ready(&self.udp[k])
+        udp_slot::ready(&self.udp.slots[k])
     }
 
     /// The number of the UDP socket that takes a datagram from one end to another.
     fn taker(&self, from: Addr, to: Addr) -> Option<usize>
         ensures { (t : SocketsRecord) → Stand self.now t → result ≡ position (takes_in from to) t.udp }
     {
-        udp_slot::taker(self.udp.as_slice(), from, to)
+        self.udp.taker(from, to)
     }
 
     /// A datagram arrives at the UDP socket with a number.
@@ -254,13 +269,15 @@ impl Sockets {
         ensures act { IfOk result (λ act. (t : SocketsRecord) → Stand self.old t → act ≡ (datagram_at from bytes.now (Some k) t).0) }
         ensures stands { OnOk result ((t : SocketsRecord) → Stand self.old t → Stand self.new (datagram_at from bytes.now (Some k) t).1) }
     {
-        if k >= self.udp.len() {
+        if k >= self.udp.slots.len() {
             return Ok(Act::NoPort);
         }
-        let slot = &mut self.udp[k];
+        let slot = &mut self.udp.slots[k];
         let before = slot_glance(slot);
-        let act = udp_slot::arrive(slot, from, bytes)?;
+        let answer = udp_slot::arrive(slot, from, bytes);
+        self.udp.table.set(k, udp_slot::ends(slot));
         self.end_udp_act(k, before);
+        let act = answer?;
         Ok(act)
     }
 

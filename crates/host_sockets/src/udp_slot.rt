@@ -1,49 +1,40 @@
 //! The acts of a process on the place of a UDP socket.
 
-ghost use Rattle.std.specs.Prelude.{◌≡◌, ◌≤◌, ◌++◌, Some, length, is_none, position, IfOk, OnOk};
-ghost use Rattle.std.specs.List.{position_or_len};
+ghost use Rattle.std.specs.Prelude.{◌≡◌, ◌≤◌, ◌++◌, length, IfOk, OnOk};
 ghost use Rattle.sock_udp.specs.Socket.{bind, connect, send};
-ghost use Rattle.host_sockets.specs.Refusals.{by_errno};
+ghost use Rattle.host_wants.specs.Refusals.{by_errno};
 ghost use Rattle.host_sockets.specs.Udp.{only_state, local_in, udp_end, fits_in, recv_asked_in, oldest_datagram, SlotDoes, GivesOldest};
-ghost use Rattle.host_sockets.specs.Arriving.{takes_in, slot_arrives};
+ghost use Rattle.host_sockets.specs.Arriving.{slot_arrives};
+ghost use Rattle.host_sockets.specs.inside.Bindings.{ends_of_slot};
 ghost use Rattle.host_sockets.specs.Names.{udp_name_in, udp_peer_in};
 ghost use Rattle.host_sockets.specs.Ready.{udp_ready_in};
-ghost use Rattle.host_sockets.specs.Sockets.{put_at};
 
-use crate::error::{CallError, Refusal};
 use crate::names::NOWHERE;
+use host_wants::{CallError, Refusal};
 use sim_base::{Act, Addr, Around, Bytes, Errno, MAX_DATAGRAM, NoMemory, Packet};
 use sock_udp::{Datagram, Received, UdpError, UdpSock};
 use std::alloc::Global;
+use udp_table::UdpEnds;
 
-/// The first place without a socket.
-fn first_free(slots: &[Option<UdpSock>]) -> Option<usize>
-    ensures { result ≡ position is_none slots.now }
+/// What a socket is bound and connected to.
+pub(crate) fn ends_of(sock: &UdpSock) -> UdpEnds
+    ensures local { result.local ≡ sock.now.local }
+    ensures peer { result.peer ≡ sock.now.peer }
 {
-    slots.iter().position(|slot| slot.is_none())
-}
-
-/// The least number that a new socket may take.
-pub(crate) fn place(slots: &[Option<UdpSock>]) -> usize
-    ensures { result ≡ position_or_len is_none slots.now }
-{
-    first_free(slots).unwrap_or(slots.len())
-}
-
-/// Puts a socket at a place of the list, or behind it.
-pub(crate) fn put(
-    slots: &mut Vec<Option<UdpSock>>,
-    place: usize,
-    sock: UdpSock,
-) -> Result<(), NoMemory>
-    ensures { OnOk result (slots.new.items ≡ put_at place (Some sock) slots.old.items) }
-{
-    if place < slots.len() {
-        slots[place] = Some(sock);
-        return Ok(());
+    UdpEnds {
+        local: sock.local(),
+        peer: sock.peer(),
     }
-    slots.push(Some(sock))?;
-    Ok(())
+}
+
+/// The same of the socket at a place, if there is one.
+pub(crate) fn ends(slot: &Option<UdpSock>) -> Option<UdpEnds>
+    ensures { result ≡ ends_of_slot slot.now }
+{
+    match slot {
+        Some(sock) => Some(ends_of(sock)),
+        None => None,
+    }
 }
 
 /// What a socket is bound to.
@@ -150,23 +141,6 @@ pub(crate) fn recv(
         }
         None => Err(CallError::Refused(Refusal::Errno(Errno::Ebadf))),
     }
-}
-
-/// Whether a socket takes a datagram from one end to another.
-pub(crate) fn takes(slot: &Option<UdpSock>, from: Addr, to: Addr) -> bool
-    ensures { result ≡ takes_in from to slot.now }
-{
-    match slot {
-        Some(sock) => sock.takes(from, to),
-        None => false,
-    }
-}
-
-/// The number of the first socket that takes a datagram from one end to another.
-pub(crate) fn taker(slots: &[Option<UdpSock>], from: Addr, to: Addr) -> Option<usize>
-    ensures { result ≡ position (takes_in from to) slots.now }
-{
-    slots.iter().position(|slot| takes(slot, from, to))
 }
 
 /// A datagram arrives at a socket.

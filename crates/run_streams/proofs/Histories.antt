@@ -11,7 +11,7 @@ use Rattle.host_sockets.specs.Accepting.{accepts_at}
 use Rattle.host_sockets.specs.Connecting.{connect_asked}
 use Rattle.host_sockets.specs.Sockets.{SocketsRecord}
 use Rattle.host_sockets.specs.TcpSocket.{TcpSocket, listens_to}
-use Rattle.host_sockets.specs.Wanted.{Wanted}
+use Rattle.host_wants.specs.Wanted.{Wanted}
 use Rattle.host_state.specs.declared.net.Net.{Net}
 use Rattle.host_state.specs.declared.row.Row.{Row}
 use Rattle.host_state.specs.HostRecord.{HostRecord}

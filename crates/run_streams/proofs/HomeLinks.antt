@@ -20,9 +20,9 @@ use Rattle.net_iface.specs.declared.lane.Pushed.{Pushed}
 use Rattle.net_iface.specs.declared.lane.Pushed.TheVariants.{Leaves, Waits, Dropped}
 use Rattle.net_iface.specs.Lane.{LaneState, pushed, released}
 use Rattle.tcp_laws.proofs.Tests.{by_test}
-use Rattle.host_sockets.specs.declared.outlet.Want.{Want}
-use Rattle.host_sockets.specs.declared.outlet.Want.TheVariants as wanted
-use Rattle.host_sockets.specs.Wanted.{Wanted, draws_word, without_wants}
+use Rattle.host_wants.specs.declared.outlet.Want.{Want}
+use Rattle.host_wants.specs.declared.outlet.Want.TheVariants as wanted
+use Rattle.host_wants.specs.Wanted.{Wanted, draws_word, without_wants}
 use Rattle.host_state.specs.declared.line.Line.{Line}
 use Rattle.host_state.specs.declared.net.Net.{Net}
 use Rattle.host_state.specs.Captures.{is_own, is_loopback}

@@ -30,14 +30,14 @@ use Rattle.rv32_machine.specs.Turn.{turn}
 use Rattle.tcp_laws.proofs.Tests.{by_test}
 use Rattle.tcp_streams.proofs.Members.{IsIn-from_Contains, Contains-here}
 use Rattle.sock_udp.specs.Socket.{UdpState, arrive}
-use Rattle.host_sockets.specs.declared.outlet.Want.{Want}
-use Rattle.host_sockets.specs.Wanted.{Wanted}
+use Rattle.host_wants.specs.declared.outlet.Want.{Want}
+use Rattle.host_wants.specs.Wanted.{Wanted}
 use Rattle.host_sockets.specs.TcpSocket.{has_record}
 use Rattle.host_sockets.specs.Sockets.{SocketsRecord}
 use Rattle.host_sockets.specs.Udp.{udp_in}
 use Rattle.host_sockets.specs.Arriving.{takes_in, datagram_in, datagram_at, datagram_arrives, hearer, heard_at, segment_at, segment_arrives, arrives_by}
-use Rattle.host_calls.specs.declared.parts.Task.{Task}
-use Rattle.host_calls.specs.declared.parts.Why.{Why}
+use Rattle.file_calls.specs.declared.task.Task.{Task}
+use Rattle.file_calls.specs.declared.task.Why.{Why}
 use Rattle.host_calls.specs.Calls.{call}
 use Rattle.host_calls.specs.Events.{alarmed, ended, arrives}
 use Rattle.host_calls.specs.Parts.{PartsRecord}

@@ -9,9 +9,9 @@ use Rattle.sim_base.specs.declared.time.Time.{Time}
 use Rattle.sock_tcp.specs.connection.Tcb.{Tcb}
 use Rattle.tcp_streams.specs.Net as streams
 use Rattle.tcp_streams.proofs.Members.{IsIn-from_Contains, Contains-here, Contains-there}
-use Rattle.host_sockets.specs.declared.outlet.Want.{Want}
-use Rattle.host_sockets.specs.declared.outlet.Want.TheVariants as wanted
-use Rattle.host_sockets.specs.Wanted.{Wanted}
+use Rattle.host_wants.specs.declared.outlet.Want.{Want}
+use Rattle.host_wants.specs.declared.outlet.Want.TheVariants as wanted
+use Rattle.host_wants.specs.Wanted.{Wanted}
 use Rattle.host_sockets.specs.Sockets.{SocketsRecord}
 use Rattle.host_calls.specs.Parts.{PartsRecord}
 use Rattle.host_state.specs.declared.net.Net.{Net}

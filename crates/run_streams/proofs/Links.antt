@@ -18,9 +18,9 @@ use Rattle.net_iface.specs.declared.lane.Pushed.TheVariants.{Leaves, Waits, Drop
 use Rattle.net_iface.specs.declared.lane.Waiting.{Waiting}
 use Rattle.net_iface.specs.Lane.{LaneState, pushed, released}
 use Rattle.tcp_laws.proofs.Tests.{by_test}
-use Rattle.host_sockets.specs.declared.outlet.Want.{Want}
-use Rattle.host_sockets.specs.declared.outlet.Want.TheVariants as wanted
-use Rattle.host_sockets.specs.Wanted.{Wanted, draws_word, without_wants}
+use Rattle.host_wants.specs.declared.outlet.Want.{Want}
+use Rattle.host_wants.specs.declared.outlet.Want.TheVariants as wanted
+use Rattle.host_wants.specs.Wanted.{Wanted, draws_word, without_wants}
 use Rattle.host_state.specs.declared.net.Net.{Net}
 use Rattle.host_state.specs.Host.{does_want, does_all, does_wants}
 use Rattle.host_state.specs.Lanes.{with_up, with_down}

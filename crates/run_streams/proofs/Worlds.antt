@@ -18,7 +18,7 @@ use Rattle.tcp_streams.specs.Stream.{IsSimple, stream_of, IsFaithful}
 use Rattle.tcp_streams.proofs.Members.{Contains-here, Contains-there, IsIn-from_Contains}
 use Rattle.tcp_streams.proofs.Frames.{joined}
 use Rattle.tcp_streams.proofs.Promise.{streams}
-use Rattle.host_sockets.specs.Wanted.{nothing_wanted}
+use Rattle.host_wants.specs.Wanted.{nothing_wanted}
 use Rattle.host_sockets.specs.Sockets.{no_sockets}
 use Rattle.host_state.specs.declared.line.Line.{Line}
 use Rattle.host_state.specs.declared.net.Net.{Net}

@@ -13,9 +13,9 @@ use Rattle.sock_tcp.specs.connection.Process.{closes}
 use Rattle.sock_tcp.specs.connection.Tcb.{Tcb, Turn}
 use Rattle.sock_tcp.specs.connection.Timer.{timer_of}
 use Rattle.sock_tcp.specs.listener.Listen.{Listen, Heard}
-use Rattle.host_sockets.specs.declared.error.Refusal.TheVariants as refusal
+use Rattle.host_wants.specs.declared.error.Refusal.TheVariants as refusal
 use Rattle.host_sockets.specs.declared.tcp_sock.KeptTimer.{KeptTimer}
-use Rattle.host_sockets.specs.Wanted.{Wanted, sends}
+use Rattle.host_wants.specs.Wanted.{Wanted, sends}
 use Rattle.host_sockets.specs.TcpSocket.{TcpSocket, bound_end, record_end, ends_of, with_tcb, with_bound}
 use Rattle.host_sockets.specs.Sockets.{SocketsRecord, changes_at, changes_in, tcp_place, put_tcp, bound_ends, tcp_ends}
 use Rattle.host_sockets.specs.TcpActs.{Acted, unacted, is_let_go, fresh_again, let_go, starts, turned, turned_in, record_acts, acts_in, acts_at}

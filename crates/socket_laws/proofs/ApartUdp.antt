@@ -11,8 +11,8 @@ use Rattle.sim_base.specs.Refusals.{◌>>=◌, ◌>>◌, refuse_if, or_refuse}
 use Rattle.sock_udp.specs.declared.datagram.Datagram.{Datagram}
 use Rattle.sock_udp.specs.Socket.{UdpState, new_socket, arrive, bind, connect, send, or_else, reach, address_to_bind, address_to_use, address_to_connect, address_and_destination, packet_between, limit}
 use Rattle.sock_udp.specs.SocketLaws.{address_to_bind-is_taken, address_to_use-is_taken}
-use Rattle.host_sockets.specs.declared.error.Refusal.{Refusal}
-use Rattle.host_sockets.specs.Refusals.{by_errno}
+use Rattle.host_wants.specs.declared.error.Refusal.{Refusal}
+use Rattle.host_wants.specs.Refusals.{by_errno}
 use Rattle.host_sockets.specs.TcpSocket.{bound_end}
 use Rattle.host_sockets.specs.Sockets.{SocketsRecord}
 use Rattle.host_sockets.specs.Arriving.{takes_in, datagram_in, datagram_at, datagram_arrives}

@@ -11,10 +11,10 @@ use Rattle.sim_base.specs.declared.packet.Packet.{Packet}
 use Rattle.sim_base.specs.declared.time.Time.{Time}
 use Rattle.sock_udp.specs.Socket.{UdpState, or_else, address_to_bind, bind, reach, address_to_connect, connect, address_and_destination, packet_between, send}
 use Rattle.tcp_laws.proofs.Tests.{by_test}
-use Rattle.host_sockets.specs.declared.error.Refusal.{Refusal}
-use Rattle.host_sockets.specs.declared.error.Refusal.TheVariants as refusal
-use Rattle.host_sockets.specs.Refusals.{by_errno}
-use Rattle.host_sockets.specs.Wanted.{Wanted, nothing_wanted}
+use Rattle.host_wants.specs.declared.error.Refusal.{Refusal}
+use Rattle.host_wants.specs.declared.error.Refusal.TheVariants as refusal
+use Rattle.host_wants.specs.Refusals.{by_errno}
+use Rattle.host_wants.specs.Wanted.{Wanted, nothing_wanted}
 use Rattle.host_sockets.specs.TcpSocket.{TcpSocket, with_bound}
 use Rattle.host_sockets.specs.Sockets.{SocketsRecord, no_sockets, changes_in, changes_at, tcp_ends, bound_ends}
 use Rattle.host_sockets.specs.Udp.{local_in, udp_in, udp_around, with_udp, acted_udp, only_state, binds_udp, connects_udp, sends_udp}

@@ -10,9 +10,9 @@ use Rattle.sock_tcp.specs.connection.Begin.{begin}
 use Rattle.sock_tcp.specs.connection.Tcb.{Tcb, Turn, changed}
 use Rattle.sock_tcp.specs.connection.Process.{closes, error_taken, expires, flows, opened, reads, shuts, writes}
 use Rattle.sock_tcp.specs.listener.Listen.{Listen, Heard, accepts, hears, hears_timer}
-use Rattle.host_sockets.specs.declared.error.Refusal.{Refusal}
-use Rattle.host_sockets.specs.declared.error.Refusal.TheVariants as refusal
-use Rattle.host_sockets.specs.Wanted.{sends, Wanted, draws_word, nothing_wanted}
+use Rattle.host_wants.specs.declared.error.Refusal.{Refusal}
+use Rattle.host_wants.specs.declared.error.Refusal.TheVariants as refusal
+use Rattle.host_wants.specs.Wanted.{sends, Wanted, draws_word, nothing_wanted}
 use Rattle.host_sockets.specs.TcpSocket.{with_tcb, TcpSocket, fresh, has_record, with_bound}
 use Rattle.host_sockets.specs.Sockets.{SocketsRecord, changes_at, changes_in, no_sockets, put_tcp, tcp_place}
 use Rattle.host_sockets.specs.TcpActs.{turned, turned_in, is_let_go, starts, Acted, acts_at, acts_in, record_acts}

@@ -16,7 +16,7 @@ use Rattle.sock_tcp.specs.connection.Process.{expires}
 use Rattle.sock_tcp.specs.listener.Listen.{Listen, hears, hears_timer, is_kept}
 use Rattle.tcp_laws.proofs.Tests.{by_test}
 use Rattle.host_sockets.specs.declared.tcp_sock.KeptTimer.{KeptTimer}
-use Rattle.host_sockets.specs.Wanted.{Wanted, draws_word, nothing_wanted}
+use Rattle.host_wants.specs.Wanted.{Wanted, draws_word, nothing_wanted}
 use Rattle.host_sockets.specs.TcpSocket.{TcpSocket, has_record, keeps_record, keeps_record_in}
 use Rattle.host_sockets.specs.Sockets.{SocketsRecord, no_sockets}
 use Rattle.host_sockets.specs.TcpActs.{Acted, acts_at}

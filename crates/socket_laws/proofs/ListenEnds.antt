@@ -18,10 +18,10 @@ use Rattle.sock_tcp.specs.connection.Tcb.{Tcb, Turn}
 use Rattle.sock_tcp.specs.connection.Timer.{timer_of}
 use Rattle.sock_tcp.specs.listener.Listen as listener
 use Rattle.sock_tcp.specs.listener.Listen.{Listen, Heard}
-use Rattle.host_sockets.specs.declared.error.Refusal.{Refusal}
-use Rattle.host_sockets.specs.declared.error.Refusal.TheVariants as refusal
+use Rattle.host_wants.specs.declared.error.Refusal.{Refusal}
+use Rattle.host_wants.specs.declared.error.Refusal.TheVariants as refusal
 use Rattle.host_sockets.specs.declared.tcp_sock.KeptTimer.{KeptTimer}
-use Rattle.host_sockets.specs.Wanted.{Wanted, sends, draws_word}
+use Rattle.host_wants.specs.Wanted.{Wanted, sends, draws_word}
 use Rattle.host_sockets.specs.TcpSocket.{TcpSocket, with_tcb, with_bound}
 use Rattle.host_sockets.specs.Sockets.{SocketsRecord, put_at, changes_at, changes_in, tcp_ends, tcp_place, put_tcp}
 use Rattle.host_sockets.specs.TcpActs.{Acted, unacted, is_let_go, fresh_again, starts, turned, turned_in, record_acts, acts_in, acts_at}

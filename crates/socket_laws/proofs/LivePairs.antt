@@ -12,9 +12,9 @@ use Rattle.sock_tcp.specs.connection.Begin.{begin}
 use Rattle.sock_tcp.specs.connection.Tcb.{Tcb, Turn, changed}
 use Rattle.sock_tcp.specs.connection.Process.{opened, writes, reads, flows, shuts, closes, error_taken}
 use Rattle.sock_tcp.specs.listener.Listen.{Listen, fresh_listen, without, accepted_at, accepted_from, accepts}
-use Rattle.host_sockets.specs.declared.error.Refusal.{Refusal}
-use Rattle.host_sockets.specs.declared.error.Refusal.TheVariants as refusal
-use Rattle.host_sockets.specs.Wanted.{Wanted, draws_word}
+use Rattle.host_wants.specs.declared.error.Refusal.{Refusal}
+use Rattle.host_wants.specs.declared.error.Refusal.TheVariants as refusal
+use Rattle.host_wants.specs.Wanted.{Wanted, draws_word}
 use Rattle.host_sockets.specs.TcpSocket.{TcpSocket, fresh, with_bound, has_record, keeps_record}
 use Rattle.host_sockets.specs.Sockets.{SocketsRecord, changes_in, changes_at, tcp_place, put_tcp, has_pair}
 use Rattle.host_sockets.specs.TcpActs.{Acted, record_acts, acts_in, acts_at}

@@ -19,7 +19,7 @@ use Rattle.sock_tcp.specs.connection.Arrival.{takes_packet}
 use Rattle.sock_tcp.specs.connection.Process.{fresh_tcb, opened, answered, expires}
 use Rattle.sock_tcp.specs.listener.Listen.{Listen, Heard, without, replaced, settled, nothing_heard, record_acts, kept_acts, record_made, makes_record, asked, load_header, new_heard, hears, hears_timer, is_kept}
 use Rattle.tcp_laws.proofs.Tests.{by_test}
-use Rattle.host_sockets.specs.Wanted.{Wanted, sends}
+use Rattle.host_wants.specs.Wanted.{Wanted, sends}
 use Rattle.host_sockets.specs.TcpSocket.{TcpSocket, with_tcb, has_record, has_record_in, keeps_record, keeps_record_in}
 use Rattle.socket_laws.specs.Pairs.{live, live_in, kept_in, live_of}
 use Rattle.host_sockets.specs.TcpActs as acts

@@ -13,9 +13,9 @@ use Rattle.sock_udp.specs.Socket.{UdpState, arrive, bind, connect, send}
 use Rattle.sock_tcp.specs.connection.Begin.{begin}
 use Rattle.sock_tcp.specs.connection.Process.{shuts}
 use Rattle.sock_tcp.specs.connection.Tcb.{Tcb}
-use Rattle.host_sockets.specs.declared.error.Refusal.{Refusal}
-use Rattle.host_sockets.specs.Refusals.{by_errno}
-use Rattle.host_sockets.specs.Wanted.{Wanted}
+use Rattle.host_wants.specs.declared.error.Refusal.{Refusal}
+use Rattle.host_wants.specs.Refusals.{by_errno}
+use Rattle.host_wants.specs.Wanted.{Wanted}
 use Rattle.host_sockets.specs.TcpSocket.{TcpSocket, with_bound, has_record}
 use Rattle.host_sockets.specs.Sockets.{SocketsRecord, tcb_at, with_tcp, changes_at, changes_in}
 use Rattle.host_sockets.specs.TcpActs.{Acted, record_acts, acts_in, acts_at}

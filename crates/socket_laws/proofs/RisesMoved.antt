@@ -11,8 +11,8 @@ use Rattle.host_fds.specs.Rises.{no_rises, most, counted, rose}
 use Rattle.sock_udp.specs.Socket.{UdpState, new_socket}
 use Rattle.sock_tcp.specs.connection.Tcb.{Tcb}
 use Rattle.sock_tcp.specs.listener.Listen.{Listen}
-use Rattle.host_sockets.specs.declared.error.Refusal.{Refusal}
-use Rattle.host_sockets.specs.declared.error.Refusal.TheVariants as refusal
+use Rattle.host_wants.specs.declared.error.Refusal.{Refusal}
+use Rattle.host_wants.specs.declared.error.Refusal.TheVariants as refusal
 use Rattle.host_sockets.specs.declared.glance.Glance.{Glance}
 use Rattle.host_sockets.specs.declared.reply.Accepted.{Accepted}
 use Rattle.host_sockets.specs.Accepting.{accept_asked, accepts_at, accepted, given_up, placed, accepts_tcp}
@@ -21,7 +21,7 @@ use Rattle.host_sockets.specs.Rises.{tcp_glance, udp_glance, slot_glance, risen,
 use Rattle.host_sockets.specs.Sockets.{SocketsRecord, changes_at, put_at, put_tcp_at, tcp_place, no_sockets, new_tcp}
 use Rattle.host_sockets.specs.TcpSocket.{TcpSocket, fresh, is_free}
 use Rattle.host_sockets.specs.Udp.{socket_in, closes_udp, put_udp_at, udp_place, new_udp}
-use Rattle.host_sockets.specs.Wanted.{Wanted, nothing_wanted}
+use Rattle.host_wants.specs.Wanted.{Wanted, nothing_wanted}
 use Rattle.host_sockets.proofs.Endings.{still, same_risen}
 use Rattle.socket_laws.specs.Histories.{SocketsAct, left_by, sockets_acted, sockets_after, sockets_of, make_udp, bind_udp, connect_udp, send_udp, recv_udp, close_udp, make_tcp, bind_tcp, listen_tcp, accept_tcp, connect_tcp, connect_again, send_tcp, recv_tcp, shut_tcp, take_error, close_tcp, arrival, alarm, elsewhere}
 use Rattle.socket_laws.specs.Rises.{tcp_glance_in, sees_tcp, sees_udp, accepts_at_number, makes_tcp, makes_udp, has_rise, counted_by, rises_counted, tcp_rises_counted, udp_rises_counted, AreCounted}

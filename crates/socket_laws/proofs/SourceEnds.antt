@@ -8,11 +8,11 @@ use Rattle.sim_base.specs.Refusals.{◌>>=◌, ◌>>◌, refuse_if, or_refuse}
 use Rattle.sim_base.specs.declared.address.Ip.{Ip}
 use Rattle.sim_base.specs.declared.address.Addr.{Addr}
 use Rattle.sock_udp.specs.Socket.{UdpState, or_else, address_and_destination, packet_between, send}
-use Rattle.host_sockets.specs.Refusals.{by_errno}
+use Rattle.host_wants.specs.Refusals.{by_errno}
 use Rattle.host_sockets.specs.Udp.{socket_in, udp_in, with_udp, local_in, udp_around, acted_udp, sends_udp}
 use Rattle.tcp_laws.proofs.Tests.{by_test}
-use Rattle.host_sockets.specs.declared.error.Refusal.{Refusal}
-use Rattle.host_sockets.specs.declared.error.Refusal.TheVariants as refusal
+use Rattle.host_wants.specs.declared.error.Refusal.{Refusal}
+use Rattle.host_wants.specs.declared.error.Refusal.TheVariants as refusal
 use Rattle.host_sockets.specs.TcpSocket.{TcpSocket}
 use Rattle.host_sockets.specs.Sockets.{SocketsRecord, tcp_ends, has_pair}
 use Rattle.host_sockets.specs.Binding.{bound_to_use, end_to_use}

@@ -6,8 +6,8 @@ use Rattle.sim_base.specs.declared.object.ObjectId.{ObjectId}
 use Rattle.sim_base.specs.declared.packet.Packet.{Packet}
 use Rattle.sim_base.specs.declared.time.Time.{Time}
 use Rattle.sock_tcp.specs.declared.connection.effects.Shut.{Shut}
-use Rattle.host_sockets.specs.declared.error.Refusal.{Refusal}
-use Rattle.host_sockets.specs.Wanted.{Wanted, nothing_wanted}
+use Rattle.host_wants.specs.declared.error.Refusal.{Refusal}
+use Rattle.host_wants.specs.Wanted.{Wanted, nothing_wanted}
 use Rattle.host_sockets.specs.Sockets.{SocketsRecord, no_sockets, new_tcp}
 use Rattle.host_sockets.specs.Udp.{new_udp, binds_udp, connects_udp, sends_udp, receives_udp, closes_udp}
 use Rattle.host_sockets.specs.Binding.{binds_tcp, listens_tcp}

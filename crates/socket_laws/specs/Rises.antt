@@ -5,7 +5,7 @@ use Rattle.sim_base.specs.declared.time.Time.{Time}
 use Rattle.sim_base.specs.Poll.{pollin, pollout, pollerr, pollhup, pollrdhup}
 use Rattle.host_fds.specs.declared.rises.Rises.{Rises}
 use Rattle.host_fds.specs.Rises.{most, rose}
-use Rattle.host_sockets.specs.declared.error.Refusal.{Refusal}
+use Rattle.host_wants.specs.declared.error.Refusal.{Refusal}
 use Rattle.host_sockets.specs.declared.glance.Glance.{Glance}
 use Rattle.host_sockets.specs.declared.reply.Accepted.{Accepted}
 use Rattle.host_sockets.specs.Accepting.{accepts_tcp}
@@ -14,7 +14,7 @@ use Rattle.host_sockets.specs.Rises.{slot_glance, tcp_glance}
 use Rattle.host_sockets.specs.Sockets.{SocketsRecord, no_sockets, new_tcp}
 use Rattle.host_sockets.specs.TcpSocket.{TcpSocket}
 use Rattle.host_sockets.specs.Udp.{udp_in, new_udp}
-use Rattle.host_sockets.specs.Wanted.{Wanted, nothing_wanted}
+use Rattle.host_wants.specs.Wanted.{Wanted, nothing_wanted}
 use Rattle.socket_laws.specs.Histories.{SocketsAct, sockets_acted, make_udp, make_tcp, accept_tcp}
 
 -- what is seen of the socket with a number: nothing where there is none

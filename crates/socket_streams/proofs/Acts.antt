@@ -7,7 +7,7 @@ use Rattle.sim_base.specs.declared.address.Addr.{Addr}
 use Rattle.sim_base.specs.declared.packet.Packet.{Packet}
 use Rattle.sim_base.specs.declared.time.Time.{Time}
 use Rattle.sock_tcp.specs.connection.Tcb.{Tcb}
-use Rattle.host_sockets.specs.Wanted.{Wanted}
+use Rattle.host_wants.specs.Wanted.{Wanted}
 use Rattle.host_sockets.specs.Sockets.{SocketsRecord, no_sockets}
 use Rattle.host_sockets.specs.Udp.{udp_in, new_udp, binds_udp, connects_udp, sends_udp, receives_udp, closes_udp}
 use Rattle.host_sockets.specs.Records.{records_of}

@@ -26,10 +26,10 @@ use Rattle.sock_tcp.specs.listener.Dropped.{dropped_by, dropped}
 use Rattle.tcp_laws.proofs.Tests.{by_test}
 use Rattle.tcp_streams.proofs.Members.{IsIn, IsIn-from_Contains, Contains-here, Contains-there}
 use Rattle.host_fds.specs.declared.rises.Rises.{Rises}
-use Rattle.host_sockets.specs.declared.error.Refusal.{Refusal}
-use Rattle.host_sockets.specs.declared.error.Refusal.TheVariants as refusal
+use Rattle.host_wants.specs.declared.error.Refusal.{Refusal}
+use Rattle.host_wants.specs.declared.error.Refusal.TheVariants as refusal
 use Rattle.host_sockets.specs.declared.tcp_sock.KeptTimer.{KeptTimer}
-use Rattle.host_sockets.specs.Wanted.{Wanted, draws_word, nothing_wanted, sends}
+use Rattle.host_wants.specs.Wanted.{Wanted, draws_word, nothing_wanted, sends}
 use Rattle.host_sockets.specs.TcpSocket.{TcpSocket, fresh, with_bound, with_tcb}
 use Rattle.host_sockets.specs.Sockets.{SocketsRecord, no_sockets, changes_in, changes_at, tcp_place, put_tcp}
 use Rattle.host_sockets.specs.TcpActs.{Acted, is_let_go, starts, turned, turned_in, record_acts, acts_in, acts_at}

@@ -8,7 +8,7 @@ use Rattle.sim_base.specs.declared.packet.Packet.{Packet}
 use Rattle.sim_base.specs.declared.time.Time.{Time}
 use Rattle.sock_tcp.specs.connection.Tcb.{Tcb}
 use Rattle.tcp_laws.proofs.Tests.{by_test}
-use Rattle.host_sockets.specs.Wanted.{Wanted, nothing_wanted}
+use Rattle.host_wants.specs.Wanted.{Wanted, nothing_wanted}
 use Rattle.host_sockets.specs.Sockets.{SocketsRecord, no_sockets}
 use Rattle.host_sockets.specs.Connecting.{connect_asked}
 use Rattle.host_sockets.specs.Records.{records_of}

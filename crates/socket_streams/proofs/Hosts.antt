@@ -11,7 +11,7 @@ use Rattle.sock_tcp.specs.connection.Tcb.{Tcb}
 use Rattle.sock_tcp.specs.listener.Listen.{Listen}
 use Rattle.tcp_laws.proofs.Tests.{by_test}
 use Rattle.tcp_streams.proofs.Members.{found}
-use Rattle.host_sockets.specs.Wanted.{Wanted}
+use Rattle.host_wants.specs.Wanted.{Wanted}
 use Rattle.host_sockets.specs.TcpSocket.{TcpSocket, is_free}
 use Rattle.host_sockets.specs.Sockets.{SocketsRecord, with_tcp, changes_in, changes_at, put_at, tcp_place, put_tcp}
 use Rattle.host_sockets.specs.TcpActs.{Acted, acts_in, acts_at}

@@ -6,8 +6,8 @@ use Rattle.sim_base.specs.declared.packet.Packet.{Packet}
 use Rattle.sim_base.specs.declared.time.Time.{Time}
 use Rattle.tcp_streams.specs.Net.{IsVoid}
 use Rattle.tcp_streams.proofs.Members.{IsIn-from_Contains}
-use Rattle.host_sockets.specs.declared.error.Refusal.{Refusal}
-use Rattle.host_sockets.specs.Wanted.{Wanted, sends}
+use Rattle.host_wants.specs.declared.error.Refusal.{Refusal}
+use Rattle.host_wants.specs.Wanted.{Wanted, sends}
 use Rattle.host_sockets.specs.Sockets.{SocketsRecord}
 use Rattle.socket_laws.specs.Histories.{SocketsAct, left_by, sockets_acted, sockets_after}
 use Rattle.socket_laws.specs.Histories.SocketsAct.{elsewhere}

@@ -12,9 +12,9 @@ use Rattle.sim_base.specs.declared.packet.Packet.{Packet}
 use Rattle.sim_base.specs.declared.time.Time.{Time}
 use Rattle.sock_udp.specs.Socket.{UdpState, or_else, reach, address_to_use, address_and_destination, packet_between, send}
 use Rattle.sock_tcp.specs.connection.Tcb.{Tcb}
-use Rattle.host_sockets.specs.declared.error.Refusal.{Refusal}
-use Rattle.host_sockets.specs.Refusals.{by_errno}
-use Rattle.host_sockets.specs.Wanted.{Wanted, nothing_wanted}
+use Rattle.host_wants.specs.declared.error.Refusal.{Refusal}
+use Rattle.host_wants.specs.Refusals.{by_errno}
+use Rattle.host_wants.specs.Wanted.{Wanted, nothing_wanted}
 use Rattle.host_sockets.specs.Sockets.{SocketsRecord, no_sockets}
 use Rattle.host_sockets.specs.Connecting.{source_end, connect_asked}
 use Rattle.host_sockets.specs.Records.{records_of}

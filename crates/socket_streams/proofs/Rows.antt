@@ -26,10 +26,10 @@ use Rattle.tcp_laws.specs.Acts.Act.{write, read, flow, shut, error_read}
 use Rattle.tcp_streams.specs.Net.{IsVoid}
 use Rattle.tcp_streams.proofs.Members.{IsIn-from_Contains}
 use Rattle.tcp_streams.proofs.Voids.{refusal_void}
-use Rattle.host_sockets.specs.declared.error.Refusal.{Refusal}
-use Rattle.host_sockets.specs.declared.error.Refusal.TheVariants as refusal
-use Rattle.host_sockets.specs.Refusals.{stop_kept}
-use Rattle.host_sockets.specs.Wanted.{Wanted, sends, draws_word}
+use Rattle.host_wants.specs.declared.error.Refusal.{Refusal}
+use Rattle.host_wants.specs.declared.error.Refusal.TheVariants as refusal
+use Rattle.host_wants.specs.Refusals.{stop_kept}
+use Rattle.host_wants.specs.Wanted.{Wanted, sends, draws_word}
 use Rattle.host_sockets.specs.TcpSocket.{TcpSocket, fresh, with_bound, has_record}
 use Rattle.host_sockets.specs.Sockets.{SocketsRecord, changes_in, changes_at, put_tcp}
 use Rattle.host_sockets.specs.TcpActs.{acts_at, record_acts}

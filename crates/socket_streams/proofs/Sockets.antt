@@ -13,7 +13,7 @@ use Rattle.tcp_laws.specs.Acts.Act.{arrival, expiry, close}
 use Rattle.tcp_laws.proofs.Tests.{by_test}
 use Rattle.tcp_streams.proofs.Voids.{resets_void}
 use Rattle.host_sockets.specs.declared.tcp_sock.KeptTimer.{KeptTimer}
-use Rattle.host_sockets.specs.Wanted.{Wanted, sends, draws_word}
+use Rattle.host_wants.specs.Wanted.{Wanted, sends, draws_word}
 use Rattle.host_sockets.specs.TcpSocket.{TcpSocket, has_record, has_record_in}
 use Rattle.host_sockets.specs.TcpActs.{Acted}
 use Rattle.sock_tcp.specs.listener.Dropped.{dropped}

@@ -14,7 +14,7 @@ use Rattle.tcp_laws.specs.Acts.{Act, acted}
 use Rattle.tcp_laws.specs.Acts.Start.{active}
 use Rattle.tcp_laws.proofs.Tests.{by_test}
 use Rattle.tcp_streams.specs.Net.{MayAct}
-use Rattle.host_sockets.specs.Wanted.{Wanted, sends}
+use Rattle.host_wants.specs.Wanted.{Wanted, sends}
 use Rattle.host_sockets.specs.TcpSocket.{TcpSocket, with_tcb}
 use Rattle.host_sockets.specs.TcpActs.{Acted, unacted, is_let_go, starts, turned, turned_in, record_acts}
 use Rattle.host_sockets.specs.Records.{own_record, kept_records, records_at}

@@ -6,9 +6,9 @@ use Rattle.sim_base.specs.declared.address.Addr.{Addr}
 use Rattle.sim_base.specs.declared.object.ObjectId.{ObjectId}
 use Rattle.sim_base.specs.declared.packet.Packet.{Packet}
 use Rattle.sim_base.specs.declared.time.Time.{Time}
-use Rattle.host_sockets.specs.declared.outlet.Want.TheVariants.{Send, Alarm}
+use Rattle.host_wants.specs.declared.outlet.Want.TheVariants.{Send, Alarm}
 use Rattle.host_sockets.specs.declared.tcp_sock.KeptTimer.{KeptTimer}
-use Rattle.host_sockets.specs.Wanted.{Wanted, sends, next_serial, wants_alarm, due_after}
+use Rattle.host_wants.specs.Wanted.{Wanted, sends, next_serial, wants_alarm, due_after}
 use Rattle.host_sockets.specs.TcpSocket.{TcpSocket}
 use Rattle.host_sockets.specs.TcpActs.{object_of, starts}
 use Rattle.host_sockets.specs.ListenerActs.{timer_starts}

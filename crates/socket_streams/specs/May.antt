@@ -7,7 +7,7 @@ use Rattle.sim_base.specs.declared.packet.Packet.{Packet}
 use Rattle.sim_base.specs.declared.time.Time.{Time}
 use Rattle.sock_tcp.specs.connection.Tcb.{Tcb}
 use Rattle.sock_tcp.specs.listener.Listen.{Listen}
-use Rattle.host_sockets.specs.Wanted.{Wanted}
+use Rattle.host_wants.specs.Wanted.{Wanted}
 use Rattle.host_sockets.specs.TcpSocket.{TcpSocket}
 use Rattle.host_sockets.specs.Sockets.{SocketsRecord}
 use Rattle.host_sockets.specs.Udp.{sends_udp}

@@ -2,9 +2,9 @@
 use Rattle.std.specs.Prelude.{List, ◌++◌, filter_map, Option, Some, None}
 use Rattle.sim_base.specs.declared.packet.Packet.{Packet}
 use Rattle.sock_tcp.specs.connection.Tcb.{Tcb}
-use Rattle.host_sockets.specs.declared.outlet.Want.{Want}
-use Rattle.host_sockets.specs.declared.outlet.Want.TheVariants.{Send, Alarm}
-use Rattle.host_sockets.specs.Wanted.{Wanted}
+use Rattle.host_wants.specs.declared.outlet.Want.{Want}
+use Rattle.host_wants.specs.declared.outlet.Want.TheVariants.{Send, Alarm}
+use Rattle.host_wants.specs.Wanted.{Wanted}
 use Rattle.host_sockets.specs.Sockets.{SocketsRecord}
 use Rattle.host_sockets.specs.Records.{records_of}
 use Rattle.tcp_streams.specs.Net.{Net}

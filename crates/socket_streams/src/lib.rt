@@ -10,7 +10,7 @@ ghost use Rattle.sim_base.specs.declared.time.Time.{Time};
 ghost use Rattle.sock_tcp.specs.connection.Tcb.{Tcb};
 ghost use Rattle.host_sockets.specs.Records.{records_of};
 ghost use Rattle.host_sockets.specs.Sockets.{SocketsRecord, no_sockets};
-ghost use Rattle.host_sockets.specs.Wanted.{Wanted};
+ghost use Rattle.host_wants.specs.Wanted.{Wanted};
 ghost use Rattle.socket_laws.specs.Histories.{SocketsAct, sockets_acted, sockets_of};
 ghost use Rattle.socket_streams.specs.Records.{packets_of, net_of};
 ghost use Rattle.socket_streams.specs.Home.{AllComeHome, AreAtHome};

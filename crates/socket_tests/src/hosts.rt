@@ -1,6 +1,7 @@
 //! The sockets of a host: numbers that no socket has, and ports that are all had.
 
-use host_sockets::{CallError, Outlet, Refusal, Sockets};
+use host_sockets::Sockets;
+use host_wants::{CallError, Outlet, Refusal};
 use sim_base::{Addr, Around, Book, Draws, Errno, Ip, Time};
 use sock_udp::{UdpError, UdpSock};
 use std::alloc::Global;

@@ -1,5 +1,5 @@
 use Rattle.std.proofs.Common.{ap, Result}
-use Rattle.host_sockets.specs.declared.error.Refusal.{Refusal}
+use Rattle.host_wants.specs.declared.error.Refusal.{Refusal}
 use Rattle.host_calls.specs.declared.parts.Reaction.{Reaction}
 use Rattle.host_calls.specs.Calls.{answered}
 use Rattle.host_calls.specs.Parts.{Scene}

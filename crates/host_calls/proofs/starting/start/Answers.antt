@@ -1,8 +1,8 @@
 -- The descriptors 0, 1 and 2 are given out one after another, of none.
 use Rattle.std.proofs.Common.{ap, lit<}
 use Rattle.std.specs.FinMap as map
-use Rattle.host_calls.specs.declared.parts.Task.{Task}
-use Rattle.host_calls.proofs.Free.{still_free, all_free}
+use Rattle.file_calls.specs.declared.task.Task.{Task}
+use Rattle.file_calls.proofs.Free.{still_free, all_free}
 use Rattle.host_calls.proofs.starting.start.Goals as goal
 
 pub open-requires-clause-is_free : goal.open-requires-clause-is_free

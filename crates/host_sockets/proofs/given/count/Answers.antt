@@ -1,5 +1,5 @@
 use Rattle.std.proofs.Common.{ℕ, ◌+◌, Option, Some, sym, ap, ◌∙◌}
-use Rattle.host_sockets.specs.Given.{once}
+use Rattle.host_sockets.specs.inside.Given.{once}
 use Rattle.host_sockets.proofs.EndsFound.{on_ok}
 use Rattle.host_sockets.proofs.PortsCounted.{holds_same}
 use Rattle.host_sockets.proofs.given.count.Goals as goal

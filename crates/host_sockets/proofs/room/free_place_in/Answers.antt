@@ -1,5 +1,5 @@
 use Rattle.std.proofs.Common.{refl}
-use Rattle.host_sockets.specs.Lookup.{is_sought}
+use Rattle.host_sockets.specs.inside.Lookup.{is_sought}
 use Rattle.host_sockets.specs.declared.slots.Sought.TheVariants.{Free}
 use Rattle.host_sockets.proofs.Places.{first_or_behind}
 use Rattle.host_sockets.proofs.room.free_place_in.Goals as goal

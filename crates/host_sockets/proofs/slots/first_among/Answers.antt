@@ -1,6 +1,6 @@
-use Rattle.std.proofs.Common.{ℕ, List, ◌+◌, drop, subst, arith}
+use Rattle.std.proofs.Common.{ℕ, List, ◌+◌, drop, subst}
 use Rattle.std.proofs.lemmas.List.{drop_more}
-use Rattle.host_sockets.specs.Lookup.{is_sought}
+use Rattle.host_sockets.specs.inside.Lookup.{is_sought}
 use Rattle.host_sockets.proofs.Gathering.{drop_past}
 use Rattle.host_sockets.proofs.FirstAmong.{Best, looked, looked_at_all}
 use Rattle.host_sockets.proofs.slots.first_among.Goals as goal

@@ -1,5 +1,5 @@
 use Rattle.std.proofs.Common.{drop}
-use Rattle.host_sockets.specs.Lookup.{is_sought}
+use Rattle.host_sockets.specs.inside.Lookup.{is_sought}
 use Rattle.host_sockets.proofs.FirstAmong.{Best}
 use Rattle.host_sockets.proofs.slots.first_among.Given as goal
 

@@ -1,5 +1,5 @@
 use Rattle.std.proofs.Common.{sym, ◌∙◌}
-use Rattle.host_sockets.specs.Lookup.{is_sought}
+use Rattle.host_sockets.specs.inside.Lookup.{is_sought}
 use Rattle.host_sockets.proofs.Places.{sought_here, sought_next, sought_none}
 use Rattle.host_sockets.proofs.slots.place_in.Goals as goal
 

@@ -1,6 +1,6 @@
 use Rattle.std.proofs.Common.{List}
 use Rattle.host_sockets.specs.TcpSocket.{TcpSocket}
-use Rattle.host_sockets.specs.Lookup.{is_sought}
+use Rattle.host_sockets.specs.inside.Lookup.{is_sought}
 use Rattle.host_sockets.specs.StandsFor.{AllStand}
 use Rattle.host_sockets.proofs.Places.{PassedBy}
 use Rattle.host_sockets.proofs.slots.place_in.Given as goal

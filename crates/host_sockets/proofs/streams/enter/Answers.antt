@@ -1,6 +1,6 @@
 use Rattle.std.proofs.Common.{ap, ◌∙◌}
 use Rattle.std.specs.BTreeMap.{insert_entry}
-use Rattle.host_sockets.specs.Told.{all_told}
+use Rattle.host_sockets.specs.inside.Told.{all_told}
 use Rattle.host_sockets.proofs.Telling.{ends_order, ends_of, entered}
 use Rattle.host_sockets.proofs.streams.enter.Goals as goal
 

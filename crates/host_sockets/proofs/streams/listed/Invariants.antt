@@ -1,5 +1,5 @@
 use Rattle.std.proofs.Common.{◌≡◌, ◌++◌}
-use Rattle.host_sockets.specs.Told.{all_told}
+use Rattle.host_sockets.specs.inside.Told.{all_told}
 use Rattle.host_sockets.proofs.streams.listed.Given as goal
 
 -- what was told, and then what the others tell, is all

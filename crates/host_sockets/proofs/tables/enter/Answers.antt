@@ -1,7 +1,7 @@
 use Rattle.std.proofs.Common.{Some, sym, ap, ◌∙◌}
 use Rattle.std.specs.HashMap.{get}
 use Rattle.host_sockets.specs.declared.tables.Ends.{Ends}
-use Rattle.host_sockets.specs.Ends.{same_ends}
+use Rattle.host_sockets.specs.inside.Ends.{same_ends}
 use Rattle.host_sockets.proofs.EndsFound.{entry_stays_by, on_ok}
 use Rattle.host_sockets.proofs.tables.enter.Goals as goal
 

@@ -1,6 +1,6 @@
 use Rattle.std.proofs.Common.{ℕ, Some, sym, ap, ◌∙◌}
 use Rattle.std.specs.HashMap.{get}
-use Rattle.host_sockets.specs.Ends.{same_ends}
+use Rattle.host_sockets.specs.inside.Ends.{same_ends}
 use Rattle.host_sockets.proofs.EndsFound.{entry_stays}
 use Rattle.host_sockets.proofs.tables.forget.Goals as goal
 

@@ -1,6 +1,6 @@
-use Rattle.std.proofs.Common.{ℕ, ◌+◌, Some, None, sym, ◌∙◌}
+use Rattle.std.proofs.Common.{◌+◌, Some, None, sym, ◌∙◌}
 use Rattle.std.specs.List.{sum_by}
-use Rattle.host_sockets.specs.Given.{times}
+use Rattle.host_sockets.specs.inside.Given.{times}
 use Rattle.host_sockets.proofs.EndsFound.{some_is}
 use Rattle.host_sockets.proofs.PortsCounted.{least_told, none_told}
 use Rattle.host_sockets.proofs.given.Given.free_port.Goals as goal

@@ -2,7 +2,7 @@ use Rattle.std.proofs.Common.{arith}
 use Rattle.std.specs.Prelude.{is_none}
 use Rattle.sim_base.specs.declared.errno.Errno.TheVariants.{Einval}
 use Rattle.sim_base.specs.Refusals.{refuse_if}
-use Rattle.host_sockets.specs.declared.error.Refusal.TheVariants as refusal
+use Rattle.host_wants.specs.declared.error.Refusal.TheVariants as refusal
 use Rattle.host_sockets.proofs.SocketActs.{asked_at, asked_none}
 use Rattle.host_sockets.proofs.sockets.Sockets.accept_asked.Goals as goal
 

@@ -1,11 +1,11 @@
-use Rattle.std.proofs.Common.{◌≡◌, List, Option, Some, None, Ok, Err, sym, ap, ◌∙◌, arith}
+use Rattle.std.proofs.Common.{◌≡◌, Option, Some, None, Ok, Err, sym, ap, ◌∙◌, arith}
 use Rattle.sim_base.specs.declared.address.Addr.{Addr}
 use Rattle.sim_base.specs.declared.errno.Errno.TheVariants.{Eaddrnotavail}
 use Rattle.sim_base.specs.Addresses.{any, at_free_port}
 use Rattle.sim_base.specs.Refusals.{or_refuse}
 use Rattle.sock_udp.specs.Socket.{or_else}
-use Rattle.host_sockets.specs.declared.error.CallError.TheVariants as error
-use Rattle.host_sockets.specs.declared.error.Refusal.TheVariants as refusal
+use Rattle.host_wants.specs.declared.error.CallError.TheVariants as error
+use Rattle.host_wants.specs.declared.error.Refusal.TheVariants as refusal
 use Rattle.host_sockets.specs.Binding.{end_to_use}
 use Rattle.host_sockets.specs.Sockets.{SocketsRecord, tcp_ends}
 use Rattle.host_sockets.specs.TcpSocket.{TcpSocket}

@@ -9,7 +9,7 @@ use Rattle.host_sockets.proofs.sockets.Sockets.udp_ends.Goals as goal
 
 pub loop-slot-preserved : goal.loop-slot-preserved
 loop-slot-preserved c =
-    let slots = c.args.self.now.udp.items in
+    let slots = c.args.self.now.udp.slots.items in
     let is = c.slot-item.is ∙ ap (λ (xs : List (Option UdpState)). get_or xs c.loop-slot.slot-index c.slot-item.result) c.deref-slot-items.ensures.value in
     let long = ap length c.deref-slot-items.ensures.value in
     ap (λ (ys : List Addr). ys ++ flat_map udp_end (drop (c.loop-slot.slot-index + 1) slots)) c.in_ok-add_end.ensures
@@ -18,5 +18,5 @@ loop-slot-preserved c =
 pub returns : goal.returns
 returns c = λ t h.
     let long = ap length c.deref-slot-items.ensures.value in
-    gathered_all udp_end c.args.self.now.udp.items c.loop-slot.slot-index c.loop-slot.ends.items (omega arith) c.loop-slot.invariant
+    gathered_all udp_end c.args.self.now.udp.slots.items c.loop-slot.slot-index c.loop-slot.ends.items (omega arith) c.loop-slot.invariant
     ∙ ap (flat_map udp_end) h.udp

@@ -4,8 +4,8 @@ use Rattle.host_sockets.proofs.UdpSlots.{told_udp, told_no_udp}
 use Rattle.host_sockets.proofs.sockets.Sockets.udp_ready.Goals as goal
 
 pub returns-then-k-len : goal.returns-then-k-len
-returns-then-k-len c = λ t h. told_no_udp c.args.self.now t c.args.k udp_ready_in h (omega (arith, c.args.self.now.udp.ok.0))
+returns-then-k-len c = λ t h. told_no_udp c.args.self.now t c.args.k udp_ready_in h (omega (arith, c.args.self.now.udp.slots.ok.0))
 
 pub returns : goal.returns
 returns c = λ t h.
-    c.ready.ensures ∙ told_udp c.args.self.now t c.args.k c.index.result.now udp_ready_in h (omega (arith, c.args.self.now.udp.ok.0)) c.index.ensures
+    c.ready.ensures ∙ told_udp c.args.self.now t c.args.k c.index.result.now udp_ready_in h (omega (arith, c.args.self.now.udp.slots.ok.0)) c.index.ensures

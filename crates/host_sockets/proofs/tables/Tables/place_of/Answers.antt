@@ -1,8 +1,8 @@
 use Rattle.std.proofs.Common.{position, sym, ap, ◌∙◌}
 use Rattle.std.specs.HashMap.{get}
 use Rattle.host_sockets.specs.declared.slots.Sought.{Sought}
-use Rattle.host_sockets.specs.Ends.{same_ends}
-use Rattle.host_sockets.specs.Lookup.{is_sought}
+use Rattle.host_sockets.specs.inside.Ends.{same_ends}
+use Rattle.host_sockets.specs.inside.Lookup.{is_sought}
 use Rattle.host_sockets.proofs.EndsFound.{among_one, among_none}
 use Rattle.host_sockets.proofs.tables.Tables.place_of.Goals as goal
 

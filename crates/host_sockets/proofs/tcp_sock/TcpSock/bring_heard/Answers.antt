@@ -1,6 +1,6 @@
 use Rattle.std.proofs.Common.{List, refl, ap, ◌∙◌}
 use Rattle.sim_base.specs.declared.packet.Packet.{Packet}
-use Rattle.host_sockets.specs.Wanted.{sends}
+use Rattle.host_wants.specs.Wanted.{sends}
 use Rattle.host_sockets.specs.ListenerActs.{with_listen, with_timers, timer_starts}
 use Rattle.host_sockets.proofs.Taking.{brings_heard}
 use Rattle.host_sockets.proofs.tcp_sock.TcpSock.bring_heard.Goals as goal

@@ -1,0 +1,9 @@
+pub mod Scene
+pub mod Descriptors
+pub mod Flags
+pub mod Numbers
+pub mod Files
+pub mod Times
+pub mod Guest
+pub mod Eventfd
+pub mod EpollControl

@@ -1,0 +1,7 @@
+-- what the index of sockets keeps: it passes none by which a look at each socket would find
+pub mod Bindings
+pub mod Ends
+pub mod Given
+pub mod Indexing
+pub mod Lookup
+pub mod Told
