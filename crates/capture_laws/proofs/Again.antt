@@ -5,6 +5,7 @@ use Rattle.std.specs.List.{flat_map, filter, AllByRecursion}
 use Rattle.std.proofs.lemmas.Bool.{le-leb}
 use Rattle.sim_base.specs.Packet.{packet_size, max_packet}
 use Rattle.sim_base.specs.Units.{latest_time}
+use Rattle.sim_base.specs.declared.address.Ip.{Ip}
 use Rattle.sim_base.specs.declared.packet.Packet.{Packet}
 use Rattle.pcap_text.specs.Datagram.{datagram_bytes}
 use Rattle.pcap_text.specs.Laws.{Taken, MayBeRecorded}
@@ -15,10 +16,11 @@ use Rattle.pcap_text.specs.Writing.{head, packet_record}
 use Rattle.pcap_text.specs.declared.capture.Record.{Record}
 use Rattle.pcap_text.proofs.Datagrams.{datagram_size, is_datagram, one_packet}
 use Rattle.pcap_text.proofs.Written.{read_back}
-use Rattle.host_state.specs.Captures.{has_record, line_record, records_of}
+use Rattle.host_state.specs.Captures.{has_record, line_record, records_of, is_at, is_on_eth0, is_on_lo, eth0_of, lo_of}
+use Rattle.host_state.specs.LinesFit.{AllFit}
 use Rattle.host_state.specs.declared.line.Line.{Line}
 use Rattle.shadow_top.specs.Captured.{line_with, AreLinesOf}
-use Rattle.capture_laws.specs.ReadAgain.{IsInRange, AllFit, AllInRange, whole_record, told, AreReadAgain}
+use Rattle.capture_laws.specs.ReadAgain.{IsInRange, AllInRange, whole_record, told, AreReadAgain}
 
 abbrev taken : Line → Taken
 taken l = record { time = l.time; packet = l.packet }
@@ -103,3 +105,13 @@ cond_all P false l ls here each = each
 pub filtered : (P : Line → Type 0) (test : Line → Bool) (lines : List Line) → AllByRecursion P lines → AllByRecursion P (filter test lines)
 filtered P test [] each = tt
 filtered P test (l ∷ ls) each = cond_all P (test l) l (filter test ls) each.0 (filtered P test ls each.1)
+
+pub eth0_again : (size number : ℕ) (own : Ip) (lines : List Line) → max_packet ≤ size → size < 2 ^ 32 → AllFit lines → AllInRange lines → AreReadAgain size (eth0_of number own lines)
+eth0_again size number own lines large fits fit range =
+    let test = λ (line : Line). is_at number line && is_on_eth0 own line in
+    read_again size (eth0_of number own lines) large fits (filtered (λ (l : Line). Fits l.packet) test lines fit) (filtered IsInRange test lines range)
+
+pub lo_again : (size number : ℕ) (own : Ip) (lines : List Line) → max_packet ≤ size → size < 2 ^ 32 → AllFit lines → AllInRange lines → AreReadAgain size (lo_of number own lines)
+lo_again size number own lines large fits fit range =
+    let test = λ (line : Line). is_at number line && is_on_lo own line in
+    read_again size (lo_of number own lines) large fits (filtered (λ (l : Line). Fits l.packet) test lines fit) (filtered IsInRange test lines range)

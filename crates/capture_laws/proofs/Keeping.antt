@@ -16,9 +16,9 @@ use Rattle.gml_graph.specs.Edges.{lossless}
 use Rattle.net_iface.specs.declared.lane.Pushed.{Pushed}
 use Rattle.net_iface.specs.declared.lane.Pushed.TheVariants.{Leaves, Waits, Dropped}
 use Rattle.net_iface.specs.Lane.{AllFit, pushed, released}
-use Rattle.host_sockets.specs.declared.outlet.Want.{Want}
-use Rattle.host_sockets.specs.declared.outlet.Want.TheVariants as wanted
-use Rattle.host_sockets.specs.Wanted.{Wanted, draws_word}
+use Rattle.host_wants.specs.declared.outlet.Want.{Want}
+use Rattle.host_wants.specs.declared.outlet.Want.TheVariants as wanted
+use Rattle.host_wants.specs.Wanted.{Wanted, draws_word}
 use Rattle.host_state.specs.declared.line.Line.{Line}
 use Rattle.host_state.specs.declared.net.Net.{Net}
 use Rattle.host_state.specs.Host.{does_want, does_all}

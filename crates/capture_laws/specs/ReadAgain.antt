@@ -5,7 +5,7 @@ use Rattle.sim_base.specs.Packet.{packet_size, max_packet}
 use Rattle.sim_base.specs.Units.{latest_time}
 use Rattle.sim_base.specs.declared.packet.Packet.{Packet}
 use Rattle.pcap_text.specs.Datagram.{datagram_bytes}
-use Rattle.pcap_text.specs.Packets.{Fits, IsPacketIn}
+use Rattle.pcap_text.specs.Packets.{IsPacketIn}
 use Rattle.pcap_text.specs.Reading.{pcap}
 use Rattle.pcap_text.specs.Writing.{head}
 use Rattle.pcap_text.specs.declared.capture.Record.{Record}
@@ -18,10 +18,6 @@ use Rattle.host_state.specs.declared.line.Line.{Line}
 pub record IsInRange (l : Line) : Type 0 where
   pub time : l.time.nanos ≤ latest_time
   pub size : packet_size l.packet ≤ max_packet
-
--- the numbers of the packets fit their types, as those of each packet of the program do
-abbrev pub AllFit : List Line → Type 0
-AllFit lines = AllByRecursion (λ (l : Line). Fits l.packet) lines
 
 abbrev pub AllInRange : List Line → Type 0
 AllInRange lines = AllByRecursion IsInRange lines

@@ -1,7 +1,7 @@
 //! Captures of a run, read again. Definitions and laws, and no code that runs.
 #![tactic(auto)]
 
-ghost use Rattle.std.specs.Prelude.{◌≡◌, ℕ, ◌<◌, ◌≤◌, ◌^◌, List, Contains, Some, slice_get};
+ghost use Rattle.std.specs.Prelude.{◌≡◌, ℕ, ◌<◌, ◌≤◌, ◌^◌, List, Contains, Option, Some, slice_get};
 ghost use Rattle.sim_base.specs.Packet.{max_packet};
 ghost use Rattle.sim_base.specs.Units.{latest_time};
 ghost use Rattle.sim_base.specs.declared.address.Ip.{Ip};
@@ -10,15 +10,19 @@ ghost use Rattle.host_state.specs.declared.net.Net.{Net};
 ghost use Rattle.host_state.specs.declared.row.Row.{Row};
 ghost use Rattle.host_state.specs.Captures.{eth0_of, lo_of};
 ghost use Rattle.host_state.specs.HostRecord.{HostRecord};
+ghost use Rattle.host_state.specs.LinesFit.{AllFit};
 ghost use Rattle.host_state.specs.Logs.{lines_of};
 ghost use Rattle.host_state.specs.World.{World, IsResult, opening_world};
 ghost use Rattle.world_order.specs.World.{Logged};
 ghost use Rattle.run_streams.specs.Run.{IsReached, AreHosts};
 ghost use Rattle.run_plan.specs.declared.planned.Run.{Run};
+ghost use Rattle.sim_base.specs.Sink.{Content};
+ghost use Rattle.shadow_top.specs.Contract.{Shows};
 ghost use Rattle.shadow_top.specs.Input.{Input, IsToRun};
 ghost use Rattle.shadow_top.specs.Opened.{rows_of, net_of};
+ghost use Rattle.shadow_top.specs.Shown.{IsRunTo};
 ghost use Rattle.capture_laws.specs.Loopback.{past_of, IsPlaced};
-ghost use Rattle.capture_laws.specs.ReadAgain.{AllFit, AllInRange, AreReadAgain};
+ghost use Rattle.capture_laws.specs.ReadAgain.{AllInRange, AreReadAgain};
 
 /// Reading the two captures that lines of a packet log give a host gives the host's lines again, each
 /// with its time and its packet, where the capture size is at least 1,500.
@@ -36,11 +40,22 @@ pub fn lines_are_in_range()
         → AllInRange (lines_of result.log) }
 {}
 
-/// Reading `eth0` of a run gives those lines again.
+/// Reading `eth0` of a run gives those lines again, where the numbers of the packets fit their types.
 pub fn runs_are_read_again()
     ensures { (net : Net) (rows : List Row) (result : World) (i : ℕ) (h : HostRecord) (size : ℕ) → net.stop.nanos ≤ latest_time
         → IsResult net result (opening_world rows) → slice_get result.hosts i ≡ Some h → max_packet ≤ size → size < 2 ^ 32
         → AllFit (lines_of result.log) → AreReadAgain size (eth0_of i h.row.address (lines_of result.log)) }
+{}
+
+/// So where a run is shown, reading the two captures of its result gives their lines again: what shows it
+/// tells that the numbers of all packets that it logs fit their types.
+pub fn shown_runs_are_read_again()
+    ensures eth0 { (i : Input) (old : Content) (new : Option Content) (status : ℕ) (run : Run) (w : World) (k : ℕ) (h : HostRecord) (size : ℕ) → Shows i old new status
+        → IsToRun i run → IsRunTo run w → slice_get w.hosts k ≡ Some h → max_packet ≤ size → size < 2 ^ 32
+        → AreReadAgain size (eth0_of k h.row.address (lines_of w.log)) }
+    ensures lo { (i : Input) (old : Content) (new : Option Content) (status : ℕ) (run : Run) (w : World) (k : ℕ) (h : HostRecord) (size : ℕ) → Shows i old new status
+        → IsToRun i run → IsRunTo run w → slice_get w.hosts k ≡ Some h → max_packet ≤ size → size < 2 ^ 32
+        → AreReadAgain size (lo_of k h.row.address (lines_of w.log)) }
 {}
 
 /// In every world that a run reaches, its result among them, `lo` of a host has the lines of just the

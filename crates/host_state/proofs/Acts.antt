@@ -13,12 +13,12 @@ use Rattle.net_iface.specs.declared.lane.Pushed.{Pushed}
 use Rattle.net_iface.specs.declared.lane.Released.{Released}
 use Rattle.net_iface.specs.Lane.{Release}
 use Rattle.host_calls.specs.declared.all.Parts.{Parts}
-use Rattle.host_calls.specs.declared.parts.Output.{Output}
+use Rattle.file_calls.specs.declared.task.Output.{Output}
 use Rattle.host_calls.specs.Events.{arrives, alarmed, Delivered}
 use Rattle.host_calls.specs.Parts.{PartsRecord, PartsStand}
 use Rattle.host_sockets.specs.Sockets.{SocketsRecord}
 use Rattle.host_sockets.specs.StandsFor.{Stand}
-use Rattle.host_sockets.specs.Wanted.{Wanted}
+use Rattle.host_wants.specs.Wanted.{Wanted}
 use Rattle.host_state.specs.declared.host.Body.{Body}
 use Rattle.host_state.specs.declared.net.Net.{Net}
 use Rattle.host_state.specs.HostRecord.{HostRecord}

@@ -6,8 +6,8 @@ use Rattle.sim_base.specs.declared.signal.Signal.{Signal}
 use Rattle.host_state.specs.Link.{LinkState, comes_to}
 use Rattle.sim_base.specs.declared.time.Time.{Time}
 use Rattle.host_calls.specs.declared.all.Parts.{Parts}
-use Rattle.host_calls.specs.declared.parts.Task.{Task}
-use Rattle.host_calls.specs.declared.parts.Why.{Why}
+use Rattle.file_calls.specs.declared.task.Task.{Task}
+use Rattle.file_calls.specs.declared.task.Why.{Why}
 use Rattle.host_calls.specs.Calls.{answers}
 use Rattle.host_calls.specs.Parts.{PartsRecord, PartsStand}
 use Rattle.host_calls.specs.Starting.{task_starts}

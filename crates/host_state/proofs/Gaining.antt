@@ -1,6 +1,6 @@
 -- What a later world gained, and that its hosts keep their names.
 use Rattle.std.proofs.Common.{◌≡◌, suc, List, [], ◌∷◌, ◌++◌, length, map, slice_get, Some, ℕ, Vec, Global, refl, sym, ap, ◌∙◌, arith}
-use Rattle.host_calls.specs.declared.parts.Output.{Output}
+use Rattle.file_calls.specs.declared.task.Output.{Output}
 use Rattle.host_state.specs.Extends.{AreLater, Extends}
 use Rattle.host_state.specs.Grown.{AreGained, Gains}
 use Rattle.host_state.specs.HostRecord.{HostRecord}

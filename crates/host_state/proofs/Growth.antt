@@ -22,9 +22,9 @@ use Rattle.net_iface.specs.declared.lane.Pushed.{Pushed}
 use Rattle.net_iface.specs.declared.lane.Pushed.TheVariants.{Leaves, Waits, Dropped}
 use Rattle.net_iface.specs.declared.lane.Waiting.{Waiting}
 use Rattle.net_iface.specs.Lane.{LaneState, Left, AllFit, waiting_size, lane_at, pushed_first, pushed_behind, pushed_on, pushed, taken_front, with_rest, with_taken, leaving, released}
-use Rattle.host_sockets.specs.declared.outlet.Want.{Want}
-use Rattle.host_sockets.specs.declared.outlet.Want.TheVariants as wanted
-use Rattle.host_sockets.specs.Wanted.{Wanted, draws_word, without_wants}
+use Rattle.host_wants.specs.declared.outlet.Want.{Want}
+use Rattle.host_wants.specs.declared.outlet.Want.TheVariants as wanted
+use Rattle.host_wants.specs.Wanted.{Wanted, draws_word, without_wants}
 use Rattle.world_order.specs.Premises.{AreNumbered, IsFar}
 use Rattle.host_state.specs.declared.net.Net.{Net}
 use Rattle.host_state.specs.Fits.{FitsWhat, IsEventOf, IsLatency, IsLookaheadOf, IsShort}

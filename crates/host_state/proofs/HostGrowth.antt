@@ -18,8 +18,8 @@ use Rattle.rv32_machine.specs.declared.outcome.TurnEnd.{TurnEnd}
 use Rattle.rv32_machine.specs.declared.outcome.TurnEnd.TheVariants as end
 use Rattle.rv32_machine.specs.Table.{state}
 use Rattle.rv32_machine.specs.Turn.{turn}
-use Rattle.host_calls.specs.declared.parts.Task.{Task}
-use Rattle.host_calls.specs.declared.parts.Why.{Why}
+use Rattle.file_calls.specs.declared.task.Task.{Task}
+use Rattle.file_calls.specs.declared.task.Why.{Why}
 use Rattle.host_calls.specs.Calls.{call}
 use Rattle.host_calls.specs.Events.{arrives, alarmed, ended}
 use Rattle.host_calls.specs.Starting.{task_starts}

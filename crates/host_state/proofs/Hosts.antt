@@ -2,7 +2,7 @@
 use Rattle.std.proofs.Common.{◌≡◌, ℕ, ◌≤◌, List, [], map, ◌++◌, refl, ap, ◌∙◌}
 use Rattle.sim_base.specs.declared.event.Event.{Event}
 use Rattle.sim_base.specs.declared.address.Ip.{Ip}
-use Rattle.host_calls.specs.declared.parts.Output.{Output}
+use Rattle.file_calls.specs.declared.task.Output.{Output}
 use Rattle.host_calls.specs.Starting.{no_parts}
 use Rattle.host_state.specs.declared.firing.Made.{Made}
 use Rattle.host_state.specs.declared.host.Host.{Host}

@@ -17,3 +17,4 @@ pub mod Paths
 pub mod Listings
 pub mod Gaining
 pub mod Capturing
+pub mod LinesFit

@@ -1,7 +1,7 @@
 -- Pieces process by process and host by host.
 use Rattle.std.proofs.Common.{◌≡◌, ℕ, zero, suc, ◌+◌, ◌<◌, ◌≤◌, List, [], ◌∷◌, ◌++◌, length, map, drop, get_or, refl, sym, ap, ◌∙◌, arith, append_assoc, append-nil}
 use Rattle.std.proofs.lemmas.List.Elements.{filter-append}
-use Rattle.host_calls.specs.declared.parts.Output.{Output}
+use Rattle.file_calls.specs.declared.task.Output.{Output}
 use Rattle.host_state.specs.Files.{Put, put_of}
 use Rattle.host_state.specs.Grown.{process_grown, host_grown, is_some, with_bytes}
 use Rattle.host_state.specs.Listed.{HostNames, said, by_process, by_host}

@@ -1,8 +1,8 @@
 -- A body stands for records that differ in their sockets and in what was written alone.
 use Rattle.std.proofs.Common.{◌≡◌, List, Option, refl, sym, ap, subst, ◌∙◌}
-use Rattle.host_calls.specs.declared.parts.Output.{Output}
-use Rattle.host_calls.specs.declared.parts.Shared.{Shared}
-use Rattle.host_calls.specs.declared.parts.Task.{Task}
+use Rattle.file_calls.specs.declared.task.Output.{Output}
+use Rattle.file_calls.specs.declared.task.Shared.{Shared}
+use Rattle.file_calls.specs.declared.task.Task.{Task}
 use Rattle.host_sockets.specs.Sockets.{SocketsRecord}
 use Rattle.host_sockets.specs.StandsFor.{Stand}
 use Rattle.host_state.specs.declared.host.Body.{Body}

@@ -18,7 +18,7 @@ use Rattle.sim_base.specs.declared.state.State.{State}
 use Rattle.sim_base.specs.declared.state.State.TheVariants.{Signaled}
 use Rattle.host_calls.specs.declared.all.Parts.{Parts}
 use Rattle.host_calls.specs.declared.parts.Answer.{Answer}
-use Rattle.host_calls.specs.declared.parts.Task.{Task}
+use Rattle.file_calls.specs.declared.task.Task.{Task}
 use Rattle.host_calls.specs.Calls.{call, PartsCalled}
 use Rattle.host_calls.specs.Events.{ended}
 use Rattle.host_calls.specs.Parts.{PartsRecord, PartsStand}

@@ -1,7 +1,7 @@
 -- What a run adds to a world.
 use Rattle.std.specs.Prelude.{◌≡◌, List, [], ◌∷◌, ◌++◌}
 use Rattle.world_order.specs.World.{Logged}
-use Rattle.host_calls.specs.declared.parts.Output.{Output}
+use Rattle.file_calls.specs.declared.task.Output.{Output}
 use Rattle.host_state.specs.declared.line.Line.{Line}
 use Rattle.host_state.specs.HostRecord.{HostRecord}
 use Rattle.host_state.specs.World.{World}

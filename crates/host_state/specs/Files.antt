@@ -5,7 +5,7 @@ use Rattle.sim_base.specs.declared.outside.sink.Place.{Place}
 use Rattle.sim_base.specs.declared.state.State.{State}
 use Rattle.sim_base.specs.declared.state.State.TheVariants.{Running, Exited, Signaled}
 use Rattle.sim_base.specs.Ascii.{slash}
-use Rattle.host_calls.specs.declared.parts.Output.{Output}
+use Rattle.file_calls.specs.declared.task.Output.{Output}
 use Rattle.host_state.specs.declared.files.piece.Piece.{Piece}
 use Rattle.host_state.specs.declared.row.FinalState.{FinalState}
 use Rattle.host_state.specs.declared.row.FinalState.TheVariants as final

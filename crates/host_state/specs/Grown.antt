@@ -2,8 +2,8 @@
 use Rattle.std.specs.Prelude.{◌≡◌, ℕ, ◌+◌, List, [], ◌∷◌, ◌++◌, map, flat_map, slice_get, Option, Some, None, true, Bool, false}
 use Rattle.std.specs.List.{filter}
 use Rattle.sim_base.specs.declared.outside.sink.Place.TheVariants as place
-use Rattle.host_calls.specs.declared.parts.Output.{Output}
-use Rattle.host_calls.specs.Numbers.{stdout_fileno, stderr_fileno}
+use Rattle.file_calls.specs.declared.task.Output.{Output}
+use Rattle.file_calls.specs.Numbers.{stdout_fileno, stderr_fileno}
 use Rattle.host_state.specs.Captured.{all_captures, no_head}
 use Rattle.host_state.specs.Files.{Put, first_id, written_to, log_name}
 use Rattle.host_state.specs.HostRecord.{HostRecord}

@@ -3,9 +3,9 @@ use Rattle.std.specs.Prelude.{ℕ, List, [], ◌∷◌, slice_set}
 use Rattle.sim_base.specs.declared.address.Ip.{Ip}
 use Rattle.sim_base.specs.declared.event.What.TheVariants as what
 use Rattle.host_calls.specs.Parts.{PartsRecord}
-use Rattle.host_sockets.specs.declared.outlet.Want.{Want}
-use Rattle.host_sockets.specs.declared.outlet.Want.TheVariants.{Send, Alarm}
-use Rattle.host_sockets.specs.Wanted.{Wanted, without_wants}
+use Rattle.host_wants.specs.declared.outlet.Want.{Want}
+use Rattle.host_wants.specs.declared.outlet.Want.TheVariants.{Send, Alarm}
+use Rattle.host_wants.specs.Wanted.{Wanted, without_wants}
 use Rattle.host_state.specs.declared.net.Net.{Net}
 use Rattle.host_state.specs.declared.process.Process.{Process}
 use Rattle.host_state.specs.HostRecord.{HostRecord}

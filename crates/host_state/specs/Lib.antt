@@ -11,6 +11,7 @@ pub mod Host
 pub mod HostRecord
 pub mod HostStands
 pub mod Lanes
+pub mod LinesFit
 pub mod Link
 pub mod Listed
 pub mod Logs

@@ -16,7 +16,7 @@ use Rattle.net_routes.specs.Routes.{route_in}
 use Rattle.net_iface.specs.Lane.{Release}
 use Rattle.net_iface.specs.declared.lane.Pushed.{Pushed}
 use Rattle.net_iface.specs.declared.lane.Pushed.TheVariants.{Leaves, Waits, Dropped}
-use Rattle.host_sockets.specs.Wanted.{Wanted, draws_word}
+use Rattle.host_wants.specs.Wanted.{Wanted, draws_word}
 use Rattle.host_state.specs.declared.net.Net.{Net}
 use Rattle.host_state.specs.Link.{LinkState, makes, later, logs}
 use Rattle.host_state.specs.Lanes.{pushes_up, releases_up}

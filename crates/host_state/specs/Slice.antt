@@ -12,7 +12,7 @@ use Rattle.rv32_machine.specs.Table.{state}
 use Rattle.rv32_machine.specs.Turn.{Turn, turn}
 use Rattle.host_calls.specs.declared.parts.Answer.{Answer}
 use Rattle.host_calls.specs.declared.parts.Answer.TheVariants as answer
-use Rattle.host_calls.specs.declared.parts.Task.{Task}
+use Rattle.file_calls.specs.declared.task.Task.{Task}
 use Rattle.host_calls.specs.Calls.{call}
 use Rattle.host_calls.specs.Events.{ended}
 use Rattle.host_calls.specs.Parts.{PartsRecord}

@@ -6,8 +6,8 @@ use Rattle.rv32_machine.specs.Table.{state}
 use Rattle.rv32_machine.specs.Turn.{Turn, turn}
 use Rattle.sim_base.specs.declared.time.Time.{Time}
 use Rattle.world_order.specs.Model.{Fired}
-use Rattle.host_calls.specs.declared.parts.Output.{Output}
-use Rattle.host_calls.specs.declared.parts.Task.{Task}
+use Rattle.file_calls.specs.declared.task.Output.{Output}
+use Rattle.file_calls.specs.declared.task.Task.{Task}
 use Rattle.host_calls.specs.Parts.{PartsStand}
 use Rattle.host_state.specs.declared.host.Body.{Body}
 use Rattle.host_state.specs.declared.firing.Made.{Made}

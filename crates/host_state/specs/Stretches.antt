@@ -4,7 +4,7 @@ use Rattle.sim_base.specs.declared.state.State.{State}
 use Rattle.rv32_machine.specs.declared.cpu.Cpu.{Cpu}
 use Rattle.rv32_machine.specs.Table.{state}
 use Rattle.rv32_machine.specs.Turn.{turn}
-use Rattle.host_calls.specs.declared.parts.Task.{Task}
+use Rattle.file_calls.specs.declared.task.Task.{Task}
 use Rattle.host_state.specs.declared.net.Net.{Net}
 use Rattle.host_state.specs.Step as step
 use Rattle.host_state.specs.HostRecord.{HostRecord}

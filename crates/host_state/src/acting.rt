@@ -12,7 +12,7 @@ use crate::host::Body;
 use crate::link::Link;
 use crate::net::Net;
 use host_calls::{alarm, deliver};
-use host_sockets::{Outlet, Want};
+use host_wants::{Outlet, Want};
 use net_iface::Pushed;
 use sim_base::{Act, Ip, MAX_PACKET, NoMemory, ObjectId, Packet, What};
 

@@ -4,7 +4,7 @@ ghost use Rattle.std.specs.Prelude.{◌≡◌, ◌≤◌, ◌&&◌, not, List, s
 ghost use Rattle.sim_base.specs.Units.{latest_time};
 ghost use Rattle.host_state.specs.HostRecord.{HostRecord};
 ghost use Rattle.host_state.specs.StandsFor.{BodyStands, Does, DoesFrom, HandsOut};
-ghost use Rattle.host_calls.specs.declared.parts.Output.{Output};
+ghost use Rattle.file_calls.specs.declared.task.Output.{Output};
 ghost use Rattle.host_state.specs.Fire as spec;
 
 use crate::host::Body;
@@ -13,7 +13,8 @@ use crate::net::Net;
 use crate::process::{Process, Running};
 use crate::row::Row;
 use crate::start::{Started, start_guest, texts_fit};
-use host_calls::{Output, Why, answers_now, start_task};
+use file_calls::{Output, Why};
+use host_calls::{answers_now, start_task};
 use sim_base::{Event, NoMemory, Signal, What};
 use std::alloc::Global;
 

@@ -6,7 +6,7 @@ ghost use Rattle.host_state.specs.Outbox as spec;
 use crate::firing::Made;
 use crate::line::{Line, Logged};
 use crate::net::Net;
-use host_calls::Output;
+use file_calls::Output;
 use sim_base::{Event, HostId, Key, NoMemory, Parcel, What};
 use std::alloc::Global;
 

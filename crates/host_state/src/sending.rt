@@ -2,12 +2,12 @@
 
 ghost use Rattle.std.specs.Prelude.{◌≡◌, ◌≤◌, OnOk};
 ghost use Rattle.sim_base.specs.Packet.{packet_size};
-ghost use Rattle.host_sockets.specs.Wanted.{draws_word};
+ghost use Rattle.host_wants.specs.Wanted.{draws_word};
 ghost use Rattle.host_state.specs.Sending.{loses, stays_here, travels, takes_its_chance, takes_route, takes_route_if, leaves, leave_all, makes_if, goes_up, loops, sends, drop_all, up_comes, IsWire};
 
 use crate::link::{Link, later};
 use crate::net::Net;
-use host_sockets::Outlet;
+use host_wants::Outlet;
 use net_iface::Pushed;
 use sim_base::{Act, Ip, MAX_PACKET, NoMemory, Packet, Time, What};
 

@@ -1,7 +1,7 @@
 -- What a later world gained.
 use Rattle.std.proofs.Common.{List, [], ◌∷◌, ap, ◌∙◌}
 use Rattle.std.proofs.lemmas.List.{map-append}
-use Rattle.host_calls.specs.declared.parts.Output.{Output}
+use Rattle.file_calls.specs.declared.task.Output.{Output}
 use Rattle.host_state.specs.Extends.{AreLater, Extends}
 use Rattle.host_state.specs.Grown.{AreGained, Gains}
 use Rattle.host_state.specs.HostRecord.{HostRecord}

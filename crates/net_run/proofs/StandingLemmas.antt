@@ -4,24 +4,23 @@ use Rattle.std.specs.Option.{unwrap_or}
 use Rattle.sim_base.specs.Sink.{Content}
 use Rattle.sim_base.specs.declared.outside.sink.Place.{Place}
 use Rattle.sim_base.specs.declared.outside.sink.Place.TheVariants as place
-use Rattle.host_calls.specs.declared.parts.Output.{Output}
+use Rattle.file_calls.specs.declared.task.Output.{Output}
 use Rattle.host_state.specs.declared.line.Line.{Line}
-use Rattle.host_state.specs.Grown.{all_grown, with_bytes, Gains}
+use Rattle.host_state.specs.Grown.{all_grown, Gains}
 use Rattle.net_run.specs.Grown.{grown_in, IsGrown, HaveOwnFiles}
 use Rattle.host_state.specs.Listed.{names_in}
 use Rattle.net_run.specs.Parts.{IsFrontOf, IsPrefix, Grows, Between}
 use Rattle.host_state.specs.Files.{Put}
-use Rattle.net_run.specs.Pieces.{with_pieces, PutsFront}
+use Rattle.net_run.specs.Pieces.{with_pieces}
 use Rattle.net_run.specs.Places.{bytes_at, is_touched}
 use Rattle.net_run.specs.Rest.{rest_in}
 use Rattle.net_run.specs.Shown.{run_pieces}
 use Rattle.net_run.specs.World.{World}
 use Rattle.net_run.proofs.ContentLemmas.{added, at_places, by_place}
-use Rattle.net_run.proofs.FrontLemmas.{with_append}
 use Rattle.host_state.proofs.Gaining.{names-kept}
-use Rattle.net_run.proofs.GrownLemmas.{splits-round, round-grown, end-whole}
+use Rattle.net_run.proofs.GrownLemmas.{splits-round}
 use Rattle.net_run.proofs.HostLemmas.{own-hosts}
-use Rattle.net_run.proofs.PartLemmas.{front-refl, Grows-trans, Grows-with_pieces, between-puts}
+use Rattle.net_run.proofs.PartLemmas.{front-refl, Grows-with_pieces}
 use Rattle.net_run.proofs.WholeLemmas.{whole-run}
 
 -- ---- place by place
@@ -75,31 +74,3 @@ module _ (load : Bool) (w u : World) (outputs : List (List Output)) (lines : Lis
   -- what was put so far is a front of the run of any world that comes later
   pub part-so_far : Between c (Some (with_pieces puts c)) (with_pieces (run_pieces load u) c)
   part-so_far = record { now = with_pieces puts c; now_is = refl; grown = Grows-with_pieces puts c; rest = grows-to_run }
-
--- and so is what was put and a front of what a round gained
-pub part-round : (load : Bool) (w v u : World) (outputs : List (List Output)) (lines : List Line) (outputs' : List (List Output)) (lines' : List Line) → HaveOwnFiles (names_in w)
-    → Gains w v outputs lines → Gains v u outputs' lines' → (puts : List Put) → IsGrown w puts → (c : Content) (new : Option Content)
-    → PutsFront (with_bytes (all_grown (names_in w) outputs lines)) (Some (with_pieces puts c)) new → Between c new (with_pieces (run_pieces load u) c)
-part-round load w v u outputs lines outputs' lines' own gains later puts grown c new front =
-    let more = with_bytes (all_grown (names_in w) outputs lines) in
-    let between = between-puts more (with_pieces puts c) new front in
-    let own_v : HaveOwnFiles (names_in v) = subst HaveOwnFiles (sym (names-kept w v outputs lines gains)) own in
-    let whole = grows-to_run load v u outputs' lines' own_v later (puts ++ more) (round-grown w v outputs lines own gains puts grown) c in
-    record {
-      now = between.now;
-      now_is = between.now_is;
-      grown = Grows-trans _ _ _ (Grows-with_pieces puts c) between.grown;
-      rest = Grows-trans _ _ _ between.rest (subst (λ (d : Content). Grows d (with_pieces (run_pieces load u) c)) (with_append puts more c) whole);
-    }
-
--- and what was put and a front of what is put at the end
-pub part-end : (load : Bool) (w : World) → HaveOwnFiles (names_in w) → (puts : List Put) → IsGrown w puts → (c : Content) (new : Option Content)
-    → PutsFront (rest_in load w) (Some (with_pieces puts c)) new → Between c new (with_pieces (run_pieces load w) c)
-part-end load w own puts grown c new front =
-    let between = between-puts (rest_in load w) (with_pieces puts c) new front in
-    record {
-      now = between.now;
-      now_is = between.now_is;
-      grown = Grows-trans _ _ _ (Grows-with_pieces puts c) between.grown;
-      rest = subst (λ (d : Content). Grows between.now d) (sym (with_append puts (rest_in load w) c) ∙ end-whole load w own puts grown c) between.rest;
-    }

@@ -2,7 +2,7 @@
 use Rattle.std.proofs.Common.{◌≡◌, ℕ, List, ◌++◌, length, map, slice_get, Bool, Option, Some, option_map, refl, sym, ap, subst, ◌∙◌}
 use Rattle.sim_base.specs.Sink.{Content}
 use Rattle.sim_base.specs.declared.state.State.{State}
-use Rattle.host_calls.specs.declared.parts.Output.{Output}
+use Rattle.file_calls.specs.declared.task.Output.{Output}
 use Rattle.host_state.specs.Extends.{Extends}
 use Rattle.host_state.specs.HostRecord.{HostRecord}
 use Rattle.host_state.specs.declared.line.Line.{Line}
@@ -11,19 +11,18 @@ use Rattle.host_state.specs.Grown.{all_grown, with_bytes, Gains}
 use Rattle.net_run.specs.Grown.{IsGrown, HaveOwnFiles, IsUnderway}
 use Rattle.host_state.specs.Listed.{HostNames, listed, names_in}
 use Rattle.net_run.specs.Heads.{all_heads}
-use Rattle.net_run.specs.Parts.{Grows, Between}
+use Rattle.net_run.specs.Parts.{Between}
 use Rattle.host_state.specs.Files.{Put}
-use Rattle.net_run.specs.Pieces.{with_pieces, PutsFront}
-use Rattle.net_run.specs.Rest.{all_rest, rest_in, summary_in, unmet_of_hosts, TellsStates}
-use Rattle.net_run.specs.Shown.{run_pieces, status_by, status_of}
+use Rattle.net_run.specs.Pieces.{with_pieces}
+use Rattle.net_run.specs.Rest.{all_rest, rest_in, summary_in, TellsStates}
+use Rattle.net_run.specs.Shown.{run_pieces}
 use Rattle.net_run.specs.World.{World, opening_world}
 use Rattle.net_run.proofs.ExtendsLemmas.{gains-later}
 use Rattle.net_run.proofs.FrontLemmas.{with_append}
 use Rattle.host_state.proofs.Gaining.{names-kept}
 use Rattle.net_run.proofs.GrownLemmas.{opening-grown, round-grown, end-whole}
-use Rattle.net_run.proofs.PartLemmas.{Grows-trans, between-puts}
-use Rattle.net_run.proofs.StandingLemmas.{part-so_far, part-round, part-end}
-use Rattle.net_run.proofs.ToldLemmas.{opening-names, rest-told, status-told}
+use Rattle.net_run.proofs.StandingLemmas.{part-so_far}
+use Rattle.net_run.proofs.ToldLemmas.{opening-names, rest-told}
 
 -- the heads of captures were put
 pub underway-opening : (names : List HostNames) (rows : List Row) (begun : Content) → names ≡ map listed rows → HaveOwnFiles names → IsUnderway names begun (Some (with_pieces (all_heads names) begun)) (opening_world rows)
@@ -59,14 +58,6 @@ module _ (names : List HostNames) (begun : Content) (now : Option Content) (w : 
           ∙ ap Some (sym (with_append underway.puts (with_bytes (all_grown (names_in w) outputs lines)) begun));
     }
 
-    -- a front of it was put
-    pub underway-round_part : (load : Bool) (u : World) → Extends v u → PutsFront (with_bytes (all_grown names outputs lines)) now new → Between begun new (with_pieces (run_pieces load u) begun)
-    underway-round_part load u later front =
-        let more = gains-later v u later in
-        part-round load w v u outputs lines more.0 more.1 own_files gains more.2 underway.puts underway.grown begun new
-        (subst (λ (hosts : List HostNames). PutsFront (with_bytes (all_grown hosts outputs lines)) (Some (with_pieces underway.puts begun)) new) underway.names_are
-        (subst (λ (o : Option Content). PutsFront (with_bytes (all_grown names outputs lines)) o new) underway.now_is front))
-
   -- ---- the end
 
   module _ (states : List (List State)) (count : length states ≡ length w.hosts)
@@ -79,30 +70,3 @@ module _ (names : List HostNames) (begun : Content) (now : Option Content) (w : 
     underway-end load new put =
         put ∙ ap (λ (l : List Put). option_map (with_pieces l) now) (rest-is load) ∙ ap (option_map (with_pieces (rest_in load w))) underway.now_is
         ∙ ap Some (sym (with_append underway.puts (rest_in load w) begun) ∙ end-whole load w own_files underway.puts underway.grown begun)
-
-    -- a front of it was put
-    pub underway-end_part : (load : Bool) (new : Option Content) → PutsFront (all_rest names states (summary_in load w)) now new → Between begun new (with_pieces (run_pieces load w) begun)
-    underway-end_part load new front =
-        part-end load w own_files underway.puts underway.grown begun new
-        (subst (λ (o : Option Content). PutsFront (rest_in load w) o new) underway.now_is (subst (λ (l : List Put). PutsFront l now new) (rest-is load) front))
-
-    pub underway-status : status_by (unmet_of_hosts names states) ≡ status_of w
-    underway-status = ap (λ (hosts : List HostNames). status_by (unmet_of_hosts hosts states)) underway.names_are ∙ status-told w states count tells
-
--- ---- the beginning
-
--- a front of the heads was put
-pub underway-heads_part : (names : List HostNames) (rows : List Row) (begun : Content) (new : Option Content) → names ≡ map listed rows → HaveOwnFiles names → (load : Bool) (u : World)
-    → Extends (opening_world rows) u → PutsFront (all_heads names) (Some begun) new → Between begun new (with_pieces (run_pieces load u) begun)
-underway-heads_part names rows begun new names_are own load u later front =
-    let heads = with_pieces (all_heads names) begun in
-    let between = between-puts (all_heads names) begun new front in
-    let whole = underway-part names begun (Some heads) (opening_world rows) (underway-opening names rows begun names_are own) load u later in
-    record {
-      now = between.now;
-      now_is = between.now_is;
-      grown = between.grown;
-      rest = Grows-trans _ _ _ between.rest (at_heads heads whole.now whole.now_is whole.rest);
-    } where
-      at_heads : (heads now : Content) → Some heads ≡ Some now → Grows now (with_pieces (run_pieces load u) begun) → Grows heads (with_pieces (run_pieces load u) begun)
-      at_heads heads now is rest = subst (λ (c : Content). Grows c (with_pieces (run_pieces load u) begun)) (let e : now ≡ heads = cc in e) rest

@@ -6,7 +6,7 @@ use Rattle.std.proofs.lemmas.List.{map-append}
 use Rattle.sim_base.specs.declared.outside.sink.Place.{Place}
 use Rattle.sim_base.specs.declared.outside.sink.Place.TheVariants as place
 use Rattle.sim_base.specs.declared.state.State.{State}
-use Rattle.host_calls.specs.declared.parts.Output.{Output}
+use Rattle.file_calls.specs.declared.task.Output.{Output}
 use Rattle.host_state.specs.HostRecord.{HostRecord, state_of, process_state}
 use Rattle.host_state.specs.declared.line.Line.{Line}
 use Rattle.host_state.specs.declared.row.ProcessRow.{ProcessRow}

@@ -67,3 +67,8 @@ rest_in load w = all_rest (names_in w) (states_in w) (summary_in load w)
 pub record TellsStates (h : HostRecord) (states : List State) : Type 0 where
   pub count : length states ≡ length h.row.processes
   pub each : (p : ℕ) (state : State) → slice_get states p ≡ Some state → state ≡ process_state p h
+
+-- those of all hosts, each host's at its place
+pub record AreTold (w : World) (states : List (List State)) : Type 0 where
+  pub count : length states ≡ length w.hosts
+  pub each : (k : ℕ) (h : HostRecord) (told : List State) → slice_get w.hosts k ≡ Some h → slice_get states k ≡ Some told → TellsStates h told

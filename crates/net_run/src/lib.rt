@@ -3,6 +3,7 @@
 
 mod ending;
 mod heads;
+mod laws;
 mod notes;
 mod output;
 mod process_pieces;
@@ -10,6 +11,7 @@ mod streams;
 
 pub use ending::put_rest;
 pub use heads::put_heads;
+pub use laws::{parts_are_between, runs_grow};
 pub use notes::put_notes;
 pub use output::put_pieces;
 pub use streams::put_streams;

@@ -9,7 +9,7 @@ use Rattle.sim_base.specs.declared.event.Parcel.{Parcel}
 use Rattle.sim_base.specs.declared.host.HostId.{HostId}
 use Rattle.list_weights.specs.Weights.{weigh, numbers_below}
 use Rattle.steal_workers.specs.Gathers.{joined}
-use Rattle.host_calls.specs.declared.parts.Output.{Output}
+use Rattle.file_calls.specs.declared.task.Output.{Output}
 use Rattle.host_state.specs.declared.line.Logged.{Logged}
 use Rattle.host_state.specs.declared.net.Net.{Net}
 use Rattle.host_state.specs.declared.outbox.Outbox.{Outbox}
@@ -20,8 +20,8 @@ use Rattle.round_lookahead.specs.declared.workers.worked.Done.{Done}
 use Rattle.round_lookahead.specs.declared.workers.worked.Worked.{Worked}
 use Rattle.round_lookahead.specs.declared.world.in_place.Alone.{Alone}
 use Rattle.round_lookahead.specs.Alone.{HasRunFirst, IsPlaced, HasKept, AreRunInPlace}
-use Rattle.round_lookahead.specs.Arrivals.{Boxed}
-use Rattle.round_lookahead.specs.Backs.{lists_of, lines_done}
+use Rattle.round_lookahead.specs.inside.Arrivals.{Boxed}
+use Rattle.round_lookahead.specs.inside.Backs.{lists_of, lines_done}
 use Rattle.round_lookahead.specs.Rounds.{AreWorks, AreRows, IsRound, all_parcels}
 use Rattle.round_lookahead.specs.Tasks.{IsTask, AreTasksOf}
 use Rattle.round_lookahead.specs.Works.{HostJob, IsDone, AreDone, HasRun, done_of, numbers, parcels_made}

@@ -10,7 +10,7 @@ use Rattle.round_lookahead.specs.declared.workers.worked.Done.{Done}
 use Rattle.round_lookahead.specs.declared.workers.worked.Worked.{Worked}
 use Rattle.round_lookahead.specs.declared.world.backs.Back.{Back}
 use Rattle.round_lookahead.specs.declared.world.backs.Returned.{Returned}
-use Rattle.round_lookahead.specs.Backs.{back_of, with_done, ids_of, lines_done, all_done, all_spilled, took_by, lists_of, Returns}
+use Rattle.round_lookahead.specs.inside.Backs.{back_of, with_done, ids_of, lines_done, all_done, all_spilled, took_by, lists_of, Returns}
 
 -- ---- lists
 

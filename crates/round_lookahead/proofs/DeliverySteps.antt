@@ -6,8 +6,8 @@ use Rattle.sim_base.specs.declared.event.Event.{Event}
 use Rattle.sim_base.specs.declared.event.Parcel.{Parcel}
 use Rattle.host_state.specs.Parcels.{parcel_event}
 use Rattle.world_order.proofs.Parts.{part-more}
-use Rattle.round_lookahead.specs.Arrivals.{Boxed, arrivals}
-use Rattle.round_lookahead.specs.Backs.{row_arrivals}
+use Rattle.round_lookahead.specs.inside.Arrivals.{Boxed, arrivals}
+use Rattle.round_lookahead.specs.inside.Backs.{row_arrivals}
 use Rattle.round_lookahead.proofs.BackSteps.{at-index}
 
 arrivals-more : (bs : List Boxed) (b : Boxed) → arrivals (bs ++ b ∷ []) ≡ arrivals bs ++ parcel_event b.value ∷ []

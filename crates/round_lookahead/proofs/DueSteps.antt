@@ -7,7 +7,7 @@ use Rattle.std.proofs.lemmas.List.Elements.{All-append}
 use Rattle.sim_base.specs.declared.event.Event.{Event}
 use Rattle.sim_base.specs.declared.time.Time.{Time}
 use Rattle.event_order.specs.Events.{IsLeastDue}
-use Rattle.round_lookahead.specs.Dues.{lesser_due}
+use Rattle.round_lookahead.specs.inside.Dues.{lesser_due}
 use Rattle.round_lookahead.proofs.BackSteps.{flat-append}
 use Rattle.world_order.proofs.Members.{IsIn, IsIn-left, IsIn-right, IsIn-from_Contains, Contains-from_IsIn, Each-from_All, All-from_Each}
 

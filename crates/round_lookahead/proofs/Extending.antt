@@ -1,7 +1,7 @@
 -- A world later in a run has the same rows, and more that was written and logged.
 use Rattle.std.proofs.Common.{◌≡◌, ℕ, zero, suc, List, [], ◌∷◌, ◌++◌, map, length, Option, Some, None, nat_lt, slice_get, slice_set, refl, sym, ap, subst, ◌∙◌, append_assoc, append-nil}
 use Rattle.sim_base.specs.declared.event.Event.{Event}
-use Rattle.host_calls.specs.declared.parts.Output.{Output}
+use Rattle.file_calls.specs.declared.task.Output.{Output}
 use Rattle.host_state.specs.declared.line.Line.{Line}
 use Rattle.host_state.specs.declared.net.Net.{Net}
 use Rattle.host_state.specs.Extends.{IsLater, AreLater, Extends}

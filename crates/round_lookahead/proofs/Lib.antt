@@ -26,6 +26,6 @@ pub mod WorldRounds
 pub mod WorldGains
 pub mod WorldOpenings
 pub mod RoundPieces
-pub mod Reaching
+pub mod Reached
 pub mod Lookaheads
 pub mod StreamSteps

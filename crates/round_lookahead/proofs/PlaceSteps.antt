@@ -9,7 +9,7 @@ use Rattle.std.proofs.lemmas.List.Elements.{All-append, All-cons, All-nil}
 use Rattle.sim_base.specs.declared.event.Event.{Event}
 use Rattle.sim_base.specs.declared.event.Parcel.{Parcel}
 use Rattle.sim_base.specs.declared.host.HostId.{HostId}
-use Rattle.host_calls.specs.declared.parts.Output.{Output}
+use Rattle.file_calls.specs.declared.task.Output.{Output}
 use Rattle.host_state.specs.declared.host.Host.{Host}
 use Rattle.host_state.specs.declared.line.Line.{Line}
 use Rattle.host_state.specs.declared.net.Net.{Net}
@@ -27,11 +27,11 @@ use Rattle.round_lookahead.specs.declared.world.in_place.Alone.{Alone}
 use Rattle.round_lookahead.specs.declared.world.gained.Gained.{Gained}
 use Rattle.round_lookahead.specs.declared.world.settling.Settled.{Settled}
 use Rattle.round_lookahead.specs.Alone.{AreRunInPlace}
-use Rattle.round_lookahead.specs.Arrivals.{Boxed, arrivals}
-use Rattle.round_lookahead.specs.Backs.{all_done, all_spilled, ids_of, lines_done, lists_of, took_by, row_arrivals, AreAtHome}
+use Rattle.round_lookahead.specs.inside.Arrivals.{Boxed, arrivals}
+use Rattle.round_lookahead.specs.inside.Backs.{all_done, all_spilled, ids_of, lines_done, lists_of, took_by, row_arrivals, AreAtHome}
 use Rattle.round_lookahead.specs.RoundsInPlace.{IsRoundInPlace}
-use Rattle.round_lookahead.specs.Settles.{IsBack, HasSettled}
-use Rattle.round_lookahead.specs.Waits.{IsSameHosts, rows_of}
+use Rattle.round_lookahead.specs.inside.Settles.{IsBack, HasSettled}
+use Rattle.round_lookahead.specs.inside.Waits.{IsSameHosts, rows_of}
 use Rattle.round_lookahead.proofs.AloneSteps.{AreIdle, alone-round, idle-spills}
 use Rattle.round_lookahead.proofs.DeliverySteps.{row-more}
 use Rattle.round_lookahead.proofs.SettleSteps.{get_or-is}

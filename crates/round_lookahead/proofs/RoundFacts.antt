@@ -13,7 +13,7 @@ use Rattle.steal_workers.specs.declared.item.Numbered.{Numbered}
 use Rattle.steal_workers.specs.Deals.{Deal}
 use Rattle.steal_workers.specs.Gathers.{joined, AreOwnMarked, IsGathered}
 use Rattle.steal_workers.specs.SeatViews.{SeatView, AreSameSeats}
-use Rattle.steal_workers.specs.TookBack.{numbers_of}
+use Rattle.steal_workers.specs.inside.TookBack.{numbers_of}
 use Rattle.steal_workers.specs.WholeDeals.{common_deal, IsWholeDeal, IsNewDeal}
 use Rattle.steal_workers.proofs.SameSeats.{same_seats-whole, same_deal}
 use Rattle.host_state.specs.declared.net.Net.{Net}
@@ -21,8 +21,8 @@ use Rattle.host_state.specs.HostRecord.{HostRecord}
 use Rattle.round_lookahead.specs.declared.workers.bench.Bench.{Bench}
 use Rattle.round_lookahead.specs.declared.workers.task.Task.{Task}
 use Rattle.round_lookahead.specs.declared.workers.worked.Worked.{Worked}
-use Rattle.round_lookahead.specs.Arrivals.{Boxed}
-use Rattle.round_lookahead.specs.Benches.{AreBenches, AreParts, HaveWorked, IsReady, IsUnusedOf}
+use Rattle.round_lookahead.specs.inside.Arrivals.{Boxed}
+use Rattle.round_lookahead.specs.inside.Benches.{AreBenches, AreParts, HaveWorked, IsReady, IsUnusedOf}
 use Rattle.round_lookahead.specs.Rounds.{IsRound}
 use Rattle.round_lookahead.specs.Tasks.{AreTasks, AreTasksOf}
 use Rattle.round_lookahead.specs.Works.{numbers, parcels_made}

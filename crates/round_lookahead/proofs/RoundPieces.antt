@@ -2,10 +2,11 @@
 use Rattle.std.proofs.Common.{◌≡◌, ℕ, List, length, map, sym, ap, subst, ◌∙◌, Vec, Global}
 use Rattle.std.proofs.lemmas.List.{length-map}
 use Rattle.sim_base.specs.declared.host.HostId.{HostId}
-use Rattle.host_calls.specs.declared.parts.Output.{Output}
+use Rattle.file_calls.specs.declared.task.Output.{Output}
 use Rattle.host_state.specs.Files.{put_of}
 use Rattle.host_state.specs.Grown.{all_grown, with_bytes}
 use Rattle.host_state.specs.HostRecord.{HostRecord}
+use Rattle.host_state.specs.LinesFit.{AllFit}
 use Rattle.host_state.specs.Listed.{HostNames, listed, names_of}
 use Rattle.host_state.specs.Logs.{kept_lines}
 use Rattle.host_state.proofs.Gaining.{gains-round}
@@ -26,8 +27,8 @@ pub outputs-fit : (c d : World) (workers : ℕ) (w v : HostWorld) (g : Gained) �
 outputs-fit c d workers w v g stands round = round.gained.count ∙ sym (length-map w.hosts (λ (h : HostRecord). listed h.row)) ∙ sym (ap length stands.listed)
 
 pub round-pieces : (c d : World) (workers : ℕ) (w v : HostWorld) (g : Gained) (p : Pieces) → WorldStands c w → HasGained c d workers w v g → p.took ≡ g.took
-    → map put_of p.files.items ≡ with_bytes (all_grown (names_of c.listing) (outputs_of g) (kept_lines g.lines.items)) → HasRound c d workers w v p
-round-pieces c d workers w v g p stands round took files =
+    → map put_of p.files.items ≡ with_bytes (all_grown (names_of c.listing) (outputs_of g) (kept_lines g.lines.items)) → AllFit (kept_lines g.lines.items) → HasRound c d workers w v p
+round-pieces c d workers w v g p stands round took files fit =
     let t = round.turns in
     record {
       turns = subst (λ (t : Vec (Vec HostId Global) Global). HasTurns c d workers w v t.items) (sym took) t;
@@ -36,5 +37,6 @@ round-pieces c d workers w v g p stands round took files =
         lines = kept_lines g.lines.items;
         gained = gains-round w v g.outputs.items (kept_lines g.lines.items) (result-extends c.net (window_end (nanos_of c.lookahead) c.net.stop.nanos t.least) v w t.result) round.gained.count round.gained.outputs (lines-gained w.log v.log g.lines.items round.gained.lines);
         files_are = files ∙ ap (λ (names : List HostNames). with_bytes (all_grown names (outputs_of g) (kept_lines g.lines.items))) stands.listed;
+        fit = fit;
       };
     }

@@ -17,8 +17,8 @@ use Rattle.host_state.specs.HostRecord.{HostRecord}
 use Rattle.round_lookahead.specs.declared.workers.bench.Bench.{Bench}
 use Rattle.round_lookahead.specs.declared.workers.task.Task.{Task}
 use Rattle.round_lookahead.specs.declared.workers.worked.Worked.{Worked}
-use Rattle.round_lookahead.specs.Arrivals.{Boxed}
-use Rattle.round_lookahead.specs.Benches.{HasWorked, HaveWorked}
+use Rattle.round_lookahead.specs.inside.Arrivals.{Boxed}
+use Rattle.round_lookahead.specs.inside.Benches.{HasWorked, HaveWorked}
 use Rattle.round_lookahead.specs.Posts.{IsPosted, carried, given_back}
 use Rattle.round_lookahead.specs.Rounds.{AreWorks}
 use Rattle.round_lookahead.specs.Tasks.{AreTasks}

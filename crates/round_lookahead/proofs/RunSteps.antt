@@ -13,9 +13,9 @@ use Rattle.world_order.proofs.Members.{IsIn, IsIn-either, IsIn-permutation, Each
 use Rattle.round_lookahead.specs.declared.workers.task.Task.{Task}
 use Rattle.round_lookahead.specs.declared.workers.worked.Done.{Done}
 use Rattle.round_lookahead.specs.declared.workers.worked.Worked.{Worked}
-use Rattle.round_lookahead.specs.Backs.{all_done, lines_done}
+use Rattle.round_lookahead.specs.inside.Backs.{all_done, lines_done}
 use Rattle.round_lookahead.specs.Rounds.{AreWorks}
-use Rattle.round_lookahead.specs.Settles.{done_numbers}
+use Rattle.round_lookahead.specs.inside.Settles.{done_numbers}
 use Rattle.round_lookahead.specs.Tasks.{waiting}
 use Rattle.round_lookahead.specs.Works.{HostJob, IsRunOf, AreDone, parcels_by, parcels_made}
 use Rattle.round_lookahead.proofs.RoundJobs.{numbers}

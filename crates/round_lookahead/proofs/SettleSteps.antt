@@ -4,7 +4,7 @@ use Rattle.std.specs.declared.alloc.Global.{Global}
 use Rattle.std.proofs.lemmas.List.{length-map}
 use Rattle.std.proofs.lemmas.List.Sorted.{IsPermutation-sym}
 use Rattle.sim_base.specs.declared.event.Parcel.{Parcel}
-use Rattle.host_calls.specs.declared.parts.Output.{Output}
+use Rattle.file_calls.specs.declared.task.Output.{Output}
 use Rattle.host_state.specs.declared.line.Line.{Line}
 use Rattle.host_state.specs.declared.net.Net.{Net}
 use Rattle.host_state.specs.Home.{home}
@@ -24,10 +24,10 @@ use Rattle.round_lookahead.specs.declared.workers.worked.Worked.{Worked}
 use Rattle.round_lookahead.specs.declared.world.backs.Back.{Back}
 use Rattle.round_lookahead.specs.declared.world.retasking.Retasked.{Retasked}
 use Rattle.round_lookahead.specs.declared.world.settling.Settled.{Settled}
-use Rattle.round_lookahead.specs.Arrivals.{Boxed}
-use Rattle.round_lookahead.specs.Backs.{back_of, with_done, all_done, all_spilled, lines_done, took_by, lists_of, row_arrivals, AreAtHome}
-use Rattle.round_lookahead.specs.Retasks.{AreRetasked}
-use Rattle.round_lookahead.specs.Settles.{done_numbers, CanSettle, IsBack, HasSettled}
+use Rattle.round_lookahead.specs.inside.Arrivals.{Boxed}
+use Rattle.round_lookahead.specs.inside.Backs.{back_of, with_done, all_done, all_spilled, lines_done, took_by, lists_of, row_arrivals, AreAtHome}
+use Rattle.round_lookahead.specs.inside.Retasks.{AreRetasked}
+use Rattle.round_lookahead.specs.inside.Settles.{done_numbers, CanSettle, IsBack, HasSettled}
 use Rattle.round_lookahead.proofs.BackSteps.{IdsApart, in-slot, length-with_done}
 use Rattle.round_lookahead.proofs.RoundJobs.{below-number, number-below, there-once, once-below}
 

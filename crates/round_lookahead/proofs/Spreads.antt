@@ -13,7 +13,7 @@ use Rattle.host_inbox.specs.Drains.{IsDrained}
 use Rattle.host_inbox.proofs.RowSteps.{rows_hold}
 use Rattle.world_order.proofs.Members.{IsIn, Each, IsIn-left, IsIn-right, IsIn-either, Contains-from_IsIn, IsIn-from_Contains, Each-from_All, All-from_Each, Each-cons, Each-append, IsIn-filter, IsIn-filter_from}
 use Rattle.round_lookahead.specs.declared.workers.worked.Worked.{Worked}
-use Rattle.round_lookahead.specs.Arrivals.{Boxed}
+use Rattle.round_lookahead.specs.inside.Arrivals.{Boxed}
 use Rattle.round_lookahead.specs.Posts.{IsPosted, carried, given_back}
 use Rattle.round_lookahead.specs.Rounds.{all_parcels}
 

@@ -5,7 +5,7 @@ use Rattle.sim_base.specs.Units.{latest_time}
 use Rattle.sim_base.specs.declared.event.Event.{Event}
 use Rattle.sim_base.specs.declared.event.Parcel.{Parcel}
 use Rattle.sim_base.specs.declared.time.Time.{Time}
-use Rattle.host_calls.specs.declared.parts.Output.{Output}
+use Rattle.file_calls.specs.declared.task.Output.{Output}
 use Rattle.host_state.specs.declared.host.Host.{Host}
 use Rattle.host_state.specs.declared.line.Logged.{Logged}
 use Rattle.host_state.specs.declared.net.Net.{Net}

@@ -11,7 +11,7 @@ use Rattle.sim_base.specs.declared.time.Time.{Time}
 use Rattle.list_weights.specs.Weights.{numbers_below}
 use Rattle.event_order.specs.Events.{IsLeastDue}
 use Rattle.steal_workers.specs.Gathers.{joined}
-use Rattle.host_calls.specs.declared.parts.Output.{Output}
+use Rattle.file_calls.specs.declared.task.Output.{Output}
 use Rattle.host_state.specs.declared.host.Host.{Host}
 use Rattle.host_state.specs.declared.line.Line.{Line}
 use Rattle.host_state.specs.declared.line.Logged.{Logged}
@@ -38,13 +38,13 @@ use Rattle.round_lookahead.specs.declared.world.gained.Gained.{Gained}
 use Rattle.round_lookahead.specs.declared.world.load.Load.{Load}
 use Rattle.round_lookahead.specs.declared.world.settling.Settled.{Settled}
 use Rattle.round_lookahead.specs.declared.world.world_state.World.{World}
-use Rattle.round_lookahead.specs.Arrivals.{Boxed, arrivals}
-use Rattle.round_lookahead.specs.Backs.{all_done, all_spilled, took_by, lists_of, ids_of, row_arrivals, AreAtHome}
+use Rattle.round_lookahead.specs.inside.Arrivals.{Boxed, arrivals}
+use Rattle.round_lookahead.specs.inside.Backs.{all_done, all_spilled, took_by, lists_of, ids_of, row_arrivals, AreAtHome}
 use Rattle.round_lookahead.specs.Counts.{counts_of}
 use Rattle.round_lookahead.specs.Gains.{IsGained, IsTaken, HasTurns, HasGained, turns_from}
 use Rattle.round_lookahead.specs.RoundsInPlace.{IsRoundInPlace}
 use Rattle.round_lookahead.specs.Rounds.{IsRound, AreWorks, all_parcels}
-use Rattle.round_lookahead.specs.Settles.{done_numbers, CanSettle, IsBack, HasSettled}
+use Rattle.round_lookahead.specs.inside.Settles.{done_numbers, CanSettle, IsBack, HasSettled}
 use Rattle.round_lookahead.specs.Tasks.{waiting, AreTasks}
 use Rattle.round_lookahead.specs.Works.{HostJob, AreDone}
 use Rattle.round_lookahead.specs.WorldStands.{HostWorld, nanos_of, StandsAt, WorldStands}

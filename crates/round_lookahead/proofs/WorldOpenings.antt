@@ -24,7 +24,7 @@ use Rattle.world_order.proofs.Homes.{some_is}
 use Rattle.world_order.proofs.Members.{IsIn, Each, IsIn-either, IsIn-permutation, Each-from_All, All-from_Each, Each-append}
 use Rattle.round_lookahead.specs.declared.workers.task.Task.{Task}
 use Rattle.round_lookahead.specs.declared.world.world_state.World.{World}
-use Rattle.round_lookahead.specs.Arrivals.{Boxed, arrivals}
+use Rattle.round_lookahead.specs.inside.Arrivals.{Boxed, arrivals}
 use Rattle.round_lookahead.specs.Counts.{counts_of}
 use Rattle.round_lookahead.specs.OpeningWorld.{AreHostRows, IsOpened, AreOpened, opening_world}
 use Rattle.round_lookahead.specs.Tasks.{waiting}

@@ -26,8 +26,8 @@ use Rattle.world_order.proofs.Homes.{some_is, get-below, below-get}
 use Rattle.world_order.proofs.Members.{IsIn, IsIn-left, IsIn-right, IsIn-either, IsIn-permutation, Each, Each-from_All, All-from_Each}
 use Rattle.round_lookahead.specs.declared.workers.task.Task.{Task}
 use Rattle.round_lookahead.specs.declared.world.world_state.World.{World}
-use Rattle.round_lookahead.specs.Arrivals.{Boxed, arrivals}
-use Rattle.round_lookahead.specs.Backs.{row_arrivals}
+use Rattle.round_lookahead.specs.inside.Arrivals.{Boxed, arrivals}
+use Rattle.round_lookahead.specs.inside.Backs.{row_arrivals}
 use Rattle.round_lookahead.specs.Tasks.{waiting, IsTask, AreTasks, AreTasksOf}
 use Rattle.round_lookahead.specs.Works.{HostJob, parcels_made, parcels_by}
 use Rattle.round_lookahead.specs.WorldStands.{HostWorld, HasRounds, IsBetweenRounds, StandsAt, WorldStands}

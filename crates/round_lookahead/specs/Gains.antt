@@ -4,12 +4,13 @@ use Rattle.std.specs.declared.alloc.Global.{Global}
 use Rattle.sim_base.specs.declared.event.Event.{Event}
 use Rattle.sim_base.specs.declared.host.HostId.{HostId}
 use Rattle.list_weights.specs.Weights.{numbers_below}
-use Rattle.host_calls.specs.declared.parts.Output.{Output}
+use Rattle.file_calls.specs.declared.task.Output.{Output}
 use Rattle.host_state.specs.declared.files.piece.Piece.{Piece}
 use Rattle.host_state.specs.declared.line.Line.{Line}
 use Rattle.host_state.specs.declared.net.Net.{Net}
 use Rattle.host_state.specs.Files.{put_of}
 use Rattle.host_state.specs.Grown.{Gains, all_grown, with_bytes}
+use Rattle.host_state.specs.LinesFit.{AllFit}
 use Rattle.host_state.specs.Listed.{names_in}
 use Rattle.host_state.specs.Fits.{model}
 use Rattle.host_state.specs.HostRecord.{HostRecord}
@@ -35,12 +36,14 @@ pub record IsGained (w v : HostWorld) (g : Gained) : Type 0 where
   pub outputs : (k : ℕ) (before after : HostRecord) (gained : Vec Output Global) → slice_get w.hosts k ≡ Some before → slice_get v.hosts k ≡ Some after
       → slice_get g.outputs.items k ≡ Some gained → after.written ≡ before.written ++ gained.items
 
--- the places and bytes that outputs and log gained: what each process wrote, and the text of the lines
+-- the places and bytes that outputs and log gained: what each process wrote, and the text of the lines, which are of packets whose numbers fit
+-- their types
 pub record ArePieces (w v : HostWorld) (files : List Piece) : Type 0 where
   pub outputs : List (List Output)
   pub lines : List Line
   pub gained : Gains w v outputs lines
   pub files_are : map put_of files ≡ with_bytes (all_grown (names_in w) outputs lines)
+  pub fit : AllFit lines
 
 -- the turns of workers, from that number on, each of which took these hosts
 abbrev pub turns_from : ℕ → List (Vec HostId Global) → List Turn

@@ -3,7 +3,7 @@ use Rattle.std.specs.Prelude.{◌≡◌, ◌⊎◌, ◌-◌, ◌^◌, List, [], 
 use Rattle.sim_base.specs.declared.event.Parcel.{Parcel}
 use Rattle.host_inbox.specs.declared.entry.Entry.{Entry}
 use Rattle.host_inbox.specs.Entries.{inbox_places}
-use Rattle.round_lookahead.specs.Arrivals.{Boxed}
+use Rattle.round_lookahead.specs.inside.Arrivals.{Boxed}
 
 abbrev pub carried : List (Entry Boxed) → List Parcel
 carried entries = map (λ e. e.parcel.value) entries

@@ -6,9 +6,9 @@ use Rattle.host_state.specs.HostRecord.{HostRecord}
 use Rattle.round_lookahead.specs.declared.workers.task.Task.{Task}
 use Rattle.round_lookahead.specs.declared.workers.worked.Worked.{Worked}
 use Rattle.round_lookahead.specs.declared.world.gained.Gained.{Gained}
-use Rattle.round_lookahead.specs.Arrivals.{Boxed}
+use Rattle.round_lookahead.specs.inside.Arrivals.{Boxed}
 use Rattle.round_lookahead.specs.Rounds.{IsRound}
-use Rattle.round_lookahead.specs.Settles.{HasSettled}
+use Rattle.round_lookahead.specs.inside.Settles.{HasSettled}
 use Rattle.round_lookahead.specs.Tasks.{AreTasks}
 
 -- some work of so many workers gives these tasks and pieces

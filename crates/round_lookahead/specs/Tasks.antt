@@ -7,7 +7,7 @@ use Rattle.host_state.specs.HostStands.{Stands}
 use Rattle.host_state.specs.Running.{Owns}
 use Rattle.world_order.specs.EventOrder.{AreApart}
 use Rattle.round_lookahead.specs.declared.workers.task.Task.{Task}
-use Rattle.round_lookahead.specs.Arrivals.{arrivals}
+use Rattle.round_lookahead.specs.inside.Arrivals.{arrivals}
 
 -- the events that the host holds, and its packets
 abbrev pub waiting : Task → List Event

@@ -16,7 +16,7 @@ use Rattle.world_order.specs.WholeTurns.{Job, Ran, RunsTo}
 use Rattle.round_lookahead.specs.declared.workers.task.Task.{Task}
 use Rattle.round_lookahead.specs.declared.workers.worked.Done.{Done}
 use Rattle.round_lookahead.specs.declared.workers.worked.Worked.{Worked}
-use Rattle.round_lookahead.specs.Arrivals.{Boxed}
+use Rattle.round_lookahead.specs.inside.Arrivals.{Boxed}
 use Rattle.round_lookahead.specs.Posts.{IsPosted}
 use Rattle.round_lookahead.specs.Tasks.{waiting}
 

@@ -7,7 +7,7 @@ use Rattle.host_state.specs.declared.host.Host.{Host}
 use Rattle.host_state.specs.HostStands.{IsSameBody}
 use Rattle.host_state.proofs.Queues.{new_key_on, queued_on, queued_all}
 use Rattle.world_order.specs.EventOrder.{AreApart}
-use Rattle.round_schedule.specs.Turning.{AddsAll}
+use Rattle.round_schedule.specs.inside.Turning.{AddsAll}
 
 -- what is left completes the whole
 pub record IsAdding (first : Host) (whole : List Event) (c : Host) (left : List Event) : Type 0 where

@@ -3,7 +3,7 @@ use Rattle.std.proofs.Common.{◌≡◌, List, [], ◌∷◌, ◌++◌, flat_map
 use Rattle.std.proofs.lemmas.List.Concat.{flat_map-append}
 use Rattle.sim_base.specs.declared.event.Parcel.{Parcel}
 use Rattle.host_state.specs.declared.host.Host.{Host}
-use Rattle.round_schedule.specs.Closing.{placed_at, IsSameHost}
+use Rattle.round_schedule.specs.inside.Closing.{placed_at, IsSameHost}
 use Rattle.round_schedule.specs.Standing.{EachStands, IsWaiting}
 use Rattle.round_schedule.specs.declared.member.Member.{Member}
 use Rattle.round_schedule.proofs.Openings.{pair-none, pair-more}

@@ -20,7 +20,7 @@ use Rattle.world_order.specs.declared.step.Spot.TheVariants.{Place, Spill}
 use Rattle.world_order.specs.declared.step.Step.{Step}
 use Rattle.world_order.specs.declared.step.Step.TheVariants.{Take, Fire, Put, Back, Close}
 use Rattle.world_order.proofs.Members.{Each-from_All}
-use Rattle.round_schedule.specs.Guards.{passes, is_in_hand, is_waiting, is_done, has_due, is_free, held, in_hand, first_of, first_packet, may_take, may_fire, may_put_at, may_put, is_over, may_give_back, may_close}
+use Rattle.round_schedule.specs.inside.Guards.{passes, is_in_hand, is_waiting, is_done, has_due, is_free, held, in_hand, first_of, first_packet, may_take, may_fire, may_put_at, may_put, is_over, may_give_back, may_close}
 use Rattle.round_schedule.specs.Reaching.{State, Going}
 use Rattle.round_schedule.specs.Standing.{EachStands, ParcelsStand, PlaceStands, MemberStands, WorkerStands, GoingStands, RoundStands, stage_of, written_at}
 use Rattle.round_schedule.specs.declared.member.Member.{Member}

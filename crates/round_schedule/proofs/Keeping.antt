@@ -2,7 +2,7 @@
 use Rattle.std.proofs.Common.{◌≡◌, ℕ, zero, suc, ◌<◌, inl, inr, Bool, true, false, ◌&&◌, not, is_none, List, [], ◌∷◌, ◌++◌, All, length, map, Option, Some, None, option_map, slice_get, slice_set, refl, sym, ap, subst, ◌∙◌, arith, Vec, Global, IsPermutation}
 use Rattle.sim_base.specs.declared.event.Event.{Event}
 use Rattle.sim_base.specs.declared.event.Parcel.{Parcel}
-use Rattle.host_calls.specs.declared.parts.Output.{Output}
+use Rattle.file_calls.specs.declared.task.Output.{Output}
 use Rattle.host_state.specs.declared.host.Host.{Host}
 use Rattle.host_state.specs.declared.line.Line.{Line}
 use Rattle.host_state.specs.declared.line.Logged.{Logged as HostLogged}
@@ -21,9 +21,9 @@ use Rattle.world_order.specs.declared.step.Spot.TheVariants.{Place, Spill}
 use Rattle.world_order.proofs.Homes.{some_is, below-get}
 use Rattle.world_order.proofs.Members.{IsIn, Each, Each-from_All, All-from_Each}
 use Rattle.world_order.proofs.Parts.{from_then, from_map, from_given}
-use Rattle.round_schedule.specs.Guards as guards
-use Rattle.round_schedule.specs.Kinds.{takes, gives, puts}
-use Rattle.round_schedule.specs.Putting.{Spills, HasPlaced}
+use Rattle.round_schedule.specs.inside.Guards as guards
+use Rattle.round_schedule.specs.inside.Kinds.{takes, gives, puts}
+use Rattle.round_schedule.specs.inside.Putting.{Spills, HasPlaced}
 use Rattle.round_schedule.specs.Reaching.{State, Going, May, Does}
 use Rattle.round_schedule.specs.Standing.{EachStands, ParcelsStand, PlaceStands, MemberStands, WorkerStands, GoingStands, RoundStands, stage_of, lines_of, written_at}
 use Rattle.round_schedule.specs.declared.member.Member.{Member}

@@ -13,3 +13,4 @@ pub mod Closings
 pub mod Clearing
 pub mod Adding
 pub mod MemberTurns
+pub mod Ending

@@ -3,7 +3,7 @@ use Rattle.std.proofs.Common.{◌≡◌, ℕ, ◌<◌, ◌≤◌, List, [], ◌�
 use Rattle.sim_base.specs.declared.event.Event.{Event}
 use Rattle.sim_base.specs.declared.event.Parcel.{Parcel}
 use Rattle.event_order.specs.Events.{IsBefore}
-use Rattle.host_calls.specs.declared.parts.Output.{Output}
+use Rattle.file_calls.specs.declared.task.Output.{Output}
 use Rattle.host_state.specs.declared.host.Host.{Host}
 use Rattle.host_state.specs.declared.line.Logged.{Logged}
 use Rattle.host_state.specs.declared.net.Net.{Net}
@@ -15,7 +15,7 @@ use Rattle.host_state.specs.Outbox.{IsEmpty, own_events, parcels_of, logged}
 use Rattle.host_state.proofs.Queues.{first-taken}
 use Rattle.world_order.specs.EventOrder.{AreApart, take_least}
 use Rattle.world_order.proofs.Homes.{some_is}
-use Rattle.round_schedule.specs.Turning.{AddsAll, MayTurn, Turned, Turns}
+use Rattle.round_schedule.specs.inside.Turning.{AddsAll, MayTurn, Turned, Turns}
 use Rattle.round_schedule.specs.declared.firing.HandedOut.{HandedOut}
 use Rattle.round_schedule.specs.declared.member.Member.{Member}
 

@@ -4,7 +4,7 @@ use Rattle.std.proofs.lemmas.Bool.Decides.{Decides-eqb}
 use Rattle.std.proofs.lemmas.List.Sorted.{All-permutation, IsPermutation-sym, IsPermutation-trans, IsPermutation-append}
 use Rattle.sim_base.specs.declared.event.Event.{Event}
 use Rattle.sim_base.specs.declared.event.Parcel.{Parcel}
-use Rattle.host_calls.specs.declared.parts.Output.{Output}
+use Rattle.file_calls.specs.declared.task.Output.{Output}
 use Rattle.host_state.specs.declared.line.Line.{Line}
 use Rattle.host_state.specs.declared.line.Logged.{Logged as HostLogged}
 use Rattle.host_state.specs.declared.net.Net.{Net}
@@ -30,11 +30,11 @@ use Rattle.world_order.proofs.Least.{take_least-there, take_least-IsPermutation}
 use Rattle.world_order.proofs.Members.{IsIn, Each, Each-from_All, All-from_Each, Each-append, IsIn-permutation, IsIn-filter_from}
 use Rattle.world_order.proofs.Orders.{take_least-permutation, window-upto}
 use Rattle.world_order.proofs.Parts.{same_order, from_then, from_map, from_given}
-use Rattle.round_schedule.specs.Guards as guards
-use Rattle.round_schedule.specs.Kinds.{fires}
+use Rattle.round_schedule.specs.inside.Guards as guards
+use Rattle.round_schedule.specs.inside.Kinds.{fires}
 use Rattle.round_schedule.specs.Reaching.{State, Going, IsReached, May, Does}
 use Rattle.round_schedule.specs.Standing.{EachStands, ParcelsStand, PlaceStands, MemberStands, WorkerStands, GoingStands, RoundStands, stage_of, lines_of, written_at}
-use Rattle.round_schedule.specs.Turning.{MayTurn, TurnedBy, Turned, Turns}
+use Rattle.round_schedule.specs.inside.Turning.{MayTurn, TurnedBy, Turned, Turns}
 use Rattle.round_schedule.specs.declared.firing.HandedOut.{HandedOut}
 use Rattle.round_schedule.specs.declared.member.Member.{Member}
 use Rattle.round_schedule.specs.declared.member.Worker.{Worker}

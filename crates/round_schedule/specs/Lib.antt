@@ -1,9 +1,6 @@
 pub mod Standing
 pub mod Opening
 pub mod Reaching
-pub mod Kinds
-pub mod Guards
-pub mod Turning
-pub mod Putting
-pub mod Closing
 pub mod Leaving
+pub mod Rounds
+pub mod inside

@@ -7,7 +7,7 @@ ghost use Rattle.host_state.specs.declared.net.Net.{Net};
 ghost use Rattle.host_state.specs.Fits.{model};
 ghost use Rattle.world_order.specs.Steps.{is_allowed, is_empty};
 ghost use Rattle.world_order.specs.World.{World};
-ghost use Rattle.round_schedule.specs.Guards as spec;
+ghost use Rattle.round_schedule.specs.inside.Guards as spec;
 ghost use Rattle.round_schedule.specs.Reaching.{State};
 ghost use Rattle.round_schedule.specs.Standing.{RoundStands};
 

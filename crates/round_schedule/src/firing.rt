@@ -4,8 +4,8 @@ ghost use Rattle.std.specs.Prelude.{◌≡◌, ◌++◌, OnOk, IfOk, IsPermutati
 ghost use Rattle.host_state.specs.declared.net.Net.{Net};
 ghost use Rattle.world_order.specs.EventOrder.{AreApart};
 ghost use Rattle.round_schedule.specs.Reaching.{May, Does};
-ghost use Rattle.round_schedule.specs.Kinds.{fires};
-ghost use Rattle.round_schedule.specs.Turning.{MayTurn, Turns, AddsAll};
+ghost use Rattle.round_schedule.specs.inside.Kinds.{fires};
+ghost use Rattle.round_schedule.specs.inside.Turning.{MayTurn, Turns, AddsAll};
 
 use crate::member::Member;
 use crate::round::Round;

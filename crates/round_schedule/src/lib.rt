@@ -9,9 +9,11 @@ mod laws;
 mod member;
 mod putting;
 mod round;
+mod round_laws;
 mod schedule;
 mod taking;
 
 pub use laws::every_schedule;
 pub use round::Round;
+pub use round_laws::{closed_round, rounds, same_end, whole_turns};
 pub use schedule::law_schedule;

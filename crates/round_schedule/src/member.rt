@@ -1,6 +1,6 @@
 //! The hosts and the workers of a round.
 
-use host_calls::Output;
+use file_calls::Output;
 use host_state::Host;
 use sim_base::Parcel;
 

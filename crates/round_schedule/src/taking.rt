@@ -4,7 +4,7 @@ ghost use Rattle.std.specs.Prelude.{◌≡◌};
 ghost use Rattle.host_state.specs.declared.net.Net.{Net};
 ghost use Rattle.world_order.specs.Steps as order;
 ghost use Rattle.round_schedule.specs.Reaching.{May, Does};
-ghost use Rattle.round_schedule.specs.Kinds.{takes, gives};
+ghost use Rattle.round_schedule.specs.inside.Kinds.{takes, gives};
 
 use crate::member::Stage;
 use crate::round::Round;

@@ -1,8 +1,9 @@
 //! Runs in which calls of the outside fail, or move one byte each.
 
 use crate::inputs::{source, text, words};
+use memory_outside::MemSink;
 use shadow_top::{OpenGate, shadow};
-use sim_base::{MemSink, Sink};
+use sim_base::Sink;
 use std::process::Abort;
 use std::test::Fail;
 use std::thread::Threads;

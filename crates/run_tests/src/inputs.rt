@@ -1,7 +1,7 @@
 //! What runs are made over: sources and sinks in memory.
 
 use elf_load::{ProgramHeader, executable};
-use sim_base::{MemSink, MemSource};
+use memory_outside::{MemSink, MemSource};
 use std::alloc::{AllocError, Global};
 use std::test::Fail;
 

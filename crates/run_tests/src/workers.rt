@@ -1,8 +1,8 @@
 //! Workers side by side: one is held while the other takes all hosts but one from it.
 
 use crate::inputs::{source, text, words};
+use memory_outside::MemSink;
 use shadow_top::{Gate, OpenGate, shadow};
-use sim_base::MemSink;
 use std::alloc::Global;
 use std::process::Abort;
 use std::sync::atomic::{AtomicU64, Ordering};

@@ -1,35 +1,50 @@
 -- What is put at the end of a run.
-use Rattle.std.proofs.Common.{◌≡◌, ℕ, zero, suc, ◌+◌, ◌<◌, ◌≤◌, ◌^◌, ◌⊎◌, inl, inr, ⊎_elim, Bool, true, false, All, List, [], ◌∷◌, ◌++◌, length, map, Option, Some, None, option_map, slice_get, Result, Ok, Err, OnOk, OnErr, IfOk, Vec, Global, refl, sym, ap, subst, ◌∙◌, arith}
+use Rattle.std.proofs.Common.{◌≡◌, ℕ, zero, suc, ◌+◌, ◌<◌, ◌≤◌, ◌^◌, ◌⊎◌, inl, inr, ⊎_elim, Bool, true, false, All, List, [], ◌∷◌, ◌++◌, length, map, Option, Some, None, option_map, slice_get, Result, Ok, Err, OnOk, OnErr, IfOk, Vec, Global, append-nil, refl, sym, ap, subst, ◌∙◌, arith}
+use Rattle.std.specs.Prelude.{if◌then◌else◌, min}
+use Rattle.std.specs.List.{fold}
 use Rattle.std.proofs.lemmas.List.{length-map, length_push}
 use Rattle.std.proofs.lemmas.Option.{get_or_from_slice_get}
 use Rattle.sim_base.specs.Sink.{Content}
+use Rattle.sim_base.specs.Units.{max_u64}
+use Rattle.sim_base.specs.declared.act.Act.{Act}
 use Rattle.sim_base.specs.declared.outside.sink.WriteError.{WriteError}
 use Rattle.sim_base.specs.declared.state.State.{State}
 use Rattle.host_state.specs.HostRecord.{HostRecord, process_state}
+use Rattle.host_state.specs.Extends.{AreLater, Extends}
 use Rattle.host_state.specs.Logs.{lines_of}
 use Rattle.host_state.specs.World.{World}
 use Rattle.host_state.specs.declared.files.listed.Listing.{Listing}
+use Rattle.host_state.specs.declared.line.Line.{Line}
+use Rattle.out_text.specs.Summary.{is_send, is_lost, is_recv, acts_counted, summary_of}
+use Rattle.out_text.specs.declared.log.LogLine.{LogLine}
 use Rattle.out_text.specs.declared.summary.Summary.{Summary}
-use Rattle.net_run.specs.Grown.{HaveOwnFiles}
+use Rattle.net_run.specs.Grown.{IsUnderway}
 use Rattle.host_state.specs.Listed.{HostNames, HasIds, listed, listed_process, names_in, names_of}
 use Rattle.net_run.specs.Parts.{Between}
 use Rattle.host_state.specs.Files.{Put, first_id}
 use Rattle.net_run.specs.Pieces.{with_pieces, PutsFront}
-use Rattle.net_run.specs.Rest.{all_rest, rest_in, summary_in, unmet_of_hosts, TellsStates}
-use Rattle.net_run.specs.Shown.{run_pieces, status_by}
-use Rattle.net_run.proofs.FrontLemmas.{front_none}
-use Rattle.net_run.proofs.StandingLemmas.{part-end}
-use Rattle.net_run.proofs.ToldLemmas.{status-told, summary-of_lines}
-use Rattle.net_run.proofs.UnderwayLemmas.{underway-end, underway-end_part}
+use Rattle.net_run.specs.Rest.{all_rest, summary_in, unmet_of_hosts, TellsStates, AreTold}
+use Rattle.net_run.specs.Shown.{named, named_log, run_pieces, status_by, status_of}
+use Rattle.round_lookahead.specs.Counts as lines
 use Rattle.round_lookahead.specs.Counts.{counts_of}
 use Rattle.round_lookahead.specs.WorldStands.{WorldStands}
 use Rattle.round_lookahead.specs.declared.world.counts.Counts.{Counts}
 use Rattle.round_lookahead.specs.declared.world.world_state.World as rounds
-use Rattle.world_order.proofs.Fires.{get-map}
-use Rattle.world_order.proofs.Homes.{get-below}
-use Rattle.shadow_top.specs.Ending.{TellsAll, PutsEnd}
-use Rattle.shadow_top.specs.Rounds.{StandsAt}
-use Rattle.shadow_top.proofs.RoundLemmas.{at-count}
+use Rattle.shadow_top.specs.inside.Ending.{TellsAll, PutsEnd}
+use Rattle.shadow_top.specs.inside.Rounds.{StandsAt}
+use Rattle.shadow_top.proofs.GrowLemmas.{AreBetween, Grows-refl, Grows-with_pieces, between-part}
+use Rattle.shadow_top.proofs.RoundLemmas.{AreFronts, at-count}
+
+-- an element that is there, and what f makes of it
+get-below : {X : Type 0} (xs : List X) (i : ℕ) → i < length xs → (x : X) × (slice_get xs i ≡ Some x)
+get-below [] i below = absurd (omega arith)
+get-below (y ∷ ys) zero below = (y, refl)
+get-below (y ∷ ys) (suc i) below = get-below ys i (omega arith)
+
+get-map : {X Y : Type 0} (f : X → Y) (xs : List X) (i : ℕ) (x : X) → slice_get xs i ≡ Some x → slice_get (map f xs) i ≡ Some (f x)
+get-map f [] i x at = absurd (let e : None ≡ Some x = at in cc)
+get-map f (y ∷ ys) zero x at = ap (option_map f) at
+get-map f (y ∷ ys) (suc i) x at = get-map f ys i x at
 
 -- one more at the end
 pub at-more : {A : Type 0} (xs : List A) (x y : A) (i : ℕ) → slice_get (xs ++ x ∷ []) i ≡ Some y → (slice_get xs i ≡ Some y) ⊎ ((i ≡ length xs) × (x ≡ y))
@@ -98,12 +113,28 @@ all-more c w at old new v n count is long each counted here k h states there tol
 pub no-summary : (w : World) (load : Bool) → load ≡ false → (let none : Option Summary = None in none) ≡ summary_in load w
 no-summary w load is = sym (ap (λ (b : Bool). summary_in b w) is)
 
+-- lines are counted by their acts, whatever name they tell
+abbrev counts_one : Bool → ℕ → ℕ
+counts_one told n = n + (if told then 1 else 0)
+
+counted-from : (is_one : Act → Bool) (hs : List HostRecord) (ls : List Line) (n : ℕ)
+    → fold (λ (m : ℕ) (line : LogLine). counts_one (is_one line.act) m) n (map (named hs) ls) ≡ fold (λ (m : ℕ) (line : Line). counts_one (is_one line.act) m) n ls
+counted-from is_one hs [] n = refl
+counted-from is_one hs (l ∷ ls) n = counted-from is_one hs ls (counts_one (is_one l.act) n)
+
+counted : (is_one : Act → Bool) (w : World) → acts_counted is_one (named_log w) ≡ lines.acts_counted is_one (lines_of w.log)
+counted is_one w = ap (λ (n : ℕ). min n max_u64) (counted-from is_one w.hosts (lines_of w.log) 0)
+
 abbrev with_counts : ℕ → Counts → Summary
 with_counts hosts c = record { hosts = hosts; sent = c.sent; lost = c.lost; received = c.received }
 
 pub summary-told : (w : World) (load : Bool) (hosts : ℕ) (c : Counts) → load ≡ true → hosts ≡ length w.hosts → c ≡ counts_of (lines_of w.log) → Some (with_counts hosts c) ≡ summary_in load w
 summary-told w load hosts c load_is many is =
-    ap (λ (n : ℕ). Some (with_counts n c)) many ∙ ap (λ (k : Counts). Some (with_counts (length w.hosts) k)) is ∙ ap Some (sym (summary-of_lines w)) ∙ sym (ap (λ (b : Bool). summary_in b w) load_is)
+    let sent = counted is_send w in
+    let lost = counted is_lost w in
+    let received = counted is_recv w in
+    let told : summary_of (length w.hosts) (named_log w) ≡ with_counts (length w.hosts) (counts_of (lines_of w.log)) = (λ i. record { hosts = length w.hosts; sent = sent i; lost = lost i; received = received i }) in
+    ap (λ (n : ℕ). Some (with_counts n c)) many ∙ ap (λ (k : Counts). Some (with_counts (length w.hosts) k)) is ∙ ap Some (sym told) ∙ sym (ap (λ (b : Bool). summary_in b w) load_is)
 
 -- ---- what is put at the end
 
@@ -122,15 +153,28 @@ pub small : (ps : List Put) → status_by ps ≤ 1
 small [] = omega arith
 small (p ∷ ps) = omega arith
 
--- no memory for the states
-pub end-without : (load : Bool) (w : World) (old mid : Option Content) (error : WriteError) → StandsAt w old mid
-    → PutsEnd load w old mid (let r : Result ℕ WriteError = Err error in r)
-end-without load w old mid error stands = λ begun is.
-    (let u = stands begun is in
-    subst (λ (o : Option Content). Between begun o (with_pieces (run_pieces load w) begun)) (sym u.now_is)
-    (part-end load w (subst HaveOwnFiles u.names_are u.own) u.puts u.grown begun (Some (with_pieces u.puts begun)) (front_none (rest_in load w) (Some (with_pieces u.puts begun)))))
+-- what is told of the end: what stands and the rest are all that the world shows, and the status is its
+abbrev pub End : Type 0
+End = (names : List HostNames) (begun : Content) (now : Option Content) (w : World) (states : List (List State)) (load : Bool) → IsUnderway names begun now w → AreTold w states
+    → option_map (with_pieces (all_rest names states (summary_in load w))) now ≡ Some (with_pieces (run_pieces load w) begun)
 
-module _ (load : Bool) (w : World) (old mid new : Option Content) (told : List (Vec State Global)) (all : TellsAll w told) (stands : StandsAt w old mid) (summary : Option Summary) (is : summary ≡ summary_in load w) where
+abbrev pub HaveStatus : Type 0
+HaveStatus = (w : World) (states : List (List State)) → AreTold w states → status_by (unmet_of_hosts (names_in w) states) ≡ status_of w
+
+-- a world extends itself
+later-refl : (hs : List HostRecord) → AreLater hs hs
+later-refl [] = tt
+later-refl (h ∷ hs) = (record { row = refl; more = []; written = sym (append-nil h.written) }, later-refl hs)
+
+extends-refl : (w : World) → Extends w w
+extends-refl w = record { hosts = later-refl w.hosts; more = []; log = sym (append-nil w.log) }
+
+-- no memory for the states
+pub end-without : AreFronts → (load : Bool) (w : World) (old mid : Option Content) (error : WriteError) → StandsAt w old mid
+    → PutsEnd load w old mid (let r : Result ℕ WriteError = Err error in r)
+end-without fronts load w old mid error stands = λ begun is. fronts (names_in w) begun mid w w load (stands begun is) (extends-refl w)
+
+module _ (ends : End) (counts : HaveStatus) (parts : AreBetween) (load : Bool) (w : World) (old mid new : Option Content) (told : List (Vec State Global)) (all : TellsAll w told) (stands : StandsAt w old mid) (summary : Option Summary) (is : summary ≡ summary_in load w) where
   abbrev states : List (List State)
   states = map (λ (v : Vec State Global). v.items) told
 
@@ -140,17 +184,32 @@ module _ (load : Bool) (w : World) (old mid new : Option Content) (told : List (
   tells : (k : ℕ) (h : HostRecord) (s : List State) → slice_get w.hosts k ≡ Some h → slice_get states k ≡ Some s → TellsStates h s
   tells k h s there at = (let (v, at_v, same) = told_list told k s at in subst (TellsStates h) same (all.each k h v there at_v))
 
+  are_told : AreTold w states
+  are_told = record { count = count; each = tells }
+
   abbrev names : List HostNames
   names = names_in w
+
+  abbrev rest : List Put
+  rest = all_rest names states (summary_in load w)
+
+  -- the rest was put in part
+  in-part : (begun : Content) → IsUnderway names begun mid w → PutsFront rest mid new → Between begun new (with_pieces (run_pieces load w) begun)
+  in-part begun u front =
+      let whole : Content = with_pieces (run_pieces load w) begun in
+      let stood : Content = with_pieces u.puts begun in
+      let is_whole : Some (with_pieces rest stood) ≡ Some whole = sym (ap (option_map (with_pieces rest)) u.now_is) ∙ ends names begun mid w states load u are_told in
+      between-part parts rest begun stood whole new (Grows-with_pieces parts u.puts begun) (subst (λ (o : Option Content). PutsFront rest o new) u.now_is front)
+      (record { now = whole; now_is = is_whole; grown = Grows-with_pieces parts (run_pieces load w) begun; rest = Grows-refl whole })
 
   pub end-told : (r : Result ℕ WriteError) → IfOk r (λ s. s ≡ status_by (unmet_of_hosts names states)) → OnOk r (new ≡ option_map (with_pieces (all_rest names states summary)) mid)
       → OnErr r (PutsFront (all_rest names states summary) mid new) → PutsEnd load w old new r
   end-told (Ok status) status_is put front = (
-    λ begun e. underway-end names begun mid w (stands begun e) states count tells load new (put ∙ ap (λ (s : Option Summary). option_map (with_pieces (all_rest names states s)) mid) is),
-    status_is ∙ status-told w states count tells,
+    λ begun e. put ∙ ap (λ (s : Option Summary). option_map (with_pieces (all_rest names states s)) mid) is ∙ ends names begun mid w states load (stands begun e) are_told,
+    status_is ∙ counts w states are_told,
   )
   end-told (Err error) status_is put front = λ begun e.
-      underway-end_part names begun mid w (stands begun e) states count tells load new (subst (λ (s : Option Summary). PutsFront (all_rest names states s) mid new) is front)
+      in-part begun (stands begun e) (subst (λ (s : Option Summary). PutsFront (all_rest names states s) mid new) is front)
 
   -- the same, by what the code lists
   pub end-told_by : (listing : Listing) → names_of listing ≡ names_in w → (r : Result ℕ WriteError) → IfOk r (λ s. s ≡ status_by (unmet_of_hosts (names_of listing) states))

@@ -1,5 +1,8 @@
 pub mod CaptureLemmas
 pub mod EndLemmas
+pub mod GrowLemmas
+pub mod NameLemmas
+pub mod FitLemmas
 pub mod OneShown
 pub mod OpenedLemmas
 pub mod PartLemmas

@@ -5,37 +5,30 @@ use Rattle.sim_base.specs.declared.outside.sink.Place.TheVariants as place
 use Rattle.net_run.specs.Parts.{IsBetween, IsPart, IsPrefix, Grows, Between}
 use Rattle.host_state.specs.Files.{Put}
 use Rattle.net_run.specs.Pieces.{with_pieces, PutsFront}
-use Rattle.net_run.proofs.FrontLemmas.{with_append}
-use Rattle.net_run.proofs.PartLemmas.{prefix-refl, prefix_of_added, Grows-trans, Grows-with_pieces, between-puts}
+use Rattle.shadow_top.proofs.GrowLemmas.{AreBetween, with_append, prefix-refl, prefix_of_added, Grows-trans, Grows-with_pieces}
 
--- all of the first pieces were put, and a front of those that follow, place by place
-pub between-after : (ps qs : List Put) (c : Content) (new : Option Content) → Between (with_pieces ps c) new (with_pieces qs (with_pieces ps c)) → Between c new (with_pieces (ps ++ qs) c)
-between-after ps qs c new b = record {
-  now = b.now;
-  now_is = b.now_is;
-  grown = Grows-trans _ _ _ (Grows-with_pieces ps c) b.grown;
-  rest = subst (λ (d : Content). Grows b.now d) (sym (with_append ps qs c)) b.rest;
-}
+module _ (parts : AreBetween) (ps qs : List Put) (c : Content) (new : Option Content) where
+  -- all of the first pieces were put, and a front of those that follow, place by place
+  pub between-after : Between (with_pieces ps c) new (with_pieces qs (with_pieces ps c)) → Between c new (with_pieces (ps ++ qs) c)
+  between-after b = record {
+    now = b.now;
+    now_is = b.now_is;
+    grown = Grows-trans _ _ _ (Grows-with_pieces parts ps c) b.grown;
+    rest = subst (λ (d : Content). Grows b.now d) (sym (with_append ps qs c)) b.rest;
+  }
 
--- some of the first pieces were put
-pub between-first : (ps qs : List Put) (c : Content) (new : Option Content) → PutsFront ps (Some c) new → Between c new (with_pieces (ps ++ qs) c)
-between-first ps qs c new front =
-    let b = between-puts ps c new front in
-    record {
-      now = b.now;
-      now_is = b.now_is;
-      grown = b.grown;
-      rest = subst (λ (d : Content). Grows b.now d) (sym (with_append ps qs c)) (Grows-trans _ _ _ b.rest (Grows-with_pieces qs (with_pieces ps c)));
-    }
+  -- a front of the first pieces was put, place by place
+  pub between-more : Between c new (with_pieces ps c) → Between c new (with_pieces (ps ++ qs) c)
+  between-more b = record {
+    now = b.now;
+    now_is = b.now_is;
+    grown = b.grown;
+    rest = subst (λ (d : Content). Grows b.now d) (sym (with_append ps qs c)) (Grows-trans _ _ _ b.rest (Grows-with_pieces parts qs (with_pieces ps c)));
+  }
 
--- a front of the first pieces was put, place by place
-pub between-more : (ps qs : List Put) (c : Content) (new : Option Content) → Between c new (with_pieces ps c) → Between c new (with_pieces (ps ++ qs) c)
-between-more ps qs c new b = record {
-  now = b.now;
-  now_is = b.now_is;
-  grown = b.grown;
-  rest = subst (λ (d : Content). Grows b.now d) (sym (with_append ps qs c)) (Grows-trans _ _ _ b.rest (Grows-with_pieces qs (with_pieces ps c)));
-}
+  -- some of the first pieces were put
+  pub between-first : PutsFront ps (Some c) new → Between c new (with_pieces (ps ++ qs) c)
+  between-first front = between-more (parts ps c new front)
 
 is_between : (old new whole : List ℕ) → IsPrefix old new → IsPrefix new whole → IsBetween old new whole
 is_between old new whole p q = record { added = p.rest; rest = q.rest; new_is = p.whole; whole_is = q.whole }

@@ -32,12 +32,13 @@ same_pieces run opened w opens =
 
 ran_by : (run : Run) (opened : Opened) (c : Content) (new : Option Content) (r : Result ℕ Stop) → Opens run opened → c.there (directory_of run) ≡ false
     → RunsOpened opened (begun (directory_of run) c) new r → RunsPlan run c new r
-ran_by run opened c new (Ok status) opens free (w, result, new_is, status_is) = (
+ran_by run opened c new (Ok status) opens free (w, result, new_is, status_is, fit) = (
   free,
   w,
   run_to run opened w opens result,
   new_is ∙ ap (λ (ps : List Put). Some (with_pieces ps (begun (directory_of run) c))) (same_pieces run opened w opens),
   status_is,
+  fit,
 )
 ran_by run opened c new (Err (Refused fault)) opens free told = absurd told
 ran_by run opened c new (Err (ReadFailed file)) opens free told = absurd told

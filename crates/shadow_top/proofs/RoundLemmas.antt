@@ -1,32 +1,67 @@
 -- The rounds of a run, and what is put meanwhile.
-use Rattle.std.proofs.Common.{◌≡◌, ℕ, ◌≤◌, ⊎_elim, List, All, Option, option_map, Err, Result, length, sym, ap, subst, refl, ◌∙◌}
+use Rattle.std.proofs.Common.{◌≡◌, ℕ, ◌≤◌, ⊎_elim, Bool, List, All, Option, Some, option_map, Err, Result, length, sym, ap, subst, refl, ◌∙◌}
 use Rattle.std.specs.Prelude.{flat_map}
 use Rattle.std.proofs.lemmas.List.{length-map}
 use Rattle.sim_base.specs.Sink.{Content}
 use Rattle.sim_base.specs.declared.event.Event.{Event}
 use Rattle.sim_base.specs.declared.outside.sink.WriteError.{WriteError}
 use Rattle.sim_base.specs.declared.outside.sink.WriteError.TheVariants as write
+use Rattle.file_calls.specs.declared.task.Output.{Output}
+use Rattle.host_state.specs.Extends.{Extends}
 use Rattle.host_state.specs.Files.{Put}
+use Rattle.host_state.specs.Grown.{Gains, all_grown, with_bytes}
 use Rattle.host_state.specs.HostRecord.{HostRecord}
+use Rattle.host_state.specs.LinesFit.{AllFit}
 use Rattle.host_state.specs.Listed.{HostNames, listed, names_in, names_of}
-use Rattle.host_state.specs.World.{World, opening_world}
+use Rattle.host_state.specs.Logs.{lines_of}
+use Rattle.host_state.specs.World.{World, IsResult, opening_world}
+use Rattle.host_state.specs.declared.line.Line.{Line}
+use Rattle.host_state.specs.declared.net.Net.{Net}
 use Rattle.host_state.specs.declared.row.Row.{Row}
-use Rattle.host_state.proofs.Gaining.{names-kept}
 use Rattle.net_run.specs.Grown.{HaveOwnFiles, IsUnderway}
 use Rattle.net_run.specs.Heads.{all_heads}
+use Rattle.net_run.specs.Parts.{Between}
 use Rattle.net_run.specs.Pieces.{with_pieces, PutsFront}
-use Rattle.net_run.proofs.UnderwayLemmas.{underway-opening, underway-heads_part, underway-part, underway-round, underway-round_part}
-use Rattle.net_run.proofs.ToldLemmas.{opening-names}
+use Rattle.net_run.specs.Shown.{run_pieces}
 use Rattle.round_lookahead.specs.Gains.{HasRound}
+use Rattle.round_lookahead.specs.Reached.{HasReached}
 use Rattle.round_lookahead.specs.Tasks.{waiting}
 use Rattle.round_lookahead.specs.WorldStands.{WorldStands}
 use Rattle.round_lookahead.specs.declared.world.pieces.Pieces.{Pieces}
 use Rattle.round_lookahead.specs.declared.world.world_state.World as rounds
-use Rattle.round_lookahead.proofs.Reaching.{HasReached, reached-start, reached-round, reached-result, reached-end}
-use Rattle.shadow_top.specs.Rounds.{gained_by, PutsSomeGained, PutsRound, StandsAt, HasAllRounds, PutsInPart, PutsRounds}
-use Rattle.shadow_top.specs.Stop.{of_writing}
+use Rattle.shadow_top.specs.inside.Rounds.{gained_by, PutsSomeGained, PutsRound, StandsAt, HasAllRounds, PutsInPart, PutsRounds}
+use Rattle.shadow_top.specs.inside.Stop.{of_writing}
 use Rattle.shadow_top.specs.declared.stop.Stop.{Stop}
 use Rattle.shadow_top.specs.declared.stop.Stop.TheVariants.{Refused, ReadFailed, WriteFailed, NoMemory}
+use Rattle.shadow_top.proofs.FitLemmas.{fit-append}
+use Rattle.shadow_top.proofs.GrowLemmas.{AreBetween, Grows-refl, Grows-with_pieces, between-part}
+
+-- ---- what is told of runs
+
+-- a round leads a run on; rounds that have finished have reached the result; and a result extends what is reached
+abbrev pub LeadOn : Type 0
+LeadOn = (start w v : World) (old new : rounds.World) (workers : ℕ) (p : Pieces) → HasReached old.net start w → HasRound old new workers w v p → HasReached old.net start v
+
+abbrev pub Finish : Type 0
+Finish = (start w : World) (c : rounds.World) → WorldStands c w → HasReached c.net start w → All (λ (e : Event). c.net.stop.nanos ≤ e.key.due.nanos) (flat_map waiting c.tasks.items) → IsResult c.net w start
+
+abbrev pub AreExtended : Type 0
+AreExtended = (start w : World) (c : rounds.World) → WorldStands c w → HasReached c.net start w → (r : World) × IsResult c.net r start × Extends w r
+
+-- heads are what stands at the beginning; what a round gained is put behind what stands; and that is a front of what a later world shows
+abbrev pub BeginWithHeads : Type 0
+BeginWithHeads = (rows : List Row) (begun : Content) → HaveOwnFiles (names_in (opening_world rows))
+    → IsUnderway (names_in (opening_world rows)) begun (Some (with_pieces (all_heads (names_in (opening_world rows))) begun)) (opening_world rows)
+
+abbrev pub Grow : Type 0
+Grow = (names : List HostNames) (begun : Content) (now : Option Content) (w v : World) (outputs : List (List Output)) (lines : List Line) → IsUnderway names begun now w → Gains w v outputs lines
+    → IsUnderway names begun (option_map (with_pieces (with_bytes (all_grown names outputs lines))) now) v
+
+abbrev pub AreFronts : Type 0
+AreFronts = (names : List HostNames) (begun : Content) (now : Option Content) (w later : World) (load : Bool) → IsUnderway names begun now w → Extends w later
+    → Between begun now (with_pieces (run_pieces load later) begun)
+
+-- ---- one round
 
 -- a write failed, or memory ran out
 pub round-stopped : (c d : rounds.World) (workers : ℕ) (w : World) (old new : Option Content) (error : WriteError) → PutsSomeGained c d workers w old new
@@ -40,74 +75,99 @@ at-count c w at = ap length at.listed ∙ length-map w.hosts (λ (h : HostRecord
 
 -- ---- so far
 
--- the run has come to a world, and stands there
+-- the run has come to a world, and stands there; where the lines at first are of packets whose numbers fit, all are
 pub record HasCome (c d : rounds.World) (start : World) (old now : Option Content) : Type 0 where
   pub world : World
-  pub reached : HasReached c.net start d world
+  pub net : d.net ≡ c.net
+  pub at : WorldStands d world
+  pub reached : HasReached c.net start world
   pub stands : StandsAt world old now
+  pub fit : AllFit (lines_of start.log) → AllFit (lines_of world.log)
 
-pub come-start : (c : rounds.World) (w : World) (old now : Option Content) → WorldStands c w → StandsAt w old now → HasCome c c w old now
-come-start c w old now at stands = record { world = w; reached = reached-start c.net c w refl at; stands = stands }
+pub come-start : (c : rounds.World) (w : World) (old now : Option Content) → HasReached c.net w w → WorldStands c w → StandsAt w old now → HasCome c c w old now
+come-start c w old now reached at stands = record { world = w; net = refl; at = at; reached = reached; stands = stands; fit = λ h. h }
 
 module _ (c d : rounds.World) (start : World) (old mid : Option Content) (come : HasCome c d start old mid) where
+  reached_here : HasReached d.net start come.world
+  reached_here = subst (λ (n : Net). HasReached n start come.world) (sym come.net) come.reached
+
   -- no event is due any more
-  pub come-end : All (λ (e : Event). d.net.stop.nanos ≤ e.key.due.nanos) (flat_map waiting d.tasks.items) → HasAllRounds c d start old mid
-  come-end late = record { world = come.world; result = reached-end c.net start d come.world come.reached late; at = come.reached.stands; stands = come.stands }
+  pub come-end : Finish → All (λ (e : Event). d.net.stop.nanos ≤ e.key.due.nanos) (flat_map waiting d.tasks.items) → HasAllRounds c d start old mid
+  come-end finish late = record {
+    world = come.world;
+    result = subst (λ (n : Net). IsResult n come.world start) come.net (finish start come.world d come.at reached_here late);
+    at = come.at;
+    stands = come.stands;
+    fit = come.fit;
+  }
 
-  -- what stands is a front of what the result shows
-  come-part : PutsInPart c start old mid
-  come-part =
-      let (r, result, later) = reached-result c.net start d come.world come.reached in
-      (r, result, λ begun is load. underway-part (names_in come.world) begun mid come.world (come.stands begun is) load r later)
+  module _ (extended : AreExtended) (fronts : AreFronts) where
+    -- what stands is a front of what the result shows
+    come-part : PutsInPart c start old mid
+    come-part =
+        let (r, result, later) = extended start come.world d come.at reached_here in
+        (r, subst (λ (n : Net). IsResult n r start) come.net result, λ begun is load. fronts (names_in come.world) begun mid come.world r load (come.stands begun is) later)
 
-  module _ (e : rounds.World) (workers : ℕ) (v : World) (p : Pieces) (same : e.net ≡ d.net) (round : HasRound d e workers come.world v p) (new : Option Content) where
-    reached : HasReached c.net start e v
-    reached = reached-round c.net start d e workers come.world v p come.reached same round
+  module _ (lead : LeadOn) (grow : Grow) (e : rounds.World) (workers : ℕ) (v : World) (p : Pieces) (same : e.net ≡ d.net) (round : HasRound d e workers come.world v p) (new : Option Content) where
+    reached_next : HasReached d.net start v
+    reached_next = lead start come.world v d e workers p reached_here round
+
+    abbrev gained : List Put
+    gained = with_bytes (all_grown (names_in come.world) round.files.outputs round.files.lines)
+
+    underway_next : (begun : Content) → old ≡ Some begun → IsUnderway (names_in come.world) begun (option_map (with_pieces gained) mid) v
+    underway_next begun is = grow (names_in come.world) begun mid come.world v round.files.outputs round.files.lines (come.stands begun is) round.files.gained
 
     -- what a round gained was put
     pub come-further : new ≡ option_map (with_pieces (gained_by p)) mid → HasCome c e start old new
-    come-further put =
-        let f = round.files in
-        record {
-          world = v;
-          reached = reached;
-          stands = λ begun is.
-              subst (λ (names : List HostNames). IsUnderway names begun new v) (sym (names-kept come.world v f.outputs f.lines f.gained))
-              (underway-round (names_in come.world) begun mid come.world (come.stands begun is) v f.outputs f.lines f.gained new
-              (put ∙ ap (λ (l : List Put). option_map (with_pieces l) mid) f.files_are));
-        }
+    come-further put = record {
+      world = v;
+      net = same ∙ come.net;
+      at = round.turns.stands;
+      reached = subst (λ (n : Net). HasReached n start v) come.net reached_next;
+      stands = λ begun is.
+          (let next = underway_next begun is in
+          subst (λ (names : List HostNames). IsUnderway names begun new v) next.names_are
+          (subst (λ (o : Option Content). IsUnderway (names_in come.world) begun o v) (sym (put ∙ ap (λ (l : List Put). option_map (with_pieces l) mid) round.files.files_are)) next));
+      fit = λ h. subst AllFit (sym round.files.gained.log) (fit-append (lines_of come.world.log) round.files.lines (come.fit h) round.files.fit);
+    }
 
-    -- or some of it
-    come-part_further : PutsFront (gained_by p) mid new → PutsInPart c start old new
-    come-part_further front =
-        let f = round.files in
-        let (r, result, later) = reached-result c.net start e v reached in (
-          r,
-          result,
-          λ begun is load.
-              underway-round_part (names_in come.world) begun mid come.world (come.stands begun is) v f.outputs f.lines f.gained new load r later
-              (subst (λ (l : List Put). PutsFront l mid new) f.files_are front),
-        )
+    module _ (extended : AreExtended) (fronts : AreFronts) (parts : AreBetween) where
+      -- or some of it
+      come-part_further : PutsFront (gained_by p) mid new → PutsInPart c start old new
+      come-part_further front =
+          let (r, result, later) = extended start v e round.turns.stands (subst (λ (n : Net). HasReached n start v) (sym same) reached_next) in (
+            r,
+            subst (λ (n : Net). IsResult n r start) (same ∙ come.net) result,
+            λ begun is load.
+                (let u = come.stands begun is in
+                let stood : Content = with_pieces u.puts begun in
+                let whole : Content = with_pieces (run_pieces load r) begun in
+                let all : Between begun (option_map (with_pieces gained) mid) whole = fronts (names_in come.world) begun (option_map (with_pieces gained) mid) v r load (underway_next begun is) later in
+                between-part parts gained begun stood whole new (Grows-with_pieces parts u.puts begun)
+                (subst (λ (l : List Put). PutsFront l (Some stood) new) round.files.files_are (subst (λ (o : Option Content). PutsFront (gained_by p) o new) u.now_is front))
+                (subst (λ (o : Option Content). Between begun (option_map (with_pieces gained) o) whole) u.now_is all)),
+          )
 
-  some-put : (e : rounds.World) (workers : ℕ) (new : Option Content) → e.net ≡ d.net → PutsSomeGained d e workers come.world mid new → PutsInPart c start old new
-  some-put e workers new same some =
-      ⊎_elim
-      (λ (none : new ≡ mid). subst (PutsInPart c start old) (sym none) come-part)
-      (λ (round : (v : World) × (p : Pieces) × HasRound d e workers come.world v p × PutsFront (gained_by p) mid new).
-      come-part_further e workers round.0 round.1 same round.2 new round.3)
-      some
+  module _ (lead : LeadOn) (grow : Grow) (extended : AreExtended) (fronts : AreFronts) (parts : AreBetween) (e : rounds.World) (workers : ℕ) (new : Option Content) (same : e.net ≡ d.net) where
+    some-put : PutsSomeGained d e workers come.world mid new → PutsInPart c start old new
+    some-put some =
+        ⊎_elim
+        (λ (none : new ≡ mid). subst (PutsInPart c start old) (sym none) (come-part extended fronts))
+        (λ (round : (v : World) × (p : Pieces) × HasRound d e workers come.world v p × PutsFront (gained_by p) mid new).
+        come-part_further lead grow e workers round.0 round.1 same round.2 new extended fronts parts round.3)
+        some
 
-  -- a round stopped
-  pub come-stopped : (e : rounds.World) (workers : ℕ) (new : Option Content) (stop : Stop) → e.net ≡ d.net
-      → PutsRound d e workers come.world mid new (let r : Result (Unit {0}) Stop = Err stop in r) → PutsRounds c e start old new (let r : Result (Unit {0}) Stop = Err stop in r)
-  come-stopped e workers new (Refused fault) same told = absurd told
-  come-stopped e workers new (ReadFailed file) same told = absurd told
-  come-stopped e workers new WriteFailed same some = some-put e workers new same some
-  come-stopped e workers new NoMemory same some = some-put e workers new same some
+    -- a round stopped
+    pub come-stopped : (stop : Stop) → PutsRound d e workers come.world mid new (let r : Result (Unit {0}) Stop = Err stop in r) → PutsRounds c e start old new (let r : Result (Unit {0}) Stop = Err stop in r)
+    come-stopped (Refused fault) told = absurd told
+    come-stopped (ReadFailed file) told = absurd told
+    come-stopped WriteFailed some = some-put some
+    come-stopped NoMemory some = some-put some
 
 -- ---- the beginning
 
-module _ (c : rounds.World) (rows : List Row) (at : WorldStands c (opening_world rows)) (own : HaveOwnFiles (names_of c.listing)) where
+module _ (c : rounds.World) (rows : List Row) (at : WorldStands c (opening_world rows)) (own : HaveOwnFiles (names_of c.listing)) (begin : BeginWithHeads) where
   abbrev names : List HostNames
   names = names_in (opening_world rows)
 
@@ -119,20 +179,22 @@ module _ (c : rounds.World) (rows : List Row) (at : WorldStands c (opening_world
   heads-put old new put = λ begun is.
       subst (λ (o : Option Content). IsUnderway names begun o (opening_world rows))
       (sym (put ∙ ap (λ (hosts : List HostNames). option_map (with_pieces (all_heads hosts)) old) at.listed ∙ ap (option_map (with_pieces (all_heads names))) is))
-      (underway-opening names rows begun (opening-names rows) own_names)
+      (begin rows begun own_names)
 
-  heads-part : (old new : Option Content) → PutsFront (all_heads (names_of c.listing)) old new → PutsInPart c (opening_world rows) old new
-  heads-part old new front =
-      let (r, result, later) = reached-result c.net (opening_world rows) c (opening_world rows) (reached-start c.net c (opening_world rows) refl at) in (
-        r,
-        result,
-        λ begun is load.
-            underway-heads_part names rows begun new (opening-names rows) own_names load r later
-            (subst (λ (o : Option Content). PutsFront (all_heads names) o new) is (subst (λ (hosts : List HostNames). PutsFront (all_heads hosts) old new) at.listed front)),
-      )
+  module _ (reached : HasReached c.net (opening_world rows) (opening_world rows)) (extended : AreExtended) (fronts : AreFronts) (parts : AreBetween) where
+    heads-part : (old new : Option Content) → PutsFront (all_heads (names_of c.listing)) old new → PutsInPart c (opening_world rows) old new
+    heads-part old new front =
+        let (r, result, later) = extended (opening_world rows) (opening_world rows) c at reached in (
+          r,
+          result,
+          λ begun is load.
+              between-part parts (all_heads names) begun begun (with_pieces (run_pieces load r) begun) new (Grows-refl begun)
+              (subst (λ (o : Option Content). PutsFront (all_heads names) o new) is (subst (λ (hosts : List HostNames). PutsFront (all_heads hosts) old new) at.listed front))
+              (fronts names begun (Some (with_pieces (all_heads names) begun)) (opening_world rows) r load (begin rows begun own_names) later),
+        )
 
-  -- or some of them
-  pub heads-stopped : (d : rounds.World) (old new : Option Content) (error : WriteError) → PutsFront (all_heads (names_of c.listing)) old new
-      → PutsRounds c d (opening_world rows) old new (let r : Result (Unit {0}) Stop = Err (of_writing error) in r)
-  heads-stopped d old new write.Failed front = heads-part old new front
-  heads-stopped d old new write.NoMemory front = heads-part old new front
+    -- or some of them
+    pub heads-stopped : (d : rounds.World) (old new : Option Content) (error : WriteError) → PutsFront (all_heads (names_of c.listing)) old new
+        → PutsRounds c d (opening_world rows) old new (let r : Result (Unit {0}) Stop = Err (of_writing error) in r)
+    heads-stopped d old new write.Failed front = heads-part old new front
+    heads-stopped d old new write.NoMemory front = heads-part old new front

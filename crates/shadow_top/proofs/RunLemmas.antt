@@ -12,40 +12,41 @@ use Rattle.net_run.specs.Parts.{Between}
 use Rattle.net_run.specs.Pieces.{with_pieces, PutsFront}
 use Rattle.net_run.specs.Shown.{note_puts, run_pieces, all_pieces, unmet}
 use Rattle.net_run.specs.Streams.{stream_puts}
-use Rattle.net_run.proofs.FrontLemmas.{with_append}
-use Rattle.net_run.proofs.PartLemmas.{Grows-refl, Grows-with_pieces}
-use Rattle.net_run.proofs.ToldLemmas.{opening-names, own-files}
-use Rattle.round_lookahead.specs.WorldStands.{nanos_of, WorldStands}
+use Rattle.round_lookahead.specs.OpeningWorld.{AreHostRows}
+use Rattle.round_lookahead.specs.WorldStands.{nanos_of, HasRounds, IsBetweenRounds, WorldStands}
 use Rattle.round_lookahead.specs.declared.world.world_state.World as rounds
-use Rattle.round_lookahead.proofs.WorldOpenings.{opened-between}
-use Rattle.round_lookahead.proofs.WorldSteps.{simulation, between-settled}
 use Rattle.run_plan.specs.Names.{AreApart}
-use Rattle.world_order.proofs.Results.{at_least_one}
 use Rattle.shadow_top.specs.Contract.{RunsNoted, PutsSome, RunsOpened}
-use Rattle.shadow_top.specs.Ending.{PutsAll}
+use Rattle.shadow_top.specs.inside.Ending.{PutsAll}
 use Rattle.shadow_top.specs.Opened.{HasOpened}
-use Rattle.shadow_top.specs.Rounds.{HasAllRounds, PutsInPart, PutsRounds}
-use Rattle.shadow_top.specs.Stop.{of_writing}
+use Rattle.shadow_top.specs.inside.Rounds.{HasAllRounds, PutsInPart, PutsRounds}
+use Rattle.shadow_top.specs.inside.Stop.{of_writing}
 use Rattle.shadow_top.specs.declared.opened.Opened.{Opened}
 use Rattle.shadow_top.specs.declared.stop.Stop.{Stop}
 use Rattle.shadow_top.specs.declared.stop.Stop.TheVariants.{Refused, ReadFailed, WriteFailed, NoMemory}
 use Rattle.shadow_top.proofs.EndLemmas.{small}
+use Rattle.shadow_top.proofs.GrowLemmas.{AreBetween, with_append, Grows-refl, Grows-with_pieces}
+use Rattle.shadow_top.proofs.NameLemmas.{opening-names, own-files}
 use Rattle.shadow_top.proofs.PartLemmas.{between-after, between-first, between-more}
 
+-- what is told of results: there is one from each world between rounds, as from the one in which all hosts begin
+abbrev pub HaveResults : Type 0
+HaveResults = (net : Net) (lookahead : Option ℕ) (w : World) → HasRounds net lookahead → IsBetweenRounds net w → (r : World) × IsResult net r w × IsBetweenRounds net r
+
+abbrev pub OpenBetween : Type 0
+OpenBetween = (net : Net) (rows : List Row) → AreHostRows net rows → IsBetweenRounds net (opening_world rows)
+
 -- a run has a result
-pub ran_exists : (opened : Opened) → HasOpened opened → (w : World) × IsResult opened.net w (opening_world opened.rows.items)
-ran_exists opened has =
-    let start : World = opening_world opened.rows.items in
-    let r = at_least_one (simulation opened.net (nanos_of opened.lookahead) has.rounds) opened.net.stop.nanos start
-    (between-settled opened.net (nanos_of opened.lookahead) has.rounds start (opened-between opened.net opened.rows.items has.rows)) in
-    (r.0, r.1)
+ran_exists : HaveResults → OpenBetween → (opened : Opened) → HasOpened opened → (w : World) × IsResult opened.net w (opening_world opened.rows.items)
+ran_exists results between opened has =
+    let r = results opened.net (nanos_of opened.lookahead) (opening_world opened.rows.items) has.rounds (between opened.net opened.rows.items has.rows) in (r.0, r.1)
 
 -- no memory for the run: nothing was put
-pub not_run : (opened : Opened) (old : Option Content) → HasOpened opened → IfSome old (λ c. RunsNoted opened c old (Err NoMemory))
-not_run opened None has = tt
-not_run opened (Some c) has =
-    let (w, result) = ran_exists opened has in
-    (w, result, record { now = c; now_is = refl; grown = Grows-refl c; rest = Grows-with_pieces (all_pieces opened.is_self_load opened.streams w) c })
+pub not_run : HaveResults → OpenBetween → AreBetween → (opened : Opened) (old : Option Content) → HasOpened opened → IfSome old (λ c. RunsNoted opened c old (Err NoMemory))
+not_run results between parts opened None has = tt
+not_run results between parts opened (Some c) has =
+    let (w, result) = ran_exists results between opened has in
+    (w, result, record { now = c; now_is = refl; grown = Grows-refl c; rest = Grows-with_pieces parts (all_pieces opened.is_self_load opened.streams w) c })
 
 -- ---- the beginning
 
@@ -66,7 +67,7 @@ begins_own opened c has stands ids =
 pub ended_small : (load streams : Bool) (w : World) (old new : Option Content) (status : ℕ) → PutsAll load streams w old new (let r : Result ℕ WriteError = Ok status in r) → status ≤ 1
 ended_small load streams w old new status told = subst (λ (s : ℕ). s ≤ 1) (sym told.1) (small (unmet w))
 
-module _ (opened : Opened) (c : rounds.World) (same : c.net ≡ opened.net) (old : Option Content) where
+module _ (parts : AreBetween) (opened : Opened) (c : rounds.World) (same : c.net ≡ opened.net) (old : Option Content) where
   abbrev start : World
   start = opening_world opened.rows.items
 
@@ -77,7 +78,7 @@ module _ (opened : Opened) (c : rounds.World) (same : c.net ≡ opened.net) (old
       → IfSome o (λ begun. (w : World) × IsResult opened.net w start × Between begun new (with_pieces (all_pieces opened.is_self_load opened.streams w) begun))
   part_of new part None is = tt
   part_of new (w, result, stands) (Some begun) is =
-      (w, result_of w result, between-more (run_pieces opened.is_self_load w) (stream_puts opened.streams w) begun new (stands begun (sym is) opened.is_self_load))
+      (w, result_of w result, between-more parts (run_pieces opened.is_self_load w) (stream_puts opened.streams w) begun new (stands begun (sym is) opened.is_self_load))
 
   -- a round stopped
   pub rounds_stopped : (d : rounds.World) (new : Option Content) (stop : Stop) → PutsRounds c d start old new (let r : Result (Unit {0}) Stop = Err stop in r)
@@ -91,7 +92,7 @@ module _ (opened : Opened) (c : rounds.World) (same : c.net ≡ opened.net) (old
     ended_at : (status : ℕ) → PutsAll opened.is_self_load opened.streams all.world old new (let r : Result ℕ WriteError = Ok status in r) → (o : Option Content) → o ≡ old
         → IfSome o (λ begun. RunsNoted opened begun new (Ok status))
     ended_at status told None is = tt
-    ended_at status (told, status_is) (Some begun) is = (all.world, result_of all.world all.result, (told begun (sym is), status_is))
+    ended_at status (told, status_is) (Some begun) is = (all.world, result_of all.world all.result, (told begun (sym is), status_is, all.fit tt))
 
     -- all was put
     pub run_ended : (status : ℕ) → PutsAll opened.is_self_load opened.streams all.world old new (let r : Result ℕ WriteError = Ok status in r) → IfSome old (λ begun. RunsNoted opened begun new (Ok status))
@@ -110,28 +111,28 @@ module _ (opened : Opened) (c : rounds.World) (same : c.net ≡ opened.net) (old
 
 -- ---- the notes
 
-noted_here : (opened : Opened) (c : Content) (new : Option Content) (r : Result ℕ Stop) → RunsNoted opened (with_pieces (note_puts opened.notes) c) new r → RunsOpened opened c new r
-noted_here opened c new (Ok status) (w, result, told) =
-    (w, result, told.0 ∙ ap Some (sym (with_append (note_puts opened.notes) (all_pieces opened.is_self_load opened.streams w) c)), told.1)
-noted_here opened c new (Err (Refused fault)) (w, result, told) = absurd told
-noted_here opened c new (Err (ReadFailed file)) (w, result, told) = absurd told
-noted_here opened c new (Err WriteFailed) (w, result, part) = (w, result, between-after (note_puts opened.notes) (all_pieces opened.is_self_load opened.streams w) c new part)
-noted_here opened c new (Err NoMemory) (w, result, part) = (w, result, between-after (note_puts opened.notes) (all_pieces opened.is_self_load opened.streams w) c new part)
+noted_here : AreBetween → (opened : Opened) (c : Content) (new : Option Content) (r : Result ℕ Stop) → RunsNoted opened (with_pieces (note_puts opened.notes) c) new r → RunsOpened opened c new r
+noted_here parts opened c new (Ok status) (w, result, told) =
+    (w, result, told.0 ∙ ap Some (sym (with_append (note_puts opened.notes) (all_pieces opened.is_self_load opened.streams w) c)), told.1, told.2)
+noted_here parts opened c new (Err (Refused fault)) (w, result, told) = absurd told
+noted_here parts opened c new (Err (ReadFailed file)) (w, result, told) = absurd told
+noted_here parts opened c new (Err WriteFailed) (w, result, part) = (w, result, between-after parts (note_puts opened.notes) (all_pieces opened.is_self_load opened.streams w) c new part)
+noted_here parts opened c new (Err NoMemory) (w, result, part) = (w, result, between-after parts (note_puts opened.notes) (all_pieces opened.is_self_load opened.streams w) c new part)
 
 -- the notes were put, and the run was made
-pub noted : (opened : Opened) (old mid new : Option Content) (r : Result ℕ Stop) → mid ≡ option_map (with_pieces (note_puts opened.notes)) old
+pub noted : AreBetween → (opened : Opened) (old mid new : Option Content) (r : Result ℕ Stop) → mid ≡ option_map (with_pieces (note_puts opened.notes)) old
     → IfSome mid (λ c. RunsNoted opened c new r) → IfSome old (λ c. RunsOpened opened c new r)
-noted opened None mid new r is ran = tt
-noted opened (Some c) mid new r is ran = noted_here opened c new r (subst (λ (m : Option Content). IfSome m (λ d. RunsNoted opened d new r)) is ran)
+noted parts opened None mid new r is ran = tt
+noted parts opened (Some c) mid new r is ran = noted_here parts opened c new r (subst (λ (m : Option Content). IfSome m (λ d. RunsNoted opened d new r)) is ran)
 
 -- a write of the notes failed
 stopped_by : (opened : Opened) (c : Content) (new : Option Content) (e : WriteError) → PutsSome opened c new → RunsOpened opened c new (Err (of_writing e))
 stopped_by opened c new write.Failed some = some
 stopped_by opened c new write.NoMemory some = some
 
-pub notes_stopped : (opened : Opened) (old new : Option Content) (e : WriteError) → HasOpened opened → PutsFront (note_puts opened.notes) old new
+pub notes_stopped : HaveResults → OpenBetween → AreBetween → (opened : Opened) (old new : Option Content) (e : WriteError) → HasOpened opened → PutsFront (note_puts opened.notes) old new
     → IfSome old (λ c. RunsOpened opened c new (Err (of_writing e)))
-notes_stopped opened None new e has some = tt
-notes_stopped opened (Some c) new e has some =
-    let (w, result) = ran_exists opened has in
-    stopped_by opened c new e (w, result, between-first (note_puts opened.notes) (all_pieces opened.is_self_load opened.streams w) c new some)
+notes_stopped results between parts opened None new e has some = tt
+notes_stopped results between parts opened (Some c) new e has some =
+    let (w, result) = ran_exists results between opened has in
+    stopped_by opened c new e (w, result, between-first parts (note_puts opened.notes) (all_pieces opened.is_self_load opened.streams w) c new some)

@@ -23,14 +23,15 @@ use Rattle.shd_config.specs.Shown.{shown}
 use Rattle.shd_config.specs.declared.config.Config.{Config}
 use Rattle.pcap_text.specs.declared.capture.Capture.{Capture}
 use Rattle.shadow_top.specs.Captured.{AreLinesOf}
-use Rattle.shadow_top.specs.Contract.{Shows, TellsReadFailed, ShowsPart, TellsPart, Runs, CarriesOut, RunsPlan, RunsInPart, ShowsConfig, ListsFront, ListsCapture, TellsLine, Tells, read_failed_line}
+use Rattle.shadow_top.specs.Contract.{LogFits, Shows, TellsReadFailed, ShowsPart, TellsPart, Runs, CarriesOut, RunsPlan, RunsInPart, ShowsConfig, ListsFront, ListsCapture, TellsLine, Tells, read_failed_line}
 use Rattle.shadow_top.specs.Input.{Input, input, IsFirstFault, IsToShow, IsToRun, IsToList, IsReached, IsPlanned, directory_of}
-use Rattle.shadow_top.specs.Outcome.{Told, Outcome, showed, failed_reading, failed_writing, wanted_memory}
+use Rattle.shadow_top.specs.inside.Outcome.{Told, Outcome, showed, failed_reading, failed_writing, wanted_memory}
 use Rattle.shadow_top.specs.Shown.{IsShown, IsRunTo, pieces_of, refused, configured, listed, ran}
-use Rattle.shadow_top.specs.Stop.{CountsSource, CountsSink, of_reading}
+use Rattle.shadow_top.specs.inside.Stop.{CountsSource, CountsSink, of_reading}
 use Rattle.shadow_top.specs.declared.stop.Stop.{Stop}
 use Rattle.shadow_top.specs.declared.stop.Stop.TheVariants.{Refused, ReadFailed, WriteFailed, NoMemory}
-use Rattle.shadow_top.proofs.OneShown.{one_shown}
+use Rattle.shadow_top.proofs.FitLemmas.{refused-fit, config-fit, list-fit, run-fit}
+use Rattle.shadow_top.proofs.OneShown.{OnePlan, OneResult}
 use Rattle.shadow_top.proofs.PartLemmas.{part-begun, part-line, part-text}
 
 -- ---- what is shown
@@ -48,9 +49,18 @@ pub run_shown : (i : Input) (old : Content) (run : Run) (w : World) → IsToRun 
     → IsShown i old (with_pieces (pieces_of run w) (begun (directory_of run) old)) (status_of w)
 run_shown i old run w asked result = ran (record { run = run; asked = asked; world = w; result = result; content = refl; status_is = refl })
 
+-- what is told of outcomes: an input has one
+abbrev pub OneShown : Type 0
+OneShown = (i : Input) (old one other : Content) (status another : ℕ) → IsShown i old one status → IsShown i old other another → (one ≡ other) × (status ≡ another)
+
+-- with what makes it so: an input has one plan, and a run one result
+abbrev pub AreOne : Type 0
+AreOne = OneShown × OnePlan × OneResult
+
 -- nothing else is
-shows : (i : Input) (old whole : Content) (new : Option Content) (status : ℕ) → new ≡ Some whole → IsShown i old whole status → Shows i old new status
-shows i old whole new status is shown_is = record { whole = whole; new_is = is; shown = shown_is; only = λ other another also. one_shown i old other whole another status also shown_is }
+shows : AreOne → (i : Input) (old whole : Content) (new : Option Content) (status : ℕ) → new ≡ Some whole → IsShown i old whole status → LogFits i → Shows i old new status
+shows one i old whole new status is shown_is fit =
+    record { whole = whole; new_is = is; shown = shown_is; only = λ other another also. one.0 i old other whole another status also shown_is; log = fit }
 
 -- a front of the line of a refusal
 pub part_of_line : (i : Input) (old : Content) (fault : Fault) (new : Option Content) → IsFirstFault i fault → AddsFront place.Err (line_of fault) (Some old) new → ShowsPart i old new
@@ -100,38 +110,40 @@ runs_stopped words (Some h) (Some c) (read.ReadFailed file) met = (met, refl)
 runs_stopped words (Some h) (Some c) read.NoMemory met = inl refl
 
 -- a configuration was shown
-shows_by : (i : Input) (c : Content) (new : Option Content) (config : Config) (r : Result ℕ Stop) → IsToShow i config → ShowsConfig config c new r → Runs i c new r
-shows_by i c new config (Ok status) asked (new_is, status_is) =
-    shows i c (add place.Out (shown config) c) new status new_is (subst (IsShown i c (add place.Out (shown config) c)) (sym status_is) (config_shown i c config asked))
-shows_by i c new config (Err (Refused fault)) asked told = absurd told
-shows_by i c new config (Err (ReadFailed file)) asked told = absurd told
-shows_by i c new config (Err WriteFailed) asked front = part_of_config i c config new asked front
-shows_by i c new config (Err NoMemory) asked front = part_of_config i c config new asked front
+shows_by : AreOne → (i : Input) (c : Content) (new : Option Content) (config : Config) (r : Result ℕ Stop) → IsToShow i config → ShowsConfig config c new r → Runs i c new r
+shows_by one i c new config (Ok status) asked (new_is, status_is) =
+    shows one i c (add place.Out (shown config) c) new status new_is (subst (IsShown i c (add place.Out (shown config) c)) (sym status_is) (config_shown i c config asked))
+    (config-fit one.1 i config asked)
+shows_by one i c new config (Err (Refused fault)) asked told = absurd told
+shows_by one i c new config (Err (ReadFailed file)) asked told = absurd told
+shows_by one i c new config (Err WriteFailed) asked front = part_of_config i c config new asked front
+shows_by one i c new config (Err NoMemory) asked front = part_of_config i c config new asked front
 
-runs_shown : (words : List (List ℕ)) (held : Option Held) (old new : Option Content) (config : Config) (r : Result ℕ Stop)
+runs_shown : AreOne → (words : List (List ℕ)) (held : Option Held) (old new : Option Content) (config : Config) (r : Result ℕ Stop)
     → IfSome held (λ h. Meets (λ (p : Planned). p) (planned words h) (let r : Result Planned ReadStop = Ok (plan.Shows config) in r))
     → IfSome old (λ c. ShowsConfig config c new r)
     → IfSome held (λ h. IfSome old (λ c. Runs (input words h c) c new r))
-runs_shown words None old new config r asked told = tt
-runs_shown words (Some h) None new config r asked told = tt
-runs_shown words (Some h) (Some c) new config r asked told = shows_by (input words h c) c new config r asked told
+runs_shown one words None old new config r asked told = tt
+runs_shown one words (Some h) None new config r asked told = tt
+runs_shown one words (Some h) (Some c) new config r asked told = shows_by one (input words h c) c new config r asked told
 
 -- a capture was listed
-lists_by : (i : Input) (c : Content) (new : Option Content) (capture : Capture) (r : Result ℕ Stop) → IsToList i capture → ListsCapture capture c new r → Runs i c new r
-lists_by i c new capture (Ok status) asked (lines, are, new_is, status_is) =
-    shows i c (add place.Out lines c) new status new_is (subst (IsShown i c (add place.Out lines c)) (sym status_is) (list_shown i c capture lines asked are))
-lists_by i c new capture (Err (Refused fault)) asked told = absurd told
-lists_by i c new capture (Err (ReadFailed file)) asked told = absurd told
-lists_by i c new capture (Err WriteFailed) asked front = part_of_list i c capture new asked front
-lists_by i c new capture (Err NoMemory) asked front = part_of_list i c capture new asked front
+lists_by : AreOne → (i : Input) (c : Content) (new : Option Content) (capture : Capture) (r : Result ℕ Stop) → IsToList i capture → ListsCapture capture c new r → Runs i c new r
+lists_by one i c new capture (Ok status) asked (lines, are, new_is, status_is) =
+    shows one i c (add place.Out lines c) new status new_is (subst (IsShown i c (add place.Out lines c)) (sym status_is) (list_shown i c capture lines asked are))
+    (list-fit one.1 i capture asked)
+lists_by one i c new capture (Err (Refused fault)) asked told = absurd told
+lists_by one i c new capture (Err (ReadFailed file)) asked told = absurd told
+lists_by one i c new capture (Err WriteFailed) asked front = part_of_list i c capture new asked front
+lists_by one i c new capture (Err NoMemory) asked front = part_of_list i c capture new asked front
 
-runs_listed : (words : List (List ℕ)) (held : Option Held) (old new : Option Content) (capture : Capture) (r : Result ℕ Stop)
+runs_listed : AreOne → (words : List (List ℕ)) (held : Option Held) (old new : Option Content) (capture : Capture) (r : Result ℕ Stop)
     → IfSome held (λ h. Meets (λ (p : Planned). p) (planned words h) (let r : Result Planned ReadStop = Ok (plan.Lists capture) in r))
     → IfSome old (λ c. ListsCapture capture c new r)
     → IfSome held (λ h. IfSome old (λ c. Runs (input words h c) c new r))
-runs_listed words None old new capture r asked told = tt
-runs_listed words (Some h) None new capture r asked told = tt
-runs_listed words (Some h) (Some c) new capture r asked told = lists_by (input words h c) c new capture r asked told
+runs_listed one words None old new capture r asked told = tt
+runs_listed one words (Some h) None new capture r asked told = tt
+runs_listed one words (Some h) (Some c) new capture r asked told = lists_by one (input words h c) c new capture r asked told
 
 -- a plan was run
 in_part : (i : Input) (c : Content) (new : Option Content) (run : Run) → IsPlanned i (Ok (plan.Runs run)) → i.there ≡ c.there → RunsInPart run c new → ShowsPart i c new
@@ -142,33 +154,34 @@ in_part i c new run asked there told =
     part_of_pieces i c run some.1 new (record { asked = asked; free = ap (λ (t : List ℕ → Bool). t (directory_of run)) there ∙ some.0 }) some.2 some.3)
     told
 
-runs_by : (i : Input) (c : Content) (new : Option Content) (run : Run) (r : Result ℕ Stop) → IsPlanned i (Ok (plan.Runs run)) → i.there ≡ c.there → RunsPlan run c new r → Runs i c new r
-runs_by i c new run (Ok status) asked there (free, w, result, new_is, status_is) =
-    shows i c (with_pieces (pieces_of run w) (begun (directory_of run) c)) new status new_is
-    (subst (IsShown i c (with_pieces (pieces_of run w) (begun (directory_of run) c))) (sym status_is)
-    (run_shown i c run w (record { asked = asked; free = ap (λ (t : List ℕ → Bool). t (directory_of run)) there ∙ free }) result))
-runs_by i c new run (Err (Refused fault)) asked there (is_there, fault_is, new_is) =
+runs_by : AreOne → (i : Input) (c : Content) (new : Option Content) (run : Run) (r : Result ℕ Stop) → IsPlanned i (Ok (plan.Runs run)) → i.there ≡ c.there → RunsPlan run c new r → Runs i c new r
+runs_by one i c new run (Ok status) asked there (free, w, result, new_is, status_is, fit) =
+    let to_run : IsToRun i run = record { asked = asked; free = ap (λ (t : List ℕ → Bool). t (directory_of run)) there ∙ free } in
+    shows one i c (with_pieces (pieces_of run w) (begun (directory_of run) c)) new status new_is
+    (subst (IsShown i c (with_pieces (pieces_of run w) (begun (directory_of run) c))) (sym status_is) (run_shown i c run w to_run result))
+    (run-fit one.1 one.2 i run w to_run result fit)
+runs_by one i c new run (Err (Refused fault)) asked there (is_there, fault_is, new_is) =
     (inr (record { run = run; asked = asked; there = ap (λ (t : List ℕ → Bool). t (directory_of run)) there ∙ is_there; fault_is = fault_is }), new_is)
-runs_by i c new run (Err (ReadFailed file)) asked there told = absurd told
-runs_by i c new run (Err WriteFailed) asked there told = in_part i c new run asked there told
-runs_by i c new run (Err NoMemory) asked there told = in_part i c new run asked there told
+runs_by one i c new run (Err (ReadFailed file)) asked there told = absurd told
+runs_by one i c new run (Err WriteFailed) asked there told = in_part i c new run asked there told
+runs_by one i c new run (Err NoMemory) asked there told = in_part i c new run asked there told
 
-runs_planned : (words : List (List ℕ)) (held : Option Held) (old new : Option Content) (run : Run) (r : Result ℕ Stop)
+runs_planned : AreOne → (words : List (List ℕ)) (held : Option Held) (old new : Option Content) (run : Run) (r : Result ℕ Stop)
     → IfSome held (λ h. Meets (λ (p : Planned). p) (planned words h) (let r : Result Planned ReadStop = Ok (plan.Runs run) in r))
     → IfSome old (λ c. RunsPlan run c new r)
     → IfSome held (λ h. IfSome old (λ c. Runs (input words h c) c new r))
-runs_planned words None old new run r asked told = tt
-runs_planned words (Some h) None new run r asked told = tt
-runs_planned words (Some h) (Some c) new run r asked told = runs_by (input words h c) c new run r asked refl told
+runs_planned one words None old new run r asked told = tt
+runs_planned one words (Some h) None new run r asked told = tt
+runs_planned one words (Some h) (Some c) new run r asked told = runs_by one (input words h c) c new run r asked refl told
 
 -- what was planned was done
-pub runs_carried : (words : List (List ℕ)) (held : Option Held) (old new : Option Content) (p : Planned) (r : Result ℕ Stop)
+pub runs_carried : AreOne → (words : List (List ℕ)) (held : Option Held) (old new : Option Content) (p : Planned) (r : Result ℕ Stop)
     → IfSome held (λ h. Meets (λ (x : Planned). x) (planned words h) (let o : Result Planned ReadStop = Ok p in o))
     → IfSome old (λ c. CarriesOut p c new r)
     → IfSome held (λ h. IfSome old (λ c. Runs (input words h c) c new r))
-runs_carried words held old new (plan.Shows config) r asked told = runs_shown words held old new config r asked told
-runs_carried words held old new (plan.Runs run) r asked told = runs_planned words held old new run r asked told
-runs_carried words held old new (plan.Lists capture) r asked told = runs_listed words held old new capture r asked told
+runs_carried one words held old new (plan.Shows config) r asked told = runs_shown one words held old new config r asked told
+runs_carried one words held old new (plan.Runs run) r asked told = runs_planned one words held old new run r asked told
+runs_carried one words held old new (plan.Lists capture) r asked told = runs_listed one words held old new capture r asked told
 
 -- ---- the whole, by its status
 
@@ -182,16 +195,17 @@ pub outcome_ran : (words : List (List ℕ)) (held : Option Held) (old new : Opti
 outcome_ran words held old new r r' w w' status small reads writes did = showed (omega arith) reads writes.0 writes.1 did
 
 -- a line that was meant for a refusal
-refused_line : (words : List (List ℕ)) (held : Option Held) (old mid new : Option Content) (r r' : ℕ) (w m w' : Tally) (status : ℕ) (fault : Fault)
+refused_line : AreOne → (words : List (List ℕ)) (held : Option Held) (old mid new : Option Content) (r r' : ℕ) (w m w' : Tally) (status : ℕ) (fault : Fault)
     → IfSome held (λ h. IfSome old (λ c. IsFirstFault (input words h c) fault × (mid ≡ Some c))) → r' ≡ r → m.faults ≡ w.faults → m.errors ≡ w.errors
     → TellsLine (line_of fault) 2 mid new m w' status → Outcome words held old new r r' w w' status
-refused_line words held old mid new r r' w m w' status fault did reads faults errors told =
+refused_line one words held old mid new r r' w m w' status fault did reads faults errors told =
     ⊎_elim
     (λ (all : (status ≡ 2) × (new ≡ option_map (add place.Err (line_of fault)) mid) × (w'.faults ≡ m.faults) × (w'.errors ≡ m.errors)).
     showed (omega arith) reads (all.2 ∙ faults) (all.3 ∙ errors)
     (told_map {P = λ i c. IsFirstFault i fault × (mid ≡ Some c)} {Q = λ i c. Shows i c new status} words held old
-    (λ i c h. shows i c (add place.Err (line_of fault) c) new status (all.1 ∙ ap (option_map (add place.Err (line_of fault))) h.1)
-    (subst (IsShown i c (add place.Err (line_of fault) c)) (sym all.0) (refused_shown i c fault h.0))) did))
+    (λ i c h. shows one i c (add place.Err (line_of fault) c) new status (all.1 ∙ ap (option_map (add place.Err (line_of fault))) h.1)
+    (subst (IsShown i c (add place.Err (line_of fault) c)) (sym all.0) (refused_shown i c fault h.0))
+    (refused-fit one.1 i fault h.0)) did))
     (λ (rest : ((status ≡ 4) × AddsFront place.Err (line_of fault) mid new × Rose m.faults w'.faults × EndsByError m.errors w') ⊎ ((status ≡ 5) × AddsFront place.Err (line_of fault) mid new × (w'.faults ≡ m.faults) × StopsAtError m.errors w')).
     ⊎_elim
     (λ (failed : (status ≡ 4) × AddsFront place.Err (line_of fault) mid new × Rose m.faults w'.faults × EndsByError m.errors w').
@@ -233,15 +247,15 @@ failed_line words held old mid new r r' w m w' status file did rose faults error
     rest)
     told
 
-pub outcome_stopped : (words : List (List ℕ)) (held : Option Held) (old mid new : Option Content) (r r' : ℕ) (w m w' : Tally) (status : ℕ) (stop : Stop)
+pub outcome_stopped : AreOne → (words : List (List ℕ)) (held : Option Held) (old mid new : Option Content) (r r' : ℕ) (w m w' : Tally) (status : ℕ) (stop : Stop)
     → IfSome held (λ h. IfSome old (λ c. Runs (input words h c) c mid (Err stop)))
     → CountsSource (let x : Result ℕ Stop = Err stop in x) r r' → CountsSink (let x : Result ℕ Stop = Err stop in x) w m
     → Tells stop mid new m w' status → Outcome words held old new r r' w w' status
-outcome_stopped words held old mid new r r' w m w' status (Refused fault) did reads writes told = refused_line words held old mid new r r' w m w' status fault did reads writes.0 writes.1 told
-outcome_stopped words held old mid new r r' w m w' status (ReadFailed file) did reads writes told = failed_line words held old mid new r r' w m w' status file did reads writes.0 writes.1 told
-outcome_stopped words held old mid new r r' w m w' status WriteFailed did reads writes (is, same, count) =
+outcome_stopped one words held old mid new r r' w m w' status (Refused fault) did reads writes told = refused_line one words held old mid new r r' w m w' status fault did reads writes.0 writes.1 told
+outcome_stopped one words held old mid new r r' w m w' status (ReadFailed file) did reads writes told = failed_line words held old mid new r r' w m w' status file did reads writes.0 writes.1 told
+outcome_stopped one words held old mid new r r' w m w' status WriteFailed did reads writes (is, same, count) =
     failed_writing is (subst (λ (x : Tally). Rose w.faults x.faults) (sym count) writes.0) (subst (EndsByError w.errors) (sym count) writes.1) (told_map {P = λ i c. ShowsPart i c mid} {Q = λ i c. ShowsPart i c new ⊎ (Rose r r' × TellsPart i c new)} words held old (λ i c h. inl (subst (ShowsPart i c) (sym same) h)) did)
-outcome_stopped words held old mid new r r' w m w' status NoMemory did reads writes (is, same, count) =
+outcome_stopped one words held old mid new r r' w m w' status NoMemory did reads writes (is, same, count) =
     wanted_memory is (ap (λ (x : Tally). x.faults) count ∙ writes.0) (subst (StopsAtError w.errors) (sym count) writes.1) (told_map {P = λ i c. ShowsPart i c mid} {Q = λ i c. ShowsPart i c new ⊎ (Rose r r' × TellsPart i c new)} words held old (λ i c h. inl (subst (ShowsPart i c) (sym same) h)) did)
 
 -- where neither count rose, and memory sufficed, what stands there is what is shown

@@ -11,11 +11,10 @@ use Rattle.out_text.specs.declared.streams.Stream.{Stream}
 use Rattle.net_run.specs.Pieces.{with_pieces, PutsFront}
 use Rattle.net_run.specs.Shown.{run_pieces}
 use Rattle.net_run.specs.Streams.{told_puts, stream_puts}
-use Rattle.net_run.proofs.FrontLemmas.{with_append}
-use Rattle.net_run.proofs.PartLemmas.{between-puts}
 use Rattle.round_lookahead.specs.WorldStands.{WorldStands}
 use Rattle.round_lookahead.specs.declared.world.world_state.World as rounds
-use Rattle.shadow_top.specs.Ending.{PutsEnd, PutsAll}
+use Rattle.shadow_top.specs.inside.Ending.{PutsEnd, PutsAll}
+use Rattle.shadow_top.proofs.GrowLemmas.{AreBetween, with_append}
 use Rattle.shadow_top.proofs.PartLemmas.{between-after, between-more}
 
 -- what is told of a world's connections, by what the code lists
@@ -37,12 +36,12 @@ module _ (load streams : Bool) (w : World) (old mid new : Option Content) where
   all-told status told put = (λ begun is. put ∙ ap (option_map (with_pieces lines)) (told.0 begun is) ∙ ap Some (sym (with_append rest lines begun)), told.1)
 
   -- a front of what stands before them
-  pub all-stopped : (error : WriteError) → PutsEnd load w old new (let r : Result ℕ WriteError = Err error in r)
+  pub all-stopped : AreBetween → (error : WriteError) → PutsEnd load w old new (let r : Result ℕ WriteError = Err error in r)
       → PutsAll load streams w old new (let r : Result ℕ WriteError = Err error in r)
-  all-stopped error told = λ begun is. between-more rest lines begun new (told begun is)
+  all-stopped parts error told = λ begun is. between-more parts rest lines begun new (told begun is)
 
   -- a front of them
-  pub all-in_part : (status : ℕ) (error : WriteError) → PutsEnd load w old mid (let r : Result ℕ WriteError = Ok status in r) → PutsFront lines mid new
+  pub all-in_part : AreBetween → (status : ℕ) (error : WriteError) → PutsEnd load w old mid (let r : Result ℕ WriteError = Ok status in r) → PutsFront lines mid new
       → PutsAll load streams w old new (let r : Result ℕ WriteError = Err error in r)
-  all-in_part status error told front = λ begun is.
-      between-after rest lines begun new (between-puts lines (with_pieces rest begun) new (subst (λ (o : Option Content). PutsFront lines o new) (told.0 begun is) front))
+  all-in_part parts status error told front = λ begun is.
+      between-after parts rest lines begun new (parts lines (with_pieces rest begun) new (subst (λ (o : Option Content). PutsFront lines o new) (told.0 begun is) front))

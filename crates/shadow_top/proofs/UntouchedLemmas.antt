@@ -9,7 +9,7 @@ use Rattle.run_plan.specs.declared.fault.ReadStop.TheVariants as read
 use Rattle.run_plan.specs.declared.planned.Planned.{Planned}
 use Rattle.run_plan.specs.declared.planned.Planned.TheVariants as plan
 use Rattle.shadow_top.specs.Contract.{AddsLine, Keeps, CarriesOut, TellsLine, Tells, read_failed_line}
-use Rattle.shadow_top.specs.Stop.{of_reading}
+use Rattle.shadow_top.specs.inside.Stop.{of_reading}
 use Rattle.shadow_top.specs.declared.stop.Stop.{Stop}
 use Rattle.shadow_top.specs.declared.stop.Stop.TheVariants.{Refused, ReadFailed, WriteFailed, NoMemory}
 

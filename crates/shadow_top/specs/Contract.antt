@@ -6,6 +6,8 @@ use Rattle.sim_base.specs.Tally.{EndsByError, StopsAtError}
 use Rattle.sim_base.specs.declared.outside.sink.Place.TheVariants as place
 use Rattle.sim_base.specs.declared.outside.tally.Tally.{Tally}
 use Rattle.out_text.specs.Faults.{file_line}
+use Rattle.host_state.specs.LinesFit.{AllFit}
+use Rattle.host_state.specs.Logs.{lines_of}
 use Rattle.host_state.specs.World.{World, IsResult, opening_world}
 use Rattle.net_run.specs.Parts.{IsPart, Between}
 use Rattle.net_run.specs.Pieces.{with_pieces}
@@ -16,7 +18,7 @@ use Rattle.run_plan.specs.declared.planned.Planned.{Planned}
 use Rattle.run_plan.specs.declared.planned.Planned.TheVariants as plan
 use Rattle.run_plan.specs.declared.planned.Run.{Run}
 use Rattle.shadow_top.specs.Captured.{AreLinesOf}
-use Rattle.shadow_top.specs.Input.{Input, IsFirstFault, IsReached, directory_of}
+use Rattle.shadow_top.specs.Input.{Input, IsFirstFault, IsReached, IsToRun, directory_of}
 use Rattle.shadow_top.specs.Shown.{IsShown, IsRunTo, pieces_of}
 use Rattle.shadow_top.specs.declared.opened.Opened.{Opened}
 use Rattle.shd_config.specs.Shown.{shown}
@@ -25,12 +27,17 @@ use Rattle.pcap_text.specs.declared.capture.Capture.{Capture}
 use Rattle.shadow_top.specs.declared.stop.Stop.{Stop}
 use Rattle.shadow_top.specs.declared.stop.Stop.TheVariants.{Refused, ReadFailed, WriteFailed, NoMemory}
 
+-- all lines that are logged where the input is run are of packets whose numbers fit their types
+abbrev pub LogFits : Input → Type 0
+LogFits input = (run : Run) (w : World) → IsToRun input run → IsRunTo run w → AllFit (lines_of w.log)
+
 -- what is shown stands there now, and this is its status: this and nothing else is shown of the input
 pub record Shows (input : Input) (old : Content) (new : Option Content) (status : ℕ) : Type 0 where
   pub whole : Content
   pub new_is : new ≡ Some whole
   pub shown : IsShown input old whole status
   pub only : (other : Content) (another : ℕ) → IsShown input old other another → (other ≡ whole) × (another ≡ status)
+  pub log : LogFits input
 
 -- the line of a file that could not be read
 abbrev pub read_failed_line : List ℕ → List ℕ
@@ -106,9 +113,9 @@ ListsCapture capture c new (Err (ReadFailed file)) = ⊥
 ListsCapture capture c new (Err WriteFailed) = ListsFront capture c new
 ListsCapture capture c new (Err NoMemory) = ListsFront capture c new
 
--- what stands is what a world shows; or each place holds a front of that
+-- what stands is what a world shows, and its log's lines fit; or each place holds a front of that
 abbrev pub Reports : Bool → Bool → World → Content → Option Content → Result ℕ Stop → Type 0
-Reports load streams w c new (Ok status) = (new ≡ Some (with_pieces (all_pieces load streams w) c)) × (status ≡ status_of w)
+Reports load streams w c new (Ok status) = (new ≡ Some (with_pieces (all_pieces load streams w) c)) × (status ≡ status_of w) × AllFit (lines_of w.log)
 Reports load streams w c new (Err (Refused fault)) = ⊥
 Reports load streams w c new (Err (ReadFailed file)) = ⊥
 Reports load streams w c new (Err WriteFailed) = Between c new (with_pieces (all_pieces load streams w) c)
@@ -127,7 +134,7 @@ PutsSome opened c new =
 abbrev pub RunsOpened : Opened → Content → Option Content → Result ℕ Stop → Type 0
 RunsOpened opened c new (Ok status) =
     (w : World) × IsResult opened.net w (opening_world opened.rows.items)
-    × (new ≡ Some (with_pieces (pieces opened.notes opened.is_self_load opened.streams w) c)) × (status ≡ status_of w)
+    × (new ≡ Some (with_pieces (pieces opened.notes opened.is_self_load opened.streams w) c)) × (status ≡ status_of w) × AllFit (lines_of w.log)
 RunsOpened opened c new (Err (Refused fault)) = ⊥
 RunsOpened opened c new (Err (ReadFailed file)) = ⊥
 RunsOpened opened c new (Err WriteFailed) = PutsSome opened c new
@@ -143,7 +150,7 @@ RunsInPart run c new = (new ≡ Some c)
 abbrev pub RunsPlan : Run → Content → Option Content → Result ℕ Stop → Type 0
 RunsPlan run c new (Ok status) =
     (c.there (directory_of run) ≡ false) × (w : World) × IsRunTo run w
-    × (new ≡ Some (with_pieces (pieces_of run w) (begun (directory_of run) c))) × (status ≡ status_of w)
+    × (new ≡ Some (with_pieces (pieces_of run w) (begun (directory_of run) c))) × (status ≡ status_of w) × AllFit (lines_of w.log)
 RunsPlan run c new (Err (Refused fault)) = (c.there (directory_of run) ≡ true) × (fault ≡ Exists (directory_of run)) × (new ≡ Some c)
 RunsPlan run c new (Err (ReadFailed file)) = ⊥
 RunsPlan run c new (Err WriteFailed) = RunsInPart run c new

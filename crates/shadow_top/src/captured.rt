@@ -5,7 +5,7 @@ ghost use Rattle.sim_base.specs.declared.packet.Packet.{Packet};
 ghost use Rattle.pcap_text.specs.Packets.{IsPacketIn};
 ghost use Rattle.shadow_top.specs.Captured.{line_with, AreLinesOf};
 ghost use Rattle.shadow_top.specs.Contract.{ListsCapture};
-ghost use Rattle.shadow_top.specs.Stop.{CountsSink, NoReadFailed};
+ghost use Rattle.shadow_top.specs.inside.Stop.{CountsSink, NoReadFailed};
 
 use crate::stop::Stop;
 use out_text::{cut_line, packet_line};

@@ -8,11 +8,11 @@ ghost use Rattle.host_state.specs.World.{World as HostWorld};
 ghost use Rattle.host_state.specs.Listed.{HasIds, names_of};
 ghost use Rattle.net_run.specs.Rest.{summary_in, TellsStates};
 ghost use Rattle.round_lookahead.specs.WorldStands.{WorldStands};
-ghost use Rattle.shadow_top.specs.Ending.{TellsAll, PutsEnd, PutsAll};
-ghost use Rattle.shadow_top.specs.Rounds.{StandsAt};
+ghost use Rattle.shadow_top.specs.inside.Ending.{TellsAll, PutsEnd, PutsAll};
+ghost use Rattle.shadow_top.specs.inside.Rounds.{StandsAt};
 
 use crate::streams::put_if_asked;
-use net_run::put_rest;
+use net_run::{parts_are_between, put_rest, runs_grow};
 use out_text::Summary;
 use round_lookahead::World;
 use sim_base::{NoMemory, Sink, State, WriteError};
@@ -81,6 +81,8 @@ fn put_end<K: Sink>(
     ensures told { (w : HostWorld) (old : Option Content) → WorldStands world.now w → StandsAt w old (K.content sink.old) → PutsEnd is_self_load w old (K.content sink.new) result }
     ensures count { CountsWrites result (K.tally sink.old) (K.tally sink.new) }
 {
+    runs_grow();
+    parts_are_between();
     let states = match all_states(alloc, world) {
         Ok(states) => states,
         Err(NoMemory) => return Err(WriteError::NoMemory),
@@ -104,6 +106,7 @@ pub(crate) fn put_ending<K: Sink>(
     ensures told { (w : HostWorld) (old : Option Content) → WorldStands world.now w → StandsAt w old (K.content sink.old) → PutsAll is_self_load streams w old (K.content sink.new) result }
     ensures count { CountsWrites result (K.tally sink.old) (K.tally sink.new) }
 {
+    parts_are_between();
     let status = put_end(alloc, world, is_self_load, sink)?;
     put_if_asked(alloc, world, streams, sink)?;
     Ok(status)

@@ -1,4 +1,7 @@
 //! The simulator's top call.
+//!
+//! Laws, as `runs_grow()`, are called first in a body: they do nothing when it runs, and bring what they
+//! ensure into its proof. So it is proved by the public contracts of the crates below alone.
 #![tactic(auto)]
 
 mod captured;

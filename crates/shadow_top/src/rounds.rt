@@ -9,12 +9,12 @@ ghost use Rattle.host_state.specs.declared.row.Row.{Row};
 ghost use Rattle.net_run.specs.Grown.{HaveOwnFiles};
 ghost use Rattle.round_lookahead.specs.Tasks.{waiting};
 ghost use Rattle.round_lookahead.specs.WorldStands.{WorldStands};
-ghost use Rattle.shadow_top.specs.Rounds.{PutsRound, PutsRounds, StandsAt};
-ghost use Rattle.shadow_top.specs.Stop.{CountsSink, NoReadFailed};
+ghost use Rattle.shadow_top.specs.inside.Rounds.{PutsRound, PutsRounds, StandsAt};
+ghost use Rattle.shadow_top.specs.inside.Stop.{CountsSink, NoReadFailed};
 
 use crate::stop::Stop;
-use net_run::{put_heads, put_pieces};
-use round_lookahead::World;
+use net_run::{parts_are_between, put_heads, put_pieces, runs_grow};
+use round_lookahead::{World, rounds_reach_the_result};
 use sim_base::Sink;
 use std::alloc::AllocGlobal;
 use std::thread::Threads;
@@ -57,6 +57,9 @@ fn put_rounds<K: Sink, G: Gate + Sync, R: Threads + Sync + AllocGlobal>(
     ensures reads { NoReadFailed result }
     ensures count { CountsSink result (K.tally sink.old) (K.tally sink.new) }
 {
+    rounds_reach_the_result();
+    runs_grow();
+    parts_are_between();
     'rounds: while !world.finished() {
         put_next(rt, workers, gate, world, sink)?;
     }
@@ -79,6 +82,9 @@ pub(crate) fn put_run<K: Sink, G: Gate + Sync, R: Threads + Sync + AllocGlobal>(
     ensures reads { NoReadFailed result }
     ensures count { CountsSink result (K.tally sink.old) (K.tally sink.new) }
 {
+    rounds_reach_the_result();
+    runs_grow();
+    parts_are_between();
     put_heads(rt.alloc(), sink, world.listing())?;
     put_rounds(rt, workers, gate, world, sink)
 }

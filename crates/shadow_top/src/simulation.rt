@@ -11,17 +11,19 @@ ghost use Rattle.run_plan.specs.Names.{AreRowsApart, AreNamesApart};
 ghost use Rattle.run_plan.specs.Routed.{IsRouted, IsRoutedIfRun};
 ghost use Rattle.shadow_top.specs.Contract.{AddsLine, Keeps, Shows, TellsReadFailed, ShowsPart, TellsPart, Runs, CarriesOut, RunsPlan, ShowsConfig, RunsOpened, RunsNoted, TellsLine, Tells, BeginsSo, read_failed_line};
 ghost use Rattle.shadow_top.specs.Input.{input};
-ghost use Rattle.shadow_top.specs.Outcome.{Outcome};
-ghost use Rattle.shadow_top.specs.Stop.{CountsSource, CountsSink, NoReadFailed};
+ghost use Rattle.shadow_top.specs.inside.Outcome.{Outcome};
+ghost use Rattle.shadow_top.specs.inside.Stop.{CountsSource, CountsSink, NoReadFailed};
 
 use crate::captured::list_capture;
 use crate::ending::put_ending;
+use crate::laws::one_shown;
 use crate::opened::{Opened, open};
 use crate::rounds::put_run;
 use crate::stop::Stop;
-use net_run::put_notes;
+use net_run::{parts_are_between, put_notes};
 use out_text::FaultText;
-use round_lookahead::World;
+use round_lookahead::{World, one_result};
+use run_plan::laws::one_plan;
 use run_plan::{Fault, Planned, Run, read_plan, tell, worker_count};
 use shd_config::Config;
 use sim_base::{Name, NoMemory, Place, Sink, Source, Text, WriteError, put_all};
@@ -123,6 +125,8 @@ fn run_noted<K: Sink, G: Gate + Sync, R: Threads + Sync + AllocGlobal>(
     ensures reads { NoReadFailed result }
     ensures count { CountsSink result (K.tally sink.old) (K.tally sink.new) }
 {
+    one_result();
+    parts_are_between();
     let alloc = rt.alloc();
     let Opened {
         is_self_load,
@@ -154,6 +158,8 @@ fn run_begun<K: Sink, G: Gate + Sync, R: Threads + Sync + AllocGlobal>(
     ensures reads { NoReadFailed result }
     ensures count { CountsSink result (K.tally sink.old) (K.tally sink.new) }
 {
+    one_result();
+    parts_are_between();
     match put_notes(rt.alloc(), sink, opened.notes.as_slice()) {
         Ok(()) => run_noted(rt, cores, gate, opened, sink),
         Err(error) => Err(Stop::from(error)),
@@ -238,6 +244,9 @@ fn run<S: Source, K: Sink, G: Gate + Sync, R: Threads + Sync + AllocGlobal>(
     ensures reads { CountsSource result (S.faults source.old) (S.faults source.new) }
     ensures writes { CountsSink result (K.tally sink.old) (K.tally sink.new) }
 {
+    one_plan();
+    one_result();
+    one_shown();
     match read_plan(rt, rt.alloc(), words, source, cores) {
         Ok(planned) => carry_out(rt, cores, gate, planned, sink),
         Err(stop) => Err(Stop::from(stop)),
@@ -257,6 +266,9 @@ fn run_and_tell<S: Source, K: Sink, G: Gate + Sync, R: Threads + Sync + AllocGlo
         (S.faults source.old) (S.faults source.new) (K.tally sink.old) (K.tally sink.new) result }
     ensures untouched { IfSome (K.content sink.old) (λ c. 2 ≤ result → result ≤ 3 → AddsLine c (K.content sink.new)) }
 {
+    one_plan();
+    one_result();
+    one_shown();
     match run(rt, cores, gate, words, source, sink) {
         Ok(status) => status,
         Err(stop) => tell_stop(rt.alloc(), sink, &stop),

@@ -26,7 +26,7 @@ impl From<NoMemory> for Stop {
 }
 
 impl From<ReadStop> for Stop {
-    ghost use Rattle.shadow_top.specs.Stop.{of_reading};
+    ghost use Rattle.shadow_top.specs.inside.Stop.{of_reading};
 
     ghost from_gives = { λ read s. s ≡ of_reading read };
 
@@ -40,7 +40,7 @@ impl From<ReadStop> for Stop {
 }
 
 impl From<WriteError> for Stop {
-    ghost use Rattle.shadow_top.specs.Stop.{of_writing};
+    ghost use Rattle.shadow_top.specs.inside.Stop.{of_writing};
 
     ghost from_gives = { λ written s. s ≡ of_writing written };
 

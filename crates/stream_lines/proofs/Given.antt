@@ -1,21 +1,17 @@
 -- What a configuration says of its hosts: there are not too many, and each address that is given is one that a host may have.
-use Rattle.std.proofs.Common.{◌≡◌, ℕ, ◌+◌, ◌≤◌, ◌&&◌, Bool, true, false, List, [], ◌∷◌, length, map, All, Option, Some, None, IfSome, IfOk, Result, Ok, Err, is_some, codes, suc, refl, sym, ap, subst, ◌∙◌, arith, length-append, nat_le}
-use Rattle.std.specs.Prelude.{if◌then◌else◌}
+use Rattle.std.proofs.Common.{◌≡◌, ℕ, ◌+◌, ◌≤◌, ◌&&◌, Bool, true, false, List, [], ◌∷◌, length, map, All, Option, Some, IfSome, IfOk, is_some, codes, suc, refl, sym, ap, subst, ◌∙◌, arith, nat_le}
 use Rattle.std.proofs.lemmas.Bool.{leb-true}
-use Rattle.std.proofs.lemmas.List.Elements.{All-nil, All-push, All-map, All-weaker}
+use Rattle.std.proofs.lemmas.List.Elements.{All-nil, All-map, All-weaker}
 use Rattle.std.proofs.lemmas.List.FromFn.{length-map-range_with_len}
 use Rattle.sim_base.specs.Limits.{most_hosts, most_ring_hosts}
 use Rattle.sim_base.specs.Units.{max_u32}
-use Rattle.sim_base.specs.Refusals.{◌>>=◌}
 use Rattle.sim_base.specs.declared.address.Ip.{Ip}
 use Rattle.yaml_tree.specs.Said.{Said}
 use Rattle.yaml_merge.specs.Merge.{merged}
-use Rattle.yaml_merge.specs.Plain.{is_null, line_of}
+use Rattle.yaml_merge.specs.Plain.{line_of}
 use Rattle.yaml_merge.specs.declared.plain.Pair.{Pair}
 use Rattle.shd_values.specs.Address.{address_of}
-use Rattle.shd_config.specs.declared.fault.ConfigKind.{ConfigKind}
 use Rattle.shd_config.specs.declared.fault.ConfigKind.TheVariants.{OutOfRange, BadValue}
-use Rattle.shd_config.specs.declared.fault.ConfigFault.{ConfigFault}
 use Rattle.shd_config.specs.declared.config.Config.{Config}
 use Rattle.shd_config.specs.declared.config.HostConfig.{HostConfig}
 use Rattle.shd_config.specs.declared.host.HostDraft.{HostDraft}
@@ -25,7 +21,7 @@ use Rattle.shd_config.specs.declared.key.Key.TheVariants as keys
 use Rattle.shd_config.specs.declared.options.HostOptions.{HostOptions}
 use Rattle.shd_config.specs.declared.overrides.Overrides.{Overrides}
 use Rattle.shd_config.specs.declared.reading.RootDraft.{RootDraft}
-use Rattle.shd_config.specs.Steps.{needed, checked, below, through, given, optional}
+use Rattle.shd_config.specs.Steps.{needed, checked, through, given, optional}
 use Rattle.shd_config.specs.Keys.{key_of}
 use Rattle.shd_config.specs.Values.{is_within, ranged, scalar_at, mapping_at, number_at, address_at, rate_at, may_be_host}
 use Rattle.shd_config.specs.General.{general_at}
@@ -33,55 +29,10 @@ use Rattle.shd_config.specs.Process.{processes_at}
 use Rattle.shd_config.specs.Network.{network_at}
 use Rattle.shd_config.specs.Host.{options_at, new_host, host_key, host_row, finished_host, host_of, host_at, hosts_row, hosts_at, settled}
 use Rattle.shd_config.specs.Config.{root, new_root, experimental_at, root_key, root_row, general_or, finished_root, root_of, merged_config, wrong_merge, config, is_passed_over}
+use Rattle.shd_config.proofs.Walks.{then_has, then_all, checked_has, below_has, needed_has, optional_has, weaker, kept_or_read, through_keeps, IsMore, AreMore, through_pushes}
 use Rattle.run_plan.specs.SelfLoad.{ring_host, self_load_config}
 use Rattle.run_plan.proofs.LimitLemmas.{each_ring_host}
 use Rattle.stream_lines.proofs.Walk.{IsForHost}
-
--- ---- steps
-
-abbrev Read : Type 0 → Type 0
-Read A = Result A ConfigFault
-
--- what a step gives has this, and what follows has that
-then_has : {A B : Type 0} (P : A → Type 0) (Q : B → Type 0) (first : Read A) (next : A → Read B) → IfOk first P → ((a : A) → P a → IfOk (next a) Q) → IfOk (first >>= next) Q
-then_has P Q (Ok a) next h k = k a h
-then_has P Q (Err f) next h k = tt
-
--- of a step nothing is known
-then_all : {A B : Type 0} (Q : B → Type 0) (first : Read A) (next : A → Read B) → ((a : A) → IfOk (next a) Q) → IfOk (first >>= next) Q
-then_all Q (Ok a) next k = k a
-then_all Q (Err f) next k = tt
-
-checked_has : {B : Type 0} (Q : B → Type 0) (kind : ConfigKind) (p : Pair) (t : Bool) (next : Unit {0} → Read B) → (t ≡ true → IfOk (next tt) Q) → IfOk (checked kind p t >>= next) Q
-checked_has Q kind p true next h = h refl
-checked_has Q kind p false next h = tt
-
-below_has : {A : Type 0} (P : A → Type 0) (p : Pair) (read : Read A) → IfOk read P → IfOk (below p read) P
-below_has P p (Ok a) h = h
-below_has P p (Err f) h = tt
-
-needed_has : {A : Type 0} (P : A → Type 0) (key : List ℕ) (line : ℕ) (o : Option A) → IfSome o P → IfOk (needed key line o) P
-needed_has P key line None h = tt
-needed_has P key line (Some a) h = h
-
-some_has : {A : Type 0} (P : A → Type 0) (read : Read A) → IfOk read P → IfOk (read >>= λ x. Ok (Some x)) (λ o. IfSome o P)
-some_has P (Ok a) h = h
-some_has P (Err f) h = tt
-
-optional_by : {A : Type 0} (P : A → Type 0) (null : Bool) (read : Read A) → IfOk read P → IfOk (if null then Ok None else (read >>= λ x. Ok (Some x))) (λ o. IfSome o P)
-optional_by P true read h = tt
-optional_by P false read h = some_has P read h
-
-optional_has : {A : Type 0} (P : A → Type 0) (p : Pair) (read : Read A) → IfOk read P → IfOk (optional p read) (λ o. IfSome o P)
-optional_has P p read h = optional_by P (is_null p.value) read h
-
-weaker : {A : Type 0} (P Q : A → Type 0) (read : Read A) → IfOk read P → ((a : A) → P a → Q a) → IfOk read Q
-weaker P Q (Ok a) h k = k a h
-weaker P Q (Err f) h k = tt
-
-through_keeps : {S A : Type 0} (P : S → Type 0) (step : S → A → Read S) → ((s : S) (a : A) → P s → IfOk (step s a) P) → (s : S) (xs : List A) → P s → IfOk (through step s xs) P
-through_keeps P step keeps s [] h = h
-through_keeps P step keeps s (x ∷ xs) h = then_has P P (step s x) (λ next. through step next xs) (keeps s x h) (λ next k. through_keeps P step keeps next xs k)
 
 -- ---- an address
 
@@ -131,22 +82,8 @@ host_has p = then_all IsHost (checked BadValue p _) _ (λ _. then_all IsHost (ma
 
 -- ---- the hosts
 
--- as many behind those before
-record AreMore (count : ℕ) (all : List HostRead) : Type 0 where
-  each : All IsHost all
-  length_is : length all ≡ count
-
-one_host : (before : List HostRead) (p : Pair) → All IsHost before → IfOk (hosts_row before p) (AreMore (length before + 1))
-one_host before p each =
-    then_has IsHost (AreMore (length before + 1)) (host_at p) _ (host_has p) (λ h k. record { each = All-push IsHost before h each k; length_is = length-append before (h ∷ []) })
-
-more_hosts : (before : List HostRead) (pairs : List Pair) → All IsHost before → IfOk (through hosts_row before pairs) (AreMore (length before + length pairs))
-more_hosts before [] each = record { each = each; length_is = omega arith }
-more_hosts before (p ∷ pairs) each =
-    then_has (AreMore (length before + 1)) (AreMore (length before + length (p ∷ pairs))) (hosts_row before p) (λ next. through hosts_row next pairs) (one_host before p each)
-    (λ next more.
-    let sum : length next + length pairs ≡ length before + length (p ∷ pairs) = (let count = more.length_is in omega (arith, count)) in
-    subst (λ (n : ℕ). IfOk (through hosts_row next pairs) (AreMore n)) sum (more_hosts next pairs more.each))
+one_host : (before : List HostRead) (p : Pair) → IfOk (hosts_row before p) (IsMore IsHost before)
+one_host before p = then_has IsHost (IsMore IsHost before) (host_at p) _ (host_has p) (λ h k. record { last = h; has = k; is = refl })
 
 record AreHosts (hosts : List HostRead) : Type 0 where
   few : length hosts ≤ most_hosts
@@ -163,7 +100,7 @@ hosts_have p =
     then_all AreHosts (mapping_at p) _
     (λ pairs. checked_has AreHosts OutOfRange p (is_within 1 most_hosts (length pairs)) _
     (λ e. below_has AreHosts p (through hosts_row [] pairs)
-    (weaker (AreMore (0 + length pairs)) AreHosts (through hosts_row [] pairs) (more_hosts [] pairs (All-nil IsHost))
+    (weaker (AreMore IsHost (0 + length pairs)) AreHosts (through hosts_row [] pairs) (through_pushes IsHost hosts_row one_host [] pairs (All-nil IsHost))
     (λ all more.
     let few = at_most 1 most_hosts (length pairs) (nat_le 1 (length pairs)) (nat_le (length pairs) most_hosts) refl refl e in
     record { few = (let count = more.length_is in omega (arith, few, count)); each = more.each }))))
@@ -199,10 +136,6 @@ module _ (o : Overrides) where
   root_key_has (Some keys.Experimental) d p h = then_all IsRoot (optional p (experimental_at p)) _ (λ v. h)
   root_key_has _ d p h = tt
 
-  row_by : (passed : Bool) (d : RootDraft) (p : Pair) → IsRoot d → IfOk (if passed then Ok d else root_key o (key_of p.key) d p) IsRoot
-  row_by true d p h = h
-  row_by false d p h = root_key_has (key_of p.key) d p h
-
   finished_root_has : (told : List (List ℕ)) (line : ℕ) (d : RootDraft) → IsRoot d → IfOk (finished_root o told line d) HasHosts
   finished_root_has told line d h =
       then_all HasHosts (general_or o line d.general) _
@@ -214,7 +147,7 @@ module _ (o : Overrides) where
   unfolding root_of
   root_of_has line pairs =
       then_has IsRoot HasHosts (through (root_row o) new_root pairs) _
-      (through_keeps IsRoot (root_row o) (λ d p h. row_by (is_passed_over p) d p h) new_root pairs tt) (λ d h. finished_root_has _ _ d h)
+      (through_keeps IsRoot (root_row o) (λ d p h. kept_or_read IsRoot (is_passed_over p) d (root_key o (key_of p.key) d p) h (root_key_has (key_of p.key) d p h)) new_root pairs tt) (λ d h. finished_root_has _ _ d h)
 
   merged_config_has : (empty : Bool) (tree : Said) → IfOk (merged_config o empty tree) HasHosts
   merged_config_has true tree = root_of_has 1 []

@@ -1,6 +1,7 @@
 pub mod Walk
 pub mod Apart
 pub mod Given
+pub mod Within
 pub mod Planned
 pub mod Rows
 pub mod Hosts

@@ -1,5 +1,5 @@
--- The hosts of a plan that is to be run are those of a configuration.
-use Rattle.std.proofs.Common.{◌≡◌, ℕ, Bool, true, false, List, [], Result, Ok, Err, IfOk, ap, subst, codes}
+-- The hosts of a plan that is to be run are those of a configuration, and its stop is within the limits.
+use Rattle.std.proofs.Common.{◌≡◌, ℕ, Bool, true, false, List, [], Result, Ok, Err, IfOk, ap, subst, codes, ◌≤◌, arith}
 use Rattle.sim_base.specs.Files.{Held}
 use Rattle.gml_graph.specs.declared.graph.Graph.{Graph}
 use Rattle.yaml_tree.specs.Trees.{is_empty}
@@ -10,6 +10,7 @@ use Rattle.command_line.specs.declared.asked.Subject.{Subject}
 use Rattle.command_line.specs.declared.asked.Subject.TheVariants.{File, SelfLoad, Capture}
 use Rattle.command_line.specs.declared.fault.WordsFault.{WordsFault}
 use Rattle.shd_config.specs.Config.{config}
+use Rattle.shd_config.specs.Limits.{MayOverride, MayStop, IsWithinLimits}
 use Rattle.shd_config.specs.declared.config.Config.{Config}
 use Rattle.shd_config.specs.declared.fault.ConfigFault.{ConfigFault}
 use Rattle.shd_config.specs.declared.overrides.Overrides.{Overrides}
@@ -29,7 +30,9 @@ use Rattle.run_plan.specs.declared.planned.Planned.{Planned}
 use Rattle.run_plan.specs.declared.planned.Planned.TheVariants.{Runs}
 use Rattle.run_plan.specs.declared.planned.Run.{Run}
 use Rattle.run_plan.proofs.InRangeLemmas.{asked_in_range}
+use Rattle.run_plan.proofs.LimitLemmas.{self_load_within}
 use Rattle.stream_lines.proofs.Given.{HasHosts, config_has, self_load_has}
+use Rattle.stream_lines.proofs.Within.{config_within}
 
 -- these are the rows of hosts of a configuration
 pub record AreRows (rows : List HostRow) : Type 0 where
@@ -39,19 +42,33 @@ pub record AreRows (rows : List HostRow) : Type 0 where
   pub are : host_rows name graph configuration.hosts (Ok rows)
   pub hosts : HasHosts configuration
 
+-- of a plan: its rows are such, and its stop is one that a configuration may have
+record IsOfConfig (plan : Plan) : Type 0 where
+  rows : AreRows plan.rows
+  stop : MayStop plan.settings.stop_time
+
+-- what a configuration has
+record IsConfig (c : Config) : Type 0 where
+  hosts : HasHosts c
+  stop : MayStop c.stop_time
+
 -- ---- a plan
 
-abbrev rows_in : Result Plan Fault → List HostRow
-rows_in (Ok plan) = plan.rows
-rows_in (Err fault) = []
+abbrev plan_is : Plan → Result Plan Fault → Plan
+plan_is other (Ok plan) = plan
+plan_is other (Err fault) = other
 
-run_rows : (held : Held) (name : List ℕ) (graph : Graph) (c : Config) (plan : Plan) → HasHosts c → run_of held name graph c (Ok plan) → AreRows plan.rows
+run_rows : (held : Held) (name : List ℕ) (graph : Graph) (c : Config) (plan : Plan) → IsConfig c → run_of held name graph c (Ok plan) → IsOfConfig plan
 unfolding run_of
 run_rows held name graph c plan has (rows, h, (routes, k, (images, m, (lookahead, n, e)))) =
-    let same : rows ≡ plan.rows = ap rows_in e in
-    record { name = name; graph = graph; configuration = c; are = subst (λ (found : List HostRow). host_rows name graph c.hosts (Ok found)) same h; hosts = has }
+    let same : rows ≡ plan.rows = ap (λ (r : Result Plan Fault). (plan_is plan r).rows) e in
+    let stop : c.stop_time ≡ plan.settings.stop_time = ap (λ (r : Result Plan Fault). (plan_is plan r).settings.stop_time) e in
+    record {
+      rows = record { name = name; graph = graph; configuration = c; are = subst (λ (found : List HostRow). host_rows name graph c.hosts (Ok found)) same h; hosts = has.hosts };
+      stop = subst MayStop stop has.stop;
+    }
 
-plan_rows : (held : Held) (name : List ℕ) (c : Config) (plan : Plan) → HasHosts c → plan_of held name c (Ok plan) → AreRows plan.rows
+plan_rows : (held : Held) (name : List ℕ) (c : Config) (plan : Plan) → IsConfig c → plan_of held name c (Ok plan) → IsOfConfig plan
 unfolding plan_of
 plan_rows held name c plan has (graph, g, h) = run_rows held name graph c plan has h
 
@@ -65,12 +82,12 @@ abbrev planned_in : Planned → Result Planned Fault → Planned
 planned_in other (Ok p) = p
 planned_in other (Err fault) = other
 
-is_run : (shows : Bool) (c : Config) (outcomes : Outcomes Plan) (m : Manner) (is_self_load : Bool) (run : Run) → ((plan : Plan) → outcomes (Ok plan) → AreRows plan.rows)
-    → shown_or_run shows c outcomes (runs m is_self_load) (Ok (Runs run)) → AreRows run.plan.rows
+is_run : (shows : Bool) (c : Config) (outcomes : Outcomes Plan) (m : Manner) (is_self_load : Bool) (run : Run) → ((plan : Plan) → outcomes (Ok plan) → IsOfConfig plan)
+    → shown_or_run shows c outcomes (runs m is_self_load) (Ok (Runs run)) → IsOfConfig run.plan
 is_run true c outcomes m is_self_load run each e = cc
 is_run false c outcomes m is_self_load run each (plan, h, e) =
     let same : plan ≡ run.plan = ap (λ (r : Result Planned Fault). plan_in plan (planned_in (Runs run) r)) e in
-    subst (λ (p : Plan). AreRows p.rows) same (each plan h)
+    subst IsOfConfig same (each plan h)
 
 -- ---- a file
 
@@ -78,24 +95,30 @@ config_is : (name : List ℕ) (read : Result Config ConfigFault) (c : Config) �
 config_is name (Ok d) c e = cc
 config_is name (Err fault) c e = cc
 
-configured_has : (name text : List ℕ) (o : Overrides) (c : Config) → configured name text o (Ok c) → HasHosts c
+configured_has : (name text : List ℕ) (o : Overrides) (c : Config) → MayOverride o → configured name text o (Ok c) → IsConfig c
 unfolding configured
-configured_has name text o c (tree, t, e) =
-    subst (λ (read : Result Config ConfigFault). IfOk read HasHosts) (config_is name (config o (is_empty tree) (said_of tree)) c e) (config_has o (is_empty tree) (said_of tree))
+configured_has name text o c may (tree, t, e) =
+    let is = config_is name (config o (is_empty tree) (said_of tree)) c e in
+    record {
+      hosts = subst (λ (read : Result Config ConfigFault). IfOk read HasHosts) is (config_has o (is_empty tree) (said_of tree));
+      stop = (subst (λ (read : Result Config ConfigFault). IfOk read IsWithinLimits) is (config_within o may (is_empty tree) (said_of tree))).stop;
+    }
 
-file_rows : (m : Manner) (held : Held) (name : List ℕ) (run : Run) → file_planned m held name (Ok (Runs run)) → AreRows run.plan.rows
+file_rows : (m : Manner) (held : Held) (name : List ℕ) (run : Run) → MayOverride m.overrides → file_planned m held name (Ok (Runs run)) → IsOfConfig run.plan
 unfolding file_planned
-file_rows m held name run (text, h, (c, k, s)) =
-    is_run m.shows_config c (plan_of held name c) m false run (λ plan p. plan_rows held name c plan (configured_has name text m.overrides c k) p) s
+file_rows m held name run may (text, h, (c, k, s)) =
+    is_run m.shows_config c (plan_of held name c) m false run (λ plan p. plan_rows held name c plan (configured_has name text m.overrides c may k) p) s
 
 -- ---- a self-load
 
-self_load_rows : (m : Manner) (hosts : ℕ) (held : Held) (run : Run) → IsInRange (SelfLoad hosts) → self_load_planned m hosts (Ok (Runs run)) → AreRows run.plan.rows
+self_load_rows : (m : Manner) (hosts : ℕ) (held : Held) (run : Run) → IsInRange (SelfLoad hosts) → MayOverride m.overrides → self_load_planned m hosts (Ok (Runs run)) → IsOfConfig run.plan
 unfolding self_load_planned
-self_load_rows m hosts held run range s =
+self_load_rows m hosts held run range may s =
     let c : Config = self_load_config m.overrides hosts in
+    let low : 2 ≤ hosts = range.0 in
+    let within : IsWithinLimits c = self_load_within m.overrides hosts (omega arith) range.1 may in
     is_run m.shows_config c (run_of ring_files (codes "self-load") (self_load_graph hosts) c) m true run
-    (λ plan p. run_rows ring_files (codes "self-load") (self_load_graph hosts) c plan (self_load_has m.overrides hosts range.1) p) s
+    (λ plan p. run_rows ring_files (codes "self-load") (self_load_graph hosts) c plan (record { hosts = self_load_has m.overrides hosts range.1; stop = within.stop }) p) s
 
 -- ---- what is asked
 
@@ -103,15 +126,22 @@ no_run : (m : Manner) (held : Held) (name : List ℕ) (run : Run) → capture_pl
 unfolding capture_planned
 no_run m held name run (bytes, h, (capture, k, e)) = cc
 
-subject_rows : (held : Held) (m : Manner) (subject : Subject) (run : Run) → IsInRange subject → planned_of held m subject (Ok (Runs run)) → AreRows run.plan.rows
-subject_rows held m (File name) run range h = file_rows m held name run h
-subject_rows held m (SelfLoad hosts) run range h = self_load_rows m hosts held run range h
-subject_rows held m (Capture name) run range h = absurd (no_run m held name run h)
+subject_rows : (held : Held) (m : Manner) (subject : Subject) (run : Run) → IsInRange subject → MayOverride m.overrides → planned_of held m subject (Ok (Runs run)) → IsOfConfig run.plan
+subject_rows held m (File name) run range may h = file_rows m held name run may h
+subject_rows held m (SelfLoad hosts) run range may h = self_load_rows m hosts held run range may h
+subject_rows held m (Capture name) run range may h = absurd (no_run m held name run h)
 
 asked_is : (read : Result Asked WordsFault) (a : Asked) → or_words_fault read ≡ Ok a → read ≡ Ok a
 asked_is (Ok b) a e = cc
 asked_is (Err fault) a e = cc
 
-pub planned_rows : (words : List (List ℕ)) (held : Held) (run : Run) → planned words held (Ok (Runs run)) → AreRows run.plan.rows
+of_config : (words : List (List ℕ)) (held : Held) (run : Run) → planned words held (Ok (Runs run)) → IsOfConfig run.plan
 unfolding planned
-planned_rows words held run (a, e, h) = subject_rows held (manner_of a) a.subject run (asked_in_range words a (asked_is (asked words) a e)).subject h
+of_config words held run (a, e, h) =
+    let range = asked_in_range words a (asked_is (asked words) a e) in subject_rows held (manner_of a) a.subject run range.subject range.overrides h
+
+pub planned_rows : (words : List (List ℕ)) (held : Held) (run : Run) → planned words held (Ok (Runs run)) → AreRows run.plan.rows
+planned_rows words held run is = (of_config words held run is).rows
+
+pub planned_stop : (words : List (List ℕ)) (held : Held) (run : Run) → planned words held (Ok (Runs run)) → MayStop run.plan.settings.stop_time
+planned_stop words held run is = (of_config words held run is).stop

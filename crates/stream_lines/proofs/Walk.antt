@@ -6,7 +6,7 @@ use Rattle.sim_base.specs.declared.address.Ip.{Ip}
 use Rattle.sim_base.specs.Limits.{most_hosts}
 use Rattle.shd_config.specs.Values.{is_within, may_be_host}
 use Rattle.run_plan.specs.Addresses.{first_address, is_open, given_addresses, IsLeastOpen, AreAddressesFrom, AreAddresses}
-use Rattle.run_plan.specs.Room.{count_from}
+use Rattle.run_plan.specs.inside.Room.{count_from}
 use Rattle.run_plan.proofs.AddressLemmas.{count_less, passed_over, passed_small, step_has_room, few_given, few_from}
 
 -- 127.0.0.0

@@ -8,7 +8,7 @@ use Rattle.world_order.specs.EventOrder.{take_least, AreApart}
 use Rattle.world_order.specs.Model.{Model, fires}
 use Rattle.world_order.specs.Premises.{Simulation}
 use Rattle.world_order.specs.Round.{Closed}
-use Rattle.world_order.specs.Rounds.{after_round, end_of, round_on, IsSameWorld, AreRounds, are_over, go_on}
+use Rattle.world_order.specs.Rounds.{after_round, end_of, round_on, IsSameWorld}
 use Rattle.world_order.specs.Schedule.{after_all}
 use Rattle.world_order.specs.declared.step.Step.{Step}
 use Rattle.world_order.specs.Settled.{IsSettled, AreDueFrom, Leaves, next_at}
@@ -141,28 +141,6 @@ window-upto (Some l) stop least = omega arith
 module _ {H L : Type 0} where
   left_same : (end : ℕ) (w model v : World H L) → Leaves end w model v → IsSameWorld model (after_round w v)
   left_same end w model v leaves = record { hosts = sym leaves.hosts; events = IsPermutation-sym v.events model.events leaves.events; log = sym leaves.log }
-
-  -- rounds make up the run
-  pub rounds-run : (sim : Simulation H L) (stop : ℕ) (last w : World H L) → IsSettled sim w → AreRounds sim stop last w → (r : World H L) × IsResult sim.model stop r w × IsSameWorld last r
-  rounds-run sim stop last w settled (are_over w' late same) =
-      (w, is_over w (next-none sim.model stop w (Each-from_All (λ (e : Event). stop ≤ e.key.due.nanos) w.events late)) refl, subst (λ (x : World H L). IsSameWorld x w) same (same-refl w))
-  rounds-run sim stop last w settled (go_on w' closed least workers steps from leads more) =
-      let end : ℕ = window_end sim.lookahead stop least in
-      let model = at_least_one sim end w settled in
-      let leaves = close_law sim stop least workers w settled from steps closed leads model.0 model.1 in
-      let same : IsSameWorld model.0 (after_round w closed) = left_same end w model.0 closed leaves in
-      let model_settled : IsSettled sim model.0 = settled-result sim end model.0 w settled model.1 in
-      let later = rounds-run sim stop last (after_round w closed) (settled-same sim model.0 (after_round w closed) same model_settled) more in
-      let moved = result-same sim stop later.0 (after_round w closed) model.0 (settled-same sim model.0 (after_round w closed) same model_settled) (same-sym model.0 (after_round w closed) same) later.1 in (
-        moved.0,
-        run-goes_on sim.model end stop model.0 w moved.0 (window-upto sim.lookahead stop least) model.1 moved.1,
-        same-trans last later.0 moved.0 later.2 moved.2,
-      )
-
-  pub rounds-result : (sim : Simulation H L) (stop : ℕ) (w last result : World H L) → IsSettled sim w → AreRounds sim stop last w → IsResult sim.model stop result w → IsSameWorld last result
-  rounds-result sim stop w last result settled rounds is =
-      let r = rounds-run sim stop last w settled rounds in
-      subst (IsSameWorld last) (at_most_one sim.model stop r.0 result w r.1 is) r.2
 
   -- ---- closed rounds
 

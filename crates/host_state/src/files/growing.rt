@@ -6,14 +6,16 @@ ghost use Rattle.out_text.specs.Files.{file_name};
 ghost use Rattle.out_text.specs.Log.{log_line};
 ghost use Rattle.host_state.specs.Files.{put_of};
 ghost use Rattle.host_state.specs.Grown as spec;
+ghost use Rattle.host_state.specs.LinesFit.{AllFit};
 ghost use Rattle.host_state.specs.Listed.{said, names_of};
 ghost use Rattle.host_state.specs.Logs.{kept_lines};
 
 use crate::files::capture::push_captures;
+use crate::files::fitting::lines_fit;
 use crate::files::listed::{HostListing, Listing, ProcessListing};
 use crate::files::piece::{Piece, file_piece, log_piece, numbers, written_to};
 use crate::line::{Line, Logged};
-use host_calls::Output;
+use file_calls::Output;
 use out_text::{FileKind, LogLine};
 use sim_base::{Bytes, Name, NoMemory, Text};
 use std::alloc::Global;
@@ -171,8 +173,12 @@ pub fn round_pieces(
     lines: Vec<Logged>,
 ) -> Result<Vec<Piece>, NoMemory>
     requires { length outputs.now ≡ length (names_of listing.now) }
-    ensures { IfOk result (λ pieces. map put_of pieces.items ≡ spec.with_bytes (spec.all_grown (names_of listing.now) (map (λ v. v.items) outputs.now) (kept_lines lines.items))) }
+    ensures pieces { IfOk result (λ pieces. map put_of pieces.items ≡ spec.with_bytes (spec.all_grown (names_of listing.now) (map (λ v. v.items) outputs.now) (kept_lines lines.items))) }
+
+    // The numbers of the lines' packets fit their types.
+    ensures fit { AllFit (kept_lines lines.items) }
 {
+    lines_fit(&lines);
     let hosts = listing.hosts.as_slice();
     let mut pieces = output_pieces(alloc, hosts, outputs)?;
     push_captures(alloc, &mut pieces, hosts, &lines)?;

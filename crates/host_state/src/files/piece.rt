@@ -7,7 +7,7 @@ ghost use Rattle.host_state.specs.Files as spec;
 ghost use Rattle.host_state.specs.Files.{put_of};
 
 use crate::row::FinalState;
-use host_calls::Output;
+use file_calls::Output;
 use out_text::FileKind;
 use sim_base::{Bytes, Name, NoMemory, Place, State, Text};
 use std::alloc::Global;

@@ -2,7 +2,7 @@
 ghost use Rattle.std.specs.Prelude.{◌≡◌, ◌≤◌, ◌<◌, All, length};
 ghost use Rattle.sim_base.specs.Units.{latest_time};
 ghost use Rattle.host_inbox.specs.Sizes.{most_inboxes};
-ghost use Rattle.round_lookahead.specs.Benches.{IsReady, HasWorked, HaveWorked};
+ghost use Rattle.round_lookahead.specs.inside.Benches.{IsReady, HasWorked, HaveWorked};
 
 use crate::workers::bench::Bench;
 use crate::workers::working::work;

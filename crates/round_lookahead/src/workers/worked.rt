@@ -1,6 +1,6 @@
 //! What a worker leaves.
 
-use host_calls::Output;
+use file_calls::Output;
 use host_state::{Host, Logged};
 use sim_base::{HostId, Parcel};
 

@@ -1,9 +1,9 @@
 //! Hosts come back from workers.
 ghost use Rattle.std.specs.Prelude.{◌≡◌, ◌++◌, ◌∷◌, ◌<◌, [], Some, None, All, OnOk, IfOk, IsSome, length, map, replicate, slice_set};
-ghost use Rattle.round_lookahead.specs.Backs as spec;
+ghost use Rattle.round_lookahead.specs.inside.Backs as spec;
 
 use crate::workers::worked::{Done, Worked};
-use host_calls::Output;
+use file_calls::Output;
 use host_state::{Host, Logged};
 use sim_base::{HostId, NoMemory, Parcel};
 use std::alloc::Global;

@@ -3,7 +3,7 @@ ghost use Rattle.std.specs.Prelude.{◌≡◌, ◌++◌, ◌∷◌, ◌<◌, [],
 ghost use Rattle.host_state.specs.Parcels.{parcel_event};
 ghost use Rattle.host_state.specs.Home.{home};
 ghost use Rattle.host_state.specs.declared.net.Net.{Net};
-ghost use Rattle.round_lookahead.specs.Backs.{row_arrivals, AreAtHome};
+ghost use Rattle.round_lookahead.specs.inside.Backs.{row_arrivals, AreAtHome};
 
 use sim_base::{NoMemory, Parcel};
 use std::alloc::Global;

@@ -1,8 +1,8 @@
 //! When the next event of the world is due.
 ghost use Rattle.std.specs.Prelude.{◌≡◌, flat_map};
 ghost use Rattle.event_order.specs.Events.{IsLeastDue};
-ghost use Rattle.round_lookahead.specs.Arrivals.{arrivals};
-ghost use Rattle.round_lookahead.specs.Dues.{lesser_due};
+ghost use Rattle.round_lookahead.specs.inside.Arrivals.{arrivals};
+ghost use Rattle.round_lookahead.specs.inside.Dues.{lesser_due};
 ghost use Rattle.round_lookahead.specs.Tasks.{waiting};
 
 use crate::workers::task::Task;

@@ -1,6 +1,6 @@
 //! What the hosts gain in a round.
 
-use host_calls::Output;
+use file_calls::Output;
 use host_state::Logged;
 use sim_base::HostId;
 

@@ -5,7 +5,7 @@ ghost use Rattle.round_lookahead.specs.Alone.{AreRunInPlace, HasKept};
 ghost use Rattle.round_lookahead.specs.Tasks.{AreTasksOf};
 
 use crate::workers::task::Task;
-use host_calls::Output;
+use file_calls::Output;
 use host_state::{Logged, Net, Outbox};
 use sim_base::{HostId, NoMemory, Parcel, Time};
 use std::alloc::Global;

@@ -1,10 +1,10 @@
 //! Hosts wait again.
 ghost use Rattle.std.specs.Prelude.{◌≡◌, IfOk, length};
-ghost use Rattle.round_lookahead.specs.Retasks as spec;
+ghost use Rattle.round_lookahead.specs.inside.Retasks as spec;
 
 use crate::workers::task::Task;
 use crate::world::backs::Back;
-use host_calls::Output;
+use file_calls::Output;
 use sim_base::{NoMemory, Parcel};
 use std::alloc::Global;
 

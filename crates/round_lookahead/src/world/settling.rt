@@ -1,6 +1,6 @@
 //! What all workers leave is put back.
 ghost use Rattle.std.specs.Prelude.{IfOk};
-ghost use Rattle.round_lookahead.specs.Settles.{CanSettle, HasSettled};
+ghost use Rattle.round_lookahead.specs.inside.Settles.{CanSettle, HasSettled};
 
 use crate::workers::task::Task;
 use crate::workers::worked::Worked;

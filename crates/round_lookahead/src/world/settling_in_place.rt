@@ -2,7 +2,7 @@
 ghost use Rattle.std.specs.Prelude.{◌≡◌, ◌-◌, ◌≤◌, ◌<◌, ◌∷◌, [], IfOk, length, replicate};
 ghost use Rattle.sim_base.specs.Units.{latest_time};
 ghost use Rattle.host_inbox.specs.Sizes.{most_inboxes};
-ghost use Rattle.round_lookahead.specs.Backs.{lists_of};
+ghost use Rattle.round_lookahead.specs.inside.Backs.{lists_of};
 ghost use Rattle.round_lookahead.specs.RoundsInPlace.{IsRoundInPlace};
 ghost use Rattle.round_lookahead.specs.Tasks.{AreTasksOf};
 

@@ -3,8 +3,8 @@ ghost use Rattle.std.specs.Prelude.{◌≡◌, ◌++◌, ◌∷◌, ◌<◌, [],
 ghost use Rattle.host_state.specs.Parcels.{parcel_event};
 ghost use Rattle.host_state.specs.Home.{home};
 ghost use Rattle.host_state.specs.declared.net.Net.{Net};
-ghost use Rattle.round_lookahead.specs.Backs.{row_arrivals, AreAtHome};
-ghost use Rattle.round_lookahead.specs.Waits.{IsSameHosts, rows_of};
+ghost use Rattle.round_lookahead.specs.inside.Backs.{row_arrivals, AreAtHome};
+ghost use Rattle.round_lookahead.specs.inside.Waits.{IsSameHosts, rows_of};
 
 use crate::workers::task::Task;
 use sim_base::{NoMemory, Parcel};

@@ -3,7 +3,7 @@ use Rattle.std.proofs.lemmas.Result.{err_from_is_err_and}
 use Rattle.host_state.specs.Files.{put_of}
 use Rattle.host_state.specs.declared.files.piece.Piece.{Piece}
 use Rattle.net_run.specs.Pieces.{with_pieces, PutsFront}
-use Rattle.shadow_top.specs.Rounds.{gained_by}
+use Rattle.shadow_top.specs.inside.Rounds.{gained_by}
 use Rattle.shadow_top.proofs.RoundLemmas.{round-stopped}
 use Rattle.shadow_top.proofs.rounds.put_next.Goals as goal
 

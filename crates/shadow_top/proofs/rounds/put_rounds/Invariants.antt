@@ -2,8 +2,8 @@ use Rattle.std.proofs.Common.{◌≡◌, Option}
 use Rattle.sim_base.specs.Sink.{Content}
 use Rattle.host_state.specs.World.{World}
 use Rattle.round_lookahead.specs.WorldStands.{WorldStands}
-use Rattle.round_lookahead.proofs.Reaching.{world_left}
-use Rattle.shadow_top.specs.Rounds.{StandsAt}
+use Rattle.round_lookahead.specs.Reached.{time_left}
+use Rattle.shadow_top.specs.inside.Rounds.{StandsAt}
 use Rattle.shadow_top.proofs.RoundLemmas.{HasCome}
 use Rattle.shadow_top.proofs.rounds.put_rounds.Given as goal
 
@@ -18,4 +18,4 @@ invariant-rounds g l = record {
 }
 
 abbrev pub decreases-rounds : goal.decreases-rounds
-decreases-rounds g l = world_left l.world
+decreases-rounds g l = time_left l.world

@@ -10,7 +10,7 @@ returns-in-Ok-clause-untouched g c =
 
 pub returns-in-Err-clause-outcome : goal.returns-in-Err-clause-outcome
 returns-in-Err-clause-outcome g c =
-    outcome_stopped (map string_bytes c.args.words.now) (g.S.Source.held c.args.source.now) (g.K.Sink.content c.args.sink.now) (g.K.Sink.content c.run.new.sink)
+    outcome_stopped (c.one_shown.ensures, c.one_plan.ensures, c.one_result.ensures.at_most) (map string_bytes c.args.words.now) (g.S.Source.held c.args.source.now) (g.K.Sink.content c.args.sink.now) (g.K.Sink.content c.run.new.sink)
     (g.K.Sink.content c.tell_stop.new.sink) (g.S.Source.faults c.args.source.now) (g.S.Source.faults c.run.new.source) (g.K.Sink.tally c.args.sink.now)
     (g.K.Sink.tally c.run.new.sink) (g.K.Sink.tally c.tell_stop.new.sink) c.tell_stop.result c.in-Err.stop
     c.in-Err.ensures.told c.in-Err.ensures.reads c.in-Err.ensures.writes c.tell_stop.ensures

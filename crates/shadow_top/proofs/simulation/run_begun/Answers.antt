@@ -10,7 +10,7 @@ use Rattle.shadow_top.proofs.simulation.run_begun.Goals as goal
 pub returns-in-Ok-clause-told : goal.returns-in-Ok-clause-told
 returns-in-Ok-clause-told g c =
     let old : Option Content = g.K.Sink.content c.args.sink.now in
-    noted c.args.opened old (g.K.Sink.content c.put_notes.new.sink) (g.K.Sink.content c.run_noted.new.sink) c.run_noted.result
+    noted c.parts_are_between.ensures c.args.opened old (g.K.Sink.content c.put_notes.new.sink) (g.K.Sink.content c.run_noted.new.sink) c.run_noted.result
     (c.in-Ok.ensures.ok ∙ ap (λ (ns : List (List ℕ)). option_map (with_pieces (note_puts ns)) old) c.as_slice.ensures) c.run_noted.ensures.told
 
 pub returns-in-Err-clause-told : goal.returns-in-Err-clause-told
@@ -18,5 +18,5 @@ returns-in-Err-clause-told g c =
     let old : Option Content = g.K.Sink.content c.args.sink.now in
     let new : Option Content = g.K.Sink.content c.put_notes.new.sink in
     subst (λ (s : Stop). IfSome old (λ d. RunsOpened c.args.opened d new (Err s))) (sym c.from.ensures)
-    (notes_stopped c.args.opened old new c.in-Err.error c.requires
+    (notes_stopped c.one_result.ensures.at_least c.one_result.ensures.opening c.parts_are_between.ensures c.args.opened old new c.in-Err.error c.requires
     (subst (λ (ns : List (List ℕ)). PutsFront (note_puts ns) old new) c.as_slice.ensures c.in-Err.ensures.err))

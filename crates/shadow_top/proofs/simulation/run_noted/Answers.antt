@@ -9,7 +9,7 @@ use Rattle.shadow_top.proofs.simulation.run_noted.Goals as goal
 
 pub returns-in_err-world-clause-told : goal.returns-in_err-world-clause-told
 returns-in_err-world-clause-told g c =
-    let p = err_from_is_err_and c.from_residual.result c.from_residual.ensures.1 in rw (p.1, p.2) (not_run c.args.opened (g.K.Sink.content c.args.sink.now) c.requires)
+    let p = err_from_is_err_and c.from_residual.result c.from_residual.ensures.1 in rw (p.1, p.2) (not_run c.one_result.ensures.at_least c.one_result.ensures.opening c.parts_are_between.ensures c.args.opened (g.K.Sink.content c.args.sink.now) c.requires)
 
 pub put_run-requires-clause-stands : goal.put_run-requires-clause-stands
 put_run-requires-clause-stands g c κs lives = (opening_world c.args.opened.rows.items, c.in_ok-world.ensures.stands)
@@ -21,7 +21,7 @@ returns-in_err-put_run-clause-told g c =
     let old : Option Content = g.K.Sink.content c.args.sink.now in
     let told = c.in_err-put_run.ensures.told opened.rows.items c.in_ok-world.ensures.stands (begins_own opened world c.requires c.in_ok-world.ensures.stands c.in_ok-world.ensures.ids) in
     let p = err_from_is_err_and c.from_residual-in_err-put_run.result c.from_residual-in_err-put_run.ensures.1 in
-    rw (p.1, p.2) (rounds_stopped opened world c.in_ok-world.ensures.net old c.put_run.new.world (g.K.Sink.content c.put_run.new.sink) c.in_err-put_run.field-0.0 told)
+    rw (p.1, p.2) (rounds_stopped c.parts_are_between.ensures opened world c.in_ok-world.ensures.net old c.put_run.new.world (g.K.Sink.content c.put_run.new.sink) c.in_err-put_run.field-0.0 told)
 
 pub put_ending-requires-clause-stands : goal.put_ending-requires-clause-stands
 put_ending-requires-clause-stands g c =
@@ -39,7 +39,7 @@ returns-in_err-status-clause-told g c =
     let old : Option Content = g.K.Sink.content c.args.sink.now in
     let all = c.in_ok-put_run.ensures.told opened.rows.items c.in_ok-world.ensures.stands (begins_own opened world c.requires c.in_ok-world.ensures.stands c.in_ok-world.ensures.ids) in
     let p = err_from_is_err_and c.from_residual-in_err-status.result c.from_residual-in_err-status.ensures.1 in
-    rw (p.1, p.2) (end_stopped opened world c.in_ok-world.ensures.net old c.put_run.new.world (g.K.Sink.content c.put_run.new.sink) (g.K.Sink.content c.put_ending.new.sink) all c.in_err-status.field-0.0
+    rw (p.1, p.2) (end_stopped c.parts_are_between.ensures opened world c.in_ok-world.ensures.net old c.put_run.new.world (g.K.Sink.content c.put_run.new.sink) (g.K.Sink.content c.put_ending.new.sink) all c.in_err-status.field-0.0
     (c.in_err-status.ensures.told all.world old all.at all.stands))
 
 pub returns-clause-told : goal.returns-clause-told
@@ -48,7 +48,7 @@ returns-clause-told g c =
     let world = c.in_ok-world.world in
     let old : Option Content = g.K.Sink.content c.args.sink.now in
     let all = c.in_ok-put_run.ensures.told opened.rows.items c.in_ok-world.ensures.stands (begins_own opened world c.requires c.in_ok-world.ensures.stands c.in_ok-world.ensures.ids) in
-    run_ended opened world c.in_ok-world.ensures.net old c.put_run.new.world (g.K.Sink.content c.put_run.new.sink) (g.K.Sink.content c.put_ending.new.sink) all c.in_ok-status.status
+    run_ended c.parts_are_between.ensures opened world c.in_ok-world.ensures.net old c.put_run.new.world (g.K.Sink.content c.put_run.new.sink) (g.K.Sink.content c.put_ending.new.sink) all c.in_ok-status.status
     (c.in_ok-status.ensures.told all.world old all.at all.stands)
 
 pub returns-clause-status : goal.returns-clause-status

@@ -2,7 +2,7 @@ use Rattle.std.proofs.Common.{◌≡◌, Bool, option_map, sym, subst}
 use Rattle.std.specs.Prelude.{OnOk, OnErr}
 use Rattle.net_run.specs.Pieces.{with_pieces, PutsFront}
 use Rattle.net_run.specs.Streams.{stream_puts}
-use Rattle.net_run.proofs.FrontLemmas.{told_nothing}
+use Rattle.shadow_top.proofs.GrowLemmas.{told_nothing}
 use Rattle.shadow_top.proofs.streams.put_if_asked.Goals as goal
 
 pub returns-then-streams-clause-ok : goal.returns-then-streams-clause-ok

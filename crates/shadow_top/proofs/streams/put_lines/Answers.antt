@@ -3,7 +3,7 @@ use Rattle.std.specs.Prelude.{OnOk, OnErr}
 use Rattle.host_state.specs.Files.{Put}
 use Rattle.net_run.specs.Pieces.{with_pieces, PutsFront}
 use Rattle.net_run.specs.Streams.{stream_puts}
-use Rattle.net_run.proofs.FrontLemmas.{front_none}
+use Rattle.shadow_top.proofs.GrowLemmas.{front_none}
 use Rattle.shadow_top.proofs.StreamLemmas.{lines-are}
 use Rattle.shadow_top.proofs.streams.put_lines.Goals as goal
 

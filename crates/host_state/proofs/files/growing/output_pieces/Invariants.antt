@@ -1,5 +1,5 @@
 use Rattle.std.proofs.Common.{◌≡◌, List, ◌++◌, map, Vec, Global}
-use Rattle.host_calls.specs.declared.parts.Output.{Output}
+use Rattle.file_calls.specs.declared.task.Output.{Output}
 use Rattle.host_state.specs.Files.{put_of}
 use Rattle.host_state.specs.Grown.{host_grown, with_bytes}
 use Rattle.host_state.specs.Listed.{HostNames}

@@ -1,6 +1,6 @@
 use Rattle.std.proofs.Common.{◌≡◌, [], ◌∷◌, ◌++◌, List, map, Vec, Global, length, sym, ap, ◌∙◌, append_assoc}
 use Rattle.std.proofs.lemmas.List.{length-map}
-use Rattle.host_calls.specs.declared.parts.Output.{Output}
+use Rattle.file_calls.specs.declared.task.Output.{Output}
 use Rattle.host_state.specs.Captured.{all_captures, no_head}
 use Rattle.host_state.specs.Files.{Put, put_of}
 use Rattle.host_state.specs.Grown.{hosts_grown, log_grown, all_grown, with_bytes}
@@ -24,15 +24,15 @@ parts names outputs lines =
 pub output_pieces-requires : goal.output_pieces-requires
 output_pieces-requires c = c.requires ∙ length-map c.args.listing.now.hosts.items said ∙ sym (ap length c.as_slice-hosts.ensures.value)
 
-pub returns : goal.returns
-returns c =
+pub returns-clause-pieces : goal.returns-clause-pieces
+returns-clause-pieces c =
     let hosts = c.as_slice-hosts.result.now in
     let outputs = map (λ (v : Vec Output Global). v.items) c.args.outputs.now in
     let lines = kept_lines c.args.lines.items in
     c.in_ok-push_lines.ensures
     ∙ ap (λ (l : List Put). l ++ with_bytes (log_grown (map said hosts) lines ∷ []))
     (c.in_ok-push_captures.ensures
-    ∙ ap (λ (ls : List Logged). map put_of c.in_ok-pieces.pieces.items ++ with_bytes (all_captures no_head (map said hosts) (kept_lines ls))) c.deref.ensures.value
+    ∙ ap (λ (ls : List Logged). map put_of c.in_ok-pieces.pieces.items ++ with_bytes (all_captures no_head (map said hosts) (kept_lines ls))) c.deref-2.ensures.value
     ∙ ap (λ (l : List Put). l ++ with_bytes (all_captures no_head (map said hosts) lines)) c.in_ok-pieces.ensures)
     ∙ parts (map said hosts) outputs lines
     ∙ ap (λ (hs : List HostListing). with_bytes (all_grown (map said hs) outputs lines)) c.as_slice-hosts.ensures.value

@@ -1,6 +1,6 @@
 use Rattle.std.proofs.Common.{◌≡◌, ◌∙◌, sym, refl, Bool, true, false, not, ap, subst, rules}
 use Rattle.std.specs.Prelude.{◌&&◌, Option, slice_get}
-use Rattle.host_calls.specs.declared.parts.Why.{Why}
+use Rattle.file_calls.specs.declared.task.Why.{Why}
 use Rattle.host_state.specs.Fire.{would_answer, kept_in}
 use Rattle.host_state.proofs.host.Body.is_to_wake.Goals as goal
 

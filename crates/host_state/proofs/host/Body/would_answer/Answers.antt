@@ -1,5 +1,5 @@
 use Rattle.std.proofs.Common.{◌≡◌, ◌∙◌, sym, refl, length, nat_lt, true, false, Some, None, subst, rules}
-use Rattle.host_calls.specs.declared.parts.Why.{Why}
+use Rattle.file_calls.specs.declared.task.Why.{Why}
 use Rattle.std.proofs.Common.{Option}
 use Rattle.host_state.specs.Fire.{would_answer}
 use Rattle.host_state.proofs.Firings.{would_so, not_would}

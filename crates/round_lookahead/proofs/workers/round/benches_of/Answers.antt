@@ -7,7 +7,7 @@ use Rattle.steal_workers.specs.SeatViews.{SeatView}
 use Rattle.list_weights.specs.Places.{EachAt}
 use Rattle.round_lookahead.specs.declared.workers.bench.Bench.{Bench}
 use Rattle.round_lookahead.specs.declared.workers.task.Task.{Task}
-use Rattle.round_lookahead.specs.Benches.{IsUnusedOf}
+use Rattle.round_lookahead.specs.inside.Benches.{IsUnusedOf}
 use Rattle.round_lookahead.proofs.BenchSteps.{seats-more, workers-more}
 use Rattle.round_lookahead.proofs.workers.round.benches_of.Goals as goal
 

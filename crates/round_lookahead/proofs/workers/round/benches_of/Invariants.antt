@@ -3,7 +3,7 @@ use Rattle.std.specs.Vec.Iter.{into_iter_items}
 use Rattle.atomic_table.specs.Seated.{TableId}
 use Rattle.list_weights.specs.Places.{EachAt}
 use Rattle.round_lookahead.specs.declared.workers.bench.Bench.{Bench}
-use Rattle.round_lookahead.specs.Benches.{IsUnusedOf}
+use Rattle.round_lookahead.specs.inside.Benches.{IsUnusedOf}
 use Rattle.round_lookahead.proofs.workers.round.benches_of.Given as goal
 
 abbrev pub invariant-loop-seat : goal.invariant-loop-seat

@@ -1,7 +1,7 @@
 use Rattle.std.proofs.Common.{◌≡◌, ℕ, ◌<◌, ◌++◌, ◌∷◌, [], List, All, Some, length, sym, ap, subst, ◌∙◌, length-set}
 use Rattle.std.specs.Vec.Iter.{into_iter_items}
 use Rattle.round_lookahead.specs.declared.workers.worked.Done.{Done}
-use Rattle.round_lookahead.specs.Backs.{back_of, with_done, lines_done, ids_of}
+use Rattle.round_lookahead.specs.inside.Backs.{back_of, with_done, lines_done, ids_of}
 use Rattle.round_lookahead.proofs.BackSteps.{first-of, rest-of, completes}
 use Rattle.round_lookahead.proofs.world.backs.put_all_done.Goals as goal
 

@@ -1,6 +1,6 @@
 use Rattle.std.proofs.Common.{◌≡◌, ◌<◌, ◌++◌, All, length}
 use Rattle.std.specs.Vec.Iter.{into_iter_items}
-use Rattle.round_lookahead.specs.Backs.{with_done, lines_done, ids_of}
+use Rattle.round_lookahead.specs.inside.Backs.{with_done, lines_done, ids_of}
 use Rattle.round_lookahead.proofs.world.backs.put_all_done.Given as goal
 
 -- what is left completes the whole

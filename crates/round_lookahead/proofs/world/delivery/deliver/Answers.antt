@@ -1,7 +1,7 @@
 use Rattle.std.proofs.Common.{◌≡◌, ℕ, ◌<◌, ◌∷◌, List, All, length, sym, subst, ◌∙◌}
 use Rattle.std.specs.Vec.Iter.{into_iter_items}
 use Rattle.sim_base.specs.declared.event.Parcel.{Parcel}
-use Rattle.round_lookahead.specs.Backs.{row_arrivals}
+use Rattle.round_lookahead.specs.inside.Backs.{row_arrivals}
 use Rattle.host_state.specs.Home.{home}
 use Rattle.host_state.specs.Parcels.{parcel_event}
 use Rattle.std.proofs.Common.{map, ◌++◌}

@@ -1,6 +1,6 @@
 use Rattle.std.proofs.Common.{take}
 use Rattle.event_order.specs.Events.{IsLeastDue}
-use Rattle.round_lookahead.specs.Arrivals.{arrivals}
+use Rattle.round_lookahead.specs.inside.Arrivals.{arrivals}
 use Rattle.round_lookahead.proofs.world.due.first_arrival.Given as goal
 
 -- of the packets so far

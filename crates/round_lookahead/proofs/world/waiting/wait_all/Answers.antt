@@ -3,8 +3,8 @@ use Rattle.std.specs.Vec.Iter.{into_iter_items}
 use Rattle.sim_base.specs.declared.event.Parcel.{Parcel}
 use Rattle.host_state.specs.Home.{home}
 use Rattle.host_state.specs.Parcels.{parcel_event}
-use Rattle.round_lookahead.specs.Backs.{row_arrivals}
-use Rattle.round_lookahead.specs.Waits.{rows_of}
+use Rattle.round_lookahead.specs.inside.Backs.{row_arrivals}
+use Rattle.round_lookahead.specs.inside.Waits.{rows_of}
 use Rattle.round_lookahead.proofs.BackSteps.{first-of, rest-of}
 use Rattle.round_lookahead.proofs.DeliverySteps.{delivered-more}
 use Rattle.round_lookahead.proofs.PlaceSteps.{same-length}

@@ -3,8 +3,8 @@ use Rattle.std.specs.Vec.Iter.{into_iter_items}
 use Rattle.host_state.specs.Parcels.{parcel_event}
 use Rattle.host_state.specs.Home.{home}
 use Rattle.host_state.specs.declared.net.Net.{Net}
-use Rattle.round_lookahead.specs.Backs.{row_arrivals, AreAtHome}
-use Rattle.round_lookahead.specs.Waits.{IsSameHosts, rows_of}
+use Rattle.round_lookahead.specs.inside.Backs.{row_arrivals, AreAtHome}
+use Rattle.round_lookahead.specs.inside.Waits.{IsSameHosts, rows_of}
 use Rattle.round_lookahead.proofs.world.waiting.wait_all.Given as goal
 
 -- what is left completes the whole

@@ -4,8 +4,8 @@ use Rattle.sim_base.specs.declared.event.Parcel.{Parcel}
 use Rattle.world_order.specs.declared.step.Spot.{Spot}
 use Rattle.world_order.specs.declared.step.Spot.TheVariants.{Place, Spill}
 use Rattle.world_order.proofs.Homes.{below-get, some_is}
-use Rattle.round_schedule.specs.Kinds.{puts}
-use Rattle.round_schedule.specs.Putting.{Spills, HasPlaced}
+use Rattle.round_schedule.specs.inside.Kinds.{puts}
+use Rattle.round_schedule.specs.inside.Putting.{Spills, HasPlaced}
 use Rattle.round_schedule.specs.Reaching.{May, Does}
 use Rattle.round_schedule.specs.declared.member.Member.{Member}
 use Rattle.round_schedule.specs.declared.member.Worker.{Worker}

@@ -1,7 +1,7 @@
 use Rattle.std.proofs.Common.{◌++◌, List, sym, ap, subst}
 use Rattle.event_order.specs.Events.{IsLeastDue}
 use Rattle.host_state.specs.declared.host.Host.{Host}
-use Rattle.round_lookahead.specs.Arrivals.{Boxed, arrivals}
+use Rattle.round_lookahead.specs.inside.Arrivals.{Boxed, arrivals}
 use Rattle.round_lookahead.specs.Tasks.{waiting}
 use Rattle.round_lookahead.proofs.DueSteps.{least-more}
 use Rattle.round_lookahead.proofs.workers.task.Task.next_due.Goals as goal

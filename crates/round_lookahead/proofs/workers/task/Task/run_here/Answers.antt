@@ -3,7 +3,7 @@ use Rattle.world_order.specs.EventOrder.{AreApart}
 use Rattle.host_state.specs.HostRecord.{HostRecord}
 use Rattle.host_state.specs.HostStands.{Stands}
 use Rattle.host_state.specs.declared.host.Host.{Host}
-use Rattle.round_lookahead.specs.Arrivals.{Boxed, arrivals}
+use Rattle.round_lookahead.specs.inside.Arrivals.{Boxed, arrivals}
 use Rattle.round_lookahead.specs.Tasks.{waiting}
 use Rattle.round_lookahead.proofs.TaskRuns.{may-run, to-within, run-of, made}
 use Rattle.round_lookahead.proofs.workers.task.Task.run_here.Goals as goal

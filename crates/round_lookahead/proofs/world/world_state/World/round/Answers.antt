@@ -1,5 +1,5 @@
 use Rattle.std.proofs.Common.{◌≡◌, ◌∙◌, List, Vec, Global, length, map, refl, sym, ap, subst}
-use Rattle.host_calls.specs.declared.parts.Output.{Output}
+use Rattle.file_calls.specs.declared.task.Output.{Output}
 use Rattle.host_state.specs.Grown.{all_grown, with_bytes}
 use Rattle.host_state.specs.Listed.{names_of}
 use Rattle.host_state.specs.Logs.{kept_lines}
@@ -20,7 +20,8 @@ returns-clause-round g c = λ w stands.
     let gained = c.in_ok-outputs.field-0 in (
       turns.0,
       round-pieces c.args.self.now c.advance.new.self c.args.workers w turns.0 gained _ stands turns.1 refl
-          (c.in_ok-files.ensures
+          (c.in_ok-files.ensures.pieces
           ∙ ap (λ (os : List (Vec Output Global)). with_bytes (all_grown (names_of c.advance.new.self.listing) (map (λ (o : Vec Output Global). o.items) os) (kept_lines gained.lines.items))) c.as_slice.ensures.value
-          ∙ ap (λ (l : Listing). with_bytes (all_grown (names_of l) (outputs_of gained) (kept_lines gained.lines.items))) c.in_ok-outputs.ensures.listing),
+          ∙ ap (λ (l : Listing). with_bytes (all_grown (names_of l) (outputs_of gained) (kept_lines gained.lines.items))) c.in_ok-outputs.ensures.listing)
+          c.in_ok-files.ensures.fit,
     ))

@@ -1,0 +1,8 @@
+-- what stands while a round goes on, and as its hosts and packets are put back
+pub mod Arrivals
+pub mod Backs
+pub mod Benches
+pub mod Dues
+pub mod Retasks
+pub mod Settles
+pub mod Waits

@@ -1,0 +1,62 @@
+-- What is put while a run goes on, and at its end.
+use Rattle.std.specs.Prelude.{◌≡◌, ℕ, ◌⊎◌, Bool, List, map, Option, Some, option_map, Result, Ok, Err}
+use Rattle.sim_base.specs.Sink.{Content}
+use Rattle.host_state.specs.Files.{Put, put_of}
+use Rattle.host_state.specs.LinesFit.{AllFit}
+use Rattle.host_state.specs.Listed.{names_in}
+use Rattle.host_state.specs.Logs.{lines_of}
+use Rattle.host_state.specs.World.{World, IsResult}
+use Rattle.net_run.specs.Grown.{IsUnderway}
+use Rattle.net_run.specs.Parts.{Between}
+use Rattle.net_run.specs.Pieces.{with_pieces, PutsFront}
+use Rattle.net_run.specs.Shown.{run_pieces}
+use Rattle.round_lookahead.specs.Gains.{HasRound}
+use Rattle.round_lookahead.specs.WorldStands.{WorldStands}
+use Rattle.round_lookahead.specs.declared.world.pieces.Pieces.{Pieces}
+use Rattle.round_lookahead.specs.declared.world.world_state.World as rounds
+use Rattle.shadow_top.specs.declared.stop.Stop.{Stop}
+use Rattle.shadow_top.specs.declared.stop.Stop.TheVariants.{Refused, ReadFailed, WriteFailed, NoMemory}
+
+-- what a round gained: what the processes wrote, and the lines of the packet log
+abbrev pub gained_by : Pieces → List Put
+gained_by p = map put_of p.files.items
+
+-- nothing was put; or the round was made, and some of what it gained was put
+abbrev pub PutsSomeGained : rounds.World → rounds.World → ℕ → World → Option Content → Option Content → Type 0
+PutsSomeGained c d workers w old new = (new ≡ old) ⊎ ((v : World) × (p : Pieces) × HasRound c d workers w v p × PutsFront (gained_by p) old new)
+
+-- what a round leaves
+abbrev pub PutsRound : rounds.World → rounds.World → ℕ → World → Option Content → Option Content → Result (Unit {0}) Stop → Type 0
+PutsRound c d workers w old new (Ok done) = (v : World) × (p : Pieces) × HasRound c d workers w v p × (new ≡ option_map (with_pieces (gained_by p)) old)
+PutsRound c d workers w old new (Err (Refused fault)) = ⊥
+PutsRound c d workers w old new (Err (ReadFailed file)) = ⊥
+PutsRound c d workers w old new (Err WriteFailed) = PutsSomeGained c d workers w old new
+PutsRound c d workers w old new (Err NoMemory) = PutsSomeGained c d workers w old new
+
+-- what stands is what was put since a run began that has come to this world, if the sink tells what it holds
+abbrev pub StandsAt : World → Option Content → Option Content → Type 0
+StandsAt w old now = (begun : Content) → old ≡ Some begun → IsUnderway (names_in w) begun now w
+
+-- each place holds a front of what the world shows
+abbrev pub StandsBefore : World → Option Content → Option Content → Type 0
+StandsBefore w old now = (begun : Content) → old ≡ Some begun → (load : Bool) → Between begun now (with_pieces (run_pieces load w) begun)
+
+-- all rounds were made, and all lines that they logged are of packets whose numbers fit their types
+pub record HasAllRounds (c d : rounds.World) (w : World) (old new : Option Content) : Type 0 where
+  pub world : World
+  pub result : IsResult c.net world w
+  pub at : WorldStands d world
+  pub stands : StandsAt world old new
+  pub fit : AllFit (lines_of w.log) → AllFit (lines_of world.log)
+
+-- each place holds a front of what the result shows
+abbrev pub PutsInPart : rounds.World → World → Option Content → Option Content → Type 0
+PutsInPart c w old new = (r : World) × IsResult c.net r w × StandsBefore r old new
+
+-- what all rounds leave
+abbrev pub PutsRounds : rounds.World → rounds.World → World → Option Content → Option Content → Result (Unit {0}) Stop → Type 0
+PutsRounds c d w old new (Ok done) = HasAllRounds c d w old new
+PutsRounds c d w old new (Err (Refused fault)) = ⊥
+PutsRounds c d w old new (Err (ReadFailed file)) = ⊥
+PutsRounds c d w old new (Err WriteFailed) = PutsInPart c w old new
+PutsRounds c d w old new (Err NoMemory) = PutsInPart c w old new
