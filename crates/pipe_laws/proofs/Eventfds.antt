@@ -12,7 +12,7 @@ holds_still : (b : Bool) → (b && not b) ≡ false
 holds_still true = refl
 holds_still false = refl
 
-never_rises : (bit ready : ℕ) → rose bit ready ready ≡ false
+pub never_rises : (bit ready : ℕ) → rose bit ready ready ≡ false
 never_rises bit ready = holds_still (has_bit bit ready)
 
 -- the eventfd after a number was added, if there was room for it

@@ -91,7 +91,7 @@ rise_reported room (s ∷ seen) (w ∷ ws) (above, rise) =
     (λ h. rw h (above_reported w.fd (room - 1) seen ws above, rise_reported (room - 1) seen ws rise))
     (λ h. rw h (above_reported w.fd room seen ws above, rise_reported room seen ws rise))
 
-act_rises : (act : EpollAct) (ws : List Watch) → Rise ws → Rise (epoll_after act ws)
+pub act_rises : (act : EpollAct) (ws : List Watch) → Rise ws → Rise (epoll_after act ws)
 act_rises (Puts w) ws h = rise_put w (without w.fd ws) (differ_without w.fd ws) (rise_without w.fd ws h)
 act_rises (Drops fd) ws h = rise_without fd ws h
 act_rises (Tells room seen) ws h = rise_reported room seen ws h

@@ -1,0 +1,5 @@
+pub mod Moving
+pub mod Epolls
+pub mod PlainRows
+pub mod NetworkRows
+pub mod Table

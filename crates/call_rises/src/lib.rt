@@ -1,0 +1,44 @@
+//! System calls as acts on a host's pipes, eventfds and timers. Definitions and laws, and no code that runs.
+#![tactic(auto)]
+
+ghost use Rattle.std.specs.Prelude.{◌≡◌, ℕ, List};
+ghost use Rattle.sim_base.specs.declared.object.ObjectId.{ObjectId};
+ghost use Rattle.sim_base.specs.declared.packet.Packet.{Packet};
+ghost use Rattle.sim_base.specs.declared.time.Time.{Time};
+ghost use Rattle.guest_mem.specs.Memory.{Memory};
+ghost use Rattle.host_calls.specs.declared.parts.Known.{Known};
+ghost use Rattle.host_calls.specs.Calls.{call};
+ghost use Rattle.host_calls.specs.Events.{arrives, alarmed, ended};
+ghost use Rattle.host_calls.specs.Parts.{PartsRecord};
+ghost use Rattle.host_calls.specs.Starting.{task_starts};
+ghost use Rattle.call_rises.specs.Moves.{FilesMove, TasksRise};
+
+/// What a call, the start and the end of a process and an alarm do to a host's pipes, eventfds and timers
+/// are acts on them at that moment; what arrives does nothing to them.
+pub fn calls_move_files()
+    ensures call { (known : Known) (now : Time) (process number : ℕ) (args : List ℕ) (h : PartsRecord)
+        → FilesMove now.nanos h.shared.files (call known now process number args h).1.shared.files }
+    ensures start { (now : Time) (process : ℕ) (memory : Memory) (h : PartsRecord)
+        → FilesMove now.nanos h.shared.files (task_starts process memory h).shared.files }
+    ensures end { (now : Time) (process : ℕ) (h : PartsRecord)
+        → FilesMove now.nanos h.shared.files (ended now process h).shared.files }
+    ensures alarm { (now : Time) (object : ObjectId) (serial : ℕ) (h : PartsRecord)
+        → FilesMove now.nanos h.shared.files (alarmed now object serial h).shared.files }
+    ensures arrival { (now : Time) (packet : Packet) (h : PartsRecord)
+        → (arrives now packet h).1.shared.files ≡ h.shared.files }
+{}
+
+/// And wherever the entries of each epoll stand by rising descriptors, with one of each at most, they do so
+/// after each of these.
+pub fn entries_stay_in_order()
+    ensures call { (known : Known) (now : Time) (process number : ℕ) (args : List ℕ) (h : PartsRecord)
+        → TasksRise h → TasksRise (call known now process number args h).1 }
+    ensures start { (now : Time) (process : ℕ) (memory : Memory) (h : PartsRecord)
+        → TasksRise h → TasksRise (task_starts process memory h) }
+    ensures end { (now : Time) (process : ℕ) (h : PartsRecord)
+        → TasksRise h → TasksRise (ended now process h) }
+    ensures alarm { (now : Time) (object : ObjectId) (serial : ℕ) (h : PartsRecord)
+        → TasksRise h → TasksRise (alarmed now object serial h) }
+    ensures arrival { (now : Time) (packet : Packet) (h : PartsRecord)
+        → TasksRise h → TasksRise (arrives now packet h).1 }
+{}

@@ -1,0 +1,4 @@
+pub mod Lives
+pub mod Kinds
+pub mod Timers
+pub mod Counted

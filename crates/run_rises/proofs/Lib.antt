@@ -1,0 +1,4 @@
+pub mod Counted
+pub mod Walk
+pub mod Worlds
+pub mod GoingOn
