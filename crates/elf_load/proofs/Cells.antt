@@ -7,7 +7,7 @@ use Rattle.std.proofs.lemmas.List.Concat.{flat_map-append}
 use Rattle.elf_load.specs.declared.page.Page.{Page}
 use Rattle.elf_load.specs.declared.program_header.ProgramHeader.{ProgramHeader}
 use Rattle.elf_load.specs.declared.rights.Rights.{Rights}
-use Rattle.elf_load.specs.Build.{IsPageOf}
+use Rattle.elf_load.specs.inside.Build.{IsPageOf}
 use Rattle.elf_load.specs.Cells.{Cell, cells_from, cells_of_page}
 use Rattle.elf_load.specs.Image.{byte_at, cell_at, cells_on}
 use Rattle.elf_load.specs.Pages.{rights_at}

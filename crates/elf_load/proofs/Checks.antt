@@ -17,7 +17,7 @@ use Rattle.elf_load.specs.declared.layout.Layout.{Layout}
 use Rattle.elf_load.specs.declared.program_header.ProgramHeader.{ProgramHeader}
 use Rattle.elf_load.specs.Elf.{elf_header, program_header, program_headers}
 use Rattle.elf_load.specs.Image.{Check, program_header_checks, all_program_header_checks, first_fault}
-use Rattle.elf_load.specs.Layout.{IsFound, IsListOf, IsPlaced, IsSound}
+use Rattle.elf_load.specs.inside.Layout.{IsFound, IsListOf, IsPlaced, IsSound}
 use Rattle.elf_load.specs.Pages.{is_segment, segments, end_of, share_a_byte, pages_of, touched_pages}
 use Rattle.elf_load.proofs.Numbers.{set_of, set_of-append, IsListOf_none, IsListOf_append}
 use Rattle.elf_load.specs.Room.{page_size, room_end, max_program_pages}

@@ -13,7 +13,7 @@ use Rattle.elf_load.specs.declared.program_header.ProgramHeader.{ProgramHeader}
 use Rattle.elf_load.specs.Cells.{cells_of, cells_of_page}
 use Rattle.elf_load.specs.Elf.{elf_header, program_headers}
 use Rattle.elf_load.specs.Image.{header_checks, all_program_header_checks, entry_checks, first_fault, cells_on, cells_of_segments, image_of, unless, image, IsRefusal}
-use Rattle.elf_load.specs.Layout.{IsFound, IsListOf}
+use Rattle.elf_load.specs.inside.Layout.{IsFound, IsListOf}
 use Rattle.elf_load.specs.Pages.{segments, pages_of, touched_pages, highest_end, rounded_up}
 use Rattle.elf_load.proofs.Checks.{first_fault-none, first_fault-some}
 use Rattle.elf_load.proofs.Lookups.{cells-from_numbers}

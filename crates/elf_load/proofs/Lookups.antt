@@ -11,7 +11,7 @@ use Rattle.std.proofs.lemmas.Cmp.{nat_cmp_total}
 use Rattle.elf_load.specs.declared.program_header.ProgramHeader.{ProgramHeader}
 use Rattle.elf_load.specs.Cells.{Cell}
 use Rattle.elf_load.specs.Image.{cell_at, cells_on, cells_of_segments}
-use Rattle.elf_load.specs.Layout.{IsListOf}
+use Rattle.elf_load.specs.inside.Layout.{IsListOf}
 use Rattle.elf_load.specs.Pages.{pages_of, touched_pages}
 use Rattle.elf_load.proofs.Numbers.{eq_by_cmp-is, contains-set_of, any_same}
 use Rattle.elf_load.specs.Room.{page_size}

@@ -9,7 +9,7 @@ use Rattle.std.proofs.lemmas.Bool.{eqb-true}
 use Rattle.std.proofs.lemmas.Cmp.{nat_cmp_total, eq_by_cmp_equiv}
 use Rattle.std.proofs.lemmas.List.{append-nil}
 use Rattle.std.proofs.lemmas.List.Folds.{list_any-append}
-use Rattle.elf_load.specs.Layout.{IsListOf}
+use Rattle.elf_load.specs.inside.Layout.{IsListOf}
 
 abbrev pub set_of : List ℕ → FinSet nat_cmp
 set_of xs = from_list xs

@@ -3,7 +3,7 @@ use Rattle.std.proofs.Common.{◌≡◌, ℕ, zero, suc, ◌+◌, ◌-◌, ◌<�
 use Rattle.std.specs.Prelude.{◌==◌}
 use Rattle.std.specs.List.{range_with_len, list_any}
 use Rattle.std.specs.FinSet.{len}
-use Rattle.elf_load.specs.Layout.{IsListOf}
+use Rattle.elf_load.specs.inside.Layout.{IsListOf}
 use Rattle.elf_load.proofs.Numbers.{set_of, IsListOf_old, IsListOf_new, many_new}
 
 pub range_with_len-append : (a n m b k : ℕ) → a + n ≡ b → n + m ≡ k → range_with_len a k ≡ range_with_len a n ++ range_with_len b m

@@ -7,7 +7,7 @@ use Rattle.std.proofs.lemmas.Bool.Decides.{eqb_tells}
 use Rattle.std.proofs.lemmas.List.Elements.{All-head, All-tail, All-from_get_or}
 use Rattle.std.proofs.lemmas.List.Folds.{list_any-append, list_any_at}
 use Rattle.elf_load.specs.declared.program_header.ProgramHeader.{ProgramHeader}
-use Rattle.elf_load.specs.Layout.{IsPlaced, IsListOf}
+use Rattle.elf_load.specs.inside.Layout.{IsPlaced, IsListOf}
 use Rattle.elf_load.specs.Pages.{end_of, first_page, last_page, pages_of, highest_end, rounded_up}
 use Rattle.elf_load.proofs.Numbers.{any_from_sets}
 use Rattle.elf_load.specs.Room.{page_size, room_end}

@@ -1,13 +1,12 @@
-pub mod Build
 pub mod Cells
 pub mod Elf
 pub mod Fault
 pub mod File
 pub mod Image
 pub mod Laws
-pub mod Layout
 pub mod Pages
 pub mod ProgramImage
 pub mod Rights
 pub mod Room
 pub mod Standard
+pub mod inside

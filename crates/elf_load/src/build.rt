@@ -1,10 +1,10 @@
 //! Makes the pages of an image.
 
 ghost use Rattle.std.specs.Prelude.{◌≡◌, ℕ, ◌+◌, ◌*◌, ◌^◌, ◌≤◌, ◌<◌, length, All, IfOk, slice_index, unwrap_or, flat_map, map};
-ghost use Rattle.elf_load.specs.Build.{IsPageOf};
+ghost use Rattle.elf_load.specs.inside.Build.{IsPageOf};
 ghost use Rattle.elf_load.specs.Cells.{cells_of_page};
 ghost use Rattle.elf_load.specs.Image.{file_byte, cells_on};
-ghost use Rattle.elf_load.specs.Layout.{IsPlaced};
+ghost use Rattle.elf_load.specs.inside.Layout.{IsPlaced};
 ghost use Rattle.elf_load.specs.Room.{page_size};
 
 use crate::page::{PAGE_SIZE, Page};

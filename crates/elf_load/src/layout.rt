@@ -5,7 +5,7 @@ ghost use Rattle.std.specs.Ordering.{nat_cmp};
 ghost use Rattle.std.specs.FinSet as set;
 ghost use Rattle.elf_load.specs.Elf.{elf_header, program_headers};
 ghost use Rattle.elf_load.specs.Image.{program_header_checks, all_program_header_checks, first_fault};
-ghost use Rattle.elf_load.specs.Layout.{IsFound, IsListOf, IsPlaced, IsSound};
+ghost use Rattle.elf_load.specs.inside.Layout.{IsFound, IsListOf, IsPlaced, IsSound};
 ghost use Rattle.elf_load.specs.Pages as spec;
 ghost use Rattle.elf_load.specs.Room.{max_program_pages};
 ghost use Rattle.elf_load.specs.Standard.{program_header_size};

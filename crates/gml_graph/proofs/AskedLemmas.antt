@@ -18,7 +18,7 @@ use Rattle.gml_graph.specs.declared.edge.EdgeDraft.{EdgeDraft}
 use Rattle.sim_base.specs.Refusals.{◌>>=◌}
 use Rattle.gml_graph.specs.Steps.{through}
 use Rattle.gml_graph.specs.Graph.{names, depth_of, is_block, inside, Block, block, blocks, list_at, only, graph_in, graph_rows, directed_in, is_directed, node_attribute, node_row, new_node, node_of, add_node, nodes_of, edge_attribute, edge_row, new_edge, edge_of, add_edge, edges_of, graph_of}
-use Rattle.gml_graph.specs.Asked.{is_attribute, is_asked, is_kept, asked}
+use Rattle.gml_graph.specs.inside.Asked.{is_attribute, is_asked, is_kept, asked}
 
 -- the rows at the front that lie deeper, row by row
 inside_step : (d : ℕ) (r : OutlineRow) (rest : List OutlineRow) (b : Bool) → nat_lt d r.depth ≡ b → inside d (r ∷ rest) ≡ (if b then r ∷ inside d rest else [])

@@ -16,7 +16,7 @@ use Rattle.sim_base.specs.Refusals.{◌>>=◌}
 use Rattle.gml_graph.specs.Steps.{through, refused}
 use Rattle.gml_graph.specs.Tokens.{tokens}
 use Rattle.gml_graph.specs.Outline.{Shape, with_row, accept_at, accept, finish, start, outline}
-use Rattle.gml_graph.specs.Asked.{asked_row, reach_behind, asked, asked_outline, Kept, row_of, keep_row, keep_at, keep}
+use Rattle.gml_graph.specs.inside.Asked.{asked_row, reach_behind, asked, asked_outline, Kept, row_of, keep_row, keep_at, keep}
 use Rattle.gml_graph.specs.Limits.{greatest_depth}
 
 -- what is kept of what was read

@@ -8,8 +8,8 @@ use Rattle.gml_graph.specs.declared.token.Token.TheVariants.{Text, Unclosed}
 use Rattle.gml_graph.specs.declared.token.Lexeme.{Lexeme}
 use Rattle.gml_graph.specs.Token.{word_token, quoted}
 use Rattle.gml_graph.specs.Tokens.{is_line_feed, is_blank, is_quote, ends_word, between, in_word, in_text, in_comment, lexeme, place_behind, next_line, brackets, tokens_from}
-use Rattle.gml_graph.specs.Scanning.{word_len}
-use Rattle.gml_graph.specs.Left.{begins_word}
+use Rattle.gml_graph.specs.inside.Scanning.{word_len}
+use Rattle.gml_graph.specs.inside.Left.{begins_word}
 use Rattle.std.proofs.lemmas.Bool.{false≢true}
 use Rattle.sim_base.specs.Ascii.{line_feed, quotation_mark, number_sign}
 

@@ -3,12 +3,10 @@ pub mod Limits
 pub mod Number
 pub mod Token
 pub mod Tokens
-pub mod Scanning
-pub mod Left
 pub mod Steps
 pub mod Outline
 pub mod Grammar
 pub mod Edges
 pub mod Graph
-pub mod Asked
 pub mod Gml
+pub mod inside

@@ -1,7 +1,7 @@
 //! The pairs of an outline that are asked for: the others are read and not kept.
 
 ghost use Rattle.std.specs.Prelude.{◌≡◌, ◌≤◌};
-ghost use Rattle.gml_graph.specs.Asked.{is_attribute, is_asked, is_kept, reach_behind};
+ghost use Rattle.gml_graph.specs.inside.Asked.{is_attribute, is_asked, is_kept, reach_behind};
 
 use crate::block::{Part, is_named};
 use crate::outline::OutlineRow;

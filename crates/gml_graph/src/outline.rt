@@ -3,7 +3,7 @@
 ghost use Rattle.std.specs.Prelude.{◌≡◌, ◌+◌, ◌<◌, ◌≤◌, [], length, Ok, IfOk};
 ghost use Rattle.gml_graph.specs.Steps.{Gives};
 ghost use Rattle.gml_graph.specs.Outline.{depth_behind, last_line};
-ghost use Rattle.gml_graph.specs.Asked.{asked_outline};
+ghost use Rattle.gml_graph.specs.inside.Asked.{asked_outline};
 
 use crate::asked::{is_kept, reach_behind};
 use crate::fault::{GmlError, GmlFault, GmlKind};
@@ -54,7 +54,7 @@ pub struct Outline {
 impl Model for Outline {
     ghost use Rattle.std.specs.Prelude.{◌≤◌};
     ghost use Rattle.gml_graph.specs.Limits.{greatest_depth};
-    ghost use Rattle.gml_graph.specs.Asked.{Kept};
+    ghost use Rattle.gml_graph.specs.inside.Asked.{Kept};
 
     ghost Value = { Kept };
 
@@ -87,7 +87,7 @@ fn last_line_of(bytes: &[u8]) -> u64
 
 impl Outline {
     ghost use Rattle.gml_graph.specs.Outline.{value_of, finish};
-    ghost use Rattle.gml_graph.specs.Asked.{keep_key, keep_value, keep};
+    ghost use Rattle.gml_graph.specs.inside.Asked.{keep_key, keep_value, keep};
 
     fn new(alloc: Global, last: u64) -> Self
         ensures { result ≡ record { reach = 0; shape = record { last = last; depth = 0; waiting = None; rows = [] } } }
@@ -102,7 +102,7 @@ impl Outline {
     }
 
     /// Takes the next token.
-    #[tactic(auto, unfolding(crate::specs::Asked::keep))]
+    #[tactic(auto, unfolding(crate::specs::inside::Asked::keep))]
     fn accept(&mut self, lexeme: Lexeme) -> Result<(), GmlError>
         ensures { Gives (λ _. self.new) result (keep self.old lexeme) }
     {

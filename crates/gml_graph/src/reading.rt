@@ -46,7 +46,7 @@ fn text_of(bytes: &[u8]) -> Result<&str, GmlFault>
 }
 
 /// Reads the graph of a GML text, or its first fault.
-#[tactic(auto, using(crate::proofs::AskedLemmas::graph_of_asked), unfolding(crate::specs::Gml::graph, crate::specs::Asked::asked_outline))]
+#[tactic(auto, using(crate::proofs::AskedLemmas::graph_of_asked), unfolding(crate::specs::Gml::graph, crate::specs::inside::Asked::asked_outline))]
 pub fn read_gml(alloc: Global, text: &[u8]) -> Result<Graph, GmlError>
     ensures { Gives (λ found. found) result (graph text.now) }
 {

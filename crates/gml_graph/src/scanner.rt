@@ -6,7 +6,7 @@ ghost use Rattle.std.specs.Option.{OnSome};
 ghost use Rattle.std.specs.List.{position_or_len, before_first, after_first};
 ghost use Rattle.gml_graph.specs.Number.{begins_with};
 ghost use Rattle.gml_graph.specs.Tokens.{is_line_feed, is_blank, ends_word, next_line, tokens, brackets, lexeme, is_quote};
-ghost use Rattle.gml_graph.specs.Scanning.{word_len};
+ghost use Rattle.gml_graph.specs.inside.Scanning.{word_len};
 
 use crate::token::{Lexeme, Token, read_quoted, token_of};
 
@@ -111,7 +111,7 @@ pub struct Scanner<'a> {
 }
 
 impl<'a> Scanner<'a> {
-    ghost use Rattle.gml_graph.specs.Left.{left, is_settled, begins_word};
+    ghost use Rattle.gml_graph.specs.inside.Left.{left, is_settled, begins_word};
 
     pub fn new(text: &'a str) -> Self
         ensures { left result ≡ tokens text.now }

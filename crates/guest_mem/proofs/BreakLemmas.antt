@@ -8,7 +8,7 @@ use Rattle.elf_load.specs.Room.{page_size, room_end}
 use Rattle.guest_mem.specs.Memory.{Memory}
 use Rattle.guest_mem.specs.Break.{with_zeros, without, pages_to, pages_end, pages_with, may_break, moved, grown, room_pages, max_pages}
 use Rattle.guest_mem.specs.Opening.{stack_base, stack_pages, opening}
-use Rattle.guest_mem.specs.Pages.{GuestPage, of_image, zero_pages, mapped_cells, numbers, place_of}
+use Rattle.guest_mem.specs.inside.Pages.{GuestPage, of_image, zero_pages, mapped_cells, numbers, place_of}
 use Rattle.guest_mem.proofs.HeapLemmas.{with_zeros-none, without-none, cells-grown, zero_pages-are, below_start, cells_of-image, numbers-append}
 use Rattle.guest_mem.proofs.PageLemmas.{place_of-append_nowhere, place_of-range_out}
 

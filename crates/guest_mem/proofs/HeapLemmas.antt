@@ -14,7 +14,7 @@ use Rattle.elf_load.specs.Cells.{Cell, Cells, cells_from, cells_of_page, cells_o
 use Rattle.elf_load.specs.declared.page.Page.{Page}
 use Rattle.elf_load.specs.Room.{page_size}
 use Rattle.guest_mem.specs.Break.{zero_cell, with_zeros, without, room_pages}
-use Rattle.guest_mem.specs.Pages.{GuestPage, of_image, zeros, zero_page, zero_pages, cell_in, cells_within, mapped_cells, numbers, place_of, AreZeroPages, IsPageTable}
+use Rattle.guest_mem.specs.inside.Pages.{GuestPage, of_image, zeros, zero_page, zero_pages, cell_in, cells_within, mapped_cells, numbers, place_of, AreZeroPages, IsPageTable}
 use Rattle.guest_mem.proofs.CellLemmas.{get-insert_same, get-insert_other}
 use Rattle.guest_mem.proofs.PageLemmas.{Entries, entries_of, told, by_page, place_of-in, place_of-append_some, place_of-append_none, place_of-append_nowhere, place_of-range_in, place_of-range_out, get-cells_some, get-cells_none}
 

@@ -16,8 +16,8 @@ use Rattle.guest_mem.specs.declared.right.Right.{Right}
 use Rattle.guest_mem.specs.Break.{room_pages}
 use Rattle.guest_mem.specs.Memory.{permits, permitted, byte_for, bytes_for, put_all}
 use Rattle.guest_mem.specs.declared.entry.Entry.{Entry}
-use Rattle.guest_mem.specs.Slots.{entry_numbers}
-use Rattle.guest_mem.specs.Pages.{GuestPage, cell_in, cells_within, mapped_cells, numbers, place_of, Rewrites, AreKnown, IsPageTable}
+use Rattle.guest_mem.specs.inside.Slots.{entry_numbers}
+use Rattle.guest_mem.specs.inside.Pages.{GuestPage, cell_in, cells_within, mapped_cells, numbers, place_of, Rewrites, AreKnown, IsPageTable}
 use Rattle.guest_mem.proofs.CellLemmas.{get-put_all_in, get-put_all_out, get-put_all_none, bytes_for-all, bytes_for-none}
 
 abbrev pub Entries : Type 0

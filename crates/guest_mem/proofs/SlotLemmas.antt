@@ -9,9 +9,9 @@ use Rattle.elf_load.specs.declared.rights.Rights.{Rights}
 use Rattle.elf_load.specs.Room.{page_size}
 use Rattle.guest_mem.specs.declared.entry.Entry.{Entry}
 use Rattle.guest_mem.specs.declared.pages.Pages.{Pages}
-use Rattle.guest_mem.specs.PageStore.{shown}
-use Rattle.guest_mem.specs.Pages.{GuestPage, IsRewritten, Rewrites, numbers, place_of, of_image, zeros, zero_page}
-use Rattle.guest_mem.specs.Slots.{AreSlots, page_of, slot_bytes, slots, taken, entry_numbers}
+use Rattle.guest_mem.specs.inside.PageStore.{shown}
+use Rattle.guest_mem.specs.inside.Pages.{GuestPage, IsRewritten, Rewrites, numbers, place_of, of_image, zeros, zero_page}
+use Rattle.guest_mem.specs.inside.Slots.{AreSlots, page_of, slot_bytes, slots, taken, entry_numbers}
 use Rattle.guest_mem.proofs.HeapLemmas.{get_or-zeros, length-zeros}
 use Rattle.guest_mem.proofs.PageLemmas.{place_of-nowhere}
 

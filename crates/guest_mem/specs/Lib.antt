@@ -1,10 +1,5 @@
 pub mod Break
 pub mod Memory
 pub mod Opening
-pub mod PageIndex
-pub mod PageStore
-pub mod PageTable
-pub mod Pages
-pub mod Slots
-pub mod Tables
 pub mod Vectors
+pub mod inside

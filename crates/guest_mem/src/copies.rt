@@ -3,8 +3,8 @@
 ghost use Rattle.std.specs.Prelude.{◌≡◌, ℕ, ◌+◌, ◌<◌, ◌≤◌, [], ◌∷◌, ◌++◌, IfOk, length, map, slice_index};
 ghost use Rattle.std.specs.Bool.{OnTrue};
 ghost use Rattle.guest_mem.specs.Break.{max_pages};
-ghost use Rattle.guest_mem.specs.PageStore.{HasRoom, shown};
-ghost use Rattle.guest_mem.specs.Pages.{of_image};
+ghost use Rattle.guest_mem.specs.inside.PageStore.{HasRoom, shown};
+ghost use Rattle.guest_mem.specs.inside.Pages.{of_image};
 
 use crate::pages::Pages;
 use elf_load::Page;

@@ -2,7 +2,7 @@
 
 ghost use Rattle.std.specs.Prelude.{◌≡◌, ℕ, ◌+◌, ◌-◌, ◌*◌, ◌^◌, ◌<◌, ◌≤◌, None, Some, IfOk, OnOk, [], length, vec_len, slice_index, if◌then◌else◌, ◌==◌};
 ghost use Rattle.std.proofs.Props.{props};
-ghost use Rattle.guest_mem.specs.Tables.{AreTables, root_size, table_size, no_place};
+ghost use Rattle.guest_mem.specs.inside.Tables.{AreTables, root_size, table_size, no_place};
 
 use crate::entry::Entry;
 use std::alloc::{AllocError, Global};
@@ -28,8 +28,8 @@ pub(crate) struct PageIndex {
 }
 
 impl PageIndex {
-    ghost use Rattle.guest_mem.specs.PageIndex.{place_in, Finds};
-    ghost use Rattle.guest_mem.specs.Slots.{entry_numbers};
+    ghost use Rattle.guest_mem.specs.inside.PageIndex.{place_in, Finds};
+    ghost use Rattle.guest_mem.specs.inside.Slots.{entry_numbers};
 
     /// The index of these pages: of pages with one number the first is found.
     pub fn of(alloc: Global, pages: &[Entry]) -> Result<PageIndex, AllocError>

@@ -39,8 +39,8 @@ pub struct Mem {
 
 impl Model for Mem {
     ghost use Rattle.guest_mem.specs.Memory.{Memory, memory_code};
-    ghost use Rattle.guest_mem.specs.PageStore.{shown};
-    ghost use Rattle.guest_mem.specs.Pages.{IsLaidOut, mapped_cells};
+    ghost use Rattle.guest_mem.specs.inside.PageStore.{shown};
+    ghost use Rattle.guest_mem.specs.inside.Pages.{IsLaidOut, mapped_cells};
 
     ghost Value = { Memory };
 

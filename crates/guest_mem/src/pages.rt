@@ -3,8 +3,8 @@
 ghost use Rattle.std.specs.Prelude.{◌≡◌, ℕ, ◌+◌, ◌*◌, ◌^◌, ◌<◌, ◌≤◌, ◌⊎◌, [], ◌∷◌, ◌++◌, IfOk, OnOk, length, take, drop, slice_index, slice_index_or, vec_len, vec_capacity};
 ghost use Rattle.std.proofs.Props.{props};
 ghost use Rattle.guest_mem.specs.Break.{max_pages};
-ghost use Rattle.guest_mem.specs.Pages.{GuestPage, IsRewritten, zero_page, zero_pages};
-ghost use Rattle.guest_mem.specs.Slots.{AreSlots, slots};
+ghost use Rattle.guest_mem.specs.inside.Pages.{GuestPage, IsRewritten, zero_page, zero_pages};
+ghost use Rattle.guest_mem.specs.inside.Slots.{AreSlots, slots};
 ghost use Rattle.elf_load.specs.Room.{page_size};
 
 use crate::entry::Entry;
@@ -26,7 +26,7 @@ pub(crate) struct Pages {
 }
 
 impl Pages {
-    ghost use Rattle.guest_mem.specs.PageStore.{HasRoom, shown};
+    ghost use Rattle.guest_mem.specs.inside.PageStore.{HasRoom, shown};
 
     /// No pages, and room for this many.
     pub fn new(alloc: Global, room: usize) -> Result<Pages, AllocError>

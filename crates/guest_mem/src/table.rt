@@ -6,10 +6,10 @@ ghost use Rattle.std.specs.Option.{option_map};
 ghost use Rattle.std.proofs.Props.{props};
 ghost use Rattle.guest_mem.specs.Memory.{IsPage, bytes_for, number, put_all};
 ghost use Rattle.guest_mem.specs.Break.{with_zeros, without, room_pages, max_pages};
-ghost use Rattle.guest_mem.specs.PageIndex.{place_in};
-ghost use Rattle.guest_mem.specs.PageStore.{shown};
-ghost use Rattle.guest_mem.specs.Pages.{AreKnown, IsPageTable, mapped_cells, numbers, place_of};
-ghost use Rattle.guest_mem.specs.Slots.{entry_numbers};
+ghost use Rattle.guest_mem.specs.inside.PageIndex.{place_in};
+ghost use Rattle.guest_mem.specs.inside.PageStore.{shown};
+ghost use Rattle.guest_mem.specs.inside.Pages.{AreKnown, IsPageTable, mapped_cells, numbers, place_of};
+ghost use Rattle.guest_mem.specs.inside.Slots.{entry_numbers};
 ghost use Rattle.elf_load.specs.Room.{page_size};
 
 use crate::Bad;
@@ -37,7 +37,7 @@ pub(crate) struct PageTable {
 }
 
 impl PageTable {
-    ghost use Rattle.guest_mem.specs.PageTable.{IsSameShape};
+    ghost use Rattle.guest_mem.specs.inside.PageTable.{IsSameShape};
 
     /// A table of these pages, whose heap begins at page `heap` and is empty.
     pub fn new(alloc: Global, pages: Pages, heap: u32) -> Result<PageTable, AllocError>

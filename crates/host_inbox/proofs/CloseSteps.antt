@@ -13,9 +13,9 @@ use Rattle.host_inbox.specs.declared.rule.Size.{Size}
 use Rattle.list_weights.specs.Weights.{weigh, numbers_below, only}
 use Rattle.host_inbox.specs.Entries.{place_of, claim_weight, entry_weight}
 use Rattle.host_inbox.specs.Inboxes.{IsSettled, Fits, AreInboxes, known, known_weight}
-use Rattle.host_inbox.specs.Carriers.{filed, kept_if}
+use Rattle.host_inbox.specs.inside.Carriers.{filed, kept_if}
 use Rattle.host_inbox.specs.Drains.{numbers_of}
-use Rattle.host_inbox.specs.Slots.{AreLaid, AreClosed}
+use Rattle.host_inbox.specs.inside.Slots.{AreLaid, AreClosed}
 use Rattle.list_weights.proofs.Weights.{weigh_alone, is_number, is_other}
 use Rattle.host_inbox.proofs.Weights.{just_once}
 use Rattle.host_inbox.proofs.Members.{each_map}

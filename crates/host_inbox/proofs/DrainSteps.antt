@@ -6,7 +6,7 @@ use native.Mathlib.Decide.{ℕ_discrete}
 use lib.ListN.{get_elem?}
 use Rattle.std.proofs.lemmas.List.{length-set, get_or-set_other, get_or-set_same}
 use Rattle.std.proofs.lemmas.Bool.{le-leb, lt-leb}
-use Rattle.host_inbox.specs.Slots.{IsTakenTo, listed, parcels_from}
+use Rattle.host_inbox.specs.inside.Slots.{IsTakenTo, listed, parcels_from}
 
 -- one place more
 pub takes_next : (filled : List Bool) (n m : ℕ) → n < length filled → m ≡ n + 1 → IsTakenTo n filled → IsTakenTo m (set filled n false)

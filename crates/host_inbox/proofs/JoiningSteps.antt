@@ -9,10 +9,10 @@ use Rattle.host_inbox.specs.declared.entry.Entry.{Entry}
 use Rattle.host_inbox.specs.declared.rule.Known.{Known}
 use Rattle.host_inbox.specs.Inboxes.{known}
 use Rattle.host_inbox.specs.Steps.{both}
-use Rattle.host_inbox.specs.Carriers.{filed}
+use Rattle.host_inbox.specs.inside.Carriers.{filed}
 use Rattle.host_inbox.specs.CarrierViews.{CarrierView}
 use Rattle.host_inbox.specs.Drains.{all_entries}
-use Rattle.host_inbox.specs.Slots.{IsJoining}
+use Rattle.host_inbox.specs.inside.Slots.{IsJoining}
 
 module _ {T : Type 0} where
   entries_snoc : (xs : List (CarrierView T)) (c : CarrierView T) → all_entries (xs ++ c ∷ []) ≡ all_entries xs ++ c.entries

@@ -13,7 +13,7 @@ use Rattle.list_weights.specs.Places.{EachAt}
 use Rattle.list_weights.specs.Weights.{numbers_below}
 use Rattle.host_inbox.specs.Entries.{place_of}
 use Rattle.host_inbox.specs.Drains.{numbers_of, IsInboxOf, IsDrained}
-use Rattle.host_inbox.specs.Slots.{listed, parcels_from, row_of, AreLaid, AreClosed}
+use Rattle.host_inbox.specs.inside.Slots.{listed, parcels_from, row_of, AreLaid, AreClosed}
 use Rattle.list_weights.proofs.Weights.{is_number}
 use Rattle.list_weights.proofs.Permutations.{weigh-permutation}
 use Rattle.host_inbox.proofs.Weights.{just_once}

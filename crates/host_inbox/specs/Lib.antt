@@ -1,10 +1,8 @@
 pub mod Entries
 pub mod Inboxes
 pub mod Steps
-pub mod Carriers
 pub mod CarrierViews
 pub mod Sizes
-pub mod Boards
 pub mod Drains
-pub mod Slots
 pub mod Kept
+pub mod inside

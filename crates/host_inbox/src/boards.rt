@@ -5,7 +5,7 @@ ghost use Rattle.std.specs.Mem.Slots.{slots_items, slots_len, IsFull};
 ghost use Rattle.host_inbox.specs.CarrierViews.{AreAllOf};
 ghost use Rattle.host_inbox.specs.Drains.{all_entries};
 ghost use Rattle.host_inbox.specs.Sizes.{IsSized};
-ghost use Rattle.host_inbox.specs.Slots.{AreClosed};
+ghost use Rattle.host_inbox.specs.inside.Slots.{AreClosed};
 
 use crate::carrier::{Carrier, Full};
 use crate::joining::joined;
@@ -27,7 +27,7 @@ impl<T: Drop> Model for Boards<T> {
 
     ghost Value = { BoardsView };
 
-    ghost use Rattle.host_inbox.specs.Boards.{boards_view, IsSoundBoards};
+    ghost use Rattle.host_inbox.specs.inside.Boards.{boards_view, IsSoundBoards};
 
     ghost view = { boards_view };
 

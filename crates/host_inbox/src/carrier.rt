@@ -22,7 +22,7 @@ impl<T> Model for Carrier<T> {
 
     ghost Value = { CarrierView T };
 
-    ghost use Rattle.host_inbox.specs.Carriers.{carrier_view, IsSoundCarrier};
+    ghost use Rattle.host_inbox.specs.inside.Carriers.{carrier_view, IsSoundCarrier};
 
     ghost view = { carrier_view };
 
@@ -37,7 +37,7 @@ pub struct Full<T = Parcel> {
 }
 
 impl<T> Carrier<T> {
-    ghost use Rattle.host_inbox.specs.Carriers.{filed};
+    ghost use Rattle.host_inbox.specs.inside.Carriers.{filed};
 
     /// A carrier that has made no put.
     pub(crate) fn new(seat: PlaceSeat<T>) -> Carrier<T>

@@ -3,7 +3,7 @@ ghost use Rattle.std.specs.Prelude.{◌≡◌, ◌≤◌, [], IfOk, IfErr, All, 
 ghost use Rattle.host_inbox.specs.CarrierViews.{AreAllOf};
 ghost use Rattle.host_inbox.specs.Drains.{all_entries, IsDrained};
 ghost use Rattle.host_inbox.specs.Kept.{AreKept};
-ghost use Rattle.host_inbox.specs.Slots.{IsRoom};
+ghost use Rattle.host_inbox.specs.inside.Slots.{IsRoom};
 
 use crate::boards::Boards;
 use crate::carrier::Carrier;

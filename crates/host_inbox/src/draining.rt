@@ -3,7 +3,7 @@ ghost use Rattle.std.specs.Prelude.{◌≡◌, ◌+◌, ◌*◌, ◌<◌, ◌≤
 ghost use Rattle.std.specs.Mem.Slots.{slots_items, slots_filled, slots_len, IsFull};
 ghost use Rattle.list_weights.specs.Places.{EachAt};
 ghost use Rattle.host_inbox.specs.Entries.{inbox_places};
-ghost use Rattle.host_inbox.specs.Slots.{IsRoom, IsTakenTo, row_of};
+ghost use Rattle.host_inbox.specs.inside.Slots.{IsRoom, IsTakenTo, row_of};
 
 use atomic_table::Closed;
 use std::alloc::{AllocError, Global};

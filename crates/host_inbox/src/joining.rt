@@ -1,6 +1,6 @@
 //! Carriers' seats are joined into one.
 ghost use Rattle.std.specs.Prelude.{◌≡◌, ◌<◌, [], All, map, vec_len};
-ghost use Rattle.host_inbox.specs.Carriers.{filed};
+ghost use Rattle.host_inbox.specs.inside.Carriers.{filed};
 ghost use Rattle.host_inbox.specs.Drains.{all_entries};
 ghost use Rattle.host_inbox.specs.Inboxes.{known};
 

@@ -7,8 +7,8 @@ use Rattle.std.proofs.lemmas.List.Elements.{Contains-push, Contains-push_cases, 
 use Rattle.net_routes.specs.declared.cost.Cost.{Cost}
 use Rattle.net_routes.specs.declared.arc.Arc.{Arc}
 use Rattle.net_routes.specs.Cost.{nothing, IsAsGood}
-use Rattle.net_routes.specs.Path.{Leads, then_arc, HasPath, HasWay, HasArc, IsBest}
-use Rattle.net_routes.specs.Search.{IsSettled}
+use Rattle.net_routes.specs.inside.Path.{Leads, then_arc, HasPath, HasWay, HasArc, IsBest}
+use Rattle.net_routes.specs.inside.Search.{IsSettled}
 use Rattle.net_routes.proofs.CostLemmas.{good_trans}
 use Rattle.net_routes.proofs.SearchLemmas.{nobody, none_settled, settled_cases}
 

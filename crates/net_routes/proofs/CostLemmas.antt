@@ -4,7 +4,7 @@ use Rattle.std.proofs.Math.Nat.{mul-le-mul_right}
 use Rattle.net_routes.specs.declared.cost.Cost.{Cost}
 use Rattle.net_routes.specs.declared.arc.Arc.{Arc}
 use Rattle.net_routes.specs.Cost.{nothing, IsAsGood}
-use Rattle.net_routes.specs.Path.{Leaves, Leads, then_arc, HasPath}
+use Rattle.net_routes.specs.inside.Path.{Leaves, Leads, then_arc, HasPath}
 
 pub good_refl : (c : Cost) → IsAsGood c c
 good_refl c = inr (refl, omega arith)

@@ -11,10 +11,10 @@ use Rattle.net_routes.specs.declared.error.RouteError.{RouteError}
 use Rattle.net_routes.specs.declared.error.RouteError.TheVariants as errors
 use Rattle.net_routes.specs.declared.finding.Search.{Search}
 use Rattle.net_routes.specs.declared.net.Net.{Net}
-use Rattle.net_routes.specs.Found.{IsRowOrLack, IsFound, IsToSearch, AreSearched, IsStopped, rows_found, oks, most_at_once, AreFound, IsRefused}
-use Rattle.net_routes.specs.RouteRows.{IsRouteRow, NamesLack}
+use Rattle.net_routes.specs.inside.Found.{IsRowOrLack, IsFound, IsToSearch, AreSearched, IsStopped, rows_found, oks, most_at_once, AreFound, IsRefused}
+use Rattle.net_routes.specs.inside.RouteRows.{IsRouteRow, NamesLack}
 use Rattle.net_routes.specs.Needed.{IsAt, IsNeeded}
-use Rattle.net_routes.specs.Net.{IsNet}
+use Rattle.net_routes.specs.inside.Net.{IsNet}
 use Rattle.net_routes.specs.Routes.{IsRefusal, route_at}
 use Rattle.net_routes.specs.Table.{IsTable}
 use Rattle.net_routes.specs.Walk.{IsRoute, hops}

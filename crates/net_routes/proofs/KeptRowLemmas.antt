@@ -6,8 +6,8 @@ use Rattle.std.proofs.lemmas.List.Elements.{All-push}
 use Rattle.net_routes.specs.declared.cost.Cost.{Cost}
 use Rattle.net_routes.specs.declared.kept_row.KeptRow.{KeptRow}
 use Rattle.net_routes.specs.declared.kept_row.KeptRow.TheVariants.{Numbers, Costs}
-use Rattle.net_routes.specs.Numbers.{KeepNumbers}
-use Rattle.net_routes.specs.KeptRows.{row_in, HasCosts}
+use Rattle.net_routes.specs.inside.Numbers.{KeepNumbers}
+use Rattle.net_routes.specs.inside.KeptRows.{row_in, HasCosts}
 use Rattle.net_routes.proofs.NumberLemmas.{get_within, get_is}
 
 there : {A : Type 0} (xs : List A) (n : ℕ) (d : A) → n < length xs → slice_get xs n ≡ Some (get_or xs n d)

@@ -12,9 +12,9 @@ use Rattle.net_routes.specs.Cost.{nothing, and_then, IsHopCost}
 use Rattle.net_routes.specs.Walk as walks
 use Rattle.net_routes.specs.Walk.{then_hop, cost_of, MayGo, Goes, AreHops}
 use Rattle.net_routes.specs.Needed.{IsAt}
-use Rattle.net_routes.specs.Places.{place_of}
-use Rattle.net_routes.specs.Path.{Leaves, Leads, then_arc, HasWay, AreArcs, IsBest}
-use Rattle.net_routes.specs.Net.{IsArcOf, IsNet, AddsArc, cost_to}
+use Rattle.net_routes.specs.inside.Places.{place_of}
+use Rattle.net_routes.specs.inside.Path.{Leaves, Leads, then_arc, HasWay, AreArcs, IsBest}
+use Rattle.net_routes.specs.inside.Net.{IsArcOf, IsNet, AddsArc, cost_to}
 use Rattle.net_routes.proofs.PlaceLemmas.{at_once, at_is, place_found, place_at}
 use Rattle.net_routes.proofs.ArcLemmas.{found}
 

@@ -6,7 +6,7 @@ use Rattle.std.proofs.lemmas.Bool.{and_parts, cases_Bool, cond-true, cond-false,
 use Rattle.std.proofs.lemmas.List.{map-append}
 use Rattle.std.proofs.lemmas.List.Elements.{All-nil, All-cons}
 use Rattle.net_routes.specs.declared.cost.Cost.{Cost}
-use Rattle.net_routes.specs.Numbers.{same_cost, AreNumbers, KeepNumbers}
+use Rattle.net_routes.specs.inside.Numbers.{same_cost, AreNumbers, KeepNumbers}
 use Rattle.net_routes.proofs.ListLemmas.{some_same}
 
 -- PLACES OF A LIST

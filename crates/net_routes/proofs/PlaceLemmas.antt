@@ -13,7 +13,7 @@ use Rattle.std.proofs.lemmas.List.Quantifiers.{position-Some}
 use Rattle.std.proofs.lemmas.List.Sorted.{searched}
 use Rattle.std.proofs.lemmas.List.Sums.{position_or_len_is}
 use Rattle.net_routes.specs.Needed.{IsAt}
-use Rattle.net_routes.specs.Places.{place_of}
+use Rattle.net_routes.specs.inside.Places.{place_of}
 
 -- an earlier id is less
 pub at_rises : (ids : List ℕ) (i j x y : ℕ) → IsStrictlyIncreasing ids → IsAt ids i x → IsAt ids j y → i < j → x < y

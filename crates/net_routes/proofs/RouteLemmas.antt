@@ -9,11 +9,11 @@ use Rattle.net_routes.specs.declared.cost.Cost.{Cost}
 use Rattle.net_routes.specs.Cost.{IsAsGood}
 use Rattle.net_routes.specs.Walk.{Goes, IsRoute, hops}
 use Rattle.net_routes.specs.Needed.{IsAt, IsNeeded}
-use Rattle.net_routes.specs.Places.{place_of}
-use Rattle.net_routes.specs.Path.{IsBest}
+use Rattle.net_routes.specs.inside.Places.{place_of}
+use Rattle.net_routes.specs.inside.Path.{IsBest}
 use Rattle.net_routes.specs.declared.error.RouteError.{RouteError}
 use Rattle.net_routes.specs.declared.error.RouteError.TheVariants as errors
-use Rattle.net_routes.specs.RouteRows.{IsRouteRow, IsFirstLack, NamesLack}
+use Rattle.net_routes.specs.inside.RouteRows.{IsRouteRow, IsFirstLack, NamesLack}
 use Rattle.net_routes.specs.Routes.{route_at, IsLeastLack, IsRefusal}
 use Rattle.net_routes.specs.Table.{IsRouteIfAny}
 use Rattle.net_routes.proofs.ListLemmas.{some_same}

@@ -9,7 +9,7 @@ use Rattle.net_routes.specs.declared.cost.Cost.{Cost}
 use Rattle.net_routes.specs.declared.error.RouteError.{RouteError}
 use Rattle.net_routes.specs.declared.error.RouteError.TheVariants as errors
 use Rattle.net_routes.specs.Needed.{IsAt, IsNeeded}
-use Rattle.net_routes.specs.RouteRows.{IsFirstLack, NamesLack}
+use Rattle.net_routes.specs.inside.RouteRows.{IsFirstLack, NamesLack}
 use Rattle.net_routes.proofs.PlaceLemmas.{at_is, at_contains}
 
 -- HOSTS ON A NODE

@@ -14,8 +14,8 @@ use Rattle.net_routes.specs.declared.cost.Cost.{Cost}
 use Rattle.net_routes.specs.declared.arc.Arc.{Arc}
 use Rattle.net_routes.specs.declared.search.Entry.{Entry}
 use Rattle.net_routes.specs.Cost.{nothing, IsAsGood}
-use Rattle.net_routes.specs.Path.{Leaves, Leads, then_arc, HasPath, IsArc, AreArcs, IsBest}
-use Rattle.net_routes.specs.Search.{entry_order, IsSettled, IsReached, IsKnown, IsWaiting, IsMade, IsSearch, AddsArcs, IsFirst, IsNext}
+use Rattle.net_routes.specs.inside.Path.{Leaves, Leads, then_arc, HasPath, IsArc, AreArcs, IsBest}
+use Rattle.net_routes.specs.inside.Search.{entry_order, IsSettled, IsReached, IsKnown, IsWaiting, IsMade, IsSearch, AddsArcs, IsFirst, IsNext}
 use Rattle.net_routes.proofs.ListLemmas.{contains_cons, contains_head, contains_cases, some_same}
 use Rattle.net_routes.proofs.CostLemmas.{good_refl, good_trans, good_extend, path_more}
 

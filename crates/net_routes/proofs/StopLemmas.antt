@@ -5,7 +5,7 @@ use Rattle.std.proofs.lemmas.Bool.{cases_lt}
 use Rattle.net_routes.specs.declared.cost.Cost.{Cost}
 use Rattle.net_routes.specs.declared.table.Routes.{Routes}
 use Rattle.net_routes.specs.Needed.{IsAt, IsNeeded}
-use Rattle.net_routes.specs.Places.{place_of}
+use Rattle.net_routes.specs.inside.Places.{place_of}
 use Rattle.net_routes.specs.Routes.{route_in, HasRoutes}
 use Rattle.net_routes.specs.Least.{latency_of, IsLeastIf, IsNeededLatency, IsNeededAt, IsNeededPair, IsNeededTo, IsNeededFirst, lesser, IsLookahead}
 use Rattle.net_routes.proofs.ListLemmas.{some_same}

@@ -1,14 +1,7 @@
 pub mod Cost
 pub mod Walk
 pub mod Needed
-pub mod Places
-pub mod Path
-pub mod Net
-pub mod Search
-pub mod RouteRows
-pub mod Numbers
-pub mod KeptRows
 pub mod Routes
 pub mod Table
 pub mod Least
-pub mod Found
+pub mod inside

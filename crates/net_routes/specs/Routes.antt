@@ -7,8 +7,8 @@ use Rattle.net_routes.specs.declared.error.RouteError.TheVariants as errors
 use Rattle.net_routes.specs.declared.table.Routes.{Routes}
 use Rattle.net_routes.specs.Walk.{Goes, IsRoute, hops}
 use Rattle.net_routes.specs.Needed.{IsNeeded}
-use Rattle.net_routes.specs.Places.{place_of}
-use Rattle.net_routes.specs.RouteRows.{cost_at}
+use Rattle.net_routes.specs.inside.Places.{place_of}
+use Rattle.net_routes.specs.inside.RouteRows.{cost_at}
 
 -- the cost that rows keep for a pair of nodes
 abbrev pub route_at : List ℕ → List (List (Option Cost)) → ℕ → ℕ → Option Cost

@@ -7,7 +7,7 @@ use Rattle.net_routes.specs.declared.cost.Cost.{Cost}
 use Rattle.net_routes.specs.declared.table.Routes.{Routes}
 use Rattle.net_routes.specs.Walk.{Goes, IsRoute, hops}
 use Rattle.net_routes.specs.Needed.{IsAt}
-use Rattle.net_routes.specs.RouteRows.{cost_at}
+use Rattle.net_routes.specs.inside.RouteRows.{cost_at}
 
 -- the route of a pair, or nothing where no walk goes
 abbrev pub IsRouteIfAny : Graph → Bool → ℕ → ℕ → Option Cost → Type 0

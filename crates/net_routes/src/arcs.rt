@@ -3,7 +3,7 @@
 ghost use Rattle.std.specs.Prelude.{◌≡◌, ◌⊎◌, None, Some, length, All, IfOk, IfSome};
 ghost use Rattle.std.specs.List.{slice_index_or};
 ghost use Rattle.net_routes.specs.Cost.{IsAsGood};
-ghost use Rattle.net_routes.specs.Path.{IsArc, HasArc, IsBest};
+ghost use Rattle.net_routes.specs.inside.Path.{IsArc, HasArc, IsBest};
 
 use crate::arc::Arc;
 use crate::cost::{Cost, better, extended, no_cost};

@@ -1,7 +1,7 @@
 //! Finds the routes that hosts need.
 
 ghost use Rattle.std.specs.Prelude.{◌≡◌, ◌<◌, ◌++◌, All, Contains, IfOk, IfErr, OnOk, length, map, take, drop};
-ghost use Rattle.net_routes.specs.Found.{most_at_once, IsReady, AreStops, IsToSearch, IsFound, IsSearched, AreSearched, oks, rows_found, IsStopped, AreFound, IsRefused};
+ghost use Rattle.net_routes.specs.inside.Found.{most_at_once, IsReady, AreStops, IsToSearch, IsFound, IsSearched, AreSearched, oks, rows_found, IsStopped, AreFound, IsRefused};
 ghost use Rattle.net_routes.specs.Routes.{HasRoutes, AreRoutes, AreSound, IsRefusal};
 ghost use Rattle.net_routes.specs.Table.{IsTable};
 

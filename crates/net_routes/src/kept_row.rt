@@ -1,7 +1,7 @@
 //! A row of routes as tables keep it.
 
 ghost use Rattle.std.specs.Prelude.{◌≡◌, None, slice_index_or};
-ghost use Rattle.net_routes.specs.KeptRows.{row_in};
+ghost use Rattle.net_routes.specs.inside.KeptRows.{row_in};
 
 use crate::cost::Cost;
 use crate::numbered_costs::NumberedCosts;

@@ -2,11 +2,11 @@
 
 ghost use Rattle.std.specs.Prelude.{◌≡◌, ◌<◌, ◌≤◌, ◌+◌, ◌*◌, ℕ, List, None, [], length, All, Contains, IfOk, OnOk};
 ghost use Rattle.std.specs.List.{slice_index_or};
-ghost use Rattle.net_routes.specs.Found.{most_places};
+ghost use Rattle.net_routes.specs.inside.Found.{most_places};
 ghost use Rattle.net_routes.specs.declared.hop.Hop.{Hop};
 ghost use Rattle.net_routes.specs.Walk.{AreHops, Goes};
-ghost use Rattle.net_routes.specs.Path.{AreArcs, HasWay, IsBest};
-ghost use Rattle.net_routes.specs.Net.{IsNet, AddsArc, cost_to};
+ghost use Rattle.net_routes.specs.inside.Path.{AreArcs, HasWay, IsBest};
+ghost use Rattle.net_routes.specs.inside.Net.{IsNet, AddsArc, cost_to};
 
 use crate::arc::{Arc, Arcs};
 use crate::arcs::cheapest_arcs;

@@ -3,7 +3,7 @@
 ghost use Rattle.std.specs.Prelude.{◌≡◌, ◌≤◌, ◌↔◌, ℕ, length, Contains, vec_len};
 ghost use Rattle.std.specs.List.Sorted.{IsStrictlyIncreasing};
 ghost use Rattle.net_routes.specs.Needed.{IsAt};
-ghost use Rattle.net_routes.specs.Places.{place_of};
+ghost use Rattle.net_routes.specs.inside.Places.{place_of};
 
 use std::marker::Model;
 

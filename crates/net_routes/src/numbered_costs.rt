@@ -1,7 +1,7 @@
 //! Costs under numbers.
 
 ghost use Rattle.std.specs.Prelude.{◌≡◌, [], IfOk, IfSome, Some, None, map, slice_get, slice_index_or};
-ghost use Rattle.net_routes.specs.Numbers.{KeepNumbers};
+ghost use Rattle.net_routes.specs.inside.Numbers.{KeepNumbers};
 
 use crate::cost::Cost;
 use crate::kept::Kept;
@@ -24,7 +24,7 @@ impl Model for NumberedCosts {
     ghost use Rattle.std.specs.Option.{option_eq};
     ghost use Rattle.std.specs.HashMap.{get};
     ghost use Rattle.net_routes.specs.declared.cost.Cost.{Cost};
-    ghost use Rattle.net_routes.specs.Numbers.{same_cost, AreNumbers};
+    ghost use Rattle.net_routes.specs.inside.Numbers.{same_cost, AreNumbers};
 
     ghost Value = { List (Option Cost) };
 

@@ -2,8 +2,8 @@
 
 ghost use Rattle.std.specs.Prelude.{◌≡◌, count_by, ◌==◌, length, Contains, All, MatchBool, IfOk, IfErr, OnErr, IsSome, None, slice_index_or};
 ghost use Rattle.net_routes.specs.Needed.{IsNeeded};
-ghost use Rattle.net_routes.specs.Net.{cost_to};
-ghost use Rattle.net_routes.specs.RouteRows.{IsRouteRow, NamesLack};
+ghost use Rattle.net_routes.specs.inside.Net.{cost_to};
+ghost use Rattle.net_routes.specs.inside.RouteRows.{IsRouteRow, NamesLack};
 
 use crate::cost::Cost;
 use crate::error::RouteError;

@@ -1,9 +1,9 @@
 //! The costs of the routes from all nodes of hosts.
 
 ghost use Rattle.std.specs.Prelude.{◌≡◌, [], ◌∷◌, ◌++◌, length, IfOk, OnOk};
-ghost use Rattle.net_routes.specs.RouteRows.{cost_at};
-ghost use Rattle.net_routes.specs.KeptRows.{row_in, HasCosts};
-ghost use Rattle.net_routes.specs.Numbers.{KeepNumbers};
+ghost use Rattle.net_routes.specs.inside.RouteRows.{cost_at};
+ghost use Rattle.net_routes.specs.inside.KeptRows.{row_in, HasCosts};
+ghost use Rattle.net_routes.specs.inside.Numbers.{KeepNumbers};
 
 use crate::cost::Cost;
 use crate::kept_row::KeptRow;
@@ -24,7 +24,7 @@ pub struct RouteRows {
 impl Model for RouteRows {
     ghost use Rattle.std.specs.Prelude.{List, Option, map, All};
     ghost use Rattle.net_routes.specs.declared.cost.Cost.{Cost};
-    ghost use Rattle.net_routes.specs.KeptRows.{row_in, HasCosts};
+    ghost use Rattle.net_routes.specs.inside.KeptRows.{row_in, HasCosts};
 
     ghost Value = { List (List (Option Cost)) };
 

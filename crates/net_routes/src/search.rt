@@ -6,11 +6,11 @@ ghost use Rattle.std.specs.BinaryHeap.{IsHeap, heap_items, heap_len};
 ghost use Rattle.net_routes.specs.declared.arc.Arc.{Arc};
 ghost use Rattle.net_routes.specs.declared.cost.Cost.{Cost};
 ghost use Rattle.std.specs.List.{slice_index_or};
-ghost use Rattle.net_routes.specs.Found.{most_places};
+ghost use Rattle.net_routes.specs.inside.Found.{most_places};
 ghost use Rattle.gml_graph.specs.Edges.{lossless};
 ghost use Rattle.net_routes.specs.Cost.{and_then, IsAsGood};
-ghost use Rattle.net_routes.specs.Path.{AreArcs, IsArc, HasPath, IsBest};
-ghost use Rattle.net_routes.specs.Search.{entry_order, IsSearch, IsNext, AddsArcs};
+ghost use Rattle.net_routes.specs.inside.Path.{AreArcs, IsArc, HasPath, IsBest};
+ghost use Rattle.net_routes.specs.inside.Search.{entry_order, IsSearch, IsNext, AddsArcs};
 
 use crate::arc::{Arc, Arcs};
 use crate::cost::{Cost, extended, no_cost};

@@ -7,9 +7,9 @@ use Rattle.steal_workers.specs.declared.item.Item.TheVariants.{Task, Mark}
 use Rattle.steal_workers.specs.declared.item.Numbered.{Numbered}
 use Rattle.steal_workers.specs.declared.hand.Hand.{Hand}
 use Rattle.list_weights.specs.Weights.{weigh}
-use Rattle.steal_workers.specs.Items.{marks, number_weight, Stands, MarksLast}
+use Rattle.steal_workers.specs.inside.Items.{marks, number_weight, Stands, MarksLast}
 use Rattle.steal_workers.specs.OneDeque.{hand, after_take, Took}
-use Rattle.steal_workers.specs.TookBack.{kept, numbers_of}
+use Rattle.steal_workers.specs.inside.TookBack.{kept, numbers_of}
 use Rattle.list_weights.proofs.Weights.{weigh-append, weigh-ones}
 use Rattle.steal_workers.proofs.Steps.{marks-append}
 

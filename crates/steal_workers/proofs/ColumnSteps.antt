@@ -19,11 +19,11 @@ use Rattle.steal_workers.specs.declared.share.Share.{Share}
 use Rattle.steal_workers.specs.declared.handle.Handle.TheVariants.{Own, Other}
 use Rattle.list_weights.specs.Places.{EachAt}
 use Rattle.list_weights.specs.Weights.{weigh}
-use Rattle.steal_workers.specs.Items.{marks}
+use Rattle.steal_workers.specs.inside.Items.{marks}
 use Rattle.steal_workers.specs.OneDeque.{hand}
-use Rattle.steal_workers.specs.Handles.{is_own}
-use Rattle.steal_workers.specs.Decks.{IsThiefOf, mark_list}
-use Rattle.steal_workers.specs.Columns.{IsFresh, IsColumn}
+use Rattle.steal_workers.specs.inside.Handles.{is_own}
+use Rattle.steal_workers.specs.inside.Decks.{IsThiefOf, mark_list}
+use Rattle.steal_workers.specs.inside.Columns.{IsFresh, IsColumn}
 use Rattle.list_weights.proofs.Places.{EachAt-push}
 use Rattle.steal_workers.proofs.Steps.{marks-append}
 

@@ -11,16 +11,16 @@ use Rattle.steal_workers.specs.declared.item.Item.TheVariants.{Task, Mark}
 use Rattle.steal_workers.specs.declared.deck.Deck.{Deck}
 use Rattle.steal_workers.specs.declared.share.Share.{Share}
 use Rattle.list_weights.specs.Weights.{weigh, numbers_below}
-use Rattle.steal_workers.specs.Items.{marks, number_weight, Stands, IsAllMarks, MarksLast}
-use Rattle.steal_workers.specs.Shares.{is_marked, dealt_to}
-use Rattle.steal_workers.specs.Handles.{deque_of}
+use Rattle.steal_workers.specs.inside.Items.{marks, number_weight, Stands, IsAllMarks, MarksLast}
+use Rattle.steal_workers.specs.inside.Shares.{is_marked, dealt_to}
+use Rattle.steal_workers.specs.inside.Handles.{deque_of}
 use Rattle.steal_workers.specs.Deals.{Deal, IsDealt}
 use Rattle.steal_workers.specs.SeatViews.{SeatView, seat_count}
 use Rattle.steal_workers.specs.WholeDeals.{common_deal, IsNewSeat, IsNewDeal}
-use Rattle.steal_workers.specs.Decks.{AreFilling, mark_list, queue_of}
-use Rattle.steal_workers.specs.Columns.{IsRow, closed, deck_deque}
-use Rattle.steal_workers.specs.Unused.{unused_view}
-use Rattle.steal_workers.specs.Layouts.{AreFresh, AreFilled, AreSeated, planned}
+use Rattle.steal_workers.specs.inside.Decks.{AreFilling, mark_list, queue_of}
+use Rattle.steal_workers.specs.inside.Columns.{IsRow, closed, deck_deque}
+use Rattle.steal_workers.specs.inside.Unused.{unused_view}
+use Rattle.steal_workers.specs.inside.Layouts.{AreFresh, AreFilled, AreSeated, planned}
 use Rattle.list_weights.proofs.Weights.{weigh-append}
 use Rattle.steal_workers.proofs.DeckSteps.{last_turn}
 use Rattle.steal_workers.proofs.ColumnSteps.{marks_closed}

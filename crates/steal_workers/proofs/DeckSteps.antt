@@ -20,9 +20,9 @@ use Rattle.steal_workers.specs.declared.share.Share.{Share}
 use Rattle.steal_workers.specs.declared.deck.Deck.{Deck}
 use Rattle.list_weights.specs.Places.{EachAt}
 use Rattle.list_weights.specs.Weights.{weigh, numbers_below}
-use Rattle.steal_workers.specs.Items.{marks, number_weight}
+use Rattle.steal_workers.specs.inside.Items.{marks, number_weight}
 use Rattle.steal_workers.specs.OneDeque.{after_push}
-use Rattle.steal_workers.specs.Decks.{IsThiefOf, queue_of, IsFilling, AreFilling, HasMore}
+use Rattle.steal_workers.specs.inside.Decks.{IsThiefOf, queue_of, IsFilling, AreFilling, HasMore}
 use Rattle.list_weights.proofs.Weights.{weigh-append, weigh-set}
 use Rattle.steal_workers.proofs.Steps.{marks-append}
 

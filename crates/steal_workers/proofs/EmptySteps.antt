@@ -14,16 +14,16 @@ use Rattle.steal_workers.specs.declared.hand.Hand.{Hand}
 use Rattle.steal_workers.specs.declared.share.Share.{Share}
 use Rattle.steal_workers.specs.declared.seat.Stack.{Stack}
 use Rattle.list_weights.specs.Weights.{weigh, numbers_below, only}
-use Rattle.steal_workers.specs.Items.{marks, mark_weight, number_weight, Stands}
-use Rattle.steal_workers.specs.Handles.{deque_of, is_own}
-use Rattle.steal_workers.specs.Shares.{dealt_to, taken_from}
+use Rattle.steal_workers.specs.inside.Items.{marks, mark_weight, number_weight, Stands}
+use Rattle.steal_workers.specs.inside.Handles.{deque_of, is_own}
+use Rattle.steal_workers.specs.inside.Shares.{dealt_to, taken_from}
 use Rattle.steal_workers.specs.Deals.{Deal, IsDealt}
 use Rattle.steal_workers.specs.SeatViews.{SeatView, seat_count}
 use Rattle.steal_workers.specs.WholeDeals.{common_deal, IsWholeDeal}
-use Rattle.steal_workers.specs.Backs.{own_weight, IsWholeColumn, IsBack}
-use Rattle.steal_workers.specs.TookBack.{numbers_of, Drains}
+use Rattle.steal_workers.specs.inside.Backs.{own_weight, IsWholeColumn, IsBack}
+use Rattle.steal_workers.specs.inside.TookBack.{numbers_of, Drains}
 use Rattle.steal_workers.specs.Gathers.{joined, IsShareAt, IsStack, PopsEach, IsGathered, AreOwnMarked, share_taken, stack_taken, all_taken, places}
-use Rattle.steal_workers.specs.Emptying.{IsEmptying, queue_weights, seat_weights}
+use Rattle.steal_workers.specs.inside.Emptying.{IsEmptying, queue_weights, seat_weights}
 use Rattle.list_weights.proofs.Weights.{weigh-append, weigh_part, weigh-ones, weigh_once, length-numbers_below}
 use Rattle.list_weights.proofs.Permutations.{weigh-permutation, same_weights}
 use Rattle.steal_workers.proofs.GatherSteps.{weigh-joined, weigh-map}

@@ -8,9 +8,9 @@ use Rattle.steal_workers.specs.declared.item.Item.{Item}
 use Rattle.steal_workers.specs.declared.share.Share.{Share}
 use Rattle.steal_workers.specs.declared.seat.Stack.{Stack}
 use Rattle.list_weights.specs.Weights.{weigh, only}
-use Rattle.steal_workers.specs.Handles.{is_own}
+use Rattle.steal_workers.specs.inside.Handles.{is_own}
 use Rattle.steal_workers.specs.Deals.{Deal}
-use Rattle.steal_workers.specs.Backs.{own_weight}
+use Rattle.steal_workers.specs.inside.Backs.{own_weight}
 use Rattle.steal_workers.specs.Gathers.{joined, IsShareAt, IsStack, PopsEach, share_taken, stack_taken, all_taken, places}
 use Rattle.list_weights.proofs.Weights.{weigh-append, weigh-set}
 

@@ -8,9 +8,9 @@ use Rattle.list_weights.specs.Places.{EachAt}
 use Rattle.steal_workers.specs.declared.item.Item.{Item}
 use Rattle.steal_workers.specs.declared.deck.Deck.{Deck}
 use Rattle.steal_workers.specs.declared.share.Share.{Share}
-use Rattle.steal_workers.specs.Handles.{deque_of, is_own}
-use Rattle.steal_workers.specs.Shares.{IsShare, dealt_to, taken_from}
-use Rattle.steal_workers.specs.Columns.{IsFresh, IsColumn, AreColumns, IsRow, closed, deck_deque}
+use Rattle.steal_workers.specs.inside.Handles.{deque_of, is_own}
+use Rattle.steal_workers.specs.inside.Shares.{IsShare, dealt_to, taken_from}
+use Rattle.steal_workers.specs.inside.Columns.{IsFresh, IsColumn, AreColumns, IsRow, closed, deck_deque}
 use Rattle.list_weights.proofs.Places.{EachAt-push}
 use Rattle.steal_workers.proofs.DeckSteps.{each_at_set}
 use Rattle.steal_workers.proofs.ColumnSteps.{eq_same}

@@ -4,13 +4,13 @@ use Rattle.std.proofs.lemmas.List.{map_push, get_or_at}
 use Rattle.std.proofs.lemmas.List.Elements.{All-nil, All-cons, All-append}
 use Rattle.steal_workers.specs.declared.seat.Stack.{Stack}
 use Rattle.list_weights.specs.Weights.{weigh}
-use Rattle.steal_workers.specs.Items.{number_weight}
-use Rattle.steal_workers.specs.Shares.{taken_weights}
+use Rattle.steal_workers.specs.inside.Items.{number_weight}
+use Rattle.steal_workers.specs.inside.Shares.{taken_weights}
 use Rattle.steal_workers.specs.Deals.{Deal, IsDealt}
 use Rattle.steal_workers.specs.SeatViews.{SeatView, seat_count, HasMark}
 use Rattle.steal_workers.specs.WholeDeals.{common_deal, IsWholeDeal}
 use Rattle.steal_workers.specs.Gathers.{IsStack, AreOwnMarked, places, all_taken, stack_taken}
-use Rattle.steal_workers.specs.Emptying.{seat_weights}
+use Rattle.steal_workers.specs.inside.Emptying.{seat_weights}
 use Rattle.list_weights.proofs.Weights.{weigh-append}
 
 module _ {T : Type 0} where

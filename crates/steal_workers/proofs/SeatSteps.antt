@@ -7,9 +7,9 @@ use Rattle.steal_workers.specs.declared.seat.Seat.TheInside.{Inside}
 use Rattle.steal_workers.specs.declared.seat.Next.TheVariants.{Task, Empty, Lost}
 use Rattle.steal_workers.specs.declared.item.Item.{Item}
 use Rattle.list_weights.specs.Weights.{weigh, numbers_below}
-use Rattle.steal_workers.specs.Items.{number_weight}
-use Rattle.steal_workers.specs.Handles.{deque_of}
-use Rattle.steal_workers.specs.Shares.{IsShare, dealt_to, is_own_share, is_marked, Moves, taken_weights, Found, AllMarked}
+use Rattle.steal_workers.specs.inside.Items.{number_weight}
+use Rattle.steal_workers.specs.inside.Handles.{deque_of}
+use Rattle.steal_workers.specs.inside.Shares.{IsShare, dealt_to, is_own_share, is_marked, Moves, taken_weights, Found, AllMarked}
 use Rattle.steal_workers.specs.Deals.{IsDealt}
 use Rattle.steal_workers.specs.SeatViews.{IsSameSeat, seat_count}
 use Rattle.steal_workers.specs.Seats.{seat_view, IsSound}

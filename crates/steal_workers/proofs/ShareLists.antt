@@ -8,8 +8,8 @@ use Rattle.steal_workers.specs.declared.item.Item.{Item}
 use Rattle.steal_workers.specs.declared.item.Item.TheVariants.{Task as task_item}
 use Rattle.steal_workers.specs.declared.share.Share.{Share}
 use Rattle.steal_workers.specs.declared.share.Finding.TheVariants.{Task}
-use Rattle.steal_workers.specs.Items.{Stands}
-use Rattle.steal_workers.specs.Shares.{IsShare, Follows, Finds, Moves, dealt_to, is_marked, taken_weight, taken_weights, Found, TookNone}
+use Rattle.steal_workers.specs.inside.Items.{Stands}
+use Rattle.steal_workers.specs.inside.Shares.{IsShare, Follows, Finds, Moves, dealt_to, is_marked, taken_weight, taken_weights, Found, TookNone}
 use Rattle.list_weights.proofs.Weights.{weigh-set}
 use Rattle.steal_workers.proofs.ShareSteps.{stays}
 

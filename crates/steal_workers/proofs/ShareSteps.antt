@@ -6,10 +6,10 @@ use Rattle.steal_workers.specs.declared.hand.Hand.{Hand}
 use Rattle.steal_workers.specs.declared.share.Share.{Share}
 use Rattle.steal_workers.specs.declared.share.Finding.TheVariants.{Lost}
 use Rattle.list_weights.specs.Weights.{weigh, only}
-use Rattle.steal_workers.specs.Items.{marks, mark_weight, number_weight, Stands}
+use Rattle.steal_workers.specs.inside.Items.{marks, mark_weight, number_weight, Stands}
 use Rattle.steal_workers.specs.OneDeque.{Took}
-use Rattle.steal_workers.specs.Handles.{hand_of, is_own, CanTake, IsSameHandle}
-use Rattle.steal_workers.specs.Shares.{IsShare, Follows, Finds, finding_of, is_mark, dealt_to, taken_from, taken_weight}
+use Rattle.steal_workers.specs.inside.Handles.{hand_of, is_own, CanTake, IsSameHandle}
+use Rattle.steal_workers.specs.inside.Shares.{IsShare, Follows, Finds, finding_of, is_mark, dealt_to, taken_from, taken_weight}
 use Rattle.list_weights.proofs.Weights.{weigh-append}
 
 module _ {T : Type 0} where

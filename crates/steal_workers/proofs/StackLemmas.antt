@@ -6,8 +6,8 @@ use Rattle.std.proofs.lemmas.List.{length-map, get_or-map}
 use Rattle.steal_workers.specs.declared.share.Share.{Share}
 use Rattle.steal_workers.specs.declared.seat.Seat.TheInside.{Inside}
 use Rattle.list_weights.specs.Weights.{weigh}
-use Rattle.steal_workers.specs.Handles.{deque_of, is_own}
-use Rattle.steal_workers.specs.Shares.{dealt_to, is_own_share, is_marked, taken_weights}
+use Rattle.steal_workers.specs.inside.Handles.{deque_of, is_own}
+use Rattle.steal_workers.specs.inside.Shares.{dealt_to, is_own_share, is_marked, taken_weights}
 use Rattle.steal_workers.specs.Deals.{IsDealt}
 use Rattle.steal_workers.specs.SeatViews.{SeatView, seat_count, HasMark}
 use Rattle.steal_workers.specs.Seats.{seat_view, IsSound}

@@ -8,7 +8,7 @@ use Rattle.steal_workers.specs.declared.item.Item.{Item}
 use Rattle.steal_workers.specs.declared.item.Item.TheVariants.{Task, Mark}
 use Rattle.steal_workers.specs.declared.hand.Hand.{Hand}
 use Rattle.list_weights.specs.Weights.{weigh}
-use Rattle.steal_workers.specs.Items.{marks, mark_weight, IsAllMarks, MarksLast}
+use Rattle.steal_workers.specs.inside.Items.{marks, mark_weight, IsAllMarks, MarksLast}
 use Rattle.steal_workers.specs.OneDeque.{hand, Fits, IsOneDeque, after_push, after_take, less_one_share, one_share, taken_back, Took}
 use Rattle.list_weights.proofs.Weights.{weigh-append, weigh-set, weigh_part, weigh_two, weigh_alone}
 use Rattle.steal_workers.proofs.Weights.{weigh_level, at_behind}

@@ -2,10 +2,10 @@
 use Rattle.std.proofs.Common.{◌≡◌, ℕ, zero, suc, ◌+◌, ◌<◌, ◌==◌, false, List, [], ◌∷◌, map, length, get_or, All, refl, ap, ◌∙◌, arith}
 use Rattle.steal_workers.specs.declared.share.Share.{Share}
 use Rattle.list_weights.specs.Weights.{weigh}
-use Rattle.steal_workers.specs.Items.{number_weight}
-use Rattle.steal_workers.specs.Handles.{is_own}
-use Rattle.steal_workers.specs.Shares.{IsShare, taken_from, is_own_share, taken_weight, taken_weights}
-use Rattle.steal_workers.specs.Unused.{IsUnused}
+use Rattle.steal_workers.specs.inside.Items.{number_weight}
+use Rattle.steal_workers.specs.inside.Handles.{is_own}
+use Rattle.steal_workers.specs.inside.Shares.{IsShare, taken_from, is_own_share, taken_weight, taken_weights}
+use Rattle.steal_workers.specs.inside.Unused.{IsUnused}
 
 module _ {T : Type 0} where
   nothing : (h : ℕ → ℕ) (xs : List (Share T)) → ((j : ℕ) (e : Share T) → j < length xs → taken_from (get_or xs j e) ≡ []) → taken_weights h xs ≡ 0

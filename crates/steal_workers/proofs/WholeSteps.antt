@@ -8,9 +8,9 @@ use Rattle.steal_workers.specs.declared.item.Item.{Item}
 use Rattle.steal_workers.specs.declared.hand.Hand.{Hand}
 use Rattle.steal_workers.specs.declared.share.Share.{Share}
 use Rattle.list_weights.specs.Weights.{weigh, only}
-use Rattle.steal_workers.specs.Handles.{deque_of, hand_of, is_own}
-use Rattle.steal_workers.specs.Shares.{IsShare, dealt_to, taken_from}
-use Rattle.steal_workers.specs.Backs.{own_weight, IsWholeColumn, IsBack}
+use Rattle.steal_workers.specs.inside.Handles.{deque_of, hand_of, is_own}
+use Rattle.steal_workers.specs.inside.Shares.{IsShare, dealt_to, taken_from}
+use Rattle.steal_workers.specs.inside.Backs.{own_weight, IsWholeColumn, IsBack}
 use Rattle.steal_workers.specs.Gathers.{share_taken}
 use Rattle.list_weights.proofs.Permutations.{weigh-permutation}
 use Rattle.steal_workers.proofs.GatherSteps.{others}

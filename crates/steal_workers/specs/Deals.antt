@@ -5,7 +5,7 @@ use Rattle.atomic_blocks.specs.Lent.{RowsId}
 use Rattle.steal_workers.specs.declared.item.Item.{Item}
 use Rattle.steal_workers.specs.declared.item.Item.TheVariants.{Task}
 use Rattle.list_weights.specs.Weights.{weigh, numbers_below}
-use Rattle.steal_workers.specs.Items.{marks, number_weight, Stands, MarksLast}
+use Rattle.steal_workers.specs.inside.Items.{marks, number_weight, Stands, MarksLast}
 
 -- Which deal it is: its deques, one for each seat, and what was dealt to each. And the dealt tasks, in their order.
 pub record Deal (T : Type 0) : Type 0 where

@@ -9,12 +9,12 @@ use Rattle.steal_workers.specs.declared.share.Share.{Share}
 use Rattle.steal_workers.specs.declared.seat.Stack.{Stack}
 use Rattle.list_weights.specs.Places.{EachAt}
 use Rattle.list_weights.specs.Weights.{weigh, numbers_below}
-use Rattle.steal_workers.specs.Handles.{deque_of, is_own}
-use Rattle.steal_workers.specs.Shares.{IsShare, dealt_to, taken_from}
+use Rattle.steal_workers.specs.inside.Handles.{deque_of, is_own}
+use Rattle.steal_workers.specs.inside.Shares.{IsShare, dealt_to, taken_from}
 use Rattle.steal_workers.specs.Deals.{Deal}
 use Rattle.steal_workers.specs.SeatViews.{SeatView, HasMark}
 use Rattle.steal_workers.specs.WholeDeals.{common_deal}
-use Rattle.steal_workers.specs.TookBack.{numbers_of}
+use Rattle.steal_workers.specs.inside.TookBack.{numbers_of}
 
 -- the lists, one behind the other
 abbrev pub joined : {X : Type 0} → List (List X) → List X

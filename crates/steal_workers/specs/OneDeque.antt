@@ -6,7 +6,7 @@ use Rattle.steal_workers.specs.declared.item.Item.{Item}
 use Rattle.steal_workers.specs.declared.item.Item.TheVariants.{Mark}
 use Rattle.steal_workers.specs.declared.hand.Hand.{Hand}
 use Rattle.list_weights.specs.Weights.{weigh}
-use Rattle.steal_workers.specs.Items.{marks, Stands, MarksLast}
+use Rattle.steal_workers.specs.inside.Items.{marks, Stands, MarksLast}
 
 module _ {T : Type 0} where
   abbrev pub hand : Bool → ℕ → List (Item T) → List (Item T) → Hand T

@@ -3,8 +3,8 @@ use Rattle.std.specs.Prelude.{◌≡◌, ℕ, ◌<◌, ◌≤◌, ◌==◌, fals
 use Rattle.steal_workers.specs.declared.share.Share.{Share}
 use Rattle.steal_workers.specs.declared.seat.Seat.TheInside.{Inside}
 use Rattle.list_weights.specs.Weights.{weigh}
-use Rattle.steal_workers.specs.Handles.{deque_of}
-use Rattle.steal_workers.specs.Shares.{dealt_to, is_own_share, is_marked, IsShare, taken_weights}
+use Rattle.steal_workers.specs.inside.Handles.{deque_of}
+use Rattle.steal_workers.specs.inside.Shares.{dealt_to, is_own_share, is_marked, IsShare, taken_weights}
 use Rattle.steal_workers.specs.Deals.{Deal, IsDealt}
 use Rattle.steal_workers.specs.SeatViews.{SeatView}
 

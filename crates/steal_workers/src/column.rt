@@ -1,10 +1,10 @@
 //! The shares of one deque, one for each seat.
 ghost use Rattle.std.specs.Prelude.{◌≡◌, ℕ, true, ◌==◌, [], ◌∷◌, ◌++◌, ◌+◌, ◌<◌, ◌≤◌, All, length, slice_index_or, vec_len, vec_capacity};
 ghost use Rattle.crossbeam_deque.specs.Handles.{worker_deque, worker_flavor, worker_view, worker_capacity, worker_index};
-ghost use Rattle.steal_workers.specs.Columns.{IsFresh, IsColumn, closed, deck_deque};
-ghost use Rattle.steal_workers.specs.Decks.{IsDeck, IsThiefOf, mark_list, queue_of};
-ghost use Rattle.steal_workers.specs.Handles.{is_own};
-ghost use Rattle.steal_workers.specs.Items.{marks};
+ghost use Rattle.steal_workers.specs.inside.Columns.{IsFresh, IsColumn, closed, deck_deque};
+ghost use Rattle.steal_workers.specs.inside.Decks.{IsDeck, IsThiefOf, mark_list, queue_of};
+ghost use Rattle.steal_workers.specs.inside.Handles.{is_own};
+ghost use Rattle.steal_workers.specs.inside.Items.{marks};
 ghost use Rattle.steal_workers.specs.OneDeque.{hand};
 
 use crate::deck::{Deck, put};

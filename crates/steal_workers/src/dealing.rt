@@ -1,10 +1,10 @@
 //! Dealing tasks over seats.
 ghost use Rattle.std.specs.Prelude.{◌≡◌, ℕ, [], ◌+◌, ◌/◌, ◌<◌, ◌≤◌, ◌^◌, IfOk, IfErr, map, length, vec_len, vec_capacity};
 ghost use Rattle.list_weights.specs.Places.{EachAt};
-ghost use Rattle.steal_workers.specs.Columns.{AreColumns, closed};
+ghost use Rattle.steal_workers.specs.inside.Columns.{AreColumns, closed};
 ghost use Rattle.steal_workers.specs.Deals.{IsDealt};
-ghost use Rattle.steal_workers.specs.Decks.{AreFilling};
-ghost use Rattle.steal_workers.specs.Layouts.{AreFresh, IsEmptyRow, AreEmptyRows, AreFilled, AreSeated, planned};
+ghost use Rattle.steal_workers.specs.inside.Decks.{AreFilling};
+ghost use Rattle.steal_workers.specs.inside.Layouts.{AreFresh, IsEmptyRow, AreEmptyRows, AreFilled, AreSeated, planned};
 ghost use Rattle.steal_workers.specs.Seats.{most_seats};
 ghost use Rattle.steal_workers.specs.WholeDeals.{IsNewDeal};
 

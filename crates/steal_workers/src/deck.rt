@@ -2,8 +2,8 @@
 ghost use Rattle.std.specs.Prelude.{◌≡◌, ℕ, true, ◌+◌, ◌*◌, ◌/◌, ◌<◌, ◌≤◌, ◌^◌, ◌∷◌, [], IfOk, length, vec_len};
 ghost use Rattle.crossbeam_deque.specs.Handles.{worker_deque, worker_flavor, worker_view, worker_capacity, worker_index};
 ghost use Rattle.list_weights.specs.Places.{EachAt};
-ghost use Rattle.steal_workers.specs.Decks.{IsDeck, IsFilling, AreFilling, HasMore, queue_of};
-ghost use Rattle.steal_workers.specs.Items.{marks};
+ghost use Rattle.steal_workers.specs.inside.Decks.{IsDeck, IsFilling, AreFilling, HasMore, queue_of};
+ghost use Rattle.steal_workers.specs.inside.Items.{marks};
 ghost use Rattle.steal_workers.specs.OneDeque.{after_push};
 
 use crate::hand::{Deque, Push, Thief};

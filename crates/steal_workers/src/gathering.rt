@@ -2,16 +2,16 @@
 ghost use Rattle.std.specs.Prelude.{◌≡◌, ℕ, ◌+◌, ◌<◌, ◌≤◌, ◌^◌, ◌++◌, [], ◌∷◌, false, All, IfOk, IfErr, length, map, slice_get, slice_index_or, Some, true, vec_len, vec_capacity};
 ghost use Rattle.crossbeam_deque.specs.Handles.{view, IsPassOf, worker_deque, worker_flavor, worker_view};
 ghost use Rattle.steal_workers.specs.Answers.{FoundNone};
-ghost use Rattle.steal_workers.specs.Backs.{own_weight, IsWholeColumn, IsBack};
+ghost use Rattle.steal_workers.specs.inside.Backs.{own_weight, IsWholeColumn, IsBack};
 ghost use Rattle.steal_workers.specs.Deals.{Deal, IsDealt};
-ghost use Rattle.steal_workers.specs.Emptying.{IsEmptying, seat_weights};
+ghost use Rattle.steal_workers.specs.inside.Emptying.{IsEmptying, seat_weights};
 ghost use Rattle.steal_workers.specs.Gathers.{IsGathered, IsStack, PopsEach, AreOwnMarked, places, all_taken};
 ghost use Rattle.list_weights.specs.Places.{EachAt};
 ghost use Rattle.list_weights.specs.Weights.{weigh};
-ghost use Rattle.steal_workers.specs.Items.{marks, number_weight, Stands, MarksLast};
-ghost use Rattle.steal_workers.specs.Handles.{deque_of, hand_of, is_own, IsFit};
+ghost use Rattle.steal_workers.specs.inside.Items.{marks, number_weight, Stands, MarksLast};
+ghost use Rattle.steal_workers.specs.inside.Handles.{deque_of, hand_of, is_own, IsFit};
 ghost use Rattle.steal_workers.specs.OneDeque.{taken_back};
-ghost use Rattle.steal_workers.specs.TookBack.{Drains, kept};
+ghost use Rattle.steal_workers.specs.inside.TookBack.{Drains, kept};
 ghost use Rattle.steal_workers.specs.SeatViews.{seat_count};
 ghost use Rattle.steal_workers.specs.WholeDeals.{common_deal, IsWholeDeal};
 

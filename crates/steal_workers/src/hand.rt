@@ -43,7 +43,7 @@ pub struct Take;
 
 impl<T> Outcome<Item<T>, Hand<T>> for Take {
     ghost use Rattle.std.specs.Prelude.{◌≤◌};
-    ghost use Rattle.steal_workers.specs.Items.{marks};
+    ghost use Rattle.steal_workers.specs.inside.Items.{marks};
     ghost use Rattle.steal_workers.specs.OneDeque.{Took};
 
     ghost then = { Took };

@@ -1,8 +1,8 @@
 //! One deque of a deal, as a seat holds it.
 ghost use Rattle.std.specs.Prelude.{◌≡◌, ◌<◌, ◌∷◌, [], MatchOption, false};
 ghost use Rattle.crossbeam_deque.specs.Handles.{view, IsPassOf, worker_deque, worker_flavor, worker_view, stealer_deque, stealer_flavor};
-ghost use Rattle.steal_workers.specs.Handles.{hand_of, is_own, CanTake, IsSameHandle};
-ghost use Rattle.steal_workers.specs.Items.{marks};
+ghost use Rattle.steal_workers.specs.inside.Handles.{hand_of, is_own, CanTake, IsSameHandle};
+ghost use Rattle.steal_workers.specs.inside.Items.{marks};
 ghost use Rattle.steal_workers.specs.OneDeque.{Took};
 
 use crate::hand::{Claim, Deque, Take, Thief};

@@ -1,7 +1,7 @@
 //! The shares of one seat, one in each deque.
 ghost use Rattle.std.specs.Prelude.{◌≡◌, [], ◌+◌, ◌<◌, ◌≤◌, length, vec_capacity};
 ghost use Rattle.list_weights.specs.Places.{EachAt};
-ghost use Rattle.steal_workers.specs.Columns.{AreColumns, IsRow};
+ghost use Rattle.steal_workers.specs.inside.Columns.{AreColumns, IsRow};
 
 use crate::deck::Deck;
 use crate::share::Share;

@@ -6,8 +6,8 @@ ghost use Rattle.steal_workers.specs.Gathers.{IsStack};
 ghost use Rattle.list_weights.specs.Weights.{weigh, numbers_below};
 ghost use Rattle.steal_workers.specs.SeatViews.{IsSameSeat, HasMark, seat_count};
 ghost use Rattle.steal_workers.specs.Seats.{most_seats};
-ghost use Rattle.steal_workers.specs.Shares.{is_marked, dealt_to, taken_weights, AllMarked};
-ghost use Rattle.steal_workers.specs.Unused.{IsUnused, unused_view};
+ghost use Rattle.steal_workers.specs.inside.Shares.{is_marked, dealt_to, taken_weights, AllMarked};
+ghost use Rattle.steal_workers.specs.inside.Unused.{IsUnused, unused_view};
 
 use crate::share::Share;
 use crate::sweep::find_among;

@@ -1,6 +1,6 @@
 //! A seat's share in one deque of a deal.
 ghost use Rattle.std.specs.Prelude.{◌≡◌, ◌||◌};
-ghost use Rattle.steal_workers.specs.Shares.{IsShare, Follows, Finds, finding_of, is_mark};
+ghost use Rattle.steal_workers.specs.inside.Shares.{IsShare, Follows, Finds, finding_of, is_mark};
 
 use crate::handle::Handle;
 use crate::item::Item;

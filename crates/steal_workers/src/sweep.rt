@@ -1,6 +1,6 @@
 //! A seat's sweep over the deques of a deal.
 ghost use Rattle.std.specs.Prelude.{◌≡◌, ◌<◌, ◌≤◌, All, map, length, slice_index_or, true, false, MatchOption, IfNone};
-ghost use Rattle.steal_workers.specs.Shares.{IsShare, Moves, Found, TookNone, is_own_share, is_marked};
+ghost use Rattle.steal_workers.specs.inside.Shares.{IsShare, Moves, Found, TookNone, is_own_share, is_marked};
 
 use crate::share::{Finding, Share};
 

@@ -8,7 +8,7 @@ use Rattle.std.proofs.lemmas.Option.{slice_get-get_or, slice_get-map}
 use Rattle.sim_base.specs.declared.address.Ip.{Ip}
 use Rattle.out_text.specs.declared.streams.Stream.{Stream}
 use Rattle.stream_pairs.specs.Directions.{Kept, kept_in, direction, directions}
-use Rattle.stream_pairs.specs.Finding.{Finds, Indexes}
+use Rattle.stream_pairs.specs.inside.Finding.{Finds, Indexes}
 use Rattle.stream_pairs.specs.declared.entries.Pair.{Pair}
 use Rattle.host_sockets.specs.declared.streams.HostStream.{HostStream}
 use Rattle.stream_pairs.specs.declared.kept.KeptStreams.{KeptStreams}

@@ -8,7 +8,7 @@ use Rattle.sim_base.specs.Addresses.{host_at, is_same_ip}
 use Rattle.sim_base.specs.declared.address.Addr.{Addr}
 use Rattle.sim_base.specs.declared.address.Ip.{Ip}
 use Rattle.stream_pairs.specs.Directions.{Kept, is_within, is_between, other_host, unused, kept_at}
-use Rattle.stream_pairs.specs.Finding.{same_pair, Indexes}
+use Rattle.stream_pairs.specs.inside.Finding.{same_pair, Indexes}
 use Rattle.stream_pairs.specs.declared.entries.Pair.{Pair}
 use Rattle.host_sockets.specs.declared.streams.HostStream.{HostStream}
 

@@ -1,2 +1,2 @@
 pub mod Directions
-pub mod Finding
+pub mod inside

@@ -1,7 +1,7 @@
 //! What a host keeps, found by the pair of ends.
 
 ghost use Rattle.std.specs.Prelude.{◌≡◌, IfOk, Option, None, Some, find};
-ghost use Rattle.stream_pairs.specs.Finding.{Finds, pair_of};
+ghost use Rattle.stream_pairs.specs.inside.Finding.{Finds, pair_of};
 
 use host_sockets::HostStream;
 use sim_base::{Addr, NoMemory};

@@ -4,7 +4,7 @@ ghost use Rattle.std.specs.Prelude.{◌≡◌, List, Some, map, slice_get, optio
 ghost use Rattle.stream_pairs.specs.Directions as spec;
 ghost use Rattle.stream_pairs.specs.Directions.{Kept};
 ghost use Rattle.sim_base.specs.declared.address.Ip.{Ip};
-ghost use Rattle.stream_pairs.specs.Finding.{Indexes};
+ghost use Rattle.stream_pairs.specs.inside.Finding.{Indexes};
 
 use crate::entries::Pair;
 use host_sockets::HostStream;

@@ -4,7 +4,7 @@ ghost use Rattle.std.specs.Prelude.{◌≡◌, ◌++◌, ◌≤◌, ◌^◌, Lis
 ghost use Rattle.sim_base.specs.declared.address.Ip.{Ip};
 ghost use Rattle.stream_pairs.specs.Directions as spec;
 ghost use Rattle.stream_pairs.specs.Directions.{Kept, kept_in};
-ghost use Rattle.stream_pairs.specs.Finding.{Indexes};
+ghost use Rattle.stream_pairs.specs.inside.Finding.{Indexes};
 
 use crate::entries::{Pair, entries_of};
 use crate::kept::KeptStreams;

@@ -5,7 +5,7 @@ use Rattle.std.specs.FinSet.{len}
 use Rattle.std.proofs.lemmas.Bool.{lt-ltb}
 use Rattle.elf_load.specs.declared.fault.ElfFault.TheVariants.{Range}
 use Rattle.elf_load.specs.Pages.{first_page, last_page, pages_of}
-use Rattle.elf_load.specs.Layout.{IsListOf}
+use Rattle.elf_load.specs.inside.Layout.{IsListOf}
 use Rattle.elf_load.proofs.Numbers.{set_of}
 use Rattle.elf_load.proofs.Ranges.{listed_already, listed_now, listed_too_many}
 use Rattle.elf_load.proofs.layout.touch.Goals as goal

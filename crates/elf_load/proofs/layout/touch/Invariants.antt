@@ -1,7 +1,7 @@
 use Rattle.std.proofs.Common.{◌≤◌, ◌++◌, ◌-◌, vec_len}
 use Rattle.std.specs.List.{range_with_len}
 use Rattle.elf_load.specs.Pages.{first_page}
-use Rattle.elf_load.specs.Layout.{IsListOf}
+use Rattle.elf_load.specs.inside.Layout.{IsListOf}
 use Rattle.elf_load.proofs.layout.touch.Given as goal
 use Rattle.elf_load.specs.Room.{max_program_pages}
 

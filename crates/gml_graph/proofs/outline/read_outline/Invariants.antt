@@ -1,9 +1,9 @@
 use Rattle.std.proofs.Common.{◌≡◌, length}
 use Rattle.sim_base.specs.Refusals.{◌>>=◌}
 use Rattle.gml_graph.specs.Steps.{through}
-use Rattle.gml_graph.specs.Left.{left}
+use Rattle.gml_graph.specs.inside.Left.{left}
 use Rattle.gml_graph.specs.Outline.{finish}
-use Rattle.gml_graph.specs.Asked.{keep, asked_outline}
+use Rattle.gml_graph.specs.inside.Asked.{keep, asked_outline}
 use Rattle.gml_graph.proofs.outline.read_outline.Given as goal
 
 abbrev pub invariant-loop-lexeme : goal.invariant-loop-lexeme

@@ -1,5 +1,5 @@
 use Rattle.std.proofs.Common.{◌≡◌, ◌+◌, ◌≤◌, ◌-◌, length, drop}
-use Rattle.gml_graph.specs.Scanning.{word_len}
+use Rattle.gml_graph.specs.inside.Scanning.{word_len}
 use Rattle.gml_graph.proofs.scanner.count_word.Given as goal
 
 abbrev pub invariant-loop-count : goal.invariant-loop-count

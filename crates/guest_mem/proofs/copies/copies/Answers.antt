@@ -1,5 +1,5 @@
 use Rattle.std.proofs.Common.{List, [], ◌∷◌, ◌++◌, sym, ap, ◌∙◌, arith}
-use Rattle.guest_mem.specs.Pages.{GuestPage, of_image}
+use Rattle.guest_mem.specs.inside.Pages.{GuestPage, of_image}
 use Rattle.guest_mem.proofs.SlotLemmas.{images-more}
 use Rattle.guest_mem.proofs.copies.copies.Goals as goal
 

@@ -1,6 +1,6 @@
 use Rattle.std.proofs.Common.{◌≡◌, ◌+◌, length, map, take}
-use Rattle.guest_mem.specs.PageStore.{HasRoom, shown}
-use Rattle.guest_mem.specs.Pages.{of_image}
+use Rattle.guest_mem.specs.inside.PageStore.{HasRoom, shown}
+use Rattle.guest_mem.specs.inside.Pages.{of_image}
 use Rattle.guest_mem.proofs.copies.copies.Given as goal
 
 abbrev pub invariant-loop-page : goal.invariant-loop-page

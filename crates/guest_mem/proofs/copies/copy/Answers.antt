@@ -1,7 +1,7 @@
 use Rattle.std.proofs.Common.{ℕ, List, [], ◌∷◌, ◌++◌, length, get_or, sym, ap, ◌∙◌, subst}
 use Rattle.elf_load.specs.declared.page.Page.{Page}
-use Rattle.guest_mem.specs.PageStore.{shown}
-use Rattle.guest_mem.specs.Pages.{GuestPage, IsRewritten, zero_page}
+use Rattle.guest_mem.specs.inside.PageStore.{shown}
+use Rattle.guest_mem.specs.inside.Pages.{GuestPage, IsRewritten, zero_page}
 use Rattle.guest_mem.proofs.SlotLemmas.{length-shown, image_zeros, image_written}
 use Rattle.guest_mem.proofs.copies.copy.Goals as goal
 

@@ -1,8 +1,8 @@
 use Rattle.std.proofs.Common.{ℕ, ◌<◌, List, length, Some, sym, ap, ◌∙◌, arith}
 use Rattle.std.proofs.lemmas.List.{get_or-map, length-map}
 use Rattle.guest_mem.specs.declared.entry.Entry.{Entry}
-use Rattle.guest_mem.specs.PageIndex.{place_in}
-use Rattle.guest_mem.specs.Slots.{entry_numbers}
+use Rattle.guest_mem.specs.inside.PageIndex.{place_in}
+use Rattle.guest_mem.specs.inside.Slots.{entry_numbers}
 use Rattle.guest_mem.proofs.PageLemmas.{known-more}
 use Rattle.guest_mem.proofs.table.known_places.Goals as goal
 

@@ -1,7 +1,7 @@
 use Rattle.std.proofs.Common.{length, ◌-◌}
-use Rattle.guest_mem.specs.PageIndex.{place_in}
-use Rattle.guest_mem.specs.Pages.{AreKnown}
-use Rattle.guest_mem.specs.Slots.{entry_numbers}
+use Rattle.guest_mem.specs.inside.PageIndex.{place_in}
+use Rattle.guest_mem.specs.inside.Pages.{AreKnown}
+use Rattle.guest_mem.specs.inside.Slots.{entry_numbers}
 use Rattle.guest_mem.proofs.table.known_places.Given as goal
 
 abbrev pub invariant-loop-known : goal.invariant-loop-known

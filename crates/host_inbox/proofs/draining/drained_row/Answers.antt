@@ -1,7 +1,7 @@
 use Rattle.std.proofs.Common.{◌≡◌, ◌+◌, ◌*◌, List, Option, Some, None, Vec, vec_len, vec_capacity, sym, refl, subst, ap, ◌∙◌, append-nil, arith}
 use Rattle.std.specs.Mem.Slots.{slots_items, slots_filled, slots_counts}
 use Rattle.std.specs.declared.alloc.Global.{Global}
-use Rattle.host_inbox.specs.Slots.{IsTakenTo, parcels_from, row_of}
+use Rattle.host_inbox.specs.inside.Slots.{IsTakenTo, parcels_from, row_of}
 use Rattle.host_inbox.proofs.DrainSteps.{takes_next, row_next}
 use Rattle.host_inbox.proofs.draining.drained_row.Goals as goal
 use Rattle.host_inbox.proofs.draining.drained_row.Goals.{in-Some, in-None}

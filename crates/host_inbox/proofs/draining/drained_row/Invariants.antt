@@ -1,6 +1,6 @@
 use Rattle.std.proofs.Common.{◌≡◌, ◌+◌, ◌*◌, ◌≤◌, vec_len, vec_capacity}
 use Rattle.std.specs.Mem.Slots.{slots_items, slots_filled, slots_len}
-use Rattle.host_inbox.specs.Slots.{IsTakenTo, parcels_from}
+use Rattle.host_inbox.specs.inside.Slots.{IsTakenTo, parcels_from}
 use Rattle.host_inbox.proofs.draining.drained_row.Given as goal
 
 abbrev pub invariant-loop-number : goal.invariant-loop-number

@@ -3,7 +3,7 @@ use Rattle.std.proofs.lemmas.List.Elements.{All-pop}
 use Rattle.std.specs.Mem.Slots.{slots_items, slots_filled}
 use Rattle.std.specs.declared.alloc.Global.{Global}
 use Rattle.list_weights.specs.Places.{EachAt}
-use Rattle.host_inbox.specs.Slots.{IsRoom, IsTakenTo, row_of}
+use Rattle.host_inbox.specs.inside.Slots.{IsRoom, IsTakenTo, row_of}
 use Rattle.list_weights.proofs.Places.{EachAt-push}
 use Rattle.host_inbox.proofs.draining.drained_rows.Goals as goal
 

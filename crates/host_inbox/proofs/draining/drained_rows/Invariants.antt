@@ -1,7 +1,7 @@
 use Rattle.std.proofs.Common.{◌≡◌, ◌+◌, ◌*◌, ◌≤◌, All, vec_len, vec_capacity}
 use Rattle.std.specs.Mem.Slots.{slots_items, slots_filled, slots_len}
 use Rattle.list_weights.specs.Places.{EachAt}
-use Rattle.host_inbox.specs.Slots.{IsRoom, IsTakenTo, row_of}
+use Rattle.host_inbox.specs.inside.Slots.{IsRoom, IsTakenTo, row_of}
 use Rattle.host_inbox.proofs.draining.drained_rows.Given as goal
 
 abbrev pub invariant-loop-row : goal.invariant-loop-row

@@ -1,5 +1,5 @@
 use Rattle.std.proofs.Common.{◌≡◌, ◌≤◌, All, vec_len, vec_capacity}
-use Rattle.host_inbox.specs.Slots.{IsRoom}
+use Rattle.host_inbox.specs.inside.Slots.{IsRoom}
 use Rattle.host_inbox.proofs.draining.reserved.Given as goal
 
 abbrev pub invariant-loop : goal.invariant-loop

@@ -1,5 +1,5 @@
 use Rattle.std.proofs.Common.{◌≡◌, vec_len}
-use Rattle.host_inbox.specs.Slots.{IsJoining}
+use Rattle.host_inbox.specs.inside.Slots.{IsJoining}
 use Rattle.host_inbox.proofs.joining.joined.Given as goal
 
 abbrev pub invariant-loop-carrier : goal.invariant-loop-carrier

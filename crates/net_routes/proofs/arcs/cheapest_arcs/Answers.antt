@@ -4,7 +4,7 @@ use Rattle.std.proofs.lemmas.List.{take_more, get_or_read}
 use Rattle.net_routes.specs.declared.cost.Cost.{Cost}
 use Rattle.net_routes.specs.declared.arc.Arc.{Arc}
 use Rattle.net_routes.specs.Cost.{nothing, and_then, IsAsGood}
-use Rattle.net_routes.specs.Path.{HasArc, IsBest, then_arc}
+use Rattle.net_routes.specs.inside.Path.{HasArc, IsBest, then_arc}
 use Rattle.net_routes.proofs.ArcLemmas.{found, arcs_more}
 use Rattle.net_routes.proofs.arcs.cheapest_arcs.Goals as goal
 

@@ -1,5 +1,5 @@
 use Rattle.std.proofs.Common.{◌≡◌, length, take}
-use Rattle.net_routes.specs.Path.{HasArc, IsBest}
+use Rattle.net_routes.specs.inside.Path.{HasArc, IsBest}
 use Rattle.net_routes.proofs.ArcLemmas.{found}
 use Rattle.net_routes.proofs.arcs.cheapest_arcs.Given as goal
 

@@ -1,6 +1,6 @@
 use Rattle.std.proofs.Common.{◌≡◌, ◌++◌}
 use Rattle.std.specs.Vec.Iter.{into_iter_items}
-use Rattle.net_routes.specs.Found.{oks, rows_found}
+use Rattle.net_routes.specs.inside.Found.{oks, rows_found}
 use Rattle.net_routes.proofs.finding.add_found.Given as goal
 
 -- what is left completes the whole

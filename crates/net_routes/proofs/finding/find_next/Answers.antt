@@ -2,7 +2,7 @@ use Rattle.std.proofs.Common.{◌≡◌, ℕ, ◌++◌, List, Option, Result, le
 use Rattle.std.proofs.lemmas.Result.{on_ok_weaker, MatchResult-weaker}
 use Rattle.net_routes.specs.declared.cost.Cost.{Cost}
 use Rattle.net_routes.specs.declared.error.RouteError.{RouteError}
-use Rattle.net_routes.specs.Found.{oks, rows_found, most_at_once, AreFound}
+use Rattle.net_routes.specs.inside.Found.{oks, rows_found, most_at_once, AreFound}
 use Rattle.net_routes.proofs.FoundLemmas.{all_made, as_many_oks, found_more, to_search}
 use Rattle.net_routes.proofs.finding.find_next.Goals as goal
 

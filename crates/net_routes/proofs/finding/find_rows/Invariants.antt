@@ -1,5 +1,5 @@
 use Rattle.std.proofs.Common.{◌-◌, length}
-use Rattle.net_routes.specs.Found.{oks, AreFound}
+use Rattle.net_routes.specs.inside.Found.{oks, AreFound}
 use Rattle.net_routes.proofs.finding.find_rows.Given as goal
 
 abbrev pub invariant-loop-rows : goal.invariant-loop-rows

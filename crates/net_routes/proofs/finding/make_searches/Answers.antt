@@ -1,6 +1,6 @@
 use Rattle.std.proofs.Common.{sym, subst}
 use Rattle.net_routes.specs.declared.finding.Search.{Search}
-use Rattle.net_routes.specs.Found.{IsToSearch}
+use Rattle.net_routes.specs.inside.Found.{IsToSearch}
 use Rattle.net_routes.proofs.finding.make_searches.Goals as goal
 
 pub for_each_mut-requires-clause-accepts : goal.for_each_mut-requires-clause-accepts

@@ -1,6 +1,6 @@
 use Rattle.std.proofs.Common.{◌≡◌, ℕ, ◌-◌, List, length, take, drop, min, ap, ◌∙◌}
 use Rattle.std.proofs.lemmas.List.{take_min, take_rest}
-use Rattle.net_routes.specs.Found.{most_at_once}
+use Rattle.net_routes.specs.inside.Found.{most_at_once}
 use Rattle.net_routes.proofs.finding.next_stops.Goals as goal
 
 first : (n : ℕ) (xs ys : List ℕ) → xs ≡ ys → take (min n (length xs)) xs ≡ take n ys

@@ -5,7 +5,7 @@ use Rattle.std.proofs.lemmas.Result.{err_from_is_err_and}
 use Rattle.std.specs.List.Sorted.{IsStrictlyIncreasing}
 use Rattle.net_routes.specs.declared.hop.Hop.{Hop}
 use Rattle.net_routes.specs.Walk.{hops}
-use Rattle.net_routes.specs.Net.{IsNet}
+use Rattle.net_routes.specs.inside.Net.{IsNet}
 use Rattle.net_routes.specs.Routes.{route_at}
 use Rattle.net_routes.proofs.RouteLemmas.{some_route, some_there, stops_of}
 use Rattle.net_routes.proofs.FoundLemmas.{AreRowsFound, refused_in, whole_found, sound_found, table_found}

@@ -2,7 +2,7 @@ use Rattle.std.proofs.Common.{◌≡◌, ◌<◌, Bool, true, false, List, [], l
 use Rattle.std.proofs.lemmas.List.{get_or_read}
 use Rattle.net_routes.specs.declared.cost.Cost.{Cost}
 use Rattle.net_routes.specs.declared.arc.Arc.{Arc}
-use Rattle.net_routes.specs.Path.{HasArc, HasWay, IsBest}
+use Rattle.net_routes.specs.inside.Path.{HasArc, HasWay, IsBest}
 use Rattle.net_routes.proofs.SearchLemmas.{row_arcs}
 use Rattle.net_routes.proofs.ArcLemmas.{found, ways_alone, ways_shortest}
 use Rattle.net_routes.proofs.net.costs_of.Goals as goal

@@ -1,7 +1,7 @@
 use Rattle.std.proofs.Common.{◌≡◌, ◌+◌, ◌<◌, List, [], ◌∷◌, ◌++◌, length, take, get_or, sym, subst, arith}
 use Rattle.std.proofs.lemmas.List.{take_more}
 use Rattle.net_routes.specs.declared.hop.Hop.{Hop}
-use Rattle.net_routes.specs.Net.{IsNet}
+use Rattle.net_routes.specs.inside.Net.{IsNet}
 use Rattle.net_routes.proofs.NetLemmas.{net_more}
 use Rattle.net_routes.proofs.net.rows_of.Goals as goal
 

@@ -3,7 +3,7 @@ use Rattle.std.specs.Prelude.{IsSome}
 use Rattle.std.proofs.lemmas.List.{length_push}
 use Rattle.std.proofs.lemmas.Result.{err_from_is_err_and}
 use Rattle.net_routes.specs.declared.cost.Cost.{Cost}
-use Rattle.net_routes.specs.Net.{cost_to}
+use Rattle.net_routes.specs.inside.Net.{cost_to}
 use Rattle.net_routes.proofs.RouteRowLemmas.{IsRowBelow, row_more, names_lack}
 use Rattle.net_routes.proofs.route_row.row_from.Goals as goal
 

@@ -1,5 +1,5 @@
 use Rattle.std.proofs.Common.{◌≡◌, length}
-use Rattle.net_routes.specs.Net.{cost_to}
+use Rattle.net_routes.specs.inside.Net.{cost_to}
 use Rattle.net_routes.proofs.RouteRowLemmas.{IsRowBelow}
 use Rattle.net_routes.proofs.route_row.row_from.Given as goal
 

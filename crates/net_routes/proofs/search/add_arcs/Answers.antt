@@ -6,8 +6,8 @@ use Rattle.net_routes.specs.declared.arc.Arc.{Arc}
 use Rattle.net_routes.specs.declared.cost.Cost.{Cost}
 use Rattle.net_routes.specs.declared.search.Entry.{Entry}
 use Rattle.net_routes.specs.Cost.{IsAsGood}
-use Rattle.net_routes.specs.Path.{then_arc}
-use Rattle.net_routes.specs.Search.{entry_order, AddsArcs}
+use Rattle.net_routes.specs.inside.Path.{then_arc}
+use Rattle.net_routes.specs.inside.Search.{entry_order, AddsArcs}
 use Rattle.net_routes.proofs.SearchLemmas.{adds_passed, adds_pushed, known_from, less_known}
 use Rattle.net_routes.proofs.search.add_arcs.Goals as goal
 use Rattle.net_routes.proofs.search.add_arcs.Goals.{in-Some+in_ok-push, in_default}

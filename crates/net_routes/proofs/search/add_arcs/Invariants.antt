@@ -1,6 +1,6 @@
 use Rattle.std.proofs.Common.{take}
 use Rattle.std.specs.BinaryHeap.{IsHeap, heap_items}
-use Rattle.net_routes.specs.Search.{entry_order, AddsArcs}
+use Rattle.net_routes.specs.inside.Search.{entry_order, AddsArcs}
 use Rattle.net_routes.proofs.search.add_arcs.Given as goal
 
 abbrev pub invariant-loop-arc : goal.invariant-loop-arc

@@ -5,7 +5,7 @@ use Rattle.std.proofs.lemmas.List.{get_or_read}
 use Rattle.std.proofs.lemmas.List.Elements.{Contains-get_or}
 use Rattle.net_routes.specs.declared.cost.Cost.{Cost}
 use Rattle.net_routes.specs.declared.search.Entry.{Entry}
-use Rattle.net_routes.specs.Search.{IsSearch, AddsArcs}
+use Rattle.net_routes.specs.inside.Search.{IsSearch, AddsArcs}
 use Rattle.net_routes.proofs.SearchLemmas.{nobody, none_counted, search_begun, search_step, left_counts, next_place, row_arcs, written_back, best_empty, best_full}
 use Rattle.net_routes.proofs.search.cheapest_paths.Goals as goal
 

@@ -1,7 +1,7 @@
 use Rattle.std.proofs.Common.{◌≡◌}
 use Rattle.std.specs.Prelude.{is_some, count_by}
 use Rattle.std.specs.BinaryHeap.{IsHeap, heap_items}
-use Rattle.net_routes.specs.Search.{entry_order, IsSearch}
+use Rattle.net_routes.specs.inside.Search.{entry_order, IsSearch}
 use Rattle.net_routes.proofs.search.cheapest_paths.Given as goal
 
 abbrev pub invariant-loop : goal.invariant-loop

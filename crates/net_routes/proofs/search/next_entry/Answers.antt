@@ -5,7 +5,7 @@ use Rattle.std.proofs.lemmas.List.{nil_from_length}
 use Rattle.std.proofs.lemmas.List.Elements.{All-tail}
 use Rattle.std.proofs.lemmas.List.Sorted.{IsPermutation-sym, All-permutation}
 use Rattle.net_routes.specs.declared.search.Entry.{Entry}
-use Rattle.net_routes.specs.Search.{IsSearch}
+use Rattle.net_routes.specs.inside.Search.{IsSearch}
 use Rattle.net_routes.proofs.SearchLemmas.{search_moved, search_passed, first_of, settled_from, unsettled_from}
 use Rattle.net_routes.proofs.search.next_entry.Goals as goal
 

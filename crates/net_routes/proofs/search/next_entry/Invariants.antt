@@ -4,7 +4,7 @@ use Rattle.std.specs.BinaryHeap.{IsHeap, heap_items, heap_len}
 use Rattle.net_routes.specs.declared.arc.Arc.{Arc}
 use Rattle.net_routes.specs.declared.cost.Cost.{Cost}
 use Rattle.net_routes.specs.declared.search.Entry.{Entry}
-use Rattle.net_routes.specs.Search.{entry_order, IsSearch}
+use Rattle.net_routes.specs.inside.Search.{entry_order, IsSearch}
 use Rattle.net_routes.proofs.search.next_entry.Given as goal
 
 abbrev pub invariant-loop-entry : goal.invariant-loop-entry

@@ -6,8 +6,8 @@ use Rattle.atomic_blocks.specs.Lent.{RowsId}
 use Rattle.steal_workers.specs.declared.item.Item.{Item}
 use Rattle.steal_workers.specs.declared.hand.Hand.{Hand}
 use Rattle.steal_workers.specs.declared.share.Share.{Share}
-use Rattle.steal_workers.specs.Handles.{is_own}
-use Rattle.steal_workers.specs.Columns.{IsFresh, IsColumn, closed, deck_deque}
+use Rattle.steal_workers.specs.inside.Handles.{is_own}
+use Rattle.steal_workers.specs.inside.Columns.{IsFresh, IsColumn, closed, deck_deque}
 use Rattle.steal_workers.proofs.ColumnSteps.{column_swapped}
 use Rattle.steal_workers.proofs.column.column.Goals as goal
 

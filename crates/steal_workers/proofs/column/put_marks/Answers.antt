@@ -1,7 +1,7 @@
 use Rattle.std.proofs.Common.{sym, ap, ◌∙◌}
 use Rattle.crossbeam_deque.specs.Handles.{worker_view}
 use Rattle.steal_workers.specs.declared.hand.Hand.{Hand}
-use Rattle.steal_workers.specs.Items.{marks}
+use Rattle.steal_workers.specs.inside.Items.{marks}
 use Rattle.steal_workers.proofs.ColumnSteps.{marks_closed}
 use Rattle.steal_workers.proofs.column.put_marks.Goals as goal
 

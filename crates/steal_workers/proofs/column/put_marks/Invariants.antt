@@ -1,6 +1,6 @@
 use Rattle.std.proofs.Common.{◌≡◌, ◌≤◌, ◌+◌, ◌++◌, true, []}
 use Rattle.crossbeam_deque.specs.Handles.{worker_deque, worker_flavor, worker_view, worker_capacity, worker_index}
-use Rattle.steal_workers.specs.Decks.{mark_list}
+use Rattle.steal_workers.specs.inside.Decks.{mark_list}
 use Rattle.steal_workers.specs.OneDeque.{hand}
 use Rattle.steal_workers.proofs.column.put_marks.Given as goal
 

@@ -8,9 +8,9 @@ use Rattle.list_weights.specs.Places.{EachAt}
 use Rattle.steal_workers.specs.declared.hand.Hand.{Hand}
 use Rattle.steal_workers.specs.declared.share.Share.{Share}
 use Rattle.steal_workers.specs.OneDeque.{hand, less_one_share, one_share}
-use Rattle.steal_workers.specs.Handles.{is_own}
-use Rattle.steal_workers.specs.Decks.{IsThiefOf}
-use Rattle.steal_workers.specs.Columns.{IsFresh}
+use Rattle.steal_workers.specs.inside.Handles.{is_own}
+use Rattle.steal_workers.specs.inside.Decks.{IsThiefOf}
+use Rattle.steal_workers.specs.inside.Columns.{IsFresh}
 use Rattle.list_weights.proofs.Places.{EachAt-push}
 use Rattle.steal_workers.proofs.Steps.{forks}
 use Rattle.steal_workers.proofs.ColumnSteps.{fresh_other, fresh_own, own_last}

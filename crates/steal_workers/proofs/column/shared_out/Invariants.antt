@@ -2,9 +2,9 @@ use Rattle.std.proofs.Common.{◌≡◌, ◌≤◌, ◌+◌, true, false, [], Al
 use Rattle.std.specs.Vec.Iter.{into_iter_items}
 use Rattle.crossbeam_deque.specs.Handles.{worker_deque, worker_flavor, worker_view}
 use Rattle.list_weights.specs.Places.{EachAt}
-use Rattle.steal_workers.specs.Columns.{IsFresh}
-use Rattle.steal_workers.specs.Decks.{IsThiefOf}
-use Rattle.steal_workers.specs.Handles.{is_own}
+use Rattle.steal_workers.specs.inside.Columns.{IsFresh}
+use Rattle.steal_workers.specs.inside.Decks.{IsThiefOf}
+use Rattle.steal_workers.specs.inside.Handles.{is_own}
 use Rattle.steal_workers.specs.OneDeque.{hand}
 use Rattle.steal_workers.proofs.column.shared_out.Given as goal
 

@@ -5,7 +5,7 @@ use Rattle.std.specs.declared.alloc.Global.{Global}
 use Rattle.list_weights.specs.Places.{EachAt}
 use Rattle.steal_workers.specs.declared.deck.Deck.{Deck}
 use Rattle.steal_workers.specs.declared.share.Share.{Share}
-use Rattle.steal_workers.specs.Columns.{IsColumn, closed, deck_deque}
+use Rattle.steal_workers.specs.inside.Columns.{IsColumn, closed, deck_deque}
 use Rattle.list_weights.proofs.Places.{EachAt-push}
 use Rattle.steal_workers.proofs.DeckSteps.{taken_next}
 use Rattle.steal_workers.proofs.dealing.columns_of.Goals as goal

@@ -2,7 +2,7 @@ use Rattle.std.proofs.Common.{◌≡◌, ◌≤◌, ◌++◌, List, length, get_
 use Rattle.std.specs.Vec.Iter.{into_iter_items}
 use Rattle.list_weights.specs.Places.{EachAt}
 use Rattle.steal_workers.specs.declared.deck.Deck.{Deck}
-use Rattle.steal_workers.specs.Columns.{IsColumn, closed, deck_deque}
+use Rattle.steal_workers.specs.inside.Columns.{IsColumn, closed, deck_deque}
 use Rattle.steal_workers.proofs.dealing.columns_of.Given as goal
 
 abbrev pub invariant-loop-deck : goal.invariant-loop-deck

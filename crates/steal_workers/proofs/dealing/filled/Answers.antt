@@ -1,8 +1,8 @@
 use Rattle.std.proofs.Common.{◌≡◌, ◌+◌, ◌/◌, ℕ, List, length, vec_len, ap, sym, ◌∙◌, subst}
 use Rattle.std.proofs.lemmas.List.{with_items_is}
 use Rattle.steal_workers.specs.declared.deck.Deck.{Deck}
-use Rattle.steal_workers.specs.Decks.{AreFilling}
-use Rattle.steal_workers.specs.Layouts.{AreFresh}
+use Rattle.steal_workers.specs.inside.Decks.{AreFilling}
+use Rattle.steal_workers.specs.inside.Layouts.{AreFresh}
 use Rattle.steal_workers.proofs.DealSteps.{fresh_filling}
 use Rattle.steal_workers.proofs.dealing.filled.Goals as goal
 

@@ -4,9 +4,9 @@ use Rattle.std.specs.declared.alloc.Global.{Global}
 use Rattle.steal_workers.specs.declared.deck.Deck.{Deck}
 use Rattle.steal_workers.specs.Deals.{Deal, IsDealt}
 use Rattle.steal_workers.specs.WholeDeals.{IsNewDeal}
-use Rattle.steal_workers.specs.Decks.{AreFilling}
-use Rattle.steal_workers.specs.Columns.{closed, deck_deque}
-use Rattle.steal_workers.specs.Layouts.{AreFilled, planned}
+use Rattle.steal_workers.specs.inside.Decks.{AreFilling}
+use Rattle.steal_workers.specs.inside.Columns.{closed, deck_deque}
+use Rattle.steal_workers.specs.inside.Layouts.{AreFilled, planned}
 use Rattle.steal_workers.proofs.DealSteps.{filled_from_filling, dealt_from_filling, new_deal}
 use Rattle.steal_workers.proofs.dealing.laid_out.Goals as goal
 

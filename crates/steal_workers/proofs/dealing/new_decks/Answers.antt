@@ -1,7 +1,7 @@
 use Rattle.std.proofs.Common.{◌≡◌, ℕ, [], length, sym, subst, arith}
 use Rattle.list_weights.specs.Places.{EachAt}
 use Rattle.steal_workers.specs.declared.deck.Deck.{Deck}
-use Rattle.steal_workers.specs.Decks.{IsFilling, queue_of}
+use Rattle.steal_workers.specs.inside.Decks.{IsFilling, queue_of}
 use Rattle.list_weights.proofs.Places.{EachAt-push}
 use Rattle.steal_workers.proofs.dealing.new_decks.Goals as goal
 

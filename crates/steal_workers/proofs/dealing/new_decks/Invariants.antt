@@ -1,6 +1,6 @@
 use Rattle.std.proofs.Common.{◌≡◌, ◌≤◌, [], vec_len, vec_capacity}
 use Rattle.list_weights.specs.Places.{EachAt}
-use Rattle.steal_workers.specs.Decks.{IsFilling, queue_of}
+use Rattle.steal_workers.specs.inside.Decks.{IsFilling, queue_of}
 use Rattle.steal_workers.proofs.dealing.new_decks.Given as goal
 
 abbrev pub invariant-loop : goal.invariant-loop

@@ -1,7 +1,7 @@
 use Rattle.std.proofs.Common.{[], ◌∷◌, arith}
 use Rattle.std.proofs.lemmas.List.Elements.{All-nil, All-cons, All-append}
 use Rattle.steal_workers.specs.declared.dealing.SeatRow.{SeatRow}
-use Rattle.steal_workers.specs.Layouts.{IsEmptyRow}
+use Rattle.steal_workers.specs.inside.Layouts.{IsEmptyRow}
 use Rattle.steal_workers.proofs.dealing.new_rows.Goals as goal
 
 pub loop-init : goal.loop-init

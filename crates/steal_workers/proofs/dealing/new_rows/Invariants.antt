@@ -1,5 +1,5 @@
 use Rattle.std.proofs.Common.{◌≡◌, ◌≤◌, All, vec_len, vec_capacity}
-use Rattle.steal_workers.specs.Layouts.{IsEmptyRow}
+use Rattle.steal_workers.specs.inside.Layouts.{IsEmptyRow}
 use Rattle.steal_workers.proofs.dealing.new_rows.Given as goal
 
 abbrev pub invariant-loop : goal.invariant-loop

@@ -5,8 +5,8 @@ use Rattle.list_weights.specs.Places.{EachAt}
 use Rattle.steal_workers.specs.declared.dealing.SeatRow.{SeatRow}
 use Rattle.steal_workers.specs.SeatViews.{SeatView}
 use Rattle.steal_workers.specs.WholeDeals.{IsNewSeat}
-use Rattle.steal_workers.specs.Columns.{AreColumns, IsRow}
-use Rattle.steal_workers.specs.Layouts.{IsEmptyRow, planned}
+use Rattle.steal_workers.specs.inside.Columns.{AreColumns, IsRow}
+use Rattle.steal_workers.specs.inside.Layouts.{IsEmptyRow, planned}
 use Rattle.list_weights.proofs.Places.{EachAt-push}
 use Rattle.steal_workers.proofs.DealSteps.{seat_of_row}
 use Rattle.steal_workers.proofs.dealing.seated.Goals as goal

@@ -1,8 +1,8 @@
 use Rattle.std.proofs.Common.{◌≡◌, ◌≤◌, ◌+◌, All, length, vec_len, vec_capacity}
 use Rattle.std.specs.Vec.Iter.{into_iter_items}
 use Rattle.list_weights.specs.Places.{EachAt}
-use Rattle.steal_workers.specs.Columns.{AreColumns}
-use Rattle.steal_workers.specs.Layouts.{IsEmptyRow, AreSeated, planned}
+use Rattle.steal_workers.specs.inside.Columns.{AreColumns}
+use Rattle.steal_workers.specs.inside.Layouts.{IsEmptyRow, AreSeated, planned}
 use Rattle.steal_workers.proofs.dealing.seated.Given as goal
 
 abbrev pub invariant-loop-empty : goal.invariant-loop-empty

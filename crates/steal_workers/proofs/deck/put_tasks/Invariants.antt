@@ -1,6 +1,6 @@
 use Rattle.std.proofs.Common.{◌≡◌, ◌+◌, ◌/◌, ◌++◌, List, length, vec_len}
 use Rattle.std.specs.Vec.Iter.{into_iter_items}
-use Rattle.steal_workers.specs.Decks.{AreFilling}
+use Rattle.steal_workers.specs.inside.Decks.{AreFilling}
 use Rattle.steal_workers.proofs.deck.put_tasks.Given as goal
 
 abbrev pub invariant-loop-task : goal.invariant-loop-task

@@ -2,7 +2,7 @@ use Rattle.std.proofs.Common.{[], refl, sym, ap, ◌∙◌, subst, append-nil, a
 use Rattle.std.proofs.lemmas.List.Elements.{All-nil}
 use Rattle.crossbeam_deque.specs.Handles.{worker_view}
 use Rattle.steal_workers.specs.declared.hand.Hand.{Hand}
-use Rattle.steal_workers.specs.Items.{marks}
+use Rattle.steal_workers.specs.inside.Items.{marks}
 use Rattle.steal_workers.proofs.Steps.{takes_back, finds_all}
 use Rattle.steal_workers.proofs.BackSteps.{More, since_take, more_taken, room_for, nearer}
 use Rattle.steal_workers.proofs.gathering.drain.Goals as goal

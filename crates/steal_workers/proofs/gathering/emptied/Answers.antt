@@ -4,7 +4,7 @@ use Rattle.steal_workers.specs.declared.seat.Stack.{Stack}
 use Rattle.steal_workers.specs.declared.item.Numbered.{Numbered}
 use Rattle.steal_workers.specs.SeatViews.{SeatView}
 use Rattle.steal_workers.specs.Gathers.{IsGathered}
-use Rattle.steal_workers.specs.Emptying.{IsEmptying}
+use Rattle.steal_workers.specs.inside.Emptying.{IsEmptying}
 use Rattle.steal_workers.proofs.EmptySteps.{start, ends}
 use Rattle.steal_workers.proofs.gathering.emptied.Goals as goal
 

@@ -2,7 +2,7 @@ use Rattle.std.proofs.Common.{length, sym, subst, arith}
 use Rattle.crossbeam_deque.specs.Handles.{worker_view}
 use Rattle.steal_workers.specs.Gathers.{AreOwnMarked}
 use Rattle.steal_workers.specs.WholeDeals.{common_deal}
-use Rattle.steal_workers.specs.Items.{MarksLast}
+use Rattle.steal_workers.specs.inside.Items.{MarksLast}
 use Rattle.steal_workers.proofs.GatherSteps.{one_owner}
 use Rattle.steal_workers.proofs.EmptySteps.{whole_column, column_dealt, share_is_marks, drain_room, emptied_one}
 use Rattle.steal_workers.proofs.gathering.empty.Goals as goal

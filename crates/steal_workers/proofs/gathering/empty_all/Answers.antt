@@ -1,5 +1,5 @@
 use Rattle.std.proofs.Common.{ℕ, subst, arith}
-use Rattle.steal_workers.specs.Emptying.{IsEmptying}
+use Rattle.steal_workers.specs.inside.Emptying.{IsEmptying}
 use Rattle.steal_workers.proofs.gathering.empty_all.Goals as goal
 
 pub empty-requires-clause-emptying : goal.empty-requires-clause-emptying

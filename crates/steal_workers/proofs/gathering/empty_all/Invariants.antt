@@ -1,6 +1,6 @@
 use Rattle.std.proofs.Common.{◌≡◌, ◌-◌, ◌≤◌, ◌<◌, [], length, vec_capacity}
 use Rattle.steal_workers.specs.WholeDeals.{common_deal}
-use Rattle.steal_workers.specs.Emptying.{IsEmptying}
+use Rattle.steal_workers.specs.inside.Emptying.{IsEmptying}
 use Rattle.steal_workers.proofs.gathering.empty_all.Given as goal
 
 abbrev pub invariant-loop-done : goal.invariant-loop-done

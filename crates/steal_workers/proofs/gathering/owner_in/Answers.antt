@@ -1,6 +1,6 @@
 use Rattle.std.proofs.Common.{◌≡◌, arith}
 use Rattle.list_weights.specs.Weights.{weigh}
-use Rattle.steal_workers.specs.Backs.{own_weight}
+use Rattle.steal_workers.specs.inside.Backs.{own_weight}
 use Rattle.steal_workers.proofs.GatherSteps.{no_owner}
 use Rattle.steal_workers.proofs.gathering.owner_in.Goals as goal
 

@@ -1,6 +1,6 @@
 use Rattle.std.proofs.Common.{◌≡◌, ◌<◌, ℕ, get_or, false}
 use Rattle.steal_workers.specs.declared.share.Share.{Share}
-use Rattle.steal_workers.specs.Handles.{is_own}
+use Rattle.steal_workers.specs.inside.Handles.{is_own}
 use Rattle.steal_workers.proofs.gathering.owner_in.Given as goal
 
 abbrev pub invariant-loop-place : goal.invariant-loop-place

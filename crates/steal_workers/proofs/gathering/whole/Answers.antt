@@ -7,8 +7,8 @@ use Rattle.crossbeam_deque.specs.Handles.{IsPassOf, worker_deque, worker_view, v
 use Rattle.steal_workers.specs.declared.hand.Hand.{Hand}
 use Rattle.steal_workers.specs.declared.share.Share.{Share}
 use Rattle.list_weights.specs.Weights.{weigh}
-use Rattle.steal_workers.specs.Handles.{deque_of, is_own}
-use Rattle.steal_workers.specs.Shares.{IsShare}
+use Rattle.steal_workers.specs.inside.Handles.{deque_of, is_own}
+use Rattle.steal_workers.specs.inside.Shares.{IsShare}
 use Rattle.steal_workers.specs.Gathers.{share_taken}
 use Rattle.list_weights.proofs.Weights.{weigh-append}
 use Rattle.steal_workers.proofs.Steps.{merges}

@@ -2,8 +2,8 @@ use Rattle.std.proofs.Common.{◌≡◌, ◌+◌, ℕ, true, false, All, length,
 use Rattle.crossbeam_deque.specs.Handles.{worker_deque, worker_flavor, worker_view}
 use Rattle.steal_workers.specs.declared.item.Item.{Item}
 use Rattle.list_weights.specs.Weights.{weigh}
-use Rattle.steal_workers.specs.Handles.{deque_of, is_own}
-use Rattle.steal_workers.specs.Shares.{IsShare}
+use Rattle.steal_workers.specs.inside.Handles.{deque_of, is_own}
+use Rattle.steal_workers.specs.inside.Shares.{IsShare}
 use Rattle.steal_workers.specs.Gathers.{share_taken}
 use Rattle.steal_workers.proofs.gathering.whole.Given as goal
 

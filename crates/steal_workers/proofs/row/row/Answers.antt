@@ -1,7 +1,7 @@
 use Rattle.std.proofs.Common.{◌≡◌, ◌+◌, ◌<◌, ◌++◌, [], ◌∷◌, length, get_or, Vec, refl, sym, subst, arith}
 use Rattle.std.specs.declared.alloc.Global.{Global}
 use Rattle.steal_workers.specs.declared.share.Share.{Share}
-use Rattle.steal_workers.specs.Columns.{IsRow}
+use Rattle.steal_workers.specs.inside.Columns.{IsRow}
 use Rattle.steal_workers.proofs.RowSteps.{columns_after, heights_after, row_more}
 use Rattle.steal_workers.proofs.row.row.Goals as goal
 

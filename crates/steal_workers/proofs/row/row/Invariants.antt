@@ -1,6 +1,6 @@
 use Rattle.std.proofs.Common.{◌≡◌, ◌≤◌, ◌<◌, ◌+◌, length, vec_capacity}
 use Rattle.list_weights.specs.Places.{EachAt}
-use Rattle.steal_workers.specs.Columns.{AreColumns, IsRow}
+use Rattle.steal_workers.specs.inside.Columns.{AreColumns, IsRow}
 use Rattle.steal_workers.proofs.row.row.Given as goal
 
 abbrev pub invariant-loop-deque : goal.invariant-loop-deque

@@ -1,6 +1,6 @@
 use Rattle.std.proofs.Common.{false, sym, ap, ◌∙◌, below_more}
 use Rattle.std.proofs.lemmas.List.{get_or-map}
-use Rattle.steal_workers.specs.Shares.{is_marked}
+use Rattle.steal_workers.specs.inside.Shares.{is_marked}
 use Rattle.steal_workers.proofs.seat.unmarked.Goals as goal
 
 pub loop-deque-preserved : goal.loop-deque-preserved

@@ -1,5 +1,5 @@
 use Rattle.std.proofs.Common.{◌≡◌, ℕ, ◌<◌, get_or, map, true, false}
-use Rattle.steal_workers.specs.Shares.{is_marked}
+use Rattle.steal_workers.specs.inside.Shares.{is_marked}
 use Rattle.steal_workers.proofs.seat.unmarked.Given as goal
 
 abbrev pub invariant-loop-deque : goal.invariant-loop-deque

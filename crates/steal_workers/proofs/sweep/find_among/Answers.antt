@@ -1,7 +1,7 @@
 use Rattle.std.proofs.Common.{◌≡◌, List, length, map, get_or, true, false, MatchOption, IfNone, ap, sym, ◌∙◌, subst}
 use Rattle.std.proofs.lemmas.List.{with_items_is}
 use Rattle.steal_workers.specs.declared.share.Share.{Share}
-use Rattle.steal_workers.specs.Shares.{Moves, Found, TookNone, is_marked}
+use Rattle.steal_workers.specs.inside.Shares.{Moves, Found, TookNone, is_marked}
 use Rattle.steal_workers.proofs.ShareLists.{moves_length}
 use Rattle.steal_workers.proofs.sweep.find_among.Goals as goal
 

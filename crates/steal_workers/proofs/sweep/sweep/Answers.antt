@@ -1,5 +1,5 @@
 use Rattle.std.proofs.Common.{◌≡◌, ℕ, get_or, refl, arith}
-use Rattle.steal_workers.specs.Shares.{taken_weight}
+use Rattle.steal_workers.specs.inside.Shares.{taken_weight}
 use Rattle.steal_workers.proofs.ShareLists.{stays_all, moves_sound, moves_trans, moves_set, none_set, none_trans, found_set, found_after}
 use Rattle.steal_workers.proofs.sweep.sweep.Goals as goal
 use Rattle.steal_workers.proofs.sweep.sweep.Goals.{in-Marked, in-Lost}

@@ -1,4 +1,4 @@
-use Rattle.steal_workers.specs.Shares.{Moves, TookNone}
+use Rattle.steal_workers.specs.inside.Shares.{Moves, TookNone}
 use Rattle.steal_workers.proofs.sweep.sweep.Given as goal
 
 abbrev pub invariant-loop-deque : goal.invariant-loop-deque

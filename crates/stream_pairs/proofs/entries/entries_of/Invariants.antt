@@ -2,7 +2,7 @@ use Rattle.std.proofs.Common.{◌≡◌, ℕ, ◌≤◌, length, drop}
 use Rattle.std.specs.Prelude.{find}
 use Rattle.std.specs.HashMap.{get}
 use Rattle.stream_pairs.specs.Directions.{is_between}
-use Rattle.stream_pairs.specs.Finding.{same_pair}
+use Rattle.stream_pairs.specs.inside.Finding.{same_pair}
 use Rattle.stream_pairs.specs.declared.entries.Pair.{Pair}
 use Rattle.stream_pairs.proofs.entries.entries_of.Given as goal
 

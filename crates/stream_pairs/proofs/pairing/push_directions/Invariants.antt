@@ -1,6 +1,6 @@
 use Rattle.std.proofs.Common.{◌≡◌, ◌++◌, List, map, take, slice_get, Some}
 use Rattle.stream_pairs.specs.Directions.{Kept, kept_in, direction}
-use Rattle.stream_pairs.specs.Finding.{Indexes}
+use Rattle.stream_pairs.specs.inside.Finding.{Indexes}
 use Rattle.stream_pairs.proofs.pairing.push_directions.Given as goal
 
 -- those so far

@@ -3,7 +3,7 @@ use Rattle.std.specs.List.{list_any}
 use Rattle.std.proofs.lemmas.Result.{err_from_is_err_and}
 use Rattle.std.proofs.lemmas.List.Elements.{All-push}
 use Rattle.elf_load.specs.declared.fault.ElfFault.TheVariants.{Overlap}
-use Rattle.elf_load.specs.Layout.{IsPlaced}
+use Rattle.elf_load.specs.inside.Layout.{IsPlaced}
 use Rattle.elf_load.specs.Pages.{share_a_byte}
 use Rattle.elf_load.proofs.Checks.{Passes, fault_of_many, fault_of_few, listed_more, IsFound_along}
 use Rattle.elf_load.proofs.layout.Layout.add.Goals as goal

@@ -1,7 +1,7 @@
 use Rattle.std.proofs.Common.{◌≡◌, [], take, drop}
 use Rattle.elf_load.specs.Elf.{program_headers}
 use Rattle.elf_load.specs.Image.{all_program_header_checks, first_fault}
-use Rattle.elf_load.specs.Layout.{IsSound}
+use Rattle.elf_load.specs.inside.Layout.{IsSound}
 use Rattle.elf_load.specs.Pages.{segments}
 use Rattle.elf_load.proofs.layout.Layout.read.Given as goal
 

@@ -1,5 +1,5 @@
 use Rattle.std.proofs.Common.{◌≡◌, ◌≤◌, length}
-use Rattle.gml_graph.specs.Left.{left}
+use Rattle.gml_graph.specs.inside.Left.{left}
 use Rattle.gml_graph.proofs.scanner.Scanner.next_lexeme.Given as goal
 
 abbrev pub invariant-loop : goal.invariant-loop

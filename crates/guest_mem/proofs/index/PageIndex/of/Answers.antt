@@ -1,9 +1,9 @@
 use Rattle.std.proofs.Common.{◌≡◌, ℕ, ◌+◌, ◌<◌, ◌^◌, Bool, true, false, not, cond, eqb, List, [], ◌∷◌, ◌++◌, length, take, Option, Some, None, refl, sym, ap, ◌∙◌, arith, is_some, subst, vec_len}
 use Rattle.std.proofs.lemmas.List.{take_all}
 use Rattle.guest_mem.specs.declared.entry.Entry.{Entry}
-use Rattle.guest_mem.specs.PageIndex.{Finds}
-use Rattle.guest_mem.specs.Pages.{place_of}
-use Rattle.guest_mem.specs.Slots.{entry_numbers}
+use Rattle.guest_mem.specs.inside.PageIndex.{Finds}
+use Rattle.guest_mem.specs.inside.Pages.{place_of}
+use Rattle.guest_mem.specs.inside.Slots.{entry_numbers}
 use Rattle.guest_mem.specs.declared.index.PageIndex.{PageIndex}
 use Rattle.guest_mem.proofs.PageLemmas.{pushed_known, pushed_new, numbers-more, length-numbers_so_far}
 use Rattle.guest_mem.proofs.index.PageIndex.of.Goals as goal

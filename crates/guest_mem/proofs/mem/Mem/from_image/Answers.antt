@@ -4,8 +4,8 @@ use Rattle.elf_load.specs.declared.page.Page.{Page}
 use Rattle.elf_load.specs.Room.{page_size}
 use Rattle.guest_mem.specs.Break.{with_zeros}
 use Rattle.guest_mem.specs.Opening.{stack_base, stack_pages}
-use Rattle.guest_mem.specs.PageStore.{shown}
-use Rattle.guest_mem.specs.Pages.{zero_pages, mapped_cells}
+use Rattle.guest_mem.specs.inside.PageStore.{shown}
+use Rattle.guest_mem.specs.inside.Pages.{zero_pages, mapped_cells}
 use Rattle.guest_mem.proofs.BreakLemmas.{apart_at_start, cells_at_start, opening_is}
 use Rattle.guest_mem.proofs.mem.Mem.from_image.Goals as goal
 

@@ -4,8 +4,8 @@ use Rattle.guest_mem.specs.Break.{with_zeros, without, pages_to, grown, room_pag
 use Rattle.guest_mem.specs.declared.mem.Mem.TheInside.{Inside}
 use Rattle.guest_mem.proofs.BreakLemmas.{moved_down, moved_up}
 use Rattle.guest_mem.proofs.mem.Mem.grow_break.Goals as goal
-use Rattle.guest_mem.specs.Pages.{mapped_cells}
-use Rattle.guest_mem.specs.PageStore.{shown}
+use Rattle.guest_mem.specs.inside.Pages.{mapped_cells}
+use Rattle.guest_mem.specs.inside.PageStore.{shown}
 use Rattle.guest_mem.proofs.mem.Mem.grow_break.Goals.{then-wanted-standing, else-wanted-standing+else-len-more-gt-PAGE_LIMIT+in_ok-grow}
 use Rattle.elf_load.specs.Room.{page_size}
 

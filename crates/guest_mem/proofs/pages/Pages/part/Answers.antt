@@ -1,7 +1,7 @@
 use Rattle.std.proofs.Common.{◌≡◌, ℕ, ◌+◌, ◌-◌, ◌*◌, ◌≤◌, List, length, get_or, take, drop, sym, ap, ◌∙◌, arith}
 use Rattle.guest_mem.specs.declared.entry.Entry.{Entry}
-use Rattle.guest_mem.specs.Pages.{GuestPage}
-use Rattle.guest_mem.specs.Slots.{slot_bytes}
+use Rattle.guest_mem.specs.inside.Pages.{GuestPage}
+use Rattle.guest_mem.specs.inside.Slots.{slot_bytes}
 use Rattle.guest_mem.proofs.SlotLemmas.{fits_shown, within_entries, get-shown, part-slot}
 use Rattle.guest_mem.proofs.pages.Pages.part.Goals as goal
 use Rattle.elf_load.specs.Room.{page_size}

@@ -2,7 +2,7 @@ use Rattle.std.proofs.Common.{◌≡◌, ◌+◌, List, length, map, take, ap, �
 use Rattle.std.proofs.lemmas.List.{length-map}
 use Rattle.guest_mem.specs.declared.entry.Entry.{Entry}
 use Rattle.guest_mem.specs.declared.pages.Pages.{Pages}
-use Rattle.guest_mem.specs.Slots.{page_of}
+use Rattle.guest_mem.specs.inside.Slots.{page_of}
 use Rattle.guest_mem.proofs.SlotLemmas.{pushed, pushed_kept}
 use Rattle.guest_mem.proofs.pages.Pages.push.Goals as goal
 

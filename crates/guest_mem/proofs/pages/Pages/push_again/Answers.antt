@@ -1,7 +1,7 @@
 use Rattle.std.proofs.Common.{◌≡◌, ℕ, ◌+◌, ◌*◌, ◌<◌, ◌≤◌, ◌⊎◌, inl, inr, List, length, get_or, ap, sym, ◌∙◌, arith, refl, ⊎_elim}
 use Rattle.guest_mem.specs.declared.entry.Entry.{Entry}
 use Rattle.guest_mem.specs.declared.pages.Pages.{Pages}
-use Rattle.guest_mem.specs.Slots.{slots}
+use Rattle.guest_mem.specs.inside.Slots.{slots}
 use Rattle.guest_mem.proofs.SlotLemmas.{again, again_kept, fits_shown, get-slots}
 use Rattle.guest_mem.proofs.pages.Pages.push_again.Goals as goal
 use Rattle.elf_load.specs.Room.{page_size}

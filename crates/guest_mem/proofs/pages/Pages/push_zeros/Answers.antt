@@ -1,8 +1,8 @@
 use Rattle.std.proofs.Common.{◌≡◌, ℕ, ◌+◌, ◌-◌, List, [], ◌∷◌, ◌++◌, sym, ap, ◌∙◌, arith}
 use Rattle.std.proofs.lemmas.List.{append_assoc}
 use Rattle.guest_mem.specs.Break.{zero_cell}
-use Rattle.guest_mem.specs.PageStore.{shown}
-use Rattle.guest_mem.specs.Pages.{GuestPage, zero_page, zero_pages}
+use Rattle.guest_mem.specs.inside.PageStore.{shown}
+use Rattle.guest_mem.specs.inside.Pages.{GuestPage, zero_page, zero_pages}
 use Rattle.guest_mem.proofs.HeapLemmas.{zero_pages-more}
 use Rattle.guest_mem.proofs.pages.Pages.push_zeros.Goals as goal
 

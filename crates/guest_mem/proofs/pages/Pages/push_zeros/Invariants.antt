@@ -1,6 +1,6 @@
 use Rattle.std.proofs.Common.{◌≡◌, ◌+◌, ◌-◌, ◌++◌}
-use Rattle.guest_mem.specs.PageStore.{HasRoom, shown}
-use Rattle.guest_mem.specs.Pages.{zero_pages}
+use Rattle.guest_mem.specs.inside.PageStore.{HasRoom, shown}
+use Rattle.guest_mem.specs.inside.Pages.{zero_pages}
 use Rattle.guest_mem.proofs.pages.Pages.push_zeros.Given as goal
 
 abbrev pub invariant-loop-number : goal.invariant-loop-number

@@ -2,7 +2,7 @@ use Rattle.std.proofs.Common.{◌≡◌, ℕ, ◌+◌, ◌*◌, ◌/◌, ◌<◌
 use Rattle.std.proofs.lemmas.List.{get_or_default}
 use Rattle.guest_mem.specs.declared.entry.Entry.{Entry}
 use Rattle.guest_mem.specs.declared.pages.Pages.{Pages}
-use Rattle.guest_mem.specs.Slots.{slots}
+use Rattle.guest_mem.specs.inside.Slots.{slots}
 use Rattle.guest_mem.proofs.SlotLemmas.{taken-le, taken-lt, taken_same, taken_kept, slot-set, within_entries}
 use Rattle.guest_mem.proofs.pages.Pages.take_slot.Goals as goal
 use Rattle.elf_load.specs.Room.{page_size}

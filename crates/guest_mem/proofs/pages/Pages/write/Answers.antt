@@ -1,8 +1,8 @@
 use Rattle.std.proofs.Common.{◌≡◌, ℕ, ◌+◌, ◌*◌, ◌<◌, ◌≤◌, ◌⊎◌, inl, inr, List, length, map, take, get_or, ap, sym, ◌∙◌, arith, subst, ⊎_elim}
 use Rattle.guest_mem.specs.declared.pages.Pages.{Pages}
-use Rattle.guest_mem.specs.PageStore.{HasRoom}
-use Rattle.guest_mem.specs.Pages.{GuestPage, IsRewritten}
-use Rattle.guest_mem.specs.Slots.{page_of}
+use Rattle.guest_mem.specs.inside.PageStore.{HasRoom}
+use Rattle.guest_mem.specs.inside.Pages.{GuestPage, IsRewritten}
+use Rattle.guest_mem.specs.inside.Slots.{page_of}
 use Rattle.guest_mem.proofs.SlotLemmas.{written}
 use Rattle.guest_mem.proofs.pages.Pages.write.Goals as goal
 use Rattle.elf_load.specs.Room.{page_size}

@@ -4,8 +4,8 @@ use Rattle.elf_load.specs.Cells.{Cells}
 use Rattle.guest_mem.specs.declared.right.Right.TheVariants.{Write}
 use Rattle.guest_mem.specs.Memory.{bytes_for, put_all}
 use Rattle.guest_mem.proofs.CellLemmas.{part_open_after, put_more}
-use Rattle.guest_mem.specs.Pages.{mapped_cells}
-use Rattle.guest_mem.specs.PageStore.{shown}
+use Rattle.guest_mem.specs.inside.Pages.{mapped_cells}
+use Rattle.guest_mem.specs.inside.PageStore.{shown}
 use Rattle.guest_mem.proofs.table.PageTable.copy_in.Goals as goal
 
 pub unreachable-requires : goal.unreachable-requires

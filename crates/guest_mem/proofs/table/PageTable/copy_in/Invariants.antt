@@ -1,9 +1,9 @@
 use Rattle.std.proofs.Common.{◌≡◌, ◌+◌, ◌-◌, ◌^◌, ◌≤◌, ℕ, List, length, take}
 use Rattle.guest_mem.specs.Memory.{put_all}
-use Rattle.guest_mem.specs.PageTable.{IsSameShape}
+use Rattle.guest_mem.specs.inside.PageTable.{IsSameShape}
 use Rattle.guest_mem.specs.declared.table.PageTable.{PageTable}
-use Rattle.guest_mem.specs.Pages.{mapped_cells}
-use Rattle.guest_mem.specs.PageStore.{shown}
+use Rattle.guest_mem.specs.inside.Pages.{mapped_cells}
+use Rattle.guest_mem.specs.inside.PageStore.{shown}
 use Rattle.guest_mem.proofs.table.PageTable.copy_in.Given as goal
 
 -- the bytes so far are put

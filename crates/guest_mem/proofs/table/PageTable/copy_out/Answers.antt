@@ -2,8 +2,8 @@ use Rattle.std.proofs.Common.{◌≡◌, ℕ, ◌+◌, ◌-◌, ◌≤◌, ◌++
 use Rattle.std.proofs.lemmas.Slice.{take-put_mid}
 use Rattle.elf_load.specs.Cells.{Cells}
 use Rattle.guest_mem.proofs.CellLemmas.{bytes_for-append, part_open, length-put_mid}
-use Rattle.guest_mem.specs.Pages.{mapped_cells}
-use Rattle.guest_mem.specs.PageStore.{shown}
+use Rattle.guest_mem.specs.inside.Pages.{mapped_cells}
+use Rattle.guest_mem.specs.inside.PageStore.{shown}
 use Rattle.guest_mem.proofs.table.PageTable.copy_out.Goals as goal
 
 pub unreachable-requires : goal.unreachable-requires

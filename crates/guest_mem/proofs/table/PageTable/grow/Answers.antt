@@ -1,8 +1,8 @@
 use Rattle.std.proofs.Common.{◌≡◌, ℕ, ◌+◌, ◌-◌, List, ◌++◌, length, take, sym, ap, ◌∙◌, arith, subst}
 use Rattle.std.proofs.lemmas.List.{map-append, take-append-le}
-use Rattle.guest_mem.specs.PageIndex.{place_in}
-use Rattle.guest_mem.specs.PageStore.{shown}
-use Rattle.guest_mem.specs.Pages.{GuestPage, AreKnown, mapped_cells, numbers, zero_pages}
+use Rattle.guest_mem.specs.inside.PageIndex.{place_in}
+use Rattle.guest_mem.specs.inside.PageStore.{shown}
+use Rattle.guest_mem.specs.inside.Pages.{GuestPage, AreKnown, mapped_cells, numbers, zero_pages}
 use Rattle.guest_mem.proofs.HeapLemmas.{table-with_zeros, place_of-above, cells-grown, zero_pages-are}
 use Rattle.guest_mem.proofs.SlotLemmas.{length-numbers}
 use Rattle.guest_mem.proofs.table.PageTable.grow.Goals as goal

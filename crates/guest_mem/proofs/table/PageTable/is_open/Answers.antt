@@ -2,8 +2,8 @@ use Rattle.std.proofs.Common.{◌≡◌, ℕ, ◌+◌, ◌-◌, ◌^◌, ◌<◌
 use Rattle.guest_mem.specs.Memory.{bytes_for}
 use Rattle.guest_mem.proofs.CellLemmas.{bytes_for-none, open_more, open_stops}
 use Rattle.guest_mem.proofs.PageLemmas.{byte_for-past}
-use Rattle.guest_mem.specs.Pages.{mapped_cells}
-use Rattle.guest_mem.specs.PageStore.{shown}
+use Rattle.guest_mem.specs.inside.Pages.{mapped_cells}
+use Rattle.guest_mem.specs.inside.PageStore.{shown}
 use Rattle.guest_mem.proofs.SlotLemmas.{shown_below}
 use Rattle.guest_mem.proofs.table.PageTable.is_open.Goals as goal
 

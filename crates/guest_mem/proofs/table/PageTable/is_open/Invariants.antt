@@ -2,8 +2,8 @@ use Rattle.std.proofs.Common.{◌+◌, ◌-◌, ◌^◌, ◌≤◌, ℕ, IsSome}
 use Rattle.elf_load.specs.Cells.{Cells}
 use Rattle.guest_mem.specs.declared.right.Right.{Right}
 use Rattle.guest_mem.specs.Memory.{bytes_for}
-use Rattle.guest_mem.specs.Pages.{mapped_cells}
-use Rattle.guest_mem.specs.PageStore.{shown}
+use Rattle.guest_mem.specs.inside.Pages.{mapped_cells}
+use Rattle.guest_mem.specs.inside.PageStore.{shown}
 use Rattle.guest_mem.proofs.table.PageTable.is_open.Given as goal
 
 -- the addresses so far are mapped with the right

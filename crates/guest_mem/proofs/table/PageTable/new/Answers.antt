@@ -1,9 +1,9 @@
 use Rattle.std.proofs.Common.{◌≡◌, ℕ, List, length, sym, ap, subst, ◌∙◌, arith}
 use Rattle.std.proofs.lemmas.List.{take_all}
-use Rattle.guest_mem.specs.PageIndex.{place_in}
-use Rattle.guest_mem.specs.PageStore.{shown}
-use Rattle.guest_mem.specs.Pages.{AreKnown, numbers, place_of}
-use Rattle.guest_mem.specs.Slots.{entry_numbers}
+use Rattle.guest_mem.specs.inside.PageIndex.{place_in}
+use Rattle.guest_mem.specs.inside.PageStore.{shown}
+use Rattle.guest_mem.specs.inside.Pages.{AreKnown, numbers, place_of}
+use Rattle.guest_mem.specs.inside.Slots.{entry_numbers}
 use Rattle.guest_mem.proofs.HeapLemmas.{table-new}
 use Rattle.guest_mem.proofs.SlotLemmas.{length-numbers, numbers-entries}
 use Rattle.guest_mem.proofs.table.PageTable.new.Goals as goal

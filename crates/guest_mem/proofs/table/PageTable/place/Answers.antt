@@ -1,10 +1,10 @@
 use Rattle.std.proofs.Common.{◌≡◌, ℕ, ◌+◌, ◌-◌, ◌%◌, ◌^◌, ◌<◌, ◌≤◌, List, length, sym, inl, inr, ◌⊎◌, ⊎_elim, ◌∙◌, arith}
 use Rattle.std.proofs.lemmas.Bool.{cases_lt}
 use Rattle.guest_mem.specs.Break.{room_pages}
-use Rattle.guest_mem.specs.PageIndex.{place_in}
-use Rattle.guest_mem.specs.Pages.{numbers}
+use Rattle.guest_mem.specs.inside.PageIndex.{place_in}
+use Rattle.guest_mem.specs.inside.Pages.{numbers}
 use Rattle.guest_mem.proofs.PageLemmas.{place_of-heap, place_of-fixed}
-use Rattle.guest_mem.specs.PageStore.{shown}
+use Rattle.guest_mem.specs.inside.PageStore.{shown}
 use Rattle.guest_mem.proofs.SlotLemmas.{length-numbers}
 use Rattle.guest_mem.proofs.table.PageTable.place.Goals as goal
 

@@ -1,9 +1,9 @@
 use Rattle.std.proofs.Common.{◌≡◌, ℕ, ◌/◌, ◌%◌, ◌<◌, true, false, List, length, get_or, set, take, Some, None, refl, sym, ap, ◌∙◌, arith, subst}
 use Rattle.guest_mem.specs.declared.right.Right.TheVariants.{Write}
 use Rattle.guest_mem.specs.Memory.{permits}
-use Rattle.guest_mem.specs.PageIndex.{place_in}
-use Rattle.guest_mem.specs.PageStore.{shown}
-use Rattle.guest_mem.specs.Pages.{GuestPage, AreKnown, IsPageTable, numbers, place_of, mapped_cells}
+use Rattle.guest_mem.specs.inside.PageIndex.{place_in}
+use Rattle.guest_mem.specs.inside.PageStore.{shown}
+use Rattle.guest_mem.specs.inside.Pages.{GuestPage, AreKnown, IsPageTable, numbers, place_of, mapped_cells}
 use Rattle.guest_mem.proofs.PageLemmas.{place_of-in, within-some, within-denied, within-none, numbers-put, cells-put}
 use Rattle.guest_mem.proofs.SlotLemmas.{length-numbers, blank, length-shown_page, rewritten-set}
 use Rattle.guest_mem.proofs.table.PageTable.put_within.Goals as goal

@@ -1,10 +1,10 @@
 use Rattle.std.proofs.Common.{◌≡◌, ℕ, ◌+◌, ◌-◌, ◌*◌, ◌≤◌, List, length, take, sym, ap, ◌∙◌, arith, subst}
 use Rattle.std.proofs.lemmas.List.{take-map, take-take}
 use Rattle.guest_mem.specs.Break.{without}
-use Rattle.guest_mem.specs.PageIndex.{place_in}
-use Rattle.guest_mem.specs.Pages.{mapped_cells, GuestPage, AreKnown, IsPageTable, numbers}
+use Rattle.guest_mem.specs.inside.PageIndex.{place_in}
+use Rattle.guest_mem.specs.inside.Pages.{mapped_cells, GuestPage, AreKnown, IsPageTable, numbers}
 use Rattle.guest_mem.proofs.HeapLemmas.{table-shrunk, cells-shrunk}
-use Rattle.guest_mem.specs.PageStore.{shown}
+use Rattle.guest_mem.specs.inside.PageStore.{shown}
 use Rattle.guest_mem.proofs.SlotLemmas.{length-numbers, length-shown}
 use Rattle.guest_mem.proofs.table.PageTable.shrink.Goals as goal
 use Rattle.elf_load.specs.Room.{page_size}

@@ -1,7 +1,7 @@
 use Rattle.std.proofs.Common.{◌≡◌, ◌/◌, ◌<◌, true, false, List, get_or, Some, None, sym, ap, ◌∙◌, arith}
 use Rattle.guest_mem.specs.Memory.{permits}
-use Rattle.guest_mem.specs.PageStore.{shown}
-use Rattle.guest_mem.specs.Pages.{GuestPage, numbers, place_of}
+use Rattle.guest_mem.specs.inside.PageStore.{shown}
+use Rattle.guest_mem.specs.inside.Pages.{GuestPage, numbers, place_of}
 use Rattle.guest_mem.proofs.PageLemmas.{place_of-in, within-some, within-denied, within-none}
 use Rattle.guest_mem.proofs.SlotLemmas.{length-numbers, blank, length-shown_page}
 use Rattle.guest_mem.proofs.table.PageTable.within_page.Goals as goal

@@ -3,9 +3,9 @@ use Rattle.std.proofs.lemmas.Result.{IfOk-weaker}
 use Rattle.net_routes.specs.declared.cost.Cost.{Cost}
 use Rattle.net_routes.specs.declared.arc.Arc.{Arc}
 use Rattle.net_routes.specs.Walk.{Goes}
-use Rattle.net_routes.specs.Places.{place_of}
-use Rattle.net_routes.specs.Path.{AreArcs, IsBest}
-use Rattle.net_routes.specs.Net.{IsNet, cost_to}
+use Rattle.net_routes.specs.inside.Places.{place_of}
+use Rattle.net_routes.specs.inside.Path.{AreArcs, IsBest}
+use Rattle.net_routes.specs.inside.Net.{IsNet, cost_to}
 use Rattle.net_routes.proofs.PlaceLemmas.{place_at}
 use Rattle.net_routes.proofs.NetLemmas.{net_best, net_alone}
 use Rattle.net_routes.proofs.net.Net.costs_from.Goals as goal

@@ -2,7 +2,7 @@ use Rattle.std.proofs.Common.{◌≡◌, List, ℕ, ◌<◌, length, get_or, ◌
 use Rattle.std.specs.List.Sorted.{IsBinarySearchResult}
 use Rattle.std.specs.Ordering.{nat_cmp}
 use Rattle.std.proofs.lemmas.List.{get_or_read}
-use Rattle.net_routes.specs.Places.{place_of}
+use Rattle.net_routes.specs.inside.Places.{place_of}
 use Rattle.net_routes.proofs.PlaceLemmas.{place_found, searched_place}
 use Rattle.net_routes.proofs.node_ids.NodeIds.find.Goals as goal
 

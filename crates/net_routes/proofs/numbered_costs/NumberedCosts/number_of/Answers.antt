@@ -2,7 +2,7 @@ use Rattle.std.proofs.Common.{◌≡◌, ℕ, List, [], ◌∷◌, ◌++◌, len
 use Rattle.std.specs.HashMap.{get}
 use Rattle.std.specs.Option.{option_eq}
 use Rattle.net_routes.specs.declared.cost.Cost.{Cost}
-use Rattle.net_routes.specs.Numbers.{same_cost, AreNumbers}
+use Rattle.net_routes.specs.inside.Numbers.{same_cost, AreNumbers}
 use Rattle.net_routes.proofs.NumberLemmas.{get_end, keep_more, numbers_kept, numbers_more}
 use Rattle.net_routes.proofs.numbered_costs.NumberedCosts.number_of.Goals as goal
 

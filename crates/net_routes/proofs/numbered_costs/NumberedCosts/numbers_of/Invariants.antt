@@ -1,5 +1,5 @@
 use Rattle.std.proofs.Common.{take}
-use Rattle.net_routes.specs.Numbers.{KeepNumbers}
+use Rattle.net_routes.specs.inside.Numbers.{KeepNumbers}
 use Rattle.net_routes.proofs.NumberLemmas.{AreNumbersOf}
 use Rattle.net_routes.proofs.numbered_costs.NumberedCosts.numbers_of.Given as goal
 

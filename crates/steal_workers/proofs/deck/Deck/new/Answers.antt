@@ -2,8 +2,8 @@ use Rattle.std.proofs.Common.{◌≡◌, ◌*◌, [], ◌∷◌, ap, sym, ◌∙
 use Rattle.std.proofs.lemmas.List.Elements.{All-nil, All-cons, All-append}
 use Rattle.crossbeam_deque.specs.Handles.{worker_deque, worker_index}
 use Rattle.steal_workers.specs.declared.hand.Hand.{Hand}
-use Rattle.steal_workers.specs.Items.{marks}
-use Rattle.steal_workers.specs.Decks.{IsThiefOf}
+use Rattle.steal_workers.specs.inside.Items.{marks}
+use Rattle.steal_workers.specs.inside.Decks.{IsThiefOf}
 use Rattle.steal_workers.proofs.Steps.{begins}
 use Rattle.steal_workers.proofs.deck.Deck.new.Goals as goal
 

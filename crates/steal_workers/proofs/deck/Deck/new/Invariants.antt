@@ -1,6 +1,6 @@
 use Rattle.std.proofs.Common.{◌≡◌, ◌≤◌, ◌+◌, All, vec_len, vec_capacity}
 use Rattle.crossbeam_deque.specs.Handles.{worker_deque}
-use Rattle.steal_workers.specs.Decks.{IsThiefOf}
+use Rattle.steal_workers.specs.inside.Decks.{IsThiefOf}
 use Rattle.steal_workers.proofs.deck.Deck.new.Given as goal
 
 abbrev pub invariant-loop : goal.invariant-loop

@@ -1,7 +1,7 @@
 use Rattle.std.proofs.Common.{◌≡◌, ◌<◌, List, length, map, get_or, false, refl, sym, ap, ◌∙◌, subst, arith}
 use Rattle.steal_workers.specs.declared.share.Share.{Share}
 use Rattle.steal_workers.specs.declared.seat.Seat.TheInside.{Inside}
-use Rattle.steal_workers.specs.Shares.{is_marked, AllMarked}
+use Rattle.steal_workers.specs.inside.Shares.{is_marked, AllMarked}
 use Rattle.steal_workers.proofs.ShareLists.{moves_length}
 use Rattle.steal_workers.proofs.SeatSteps.{sound_after, same_after, numbers_after, place_within, numbers_once, answers_task, answers_empty, answers_lost}
 use Rattle.steal_workers.proofs.seat.Seat.next.Goals as goal

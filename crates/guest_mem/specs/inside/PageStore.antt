@@ -1,8 +1,8 @@
 -- What the pages of a guest are, and how many more there is room for.
 use Rattle.std.specs.Prelude.{ℕ, ◌+◌, ◌*◌, ◌≤◌, List, map, take, vec_capacity}
 use Rattle.guest_mem.specs.declared.pages.Pages.{Pages}
-use Rattle.guest_mem.specs.Pages.{GuestPage}
-use Rattle.guest_mem.specs.Slots.{page_of}
+use Rattle.guest_mem.specs.inside.Pages.{GuestPage}
+use Rattle.guest_mem.specs.inside.Slots.{page_of}
 use Rattle.elf_load.specs.Room.{page_size}
 
 -- the pages by place; entries past their count are of pages that were unmapped

@@ -6,7 +6,7 @@ use Rattle.crossbeam_deque.specs.Handles.{view, IsPassOf, worker_deque, worker_f
 use Rattle.steal_workers.specs.declared.hand.Hand.{Hand}
 use Rattle.steal_workers.specs.declared.handle.Handle.{Handle}
 use Rattle.steal_workers.specs.declared.handle.Handle.TheVariants.{Own, Other}
-use Rattle.steal_workers.specs.Items.{marks}
+use Rattle.steal_workers.specs.inside.Items.{marks}
 
 module _ {T : Type 0} where
   -- which deque it is

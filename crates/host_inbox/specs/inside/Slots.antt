@@ -11,7 +11,7 @@ use Rattle.host_inbox.specs.declared.rule.Known.{Known}
 use Rattle.list_weights.specs.Weights.{numbers_below}
 use Rattle.host_inbox.specs.Entries.{inbox_places, place_of}
 use Rattle.host_inbox.specs.Inboxes.{known}
-use Rattle.host_inbox.specs.Carriers.{filed}
+use Rattle.host_inbox.specs.inside.Carriers.{filed}
 use Rattle.host_inbox.specs.CarrierViews.{CarrierView}
 use Rattle.host_inbox.specs.Drains.{all_entries, numbers_of}
 

@@ -9,7 +9,7 @@ use Rattle.net_routes.specs.declared.cost.Cost.{Cost}
 use Rattle.net_routes.specs.declared.arc.Arc.{Arc}
 use Rattle.net_routes.specs.declared.search.Entry.{Entry}
 use Rattle.net_routes.specs.Cost.{nothing, IsAsGood}
-use Rattle.net_routes.specs.Path.{Leaves, then_arc, HasPath}
+use Rattle.net_routes.specs.inside.Path.{Leaves, then_arc, HasPath}
 
 -- the place was left, at this cost
 abbrev pub IsSettled : List (Option Cost) → ℕ → Cost → Type 0

@@ -6,8 +6,8 @@ use Rattle.steal_workers.specs.declared.share.Share.{Share}
 use Rattle.steal_workers.specs.declared.share.Finding.{Finding}
 use Rattle.steal_workers.specs.declared.share.Finding.TheVariants.{Task, Marked, Lost}
 use Rattle.list_weights.specs.Weights.{weigh, only}
-use Rattle.steal_workers.specs.Items.{marks, number_weight, Stands}
-use Rattle.steal_workers.specs.Handles.{deque_of, hand_of, is_own, IsFit}
+use Rattle.steal_workers.specs.inside.Items.{marks, number_weight, Stands}
+use Rattle.steal_workers.specs.inside.Handles.{deque_of, hand_of, is_own, IsFit}
 
 module _ {T : Type 0} where
   -- what was dealt to the deque

@@ -7,10 +7,10 @@ use Rattle.net_routes.specs.declared.finding.Search.{Search}
 use Rattle.net_routes.specs.declared.net.Net.{Net}
 use Rattle.net_routes.specs.declared.hop.Hop.{Hop}
 use Rattle.net_routes.specs.Walk.{Goes}
-use Rattle.net_routes.specs.Path.{AreArcs, IsBest}
+use Rattle.net_routes.specs.inside.Path.{AreArcs, IsBest}
 use Rattle.net_routes.specs.Needed.{IsAt}
-use Rattle.net_routes.specs.Net.{IsNet}
-use Rattle.net_routes.specs.RouteRows.{IsRouteRow, NamesLack}
+use Rattle.net_routes.specs.inside.Net.{IsNet}
+use Rattle.net_routes.specs.inside.RouteRows.{IsRouteRow, NamesLack}
 
 -- the most places of a net; nodes are fewer
 abbrev pub most_places : ℕ

@@ -7,9 +7,9 @@ use Rattle.list_weights.specs.Places.{EachAt}
 use Rattle.steal_workers.specs.declared.item.Item.{Item}
 use Rattle.steal_workers.specs.declared.deck.Deck.{Deck}
 use Rattle.steal_workers.specs.declared.share.Share.{Share}
-use Rattle.steal_workers.specs.Handles.{deque_of, is_own}
-use Rattle.steal_workers.specs.Shares.{IsShare, dealt_to, taken_from}
-use Rattle.steal_workers.specs.Decks.{mark_list, queue_of}
+use Rattle.steal_workers.specs.inside.Handles.{deque_of, is_own}
+use Rattle.steal_workers.specs.inside.Shares.{IsShare, dealt_to, taken_from}
+use Rattle.steal_workers.specs.inside.Decks.{mark_list, queue_of}
 
 module _ {T : Type 0} where
   -- what is dealt to a deck once the end marks of n seats stand behind its tasks

@@ -2,7 +2,7 @@
 use Rattle.std.specs.Prelude.{◌≡◌, ℕ, zero, suc, ◌+◌, ◌*◌, ◌<◌, ◌≤◌, List, [], ◌∷◌, map, length, take, drop, slice_index}
 use Rattle.guest_mem.specs.declared.entry.Entry.{Entry}
 use Rattle.guest_mem.specs.Break.{max_pages}
-use Rattle.guest_mem.specs.Pages.{GuestPage}
+use Rattle.guest_mem.specs.inside.Pages.{GuestPage}
 use Rattle.elf_load.specs.Room.{page_size}
 
 -- the bytes of a slot

@@ -2,8 +2,8 @@
 use Rattle.std.specs.Prelude.{◌≡◌, ℕ, ◌==◌, false, List, [], map}
 use Rattle.list_weights.specs.Places.{EachAt}
 use Rattle.steal_workers.specs.declared.share.Share.{Share}
-use Rattle.steal_workers.specs.Handles.{deque_of, is_own}
-use Rattle.steal_workers.specs.Shares.{IsShare, dealt_to, taken_from, is_marked}
+use Rattle.steal_workers.specs.inside.Handles.{deque_of, is_own}
+use Rattle.steal_workers.specs.inside.Shares.{IsShare, dealt_to, taken_from, is_marked}
 use Rattle.steal_workers.specs.SeatViews.{SeatView}
 
 module _ {T : Type 0} where

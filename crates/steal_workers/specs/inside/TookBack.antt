@@ -5,7 +5,7 @@ use Rattle.steal_workers.specs.declared.item.Item.TheVariants.{Task, Mark}
 use Rattle.steal_workers.specs.declared.item.Numbered.{Numbered}
 use Rattle.steal_workers.specs.declared.hand.Hand.{Hand}
 use Rattle.list_weights.specs.Weights.{weigh}
-use Rattle.steal_workers.specs.Items.{marks, number_weight, Stands}
+use Rattle.steal_workers.specs.inside.Items.{marks, number_weight, Stands}
 
 module _ {T : Type 0} where
   -- a task as it is left, and no mark

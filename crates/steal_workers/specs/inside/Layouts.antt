@@ -4,12 +4,12 @@ use Rattle.crossbeam_deque.specs.Handles.{worker_capacity, worker_index}
 use Rattle.list_weights.specs.Places.{EachAt}
 use Rattle.steal_workers.specs.declared.deck.Deck.{Deck}
 use Rattle.steal_workers.specs.declared.dealing.SeatRow.{SeatRow}
-use Rattle.steal_workers.specs.Items.{marks}
+use Rattle.steal_workers.specs.inside.Items.{marks}
 use Rattle.steal_workers.specs.Deals.{Deal}
 use Rattle.steal_workers.specs.SeatViews.{SeatView}
 use Rattle.steal_workers.specs.WholeDeals.{IsNewSeat}
-use Rattle.steal_workers.specs.Decks.{IsDeck, IsFilling, queue_of}
-use Rattle.steal_workers.specs.Columns.{closed, deck_deque}
+use Rattle.steal_workers.specs.inside.Decks.{IsDeck, IsFilling, queue_of}
+use Rattle.steal_workers.specs.inside.Columns.{closed, deck_deque}
 
 module _ {T : Type 0} where
   abbrev pub AreFresh : ℕ → ℕ → List (Deck T) → Type 0

@@ -8,7 +8,7 @@ use Rattle.steal_workers.specs.declared.deck.Deck.{Deck}
 use Rattle.crossbeam_deque.specs.declared.handles.Stealer.{Stealer}
 use Rattle.list_weights.specs.Places.{EachAt}
 use Rattle.list_weights.specs.Weights.{weigh, numbers_below}
-use Rattle.steal_workers.specs.Items.{marks, number_weight, Stands}
+use Rattle.steal_workers.specs.inside.Items.{marks, number_weight, Stands}
 use Rattle.steal_workers.specs.OneDeque.{after_push}
 
 -- it steals from that deque, which is first in first out

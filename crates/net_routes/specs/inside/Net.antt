@@ -5,8 +5,8 @@ use Rattle.net_routes.specs.declared.cost.Cost.{Cost}
 use Rattle.net_routes.specs.declared.hop.Hop.{Hop}
 use Rattle.net_routes.specs.declared.arc.Arc.{Arc}
 use Rattle.net_routes.specs.Needed.{IsAt}
-use Rattle.net_routes.specs.Places.{place_of}
-use Rattle.net_routes.specs.Path.{Leaves}
+use Rattle.net_routes.specs.inside.Places.{place_of}
+use Rattle.net_routes.specs.inside.Path.{Leaves}
 
 -- The arc leaves the place of the node that the hop leaves, and so on.
 pub record IsArcOf (ids : List ℕ) (place : ℕ) (x : Arc) (s : Hop) : Type 0 where

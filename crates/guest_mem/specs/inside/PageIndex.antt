@@ -1,7 +1,7 @@
 -- What an index of pages says.
 use Rattle.std.specs.Prelude.{◌≡◌, ℕ, ◌^◌, ◌<◌, List, slice_index, Option}
-use Rattle.guest_mem.specs.Pages.{place_of}
-use Rattle.guest_mem.specs.Tables.{place_kept, entry_place}
+use Rattle.guest_mem.specs.inside.Pages.{place_of}
+use Rattle.guest_mem.specs.inside.Tables.{place_kept, entry_place}
 use Rattle.guest_mem.specs.declared.index.PageIndex.{PageIndex}
 
 -- the place that is kept for a page number

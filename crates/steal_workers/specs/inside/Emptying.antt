@@ -4,10 +4,10 @@ use Rattle.steal_workers.specs.declared.item.Item.{Item}
 use Rattle.steal_workers.specs.declared.item.Numbered.{Numbered}
 use Rattle.steal_workers.specs.declared.seat.Stack.{Stack}
 use Rattle.list_weights.specs.Weights.{weigh, numbers_below, only}
-use Rattle.steal_workers.specs.Items.{number_weight}
+use Rattle.steal_workers.specs.inside.Items.{number_weight}
 use Rattle.steal_workers.specs.SeatViews.{SeatView, seat_count}
 use Rattle.steal_workers.specs.WholeDeals.{common_deal}
-use Rattle.steal_workers.specs.TookBack.{numbers_of}
+use Rattle.steal_workers.specs.inside.TookBack.{numbers_of}
 use Rattle.steal_workers.specs.Gathers.{IsStack, AreOwnMarked, all_taken, places}
 
 module _ {T : Type 0} where

@@ -6,8 +6,8 @@ use Rattle.steal_workers.specs.declared.item.Item.{Item}
 use Rattle.steal_workers.specs.declared.hand.Hand.{Hand}
 use Rattle.steal_workers.specs.declared.share.Share.{Share}
 use Rattle.list_weights.specs.Weights.{weigh, only}
-use Rattle.steal_workers.specs.Handles.{deque_of, is_own}
-use Rattle.steal_workers.specs.Shares.{IsShare, dealt_to, taken_from}
+use Rattle.steal_workers.specs.inside.Handles.{deque_of, is_own}
+use Rattle.steal_workers.specs.inside.Shares.{IsShare, dealt_to, taken_from}
 
 module _ {T : Type 0} where
   abbrev pub own_weight : Share T → ℕ

@@ -1,0 +1,3 @@
+-- what stands while a file is read
+pub mod Build
+pub mod Layout

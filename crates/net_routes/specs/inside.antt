@@ -1,0 +1,9 @@
+-- what stands while routes are searched, and how rows are kept
+pub mod Found
+pub mod KeptRows
+pub mod Net
+pub mod Numbers
+pub mod Path
+pub mod Places
+pub mod RouteRows
+pub mod Search

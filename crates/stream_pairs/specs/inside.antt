@@ -1,0 +1,2 @@
+-- how the code finds the other end of a connection
+pub mod Finding
