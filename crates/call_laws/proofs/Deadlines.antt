@@ -13,7 +13,7 @@ use Rattle.host_calls.specs.declared.call.Call.{Call}
 use Rattle.host_calls.specs.declared.call.Call.TheVariants as system_call
 use Rattle.host_calls.specs.declared.call.WaitingCall.{WaitingCall}
 use Rattle.host_calls.specs.declared.call.WaitingCall.TheVariants as waiting
-use Rattle.host_calls.specs.declared.parts.Known.{Known}
+use Rattle.file_calls.specs.declared.known.Known.{Known}
 use Rattle.file_calls.specs.declared.task.Task.{Task}
 use Rattle.file_calls.specs.declared.task.Shared.{Shared}
 use Rattle.file_calls.specs.declared.task.Why.{Why}

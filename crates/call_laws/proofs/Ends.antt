@@ -9,7 +9,7 @@ use Rattle.host_files.specs.Slots.{at}
 use Rattle.host_wants.specs.declared.error.Refusal.{Refusal}
 use Rattle.host_wants.specs.declared.error.Refusal.TheVariants as refusal
 use Rattle.host_calls.specs.declared.parts.Answer.TheVariants as answer
-use Rattle.host_calls.specs.declared.parts.Known.{Known}
+use Rattle.file_calls.specs.declared.known.Known.{Known}
 use Rattle.host_calls.specs.declared.parts.Reaction.{Reaction}
 use Rattle.host_calls.specs.declared.parts.Reaction.TheVariants.{Value, Waits}
 use Rattle.file_calls.specs.declared.task.Task.{Task}

@@ -16,7 +16,7 @@ use Rattle.host_calls.specs.declared.plan.Plan.{Plan}
 use Rattle.host_calls.specs.declared.plan.Plan.TheVariants as plan
 use Rattle.file_calls.specs.declared.transfer.Transfer.{Transfer}
 use Rattle.host_calls.specs.declared.polling.PollPlan.{PollPlan}
-use Rattle.host_calls.specs.declared.parts.Known.{Known}
+use Rattle.file_calls.specs.declared.known.Known.{Known}
 use Rattle.host_calls.specs.declared.parts.Reaction.{Reaction}
 use Rattle.host_calls.specs.declared.parts.Reaction.TheVariants.{Value, Waits}
 use Rattle.file_calls.specs.declared.task.Task.{Task}

@@ -13,7 +13,7 @@ use Rattle.host_calls.specs.declared.accepting.NewPlace.{NewPlace}
 use Rattle.host_calls.specs.declared.binding.NewSocket.{NewSocket}
 use Rattle.file_calls.specs.declared.files.Ends.{Ends}
 use Rattle.host_calls.specs.declared.call.WaitingCall.TheVariants as waiting
-use Rattle.host_calls.specs.declared.parts.Known.{Known}
+use Rattle.file_calls.specs.declared.known.Known.{Known}
 use Rattle.host_calls.specs.declared.parts.Reaction.{Reaction}
 use Rattle.host_calls.specs.declared.parts.Reaction.TheVariants.{Value, Waits}
 use Rattle.host_calls.specs.declared.plan.Plan.TheVariants as plan

@@ -29,7 +29,7 @@ use Rattle.host_calls.specs.declared.epoll.WaitPlan.{WaitPlan}
 use Rattle.guest_mem.specs.Memory.{Memory}
 use Rattle.host_sockets.specs.TcpSocket.{TcpSocket}
 use Rattle.sim_base.specs.Poll.{pollout}
-use Rattle.host_calls.specs.declared.parts.Known.{Known}
+use Rattle.file_calls.specs.declared.known.Known.{Known}
 use Rattle.file_calls.specs.declared.task.Why.{Why}
 use Rattle.host_calls.specs.declared.plan.Plan.{Plan}
 use Rattle.host_calls.specs.declared.plan.Plan.TheVariants as plan

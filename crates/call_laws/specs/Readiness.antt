@@ -19,7 +19,7 @@ use Rattle.host_sockets.specs.Udp.{udp_in}
 use Rattle.host_calls.specs.declared.call.Call.TheVariants as system_call
 use Rattle.host_calls.specs.declared.call.WaitingCall.{WaitingCall}
 use Rattle.file_calls.specs.declared.descriptors.Descriptor.{Descriptor}
-use Rattle.host_calls.specs.declared.parts.Known.{Known}
+use Rattle.file_calls.specs.declared.known.Known.{Known}
 use Rattle.file_calls.specs.declared.task.Why.{Why}
 use Rattle.host_calls.specs.declared.plan.Plan.{Plan}
 use Rattle.host_calls.specs.Call.{call_of}

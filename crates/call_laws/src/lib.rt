@@ -19,7 +19,7 @@ ghost use Rattle.sim_base.specs.declared.address.Ip.{Ip};
 ghost use Rattle.file_calls.specs.declared.files.Ends.{Ends};
 ghost use Rattle.host_calls.specs.declared.parts.Answer.TheVariants as answer;
 ghost use Rattle.host_calls.specs.declared.call.WaitingCall.TheVariants as waiting;
-ghost use Rattle.host_calls.specs.declared.parts.Known.{Known};
+ghost use Rattle.file_calls.specs.declared.known.Known.{Known};
 ghost use Rattle.host_calls.specs.declared.parts.Reaction.TheVariants.{Value};
 ghost use Rattle.file_calls.specs.declared.task.Shared.{Shared};
 ghost use Rattle.file_calls.specs.declared.task.Task.{Task};

@@ -6,7 +6,7 @@ ghost use Rattle.sim_base.specs.declared.object.ObjectId.{ObjectId};
 ghost use Rattle.sim_base.specs.declared.packet.Packet.{Packet};
 ghost use Rattle.sim_base.specs.declared.time.Time.{Time};
 ghost use Rattle.guest_mem.specs.Memory.{Memory};
-ghost use Rattle.host_calls.specs.declared.parts.Known.{Known};
+ghost use Rattle.file_calls.specs.declared.known.Known.{Known};
 ghost use Rattle.host_calls.specs.Calls.{call};
 ghost use Rattle.host_calls.specs.Events.{arrives, alarmed, ended};
 ghost use Rattle.host_calls.specs.Parts.{PartsRecord};

@@ -19,7 +19,7 @@ use Rattle.host_calls.specs.declared.call.Call.TheVariants as system_call
 use Rattle.host_calls.specs.declared.call.NetworkCall.{NetworkCall}
 use Rattle.host_calls.specs.declared.call.NetworkCall.TheVariants as network
 use Rattle.file_calls.specs.declared.descriptors.Descriptor.{Descriptor}
-use Rattle.host_calls.specs.declared.parts.Known.{Known}
+use Rattle.file_calls.specs.declared.known.Known.{Known}
 use Rattle.host_calls.specs.declared.plan.Plan.{Plan}
 use Rattle.host_calls.specs.declared.plan.Plan.TheVariants as plan
 use Rattle.host_calls.specs.declared.polling.PollPlan.{PollPlan}

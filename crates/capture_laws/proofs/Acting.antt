@@ -26,18 +26,19 @@ use Rattle.host_calls.specs.Calls.{call}
 use Rattle.host_calls.specs.Events.{arrives, alarmed, ended}
 use Rattle.host_calls.specs.Starting.{task_starts}
 use Rattle.host_wants.specs.Wanted.{without_wants}
-use Rattle.host_state.specs.declared.line.Line.{Line}
-use Rattle.host_state.specs.declared.net.Net.{Net}
-use Rattle.host_state.specs.declared.process.Running.{Running}
+use Rattle.host_link.specs.declared.line.Line.{Line}
+use Rattle.host_link.specs.declared.net.Net.{Net}
+use Rattle.guest_process.specs.declared.process.Running.{Running}
 use Rattle.host_state.specs.Step.{Step}
 use Rattle.host_state.specs.Step as step
 use Rattle.host_state.specs.Arriving.{is_handed_over, are_handed_over, goes_in, comes_to_router, comes_in, down_comes}
 use Rattle.host_state.specs.Fire.{begins, starts, ready, running_in, is_not_started, kept_by, runs_on, goes_if, goes, is_shut, shutdown_signal, shuts_if, shuts, rings, acts, wakes_if, would_answer, wakes_in, wakes, wakes_from, wakes_all, at_time, has_acted, fire}
-use Rattle.host_state.specs.Host.{with_link, with_parts, on_wire, wire_of, does_wants, settles}
+use Rattle.host_state.specs.Host.{with_link, with_parts, on_wire, wire_of, settles}
+use Rattle.host_link.specs.Wants.{does_wants}
 use Rattle.host_state.specs.HostRecord.{HostRecord}
-use Rattle.host_state.specs.Lanes.{with_down}
-use Rattle.host_state.specs.Link.{LinkState, later, logs}
-use Rattle.host_state.specs.Sending.{is_bootstrapping, drop_all, up_comes}
+use Rattle.host_link.specs.Lanes.{with_down}
+use Rattle.host_link.specs.Link.{LinkState, later, logs}
+use Rattle.host_link.specs.Sending.{is_bootstrapping, drop_all, up_comes}
 use Rattle.host_state.specs.Slice.{has_task, number_in, arguments_in, calls, closes, is_killed, by_turn_end, turns, runs_to_call, rests, has_ended, goes_later, after_step, slice, follows, pause}
 use Rattle.host_state.proofs.Growth.{by_if, AllSmall}
 use Rattle.capture_laws.proofs.Lanes.{IsSmallPush, pushed_fits, left_fits}

@@ -16,9 +16,9 @@ use Rattle.pcap_text.specs.Writing.{head, packet_record}
 use Rattle.pcap_text.specs.declared.capture.Record.{Record}
 use Rattle.pcap_text.proofs.Datagrams.{datagram_size, is_datagram, one_packet}
 use Rattle.pcap_text.proofs.Written.{read_back}
-use Rattle.host_state.specs.Captures.{has_record, line_record, records_of, is_at, is_on_eth0, is_on_lo, eth0_of, lo_of}
-use Rattle.host_state.specs.LinesFit.{AllFit}
-use Rattle.host_state.specs.declared.line.Line.{Line}
+use Rattle.run_files.specs.Captures.{has_record, line_record, records_of, is_at, is_on_eth0, is_on_lo, eth0_of, lo_of}
+use Rattle.run_files.specs.LinesFit.{AllFit}
+use Rattle.host_link.specs.declared.line.Line.{Line}
 use Rattle.shadow_top.specs.Captured.{line_with, AreLinesOf}
 use Rattle.capture_laws.specs.ReadAgain.{IsInRange, AllInRange, whole_record, told, AreReadAgain}
 

@@ -19,12 +19,12 @@ use Rattle.net_iface.specs.Lane.{AllFit, pushed, released}
 use Rattle.host_wants.specs.declared.outlet.Want.{Want}
 use Rattle.host_wants.specs.declared.outlet.Want.TheVariants as wanted
 use Rattle.host_wants.specs.Wanted.{Wanted, draws_word}
-use Rattle.host_state.specs.declared.line.Line.{Line}
-use Rattle.host_state.specs.declared.net.Net.{Net}
-use Rattle.host_state.specs.Host.{does_want, does_all}
-use Rattle.host_state.specs.Lanes.{with_up}
-use Rattle.host_state.specs.Link.{LinkState, numbers, makes, later, not_before_next, event_of, logs}
-use Rattle.host_state.specs.Sending.{Wire, route_to, is_bootstrapping, loses, takes_its_chance, takes_route, takes_route_if, leaves, leave_all, makes_if, goes_on, goes_up, stays_here, loops, sends, drop_all, up_comes}
+use Rattle.host_link.specs.declared.line.Line.{Line}
+use Rattle.host_link.specs.declared.net.Net.{Net}
+use Rattle.host_link.specs.Wants.{does_want, does_all}
+use Rattle.host_link.specs.Lanes.{with_up}
+use Rattle.host_link.specs.Link.{LinkState, numbers, makes, later, not_before_next, event_of, logs}
+use Rattle.host_link.specs.Sending.{Wire, route_to, is_bootstrapping, loses, takes_its_chance, takes_route, takes_route_if, leaves, leave_all, makes_if, goes_on, goes_up, stays_here, loops, sends, drop_all, up_comes}
 use Rattle.host_state.proofs.Growth.{by_if, AllSmall}
 use Rattle.capture_laws.proofs.Lanes.{IsSmallPush, pushed_fits, left_fits}
 

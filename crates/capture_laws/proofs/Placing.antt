@@ -9,14 +9,14 @@ use Rattle.sim_base.specs.declared.address.Ip.{Ip}
 use Rattle.sim_base.specs.declared.event.What.{What}
 use Rattle.sim_base.specs.declared.packet.Packet.{Packet}
 use Rattle.tcp_streams.proofs.Members.{Contains-here, Contains-there}
-use Rattle.host_state.specs.Captures.{is_at, is_sent, passes, is_on_lo, lo_of}
+use Rattle.run_files.specs.Captures.{is_at, is_sent, passes, is_on_lo, lo_of}
 use Rattle.host_state.specs.HostRecord.{HostRecord}
-use Rattle.host_state.specs.Logs.{lines_of}
-use Rattle.host_state.specs.Sending.{stays_here}
+use Rattle.host_link.specs.Logs.{lines_of}
+use Rattle.host_link.specs.Sending.{stays_here}
 use Rattle.host_state.specs.World.{World, opening_world}
-use Rattle.host_state.specs.declared.line.Line.{Line}
-use Rattle.host_state.specs.declared.net.Net.{Net}
-use Rattle.host_state.specs.declared.row.Row.{Row}
+use Rattle.host_link.specs.declared.line.Line.{Line}
+use Rattle.host_link.specs.declared.net.Net.{Net}
+use Rattle.host_link.specs.declared.row.Row.{Row}
 use Rattle.world_order.specs.World.{Logged}
 use Rattle.run_streams.specs.Past.{stays, TellsStays}
 use Rattle.run_streams.specs.Run.{IsReached, AreHosts}

@@ -10,17 +10,18 @@ use Rattle.sim_base.specs.declared.event.What.TheVariants as what
 use Rattle.sim_base.specs.declared.key.Key.{Key}
 use Rattle.sim_base.specs.declared.time.Time.{Time}
 use Rattle.net_iface.specs.Lane.{AllFit}
-use Rattle.host_state.specs.declared.line.Line.{Line}
-use Rattle.host_state.specs.declared.net.Net.{Net}
-use Rattle.host_state.specs.declared.row.ProcessRow.{ProcessRow}
-use Rattle.host_state.specs.declared.row.Row.{Row}
+use Rattle.host_link.specs.declared.line.Line.{Line}
+use Rattle.host_link.specs.declared.net.Net.{Net}
+use Rattle.host_link.specs.declared.row.ProcessRow.{ProcessRow}
+use Rattle.host_link.specs.declared.row.Row.{Row}
 use Rattle.host_state.specs.Fire.{fire}
 use Rattle.host_state.specs.Fits.{model}
-use Rattle.host_state.specs.Home.{home}
+use Rattle.host_link.specs.Home.{home}
 use Rattle.host_state.specs.HostRecord.{HostRecord}
-use Rattle.host_state.specs.Link.{LinkState, event_of, numbers, new_link}
-use Rattle.host_state.specs.Logs.{lines_of}
-use Rattle.host_state.specs.Opening.{begins_shutdown, begins_process, begins_all, host_begins, opening}
+use Rattle.host_link.specs.Link.{LinkState, event_of, numbers, new_link}
+use Rattle.host_link.specs.Logs.{lines_of}
+use Rattle.host_link.specs.Beginning.{begins_shutdown, begins_process, begins_all}
+use Rattle.host_state.specs.Opening.{host_begins, opening}
 use Rattle.host_state.specs.World.{World, IsResult, opening_world}
 use Rattle.host_state.proofs.Growth.{by_if}
 use Rattle.world_order.specs.EventOrder.{is_before, taken_with, take_least}

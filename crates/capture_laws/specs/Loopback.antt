@@ -2,11 +2,11 @@
 use Rattle.std.specs.Prelude.{◌≡◌, ℕ, not, ◌&&◌, List}
 use Rattle.std.specs.List.{filter}
 use Rattle.sim_base.specs.declared.address.Ip.{Ip}
-use Rattle.host_state.specs.Captures.{is_at, is_sent, passes, is_on_eth0, is_on_lo}
-use Rattle.host_state.specs.Sending.{stays_here}
-use Rattle.host_state.specs.declared.line.Line.{Line}
-use Rattle.host_state.specs.declared.net.Net.{Net}
-use Rattle.host_state.specs.declared.row.Row.{Row}
+use Rattle.run_files.specs.Captures.{is_at, is_sent, passes, is_on_eth0, is_on_lo}
+use Rattle.host_link.specs.Sending.{stays_here}
+use Rattle.host_link.specs.declared.line.Line.{Line}
+use Rattle.host_link.specs.declared.net.Net.{Net}
+use Rattle.host_link.specs.declared.row.Row.{Row}
 use Rattle.world_order.specs.World.{Logged}
 use Rattle.run_streams.specs.Past.{stays, WasLogged}
 

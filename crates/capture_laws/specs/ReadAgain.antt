@@ -11,8 +11,8 @@ use Rattle.pcap_text.specs.Writing.{head}
 use Rattle.pcap_text.specs.declared.capture.Record.{Record}
 use Rattle.out_text.specs.Captured.{packet_line}
 use Rattle.shadow_top.specs.Captured.{AreLinesOf}
-use Rattle.host_state.specs.Captures.{records_of}
-use Rattle.host_state.specs.declared.line.Line.{Line}
+use Rattle.run_files.specs.Captures.{records_of}
+use Rattle.host_link.specs.declared.line.Line.{Line}
 
 -- a packet as Ethernet carries it, at a time that a run can have
 pub record IsInRange (l : Line) : Type 0 where

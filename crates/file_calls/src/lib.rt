@@ -1,5 +1,5 @@
 //! The system calls of guests that need no sockets: files, pipes, timers, eventfds, the entries of
-//! epolls, random bytes and the break, and the process that calls act on.
+//! epolls, random bytes and the break, the process that calls act on, and what all hosts know.
 #![tactic(auto)]
 
 mod again;
@@ -9,6 +9,7 @@ mod eventfd;
 mod files;
 mod flags;
 mod guest;
+mod known;
 mod outputs;
 pub mod reading;
 mod task;
@@ -23,6 +24,7 @@ pub use eventfd::eventfd2;
 pub use files::{Ends, fcntl, openat, pipe2};
 pub use flags::{MSG_DONTWAIT, MSG_NOSIGNAL, O_NONBLOCK, beside_message, beside_open, has};
 pub use guest::{brk, getpid, getrandom};
+pub use known::Known;
 pub use outputs::Outputs;
 pub use task::{Output, Shared, Task, Why};
 pub use times::{

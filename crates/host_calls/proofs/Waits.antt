@@ -26,7 +26,7 @@ use Rattle.host_sockets.specs.StandsFor.{Stand}
 use Rattle.host_calls.specs.declared.call.WaitingCall.{WaitingCall}
 use Rattle.host_calls.specs.declared.call.WaitingCall.TheVariants as waiting
 use Rattle.host_calls.specs.declared.epoll.WaitPlan.{WaitPlan}
-use Rattle.host_calls.specs.declared.parts.Known.{Known}
+use Rattle.file_calls.specs.declared.known.Known.{Known}
 use Rattle.host_calls.specs.declared.parts.Reaction.TheVariants.{Value}
 use Rattle.file_calls.specs.declared.task.Shared.{Shared}
 use Rattle.file_calls.specs.declared.task.Task.{Task}

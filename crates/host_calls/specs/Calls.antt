@@ -24,7 +24,7 @@ use Rattle.host_calls.specs.declared.call.WaitingCall.TheVariants as waiting
 use Rattle.file_calls.specs.declared.descriptors.Descriptor.{Descriptor}
 use Rattle.host_calls.specs.declared.parts.Answer.{Answer}
 use Rattle.host_calls.specs.declared.parts.Answer.TheVariants as answer
-use Rattle.host_calls.specs.declared.parts.Known.{Known}
+use Rattle.file_calls.specs.declared.known.Known.{Known}
 use Rattle.host_calls.specs.declared.parts.Reaction.{Reaction}
 use Rattle.host_calls.specs.declared.parts.Reaction.TheVariants.{Value, Waits}
 use Rattle.file_calls.specs.declared.task.Shared.{Shared}

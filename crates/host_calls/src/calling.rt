@@ -18,9 +18,9 @@ use crate::closing::{close, close_task};
 use crate::epoll::epoll_pwait;
 use crate::naming::{getpeername, getsockname, shutdown};
 use crate::options::{getsockopt, setsockopt};
-use crate::parts::{Answer, Known, Reaction};
+use crate::parts::{Answer, Reaction};
 use file_calls::{
-    Shared, Task, Why, brk, clock_gettime, epoll_create, epoll_ctl, eventfd2, fcntl, getpid,
+    Known, Shared, Task, Why, brk, clock_gettime, epoll_create, epoll_ctl, eventfd2, fcntl, getpid,
     getrandom, negative, openat, pipe2, timerfd_create, timerfd_settime,
 };
 use host_sockets::Sockets;

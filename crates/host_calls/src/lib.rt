@@ -28,6 +28,6 @@ mod waiting;
 pub use all::Parts;
 pub use calling::do_call;
 pub use events::{alarm, close_all, deliver};
-pub use parts::{Answer, Known};
+pub use parts::Answer;
 pub use starting::start_task;
 pub use waiting::answers_now;

@@ -1,14 +1,7 @@
-//! What hosts know, and what calls answer.
+//! What calls answer.
 
 use file_calls::Why;
-use sim_base::{Book, Bytes, State};
-
-/// What all hosts know: the book of their addresses, and the text of `/etc/hosts`.
-#[derive(Drop)]
-pub struct Known {
-    pub book: Book,
-    pub hosts: Bytes,
-}
+use sim_base::State;
 
 /// What a call answers.
 #[derive(Clone, Copy)]

@@ -12,10 +12,10 @@ use Rattle.file_calls.specs.declared.task.Task.{Task}
 use Rattle.file_calls.specs.declared.task.Why.{Why}
 use Rattle.host_calls.specs.Calls.{answers}
 use Rattle.host_calls.specs.Parts.{PartsRecord}
-use Rattle.host_state.specs.declared.net.Net.{Net}
-use Rattle.host_state.specs.declared.process.Process.TheVariants as process
-use Rattle.host_state.specs.declared.process.Running.{Running}
-use Rattle.host_state.specs.declared.row.Row.{Row}
+use Rattle.host_link.specs.declared.net.Net.{Net}
+use Rattle.guest_process.specs.declared.process.Process.TheVariants as process
+use Rattle.guest_process.specs.declared.process.Running.{Running}
+use Rattle.host_link.specs.declared.row.Row.{Row}
 use Rattle.host_state.specs.Opening.{opening}
 use Rattle.host_state.specs.Fire.{kept_in, acts, at_time, wakes_all, has_acted, fire}
 use Rattle.host_state.specs.HostRecord.{HostRecord}

@@ -19,11 +19,11 @@ use Rattle.net_iface.specs.Lane.{pushed, released}
 use Rattle.host_wants.specs.declared.outlet.Want.{Want}
 use Rattle.host_wants.specs.declared.outlet.Want.TheVariants as wanted
 use Rattle.host_wants.specs.Wanted.{Wanted, draws_word}
-use Rattle.host_state.specs.declared.net.Net.{Net}
-use Rattle.host_state.specs.Host.{does_want, does_all}
-use Rattle.host_state.specs.Lanes.{with_up}
-use Rattle.host_state.specs.Link.{LinkState, numbers, makes, later, not_before_next, event_of, logs}
-use Rattle.host_state.specs.Sending.{Wire, route_to, is_bootstrapping, loses, travels, takes_its_chance, takes_route, takes_route_if, leaves, leave_all, makes_if, goes_on, goes_up, stays_here, loops, sends, drop_all, up_comes}
+use Rattle.host_link.specs.declared.net.Net.{Net}
+use Rattle.host_link.specs.Wants.{does_want, does_all}
+use Rattle.host_link.specs.Lanes.{with_up}
+use Rattle.host_link.specs.Link.{LinkState, numbers, makes, later, not_before_next, event_of, logs}
+use Rattle.host_link.specs.Sending.{Wire, route_to, is_bootstrapping, loses, travels, takes_its_chance, takes_route, takes_route_if, leaves, leave_all, makes_if, goes_on, goes_up, stays_here, loops, sends, drop_all, up_comes}
 
 -- its number and its time stay, it has made more events, and its next number is no smaller
 pub record IsLater (l m : LinkState) : Type 0 where

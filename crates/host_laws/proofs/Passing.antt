@@ -9,11 +9,11 @@ use Rattle.sim_base.specs.declared.event.What.TheVariants as what
 use Rattle.sim_base.specs.declared.state.State.{State}
 use Rattle.sim_base.specs.declared.time.Time.{Time}
 use Rattle.rv32_machine.specs.declared.cpu.Cpu.{Cpu}
-use Rattle.host_state.specs.declared.process.Process.{Process}
-use Rattle.host_state.specs.declared.process.Process.TheVariants as process
-use Rattle.host_state.specs.declared.process.Running.{Running}
+use Rattle.guest_process.specs.declared.process.Process.{Process}
+use Rattle.guest_process.specs.declared.process.Process.TheVariants as process
+use Rattle.guest_process.specs.declared.process.Running.{Running}
 use Rattle.host_state.specs.HostRecord.{HostRecord}
-use Rattle.host_state.specs.Link.{LinkState, numbers, makes, later, not_before_next}
+use Rattle.host_link.specs.Link.{LinkState, numbers, makes, later, not_before_next}
 use Rattle.host_state.specs.Slice.{rests, has_ended, goes_later}
 use Rattle.world_order.proofs.Homes.{get-set_same}
 use Rattle.host_laws.specs.Waiting.{HasGo}

@@ -6,10 +6,10 @@ use Rattle.sim_base.specs.declared.time.Time.{Time}
 use Rattle.file_calls.specs.declared.task.Why.{Why}
 use Rattle.host_calls.specs.Calls.{answers}
 use Rattle.host_calls.specs.Parts.{PartsRecord}
-use Rattle.host_state.specs.declared.net.Net.{Net}
-use Rattle.host_state.specs.declared.process.Process.{Process}
-use Rattle.host_state.specs.declared.process.Process.TheVariants as process
-use Rattle.host_state.specs.declared.process.Running.{Running}
+use Rattle.host_link.specs.declared.net.Net.{Net}
+use Rattle.guest_process.specs.declared.process.Process.{Process}
+use Rattle.guest_process.specs.declared.process.Process.TheVariants as process
+use Rattle.guest_process.specs.declared.process.Running.{Running}
 use Rattle.host_state.specs.Fire.{running_in, kept_in, kept_by, wakes_if, would_answer, wakes_in, wakes, wakes_from, wakes_all}
 use Rattle.host_state.specs.HostRecord.{HostRecord}
 use Rattle.host_state.specs.Slice.{has_task, goes_later}

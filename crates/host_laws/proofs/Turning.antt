@@ -5,12 +5,12 @@ use Rattle.std.proofs.lemmas.Bool.Decides.{eqb_tells}
 use Rattle.std.proofs.lemmas.Option.{slice_get-map}
 use Rattle.sim_base.specs.declared.event.Event.{Event}
 use Rattle.sim_base.specs.declared.event.What.TheVariants as what
-use Rattle.host_state.specs.declared.line.Line.{Line}
-use Rattle.host_state.specs.declared.net.Net.{Net}
-use Rattle.host_state.specs.declared.row.Row.{Row}
+use Rattle.host_link.specs.declared.line.Line.{Line}
+use Rattle.host_link.specs.declared.net.Net.{Net}
+use Rattle.host_link.specs.declared.row.Row.{Row}
 use Rattle.host_state.specs.Fire.{fire}
 use Rattle.host_state.specs.Fits.{model, fires_before_stop}
-use Rattle.host_state.specs.Home.{home, home_of}
+use Rattle.host_link.specs.Home.{home, home_of}
 use Rattle.host_state.specs.HostRecord.{HostRecord}
 use Rattle.host_state.specs.Opening.{opening}
 use Rattle.host_state.specs.World.{World, AreRows, opening_world}

@@ -5,8 +5,8 @@ use Rattle.sim_base.specs.declared.event.Event.{Event}
 use Rattle.sim_base.specs.declared.event.What.TheVariants as what
 use Rattle.rv32_machine.specs.declared.cpu.Cpu.{Cpu}
 use Rattle.file_calls.specs.declared.task.Why.{Why}
-use Rattle.host_state.specs.declared.process.Process.TheVariants as process
-use Rattle.host_state.specs.declared.process.Running.{Running}
+use Rattle.guest_process.specs.declared.process.Process.TheVariants as process
+use Rattle.guest_process.specs.declared.process.Running.{Running}
 use Rattle.host_state.specs.Fire.{kept_by}
 use Rattle.host_state.specs.HostRecord.{HostRecord}
 use Rattle.host_state.specs.World.{World}

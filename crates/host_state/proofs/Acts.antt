@@ -20,12 +20,13 @@ use Rattle.host_sockets.specs.Sockets.{SocketsRecord}
 use Rattle.host_sockets.specs.StandsFor.{Stand}
 use Rattle.host_wants.specs.Wanted.{Wanted}
 use Rattle.host_state.specs.declared.host.Body.{Body}
-use Rattle.host_state.specs.declared.net.Net.{Net}
+use Rattle.host_link.specs.declared.net.Net.{Net}
 use Rattle.host_state.specs.HostRecord.{HostRecord}
-use Rattle.host_state.specs.Link.{LinkState, logs}
-use Rattle.host_state.specs.Lanes.{pushes_down, releases_down, Releases}
-use Rattle.host_state.specs.Sending.{Wire, IsWire, is_bootstrapping, drop_all, makes_if}
-use Rattle.host_state.specs.Host.{with_link, with_parts, on_wire, does_wants, settles}
+use Rattle.host_link.specs.Link.{LinkState, logs}
+use Rattle.host_link.specs.Lanes.{pushes_down, releases_down, Releases}
+use Rattle.host_link.specs.Sending.{Wire, IsWire, is_bootstrapping, drop_all, makes_if}
+use Rattle.host_state.specs.Host.{with_link, with_parts, on_wire, settles}
+use Rattle.host_link.specs.Wants.{does_wants}
 use Rattle.host_state.specs.Arriving.{is_handed_over, are_handed_over, went_in, goes_in, comes_to_router, comes_in, down_comes}
 use Rattle.host_state.specs.Fire.{rings}
 use Rattle.host_state.specs.StandsFor.{BodyStands, Does, LeadsTo}

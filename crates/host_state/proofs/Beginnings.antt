@@ -3,11 +3,11 @@ use Rattle.std.proofs.Common.{◌≡◌, ℕ, ◌+◌, ◌<◌, ◌≤◌, List,
 use Rattle.std.proofs.lemmas.List.Sorted.{All-permutation, IsPermutation-sym}
 use Rattle.sim_base.specs.declared.event.Event.{Event}
 use Rattle.host_state.specs.declared.host.Host.{Host}
-use Rattle.host_state.specs.declared.line.Line.{Line}
-use Rattle.host_state.specs.declared.net.Net.{Net}
-use Rattle.host_state.specs.declared.row.Row.{Row}
+use Rattle.host_link.specs.declared.line.Line.{Line}
+use Rattle.host_link.specs.declared.net.Net.{Net}
+use Rattle.host_link.specs.declared.row.Row.{Row}
 use Rattle.host_state.specs.Fits.{FitsNet, IsEventOf, OpensFit}
-use Rattle.host_state.specs.Home.{home}
+use Rattle.host_link.specs.Home.{home}
 use Rattle.host_state.specs.HostRecord.{HostRecord}
 use Rattle.host_state.specs.HostStands.{Begins, with_events}
 use Rattle.host_state.specs.Opening.{opening}

@@ -3,7 +3,7 @@ use Rattle.std.proofs.Common.{◌≡◌, ℕ, ◌≤◌, ◌-◌, suc, length, n
 use Rattle.std.specs.Prelude.{if◌then◌else◌, ◌&&◌}
 use Rattle.sim_base.specs.declared.event.Event.{Event}
 use Rattle.sim_base.specs.declared.signal.Signal.{Signal}
-use Rattle.host_state.specs.Link.{LinkState, comes_to}
+use Rattle.host_link.specs.Link.{LinkState, comes_to}
 use Rattle.sim_base.specs.declared.time.Time.{Time}
 use Rattle.host_calls.specs.declared.all.Parts.{Parts}
 use Rattle.file_calls.specs.declared.task.Task.{Task}
@@ -12,11 +12,11 @@ use Rattle.host_calls.specs.Calls.{answers}
 use Rattle.host_calls.specs.Parts.{PartsRecord, PartsStand}
 use Rattle.host_calls.specs.Starting.{task_starts}
 use Rattle.host_state.specs.declared.host.Body.{Body}
-use Rattle.host_state.specs.declared.net.Net.{Net}
-use Rattle.host_state.specs.declared.process.Process.{Process}
-use Rattle.host_state.specs.declared.process.Running.{Running}
-use Rattle.host_state.specs.declared.row.Row.{Row}
-use Rattle.host_state.specs.declared.start.Started.{Started}
+use Rattle.host_link.specs.declared.net.Net.{Net}
+use Rattle.guest_process.specs.declared.process.Process.{Process}
+use Rattle.guest_process.specs.declared.process.Running.{Running}
+use Rattle.host_link.specs.declared.row.Row.{Row}
+use Rattle.guest_process.specs.declared.start.Started.{Started}
 use Rattle.host_state.specs.HostRecord.{HostRecord}
 use Rattle.host_state.specs.Host.{with_parts}
 use Rattle.host_state.specs.Slice.{has_task, slice, calls_again, follows, is_killed, goes_later}

@@ -2,13 +2,13 @@
 use Rattle.std.proofs.Common.{◌≡◌, suc, List, [], ◌∷◌, ◌++◌, length, map, slice_get, Some, ℕ, Vec, Global, refl, sym, ap, ◌∙◌, arith}
 use Rattle.file_calls.specs.declared.task.Output.{Output}
 use Rattle.host_state.specs.Extends.{AreLater, Extends}
-use Rattle.host_state.specs.Grown.{AreGained, Gains}
+use Rattle.host_state.specs.Gains.{AreGained, Gains, names_in}
 use Rattle.host_state.specs.HostRecord.{HostRecord}
-use Rattle.host_state.specs.Listed.{HostNames, listed, names_in}
-use Rattle.host_state.specs.Logs.{lines_of}
+use Rattle.run_files.specs.Listed.{HostNames, listed}
+use Rattle.host_link.specs.Logs.{lines_of}
 use Rattle.host_state.specs.World.{World}
-use Rattle.host_state.specs.declared.line.Line.{Line}
-use Rattle.host_state.specs.declared.row.Row.{Row}
+use Rattle.host_link.specs.declared.line.Line.{Line}
+use Rattle.host_link.specs.declared.row.Row.{Row}
 
 abbrev pub rows_of : List HostRecord → List Row
 rows_of hs = map (λ (h : HostRecord). h.row) hs

@@ -26,14 +26,15 @@ use Rattle.host_wants.specs.declared.outlet.Want.{Want}
 use Rattle.host_wants.specs.declared.outlet.Want.TheVariants as wanted
 use Rattle.host_wants.specs.Wanted.{Wanted, draws_word, without_wants}
 use Rattle.world_order.specs.Premises.{AreNumbered, IsFar}
-use Rattle.host_state.specs.declared.net.Net.{Net}
+use Rattle.host_link.specs.declared.net.Net.{Net}
 use Rattle.host_state.specs.Fits.{FitsWhat, IsEventOf, IsLatency, IsLookaheadOf, IsShort}
-use Rattle.host_state.specs.Home.{home, home_of}
-use Rattle.host_state.specs.Host.{does_want, does_all, does_wants, settles}
+use Rattle.host_link.specs.Home.{home, home_of}
+use Rattle.host_link.specs.Wants.{does_want, does_all, does_wants}
+use Rattle.host_state.specs.Host.{settles}
 use Rattle.host_state.specs.HostRecord.{HostRecord}
-use Rattle.host_state.specs.Lanes.{with_up, with_down}
-use Rattle.host_state.specs.Link.{LinkState, numbers, makes, later, not_before_next, event_of, logs}
-use Rattle.host_state.specs.Sending.{Wire, route_from, route_to, is_bootstrapping, loses, travels, takes_its_chance, takes_route, takes_route_if, leaves, leave_all, makes_if, goes_on, goes_up, stays_here, loops, sends, drop_all, up_comes}
+use Rattle.host_link.specs.Lanes.{with_up, with_down}
+use Rattle.host_link.specs.Link.{LinkState, numbers, makes, later, not_before_next, event_of, logs}
+use Rattle.host_link.specs.Sending.{Wire, route_from, route_to, is_bootstrapping, loses, travels, takes_its_chance, takes_route, takes_route_if, leaves, leave_all, makes_if, goes_on, goes_up, stays_here, loops, sends, drop_all, up_comes}
 
 -- an event that a host with this number made at a time
 pub record IsMade (net : Net) (lookahead : Option ℕ) (number : ℕ) (now : Time) (g : Event) : Type 0 where

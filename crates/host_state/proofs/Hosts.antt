@@ -4,16 +4,16 @@ use Rattle.sim_base.specs.declared.event.Event.{Event}
 use Rattle.sim_base.specs.declared.address.Ip.{Ip}
 use Rattle.file_calls.specs.declared.task.Output.{Output}
 use Rattle.host_calls.specs.Starting.{no_parts}
-use Rattle.host_state.specs.declared.firing.Made.{Made}
+use Rattle.host_link.specs.declared.outbox.Made.{Made}
 use Rattle.host_state.specs.declared.host.Host.{Host}
-use Rattle.host_state.specs.declared.line.Line.{Line}
-use Rattle.host_state.specs.declared.net.Net.{Net}
-use Rattle.host_state.specs.declared.outbox.Outbox.{Outbox}
+use Rattle.host_link.specs.declared.line.Line.{Line}
+use Rattle.host_link.specs.declared.net.Net.{Net}
+use Rattle.host_link.specs.declared.outbox.Outbox.{Outbox}
 use Rattle.host_state.specs.Fire.{fire, wrote}
 use Rattle.host_state.specs.HostRecord.{HostRecord}
 use Rattle.host_state.specs.HostStands.{Stands, Fires}
-use Rattle.host_state.specs.Link.{LinkState}
-use Rattle.host_state.specs.Outbox.{Adds, own_events, parcels_of, logged}
+use Rattle.host_link.specs.Link.{LinkState}
+use Rattle.host_link.specs.Outbox.{Adds, own_events, parcels_of, logged}
 use Rattle.host_state.specs.StandsFor.{BodyStands, HandsOut}
 
 pub fired : (net : Net) (e : Event) (c d : Host) (made : Made) (before after : Outbox) (number : ℕ) → number ≡ c.body.link.number → d.queue ≡ c.queue

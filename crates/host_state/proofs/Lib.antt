@@ -2,8 +2,6 @@ pub mod Seen
 pub mod Acts
 pub mod Slices
 pub mod Firings
-pub mod Stacks
-pub mod Texts
 pub mod Hosts
 pub mod Growth
 pub mod HostGrowth
@@ -13,8 +11,4 @@ pub mod Queues
 pub mod Runs
 pub mod Beginnings
 pub mod Stretches
-pub mod Paths
-pub mod Listings
 pub mod Gaining
-pub mod Capturing
-pub mod LinesFit

@@ -8,13 +8,14 @@ use Rattle.sim_base.specs.declared.event.What.{What}
 use Rattle.sim_base.specs.declared.event.What.TheVariants as what
 use Rattle.sim_base.specs.declared.time.Time.{Time}
 use Rattle.net_iface.specs.Lane.{AllFit}
-use Rattle.host_state.specs.declared.net.Net.{Net}
-use Rattle.host_state.specs.declared.row.ProcessRow.{ProcessRow}
-use Rattle.host_state.specs.declared.row.Row.{Row}
+use Rattle.host_link.specs.declared.net.Net.{Net}
+use Rattle.host_link.specs.declared.row.ProcessRow.{ProcessRow}
+use Rattle.host_link.specs.declared.row.Row.{Row}
 use Rattle.host_state.specs.Fits.{FitsWhat, FitsNet, IsEventOf, OpensFit}
-use Rattle.host_state.specs.Home.{home, home_of}
-use Rattle.host_state.specs.Link.{LinkState, new_link, event_of, numbers}
-use Rattle.host_state.specs.Opening.{begins_shutdown, begins_process, begins_all, host_begins, opening}
+use Rattle.host_link.specs.Home.{home, home_of}
+use Rattle.host_link.specs.Link.{LinkState, new_link, event_of, numbers}
+use Rattle.host_link.specs.Beginning.{begins_shutdown, begins_process, begins_all}
+use Rattle.host_state.specs.Opening.{host_begins, opening}
 use Rattle.world_order.specs.Premises.{AreNumbered}
 use Rattle.host_state.proofs.Growth.{by_if}
 

@@ -13,18 +13,18 @@ use Rattle.sim_base.specs.declared.time.Time.{Time}
 use Rattle.file_calls.specs.declared.task.Output.{Output}
 use Rattle.host_state.specs.declared.host.Body.{Body}
 use Rattle.host_state.specs.declared.host.Host.{Host}
-use Rattle.host_state.specs.declared.line.Line.{Line}
-use Rattle.host_state.specs.declared.line.Logged.{Logged}
-use Rattle.host_state.specs.declared.net.Net.{Net}
-use Rattle.host_state.specs.declared.outbox.Outbox.{Outbox}
+use Rattle.host_link.specs.declared.line.Line.{Line}
+use Rattle.host_link.specs.declared.line.Logged.{Logged}
+use Rattle.host_link.specs.declared.net.Net.{Net}
+use Rattle.host_link.specs.declared.outbox.Outbox.{Outbox}
 use Rattle.host_state.specs.Fire.{fire, wrote}
 use Rattle.host_state.specs.Fits.{model, fires_before_stop, IsHostOf, IsEventOf}
-use Rattle.host_state.specs.Home.{home, home_of}
+use Rattle.host_link.specs.Home.{home, home_of}
 use Rattle.host_state.specs.HostRecord.{HostRecord}
 use Rattle.host_state.specs.HostStands.{Stands, with_events}
-use Rattle.host_state.specs.Link.{LinkState}
-use Rattle.host_state.specs.Outbox.{own_events, parcels_of, posted, logged}
-use Rattle.host_state.specs.Parcels.{parcel_event}
+use Rattle.host_link.specs.Link.{LinkState}
+use Rattle.host_link.specs.Outbox.{own_events, parcels_of, posted, logged}
+use Rattle.host_link.specs.Parcels.{parcel_event}
 use Rattle.host_state.specs.Running.{Owns, MayRun, FiresOn, RunsUntil, kept_line}
 use Rattle.host_state.specs.StandsFor.{BodyStands}
 use Rattle.host_state.proofs.Queues.{reversed, begun, first-taken, ordered-apart}

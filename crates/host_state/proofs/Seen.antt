@@ -6,10 +6,10 @@ use Rattle.file_calls.specs.declared.task.Task.{Task}
 use Rattle.host_sockets.specs.Sockets.{SocketsRecord}
 use Rattle.host_sockets.specs.StandsFor.{Stand}
 use Rattle.host_state.specs.declared.host.Body.{Body}
-use Rattle.host_state.specs.declared.process.Process.{Process}
-use Rattle.host_state.specs.declared.row.Row.{Row}
+use Rattle.guest_process.specs.declared.process.Process.{Process}
+use Rattle.host_link.specs.declared.row.Row.{Row}
 use Rattle.host_state.specs.HostRecord.{HostRecord}
-use Rattle.host_state.specs.Link.{LinkState}
+use Rattle.host_link.specs.Link.{LinkState}
 use Rattle.host_state.specs.StandsFor.{BodyStands}
 
 abbrev pub record_of : Row → LinkState → List Process → List (Option Task) → Shared → SocketsRecord → List Output → HostRecord

@@ -12,11 +12,11 @@ use Rattle.sim_base.specs.declared.time.Time.{Time}
 use Rattle.sim_base.specs.Addresses.{host_at, is_same_ip}
 use Rattle.world_order.specs.Model.{Fired}
 use Rattle.world_order.specs.Premises.{AreNumbered, IsFar, IsFit, Simulation}
-use Rattle.host_state.specs.declared.line.Line.{Line}
-use Rattle.host_state.specs.declared.net.Net.{Net}
+use Rattle.host_link.specs.declared.line.Line.{Line}
+use Rattle.host_link.specs.declared.net.Net.{Net}
 use Rattle.host_state.specs.Fire.{at_time, has_acted, fire}
 use Rattle.host_state.specs.Fits.{model, fires_before_stop, IsEventOf, IsHostOf, IsLookaheadOf, IsShort, FiringsFit}
-use Rattle.host_state.specs.Home.{home, home_of}
+use Rattle.host_link.specs.Home.{home, home_of}
 use Rattle.host_state.specs.HostRecord.{HostRecord}
 use Rattle.host_state.proofs.Growth.{IsMade, IsSound, Grows, by_if}
 use Rattle.host_state.proofs.HostGrowth.{grows_acted}

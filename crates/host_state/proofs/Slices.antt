@@ -6,8 +6,8 @@ use Rattle.std.proofs.lemmas.Option.{slice_get_past}
 use Rattle.sim_base.specs.declared.event.What.TheVariants as what
 use Rattle.sim_base.specs.declared.signal.Signal.TheVariants.{SigXcpu}
 use Rattle.rv32_machine.specs.declared.outcome.TurnEnd.TheVariants as ends
-use Rattle.host_state.specs.Link.{LinkState, makes, later}
-use Rattle.host_state.specs.declared.process.Process.TheVariants as process
+use Rattle.host_link.specs.Link.{LinkState, makes, later}
+use Rattle.guest_process.specs.declared.process.Process.TheVariants as process
 use Rattle.rv32_machine.specs.declared.cpu.Cpu.{Cpu}
 use Rattle.rv32_machine.specs.declared.outcome.TurnEnd.{TurnEnd}
 use Rattle.rv32_machine.specs.Table.{state}
@@ -23,16 +23,17 @@ use Rattle.host_calls.specs.Calls.{call, PartsCalled}
 use Rattle.host_calls.specs.Events.{ended}
 use Rattle.host_calls.specs.Parts.{PartsRecord, PartsStand}
 use Rattle.host_state.specs.declared.host.Body.{Body}
-use Rattle.host_state.specs.declared.net.Net.{Net}
+use Rattle.host_link.specs.declared.net.Net.{Net}
 use Rattle.host_sockets.specs.declared.sockets.Sockets.{Sockets}
 use Rattle.host_sockets.specs.StandsFor.{Stand}
-use Rattle.host_state.specs.declared.process.Process.{Process}
+use Rattle.guest_process.specs.declared.process.Process.{Process}
 use Rattle.host_state.specs.Step.{Step}
 use Rattle.host_state.specs.Step as step
 use Rattle.host_state.specs.HostRecord.{HostRecord}
 use Rattle.host_state.specs.Host.{with_link, with_parts, with_process, settles}
 use Rattle.host_state.specs.Slice.{has_task, number_in, arguments_in, step_of, has_called, calls, closes, is_killed, by_turn_end, turns, with_task, runs_to_call, rests, has_ended, after_step, slice, follows, calls_again, goes_later, pause}
-use Rattle.host_state.specs.StandsFor.{BodyStands, StepStands, TurnStands, SlotTurns, Does, DoesStep, LeadsTo}
+use Rattle.host_state.specs.StandsFor.{BodyStands, StepStands, Does, DoesStep, LeadsTo}
+use Rattle.guest_process.specs.Turns.{TurnStands, SlotTurns}
 use Rattle.host_state.proofs.Seen.{seen, seen_all, stands_seen}
 
 none_there : {A : Type 0} (xs : List A) (p : ℕ) → nat_lt p (length xs) ≡ false → slice_get xs p ≡ None

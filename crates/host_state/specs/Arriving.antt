@@ -11,11 +11,11 @@ use Rattle.net_iface.specs.declared.lane.Pushed.{Pushed}
 use Rattle.net_iface.specs.declared.lane.Pushed.TheVariants.{Leaves, Waits, Dropped}
 use Rattle.host_calls.specs.Events.{arrives}
 use Rattle.host_calls.specs.Parts.{PartsRecord}
-use Rattle.host_state.specs.declared.net.Net.{Net}
+use Rattle.host_link.specs.declared.net.Net.{Net}
 use Rattle.host_state.specs.HostRecord.{HostRecord}
-use Rattle.host_state.specs.Link.{LinkState, logs}
-use Rattle.host_state.specs.Lanes.{pushes_down, releases_down}
-use Rattle.host_state.specs.Sending.{is_bootstrapping, makes_if, drop_all}
+use Rattle.host_link.specs.Link.{LinkState, logs}
+use Rattle.host_link.specs.Lanes.{pushes_down, releases_down}
+use Rattle.host_link.specs.Sending.{is_bootstrapping, makes_if, drop_all}
 use Rattle.host_state.specs.Host.{with_link, with_parts, settles}
 
 -- the sockets have a packet, which is logged before what they send

@@ -2,7 +2,7 @@
 use Rattle.std.specs.Prelude.{◌≡◌, List, [], ◌∷◌, ◌++◌}
 use Rattle.world_order.specs.World.{Logged}
 use Rattle.file_calls.specs.declared.task.Output.{Output}
-use Rattle.host_state.specs.declared.line.Line.{Line}
+use Rattle.host_link.specs.declared.line.Line.{Line}
 use Rattle.host_state.specs.HostRecord.{HostRecord}
 use Rattle.host_state.specs.World.{World}
 

@@ -13,22 +13,22 @@ use Rattle.file_calls.specs.declared.task.Why.{Why}
 use Rattle.host_calls.specs.Calls.{answers}
 use Rattle.host_calls.specs.Events.{alarmed}
 use Rattle.host_calls.specs.Starting.{task_starts}
-use Rattle.host_state.specs.declared.line.Line.{Line}
-use Rattle.host_state.specs.declared.net.Net.{Net}
-use Rattle.host_state.specs.declared.process.Process.{Process}
-use Rattle.host_state.specs.declared.process.Process.TheVariants as process
-use Rattle.host_state.specs.declared.process.Running.{Running}
-use Rattle.host_state.specs.declared.row.ProcessRow.{ProcessRow}
-use Rattle.host_state.specs.declared.row.Row.{Row}
-use Rattle.host_state.specs.declared.start.Started.{Started}
+use Rattle.host_link.specs.declared.line.Line.{Line}
+use Rattle.host_link.specs.declared.net.Net.{Net}
+use Rattle.guest_process.specs.declared.process.Process.{Process}
+use Rattle.guest_process.specs.declared.process.Process.TheVariants as process
+use Rattle.guest_process.specs.declared.process.Running.{Running}
+use Rattle.host_link.specs.declared.row.ProcessRow.{ProcessRow}
+use Rattle.host_link.specs.declared.row.Row.{Row}
+use Rattle.guest_process.specs.declared.start.Started.{Started}
 use Rattle.sim_base.specs.declared.signal.Signal.{Signal}
 use Rattle.host_state.specs.HostRecord.{HostRecord}
-use Rattle.host_state.specs.Link.{comes_to, without_made}
-use Rattle.host_state.specs.Sending.{up_comes}
+use Rattle.host_link.specs.Link.{comes_to, without_made}
+use Rattle.host_link.specs.Sending.{up_comes}
 use Rattle.host_state.specs.Host.{with_link, with_parts, on_wire, settles}
 use Rattle.host_state.specs.Arriving.{is_handed_over, comes_in, down_comes}
 use Rattle.host_state.specs.Slice.{calls_in_a_slice, has_task, is_killed, follows, goes_later, slice, calls_again}
-use Rattle.host_state.specs.Start.{texts_fit, start_cpu, start_memory}
+use Rattle.guest_process.specs.Start.{texts_fit, start_cpu, start_memory}
 use Rattle.world_order.specs.Model.{Fired}
 
 -- ---- Start: the process is made, and runs a slice

@@ -9,12 +9,12 @@ use Rattle.sim_base.specs.Addresses.{host_at}
 use Rattle.sim_base.specs.Packet.{packet_size}
 use Rattle.sim_base.specs.Units.{max_u64}
 use Rattle.net_iface.specs.Lane.{AllFit}
-use Rattle.host_state.specs.declared.line.Line.{Line}
-use Rattle.host_state.specs.declared.net.Net.{Net}
-use Rattle.host_state.specs.declared.row.Row.{Row}
-use Rattle.host_state.specs.Home.{home}
+use Rattle.host_link.specs.declared.line.Line.{Line}
+use Rattle.host_link.specs.declared.net.Net.{Net}
+use Rattle.host_link.specs.declared.row.Row.{Row}
+use Rattle.host_link.specs.Home.{home}
 use Rattle.host_state.specs.HostRecord.{HostRecord}
-use Rattle.host_state.specs.Sending.{route_from}
+use Rattle.host_link.specs.Sending.{route_from}
 use Rattle.sim_base.specs.Limits.{most_processes}
 use Rattle.host_state.specs.Fire.{fire}
 use Rattle.world_order.specs.Model.{Model, Fired}

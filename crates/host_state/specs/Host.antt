@@ -1,16 +1,13 @@
 -- What a host's parts do to the host: what its processes want is done at once, after each act.
-use Rattle.std.specs.Prelude.{ℕ, List, [], ◌∷◌, slice_set}
-use Rattle.sim_base.specs.declared.address.Ip.{Ip}
-use Rattle.sim_base.specs.declared.event.What.TheVariants as what
+use Rattle.std.specs.Prelude.{ℕ, slice_set}
 use Rattle.host_calls.specs.Parts.{PartsRecord}
-use Rattle.host_wants.specs.declared.outlet.Want.{Want}
-use Rattle.host_wants.specs.declared.outlet.Want.TheVariants.{Send, Alarm}
-use Rattle.host_wants.specs.Wanted.{Wanted, without_wants}
-use Rattle.host_state.specs.declared.net.Net.{Net}
-use Rattle.host_state.specs.declared.process.Process.{Process}
+use Rattle.host_wants.specs.Wanted.{Wanted}
+use Rattle.host_link.specs.declared.net.Net.{Net}
+use Rattle.guest_process.specs.declared.process.Process.{Process}
 use Rattle.host_state.specs.HostRecord.{HostRecord}
-use Rattle.host_state.specs.Link.{LinkState, makes}
-use Rattle.host_state.specs.Sending.{Wire, sends}
+use Rattle.host_link.specs.Link.{LinkState}
+use Rattle.host_link.specs.Sending.{Wire}
+use Rattle.host_link.specs.Wants.{does_wants}
 
 abbrev pub with_link : LinkState → HostRecord → HostRecord
 with_link link host = record host { link = link }
@@ -33,18 +30,6 @@ with_wire (link, outlet) host = record host { link = link; parts = with_outlet o
 
 abbrev pub on_wire : (Wire → Wire) → HostRecord → HostRecord
 on_wire act host = with_wire (act (wire_of host)) host
-
--- a packet that is wanted is sent, and an alarm is an event
-unfoldable pub does_want : Net → Ip → Want → Wire → Wire
-does_want net own (Send packet) wire = sends net own packet wire
-does_want net own (Alarm object serial due) (link, wanted) = (makes due (what.Alarm object serial) link, wanted)
-
-unfoldable pub does_all : Net → Ip → List Want → Wire → Wire
-does_all net own [] wire = wire
-does_all net own (want ∷ wants) wire = does_all net own wants (does_want net own want wire)
-
-unfoldable pub does_wants : Net → Ip → Wire → Wire
-does_wants net own (link, wanted) = does_all net own wanted.wants (link, without_wants wanted)
 
 -- the host's parts have acted: what they want is done, in order
 unfoldable pub settles : Net → HostRecord → HostRecord

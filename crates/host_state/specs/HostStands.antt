@@ -4,14 +4,14 @@ use Rattle.event_order.specs.Events.{has_key, with_event}
 use Rattle.sim_base.specs.declared.event.Event.{Event}
 use Rattle.world_order.specs.Model.{Fired}
 use Rattle.host_state.specs.declared.host.Host.{Host}
-use Rattle.host_state.specs.declared.line.Line.{Line}
-use Rattle.host_state.specs.declared.net.Net.{Net}
-use Rattle.host_state.specs.declared.outbox.Outbox.{Outbox}
-use Rattle.host_state.specs.declared.row.Row.{Row}
+use Rattle.host_link.specs.declared.line.Line.{Line}
+use Rattle.host_link.specs.declared.net.Net.{Net}
+use Rattle.host_link.specs.declared.outbox.Outbox.{Outbox}
+use Rattle.host_link.specs.declared.row.Row.{Row}
 use Rattle.host_state.specs.Fire.{fire, wrote}
 use Rattle.host_state.specs.HostRecord.{HostRecord}
 use Rattle.host_state.specs.Opening.{opening}
-use Rattle.host_state.specs.Outbox.{own_events, parcels_of, logged}
+use Rattle.host_link.specs.Outbox.{own_events, parcels_of, logged}
 use Rattle.host_state.specs.StandsFor.{BodyStands}
 
 -- between firings there is nothing to hand out

@@ -6,18 +6,18 @@ use Rattle.sim_base.specs.Units.{max_u64}
 use Rattle.net_iface.specs.Lane.{AllFit}
 use Rattle.file_calls.specs.declared.task.Output.{Output}
 use Rattle.host_state.specs.declared.host.Host.{Host}
-use Rattle.host_state.specs.declared.line.Line.{Line}
-use Rattle.host_state.specs.declared.line.Logged.{Logged}
-use Rattle.host_state.specs.declared.net.Net.{Net}
-use Rattle.host_state.specs.declared.outbox.Outbox.{Outbox}
+use Rattle.host_link.specs.declared.line.Line.{Line}
+use Rattle.host_link.specs.declared.line.Logged.{Logged}
+use Rattle.host_link.specs.declared.net.Net.{Net}
+use Rattle.host_link.specs.declared.outbox.Outbox.{Outbox}
 use Rattle.host_state.specs.Fire.{fire, wrote}
 use Rattle.host_state.specs.Fits.{model, IsEventOf}
-use Rattle.host_state.specs.Home.{home}
+use Rattle.host_link.specs.Home.{home}
 use Rattle.host_state.specs.HostRecord.{HostRecord}
 use Rattle.host_state.specs.HostStands.{Stands, with_events}
-use Rattle.host_state.specs.Link.{LinkState}
-use Rattle.host_state.specs.Outbox.{own_events, parcels_of, logged}
-use Rattle.host_state.specs.Parcels.{parcel_event}
+use Rattle.host_link.specs.Link.{LinkState}
+use Rattle.host_link.specs.Outbox.{own_events, parcels_of, logged}
+use Rattle.host_link.specs.Parcels.{parcel_event}
 use Rattle.world_order.specs.WholeTurns.{Ran, RunsTo}
 use Rattle.world_order.specs.World as order
 

@@ -16,13 +16,13 @@ use Rattle.file_calls.specs.declared.task.Task.{Task}
 use Rattle.host_calls.specs.Calls.{call}
 use Rattle.host_calls.specs.Events.{ended}
 use Rattle.host_calls.specs.Parts.{PartsRecord}
-use Rattle.host_state.specs.declared.net.Net.{Net}
-use Rattle.host_state.specs.declared.process.Process.TheVariants as process
-use Rattle.host_state.specs.Registers.{a0, a1, a2, a3, a4, a5, a7}
+use Rattle.host_link.specs.declared.net.Net.{Net}
+use Rattle.guest_process.specs.declared.process.Process.TheVariants as process
+use Rattle.guest_process.specs.Registers.{a0, a1, a2, a3, a4, a5, a7}
 use Rattle.host_state.specs.Step.{Step}
 use Rattle.host_state.specs.Step as step
 use Rattle.host_state.specs.HostRecord.{HostRecord}
-use Rattle.host_state.specs.Link.{makes, later}
+use Rattle.host_link.specs.Link.{makes, later}
 use Rattle.host_state.specs.Host.{with_link, with_parts, with_process, settles}
 
 -- a slice has at most so many answered calls, and the process pauses so many nanoseconds after them

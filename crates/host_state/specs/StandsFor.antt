@@ -1,17 +1,12 @@
 -- What a host of the code stands for.
-use Rattle.std.specs.Prelude.{◌≡◌, ℕ, ◌≤◌, List, Option, Some, None}
-use Rattle.rv32_machine.specs.declared.cpu.Cpu.{Cpu}
-use Rattle.rv32_machine.specs.declared.outcome.TurnEnd.{TurnEnd}
-use Rattle.rv32_machine.specs.Table.{state}
-use Rattle.rv32_machine.specs.Turn.{Turn, turn}
+use Rattle.std.specs.Prelude.{◌≡◌, ◌≤◌, List}
 use Rattle.sim_base.specs.declared.time.Time.{Time}
 use Rattle.world_order.specs.Model.{Fired}
 use Rattle.file_calls.specs.declared.task.Output.{Output}
-use Rattle.file_calls.specs.declared.task.Task.{Task}
 use Rattle.host_calls.specs.Parts.{PartsStand}
 use Rattle.host_state.specs.declared.host.Body.{Body}
-use Rattle.host_state.specs.declared.firing.Made.{Made}
-use Rattle.host_state.specs.declared.line.Line.{Line}
+use Rattle.host_link.specs.declared.outbox.Made.{Made}
+use Rattle.host_link.specs.declared.line.Line.{Line}
 use Rattle.host_state.specs.Step.{Step}
 use Rattle.host_state.specs.HostRecord.{HostRecord}
 
@@ -44,18 +39,6 @@ pub record HandsOut (f : Fired HostRecord Line) (wrote : List Output) (made : Ma
 
 abbrev pub DoesStep : (HostRecord → Step × HostRecord) → Step → Body → Body → Type 0
 DoesStep act step old new = (h : HostRecord) → BodyStands old h → StepStands step new (act h)
-
--- a turn leaves these registers and this process, and ended so
-pub record TurnStands (t : Turn) (registers : Cpu) (old new : Task) (ended : TurnEnd) : Type 0 where
-  pub cpu : registers ≡ t.state.cpu
-  pub task : new ≡ record old { memory = t.state.memory }
-  pub end : ended ≡ t.end
-
--- the same, where the process is there; where it isn't, nothing happens
-abbrev pub SlotTurns : ℕ → Cpu → Option Task → Cpu → Option Task → Option TurnEnd → Type 0
-SlotTurns budget cpu (Some old) new_cpu (Some new) (Some end) = TurnStands (turn budget (state cpu old.memory)) new_cpu old new end
-SlotTurns budget cpu None new_cpu None None = new_cpu ≡ cpu
-SlotTurns budget cpu _ new_cpu _ _ = ⊥
 
 -- a body stands for a record from which an act leads to the whole
 pub record LeadsTo (act : HostRecord → HostRecord) (c : Body) (whole : HostRecord) : Type 0 where

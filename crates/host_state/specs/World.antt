@@ -1,9 +1,9 @@
 -- The world of all hosts: where a run begins, and its result.
 use Rattle.std.specs.Prelude.{◌≡◌, ◌≤◌, ℕ, List, [], length, map, flat_map, Some, slice_get}
 use Rattle.sim_base.specs.Units.{latest_time}
-use Rattle.host_state.specs.declared.line.Line.{Line}
-use Rattle.host_state.specs.declared.net.Net.{Net}
-use Rattle.host_state.specs.declared.row.Row.{Row}
+use Rattle.host_link.specs.declared.line.Line.{Line}
+use Rattle.host_link.specs.declared.net.Net.{Net}
+use Rattle.host_link.specs.declared.row.Row.{Row}
 use Rattle.host_state.specs.Opening.{opening}
 use Rattle.host_state.specs.Fits.{FitsNet, model}
 use Rattle.host_state.specs.HostRecord.{HostRecord}

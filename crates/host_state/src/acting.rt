@@ -2,54 +2,17 @@
 
 ghost use Rattle.std.specs.Prelude.{◌≤◌, OnOk};
 ghost use Rattle.sim_base.specs.Packet.{packet_size};
-ghost use Rattle.host_state.specs.Sending.{IsWire, up_comes};
+ghost use Rattle.host_link.specs.Sending.{up_comes};
 ghost use Rattle.host_state.specs.StandsFor.{Does};
 ghost use Rattle.host_state.specs.Host as spec;
 ghost use Rattle.host_state.specs.Arriving as arriving;
 ghost use Rattle.host_state.specs.Fire as fire;
 
 use crate::host::Body;
-use crate::link::Link;
-use crate::net::Net;
 use host_calls::{alarm, deliver};
-use host_wants::{Outlet, Want};
+use host_link::Net;
 use net_iface::Pushed;
-use sim_base::{Act, Ip, MAX_PACKET, NoMemory, ObjectId, Packet, What};
-
-impl Link {
-    /// A packet that is wanted is sent, and an alarm is an event.
-    #[tactic(auto, unfolding(crate::specs::Host::does_want))]
-    fn do_want(
-        &mut self,
-        outlet: &mut Outlet,
-        net: &Net,
-        own: Ip,
-        want: Want,
-    ) -> Result<(), NoMemory>
-        ensures { OnOk result (IsWire self.new outlet.new (spec.does_want net.now own want (self.old, outlet.old))) }
-    {
-        match want {
-            Want::Send(packet) => self.send(outlet, net, own, packet),
-            Want::Alarm {
-                object,
-                serial,
-                due,
-            } => self.make(due, What::Alarm { object, serial }),
-        }
-    }
-
-    /// What is wanted is done, in order.
-    #[tactic(auto, unfolding(crate::specs::Host::does_wants, crate::specs::Host::does_all))]
-    fn do_wants(&mut self, outlet: &mut Outlet, net: &Net, own: Ip) -> Result<(), NoMemory>
-        ensures { OnOk result (IsWire self.new outlet.new (spec.does_wants net.now own (self.old, outlet.old))) }
-    {
-        let wants = outlet.take_wants();
-        for want in wants {
-            self.do_want(outlet, net, own, want)?;
-        }
-        Ok(())
-    }
-}
+use sim_base::{Act, MAX_PACKET, NoMemory, ObjectId, Packet, What};
 
 impl Body {
     /// The parts have acted: what they want is done.

@@ -8,13 +8,10 @@ ghost use Rattle.file_calls.specs.declared.task.Output.{Output};
 ghost use Rattle.host_state.specs.Fire as spec;
 
 use crate::host::Body;
-use crate::line::Line;
-use crate::net::Net;
-use crate::process::{Process, Running};
-use crate::row::Row;
-use crate::start::{Started, start_guest, texts_fit};
-use file_calls::{Output, Why};
+use file_calls::Why;
+use guest_process::{Process, Running, Started, start_guest, texts_fit};
 use host_calls::{answers_now, start_task};
+use host_link::{Made, Net, Row};
 use sim_base::{Event, NoMemory, Signal, What};
 use std::alloc::Global;
 
@@ -26,15 +23,6 @@ const EVENT_WORK: u64 = 100;
 
 /// How many processes a host may have.
 const MOST_PROCESSES: usize = 64;
-
-/// What a firing made: events, in the order of their numbers, lines of the log, and what processes
-/// wrote.
-#[derive(Drop)]
-pub(crate) struct Made {
-    pub(crate) events: Vec<Event>,
-    pub(crate) lines: Vec<Line>,
-    pub(crate) outputs: Vec<Output>,
-}
 
 /// The start of a process, where there is one and its texts fit a stack.
 #[tactic(auto, unfolding(crate::specs::Fire::ready))]

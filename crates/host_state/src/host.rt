@@ -1,22 +1,18 @@
 //! What a host is.
 
-ghost use Rattle.std.specs.Prelude.{◌≡◌, ◌≤◌, ◌<◌, ◌∷◌, ◌^◌, [], false, length, replicate, option_map, slice_get, IfOk, IfErr, IfSome, IfNone, OnOk, OnErr, All};
+ghost use Rattle.std.specs.Prelude.{◌≡◌, ◌≤◌, ◌<◌, ◌∷◌, [], false, length, replicate, option_map, slice_get, IfOk, IfErr, IfSome, IfNone, OnOk, OnErr, All};
 ghost use Rattle.sim_base.specs.Limits.{most_processes};
 ghost use Rattle.sim_base.specs.Units.{latest_time};
 ghost use Rattle.event_order.specs.Events.{IsBefore, IsLeastDue, IsOrdered, has_key, with_event};
 ghost use Rattle.host_state.specs.HostRecord.{HostRecord, process_state};
 ghost use Rattle.host_state.specs.HostStands.{Stands, Fires, Begins, IsSameBody, with_events};
-ghost use Rattle.host_state.specs.Opening as opening;
-ghost use Rattle.host_state.specs.declared.process.Process.TheVariants as process;
+ghost use Rattle.guest_process.specs.declared.process.Process.TheVariants as process;
 
-use crate::link::Link;
-use crate::net::Net;
-use crate::outbox::Outbox;
-use crate::process::Process;
-use crate::row::{ProcessRow, Row};
 use event_order::{Queue, Refused};
+use guest_process::Process;
 use host_calls::Parts;
-use sim_base::{Draws, Event, NoMemory, State, Time, What};
+use host_link::{Link, Net, Outbox, Row};
+use sim_base::{Draws, Event, NoMemory, State, Time};
 use std::alloc::Global;
 
 /// A host without the events that it holds. Its work is about what it had to do so far, as a number of instructions: no clause
@@ -46,31 +42,6 @@ fn not_started(alloc: Global, count: usize) -> Result<Vec<Process>, NoMemory>
         processes.push(Process::NotStarted)?;
     }
     Ok(processes)
-}
-
-impl Link {
-    /// The start of a process, and its shutdown, where there is one.
-    fn begin_process(&mut self, process: u32, row: &ProcessRow) -> Result<(), NoMemory>
-        ensures { OnOk result (self.new ≡ opening.begins_process process row.now self.old) }
-    {
-        self.number_event(row.start, What::Start(process))?;
-        match row.shutdown {
-            Some(due) => self.number_event(due, What::Shutdown(process)),
-            None => Ok(()),
-        }
-    }
-
-    /// The starts and shutdowns of all processes.
-    #[tactic(auto, unfolding(crate::specs::Opening::begins_all))]
-    fn begin_all(&mut self, rows: &[ProcessRow]) -> Result<(), NoMemory>
-        requires { length rows.now ≤ 2 ^ 32 }
-        ensures { OnOk result (self.new ≡ opening.begins_all 0 rows.now self.old) }
-    {
-        for (process, row) in rows.iter().enumerate() {
-            self.begin_process(process as u32, row)?;
-        }
-        Ok(())
-    }
 }
 
 /// A queue of events, no two of which have the same key.

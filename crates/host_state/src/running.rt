@@ -8,8 +8,7 @@ ghost use Rattle.host_state.specs.HostStands.{Stands};
 ghost use Rattle.host_state.specs.Running.{MayRun, FiresOn, RunsUntil};
 
 use crate::host::{Host, add_events};
-use crate::net::Net;
-use crate::outbox::Outbox;
+use host_link::{Net, Outbox};
 use sim_base::{Event, NoMemory, Time};
 use std::mem;
 

@@ -2,24 +2,19 @@
 
 ghost use Rattle.std.specs.Prelude.{◌≡◌, ◌<◌, None, nat_lt, IfOk, OnOk, length};
 ghost use Rattle.std.specs.Bool.{OnTrue};
-ghost use Rattle.rv32_machine.specs.Table.{state};
-ghost use Rattle.rv32_machine.specs.Turn.{turn};
-ghost use Rattle.host_state.specs.StandsFor.{Does, DoesStep, TurnStands, SlotTurns};
+ghost use Rattle.host_state.specs.StandsFor.{Does, DoesStep};
 ghost use Rattle.host_state.specs.Host as acting;
 ghost use Rattle.host_state.specs.Slice as spec;
 ghost use Rattle.host_state.specs.Step.{step_with};
 ghost use Rattle.host_state.specs.Step as step;
 
 use crate::host::Body;
-use crate::link::later;
-use crate::net::Net;
-use crate::process::{Process, Running};
-use file_calls::{Task, Why};
+use file_calls::Why;
+use guest_process::{Process, Running, turn_slot};
 use host_calls::{Answer, close_all, do_call};
-use rv32_machine::{Cpu, Steps, TurnEnd};
+use host_link::{Net, later};
+use rv32_machine::{Cpu, TurnEnd};
 use sim_base::{NoMemory, Signal, State, What};
-use std::marker::Brand;
-use std::sync::ledger::{Blank, Ledger};
 
 /// How many calls are answered in a slice.
 const CALLS: u32 = 100;
@@ -27,50 +22,12 @@ const CALLS: u32 = 100;
 /// How many nanoseconds a process pauses after them.
 const PAUSE: u64 = 100_000;
 
-/// What a call counts for, beside the instructions that ran before it, as a number of instructions.
-const CALL_WORK: u64 = 30;
-
 /// How a process goes on after a call. Its registers stay where they stand.
 #[derive(Clone, Copy)]
 pub enum Next {
     GoesOn,
     Blocks,
     Ends(State),
-}
-
-fn turn_counted<L: Ledger>(
-    cpu: &mut Cpu,
-    task: &mut Task,
-    budget: u64,
-    work: &mut u64,
-    blank: Blank,
-) -> TurnEnd
-    requires name { blank.name ≡ L.name }
-    requires parts { blank.parts ≡ L.parts }
-    requires some { 0 < L.parts }
-    ensures { TurnStands (turn budget (state cpu.old task.old.memory)) cpu.new task.old task.new result }
-{
-    let mut steps = Steps::<L>::new(blank);
-    let end = rv32_machine::turn(cpu, &mut task.memory, budget, &mut steps);
-    *work = work.saturating_add(steps.told()).saturating_add(CALL_WORK);
-    end
-}
-
-/// Runs a process up to its next call, to a trap, or as long as its budget lasts, and adds that to the work.
-fn turn_task(cpu: &mut Cpu, task: &mut Task, budget: u64, work: &mut u64) -> TurnEnd
-    ensures { TurnStands (turn budget (state cpu.old task.old.memory)) cpu.new task.old task.new result }
-{
-    turn_counted::<Brand>(cpu, task, budget, work, Blank::new(1))
-}
-
-/// The same, where the process is there.
-fn turn_slot(cpu: &mut Cpu, slot: &mut Option<Task>, budget: u64, work: &mut u64) -> Option<TurnEnd>
-    ensures { SlotTurns budget cpu.old slot.old cpu.new slot.new result }
-{
-    match slot {
-        Some(task) => Some(turn_task(cpu, task, budget, work)),
-        None => None,
-    }
 }
 
 /// How a process goes on after a call: the value of an answer goes to its registers.

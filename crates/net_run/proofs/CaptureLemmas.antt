@@ -11,12 +11,12 @@ use Rattle.sim_base.specs.declared.outside.sink.Place.{Place}
 use Rattle.sim_base.specs.declared.outside.sink.Place.TheVariants as place
 use Rattle.out_text.specs.Files.{capture_name}
 use Rattle.pcap_text.specs.Writing.{head}
-use Rattle.host_state.specs.Captured.{capture_files, files_by, host_captures, captured_by, captured_from, no_head}
-use Rattle.host_state.specs.Captures.{is_at, is_on_eth0, is_on_lo, eth0_of, lo_of, line_record, records_of}
-use Rattle.host_state.specs.Files.{Put}
-use Rattle.host_state.specs.Listed.{HostNames, by_host}
-use Rattle.host_state.specs.declared.files.capture.Captured.{Captured}
-use Rattle.host_state.specs.declared.line.Line.{Line}
+use Rattle.run_files.specs.Captured.{capture_files, files_by, host_captures, captured_by, captured_from, no_head}
+use Rattle.run_files.specs.Captures.{is_at, is_on_eth0, is_on_lo, eth0_of, lo_of, line_record, records_of}
+use Rattle.run_files.specs.Files.{Put}
+use Rattle.run_files.specs.Listed.{HostNames, by_host}
+use Rattle.run_files.specs.declared.capture.Captured.{Captured}
+use Rattle.host_link.specs.declared.line.Line.{Line}
 use Rattle.net_run.specs.Heads.{heads_by, all_heads}
 use Rattle.net_run.specs.Places.{is_place, is_touched}
 use Rattle.net_run.proofs.FileLemmas.{place-of_file, same-place}

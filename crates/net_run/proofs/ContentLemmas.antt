@@ -7,7 +7,7 @@ use Rattle.sim_base.specs.Files.{Held}
 use Rattle.sim_base.specs.Sink.{Content, add}
 use Rattle.sim_base.specs.declared.outside.sink.Place.{Place}
 use Rattle.sim_base.specs.declared.outside.sink.Place.TheVariants as place
-use Rattle.host_state.specs.Files.{Put}
+use Rattle.run_files.specs.Files.{Put}
 use Rattle.net_run.specs.Pieces.{with_pieces}
 use Rattle.net_run.specs.Places.{is_place, bytes_at, is_touched}
 

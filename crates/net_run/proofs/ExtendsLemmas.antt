@@ -3,10 +3,10 @@ use Rattle.std.proofs.Common.{List, [], ◌∷◌, ap, ◌∙◌}
 use Rattle.std.proofs.lemmas.List.{map-append}
 use Rattle.file_calls.specs.declared.task.Output.{Output}
 use Rattle.host_state.specs.Extends.{AreLater, Extends}
-use Rattle.host_state.specs.Grown.{AreGained, Gains}
+use Rattle.host_state.specs.Gains.{AreGained, Gains}
 use Rattle.host_state.specs.HostRecord.{HostRecord}
-use Rattle.host_state.specs.Logs.{lines_of}
-use Rattle.host_state.specs.declared.line.Line.{Line}
+use Rattle.host_link.specs.Logs.{lines_of}
+use Rattle.host_link.specs.declared.line.Line.{Line}
 use Rattle.host_state.proofs.Gaining.{rows-kept}
 use Rattle.net_run.specs.World.{World}
 use Rattle.net_run.proofs.HostLemmas.{written_by}

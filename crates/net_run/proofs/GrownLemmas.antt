@@ -8,25 +8,26 @@ use Rattle.sim_base.specs.declared.outside.sink.Place.TheVariants as place
 use Rattle.file_calls.specs.declared.task.Output.{Output}
 use Rattle.host_state.specs.HostRecord.{HostRecord}
 use Rattle.host_state.specs.Opening.{opening}
-use Rattle.host_state.specs.declared.line.Line.{Line}
-use Rattle.host_state.specs.declared.row.Row.{Row}
+use Rattle.host_link.specs.declared.line.Line.{Line}
+use Rattle.host_link.specs.declared.row.Row.{Row}
 use Rattle.out_text.specs.Files.{file_name}
 use Rattle.out_text.specs.declared.files.FileKind.TheVariants as kind
 use Rattle.host_state.proofs.Gaining.{names-kept}
 use Rattle.pcap_text.specs.Writing.{head}
-use Rattle.host_state.specs.Captured.{all_captures}
-use Rattle.host_state.specs.Grown.{process_grown, host_grown, hosts_grown, all_grown, grown_behind, with_bytes, Gains}
+use Rattle.run_files.specs.Captured.{all_captures}
+use Rattle.run_files.specs.Grown.{process_grown, host_grown, hosts_grown, all_grown, grown_behind, with_bytes}
+use Rattle.host_state.specs.Gains.{Gains, names_in}
 use Rattle.net_run.specs.Grown.{grown_in, IsGrown, HaveOwnFiles}
-use Rattle.host_state.specs.Listed.{HostNames, listed, names_in, by_process}
-use Rattle.host_state.specs.Files.{Put, first_id, log_name}
+use Rattle.run_files.specs.Listed.{HostNames, listed, by_process}
+use Rattle.run_files.specs.Files.{Put, first_id, log_name}
 use Rattle.net_run.specs.Heads.{all_heads}
 use Rattle.net_run.specs.Pieces.{with_pieces}
 use Rattle.net_run.specs.Places.{is_place, bytes_at, is_touched}
 use Rattle.net_run.specs.Rest.{rest_in}
 use Rattle.net_run.specs.Shown.{run_pieces, captures_in}
-use Rattle.host_state.specs.Logs.{lines_of}
+use Rattle.host_link.specs.Logs.{lines_of}
 use Rattle.net_run.specs.World.{World, opening_world}
-use Rattle.host_state.specs.declared.files.listed.ProcessListing.{ProcessListing}
+use Rattle.run_files.specs.declared.listed.ProcessListing.{ProcessListing}
 use Rattle.net_run.proofs.CaptureLemmas.{heads-are, heads-touched}
 use Rattle.net_run.proofs.ContentLemmas.{same-content}
 use Rattle.net_run.proofs.GrowthLemmas.{empty}

@@ -10,12 +10,12 @@ use Rattle.out_text.specs.Files.{file_name}
 use Rattle.out_text.specs.Laws.{lacks}
 use Rattle.out_text.specs.declared.files.FileKind.{FileKind}
 use Rattle.out_text.specs.declared.files.FileKind.TheVariants as kind
-use Rattle.host_state.specs.Grown.{process_grown}
-use Rattle.host_state.specs.Listed.{by_process}
-use Rattle.host_state.specs.Files.{Put, first_id, written_to}
+use Rattle.run_files.specs.Grown.{process_grown}
+use Rattle.run_files.specs.Listed.{by_process}
+use Rattle.run_files.specs.Files.{Put, first_id, written_to}
 use Rattle.net_run.specs.Places.{is_place, is_touched}
 use Rattle.net_run.specs.Shown.{files_named}
-use Rattle.host_state.specs.declared.files.listed.ProcessListing.{ProcessListing}
+use Rattle.run_files.specs.declared.listed.ProcessListing.{ProcessListing}
 use Rattle.net_run.proofs.FileLemmas.{IsNamed, IsFileOf, place-of_file, same-place, touched-named, other-file}
 use Rattle.net_run.proofs.NameLemmas.{same-file}
 use Rattle.net_run.proofs.SplitLemmas.{touched-append, Splits, splits-append}

@@ -9,18 +9,20 @@ use Rattle.std.proofs.lemmas.Slice.Eq.{bytes_eq-Decides}
 use Rattle.sim_base.specs.declared.outside.sink.Place.{Place}
 use Rattle.sim_base.specs.declared.state.State.{State}
 use Rattle.file_calls.specs.declared.task.Output.{Output}
-use Rattle.host_state.specs.HostRecord.{HostRecord, state_of, state_in, process_state}
-use Rattle.host_state.specs.declared.process.Process.{Process}
-use Rattle.host_state.specs.declared.row.ProcessRow.{ProcessRow}
+use Rattle.host_state.specs.HostRecord.{HostRecord, state_in, process_state}
+use Rattle.guest_process.specs.States.{state_of}
+use Rattle.guest_process.specs.declared.process.Process.{Process}
+use Rattle.host_link.specs.declared.row.ProcessRow.{ProcessRow}
 use Rattle.out_text.specs.Files.{state_line}
-use Rattle.host_state.specs.Grown.{process_grown, host_grown, hosts_grown, AreGained}
+use Rattle.run_files.specs.Grown.{process_grown, host_grown, hosts_grown}
+use Rattle.host_state.specs.Gains.{AreGained}
 use Rattle.net_run.specs.Grown.{HaveOwnFiles}
-use Rattle.host_state.specs.Listed.{HostNames, HasIds, listed, listed_process, by_process, by_host}
-use Rattle.host_state.specs.Files.{Put, first_id, program_of, written_to}
+use Rattle.run_files.specs.Listed.{HostNames, HasIds, listed, listed_process, by_process, by_host}
+use Rattle.run_files.specs.Files.{Put, first_id, program_of, written_to}
 use Rattle.net_run.specs.Places.{is_touched}
 use Rattle.net_run.specs.Rest.{state_at, process_rest, host_rest, hosts_rest}
 use Rattle.net_run.specs.Shown.{files_named, files_from, host_files}
-use Rattle.host_state.specs.declared.files.listed.ProcessListing.{ProcessListing}
+use Rattle.run_files.specs.declared.listed.ProcessListing.{ProcessListing}
 use Rattle.net_run.proofs.FileLemmas.{IsFileOf, touched-named, other-file}
 use Rattle.net_run.proofs.GrowthLemmas.{HasNoSlash, whole-of_process, more-grown, touched-two, touched-processes, splits-processes}
 use Rattle.net_run.proofs.NameLemmas.{program-is_plain}

@@ -3,10 +3,10 @@ use Rattle.std.proofs.Common.{◌≡◌, ℕ, ◌+◌, ◌<◌, true, false, Lis
 use Rattle.sim_base.specs.declared.outside.sink.Place.TheVariants as place
 use Rattle.out_text.specs.Files.{capture_name}
 use Rattle.pcap_text.specs.Writing.{head}
-use Rattle.host_state.specs.Files.{Put}
+use Rattle.run_files.specs.Files.{Put}
 use Rattle.net_run.specs.Heads.{heads_by}
 use Rattle.net_run.specs.Shown.{note_puts}
-use Rattle.host_state.proofs.Listings.{drop_at}
+use Rattle.run_files.proofs.Listings.{drop_at}
 
 pub notes-step : (notes : List (List ℕ)) (i : ℕ) (note : List ℕ) (old new whole : List Put) → i < length notes → note ≡ get_or notes i note
     → new ≡ old ++ note_puts (note ∷ []) → old ++ note_puts (drop i notes) ≡ whole → new ++ note_puts (drop (i + 1) notes) ≡ whole

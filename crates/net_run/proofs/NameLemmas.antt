@@ -12,7 +12,7 @@ use Rattle.out_text.specs.declared.files.FileKind.{FileKind}
 use Rattle.out_text.specs.declared.files.FileKind.TheVariants.{Stdout, Stderr, Exit}
 use Rattle.out_text.proofs.Cuts.{cut_at_last}
 use Rattle.out_text.proofs.Words.{decimal_lacks, both_lack, kind_word, kind_lacks_dot, suffix_is, same_kind}
-use Rattle.host_state.specs.Files.{log_name, last_part, program_of}
+use Rattle.run_files.specs.Files.{log_name, last_part, program_of}
 
 -- ---- what a name tells
 

@@ -1,9 +1,9 @@
 -- Pieces that are put one after another.
 use Rattle.std.proofs.Common.{◌≡◌, ℕ, zero, suc, ◌+◌, ◌<◌, List, [], ◌∷◌, length, get_or, drop, map, Option, Some, None, option_map, refl, sym, ap, ◌∙◌, arith, Result, Ok, Err, OnErr}
 use Rattle.sim_base.specs.Sink.{Content, add}
-use Rattle.host_state.specs.Files.{Put, put_of}
+use Rattle.run_files.specs.Files.{Put, put_of}
 use Rattle.net_run.specs.Pieces.{with_pieces}
-use Rattle.host_state.specs.declared.files.piece.Piece.{Piece}
+use Rattle.run_files.specs.declared.piece.Piece.{Piece}
 
 -- the pieces from one on are that one and those behind it
 drop_puts : (ps : List Piece) (i : ℕ) (p : Piece) → i < length ps → p ≡ get_or ps i p → drop i (map put_of ps) ≡ put_of p ∷ drop (suc i) (map put_of ps)

@@ -4,8 +4,8 @@ use Rattle.std.specs.Prelude.{if◌then◌else◌, ◌||◌}
 use Rattle.std.proofs.lemmas.Grind.{flat_map-append}
 use Rattle.std.proofs.lemmas.List.Folds.{list_any-append}
 use Rattle.sim_base.specs.declared.outside.sink.Place.{Place}
-use Rattle.host_state.specs.Grown.{with_bytes}
-use Rattle.host_state.specs.Files.{Put}
+use Rattle.run_files.specs.Grown.{with_bytes}
+use Rattle.run_files.specs.Files.{Put}
 use Rattle.net_run.specs.Places.{is_place, bytes_at, is_touched}
 use Rattle.net_run.proofs.ContentLemmas.{untouched-bytes}
 

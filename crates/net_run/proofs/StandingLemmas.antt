@@ -5,12 +5,12 @@ use Rattle.sim_base.specs.Sink.{Content}
 use Rattle.sim_base.specs.declared.outside.sink.Place.{Place}
 use Rattle.sim_base.specs.declared.outside.sink.Place.TheVariants as place
 use Rattle.file_calls.specs.declared.task.Output.{Output}
-use Rattle.host_state.specs.declared.line.Line.{Line}
-use Rattle.host_state.specs.Grown.{all_grown, Gains}
+use Rattle.host_link.specs.declared.line.Line.{Line}
+use Rattle.run_files.specs.Grown.{all_grown}
+use Rattle.host_state.specs.Gains.{Gains, names_in}
 use Rattle.net_run.specs.Grown.{grown_in, IsGrown, HaveOwnFiles}
-use Rattle.host_state.specs.Listed.{names_in}
 use Rattle.net_run.specs.Parts.{IsFrontOf, IsPrefix, Grows, Between}
-use Rattle.host_state.specs.Files.{Put}
+use Rattle.run_files.specs.Files.{Put}
 use Rattle.net_run.specs.Pieces.{with_pieces}
 use Rattle.net_run.specs.Places.{bytes_at, is_touched}
 use Rattle.net_run.specs.Rest.{rest_in}

@@ -8,22 +8,24 @@ use Rattle.sim_base.specs.declared.act.Act.{Act}
 use Rattle.sim_base.specs.declared.outside.sink.Place.TheVariants as place
 use Rattle.sim_base.specs.declared.state.State.{State}
 use Rattle.sim_base.specs.declared.state.State.TheVariants.{NotStarted}
-use Rattle.host_state.specs.HostRecord.{HostRecord, state_of}
+use Rattle.host_state.specs.HostRecord.{HostRecord}
+use Rattle.guest_process.specs.States.{state_of}
 use Rattle.host_state.specs.Opening.{opening}
-use Rattle.host_state.specs.declared.line.Line.{Line}
-use Rattle.host_state.specs.declared.row.Row.{Row}
+use Rattle.host_link.specs.declared.line.Line.{Line}
+use Rattle.host_link.specs.declared.row.Row.{Row}
 use Rattle.out_text.specs.Files.{state_line}
 use Rattle.out_text.specs.Summary.{is_send, is_lost, is_recv, acts_counted, summary_of}
 use Rattle.out_text.specs.declared.log.LogLine.{LogLine}
 use Rattle.net_run.specs.Grown.{HaveOwnFiles}
-use Rattle.host_state.specs.Listed.{HostNames, HasIds, listed, listed_process, names_in, by_process, by_host}
-use Rattle.host_state.specs.Files.{Put, first_id, log_name}
+use Rattle.run_files.specs.Listed.{HostNames, HasIds, listed, listed_process, by_process, by_host}
+use Rattle.host_state.specs.Gains.{names_in}
+use Rattle.run_files.specs.Files.{Put, first_id, log_name}
 use Rattle.net_run.specs.Rest as rest
 use Rattle.net_run.specs.Rest.{state_at, states_in, TellsStates, all_rest, rest_in, ending, summary_in, summary_rest}
 use Rattle.net_run.specs.Shown.{files_named, unmet_by, named, named_log, status_by, status_of}
-use Rattle.host_state.specs.Logs.{lines_of}
+use Rattle.host_link.specs.Logs.{lines_of}
 use Rattle.net_run.specs.World.{World, opening_world}
-use Rattle.host_state.specs.declared.files.listed.ProcessListing.{ProcessListing}
+use Rattle.run_files.specs.declared.listed.ProcessListing.{ProcessListing}
 use Rattle.net_run.proofs.HostLemmas.{names_of_hosts, states_by, state-of_host}
 use Rattle.net_run.proofs.WholeLemmas.{unmet-of_world}
 

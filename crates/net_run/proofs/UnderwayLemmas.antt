@@ -5,14 +5,15 @@ use Rattle.sim_base.specs.declared.state.State.{State}
 use Rattle.file_calls.specs.declared.task.Output.{Output}
 use Rattle.host_state.specs.Extends.{Extends}
 use Rattle.host_state.specs.HostRecord.{HostRecord}
-use Rattle.host_state.specs.declared.line.Line.{Line}
-use Rattle.host_state.specs.declared.row.Row.{Row}
-use Rattle.host_state.specs.Grown.{all_grown, with_bytes, Gains}
+use Rattle.host_link.specs.declared.line.Line.{Line}
+use Rattle.host_link.specs.declared.row.Row.{Row}
+use Rattle.run_files.specs.Grown.{all_grown, with_bytes}
+use Rattle.host_state.specs.Gains.{Gains, names_in}
 use Rattle.net_run.specs.Grown.{IsGrown, HaveOwnFiles, IsUnderway}
-use Rattle.host_state.specs.Listed.{HostNames, listed, names_in}
+use Rattle.run_files.specs.Listed.{HostNames, listed}
 use Rattle.net_run.specs.Heads.{all_heads}
 use Rattle.net_run.specs.Parts.{Between}
-use Rattle.host_state.specs.Files.{Put}
+use Rattle.run_files.specs.Files.{Put}
 use Rattle.net_run.specs.Pieces.{with_pieces}
 use Rattle.net_run.specs.Rest.{all_rest, rest_in, summary_in, TellsStates}
 use Rattle.net_run.specs.Shown.{run_pieces}

@@ -7,24 +7,26 @@ use Rattle.sim_base.specs.declared.outside.sink.Place.{Place}
 use Rattle.sim_base.specs.declared.outside.sink.Place.TheVariants as place
 use Rattle.sim_base.specs.declared.state.State.{State}
 use Rattle.file_calls.specs.declared.task.Output.{Output}
-use Rattle.host_state.specs.HostRecord.{HostRecord, state_of, process_state}
-use Rattle.host_state.specs.declared.line.Line.{Line}
-use Rattle.host_state.specs.declared.row.ProcessRow.{ProcessRow}
+use Rattle.host_state.specs.HostRecord.{HostRecord, process_state}
+use Rattle.guest_process.specs.States.{state_of}
+use Rattle.host_link.specs.declared.line.Line.{Line}
+use Rattle.host_link.specs.declared.row.ProcessRow.{ProcessRow}
 use Rattle.out_text.specs.Files.{state_text, process_text}
 use Rattle.out_text.specs.Faults.{unmet_line}
 use Rattle.out_text.specs.Log.{log_line}
 use Rattle.out_text.specs.declared.log.LogLine.{LogLine}
 use Rattle.pcap_text.specs.Writing.{head}
-use Rattle.host_state.specs.Captured.{all_captures, no_head}
-use Rattle.host_state.specs.Grown.{AreGained, listed_name, told_line, log_grown, hosts_grown, all_grown, grown_behind, host_grown}
+use Rattle.run_files.specs.Captured.{all_captures, no_head}
+use Rattle.host_state.specs.Gains.{AreGained, names_in}
+use Rattle.run_files.specs.Grown.{listed_name, told_line, log_grown, hosts_grown, all_grown, grown_behind, host_grown}
 use Rattle.net_run.specs.Grown.{grown_in}
-use Rattle.host_state.specs.Listed.{HostNames, listed_process, names_in, by_process}
-use Rattle.host_state.specs.Files.{Put, first_id, program_of, log_name, expected_state}
+use Rattle.run_files.specs.Listed.{HostNames, listed_process, by_process}
+use Rattle.run_files.specs.Files.{Put, first_id, program_of, log_name, expected_state}
 use Rattle.net_run.specs.Places.{is_place, bytes_at, is_touched}
 use Rattle.net_run.specs.Rest as rest
 use Rattle.net_run.specs.Rest.{ending, rest_in, states_in, summary_in, summary_rest}
 use Rattle.net_run.specs.Shown.{name_of, named, named_log, log_file, host_files, captures_in, unmet, unmet_by, process_unmet, unmet_from, host_unmet, meets, summary, run_pieces}
-use Rattle.host_state.specs.Logs.{lines_of}
+use Rattle.host_link.specs.Logs.{lines_of}
 use Rattle.net_run.specs.World.{World}
 use Rattle.net_run.proofs.CaptureLemmas.{IsCapture, some-capture, more-captures}
 use Rattle.net_run.proofs.ContentLemmas.{untouched-bytes}

@@ -4,12 +4,13 @@ use Rattle.std.specs.List.{IsDistinct}
 use Rattle.std.specs.Str.{bytes_eq}
 use Rattle.sim_base.specs.Sink.{Content}
 use Rattle.sim_base.specs.declared.outside.sink.Place.{Place}
-use Rattle.host_state.specs.Files.{Put}
+use Rattle.run_files.specs.Files.{Put}
 use Rattle.pcap_text.specs.Writing.{head}
-use Rattle.host_state.specs.Grown.{grown_behind}
+use Rattle.run_files.specs.Grown.{grown_behind}
 use Rattle.host_state.specs.HostRecord.{HostRecord}
-use Rattle.host_state.specs.Listed.{HostNames, HasIds, names_in}
-use Rattle.host_state.specs.Logs.{lines_of}
+use Rattle.run_files.specs.Listed.{HostNames, HasIds}
+use Rattle.host_state.specs.Gains.{names_in}
+use Rattle.host_link.specs.Logs.{lines_of}
 use Rattle.net_run.specs.Heads.{all_heads}
 use Rattle.net_run.specs.Pieces.{with_pieces}
 use Rattle.net_run.specs.Places.{bytes_at, is_touched}

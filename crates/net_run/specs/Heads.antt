@@ -1,9 +1,9 @@
 -- The heads of captures, which are put before a run goes on.
 use Rattle.std.specs.Prelude.{ℕ, List, [], Option, Some, None, flat_map}
 use Rattle.pcap_text.specs.Writing.{head}
-use Rattle.host_state.specs.Captured.{capture_files}
-use Rattle.host_state.specs.Files.{Put}
-use Rattle.host_state.specs.Listed.{HostNames}
+use Rattle.run_files.specs.Captured.{capture_files}
+use Rattle.run_files.specs.Files.{Put}
+use Rattle.run_files.specs.Listed.{HostNames}
 
 -- of a host with a capture size: the head of each of its two captures
 abbrev pub heads_by : List ℕ → Option ℕ → List Put

@@ -1,7 +1,7 @@
 -- Pieces that are put in order, and what stands where when some of them were put.
 use Rattle.std.specs.Prelude.{◌≡◌, List, [], ◌∷◌, ◌⊎◌, Option, option_map}
 use Rattle.sim_base.specs.Sink.{Content, add, AddsFront}
-use Rattle.host_state.specs.Files.{Put}
+use Rattle.run_files.specs.Files.{Put}
 
 -- the content after all of the pieces
 abbrev pub with_pieces : List Put → Content → Content

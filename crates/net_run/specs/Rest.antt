@@ -3,15 +3,17 @@ use Rattle.std.specs.Prelude.{◌≡◌, ℕ, ◌+◌, List, [], ◌∷◌, ◌+
 use Rattle.sim_base.specs.declared.outside.sink.Place.TheVariants as place
 use Rattle.sim_base.specs.declared.state.State.{State}
 use Rattle.sim_base.specs.declared.state.State.TheVariants.{NotStarted}
-use Rattle.host_state.specs.HostRecord.{HostRecord, state_of, process_state}
+use Rattle.host_state.specs.HostRecord.{HostRecord, process_state}
+use Rattle.guest_process.specs.States.{state_of}
 use Rattle.out_text.specs.Files.{state_line}
 use Rattle.out_text.specs.Summary.{summary_of, summary_line}
 use Rattle.out_text.specs.declared.summary.Summary.{Summary}
-use Rattle.host_state.specs.Listed.{HostNames, names_in, by_process, by_host}
-use Rattle.host_state.specs.Files.{Put, first_id, log_name}
+use Rattle.run_files.specs.Listed.{HostNames, by_process, by_host}
+use Rattle.host_state.specs.Gains.{names_in}
+use Rattle.run_files.specs.Files.{Put, first_id, log_name}
 use Rattle.net_run.specs.Shown.{files_named, unmet_by, named_log}
 use Rattle.net_run.specs.World.{World}
-use Rattle.host_state.specs.declared.files.listed.ProcessListing.{ProcessListing}
+use Rattle.run_files.specs.declared.listed.ProcessListing.{ProcessListing}
 
 abbrev pub state_at : List State → ℕ → State
 state_at states p = unwrap_or (slice_get states p) NotStarted

@@ -5,8 +5,8 @@ use Rattle.sim_base.specs.declared.outside.sink.Place.TheVariants as place
 use Rattle.sim_base.specs.declared.state.State.{State}
 use Rattle.sim_base.specs.declared.state.State.TheVariants.{NotStarted, Running, Exited, Signaled}
 use Rattle.host_state.specs.HostRecord.{HostRecord, process_state}
-use Rattle.host_state.specs.declared.line.Line.{Line}
-use Rattle.host_state.specs.declared.row.ProcessRow.{ProcessRow}
+use Rattle.host_link.specs.declared.line.Line.{Line}
+use Rattle.host_link.specs.declared.row.ProcessRow.{ProcessRow}
 use Rattle.out_text.specs.Faults.{note_line, unmet_line}
 use Rattle.out_text.specs.Files.{file_name, state_line, state_text, process_text}
 use Rattle.out_text.specs.Log.{log_line}
@@ -15,10 +15,10 @@ use Rattle.out_text.specs.declared.files.FileKind.TheVariants as kind
 use Rattle.out_text.specs.declared.log.LogLine.{LogLine}
 use Rattle.out_text.specs.declared.summary.Summary.{Summary}
 use Rattle.pcap_text.specs.Writing.{head}
-use Rattle.host_state.specs.Captured.{all_captures}
-use Rattle.host_state.specs.Files.{Put, first_id, program_of, written_to, expected_state, log_name}
-use Rattle.host_state.specs.Listed.{names_in}
-use Rattle.host_state.specs.Logs.{lines_of}
+use Rattle.run_files.specs.Captured.{all_captures}
+use Rattle.run_files.specs.Files.{Put, first_id, program_of, written_to, expected_state, log_name}
+use Rattle.host_state.specs.Gains.{names_in}
+use Rattle.host_link.specs.Logs.{lines_of}
 use Rattle.net_run.specs.Streams.{stream_puts}
 use Rattle.net_run.specs.World.{World}
 

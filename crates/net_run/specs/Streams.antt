@@ -3,8 +3,9 @@ use Rattle.std.specs.Prelude.{ℕ, List, [], ◌∷◌, slice_get, flat_map, Opt
 use Rattle.sim_base.specs.declared.outside.sink.Place.TheVariants as place
 use Rattle.out_text.specs.Streams.{stream_line}
 use Rattle.out_text.specs.declared.streams.Stream.{Stream}
-use Rattle.host_state.specs.Files.{Put}
-use Rattle.host_state.specs.Listed.{HostNames, names_in}
+use Rattle.run_files.specs.Files.{Put}
+use Rattle.run_files.specs.Listed.{HostNames}
+use Rattle.host_state.specs.Gains.{names_in}
 use Rattle.host_state.specs.WorldStreams.{streams_in}
 use Rattle.net_run.specs.World.{World}
 

@@ -3,16 +3,16 @@
 ghost use Rattle.std.specs.Prelude.{◌≡◌, ◌+◌, ◌++◌, ◌∷◌, [], IfOk, OnOk, OnErr, map, length, option_map};
 ghost use Rattle.sim_base.specs.Tally.{CountsWrites};
 ghost use Rattle.out_text.specs.Files.{state_line};
-ghost use Rattle.host_state.specs.Listed.{said, names_of};
-ghost use Rattle.host_state.specs.Files.{put_of, first_id};
+ghost use Rattle.run_files.specs.Listed.{said, names_of};
+ghost use Rattle.run_files.specs.Files.{put_of, first_id};
 ghost use Rattle.net_run.specs.Pieces.{with_pieces, PutsFront};
 ghost use Rattle.net_run.specs.Rest as spec;
 ghost use Rattle.net_run.specs.Shown.{files_named, unmet_by, status_by};
 
 use crate::output::put_pieces;
 use crate::process_pieces::{push_line, push_named};
-use host_state::{HostListing, Listing, Piece, ProcessListing, bytes_of, log_piece, numbers};
 use out_text::Summary;
+use run_files::{HostListing, Listing, Piece, ProcessListing, bytes_of, log_piece, numbers};
 use sim_base::{Bytes, NoMemory, Place, Sink, State, Text, WriteError};
 use std::alloc::Global;
 

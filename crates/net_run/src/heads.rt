@@ -5,13 +5,13 @@ ghost use Rattle.sim_base.specs.Tally.{CountsWrites};
 ghost use Rattle.sim_base.specs.declared.outside.sink.Place.TheVariants as place;
 ghost use Rattle.out_text.specs.Files.{capture_name};
 ghost use Rattle.pcap_text.specs.Writing.{head};
-ghost use Rattle.host_state.specs.Files.{put_of};
-ghost use Rattle.host_state.specs.Listed.{said, names_of};
+ghost use Rattle.run_files.specs.Files.{put_of};
+ghost use Rattle.run_files.specs.Listed.{said, names_of};
 ghost use Rattle.net_run.specs.Heads as spec;
 ghost use Rattle.net_run.specs.Pieces.{with_pieces, PutsFront};
 
 use crate::output::put_pieces;
-use host_state::{HostListing, Listing, Piece, capture_piece};
+use run_files::{HostListing, Listing, Piece, capture_piece};
 use sim_base::{Bytes, NoMemory, Sink, WriteError};
 use std::alloc::Global;
 

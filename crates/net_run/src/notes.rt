@@ -2,12 +2,12 @@
 
 ghost use Rattle.std.specs.Prelude.{◌≡◌, ◌∷◌, ◌++◌, [], IfOk, OnOk, OnErr, map, option_map};
 ghost use Rattle.sim_base.specs.Tally.{CountsWrites};
-ghost use Rattle.host_state.specs.Files.{put_of};
+ghost use Rattle.run_files.specs.Files.{put_of};
 ghost use Rattle.net_run.specs.Pieces.{with_pieces, PutsFront};
 ghost use Rattle.net_run.specs.Shown.{note_puts};
 
 use crate::output::put_pieces;
-use host_state::Piece;
+use run_files::Piece;
 use sim_base::{Bytes, NoMemory, Place, Sink, Text, WriteError};
 use std::alloc::Global;
 

@@ -2,10 +2,10 @@
 
 ghost use Rattle.std.specs.Prelude.{◌≡◌, map, option_map, OnOk, OnErr};
 ghost use Rattle.sim_base.specs.Tally.{CountsWrites};
-ghost use Rattle.host_state.specs.Files.{put_of};
+ghost use Rattle.run_files.specs.Files.{put_of};
 ghost use Rattle.net_run.specs.Pieces.{with_pieces, PutsFront};
 
-use host_state::Piece;
+use run_files::Piece;
 use sim_base::{Sink, WriteError, put_all};
 
 /// Puts all pieces in order.

@@ -3,11 +3,11 @@
 ghost use Rattle.std.specs.Prelude.{◌≡◌, ◌++◌, ◌∷◌, [], ◌+◌, ◌<◌, ◌^◌, List, IfOk, OnOk, map};
 ghost use Rattle.sim_base.specs.declared.outside.sink.Place.TheVariants as place;
 ghost use Rattle.out_text.specs.Files.{file_name, state_line};
-ghost use Rattle.host_state.specs.Files.{put_of};
+ghost use Rattle.run_files.specs.Files.{put_of};
 ghost use Rattle.net_run.specs.Shown as spec;
 
-use host_state::{Piece, bytes_of, file_piece};
 use out_text::{FaultText, FileKind};
+use run_files::{Piece, bytes_of, file_piece};
 use sim_base::{Bytes, NoMemory, Place, State, Text};
 use std::alloc::Global;
 

@@ -2,12 +2,12 @@
 
 ghost use Rattle.std.specs.Prelude.{◌≡◌, ◌++◌, IfOk, OnOk, OnErr, map, option_map, slice_get};
 ghost use Rattle.sim_base.specs.Tally.{CountsWrites};
-ghost use Rattle.host_state.specs.Listed.{said, names_of};
+ghost use Rattle.run_files.specs.Listed.{said, names_of};
 ghost use Rattle.net_run.specs.Pieces.{with_pieces, PutsFront};
 ghost use Rattle.net_run.specs.Streams as spec;
 
-use host_state::{HostListing, Listing};
 use out_text::{Stream, stream_line};
+use run_files::{HostListing, Listing};
 use sim_base::{NoMemory, Place, Sink, Text, WriteError, put_all};
 use std::alloc::Global;
 

@@ -10,9 +10,9 @@ use Rattle.sim_base.specs.declared.host.HostId.{HostId}
 use Rattle.list_weights.specs.Weights.{weigh, numbers_below}
 use Rattle.steal_workers.specs.Gathers.{joined}
 use Rattle.file_calls.specs.declared.task.Output.{Output}
-use Rattle.host_state.specs.declared.line.Logged.{Logged}
-use Rattle.host_state.specs.declared.net.Net.{Net}
-use Rattle.host_state.specs.declared.outbox.Outbox.{Outbox}
+use Rattle.host_link.specs.declared.line.Logged.{Logged}
+use Rattle.host_link.specs.declared.net.Net.{Net}
+use Rattle.host_link.specs.declared.outbox.Outbox.{Outbox}
 use Rattle.host_state.specs.HostRecord.{HostRecord}
 use Rattle.world_order.proofs.Homes.{some_is, get-set_same, get-set_other, below-get}
 use Rattle.round_lookahead.specs.declared.workers.task.Task.{Task}

@@ -3,7 +3,7 @@ use Rattle.std.proofs.Common.{◌≡◌, ◌≢◌, ℕ, zero, suc, ◌<◌, inl
 use Rattle.std.specs.declared.alloc.Global.{Global}
 use Rattle.sim_base.specs.declared.event.Parcel.{Parcel}
 use Rattle.sim_base.specs.declared.host.HostId.{HostId}
-use Rattle.host_state.specs.declared.line.Logged.{Logged}
+use Rattle.host_link.specs.declared.line.Logged.{Logged}
 use Rattle.world_order.proofs.Homes.{get-set_same, get-set_other, get-below}
 use Rattle.world_order.proofs.Members.{Each, Each-from_All, All-from_Each}
 use Rattle.round_lookahead.specs.declared.workers.worked.Done.{Done}

@@ -1,9 +1,9 @@
 -- What lines of a log come to, as more come.
 use Rattle.std.proofs.Common.{◌≡◌, ℕ, ◌+◌, ◌<◌, List, [], ◌∷◌, ◌++◌, map, length, take, get_or, refl, sym, ap, ◌∙◌, append_assoc}
 use Rattle.std.proofs.lemmas.List.{map_more}
-use Rattle.host_state.specs.declared.line.Line.{Line}
-use Rattle.host_state.specs.declared.line.Logged.{Logged}
-use Rattle.host_state.specs.Logs.{lines_of, kept_lines}
+use Rattle.host_link.specs.declared.line.Line.{Line}
+use Rattle.host_link.specs.declared.line.Logged.{Logged}
+use Rattle.host_link.specs.Logs.{lines_of, kept_lines}
 use Rattle.host_state.specs.Running.{kept_line}
 use Rattle.world_order.specs.World as order
 use Rattle.round_lookahead.specs.declared.world.counts.Counts.{Counts}

@@ -4,7 +4,7 @@ use Rattle.std.specs.declared.alloc.Global.{Global}
 use Rattle.std.proofs.lemmas.List.Sorted.{IsPermutation-trans, IsPermutation-to_front, IsPermutation-append_right, IsPermutation-middle}
 use Rattle.sim_base.specs.declared.event.Event.{Event}
 use Rattle.sim_base.specs.declared.event.Parcel.{Parcel}
-use Rattle.host_state.specs.Parcels.{parcel_event}
+use Rattle.host_link.specs.Parcels.{parcel_event}
 use Rattle.world_order.proofs.Parts.{part-more}
 use Rattle.round_lookahead.specs.inside.Arrivals.{Boxed, arrivals}
 use Rattle.round_lookahead.specs.inside.Backs.{row_arrivals}

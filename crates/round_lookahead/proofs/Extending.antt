@@ -2,12 +2,12 @@
 use Rattle.std.proofs.Common.{◌≡◌, ℕ, zero, suc, List, [], ◌∷◌, ◌++◌, map, length, Option, Some, None, nat_lt, slice_get, slice_set, refl, sym, ap, subst, ◌∙◌, append_assoc, append-nil}
 use Rattle.sim_base.specs.declared.event.Event.{Event}
 use Rattle.file_calls.specs.declared.task.Output.{Output}
-use Rattle.host_state.specs.declared.line.Line.{Line}
-use Rattle.host_state.specs.declared.net.Net.{Net}
+use Rattle.host_link.specs.declared.line.Line.{Line}
+use Rattle.host_link.specs.declared.net.Net.{Net}
 use Rattle.host_state.specs.Extends.{IsLater, AreLater, Extends}
 use Rattle.host_state.specs.Fire.{fire, wrote}
 use Rattle.host_state.specs.Fits.{model, fires_before_stop}
-use Rattle.host_state.specs.Home.{home}
+use Rattle.host_link.specs.Home.{home}
 use Rattle.host_state.specs.HostRecord.{HostRecord}
 use Rattle.host_state.specs.World.{World}
 use Rattle.host_state.proofs.Growth.{by_if}

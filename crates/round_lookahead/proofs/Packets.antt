@@ -7,12 +7,12 @@ use Rattle.sim_base.specs.declared.event.Parcel.{Parcel}
 use Rattle.sim_base.specs.declared.event.What.{What}
 use Rattle.sim_base.specs.declared.event.What.TheVariants as what
 use Rattle.sim_base.specs.declared.key.Key.{Key}
-use Rattle.host_state.specs.declared.line.Line.{Line}
-use Rattle.host_state.specs.declared.net.Net.{Net}
+use Rattle.host_link.specs.declared.line.Line.{Line}
+use Rattle.host_link.specs.declared.net.Net.{Net}
 use Rattle.host_state.specs.Fits.{model, fires_before_stop, IsHostOf, IsEventOf}
-use Rattle.host_state.specs.Home.{home}
+use Rattle.host_link.specs.Home.{home}
 use Rattle.host_state.specs.HostRecord.{HostRecord}
-use Rattle.host_state.specs.Outbox.{parcels_of, posted}
+use Rattle.host_link.specs.Outbox.{parcels_of, posted}
 use Rattle.host_state.proofs.Simulations.{home-within, firings_fit}
 use Rattle.world_order.specs.EventOrder.{take_least}
 use Rattle.world_order.specs.Model.{Fired}

@@ -3,12 +3,12 @@ use Rattle.std.proofs.Common.{◌≡◌, ℕ, List, length, map, sym, ap, subst,
 use Rattle.std.proofs.lemmas.List.{length-map}
 use Rattle.sim_base.specs.declared.host.HostId.{HostId}
 use Rattle.file_calls.specs.declared.task.Output.{Output}
-use Rattle.host_state.specs.Files.{put_of}
-use Rattle.host_state.specs.Grown.{all_grown, with_bytes}
+use Rattle.run_files.specs.Files.{put_of}
+use Rattle.run_files.specs.Grown.{all_grown, with_bytes}
 use Rattle.host_state.specs.HostRecord.{HostRecord}
-use Rattle.host_state.specs.LinesFit.{AllFit}
-use Rattle.host_state.specs.Listed.{HostNames, listed, names_of}
-use Rattle.host_state.specs.Logs.{kept_lines}
+use Rattle.run_files.specs.LinesFit.{AllFit}
+use Rattle.run_files.specs.Listed.{HostNames, listed, names_of}
+use Rattle.host_link.specs.Logs.{kept_lines}
 use Rattle.host_state.proofs.Gaining.{gains-round}
 use Rattle.world_order.specs.Window.{window_end}
 use Rattle.round_lookahead.specs.declared.world.gained.Gained.{Gained}

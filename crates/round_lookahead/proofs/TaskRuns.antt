@@ -7,16 +7,16 @@ use Rattle.sim_base.specs.declared.event.Parcel.{Parcel}
 use Rattle.sim_base.specs.declared.time.Time.{Time}
 use Rattle.file_calls.specs.declared.task.Output.{Output}
 use Rattle.host_state.specs.declared.host.Host.{Host}
-use Rattle.host_state.specs.declared.line.Logged.{Logged}
-use Rattle.host_state.specs.declared.net.Net.{Net}
-use Rattle.host_state.specs.declared.outbox.Outbox.{Outbox}
+use Rattle.host_link.specs.declared.line.Logged.{Logged}
+use Rattle.host_link.specs.declared.net.Net.{Net}
+use Rattle.host_link.specs.declared.outbox.Outbox.{Outbox}
 use Rattle.host_state.specs.Fits.{model, IsEventOf}
-use Rattle.host_state.specs.Home.{home}
+use Rattle.host_link.specs.Home.{home}
 use Rattle.host_state.specs.HostRecord.{HostRecord}
 use Rattle.host_state.specs.HostStands.{Stands}
-use Rattle.host_state.specs.Link.{LinkState}
-use Rattle.host_state.specs.Outbox as out
-use Rattle.host_state.specs.Parcels.{parcel_event}
+use Rattle.host_link.specs.Link.{LinkState}
+use Rattle.host_link.specs.Outbox as out
+use Rattle.host_link.specs.Parcels.{parcel_event}
 use Rattle.host_state.specs.Running.{Owns, MayRun, RunsUntil, kept_line}
 use Rattle.world_order.specs.WholeTurns.{RunsTo}
 use Rattle.world_order.proofs.Members.{Each-from_All, All-from_Each}

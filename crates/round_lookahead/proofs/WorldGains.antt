@@ -13,14 +13,14 @@ use Rattle.event_order.specs.Events.{IsLeastDue}
 use Rattle.steal_workers.specs.Gathers.{joined}
 use Rattle.file_calls.specs.declared.task.Output.{Output}
 use Rattle.host_state.specs.declared.host.Host.{Host}
-use Rattle.host_state.specs.declared.line.Line.{Line}
-use Rattle.host_state.specs.declared.line.Logged.{Logged}
-use Rattle.host_state.specs.declared.net.Net.{Net}
-use Rattle.host_state.specs.Home.{home}
+use Rattle.host_link.specs.declared.line.Line.{Line}
+use Rattle.host_link.specs.declared.line.Logged.{Logged}
+use Rattle.host_link.specs.declared.net.Net.{Net}
+use Rattle.host_link.specs.Home.{home}
 use Rattle.host_state.specs.HostRecord.{HostRecord}
 use Rattle.host_state.specs.HostStands.{Stands}
-use Rattle.host_state.specs.Parcels.{parcel_event}
-use Rattle.host_state.specs.Logs.{lines_of, kept_lines}
+use Rattle.host_link.specs.Parcels.{parcel_event}
+use Rattle.host_link.specs.Logs.{lines_of, kept_lines}
 use Rattle.host_state.specs.Running.{kept_line}
 use Rattle.host_state.proofs.Gaining.{names-later}
 use Rattle.world_order.specs.Round.{in_order}

@@ -6,14 +6,15 @@ use Rattle.sim_base.specs.declared.event.Event.{Event}
 use Rattle.sim_base.specs.declared.host.HostId.{HostId}
 use Rattle.sim_base.specs.declared.key.Key.{Key}
 use Rattle.host_state.specs.declared.host.Host.{Host}
-use Rattle.host_state.specs.declared.net.Net.{Net}
-use Rattle.host_state.specs.declared.row.Row.{Row}
+use Rattle.host_link.specs.declared.net.Net.{Net}
+use Rattle.host_link.specs.declared.row.Row.{Row}
 use Rattle.host_state.specs.Opening.{opening}
 use Rattle.host_state.specs.Fits.{model, IsEventOf, IsHostOf, FitsNet, OpensFit}
-use Rattle.host_state.specs.Home.{home}
+use Rattle.host_link.specs.Home.{home}
 use Rattle.host_state.specs.HostRecord.{HostRecord}
 use Rattle.host_state.specs.HostStands.{Begins, with_events}
-use Rattle.host_state.specs.Listed.{HostNames, listed, names_in, names_of}
+use Rattle.run_files.specs.Listed.{HostNames, listed, names_of}
+use Rattle.host_state.specs.Gains.{names_in}
 use Rattle.host_state.proofs.Openings.{opens-fit}
 use Rattle.host_state.proofs.Queues.{begun}
 use Rattle.world_order.specs.EventOrder.{AreApart}

@@ -8,11 +8,11 @@ use Rattle.sim_base.specs.declared.time.Time.{Time}
 use Rattle.list_weights.specs.Weights.{weigh, numbers_below}
 use Rattle.event_order.specs.Events.{IsLeastDue}
 use Rattle.steal_workers.specs.Gathers.{joined}
-use Rattle.host_state.specs.declared.line.Line.{Line}
+use Rattle.host_link.specs.declared.line.Line.{Line}
 use Rattle.host_state.specs.Fits.{model, IsEventOf}
-use Rattle.host_state.specs.Home.{home}
+use Rattle.host_link.specs.Home.{home}
 use Rattle.host_state.specs.HostRecord.{HostRecord}
-use Rattle.host_state.specs.Parcels.{parcel_event}
+use Rattle.host_link.specs.Parcels.{parcel_event}
 use Rattle.host_state.proofs.Simulations as hosts
 use Rattle.world_order.specs.EventOrder.{AreApart, copies}
 use Rattle.world_order.specs.Premises.{Simulation}

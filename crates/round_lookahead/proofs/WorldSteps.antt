@@ -10,13 +10,13 @@ use Rattle.sim_base.specs.declared.event.What.TheVariants as what
 use Rattle.sim_base.specs.declared.key.Key.{Key}
 use Rattle.list_weights.specs.Weights.{weigh}
 use Rattle.list_weights.proofs.Weights.{weigh-append}
-use Rattle.host_state.specs.declared.line.Line.{Line}
-use Rattle.host_state.specs.declared.net.Net.{Net}
+use Rattle.host_link.specs.declared.line.Line.{Line}
+use Rattle.host_link.specs.declared.net.Net.{Net}
 use Rattle.host_state.specs.Fits.{model, IsEventOf, IsHostOf}
-use Rattle.host_state.specs.Home.{home, home_of}
+use Rattle.host_link.specs.Home.{home, home_of}
 use Rattle.host_state.specs.HostRecord.{HostRecord}
-use Rattle.host_state.specs.Outbox.{posted, parcels_of}
-use Rattle.host_state.specs.Parcels.{parcel_event}
+use Rattle.host_link.specs.Outbox.{posted, parcels_of}
+use Rattle.host_link.specs.Parcels.{parcel_event}
 use Rattle.host_state.proofs.Simulations as hosts
 use Rattle.world_order.specs.EventOrder.{AreApart, copies, same_key}
 use Rattle.world_order.specs.Premises.{Simulation}

@@ -2,7 +2,7 @@
 use Rattle.std.specs.Prelude.{ℕ, ◌-◌, ◌^◌, List, Bool, min, count_by}
 use Rattle.sim_base.specs.Units.{max_u64}
 use Rattle.sim_base.specs.declared.act.Act.{Act}
-use Rattle.host_state.specs.declared.line.Line.{Line}
+use Rattle.host_link.specs.declared.line.Line.{Line}
 use Rattle.out_text.specs.Summary.{is_send, is_lost, is_recv}
 use Rattle.round_lookahead.specs.declared.world.counts.Counts.{Counts}
 

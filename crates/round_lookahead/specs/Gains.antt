@@ -5,13 +5,13 @@ use Rattle.sim_base.specs.declared.event.Event.{Event}
 use Rattle.sim_base.specs.declared.host.HostId.{HostId}
 use Rattle.list_weights.specs.Weights.{numbers_below}
 use Rattle.file_calls.specs.declared.task.Output.{Output}
-use Rattle.host_state.specs.declared.files.piece.Piece.{Piece}
-use Rattle.host_state.specs.declared.line.Line.{Line}
-use Rattle.host_state.specs.declared.net.Net.{Net}
-use Rattle.host_state.specs.Files.{put_of}
-use Rattle.host_state.specs.Grown.{Gains, all_grown, with_bytes}
-use Rattle.host_state.specs.LinesFit.{AllFit}
-use Rattle.host_state.specs.Listed.{names_in}
+use Rattle.run_files.specs.declared.piece.Piece.{Piece}
+use Rattle.host_link.specs.declared.line.Line.{Line}
+use Rattle.host_link.specs.declared.net.Net.{Net}
+use Rattle.run_files.specs.Files.{put_of}
+use Rattle.host_state.specs.Gains.{Gains, names_in}
+use Rattle.run_files.specs.Grown.{all_grown, with_bytes}
+use Rattle.run_files.specs.LinesFit.{AllFit}
 use Rattle.host_state.specs.Fits.{model}
 use Rattle.host_state.specs.HostRecord.{HostRecord}
 use Rattle.host_state.specs.Running.{kept_line}

@@ -3,14 +3,14 @@ use Rattle.std.specs.Prelude.{◌≡◌, ℕ, ◌≤◌, List, [], ◌∷◌, �
 use Rattle.sim_base.specs.declared.event.Event.{Event}
 use Rattle.sim_base.specs.declared.event.Parcel.{Parcel}
 use Rattle.host_inbox.specs.declared.entry.Entry.{Entry}
-use Rattle.host_state.specs.declared.line.Line.{Line}
-use Rattle.host_state.specs.declared.net.Net.{Net}
-use Rattle.host_state.specs.declared.outbox.Outbox.{Outbox}
+use Rattle.host_link.specs.declared.line.Line.{Line}
+use Rattle.host_link.specs.declared.net.Net.{Net}
+use Rattle.host_link.specs.declared.outbox.Outbox.{Outbox}
 use Rattle.host_state.specs.Fits.{model, IsEventOf}
 use Rattle.host_state.specs.HostRecord.{HostRecord}
 use Rattle.host_state.specs.HostStands.{Stands}
-use Rattle.host_state.specs.Outbox.{parcels_of}
-use Rattle.host_state.specs.Parcels.{parcel_event}
+use Rattle.host_link.specs.Outbox.{parcels_of}
+use Rattle.host_link.specs.Parcels.{parcel_event}
 use Rattle.host_state.specs.Running.{Owns, kept_line}
 use Rattle.world_order.specs.WholeTurns.{Job, Ran, RunsTo}
 use Rattle.round_lookahead.specs.declared.workers.task.Task.{Task}

@@ -4,14 +4,15 @@ use Rattle.sim_base.specs.Units.{latest_time}
 use Rattle.sim_base.specs.declared.event.Event.{Event}
 use Rattle.sim_base.specs.declared.time.Time.{Time}
 use Rattle.host_inbox.specs.Sizes.{most_inboxes}
-use Rattle.host_state.specs.declared.line.Line.{Line}
-use Rattle.host_state.specs.declared.net.Net.{Net}
+use Rattle.host_link.specs.declared.line.Line.{Line}
+use Rattle.host_link.specs.declared.net.Net.{Net}
 use Rattle.host_state.specs.Fits.{model, IsEventOf, IsHostOf, IsLookaheadOf, IsShort}
-use Rattle.host_state.specs.Home.{home}
+use Rattle.host_link.specs.Home.{home}
 use Rattle.host_state.specs.HostRecord.{HostRecord}
 use Rattle.host_state.specs.HostStands.{Stands}
-use Rattle.host_state.specs.Listed.{names_in, names_of}
-use Rattle.host_state.specs.Logs.{lines_of}
+use Rattle.host_state.specs.Gains.{names_in}
+use Rattle.run_files.specs.Listed.{names_of}
+use Rattle.host_link.specs.Logs.{lines_of}
 use Rattle.world_order.specs.EventOrder.{AreApart}
 use Rattle.world_order.specs.Settled.{next_at}
 use Rattle.world_order.specs.World as order

@@ -3,8 +3,8 @@
 ghost use Rattle.std.specs.Prelude.{◌≡◌, ◌<◌, ◌≤◌, ℕ, List, Option, All, Any, flat_map};
 ghost use Rattle.host_state.specs.Extends.{Extends};
 ghost use Rattle.host_state.specs.World.{IsResult};
-ghost use Rattle.host_state.specs.declared.net.Net.{Net};
-ghost use Rattle.host_state.specs.declared.row.Row.{Row};
+ghost use Rattle.host_link.specs.declared.net.Net.{Net};
+ghost use Rattle.host_link.specs.declared.row.Row.{Row};
 ghost use Rattle.round_lookahead.specs.Gains.{HasRound};
 ghost use Rattle.round_lookahead.specs.OpeningWorld.{AreHostRows, opening_world};
 ghost use Rattle.round_lookahead.specs.Reached.{HasReached, time_left};

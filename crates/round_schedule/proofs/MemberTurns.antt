@@ -5,13 +5,13 @@ use Rattle.sim_base.specs.declared.event.Parcel.{Parcel}
 use Rattle.event_order.specs.Events.{IsBefore}
 use Rattle.file_calls.specs.declared.task.Output.{Output}
 use Rattle.host_state.specs.declared.host.Host.{Host}
-use Rattle.host_state.specs.declared.line.Logged.{Logged}
-use Rattle.host_state.specs.declared.net.Net.{Net}
-use Rattle.host_state.specs.declared.outbox.Outbox.{Outbox}
+use Rattle.host_link.specs.declared.line.Logged.{Logged}
+use Rattle.host_link.specs.declared.net.Net.{Net}
+use Rattle.host_link.specs.declared.outbox.Outbox.{Outbox}
 use Rattle.host_state.specs.Fire.{fire, wrote}
 use Rattle.host_state.specs.HostRecord.{HostRecord}
 use Rattle.host_state.specs.HostStands.{Stands, IsSameBody, Fires}
-use Rattle.host_state.specs.Outbox.{IsEmpty, own_events, parcels_of, logged}
+use Rattle.host_link.specs.Outbox.{IsEmpty, own_events, parcels_of, logged}
 use Rattle.host_state.proofs.Queues.{first-taken}
 use Rattle.world_order.specs.EventOrder.{AreApart, take_least}
 use Rattle.world_order.proofs.Homes.{some_is}

@@ -7,13 +7,13 @@ use Rattle.sim_base.specs.declared.event.Event.{Event}
 use Rattle.sim_base.specs.declared.event.Parcel.{Parcel}
 use Rattle.file_calls.specs.declared.task.Output.{Output}
 use Rattle.host_state.specs.declared.host.Host.{Host}
-use Rattle.host_state.specs.declared.line.Line.{Line}
-use Rattle.host_state.specs.declared.net.Net.{Net}
+use Rattle.host_link.specs.declared.line.Line.{Line}
+use Rattle.host_link.specs.declared.net.Net.{Net}
 use Rattle.host_state.specs.Fits.{model}
-use Rattle.host_state.specs.Home.{home}
+use Rattle.host_link.specs.Home.{home}
 use Rattle.host_state.specs.HostRecord.{HostRecord}
 use Rattle.host_state.specs.HostStands.{Stands}
-use Rattle.host_state.specs.Parcels.{parcel_event}
+use Rattle.host_link.specs.Parcels.{parcel_event}
 use Rattle.world_order.specs.EventOrder.{AreApart}
 use Rattle.world_order.specs.Round as order
 use Rattle.world_order.specs.World.{World}

@@ -8,13 +8,13 @@ use Rattle.sim_base.specs.declared.event.Parcel.{Parcel}
 use Rattle.sim_base.specs.declared.event.What.{What}
 use Rattle.sim_base.specs.declared.event.What.TheVariants as what
 use Rattle.sim_base.specs.declared.key.Key.{Key}
-use Rattle.host_state.specs.declared.line.Line.{Line}
-use Rattle.host_state.specs.declared.line.Logged.{Logged as HostLogged}
-use Rattle.host_state.specs.declared.net.Net.{Net}
+use Rattle.host_link.specs.declared.line.Line.{Line}
+use Rattle.host_link.specs.declared.line.Logged.{Logged as HostLogged}
+use Rattle.host_link.specs.declared.net.Net.{Net}
 use Rattle.host_state.specs.Fits.{model}
-use Rattle.host_state.specs.Home.{home, home_of}
-use Rattle.host_state.specs.Outbox.{own_events, parcels_of, posted, logged}
-use Rattle.host_state.specs.Parcels.{parcel_event}
+use Rattle.host_link.specs.Home.{home, home_of}
+use Rattle.host_link.specs.Outbox.{own_events, parcels_of, posted, logged}
+use Rattle.host_link.specs.Parcels.{parcel_event}
 use Rattle.world_order.specs.Round.{events_at}
 use Rattle.world_order.specs.World as order
 use Rattle.world_order.proofs.Members.{IsIn, Each, Each-from_All, All-from_Each, Each-append, Each-cons}

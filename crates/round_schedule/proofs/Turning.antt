@@ -5,15 +5,15 @@ use Rattle.std.proofs.lemmas.List.Sorted.{All-permutation, IsPermutation-sym, Is
 use Rattle.sim_base.specs.declared.event.Event.{Event}
 use Rattle.sim_base.specs.declared.event.Parcel.{Parcel}
 use Rattle.file_calls.specs.declared.task.Output.{Output}
-use Rattle.host_state.specs.declared.line.Line.{Line}
-use Rattle.host_state.specs.declared.line.Logged.{Logged as HostLogged}
-use Rattle.host_state.specs.declared.net.Net.{Net}
+use Rattle.host_link.specs.declared.line.Line.{Line}
+use Rattle.host_link.specs.declared.line.Logged.{Logged as HostLogged}
+use Rattle.host_link.specs.declared.net.Net.{Net}
 use Rattle.host_state.specs.Fire.{fire, wrote}
 use Rattle.host_state.specs.Fits.{model, fires_before_stop, IsEventOf, IsHostOf}
-use Rattle.host_state.specs.Home.{home}
+use Rattle.host_link.specs.Home.{home}
 use Rattle.host_state.specs.HostRecord.{HostRecord}
 use Rattle.host_state.specs.HostStands.{Stands}
-use Rattle.host_state.specs.Outbox.{own_events, parcels_of, logged}
+use Rattle.host_link.specs.Outbox.{own_events, parcels_of, logged}
 use Rattle.host_state.proofs.Simulations.{fires-before_stop, firings_fit}
 use Rattle.world_order.specs.EventOrder.{AreApart, take_least}
 use Rattle.world_order.specs.Model.{Fired}

@@ -1,7 +1,7 @@
 //! The host in a worker's hand fires an event.
 
 ghost use Rattle.std.specs.Prelude.{◌≡◌, ◌++◌, OnOk, IfOk, IsPermutation};
-ghost use Rattle.host_state.specs.declared.net.Net.{Net};
+ghost use Rattle.host_link.specs.declared.net.Net.{Net};
 ghost use Rattle.world_order.specs.EventOrder.{AreApart};
 ghost use Rattle.round_schedule.specs.Reaching.{May, Does};
 ghost use Rattle.round_schedule.specs.inside.Kinds.{fires};
@@ -9,7 +9,8 @@ ghost use Rattle.round_schedule.specs.inside.Turning.{MayTurn, Turns, AddsAll};
 
 use crate::member::Member;
 use crate::round::Round;
-use host_state::{Host, Logged, Net, Outbox};
+use host_link::{Logged, Net, Outbox};
+use host_state::Host;
 use sim_base::{Event, NoMemory, Parcel};
 
 /// What the firing of an event hands out: packets for other hosts, and lines of the log.

@@ -3,15 +3,16 @@
 ghost use Rattle.std.specs.Prelude.{◌≡◌, ◌≤◌, IfOk, None, replicate};
 ghost use Rattle.sim_base.specs.Limits.{most_workers};
 ghost use Rattle.host_state.specs.HostRecord.{HostRecord};
-ghost use Rattle.host_state.specs.declared.line.Line.{Line};
-ghost use Rattle.host_state.specs.declared.net.Net.{Net};
+ghost use Rattle.host_link.specs.declared.line.Line.{Line};
+ghost use Rattle.host_link.specs.declared.net.Net.{Net};
 ghost use Rattle.world_order.specs.World.{World};
 ghost use Rattle.round_schedule.specs.Opening.{MayOpen};
 ghost use Rattle.round_schedule.specs.Reaching.{round_on};
 ghost use Rattle.round_schedule.specs.Standing.{EachStands, HostsStand, RoundStands, AreIdle, IsWaiting};
 
 use crate::member::{Member, Stage, Worker};
-use host_state::{Host, Logged, Net};
+use host_link::{Logged, Net};
+use host_state::Host;
 use sim_base::{NoMemory, Parcel};
 use std::alloc::Global;
 use world_order::Window;

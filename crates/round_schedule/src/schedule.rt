@@ -4,7 +4,7 @@ ghost use Rattle.std.specs.Prelude.{◌≡◌, ◌∷◌, [], OnOk, IfOk};
 ghost use Rattle.round_schedule.specs.Reaching.{MayGo, Goes};
 
 use crate::round::Round;
-use host_state::Net;
+use host_link::Net;
 use sim_base::NoMemory;
 use world_order::Step;
 

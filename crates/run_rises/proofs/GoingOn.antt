@@ -8,7 +8,7 @@ use Rattle.guest_mem.specs.Memory.{Memory}
 use Rattle.tcp_streams.proofs.Members.{Contains-here}
 use Rattle.host_sockets.specs.Sockets.{SocketsRecord, no_sockets}
 use Rattle.host_wants.specs.Wanted.{Wanted, nothing_wanted}
-use Rattle.host_calls.specs.declared.parts.Known.{Known}
+use Rattle.file_calls.specs.declared.known.Known.{Known}
 use Rattle.host_calls.specs.Calls.{call}
 use Rattle.host_calls.specs.Events.{arrives, alarmed, ended}
 use Rattle.host_calls.specs.Parts.{PartsRecord}

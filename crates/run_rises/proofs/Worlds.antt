@@ -8,12 +8,12 @@ use Rattle.host_files.specs.Slots.{at}
 use Rattle.file_calls.specs.declared.task.Task.{Task}
 use Rattle.host_calls.specs.Ready.{object_rises}
 use Rattle.call_rises.specs.Moves.{AllRise, TasksRise}
-use Rattle.host_state.specs.declared.line.Line.{Line}
-use Rattle.host_state.specs.declared.net.Net.{Net}
-use Rattle.host_state.specs.declared.row.Row.{Row}
+use Rattle.host_link.specs.declared.line.Line.{Line}
+use Rattle.host_link.specs.declared.net.Net.{Net}
+use Rattle.host_link.specs.declared.row.Row.{Row}
 use Rattle.host_state.specs.Fire.{fire}
 use Rattle.host_state.specs.Fits.{model}
-use Rattle.host_state.specs.Home.{home}
+use Rattle.host_link.specs.Home.{home}
 use Rattle.host_state.specs.HostRecord.{HostRecord}
 use Rattle.host_state.specs.Opening.{opening}
 use Rattle.host_state.specs.World.{World, opening_world}

@@ -6,11 +6,11 @@ use Rattle.sim_base.specs.declared.address.Addr.{Addr}
 use Rattle.sim_base.specs.declared.event.Event.{Event}
 use Rattle.sim_base.specs.declared.packet.Packet.{Packet}
 use Rattle.sock_tcp.specs.connection.Tcb.{Tcb}
-use Rattle.host_state.specs.declared.net.Net.{Net}
+use Rattle.host_link.specs.declared.net.Net.{Net}
 use Rattle.host_state.specs.Fire.{has_acted, keeps_outputs, fire}
 use Rattle.host_state.specs.Fits.{fires_before_stop}
 use Rattle.host_state.specs.HostRecord.{HostRecord}
-use Rattle.host_state.specs.Link.{LinkState, without_made}
+use Rattle.host_link.specs.Link.{LinkState, without_made}
 use Rattle.socket_streams.specs.Records.{packets_of}
 use Rattle.run_streams.specs.Nets.{waiting_in, packets_carried, link_packets, host_packets}
 use Rattle.run_streams.proofs.Hosts.{IsGood, HostMoves}

@@ -6,11 +6,11 @@ use Rattle.sim_base.specs.declared.address.Addr.{Addr}
 use Rattle.sim_base.specs.declared.packet.Packet.{Packet}
 use Rattle.sock_tcp.specs.connection.Tcb.{Tcb}
 use Rattle.host_calls.specs.Events.{arrives}
-use Rattle.host_state.specs.declared.net.Net.{Net}
+use Rattle.host_link.specs.declared.net.Net.{Net}
 use Rattle.host_state.specs.Arriving.{is_handed_over, are_handed_over}
 use Rattle.host_state.specs.Host.{with_link, with_parts}
 use Rattle.host_state.specs.HostRecord.{HostRecord}
-use Rattle.host_state.specs.Link.{LinkState, logs}
+use Rattle.host_link.specs.Link.{LinkState, logs}
 use Rattle.call_streams.proofs.Table.{arrives_moves}
 use Rattle.run_streams.specs.Nets.{link_packets}
 use Rattle.run_streams.proofs.Every.{Every}

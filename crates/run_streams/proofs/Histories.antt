@@ -12,8 +12,8 @@ use Rattle.host_sockets.specs.Connecting.{connect_asked}
 use Rattle.host_sockets.specs.Sockets.{SocketsRecord}
 use Rattle.host_sockets.specs.TcpSocket.{TcpSocket, listens_to}
 use Rattle.host_wants.specs.Wanted.{Wanted}
-use Rattle.host_state.specs.declared.net.Net.{Net}
-use Rattle.host_state.specs.declared.row.Row.{Row}
+use Rattle.host_link.specs.declared.net.Net.{Net}
+use Rattle.host_link.specs.declared.row.Row.{Row}
 use Rattle.host_state.specs.HostRecord.{HostRecord}
 use Rattle.host_state.specs.World.{World, IsResult, opening_world}
 use Rattle.world_order.specs.World as order

@@ -23,13 +23,13 @@ use Rattle.tcp_laws.proofs.Tests.{by_test}
 use Rattle.host_wants.specs.declared.outlet.Want.{Want}
 use Rattle.host_wants.specs.declared.outlet.Want.TheVariants as wanted
 use Rattle.host_wants.specs.Wanted.{Wanted, draws_word, without_wants}
-use Rattle.host_state.specs.declared.line.Line.{Line}
-use Rattle.host_state.specs.declared.net.Net.{Net}
-use Rattle.host_state.specs.Captures.{is_own, is_loopback}
-use Rattle.host_state.specs.Host.{does_want, does_all, does_wants}
-use Rattle.host_state.specs.Lanes.{with_up, with_down}
-use Rattle.host_state.specs.Link.{LinkState, event_of, not_before_next, numbers, makes, later, logs}
-use Rattle.host_state.specs.Sending.{Wire, route_from, route_to, is_bootstrapping, loses, takes_its_chance, takes_route, takes_route_if, leaves, leave_all, makes_if, goes_on, goes_up, stays_here, sends, drop_all, up_comes}
+use Rattle.host_link.specs.declared.line.Line.{Line}
+use Rattle.host_link.specs.declared.net.Net.{Net}
+use Rattle.run_files.specs.Captures.{is_own, is_loopback}
+use Rattle.host_link.specs.Wants.{does_want, does_all, does_wants}
+use Rattle.host_link.specs.Lanes.{with_up, with_down}
+use Rattle.host_link.specs.Link.{LinkState, event_of, not_before_next, numbers, makes, later, logs}
+use Rattle.host_link.specs.Sending.{Wire, route_from, route_to, is_bootstrapping, loses, takes_its_chance, takes_route, takes_route_if, leaves, leave_all, makes_if, goes_on, goes_up, stays_here, sends, drop_all, up_comes}
 use Rattle.socket_streams.specs.Inside.{IsHome}
 use Rattle.socket_streams.specs.Records.{packet_in, packets_of}
 use Rattle.socket_streams.proofs.OwnEnds.{OwnPacket}

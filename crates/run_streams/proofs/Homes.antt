@@ -13,13 +13,13 @@ use Rattle.sim_base.specs.declared.packet.Packet.{Packet}
 use Rattle.net_iface.specs.declared.lane.Waiting.{Waiting}
 use Rattle.tcp_laws.proofs.Tests.{by_test}
 use Rattle.tcp_streams.proofs.Members.{Contains-here}
-use Rattle.host_state.specs.declared.line.Line.{Line}
-use Rattle.host_state.specs.declared.net.Net.{Net}
-use Rattle.host_state.specs.declared.row.Row.{Row}
-use Rattle.host_state.specs.Captures.{is_own, is_loopback}
+use Rattle.host_link.specs.declared.line.Line.{Line}
+use Rattle.host_link.specs.declared.net.Net.{Net}
+use Rattle.host_link.specs.declared.row.Row.{Row}
+use Rattle.run_files.specs.Captures.{is_own, is_loopback}
 use Rattle.host_state.specs.Fire.{fire, has_acted}
 use Rattle.host_state.specs.Fits.{model}
-use Rattle.host_state.specs.Home.{home, home_of}
+use Rattle.host_link.specs.Home.{home, home_of}
 use Rattle.host_state.specs.HostRecord.{HostRecord}
 use Rattle.host_state.specs.Opening.{host_begins, opening}
 use Rattle.host_state.specs.World.{World, opening_world}

@@ -14,11 +14,12 @@ use Rattle.host_wants.specs.declared.outlet.Want.TheVariants as wanted
 use Rattle.host_wants.specs.Wanted.{Wanted}
 use Rattle.host_sockets.specs.Sockets.{SocketsRecord}
 use Rattle.host_calls.specs.Parts.{PartsRecord}
-use Rattle.host_state.specs.declared.net.Net.{Net}
-use Rattle.host_state.specs.Host.{with_link, with_parts, wire_of, with_wire, does_wants, settles}
+use Rattle.host_link.specs.declared.net.Net.{Net}
+use Rattle.host_state.specs.Host.{with_link, with_parts, wire_of, with_wire, settles}
+use Rattle.host_link.specs.Wants.{does_wants}
 use Rattle.host_state.specs.HostRecord.{HostRecord}
-use Rattle.host_state.specs.Link.{LinkState}
-use Rattle.host_state.specs.Sending.{Wire}
+use Rattle.host_link.specs.Link.{LinkState}
+use Rattle.host_link.specs.Sending.{Wire}
 use Rattle.socket_laws.specs.Histories.{SocketsAct, sockets_acted, sockets_after}
 use Rattle.socket_laws.specs.Histories.SocketsAct.{elsewhere}
 use Rattle.socket_streams.specs.Records.{packet_in, packets_of, net_with}

@@ -20,12 +20,12 @@ use Rattle.tcp_streams.proofs.Members.{Contains-here, Contains-there, IsIn-from_
 use Rattle.tcp_streams.proofs.Ends.{same_number}
 use Rattle.tcp_streams.proofs.Frames.{joined, comes_outside}
 use Rattle.tcp_streams.proofs.Promise.{streams}
-use Rattle.host_state.specs.declared.line.Line.{Line}
-use Rattle.host_state.specs.declared.net.Net.{Net}
-use Rattle.host_state.specs.declared.row.Row.{Row}
+use Rattle.host_link.specs.declared.line.Line.{Line}
+use Rattle.host_link.specs.declared.net.Net.{Net}
+use Rattle.host_link.specs.declared.row.Row.{Row}
 use Rattle.host_state.specs.Fire.{fire}
 use Rattle.host_state.specs.Fits.{model}
-use Rattle.host_state.specs.Home.{home, home_of}
+use Rattle.host_link.specs.Home.{home, home_of}
 use Rattle.host_state.specs.HostRecord.{HostRecord}
 use Rattle.host_state.specs.Opening.{opening}
 use Rattle.host_state.specs.World.{World, opening_world}

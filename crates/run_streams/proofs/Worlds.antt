@@ -20,16 +20,17 @@ use Rattle.tcp_streams.proofs.Frames.{joined}
 use Rattle.tcp_streams.proofs.Promise.{streams}
 use Rattle.host_wants.specs.Wanted.{nothing_wanted}
 use Rattle.host_sockets.specs.Sockets.{no_sockets}
-use Rattle.host_state.specs.declared.line.Line.{Line}
-use Rattle.host_state.specs.declared.net.Net.{Net}
-use Rattle.host_state.specs.declared.row.ProcessRow.{ProcessRow}
-use Rattle.host_state.specs.declared.row.Row.{Row}
+use Rattle.host_link.specs.declared.line.Line.{Line}
+use Rattle.host_link.specs.declared.net.Net.{Net}
+use Rattle.host_link.specs.declared.row.ProcessRow.{ProcessRow}
+use Rattle.host_link.specs.declared.row.Row.{Row}
 use Rattle.host_state.specs.Fire.{fire}
 use Rattle.host_state.specs.Fits.{model}
-use Rattle.host_state.specs.Home.{home}
+use Rattle.host_link.specs.Home.{home}
 use Rattle.host_state.specs.HostRecord.{HostRecord}
-use Rattle.host_state.specs.Link.{LinkState, new_link, numbers}
-use Rattle.host_state.specs.Opening.{begins_shutdown, begins_process, begins_all, host_begins, opening}
+use Rattle.host_link.specs.Link.{LinkState, new_link, numbers}
+use Rattle.host_link.specs.Beginning.{begins_shutdown, begins_process, begins_all}
+use Rattle.host_state.specs.Opening.{host_begins, opening}
 use Rattle.host_state.specs.World.{World, opening_world}
 use Rattle.world_order.specs.EventOrder.{take_least}
 use Rattle.world_order.specs.Model.{Fired, with_host, fires_at, fires}

@@ -7,10 +7,10 @@ use Rattle.sim_base.specs.declared.packet.Packet.{Packet}
 use Rattle.sock_tcp.specs.connection.Tcb.{Tcb}
 use Rattle.net_iface.specs.declared.lane.Waiting.{Waiting}
 use Rattle.net_iface.specs.Lane.{LaneState}
-use Rattle.host_state.specs.declared.net.Net as declared
+use Rattle.host_link.specs.declared.net.Net as declared
 use Rattle.host_state.specs.Fits.{model}
 use Rattle.host_state.specs.HostRecord.{HostRecord}
-use Rattle.host_state.specs.Link.{LinkState}
+use Rattle.host_link.specs.Link.{LinkState}
 use Rattle.host_state.specs.World.{World}
 use Rattle.world_order.specs.Round.{events_at}
 use Rattle.tcp_streams.specs.Net.{Net}

@@ -7,15 +7,15 @@ use Rattle.sim_base.specs.declared.event.Event.{Event}
 use Rattle.sim_base.specs.declared.event.What.{What}
 use Rattle.sim_base.specs.declared.event.What.TheVariants as what
 use Rattle.sim_base.specs.declared.packet.Packet.{Packet}
-use Rattle.host_state.specs.Captures.{is_loopback}
-use Rattle.host_state.specs.Sending.{stays_here}
+use Rattle.run_files.specs.Captures.{is_loopback}
+use Rattle.host_link.specs.Sending.{stays_here}
 use Rattle.host_state.specs.Fire.{fire}
-use Rattle.host_state.specs.Home.{home}
+use Rattle.host_link.specs.Home.{home}
 use Rattle.host_state.specs.HostRecord.{HostRecord}
 use Rattle.host_state.specs.World.{World, opening_world}
-use Rattle.host_state.specs.declared.line.Line.{Line}
-use Rattle.host_state.specs.declared.net.Net.{Net}
-use Rattle.host_state.specs.declared.row.Row.{Row}
+use Rattle.host_link.specs.declared.line.Line.{Line}
+use Rattle.host_link.specs.declared.net.Net.{Net}
+use Rattle.host_link.specs.declared.row.Row.{Row}
 use Rattle.world_order.specs.World.{Logged}
 use Rattle.run_streams.specs.Run.{IsReached}
 

@@ -11,17 +11,18 @@ use Rattle.sim_base.specs.declared.outside.sink.WriteError.{WriteError}
 use Rattle.sim_base.specs.declared.state.State.{State}
 use Rattle.host_state.specs.HostRecord.{HostRecord, process_state}
 use Rattle.host_state.specs.Extends.{AreLater, Extends}
-use Rattle.host_state.specs.Logs.{lines_of}
+use Rattle.host_link.specs.Logs.{lines_of}
 use Rattle.host_state.specs.World.{World}
-use Rattle.host_state.specs.declared.files.listed.Listing.{Listing}
-use Rattle.host_state.specs.declared.line.Line.{Line}
+use Rattle.run_files.specs.declared.listed.Listing.{Listing}
+use Rattle.host_link.specs.declared.line.Line.{Line}
 use Rattle.out_text.specs.Summary.{is_send, is_lost, is_recv, acts_counted, summary_of}
 use Rattle.out_text.specs.declared.log.LogLine.{LogLine}
 use Rattle.out_text.specs.declared.summary.Summary.{Summary}
 use Rattle.net_run.specs.Grown.{IsUnderway}
-use Rattle.host_state.specs.Listed.{HostNames, HasIds, listed, listed_process, names_in, names_of}
+use Rattle.run_files.specs.Listed.{HostNames, HasIds, listed, listed_process, names_of}
+use Rattle.host_state.specs.Gains.{names_in}
 use Rattle.net_run.specs.Parts.{Between}
-use Rattle.host_state.specs.Files.{Put, first_id}
+use Rattle.run_files.specs.Files.{Put, first_id}
 use Rattle.net_run.specs.Pieces.{with_pieces, PutsFront}
 use Rattle.net_run.specs.Rest.{all_rest, summary_in, unmet_of_hosts, TellsStates, AreTold}
 use Rattle.net_run.specs.Shown.{named, named_log, run_pieces, status_by, status_of}

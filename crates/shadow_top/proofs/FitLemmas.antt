@@ -1,9 +1,9 @@
 -- The numbers of the packets that a run logs fit their types.
 use Rattle.std.proofs.Common.{List, [], ◌∷◌, ◌++◌, subst}
-use Rattle.host_state.specs.LinesFit.{AllFit}
-use Rattle.host_state.specs.Logs.{lines_of}
+use Rattle.run_files.specs.LinesFit.{AllFit}
+use Rattle.host_link.specs.Logs.{lines_of}
 use Rattle.host_state.specs.World.{World}
-use Rattle.host_state.specs.declared.line.Line.{Line}
+use Rattle.host_link.specs.declared.line.Line.{Line}
 use Rattle.pcap_text.specs.declared.capture.Capture.{Capture}
 use Rattle.run_plan.specs.declared.fault.Fault.{Fault}
 use Rattle.run_plan.specs.declared.planned.Run.{Run}

@@ -3,9 +3,10 @@ use Rattle.std.proofs.Common.{◌≡◌, ℕ, suc, Bool, true, false, List, [], 
 use Rattle.std.specs.List.{AllByRecursion, IsDistinct}
 use Rattle.std.specs.Str.{bytes_eq}
 use Rattle.std.proofs.lemmas.Slice.Eq.{bytes_eq-Decides}
-use Rattle.host_state.specs.Listed.{HostNames, HasIds, listed, names_in}
+use Rattle.run_files.specs.Listed.{HostNames, HasIds, listed}
+use Rattle.host_state.specs.Gains.{names_in}
 use Rattle.host_state.specs.World.{opening_world}
-use Rattle.host_state.specs.declared.row.Row.{Row}
+use Rattle.host_link.specs.declared.row.Row.{Row}
 use Rattle.net_run.specs.Grown.{HaveOwnFiles}
 use Rattle.run_plan.specs.Names.{AreApart}
 

@@ -2,10 +2,10 @@
 use Rattle.std.proofs.Common.{◌≡◌, ℕ, Bool, false, List, Option, Some, None, Result, Ok, Err, IfSome, refl, sym, ap, subst, ◌∙◌, inl, inr}
 use Rattle.sim_base.specs.Sink.{Content, begun}
 use Rattle.host_state.specs.World.{World, IsResult, opening_world}
-use Rattle.host_state.specs.declared.net.Net.{Net}
-use Rattle.host_state.specs.declared.row.Row.{Row}
+use Rattle.host_link.specs.declared.net.Net.{Net}
+use Rattle.host_link.specs.declared.row.Row.{Row}
 use Rattle.net_run.specs.Parts.{Between}
-use Rattle.host_state.specs.Files.{Put}
+use Rattle.run_files.specs.Files.{Put}
 use Rattle.net_run.specs.Pieces.{with_pieces}
 use Rattle.net_run.specs.Shown.{pieces}
 use Rattle.run_plan.specs.declared.fault.Fault.TheVariants.{Exists}

@@ -8,16 +8,17 @@ use Rattle.sim_base.specs.declared.outside.sink.WriteError.{WriteError}
 use Rattle.sim_base.specs.declared.outside.sink.WriteError.TheVariants as write
 use Rattle.file_calls.specs.declared.task.Output.{Output}
 use Rattle.host_state.specs.Extends.{Extends}
-use Rattle.host_state.specs.Files.{Put}
-use Rattle.host_state.specs.Grown.{Gains, all_grown, with_bytes}
+use Rattle.run_files.specs.Files.{Put}
+use Rattle.host_state.specs.Gains.{Gains, names_in}
+use Rattle.run_files.specs.Grown.{all_grown, with_bytes}
 use Rattle.host_state.specs.HostRecord.{HostRecord}
-use Rattle.host_state.specs.LinesFit.{AllFit}
-use Rattle.host_state.specs.Listed.{HostNames, listed, names_in, names_of}
-use Rattle.host_state.specs.Logs.{lines_of}
+use Rattle.run_files.specs.LinesFit.{AllFit}
+use Rattle.run_files.specs.Listed.{HostNames, listed, names_of}
+use Rattle.host_link.specs.Logs.{lines_of}
 use Rattle.host_state.specs.World.{World, IsResult, opening_world}
-use Rattle.host_state.specs.declared.line.Line.{Line}
-use Rattle.host_state.specs.declared.net.Net.{Net}
-use Rattle.host_state.specs.declared.row.Row.{Row}
+use Rattle.host_link.specs.declared.line.Line.{Line}
+use Rattle.host_link.specs.declared.net.Net.{Net}
+use Rattle.host_link.specs.declared.row.Row.{Row}
 use Rattle.net_run.specs.Grown.{HaveOwnFiles, IsUnderway}
 use Rattle.net_run.specs.Heads.{all_heads}
 use Rattle.net_run.specs.Parts.{Between}

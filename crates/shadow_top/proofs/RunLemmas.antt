@@ -4,10 +4,11 @@ use Rattle.sim_base.specs.Sink.{Content}
 use Rattle.sim_base.specs.declared.outside.sink.WriteError.{WriteError}
 use Rattle.sim_base.specs.declared.outside.sink.WriteError.TheVariants as write
 use Rattle.host_state.specs.World.{World, IsResult, opening_world}
-use Rattle.host_state.specs.declared.net.Net.{Net}
-use Rattle.host_state.specs.declared.row.Row.{Row}
+use Rattle.host_link.specs.declared.net.Net.{Net}
+use Rattle.host_link.specs.declared.row.Row.{Row}
 use Rattle.net_run.specs.Grown.{HaveOwnFiles}
-use Rattle.host_state.specs.Listed.{HostNames, HasIds, listed, names_in, names_of}
+use Rattle.run_files.specs.Listed.{HostNames, HasIds, listed, names_of}
+use Rattle.host_state.specs.Gains.{names_in}
 use Rattle.net_run.specs.Parts.{Between}
 use Rattle.net_run.specs.Pieces.{with_pieces, PutsFront}
 use Rattle.net_run.specs.Shown.{note_puts, run_pieces, all_pieces, unmet}

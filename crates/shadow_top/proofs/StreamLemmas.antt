@@ -2,11 +2,12 @@
 use Rattle.std.proofs.Common.{◌≡◌, ℕ, Bool, true, List, Option, Some, option_map, Result, Ok, Err, sym, ap, subst, ◌∙◌}
 use Rattle.sim_base.specs.Sink.{Content}
 use Rattle.sim_base.specs.declared.outside.sink.WriteError.{WriteError}
-use Rattle.host_state.specs.Files.{Put}
-use Rattle.host_state.specs.Listed.{HostNames, names_in, names_of}
+use Rattle.run_files.specs.Files.{Put}
+use Rattle.run_files.specs.Listed.{HostNames, names_of}
+use Rattle.host_state.specs.Gains.{names_in}
 use Rattle.host_state.specs.World.{World}
 use Rattle.host_state.specs.WorldStreams.{streams_in}
-use Rattle.host_state.specs.declared.files.listed.Listing.{Listing}
+use Rattle.run_files.specs.declared.listed.Listing.{Listing}
 use Rattle.out_text.specs.declared.streams.Stream.{Stream}
 use Rattle.net_run.specs.Pieces.{with_pieces, PutsFront}
 use Rattle.net_run.specs.Shown.{run_pieces}

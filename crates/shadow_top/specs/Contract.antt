@@ -6,8 +6,8 @@ use Rattle.sim_base.specs.Tally.{EndsByError, StopsAtError}
 use Rattle.sim_base.specs.declared.outside.sink.Place.TheVariants as place
 use Rattle.sim_base.specs.declared.outside.tally.Tally.{Tally}
 use Rattle.out_text.specs.Faults.{file_line}
-use Rattle.host_state.specs.LinesFit.{AllFit}
-use Rattle.host_state.specs.Logs.{lines_of}
+use Rattle.run_files.specs.LinesFit.{AllFit}
+use Rattle.host_link.specs.Logs.{lines_of}
 use Rattle.host_state.specs.World.{World, IsResult, opening_world}
 use Rattle.net_run.specs.Parts.{IsPart, Between}
 use Rattle.net_run.specs.Pieces.{with_pieces}

@@ -1,12 +1,12 @@
 -- The rows of hosts and the net that a run begins with: what is planned says all of them.
 use Rattle.std.specs.Prelude.{◌≡◌, ℕ, ◌+◌, ◌^◌, List, [], ◌∷◌, ◌++◌, map, Option, Some, None, codes, min, if◌then◌else◌}
 use Rattle.sim_base.specs.declared.time.Time.{Time}
-use Rattle.host_calls.specs.declared.parts.Known.{Known}
-use Rattle.host_state.specs.declared.net.Net.{Net}
-use Rattle.host_state.specs.declared.row.FinalState.{FinalState}
-use Rattle.host_state.specs.declared.row.FinalState.TheVariants as state
-use Rattle.host_state.specs.declared.row.ProcessRow.{ProcessRow}
-use Rattle.host_state.specs.declared.row.Row.{Row}
+use Rattle.file_calls.specs.declared.known.Known.{Known}
+use Rattle.host_link.specs.declared.net.Net.{Net}
+use Rattle.host_link.specs.declared.row.FinalState.{FinalState}
+use Rattle.host_link.specs.declared.row.FinalState.TheVariants as state
+use Rattle.host_link.specs.declared.row.ProcessRow.{ProcessRow}
+use Rattle.host_link.specs.declared.row.Row.{Row}
 use Rattle.net_iface.specs.declared.lane.QueueRule.{QueueRule}
 use Rattle.net_iface.specs.declared.lane.QueueRule.TheVariants as lane
 use Rattle.round_lookahead.specs.OpeningWorld.{AreHostRows}

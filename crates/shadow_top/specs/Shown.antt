@@ -3,7 +3,7 @@ use Rattle.std.specs.Prelude.{◌≡◌, ℕ, List}
 use Rattle.sim_base.specs.Sink.{Content, add, begun}
 use Rattle.sim_base.specs.declared.outside.sink.Place.TheVariants as place
 use Rattle.host_state.specs.World.{World, IsResult, opening_world}
-use Rattle.host_state.specs.Files.{Put}
+use Rattle.run_files.specs.Files.{Put}
 use Rattle.net_run.specs.Pieces.{with_pieces}
 use Rattle.net_run.specs.Shown.{pieces, status_of}
 use Rattle.run_plan.specs.Line.{line_of}

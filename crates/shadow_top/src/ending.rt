@@ -5,7 +5,7 @@ ghost use Rattle.sim_base.specs.Sink.{Content};
 ghost use Rattle.sim_base.specs.Tally.{CountsWrites};
 ghost use Rattle.host_state.specs.HostRecord.{HostRecord};
 ghost use Rattle.host_state.specs.World.{World as HostWorld};
-ghost use Rattle.host_state.specs.Listed.{HasIds, names_of};
+ghost use Rattle.run_files.specs.Listed.{HasIds, names_of};
 ghost use Rattle.net_run.specs.Rest.{summary_in, TellsStates};
 ghost use Rattle.round_lookahead.specs.WorldStands.{WorldStands};
 ghost use Rattle.shadow_top.specs.inside.Ending.{TellsAll, PutsEnd, PutsAll};

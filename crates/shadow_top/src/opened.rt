@@ -8,8 +8,8 @@ ghost use Rattle.run_plan.specs.Plan.{nodes_of};
 ghost use Rattle.run_plan.specs.Routed.{IsRouted};
 ghost use Rattle.shadow_top.specs.Opened.{variable_text, state_of, lane_rule, process_of, processes_of, capture_of, row_of, rows_from, known_of, cut_lookahead, Opens, HasOpened};
 
-use host_calls::Known;
-use host_state::{ByteTexts, FinalState, Images, Net, Nodes, ProcessRow, ProcessRows, Row};
+use file_calls::Known;
+use host_link::{ByteTexts, FinalState, Images, Net, Nodes, ProcessRow, ProcessRows, Row};
 use net_iface::QueueRule;
 use run_plan::{HostRow, Plan, Run, Settings};
 use shd_config::{HostConfig, ProcessConfig, Variable};

@@ -3,9 +3,9 @@
 ghost use Rattle.std.specs.Prelude.{◌≡◌, ◌<◌, ◌≤◌, Any, List, Option, flat_map};
 ghost use Rattle.sim_base.specs.Sink.{Content};
 ghost use Rattle.sim_base.specs.Limits.{most_workers};
-ghost use Rattle.host_state.specs.Listed.{names_of};
+ghost use Rattle.run_files.specs.Listed.{names_of};
 ghost use Rattle.host_state.specs.World.{World as HostWorld, opening_world};
-ghost use Rattle.host_state.specs.declared.row.Row.{Row};
+ghost use Rattle.host_link.specs.declared.row.Row.{Row};
 ghost use Rattle.net_run.specs.Grown.{HaveOwnFiles};
 ghost use Rattle.round_lookahead.specs.Tasks.{waiting};
 ghost use Rattle.round_lookahead.specs.WorldStands.{WorldStands};

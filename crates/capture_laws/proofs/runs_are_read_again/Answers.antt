@@ -1,4 +1,4 @@
-use Rattle.host_state.specs.Logs.{lines_of}
+use Rattle.host_link.specs.Logs.{lines_of}
 use Rattle.capture_laws.proofs.Again.{eth0_again}
 use Rattle.capture_laws.proofs.Worlds.{in_range}
 use Rattle.capture_laws.proofs.runs_are_read_again.Goals as goal

@@ -1,4 +1,4 @@
-use Rattle.host_state.specs.Logs.{lines_of}
+use Rattle.host_link.specs.Logs.{lines_of}
 use Rattle.shadow_top.specs.Opened.{rows_of, net_of}
 use Rattle.stream_lines.proofs.Runs.{stops}
 use Rattle.capture_laws.proofs.Again.{eth0_again, lo_again}

@@ -3,7 +3,7 @@ use Rattle.std.specs.Prelude.{List, map, Box}
 use Rattle.std.specs.declared.alloc.Global.{Global}
 use Rattle.sim_base.specs.declared.event.Event.{Event}
 use Rattle.sim_base.specs.declared.event.Parcel.{Parcel}
-use Rattle.host_state.specs.Parcels.{parcel_event}
+use Rattle.host_link.specs.Parcels.{parcel_event}
 
 -- a parcel in its box
 abbrev pub Boxed : Type 0

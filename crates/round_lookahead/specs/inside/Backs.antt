@@ -5,10 +5,10 @@ use Rattle.sim_base.specs.declared.event.Event.{Event}
 use Rattle.sim_base.specs.declared.event.Parcel.{Parcel}
 use Rattle.sim_base.specs.declared.host.HostId.{HostId}
 use Rattle.list_weights.specs.Places.{EachAt}
-use Rattle.host_state.specs.declared.line.Logged.{Logged}
-use Rattle.host_state.specs.declared.net.Net.{Net}
-use Rattle.host_state.specs.Home.{home}
-use Rattle.host_state.specs.Parcels.{parcel_event}
+use Rattle.host_link.specs.declared.line.Logged.{Logged}
+use Rattle.host_link.specs.declared.net.Net.{Net}
+use Rattle.host_link.specs.Home.{home}
+use Rattle.host_link.specs.Parcels.{parcel_event}
 use Rattle.round_lookahead.specs.declared.workers.worked.Done.{Done}
 use Rattle.round_lookahead.specs.declared.workers.worked.Worked.{Worked}
 use Rattle.round_lookahead.specs.declared.world.backs.Back.{Back}

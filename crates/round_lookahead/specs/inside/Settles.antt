@@ -3,10 +3,10 @@ use Rattle.std.specs.Prelude.{◌≡◌, ℕ, ◌<◌, List, ◌++◌, map, leng
 use Rattle.std.specs.declared.alloc.Global.{Global}
 use Rattle.sim_base.specs.declared.event.Parcel.{Parcel}
 use Rattle.list_weights.specs.Weights.{numbers_below}
-use Rattle.host_state.specs.declared.line.Line.{Line}
-use Rattle.host_state.specs.declared.net.Net.{Net}
-use Rattle.host_state.specs.Home.{home}
-use Rattle.host_state.specs.Parcels.{parcel_event}
+use Rattle.host_link.specs.declared.line.Line.{Line}
+use Rattle.host_link.specs.declared.net.Net.{Net}
+use Rattle.host_link.specs.Home.{home}
+use Rattle.host_link.specs.Parcels.{parcel_event}
 use Rattle.host_state.specs.Running.{kept_line}
 use Rattle.world_order.specs.Round.{in_order}
 use Rattle.world_order.specs.World as order

@@ -7,7 +7,7 @@ ghost use Rattle.round_lookahead.specs.inside.Benches.{IsReady, HasWorked, HaveW
 use crate::workers::bench::Bench;
 use crate::workers::working::work;
 use host_inbox::Boards;
-use host_state::Net;
+use host_link::Net;
 use sim_base::{Parcel, Time};
 use std::alloc::Global;
 use std::thread::{Threads, for_each_mut};

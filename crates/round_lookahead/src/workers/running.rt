@@ -3,7 +3,7 @@ ghost use Rattle.std.specs.Prelude.{◌≡◌, ◌≤◌, ◌<◌, ◌++◌, [],
 ghost use Rattle.sim_base.specs.Units.{latest_time};
 ghost use Rattle.host_state.specs.HostRecord.{HostRecord};
 ghost use Rattle.host_state.specs.HostStands.{IsSameBody};
-ghost use Rattle.host_state.specs.Parcels.{parcel_event};
+ghost use Rattle.host_link.specs.Parcels.{parcel_event};
 ghost use Rattle.world_order.specs.EventOrder.{AreApart};
 ghost use Rattle.round_lookahead.specs.inside.Arrivals.{arrivals};
 ghost use Rattle.round_lookahead.specs.Tasks.{IsTask};
@@ -11,7 +11,8 @@ ghost use Rattle.round_lookahead.specs.Works.{HasRun, done_of};
 
 use crate::workers::task::Task;
 use crate::workers::worked::Done;
-use host_state::{Host, Net, Outbox};
+use host_link::{Net, Outbox};
+use host_state::Host;
 use sim_base::{Event, NoMemory, Parcel, Time, What};
 use std::alloc::Global;
 use std::mem;

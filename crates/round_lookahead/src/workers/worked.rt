@@ -1,7 +1,8 @@
 //! What a worker leaves.
 
 use file_calls::Output;
-use host_state::{Host, Logged};
+use host_link::Logged;
+use host_state::Host;
 use sim_base::{HostId, Parcel};
 
 /// A host that was run up to the end of a round, the lines of the log that it made, and what its processes wrote, each in order.

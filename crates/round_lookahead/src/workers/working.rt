@@ -14,7 +14,7 @@ use crate::workers::running::{Finished, run_task};
 use crate::workers::task::Task;
 use crate::workers::worked::Worked;
 use host_inbox::{Boards, Carrier};
-use host_state::Net;
+use host_link::Net;
 use sim_base::{NoMemory, Parcel, Time};
 use std::alloc::Global;
 use steal_workers::{Gate, Next, Seat};

@@ -4,7 +4,8 @@ ghost use Rattle.round_lookahead.specs.inside.Backs as spec;
 
 use crate::workers::worked::{Done, Worked};
 use file_calls::Output;
-use host_state::{Host, Logged};
+use host_link::Logged;
+use host_state::Host;
 use sim_base::{HostId, NoMemory, Parcel};
 use std::alloc::Global;
 

@@ -1,11 +1,11 @@
 //! What the packet log comes to.
 ghost use Rattle.std.specs.Prelude.{◌≡◌, ◌++◌, ◌∷◌, [], List};
-ghost use Rattle.host_state.specs.declared.line.Line.{Line as LineRecord};
-ghost use Rattle.host_state.specs.Logs.{kept_lines};
+ghost use Rattle.host_link.specs.declared.line.Line.{Line as LineRecord};
+ghost use Rattle.host_link.specs.Logs.{kept_lines};
 ghost use Rattle.round_lookahead.specs.Counts.{counts_of};
 
 use crate::world::gained::Gained;
-use host_state::Logged;
+use host_link::Logged;
 use sim_base::Act;
 
 /// How many lines of the packet log tell `send`, `lost` and `recv`. A count stands still at

@@ -1,7 +1,7 @@
 //! What the hosts gain in a round.
 
 use file_calls::Output;
-use host_state::Logged;
+use host_link::Logged;
 use sim_base::HostId;
 
 /// What each host's processes wrote, by the host's number, in order; the lines of the packet log, in

@@ -6,7 +6,7 @@ ghost use Rattle.round_lookahead.specs.Tasks.{AreTasksOf};
 
 use crate::workers::task::Task;
 use file_calls::Output;
-use host_state::{Logged, Net, Outbox};
+use host_link::{Logged, Net, Outbox};
 use sim_base::{HostId, NoMemory, Parcel, Time};
 use std::alloc::Global;
 use steal_workers::Gate;

@@ -1,11 +1,11 @@
 //! The lines of a round, in the order of the events that they are from.
 ghost use Rattle.std.specs.Prelude.{◌≡◌, List, OnOk, map};
-ghost use Rattle.host_state.specs.declared.line.Line.{Line as LineRecord};
+ghost use Rattle.host_link.specs.declared.line.Line.{Line as LineRecord};
 ghost use Rattle.host_state.specs.Running.{kept_line};
 ghost use Rattle.world_order.specs.Round.{in_order};
 ghost use Rattle.world_order.specs.World as order;
 
-use host_state::Logged;
+use host_link::Logged;
 use sim_base::NoMemory;
 
 /// Puts lines in the order of their keys; those of one key stay in theirs.

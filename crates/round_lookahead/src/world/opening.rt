@@ -1,7 +1,7 @@
 //! The world before its first round.
 ghost use Rattle.std.specs.Prelude.{◌≡◌, All, IfOk};
 ghost use Rattle.host_state.specs.Fits.{FitsNet};
-ghost use Rattle.host_state.specs.Listed.{HasIds, names_of};
+ghost use Rattle.run_files.specs.Listed.{HasIds, names_of};
 ghost use Rattle.round_lookahead.specs.OpeningWorld.{AreHostRows, AreOpened, IsOpened, opening_world};
 ghost use Rattle.round_lookahead.specs.WorldStands.{HasRounds, WorldStands, nanos_of};
 
@@ -9,7 +9,9 @@ use crate::workers::task::Task;
 use crate::world::counts::Counts;
 use crate::world::load::Load;
 use crate::world::world_state::World;
-use host_state::{Host, Listing, Net, Row};
+use host_link::{Net, Row};
+use host_state::Host;
+use run_files::Listing;
 use sim_base::{NoMemory, Time};
 use std::alloc::Global;
 

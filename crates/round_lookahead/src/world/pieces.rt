@@ -1,6 +1,6 @@
 //! What a round of the world gains.
 
-use host_state::Piece;
+use run_files::Piece;
 use sim_base::HostId;
 
 /// What a round gained: the places and bytes that what processes wrote and the packet log gained, in

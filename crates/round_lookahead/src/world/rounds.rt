@@ -14,7 +14,7 @@ use crate::world::pieces::Pieces;
 use crate::world::settling::{Settled, settle};
 use crate::world::settling_in_place::round_in_place;
 use crate::world::world_state::World;
-use host_state::round_pieces;
+use run_files::round_pieces;
 use sim_base::{NoMemory, Time};
 use std::alloc::Global;
 use std::mem;

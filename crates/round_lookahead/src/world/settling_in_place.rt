@@ -11,7 +11,7 @@ use crate::world::gained::Gained;
 use crate::world::in_place::{Alone, run_in_place};
 use crate::world::merging::merge;
 use crate::world::waiting::wait_all;
-use host_state::Net;
+use host_link::Net;
 use sim_base::{HostId, NoMemory, Time};
 use std::alloc::Global;
 use steal_workers::Gate;

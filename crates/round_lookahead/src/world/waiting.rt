@@ -1,8 +1,8 @@
 //! Packets wait for the hosts in their places.
 ghost use Rattle.std.specs.Prelude.{◌≡◌, ◌++◌, ◌∷◌, ◌<◌, [], All, OnOk, IsPermutation, length, map};
-ghost use Rattle.host_state.specs.Parcels.{parcel_event};
-ghost use Rattle.host_state.specs.Home.{home};
-ghost use Rattle.host_state.specs.declared.net.Net.{Net};
+ghost use Rattle.host_link.specs.Parcels.{parcel_event};
+ghost use Rattle.host_link.specs.Home.{home};
+ghost use Rattle.host_link.specs.declared.net.Net.{Net};
 ghost use Rattle.round_lookahead.specs.inside.Backs.{row_arrivals, AreAtHome};
 ghost use Rattle.round_lookahead.specs.inside.Waits.{IsSameHosts, rows_of};
 

@@ -3,7 +3,8 @@
 use crate::workers::task::Task;
 use crate::world::counts::Counts;
 use crate::world::load::Load;
-use host_state::{Listing, Net};
+use host_link::Net;
+use run_files::Listing;
 use sim_base::Time;
 
 /// All hosts of a net, with the events that they hold and the packets that wait for them, what is told

@@ -3,11 +3,11 @@ use Rattle.std.specs.Prelude.{◌≡◌, ◌≤◌, ◌<◌, ℕ, List, ◌∷�
 use Rattle.sim_base.specs.Units.{latest_time}
 use Rattle.sim_base.specs.declared.event.Event.{Event}
 use Rattle.host_state.specs.declared.host.Host.{Host}
-use Rattle.host_state.specs.declared.net.Net.{Net}
+use Rattle.host_link.specs.declared.net.Net.{Net}
 use Rattle.host_state.specs.Fire.{fire, wrote}
 use Rattle.host_state.specs.HostRecord.{HostRecord}
 use Rattle.host_state.specs.HostStands.{Stands, IsSameBody}
-use Rattle.host_state.specs.Outbox.{own_events, parcels_of, logged}
+use Rattle.host_link.specs.Outbox.{own_events, parcels_of, logged}
 use Rattle.world_order.specs.EventOrder.{AreApart, take_least}
 use Rattle.round_schedule.specs.declared.firing.HandedOut.{HandedOut}
 use Rattle.round_schedule.specs.declared.member.Member.{Member}

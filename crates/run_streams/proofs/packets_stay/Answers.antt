@@ -1,5 +1,5 @@
 use Rattle.host_state.specs.Fire.{fire}
-use Rattle.host_state.specs.Home.{home}
+use Rattle.host_link.specs.Home.{home}
 use Rattle.run_streams.proofs.Every.{every_member}
 use Rattle.run_streams.proofs.HomeLinks.{IsLineOf}
 use Rattle.run_streams.proofs.Homes.{past_network, on_network, lines_tell}

@@ -1,10 +1,10 @@
 -- What is put while a run goes on, and at its end.
 use Rattle.std.specs.Prelude.{◌≡◌, ℕ, ◌⊎◌, Bool, List, map, Option, Some, option_map, Result, Ok, Err}
 use Rattle.sim_base.specs.Sink.{Content}
-use Rattle.host_state.specs.Files.{Put, put_of}
-use Rattle.host_state.specs.LinesFit.{AllFit}
-use Rattle.host_state.specs.Listed.{names_in}
-use Rattle.host_state.specs.Logs.{lines_of}
+use Rattle.run_files.specs.Files.{Put, put_of}
+use Rattle.run_files.specs.LinesFit.{AllFit}
+use Rattle.host_state.specs.Gains.{names_in}
+use Rattle.host_link.specs.Logs.{lines_of}
 use Rattle.host_state.specs.World.{World, IsResult}
 use Rattle.net_run.specs.Grown.{IsUnderway}
 use Rattle.net_run.specs.Parts.{Between}

@@ -1,5 +1,5 @@
 use Rattle.std.proofs.Common.{◌≡◌, replicate}
-use Rattle.host_state.specs.declared.process.Process.TheVariants as process
+use Rattle.guest_process.specs.declared.process.Process.TheVariants as process
 use Rattle.host_state.proofs.host.not_started.Given as goal
 
 abbrev pub invariant-loop-process : goal.invariant-loop-process

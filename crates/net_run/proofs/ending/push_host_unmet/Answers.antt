@@ -1,9 +1,9 @@
 use Rattle.std.proofs.Common.{◌+◌, ◌++◌, map, ap, ◌∙◌}
 use Rattle.sim_base.specs.declared.state.State.{State}
-use Rattle.host_state.specs.Files.{put_of, first_id}
+use Rattle.run_files.specs.Files.{put_of, first_id}
 use Rattle.net_run.specs.Rest.{unmet_of_process}
 use Rattle.net_run.specs.Shown.{unmet_by}
-use Rattle.host_state.proofs.Listings.{process-step}
+use Rattle.run_files.proofs.Listings.{process-step}
 use Rattle.net_run.proofs.ending.push_host_unmet.Goals as goal
 
 pub loop-place-preserved : goal.loop-place-preserved

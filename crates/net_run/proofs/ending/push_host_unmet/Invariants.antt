@@ -1,6 +1,6 @@
 use Rattle.std.proofs.Common.{◌≡◌, ◌++◌, drop, map}
-use Rattle.host_state.specs.Listed.{by_process}
-use Rattle.host_state.specs.Files.{put_of}
+use Rattle.run_files.specs.Listed.{by_process}
+use Rattle.run_files.specs.Files.{put_of}
 use Rattle.net_run.specs.Rest.{unmet_of_process}
 use Rattle.net_run.proofs.ending.push_host_unmet.Given as goal
 

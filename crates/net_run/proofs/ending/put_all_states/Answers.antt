@@ -1,11 +1,11 @@
 use Rattle.std.proofs.Common.{◌≡◌, ◌+◌, ◌++◌, List, option_map, Vec, Global, subst, ◌∙◌, arith}
 use Rattle.sim_base.specs.declared.state.State.{State}
 use Rattle.net_run.specs.Rest.{host_rest}
-use Rattle.host_state.specs.Listed.{HostNames, said}
-use Rattle.host_state.specs.Files.{Put}
+use Rattle.run_files.specs.Listed.{HostNames, said}
+use Rattle.run_files.specs.Files.{Put}
 use Rattle.net_run.specs.Pieces.{with_pieces, PutsFront}
 use Rattle.net_run.proofs.PieceLemmas.{on_err}
-use Rattle.host_state.proofs.Listings.{left_by_host, host-next, host-none}
+use Rattle.run_files.proofs.Listings.{left_by_host, host-next, host-none}
 use Rattle.net_run.proofs.StepLemmas.{step-put, step-front, step-here, all-put}
 use Rattle.net_run.proofs.ending.put_all_states.Goals as goal
 

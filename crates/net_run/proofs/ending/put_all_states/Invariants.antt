@@ -5,7 +5,7 @@ use Rattle.sim_base.specs.Sink.{Content}
 use Rattle.sim_base.specs.declared.state.State.{State}
 use Rattle.net_run.specs.Pieces.{with_pieces, PutsFront}
 use Rattle.net_run.specs.Rest.{host_rest}
-use Rattle.host_state.proofs.Listings.{left_by_host}
+use Rattle.run_files.proofs.Listings.{left_by_host}
 use Rattle.net_run.proofs.ending.put_all_states.Given as goal
 
 -- what is left completes the whole, and no call has answered an error

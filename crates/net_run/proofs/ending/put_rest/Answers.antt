@@ -1,7 +1,7 @@
 use Rattle.std.proofs.Common.{◌≡◌, List, map, option_map, Vec, Global, ap, subst, ◌∙◌}
 use Rattle.sim_base.specs.declared.state.State.{State}
-use Rattle.host_state.specs.Listed.{HostNames, said}
-use Rattle.host_state.specs.Files.{Put, put_of}
+use Rattle.run_files.specs.Listed.{HostNames, said}
+use Rattle.run_files.specs.Files.{Put, put_of}
 use Rattle.net_run.specs.Pieces.{with_pieces, PutsFront}
 use Rattle.net_run.specs.Rest.{hosts_rest, ending, all_rest}
 use Rattle.net_run.proofs.FrontLemmas.{front_first}

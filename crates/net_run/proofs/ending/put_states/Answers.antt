@@ -1,4 +1,4 @@
-use Rattle.host_state.specs.Listed.{said}
+use Rattle.run_files.specs.Listed.{said}
 use Rattle.net_run.specs.Rest.{host_rest}
 use Rattle.net_run.proofs.FrontLemmas.{front_none}
 use Rattle.net_run.proofs.ending.put_states.Goals as goal

@@ -2,9 +2,9 @@ use Rattle.std.proofs.Common.{◌≡◌, ◌++◌, map}
 use Rattle.std.specs.Prelude.{Vec}
 use Rattle.std.specs.declared.alloc.Global.{Global}
 use Rattle.sim_base.specs.declared.state.State.{State}
-use Rattle.host_state.specs.Files.{put_of}
+use Rattle.run_files.specs.Files.{put_of}
 use Rattle.net_run.specs.Rest.{unmet_of_host}
-use Rattle.host_state.proofs.Listings.{left_by_host}
+use Rattle.run_files.proofs.Listings.{left_by_host}
 use Rattle.net_run.proofs.ending.unmet.Given as goal
 
 -- what is left completes the whole

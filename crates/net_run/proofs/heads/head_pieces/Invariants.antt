@@ -1,6 +1,6 @@
 use Rattle.std.proofs.Common.{◌≡◌, map, take}
-use Rattle.host_state.specs.Files.{put_of}
-use Rattle.host_state.specs.Listed.{said}
+use Rattle.run_files.specs.Files.{put_of}
+use Rattle.run_files.specs.Listed.{said}
 use Rattle.net_run.specs.Heads.{all_heads}
 use Rattle.net_run.proofs.heads.head_pieces.Given as goal
 

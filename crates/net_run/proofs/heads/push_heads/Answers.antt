@@ -1,5 +1,5 @@
 use Rattle.std.proofs.Common.{map}
-use Rattle.host_state.specs.Files.{put_of}
+use Rattle.run_files.specs.Files.{put_of}
 use Rattle.net_run.proofs.ListingLemmas.{heads-two}
 use Rattle.net_run.proofs.heads.push_heads.Goals as goal
 

@@ -1,7 +1,7 @@
 use Rattle.std.proofs.Common.{List, map, ap, subst, ◌∙◌}
-use Rattle.host_state.specs.Files.{Put, put_of}
-use Rattle.host_state.specs.Listed.{said, names_of}
-use Rattle.host_state.specs.declared.files.listed.HostListing.{HostListing}
+use Rattle.run_files.specs.Files.{Put, put_of}
+use Rattle.run_files.specs.Listed.{said, names_of}
+use Rattle.run_files.specs.declared.listed.HostListing.{HostListing}
 use Rattle.net_run.specs.Heads.{all_heads}
 use Rattle.net_run.specs.Pieces.{PutsFront}
 use Rattle.net_run.proofs.FrontLemmas.{front_none}

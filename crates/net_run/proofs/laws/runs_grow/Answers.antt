@@ -6,8 +6,8 @@ use Rattle.net_run.specs.Pieces.{with_pieces}
 use Rattle.net_run.specs.Rest.{all_rest, summary_in}
 use Rattle.net_run.specs.World.{opening_world}
 use Rattle.std.specs.Prelude.{option_map}
-use Rattle.host_state.specs.Grown.{all_grown, with_bytes}
-use Rattle.host_state.specs.Listed.{names_in}
+use Rattle.run_files.specs.Grown.{all_grown, with_bytes}
+use Rattle.host_state.specs.Gains.{names_in}
 use Rattle.net_run.proofs.laws.runs_grow.Goals as goal
 
 pub returns-clause-begins : goal.returns-clause-begins

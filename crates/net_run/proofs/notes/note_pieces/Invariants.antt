@@ -1,5 +1,5 @@
 use Rattle.std.proofs.Common.{◌≡◌, ◌++◌, drop, map}
-use Rattle.host_state.specs.Files.{put_of}
+use Rattle.run_files.specs.Files.{put_of}
 use Rattle.net_run.specs.Shown.{note_puts}
 use Rattle.net_run.proofs.notes.note_pieces.Given as goal
 

@@ -1,5 +1,5 @@
 use Rattle.std.proofs.Common.{List, map, ap, subst, ◌∙◌}
-use Rattle.host_state.specs.Files.{Put, put_of}
+use Rattle.run_files.specs.Files.{Put, put_of}
 use Rattle.net_run.specs.Pieces.{PutsFront}
 use Rattle.net_run.proofs.FrontLemmas.{front_none}
 use Rattle.net_run.proofs.PieceLemmas.{on_err}

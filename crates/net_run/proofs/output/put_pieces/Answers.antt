@@ -1,6 +1,6 @@
 use Rattle.std.proofs.Common.{◌≡◌, ℕ, ◌+◌, ◌∷◌, List, drop, map, option_map, Option, sym, ap, subst, ◌∙◌, inl, inr}
 use Rattle.sim_base.specs.Sink.{Content, add, AddsFront}
-use Rattle.host_state.specs.Files.{Put, put_of}
+use Rattle.run_files.specs.Files.{Put, put_of}
 use Rattle.net_run.specs.Pieces.{with_pieces, PutsFront}
 use Rattle.net_run.proofs.PieceLemmas.{drop_puts_next, with_pieces_told, on_err}
 use Rattle.net_run.proofs.output.put_pieces.Goals as goal

@@ -1,5 +1,5 @@
 use Rattle.std.proofs.Common.{◌≡◌, take, map}
-use Rattle.host_state.specs.Listed.{said}
+use Rattle.run_files.specs.Listed.{said}
 use Rattle.net_run.specs.Streams.{told_lines}
 use Rattle.net_run.proofs.streams.lines_of.Given as goal
 

@@ -1,6 +1,6 @@
 use Rattle.std.proofs.Common.{◌∙◌, arith, length, All, slice_get, ap, sym, subst}
-use Rattle.host_state.specs.Listed.{HasIds, names_of}
-use Rattle.host_state.specs.declared.files.listed.Listing.{Listing}
+use Rattle.run_files.specs.Listed.{HasIds, names_of}
+use Rattle.run_files.specs.declared.listed.Listing.{Listing}
 use Rattle.shadow_top.proofs.EndLemmas.{none-there, one-more, all-more, few-hosts, few-processes, tasks-count}
 use Rattle.shadow_top.proofs.RoundLemmas.{at-count}
 use Rattle.shadow_top.proofs.ending.all_states.Goals as goal

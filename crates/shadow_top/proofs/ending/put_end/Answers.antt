@@ -1,7 +1,7 @@
 use Rattle.std.proofs.Common.{◌∙◌, arith, length, ap, sym, subst}
 use Rattle.sim_base.specs.declared.outside.sink.WriteError.TheVariants as write
-use Rattle.host_state.specs.Listed.{names_of}
-use Rattle.host_state.specs.declared.files.listed.Listing.{Listing}
+use Rattle.run_files.specs.Listed.{names_of}
+use Rattle.run_files.specs.declared.listed.Listing.{Listing}
 use Rattle.shadow_top.specs.inside.Ending.{TellsAll}
 use Rattle.shadow_top.proofs.EndLemmas.{few-hosts, end-without, end-told_by}
 use Rattle.shadow_top.proofs.RoundLemmas.{at-count}

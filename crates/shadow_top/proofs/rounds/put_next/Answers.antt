@@ -1,7 +1,7 @@
 use Rattle.std.proofs.Common.{inl, inr, List, map, option_map, refl, ap, subst, ◌∙◌}
 use Rattle.std.proofs.lemmas.Result.{err_from_is_err_and}
-use Rattle.host_state.specs.Files.{put_of}
-use Rattle.host_state.specs.declared.files.piece.Piece.{Piece}
+use Rattle.run_files.specs.Files.{put_of}
+use Rattle.run_files.specs.declared.piece.Piece.{Piece}
 use Rattle.net_run.specs.Pieces.{with_pieces, PutsFront}
 use Rattle.shadow_top.specs.inside.Rounds.{gained_by}
 use Rattle.shadow_top.proofs.RoundLemmas.{round-stopped}

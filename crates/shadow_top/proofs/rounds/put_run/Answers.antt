@@ -1,9 +1,9 @@
 use Rattle.std.proofs.Common.{Option, option_map, ap, subst, ◌∙◌}
 use Rattle.std.proofs.lemmas.Result.{err_from_is_err_and}
 use Rattle.sim_base.specs.Sink.{Content}
-use Rattle.host_state.specs.Listed.{names_of}
+use Rattle.run_files.specs.Listed.{names_of}
 use Rattle.host_state.specs.World.{opening_world}
-use Rattle.host_state.specs.declared.files.listed.Listing.{Listing}
+use Rattle.run_files.specs.declared.listed.Listing.{Listing}
 use Rattle.net_run.specs.Heads.{all_heads}
 use Rattle.net_run.specs.Pieces.{with_pieces, PutsFront}
 use Rattle.shadow_top.proofs.RoundLemmas.{heads-put, heads-stopped}

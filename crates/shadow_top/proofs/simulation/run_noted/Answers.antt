@@ -1,9 +1,9 @@
 use Rattle.std.proofs.Common.{sym, subst, All, Option}
 use Rattle.std.proofs.lemmas.Result.{err_from_is_err_and}
 use Rattle.sim_base.specs.Sink.{Content}
-use Rattle.host_state.specs.Listed.{HasIds, names_of}
+use Rattle.run_files.specs.Listed.{HasIds, names_of}
 use Rattle.host_state.specs.World.{opening_world}
-use Rattle.host_state.specs.declared.files.listed.Listing.{Listing}
+use Rattle.run_files.specs.declared.listed.Listing.{Listing}
 use Rattle.shadow_top.proofs.RunLemmas.{not_run, begins_own, rounds_stopped, run_ended, end_stopped, ended_small}
 use Rattle.shadow_top.proofs.simulation.run_noted.Goals as goal
 

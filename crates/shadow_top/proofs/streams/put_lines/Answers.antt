@@ -1,6 +1,6 @@
 use Rattle.std.proofs.Common.{◌≡◌, true, List, option_map, subst}
 use Rattle.std.specs.Prelude.{OnOk, OnErr}
-use Rattle.host_state.specs.Files.{Put}
+use Rattle.run_files.specs.Files.{Put}
 use Rattle.net_run.specs.Pieces.{with_pieces, PutsFront}
 use Rattle.net_run.specs.Streams.{stream_puts}
 use Rattle.shadow_top.proofs.GrowLemmas.{front_none}

@@ -4,7 +4,7 @@ use Rattle.sim_base.specs.declared.event.What.{What}
 use Rattle.host_state.specs.Arriving.{is_handed_over, comes_in, down_comes}
 use Rattle.host_state.specs.Fire.{acts, starts, goes, shuts, rings}
 use Rattle.host_state.specs.Host.{on_wire}
-use Rattle.host_state.specs.Sending.{up_comes}
+use Rattle.host_link.specs.Sending.{up_comes}
 use Rattle.host_state.specs.StandsFor.{Does}
 use Rattle.host_state.proofs.host.Body.act.Goals as goal
 

@@ -2,7 +2,7 @@ use Rattle.std.proofs.Common.{◌≡◌, ◌<◌, ◌≤◌, true, false, ap, sy
 use Rattle.sim_base.specs.declared.size.TheConstants.{MAX_PACKET}
 use Rattle.sim_base.specs.declared.time.Time.{Time}
 use Rattle.sim_base.specs.Packet.{packet_size}
-use Rattle.host_state.specs.Sending.{is_bootstrapping}
+use Rattle.host_link.specs.Sending.{is_bootstrapping}
 use Rattle.host_state.proofs.Acts.{not_come, come}
 use Rattle.host_state.proofs.host.Body.come_in.Goals as goal
 

@@ -1,5 +1,5 @@
 use Rattle.host_state.proofs.Acts.{wired}
-use Rattle.host_state.specs.Sending.{up_comes}
+use Rattle.host_link.specs.Sending.{up_comes}
 use Rattle.host_state.proofs.host.Body.come_up.Goals as goal
 
 pub returns : goal.returns

@@ -1,7 +1,7 @@
 use Rattle.std.proofs.Common.{◌≡◌, ◌∙◌, ap}
 use Rattle.sim_base.specs.declared.time.Time.{Time}
 use Rattle.sim_base.specs.declared.event.What.TheVariants as what
-use Rattle.host_state.specs.Link.{makes, later}
+use Rattle.host_link.specs.Link.{makes, later}
 use Rattle.host_state.proofs.Slices.{gone_later}
 use Rattle.host_state.proofs.host.Body.go_later.Goals as goal
 

@@ -1,6 +1,6 @@
 use Rattle.std.proofs.Common.{◌≡◌, ◌∙◌, sym, true, false, Option, subst, rules}
 use Rattle.std.proofs.lemmas.Result.{on_ok_weaker}
-use Rattle.host_state.specs.declared.start.Started.{Started}
+use Rattle.guest_process.specs.declared.start.Started.{Started}
 use Rattle.host_state.specs.Fire.{is_not_started, begins, begins_so}
 use Rattle.host_state.specs.StandsFor.{Does}
 use Rattle.std.proofs.Common.{slice_get, Some, None}

@@ -1,5 +1,5 @@
 use Rattle.std.proofs.Common.{◌≡◌, ◌+◌, ◌-◌, ℕ, suc, zero, min, length, List, ap, ◌∙◌, sym, subst, arith, rules}
-use Rattle.host_state.specs.declared.process.Process.{Process}
+use Rattle.guest_process.specs.declared.process.Process.{Process}
 use Rattle.host_state.specs.Fire.{wakes_from, wakes_all}
 use Rattle.host_state.specs.StandsFor.{LeadsTo}
 use Rattle.host_state.proofs.Firings.{more_wakes, no_more_wakes}

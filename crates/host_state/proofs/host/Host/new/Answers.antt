@@ -3,11 +3,11 @@ use Rattle.sim_base.specs.declared.event.Event.{Event}
 use Rattle.sim_base.specs.Draws.{host_generator}
 use Rattle.host_calls.specs.Parts.{PartsStand}
 use Rattle.host_calls.specs.Starting.{no_parts}
-use Rattle.host_state.specs.declared.process.Process.TheVariants as process
-use Rattle.host_state.specs.declared.row.ProcessRow.{ProcessRow}
+use Rattle.guest_process.specs.declared.process.Process.TheVariants as process
+use Rattle.host_link.specs.declared.row.ProcessRow.{ProcessRow}
 use Rattle.host_state.specs.HostStands.{with_events}
-use Rattle.host_state.specs.Link.{LinkState, new_link, without_made}
-use Rattle.host_state.specs.Opening.{begins_all}
+use Rattle.host_link.specs.Link.{LinkState, new_link, without_made}
+use Rattle.host_link.specs.Beginning.{begins_all}
 use Rattle.host_state.proofs.Hosts.{no_outputs}
 use Rattle.host_state.proofs.host.Host.new.Goals as goal
 

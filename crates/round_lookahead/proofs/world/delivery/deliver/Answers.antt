@@ -2,8 +2,8 @@ use Rattle.std.proofs.Common.{◌≡◌, ℕ, ◌<◌, ◌∷◌, List, All, len
 use Rattle.std.specs.Vec.Iter.{into_iter_items}
 use Rattle.sim_base.specs.declared.event.Parcel.{Parcel}
 use Rattle.round_lookahead.specs.inside.Backs.{row_arrivals}
-use Rattle.host_state.specs.Home.{home}
-use Rattle.host_state.specs.Parcels.{parcel_event}
+use Rattle.host_link.specs.Home.{home}
+use Rattle.host_link.specs.Parcels.{parcel_event}
 use Rattle.std.proofs.Common.{map, ◌++◌}
 use Rattle.round_lookahead.proofs.BackSteps.{first-of, rest-of}
 use Rattle.round_lookahead.proofs.DeliverySteps.{delivered-more}

@@ -1,6 +1,6 @@
 use Rattle.std.proofs.Common.{◌+◌, ◌∷◌, [], Some, take, sym, ap}
 use Rattle.sim_base.specs.declared.event.Parcel.{Parcel}
-use Rattle.host_state.specs.Parcels.{parcel_event}
+use Rattle.host_link.specs.Parcels.{parcel_event}
 use Rattle.round_lookahead.specs.inside.Arrivals.{Boxed, arrivals}
 use Rattle.round_lookahead.proofs.DueSteps.{least-more, least-one, events-more}
 use Rattle.round_lookahead.proofs.world.due.first_arrival.Goals as goal

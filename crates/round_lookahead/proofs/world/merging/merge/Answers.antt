@@ -1,6 +1,6 @@
 use Rattle.std.proofs.Common.{◌≡◌, rules}
 use Rattle.std.proofs.lemmas.Fn.{always_returns_same}
-use Rattle.host_state.specs.declared.line.Logged.{Logged}
+use Rattle.host_link.specs.declared.line.Logged.{Logged}
 use Rattle.round_lookahead.proofs.MergeSteps.{merged}
 use Rattle.round_lookahead.proofs.world.merging.merge.Goals as goal
 

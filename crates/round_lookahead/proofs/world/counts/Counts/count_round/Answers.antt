@@ -1,6 +1,6 @@
 use Rattle.std.proofs.Common.{◌++◌, List, ap, ◌∙◌}
-use Rattle.host_state.specs.declared.line.Logged.{Logged}
-use Rattle.host_state.specs.Logs.{kept_lines}
+use Rattle.host_link.specs.declared.line.Logged.{Logged}
+use Rattle.host_link.specs.Logs.{kept_lines}
 use Rattle.round_lookahead.specs.Counts.{counts_of}
 use Rattle.round_lookahead.proofs.world.counts.Counts.count_round.Goals as goal
 

@@ -1,9 +1,9 @@
 use Rattle.std.proofs.Common.{◌≡◌, ◌∙◌, List, Vec, Global, length, map, refl, sym, ap, subst}
 use Rattle.file_calls.specs.declared.task.Output.{Output}
-use Rattle.host_state.specs.Grown.{all_grown, with_bytes}
-use Rattle.host_state.specs.Listed.{names_of}
-use Rattle.host_state.specs.Logs.{kept_lines}
-use Rattle.host_state.specs.declared.files.listed.Listing.{Listing}
+use Rattle.run_files.specs.Grown.{all_grown, with_bytes}
+use Rattle.run_files.specs.Listed.{names_of}
+use Rattle.host_link.specs.Logs.{kept_lines}
+use Rattle.run_files.specs.declared.listed.Listing.{Listing}
 use Rattle.round_lookahead.proofs.RoundPieces.{outputs-fit, outputs_of, round-pieces}
 use Rattle.round_lookahead.proofs.world.world_state.World.round.Goals as goal
 

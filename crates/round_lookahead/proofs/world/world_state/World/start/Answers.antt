@@ -1,5 +1,5 @@
 use Rattle.std.proofs.Common.{◌∙◌, ap, map}
-use Rattle.host_state.specs.Listed.{listed}
+use Rattle.run_files.specs.Listed.{listed}
 use Rattle.round_lookahead.proofs.WorldOpenings.{starts-so}
 use Rattle.round_lookahead.proofs.world.world_state.World.start.Goals as goal
 

@@ -1,0 +1,9 @@
+pub mod Beginning
+pub mod Home
+pub mod Lanes
+pub mod Link
+pub mod Logs
+pub mod Outbox
+pub mod Parcels
+pub mod Sending
+pub mod Wants

@@ -1,0 +1,33 @@
+//! The events that a host begins with.
+
+ghost use Rattle.std.specs.Prelude.{◌≡◌, ◌≤◌, ◌^◌, length, OnOk};
+ghost use Rattle.host_link.specs.Beginning.{begins_process, begins_all};
+
+use crate::link::Link;
+use crate::row::ProcessRow;
+use sim_base::{NoMemory, What};
+
+impl Link {
+    /// The start of a process, and its shutdown, where there is one.
+    fn begin_process(&mut self, process: u32, row: &ProcessRow) -> Result<(), NoMemory>
+        ensures { OnOk result (self.new ≡ begins_process process row.now self.old) }
+    {
+        self.number_event(row.start, What::Start(process))?;
+        match row.shutdown {
+            Some(due) => self.number_event(due, What::Shutdown(process)),
+            None => Ok(()),
+        }
+    }
+
+    /// The starts and shutdowns of all processes.
+    #[tactic(auto, unfolding(crate::specs::Beginning::begins_all))]
+    pub fn begin_all(&mut self, rows: &[ProcessRow]) -> Result<(), NoMemory>
+        requires { length rows.now ≤ 2 ^ 32 }
+        ensures { OnOk result (self.new ≡ begins_all 0 rows.now self.old) }
+    {
+        for (process, row) in rows.iter().enumerate() {
+            self.begin_process(process as u32, row)?;
+        }
+        Ok(())
+    }
+}

@@ -1,0 +1,17 @@
+//! A host's row, its link to the network and what it sends there, and what the firings of its events make and hand out.
+#![tactic(auto)]
+
+mod beginning;
+mod line;
+mod link;
+mod net;
+mod outbox;
+mod row;
+mod sending;
+mod wanting;
+
+pub use line::{Line, Logged};
+pub use link::{Link, later};
+pub use net::{Images, Net, Nodes};
+pub use outbox::{Made, Outbox};
+pub use row::{ByteTexts, FinalState, ProcessRow, ProcessRows, Row};

@@ -1,6 +1,0 @@
-use Rattle.std.proofs.Common.{◌≡◌, map, take}
-use Rattle.host_state.specs.Listed.{listed_process}
-use Rattle.host_state.proofs.files.listed.process_listings.Given as goal
-
-abbrev pub invariant-loop-row : goal.invariant-loop-row
-invariant-loop-row l = l.processes.items ≡ map listed_process (take l.row-index l.rows)

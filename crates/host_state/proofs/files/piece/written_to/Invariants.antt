@@ -1,6 +1,0 @@
-use Rattle.std.proofs.Common.{◌≡◌, take}
-use Rattle.host_state.specs.Files.{written_to}
-use Rattle.host_state.proofs.files.piece.written_to.Given as goal
-
-abbrev pub invariant-loop-output : goal.invariant-loop-output
-invariant-loop-output l = l.bytes ≡ written_to l.process l.descriptor (take l.output-index l.outputs)

@@ -1,4 +1,0 @@
-use Rattle.host_state.proofs.slice.turn_task.Given as goal
-
-abbrev pub ghosts-turn_counted : goal.ghosts-turn_counted
-ghosts-turn_counted a = record { name = a.blank.name; parts = a.blank.parts }

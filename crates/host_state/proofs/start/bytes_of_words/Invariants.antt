@@ -1,6 +1,0 @@
-use Rattle.std.proofs.Common.{◌≡◌, take}
-use Rattle.host_state.specs.Start.{word_bytes}
-use Rattle.host_state.proofs.start.bytes_of_words.Given as goal
-
-abbrev pub invariant-loop-word : goal.invariant-loop-word
-invariant-loop-word l = l.bytes.items ≡ word_bytes (take l.word-index l.words)

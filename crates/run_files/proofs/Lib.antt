@@ -1,0 +1,4 @@
+pub mod Paths
+pub mod Listings
+pub mod Capturing
+pub mod LinesFit

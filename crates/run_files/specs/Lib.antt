@@ -1,0 +1,6 @@
+pub mod Captured
+pub mod Captures
+pub mod Files
+pub mod Grown
+pub mod LinesFit
+pub mod Listed

@@ -1,0 +1,187 @@
+//! What a round gained, as bytes for the files that grow: what processes wrote, the captures of hosts, and the packet log.
+
+ghost use Rattle.std.specs.Prelude.{◌≡◌, ◌++◌, ◌∷◌, [], IfOk, OnOk, map, flat_map, length, slice_get};
+ghost use Rattle.sim_base.specs.declared.outside.sink.Place.TheVariants as place;
+ghost use Rattle.out_text.specs.Files.{file_name};
+ghost use Rattle.out_text.specs.Log.{log_line};
+ghost use Rattle.run_files.specs.Files.{put_of};
+ghost use Rattle.run_files.specs.Grown as spec;
+ghost use Rattle.run_files.specs.LinesFit.{AllFit};
+ghost use Rattle.run_files.specs.Listed.{said, names_of};
+ghost use Rattle.host_link.specs.Logs.{kept_lines};
+
+use crate::capture::push_captures;
+use crate::fitting::lines_fit;
+use crate::listed::{HostListing, Listing, ProcessListing};
+use crate::piece::{Piece, file_piece, log_piece, numbers, written_to};
+use file_calls::Output;
+use host_link::{Line, Logged};
+use out_text::{FileKind, LogLine};
+use sim_base::{Bytes, Name, NoMemory, Text};
+use std::alloc::Global;
+
+/// Bytes for a file of a process, behind other pieces, where there are any.
+fn push_bytes(
+    alloc: Global,
+    pieces: &mut Vec<Piece>,
+    host: &str,
+    program: &str,
+    pid: u32,
+    kind: FileKind,
+    bytes: Bytes,
+) -> Result<(), NoMemory>
+    ensures { OnOk result (map put_of pieces.new.items ≡ map put_of pieces.old.items ++ spec.with_bytes ((place.File (file_name host.now program.now pid kind), bytes) ∷ [])) }
+{
+    if bytes.is_empty() {
+        return Ok(());
+    }
+    pieces.push(file_piece(alloc, host, program, pid, kind, bytes)?)?;
+    Ok(())
+}
+
+/// What a process wrote to descriptors 1 and 2, behind other pieces.
+fn push_process(
+    alloc: Global,
+    pieces: &mut Vec<Piece>,
+    host: &str,
+    place: usize,
+    process: &ProcessListing,
+    outputs: &[Output],
+) -> Result<(), NoMemory>
+    ensures { OnOk result (map put_of pieces.new.items ≡ map put_of pieces.old.items ++ spec.with_bytes (spec.process_grown host.now outputs.now place process.now)) }
+{
+    let (number, pid) = numbers(place)?;
+    let program = process.program.as_str();
+    let stdout = written_to(alloc, number, 1, outputs)?;
+    let stderr = written_to(alloc, number, 2, outputs)?;
+    push_bytes(alloc, pieces, host, program, pid, FileKind::Stdout, stdout)?;
+    push_bytes(alloc, pieces, host, program, pid, FileKind::Stderr, stderr)?;
+    Ok(())
+}
+
+/// What all processes of a host wrote, behind other pieces.
+fn push_processes(
+    alloc: Global,
+    pieces: &mut Vec<Piece>,
+    host: &HostListing,
+    outputs: &[Output],
+) -> Result<(), NoMemory>
+    ensures { OnOk result (map put_of pieces.new.items ≡ map put_of pieces.old.items ++ spec.with_bytes (spec.host_grown (said host.now) outputs.now)) }
+{
+    let name = host.name.as_str();
+    let processes = host.processes.as_slice();
+    for place in 0..processes.len() {
+        push_process(alloc, pieces, name, place, &processes[place], outputs)?;
+    }
+    Ok(())
+}
+
+/// The same, where the host wrote anything.
+fn push_outputs(
+    alloc: Global,
+    pieces: &mut Vec<Piece>,
+    host: &HostListing,
+    outputs: &[Output],
+) -> Result<(), NoMemory>
+    ensures { OnOk result (map put_of pieces.new.items ≡ map put_of pieces.old.items ++ spec.with_bytes (spec.host_grown (said host.now) outputs.now)) }
+{
+    if outputs.is_empty() {
+        return Ok(());
+    }
+    push_processes(alloc, pieces, host, outputs)
+}
+
+/// What the processes of all hosts wrote, each host's by its place.
+fn output_pieces(
+    alloc: Global,
+    hosts: &[HostListing],
+    outputs: &[Vec<Output>],
+) -> Result<Vec<Piece>, NoMemory>
+    requires { length outputs.now ≡ length hosts.now }
+    ensures { IfOk result (λ pieces. map put_of pieces.items ≡ spec.with_bytes (spec.hosts_grown (map said hosts.now) (map (λ v. v.items) outputs.now))) }
+{
+    let mut pieces = Vec::new(alloc);
+    for place in 0..hosts.len() {
+        push_outputs(alloc, &mut pieces, &hosts[place], outputs[place].as_slice())?;
+    }
+    Ok(pieces)
+}
+
+/// The name of the host with a number.
+fn host_name(hosts: &[HostListing], number: u32) -> &str
+    ensures { result.now ≡ spec.listed_name (slice_get (map said hosts.now) number) }
+{
+    match hosts.get(number as usize) {
+        Some(host) => host.name.as_str(),
+        None => "",
+    }
+}
+
+/// A line with the name of its host.
+fn told_line(alloc: Global, hosts: &[HostListing], line: Logged) -> Result<LogLine, NoMemory>
+    ensures { IfOk result (λ l. l ≡ spec.told_line (map said hosts.now) line.line) }
+{
+    let Line {
+        time,
+        host,
+        act,
+        packet,
+    } = line.line;
+    let host = Name::from_str(alloc, host_name(hosts, host.index))?;
+    Ok(LogLine {
+        time,
+        host,
+        act,
+        packet,
+    })
+}
+
+/// The text of lines.
+fn lines_text(alloc: Global, hosts: &[HostListing], lines: Vec<Logged>) -> Result<Text, NoMemory>
+    ensures { IfOk result (λ text. text ≡ flat_map log_line (map (spec.told_line (map said hosts.now)) (kept_lines lines.items))) }
+{
+    let mut text = Text::new(alloc);
+    for line in lines {
+        out_text::log_line(alloc, &mut text, &told_line(alloc, hosts, line)?)?;
+    }
+    Ok(text)
+}
+
+/// The text of lines for the packet log, behind other pieces, where there are any.
+fn push_lines(
+    alloc: Global,
+    pieces: &mut Vec<Piece>,
+    hosts: &[HostListing],
+    lines: Vec<Logged>,
+) -> Result<(), NoMemory>
+    ensures { OnOk result (map put_of pieces.new.items ≡ map put_of pieces.old.items ++ spec.with_bytes (spec.log_grown (map said hosts.now) (kept_lines lines.items) ∷ [])) }
+{
+    let text = lines_text(alloc, hosts, lines)?;
+    if text.is_empty() {
+        return Ok(());
+    }
+    pieces.push(log_piece(alloc, text)?)?;
+    Ok(())
+}
+
+/// The places and bytes that a round gained: what the processes of all hosts wrote, each host's by
+/// its place, the records of its captures, and the lines of the packet log.
+pub fn round_pieces(
+    alloc: Global,
+    listing: &Listing,
+    outputs: &[Vec<Output>],
+    lines: Vec<Logged>,
+) -> Result<Vec<Piece>, NoMemory>
+    requires { length outputs.now ≡ length (names_of listing.now) }
+    ensures pieces { IfOk result (λ pieces. map put_of pieces.items ≡ spec.with_bytes (spec.all_grown (names_of listing.now) (map (λ v. v.items) outputs.now) (kept_lines lines.items))) }
+
+    // The numbers of the lines' packets fit their types.
+    ensures fit { AllFit (kept_lines lines.items) }
+{
+    lines_fit(&lines);
+    let hosts = listing.hosts.as_slice();
+    let mut pieces = output_pieces(alloc, hosts, outputs)?;
+    push_captures(alloc, &mut pieces, hosts, &lines)?;
+    push_lines(alloc, &mut pieces, hosts, lines)?;
+    Ok(pieces)
+}
