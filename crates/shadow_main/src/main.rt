@@ -1,8 +1,7 @@
 //! The program `shadow`: runs the experiment that a configuration file describes.
 #![tactic(auto)]
 
-use disk_sink::DiskSink;
-use disk_source::DiskSource;
+use disk_outside::{DiskSink, DiskSource};
 use shadow_top::{OpenGate, shadow};
 use std::alloc::Global;
 use std::env::Env;
@@ -10,9 +9,6 @@ use std::io::ErrorKind;
 use std::process::ExitCode;
 use std::thread::{Threads, available_parallelism};
 use std::{env, io};
-
-mod disk_sink;
-mod disk_source;
 
 /// The status where memory ran out.
 const NO_MEMORY: u8 = 5;
