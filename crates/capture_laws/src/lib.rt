@@ -19,7 +19,7 @@ ghost use Rattle.run_plan.specs.declared.planned.Run.{Run};
 ghost use Rattle.sim_base.specs.Sink.{Content};
 ghost use Rattle.shadow_top.specs.Contract.{Shows};
 ghost use Rattle.shadow_top.specs.Input.{Input, IsToRun};
-ghost use Rattle.shadow_top.specs.Opened.{rows_of, net_of};
+ghost use Rattle.plan_rows.specs.Rows.{rows_of, net_of};
 ghost use Rattle.shadow_top.specs.Shown.{IsRunTo};
 ghost use Rattle.capture_laws.specs.Loopback.{past_of, IsPlaced};
 ghost use Rattle.capture_laws.specs.ReadAgain.{AllInRange, AreReadAgain};

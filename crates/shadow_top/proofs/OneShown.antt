@@ -28,7 +28,7 @@ use Rattle.shd_config.specs.Shown.{shown}
 use Rattle.shd_config.specs.declared.config.Config.{Config}
 use Rattle.shadow_top.specs.Captured.{line_with, AreLinesOf}
 use Rattle.shadow_top.specs.Input.{Input, IsPlanned, IsFirstFault, IsToShow, IsToList, IsToRun, directory_of}
-use Rattle.shadow_top.specs.Opened.{rows_of, net_of}
+use Rattle.plan_rows.specs.Rows.{rows_of, net_of}
 use Rattle.shadow_top.specs.Shown.{IsShown, IsRunTo, IsRefused, IsConfigShown, IsCaptureListed, IsRun, pieces_of, refused, configured, listed, ran}
 
 -- ---- what is told of plans, datagrams and results

@@ -24,7 +24,8 @@ use Rattle.run_plan.specs.declared.plan.Settings.{Settings}
 use Rattle.run_plan.specs.declared.planned.Run.{Run}
 use Rattle.sim_base.specs.declared.time.Time.{Time}
 use Rattle.shd_config.specs.declared.config.ProcessConfig.{ProcessConfig}
-use Rattle.shadow_top.specs.Opened.{processes_of, row_of, rows_from, rows_of, net_of, cut_lookahead, Opens, HasOpened}
+use Rattle.plan_rows.specs.Rows.{processes_of, row_of, rows_from, rows_of, net_of, cut_lookahead}
+use Rattle.shadow_top.specs.Opened.{Opens, HasOpened}
 use Rattle.shadow_top.specs.declared.opened.Opened.{Opened}
 
 length-map : {A B : Type 0} (f : A → B) (xs : List A) → length (map f xs) ≡ length xs

@@ -12,7 +12,8 @@ use Rattle.run_plan.specs.declared.fault.Fault.TheVariants.{Exists}
 use Rattle.run_plan.specs.declared.planned.Run.{Run}
 use Rattle.shadow_top.specs.Contract.{RunsOpened, RunsPlan, BeginsSo}
 use Rattle.shadow_top.specs.Input.{directory_of}
-use Rattle.shadow_top.specs.Opened.{Opens, rows_of}
+use Rattle.shadow_top.specs.Opened.{Opens}
+use Rattle.plan_rows.specs.Rows.{rows_of}
 use Rattle.shadow_top.specs.Shown.{IsRunTo, pieces_of}
 use Rattle.shadow_top.specs.declared.opened.Opened.{Opened}
 use Rattle.shadow_top.specs.declared.stop.Stop.{Stop}

@@ -9,7 +9,7 @@ use Rattle.run_plan.specs.declared.host_row.HostRow.{HostRow}
 use Rattle.run_plan.specs.declared.plan.Settings.{Settings}
 use Rattle.run_plan.specs.declared.planned.Run.{Run}
 use Rattle.run_streams.specs.Run.{AreHosts}
-use Rattle.shadow_top.specs.Opened.{row_of, rows_from, rows_of, net_of}
+use Rattle.plan_rows.specs.Rows.{row_of, rows_from, rows_of, net_of}
 use Rattle.stream_lines.specs.Addresses.{HaveOwnAddresses, HaveHostAddresses}
 use Rattle.stream_lines.proofs.Walk.{IsForHost}
 

@@ -7,7 +7,7 @@ use Rattle.run_streams.specs.Run.{IsReached, AreHosts}
 use Rattle.run_streams.specs.Run.IsReached.{begins}
 use Rattle.run_streams.proofs.Histories.{result_reached}
 use Rattle.shadow_top.specs.Input.{Input, IsToRun}
-use Rattle.shadow_top.specs.Opened.{rows_of, net_of}
+use Rattle.plan_rows.specs.Rows.{rows_of, net_of}
 use Rattle.shadow_top.specs.Shown.{IsRunTo}
 use Rattle.stream_lines.proofs.Hosts.{run_hosts}
 use Rattle.stream_lines.proofs.Planned.{planned_rows, planned_stop}

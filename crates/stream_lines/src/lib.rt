@@ -18,7 +18,7 @@ ghost use Rattle.socket_streams.specs.Home.{AreAtHome};
 ghost use Rattle.run_streams.specs.Nets.{host_records};
 ghost use Rattle.run_streams.specs.Run.{IsReached, AreHosts};
 ghost use Rattle.shadow_top.specs.Input.{Input, IsToRun};
-ghost use Rattle.shadow_top.specs.Opened.{rows_of, net_of};
+ghost use Rattle.plan_rows.specs.Rows.{rows_of, net_of};
 ghost use Rattle.shadow_top.specs.Shown.{IsRunTo};
 ghost use Rattle.stream_lines.specs.Addresses.{HaveOwnAddresses, HaveHostAddresses};
 

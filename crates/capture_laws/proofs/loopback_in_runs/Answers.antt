@@ -1,4 +1,4 @@
-use Rattle.shadow_top.specs.Opened.{rows_of, net_of}
+use Rattle.plan_rows.specs.Rows.{rows_of, net_of}
 use Rattle.stream_lines.proofs.Runs.{are_hosts}
 use Rattle.capture_laws.proofs.Placing.{placed, lo_is_past}
 use Rattle.capture_laws.proofs.loopback_in_runs.Goals as goal

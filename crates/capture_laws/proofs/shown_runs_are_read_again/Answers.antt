@@ -1,5 +1,5 @@
 use Rattle.host_link.specs.Logs.{lines_of}
-use Rattle.shadow_top.specs.Opened.{rows_of, net_of}
+use Rattle.plan_rows.specs.Rows.{rows_of, net_of}
 use Rattle.stream_lines.proofs.Runs.{stops}
 use Rattle.capture_laws.proofs.Again.{eth0_again, lo_again}
 use Rattle.capture_laws.proofs.Worlds.{in_range}

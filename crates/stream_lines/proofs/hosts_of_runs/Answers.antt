@@ -1,6 +1,6 @@
 use Rattle.run_streams.proofs.Homes.{records_home}
 use Rattle.run_streams.proofs.Insides.{within}
-use Rattle.shadow_top.specs.Opened.{rows_of, net_of}
+use Rattle.plan_rows.specs.Rows.{rows_of, net_of}
 use Rattle.stream_lines.proofs.Runs.{are_hosts}
 use Rattle.stream_lines.proofs.hosts_of_runs.Goals as goal
 

@@ -7,7 +7,7 @@ use Rattle.run_plan.specs.declared.planned.Run.{Run}
 use Rattle.run_streams.proofs.Homes.{run_homed}
 use Rattle.run_streams.proofs.Lines.{line_holds}
 use Rattle.shadow_top.specs.Input.{Input, IsToRun}
-use Rattle.shadow_top.specs.Opened.{rows_of, net_of}
+use Rattle.plan_rows.specs.Rows.{rows_of, net_of}
 use Rattle.shadow_top.specs.Shown.{IsRunTo}
 use Rattle.stream_lines.proofs.Runs.{are_hosts, reached}
 use Rattle.stream_lines.proofs.lines_hold_in_runs.Goals as goal

@@ -1,6 +1,6 @@
 use Rattle.std.proofs.Common.{◌≡◌, ◌++◌, drop}
-use Rattle.shadow_top.specs.Opened.{processes_of}
-use Rattle.shadow_top.proofs.opened.process_rows.Given as goal
+use Rattle.plan_rows.specs.Rows.{processes_of}
+use Rattle.plan_rows.proofs.rows.process_rows.Given as goal
 
 -- what is left gives the whole
 abbrev pub invariant-loop-place : goal.invariant-loop-place

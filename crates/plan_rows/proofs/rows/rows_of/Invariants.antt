@@ -1,6 +1,6 @@
 use Rattle.std.proofs.Common.{◌≡◌, ◌++◌, drop}
-use Rattle.shadow_top.specs.Opened.{rows_from}
-use Rattle.shadow_top.proofs.opened.rows_of.Given as goal
+use Rattle.plan_rows.specs.Rows.{rows_from}
+use Rattle.plan_rows.proofs.rows.rows_of.Given as goal
 
 -- what is left gives the whole
 abbrev pub invariant-loop-number : goal.invariant-loop-number
