@@ -9,21 +9,23 @@ use Rattle.host_files.specs.Slots.{at}
 use Rattle.host_timers.specs.declared.clock.Moment.{Moment}
 use Rattle.host_wants.specs.declared.error.Refusal.{Refusal}
 use Rattle.host_wants.specs.declared.error.Refusal.TheVariants as refusal
-use Rattle.host_calls.specs.declared.call.Call.{Call}
-use Rattle.host_calls.specs.declared.call.Call.TheVariants as system_call
-use Rattle.host_calls.specs.declared.call.WaitingCall.{WaitingCall}
-use Rattle.host_calls.specs.declared.call.WaitingCall.TheVariants as waiting
+use Rattle.call_parts.specs.declared.call.Call.{Call}
+use Rattle.call_parts.specs.declared.call.Call.TheVariants as system_call
+use Rattle.call_parts.specs.declared.call.WaitingCall.{WaitingCall}
+use Rattle.call_parts.specs.declared.call.WaitingCall.TheVariants as waiting
 use Rattle.file_calls.specs.declared.known.Known.{Known}
 use Rattle.file_calls.specs.declared.task.Task.{Task}
 use Rattle.file_calls.specs.declared.task.Shared.{Shared}
 use Rattle.file_calls.specs.declared.task.Why.{Why}
-use Rattle.host_calls.specs.Call.{call_of}
+use Rattle.call_parts.specs.Call.{call_of}
 use Rattle.host_calls.specs.Calls.{arg, asked, waits, scene_at, answers_by, answers}
 use Rattle.call_laws.specs.Laws.{kept_by, kept_call, takes_time}
 use Rattle.host_files.specs.Epolls.{epoll_at}
-use Rattle.host_calls.specs.Epoll.{is_negative, time_of_ms, wait_deadline, wait_place, has_due, waits_for, wait_plan}
+use Rattle.call_parts.specs.Epoll.{is_negative, time_of_ms, wait_deadline, wait_place}
+use Rattle.host_calls.specs.Epoll.{has_due, waits_for, wait_plan}
 use Rattle.host_calls.specs.Parts.{PartsRecord, Place, Scene, place_in}
-use Rattle.host_calls.specs.Polling.{has_come, entry_size, poll_limit, poll_time, poll_entries, nothing_came, count_told, poll_found, poll_plan}
+use Rattle.call_parts.specs.Polling.{has_come, entry_size, poll_limit, poll_time, poll_entries}
+use Rattle.host_calls.specs.Polling.{nothing_came, count_told, poll_found, poll_plan}
 use Rattle.file_calls.specs.Times.{kept_or, at_nanos, deadline_of, sleep_time, sleep_asked}
 use Rattle.guest_args.specs.Time.{deadline_after}
 use Rattle.call_laws.proofs.Waits.{Never, is_wait-is, nevers, epoll_number-never, never_bind, never_then, never_refuse_if}

@@ -15,7 +15,7 @@ use Rattle.host_calls.specs.declared.parts.Reaction.TheVariants.{Value, Waits}
 use Rattle.file_calls.specs.declared.task.Task.{Task}
 use Rattle.file_calls.specs.declared.task.Why.{Why}
 use Rattle.host_sockets.specs.Sockets.{SocketsRecord}
-use Rattle.host_calls.specs.Call.{call_of}
+use Rattle.call_parts.specs.Call.{call_of}
 use Rattle.host_calls.specs.Calls.{scene_at, cleared, row_of, blocks_by, in_scene, answered, call_by, call_place, call}
 use Rattle.host_calls.specs.Events.{ended_by, ended_place, ended}
 use Rattle.host_calls.specs.Parts.{PartsRecord, Place, Scene, place_in}

@@ -5,12 +5,12 @@ use Rattle.host_files.specs.Slots.{at}
 use Rattle.host_wants.specs.declared.error.Refusal.{Refusal}
 use Rattle.host_wants.specs.declared.error.Refusal.TheVariants as refusal
 use Rattle.host_sockets.specs.Sockets.{SocketsRecord}
-use Rattle.host_calls.specs.declared.call.Call.{Call}
-use Rattle.host_calls.specs.declared.call.Call.TheVariants as system_call
-use Rattle.host_calls.specs.declared.call.NetworkCall.{NetworkCall}
-use Rattle.host_calls.specs.declared.call.NetworkCall.TheVariants as network
-use Rattle.host_calls.specs.declared.call.WaitingCall.{WaitingCall}
-use Rattle.host_calls.specs.declared.call.WaitingCall.TheVariants as waiting
+use Rattle.call_parts.specs.declared.call.Call.{Call}
+use Rattle.call_parts.specs.declared.call.Call.TheVariants as system_call
+use Rattle.call_parts.specs.declared.call.NetworkCall.{NetworkCall}
+use Rattle.call_parts.specs.declared.call.NetworkCall.TheVariants as network
+use Rattle.call_parts.specs.declared.call.WaitingCall.{WaitingCall}
+use Rattle.call_parts.specs.declared.call.WaitingCall.TheVariants as waiting
 use Rattle.file_calls.specs.declared.descriptors.Descriptor.{Descriptor}
 use Rattle.host_calls.specs.declared.plan.Plan.{Plan}
 use Rattle.host_calls.specs.declared.plan.Plan.TheVariants as plan
@@ -21,8 +21,8 @@ use Rattle.host_calls.specs.declared.parts.Reaction.{Reaction}
 use Rattle.host_calls.specs.declared.parts.Reaction.TheVariants.{Value, Waits}
 use Rattle.file_calls.specs.declared.task.Task.{Task}
 use Rattle.file_calls.specs.declared.task.Why.{Why}
-use Rattle.host_calls.specs.declared.sockets.SocketNumber.{SocketNumber}
-use Rattle.host_calls.specs.Call.{call_of}
+use Rattle.call_parts.specs.declared.sockets.SocketNumber.{SocketNumber}
+use Rattle.call_parts.specs.Call.{call_of}
 use Rattle.file_calls.specs.Times.{sleep_asked}
 use Rattle.std.specs.Prelude.{IfOk}
 use Rattle.host_calls.specs.Calls.{arg, message_of, room_of, open_by, plain_row, read_plan_of, write_plan_of, asked, done, network_row, row_of, waits, answered, blocks_by, in_scene, call_scene, call_by, scene_at, answers_scene, answers_by, call, answers}
@@ -34,7 +34,8 @@ use Rattle.call_laws.specs.Laws.{is_block, kept_by, kept_call}
 use Rattle.host_calls.specs.Parts.{PartsRecord, Place, Scene, local_of, place_in, plainly}
 use Rattle.host_calls.specs.Polling.{poll_plan, polls}
 use Rattle.file_calls.specs.Scene.{Local}
-use Rattle.host_calls.specs.Sockets.{socket, bind, listen, accept_plan, accepts, connect_plan, getsockname, getpeername, send_plan, sendto_plan, sends_by, recv_plan, recvfrom_plan, receives, getsockopt, shutdown, open_socket, socket_number}
+use Rattle.host_calls.specs.Sockets.{socket, bind, listen, accept_plan, accepts, connect_plan, getsockname, getpeername, send_plan, sendto_plan, sends_by, recv_plan, recvfrom_plan, receives, getsockopt, shutdown}
+use Rattle.call_parts.specs.Sockets.{open_socket, socket_number}
 use Rattle.call_laws.proofs.Waits.{Never, reaction_waits, is_wait-is, nevers, reacts-is, plainly-is, asked_then, gives_bind, gives_then, gives_map}
 use Rattle.call_laws.proofs.PlainWaits.{plain-never}
 use Rattle.call_laws.proofs.SocketWaits.{accept-settles, connect-settles, send-settles, recv-settles}

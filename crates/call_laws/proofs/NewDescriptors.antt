@@ -10,9 +10,9 @@ use Rattle.host_sockets.specs.Accepting.{accept_asked, accept_ready, accepts_tcp
 use Rattle.host_sockets.specs.Sockets.{SocketsRecord}
 use Rattle.host_calls.specs.declared.accepting.AcceptPlan.{AcceptPlan}
 use Rattle.host_calls.specs.declared.accepting.NewPlace.{NewPlace}
-use Rattle.host_calls.specs.declared.binding.NewSocket.{NewSocket}
+use Rattle.call_parts.specs.declared.making.NewSocket.{NewSocket}
 use Rattle.file_calls.specs.declared.files.Ends.{Ends}
-use Rattle.host_calls.specs.declared.call.WaitingCall.TheVariants as waiting
+use Rattle.call_parts.specs.declared.call.WaitingCall.TheVariants as waiting
 use Rattle.file_calls.specs.declared.known.Known.{Known}
 use Rattle.host_calls.specs.declared.parts.Reaction.{Reaction}
 use Rattle.host_calls.specs.declared.parts.Reaction.TheVariants.{Value, Waits}
@@ -21,7 +21,7 @@ use Rattle.sim_base.specs.declared.time.Time.{Time}
 use Rattle.host_calls.specs.Calls.{arg, reacts, done, waiting_row}
 use Rattle.file_calls.specs.declared.task.Task.{Task}
 use Rattle.file_calls.specs.declared.task.Shared.{Shared}
-use Rattle.host_calls.specs.declared.sockets.OpenSocket.{OpenSocket}
+use Rattle.call_parts.specs.declared.sockets.OpenSocket.{OpenSocket}
 use Rattle.file_calls.specs.Descriptors.{lowest_free, free_from}
 use Rattle.file_calls.specs.Files.{path_length, is_hosts_path, openat_asked, openat, second_end, pipe2_asked}
 use Rattle.file_calls.specs.Eventfd.{eventfd_asked, eventfd2}
@@ -31,7 +31,8 @@ use Rattle.call_laws.specs.Laws.{IsFirstFree}
 use Rattle.host_calls.specs.Parts.{Scene, local_of}
 use Rattle.file_calls.specs.Scene.{Local, or_again}
 use Rattle.guest_args.specs.Address.{inet}
-use Rattle.host_calls.specs.Sockets.{is_stream, protocol_of, socket_asked, socket, tcp_number, result_address, accept_place, accept_plan_of, accept_plan, accepted_by, accepts, open_socket}
+use Rattle.call_parts.specs.Sockets.{is_stream, protocol_of, socket_asked, tcp_number, result_address, open_socket}
+use Rattle.host_calls.specs.Sockets.{socket, accept_place, accept_plan_of, accept_plan, accepted_by, accepts}
 use Rattle.file_calls.specs.Times.{create_asked, timerfd_create}
 use Rattle.call_laws.proofs.DescriptorLaws.{first_free-IsFirstFree, lowest_free-IsLowestFree}
 

@@ -7,8 +7,8 @@ use Rattle.guest_mem.specs.Memory.{Memory}
 use Rattle.host_files.specs.declared.file.Object.{Object}
 use Rattle.host_files.specs.declared.file.Object.TheVariants as kind
 use Rattle.host_wants.specs.declared.error.Refusal.TheVariants as refusal
-use Rattle.host_calls.specs.declared.call.PlainCall.{PlainCall}
-use Rattle.host_calls.specs.declared.call.PlainCall.TheVariants as plain
+use Rattle.call_parts.specs.declared.call.PlainCall.{PlainCall}
+use Rattle.call_parts.specs.declared.call.PlainCall.TheVariants as plain
 use Rattle.file_calls.specs.declared.descriptors.Descriptor.{Descriptor}
 use Rattle.file_calls.specs.declared.task.Task.{Task}
 use Rattle.file_calls.specs.declared.task.Shared.{Shared}
@@ -25,7 +25,7 @@ use Rattle.file_calls.specs.Eventfd.{eventfd2}
 use Rattle.file_calls.specs.Files.{fcntl, fcntl_by, length_from, openat, pipe2_asked, pipe2}
 use Rattle.file_calls.specs.Guest.{getrandom}
 use Rattle.file_calls.specs.Scene.{Local}
-use Rattle.host_calls.specs.Sockets.{setsockopt}
+use Rattle.call_parts.specs.Sockets.{setsockopt}
 use Rattle.file_calls.specs.Times.{clock_gettime, timerfd_create, timer_number, old_timer, settime_asked, timerfd_settime}
 use Rattle.call_laws.proofs.Waits.{Never, nevers, epoll_number-never, never_bind, never_then, never_or_refuse, never_refuse_if}
 

@@ -19,13 +19,13 @@ use Rattle.host_sockets.specs.Accepting.{accept_ready}
 use Rattle.host_sockets.specs.Connecting.{connect_waited}
 use Rattle.host_sockets.specs.Moving.{send_asked, reach_given}
 use Rattle.host_sockets.specs.Udp.{udp_in}
-use Rattle.host_calls.specs.declared.call.Call.{Call}
-use Rattle.host_calls.specs.declared.call.WaitingCall.{WaitingCall}
-use Rattle.host_calls.specs.declared.call.WaitingCall.TheVariants as waiting
+use Rattle.call_parts.specs.declared.call.Call.{Call}
+use Rattle.call_parts.specs.declared.call.WaitingCall.{WaitingCall}
+use Rattle.call_parts.specs.declared.call.WaitingCall.TheVariants as waiting
 use Rattle.host_calls.specs.declared.connecting.ConnectPlan.{ConnectPlan}
 use Rattle.host_calls.specs.declared.sending.SendPlan.{SendPlan}
 use Rattle.file_calls.specs.declared.descriptors.Descriptor.{Descriptor}
-use Rattle.host_calls.specs.declared.epoll.WaitPlan.{WaitPlan}
+use Rattle.call_parts.specs.declared.epoll.WaitPlan.{WaitPlan}
 use Rattle.guest_mem.specs.Memory.{Memory}
 use Rattle.host_sockets.specs.TcpSocket.{TcpSocket}
 use Rattle.sim_base.specs.Poll.{pollout}
@@ -34,21 +34,23 @@ use Rattle.file_calls.specs.declared.task.Why.{Why}
 use Rattle.host_calls.specs.declared.plan.Plan.{Plan}
 use Rattle.host_calls.specs.declared.plan.Plan.TheVariants as plan
 use Rattle.file_calls.specs.declared.transfer.Transfer.{Transfer}
-use Rattle.host_calls.specs.declared.receiving.Room.{Room}
-use Rattle.host_calls.specs.declared.sending.Message.{Message}
-use Rattle.host_calls.specs.declared.sockets.OpenSocket.{OpenSocket}
-use Rattle.host_calls.specs.declared.sockets.SocketNumber.{SocketNumber}
-use Rattle.host_calls.specs.declared.sockets.SocketNumber.TheVariants as number
+use Rattle.call_parts.specs.declared.messages.Room.{Room}
+use Rattle.call_parts.specs.declared.messages.Message.{Message}
+use Rattle.call_parts.specs.declared.sockets.OpenSocket.{OpenSocket}
+use Rattle.call_parts.specs.declared.sockets.SocketNumber.{SocketNumber}
+use Rattle.call_parts.specs.declared.sockets.SocketNumber.TheVariants as number
 use Rattle.host_calls.specs.Calls.{arg, message_of, room_of, open_by, read_plan_of, write_plan_of, asked, waits}
 use Rattle.file_calls.specs.Descriptors.{descriptor}
 use Rattle.file_calls.specs.Files.{may_read, wait_to_read, transfer, may_write, wait_to_write}
 use Rattle.file_calls.specs.EpollControl.{epoll_number, event_size}
-use Rattle.host_calls.specs.Epoll.{is_negative, most_told, wait_deadline, waits_for}
+use Rattle.call_parts.specs.Epoll.{is_negative, most_told, wait_deadline}
+use Rattle.host_calls.specs.Epoll.{waits_for}
 use Rattle.file_calls.specs.Eventfd.{number_at, number_fits}
 use Rattle.file_calls.specs.Flags.{has, msg_nosignal}
 use Rattle.host_calls.specs.Parts.{Scene}
 use Rattle.file_calls.specs.Scene.{or_again, kept_answers}
-use Rattle.host_calls.specs.Sockets.{socket_number, given_address, accept_place, accept_plan_of, connect_ready, refuse_flags, is_quick, send_tcp_plan, send_plan, recv_place, recv_ready, recv_plan}
+use Rattle.call_parts.specs.Sockets.{socket_number, given_address, refuse_flags, is_quick, recv_place}
+use Rattle.host_calls.specs.Sockets.{accept_place, accept_plan_of, connect_ready, send_tcp_plan, send_plan, recv_ready, recv_plan}
 use Rattle.call_laws.specs.Readiness.{is_refused, takes_number, is_ready, writing_ended, would_read, would_accept, would_write, would_connect, would_wait, IsWhole, AnswersWhere}
 use Rattle.call_laws.proofs.ReadyObjects.{Tells, eventfd_read-tells, fits-tells, may_write_by, tells_kept, read_end-tells, write_end-tells, timer-tells, epoll-tells, recv_udp-tells, send_udp-holds, recv-tells, send-tells, accept-tells, connect-tells}
 use Rattle.call_laws.proofs.Waits.{waits_in, is_wait-is}

@@ -36,8 +36,9 @@ use Rattle.file_calls.specs.Eventfd.{number_fits}
 use Rattle.file_calls.specs.Files.{is_drained}
 use Rattle.file_calls.specs.Flags.{has}
 use Rattle.host_calls.specs.Parts.{Scene}
-use Rattle.host_calls.specs.Polling.{has_come}
-use Rattle.host_calls.specs.Ready.{pipe_ready, eventfd_ready, epoll_ready, some_due}
+use Rattle.call_parts.specs.Polling.{has_come}
+use Rattle.call_parts.specs.Ready.{pipe_ready, eventfd_ready}
+use Rattle.host_calls.specs.Ready.{epoll_ready, some_due}
 use Rattle.file_calls.specs.Scene.{kept_answers}
 use Rattle.call_laws.specs.Readiness.{room_in, has_no_writer, has_no_reader, record_is_over, is_connecting, IsOwnRecord, AreWhole, IsWholeSocket}
 

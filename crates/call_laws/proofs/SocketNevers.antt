@@ -14,10 +14,11 @@ use Rattle.sock_tcp.specs.connection.Tcb.{Tcb}
 use Rattle.file_calls.specs.declared.task.Shared.{Shared}
 use Rattle.host_sockets.specs.Names.{peer_in, takes_error, tcp_peer}
 use Rattle.file_calls.specs.declared.task.Task.{Task}
-use Rattle.host_calls.specs.declared.sockets.SocketNumber.{SocketNumber}
-use Rattle.host_calls.specs.declared.sockets.SocketNumber.TheVariants as number
+use Rattle.call_parts.specs.declared.sockets.SocketNumber.{SocketNumber}
+use Rattle.call_parts.specs.declared.sockets.SocketNumber.TheVariants as number
 use Rattle.host_calls.specs.Parts.{Scene, local_of}
-use Rattle.host_calls.specs.Sockets.{is_stream, socket_asked, socket, binds, bind_asked, bind, listen, tcp_number, name_of, peer_of, getsockname, getpeername, is_error, option_place, getsockopt_asked, told_error, getsockopt, shut_of, shuts, shutdown, open_socket}
+use Rattle.call_parts.specs.Sockets.{is_stream, socket_asked, tcp_number, is_error, option_place, getsockopt_asked, open_socket}
+use Rattle.host_calls.specs.Sockets.{socket, binds, bind_asked, bind, listen, name_of, peer_of, getsockname, getpeername, told_error, getsockopt, shut_of, shuts, shutdown}
 use Rattle.call_laws.proofs.Waits.{Never, nevers, never_bind, never_if, open_socket-never}
 use Rattle.call_laws.proofs.SocketWaits.{binds_udp-never}
 

@@ -28,16 +28,17 @@ use Rattle.host_sockets.specs.Connecting.{taking, without_change, connect_waited
 use Rattle.host_sockets.specs.Moving.{send_asked, sends_bytes, sends_taking, recv_asked, receives_bytes, receives_taking}
 use Rattle.host_calls.specs.declared.parts.Reaction.{Reaction}
 use Rattle.file_calls.specs.declared.task.Why.{Why}
-use Rattle.host_calls.specs.declared.receiving.Room.{Room}
-use Rattle.host_calls.specs.declared.sending.Message.{Message}
+use Rattle.call_parts.specs.declared.messages.Room.{Room}
+use Rattle.call_parts.specs.declared.messages.Message.{Message}
 use Rattle.host_calls.specs.declared.sending.StreamSend.{StreamSend}
-use Rattle.host_calls.specs.declared.sockets.OpenSocket.{OpenSocket}
-use Rattle.host_calls.specs.declared.sockets.SocketNumber.{SocketNumber}
-use Rattle.host_calls.specs.declared.sockets.SocketNumber.TheVariants as number
+use Rattle.call_parts.specs.declared.sockets.OpenSocket.{OpenSocket}
+use Rattle.call_parts.specs.declared.sockets.SocketNumber.{SocketNumber}
+use Rattle.call_parts.specs.declared.sockets.SocketNumber.TheVariants as number
 use Rattle.file_calls.specs.Flags.{has, msg_nosignal}
 use Rattle.host_calls.specs.Parts.{Scene, local_of}
 use Rattle.file_calls.specs.Scene.{or_again, kept_answers}
-use Rattle.host_calls.specs.Sockets.{tcp_number, address, given_address, accept_place, accept_plan, accepts, connected, connect_udp, connect_again, connect_call, connect_ready, connect_plan, connects, refuse_flags, is_quick, send_udp, send_tcp, send_plan_of, send_plan, sends_by, recv_place, recv_ready, recv_plan, recv_by, receives, open_socket}
+use Rattle.call_parts.specs.Sockets.{tcp_number, address, given_address, refuse_flags, is_quick, recv_place, open_socket}
+use Rattle.host_calls.specs.Sockets.{accept_place, accept_plan, accepts, connected, connect_udp, connect_again, connect_call, connect_ready, connect_plan, connects, send_udp, send_tcp, send_plan_of, send_plan, sends_by, recv_ready, recv_plan, recv_by, receives}
 use Rattle.call_laws.proofs.Waits.{Never, Same, waits_in, reaction_waits, nevers, never_bind, same_bind, same_then, ends_bind, ends_then, gives_bind, gives_then, ok_never, kept-never, again_kept-never, span-never}
 
 -- where a row answers a reaction

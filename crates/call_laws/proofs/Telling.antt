@@ -12,12 +12,13 @@ use Rattle.host_fds.specs.Epoll.{told, entry_of}
 use Rattle.host_files.specs.Epolls.{epoll_at, told_by}
 use Rattle.host_wants.specs.declared.error.Refusal.{Refusal}
 use Rattle.host_wants.specs.declared.error.Refusal.TheVariants as refusal
-use Rattle.host_calls.specs.declared.epoll.WaitPlan.{WaitPlan}
+use Rattle.call_parts.specs.declared.epoll.WaitPlan.{WaitPlan}
 use Rattle.file_calls.specs.declared.task.Task.{Task}
 use Rattle.file_calls.specs.declared.task.Shared.{Shared}
 use Rattle.file_calls.specs.Descriptors.{descriptor}
 use Rattle.file_calls.specs.EpollControl.{epoll_number, event_size}
-use Rattle.host_calls.specs.Epoll.{is_negative, most_told, wait_deadline, wait_place, waits_for, wait_plan, seen_of, all_seen, has_due, epoll_waits}
+use Rattle.call_parts.specs.Epoll.{is_negative, most_told, wait_deadline, wait_place}
+use Rattle.host_calls.specs.Epoll.{waits_for, wait_plan, seen_of, all_seen, has_due, epoll_waits}
 use Rattle.host_calls.specs.Parts.{Scene}
 use Rattle.host_calls.specs.Ready.{is_due, some_due}
 

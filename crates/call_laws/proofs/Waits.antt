@@ -21,7 +21,7 @@ use Rattle.file_calls.specs.Descriptors.{descriptor, descriptor_by}
 use Rattle.file_calls.specs.EpollControl.{epoll_number}
 use Rattle.host_calls.specs.Parts.{Scene, plainly}
 use Rattle.file_calls.specs.Scene.{Local, or_again, kept_answers}
-use Rattle.host_calls.specs.Sockets.{socket_number, open_socket}
+use Rattle.call_parts.specs.Sockets.{socket_number, open_socket}
 
 abbrev pub tells_wait : Refusal → Bool
 tells_wait (refusal.Wait until) = true

@@ -3,9 +3,9 @@ use Rattle.std.specs.Prelude.{◌≡◌, ℕ, ◌+◌, ◌==◌, ◌<◌, ◌≤
 use Rattle.std.specs.FinMap as map
 use Rattle.host_fds.specs.Descriptors.{Descriptors}
 use Rattle.host_files.specs.Slots.{at}
-use Rattle.host_calls.specs.declared.call.Call.{Call}
-use Rattle.host_calls.specs.declared.call.Call.TheVariants as system_call
-use Rattle.host_calls.specs.declared.call.WaitingCall.TheVariants as waiting
+use Rattle.call_parts.specs.declared.call.Call.{Call}
+use Rattle.call_parts.specs.declared.call.Call.TheVariants as system_call
+use Rattle.call_parts.specs.declared.call.WaitingCall.TheVariants as waiting
 use Rattle.host_calls.specs.declared.parts.Answer.{Answer}
 use Rattle.host_calls.specs.declared.parts.Answer.TheVariants as answer
 use Rattle.file_calls.specs.declared.task.Task.{Task}
@@ -20,7 +20,7 @@ use Rattle.host_wants.specs.Wanted.{Wanted}
 use Rattle.host_sockets.specs.TcpActs.{acts_at}
 use Rattle.host_sockets.specs.Connecting.{error_takes}
 use Rattle.host_calls.specs.Calls.{arg}
-use Rattle.host_calls.specs.Epoll.{is_negative}
+use Rattle.call_parts.specs.Epoll.{is_negative}
 use Rattle.host_calls.specs.Parts.{PartsRecord}
 
 -- whether the process waits

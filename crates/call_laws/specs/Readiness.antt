@@ -16,20 +16,20 @@ use Rattle.host_wants.specs.declared.error.Refusal.TheVariants as refusal
 use Rattle.host_sockets.specs.Sockets.{SocketsRecord, tcb_at}
 use Rattle.host_sockets.specs.TcpSocket.{TcpSocket}
 use Rattle.host_sockets.specs.Udp.{udp_in}
-use Rattle.host_calls.specs.declared.call.Call.TheVariants as system_call
-use Rattle.host_calls.specs.declared.call.WaitingCall.{WaitingCall}
+use Rattle.call_parts.specs.declared.call.Call.TheVariants as system_call
+use Rattle.call_parts.specs.declared.call.WaitingCall.{WaitingCall}
 use Rattle.file_calls.specs.declared.descriptors.Descriptor.{Descriptor}
 use Rattle.file_calls.specs.declared.known.Known.{Known}
 use Rattle.file_calls.specs.declared.task.Why.{Why}
 use Rattle.host_calls.specs.declared.plan.Plan.{Plan}
-use Rattle.host_calls.specs.Call.{call_of}
+use Rattle.call_parts.specs.Call.{call_of}
 use Rattle.host_calls.specs.Calls.{arg, asked, answers_scene}
 use Rattle.file_calls.specs.Descriptors.{descriptor}
-use Rattle.host_calls.specs.Epoll.{wait_deadline}
+use Rattle.call_parts.specs.Epoll.{wait_deadline}
 use Rattle.file_calls.specs.Eventfd.{number_at}
 use Rattle.file_calls.specs.Flags.{has}
 use Rattle.host_calls.specs.Parts.{Scene}
-use Rattle.host_calls.specs.Polling.{has_come}
+use Rattle.call_parts.specs.Polling.{has_come}
 use Rattle.host_calls.specs.Ready.{readiness}
 
 -- a call that answers an error number without being asked what it waits for, and without having tried what it would do

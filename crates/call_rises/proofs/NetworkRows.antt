@@ -14,19 +14,20 @@ use Rattle.host_sockets.specs.Accepting.{accepts_tcp}
 use Rattle.host_sockets.specs.Connecting.{connects_taking, connect_answers}
 use Rattle.host_sockets.specs.Moving.{sends_taking, receives_taking, shuts_tcp}
 use Rattle.host_sockets.specs.Names.{takes_error}
-use Rattle.host_calls.specs.declared.binding.NewSocket.{NewSocket}
-use Rattle.host_calls.specs.declared.options.Asked.{Asked}
+use Rattle.call_parts.specs.declared.making.NewSocket.{NewSocket}
+use Rattle.call_parts.specs.declared.options.Asked.{Asked}
 use Rattle.host_calls.specs.declared.accepting.AcceptPlan.{AcceptPlan}
 use Rattle.host_calls.specs.declared.connecting.ConnectPlan.{ConnectPlan}
 use Rattle.host_calls.specs.declared.receiving.RecvPlan.{RecvPlan}
-use Rattle.host_calls.specs.declared.sending.Message.{Message}
+use Rattle.call_parts.specs.declared.messages.Message.{Message}
 use Rattle.host_calls.specs.declared.sending.SendPlan.{SendPlan}
 use Rattle.host_calls.specs.declared.sending.SendPlan.TheVariants as sending
 use Rattle.host_calls.specs.declared.sending.StreamSend.{StreamSend}
-use Rattle.host_calls.specs.declared.sockets.SocketNumber.{SocketNumber}
-use Rattle.host_calls.specs.declared.sockets.SocketNumber.TheVariants as number
+use Rattle.call_parts.specs.declared.sockets.SocketNumber.{SocketNumber}
+use Rattle.call_parts.specs.declared.sockets.SocketNumber.TheVariants as number
 use Rattle.host_calls.specs.Parts.{Scene, local_of}
-use Rattle.host_calls.specs.Sockets.{open_socket, tcp_number, given_address, address, result_address, with_socket, socket_asked, socket, binds, bind_asked, bind, listen, connect_tcp, connect_udp, connect_again, connect_call, name_of, peer_of, getsockname, getpeername, send_udp, send_tcp, recv_udp, recv_tcp, getsockopt_asked, told_error, told_option, getsockopt, shut_of, shuts, shutdown, accepts, connects, sends_by, recv_by, receives}
+use Rattle.call_parts.specs.Sockets.{open_socket, tcp_number, given_address, address, result_address, socket_asked, getsockopt_asked}
+use Rattle.host_calls.specs.Sockets.{with_socket, socket, binds, bind_asked, bind, listen, connect_tcp, connect_udp, connect_again, connect_call, name_of, peer_of, getsockname, getpeername, send_udp, send_tcp, recv_udp, recv_tcp, told_error, told_option, getsockopt, shut_of, shuts, shutdown, accepts, connects, sends_by, recv_by, receives}
 use Rattle.call_rises.proofs.Moving.{by_test, stays, Moved, moved, Leads, answers, refused, asks, tries}
 
 module _ (now : ℕ) where

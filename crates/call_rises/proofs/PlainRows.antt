@@ -13,8 +13,8 @@ use Rattle.host_files.specs.Files.{next_pipe, next_timer, next_eventfd}
 use Rattle.host_wants.specs.declared.error.Refusal.{Refusal}
 use Rattle.host_wants.specs.declared.error.Refusal.TheVariants.{Errno}
 use Rattle.host_wants.specs.Wanted.{wants_alarm}
-use Rattle.host_calls.specs.declared.call.PlainCall.{PlainCall}
-use Rattle.host_calls.specs.declared.call.PlainCall.TheVariants as plain
+use Rattle.call_parts.specs.declared.call.PlainCall.{PlainCall}
+use Rattle.call_parts.specs.declared.call.PlainCall.TheVariants as plain
 use Rattle.file_calls.specs.declared.descriptors.Descriptor.{Descriptor}
 use Rattle.file_calls.specs.declared.task.Shared.{Shared}
 use Rattle.file_calls.specs.declared.task.Task.{Task}
@@ -30,7 +30,7 @@ use Rattle.file_calls.specs.Flags.{o_nonblock, efd_semaphore, has}
 use Rattle.file_calls.specs.Guest.{getpid, brk, words, words_in, random_count, random_told, getrandom}
 use Rattle.file_calls.specs.Numbers.{f_getfd, f_setfd, f_getfl, f_setfl, grnd_nonblock, grnd_random}
 use Rattle.file_calls.specs.Scene.{Local, tell_memory}
-use Rattle.host_calls.specs.Sockets.{setsockopt_asked, setsockopt}
+use Rattle.call_parts.specs.Sockets.{setsockopt_asked, setsockopt}
 use Rattle.file_calls.specs.Times.{timer_object, at_nanos, clock_gettime, timer_file, new_timer, create_asked, timerfd_create, sets, set_by, old_timer, tell_setting, settime_asked, timerfd_settime}
 use Rattle.pipe_laws.specs.Acts.{Writes, Reads}
 use Rattle.pipe_laws.specs.Eventfds.{Adds, Takes}

@@ -18,12 +18,12 @@ use Rattle.host_wants.specs.declared.error.Refusal.TheVariants as refusal
 use Rattle.host_sockets.specs.Sockets.{SocketsRecord}
 use Rattle.host_sockets.specs.TcpActs.{first_object}
 use Rattle.host_wants.specs.Wanted.{wants_alarm}
-use Rattle.host_calls.specs.declared.call.Call.{Call}
-use Rattle.host_calls.specs.declared.call.Call.TheVariants as system_call
-use Rattle.host_calls.specs.declared.call.NetworkCall.{NetworkCall}
-use Rattle.host_calls.specs.declared.call.NetworkCall.TheVariants as network
+use Rattle.call_parts.specs.declared.call.Call.{Call}
+use Rattle.call_parts.specs.declared.call.Call.TheVariants as system_call
+use Rattle.call_parts.specs.declared.call.NetworkCall.{NetworkCall}
+use Rattle.call_parts.specs.declared.call.NetworkCall.TheVariants as network
 use Rattle.file_calls.specs.declared.descriptors.Descriptor.{Descriptor}
-use Rattle.host_calls.specs.declared.epoll.WaitPlan.{WaitPlan}
+use Rattle.call_parts.specs.declared.epoll.WaitPlan.{WaitPlan}
 use Rattle.file_calls.specs.declared.known.Known.{Known}
 use Rattle.host_calls.specs.declared.parts.Reaction.{Reaction}
 use Rattle.host_calls.specs.declared.parts.Reaction.TheVariants.{Value, Waits}
@@ -33,7 +33,7 @@ use Rattle.file_calls.specs.declared.task.Why.{Why}
 use Rattle.host_calls.specs.declared.plan.Plan.{Plan}
 use Rattle.host_calls.specs.declared.plan.Plan.TheVariants as plan
 use Rattle.host_calls.specs.declared.polling.PollPlan.{PollPlan}
-use Rattle.host_calls.specs.Call.{call_of}
+use Rattle.call_parts.specs.Call.{call_of}
 use Rattle.host_calls.specs.Calls.{arg, plain_row, reacts, network_row, asked, done, row, row_of, deadline_object, with_alarm, blocks_by, blocked, all_ended, cleared, answered, scene_at, call_by, call}
 use Rattle.host_calls.specs.Closing.{ends, without_epoll, closes, close, closed_by, closed_one, closed_below}
 use Rattle.file_calls.specs.Descriptors.{descriptor}
@@ -41,7 +41,8 @@ use Rattle.host_calls.specs.Epoll.{all_seen, told_of, epoll_waits}
 use Rattle.host_calls.specs.Events.{arrives, timer_number, rung, alarmed, ended_by, ended}
 use Rattle.file_calls.specs.Files.{reads, writes}
 use Rattle.host_calls.specs.Parts.{PartsRecord, Place, place, place_in, place_of, with_place, Scene, local_of, with_local, plainly}
-use Rattle.host_calls.specs.Polling.{poll_entries, entry_size, polled, polls}
+use Rattle.call_parts.specs.Polling.{poll_entries, entry_size}
+use Rattle.host_calls.specs.Polling.{polled, polls}
 use Rattle.file_calls.specs.Scene.{Local}
 use Rattle.host_calls.specs.Sockets.{socket, bind, listen, getsockname, getpeername, getsockopt, shutdown, accepts, connects, sends_by, receives}
 use Rattle.host_calls.specs.Starting.{starts, task_starts}

@@ -13,8 +13,8 @@ use Rattle.tcp_laws.proofs.Tests.{by_test}
 use Rattle.host_wants.specs.declared.error.Refusal.{Refusal}
 use Rattle.host_wants.specs.declared.error.Refusal.TheVariants.{Errno}
 use Rattle.host_wants.specs.Wanted.{Wanted, draws_word}
-use Rattle.host_calls.specs.declared.call.PlainCall.{PlainCall}
-use Rattle.host_calls.specs.declared.call.PlainCall.TheVariants as plain
+use Rattle.call_parts.specs.declared.call.PlainCall.{PlainCall}
+use Rattle.call_parts.specs.declared.call.PlainCall.TheVariants as plain
 use Rattle.file_calls.specs.declared.descriptors.Descriptor.{Descriptor}
 use Rattle.file_calls.specs.declared.task.Task.{Task}
 use Rattle.file_calls.specs.declared.transfer.Transfer.{Transfer}
@@ -30,7 +30,7 @@ use Rattle.host_files.specs.Epolls.{next_epoll}
 use Rattle.file_calls.specs.EpollControl.{epoll_asked, epoll_file, new_epoll, epoll_create1, ctl_asked, controlled, epoll_ctl}
 use Rattle.file_calls.specs.Eventfd.{eventfd_asked, eventfd_file, new_eventfd, eventfd2}
 use Rattle.file_calls.specs.Guest.{getpid, brk, words, words_in, random_count, random_told, getrandom}
-use Rattle.host_calls.specs.Sockets.{setsockopt_asked, setsockopt}
+use Rattle.call_parts.specs.Sockets.{setsockopt_asked, setsockopt}
 use Rattle.file_calls.specs.Times.{timer_object, at_nanos, clock_gettime, timer_file, new_timer, create_asked, timerfd_create, sets, set_by, old_timer, tell_setting, settime_asked, timerfd_settime}
 use Rattle.host_calls.specs.Calls.{arg, plain_row}
 use Rattle.socket_laws.specs.Histories.{left_by}

@@ -14,10 +14,10 @@ use Rattle.host_wants.specs.declared.error.Refusal.TheVariants as refusal
 use Rattle.host_wants.specs.Wanted.{Wanted}
 use Rattle.host_sockets.specs.Sockets.{SocketsRecord}
 use Rattle.host_sockets.specs.TcpActs.{first_object}
-use Rattle.host_calls.specs.declared.call.Call.{Call}
-use Rattle.host_calls.specs.declared.call.Call.TheVariants as system_call
-use Rattle.host_calls.specs.declared.call.NetworkCall.{NetworkCall}
-use Rattle.host_calls.specs.declared.call.NetworkCall.TheVariants as network
+use Rattle.call_parts.specs.declared.call.Call.{Call}
+use Rattle.call_parts.specs.declared.call.Call.TheVariants as system_call
+use Rattle.call_parts.specs.declared.call.NetworkCall.{NetworkCall}
+use Rattle.call_parts.specs.declared.call.NetworkCall.TheVariants as network
 use Rattle.file_calls.specs.declared.descriptors.Descriptor.{Descriptor}
 use Rattle.file_calls.specs.declared.known.Known.{Known}
 use Rattle.host_calls.specs.declared.plan.Plan.{Plan}
@@ -28,7 +28,7 @@ use Rattle.host_calls.specs.declared.parts.Reaction.TheVariants.{Value, Waits}
 use Rattle.file_calls.specs.declared.task.Shared.{Shared}
 use Rattle.file_calls.specs.declared.task.Task.{Task}
 use Rattle.file_calls.specs.declared.task.Why.{Why}
-use Rattle.host_calls.specs.Call.{call_of}
+use Rattle.call_parts.specs.Call.{call_of}
 use Rattle.host_calls.specs.Closing.{ends, closes, close, closed_by, closed_one, closed_below}
 use Rattle.file_calls.specs.Descriptors.{descriptor}
 use Rattle.host_calls.specs.Events.{arrives, timer_number, rung, alarmed, ended_by, ended}
@@ -37,10 +37,11 @@ use Rattle.file_calls.specs.Files.{reads, writes}
 use Rattle.host_calls.specs.Sockets.{socket, bind, listen, accepts, getsockname, getpeername, sends_by, receives, getsockopt, shutdown}
 use Rattle.host_calls.specs.Starting.{task_starts}
 use Rattle.file_calls.specs.Times.{first_timer, timer_object, at_nanos, rings_at, next_ring}
-use Rattle.host_calls.specs.declared.epoll.WaitPlan.{WaitPlan}
+use Rattle.call_parts.specs.declared.epoll.WaitPlan.{WaitPlan}
 use Rattle.host_files.specs.Epolls.{epoll_at}
 use Rattle.host_calls.specs.Epoll.{all_seen, told_of, epoll_waits}
-use Rattle.host_calls.specs.Polling.{entry_size, poll_entries, polled, polls}
+use Rattle.call_parts.specs.Polling.{entry_size, poll_entries}
+use Rattle.host_calls.specs.Polling.{polled, polls}
 use Rattle.host_calls.specs.Calls.{arg, plain_row, network_row, asked, done, row, row_of, deadline_object, with_alarm, blocks_by, blocked, all_ended, cleared, answered, scene_at, call_by, call}
 use Rattle.host_files.specs.Files.{timer_at}
 use Rattle.socket_laws.specs.Histories.{SocketsAct as act}

@@ -3,7 +3,8 @@ use Rattle.std.proofs.Common.{◌≡◌, ℕ, suc, ◌+◌, ◌-◌, ◌*◌, �
 use Rattle.std.proofs.lemmas.List.{drop-drop}
 use Rattle.sim_base.specs.declared.time.Time.{Time}
 use Rattle.host_calls.specs.Parts.{Scene}
-use Rattle.host_calls.specs.Polling.{count_told, count_one, came, told_entries, told_entry}
+use Rattle.host_calls.specs.Polling.{count_told, came, told_entries, told_entry}
+use Rattle.call_parts.specs.Polling.{count_one}
 
 left : (place count : ℕ) → place < count → count - place ≡ suc (count - (place + 1))
 left place count h = omega arith

@@ -13,14 +13,14 @@ use Rattle.host_sockets.specs.Sockets.{SocketsRecord}
 use Rattle.host_sockets.specs.StandsFor.{Stand}
 use Rattle.host_wants.specs.Wanted.{wants_alarm}
 use Rattle.host_calls.specs.declared.all.Parts.{Parts}
-use Rattle.host_calls.specs.declared.call.Call.{Call}
-use Rattle.host_calls.specs.declared.call.Call.TheVariants as system_call
-use Rattle.host_calls.specs.declared.call.PlainCall.{PlainCall}
-use Rattle.host_calls.specs.declared.call.PlainCall.TheVariants as plain
-use Rattle.host_calls.specs.declared.call.NetworkCall.{NetworkCall}
-use Rattle.host_calls.specs.declared.call.NetworkCall.TheVariants as network
-use Rattle.host_calls.specs.declared.call.WaitingCall.{WaitingCall}
-use Rattle.host_calls.specs.declared.call.WaitingCall.TheVariants as waiting
+use Rattle.call_parts.specs.declared.call.Call.{Call}
+use Rattle.call_parts.specs.declared.call.Call.TheVariants as system_call
+use Rattle.call_parts.specs.declared.call.PlainCall.{PlainCall}
+use Rattle.call_parts.specs.declared.call.PlainCall.TheVariants as plain
+use Rattle.call_parts.specs.declared.call.NetworkCall.{NetworkCall}
+use Rattle.call_parts.specs.declared.call.NetworkCall.TheVariants as network
+use Rattle.call_parts.specs.declared.call.WaitingCall.{WaitingCall}
+use Rattle.call_parts.specs.declared.call.WaitingCall.TheVariants as waiting
 use Rattle.file_calls.specs.declared.descriptors.Descriptor.{Descriptor}
 use Rattle.host_calls.specs.declared.parts.Answer.{Answer}
 use Rattle.host_calls.specs.declared.parts.Answer.TheVariants as answer
@@ -32,11 +32,11 @@ use Rattle.file_calls.specs.declared.task.Task.{Task}
 use Rattle.file_calls.specs.declared.task.Why.{Why}
 use Rattle.host_calls.specs.declared.plan.Plan.{Plan}
 use Rattle.host_calls.specs.declared.plan.Plan.TheVariants as plan
-use Rattle.host_calls.specs.declared.receiving.Room.{Room}
-use Rattle.host_calls.specs.declared.sending.Message.{Message}
-use Rattle.host_calls.specs.declared.sockets.OpenSocket.{OpenSocket}
-use Rattle.host_calls.specs.declared.sockets.SocketNumber.{SocketNumber}
-use Rattle.host_calls.specs.Call.{call_of}
+use Rattle.call_parts.specs.declared.messages.Room.{Room}
+use Rattle.call_parts.specs.declared.messages.Message.{Message}
+use Rattle.call_parts.specs.declared.sockets.OpenSocket.{OpenSocket}
+use Rattle.call_parts.specs.declared.sockets.SocketNumber.{SocketNumber}
+use Rattle.call_parts.specs.Call.{call_of}
 use Rattle.host_calls.specs.Closing.{close, all_closed}
 use Rattle.file_calls.specs.Descriptors.{descriptor, IsFree}
 use Rattle.file_calls.specs.EpollControl.{epoll_create1, epoll_ctl}
@@ -45,9 +45,11 @@ use Rattle.file_calls.specs.Eventfd.{eventfd2}
 use Rattle.file_calls.specs.Files.{fcntl, openat, pipe2, file_read_plan, reads, file_write_plan, writes}
 use Rattle.file_calls.specs.Guest.{getpid, brk, getrandom}
 use Rattle.host_calls.specs.Parts.{PartsRecord, PartsStand, Place, PlaceStands, place_of, place_in, with_place, Scene, scene, local_of, plainly}
-use Rattle.host_calls.specs.Polling.{max_entries, poll_plan, polls}
+use Rattle.call_parts.specs.Polling.{max_entries}
+use Rattle.host_calls.specs.Polling.{poll_plan, polls}
 use Rattle.file_calls.specs.Scene.{Local, Is, negative}
-use Rattle.host_calls.specs.Sockets.{socket, bind, listen, accept_plan, accepts, connect_plan, connects, getsockname, getpeername, socket_number, send_plan, sendto_plan, sends_by, recv_plan, recvfrom_plan, receives, setsockopt, getsockopt, shutdown}
+use Rattle.host_calls.specs.Sockets.{socket, bind, listen, accept_plan, accepts, connect_plan, connects, getsockname, getpeername, send_plan, sendto_plan, sends_by, recv_plan, recvfrom_plan, receives, getsockopt, shutdown}
+use Rattle.call_parts.specs.Sockets.{socket_number, setsockopt}
 use Rattle.file_calls.specs.Times.{clock_gettime, sleep_asked, timerfd_create, timerfd_settime}
 
 -- argument n of six

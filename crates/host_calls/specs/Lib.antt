@@ -4,7 +4,6 @@ pub mod Polling
 pub mod Epoll
 pub mod Sockets
 pub mod Closing
-pub mod Call
 pub mod Calls
 pub mod Events
 pub mod Starting

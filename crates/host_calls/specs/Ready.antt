@@ -1,42 +1,27 @@
 -- What objects are ready for, by the bits of poll(2), and what an epoll sees of them.
-use Rattle.std.specs.Prelude.{ℕ, ◌+◌, Bool, List, Option, Some, None, Result, Ok, Err, nat_lt, if◌then◌else◌}
+use Rattle.std.specs.Prelude.{ℕ, ◌+◌, Bool, List, Option, Some, None, Result, Ok, Err, if◌then◌else◌}
 use Rattle.std.specs.List.{list_any}
 use Rattle.sim_base.specs.declared.time.Time.{Time}
 use Rattle.sim_base.specs.Poll.{pollin, pollout}
-use Rattle.host_fds.specs.Pipe.{PipeState}
-use Rattle.host_fds.specs.Pipe as pipe
-use Rattle.host_fds.specs.Eventfd as eventfd
 use Rattle.host_fds.specs.Epoll as epoll
 use Rattle.host_fds.specs.Rises.{no_rises}
 use Rattle.host_fds.specs.declared.epoll.Seen.{Seen}
 use Rattle.host_fds.specs.declared.epoll.Watch.{Watch}
 use Rattle.host_fds.specs.declared.eventfd.Eventfd.{Eventfd}
-use Rattle.host_fds.specs.declared.pipe.End.{End}
 use Rattle.host_fds.specs.declared.pipe.End.TheVariants.{Reading, Writing}
 use Rattle.host_fds.specs.declared.rises.Rises.{Rises}
 use Rattle.host_files.specs.declared.file.Object.{Object}
 use Rattle.host_files.specs.declared.file.Object.TheVariants as kind
-use Rattle.host_files.specs.declared.timer.KeptTimer.{KeptTimer}
 use Rattle.host_files.specs.Epolls.{epoll_at}
-use Rattle.host_files.specs.Files.{FilesState, pipe_at, timer_at, timer_count, timer_rises, eventfd_at}
+use Rattle.host_files.specs.Files.{FilesState, pipe_at, timer_at, eventfd_at}
 use Rattle.host_wants.specs.declared.error.Refusal.{Refusal}
 use Rattle.host_sockets.specs.Sockets.{SocketsRecord}
 use Rattle.sock_tcp.specs.connection.Ready.{bit_if}
 use Rattle.host_sockets.specs.Ready.{tcp_ready, tcp_seen, tcp_rises, udp_ready, udp_rises}
 use Rattle.file_calls.specs.declared.descriptors.Descriptor.{Descriptor}
 use Rattle.file_calls.specs.Descriptors.{descriptor}
+use Rattle.call_parts.specs.Ready.{pipe_ready, timer_ready, eventfd_ready, pipe_rises, rises_of_timer, eventfd_rises}
 use Rattle.host_calls.specs.Parts.{Scene}
-
-abbrev pub pipe_ready : Option PipeState → End → ℕ
-pipe_ready None end = 0
-pipe_ready (Some p) end = pipe.ready p end
-
-abbrev pub timer_ready : Time → ℕ → FilesState → ℕ
-timer_ready now k files = bit_if (nat_lt 0 (timer_count now.nanos k files)) pollin
-
-abbrev pub eventfd_ready : Option Eventfd → ℕ
-eventfd_ready None = 0
-eventfd_ready (Some e) = eventfd.ready e
 
 -- the readiness of each kind of object; that of an epoll stands below
 abbrev pub object_ready : Time → Object → FilesState → SocketsRecord → ℕ
@@ -56,19 +41,6 @@ object_ready now (kind.Tcp k) files sockets = tcp_ready k sockets
 abbrev pub bits_seen : Time → Object → FilesState → SocketsRecord → ℕ
 bits_seen now (kind.Tcp k) files sockets = tcp_seen k sockets
 bits_seen now object files sockets = object_ready now object files sockets
-
--- how often each of them came to hold
-abbrev pub pipe_rises : Option PipeState → End → Rises
-pipe_rises None end = no_rises
-pipe_rises (Some p) end = pipe.rises p end
-
-abbrev pub rises_of_timer : Time → Option KeptTimer → Rises
-rises_of_timer now None = no_rises
-rises_of_timer now (Some t) = timer_rises now.nanos t
-
-abbrev pub eventfd_rises : Option Eventfd → Rises
-eventfd_rises None = no_rises
-eventfd_rises (Some e) = e.rises
 
 abbrev pub object_rises : Time → Object → FilesState → SocketsRecord → Rises
 object_rises now (kind.ReadEnd k) files sockets = pipe_rises (pipe_at k files) Reading

@@ -1,19 +1,17 @@
 -- socket(2), bind(2), listen(2), accept(2), connect(2), getsockname(2), getpeername(2), send(2), recv(2), setsockopt(2),
 -- getsockopt(2) and shutdown(2).
-use Rattle.std.specs.Prelude.{ℕ, ◌==◌, ◌&&◌, ◌||◌, Bool, true, false, not, min, List, [], ◌∷◌, length, Option, Some, None, is_some, Result, Ok, Err, nat_lt, if◌then◌else◌}
-use Rattle.std.specs.Int.{w32, to_le_bytes, cast_signed}
+use Rattle.std.specs.Prelude.{ℕ, ◌==◌, Bool, false, not, List, [], ◌∷◌, length, Option, is_some, Result, Ok, Err, if◌then◌else◌}
+use Rattle.std.specs.Int.{w32, cast_signed}
 use Rattle.sim_base.specs.declared.address.Ip.{Ip}
 use Rattle.sim_base.specs.declared.address.Addr.{Addr}
 use Rattle.sim_base.specs.declared.packet.Packet.{Packet}
-use Rattle.sim_base.specs.declared.errno.Errno as errno_type
-use Rattle.sim_base.specs.declared.errno.Errno.TheVariants.{Eafnosupport, Efault, Einprogress, Einval, Emfile, Enoprotoopt, Enotconn, Enotsock, Eopnotsupp, Eprotonosupport}
+use Rattle.sim_base.specs.declared.errno.Errno.TheVariants.{Efault, Einprogress, Einval, Emfile, Enotconn}
 use Rattle.sim_base.specs.declared.time.Time.{Time}
-use Rattle.sim_base.specs.Errno.{errno_number}
 use Rattle.sim_base.specs.Refusals.{◌>>=◌, ◌>>◌, refuse_if, or_refuse}
 use Rattle.guest_mem.specs.Memory.{Memory}
 use Rattle.guest_args.specs.declared.address.AddressPlace.{AddressPlace}
-use Rattle.guest_args.specs.Span.{counted, span, can_read, can_write, filled, int_size}
-use Rattle.guest_args.specs.Address.{address_size, address_span, inet, family_of, sockaddr_of, word, wanted_place, answered}
+use Rattle.guest_args.specs.Span.{counted, span, can_read, filled}
+use Rattle.guest_args.specs.Address.{answered}
 use Rattle.sock_tcp.specs.declared.connection.effects.Shut.{Shut}
 use Rattle.sock_tcp.specs.declared.connection.effects.Shut.TheVariants.{Reading, Writing, Both}
 use Rattle.host_files.specs.declared.file.File.{File}
@@ -32,72 +30,29 @@ use Rattle.host_sockets.specs.Accepting.{accept_asked, accept_ready, accepts_tcp
 use Rattle.host_sockets.specs.Connecting.{connects_taking, connect_waited, connect_answers}
 use Rattle.host_sockets.specs.Moving.{send_asked, sends_taking, recv_asked, receives_taking, shuts_tcp}
 use Rattle.host_sockets.specs.Names.{tcp_name, udp_name, tcp_peer, udp_peer, takes_error}
-use Rattle.host_calls.specs.declared.sockets.SocketNumber.{SocketNumber}
-use Rattle.host_calls.specs.declared.sockets.SocketNumber.TheVariants as number
+use Rattle.call_parts.specs.declared.sockets.SocketNumber.{SocketNumber}
+use Rattle.call_parts.specs.declared.sockets.SocketNumber.TheVariants as number
 use Rattle.host_calls.specs.declared.accepting.AcceptPlan.{AcceptPlan}
 use Rattle.host_calls.specs.declared.accepting.NewPlace.{NewPlace}
-use Rattle.host_calls.specs.declared.binding.NewSocket.{NewSocket}
+use Rattle.call_parts.specs.declared.making.NewSocket.{NewSocket}
 use Rattle.host_calls.specs.declared.connecting.ConnectPlan.{ConnectPlan}
-use Rattle.host_calls.specs.declared.options.Asked.{Asked}
+use Rattle.call_parts.specs.declared.options.Asked.{Asked}
 use Rattle.host_calls.specs.declared.receiving.RecvPlan.{RecvPlan}
-use Rattle.host_calls.specs.declared.receiving.Room.{Room}
-use Rattle.host_calls.specs.declared.sending.Message.{Message}
+use Rattle.call_parts.specs.declared.messages.Room.{Room}
+use Rattle.call_parts.specs.declared.messages.Message.{Message}
 use Rattle.host_calls.specs.declared.sending.SendPlan.{SendPlan}
 use Rattle.host_calls.specs.declared.sending.SendPlan.TheVariants as sending
 use Rattle.host_calls.specs.declared.sending.StreamSend.{StreamSend}
-use Rattle.host_calls.specs.declared.sockets.OpenSocket.{OpenSocket}
+use Rattle.call_parts.specs.declared.sockets.OpenSocket.{OpenSocket}
 use Rattle.file_calls.specs.declared.task.Task.{Task}
 use Rattle.host_calls.specs.declared.parts.Reaction.{Reaction}
 use Rattle.host_calls.specs.declared.parts.Reaction.TheVariants.{Value, Waits}
-use Rattle.file_calls.specs.Flags.{o_nonblock, msg_dontwait, msg_nosignal, has, beside_open, beside_message}
-use Rattle.file_calls.specs.Numbers.{sock_stream, sock_dgram, ipproto_tcp, ipproto_udp, sol_socket, so_reuseaddr, so_type, so_error, so_keepalive, tcp_nodelay, shut_rd, shut_wr, shut_rdwr}
-use Rattle.file_calls.specs.Scene.{Local, negative, or_again, kept_answers}
-use Rattle.file_calls.specs.Descriptors.{lowest_free, descriptor, opens}
+use Rattle.file_calls.specs.Flags.{o_nonblock, msg_nosignal, has}
+use Rattle.file_calls.specs.Numbers.{shut_rd, shut_wr, shut_rdwr}
+use Rattle.file_calls.specs.Scene.{negative, or_again, kept_answers}
+use Rattle.file_calls.specs.Descriptors.{lowest_free, opens}
+use Rattle.call_parts.specs.Sockets.{open_socket, tcp_number, address_bytes, inet_address, address, given_address, result_address, socket_asked, refuse_flags, is_quick, recv_place, getsockopt_asked, with_option, type_of, number_of}
 use Rattle.host_calls.specs.Parts.{Scene, local_of, with_local, with_sockets, with_wanted}
-
--- the socket that a descriptor names
-abbrev pub socket_number : Object → Result SocketNumber Refusal
-socket_number (kind.Udp k) = Ok (number.Udp k)
-socket_number (kind.Tcp k) = Ok (number.Tcp k)
-socket_number _ = Err (Errno Enotsock)
-
-abbrev pub open_socket : ℕ → Local → Result OpenSocket Refusal
-open_socket fd (task, shared) = do
-  d ← descriptor fd task shared.files
-  socket ← socket_number d.file.object
-  Ok (record { nonblocking = d.file.nonblocking; number = socket })
-
--- where only TCP will do
-abbrev pub tcp_number : SocketNumber → Result ℕ Refusal
-tcp_number (number.Udp k) = Err (Errno Eopnotsupp)
-tcp_number (number.Tcp k) = Ok k
-
--- an address that is handed in: its span, its length, and then its family
-abbrev pub address_bytes : ℕ → ℕ → Memory → Result (List ℕ) Refusal
-address_bytes at size memory = do
-  refuse_if (not (can_read (address_span size) at memory)) (Errno Efault)
-  refuse_if (nat_lt size address_size) (Errno Einval)
-  or_refuse (span address_size at memory) (Errno Efault)
-
-abbrev pub inet_address : List ℕ → Result Addr Refusal
-inet_address bytes = do
-  refuse_if (not (family_of bytes == inet)) (Errno Eafnosupport)
-  Ok (sockaddr_of bytes)
-
-abbrev pub address : ℕ → ℕ → Memory → Result Addr Refusal
-address at size memory = do
-  bytes ← address_bytes at size memory
-  inet_address bytes
-
--- a null pointer means that none is given
-abbrev pub given_address : ℕ → ℕ → Memory → Result (Option Addr) Refusal
-given_address at size memory = if at == 0 then Ok None else do
-  to ← address at size memory
-  Ok (Some to)
-
--- where an address goes that a call answers
-abbrev pub result_address : ℕ → ℕ → Memory → Result (Option AddressPlace) Refusal
-result_address at size_at memory = or_refuse (wanted_place at size_at memory) (Errno Efault)
 
 abbrev pub tell_address : Option AddressPlace → Addr → Scene → Scene
 tell_address place at s = record s { task = record s.task { memory = answered place at s.task.memory } }
@@ -107,13 +62,7 @@ abbrev pub value_of : Reply ℕ → ℕ
 value_of (Done value) = value
 value_of (Failed errno) = negative errno
 
--- socket(2): AF_INET; SOCK_STREAM and SOCK_DGRAM, with IPPROTO_TCP and IPPROTO_UDP
-abbrev pub is_stream : ℕ → Result Bool Refusal
-is_stream type = if type == sock_stream then Ok true else if type == sock_dgram then Ok false else Err (Errno Einval)
-
-abbrev pub protocol_of : Bool → ℕ
-protocol_of stream = if stream then ipproto_tcp else ipproto_udp
-
+-- socket(2)
 abbrev pub socket_file : Bool → Object → File
 socket_file nonblocking object = record { nonblocking = nonblocking; object = object }
 
@@ -126,14 +75,6 @@ with_udp_file fd nonblocking (k, t) s = with_sockets t (with_local (opens fd (so
 abbrev pub with_socket : NewSocket → Bool → Scene → Scene
 with_socket new nonblocking s =
     if new.stream then with_tcp_file new.fd nonblocking (new_tcp s.sockets) s else with_udp_file new.fd nonblocking (new_udp s.sockets) s
-
-abbrev pub socket_asked : ℕ → ℕ → ℕ → Task → Result NewSocket Refusal
-socket_asked family type protocol task = do
-  refuse_if (not (family == inet)) (Errno Eafnosupport)
-  stream ← is_stream (beside_open type)
-  refuse_if (not (protocol == 0 || protocol == protocol_of stream)) (Errno Eprotonosupport)
-  fd ← or_refuse (lowest_free task.table) (Errno Emfile)
-  Ok (record { stream = stream; fd = fd })
 
 abbrev pub socket : ℕ → ℕ → ℕ → Scene → Result (ℕ × Scene) Refusal
 socket family type protocol s = do
@@ -268,13 +209,6 @@ getpeername fd at size_at s = do
   place ← result_address at size_at s.task.memory
   Ok (0, tell_address place peer s)
 
--- send(2): MSG_DONTWAIT and MSG_NOSIGNAL alone may be given
-abbrev pub refuse_flags : ℕ → Result (Unit {0}) Refusal
-refuse_flags flags = refuse_if (not (beside_message flags == 0)) (Errno Einval)
-
-abbrev pub is_quick : Bool → ℕ → Bool
-is_quick nonblocking flags = nonblocking || has msg_dontwait flags
-
 -- what waits: nothing but a TCP socket without room
 abbrev pub send_tcp_plan : List Ip → ℕ → Bool → Bool → Message → Memory → SocketsRecord → Result SendPlan Refusal
 send_tcp_plan hosts k nonblocking quiet message memory t = do
@@ -319,12 +253,7 @@ abbrev pub sends_by : List Ip → Time → SendPlan → Scene → Result (ℕ ×
 sends_by hosts now (sending.Datagram datagram) s = send_udp hosts datagram.place datagram.message s
 sends_by hosts now (sending.Stream stream) s = send_tcp hosts now stream s
 
--- recv(2): the bytes go to the guest, and so does the sender's address where it is wanted
-abbrev pub recv_place : Room → Memory → Result (Option AddressPlace) Refusal
-recv_place room memory = do
-  refuse_if (not (can_write (counted room.n) room.at memory)) (Errno Efault)
-  result_address room.from_at room.size_at memory
-
+-- recv(2)
 abbrev pub with_memory : Memory → Scene → Scene
 with_memory memory s = record s { task = record s.task { memory = memory } }
 
@@ -375,57 +304,9 @@ recv_by now (number.Tcp k) at n place s = recv_tcp now k at n place s
 abbrev pub receives : Time → RecvPlan → Scene → Result (ℕ × Scene) Refusal
 receives now r s = recv_by now r.number r.at r.n r.from s
 
--- setsockopt(2): SO_REUSEADDR, SO_KEEPALIVE and TCP_NODELAY may be set, and have no effect
-abbrev pub may_set : ℕ → ℕ → Bool
-may_set level option = (level == sol_socket && (option == so_reuseaddr || option == so_keepalive)) || (level == ipproto_tcp && option == tcp_nodelay)
-
-abbrev pub setsockopt_asked : ℕ → ℕ → ℕ → ℕ → ℕ → Local → Result (Unit {0}) Refusal
-setsockopt_asked fd level option at n (task, shared) = do
-  socket ← open_socket fd (task, shared)
-  refuse_if (not (may_set level option)) (Errno Enoprotoopt)
-  refuse_if (nat_lt n int_size) (Errno Einval)
-  refuse_if (not (can_read (counted n) at task.memory)) (Errno Efault)
-
-abbrev pub setsockopt : ℕ → ℕ → ℕ → ℕ → ℕ → Local → Result (ℕ × Local) Refusal
-setsockopt fd level option at n s = do
-  setsockopt_asked fd level option at n s
-  Ok (0, s)
-
--- getsockopt(2): SO_TYPE and SO_ERROR, each an int
-abbrev pub is_error : ℕ → ℕ → Result Bool Refusal
-is_error level option =
-    if level == sol_socket && option == so_error then Ok true else if level == sol_socket && option == so_type then Ok false else Err (Errno Enoprotoopt)
-
-abbrev pub word_at : ℕ → Memory → Result ℕ Refusal
-word_at at memory = or_refuse (word at memory) (Errno Efault)
-
-abbrev pub option_place : ℕ → ℕ → Memory → Result (Unit {0}) Refusal
-option_place at size_at memory = do
-  size ← word_at size_at memory
-  refuse_if (not (can_write int_size size_at memory)) (Errno Efault)
-  refuse_if (not (can_write (min size int_size) at memory)) (Errno Efault)
-  refuse_if (nat_lt size int_size) (Errno Einval)
-
-abbrev pub getsockopt_asked : ℕ → ℕ → ℕ → ℕ → ℕ → Local → Result Asked Refusal
-getsockopt_asked fd level option at size_at (task, shared) = do
-  socket ← open_socket fd (task, shared)
-  error ← is_error level option
-  option_place at size_at task.memory
-  Ok (record { number = socket.number; error = error })
-
-abbrev pub with_option : ℕ → ℕ → ℕ → Memory → Memory
-with_option at size_at value memory = filled size_at (to_le_bytes w32 int_size) (filled at (to_le_bytes w32 value) memory)
-
+-- getsockopt(2)
 abbrev pub tell_option : ℕ → ℕ → ℕ → Scene → Scene
 tell_option at size_at value s = with_memory (with_option at size_at value s.task.memory) s
-
-abbrev pub type_of : SocketNumber → ℕ
-type_of (number.Udp k) = sock_dgram
-type_of (number.Tcp k) = sock_stream
-
-abbrev pub number_of : Option errno_type.Errno → ℕ
-number_of None = 0
-number_of (Some errno) = errno_number errno
 
 -- SO_ERROR takes the kept error
 abbrev pub told_error : Time → SocketNumber → ℕ → ℕ → Scene → Result (ℕ × Scene) Refusal

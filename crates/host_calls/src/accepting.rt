@@ -9,7 +9,7 @@ ghost use Rattle.file_calls.specs.Descriptors.{IsFree};
 ghost use Rattle.host_calls.specs.Parts.{Answers, scene};
 ghost use Rattle.host_calls.specs.Sockets as spec;
 
-use crate::sockets::{OpenSocket, open_socket, result_address, tcp_number};
+use call_parts::{OpenSocket, open_socket, result_address, tcp_number};
 use file_calls::{Shared, Task, lowest_free, open, or_again};
 use guest_args::{AddressPlace, answer};
 use host_files::{File, Object};

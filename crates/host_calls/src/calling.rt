@@ -13,12 +13,12 @@ use crate::acting::act;
 use crate::all::Parts;
 use crate::asking::asked;
 use crate::binding::{bind, listen, socket};
-use crate::call::{Call, NetworkCall, PlainCall, WaitingCall};
 use crate::closing::{close, close_task};
 use crate::epoll::epoll_pwait;
 use crate::naming::{getpeername, getsockname, shutdown};
-use crate::options::{getsockopt, setsockopt};
+use crate::options::getsockopt;
 use crate::parts::{Answer, Reaction};
+use call_parts::{Call, NetworkCall, PlainCall, WaitingCall, setsockopt};
 use file_calls::{
     Known, Shared, Task, Why, brk, clock_gettime, epoll_create, epoll_ctl, eventfd2, fcntl, getpid,
     getrandom, negative, openat, pipe2, timerfd_create, timerfd_settime,

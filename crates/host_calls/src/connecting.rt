@@ -9,7 +9,7 @@ ghost use Rattle.file_calls.specs.Scene as guest;
 ghost use Rattle.host_calls.specs.Sockets as spec;
 
 use crate::parts::Reaction;
-use crate::sockets::{OpenSocket, SocketNumber, address, open_socket};
+use call_parts::{OpenSocket, SocketNumber, address, open_socket};
 use file_calls::{Shared, Task, kept_answers, negative};
 use host_sockets::{Reply, Sockets};
 use host_wants::{CallError, Refusal};

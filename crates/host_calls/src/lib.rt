@@ -7,7 +7,6 @@ mod acting;
 mod all;
 mod asking;
 mod binding;
-mod call;
 mod calling;
 mod closing;
 mod connecting;
@@ -21,7 +20,6 @@ mod polling;
 mod ready;
 mod receiving;
 mod sending;
-mod sockets;
 mod starting;
 mod waiting;
 

@@ -6,7 +6,7 @@ ghost use Rattle.host_sockets.specs.StandsFor.{Stand};
 ghost use Rattle.host_calls.specs.Parts.{Answers, scene};
 ghost use Rattle.host_calls.specs.Sockets as spec;
 
-use crate::sockets::{SocketNumber, open_socket, result_address};
+use call_parts::{SocketNumber, open_socket, result_address};
 use file_calls::{Shared, Task};
 use guest_args::answer;
 use host_sockets::Sockets;

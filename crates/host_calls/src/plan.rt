@@ -2,10 +2,10 @@
 
 use crate::accepting::AcceptPlan;
 use crate::connecting::ConnectPlan;
-use crate::epoll::WaitPlan;
 use crate::polling::PollPlan;
 use crate::receiving::RecvPlan;
 use crate::sending::SendPlan;
+use call_parts::WaitPlan;
 use file_calls::Transfer;
 
 /// What a call that may wait would do: it isn't refused, and doesn't wait.

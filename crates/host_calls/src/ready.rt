@@ -5,45 +5,15 @@ ghost use Rattle.sim_base.specs.Units.{latest_time};
 ghost use Rattle.host_sockets.specs.Sockets.{SocketsRecord};
 ghost use Rattle.host_sockets.specs.StandsFor.{Stand};
 ghost use Rattle.host_files.specs.Epolls.{epoll_at};
-ghost use Rattle.host_files.specs.Files.{pipe_at, timer_at, eventfd_at};
 ghost use Rattle.host_calls.specs.Parts.{scene};
 ghost use Rattle.host_calls.specs.Ready as spec;
 
-use file_calls::reading::timer_count;
+use call_parts::{eventfd_ready, eventfd_rises, pipe_ready, pipe_rises, timer_ready, timer_rises};
 use file_calls::{Shared, Task, look_up};
 use host_fds::{End, Rises, Seen, Watch};
 use host_files::{Files, Object};
 use host_sockets::Sockets;
 use sim_base::{POLLIN, POLLOUT, Time};
-
-fn pipe_ready(place: usize, end: End, files: &Files) -> u16
-    ensures { result ≡ spec.pipe_ready (pipe_at place files.now) end }
-{
-    match files.pipe(place) {
-        Some(pipe) => pipe.ready(end),
-        None => 0,
-    }
-}
-
-fn timer_ready(now: Time, place: usize, files: &Files) -> u16
-    requires { now.nanos ≤ latest_time }
-    ensures { result ≡ spec.timer_ready now place files.now }
-{
-    if timer_count(now, place, files) > 0 {
-        POLLIN
-    } else {
-        0
-    }
-}
-
-fn eventfd_ready(place: usize, files: &Files) -> u16
-    ensures { result ≡ spec.eventfd_ready (eventfd_at place files.now) }
-{
-    match files.eventfd(place) {
-        Some(eventfd) => eventfd.ready(),
-        None => 0,
-    }
-}
 
 /// What an object that is no epoll is ready for, by the bits of `poll(2)`.
 fn object_ready(now: Time, object: Object, files: &Files, sockets: &Sockets) -> u16
@@ -82,34 +52,6 @@ fn bits_seen(now: Time, object: Object, files: &Files, sockets: &Sockets) -> u16
         Object::Eventfd(_) => object_ready(now, object, files, sockets),
         Object::Epoll(_) => object_ready(now, object, files, sockets),
         Object::Udp(_) => object_ready(now, object, files, sockets),
-    }
-}
-
-fn pipe_rises(place: usize, end: End, files: &Files) -> Rises
-    ensures { result ≡ spec.pipe_rises (pipe_at place files.now) end }
-{
-    match files.pipe(place) {
-        Some(pipe) => pipe.rises(end),
-        None => Rises::none(),
-    }
-}
-
-fn timer_rises(now: Time, place: usize, files: &Files) -> Rises
-    requires { now.nanos ≤ latest_time }
-    ensures { result ≡ spec.rises_of_timer now (timer_at place files.now) }
-{
-    match files.timer(place) {
-        Some(kept) => kept.rises(now),
-        None => Rises::none(),
-    }
-}
-
-fn eventfd_rises(place: usize, files: &Files) -> Rises
-    ensures { result ≡ spec.eventfd_rises (eventfd_at place files.now) }
-{
-    match files.eventfd(place) {
-        Some(eventfd) => eventfd.rises,
-        None => Rises::none(),
     }
 }
 

@@ -9,32 +9,13 @@ ghost use Rattle.guest_args.specs.Span.{most};
 ghost use Rattle.host_calls.specs.Parts.{Answers, scene};
 ghost use Rattle.host_calls.specs.Sockets as spec;
 
-use crate::sending::{is_quick, refuse_flags};
-use crate::sockets::{OpenSocket, SocketNumber, open_socket, result_address};
+use call_parts::{OpenSocket, Room, SocketNumber, is_quick, open_socket, recv_place, refuse_flags};
 use file_calls::{Shared, Task, kept_answers, negative, or_again};
 use guest_args::{AddressPlace, answer, counted, fill};
-use guest_mem::{Mem, Right};
+use guest_mem::Mem;
 use host_sockets::{Reply, Sockets};
 use host_wants::{CallError, Refusal};
-use sim_base::{Bytes, Errno, Time};
-
-/// Where what is received goes: so many bytes to an address, and the sender's address.
-#[derive(Clone, Copy)]
-pub struct Room {
-    pub at: u32,
-    pub n: u32,
-    pub from_at: u32,
-    pub size_at: u32,
-}
-
-fn recv_place(room: Room, memory: &Mem) -> Result<Option<AddressPlace>, Refusal>
-    ensures { result ≡ spec.recv_place room memory.now }
-{
-    if !memory.is_open(Right::Write, room.at, counted(room.n)) {
-        return Err(Refusal::Errno(Errno::Efault));
-    }
-    result_address(memory, room.from_at, room.size_at)
-}
+use sim_base::{Bytes, Time};
 
 /// What is received, and where it goes: at most so many bytes to an address, and the sender's
 /// address to its own place.

@@ -8,7 +8,9 @@ ghost use Rattle.guest_args.specs.Span.{most};
 ghost use Rattle.host_calls.specs.Parts.{Answers, scene};
 ghost use Rattle.host_calls.specs.Sockets as spec;
 
-use crate::sockets::{OpenSocket, SocketNumber, given_address, open_socket};
+use call_parts::{
+    Message, OpenSocket, SocketNumber, given_address, is_quick, open_socket, refuse_flags,
+};
 use file_calls::{
     MSG_DONTWAIT, MSG_NOSIGNAL, Shared, Task, beside_message, has, kept_answers, negative, or_again,
 };
@@ -17,16 +19,6 @@ use guest_mem::Right;
 use host_sockets::{Reply, Sockets};
 use host_wants::{CallError, Refusal};
 use sim_base::{Addr, Book, Errno, Time};
-
-/// What is sent: so many bytes from an address on, and the address that is given beside them, if
-/// its pointer isn't null.
-#[derive(Clone, Copy)]
-pub struct Message {
-    pub at: u32,
-    pub n: u32,
-    pub to_at: u32,
-    pub size: u32,
-}
 
 /// What a UDP socket sends. What refuses it is tried as it is done.
 #[derive(Clone, Copy)]
@@ -50,22 +42,6 @@ pub struct StreamSend {
 pub enum SendPlan {
     Datagram(DatagramSend),
     Stream(StreamSend),
-}
-
-/// MSG_DONTWAIT and MSG_NOSIGNAL alone may be given.
-pub(crate) fn refuse_flags(flags: u32) -> Result<(), Refusal>
-    ensures { result ≡ spec.refuse_flags flags }
-{
-    if beside_message(flags) != 0 {
-        return Err(Refusal::Errno(Errno::Einval));
-    }
-    Ok(())
-}
-
-pub(crate) fn is_quick(nonblocking: bool, flags: u32) -> bool
-    ensures { result ≡ spec.is_quick nonblocking flags }
-{
-    nonblocking || has(MSG_DONTWAIT, flags)
 }
 
 fn value_of(reply: Reply<usize>) -> u32

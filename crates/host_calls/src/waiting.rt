@@ -10,8 +10,8 @@ ghost use Rattle.host_calls.specs.Parts.{place as place_at};
 
 use crate::all::Parts;
 use crate::asking::asked;
-use crate::call::Call;
 use crate::plan::Plan;
+use call_parts::Call;
 use file_calls::{Known, Shared, Task, Why};
 use host_sockets::Sockets;
 use host_wants::Refusal;

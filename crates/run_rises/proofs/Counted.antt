@@ -22,12 +22,13 @@ use Rattle.host_wants.specs.declared.error.Refusal.{Refusal}
 use Rattle.host_sockets.specs.Ready.{tcp_rises, udp_rises}
 use Rattle.host_sockets.specs.Sockets.{SocketsRecord}
 use Rattle.file_calls.specs.declared.descriptors.Descriptor.{Descriptor}
-use Rattle.host_calls.specs.declared.epoll.WaitPlan.{WaitPlan}
+use Rattle.call_parts.specs.declared.epoll.WaitPlan.{WaitPlan}
 use Rattle.file_calls.specs.Descriptors.{descriptor}
 use Rattle.host_calls.specs.Epoll.{all_seen, told_of, epoll_waits}
 use Rattle.host_calls.specs.Parts.{Scene}
 use Rattle.host_calls.specs.Ready as ready
-use Rattle.host_calls.specs.Ready.{pipe_rises, rises_of_timer, eventfd_rises, object_rises, seen_by, seen}
+use Rattle.call_parts.specs.Ready.{pipe_rises, rises_of_timer, eventfd_rises}
+use Rattle.host_calls.specs.Ready.{object_rises, seen_by, seen}
 use Rattle.socket_laws.specs.Histories.{sockets_of}
 use Rattle.socket_laws.specs.Rises.{AreCounted, tcp_rises_counted, udp_rises_counted}
 use Rattle.socket_laws.proofs.RisesMoved.{tcp_rises_are_counted, udp_rises_are_counted}

@@ -12,7 +12,7 @@ ghost use Rattle.host_fds.specs.declared.epoll.Watch.{Watch};
 ghost use Rattle.host_fds.specs.Epoll.{entry_of, told};
 ghost use Rattle.host_files.specs.declared.file.Object.{Object};
 ghost use Rattle.host_files.specs.Epolls.{epoll_at};
-ghost use Rattle.host_calls.specs.declared.epoll.WaitPlan.{WaitPlan};
+ghost use Rattle.call_parts.specs.declared.epoll.WaitPlan.{WaitPlan};
 ghost use Rattle.file_calls.specs.declared.known.Known.{Known};
 ghost use Rattle.host_calls.specs.Calls.{call};
 ghost use Rattle.host_calls.specs.Epoll.{all_seen, told_of, epoll_waits};

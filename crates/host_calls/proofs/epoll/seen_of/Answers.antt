@@ -2,7 +2,8 @@ use Rattle.std.proofs.Common.{◌≡◌, ◌+◌, ◌<◌, ◌≤◌, List, ◌�
 use Rattle.host_fds.specs.declared.epoll.Seen.{Seen}
 use Rattle.host_fds.specs.declared.epoll.Watch.{Watch}
 use Rattle.host_fds.specs.Epoll.{is_due}
-use Rattle.host_calls.specs.Epoll.{seen_of, up_to}
+use Rattle.host_calls.specs.Epoll.{seen_of}
+use Rattle.call_parts.specs.Epoll.{up_to}
 use Rattle.host_calls.specs.Parts.{scene}
 use Rattle.host_calls.proofs.Waits.{is_noted, not_due, some_due, none_due, no_watch, ends_alike, ends_due}
 use Rattle.host_calls.proofs.epoll.seen_of.Goals as goal

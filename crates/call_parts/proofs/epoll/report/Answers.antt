@@ -1,8 +1,8 @@
 -- No more entries are told than are seen, so that less room makes no difference.
 use Rattle.std.proofs.Common.{◌≡◌, ℕ, min, length, take, ap, ◌∙◌, arith}
 use Rattle.host_files.specs.Epolls.{epoll_at, entries_reported}
-use Rattle.host_calls.proofs.Waits.{all_lent, tells_least, reported_least}
-use Rattle.host_calls.proofs.epoll.report.Goals as goal
+use Rattle.call_parts.proofs.Reports.{all_lent, tells_least, reported_least}
+use Rattle.call_parts.proofs.epoll.report.Goals as goal
 
 pub returns-clause-told : goal.returns-clause-told
 returns-clause-told c =

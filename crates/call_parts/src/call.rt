@@ -1,7 +1,7 @@
 //! The numbers of system calls.
 
 ghost use Rattle.std.specs.Prelude.{◌≡◌};
-ghost use Rattle.host_calls.specs.Call as spec;
+ghost use Rattle.call_parts.specs.Call as spec;
 
 /// A system call by its name.
 #[derive(Clone, Copy)]

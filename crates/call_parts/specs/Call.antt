@@ -1,13 +1,13 @@
 -- The numbers of system calls on 32-bit RISC-V Linux, and which row each has.
 use Rattle.std.specs.Prelude.{ℕ, ◌==◌, Option, Some, None, if◌then◌else◌}
-use Rattle.host_calls.specs.declared.call.Call.{Call}
-use Rattle.host_calls.specs.declared.call.Call.TheVariants as call
-use Rattle.host_calls.specs.declared.call.PlainCall.{PlainCall}
-use Rattle.host_calls.specs.declared.call.PlainCall.TheVariants as plain
-use Rattle.host_calls.specs.declared.call.NetworkCall.{NetworkCall}
-use Rattle.host_calls.specs.declared.call.NetworkCall.TheVariants as network
-use Rattle.host_calls.specs.declared.call.WaitingCall.{WaitingCall}
-use Rattle.host_calls.specs.declared.call.WaitingCall.TheVariants as waiting
+use Rattle.call_parts.specs.declared.call.Call.{Call}
+use Rattle.call_parts.specs.declared.call.Call.TheVariants as call
+use Rattle.call_parts.specs.declared.call.PlainCall.{PlainCall}
+use Rattle.call_parts.specs.declared.call.PlainCall.TheVariants as plain
+use Rattle.call_parts.specs.declared.call.NetworkCall.{NetworkCall}
+use Rattle.call_parts.specs.declared.call.NetworkCall.TheVariants as network
+use Rattle.call_parts.specs.declared.call.WaitingCall.{WaitingCall}
+use Rattle.call_parts.specs.declared.call.WaitingCall.TheVariants as waiting
 
 -- calls that need no sockets
 abbrev pub plain_of : ℕ → Option PlainCall

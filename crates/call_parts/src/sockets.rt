@@ -1,7 +1,7 @@
 //! Sockets by their descriptors, and addresses in a guest's memory.
 
 ghost use Rattle.std.specs.Prelude.{◌≡◌};
-ghost use Rattle.host_calls.specs.Sockets as spec;
+ghost use Rattle.call_parts.specs.Sockets as spec;
 
 use file_calls::{Shared, Task, look_up};
 use guest_args::{AddressPlace, address_span, family_of, four, sixteen, sockaddr_of, wanted_place};
@@ -26,7 +26,7 @@ pub struct OpenSocket {
 }
 
 /// The socket that an object is.
-pub(crate) fn socket_number(object: Object) -> Result<SocketNumber, Refusal>
+pub fn socket_number(object: Object) -> Result<SocketNumber, Refusal>
     ensures { result ≡ spec.socket_number object }
 {
     match object {
@@ -45,7 +45,7 @@ pub(crate) fn socket_number(object: Object) -> Result<SocketNumber, Refusal>
 }
 
 /// The socket that a descriptor names.
-pub(crate) fn open_socket(fd: u32, task: &Task, shared: &Shared) -> Result<OpenSocket, Refusal>
+pub fn open_socket(fd: u32, task: &Task, shared: &Shared) -> Result<OpenSocket, Refusal>
     ensures { result ≡ spec.open_socket fd (task.now, shared.now) }
 {
     let d = look_up(fd, task, &shared.files)?;
@@ -57,7 +57,7 @@ pub(crate) fn open_socket(fd: u32, task: &Task, shared: &Shared) -> Result<OpenS
 }
 
 /// The number of a TCP socket: another one will not do.
-pub(crate) fn tcp_number(number: SocketNumber) -> Result<usize, Refusal>
+pub fn tcp_number(number: SocketNumber) -> Result<usize, Refusal>
     ensures { result ≡ spec.tcp_number number }
 {
     match number {
@@ -70,10 +70,10 @@ pub(crate) fn tcp_number(number: SocketNumber) -> Result<usize, Refusal>
 const ADDRESS_SIZE: u32 = 16;
 
 /// AF_INET.
-pub(crate) const AF_INET: u32 = 2;
+pub const AF_INET: u32 = 2;
 
 /// The bytes of an address that is handed in.
-pub(crate) fn address_bytes(memory: &Mem, at: u32, size: u32) -> Result<[u8; 16], Refusal>
+pub fn address_bytes(memory: &Mem, at: u32, size: u32) -> Result<[u8; 16], Refusal>
     ensures { result ≡ spec.address_bytes at size memory.now }
 {
     if !memory.is_open(Right::Read, at, address_span(size)) {
@@ -89,7 +89,7 @@ pub(crate) fn address_bytes(memory: &Mem, at: u32, size: u32) -> Result<[u8; 16]
 }
 
 /// The address in its bytes, whose family must be AF_INET.
-pub(crate) fn inet_address(bytes: [u8; 16]) -> Result<Addr, Refusal>
+pub fn inet_address(bytes: [u8; 16]) -> Result<Addr, Refusal>
     ensures { result ≡ spec.inet_address bytes }
 {
     if u32::from(family_of(bytes)) != AF_INET {
@@ -99,7 +99,7 @@ pub(crate) fn inet_address(bytes: [u8; 16]) -> Result<Addr, Refusal>
 }
 
 /// The address that is handed in.
-pub(crate) fn address(memory: &Mem, at: u32, size: u32) -> Result<Addr, Refusal>
+pub fn address(memory: &Mem, at: u32, size: u32) -> Result<Addr, Refusal>
     ensures { result ≡ spec.address at size memory.now }
 {
     let bytes = address_bytes(memory, at, size)?;
@@ -107,7 +107,7 @@ pub(crate) fn address(memory: &Mem, at: u32, size: u32) -> Result<Addr, Refusal>
 }
 
 /// The address that is handed in where its pointer isn't null.
-pub(crate) fn given_address(memory: &Mem, at: u32, size: u32) -> Result<Option<Addr>, Refusal>
+pub fn given_address(memory: &Mem, at: u32, size: u32) -> Result<Option<Addr>, Refusal>
     ensures { result ≡ spec.given_address at size memory.now }
 {
     if at == 0 {
@@ -118,11 +118,7 @@ pub(crate) fn given_address(memory: &Mem, at: u32, size: u32) -> Result<Option<A
 }
 
 /// Where an address goes that a call answers.
-pub(crate) fn result_address(
-    memory: &Mem,
-    at: u32,
-    size_at: u32,
-) -> Result<Option<AddressPlace>, Refusal>
+pub fn result_address(memory: &Mem, at: u32, size_at: u32) -> Result<Option<AddressPlace>, Refusal>
     ensures { result ≡ spec.result_address at size_at memory.now }
 {
     match wanted_place(memory, at, size_at) {
@@ -132,7 +128,7 @@ pub(crate) fn result_address(
 }
 
 /// The number in the 4 bytes from an address on.
-pub(crate) fn word_at(memory: &Mem, at: u32) -> Result<u32, Refusal>
+pub fn word_at(memory: &Mem, at: u32) -> Result<u32, Refusal>
     ensures { result ≡ spec.word_at at memory.now }
 {
     match four(memory, at) {
