@@ -12,7 +12,7 @@ use Rattle.number_sets.specs.Bags.{one, Holds}
 use Rattle.number_sets.specs.declared.bag.NumberBag.{NumberBag}
 use Rattle.udp_table.specs.declared.ends.UdpEnds.{UdpEnds}
 use Rattle.udp_table.specs.Table.{local_in, end_in, bound_ends}
-use Rattle.udp_table.specs.inside.Indexing.{port_number, counted, times, Changes}
+use Rattle.udp_table.specs.inside.Indexing.{counted, times, Changes}
 
 lt_test : (n m : ℕ) → n < m → nat_lt n m ≡ true
 lt_test n m h = grind (arith, nat_tests)
@@ -49,60 +49,54 @@ first_is bound first (suc count) (suc n) free had =
     ∙ (ap (λ (k : ℕ). first_free_port bound (first + 1) k) fewer
     ∙ (rest ∙ (ap (λ (k : ℕ). if nat_lt n count then Some k else None) next ∙ told)))
 
--- a given port is counted at its number
-one_is : (port n : ℕ) → n < 55536 → nat_lt 0 (one (port_number port) n) ≡ (port == 10000 + n)
-one_is port n given = by_test (nat_lt port 10000) refl
-  where
-    by_test : (b : Bool) → nat_lt port 10000 ≡ b → nat_lt 0 (one (if b then port + 55536 else port - 10000) n) ≡ (port == 10000 + n)
-    by_test true e = grind (arith, nat_tests)
-    by_test false e = grind (arith, nat_tests)
+-- a given port is counted at its number, and no other is
+pub given_is : (n port : ℕ) → 10000 ≤ port → one port (10000 + n) ≡ one (port - 10000) n
+given_is n port given = grind (arith, nat_tests)
+
+pub below_is : (n port : ℕ) → port < 10000 → one port (10000 + n) ≡ 0
+below_is n port below = grind (arith, nat_tests)
+
+one_is : (port n : ℕ) → nat_lt 0 (one port (10000 + n)) ≡ (port == 10000 + n)
+one_is port n = grind (arith, nat_tests)
 
 or_none : (b : Bool) → b ≡ (b || false)
 or_none true = refl
 or_none false = refl
 
-socket_counted : (n : ℕ) (local : Option Addr) → n < 55536 → nat_lt 0 (counted n local) ≡ has_port (end_in local) (10000 + n)
-socket_counted n None given = refl
-socket_counted n (Some at) given = one_is at.port n given ∙ or_none (at.port == 10000 + n)
+socket_counted : (n : ℕ) (local : Option Addr) → nat_lt 0 (counted n local) ≡ has_port (end_in local) (10000 + n)
+socket_counted n None = refl
+socket_counted n (Some at) = one_is at.port n ∙ or_none (at.port == 10000 + n)
 
 sum_positive : (a b : ℕ) → nat_lt 0 (a + b) ≡ (nat_lt 0 a || nat_lt 0 b)
 sum_positive zero b = let e : 0 + b ≡ b = omega arith in ap (λ (k : ℕ). nat_lt 0 k) e
 sum_positive (suc a) b = grind (arith, nat_tests)
 
 -- all sockets are
-all_counted : (n : ℕ) (places : List (Option UdpEnds)) → n < 55536 → nat_lt 0 (sum_by (times n) places) ≡ has_port (bound_ends places) (10000 + n)
-all_counted n [] given = refl
-all_counted n (p ∷ places) given =
+all_counted : (n : ℕ) (places : List (Option UdpEnds)) → nat_lt 0 (sum_by (times n) places) ≡ has_port (bound_ends places) (10000 + n)
+all_counted n [] = refl
+all_counted n (p ∷ places) =
     ap (λ (k : ℕ). nat_lt 0 k) (sum_by-cons (times n) p places)
     ∙ (sum_positive (times n p) (sum_by (times n) places)
-    ∙ (ap (λ (b : Bool). b || nat_lt 0 (sum_by (times n) places)) (socket_counted n (local_in p) given)
-    ∙ (ap (λ (b : Bool). has_port (end_in (local_in p)) (10000 + n) || b) (all_counted n places given)
+    ∙ (ap (λ (b : Bool). b || nat_lt 0 (sum_by (times n) places)) (socket_counted n (local_in p))
+    ∙ (ap (λ (b : Bool). has_port (end_in (local_in p)) (10000 + n) || b) (all_counted n places)
     ∙ sym (list_any-append (λ (at : Addr). at.port == 10000 + n) (end_in (local_in p)) (bound_ends places)))))
 
--- where each of the given ports is had, none is free
-all_had : (bound : List Addr) (first count : ℕ) → ((m : ℕ) → m < count → has_port bound (first + m) ≡ true) → first_free_port bound first count ≡ None
-all_had bound first zero had = first_free_port-none bound first 0 refl
-all_had bound first (suc count) had =
-    let here : first ≡ first + 0 = omega arith in
-    let fewer : suc count - 1 ≡ count = omega arith in
-    let rest = all_had bound (first + 1) count (λ m less. let further : first + 1 + m ≡ first + suc m = omega arith in ap (has_port bound) further ∙ had (suc m) (omega arith)) in
-    first_free_port-taken bound first (suc count) (ap (has_port bound) here ∙ had 0 (omega arith)) (omega arith)
-    ∙ (ap (λ (k : ℕ). first_free_port bound (first + 1) k) fewer ∙ rest)
-
-positive : (k : ℕ) → 0 < k → nat_lt 0 k ≡ true
-positive k b = grind (arith, nat_tests)
-
 -- a number that no socket has, where each below has one, is that of the least free port
-pub least_told : (places : List (Option UdpEnds)) (n : ℕ) → sum_by (times n) places ≡ 0 → ((m : ℕ) → m < n → 0 < sum_by (times m) places) → n < 55536 → Some (10000 + n) ≡ least_free_port (bound_ends places)
-least_told places n none least given =
-    sym (first_is (bound_ends places) 10000 55536 n
-    (sym (all_counted n places given) ∙ ap (λ (k : ℕ). nat_lt 0 k) none)
-    (λ m less. sym (all_counted m places (omega arith)) ∙ positive (sum_by (times m) places) (least m less))
-    ∙ ap (λ (b : Bool). if b then Some (10000 + n) else None) (lt_test n 55536 given))
+least_is : (places : List (Option UdpEnds)) (n : ℕ) → sum_by (times n) places ≡ 0 → ((m : ℕ) → m < n → 0 < sum_by (times m) places)
+    → least_free_port (bound_ends places) ≡ (if nat_lt n 55536 then Some (10000 + n) else None)
+least_is places n none least =
+    first_is (bound_ends places) 10000 55536 n
+    (sym (all_counted n places) ∙ ap (λ (k : ℕ). nat_lt 0 k) none)
+    (λ m less. sym (all_counted m places) ∙ positive (sum_by (times m) places) (least m less))
+  where
+    positive : (k : ℕ) → 0 < k → nat_lt 0 k ≡ true
+    positive k b = grind (arith, nat_tests)
 
-pub none_told : (places : List (Option UdpEnds)) (n : ℕ) → ((m : ℕ) → m < n → 0 < sum_by (times m) places) → 55536 ≤ n → None ≡ least_free_port (bound_ends places)
-none_told places n least past =
-    sym (all_had (bound_ends places) 10000 55536 (λ m less. sym (all_counted m places less) ∙ positive (sum_by (times m) places) (least m (omega arith))))
+pub least_told : (places : List (Option UdpEnds)) (n : ℕ) → sum_by (times n) places ≡ 0 → ((m : ℕ) → m < n → 0 < sum_by (times m) places) → n < 55536 → Some (10000 + n) ≡ least_free_port (bound_ends places)
+least_told places n none least within = sym (least_is places n none least ∙ ap (λ (b : Bool). if b then Some (10000 + n) else None) (lt_test n 55536 within))
+
+pub none_told : (places : List (Option UdpEnds)) (n : ℕ) → sum_by (times n) places ≡ 0 → ((m : ℕ) → m < n → 0 < sum_by (times m) places) → 55536 ≤ n → None ≡ least_free_port (bound_ends places)
+none_told places n none least past = sym (least_is places n none least ∙ ap (λ (b : Bool). if b then Some (10000 + n) else None) (ge_test n 55536 past))
 
 pub holds_same : (b : NumberBag) (f g : ℕ → ℕ) → ((n : ℕ) → f n ≡ g n) → Holds b f → Holds b g
 holds_same b f g same h = λ n. ((h n).0 ∙ same n, (h n).1 ∙ ap (λ (k : ℕ). nat_lt 0 k) (same n))

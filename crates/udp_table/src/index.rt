@@ -12,7 +12,7 @@ use sim_base::{Addr, Ip};
 use std::alloc::Global;
 use std::collections::HashMap;
 
-/// The places that are taken, how many sockets have each port, and the place that is bound to each
+/// The places that are taken, how many sockets have each given port, and the place that is bound to each
 /// end.
 #[derive(Drop)]
 pub struct Index {

@@ -1,8 +1,8 @@
-//! How many sockets have each port.
+//! How many sockets have each port of those that are given: from 10000 up.
 
-ghost use Rattle.std.specs.Prelude.{◌≡◌, ◌<◌, ℕ, ◌+◌, ◌-◌, true};
-ghost use Rattle.number_sets.specs.Bags.{Holds};
-ghost use Rattle.udp_table.specs.inside.Indexing.{port_number, counted};
+ghost use Rattle.std.specs.Prelude.{◌≡◌, ◌<◌, ℕ, ◌+◌, ◌-◌, true, IfSome, IfNone};
+ghost use Rattle.number_sets.specs.Bags.{one, Holds};
+ghost use Rattle.udp_table.specs.inside.Indexing.{counted};
 
 use number_sets::NumberBag;
 use sim_base::Addr;
@@ -13,34 +13,41 @@ pub(crate) const FIRST_GIVEN: u16 = 10_000;
 /// How many ports are given.
 pub(crate) const GIVEN: usize = 55_536;
 
-/// The number of a port: those that are given come first.
-fn port_number(port: u16) -> usize
-    ensures { result ≡ port_number port }
+/// The number of the port of an end, counted from the first one that is given, if there is an end and
+/// its port is given.
+fn given_number(end: Option<Addr>) -> Option<u16>
+    ensures given { IfSome result (λ number. (n : ℕ) → counted n end ≡ one number n) }
+    ensures not_given { IfNone result ((n : ℕ) → counted n end ≡ 0) }
 {
-    if port < FIRST_GIVEN {
-        port as usize + GIVEN
-    } else {
-        (port - FIRST_GIVEN) as usize
+    match end {
+        Some(at) => {
+            if at.port < FIRST_GIVEN {
+                None
+            } else {
+                Some(at.port - FIRST_GIVEN)
+            }
+        }
+        None => None,
     }
 }
 
-/// Counts the port of an end once more, if there is one. Answers whether it did: it doesn't where
+/// Counts the port of an end once more, if it is given. Answers whether it did: it doesn't where
 /// memory is wanting.
 fn count(ports: &mut NumberBag, end: Option<Addr>) -> bool
     ensures { result ≡ true → (f : ℕ → ℕ) → Holds ports.old f → Holds ports.new (λ n. f n + counted n end) }
 {
-    match end {
-        Some(at) => ports.add(port_number(at.port)).is_ok(),
+    match given_number(end) {
+        Some(number) => ports.add(number as usize).is_ok(),
         None => true,
     }
 }
 
-/// Counts the port of an end once less, if there is one. Answers whether it did, as `count`.
+/// Counts the port of an end once less, if it is given. Answers whether it did, as `count`.
 fn discount(ports: &mut NumberBag, end: Option<Addr>) -> bool
     ensures { result ≡ true → (f : ℕ → ℕ) → Holds ports.old f → Holds ports.new (λ n. f n - counted n end) }
 {
-    match end {
-        Some(at) => ports.remove(port_number(at.port)).is_ok(),
+    match given_number(end) {
+        Some(number) => ports.remove(number as usize).is_ok(),
         None => true,
     }
 }

@@ -1,9 +1,9 @@
--- what the index of a table knows: which places are taken, how many sockets have each port, and which has each end
-use Rattle.std.specs.Prelude.{◌≡◌, ◌≢◌, ℕ, ◌+◌, ◌-◌, List, Option, Some, None, is_some, nat_lt, if◌then◌else◌, slice_index_or, min}
+-- what the index of a table knows: which places are taken, how many sockets have each given port, and which has each end
+use Rattle.std.specs.Prelude.{◌≡◌, ◌≢◌, ℕ, ◌+◌, List, Option, Some, None, is_some, slice_index_or, min}
 use Rattle.std.specs.List.{sum_by}
 use Rattle.std.specs.HashMap.{get}
 use Rattle.sim_base.specs.declared.address.Addr.{Addr}
-use Rattle.sim_base.specs.Addresses.{is_same, first_given_port, given_ports}
+use Rattle.sim_base.specs.Addresses.{is_same, first_given_port}
 use Rattle.number_sets.specs.Sets.{has}
 use Rattle.number_sets.specs.Bags.{one, Holds}
 use Rattle.udp_table.specs.declared.ends.UdpEnds.{UdpEnds}
@@ -14,14 +14,10 @@ use Rattle.udp_table.specs.Table.{local_in}
 abbrev pub at_place : List (Option UdpEnds) → ℕ → Option UdpEnds
 at_place places k = slice_index_or places k None
 
--- the number of a port: those that are given come first, so the least number that no socket has is that of the least free port
-abbrev pub port_number : ℕ → ℕ
-port_number port = if nat_lt port first_given_port then port + given_ports else port - first_given_port
-
--- how many ends have the port with a number
+-- how many ends have the given port with a number, counted from the first one. A port below isn't given, and has no number
 abbrev pub counted : ℕ → Option Addr → ℕ
 counted n None = 0
-counted n (Some at) = one (port_number at.port) n
+counted n (Some at) = one at.port (first_given_port + n)
 
 abbrev pub times : ℕ → Option UdpEnds → ℕ
 times n place = counted n (local_in place)

@@ -12,4 +12,7 @@ returns-then-number-lt-GIVEN c = λ places h.
 
 pub returns-else-number-lt-GIVEN : goal.returns-else-number-lt-GIVEN
 returns-else-number-lt-GIVEN c = λ places h.
-    none_told places c.least_absent-number.result (c.least_absent-number.ensures.least (λ n. sum_by (times n) places) h.ports) c.if-number-lt-GIVEN.false
+    none_told places c.least_absent-number.result
+    (c.least_absent-number.ensures.absent (λ n. sum_by (times n) places) h.ports)
+    (c.least_absent-number.ensures.least (λ n. sum_by (times n) places) h.ports)
+    c.if-number-lt-GIVEN.false
