@@ -1,6 +1,5 @@
 pub mod AcceptQueue
 pub mod AsksAt
-pub mod BoundSends
 pub mod Endings
 pub mod Gathering
 pub mod Places
@@ -9,7 +8,7 @@ pub mod SocketActs
 pub mod Taking
 pub mod UdpSlots
 pub mod UdpTold
-pub mod PortGiven
+pub mod UdpCalls
 pub mod Written
 pub mod Indexed
 pub mod EndsFound

@@ -1,9 +1,7 @@
 -- an act in the place of a UDP socket is an act of all
 use Rattle.std.proofs.Common.{◌≡◌, ℕ, zero, suc, ◌<◌, ◌≤◌, List, [], ◌∷◌, length, get_or, set, Option, Some, None, slice_get, Result, Ok, Err, refl, sym, ap, subst, ◌∙◌, arith}
-use Rattle.sim_base.specs.Addresses.{Surroundings}
 use Rattle.sim_base.specs.declared.act.Act.{Act}
 use Rattle.sim_base.specs.declared.address.Addr.{Addr}
-use Rattle.sim_base.specs.declared.address.Ip.{Ip}
 use Rattle.sim_base.specs.declared.errno.Errno.TheVariants.{Ebadf}
 use Rattle.sock_udp.specs.Socket.{UdpState, arrive}
 use Rattle.host_wants.specs.declared.error.CallError.{CallError}
@@ -15,7 +13,7 @@ use Rattle.host_sockets.specs.declared.glance.Glance.{Glance}
 use Rattle.host_sockets.specs.Rises.{udp_glance, slot_glance, moved_at}
 use Rattle.host_sockets.specs.Sockets.{SocketsRecord}
 use Rattle.host_sockets.specs.StandsFor.{AllStand, Stand, Becomes}
-use Rattle.host_sockets.specs.Udp.{udp_in, socket_in, with_udp, udp_acts, acted_udp, udp_ends, udp_around, SlotDoes}
+use Rattle.host_sockets.specs.Udp.{udp_in, socket_in, with_udp, udp_acts, acted_udp, SlotDoes}
 use Rattle.host_sockets.specs.Arriving.{slot_arrives, datagram_in}
 use Rattle.host_sockets.proofs.Endings.{UdpActEnds, same_moved}
 
@@ -23,9 +21,6 @@ slot_there : (slots : List (Option UdpState)) (k : ℕ) (d : Option UdpState) �
 slot_there [] k d b = absurd (omega arith)
 slot_there (x ∷ slots) zero d b = refl
 slot_there (x ∷ slots) (suc k) d b = slot_there slots k d (omega arith)
-
-pub slot_read : (slots : List (Option UdpState)) (k : ℕ) (slot : Option UdpState) → k < length slots → slot ≡ get_or slots k slot → slice_get slots k ≡ Some slot
-slot_read slots k slot b is = slot_there slots k slot b ∙ ap (λ (x : Option UdpState). Some x) (sym is)
 
 slot_past : (slots : List (Option UdpState)) (k : ℕ) → length slots ≤ k → slice_get slots k ≡ None
 slot_past [] k b = refl
@@ -103,12 +98,6 @@ arrived_udp c c' t k before from bytes old new act h b is seen e ends =
 
 pub refused_udp : {A : Type 0} (act : UdpState → Result (A × UdpState) Refusal) (c : Sockets) (t : SocketsRecord) (k : ℕ) → Stand c t → length c.udp.slots.items ≤ k → Becomes {A = A} (udp_acts act k t) t c (Err (error.Refused (refusal.Errno Ebadf)))
 refused_udp act c t k h b = (sym (told_no_udp c t k (λ o. acted_udp act k o t) h b), h)
-
--- what the code gives a socket as its surroundings
-pub around_same : (c : Sockets) (t : SocketsRecord) (hosts : List Ip) (ends : List Addr) → Stand c t → ends ≡ udp_ends t → (let around : Surroundings = record { own = c.own; hosts = hosts; bound = ends } in around ≡ udp_around hosts t)
-around_same c t hosts ends h same =
-    ap (λ (own : Ip). let around : Surroundings = record { own = own; hosts = hosts; bound = ends } in around) h.own
-    ∙ ap (λ (bound : List Addr). let around : Surroundings = record { own = t.own; hosts = hosts; bound = bound } in around) same
 
 -- acts that agree on the socket that stands there are one
 pub slot_same : {A : Type 0} (f g : UdpState → Result (A × UdpState) Refusal) (old new : Option UdpState) (result : Result A CallError) → ((u : UdpState) → old ≡ Some u → f u ≡ g u) → SlotDoes f old new result → SlotDoes g old new result

@@ -1,5 +1,5 @@
 -- the calls on UDP sockets, beside those of a socket alone: which sockets it has around it
-use Rattle.std.specs.Prelude.{◌≡◌, ℕ, Bool, false, not, ◌||◌, nat_lt, List, [], ◌∷◌, length, take, slice_get, slice_set, Option, Some, None, is_some, is_none, Result, Ok, Err}
+use Rattle.std.specs.Prelude.{◌≡◌, ℕ, Bool, not, ◌||◌, nat_lt, List, [], ◌∷◌, length, take, slice_get, slice_set, Option, Some, None, is_some, is_none, Result, Ok, Err}
 use Rattle.std.specs.List.{flat_map, position_or_len}
 use Rattle.sim_base.specs.declared.address.Ip.{Ip}
 use Rattle.sim_base.specs.declared.address.Addr.{Addr}
@@ -118,16 +118,9 @@ oldest_datagram u (datagram ∷ behind) count =
 unfoldable pub receives_udp : ℕ → ℕ → SocketsRecord → Result (Datagram × SocketsRecord) Refusal
 receives_udp k count t = udp_acts (λ u. oldest_datagram u u.waiting count) k t
 
--- whether the socket with a number is bound, and needs no other's ends
+-- whether the socket with a number is bound
 abbrev pub udp_bound : ℕ → SocketsRecord → Bool
 udp_bound k t = is_some (local_in (udp_in k t))
-
-abbrev pub IsEnoughFor : ℕ → SocketsRecord → List Addr → Type 0
-IsEnoughFor k t ends = udp_bound k t ≡ false → ends ≡ udp_ends t
-
--- to bind a socket at one end among some ends is to bind it at what it asks for among all
-abbrev pub BindsAlike : Addr → List Addr → Addr → SocketsRecord → Type 0
-BindsAlike end ends at t = (hosts : List Ip) (u : UdpState) → bind (record (udp_around hosts t) { bound = ends }) end u ≡ bind (udp_around hosts t) at u
 
 -- what the code does in a socket's place
 abbrev pub SlotDoes : {A : Type 0} → (UdpState → Result (A × UdpState) Refusal) → Option UdpState → Option UdpState → Result A CallError → Type 0

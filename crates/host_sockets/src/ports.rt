@@ -10,7 +10,7 @@ use host_wants::{CallError, Refusal};
 use sim_base::{Addr, Errno, Ip, NoMemory, at_free_port, is_taken};
 
 /// An address at a port, if there is one.
-fn at_port(ip: Ip, port: Option<u16>) -> Option<Addr>
+pub(crate) fn at_port(ip: Ip, port: Option<u16>) -> Option<Addr>
     ensures { result ≡ option_map (at_port ip) port }
 {
     match port {

@@ -1,20 +1,23 @@
 //! Calls on UDP sockets, and datagrams that arrive.
 
 use crate::glance::slot_glance;
+use crate::ports::at_port;
 use crate::rises::put_none;
 use crate::sockets::Sockets;
 use crate::udp_slot;
 use host_wants::{CallError, Refusal};
-use sim_base::{Act, Addr, Around, Book, Errno, NoMemory, Packet};
+use sim_base::{Act, Addr, Around, Book, Errno, Ip, NoMemory, Packet};
 use sock_udp::{Datagram, UdpSock};
 
 impl Sockets {
     ghost use Rattle.std.specs.Prelude.{◌≡◌, ◌≤◌, length, position, Some, IfOk, OnOk};
+    ghost use Rattle.sim_base.specs.Addresses.{any, at_free_port};
+    ghost use Rattle.sock_udp.specs.Socket.{UdpState, or_else, end_left};
     ghost use Rattle.host_sockets.specs.Sockets.{SocketsRecord};
     ghost use Rattle.host_sockets.specs.Arriving.{takes_in, datagram_at, datagram_arrives};
     ghost use Rattle.host_sockets.specs.Names.{udp_name, udp_peer};
     ghost use Rattle.host_sockets.specs.Ready.{udp_ready};
-    ghost use Rattle.host_sockets.specs.Udp.{udp_bound, IsEnoughFor, udp_place, put_udp_at, new_udp, closes_udp, udp_ends, BindsAlike, binds_udp, connects_udp, udp_fits, sends_udp, recv_udp_asked, receives_udp};
+    ghost use Rattle.host_sockets.specs.Udp.{udp_in, udp_bound, udp_place, put_udp_at, new_udp, closes_udp, udp_ends, binds_udp, connects_udp, udp_fits, sends_udp, recv_udp_asked, receives_udp};
     ghost use Rattle.host_sockets.specs.StandsFor.{Stand, Becomes};
 
     /// The least number that a new UDP socket may take.
@@ -52,29 +55,11 @@ impl Sockets {
         self.udp.close(k);
     }
 
-    /// The ends that UDP sockets are bound to.
-    fn udp_ends(&self) -> Result<Vec<Addr>, NoMemory>
-        ensures { IfOk result (λ ends. (t : SocketsRecord) → Stand self.now t → ends.items ≡ udp_ends t) }
+    /// What the UDP sockets leave of an address that is asked for.
+    fn udp_end_left(&self, at: Addr) -> Result<Addr, Errno>
+        ensures { (t : SocketsRecord) → Stand self.now t → result ≡ end_left (udp_ends t) at }
     {
-        let mut ends = Vec::new(self.alloc());
-        for slot in &self.udp.slots {
-            udp_slot::add_end(slot, &mut ends)?;
-        }
-        Ok(ends)
-    }
-
-    /// Where a socket is bound that asks for an end, and the ends that it must not meet there: none
-    /// where it gets a port that no socket has.
-    fn asked_end(&self, at: Addr) -> Result<(Addr, Vec<Addr>), NoMemory>
-        ensures { IfOk result (λ asked. (t : SocketsRecord) → Stand self.now t → BindsAlike asked.0 asked.1.items at t) }
-    {
-        if at.port == 0 {
-            if let Some(Some(port)) = self.udp.free_port() {
-                return Ok((Addr { ip: at.ip, port }, Vec::new(self.alloc())));
-            }
-        }
-        let ends = self.udp_ends()?;
-        Ok((at, ends))
+        self.udp.end_left(at)
     }
 
     /// Binds the UDP socket with a number to an address, for port 0 at the least port from 10000 up
@@ -84,21 +69,35 @@ impl Sockets {
     pub fn bind_udp(&mut self, hosts: &Book, k: usize, at: Addr) -> Result<(), CallError>
         ensures { (t : SocketsRecord) → Stand self.old t → Becomes (binds_udp hosts.now k at t) t self.new result }
     {
-        let (end, bound) = self.asked_end(at)?;
+        let left = self.udp_end_left(at);
         let around = Around {
             own: self.own,
             hosts,
-            bound: bound.as_slice(),
+            bound: &[],
         };
         if k >= self.udp.slots.len() {
             return Err(CallError::Refused(Refusal::Errno(Errno::Ebadf)));
         }
         let slot = &mut self.udp.slots[k];
         let before = slot_glance(slot);
-        let answer = udp_slot::bind(slot, &around, end);
+        let answer = udp_slot::bind(slot, &around, at.ip, left);
         self.udp.table.set(k, udp_slot::ends(slot));
         self.end_udp_act(k, before);
         answer
+    }
+
+    /// The own end with which the UDP socket with a number sends or is connected: what it is bound to, or
+    /// else 0.0.0.0 and the least free port, if there is one.
+    fn udp_end_to_use(&self, k: usize) -> Option<Addr>
+        ensures { (t : SocketsRecord) (u : UdpState) → Stand self.now t → udp_in k t ≡ Some u → result ≡ or_else u.local (at_free_port (udp_ends t) any) }
+    {
+        if k >= self.udp.slots.len() {
+            return None;
+        }
+        match udp_slot::local(&self.udp.slots[k]) {
+            Some(at) => Some(at),
+            None => at_port(Ip::ANY, self.udp.free_port()),
+        }
     }
 
     /// Connects the UDP socket with a number to another end, and binds it if it is unbound
@@ -108,18 +107,18 @@ impl Sockets {
     pub fn connect_udp(&mut self, hosts: &Book, k: usize, to: Addr) -> Result<(), CallError>
         ensures { (t : SocketsRecord) → Stand self.old t → Becomes (connects_udp hosts.now k to t) t self.new result }
     {
-        let bound = self.udp_ends()?;
+        let own = self.udp_end_to_use(k);
         let around = Around {
             own: self.own,
             hosts,
-            bound: bound.as_slice(),
+            bound: &[],
         };
         if k >= self.udp.slots.len() {
             return Err(CallError::Refused(Refusal::Errno(Errno::Ebadf)));
         }
         let slot = &mut self.udp.slots[k];
         let before = slot_glance(slot);
-        let answer = udp_slot::connect(slot, &around, to);
+        let answer = udp_slot::connect(slot, &around, own, to);
         self.udp.table.set(k, udp_slot::ends(slot));
         self.end_udp_act(k, before);
         answer
@@ -139,17 +138,6 @@ impl Sockets {
         udp_slot::fits(&self.udp.slots[k], count, given)
     }
 
-    /// The ends of the other UDP sockets, where the socket with a number needs a port.
-    fn ends_to_use(&self, k: usize) -> Result<Vec<Addr>, NoMemory>
-        ensures { IfOk result (λ ends. (t : SocketsRecord) → Stand self.now t → IsEnoughFor k t ends.items) }
-    {
-        if self.bound_udp(k) {
-            return Ok(Vec::new(self.alloc()));
-        }
-        let ends = self.udp_ends()?;
-        Ok(ends)
-    }
-
     /// Whether the UDP socket with a number is bound.
     pub fn bound_udp(&self, k: usize) -> bool
         ensures { (t : SocketsRecord) → Stand self.now t → result ≡ udp_bound k t }
@@ -161,8 +149,7 @@ impl Sockets {
     }
 
     /// Makes the packet of a datagram from the UDP socket with a number, to an address or else to
-    /// its peer, and binds the socket if it is unbound (`send(2)`, `sendto(2)`). One that is bound
-    /// looks at no other socket.
+    /// its peer, and binds the socket if it is unbound (`send(2)`, `sendto(2)`).
     ///
     /// Refused in this order: `Ebadf`, there is no such socket; then as by `UdpSock::send`.
     pub fn send_udp(
@@ -174,18 +161,18 @@ impl Sockets {
     ) -> Result<Packet, CallError>
         ensures { (t : SocketsRecord) → Stand self.old t → Becomes (sends_udp hosts.now k bytes.now to t) t self.new result }
     {
-        let bound = self.ends_to_use(k)?;
+        let own = self.udp_end_to_use(k);
         let around = Around {
             own: self.own,
             hosts,
-            bound: bound.as_slice(),
+            bound: &[],
         };
         if k >= self.udp.slots.len() {
             return Err(CallError::Refused(Refusal::Errno(Errno::Ebadf)));
         }
         let slot = &mut self.udp.slots[k];
         let before = slot_glance(slot);
-        let answer = udp_slot::send(slot, &around, bytes, to);
+        let answer = udp_slot::send(slot, &around, own, bytes, to);
         self.udp.table.set(k, udp_slot::ends(slot));
         self.end_udp_act(k, before);
         answer

@@ -1,9 +1,9 @@
 //! The acts of a process on the place of a UDP socket.
 
-ghost use Rattle.std.specs.Prelude.{◌≡◌, ◌≤◌, ◌++◌, length, IfOk, OnOk};
-ghost use Rattle.sock_udp.specs.Socket.{bind, connect, send};
+ghost use Rattle.std.specs.Prelude.{◌≡◌, ◌≤◌, length, IfOk};
+ghost use Rattle.sock_udp.specs.Socket.{bound_at, connected, sent};
 ghost use Rattle.host_wants.specs.Refusals.{by_errno};
-ghost use Rattle.host_sockets.specs.Udp.{only_state, local_in, udp_end, fits_in, recv_asked_in, oldest_datagram, SlotDoes, GivesOldest};
+ghost use Rattle.host_sockets.specs.Udp.{only_state, local_in, fits_in, recv_asked_in, oldest_datagram, SlotDoes, GivesOldest};
 ghost use Rattle.host_sockets.specs.Arriving.{slot_arrives};
 ghost use Rattle.host_sockets.specs.inside.Bindings.{ends_of_slot};
 ghost use Rattle.host_sockets.specs.Names.{udp_name_in, udp_peer_in};
@@ -11,7 +11,7 @@ ghost use Rattle.host_sockets.specs.Ready.{udp_ready_in};
 
 use crate::names::NOWHERE;
 use host_wants::{CallError, Refusal};
-use sim_base::{Act, Addr, Around, Bytes, Errno, MAX_DATAGRAM, NoMemory, Packet};
+use sim_base::{Act, Addr, Around, Bytes, Errno, Ip, MAX_DATAGRAM, NoMemory, Packet};
 use sock_udp::{Datagram, Received, UdpError, UdpSock};
 use std::alloc::Global;
 use udp_table::UdpEnds;
@@ -47,57 +47,55 @@ pub(crate) fn local(slot: &Option<UdpSock>) -> Option<Addr>
     }
 }
 
-/// Adds the end that a socket is bound to, if it is.
-pub(crate) fn add_end(slot: &Option<UdpSock>, ends: &mut Vec<Addr>) -> Result<(), NoMemory>
-    ensures { OnOk result (ends.new.items ≡ ends.old.items ++ udp_end slot.now) }
-{
-    if let Some(at) = local(slot) {
-        ends.push(at)?;
-    }
-    Ok(())
-}
-
-/// `bind(2)`.
-pub(crate) fn bind(slot: &mut Option<UdpSock>, around: &Around, at: Addr) -> Result<(), CallError>
-    ensures { SlotDoes (λ u. only_state (by_errno (bind around.now at u))) slot.old slot.new result }
+/// `bind(2)` at an address of which this is left.
+pub(crate) fn bind(
+    slot: &mut Option<UdpSock>,
+    around: &Around,
+    ip: Ip,
+    left: Result<Addr, Errno>,
+) -> Result<(), CallError>
+    ensures { SlotDoes (λ u. only_state (by_errno (bound_at around.now ip left u))) slot.old slot.new result }
 {
     match slot {
         Some(sock) => {
-            sock.bind(around, at)?;
+            sock.bind_at(around, ip, left)?;
             Ok(())
         }
         None => Err(CallError::Refused(Refusal::Errno(Errno::Ebadf))),
     }
 }
 
-/// `connect(2)`.
+/// `connect(2)` of a socket that has this end, or would have it.
 pub(crate) fn connect(
     slot: &mut Option<UdpSock>,
     around: &Around,
+    own: Option<Addr>,
     to: Addr,
 ) -> Result<(), CallError>
-    ensures { SlotDoes (λ u. only_state (by_errno (connect around.now to u))) slot.old slot.new result }
+    ensures { SlotDoes (λ u. only_state (by_errno (connected around.now to u own))) slot.old slot.new result }
 {
     match slot {
         Some(sock) => {
-            sock.connect(around, to)?;
+            sock.connect_at(around, own, to)?;
             Ok(())
         }
         None => Err(CallError::Refused(Refusal::Errno(Errno::Ebadf))),
     }
 }
 
-/// `send(2)`, and `sendto(2)` where an address is given.
+/// `send(2)`, and `sendto(2)` where an address is given, of a socket that has this end, or would have
+/// it.
 pub(crate) fn send(
     slot: &mut Option<UdpSock>,
     around: &Around,
+    own: Option<Addr>,
     bytes: &[u8],
     to: Option<Addr>,
 ) -> Result<Packet, CallError>
-    ensures { SlotDoes (λ u. by_errno (send around.now bytes.now to u)) slot.old slot.new result }
+    ensures { SlotDoes (λ u. by_errno (sent around.now bytes.now to u own)) slot.old slot.new result }
 {
     match slot {
-        Some(sock) => match sock.send(around, bytes, to) {
+        Some(sock) => match sock.send_at(around, own, bytes, to) {
             Ok(packet) => Ok(packet),
             Err(UdpError::Errno(errno)) => Err(CallError::Refused(Refusal::Errno(errno))),
             Err(UdpError::NoMemory) => Err(CallError::NoMemory),

@@ -5,7 +5,7 @@ ghost use Rattle.std.specs.Prelude.{◌≡◌};
 ghost use Rattle.host_sockets.specs.inside.Bindings.{ends_of_slots};
 
 use crate::udp_slot;
-use sim_base::{Addr, NoMemory};
+use sim_base::{Addr, Errno, NoMemory};
 use sock_udp::UdpSock;
 use std::alloc::Global;
 use udp_table::UdpTable;
@@ -19,9 +19,10 @@ pub struct UdpSocks {
 }
 
 impl UdpSocks {
-    ghost use Rattle.std.specs.Prelude.{◌≡◌, ◌<◌, ◌≤◌, ◌++◌, ◌∷◌, [], ℕ, Option, Some, None, length, slice_set, is_none, position, OnOk};
+    ghost use Rattle.std.specs.Prelude.{◌≡◌, ◌<◌, ◌≤◌, ◌++◌, ◌∷◌, [], Some, None, length, slice_set, is_none, position, OnOk};
     ghost use Rattle.std.specs.List.{position_or_len, flat_map};
     ghost use Rattle.sim_base.specs.Addresses.{least_free_port};
+    ghost use Rattle.sock_udp.specs.Socket.{end_left};
     ghost use Rattle.host_sockets.specs.Sockets.{put_at};
     ghost use Rattle.host_sockets.specs.Udp.{udp_end};
     ghost use Rattle.host_sockets.specs.Arriving.{takes_in};
@@ -82,11 +83,18 @@ impl UdpSocks {
         self.table.free_place()
     }
 
-    /// The least port from 10000 up that no socket has, if there is one, where that is known.
-    pub(crate) fn free_port(&self) -> Option<Option<u16>>
-        ensures { (free : Option ℕ) → result ≡ Some free → free ≡ least_free_port (flat_map udp_end self.now.slots.items) }
+    /// The least port from 10000 up that no socket has, if there is one.
+    pub(crate) fn free_port(&self) -> Option<u16>
+        ensures { result ≡ least_free_port (flat_map udp_end self.now.slots.items) }
     {
         self.table.free_port()
+    }
+
+    /// What the sockets leave of an address that is asked for.
+    pub(crate) fn end_left(&self, at: Addr) -> Result<Addr, Errno>
+        ensures { result ≡ end_left (flat_map udp_end self.now.slots.items) at }
+    {
+        self.table.end_left(at)
     }
 
     /// The number of the first socket that takes a datagram from one end to another.

@@ -5,6 +5,7 @@ use Rattle.sim_base.specs.Packet.{max_datagram}
 use Rattle.sim_base.specs.Poll.{pollin, pollout}
 use Rattle.sim_base.specs.Refusals.{◌>>=◌, ◌>>◌, refuse_if, or_refuse}
 use Rattle.sim_base.specs.declared.address.Addr.{Addr}
+use Rattle.sim_base.specs.declared.address.Ip.{Ip}
 use Rattle.sim_base.specs.declared.errno.Errno.{Errno}
 use Rattle.sim_base.specs.declared.errno.Errno.TheVariants.{Eagain, Einval, Edestaddrreq, Emsgsize, Eaddrinuse, Eaddrnotavail, Enetunreach}
 use Rattle.sim_base.specs.declared.packet.Load.TheVariants.{Udp}
@@ -46,6 +47,22 @@ bind around at socket = do
   bound ← address_to_bind around at socket
   Ok (record socket { local = Some bound })
 
+-- what the others' ends leave of an address that is asked for: its end, for port 0 at the least free port
+abbrev pub end_left : List Addr → Addr → Result Addr Errno
+end_left others at = do
+  end ← or_refuse (with_port others at) Eaddrnotavail
+  refuse_if (is_taken others end) Eaddrinuse
+  Ok end
+
+-- how a socket is bound at an address of which this is left
+abbrev pub bound_at : Surroundings → Ip → Result Addr Errno → UdpState → Result UdpState Errno
+bound_at around ip left socket = do
+  bound ← do
+    refuse_if (is_some socket.local) Einval
+    refuse_if (not (is_local around.own ip)) Eaddrnotavail
+    left
+  Ok (record socket { local = Some bound })
+
 -- where a socket may send to
 abbrev pub reach : Surroundings → Addr → UdpState → Result (Unit {0}) Errno
 reach around to socket = do
@@ -68,6 +85,15 @@ connect around to socket = do
   bound ← address_to_connect around to socket
   Ok (record socket { local = Some bound; peer = Some to })
 
+-- how a socket is connected that is or would be bound here
+abbrev pub connected : Surroundings → Addr → UdpState → Option Addr → Result UdpState Errno
+connected around to socket local = do
+  bound ← do
+    reach around to socket
+    refuse_if (to.port == 0) Eaddrnotavail
+    or_refuse local Eaddrnotavail
+  Ok (record socket { local = Some bound; peer = Some to })
+
 -- the two ends of a datagram that is sent
 abbrev pub address_and_destination : Surroundings → ℕ → Option Addr → UdpState → Result (Addr × Addr) Errno
 address_and_destination around size to socket = do
@@ -84,6 +110,21 @@ packet_between around bytes bound to = record { from = at_port (source_ip around
 abbrev pub send : Surroundings → List ℕ → Option Addr → UdpState → Result (Packet × UdpState) Errno
 send around bytes to socket = do
   (bound, destination) ← address_and_destination around (length bytes) to socket
+  Ok (packet_between around bytes bound destination, record socket { local = Some bound })
+
+-- the same of a socket that is or would be bound here
+abbrev pub ends_between : Surroundings → ℕ → Option Addr → UdpState → Option Addr → Result (Addr × Addr) Errno
+ends_between around size to socket local = do
+  refuse_if (nat_lt max_datagram size) Emsgsize
+  destination ← or_refuse (or_else to socket.peer) Edestaddrreq
+  reach around destination socket
+  bound ← or_refuse local Eaddrnotavail
+  Ok (bound, destination)
+
+-- and what it sends
+abbrev pub sent : Surroundings → List ℕ → Option Addr → UdpState → Option Addr → Result (Packet × UdpState) Errno
+sent around bytes to socket local = do
+  (bound, destination) ← ends_between around (length bytes) to socket local
   Ok (packet_between around bytes bound destination, record socket { local = Some bound })
 
 -- what is wrong with a call that sends nothing: a refusal, or want of memory where nothing is refused

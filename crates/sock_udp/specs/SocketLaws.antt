@@ -1,17 +1,15 @@
 -- Laws of sockets: an address is given to one socket alone, and a datagram has one taker.
-use Rattle.std.specs.Prelude.{◌≡◌, ℕ, ◌==◌, Bool, true, false, not, nat_lt, List, length, Option, Some, None, is_some, option_map, Result, Ok, Err, refl}
+use Rattle.std.specs.Prelude.{◌≡◌, ℕ, Bool, true, false, not, List, Option, Some, None, is_some, option_map, Result, Ok, Err, refl}
 use Rattle.std.proofs.Common.{sym, ap, ◌∙◌, arith}
 use Rattle.std.proofs.lemmas.Bool.{and_parts}
 use Rattle.std.proofs.lemmas.Bool.Decides.{nat_tests}
 use Rattle.sim_base.specs.declared.address.Addr.{Addr}
 use Rattle.sim_base.specs.declared.errno.Errno.{Errno}
-use Rattle.sim_base.specs.declared.errno.Errno.TheVariants.{Einval, Edestaddrreq, Emsgsize, Eaddrinuse, Eaddrnotavail}
-use Rattle.sim_base.specs.declared.packet.Packet.{Packet}
-use Rattle.sim_base.specs.Packet.{max_datagram}
+use Rattle.sim_base.specs.declared.errno.Errno.TheVariants.{Einval, Eaddrinuse, Eaddrnotavail}
 use Rattle.sim_base.specs.Addresses.{Surroundings, any, is_local, meets, is_taken, least_free_port, at_port, at_free_port, with_port}
 use Rattle.sim_base.specs.AddressLaws.{first_free_port-IsLeastFree, has_port-meets}
 use Rattle.sim_base.specs.Refusals.{◌>>=◌, ◌>>◌, refuse_if, or_refuse}
-use Rattle.sock_udp.specs.Socket.{UdpState, address_to_bind, reach, connect, or_else, address_to_use, packet_between, send, is_bound_for, is_open_to, takes}
+use Rattle.sock_udp.specs.Socket.{UdpState, address_to_bind, connect, connected, or_else, address_to_use, send, sent, is_bound_for, is_open_to, takes}
 
 -- what a call refuses where an address is taken isn't taken where the call answers it
 answered : (around : Surroundings) (found bound : Addr) (taken : Bool) → is_taken around.bound found ≡ taken
@@ -68,31 +66,11 @@ kept : (local found other : Option Addr) (at : Addr) → local ≡ Some at → o
 kept None found other at is_bound = cc
 kept (Some own) found other at is_bound = refl
 
--- what a socket sends that is bound here
-abbrev sent : Surroundings → List ℕ → Option Addr → UdpState → Option Addr → Result (Packet × UdpState) Errno
-sent around bytes to socket local = do
-  (bound, destination) ← do
-    refuse_if (nat_lt max_datagram (length bytes)) Emsgsize
-    destination ← or_refuse (or_else to socket.peer) Edestaddrreq
-    reach around destination socket
-    bound ← or_refuse local Eaddrnotavail
-    Ok (bound, destination)
-  Ok (packet_between around bytes bound destination, record socket { local = Some bound })
-
 -- a bound socket sends whatever the others are bound to
 pub send-bound : (around : Surroundings) (others : List Addr) (bytes : List ℕ) (to : Option Addr) (socket : UdpState) (at : Addr) → socket.local ≡ Some at
     → send (record around { bound = others }) bytes to socket ≡ send around bytes to socket
 send-bound around others bytes to socket at is_bound =
     ap (sent around bytes to socket) (kept socket.local (at_free_port others any) (at_free_port around.bound any) at is_bound)
-
--- how a socket is connected that is bound here
-abbrev connected : Surroundings → Addr → UdpState → Option Addr → Result UdpState Errno
-connected around to socket local = do
-  bound ← do
-    reach around to socket
-    refuse_if (to.port == 0) Eaddrnotavail
-    or_refuse local Eaddrnotavail
-  Ok (record socket { local = Some bound; peer = Some to })
 
 -- and is connected whatever the others are bound to
 pub connect-bound : (around : Surroundings) (others : List Addr) (to : Addr) (socket : UdpState) (at : Addr) → socket.local ≡ Some at

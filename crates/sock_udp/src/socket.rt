@@ -1,6 +1,7 @@
 //! Sockets.
 
 ghost use Rattle.std.specs.Prelude.{◌≡◌, ◌<◌, ◌≤◌, ◌++◌, ◌↔◌, [], min, length, take, drop, IfOk, IfErr, OnOk, OnErr, IsTrue};
+ghost use Rattle.sim_base.specs.Addresses.{any, at_free_port};
 ghost use Rattle.sock_udp.specs.Socket as spec;
 
 use crate::datagram::{Datagram, Received};
@@ -89,7 +90,29 @@ impl UdpSock {
         ensures refused { IfErr result (λ errno. spec.bind around.now at self.old ≡ Err errno) }
         ensures unchanged { OnErr result (self.new ≡ self.old) }
     {
-        let at = self.address_to_bind(around, at)?;
+        let left = end_left(around.bound, at);
+        self.bind_at(around, at.ip, left)
+    }
+
+    /// Binds the socket as `bind` does at an address of which this is left: the end that it gets, or why
+    /// it gets none. What others are bound to isn't looked at.
+    pub fn bind_at(
+        &mut self,
+        around: &Around,
+        ip: Ip,
+        left: Result<Addr, Errno>,
+    ) -> Result<(), Errno>
+        ensures bound { OnOk result (spec.bound_at around.now ip left self.old ≡ Ok self.new) }
+        ensures refused { IfErr result (λ errno. spec.bound_at around.now ip left self.old ≡ Err errno) }
+        ensures unchanged { OnErr result (self.new ≡ self.old) }
+    {
+        if self.local.is_some() {
+            return Err(Errno::Einval);
+        }
+        if !ip.is_local(around.own) {
+            return Err(Errno::Eaddrnotavail);
+        }
+        let at = left?;
         self.local = Some(at);
         Ok(())
     }
@@ -104,7 +127,22 @@ impl UdpSock {
         ensures refused { IfErr result (λ errno. spec.connect around.now to self.old ≡ Err errno) }
         ensures unchanged { OnErr result (self.new ≡ self.old) }
     {
-        let at = self.address_to_connect(around, to)?;
+        let own = self.end_to_use(around);
+        self.connect_at(around, own, to)
+    }
+
+    /// Connects the socket as `connect` does where this is its own end, if it has one or a port is
+    /// free. What others are bound to isn't looked at.
+    pub fn connect_at(&mut self, around: &Around, own: Option<Addr>, to: Addr) -> Result<(), Errno>
+        ensures connected { OnOk result (spec.connected around.now to self.old own ≡ Ok self.new) }
+        ensures refused { IfErr result (λ errno. spec.connected around.now to self.old own ≡ Err errno) }
+        ensures unchanged { OnErr result (self.new ≡ self.old) }
+    {
+        self.reach(around, to)?;
+        if to.port == 0 {
+            return Err(Errno::Eaddrnotavail);
+        }
+        let at = own.ok_or(Errno::Eaddrnotavail)?;
         self.local = Some(at);
         self.peer = Some(to);
         Ok(())
@@ -126,7 +164,24 @@ impl UdpSock {
         ensures failed { IfErr result (spec.Fails (spec.send around.now bytes.now to self.old)) }
         ensures unchanged { OnErr result (self.new ≡ self.old) }
     {
-        let (at, to) = self.address_and_destination(around, bytes.len(), to)?;
+        let own = self.end_to_use(around);
+        self.send_at(around, own, bytes, to)
+    }
+
+    /// Sends as `send` does where this is the socket's own end, if it has one or a port is free. What
+    /// others are bound to isn't looked at.
+    pub fn send_at(
+        &mut self,
+        around: &Around,
+        own: Option<Addr>,
+        bytes: &[u8],
+        to: Option<Addr>,
+    ) -> Result<Packet, UdpError>
+        ensures sent { IfOk result (λ packet. spec.sent around.now bytes.now to self.old own ≡ Ok (packet, self.new)) }
+        ensures failed { IfErr result (spec.Fails (spec.sent around.now bytes.now to self.old own)) }
+        ensures unchanged { OnErr result (self.new ≡ self.old) }
+    {
+        let (at, to) = self.ends_between(around, own, bytes.len(), to)?;
         let load = Load::Udp(Bytes::from_slice(*self.waiting.allocator(), bytes)?);
         self.local = Some(at);
         let from = Addr {
@@ -192,23 +247,6 @@ impl UdpSock {
         }
     }
 
-    /// Where the socket is bound that asks for an address.
-    fn address_to_bind(&self, around: &Around, at: Addr) -> Result<Addr, Errno>
-        ensures { result ≡ spec.address_to_bind around.now at self.now }
-    {
-        if self.local.is_some() {
-            return Err(Errno::Einval);
-        }
-        if !at.ip.is_local(around.own) {
-            return Err(Errno::Eaddrnotavail);
-        }
-        let at = with_port(around.bound, at).ok_or(Errno::Eaddrnotavail)?;
-        if is_taken(around.bound, at) {
-            return Err(Errno::Eaddrinuse);
-        }
-        Ok(at)
-    }
-
     /// Whether the socket may send to an address.
     fn reach(&self, around: &Around, to: Addr) -> Result<(), Errno>
         ensures { result ≡ spec.reach around.now to self.now }
@@ -222,43 +260,45 @@ impl UdpSock {
         Ok(())
     }
 
-    /// Where the socket is bound, or will be by sending or connecting.
-    fn address_to_use(&self, around: &Around) -> Result<Addr, Errno>
-        ensures { result ≡ spec.address_to_use around.now self.now }
+    /// The end that the socket is bound to, or would be by sending or connecting, if a port is free.
+    fn end_to_use(&self, around: &Around) -> Option<Addr>
+        ensures { result ≡ spec.or_else self.now.local (at_free_port around.now.bound any) }
     {
         match self.local {
-            Some(at) => Ok(at),
-            None => at_free_port(around.bound, Ip::ANY).ok_or(Errno::Eaddrnotavail),
+            Some(at) => Some(at),
+            None => at_free_port(around.bound, Ip::ANY),
         }
     }
 
-    fn address_to_connect(&self, around: &Around, to: Addr) -> Result<Addr, Errno>
-        ensures { result ≡ spec.address_to_connect around.now to self.now }
-    {
-        self.reach(around, to)?;
-        if to.port == 0 {
-            return Err(Errno::Eaddrnotavail);
-        }
-        self.address_to_use(around)
-    }
-
-    /// Where a datagram of so many bytes is sent from, and where to.
-    fn address_and_destination(
+    /// The two ends of a datagram of so many bytes, where the first one is this, if there is one.
+    fn ends_between(
         &self,
         around: &Around,
+        own: Option<Addr>,
         size: usize,
         to: Option<Addr>,
     ) -> Result<(Addr, Addr), Errno>
-        ensures { result ≡ spec.address_and_destination around.now size to self.now }
+        ensures { result ≡ spec.ends_between around.now size to self.now own }
     {
         if size > MAX_DATAGRAM {
             return Err(Errno::Emsgsize);
         }
         let to = to.or(self.peer).ok_or(Errno::Edestaddrreq)?;
         self.reach(around, to)?;
-        let at = self.address_to_use(around)?;
+        let at = own.ok_or(Errno::Eaddrnotavail)?;
         Ok((at, to))
     }
+}
+
+/// What the others' ends leave of an address that is asked for.
+fn end_left(others: &[Addr], at: Addr) -> Result<Addr, Errno>
+    ensures { result ≡ spec.end_left others.now at }
+{
+    let end = with_port(others, at).ok_or(Errno::Eaddrnotavail)?;
+    if is_taken(others, end) {
+        return Err(Errno::Eaddrinuse);
+    }
+    Ok(end)
 }
 
 /// Copies what fits to the front of a buffer, and answers how many bytes that is.

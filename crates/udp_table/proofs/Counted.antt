@@ -7,6 +7,7 @@ use Rattle.std.proofs.lemmas.List.Folds.{list_any-append}
 use Rattle.std.proofs.lemmas.List.Sums.{sum_by-cons}
 use Rattle.sim_base.specs.declared.address.Addr.{Addr}
 use Rattle.sim_base.specs.Addresses.{has_port, first_free_port, least_free_port}
+use Rattle.sim_base.specs.AddressLaws.{first_free_port-IsLeastFree}
 use Rattle.sim_base.proofs.PortLemmas.{first_free_port-free, first_free_port-taken, first_free_port-none}
 use Rattle.number_sets.specs.Bags.{one, Holds}
 use Rattle.number_sets.specs.declared.bag.NumberBag.{NumberBag}
@@ -48,6 +49,23 @@ first_is bound first (suc count) (suc n) free had =
     first_free_port-taken bound first (suc count) (ap (has_port bound) here ∙ had 0 (omega arith)) (omega arith)
     ∙ (ap (λ (k : ℕ). first_free_port bound (first + 1) k) fewer
     ∙ (rest ∙ (ap (λ (k : ℕ). if nat_lt n count then Some k else None) next ∙ told)))
+
+-- and so it is told, where one is
+pub first_told : (bound : List Addr) (n : ℕ) → has_port bound (10000 + n) ≡ false → ((m : ℕ) → m < n → has_port bound (10000 + m) ≡ true) → n < 55536 → Some (10000 + n) ≡ least_free_port bound
+first_told bound n free had within = sym (first_is bound 10000 55536 n free had ∙ ap (λ (b : Bool). if b then Some (10000 + n) else None) (lt_test n 55536 within))
+
+pub all_told : (bound : List Addr) → ((m : ℕ) → m < 55536 → has_port bound (10000 + m) ≡ true) → None ≡ least_free_port bound
+all_told bound had = by_found (least_free_port bound) refl
+  where
+    by_found : (found : Option ℕ) → least_free_port bound ≡ found → None ≡ least_free_port bound
+    by_found None e = sym e
+    by_found (Some port) e =
+        let least = first_free_port-IsLeastFree bound 10000 55536 port e in
+        let from = least.from in
+        let within = least.within in
+        let back : 10000 + (port - 10000) ≡ port = omega arith in
+        let both : false ≡ true = sym least.free ∙ (ap (has_port bound) (sym back) ∙ had (port - 10000) (omega arith)) in
+        cc
 
 -- a given port is counted at its number, and no other is
 pub given_is : (n port : ℕ) → 10000 ≤ port → one port (10000 + n) ≡ one (port - 10000) n

@@ -3,3 +3,4 @@ mod Found
 mod Counted
 mod Takers
 mod Changed
+mod Meeting

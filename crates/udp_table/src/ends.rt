@@ -2,7 +2,8 @@
 
 ghost use Rattle.std.specs.Prelude.{◌≡◌, slice_index_or};
 ghost use Rattle.sock_udp.specs.Socket.{is_bound_for, is_open_to};
-ghost use Rattle.udp_table.specs.Table.{local_in, takes_in};
+ghost use Rattle.sim_base.specs.Addresses.{is_taken};
+ghost use Rattle.udp_table.specs.Table.{local_in, end_in, takes_in};
 ghost use Rattle.udp_table.specs.inside.Indexing.{at_place};
 
 use sim_base::{Addr, Ip};
@@ -31,6 +32,16 @@ pub(crate) fn local_in(place: Option<UdpEnds>) -> Option<Addr>
     match place {
         Some(ends) => ends.local,
         None => None,
+    }
+}
+
+/// Whether a socket at an end would meet the one at a place.
+pub(crate) fn meets_in(place: Option<UdpEnds>, at: Addr) -> bool
+    ensures { result ≡ is_taken (end_in (local_in place)) at }
+{
+    match local_in(place) {
+        Some(other) => at.meets(other),
+        None => false,
     }
 }
 

@@ -4,7 +4,7 @@ ghost use Rattle.std.specs.Prelude.{◌≡◌, ◌<◌, ◌^◌, ◌==◌, ℕ, 
 ghost use Rattle.number_sets.specs.Sets.{has};
 ghost use Rattle.udp_table.specs.inside.Indexing.{earlier};
 
-use crate::bound::move_end;
+use crate::bound::{is_met_at, move_end, note};
 use crate::ends::{UdpEnds, at_place, local_in, takes};
 use crate::ports::{FIRST_GIVEN, GIVEN, recount};
 use number_sets::{NumberBag, NumberSet};
@@ -12,13 +12,14 @@ use sim_base::{Addr, Ip};
 use std::alloc::Global;
 use std::collections::HashMap;
 
-/// The places that are taken, how many sockets have each given port, and the place that is bound to each
-/// end.
+/// The places that are taken, how many sockets have each given port, the place that is bound to each
+/// end, and the addresses that ends have or had: few, since a host has one.
 #[derive(Drop)]
 pub struct Index {
     pub(crate) taken: NumberSet,
     pub(crate) ports: NumberBag,
     pub(crate) bound: HashMap<Addr, usize>,
+    pub(crate) addresses: Vec<Ip>,
 }
 
 /// A place is taken from now on, or isn't. Answers whether that is entered: it isn't where memory is
@@ -48,7 +49,7 @@ fn earlier(a: Option<usize>, b: Option<usize>) -> Option<usize>
 impl Index {
     ghost use Rattle.std.specs.Prelude.{◌≡◌, ◌<◌, ◌^◌, ℕ, true, List, [], Option, Some, is_none, position};
     ghost use Rattle.std.specs.List.{position_or_len};
-    ghost use Rattle.sim_base.specs.Addresses.{least_free_port};
+    ghost use Rattle.sim_base.specs.Addresses.{least_free_port, is_taken};
     ghost use Rattle.udp_table.specs.Table.{local_in, takes_in, bound_ends};
     ghost use Rattle.udp_table.specs.inside.Indexing.{at_place, Changes, Indexes};
 
@@ -60,6 +61,7 @@ impl Index {
             taken: NumberSet::new(alloc),
             ports: NumberBag::new(alloc),
             bound: HashMap::new(alloc),
+            addresses: Vec::new(alloc),
         }
     }
 
@@ -75,6 +77,9 @@ impl Index {
             return false;
         }
         if !recount(&mut self.ports, from, to) {
+            return false;
+        }
+        if !note(&mut self.addresses, to) {
             return false;
         }
         move_end(&mut self.bound, place, from, to)
@@ -97,6 +102,13 @@ impl Index {
         } else {
             None
         }
+    }
+
+    /// Whether a socket at an end would meet one of these: they have its port at one of their addresses.
+    pub(crate) fn is_taken(&self, at: Addr) -> bool
+        ensures { (places : List (Option UdpEnds)) → Indexes self.now places → result ≡ is_taken (bound_ends places) at }
+    {
+        is_met_at(&self.bound, self.addresses.as_slice(), at)
     }
 
     /// The place of the socket that is bound to an end, where it takes a datagram.

@@ -1,14 +1,16 @@
 //! The table of UDP sockets.
 
 ghost use Rattle.std.specs.Prelude.{◌≡◌, ◌<◌, ◌^◌, ℕ, List, Option, Some, is_none, position};
-ghost use Rattle.std.specs.List.{position_or_len};
-ghost use Rattle.udp_table.specs.Table.{takes_in};
+ghost use Rattle.std.specs.List.{position_or_len, list_any};
+ghost use Rattle.sim_base.specs.Addresses.{least_free_port, is_taken};
+ghost use Rattle.udp_table.specs.Table.{local_in, end_in, takes_in, bound_ends};
 ghost use Rattle.udp_table.specs.declared.index.Index.{Index};
 ghost use Rattle.udp_table.specs.inside.Indexing.{Changes, Indexes};
 
-use crate::ends::{UdpEnds, takes};
+use crate::ends::{UdpEnds, meets_in, takes};
 use crate::index::Index;
-use sim_base::{Addr, NoMemory};
+use crate::ports::{FIRST_GIVEN, GIVEN};
+use sim_base::{Addr, Errno, Ip, NoMemory};
 use std::alloc::Global;
 use std::marker::Model;
 
@@ -73,6 +75,28 @@ fn free_place_in(places: &[Option<UdpEnds>]) -> usize
     first_free(places).unwrap_or(places.len())
 }
 
+/// Whether a socket at an end would meet one of these: each is looked at.
+fn is_taken_in(places: &[Option<UdpEnds>], at: Addr) -> bool
+    ensures { result ≡ list_any (λ place. is_taken (end_in (local_in place)) at) places.now }
+{
+    places.iter().any(|place| meets_in(*place, at))
+}
+
+/// The least port from 10000 up that no socket has, if there is one: each socket is looked at for each
+/// port below.
+fn free_port_in(places: &[Option<UdpEnds>]) -> Option<u16>
+    ensures { result ≡ least_free_port (bound_ends places.now) }
+{
+    for number in 0..GIVEN {
+        let port = FIRST_GIVEN + number as u16;
+        let at = Addr { ip: Ip::ANY, port };
+        if !is_taken_in(places, at) {
+            return Some(port);
+        }
+    }
+    None
+}
+
 /// The first socket that takes a datagram: each is looked at.
 fn taker_in(places: &[Option<UdpEnds>], from: Addr, to: Addr) -> Option<usize>
     ensures { result ≡ position (takes_in from to) places.now }
@@ -81,9 +105,10 @@ fn taker_in(places: &[Option<UdpEnds>], from: Addr, to: Addr) -> Option<usize>
 }
 
 impl UdpTable {
-    ghost use Rattle.std.specs.Prelude.{◌≡◌, ◌++◌, ◌∷◌, [], ℕ, Option, Some, slice_set, is_none, position, OnOk, OnErr};
+    ghost use Rattle.std.specs.Prelude.{◌≡◌, ◌++◌, ◌∷◌, [], Some, slice_set, is_none, position, OnOk, OnErr};
     ghost use Rattle.std.specs.List.{position_or_len};
-    ghost use Rattle.sim_base.specs.Addresses.{least_free_port};
+    ghost use Rattle.sim_base.specs.Addresses.{least_free_port, is_taken};
+    ghost use Rattle.sock_udp.specs.Socket.{end_left};
     ghost use Rattle.udp_table.specs.Table.{takes_in, bound_ends};
 
     /// A table of no sockets. It takes no memory.
@@ -129,15 +154,44 @@ impl UdpTable {
         }
     }
 
-    /// The least port from 10000 up that no socket has, if there is one, where that is known: not where
-    /// memory was wanting.
-    pub fn free_port(&self) -> Option<Option<u16>>
-        ensures { (free : Option ℕ) → result ≡ Some free → free ≡ least_free_port (bound_ends self.now) }
+    /// The least port from 10000 up that no socket has, if there is one.
+    pub fn free_port(&self) -> Option<u16>
+        ensures { result ≡ least_free_port (bound_ends self.now) }
     {
         match &self.index {
-            Some(index) => Some(index.free_port()),
-            None => None,
+            Some(index) => index.free_port(),
+            None => free_port_in(self.places.as_slice()),
         }
+    }
+
+    /// Whether a socket at an end would meet one of these.
+    fn is_taken(&self, at: Addr) -> bool
+        ensures { result ≡ is_taken (bound_ends self.now) at }
+    {
+        match &self.index {
+            Some(index) => index.is_taken(at),
+            None => is_taken_in(self.places.as_slice(), at),
+        }
+    }
+
+    /// What the sockets leave of an address that is asked for: its end, for port 0 at the least free
+    /// port.
+    ///
+    /// `Eaddrnotavail`: no port is free. `Eaddrinuse`: a socket has the port, and the same address or
+    /// either of them 0.0.0.0.
+    pub fn end_left(&self, at: Addr) -> Result<Addr, Errno>
+        ensures { result ≡ end_left (bound_ends self.now) at }
+    {
+        if at.port == 0 {
+            return match self.free_port() {
+                Some(port) => Ok(Addr { ip: at.ip, port }),
+                None => Err(Errno::Eaddrnotavail),
+            };
+        }
+        if self.is_taken(at) {
+            return Err(Errno::Eaddrinuse);
+        }
+        Ok(at)
     }
 
     /// The number of the socket that takes a datagram from one end to another.

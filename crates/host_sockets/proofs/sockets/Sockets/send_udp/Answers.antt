@@ -1,11 +1,11 @@
-use Rattle.std.proofs.Common.{◌≡◌, ◌<◌, length, false, ◌∙◌, ap, arith}
-use Rattle.sock_udp.specs.Socket.{UdpState, send}
+use Rattle.std.proofs.Common.{◌<◌, length, ap, arith}
+use Rattle.sock_udp.specs.Socket.{UdpState, send, sent}
 use Rattle.host_wants.specs.Refusals.{by_errno}
-use Rattle.host_sockets.specs.Udp.{udp_around, udp_bound, sends_udp}
+use Rattle.host_sockets.specs.Udp.{udp_around, sends_udp}
 use Rattle.host_sockets.proofs.Endings.{udp_act_ends}
 use Rattle.host_sockets.proofs.UdpTold.{told_then}
 use Rattle.host_sockets.proofs.UdpSlots.{becomes_udp, refused_udp, slot_same}
-use Rattle.host_sockets.proofs.BoundSends.{surrounded, sends_enough}
+use Rattle.host_sockets.proofs.UdpCalls.{surrounded, sends_alike}
 use Rattle.host_sockets.proofs.sockets.Sockets.send_udp.Goals as goal
 
 pub invariant_of-self : goal.invariant_of-self
@@ -21,10 +21,8 @@ returns-then-k-len c = λ t h. refused_udp (λ (u : UdpState). by_errno (send (u
 pub returns : goal.returns
 unfolding sends_udp
 returns c = λ t h.
-    let ends = c.as_slice.ensures.value in
-    let enough = λ (unbound : udp_bound c.args.k t ≡ false). ends ∙ c.in_ok-bound.ensures t h unbound in
     let within : c.args.k < length c.args.self.now.udp.slots.items = omega (arith, c.args.self.now.udp.slots.ok.0) in
-    let same = sends_enough c.args.self.now t c.args.k c.index_mut-slot.result.now c.as_slice.result.now c.args.hosts.now c.args.bytes.now c.args.to h within c.index_mut-slot.ensures.value enough in
-    let does = slot_same (λ (u : UdpState). by_errno (send (surrounded c.args.self.now.own c.args.hosts.now c.as_slice.result.now) c.args.bytes.now c.args.to u)) (λ (u : UdpState). by_errno (send (udp_around c.args.hosts.now t) c.args.bytes.now c.args.to u)) c.index_mut-slot.result.now c.send-answer.new.slot c.send-answer.result same c.send-answer.ensures in
+    let same = sends_alike c.args.self.now t c.args.k c.args.hosts.now c.args.bytes.now c.args.to c.index_mut-slot.result.now c.udp_end_to_use-own.result h within c.index_mut-slot.ensures.value c.udp_end_to_use-own.ensures in
+    let does = slot_same (λ (u : UdpState). by_errno (sent (surrounded c.args.self.now.own c.args.hosts.now) c.args.bytes.now c.args.to u c.udp_end_to_use-own.result)) (λ (u : UdpState). by_errno (send (udp_around c.args.hosts.now t) c.args.bytes.now c.args.to u)) c.index_mut-slot.result.now c.send-answer.new.slot c.send-answer.result same c.send-answer.ensures in
     becomes_udp (λ (u : UdpState). by_errno (send (udp_around c.args.hosts.now t) c.args.bytes.now c.args.to u)) c.args.self.now _ t c.args.k c.slot_glance-before.result c.index_mut-slot.result.now c.send-answer.new.slot c.send-answer.result h within c.index_mut-slot.ensures.value c.slot_glance-before.ensures does
     (udp_act_ends c.args.self.now _ c.args.k c.slot_glance-before.result c.send-answer.new.slot within c.end_udp_act.ensures.own (ap (λ v. v.slots.items) c.end_udp_act.ensures.udp) c.end_udp_act.ensures.tcp c.end_udp_act.ensures.tcp_risen c.end_udp_act.ensures.gone c.end_udp_act.ensures.udp_risen)

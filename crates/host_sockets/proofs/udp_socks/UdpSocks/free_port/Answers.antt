@@ -6,6 +6,6 @@ use Rattle.host_sockets.proofs.UdpTold.{ends_told}
 use Rattle.host_sockets.proofs.udp_socks.UdpSocks.free_port.Goals as goal
 
 pub returns : goal.returns
-returns c = λ free e.
-    c.free_port.ensures free e
+returns c =
+    c.free_port.ensures
     ∙ (ap (λ (places : List (Option UdpEnds)). least_free_port (bound_ends places)) c.args.self.now.told ∙ ap least_free_port (ends_told c.args.self.now.slots.items))

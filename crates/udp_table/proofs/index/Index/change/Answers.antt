@@ -8,4 +8,6 @@ returns c = λ done old new h index.
     indexes_changed c.args.self.now _ c.args.place c.args.was c.args.is c.local_in-from.result c.local_in-to.result old new h index c.local_in-from.ensures c.local_in-to.ensures
     (λ k. c.mark.ensures c.if-not-mark.false k ∙ ap (λ (b : Bool). if k == c.args.place then b else has c.args.self.now.taken k) c.is_some.ensures)
     (c.recount.ensures c.if-not-recount.false)
+    (c.note.ensures.here c.if-not-note.false)
+    c.note.ensures.others
     (c.move_end.ensures done)
