@@ -1,5 +1,11 @@
-pub mod Moving
+pub mod Views
 pub mod Epolls
+pub mod Growing
+pub mod Moving
+pub mod Opening
+pub mod Ending
+pub mod Asked
 pub mod PlainRows
 pub mod NetworkRows
+pub mod Hosts
 pub mod Table

@@ -1,5 +1,6 @@
 -- calls on sockets: they leave pipes, eventfds and timers as they are
-use Rattle.std.proofs.Common.{◌≡◌, ℕ, Bool, List, Option, is_some, Result, Ok, refl}
+use Rattle.std.proofs.Common.{◌≡◌, ℕ, Bool, true, false, List, Option, None, is_some, Result, Ok, refl, sym, ap, subst}
+use Rattle.std.specs.FinMap as map
 use Rattle.std.specs.Int.{w32, cast_signed}
 use Rattle.sim_base.specs.Refusals.{◌>>=◌, ◌>>◌, or_refuse}
 use Rattle.sim_base.specs.declared.address.Ip.{Ip}
@@ -7,8 +8,12 @@ use Rattle.sim_base.specs.declared.time.Time.{Time}
 use Rattle.guest_args.specs.Span.{counted, span}
 use Rattle.guest_args.specs.declared.address.AddressPlace.{AddressPlace}
 use Rattle.sock_tcp.specs.declared.connection.effects.Shut.{Shut}
+use Rattle.host_files.specs.declared.file.File.{File}
+use Rattle.host_files.specs.declared.file.Object.TheVariants as kind
+use Rattle.host_files.specs.Files.{FilesState}
 use Rattle.host_wants.specs.declared.error.Refusal.{Refusal}
-use Rattle.host_sockets.specs.Udp.{udp_fits, connects_udp, sends_udp, receives_udp}
+use Rattle.host_sockets.specs.Sockets.{new_tcp}
+use Rattle.host_sockets.specs.Udp.{new_udp, udp_fits, connects_udp, sends_udp, receives_udp}
 use Rattle.host_sockets.specs.Binding.{listens_tcp}
 use Rattle.host_sockets.specs.Accepting.{accepts_tcp}
 use Rattle.host_sockets.specs.Connecting.{connects_taking, connect_answers}
@@ -27,12 +32,19 @@ use Rattle.call_parts.specs.declared.sockets.SocketNumber.{SocketNumber}
 use Rattle.call_parts.specs.declared.sockets.SocketNumber.TheVariants as number
 use Rattle.host_calls.specs.Parts.{Scene, local_of}
 use Rattle.call_parts.specs.Sockets.{open_socket, tcp_number, given_address, address, result_address, socket_asked, getsockopt_asked}
-use Rattle.host_calls.specs.Sockets.{with_socket, socket, binds, bind_asked, bind, listen, connect_tcp, connect_udp, connect_again, connect_call, name_of, peer_of, getsockname, getpeername, send_udp, send_tcp, recv_udp, recv_tcp, told_error, told_option, getsockopt, shut_of, shuts, shutdown, accepts, connects, sends_by, recv_by, receives}
-use Rattle.call_rises.proofs.Moving.{by_test, stays, Moved, moved, Leads, answers, refused, asks, tries}
+use Rattle.host_calls.specs.Sockets.{with_socket, socket, binds, bind_asked, bind, listen, connect_tcp, connect_udp, connect_again, connect_call, name_of, peer_of, getsockname, getpeername, send_udp, send_tcp, recv_udp, recv_tcp, told_error, told_option, getsockopt, shut_of, shuts, shutdown, accepts, connects, sends_by, recv_by, receives, socket_file, with_tcp_file, with_udp_file, accepted_by}
+use Rattle.call_rises.proofs.Moving.{by_test, stays, Moved, moved, Leads, answers, refused, asks, tries, moved_by, asks_so}
+use Rattle.call_rises.specs.Names.{is_there, is_single}
+use Rattle.call_rises.proofs.Asked.{socket_free}
+use Rattle.call_rises.proofs.Opening.{with_open, opened_named, new_object}
+use Rattle.call_rises.proofs.Views.{View, view, grows_so}
+
+abbrev pub scene_view : Scene → View
+scene_view s = view s.task s.shared s.sockets
 
 module _ (now : ℕ) where
   abbrev pub SceneMoved : Scene → Scene → Type 0
-  SceneMoved s t = Moved now s.shared.files s.task.epolls t.shared.files t.task.epolls
+  SceneMoved s t = Moved now (scene_view s) (scene_view t)
 
   abbrev R : {A : Type 0} → Scene → Result (A × Scene) Refusal → Type 0
   R s row = Leads (SceneMoved s) row
@@ -40,48 +52,66 @@ module _ (now : ℕ) where
   abbrev ask : {A B : Type 0} (s : Scene) (asked : Result B Refusal) (f : B → Result (A × Scene) Refusal) → ((b : B) → R s (f b)) → R s (asked >>= f)
   ask s asked f h = asks (SceneMoved s) asked f h
 
-  pub keeps : {A : Type 0} (a : A) (s after : Scene) → s.shared.files.pipes ≡ after.shared.files.pipes → s.shared.files.eventfds ≡ after.shared.files.eventfds → s.shared.files.timers ≡ after.shared.files.timers → s.task.epolls ≡ after.task.epolls → R s (Ok (a, after))
-  keeps a s after p e t q =
-      answers (SceneMoved s) a after (moved now s.shared.files s.task.epolls after.shared.files after.task.epolls (stays now s.shared.files after.shared.files p e t) q)
+  pub keeps : {A : Type 0} (a : A) (s after : Scene) → s.shared.files ≡ after.shared.files → s.task.table ≡ after.task.table → s.task.epolls ≡ after.task.epolls → R s (Ok (a, after))
+  keeps a s after files table epolls =
+      let pipes = ap (λ (x : FilesState). x.pipes) files in
+      let eventfds = ap (λ (x : FilesState). x.eventfds) files in
+      let timers = ap (λ (x : FilesState). x.timers) files in
+      answers (SceneMoved s) a after
+      (moved now (scene_view s) (scene_view after) (stays now s.shared.files after.shared.files pipes eventfds timers) table (ap (λ (x : FilesState). x.files) files) epolls
+      (grows_so s.shared.files after.shared.files pipes eventfds timers))
 
-  made : (new : NewSocket) (nonblocking : Bool) (s : Scene) → SceneMoved s (with_socket new nonblocking s)
-  made new nonblocking s =
+  -- a socket is opened, of which the files know nothing but its number
+  opens_socket : (fd : ℕ) (file : File) (s after : Scene) → map.get s.task.table fd ≡ None → is_there file.object s.shared.files ≡ true → (is_single file.object ≡ true → is_there file.object s.shared.files ≡ false) → scene_view after ≡ with_open (scene_view s) fd file s.shared.files s.task.epolls after.sockets → SceneMoved s after
+  opens_socket fd file s after free here new is =
+      subst (λ (w : View). Moved now (scene_view s) w) (sym is)
+      (moved_by now (scene_view s) (with_open (scene_view s) fd file s.shared.files s.task.epolls after.sockets) (stays now s.shared.files _ refl refl refl) refl
+      (opened_named now (scene_view s) fd file s.shared.files s.task.epolls after.sockets free refl (grows_so s.shared.files s.shared.files refl refl refl) here (λ k x h. h)
+      (λ process tasks h. new_object (scene_view s) file process tasks h new)))
+
+  made : (new : NewSocket) (nonblocking : Bool) (s : Scene) → map.get s.task.table new.fd ≡ None → SceneMoved s (with_socket new nonblocking s)
+  made new nonblocking s free =
       by_test (SceneMoved s) new.stream _ _
-      (λ e. moved now s.shared.files s.task.epolls _ _ (stays now s.shared.files _ refl refl refl) refl)
-      (λ e. moved now s.shared.files s.task.epolls _ _ (stays now s.shared.files _ refl refl refl) refl)
+      (λ e. opens_socket new.fd (socket_file nonblocking (kind.Tcp (new_tcp s.sockets).0)) s (with_tcp_file new.fd nonblocking (new_tcp s.sockets) s) free refl (λ one. cc) refl)
+      (λ e. opens_socket new.fd (socket_file nonblocking (kind.Udp (new_udp s.sockets).0)) s (with_udp_file new.fd nonblocking (new_udp s.sockets) s) free refl (λ one. cc) refl)
 
   pub socket_leads : (family type protocol : ℕ) (s : Scene) → R s (socket family type protocol s)
   socket_leads family type protocol s =
-      ask s (socket_asked family type protocol s.task) _ (λ new. answers (SceneMoved s) _ _ (made new _ s))
+      asks_so (SceneMoved s) (socket_asked family type protocol s.task) _
+      (λ new e. answers (SceneMoved s) _ _ (made new _ s ((socket_free family type protocol s.task).gives new e)))
 
   pub bind_leads : (hosts : List Ip) (fd at size : ℕ) (s : Scene) → R s (bind hosts fd at size s)
   bind_leads hosts fd at size s =
       ask s (open_socket fd (local_of s)) _
       (λ socket. ask s (bind_asked socket.number at size s.task.memory s.sockets) _
-      (λ to. ask s (binds hosts socket.number to s.sockets) _ (λ b. keeps _ s _ refl refl refl refl)))
+      (λ to. ask s (binds hosts socket.number to s.sockets) _ (λ b. keeps _ s _ refl refl refl)))
 
   pub listen_leads : (fd backlog : ℕ) (s : Scene) → R s (listen fd backlog s)
   listen_leads fd backlog s =
       ask s (open_socket fd (local_of s)) _
       (λ socket. ask s (tcp_number socket.number) _
-      (λ k. ask s (listens_tcp k (cast_signed w32 backlog) s.sockets) _ (λ b. keeps _ s _ refl refl refl refl)))
+      (λ k. ask s (listens_tcp k (cast_signed w32 backlog) s.sockets) _ (λ b. keeps _ s _ refl refl refl)))
 
-  pub accept_leads : (a : AcceptPlan) (s : Scene) → R s (accepts a s)
-  accept_leads a s = ask s (accepts_tcp a.listener s.sockets) _ (λ b. keeps _ s _ refl refl refl refl)
+  pub accept_leads : (a : AcceptPlan) (s : Scene) → map.get s.task.table a.new.fd ≡ None → R s (accepts a s)
+  accept_leads a s free =
+      ask s (accepts_tcp a.listener s.sockets) _
+      (λ b.
+      answers (SceneMoved s) a.new.fd (accepted_by a.new b.0 b.1 s)
+      (opens_socket a.new.fd (socket_file false (kind.Tcp b.0.socket)) s (accepted_by a.new b.0 b.1 s) free refl (λ one. cc) refl))
 
   connecting_tcp : (hosts : List Ip) (moment : Time) (nonblocking : Bool) (k at size : ℕ) (s : Scene) → R s (connect_tcp hosts moment nonblocking k at size s)
   connecting_tcp hosts moment nonblocking k at size s =
       ask s (address at size s.task.memory) _
-      (λ to. ask s (connects_taking hosts moment k to s.sockets s.shared.outlet) _ (λ b. keeps _ s _ refl refl refl refl))
+      (λ to. ask s (connects_taking hosts moment k to s.sockets s.shared.outlet) _ (λ b. keeps _ s _ refl refl refl))
 
   connecting_again : (moment : Time) (k : ℕ) (s : Scene) → R s (connect_again moment k s)
   connecting_again moment k s =
-      ask s (connect_answers moment k s.sockets s.shared.outlet) _ (λ b. keeps _ s _ refl refl refl refl)
+      ask s (connect_answers moment k s.sockets s.shared.outlet) _ (λ b. keeps _ s _ refl refl refl)
 
   connecting_udp : (hosts : List Ip) (k at size : ℕ) (s : Scene) → R s (connect_udp hosts k at size s)
   connecting_udp hosts k at size s =
       ask s (address at size s.task.memory) _
-      (λ to. ask s (connects_udp hosts k to s.sockets) _ (λ b. keeps _ s _ refl refl refl refl))
+      (λ to. ask s (connects_udp hosts k to s.sockets) _ (λ b. keeps _ s _ refl refl refl))
 
   connecting : (hosts : List Ip) (moment : Time) (nonblocking : Bool) (socket : SocketNumber) (at size : ℕ) (s : Scene) → R s (connect_call hosts moment nonblocking socket at size s)
   connecting hosts moment nonblocking (number.Udp k) at size s = connecting_udp hosts k at size s
@@ -97,36 +127,36 @@ module _ (now : ℕ) where
   getsockname_leads fd at size_at s =
       ask s (open_socket fd (local_of s)) _
       (λ socket. ask s (name_of socket.number s.sockets) _
-      (λ name. ask s (result_address at size_at s.task.memory) _ (λ place. keeps _ s _ refl refl refl refl)))
+      (λ name. ask s (result_address at size_at s.task.memory) _ (λ place. keeps _ s _ refl refl refl)))
 
   pub getpeername_leads : (fd at size_at : ℕ) (s : Scene) → R s (getpeername fd at size_at s)
   getpeername_leads fd at size_at s =
       ask s (open_socket fd (local_of s)) _
       (λ socket. ask s (peer_of socket.number s.sockets) _
-      (λ peer. ask s (result_address at size_at s.task.memory) _ (λ place. keeps _ s _ refl refl refl refl)))
+      (λ peer. ask s (result_address at size_at s.task.memory) _ (λ place. keeps _ s _ refl refl refl)))
 
   sending_udp : (hosts : List Ip) (k : ℕ) (message : Message) (s : Scene) → R s (send_udp hosts k message s)
   sending_udp hosts k message s =
       tries (SceneMoved s) (udp_fits k message.n _ s.sockets) _
       (ask s (or_refuse (span (counted message.n) message.at s.task.memory) _) _
       (λ bytes. ask s (given_address message.to_at message.size s.task.memory) _
-      (λ to. ask s (sends_udp hosts k bytes to s.sockets) _ (λ b. keeps _ s _ refl refl refl refl))))
+      (λ to. ask s (sends_udp hosts k bytes to s.sockets) _ (λ b. keeps _ s _ refl refl refl))))
 
   sending_tcp : (hosts : List Ip) (moment : Time) (d : StreamSend) (s : Scene) → R s (send_tcp hosts moment d s)
   sending_tcp hosts moment d s =
       ask s (or_refuse (span (counted d.n) d.at s.task.memory) _) _
-      (λ bytes. ask s (sends_taking hosts moment d.place bytes d.to d.quiet s.sockets s.shared.outlet) _ (λ b. keeps _ s _ refl refl refl refl))
+      (λ bytes. ask s (sends_taking hosts moment d.place bytes d.to d.quiet s.sockets s.shared.outlet) _ (λ b. keeps _ s _ refl refl refl))
 
   pub send_leads : (hosts : List Ip) (moment : Time) (m : SendPlan) (s : Scene) → R s (sends_by hosts moment m s)
   send_leads hosts moment (sending.Datagram d) s = sending_udp hosts d.place d.message s
   send_leads hosts moment (sending.Stream d) s = sending_tcp hosts moment d s
 
   receiving_udp : (k at n : ℕ) (place : Option AddressPlace) (s : Scene) → R s (recv_udp k at n place s)
-  receiving_udp k at n place s = ask s (receives_udp k (counted n) s.sockets) _ (λ b. keeps _ s _ refl refl refl refl)
+  receiving_udp k at n place s = ask s (receives_udp k (counted n) s.sockets) _ (λ b. keeps _ s _ refl refl refl)
 
   receiving_tcp : (moment : Time) (k at n : ℕ) (place : Option AddressPlace) (s : Scene) → R s (recv_tcp moment k at n place s)
   receiving_tcp moment k at n place s =
-      ask s (receives_taking moment k (counted n) s.sockets s.shared.outlet) _ (λ b. keeps _ s _ refl refl refl refl)
+      ask s (receives_taking moment k (counted n) s.sockets s.shared.outlet) _ (λ b. keeps _ s _ refl refl refl)
 
   receiving : (moment : Time) (socket : SocketNumber) (at n : ℕ) (place : Option AddressPlace) (s : Scene) → R s (recv_by moment socket at n place s)
   receiving moment (number.Udp k) at n place s = receiving_udp k at n place s
@@ -136,13 +166,13 @@ module _ (now : ℕ) where
   recv_leads moment r s = receiving moment r.number r.at r.n r.from s
 
   telling_error : (moment : Time) (socket : SocketNumber) (at size_at : ℕ) (s : Scene) → R s (told_error moment socket at size_at s)
-  telling_error moment (number.Udp k) at size_at s = keeps _ s _ refl refl refl refl
+  telling_error moment (number.Udp k) at size_at s = keeps _ s _ refl refl refl
   telling_error moment (number.Tcp k) at size_at s =
-      ask s (takes_error moment k s.sockets s.shared.outlet) _ (λ b. keeps _ s _ refl refl refl refl)
+      ask s (takes_error moment k s.sockets s.shared.outlet) _ (λ b. keeps _ s _ refl refl refl)
 
   telling : (moment : Time) (asked : Asked) (at size_at : ℕ) (s : Scene) → R s (told_option moment asked at size_at s)
   telling moment asked at size_at s =
-      by_test (R s) asked.error _ _ (λ e. telling_error moment asked.number at size_at s) (λ e. keeps _ s _ refl refl refl refl)
+      by_test (R s) asked.error _ _ (λ e. telling_error moment asked.number at size_at s) (λ e. keeps _ s _ refl refl refl)
 
   pub getsockopt_leads : (moment : Time) (fd level option at size_at : ℕ) (s : Scene) → R s (getsockopt moment fd level option at size_at s)
   getsockopt_leads moment fd level option at size_at s =
@@ -151,7 +181,7 @@ module _ (now : ℕ) where
   shutting : (moment : Time) (how : Shut) (socket : SocketNumber) (s : Scene) → R s (shuts moment how socket s)
   shutting moment how (number.Udp k) s = refused (SceneMoved s) _
   shutting moment how (number.Tcp k) s =
-      ask s (shuts_tcp moment k how s.sockets s.shared.outlet) _ (λ b. keeps _ s _ refl refl refl refl)
+      ask s (shuts_tcp moment k how s.sockets s.shared.outlet) _ (λ b. keeps _ s _ refl refl refl)
 
   pub shutdown_leads : (moment : Time) (fd how : ℕ) (s : Scene) → R s (shutdown moment fd how s)
   shutdown_leads moment fd how s =

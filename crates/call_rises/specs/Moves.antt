@@ -1,5 +1,5 @@
 -- what happens to the pipes, eventfds and timers of a host: acts, by which one state of its files comes from another
-use Rattle.std.specs.Prelude.{◌≡◌, ℕ, Bool, List, [], ◌∷◌, Some}
+use Rattle.std.specs.Prelude.{◌≡◌, ℕ, Bool, true, List, [], ◌∷◌, Some, is_some}
 use Rattle.host_fds.specs.declared.epoll.Watch.{Watch}
 use Rattle.host_files.specs.Epolls.{EpollsState}
 use Rattle.host_files.specs.Files.{FilesState}
@@ -10,7 +10,7 @@ use Rattle.pipe_laws.specs.Acts.{PipeAct}
 use Rattle.pipe_laws.specs.Eventfds.{EventfdAct}
 use Rattle.pipe_laws.specs.Watching.{Rise}
 use Rattle.file_laws.specs.Kinds.{pipes, eventfds, timers}
-use Rattle.file_laws.specs.Lives.{SlotAct, makes, does, ends, slots_after}
+use Rattle.file_laws.specs.Lives.{SlotAct, makes, does, ends, slots_after, Lasts}
 use Rattle.file_laws.specs.Timers.{TimerAct, Sets, Rings, Counts}
 
 -- a timer is set, and its expiries are read, at a moment
@@ -25,7 +25,8 @@ AreAt now (makes clock ∷ acts) = AreAt now acts
 AreAt now (does k act ∷ acts) = IsAt now act × AreAt now acts
 AreAt now (ends k ∷ acts) = AreAt now acts
 
--- acts at a moment lead from some files to others
+-- acts at a moment lead from some files to others; and what is there before and after them is there after each of them, so that none
+-- of its things ends and has another one made with its number
 pub record FilesMove (now : ℕ) (x y : FilesState) : Type 0 where
   pub on_pipes : List (SlotAct (Unit {0}) PipeAct)
   pub on_eventfds : List (SlotAct (ℕ × Bool) EventfdAct)
@@ -34,6 +35,9 @@ pub record FilesMove (now : ℕ) (x y : FilesState) : Type 0 where
   pub pipes_after : slots_after pipes on_pipes x.pipes ≡ y.pipes
   pub eventfds_after : slots_after eventfds on_eventfds x.eventfds ≡ y.eventfds
   pub timers_after : slots_after timers on_timers x.timers ≡ y.timers
+  pub pipes_last : (k : ℕ) → is_some (at k x.pipes) ≡ true → is_some (at k y.pipes) ≡ true → Lasts pipes k on_pipes x.pipes
+  pub eventfds_last : (k : ℕ) → is_some (at k x.eventfds) ≡ true → is_some (at k y.eventfds) ≡ true → Lasts eventfds k on_eventfds x.eventfds
+  pub timers_last : (k : ℕ) → is_some (at k x.timers) ≡ true → is_some (at k y.timers) ≡ true → Lasts timers k on_timers x.timers
 
 -- the entries of each epoll of a process stand by rising descriptors
 abbrev pub AllRise : EpollsState → Type 0

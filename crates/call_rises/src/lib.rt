@@ -1,17 +1,19 @@
 //! System calls as acts on a host's pipes, eventfds and timers. Definitions and laws, and no code that runs.
 #![tactic(auto)]
 
-ghost use Rattle.std.specs.Prelude.{◌≡◌, ℕ, List};
+ghost use Rattle.std.specs.Prelude.{◌≡◌, ℕ, List, None};
 ghost use Rattle.sim_base.specs.declared.object.ObjectId.{ObjectId};
 ghost use Rattle.sim_base.specs.declared.packet.Packet.{Packet};
 ghost use Rattle.sim_base.specs.declared.time.Time.{Time};
 ghost use Rattle.guest_mem.specs.Memory.{Memory};
+ghost use Rattle.host_files.specs.Slots.{at};
 ghost use Rattle.file_calls.specs.declared.known.Known.{Known};
 ghost use Rattle.host_calls.specs.Calls.{call};
 ghost use Rattle.host_calls.specs.Events.{arrives, alarmed, ended};
 ghost use Rattle.host_calls.specs.Parts.{PartsRecord};
 ghost use Rattle.host_calls.specs.Starting.{task_starts};
 ghost use Rattle.call_rises.specs.Moves.{FilesMove, TasksRise};
+ghost use Rattle.call_rises.specs.Names.{NamesHold, NamesMove, MarksMove};
 
 /// What a call, the start and the end of a process and an alarm do to a host's pipes, eventfds and timers
 /// are acts on them at that moment; what arrives does nothing to them.
@@ -41,4 +43,37 @@ pub fn entries_stay_in_order()
         → TasksRise h → TasksRise (alarmed now object serial h) }
     ensures arrival { (now : Time) (packet : Packet) (h : PartsRecord)
         → TasksRise h → TasksRise (arrives now packet h).1 }
+{}
+
+/// What a descriptor names stays as long as it is open. Where each descriptor of a host names an open file,
+/// and each file an object, of its own, and each entry of an epoll is of an open descriptor, it is so after
+/// each of these too; and a descriptor that is open before and after names one file, of one object, that
+/// was there all along: so its number was given to no other one.
+pub fn descriptors_name_one_object()
+    ensures call { (known : Known) (now : Time) (process number : ℕ) (args : List ℕ) (h : PartsRecord)
+        → NamesHold h.tasks h.shared.files → NamesMove now.nanos h (call known now process number args h).1 }
+    ensures start { (now : Time) (process : ℕ) (memory : Memory) (h : PartsRecord) → at process h.tasks ≡ None
+        → NamesHold h.tasks h.shared.files → NamesMove now.nanos h (task_starts process memory h) }
+    ensures end { (now : Time) (process : ℕ) (h : PartsRecord)
+        → NamesHold h.tasks h.shared.files → NamesMove now.nanos h (ended now process h) }
+    ensures alarm { (now : Time) (object : ObjectId) (serial : ℕ) (h : PartsRecord)
+        → NamesHold h.tasks h.shared.files → NamesMove now.nanos h (alarmed now object serial h) }
+    ensures arrival { (now : Time) (packet : Packet) (h : PartsRecord)
+        → NamesHold h.tasks h.shared.files → NamesMove now.nanos h (arrives now packet h).1 }
+{}
+
+/// The mark of an entry is that of its last report: each entry that is there afterwards was there as it is,
+/// or was told by the call, and then has the rises that were seen of its descriptor as the call began, or
+/// was never told.
+pub fn marks_are_of_reports()
+    ensures call { (known : Known) (now : Time) (process number : ℕ) (args : List ℕ) (h : PartsRecord)
+        → MarksMove now h (call known now process number args h).1 }
+    ensures start { (now : Time) (process : ℕ) (memory : Memory) (h : PartsRecord)
+        → MarksMove now h (task_starts process memory h) }
+    ensures end { (now : Time) (process : ℕ) (h : PartsRecord)
+        → MarksMove now h (ended now process h) }
+    ensures alarm { (now : Time) (object : ObjectId) (serial : ℕ) (h : PartsRecord)
+        → MarksMove now h (alarmed now object serial h) }
+    ensures arrival { (now : Time) (packet : Packet) (h : PartsRecord)
+        → MarksMove now h (arrives now packet h).1 }
 {}

@@ -8,7 +8,7 @@ use Rattle.host_fds.specs.Pipe.{PipeState, new_pipe, rises}
 use Rattle.host_fds.specs.Rises.{counted}
 use Rattle.pipe_laws.specs.Acts.{PipeAct, pipe_after, pipe_after_all}
 use Rattle.pipe_laws.specs.Eventfds as eventfd
-use Rattle.pipe_laws.specs.Eventfds.{EventfdAct, Adds, Takes, eventfd_after, eventfd_after_all}
+use Rattle.pipe_laws.specs.Eventfds.{EventfdAct, eventfd_after, eventfd_after_all}
 use Rattle.pipe_laws.specs.Rises.{rises_in, rises_in_each, rise_count}
 use Rattle.pipe_laws.proofs.Counting.{run, counted_from_none}
 

@@ -1,5 +1,5 @@
 -- things by number, where one is put, acted on or made
-use Rattle.std.proofs.Common.{◌≡◌, ◌≢◌, ℕ, zero, suc, ◌≤◌, Bool, true, false, List, [], ◌∷◌, ◌++◌, length, Option, Some, None, slice_set, nat_lt, if◌then◌else◌, refl, ap, arith}
+use Rattle.std.proofs.Common.{◌≡◌, ◌≢◌, ℕ, zero, suc, ◌≤◌, Bool, true, false, List, [], ◌∷◌, ◌++◌, length, Option, Some, None, slice_set, nat_lt, if◌then◌else◌, refl, sym, ap, subst, ◌∙◌, arith, one-add}
 use Rattle.std.proofs.lemmas.Bool.Decides.{nat_tests}
 use Rattle.std.proofs.lemmas.List.Sums.{prefix_len-le-length}
 use Rattle.host_files.specs.Slots.{at, free_place, added, without, after, acts}
@@ -72,3 +72,19 @@ module _ {A : Type 0} where
   unfolding put
   made_other k a slots apart =
       put_other (nat_lt (free_place slots) (length slots)) (free_place slots) k (Some a) slots refl (place_within slots) apart
+
+  -- the place that a new thing gets is free
+  pub none_free : (slots : List (Option A)) → at (free_place slots) slots ≡ None
+  none_free [] = refl
+  none_free (None ∷ slots) = refl
+  none_free (Some a ∷ slots) = rw one-add (none_free slots)
+
+  -- what holds of a thing, and not where there is none, holds of it where another is made
+  pub made_keeps : (test : Option A → Bool) → test None ≡ false → (a : A) (slots : List (Option A)) (k : ℕ) → test (at k slots) ≡ true → test (at k (added a slots)) ≡ true
+  made_keeps test none a slots k h =
+      subst (λ (o : Option A). test o ≡ true)
+      (sym (made_other k a slots (λ same. let here : at k slots ≡ None = subst (λ (n : ℕ). at n slots ≡ None) same (none_free slots) in clash test none (at k slots) here h))) h
+    where
+      clash : (test : Option A → Bool) → test None ≡ false → (o : Option A) → o ≡ None → test o ≡ true → ⊥
+      clash test none None e h = let no : false ≡ true = sym none ∙ h in cc
+      clash test none (Some a) e h = cc

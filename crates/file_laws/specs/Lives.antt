@@ -1,6 +1,6 @@
 -- Things by number over a history: each is made at the least free number, is acted on by its number, and ends. Then its number is
 -- free, and another thing may be made with it: so the life of a thing begins where it was made.
-use Rattle.std.specs.Prelude.{ℕ, ◌==◌, List, [], ◌∷◌, ◌++◌, Option, Some, None, is_some, option_map, if◌then◌else◌}
+use Rattle.std.specs.Prelude.{◌≡◌, ℕ, ◌==◌, true, List, [], ◌∷◌, ◌++◌, Option, Some, None, is_some, option_map, if◌then◌else◌}
 use Rattle.host_files.specs.Slots.{at, free_place, added, without, after, acts}
 
 -- a kind of things: what is made of what was asked for, and what an act leaves of one, where None means that it is gone
@@ -58,3 +58,15 @@ module _ {M A B : Type 0} (kind : Kind M A B) where
   abbrev pub left_by : List B → Option A → Option A
   left_by [] thing = thing
   left_by (act ∷ more) thing = left_by more (after (kind.leaves act) thing)
+
+  -- a thing that is there after each of some acts, one behind another: nothing else was made with its number meanwhile
+  abbrev pub Lasts : ℕ → List (SlotAct M B) → List (Option A) → Type 0
+  Lasts k [] slots = Unit {0}
+  Lasts k (act ∷ more) slots = (is_some (at k (slots_acted act slots)) ≡ true) × Lasts k more (slots_acted act slots)
+
+  -- those of the acts that are on it
+  abbrev pub acts_on : ℕ → List (SlotAct M B) → List B
+  acts_on k [] = []
+  acts_on k (makes made ∷ more) = acts_on k more
+  acts_on k (does j act ∷ more) = if j == k then act ∷ acts_on k more else acts_on k more
+  acts_on k (ends j ∷ more) = acts_on k more

@@ -2,7 +2,7 @@
 //! how often each of its bits came to hold. Definitions and laws, and no code that runs.
 #![tactic(auto)]
 
-ghost use Rattle.std.specs.Prelude.{◌≡◌, ℕ, Bool, List, Some, None, take, filter, map};
+ghost use Rattle.std.specs.Prelude.{◌≡◌, ◌++◌, ℕ, Bool, List, Some, None, take, filter, map};
 ghost use Rattle.host_fds.specs.declared.epoll.Seen.{Seen};
 ghost use Rattle.host_fds.specs.declared.epoll.Watch.{Watch};
 ghost use Rattle.host_fds.specs.Epoll.{entry_of, is_due, told};
@@ -14,7 +14,7 @@ ghost use Rattle.pipe_laws.specs.Acts.{PipeAct};
 ghost use Rattle.pipe_laws.specs.Eventfds.{EventfdAct};
 ghost use Rattle.file_laws.specs.Counted.{PipeIsCounted, EventfdIsCounted, TimerIsCounted};
 ghost use Rattle.file_laws.specs.Kinds.{pipes, eventfds, timers};
-ghost use Rattle.file_laws.specs.Lives.{SlotAct, Life, slots_of, life_of};
+ghost use Rattle.file_laws.specs.Lives.{SlotAct, Life, slots_of, life_of, Lasts, acts_on};
 ghost use Rattle.file_laws.specs.Timers.{TimerAct};
 
 /// Whatever happened to the pipes of a host, each is what the acts on it since it was made leave of a new
@@ -38,6 +38,20 @@ pub fn timers_are_counted()
     ensures there { (acts : List (SlotAct ℕ TimerAct)) (k : ℕ) (t : KeptTimer) → at k (slots_of timers acts) ≡ Some t
         → (life : Life ℕ TimerAct) × ((life_of timers k acts ≡ Some life) × TimerIsCounted life t) }
     ensures gone { (acts : List (SlotAct ℕ TimerAct)) (k : ℕ) → at k (slots_of timers acts) ≡ None → life_of timers k acts ≡ None }
+{}
+
+/// A thing that is there after each of some acts, one behind another, has one life all along, to which those
+/// of them add that are on it.
+pub fn lives_go_on()
+    ensures pipes { (acts more : List (SlotAct (Unit {0}) PipeAct)) (k : ℕ) (life : Life (Unit {0}) PipeAct)
+        → life_of pipes k acts ≡ Some life → Lasts pipes k more (slots_of pipes acts)
+        → life_of pipes k (acts ++ more) ≡ Some (record { made = life.made; acts = life.acts ++ acts_on pipes k more }) }
+    ensures eventfds { (acts more : List (SlotAct (ℕ × Bool) EventfdAct)) (k : ℕ) (life : Life (ℕ × Bool) EventfdAct)
+        → life_of eventfds k acts ≡ Some life → Lasts eventfds k more (slots_of eventfds acts)
+        → life_of eventfds k (acts ++ more) ≡ Some (record { made = life.made; acts = life.acts ++ acts_on eventfds k more }) }
+    ensures timers { (acts more : List (SlotAct ℕ TimerAct)) (k : ℕ) (life : Life ℕ TimerAct)
+        → life_of timers k acts ≡ Some life → Lasts timers k more (slots_of timers acts)
+        → life_of timers k (acts ++ more) ≡ Some (record { made = life.made; acts = life.acts ++ acts_on timers k more }) }
 {}
 
 /// A wait for an epoll tells, of the entries that are due by what is seen of each, the first so many in

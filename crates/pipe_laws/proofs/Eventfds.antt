@@ -1,5 +1,5 @@
 -- Rises that an eventfd keeps are those that are counted.
-use Rattle.std.proofs.Common.{◌≡◌, ℕ, ◌+◌, Bool, true, false, not, ◌&&◌, ◌||◌, ◌==◌, if◌then◌else◌, List, [], ◌∷◌, nat_lt, refl, sym, ap, ◌∙◌}
+use Rattle.std.proofs.Common.{◌≡◌, ℕ, ◌+◌, Bool, true, false, not, ◌&&◌, ◌||◌, if◌then◌else◌, List, [], ◌∷◌, nat_lt, refl, sym, ap, ◌∙◌}
 use Rattle.sim_base.specs.Poll.{pollin, pollout}
 use Rattle.host_fds.specs.declared.eventfd.Eventfd.{Eventfd}
 use Rattle.host_fds.specs.Eventfd.{new_eventfd, acted, has_room, ready}

@@ -22,7 +22,9 @@ use Rattle.run_streams.proofs.Hosts.{sockets_joined}
 use Rattle.file_laws.specs.Kinds.{pipes, eventfds, timers}
 use Rattle.call_rises.proofs.Moving.{slots_joined}
 use Rattle.call_rises.proofs.Table.{Keeps, ended_keeps, starts_keep, arrives_keeps, alarmed_keeps, call_keeps}
-use Rattle.run_rises.specs.Histories.{HostHistory, GoesOnTo}
+use Rattle.run_rises.specs.Histories.{HostHistory, Leaves, GoesOn, GoesOnTo}
+use Rattle.run_rises.specs.Marks.{HoldsOn}
+use Rattle.run_rises.proofs.Marks.{GoesBy, goes_so, marks_hold}
 
 -- words may have been drawn and wants done before
 abbrev before_acts : Wanted → List (Time × SocketsAct) → List (Time × SocketsAct)
@@ -35,36 +37,51 @@ sockets_go_on hosts own draws acts more t w y is after =
     let all = sockets_joined hosts acts (before_acts w more) start reached y refl (subst (λ (u : SocketsRecord). sockets_after hosts more (u, w) ≡ y) is after) in
     sym (ap (λ (u : SocketsRecord × Wanted). u.0) all)
 
-goes_on : (hosts : List Ip) (own : Ip) (history : HostHistory) (flying : List Packet) (now : Time) (x y : PartsRecord) → Keeps now x y → Moves hosts flying (sockets_in x) (sockets_in y) → GoesOnTo hosts own history x y
-goes_on hosts own history flying now x y kept moves leaves =
-    let files = kept.files in
-    let sockets = before_acts x.shared.outlet moves.acts in
-    let more : HostHistory = record {
-      on_pipes = history.on_pipes ++ files.on_pipes;
-      on_eventfds = history.on_eventfds ++ files.on_eventfds;
-      on_timers = history.on_timers ++ files.on_timers;
-      draws = history.draws;
-      on_sockets = history.on_sockets ++ sockets;
-    } in (
-      more,
-      (
-        record {
-          on_pipes = (files.on_pipes, refl);
-          on_eventfds = (files.on_eventfds, refl);
-          on_timers = (files.on_timers, refl);
-          draws = refl;
-          on_sockets = (sockets, refl);
-        },
-        record {
-          files_are = record {
-            pipes_are = slots_joined pipes history.on_pipes files.on_pipes [] x.shared.files.pipes y.shared.files.pipes leaves.files_are.pipes_are files.pipes_after;
-            eventfds_are = slots_joined eventfds history.on_eventfds files.on_eventfds [] x.shared.files.eventfds y.shared.files.eventfds leaves.files_are.eventfds_are files.eventfds_after;
-            timers_are = slots_joined timers history.on_timers files.on_timers [] x.shared.files.timers y.shared.files.timers leaves.files_are.timers_are files.timers_after;
-          };
-          sockets_are = sockets_go_on hosts own history.draws history.on_sockets moves.acts x.sockets x.shared.outlet (sockets_in y) leaves.sockets_are moves.after;
-        },
-      ),
-    )
+module _ (hosts : List Ip) (own : Ip) (history : HostHistory) (flying : List Packet) (now : Time) (x y : PartsRecord) (kept : Keeps now x y) (moves : Moves hosts flying (sockets_in x) (sockets_in y)) where
+  abbrev all_sockets : List (Time × SocketsAct)
+  all_sockets = before_acts x.shared.outlet moves.acts
+
+  abbrev more : HostHistory
+  more = record {
+    on_pipes = history.on_pipes ++ kept.files.on_pipes;
+    on_eventfds = history.on_eventfds ++ kept.files.on_eventfds;
+    on_timers = history.on_timers ++ kept.files.on_timers;
+    draws = history.draws;
+    on_sockets = history.on_sockets ++ all_sockets;
+  }
+
+  goes_by : GoesBy history more now.nanos x.shared.files y.shared.files kept.files
+  goes_by = record { on_pipes = refl; on_eventfds = refl; on_timers = refl; draws = refl; on_sockets = (all_sockets, refl) }
+
+  goes : GoesOn history more
+  goes = goes_so history more now.nanos x.shared.files y.shared.files kept.files goes_by
+
+  leaves_more : Leaves hosts own history x.shared.files x.sockets → Leaves hosts own more y.shared.files y.sockets
+  leaves_more leaves = record {
+    files_are = record {
+      pipes_are = slots_joined pipes history.on_pipes kept.files.on_pipes [] x.shared.files.pipes y.shared.files.pipes leaves.files_are.pipes_are kept.files.pipes_after;
+      eventfds_are = slots_joined eventfds history.on_eventfds kept.files.on_eventfds [] x.shared.files.eventfds y.shared.files.eventfds leaves.files_are.eventfds_are kept.files.eventfds_after;
+      timers_are = slots_joined timers history.on_timers kept.files.on_timers [] x.shared.files.timers y.shared.files.timers leaves.files_are.timers_are kept.files.timers_after;
+    };
+    sockets_are = sockets_go_on hosts own history.draws history.on_sockets moves.acts x.sockets x.shared.outlet (sockets_in y) leaves.sockets_are moves.after;
+  }
+
+  goes_on : GoesOnTo hosts own history x y
+  goes_on leaves = (more, (goes, leaves_more leaves))
+
+  -- with the names of descriptors and the marks
+  pub holds_on : HoldsOn hosts own history x y
+  holds_on h = (
+    more,
+    (
+      goes,
+      record {
+        leaves = leaves_more h.leaves;
+        names = kept.hold h.names;
+        marks = marks_hold hosts own history more now x y kept goes_by h.leaves h.names kept.were h.marks;
+      },
+    ),
+  )
 
 pub call_goes_on : (known : Known) (own : Ip) (history : HostHistory) (now : Time) (process number : ℕ) (args : List ℕ) (h : PartsRecord) → GoesOnTo known.book own history h (call known now process number args h).1
 call_goes_on known own history now process number args h leaves =
@@ -86,3 +103,24 @@ arrival_goes_on hosts own history now packet h leaves =
 pub alarm_goes_on : (hosts : List Ip) (own : Ip) (history : HostHistory) (now : Time) (object : ObjectId) (serial : ℕ) (h : PartsRecord) → GoesOnTo hosts own history h (alarmed now object serial h)
 alarm_goes_on hosts own history now object serial h leaves =
     goes_on hosts own history [] now h (alarmed now object serial h) (alarmed_keeps now object serial h) (alarmed_moves hosts [] now object serial h) leaves
+
+-- and so do the names of descriptors and the marks
+pub call_holds_on : (known : Known) (own : Ip) (history : HostHistory) (now : Time) (process number : ℕ) (args : List ℕ) (h : PartsRecord) → HoldsOn known.book own history h (call known now process number args h).1
+call_holds_on known own history now process number args h =
+    holds_on known.book own history [] now h (call known now process number args h).1 (call_keeps known now process number args h) (call_moves known [] now process number args h)
+
+pub start_holds_on : (hosts : List Ip) (own : Ip) (history : HostHistory) (now : Time) (process : ℕ) (memory : Memory) (h : PartsRecord) → HoldsOn hosts own history h (task_starts process memory h)
+start_holds_on hosts own history now process memory h =
+    holds_on hosts own history [] now h (task_starts process memory h) (starts_keep now process memory h) (starts_move hosts [] process memory h)
+
+pub end_holds_on : (hosts : List Ip) (own : Ip) (history : HostHistory) (now : Time) (process : ℕ) (h : PartsRecord) → HoldsOn hosts own history h (ended now process h)
+end_holds_on hosts own history now process h =
+    holds_on hosts own history [] now h (ended now process h) (ended_keeps now process h) (ended_moves hosts [] now process h)
+
+pub arrival_holds_on : (hosts : List Ip) (own : Ip) (history : HostHistory) (now : Time) (packet : Packet) (h : PartsRecord) → HoldsOn hosts own history h (arrives now packet h).1
+arrival_holds_on hosts own history now packet h =
+    holds_on hosts own history (packet ∷ []) now h (arrives now packet h).1 (arrives_keeps now packet h) (arrives_moves hosts (packet ∷ []) now packet h (Contains-here packet []))
+
+pub alarm_holds_on : (hosts : List Ip) (own : Ip) (history : HostHistory) (now : Time) (object : ObjectId) (serial : ℕ) (h : PartsRecord) → HoldsOn hosts own history h (alarmed now object serial h)
+alarm_holds_on hosts own history now object serial h =
+    holds_on hosts own history [] now h (alarmed now object serial h) (alarmed_keeps now object serial h) (alarmed_moves hosts [] now object serial h)

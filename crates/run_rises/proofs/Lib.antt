@@ -1,4 +1,5 @@
 pub mod Counted
+pub mod Marks
+pub mod GoingOn
 pub mod Walk
 pub mod Worlds
-pub mod GoingOn

@@ -1,7 +1,8 @@
 -- every event at a host: what it does to the host's files is acts
-use Rattle.std.proofs.Common.{◌≡◌, ℕ, zero, suc, ◌&&◌, Bool, true, false, not, List, [], ◌∷◌, min, ◌++◌, length, Option, Some, None, nat_lt, slice_get, refl, ap, subst}
+use Rattle.std.proofs.Common.{◌≡◌, ℕ, zero, suc, ◌&&◌, Bool, true, false, not, List, [], ◌∷◌, min, ◌++◌, length, Option, Some, None, nat_lt, slice_get, refl, ap, ◌∙◌}
 use Rattle.sim_base.specs.Limits.{most_processes}
 use Rattle.sim_base.specs.Packet.{packet_size}
+use Rattle.sim_base.specs.declared.address.Ip.{Ip}
 use Rattle.sim_base.specs.declared.event.Event.{Event}
 use Rattle.sim_base.specs.declared.event.What.{What}
 use Rattle.sim_base.specs.declared.event.What.TheVariants as what
@@ -19,13 +20,12 @@ use Rattle.rv32_machine.specs.declared.outcome.TurnEnd.TheVariants as end
 use Rattle.rv32_machine.specs.Table.{state}
 use Rattle.rv32_machine.specs.Turn.{turn}
 use Rattle.std.specs.Option.{option_flatten}
-use Rattle.host_files.specs.Epolls.{EpollsState}
 use Rattle.host_files.specs.Files.{FilesState}
 use Rattle.host_files.specs.Slots.{at}
 use Rattle.file_calls.specs.declared.task.Task.{Task}
 use Rattle.file_calls.specs.declared.task.Why.{Why}
 use Rattle.host_calls.specs.Calls.{call}
-use Rattle.host_calls.specs.Events.{alarmed, ended}
+use Rattle.host_calls.specs.Events.{arrives, alarmed, ended}
 use Rattle.host_calls.specs.Parts.{PartsRecord, place}
 use Rattle.host_calls.specs.Starting.{task_starts}
 use Rattle.host_link.specs.declared.net.Net.{Net}
@@ -44,9 +44,16 @@ use Rattle.pipe_laws.specs.Eventfds.{EventfdAct}
 use Rattle.file_laws.specs.Kinds.{pipes, eventfds, timers}
 use Rattle.file_laws.specs.Lives.{SlotAct, slots_after}
 use Rattle.file_laws.specs.Timers.{TimerAct}
-use Rattle.call_rises.specs.Moves.{FilesMove, AllRise, TasksRise}
-use Rattle.call_rises.proofs.Moving.{by_test, slots_joined}
-use Rattle.call_rises.proofs.Table.{Keeps, placed_by, emptied, call_keeps, ended_keeps, starts_keep, alarmed_keeps}
+use Rattle.socket_streams.proofs.Moving.{moves_none}
+use Rattle.call_streams.specs.Parts.{sockets_in}
+use Rattle.call_rises.specs.Moves.{FilesMove, TasksRise}
+use Rattle.call_rises.proofs.Moving.{by_test, none, moved, slots_joined}
+use Rattle.call_rises.proofs.Table.{Keeps, moved_place, emptied, call_keeps, ended_keeps, starts_keep, arrives_keeps, alarmed_keeps}
+use Rattle.call_rises.proofs.Views.{view, grows_so}
+use Rattle.run_rises.specs.Histories.{HostHistory}
+use Rattle.run_rises.specs.Marks.{HoldsOn}
+use Rattle.run_rises.proofs.GoingOn.{holds_on, call_holds_on, start_holds_on, end_holds_on, arrival_holds_on, alarm_holds_on}
+use Rattle.run_rises.proofs.Marks.{goes_none, goes_both, holds_left}
 
 -- acts lead from some files to others, at whatever moments
 pub record FilesLead (x y : FilesState) : Type 0 where
@@ -94,23 +101,43 @@ by_option : {A B : Type 0} (P : B → Type 0) (f : Option A → B) (o : Option A
 by_option P f None none some = none
 by_option P f (Some a) none some = some a
 
+-- where a history leaves a host, with the names of its descriptors and the marks, one that goes on from it leaves another so
+abbrev pub GoesOnFrom : Net → HostRecord → HostRecord → Type 0
+GoesOnFrom net h k = (own : Ip) (history : HostHistory) → HoldsOn net.known.book own history h.parts k.parts
+
+pub from_none : (net : Net) (h : HostRecord) → GoesOnFrom net h h
+from_none net h own history holds = (history, (goes_none history, holds))
+
+pub from_both : (net : Net) (h k l : HostRecord) → GoesOnFrom net h k → GoesOnFrom net k l → GoesOnFrom net h l
+from_both net h k l a b own history holds =
+    let first = a own history holds in
+    let second = b own first.0 first.1.1 in
+    (second.0, (goes_both history first.0 second.0 first.1.0 second.1.0, second.1.1))
+
 module _ (net : Net) where
+  -- acts lead to its files, its entries stay in order, and one history leads to another
   abbrev H : HostRecord → HostRecord → Type 0
-  H h k = FilesLead (host_files h) (host_files k) × (TasksRise h.parts → TasksRise k.parts)
+  H h k =
+      FilesLead (host_files h) (host_files k)
+      × ((TasksRise h.parts → TasksRise k.parts) × ((h.row.address ≡ k.row.address) × GoesOnFrom net h k))
 
   -- and of a step's host
   abbrev S : HostRecord → Step × HostRecord → Type 0
   S h t = H h t.1
 
   stays : (h : HostRecord) → H h h
-  stays h = (lead_none (host_files h), λ rise. rise)
+  stays h = (lead_none (host_files h), (λ rise. rise, (refl, from_none net h)))
 
   then : (h k l : HostRecord) → H h k → H k l → H h l
-  then h k l a b = (lead_both (host_files h) (host_files k) (host_files l) a.0 b.0, λ rise. b.1 (a.1 rise))
+  then h k l a b = (
+    lead_both (host_files h) (host_files k) (host_files l) a.0 b.0,
+    (λ rise. b.1.0 (a.1.0 rise), (a.1.1.0 ∙ b.1.1.0, from_both net h k l a.1.1.1 b.1.1.1)),
+  )
 
   -- its parts act
-  kept : (h : HostRecord) (parts : PartsRecord) → Keeps h.link.time h.parts parts → H h (with_parts parts h)
-  kept h parts m = (lead_by h.link.time.nanos (host_files h) parts.shared.files m.files, m.tasks)
+  kept : (h : HostRecord) (parts : PartsRecord) → Keeps h.link.time h.parts parts → ((own : Ip) (history : HostHistory) → HoldsOn net.known.book own history h.parts parts) → H h (with_parts parts h)
+  kept h parts m holds =
+      (lead_by h.link.time.nanos (host_files h) parts.shared.files m.files, (m.tasks, (refl, holds)))
 
   -- what is wanted is done by the link
   settled : (h : HostRecord) → H h (settles net h)
@@ -121,7 +148,10 @@ module _ (net : Net) where
 
   handed : (packet : Packet) (h : HostRecord) → H h (is_handed_over net packet h)
   unfolding is_handed_over settles
-  handed packet h = stays h
+  handed packet h =
+      let parts = (arrives h.link.time packet h.parts).1 in
+      then h (with_parts parts h) (is_handed_over net packet h)
+      (kept h parts (arrives_keeps h.link.time packet h.parts) (λ own history. arrival_holds_on net.known.book own history h.link.time packet h.parts)) (stays (with_parts parts h))
 
   all_handed : (packets : List Packet) (h : HostRecord) → H h (are_handed_over net packets h)
   unfolding are_handed_over
@@ -169,7 +199,8 @@ module _ (net : Net) where
       let r = call net.known h.link.time p number arguments h.parts in
       by_test (S h) (has_task p h.parts) _ _
       (λ e.
-      acted h (with_parts r.1 h) (kept h r.1 (call_keeps net.known h.link.time p number arguments h.parts)))
+      acted h (with_parts r.1 h)
+      (kept h r.1 (call_keeps net.known h.link.time p number arguments h.parts) (λ own history. call_holds_on net.known own history h.link.time p number arguments h.parts)))
       (λ e. stays h)
 
   closing : (p : ℕ) (h : HostRecord) → H h (closes net p h)
@@ -177,7 +208,9 @@ module _ (net : Net) where
   closing p h =
       let left = ended h.link.time p h.parts in
       by_test (H h) (has_task p h.parts) _ _
-      (λ e. acted h (with_parts left h) (kept h left (ended_keeps h.link.time p h.parts)))
+      (λ e.
+      acted h (with_parts left h)
+      (kept h left (ended_keeps h.link.time p h.parts) (λ own history. end_holds_on net.known.book own history h.link.time p h.parts)))
       (λ e. stays h)
 
   killing : (p : ℕ) (cause : Signal) (h : HostRecord) → S h (is_killed net p cause h)
@@ -191,13 +224,15 @@ module _ (net : Net) where
   ending p end.Spent cpu h = killing p SigXcpu h
 
   -- a task is put in its place
-  tasked : (p : ℕ) (task : Task) (h : HostRecord) (before : Task) → at p h.parts.tasks ≡ Some before → before.epolls ≡ task.epolls → H h (with_parts (with_task p (Some task) h.parts) h)
-  tasked p task h before there same = (
-    lead_none (host_files h),
-    λ rise.
-        placed_by h.parts p (place (Some task) h.parts.shared h.parts.sockets) task refl
-        (subst (λ (epolls : EpollsState). AllRise epolls) same (rise p before there)) rise,
-  )
+  tasked : (p : ℕ) (task : Task) (h : HostRecord) (before : Task) → at p h.parts.tasks ≡ Some before → before.table ≡ task.table → before.epolls ≡ task.epolls → H h (with_parts (with_task p (Some task) h.parts) h)
+  tasked p task h before there table epolls =
+      let shared = h.parts.shared in
+      let sockets = h.parts.sockets in
+      let parts = with_task p (Some task) h.parts in
+      let moved_so = moved h.link.time.nanos (view before shared sockets) (view task shared sockets) (none h.link.time.nanos shared.files) table refl epolls (grows_so shared.files shared.files refl refl refl) in
+      let k = (moved_place h.link.time h.parts p before (place (Some task) shared sockets) task there refl moved_so).keeps in
+      kept h parts k
+      (λ own history. holds_on net.known.book own history [] h.link.time h.parts parts k (moves_none net.known.book [] (sockets_in h.parts)))
 
   turning : (p : ℕ) (cpu : Cpu) (found : Option (Option Task)) (h : HostRecord) → slice_get h.parts.tasks p ≡ found → S h (turns net p cpu found h)
   turning p cpu None h e = stays h
@@ -207,7 +242,7 @@ module _ (net : Net) where
       let after : Task = record task { memory = t.state.memory } in
       let k : HostRecord = with_parts (with_task p (Some after) h.parts) h in
       then h k (by_turn_end net p t.end t.state.cpu k).1
-      (tasked p after h task (ap (λ (o : Option (Option Task)). option_flatten o) e) refl)
+      (tasked p after h task (ap (λ (o : Option (Option Task)). option_flatten o) e) refl refl)
       (ending p t.end t.state.cpu k)
 
   running : (p : ℕ) (cpu : Cpu) (h : HostRecord) → S h (runs_to_call net p cpu h)
@@ -218,7 +253,18 @@ module _ (net : Net) where
   unfolding rests has_ended
   after p m h (step.GoesOn cpu) k more moved = then h k (slice net p m cpu k) moved (more cpu k)
   after p m h (step.Blocks cpu) k more moved = moved
-  after p m h (step.Ends state) k more moved = (moved.0, λ rise. emptied k.parts p (moved.1 rise))
+  after p m h (step.Ends state) k more moved = (
+    moved.0,
+    (
+      λ rise. emptied k.parts p (moved.1.0 rise),
+      (
+        moved.1.1.0,
+        λ own history holds.
+            let left = moved.1.1.1 own history holds in
+            (left.0, (left.1.0, holds_left net.known.book own left.0 k.parts.tasks k.parts.shared.files k.parts.sockets p left.1.1)),
+      ),
+    ),
+  )
 
   slicing : (p m : ℕ) (cpu : Cpu) (h : HostRecord) → H h (slice net p m cpu h)
   unfolding slice
@@ -243,7 +289,7 @@ module _ (net : Net) where
       by_test (H h) (has_task p h.parts) (slice net p 100 s.cpu (with_parts parts h)) h
       (λ k.
       then h (with_parts parts h) (slice net p 100 s.cpu (with_parts parts h))
-      (kept h parts (starts_keep h.link.time p s.memory h.parts))
+      (kept h parts (starts_keep h.link.time p s.memory h.parts) (λ own history. start_holds_on net.known.book own history h.link.time p s.memory h.parts))
       (slicing p 100 s.cpu (with_parts parts h)))
       (λ k. stays h)))
       (λ e. stays h)
@@ -277,7 +323,7 @@ module _ (net : Net) where
   unfolding rings
   ringing object serial h =
       let parts = alarmed h.link.time object serial h.parts in
-      acted h (with_parts parts h) (kept h parts (alarmed_keeps h.link.time object serial h.parts))
+      acted h (with_parts parts h) (kept h parts (alarmed_keeps h.link.time object serial h.parts) (λ own history. alarm_holds_on net.known.book own history h.link.time object serial h.parts))
 
   acting : (w : What) (h : HostRecord) → H h (acts net w h)
   unfolding acts

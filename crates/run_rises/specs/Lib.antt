@@ -1,3 +1,4 @@
 pub mod Histories
 pub mod Rises
 pub mod Seeing
+pub mod Marks
