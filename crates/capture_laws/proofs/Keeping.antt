@@ -1,5 +1,5 @@
 -- What acts leave of a link: lanes of packets that are not too large, and lines of such packets at the link's time.
-use Rattle.std.proofs.Common.{◌≡◌, ℕ, ◌≤◌, ◌||◌, Bool, List, [], ◌∷◌, ◌++◌, Option, Some, None, nat_lt, nat_le, rules, tests}
+use Rattle.std.proofs.Common.{◌≡◌, ℕ, ◌≤◌, ◌||◌, Bool, List, [], ◌∷◌, Option, Some, None, nat_lt, nat_le, rules, tests}
 use Rattle.std.specs.List.{AllByRecursion}
 use Rattle.sim_base.specs.declared.act.Act.{Act}
 use Rattle.sim_base.specs.declared.act.Act.TheVariants.{Send, Lost, FullUp, Codel}
@@ -26,6 +26,7 @@ use Rattle.host_link.specs.Lanes.{with_up}
 use Rattle.host_link.specs.Link.{LinkState, numbers, makes, later, not_before_next, event_of, logs}
 use Rattle.host_link.specs.Sending.{Wire, route_to, is_bootstrapping, loses, takes_its_chance, takes_route, takes_route_if, leaves, leave_all, makes_if, goes_on, goes_up, stays_here, loops, sends, drop_all, up_comes}
 use Rattle.host_state.proofs.Growth.{by_if, AllSmall}
+use Rattle.run_fits.proofs.Bytes.{all_append}
 use Rattle.capture_laws.proofs.Lanes.{IsSmallPush, pushed_fits, left_fits}
 
 -- what comes past the network is not too large
@@ -46,10 +47,6 @@ pub record Keeps (now : Time) (l : LinkState) : Type 0 where
   pub down : AllFit l.down.waiting
   pub made : AllByRecursion IsSmallLoop l.made
   pub lines : AllByRecursion (IsAt now) l.lines
-
-pub all_append : {X : Type 0} (P : X → Type 0) (xs ys : List X) → AllByRecursion P xs → AllByRecursion P ys → AllByRecursion P (xs ++ ys)
-all_append P [] ys h k = k
-all_append P (x ∷ xs) ys h k = (h.0, all_append P xs ys h.1 k)
 
 module _ (now : Time) where
   abbrev K : LinkState → Type 0

@@ -4,3 +4,8 @@ pub mod Acting
 pub mod Worlds
 pub mod Again
 pub mod Placing
+pub mod Texts
+pub mod Images
+pub mod Plans
+pub mod Given
+pub mod Fitting

@@ -1,5 +1,5 @@
 -- Each world that a run reaches has lines of packets that are not too large, at times before its stop.
-use Rattle.std.proofs.Common.{◌≡◌, ℕ, ◌+◌, zero, suc, ◌≤◌, Bool, true, false, List, [], ◌∷◌, map, flat_map, Option, Some, None, nat_lt, slice_get, refl, sym, subst, arith}
+use Rattle.std.proofs.Common.{◌≡◌, ℕ, ◌+◌, ◌≤◌, Bool, true, false, List, [], ◌∷◌, map, flat_map, Option, Some, None, nat_lt, slice_get, refl, sym, subst, arith}
 use Rattle.std.specs.Prelude.{slice_set, if◌then◌else◌}
 use Rattle.std.specs.List.{AllByRecursion}
 use Rattle.std.proofs.lemmas.Bool.Decides.{nat_tests}
@@ -10,6 +10,8 @@ use Rattle.sim_base.specs.declared.event.What.TheVariants as what
 use Rattle.sim_base.specs.declared.key.Key.{Key}
 use Rattle.sim_base.specs.declared.time.Time.{Time}
 use Rattle.net_iface.specs.Lane.{AllFit}
+use Rattle.run_streams.specs.Run.{IsReached}
+use Rattle.run_streams.specs.Run.IsReached.{begins, turns}
 use Rattle.host_link.specs.declared.line.Line.{Line}
 use Rattle.host_link.specs.declared.net.Net.{Net}
 use Rattle.host_link.specs.declared.row.ProcessRow.{ProcessRow}
@@ -29,21 +31,9 @@ use Rattle.world_order.specs.Model.{Fired, fires, fires_at}
 use Rattle.world_order.specs.World.{Logged, logged, after_firing, by_least, next}
 use Rattle.world_order.specs.World as order
 use Rattle.capture_laws.specs.ReadAgain.{IsInRange, AllInRange}
-use Rattle.capture_laws.proofs.Keeping.{FitsLoop, IsSmallLoop, IsAt, all_append}
+use Rattle.run_fits.proofs.Bytes.{all_append, all_get, all_set}
+use Rattle.capture_laws.proofs.Keeping.{FitsLoop, IsSmallLoop, IsAt}
 use Rattle.capture_laws.proofs.Acting.{IsIdle, has_kept, fired_idle}
-
--- ---- lists
-
-module _ {X : Type 0} (P : X → Type 0) where
-  all_get : (xs : List X) (i : ℕ) (x : X) → AllByRecursion P xs → slice_get xs i ≡ Some x → P x
-  all_get [] i x h e = absurd (cc)
-  all_get (y ∷ ys) zero x h e = let same : y ≡ x = cc in subst P same h.0
-  all_get (y ∷ ys) (suc i) x h e = all_get ys i x h.1 e
-
-  all_set : (xs : List X) (i : ℕ) (x : X) → AllByRecursion P xs → P x → AllByRecursion P (slice_set xs i x)
-  all_set [] i x h here = tt
-  all_set (y ∷ ys) zero x h here = (here, h.1)
-  all_set (y ∷ ys) (suc i) x h here = (h.0, all_set ys i x h.1 here)
 
 -- the least event is taken out
 abbrev Taken : Event × List Event → Type 0
@@ -159,7 +149,7 @@ events_small (row ∷ rows) = all_append IsSmallLoop (opening row).made _ (row_o
 pub opening_small : (rows : List Row) → IsSmallWorld (opening_world rows)
 opening_small rows = record { hosts = hosts_idle rows; events = events_small rows; log = tt }
 
--- ---- the lines of a result
+-- ---- the lines of a world that is reached, and of a result
 
 lines_in_range : (log : List (Logged Line)) → AllByRecursion (λ (l : Logged Line). IsInRange l.line) log → AllInRange (lines_of log)
 lines_in_range [] h = tt
@@ -167,3 +157,10 @@ lines_in_range (l ∷ ls) h = (h.0, lines_in_range ls h.1)
 
 pub in_range : (net : Net) (rows : List Row) (result : World) → net.stop.nanos ≤ latest_time → IsResult net result (opening_world rows) → AllInRange (lines_of result.log)
 in_range net rows result late is = lines_in_range result.log (result_small net late result (opening_world rows) (opening_small rows) is).log
+
+reached_small : (net : Net) (rows : List Row) (w : World) → net.stop.nanos ≤ latest_time → IsReached net (opening_world rows) w → IsSmallWorld w
+reached_small net rows w late (begins v same) = subst IsSmallWorld same (opening_small rows)
+reached_small net rows w late (turns u v reached leads) = next_small net late u v (reached_small net rows u late reached) leads
+
+pub reached_in_range : (net : Net) (rows : List Row) (w : World) → net.stop.nanos ≤ latest_time → IsReached net (opening_world rows) w → AllInRange (lines_of w.log)
+reached_in_range net rows w late reached = lines_in_range w.log (reached_small net rows w late reached).log

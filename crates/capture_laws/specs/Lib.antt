@@ -1,2 +1,3 @@
 pub mod ReadAgain
 pub mod Loopback
+pub mod Given

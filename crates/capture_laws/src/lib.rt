@@ -1,7 +1,7 @@
 //! Captures of a run, read again. Definitions and laws, and no code that runs.
 #![tactic(auto)]
 
-ghost use Rattle.std.specs.Prelude.{◌≡◌, ℕ, ◌<◌, ◌≤◌, ◌^◌, List, Contains, Option, Some, slice_get};
+ghost use Rattle.std.specs.Prelude.{◌≡◌, ℕ, ◌<◌, ◌≤◌, ◌^◌, List, Contains, Some, slice_get};
 ghost use Rattle.sim_base.specs.Packet.{max_packet};
 ghost use Rattle.sim_base.specs.Units.{latest_time};
 ghost use Rattle.sim_base.specs.declared.address.Ip.{Ip};
@@ -16,11 +16,11 @@ ghost use Rattle.host_state.specs.World.{World, IsResult, opening_world};
 ghost use Rattle.world_order.specs.World.{Logged};
 ghost use Rattle.run_streams.specs.Run.{IsReached, AreHosts};
 ghost use Rattle.run_plan.specs.declared.planned.Run.{Run};
-ghost use Rattle.sim_base.specs.Sink.{Content};
-ghost use Rattle.shadow_top.specs.Contract.{Shows};
 ghost use Rattle.shadow_top.specs.Input.{Input, IsToRun};
 ghost use Rattle.plan_rows.specs.Rows.{rows_of, net_of};
 ghost use Rattle.shadow_top.specs.Shown.{IsRunTo};
+ghost use Rattle.run_fits.specs.Given.{AllWhole, NetHasBytes, RowsFit};
+ghost use Rattle.capture_laws.specs.Given.{HasBytes};
 ghost use Rattle.capture_laws.specs.Loopback.{past_of, IsPlaced};
 ghost use Rattle.capture_laws.specs.ReadAgain.{AllInRange, AreReadAgain};
 
@@ -47,14 +47,31 @@ pub fn runs_are_read_again()
         → AllFit (lines_of result.log) → AreReadAgain size (eth0_of i h.row.address (lines_of result.log)) }
 {}
 
-/// So where a run is shown, reading the two captures of its result gives their lines again: what shows it
-/// tells that the numbers of all packets that it logs fit their types.
-pub fn shown_runs_are_read_again()
-    ensures eth0 { (i : Input) (old : Content) (new : Option Content) (status : ℕ) (run : Run) (w : World) (k : ℕ) (h : HostRecord) (size : ℕ) → Shows i old new status
-        → IsToRun i run → IsRunTo run w → slice_get w.hosts k ≡ Some h → max_packet ≤ size → size < 2 ^ 32
+/// What an input whose files are of bytes gives a run are bytes: the images of programs, the text of
+/// /etc/hosts, and the arguments and environments of processes; and the addresses of hosts are of 32 bits.
+pub fn runs_are_given_bytes()
+    ensures net { (i : Input) (run : Run) → HasBytes i → IsToRun i run → NetHasBytes (net_of run) }
+    ensures rows { (i : Input) (run : Run) → HasBytes i → IsToRun i run → RowsFit (rows_of run) }
+{}
+
+/// So in every world that the run of such an input reaches, its result among them, each line of the packet
+/// log is of a packet whose numbers and bytes fit their types.
+pub fn input_logs_fit()
+    ensures whole { (i : Input) (run : Run) (w : World) → HasBytes i → IsToRun i run
+        → IsReached (net_of run) (opening_world (rows_of run)) w → AllWhole (lines_of w.log) }
+    ensures fit { (i : Input) (run : Run) (w : World) → HasBytes i → IsToRun i run
+        → IsReached (net_of run) (opening_world (rows_of run)) w → AllFit (lines_of w.log) }
+    ensures result { (i : Input) (run : Run) (w : World) → HasBytes i → IsToRun i run → IsRunTo run w → AllFit (lines_of w.log) }
+{}
+
+/// And reading the two captures of a host gives their lines again, of each world that such a run reaches,
+/// where the capture size is at least 1,500.
+pub fn input_runs_are_read_again()
+    ensures eth0 { (i : Input) (run : Run) (w : World) (k : ℕ) (h : HostRecord) (size : ℕ) → HasBytes i → IsToRun i run
+        → IsReached (net_of run) (opening_world (rows_of run)) w → slice_get w.hosts k ≡ Some h → max_packet ≤ size → size < 2 ^ 32
         → AreReadAgain size (eth0_of k h.row.address (lines_of w.log)) }
-    ensures lo { (i : Input) (old : Content) (new : Option Content) (status : ℕ) (run : Run) (w : World) (k : ℕ) (h : HostRecord) (size : ℕ) → Shows i old new status
-        → IsToRun i run → IsRunTo run w → slice_get w.hosts k ≡ Some h → max_packet ≤ size → size < 2 ^ 32
+    ensures lo { (i : Input) (run : Run) (w : World) (k : ℕ) (h : HostRecord) (size : ℕ) → HasBytes i → IsToRun i run
+        → IsReached (net_of run) (opening_world (rows_of run)) w → slice_get w.hosts k ≡ Some h → max_packet ≤ size → size < 2 ^ 32
         → AreReadAgain size (lo_of k h.row.address (lines_of w.log)) }
 {}
 

@@ -1,5 +1,5 @@
 -- The hosts of a plan that is to be run are those of a configuration, and its stop is within the limits.
-use Rattle.std.proofs.Common.{◌≡◌, ℕ, Bool, true, false, List, [], Result, Ok, Err, IfOk, ap, subst, codes, ◌≤◌, arith}
+use Rattle.std.proofs.Common.{◌≡◌, ℕ, Bool, true, false, List, Result, Ok, Err, IfOk, ap, subst, codes, ◌≤◌, arith}
 use Rattle.sim_base.specs.Files.{Held}
 use Rattle.gml_graph.specs.declared.graph.Graph.{Graph}
 use Rattle.yaml_tree.specs.Trees.{is_empty}
@@ -54,7 +54,7 @@ record IsConfig (c : Config) : Type 0 where
 
 -- ---- a plan
 
-abbrev plan_is : Plan → Result Plan Fault → Plan
+abbrev pub plan_is : Plan → Result Plan Fault → Plan
 plan_is other (Ok plan) = plan
 plan_is other (Err fault) = other
 
@@ -82,16 +82,17 @@ abbrev planned_in : Planned → Result Planned Fault → Planned
 planned_in other (Ok p) = p
 planned_in other (Err fault) = other
 
-is_run : (shows : Bool) (c : Config) (outcomes : Outcomes Plan) (m : Manner) (is_self_load : Bool) (run : Run) → ((plan : Plan) → outcomes (Ok plan) → IsOfConfig plan)
-    → shown_or_run shows c outcomes (runs m is_self_load) (Ok (Runs run)) → IsOfConfig run.plan
-is_run true c outcomes m is_self_load run each e = cc
-is_run false c outcomes m is_self_load run each (plan, h, e) =
+-- it has what each plan of its configuration has
+pub is_run : (P : Plan → Type 0) (shows : Bool) (c : Config) (outcomes : Outcomes Plan) (m : Manner) (is_self_load : Bool) (run : Run) → ((plan : Plan) → outcomes (Ok plan) → P plan)
+    → shown_or_run shows c outcomes (runs m is_self_load) (Ok (Runs run)) → P run.plan
+is_run P true c outcomes m is_self_load run each e = cc
+is_run P false c outcomes m is_self_load run each (plan, h, e) =
     let same : plan ≡ run.plan = ap (λ (r : Result Planned Fault). plan_in plan (planned_in (Runs run) r)) e in
-    subst IsOfConfig same (each plan h)
+    subst P same (each plan h)
 
 -- ---- a file
 
-config_is : (name : List ℕ) (read : Result Config ConfigFault) (c : Config) → or_config_fault name read ≡ Ok c → read ≡ Ok c
+pub config_is : (name : List ℕ) (read : Result Config ConfigFault) (c : Config) → or_config_fault name read ≡ Ok c → read ≡ Ok c
 config_is name (Ok d) c e = cc
 config_is name (Err fault) c e = cc
 
@@ -107,7 +108,7 @@ configured_has name text o c may (tree, t, e) =
 file_rows : (m : Manner) (held : Held) (name : List ℕ) (run : Run) → MayOverride m.overrides → file_planned m held name (Ok (Runs run)) → IsOfConfig run.plan
 unfolding file_planned
 file_rows m held name run may (text, h, (c, k, s)) =
-    is_run m.shows_config c (plan_of held name c) m false run (λ plan p. plan_rows held name c plan (configured_has name text m.overrides c may k) p) s
+    is_run IsOfConfig m.shows_config c (plan_of held name c) m false run (λ plan p. plan_rows held name c plan (configured_has name text m.overrides c may k) p) s
 
 -- ---- a self-load
 
@@ -117,12 +118,12 @@ self_load_rows m hosts held run range may s =
     let c : Config = self_load_config m.overrides hosts in
     let low : 2 ≤ hosts = range.0 in
     let within : IsWithinLimits c = self_load_within m.overrides hosts (omega arith) range.1 may in
-    is_run m.shows_config c (run_of ring_files (codes "self-load") (self_load_graph hosts) c) m true run
+    is_run IsOfConfig m.shows_config c (run_of ring_files (codes "self-load") (self_load_graph hosts) c) m true run
     (λ plan p. run_rows ring_files (codes "self-load") (self_load_graph hosts) c plan (record { hosts = self_load_has m.overrides hosts range.1; stop = within.stop }) p) s
 
 -- ---- what is asked
 
-no_run : (m : Manner) (held : Held) (name : List ℕ) (run : Run) → capture_planned held name (Ok (Runs run)) → ⊥
+pub no_run : (m : Manner) (held : Held) (name : List ℕ) (run : Run) → capture_planned held name (Ok (Runs run)) → ⊥
 unfolding capture_planned
 no_run m held name run (bytes, h, (capture, k, e)) = cc
 
@@ -131,7 +132,7 @@ subject_rows held m (File name) run range may h = file_rows m held name run may 
 subject_rows held m (SelfLoad hosts) run range may h = self_load_rows m hosts held run range may h
 subject_rows held m (Capture name) run range may h = absurd (no_run m held name run h)
 
-asked_is : (read : Result Asked WordsFault) (a : Asked) → or_words_fault read ≡ Ok a → read ≡ Ok a
+pub asked_is : (read : Result Asked WordsFault) (a : Asked) → or_words_fault read ≡ Ok a → read ≡ Ok a
 asked_is (Ok b) a e = cc
 asked_is (Err fault) a e = cc
 

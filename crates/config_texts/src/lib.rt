@@ -1,0 +1,14 @@
+//! The texts of a configuration. Definitions and laws, and no code that runs.
+#![tactic(auto)]
+
+ghost use Rattle.std.specs.Prelude.{Bool, IfOk};
+ghost use Rattle.yaml_tree.specs.declared.tree.Tree.{Tree};
+ghost use Rattle.yaml_merge.specs.SaidAt.{said_of};
+ghost use Rattle.shd_config.specs.Config.{config};
+ghost use Rattle.shd_config.specs.declared.overrides.Overrides.{Overrides};
+ghost use Rattle.config_texts.specs.Texts.{HasTexts};
+
+/// The names of hosts and the texts of processes that are read of a tree are UTF-8.
+pub fn texts_are_utf8()
+    ensures { (o : Overrides) (empty : Bool) (tree : Tree) → IfOk (config o empty (said_of tree)) HasTexts }
+{}

@@ -1,0 +1,17 @@
+pub mod Bytes
+pub mod Steps
+pub mod Memories
+pub mod Machine
+pub mod Starts
+pub mod Records
+pub mod Listeners
+pub mod TcpSockets
+pub mod UdpSockets
+pub mod Rows
+pub mod PlainRows
+pub mod NetworkRows
+pub mod Table
+pub mod Lanes
+pub mod Links
+pub mod Walk
+pub mod Worlds
