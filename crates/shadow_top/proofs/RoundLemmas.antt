@@ -1,11 +1,10 @@
 -- The rounds of a run, and what is put meanwhile.
-use Rattle.std.proofs.Common.{◌≡◌, ℕ, ◌≤◌, ⊎_elim, Bool, List, All, Option, Some, option_map, Err, Result, length, sym, ap, subst, refl, ◌∙◌}
+use Rattle.std.proofs.Common.{◌≡◌, ℕ, ◌≤◌, ⊎_elim, inr, Bool, List, All, Option, Some, option_map, Result, Ok, Err, OnOk, OnErr, length, sym, ap, subst, refl, ◌∙◌}
 use Rattle.std.specs.Prelude.{flat_map}
 use Rattle.std.proofs.lemmas.List.{length-map}
 use Rattle.sim_base.specs.Sink.{Content}
 use Rattle.sim_base.specs.declared.event.Event.{Event}
 use Rattle.sim_base.specs.declared.outside.sink.WriteError.{WriteError}
-use Rattle.sim_base.specs.declared.outside.sink.WriteError.TheVariants as write
 use Rattle.file_calls.specs.declared.task.Output.{Output}
 use Rattle.host_state.specs.Extends.{Extends}
 use Rattle.run_files.specs.Files.{Put}
@@ -30,10 +29,7 @@ use Rattle.round_lookahead.specs.Tasks.{waiting}
 use Rattle.round_lookahead.specs.WorldStands.{WorldStands}
 use Rattle.round_lookahead.specs.declared.world.pieces.Pieces.{Pieces}
 use Rattle.round_lookahead.specs.declared.world.world_state.World as rounds
-use Rattle.shadow_top.specs.inside.Rounds.{gained_by, PutsSomeGained, PutsRound, StandsAt, HasAllRounds, PutsInPart, PutsRounds}
-use Rattle.shadow_top.specs.inside.Stop.{of_writing}
-use Rattle.shadow_top.specs.declared.stop.Stop.{Stop}
-use Rattle.shadow_top.specs.declared.stop.Stop.TheVariants.{Refused, ReadFailed, WriteFailed, NoMemory}
+use Rattle.shadow_top.specs.inside.Rounds.{gained_by, PutsSomeGained, PutsRound, StandsAt, HasAllRounds, PutsInPart}
 use Rattle.shadow_top.proofs.FitLemmas.{fit-append}
 use Rattle.shadow_top.proofs.GrowLemmas.{AreBetween, Grows-refl, Grows-with_pieces, between-part}
 
@@ -64,11 +60,11 @@ AreFronts = (names : List HostNames) (begun : Content) (now : Option Content) (w
 
 -- ---- one round
 
--- a write failed, or memory ran out
-pub round-stopped : (c d : rounds.World) (workers : ℕ) (w : World) (old new : Option Content) (error : WriteError) → PutsSomeGained c d workers w old new
-    → PutsRound c d workers w old new (let r : Result (Unit {0}) Stop = Err (of_writing error) in r)
-round-stopped c d workers w old new write.Failed some = some
-round-stopped c d workers w old new write.NoMemory some = some
+-- what a round gained was put, or some of it
+pub round-told : (c d : rounds.World) (workers : ℕ) (w v : World) (p : Pieces) (old new : Option Content) → HasRound c d workers w v p → (r : Result (Unit {0}) WriteError)
+    → OnOk r (new ≡ option_map (with_pieces (gained_by p)) old) → OnErr r (PutsFront (gained_by p) old new) → PutsRound c d workers w old new r
+round-told c d workers w v p old new round (Ok done) put front = (v, p, round, put)
+round-told c d workers w v p old new round (Err error) put front = inr (v, p, round, front)
 
 -- the listing has all hosts
 pub at-count : (c : rounds.World) (w : World) → WorldStands c w → length (names_of c.listing) ≡ length w.hosts
@@ -151,20 +147,14 @@ module _ (c d : rounds.World) (start : World) (old mid : Option Content) (come :
           )
 
   module _ (lead : LeadOn) (grow : Grow) (extended : AreExtended) (fronts : AreFronts) (parts : AreBetween) (e : rounds.World) (workers : ℕ) (new : Option Content) (same : e.net ≡ d.net) where
-    some-put : PutsSomeGained d e workers come.world mid new → PutsInPart c start old new
-    some-put some =
+    -- a round stopped
+    pub come-stopped : PutsSomeGained d e workers come.world mid new → PutsInPart c start old new
+    come-stopped some =
         ⊎_elim
         (λ (none : new ≡ mid). subst (PutsInPart c start old) (sym none) (come-part extended fronts))
         (λ (round : (v : World) × (p : Pieces) × HasRound d e workers come.world v p × PutsFront (gained_by p) mid new).
         come-part_further lead grow e workers round.0 round.1 same round.2 new extended fronts parts round.3)
         some
-
-    -- a round stopped
-    pub come-stopped : (stop : Stop) → PutsRound d e workers come.world mid new (let r : Result (Unit {0}) Stop = Err stop in r) → PutsRounds c e start old new (let r : Result (Unit {0}) Stop = Err stop in r)
-    come-stopped (Refused fault) told = absurd told
-    come-stopped (ReadFailed file) told = absurd told
-    come-stopped WriteFailed some = some-put some
-    come-stopped NoMemory some = some-put some
 
 -- ---- the beginning
 
@@ -183,8 +173,9 @@ module _ (c : rounds.World) (rows : List Row) (at : WorldStands c (opening_world
       (begin rows begun own_names)
 
   module _ (reached : HasReached c.net (opening_world rows) (opening_world rows)) (extended : AreExtended) (fronts : AreFronts) (parts : AreBetween) where
-    heads-part : (old new : Option Content) → PutsFront (all_heads (names_of c.listing)) old new → PutsInPart c (opening_world rows) old new
-    heads-part old new front =
+    -- or some of them
+    pub heads-stopped : (old new : Option Content) → PutsFront (all_heads (names_of c.listing)) old new → PutsInPart c (opening_world rows) old new
+    heads-stopped old new front =
         let (r, result, later) = extended (opening_world rows) (opening_world rows) c at reached in (
           r,
           result,
@@ -193,9 +184,3 @@ module _ (c : rounds.World) (rows : List Row) (at : WorldStands c (opening_world
               (subst (λ (o : Option Content). PutsFront (all_heads names) o new) is (subst (λ (hosts : List HostNames). PutsFront (all_heads hosts) old new) at.listed front))
               (fronts names begun (Some (with_pieces (all_heads names) begun)) (opening_world rows) r load (begin rows begun own_names) later),
         )
-
-    -- or some of them
-    pub heads-stopped : (d : rounds.World) (old new : Option Content) (error : WriteError) → PutsFront (all_heads (names_of c.listing)) old new
-        → PutsRounds c d (opening_world rows) old new (let r : Result (Unit {0}) Stop = Err (of_writing error) in r)
-    heads-stopped d old new write.Failed front = heads-part old new front
-    heads-stopped d old new write.NoMemory front = heads-part old new front

@@ -1,8 +1,7 @@
 -- What a run leaves, from what its steps leave.
-use Rattle.std.proofs.Common.{◌≡◌, ℕ, ◌≤◌, Bool, List, [], ◌∷◌, map, All, Option, Some, None, option_map, Result, Ok, Err, IfSome, refl, sym, ap, subst, ◌∙◌}
+use Rattle.std.proofs.Common.{◌≡◌, ℕ, ◌≤◌, Bool, List, [], ◌∷◌, map, All, Option, Some, None, option_map, Result, Ok, Err, IfOk, IfSome, refl, sym, ap, subst, ◌∙◌}
 use Rattle.sim_base.specs.Sink.{Content}
 use Rattle.sim_base.specs.declared.outside.sink.WriteError.{WriteError}
-use Rattle.sim_base.specs.declared.outside.sink.WriteError.TheVariants as write
 use Rattle.host_state.specs.World.{World, IsResult, opening_world}
 use Rattle.host_link.specs.declared.net.Net.{Net}
 use Rattle.host_link.specs.declared.row.Row.{Row}
@@ -17,14 +16,11 @@ use Rattle.round_lookahead.specs.OpeningWorld.{AreHostRows}
 use Rattle.round_lookahead.specs.WorldStands.{nanos_of, HasRounds, IsBetweenRounds, WorldStands}
 use Rattle.round_lookahead.specs.declared.world.world_state.World as rounds
 use Rattle.run_plan.specs.Names.{AreApart}
-use Rattle.shadow_top.specs.Contract.{RunsNoted, PutsSome, RunsOpened}
 use Rattle.shadow_top.specs.inside.Ending.{PutsAll}
 use Rattle.shadow_top.specs.Opened.{HasOpened}
-use Rattle.shadow_top.specs.inside.Rounds.{HasAllRounds, PutsInPart, PutsRounds}
-use Rattle.shadow_top.specs.inside.Stop.{of_writing}
+use Rattle.shadow_top.specs.inside.Rounds.{HasAllRounds, PutsInPart}
+use Rattle.shadow_top.specs.inside.Steps.{RunsNoted, RunsOpened}
 use Rattle.shadow_top.specs.declared.opened.Opened.{Opened}
-use Rattle.shadow_top.specs.declared.stop.Stop.{Stop}
-use Rattle.shadow_top.specs.declared.stop.Stop.TheVariants.{Refused, ReadFailed, WriteFailed, NoMemory}
 use Rattle.shadow_top.proofs.EndLemmas.{small}
 use Rattle.shadow_top.proofs.GrowLemmas.{AreBetween, with_append, Grows-refl, Grows-with_pieces}
 use Rattle.shadow_top.proofs.NameLemmas.{opening-names, own-files}
@@ -43,9 +39,10 @@ ran_exists results between opened has =
     let r = results opened.net (nanos_of opened.lookahead) (opening_world opened.rows.items) has.rounds (between opened.net opened.rows.items has.rows) in (r.0, r.1)
 
 -- no memory for the run: nothing was put
-pub not_run : HaveResults → OpenBetween → AreBetween → (opened : Opened) (old : Option Content) → HasOpened opened → IfSome old (λ c. RunsNoted opened c old (Err NoMemory))
-not_run results between parts opened None has = tt
-not_run results between parts opened (Some c) has =
+pub not_run : HaveResults → OpenBetween → AreBetween → (opened : Opened) (old : Option Content) (error : WriteError) → HasOpened opened
+    → IfSome old (λ c. RunsNoted opened c old (let r : Result ℕ WriteError = Err error in r))
+not_run results between parts opened None error has = tt
+not_run results between parts opened (Some c) error has =
     let (w, result) = ran_exists results between opened has in
     (w, result, record { now = c; now_is = refl; grown = Grows-refl c; rest = Grows-with_pieces parts (all_pieces opened.is_self_load opened.streams w) c })
 
@@ -65,8 +62,9 @@ begins_own opened c has stands ids =
 
 -- ---- rounds and the end
 
-pub ended_small : (load streams : Bool) (w : World) (old new : Option Content) (status : ℕ) → PutsAll load streams w old new (let r : Result ℕ WriteError = Ok status in r) → status ≤ 1
-ended_small load streams w old new status told = subst (λ (s : ℕ). s ≤ 1) (sym told.1) (small (unmet w))
+pub ended_small : (load streams : Bool) (w : World) (old new : Option Content) (r : Result ℕ WriteError) → PutsAll load streams w old new r → IfOk r (λ status. status ≤ 1)
+ended_small load streams w old new (Ok status) told = subst (λ (s : ℕ). s ≤ 1) (sym told.1) (small (unmet w))
+ended_small load streams w old new (Err error) told = tt
 
 module _ (parts : AreBetween) (opened : Opened) (c : rounds.World) (same : c.net ≡ opened.net) (old : Option Content) where
   abbrev start : World
@@ -82,58 +80,37 @@ module _ (parts : AreBetween) (opened : Opened) (c : rounds.World) (same : c.net
       (w, result_of w result, between-more parts (run_pieces opened.is_self_load w) (stream_puts opened.streams w) begun new (stands begun (sym is) opened.is_self_load))
 
   -- a round stopped
-  pub rounds_stopped : (d : rounds.World) (new : Option Content) (stop : Stop) → PutsRounds c d start old new (let r : Result (Unit {0}) Stop = Err stop in r)
-      → IfSome old (λ begun. RunsNoted opened begun new (Err stop))
-  rounds_stopped d new (Refused fault) told = absurd told
-  rounds_stopped d new (ReadFailed file) told = absurd told
-  rounds_stopped d new WriteFailed told = part_of new told old refl
-  rounds_stopped d new NoMemory told = part_of new told old refl
+  pub rounds_stopped : (new : Option Content) (error : WriteError) → PutsInPart c start old new → IfSome old (λ begun. RunsNoted opened begun new (let r : Result ℕ WriteError = Err error in r))
+  rounds_stopped new error part = part_of new part old refl
 
+  -- all rounds were made, and what is left was put, or a front of it
   module _ (d : rounds.World) (mid new : Option Content) (all : HasAllRounds c d start old mid) where
-    ended_at : (status : ℕ) → PutsAll opened.is_self_load opened.streams all.world old new (let r : Result ℕ WriteError = Ok status in r) → (o : Option Content) → o ≡ old
-        → IfSome o (λ begun. RunsNoted opened begun new (Ok status))
-    ended_at status told None is = tt
-    ended_at status (told, status_is) (Some begun) is = (all.world, result_of all.world all.result, (told begun (sym is), status_is, all.fit tt))
+    ended_at : (r : Result ℕ WriteError) → PutsAll opened.is_self_load opened.streams all.world old new r → (o : Option Content) → o ≡ old → IfSome o (λ begun. RunsNoted opened begun new r)
+    ended_at (Ok status) told None is = tt
+    ended_at (Ok status) told (Some begun) is = (all.world, result_of all.world all.result, (told.0 begun (sym is), told.1, all.fit tt))
+    ended_at (Err error) told None is = tt
+    ended_at (Err error) told (Some begun) is = (all.world, result_of all.world all.result, told begun (sym is))
 
-    -- all was put
-    pub run_ended : (status : ℕ) → PutsAll opened.is_self_load opened.streams all.world old new (let r : Result ℕ WriteError = Ok status in r) → IfSome old (λ begun. RunsNoted opened begun new (Ok status))
-    run_ended status told = ended_at status told old refl
-
-    stopped_at : (error : WriteError) → PutsAll opened.is_self_load opened.streams all.world old new (let r : Result ℕ WriteError = Err error in r) → (o : Option Content) → o ≡ old
-        → IfSome o (λ begun. RunsNoted opened begun new (Err (of_writing error)))
-    stopped_at error told None is = tt
-    stopped_at write.Failed told (Some begun) is = (all.world, result_of all.world all.result, told begun (sym is))
-    stopped_at write.NoMemory told (Some begun) is = (all.world, result_of all.world all.result, told begun (sym is))
-
-    -- a write failed at the end
-    pub end_stopped : (error : WriteError) → PutsAll opened.is_self_load opened.streams all.world old new (let r : Result ℕ WriteError = Err error in r)
-        → IfSome old (λ begun. RunsNoted opened begun new (Err (of_writing error)))
-    end_stopped error told = stopped_at error told old refl
+    pub run_ended : (r : Result ℕ WriteError) → PutsAll opened.is_self_load opened.streams all.world old new r → IfSome old (λ begun. RunsNoted opened begun new r)
+    run_ended r told = ended_at r told old refl
 
 -- ---- the notes
 
-noted_here : AreBetween → (opened : Opened) (c : Content) (new : Option Content) (r : Result ℕ Stop) → RunsNoted opened (with_pieces (note_puts opened.notes) c) new r → RunsOpened opened c new r
+noted_here : AreBetween → (opened : Opened) (c : Content) (new : Option Content) (r : Result ℕ WriteError) → RunsNoted opened (with_pieces (note_puts opened.notes) c) new r → RunsOpened opened c new r
 noted_here parts opened c new (Ok status) (w, result, told) =
     (w, result, told.0 ∙ ap Some (sym (with_append (note_puts opened.notes) (all_pieces opened.is_self_load opened.streams w) c)), told.1, told.2)
-noted_here parts opened c new (Err (Refused fault)) (w, result, told) = absurd told
-noted_here parts opened c new (Err (ReadFailed file)) (w, result, told) = absurd told
-noted_here parts opened c new (Err WriteFailed) (w, result, part) = (w, result, between-after parts (note_puts opened.notes) (all_pieces opened.is_self_load opened.streams w) c new part)
-noted_here parts opened c new (Err NoMemory) (w, result, part) = (w, result, between-after parts (note_puts opened.notes) (all_pieces opened.is_self_load opened.streams w) c new part)
+noted_here parts opened c new (Err error) (w, result, part) = (w, result, between-after parts (note_puts opened.notes) (all_pieces opened.is_self_load opened.streams w) c new part)
 
 -- the notes were put, and the run was made
-pub noted : AreBetween → (opened : Opened) (old mid new : Option Content) (r : Result ℕ Stop) → mid ≡ option_map (with_pieces (note_puts opened.notes)) old
+pub noted : AreBetween → (opened : Opened) (old mid new : Option Content) (r : Result ℕ WriteError) → mid ≡ option_map (with_pieces (note_puts opened.notes)) old
     → IfSome mid (λ c. RunsNoted opened c new r) → IfSome old (λ c. RunsOpened opened c new r)
 noted parts opened None mid new r is ran = tt
 noted parts opened (Some c) mid new r is ran = noted_here parts opened c new r (subst (λ (m : Option Content). IfSome m (λ d. RunsNoted opened d new r)) is ran)
 
 -- a write of the notes failed
-stopped_by : (opened : Opened) (c : Content) (new : Option Content) (e : WriteError) → PutsSome opened c new → RunsOpened opened c new (Err (of_writing e))
-stopped_by opened c new write.Failed some = some
-stopped_by opened c new write.NoMemory some = some
-
-pub notes_stopped : HaveResults → OpenBetween → AreBetween → (opened : Opened) (old new : Option Content) (e : WriteError) → HasOpened opened → PutsFront (note_puts opened.notes) old new
-    → IfSome old (λ c. RunsOpened opened c new (Err (of_writing e)))
-notes_stopped results between parts opened None new e has some = tt
-notes_stopped results between parts opened (Some c) new e has some =
+pub notes_stopped : HaveResults → OpenBetween → AreBetween → (opened : Opened) (old new : Option Content) (error : WriteError) → HasOpened opened → PutsFront (note_puts opened.notes) old new
+    → IfSome old (λ c. RunsOpened opened c new (let r : Result ℕ WriteError = Err error in r))
+notes_stopped results between parts opened None new error has some = tt
+notes_stopped results between parts opened (Some c) new error has some =
     let (w, result) = ran_exists results between opened has in
-    stopped_by opened c new e (w, result, between-first parts (note_puts opened.notes) (all_pieces opened.is_self_load opened.streams w) c new some)
+    (w, result, between-first parts (note_puts opened.notes) (all_pieces opened.is_self_load opened.streams w) c new some)

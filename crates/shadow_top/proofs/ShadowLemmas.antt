@@ -1,10 +1,12 @@
 -- What the steps of the program leave, put together.
-use Rattle.std.proofs.Common.{◌≡◌, ◌≢◌, ℕ, ◌+◌, ◌<◌, ◌≤◌, ◌⊎◌, inl, inr, ⊎_elim, Bool, false, List, Option, Some, None, option_map, Result, Ok, Err, IfSome, refl, sym, ap, subst, ◌∙◌, arith}
+use Rattle.std.proofs.Common.{◌≡◌, ◌≢◌, ℕ, ◌+◌, ◌<◌, ◌≤◌, ◌⊎◌, inl, inr, ⊎_elim, Bool, false, List, Option, Some, None, option_map, Result, Ok, Err, IfOk, IfSome, refl, sym, ap, subst, ◌∙◌, arith}
 use Rattle.sim_base.specs.Faults.{Rose}
 use Rattle.sim_base.specs.Files.{Held}
 use Rattle.sim_base.specs.Sink.{Content, add, begun, AddsFront}
-use Rattle.sim_base.specs.Tally.{EndsByError, StopsAtError, one_more}
+use Rattle.sim_base.specs.Tally.{EndsByError, StopsAtError, CountsWrites, one_more}
 use Rattle.sim_base.specs.declared.outside.sink.Place.TheVariants as place
+use Rattle.sim_base.specs.declared.outside.sink.WriteError.{WriteError}
+use Rattle.sim_base.specs.declared.outside.sink.WriteError.TheVariants as write
 use Rattle.sim_base.specs.declared.outside.tally.Tally.{Tally}
 use Rattle.net_run.specs.Parts.{Between}
 use Rattle.net_run.specs.Pieces.{with_pieces}
@@ -14,6 +16,7 @@ use Rattle.run_plan.specs.Line.{line_of}
 use Rattle.run_plan.specs.Outcomes.{Meets}
 use Rattle.run_plan.specs.Planned.{planned}
 use Rattle.run_plan.specs.declared.fault.Fault.{Fault}
+use Rattle.run_plan.specs.declared.fault.Fault.TheVariants as refusal
 use Rattle.run_plan.specs.declared.fault.ReadStop.{ReadStop}
 use Rattle.run_plan.specs.declared.fault.ReadStop.TheVariants as read
 use Rattle.run_plan.specs.declared.planned.Planned.{Planned}
@@ -23,11 +26,14 @@ use Rattle.shd_config.specs.Shown.{shown}
 use Rattle.shd_config.specs.declared.config.Config.{Config}
 use Rattle.pcap_text.specs.declared.capture.Capture.{Capture}
 use Rattle.shadow_top.specs.Captured.{AreLinesOf}
-use Rattle.shadow_top.specs.Contract.{LogFits, Shows, TellsReadFailed, ShowsPart, TellsPart, Runs, CarriesOut, RunsPlan, RunsInPart, ShowsConfig, ListsFront, ListsCapture, TellsLine, Tells, read_failed_line}
+use Rattle.shadow_top.specs.Contract.{LogFits, Shows, TellsReadFailed, ShowsPart, TellsPart, read_failed_line}
 use Rattle.shadow_top.specs.Input.{Input, input, IsFirstFault, IsToShow, IsToRun, IsToList, IsReached, IsPlanned, directory_of}
 use Rattle.shadow_top.specs.inside.Outcome.{Told, Outcome, showed, failed_reading, failed_writing, wanted_memory}
 use Rattle.shadow_top.specs.Shown.{IsShown, IsRunTo, pieces_of, refused, configured, listed, ran}
-use Rattle.shadow_top.specs.inside.Stop.{CountsSource, CountsSink, of_reading}
+use Rattle.shadow_top.specs.inside.Steps.{Runs, CarriesOut, RunsPlan, RunsInPart, ShowsConfig, ListsFront, ListsCapture, TellsLine, Tells}
+use Rattle.shadow_top.specs.inside.Stop.{CountsSource, CountsSink, IsSmall, of_reading, ended}
+use Rattle.shadow_top.specs.declared.stop.Answer.{Answer}
+use Rattle.shadow_top.specs.declared.stop.Answer.TheVariants.{Status, Exists}
 use Rattle.shadow_top.specs.declared.stop.Stop.{Stop}
 use Rattle.shadow_top.specs.declared.stop.Stop.TheVariants.{Refused, ReadFailed, WriteFailed, NoMemory}
 use Rattle.shadow_top.proofs.FitLemmas.{refused-fit, config-fit, list-fit, run-fit}
@@ -109,38 +115,37 @@ runs_stopped words (Some h) (Some c) (read.Refused fault) met = (inl met, refl)
 runs_stopped words (Some h) (Some c) (read.ReadFailed file) met = (met, refl)
 runs_stopped words (Some h) (Some c) read.NoMemory met = inl refl
 
--- a configuration was shown
-shows_by : AreOne → (i : Input) (c : Content) (new : Option Content) (config : Config) (r : Result ℕ Stop) → IsToShow i config → ShowsConfig config c new r → Runs i c new r
-shows_by one i c new config (Ok status) asked (new_is, status_is) =
-    shows one i c (add place.Out (shown config) c) new status new_is (subst (IsShown i c (add place.Out (shown config) c)) (sym status_is) (config_shown i c config asked))
-    (config-fit one.1 i config asked)
-shows_by one i c new config (Err (Refused fault)) asked told = absurd told
-shows_by one i c new config (Err (ReadFailed file)) asked told = absurd told
-shows_by one i c new config (Err WriteFailed) asked front = part_of_config i c config new asked front
-shows_by one i c new config (Err NoMemory) asked front = part_of_config i c config new asked front
+-- a write failed, or memory ran out
+runs_in_part : (i : Input) (c : Content) (new : Option Content) (error : WriteError) → ShowsPart i c new → Runs i c new (ended (Err error))
+runs_in_part i c new write.Failed part = part
+runs_in_part i c new write.NoMemory part = part
 
-runs_shown : AreOne → (words : List (List ℕ)) (held : Option Held) (old new : Option Content) (config : Config) (r : Result ℕ Stop)
+-- a configuration was shown
+shows_by : AreOne → (i : Input) (c : Content) (new : Option Content) (config : Config) (r : Result Answer WriteError) → IsToShow i config → ShowsConfig config c new r → Runs i c new (ended r)
+shows_by one i c new config (Ok answer) asked (new_is, answer_is) =
+    subst (λ (a : Answer). Runs i c new (ended (Ok a))) (sym answer_is)
+    (shows one i c (add place.Out (shown config) c) new 0 new_is (config_shown i c config asked) (config-fit one.1 i config asked))
+shows_by one i c new config (Err error) asked front = runs_in_part i c new error (part_of_config i c config new asked front)
+
+runs_shown : AreOne → (words : List (List ℕ)) (held : Option Held) (old new : Option Content) (config : Config) (r : Result Answer WriteError)
     → IfSome held (λ h. Meets (λ (p : Planned). p) (planned words h) (let r : Result Planned ReadStop = Ok (plan.Shows config) in r))
     → IfSome old (λ c. ShowsConfig config c new r)
-    → IfSome held (λ h. IfSome old (λ c. Runs (input words h c) c new r))
+    → IfSome held (λ h. IfSome old (λ c. Runs (input words h c) c new (ended r)))
 runs_shown one words None old new config r asked told = tt
 runs_shown one words (Some h) None new config r asked told = tt
 runs_shown one words (Some h) (Some c) new config r asked told = shows_by one (input words h c) c new config r asked told
 
 -- a capture was listed
-lists_by : AreOne → (i : Input) (c : Content) (new : Option Content) (capture : Capture) (r : Result ℕ Stop) → IsToList i capture → ListsCapture capture c new r → Runs i c new r
-lists_by one i c new capture (Ok status) asked (lines, are, new_is, status_is) =
-    shows one i c (add place.Out lines c) new status new_is (subst (IsShown i c (add place.Out lines c)) (sym status_is) (list_shown i c capture lines asked are))
-    (list-fit one.1 i capture asked)
-lists_by one i c new capture (Err (Refused fault)) asked told = absurd told
-lists_by one i c new capture (Err (ReadFailed file)) asked told = absurd told
-lists_by one i c new capture (Err WriteFailed) asked front = part_of_list i c capture new asked front
-lists_by one i c new capture (Err NoMemory) asked front = part_of_list i c capture new asked front
+lists_by : AreOne → (i : Input) (c : Content) (new : Option Content) (capture : Capture) (r : Result Answer WriteError) → IsToList i capture → ListsCapture capture c new r → Runs i c new (ended r)
+lists_by one i c new capture (Ok answer) asked (lines, are, new_is, answer_is) =
+    subst (λ (a : Answer). Runs i c new (ended (Ok a))) (sym answer_is)
+    (shows one i c (add place.Out lines c) new 0 new_is (list_shown i c capture lines asked are) (list-fit one.1 i capture asked))
+lists_by one i c new capture (Err error) asked front = runs_in_part i c new error (part_of_list i c capture new asked front)
 
-runs_listed : AreOne → (words : List (List ℕ)) (held : Option Held) (old new : Option Content) (capture : Capture) (r : Result ℕ Stop)
+runs_listed : AreOne → (words : List (List ℕ)) (held : Option Held) (old new : Option Content) (capture : Capture) (r : Result Answer WriteError)
     → IfSome held (λ h. Meets (λ (p : Planned). p) (planned words h) (let r : Result Planned ReadStop = Ok (plan.Lists capture) in r))
     → IfSome old (λ c. ListsCapture capture c new r)
-    → IfSome held (λ h. IfSome old (λ c. Runs (input words h c) c new r))
+    → IfSome held (λ h. IfSome old (λ c. Runs (input words h c) c new (ended r)))
 runs_listed one words None old new capture r asked told = tt
 runs_listed one words (Some h) None new capture r asked told = tt
 runs_listed one words (Some h) (Some c) new capture r asked told = lists_by one (input words h c) c new capture r asked told
@@ -154,34 +159,51 @@ in_part i c new run asked there told =
     part_of_pieces i c run some.1 new (record { asked = asked; free = ap (λ (t : List ℕ → Bool). t (directory_of run)) there ∙ some.0 }) some.2 some.3)
     told
 
-runs_by : AreOne → (i : Input) (c : Content) (new : Option Content) (run : Run) (r : Result ℕ Stop) → IsPlanned i (Ok (plan.Runs run)) → i.there ≡ c.there → RunsPlan run c new r → Runs i c new r
-runs_by one i c new run (Ok status) asked there (free, w, result, new_is, status_is, fit) =
+runs_by : AreOne → (i : Input) (c : Content) (new : Option Content) (run : Run) (r : Result Answer WriteError) → IsPlanned i (Ok (plan.Runs run)) → i.there ≡ c.there → RunsPlan run c new r → Runs i c new (ended r)
+runs_by one i c new run (Ok (Status status)) asked there (free, w, result, new_is, status_is, fit) =
     let to_run : IsToRun i run = record { asked = asked; free = ap (λ (t : List ℕ → Bool). t (directory_of run)) there ∙ free } in
     shows one i c (with_pieces (pieces_of run w) (begun (directory_of run) c)) new status new_is
     (subst (IsShown i c (with_pieces (pieces_of run w) (begun (directory_of run) c))) (sym status_is) (run_shown i c run w to_run result))
     (run-fit one.1 one.2 i run w to_run result fit)
-runs_by one i c new run (Err (Refused fault)) asked there (is_there, fault_is, new_is) =
-    (inr (record { run = run; asked = asked; there = ap (λ (t : List ℕ → Bool). t (directory_of run)) there ∙ is_there; fault_is = fault_is }), new_is)
-runs_by one i c new run (Err (ReadFailed file)) asked there told = absurd told
-runs_by one i c new run (Err WriteFailed) asked there told = in_part i c new run asked there told
-runs_by one i c new run (Err NoMemory) asked there told = in_part i c new run asked there told
+runs_by one i c new run (Ok (Exists directory)) asked there (is_there, directory_is, new_is) =
+    (inr (record { run = run; asked = asked; there = ap (λ (t : List ℕ → Bool). t (directory_of run)) there ∙ is_there; fault_is = ap (λ (d : List ℕ). refusal.Exists d) directory_is }), new_is)
+runs_by one i c new run (Err error) asked there told = runs_in_part i c new error (in_part i c new run asked there told)
 
-runs_planned : AreOne → (words : List (List ℕ)) (held : Option Held) (old new : Option Content) (run : Run) (r : Result ℕ Stop)
+runs_planned : AreOne → (words : List (List ℕ)) (held : Option Held) (old new : Option Content) (run : Run) (r : Result Answer WriteError)
     → IfSome held (λ h. Meets (λ (p : Planned). p) (planned words h) (let r : Result Planned ReadStop = Ok (plan.Runs run) in r))
     → IfSome old (λ c. RunsPlan run c new r)
-    → IfSome held (λ h. IfSome old (λ c. Runs (input words h c) c new r))
+    → IfSome held (λ h. IfSome old (λ c. Runs (input words h c) c new (ended r)))
 runs_planned one words None old new run r asked told = tt
 runs_planned one words (Some h) None new run r asked told = tt
 runs_planned one words (Some h) (Some c) new run r asked told = runs_by one (input words h c) c new run r asked refl told
 
 -- what was planned was done
-pub runs_carried : AreOne → (words : List (List ℕ)) (held : Option Held) (old new : Option Content) (p : Planned) (r : Result ℕ Stop)
+pub runs_carried : AreOne → (words : List (List ℕ)) (held : Option Held) (old new : Option Content) (p : Planned) (r : Result Answer WriteError)
     → IfSome held (λ h. Meets (λ (x : Planned). x) (planned words h) (let o : Result Planned ReadStop = Ok p in o))
     → IfSome old (λ c. CarriesOut p c new r)
-    → IfSome held (λ h. IfSome old (λ c. Runs (input words h c) c new r))
+    → IfSome held (λ h. IfSome old (λ c. Runs (input words h c) c new (ended r)))
 runs_carried one words held old new (plan.Shows config) r asked told = runs_shown one words held old new config r asked told
 runs_carried one words held old new (plan.Runs run) r asked told = runs_planned one words held old new run r asked told
 runs_carried one words held old new (plan.Lists capture) r asked told = runs_listed one words held old new capture r asked told
+
+-- with what was counted, and its status
+pub reads_carried : (r : Result Answer WriteError) (before now : ℕ) → now ≡ before → CountsSource (ended r) before now
+reads_carried (Ok (Status status)) before now same = same
+reads_carried (Ok (Exists directory)) before now same = same
+reads_carried (Err write.Failed) before now same = same
+reads_carried (Err write.NoMemory) before now same = same
+
+pub writes_carried : (r : Result Answer WriteError) (before now : Tally) → CountsWrites r before now → CountsSink (ended r) before now
+writes_carried (Ok (Status status)) before now counts = counts
+writes_carried (Ok (Exists directory)) before now counts = counts
+writes_carried (Err write.Failed) before now counts = counts
+writes_carried (Err write.NoMemory) before now counts = counts
+
+pub small_carried : (r : Result Answer WriteError) → IfOk r IsSmall → IfOk (ended r) (λ status. status ≤ 1)
+small_carried (Ok (Status status)) small = small
+small_carried (Ok (Exists directory)) small = tt
+small_carried (Err write.Failed) small = tt
+small_carried (Err write.NoMemory) small = tt
 
 -- ---- the whole, by its status
 

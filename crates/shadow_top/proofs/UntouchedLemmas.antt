@@ -1,36 +1,32 @@
 -- What a refusal and a read that failed leave as it stood.
-use Rattle.std.proofs.Common.{◌≡◌, ℕ, ◌≤◌, inl, inr, List, Option, Some, None, option_map, Result, Ok, Err, IfSome, refl, ap, ◌∙◌, arith}
+use Rattle.std.proofs.Common.{◌≡◌, ℕ, ◌≤◌, inl, inr, List, Option, Some, None, option_map, Result, Ok, Err, IfSome, refl, sym, ap, subst, ◌∙◌, arith}
 use Rattle.sim_base.specs.Sink.{Content, add}
 use Rattle.sim_base.specs.declared.outside.sink.Place.TheVariants as place
+use Rattle.sim_base.specs.declared.outside.sink.WriteError.{WriteError}
+use Rattle.sim_base.specs.declared.outside.sink.WriteError.TheVariants as write
 use Rattle.sim_base.specs.declared.outside.tally.Tally.{Tally}
 use Rattle.run_plan.specs.Line.{line_of}
 use Rattle.run_plan.specs.declared.fault.ReadStop.{ReadStop}
 use Rattle.run_plan.specs.declared.fault.ReadStop.TheVariants as read
 use Rattle.run_plan.specs.declared.planned.Planned.{Planned}
 use Rattle.run_plan.specs.declared.planned.Planned.TheVariants as plan
-use Rattle.shadow_top.specs.Contract.{AddsLine, Keeps, CarriesOut, TellsLine, Tells, read_failed_line}
-use Rattle.shadow_top.specs.inside.Stop.{of_reading}
+use Rattle.shadow_top.specs.Contract.{AddsLine, read_failed_line}
+use Rattle.shadow_top.specs.inside.Steps.{Keeps, CarriesOut, TellsLine, Tells}
+use Rattle.shadow_top.specs.inside.Stop.{of_reading, ended}
+use Rattle.shadow_top.specs.declared.stop.Answer.{Answer}
+use Rattle.shadow_top.specs.declared.stop.Answer.TheVariants.{Status, Exists}
 use Rattle.shadow_top.specs.declared.stop.Stop.{Stop}
 use Rattle.shadow_top.specs.declared.stop.Stop.TheVariants.{Refused, ReadFailed, WriteFailed, NoMemory}
 
-kept_by : (c : Content) (new : Option Content) (p : Planned) (r : Result ℕ Stop) → CarriesOut p c new r → Keeps c new r
-kept_by c new (plan.Shows config) (Ok status) told = tt
-kept_by c new (plan.Shows config) (Err (Refused fault)) told = absurd told
-kept_by c new (plan.Shows config) (Err (ReadFailed file)) told = absurd told
-kept_by c new (plan.Shows config) (Err WriteFailed) told = tt
-kept_by c new (plan.Shows config) (Err NoMemory) told = tt
-kept_by c new (plan.Lists capture) (Ok status) told = tt
-kept_by c new (plan.Lists capture) (Err (Refused fault)) told = absurd told
-kept_by c new (plan.Lists capture) (Err (ReadFailed file)) told = absurd told
-kept_by c new (plan.Lists capture) (Err WriteFailed) told = tt
-kept_by c new (plan.Lists capture) (Err NoMemory) told = tt
-kept_by c new (plan.Runs run) (Ok status) told = tt
-kept_by c new (plan.Runs run) (Err (Refused fault)) told = told.2
-kept_by c new (plan.Runs run) (Err (ReadFailed file)) told = absurd told
-kept_by c new (plan.Runs run) (Err WriteFailed) told = tt
-kept_by c new (plan.Runs run) (Err NoMemory) told = tt
+kept_by : (c : Content) (new : Option Content) (p : Planned) (r : Result Answer WriteError) → CarriesOut p c new r → Keeps c new (ended r)
+kept_by c new (plan.Shows config) (Ok answer) told = subst (λ (a : Answer). Keeps c new (ended (Ok a))) (sym told.1) tt
+kept_by c new (plan.Lists capture) (Ok answer) (lines, are, new_is, answer_is) = subst (λ (a : Answer). Keeps c new (ended (Ok a))) (sym answer_is) tt
+kept_by c new (plan.Runs run) (Ok (Status status)) told = tt
+kept_by c new (plan.Runs run) (Ok (Exists directory)) told = told.2
+kept_by c new p (Err write.Failed) told = tt
+kept_by c new p (Err write.NoMemory) told = tt
 
-pub kept_carried : (old new : Option Content) (p : Planned) (r : Result ℕ Stop) → IfSome old (λ c. CarriesOut p c new r) → IfSome old (λ c. Keeps c new r)
+pub kept_carried : (old new : Option Content) (p : Planned) (r : Result Answer WriteError) → IfSome old (λ c. CarriesOut p c new r) → IfSome old (λ c. Keeps c new (ended r))
 kept_carried None new p r told = tt
 kept_carried (Some c) new p r told = kept_by c new p r told
 

@@ -2,4 +2,5 @@
 pub mod Ending
 pub mod Outcome
 pub mod Rounds
+pub mod Steps
 pub mod Stop

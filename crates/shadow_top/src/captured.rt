@@ -1,16 +1,17 @@
 //! The records of a capture as lines.
 
-ghost use Rattle.std.specs.Prelude.{◌≡◌, ◌≤◌, ◌++◌, Option, IfSome, IfOk, OnOk};
+ghost use Rattle.std.specs.Prelude.{◌≡◌, ◌++◌, Option, IfSome, IfOk, OnOk};
+ghost use Rattle.sim_base.specs.Tally.{CountsWrites};
 ghost use Rattle.sim_base.specs.declared.packet.Packet.{Packet};
 ghost use Rattle.pcap_text.specs.Packets.{IsPacketIn};
 ghost use Rattle.shadow_top.specs.Captured.{line_with, AreLinesOf};
-ghost use Rattle.shadow_top.specs.Contract.{ListsCapture};
-ghost use Rattle.shadow_top.specs.inside.Stop.{CountsSink, NoReadFailed};
+ghost use Rattle.shadow_top.specs.inside.Steps.{ListsCapture};
+ghost use Rattle.shadow_top.specs.inside.Stop.{IsSmall};
 
-use crate::stop::Stop;
+use crate::stop::Answer;
 use out_text::{cut_line, packet_line};
 use pcap_text::{Capture, Record};
-use sim_base::{NoMemory, Place, Sink, Text, put_all};
+use sim_base::{NoMemory, Place, Sink, Text, WriteError, put_all};
 use std::alloc::Global;
 
 /// Adds the line of a record.
@@ -41,15 +42,12 @@ pub(crate) fn list_capture<K: Sink>(
     alloc: Global,
     sink: &mut K,
     capture: &Capture,
-) -> Result<u8, Stop>
+) -> Result<Answer, WriteError>
     ensures told { IfSome (K.content sink.old) (λ c. ListsCapture capture.now c (K.content sink.new) result) }
-    ensures status { IfOk result (λ status. status ≤ 1) }
-    ensures reads { NoReadFailed result }
-    ensures count { CountsSink result (K.tally sink.old) (K.tally sink.new) }
+    ensures status { IfOk result IsSmall }
+    ensures count { CountsWrites result (K.tally sink.old) (K.tally sink.new) }
 {
     let lines = capture_text(alloc, capture)?;
-    match put_all(sink, &Place::Out, lines.as_bytes()) {
-        Ok(()) => Ok(0),
-        Err(error) => Err(Stop::from(error)),
-    }
+    put_all(sink, &Place::Out, lines.as_bytes())?;
+    Ok(Answer::Status(0))
 }

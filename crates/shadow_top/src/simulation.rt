@@ -1,25 +1,25 @@
 //! The top call.
 
-ghost use Rattle.std.specs.Prelude.{◌≡◌, ◌≢◌, ◌+◌, ◌<◌, ◌≤◌, ◌⊎◌, length, map, string_bytes, not, IfSome, IfOk, OnOk, OnErr, IfErr, option_map};
+ghost use Rattle.std.specs.Prelude.{◌≡◌, ◌≢◌, ◌+◌, ◌<◌, ◌≤◌, ◌⊎◌, map, string_bytes, IfSome, IfOk};
 ghost use Rattle.sim_base.specs.Faults.{Rose};
-ghost use Rattle.sim_base.specs.Sink.{begun, add, AddsFront};
-ghost use Rattle.sim_base.specs.declared.outside.sink.Place.TheVariants as place;
+ghost use Rattle.sim_base.specs.Tally.{CountsWrites};
 ghost use Rattle.shadow_top.specs.Opened.{Opens, HasOpened};
 ghost use Rattle.run_plan.specs.Limits.{KeepsToLimits, AreLimitsKept};
 ghost use Rattle.run_plan.specs.Line.{line_of};
 ghost use Rattle.run_plan.specs.Names.{AreRowsApart, AreNamesApart};
 ghost use Rattle.run_plan.specs.Routed.{IsRouted, IsRoutedIfRun};
-ghost use Rattle.shadow_top.specs.Contract.{AddsLine, Keeps, Shows, TellsReadFailed, ShowsPart, TellsPart, Runs, CarriesOut, RunsPlan, ShowsConfig, RunsOpened, RunsNoted, TellsLine, Tells, BeginsSo, read_failed_line};
+ghost use Rattle.shadow_top.specs.Contract.{AddsLine, Shows, TellsReadFailed, ShowsPart, TellsPart, read_failed_line};
 ghost use Rattle.shadow_top.specs.Input.{input};
 ghost use Rattle.shadow_top.specs.inside.Outcome.{Outcome};
-ghost use Rattle.shadow_top.specs.inside.Stop.{CountsSource, CountsSink, NoReadFailed};
+ghost use Rattle.shadow_top.specs.inside.Steps.{Keeps, Runs, CarriesOut, RunsPlan, ShowsConfig, RunsOpened, RunsNoted, TellsLine, Tells};
+ghost use Rattle.shadow_top.specs.inside.Stop.{CountsSource, CountsSink, IsSmall};
 
 use crate::captured::list_capture;
 use crate::ending::put_ending;
 use crate::laws::one_shown;
 use crate::opened::{Opened, open};
 use crate::rounds::put_run;
-use crate::stop::Stop;
+use crate::stop::{Answer, Stop, ended};
 use net_run::{parts_are_between, put_notes};
 use out_text::FaultText;
 use round_lookahead::{World, one_result};
@@ -30,20 +30,6 @@ use sim_base::{Name, NoMemory, Place, Sink, Source, Text, WriteError, put_all};
 use std::alloc::{AllocGlobal, Global};
 use std::thread::Threads;
 use steal_workers::Gate;
-
-/// Makes the data directory, or refuses the input where it is there.
-fn begin<K: Sink>(sink: &mut K, directory: Name) -> Result<(), Stop>
-    ensures told { BeginsSo directory (K.content sink.old) (K.content sink.new) result }
-    ensures reads { NoReadFailed result }
-    ensures count { CountsSink result (K.tally sink.old) (K.tally sink.new) }
-{
-    match sink.begin(directory.as_str()) {
-        Ok(true) => Ok(()),
-        Ok(false) => Err(Stop::Refused(Fault::Exists(directory))),
-        Err(WriteError::Failed) => Err(Stop::WriteFailed),
-        Err(WriteError::NoMemory) => Err(Stop::NoMemory),
-    }
-}
 
 /// Adds a line to the error stream.
 fn put_line<K: Sink>(sink: &mut K, line: &Text, status: u8) -> u8
@@ -95,19 +81,15 @@ fn tell_stop<K: Sink>(alloc: Global, sink: &mut K, stop: &Stop) -> u8
 }
 
 /// Puts a configuration on the output.
-fn show_config<K: Sink>(alloc: Global, sink: &mut K, config: &Config) -> Result<u8, Stop>
+fn show_config<K: Sink>(alloc: Global, sink: &mut K, config: &Config) -> Result<Answer, WriteError>
     ensures told { IfSome (K.content sink.old) (λ c. ShowsConfig config.now c (K.content sink.new) result) }
-    ensures status { IfOk result (λ status. status ≤ 1) }
-    ensures reads { NoReadFailed result }
-    ensures count { CountsSink result (K.tally sink.old) (K.tally sink.new) }
+    ensures status { IfOk result IsSmall }
+    ensures count { CountsWrites result (K.tally sink.old) (K.tally sink.new) }
 {
     let mut text = Text::new(alloc);
     config.show(&mut text)?;
-    match put_all(sink, &Place::Out, text.as_bytes()) {
-        Ok(()) => Ok(0),
-        Err(WriteError::Failed) => Err(Stop::WriteFailed),
-        Err(WriteError::NoMemory) => Err(Stop::NoMemory),
-    }
+    put_all(sink, &Place::Out, text.as_bytes())?;
+    Ok(Answer::Status(0))
 }
 
 /// Makes a run whose notes were written, and writes what it shows: the heads of captures, what a round
@@ -118,12 +100,11 @@ fn run_noted<K: Sink, G: Gate + Sync, R: Threads + Sync + AllocGlobal>(
     gate: &G,
     opened: Opened,
     sink: &mut K,
-) -> Result<u8, Stop>
+) -> Result<u8, WriteError>
     requires { HasOpened opened }
     ensures told { IfSome (K.content sink.old) (λ c. RunsNoted opened c (K.content sink.new) result) }
     ensures status { IfOk result (λ status. status ≤ 1) }
-    ensures reads { NoReadFailed result }
-    ensures count { CountsSink result (K.tally sink.old) (K.tally sink.new) }
+    ensures count { CountsWrites result (K.tally sink.old) (K.tally sink.new) }
 {
     one_result();
     parts_are_between();
@@ -140,8 +121,7 @@ fn run_noted<K: Sink, G: Gate + Sync, R: Threads + Sync + AllocGlobal>(
     let workers = worker_count(parallelism, cores, rows.len() as u32);
     let mut world = World::start(alloc, rows, net, lookahead)?;
     put_run(rt, workers, gate, &mut world, sink)?;
-    let status = put_ending(alloc, &world, is_self_load, streams, sink)?;
-    Ok(status)
+    put_ending(alloc, &world, is_self_load, streams, sink)
 }
 
 /// Makes a run whose data directory was made, and writes what it shows.
@@ -151,19 +131,16 @@ fn run_begun<K: Sink, G: Gate + Sync, R: Threads + Sync + AllocGlobal>(
     gate: &G,
     opened: Opened,
     sink: &mut K,
-) -> Result<u8, Stop>
+) -> Result<u8, WriteError>
     requires { HasOpened opened }
     ensures told { IfSome (K.content sink.old) (λ c. RunsOpened opened c (K.content sink.new) result) }
     ensures status { IfOk result (λ status. status ≤ 1) }
-    ensures reads { NoReadFailed result }
-    ensures count { CountsSink result (K.tally sink.old) (K.tally sink.new) }
+    ensures count { CountsWrites result (K.tally sink.old) (K.tally sink.new) }
 {
     one_result();
     parts_are_between();
-    match put_notes(rt.alloc(), sink, opened.notes.as_slice()) {
-        Ok(()) => run_noted(rt, cores, gate, opened, sink),
-        Err(error) => Err(Stop::from(error)),
-    }
+    put_notes(rt.alloc(), sink, opened.notes.as_slice())?;
+    run_noted(rt, cores, gate, opened, sink)
 }
 
 /// What a run begins with, and the name of its directory.
@@ -180,46 +157,43 @@ fn prepare(alloc: Global, run: Run) -> Result<(Opened, Name), NoMemory>
     Ok((opened, directory))
 }
 
-/// Makes a run, and writes what it shows.
+/// Makes the data directory, where it isn't there, and a run, and writes what it shows.
 fn run_plan<K: Sink, G: Gate + Sync, R: Threads + Sync + AllocGlobal>(
     rt: &R,
     cores: u32,
     gate: &G,
     run: Run,
     sink: &mut K,
-) -> Result<u8, Stop>
+) -> Result<Answer, WriteError>
     requires limits { KeepsToLimits run.plan }
     requires routed { IsRouted run.plan }
     requires apart { AreRowsApart run.plan }
     ensures told { IfSome (K.content sink.old) (λ c. RunsPlan run c (K.content sink.new) result) }
-    ensures status { IfOk result (λ status. status ≤ 1) }
-    ensures reads { NoReadFailed result }
-    ensures count { CountsSink result (K.tally sink.old) (K.tally sink.new) }
+    ensures status { IfOk result IsSmall }
+    ensures count { CountsWrites result (K.tally sink.old) (K.tally sink.new) }
 {
-    match prepare(rt.alloc(), run) {
-        Ok((opened, directory)) => match begin(sink, directory) {
-            Ok(()) => run_begun(rt, cores, gate, opened, sink),
-            Err(stop) => Err(stop),
-        },
-        Err(NoMemory) => Err(Stop::NoMemory),
+    let (opened, directory) = prepare(rt.alloc(), run)?;
+    if !sink.begin(directory.as_str())? {
+        return Ok(Answer::Exists(directory));
     }
+    let status = run_begun(rt, cores, gate, opened, sink)?;
+    Ok(Answer::Status(status))
 }
 
-/// Does what was planned, and writes what it shows.
+/// Carries out what was planned, and writes what it shows.
 fn carry_out<K: Sink, G: Gate + Sync, R: Threads + Sync + AllocGlobal>(
     rt: &R,
     cores: u32,
     gate: &G,
     planned: Planned,
     sink: &mut K,
-) -> Result<u8, Stop>
+) -> Result<Answer, WriteError>
     requires limits { AreLimitsKept planned }
     requires routed { IsRoutedIfRun planned }
     requires apart { AreNamesApart planned }
     ensures told { IfSome (K.content sink.old) (λ c. CarriesOut planned c (K.content sink.new) result) }
-    ensures status { IfOk result (λ status. status ≤ 1) }
-    ensures reads { NoReadFailed result }
-    ensures count { CountsSink result (K.tally sink.old) (K.tally sink.new) }
+    ensures status { IfOk result IsSmall }
+    ensures count { CountsWrites result (K.tally sink.old) (K.tally sink.new) }
 {
     match planned {
         Planned::Shows(config) => show_config(rt.alloc(), sink, &config),
@@ -248,7 +222,7 @@ fn run<S: Source, K: Sink, G: Gate + Sync, R: Threads + Sync + AllocGlobal>(
     one_result();
     one_shown();
     match read_plan(rt, rt.alloc(), words, source, cores) {
-        Ok(planned) => carry_out(rt, cores, gate, planned, sink),
+        Ok(planned) => ended(carry_out(rt, cores, gate, planned, sink)),
         Err(stop) => Err(Stop::from(stop)),
     }
 }

@@ -1,9 +1,19 @@
-//! Why a run stops before its end.
+//! What a plan comes to, and why a run stops before its end.
 
 ghost use Rattle.std.specs.Prelude.{◌≡◌};
+ghost use Rattle.shadow_top.specs.inside.Stop.{ended};
 
 use run_plan::{Fault, ReadStop};
-use sim_base::{Name, NoMemory, WriteError};
+use sim_base::{Name, WriteError};
+
+/// What a plan comes to, where no write fails and memory suffices.
+#[derive(Drop)]
+pub enum Answer {
+    /// It was carried out, and this is the status.
+    Status(u8),
+    /// Its data directory is there, and is this.
+    Exists(Name),
+}
 
 /// Why a run stops before its end.
 #[derive(Drop)]
@@ -13,16 +23,6 @@ pub enum Stop {
     ReadFailed(Name),
     WriteFailed,
     NoMemory,
-}
-
-impl From<NoMemory> for Stop {
-    ghost use Rattle.shadow_top.specs.declared.stop.Stop.TheVariants as stop;
-
-    ghost from_gives = { λ _ s. s ≡ stop.NoMemory };
-
-    fn from(_error: NoMemory) -> Stop {
-        Stop::NoMemory
-    }
 }
 
 impl From<ReadStop> for Stop {
@@ -39,15 +39,14 @@ impl From<ReadStop> for Stop {
     }
 }
 
-impl From<WriteError> for Stop {
-    ghost use Rattle.shadow_top.specs.inside.Stop.{of_writing};
-
-    ghost from_gives = { λ written s. s ≡ of_writing written };
-
-    fn from(error: WriteError) -> Stop {
-        match error {
-            WriteError::Failed => Stop::WriteFailed,
-            WriteError::NoMemory => Stop::NoMemory,
-        }
+/// The status of a plan that was carried out, or why it stopped.
+pub(crate) fn ended(answer: Result<Answer, WriteError>) -> Result<u8, Stop>
+    ensures { result ≡ ended answer }
+{
+    match answer {
+        Ok(Answer::Status(status)) => Ok(status),
+        Ok(Answer::Exists(directory)) => Err(Stop::Refused(Fault::Exists(directory))),
+        Err(WriteError::Failed) => Err(Stop::WriteFailed),
+        Err(WriteError::NoMemory) => Err(Stop::NoMemory),
     }
 }

@@ -1,6 +1,7 @@
 -- What is put while a run goes on, and at its end.
 use Rattle.std.specs.Prelude.{◌≡◌, ℕ, ◌⊎◌, Bool, List, map, Option, Some, option_map, Result, Ok, Err}
 use Rattle.sim_base.specs.Sink.{Content}
+use Rattle.sim_base.specs.declared.outside.sink.WriteError.{WriteError}
 use Rattle.run_files.specs.Files.{Put, put_of}
 use Rattle.run_files.specs.LinesFit.{AllFit}
 use Rattle.host_state.specs.Gains.{names_in}
@@ -14,8 +15,6 @@ use Rattle.round_lookahead.specs.Gains.{HasRound}
 use Rattle.round_lookahead.specs.WorldStands.{WorldStands}
 use Rattle.round_lookahead.specs.declared.world.pieces.Pieces.{Pieces}
 use Rattle.round_lookahead.specs.declared.world.world_state.World as rounds
-use Rattle.shadow_top.specs.declared.stop.Stop.{Stop}
-use Rattle.shadow_top.specs.declared.stop.Stop.TheVariants.{Refused, ReadFailed, WriteFailed, NoMemory}
 
 -- what a round gained: what the processes wrote, and the lines of the packet log
 abbrev pub gained_by : Pieces → List Put
@@ -26,12 +25,9 @@ abbrev pub PutsSomeGained : rounds.World → rounds.World → ℕ → World → 
 PutsSomeGained c d workers w old new = (new ≡ old) ⊎ ((v : World) × (p : Pieces) × HasRound c d workers w v p × PutsFront (gained_by p) old new)
 
 -- what a round leaves
-abbrev pub PutsRound : rounds.World → rounds.World → ℕ → World → Option Content → Option Content → Result (Unit {0}) Stop → Type 0
+abbrev pub PutsRound : rounds.World → rounds.World → ℕ → World → Option Content → Option Content → Result (Unit {0}) WriteError → Type 0
 PutsRound c d workers w old new (Ok done) = (v : World) × (p : Pieces) × HasRound c d workers w v p × (new ≡ option_map (with_pieces (gained_by p)) old)
-PutsRound c d workers w old new (Err (Refused fault)) = ⊥
-PutsRound c d workers w old new (Err (ReadFailed file)) = ⊥
-PutsRound c d workers w old new (Err WriteFailed) = PutsSomeGained c d workers w old new
-PutsRound c d workers w old new (Err NoMemory) = PutsSomeGained c d workers w old new
+PutsRound c d workers w old new (Err error) = PutsSomeGained c d workers w old new
 
 -- what stands is what was put since a run began that has come to this world, if the sink tells what it holds
 abbrev pub StandsAt : World → Option Content → Option Content → Type 0
@@ -54,9 +50,6 @@ abbrev pub PutsInPart : rounds.World → World → Option Content → Option Con
 PutsInPart c w old new = (r : World) × IsResult c.net r w × StandsBefore r old new
 
 -- what all rounds leave
-abbrev pub PutsRounds : rounds.World → rounds.World → World → Option Content → Option Content → Result (Unit {0}) Stop → Type 0
+abbrev pub PutsRounds : rounds.World → rounds.World → World → Option Content → Option Content → Result (Unit {0}) WriteError → Type 0
 PutsRounds c d w old new (Ok done) = HasAllRounds c d w old new
-PutsRounds c d w old new (Err (Refused fault)) = ⊥
-PutsRounds c d w old new (Err (ReadFailed file)) = ⊥
-PutsRounds c d w old new (Err WriteFailed) = PutsInPart c w old new
-PutsRounds c d w old new (Err NoMemory) = PutsInPart c w old new
+PutsRounds c d w old new (Err error) = PutsInPart c w old new

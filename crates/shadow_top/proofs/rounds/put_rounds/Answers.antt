@@ -43,8 +43,8 @@ returns-in_err-put_next-clause-told g c = λ w old at stands.
     (let come = c.rounds.invariant.come w old at stands in
     let mid = g.K.Sink.content c.rounds.sink in
     let p = err_from_is_err_and c.from_residual.result c.from_residual.ensures.1 in
-    rw (p.1, p.2) (come-stopped c.args.world.now c.rounds.world w old mid come c.rounds_reach_the_result.ensures.goes_on c.runs_grow.ensures.goes_on c.rounds_reach_the_result.ensures.extended
-    c.runs_grow.ensures.front c.parts_are_between.ensures c.put_next.new.world c.args.workers (g.K.Sink.content c.put_next.new.sink) c.in_err-put_next.ensures.net c.in_err-put_next.field-0.0
+    rw p.1 (come-stopped c.args.world.now c.rounds.world w old mid come c.rounds_reach_the_result.ensures.goes_on c.runs_grow.ensures.goes_on c.rounds_reach_the_result.ensures.extended
+    c.runs_grow.ensures.front c.parts_are_between.ensures c.put_next.new.world c.args.workers (g.K.Sink.content c.put_next.new.sink) c.in_err-put_next.ensures.net
     (c.in_err-put_next.ensures.told come.world come.at)))
 
 pub returns-clause-told : goal.returns-clause-told

@@ -14,8 +14,8 @@ returns-in_err-put_heads-clause-told g c = λ rows at own.
     (let old : Option Content = g.K.Sink.content c.args.sink.now in
     let new : Option Content = g.K.Sink.content c.put_heads.new.sink in
     let p = err_from_is_err_and c.from_residual.result c.from_residual.ensures.1 in
-    rw (p.1, p.2) (heads-stopped c.args.world.now rows at own c.runs_grow.ensures.begins (c.rounds_reach_the_result.ensures.begins c.args.world.now.net (opening_world rows))
-    c.rounds_reach_the_result.ensures.extended c.runs_grow.ensures.front c.parts_are_between.ensures c.args.world.now old new c.in_err-put_heads.field-0.0
+    rw p.1 (heads-stopped c.args.world.now rows at own c.runs_grow.ensures.begins (c.rounds_reach_the_result.ensures.begins c.args.world.now.net (opening_world rows))
+    c.rounds_reach_the_result.ensures.extended c.runs_grow.ensures.front c.parts_are_between.ensures old new
     (subst (λ (l : Listing). PutsFront (all_heads (names_of l)) old new) c.listing.ensures c.in_err-put_heads.ensures.err)))
 
 pub returns-clause-told : goal.returns-clause-told

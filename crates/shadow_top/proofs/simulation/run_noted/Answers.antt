@@ -4,12 +4,13 @@ use Rattle.sim_base.specs.Sink.{Content}
 use Rattle.run_files.specs.Listed.{HasIds, names_of}
 use Rattle.host_state.specs.World.{opening_world}
 use Rattle.run_files.specs.declared.listed.Listing.{Listing}
-use Rattle.shadow_top.proofs.RunLemmas.{not_run, begins_own, rounds_stopped, run_ended, end_stopped, ended_small}
+use Rattle.shadow_top.proofs.RunLemmas.{not_run, begins_own, rounds_stopped, run_ended, ended_small}
 use Rattle.shadow_top.proofs.simulation.run_noted.Goals as goal
 
 pub returns-in_err-world-clause-told : goal.returns-in_err-world-clause-told
 returns-in_err-world-clause-told g c =
-    let p = err_from_is_err_and c.from_residual.result c.from_residual.ensures.1 in rw (p.1, p.2) (not_run c.one_result.ensures.at_least c.one_result.ensures.opening c.parts_are_between.ensures c.args.opened (g.K.Sink.content c.args.sink.now) c.requires)
+    let p = err_from_is_err_and c.from_residual.result c.from_residual.ensures.1 in
+    rw p.1 (not_run c.one_result.ensures.at_least c.one_result.ensures.opening c.parts_are_between.ensures c.args.opened (g.K.Sink.content c.args.sink.now) p.0 c.requires)
 
 pub put_run-requires-clause-stands : goal.put_run-requires-clause-stands
 put_run-requires-clause-stands g c κs lives = (opening_world c.args.opened.rows.items, c.in_ok-world.ensures.stands)
@@ -21,7 +22,7 @@ returns-in_err-put_run-clause-told g c =
     let old : Option Content = g.K.Sink.content c.args.sink.now in
     let told = c.in_err-put_run.ensures.told opened.rows.items c.in_ok-world.ensures.stands (begins_own opened world c.requires c.in_ok-world.ensures.stands c.in_ok-world.ensures.ids) in
     let p = err_from_is_err_and c.from_residual-in_err-put_run.result c.from_residual-in_err-put_run.ensures.1 in
-    rw (p.1, p.2) (rounds_stopped c.parts_are_between.ensures opened world c.in_ok-world.ensures.net old c.put_run.new.world (g.K.Sink.content c.put_run.new.sink) c.in_err-put_run.field-0.0 told)
+    rw p.1 (rounds_stopped c.parts_are_between.ensures opened world c.in_ok-world.ensures.net old (g.K.Sink.content c.put_run.new.sink) p.0 told)
 
 pub put_ending-requires-clause-stands : goal.put_ending-requires-clause-stands
 put_ending-requires-clause-stands g c =
@@ -32,24 +33,14 @@ put_ending-requires-clause-stands g c =
 pub put_ending-requires-clause-ids : goal.put_ending-requires-clause-ids
 put_ending-requires-clause-ids g c = subst (λ (l : Listing). All HasIds (names_of l)) (sym c.in_ok-put_run.ensures.listing) c.in_ok-world.ensures.ids
 
-pub returns-in_err-status-clause-told : goal.returns-in_err-status-clause-told
-returns-in_err-status-clause-told g c =
-    let opened = c.args.opened in
-    let world = c.in_ok-world.world in
-    let old : Option Content = g.K.Sink.content c.args.sink.now in
-    let all = c.in_ok-put_run.ensures.told opened.rows.items c.in_ok-world.ensures.stands (begins_own opened world c.requires c.in_ok-world.ensures.stands c.in_ok-world.ensures.ids) in
-    let p = err_from_is_err_and c.from_residual-in_err-status.result c.from_residual-in_err-status.ensures.1 in
-    rw (p.1, p.2) (end_stopped c.parts_are_between.ensures opened world c.in_ok-world.ensures.net old c.put_run.new.world (g.K.Sink.content c.put_run.new.sink) (g.K.Sink.content c.put_ending.new.sink) all c.in_err-status.field-0.0
-    (c.in_err-status.ensures.told all.world old all.at all.stands))
-
 pub returns-clause-told : goal.returns-clause-told
 returns-clause-told g c =
     let opened = c.args.opened in
     let world = c.in_ok-world.world in
     let old : Option Content = g.K.Sink.content c.args.sink.now in
     let all = c.in_ok-put_run.ensures.told opened.rows.items c.in_ok-world.ensures.stands (begins_own opened world c.requires c.in_ok-world.ensures.stands c.in_ok-world.ensures.ids) in
-    run_ended c.parts_are_between.ensures opened world c.in_ok-world.ensures.net old c.put_run.new.world (g.K.Sink.content c.put_run.new.sink) (g.K.Sink.content c.put_ending.new.sink) all c.in_ok-status.status
-    (c.in_ok-status.ensures.told all.world old all.at all.stands)
+    run_ended c.parts_are_between.ensures opened world c.in_ok-world.ensures.net old c.put_run.new.world (g.K.Sink.content c.put_run.new.sink) (g.K.Sink.content c.put_ending.new.sink) all c.put_ending.result
+    (c.put_ending.ensures.told all.world old all.at all.stands)
 
 pub returns-clause-status : goal.returns-clause-status
 returns-clause-status g c =
@@ -57,4 +48,4 @@ returns-clause-status g c =
     let world = c.in_ok-world.world in
     let old : Option Content = g.K.Sink.content c.args.sink.now in
     let all = c.in_ok-put_run.ensures.told opened.rows.items c.in_ok-world.ensures.stands (begins_own opened world c.requires c.in_ok-world.ensures.stands c.in_ok-world.ensures.ids) in
-    ended_small opened.is_self_load opened.streams all.world old (g.K.Sink.content c.put_ending.new.sink) c.in_ok-status.status (c.in_ok-status.ensures.told all.world old all.at all.stands)
+    ended_small opened.is_self_load opened.streams all.world old (g.K.Sink.content c.put_ending.new.sink) c.put_ending.result (c.put_ending.ensures.told all.world old all.at all.stands)
