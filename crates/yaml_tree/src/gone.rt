@@ -1,6 +1,6 @@
 //! Nodes that are let go.
 
-ghost use Rattle.std.specs.Prelude.{◌≡◌, ◌++◌, ◌∷◌, ◌↔◌, [], length, IsTrue, OnOk};
+ghost use Rattle.std.specs.Prelude.{◌≡◌, ◌+◌, ◌^◌, ◌≤◌, ◌++◌, ◌∷◌, ◌↔◌, [], length, IsTrue, OnOk, OnErr};
 
 use crate::node::Node;
 use sim_base::NoMemory;
@@ -56,9 +56,10 @@ impl Gone {
         self.count == 0
     }
 
-    /// Lets a node go, unless 2^32 are gone.
+    /// Lets a node go, unless 2^32 - 1 are gone.
     pub fn push(&mut self, node: Node) -> Result<(), NoMemory>
-        ensures { OnOk result (self.new ≡ self.old ++ node ∷ []) }
+        ensures pushed { OnOk result (self.new ≡ self.old ++ node ∷ []) }
+        ensures full { OnErr result (2 ^ 32 ≤ length self.old + 1) }
     {
         let Some(count) = self.count.checked_add(1) else {
             return Err(NoMemory);

@@ -1,6 +1,6 @@
 //! The nodes that are whole so far.
 
-ghost use Rattle.std.specs.Prelude.{◌≡◌, ◌++◌, ◌∷◌, [], length, IfSome, IfOk, OnOk, IsTrue};
+ghost use Rattle.std.specs.Prelude.{◌≡◌, ◌^◌, ◌≤◌, ◌++◌, ◌∷◌, [], length, IfSome, IfNone, IfOk, OnOk, IsTrue};
 
 use crate::gone::Gone;
 use crate::known::MOST_NODES;
@@ -38,9 +38,10 @@ impl MadeNodes {
         }
     }
 
-    /// The number of the next node, unless there are 2^32.
+    /// The number of the next node, unless there are 2^32 or more.
     pub fn next_number(&self) -> Option<u32>
-        ensures { IfSome result (λ n. n ≡ length self.now) }
+        ensures some { IfSome result (λ n. n ≡ length self.now) }
+        ensures none { IfNone result (2 ^ 32 ≤ length self.now) }
     {
         match u32::try_from(self.kept.len()) {
             Ok(kept) => kept.checked_add(self.gone.len()),
