@@ -1,6 +1,6 @@
 //! Costs under numbers.
 
-ghost use Rattle.std.specs.Prelude.{◌≡◌, [], IfOk, IfSome, Some, None, map, slice_get, slice_index_or};
+ghost use Rattle.std.specs.Prelude.{◌≡◌, ◌≤◌, ◌^◌, [], IfOk, IfSome, IfNone, Some, None, length, map, slice_get, slice_index_or};
 ghost use Rattle.net_routes.specs.inside.Numbers.{KeepNumbers};
 
 use crate::cost::Cost;
@@ -58,6 +58,7 @@ impl NumberedCosts {
     /// The number of a cost. One that has none gets the next, and nothing where all are taken.
     fn number_of(&mut self, cost: Option<Cost>) -> Result<Option<u16>, NoMemory>
         ensures number { IfOk result (λ o. IfSome o (λ n. slice_get self.new n ≡ Some cost)) }
+        ensures full { IfOk result (λ o. IfNone o (2 ^ 16 ≤ length self.new)) }
         ensures kept { KeepNumbers self.old self.new }
     {
         if let Some(number) = self.numbers.get(&cost).copied() {
@@ -73,7 +74,7 @@ impl NumberedCosts {
         }
     }
 
-    /// The numbers of the costs of a row, or nothing where numbers don't last.
+    /// The numbers of the costs of a row, or nothing where numbers don't last: all 65,536 are taken.
     pub fn numbers_of(
         &mut self,
         alloc: Global,
@@ -81,6 +82,7 @@ impl NumberedCosts {
     ) -> Result<Option<Vec<u16>>, NoMemory>
         ensures numbers { IfOk result
             (λ o. IfSome o (λ numbers. map (slice_get self.new) numbers.items ≡ map Some row.now)) }
+        ensures full { IfOk result (λ o. IfNone o (2 ^ 16 ≤ length self.new)) }
         ensures kept { KeepNumbers self.old self.new }
     {
         let mut numbers = Vec::with_capacity(alloc, row.len())?;
