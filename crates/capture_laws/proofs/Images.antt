@@ -23,7 +23,7 @@ use Rattle.run_plan.specs.Program.{or_elf_fault, program}
 use Rattle.run_plan.specs.Programs.{images}
 use Rattle.run_plan.specs.declared.fault.Fault.{Fault}
 use Rattle.run_plan.specs.declared.fault.Fault.TheVariants.{NotFound, TooLong}
-use Rattle.sim_base.specs.Files.{Held}
+use Rattle.run_outside.specs.Files.{Held}
 use Rattle.sim_base.specs.Refusals.{or_refuse, ◌>>=◌}
 
 byte_of_file : (bytes : List ℕ) (s : ProgramHeader) (address other : ℕ) → AreBytes bytes → IsByte other → IsByte (unwrap_or (file_byte bytes s address) other)

@@ -34,7 +34,7 @@ use Rattle.shd_config.specs.Config.{config}
 use Rattle.shd_config.specs.declared.config.Config.{Config}
 use Rattle.shd_config.specs.declared.fault.ConfigFault.{ConfigFault}
 use Rattle.shd_config.specs.declared.overrides.Overrides.{Overrides}
-use Rattle.sim_base.specs.Files.{Held}
+use Rattle.run_outside.specs.Files.{Held}
 use Rattle.stream_lines.proofs.Planned.{asked_is, config_is, is_run, no_run}
 use Rattle.yaml_merge.specs.SaidAt.{said_of}
 use Rattle.yaml_tree.specs.Trees.{is_empty}

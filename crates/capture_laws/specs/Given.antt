@@ -1,6 +1,6 @@
 -- the bytes of what is given to the program
 use Rattle.std.specs.Prelude.{◌≡◌, ℕ, List, Some}
-use Rattle.sim_base.specs.Files.{Held}
+use Rattle.run_outside.specs.Files.{Held}
 use Rattle.run_fits.specs.Bytes.{AreBytes}
 use Rattle.shadow_top.specs.Input.{Input}
 

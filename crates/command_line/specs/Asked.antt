@@ -5,7 +5,7 @@ use Rattle.std.specs.List.{list_all}
 use Rattle.std.specs.Str.Parse.{digits_value}
 use Rattle.sim_base.specs.Limits.{most_ring_hosts}
 use Rattle.sim_base.specs.Units.{latest_time, max_u32}
-use Rattle.sim_base.specs.Quantity.{time_of_text}
+use Rattle.base_texts.specs.Quantity.{time_of_text}
 use Rattle.sim_base.specs.declared.time.Time.{Time}
 use Rattle.clap.specs.Walk.{Row, Text}
 use Rattle.command_line.specs.Command.{found, value_of, config_of, is_given}

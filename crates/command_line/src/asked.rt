@@ -8,8 +8,9 @@ ghost use Rattle.command_line.specs.Command.{value_of};
 use crate::fault::{WordsError, WordsFault};
 use crate::name::OptionName;
 use crate::{command, value};
+use base_texts::Name;
 use clap::ArgMatches;
-use sim_base::{Name, Time};
+use sim_base::Time;
 use std::alloc::Global;
 
 /// The instructions that a guest may run from one call to the next, where no budget is given.

@@ -5,7 +5,8 @@ ghost use Rattle.std.specs.Char.{is_ascii_digit};
 ghost use Rattle.std.specs.List.{list_all};
 ghost use Rattle.command_line.specs.Asked.{if_within, is_decimal, number_within, stop_time_of};
 
-use sim_base::{Time, read_time};
+use base_texts::read_time;
+use sim_base::Time;
 
 /// The latest stop time.
 const LATEST_STOP: u64 = 1 << 61;

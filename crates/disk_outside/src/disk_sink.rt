@@ -2,7 +2,7 @@
 
 ghost use Rattle.std.specs.Prelude.{◌≡◌, ◌<◌, ◌≤◌, length, IfOk};
 
-use sim_base::{Place, Sink, Tally, WriteError};
+use run_outside::{Place, Sink, Tally, WriteError};
 use std::alloc::Global;
 use std::fs;
 use std::fs::{Files, OpenOptions};

@@ -2,7 +2,7 @@
 
 ghost use Rattle.std.specs.Prelude.{◌<◌, ◌≤◌, length, IfOk};
 
-use sim_base::{ReadError, Source};
+use run_outside::{ReadError, Source};
 use std::alloc::Global;
 use std::fs;
 use std::fs::Files;

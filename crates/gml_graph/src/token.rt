@@ -5,7 +5,8 @@ ghost use Rattle.std.specs.List.{list_all};
 ghost use Rattle.gml_graph.specs.Token.{is_key_byte, is_key, key_named, word_token, quoted};
 
 use crate::number::{Decimal, read_decimal};
-use sim_base::{Time, read_rate, read_time};
+use base_texts::{read_rate, read_time};
+use sim_base::Time;
 
 /// The keys that mean something, somewhere.
 #[derive(Clone, Copy)]

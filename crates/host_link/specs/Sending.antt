@@ -9,7 +9,7 @@ use Rattle.sim_base.specs.declared.size.TheConstants.{MAX_PACKET}
 use Rattle.sim_base.specs.declared.time.Time.{Time}
 use Rattle.sim_base.specs.Addresses.{is_same_ip, loopback, host_at}
 use Rattle.sim_base.specs.Packet.{packet_size}
-use Rattle.sim_base.specs.Quantity.{◌>>=◌}
+use Rattle.base_texts.specs.Quantity.{◌>>=◌}
 use Rattle.gml_graph.specs.Edges.{lossless}
 use Rattle.net_routes.specs.declared.cost.Cost.{Cost}
 use Rattle.net_routes.specs.Routes.{route_in}

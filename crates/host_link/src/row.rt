@@ -2,8 +2,9 @@
 
 ghost use Rattle.std.specs.Prelude.{◌≡◌};
 
+use base_texts::Name;
 use net_iface::QueueRule;
-use sim_base::{Bytes, HostId, Ip, Name, Signal, Time};
+use sim_base::{Bytes, HostId, Ip, Signal, Time};
 use std::marker::Model;
 
 /// The state in which a process is expected to be at the stop.

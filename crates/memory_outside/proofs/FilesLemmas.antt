@@ -8,7 +8,7 @@ use Rattle.std.specs.BTreeMap.{BTreeMap, UpdatesBy, IsEmpty, IsUnchanged, is_at,
 use Rattle.std.specs.Map.{lookup}
 use Rattle.std.proofs.lemmas.Map.Text.{btree_map_updates_text}
 use Rattle.std.proofs.lemmas.Slice.Eq.{bytes_eq-Decides}
-use Rattle.sim_base.specs.Files.{Held, no_files, with_file, add_to_file}
+use Rattle.run_outside.specs.Files.{Held, no_files, with_file, add_to_file}
 use Rattle.memory_outside.specs.Files.{files_of}
 
 -- the files of a map's entries

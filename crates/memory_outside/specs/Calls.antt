@@ -1,7 +1,7 @@
 -- which calls of an outside in memory fail
 use Rattle.std.specs.Prelude.{◌≡◌, ℕ, ◌+◌, min, Bool, List, [], Contains, MatchBool}
 use Rattle.sim_base.specs.Units.{max_u64}
-use Rattle.sim_base.specs.Faults.{Rose}
+use Rattle.run_outside.specs.Faults.{Rose}
 
 -- how many calls were made, the numbers of those that fail, and how many have failed
 pub record CallCount : Type 0 where

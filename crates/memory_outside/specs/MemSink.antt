@@ -3,10 +3,10 @@ use Rattle.std.specs.Prelude.{ℕ}
 use Rattle.std.specs.BTreeMap.{btree_map_len}
 use Rattle.std.specs.BTreeSet.{contains_text}
 use Rattle.memory_outside.specs.declared.sink.MemSink.{MemSink}
-use Rattle.sim_base.specs.declared.outside.tally.Tally.{Tally}
+use Rattle.run_outside.specs.declared.tally.Tally.{Tally}
 use Rattle.memory_outside.specs.Calls.{CallCount}
 use Rattle.memory_outside.specs.Files.{files_of}
-use Rattle.sim_base.specs.Sink.{Content}
+use Rattle.run_outside.specs.Sink.{Content}
 
 abbrev pub sink_content : MemSink → Content
 sink_content s = record {

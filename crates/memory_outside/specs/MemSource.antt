@@ -1,7 +1,7 @@
 -- what a source in memory holds
 use Rattle.memory_outside.specs.declared.source.MemSource.{MemSource}
 use Rattle.memory_outside.specs.Calls.{CallCount}
-use Rattle.sim_base.specs.Files.{Held}
+use Rattle.run_outside.specs.Files.{Held}
 use Rattle.memory_outside.specs.Files.{files_of}
 
 -- the bytes of each file by its name

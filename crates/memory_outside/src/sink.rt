@@ -2,13 +2,15 @@
 
 ghost use Rattle.std.specs.Prelude.{◌≡◌, ◌<◌, ◌≤◌, ◌++◌, ◌∷◌, [], length, take, not, option_map, Some, IfOk, OnOk, OnErr};
 ghost use Rattle.memory_outside.specs.Calls.{no_calls};
-ghost use Rattle.sim_base.specs.Files.{add_to_file};
+ghost use Rattle.run_outside.specs.Files.{add_to_file};
 ghost use Rattle.memory_outside.specs.Files.{files_of};
-ghost use Rattle.sim_base.specs.Sink.{nothing, add, Begins};
-ghost use Rattle.sim_base.specs.Tally.{no_calls_yet};
+ghost use Rattle.run_outside.specs.Sink.{nothing, add, Begins};
+ghost use Rattle.run_outside.specs.Tally.{no_calls_yet};
 
 use crate::calls::Calls;
-use sim_base::{Name, NoMemory, Place, Sink, Tally, WriteError};
+use base_texts::Name;
+use run_outside::{Place, Sink, Tally, WriteError};
+use sim_base::NoMemory;
 use std::alloc::Global;
 use std::collections::{BTreeMap, BTreeSet};
 

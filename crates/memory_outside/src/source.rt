@@ -2,11 +2,12 @@
 
 ghost use Rattle.std.specs.Prelude.{◌≡◌, ◌<◌, ◌≤◌, ◌++◌, ◌∷◌, [], length, OnOk, OnErr, string_bytes};
 ghost use Rattle.memory_outside.specs.Calls.{no_calls};
-ghost use Rattle.sim_base.specs.Files.{no_files, with_file};
-ghost use Rattle.sim_base.specs.Source.{IsPiece};
+ghost use Rattle.run_outside.specs.Files.{no_files, with_file};
+ghost use Rattle.run_outside.specs.Source.{IsPiece};
 
 use crate::calls::Calls;
-use sim_base::{NoMemory, ReadError, Source};
+use run_outside::{ReadError, Source};
+use sim_base::NoMemory;
 use std::alloc::Global;
 use std::collections::BTreeMap;
 

@@ -7,8 +7,8 @@ use Rattle.std.proofs.lemmas.Grind.{flat_map-append}
 use Rattle.std.proofs.lemmas.List.Elements.{filter-append}
 use Rattle.std.proofs.lemmas.Slice.Eq.{bytes_eq-Decides}
 use Rattle.sim_base.specs.declared.address.Ip.{Ip}
-use Rattle.sim_base.specs.declared.outside.sink.Place.{Place}
-use Rattle.sim_base.specs.declared.outside.sink.Place.TheVariants as place
+use Rattle.run_outside.specs.declared.sink.Place.{Place}
+use Rattle.run_outside.specs.declared.sink.Place.TheVariants as place
 use Rattle.out_text.specs.Files.{capture_name}
 use Rattle.pcap_text.specs.Writing.{head}
 use Rattle.run_files.specs.Captured.{capture_files, files_by, host_captures, captured_by, captured_from, no_head}

@@ -3,10 +3,10 @@ use Rattle.std.proofs.Common.{◌≡◌, ℕ, Bool, true, false, List, [], ◌�
 use Rattle.std.specs.Prelude.{if◌then◌else◌, ◌||◌}
 use Rattle.std.specs.Option.{unwrap_or}
 use Rattle.std.specs.Str.{bytes_eq}
-use Rattle.sim_base.specs.Files.{Held}
-use Rattle.sim_base.specs.Sink.{Content, add}
-use Rattle.sim_base.specs.declared.outside.sink.Place.{Place}
-use Rattle.sim_base.specs.declared.outside.sink.Place.TheVariants as place
+use Rattle.run_outside.specs.Files.{Held}
+use Rattle.run_outside.specs.Sink.{Content, add}
+use Rattle.run_outside.specs.declared.sink.Place.{Place}
+use Rattle.run_outside.specs.declared.sink.Place.TheVariants as place
 use Rattle.run_files.specs.Files.{Put}
 use Rattle.net_run.specs.Pieces.{with_pieces}
 use Rattle.net_run.specs.Places.{is_place, bytes_at, is_touched}

@@ -1,6 +1,6 @@
 -- Pieces that are put in two parts.
 use Rattle.std.proofs.Common.{◌≡◌, inl, inr, ⊎_elim, List, [], ◌∷◌, ◌++◌, Option, Some, None, option_map, refl, sym, ap, subst}
-use Rattle.sim_base.specs.Sink.{Content, add, AddsFront}
+use Rattle.run_outside.specs.Sink.{Content, add, AddsFront}
 use Rattle.run_files.specs.Files.{Put}
 use Rattle.net_run.specs.Pieces.{with_pieces, PutsFront}
 use Rattle.net_run.proofs.PieceLemmas.{with_pieces_told}

@@ -2,9 +2,9 @@
 -- the end they are the files of the run.
 use Rattle.std.proofs.Common.{◌≡◌, ℕ, ◌+◌, Bool, true, false, List, [], ◌∷◌, ◌++◌, map, refl, sym, ap, subst, ◌∙◌, append-nil}
 use Rattle.std.specs.Prelude.{◌||◌}
-use Rattle.sim_base.specs.Sink.{Content}
-use Rattle.sim_base.specs.declared.outside.sink.Place.{Place}
-use Rattle.sim_base.specs.declared.outside.sink.Place.TheVariants as place
+use Rattle.run_outside.specs.Sink.{Content}
+use Rattle.run_outside.specs.declared.sink.Place.{Place}
+use Rattle.run_outside.specs.declared.sink.Place.TheVariants as place
 use Rattle.file_calls.specs.declared.task.Output.{Output}
 use Rattle.host_state.specs.HostRecord.{HostRecord}
 use Rattle.host_state.specs.Opening.{opening}

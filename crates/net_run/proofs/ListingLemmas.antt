@@ -1,6 +1,6 @@
 -- The notes of a configuration and the heads of captures, one behind another.
 use Rattle.std.proofs.Common.{◌≡◌, ℕ, ◌+◌, ◌<◌, true, false, List, [], ◌∷◌, ◌++◌, length, drop, get_or, Option, Some, sym, ap, ◌∙◌, append_assoc}
-use Rattle.sim_base.specs.declared.outside.sink.Place.TheVariants as place
+use Rattle.run_outside.specs.declared.sink.Place.TheVariants as place
 use Rattle.out_text.specs.Files.{capture_name}
 use Rattle.pcap_text.specs.Writing.{head}
 use Rattle.run_files.specs.Files.{Put}

@@ -4,9 +4,9 @@ use Rattle.std.specs.Prelude.{if◌then◌else◌}
 use Rattle.std.specs.Option.{unwrap_or}
 use Rattle.std.specs.Str.{bytes_eq}
 use Rattle.std.proofs.lemmas.List.{take-append-drop}
-use Rattle.sim_base.specs.Sink.{Content, add, AddsFront}
-use Rattle.sim_base.specs.declared.outside.sink.Place.{Place}
-use Rattle.sim_base.specs.declared.outside.sink.Place.TheVariants as place
+use Rattle.run_outside.specs.Sink.{Content, add, AddsFront}
+use Rattle.run_outside.specs.declared.sink.Place.{Place}
+use Rattle.run_outside.specs.declared.sink.Place.TheVariants as place
 use Rattle.run_files.specs.Files.{Put}
 use Rattle.net_run.specs.Pieces.{with_pieces, PutsFront}
 use Rattle.net_run.specs.Parts.{IsFrontOf, IsPrefix, Grows, Between}

@@ -1,6 +1,6 @@
 -- Pieces that are put one after another.
 use Rattle.std.proofs.Common.{◌≡◌, ℕ, zero, suc, ◌+◌, ◌<◌, List, [], ◌∷◌, length, get_or, drop, map, Option, Some, None, option_map, refl, sym, ap, ◌∙◌, arith, Result, Ok, Err, OnErr}
-use Rattle.sim_base.specs.Sink.{Content, add}
+use Rattle.run_outside.specs.Sink.{Content, add}
 use Rattle.run_files.specs.Files.{Put, put_of}
 use Rattle.net_run.specs.Pieces.{with_pieces}
 use Rattle.run_files.specs.declared.piece.Piece.{Piece}

@@ -3,7 +3,7 @@ use Rattle.std.proofs.Common.{◌≡◌, ℕ, Bool, true, false, List, [], ◌�
 use Rattle.std.specs.Prelude.{if◌then◌else◌, ◌||◌}
 use Rattle.std.proofs.lemmas.Grind.{flat_map-append}
 use Rattle.std.proofs.lemmas.List.Folds.{list_any-append}
-use Rattle.sim_base.specs.declared.outside.sink.Place.{Place}
+use Rattle.run_outside.specs.declared.sink.Place.{Place}
 use Rattle.run_files.specs.Grown.{with_bytes}
 use Rattle.run_files.specs.Files.{Put}
 use Rattle.net_run.specs.Places.{is_place, bytes_at, is_touched}

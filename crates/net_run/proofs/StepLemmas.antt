@@ -1,6 +1,6 @@
 -- Pieces that are put one after another.
 use Rattle.std.proofs.Common.{◌≡◌, List, [], ◌++◌, Option, option_map, sym, ap, subst, ◌∙◌}
-use Rattle.sim_base.specs.Sink.{Content}
+use Rattle.run_outside.specs.Sink.{Content}
 use Rattle.run_files.specs.Files.{Put}
 use Rattle.net_run.specs.Pieces.{with_pieces, PutsFront}
 use Rattle.net_run.proofs.FrontLemmas.{told_append, told_nothing, front_none, front_first, front_second}

@@ -1,6 +1,6 @@
 -- A run that is under way: its files have grown as far as its world, round by round, and at the end they are those of the run.
 use Rattle.std.proofs.Common.{◌≡◌, ℕ, List, ◌++◌, length, map, slice_get, Bool, Option, Some, option_map, refl, sym, ap, subst, ◌∙◌}
-use Rattle.sim_base.specs.Sink.{Content}
+use Rattle.run_outside.specs.Sink.{Content}
 use Rattle.sim_base.specs.declared.state.State.{State}
 use Rattle.file_calls.specs.declared.task.Output.{Output}
 use Rattle.host_state.specs.Extends.{Extends}

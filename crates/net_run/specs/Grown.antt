@@ -2,8 +2,8 @@
 use Rattle.std.specs.Prelude.{◌≡◌, List, map, Option, Some, All, true}
 use Rattle.std.specs.List.{IsDistinct}
 use Rattle.std.specs.Str.{bytes_eq}
-use Rattle.sim_base.specs.Sink.{Content}
-use Rattle.sim_base.specs.declared.outside.sink.Place.{Place}
+use Rattle.run_outside.specs.Sink.{Content}
+use Rattle.run_outside.specs.declared.sink.Place.{Place}
 use Rattle.run_files.specs.Files.{Put}
 use Rattle.pcap_text.specs.Writing.{head}
 use Rattle.run_files.specs.Grown.{grown_behind}

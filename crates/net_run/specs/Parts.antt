@@ -1,6 +1,6 @@
 -- What stands where, when only a part of it was put.
 use Rattle.std.specs.Prelude.{◌≡◌, ℕ, List, ◌++◌, ◌⊎◌, Option, Some, None}
-use Rattle.sim_base.specs.Sink.{Content}
+use Rattle.run_outside.specs.Sink.{Content}
 
 -- bytes that stood there before are followed by some, and the whole by the rest
 pub record IsBetween (old new whole : List ℕ) : Type 0 where

@@ -1,6 +1,6 @@
 -- Pieces that are put in order, and what stands where when some of them were put.
 use Rattle.std.specs.Prelude.{◌≡◌, List, [], ◌∷◌, ◌⊎◌, Option, option_map}
-use Rattle.sim_base.specs.Sink.{Content, add, AddsFront}
+use Rattle.run_outside.specs.Sink.{Content, add, AddsFront}
 use Rattle.run_files.specs.Files.{Put}
 
 -- the content after all of the pieces

@@ -1,7 +1,7 @@
 -- What is shown of the result of a run.
 use Rattle.std.specs.Prelude.{ℕ, ◌+◌, List, [], ◌∷◌, ◌++◌, length, map, flat_map, slice_get, Option, Some, None, Bool, true, false, if◌then◌else◌, ◌==◌}
 use Rattle.sim_base.specs.Signal.{signal_number}
-use Rattle.sim_base.specs.declared.outside.sink.Place.TheVariants as place
+use Rattle.run_outside.specs.declared.sink.Place.TheVariants as place
 use Rattle.sim_base.specs.declared.state.State.{State}
 use Rattle.sim_base.specs.declared.state.State.TheVariants.{NotStarted, Running, Exited, Signaled}
 use Rattle.host_state.specs.HostRecord.{HostRecord, process_state}

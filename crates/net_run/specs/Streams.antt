@@ -1,6 +1,6 @@
 -- What is told of connections when a run is over: the line of each direction.
 use Rattle.std.specs.Prelude.{ℕ, List, [], ◌∷◌, slice_get, flat_map, Option, Some, None, Bool, true, false}
-use Rattle.sim_base.specs.declared.outside.sink.Place.TheVariants as place
+use Rattle.run_outside.specs.declared.sink.Place.TheVariants as place
 use Rattle.out_text.specs.Streams.{stream_line}
 use Rattle.out_text.specs.declared.streams.Stream.{Stream}
 use Rattle.run_files.specs.Files.{Put}

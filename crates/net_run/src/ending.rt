@@ -1,7 +1,7 @@
 //! What is put when a run is over and its files have grown.
 
 ghost use Rattle.std.specs.Prelude.{◌≡◌, ◌+◌, ◌++◌, ◌∷◌, [], IfOk, OnOk, OnErr, map, length, option_map};
-ghost use Rattle.sim_base.specs.Tally.{CountsWrites};
+ghost use Rattle.run_outside.specs.Tally.{CountsWrites};
 ghost use Rattle.out_text.specs.Files.{state_line};
 ghost use Rattle.run_files.specs.Listed.{said, names_of};
 ghost use Rattle.run_files.specs.Files.{put_of, first_id};
@@ -11,9 +11,11 @@ ghost use Rattle.net_run.specs.Shown.{files_named, unmet_by, status_by};
 
 use crate::output::put_pieces;
 use crate::process_pieces::{push_line, push_named};
+use base_texts::Text;
 use out_text::Summary;
 use run_files::{HostListing, Listing, Piece, ProcessListing, bytes_of, log_piece, numbers};
-use sim_base::{Bytes, NoMemory, Place, Sink, State, Text, WriteError};
+use run_outside::{Place, Sink, WriteError};
+use sim_base::{Bytes, NoMemory, State};
 use std::alloc::Global;
 
 /// The state of the process at a place. One that isn't told has not started.

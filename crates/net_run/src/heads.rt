@@ -1,8 +1,8 @@
 //! The heads of captures.
 
 ghost use Rattle.std.specs.Prelude.{◌≡◌, ◌∷◌, ◌++◌, [], IfOk, OnOk, OnErr, map, option_map};
-ghost use Rattle.sim_base.specs.Tally.{CountsWrites};
-ghost use Rattle.sim_base.specs.declared.outside.sink.Place.TheVariants as place;
+ghost use Rattle.run_outside.specs.Tally.{CountsWrites};
+ghost use Rattle.run_outside.specs.declared.sink.Place.TheVariants as place;
 ghost use Rattle.out_text.specs.Files.{capture_name};
 ghost use Rattle.pcap_text.specs.Writing.{head};
 ghost use Rattle.run_files.specs.Files.{put_of};
@@ -12,7 +12,8 @@ ghost use Rattle.net_run.specs.Pieces.{with_pieces, PutsFront};
 
 use crate::output::put_pieces;
 use run_files::{HostListing, Listing, Piece, capture_piece};
-use sim_base::{Bytes, NoMemory, Sink, WriteError};
+use run_outside::{Sink, WriteError};
+use sim_base::{Bytes, NoMemory};
 use std::alloc::Global;
 
 /// The head of a capture.

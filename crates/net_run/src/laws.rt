@@ -1,7 +1,7 @@
 //! Laws of what stands while a run goes on, and when it is over.
 
 ghost use Rattle.std.specs.Prelude.{◌≡◌, List, Option, Some, Bool, option_map};
-ghost use Rattle.sim_base.specs.Sink.{Content};
+ghost use Rattle.run_outside.specs.Sink.{Content};
 ghost use Rattle.sim_base.specs.declared.state.State.{State};
 ghost use Rattle.file_calls.specs.declared.task.Output.{Output};
 ghost use Rattle.host_state.specs.Extends.{Extends};

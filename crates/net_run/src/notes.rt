@@ -1,14 +1,16 @@
 //! The notes of a configuration.
 
 ghost use Rattle.std.specs.Prelude.{◌≡◌, ◌∷◌, ◌++◌, [], IfOk, OnOk, OnErr, map, option_map};
-ghost use Rattle.sim_base.specs.Tally.{CountsWrites};
+ghost use Rattle.run_outside.specs.Tally.{CountsWrites};
 ghost use Rattle.run_files.specs.Files.{put_of};
 ghost use Rattle.net_run.specs.Pieces.{with_pieces, PutsFront};
 ghost use Rattle.net_run.specs.Shown.{note_puts};
 
 use crate::output::put_pieces;
+use base_texts::Text;
 use run_files::Piece;
-use sim_base::{Bytes, NoMemory, Place, Sink, Text, WriteError};
+use run_outside::{Place, Sink, WriteError};
+use sim_base::{Bytes, NoMemory};
 use std::alloc::Global;
 
 /// The line of a key without effect, behind other pieces.

@@ -1,12 +1,12 @@
 //! Bytes to their places.
 
 ghost use Rattle.std.specs.Prelude.{◌≡◌, map, option_map, OnOk, OnErr};
-ghost use Rattle.sim_base.specs.Tally.{CountsWrites};
+ghost use Rattle.run_outside.specs.Tally.{CountsWrites};
 ghost use Rattle.run_files.specs.Files.{put_of};
 ghost use Rattle.net_run.specs.Pieces.{with_pieces, PutsFront};
 
 use run_files::Piece;
-use sim_base::{Sink, WriteError, put_all};
+use run_outside::{Sink, WriteError, put_all};
 
 /// Puts all pieces in order.
 pub fn put_pieces<K: Sink>(sink: &mut K, pieces: &[Piece]) -> Result<(), WriteError>

@@ -1,14 +1,16 @@
 //! The pieces of one process.
 
 ghost use Rattle.std.specs.Prelude.{◌≡◌, ◌++◌, ◌∷◌, [], ◌+◌, ◌<◌, ◌^◌, List, IfOk, OnOk, map};
-ghost use Rattle.sim_base.specs.declared.outside.sink.Place.TheVariants as place;
+ghost use Rattle.run_outside.specs.declared.sink.Place.TheVariants as place;
 ghost use Rattle.out_text.specs.Files.{file_name, state_line};
 ghost use Rattle.run_files.specs.Files.{put_of};
 ghost use Rattle.net_run.specs.Shown as spec;
 
+use base_texts::Text;
 use out_text::{FaultText, FileKind};
 use run_files::{Piece, bytes_of, file_piece};
-use sim_base::{Bytes, NoMemory, Place, State, Text};
+use run_outside::Place;
+use sim_base::{Bytes, NoMemory, State};
 use std::alloc::Global;
 
 /// Whether a process ended as it is expected to.

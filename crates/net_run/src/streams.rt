@@ -1,14 +1,16 @@
 //! What is told of connections when a run is over.
 
 ghost use Rattle.std.specs.Prelude.{◌≡◌, ◌++◌, IfOk, OnOk, OnErr, map, option_map, slice_get};
-ghost use Rattle.sim_base.specs.Tally.{CountsWrites};
+ghost use Rattle.run_outside.specs.Tally.{CountsWrites};
 ghost use Rattle.run_files.specs.Listed.{said, names_of};
 ghost use Rattle.net_run.specs.Pieces.{with_pieces, PutsFront};
 ghost use Rattle.net_run.specs.Streams as spec;
 
+use base_texts::Text;
 use out_text::{Stream, stream_line};
 use run_files::{HostListing, Listing};
-use sim_base::{NoMemory, Place, Sink, Text, WriteError, put_all};
+use run_outside::{Place, Sink, WriteError, put_all};
+use sim_base::NoMemory;
 use std::alloc::Global;
 
 /// The name of the host with a number.

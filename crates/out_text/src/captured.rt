@@ -4,7 +4,8 @@ ghost use Rattle.std.specs.Prelude.{◌≡◌, ◌++◌, OnOk, OnErr};
 ghost use Rattle.out_text.specs.Captured.{packet_line, cut_line};
 
 use crate::log::ShownPacket;
-use sim_base::{NoMemory, Packet, Text, Time};
+use base_texts::Text;
+use sim_base::{NoMemory, Packet, Time};
 use std::alloc::Global;
 
 /// Adds the line of a packet that was captured whole, or leaves the text as it was.

@@ -5,7 +5,8 @@ ghost use Rattle.out_text.specs.Faults.{text_name, told_at, fault_line, note_lin
 ghost use Rattle.out_text.specs.Files.{process_text, state_text};
 
 use crate::files::ShownState;
-use sim_base::{NoMemory, State, Text};
+use base_texts::Text;
+use sim_base::{NoMemory, State};
 use std::alloc::{AllocError, Global};
 
 /// What a line of the error stream tells.

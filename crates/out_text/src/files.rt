@@ -3,7 +3,8 @@
 ghost use Rattle.std.specs.Prelude.{◌≡◌, ◌++◌, Some, OnOk, OnErr};
 ghost use Rattle.out_text.specs.Files.{state_text, state_line, file_suffix, file_name, interface_name, capture_name};
 
-use sim_base::{NoMemory, State, Text};
+use base_texts::Text;
+use sim_base::{NoMemory, State};
 use std::alloc::Global;
 use std::fmt;
 

@@ -4,7 +4,8 @@ ghost use Rattle.std.specs.Prelude.{◌≡◌, ◌++◌, IfOk, OnOk, OnErr, stri
 ghost use Rattle.out_text.specs.Hosts.{host_line, hosts_text};
 
 use crate::address::ShownIp;
-use sim_base::{Ip, Name, NoMemory, Text};
+use base_texts::{Name, Text};
+use sim_base::{Ip, NoMemory};
 use std::alloc::{AllocError, Global};
 use std::fmt;
 

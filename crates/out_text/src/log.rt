@@ -6,7 +6,8 @@ ghost use Rattle.sim_base.specs.Ascii.{space};
 ghost use Rattle.out_text.specs.Log.{act_word, protocol_word, is_set, letter, flags_word, packet_words, log_words, log_line};
 
 use crate::address::ShownAddr;
-use sim_base::{ACK, Act, FIN, Load, Name, NoMemory, Packet, RST, SYN, Text, Time};
+use base_texts::{Name, Text};
+use sim_base::{ACK, Act, FIN, Load, NoMemory, Packet, RST, SYN, Time};
 use std::alloc::Global;
 use std::fmt;
 

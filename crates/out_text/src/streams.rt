@@ -4,7 +4,8 @@ ghost use Rattle.std.specs.Prelude.{◌≡◌, ◌++◌, Some, OnOk, OnErr};
 ghost use Rattle.out_text.specs.Streams.{end_word, fate_text, stream_line};
 
 use crate::address::ShownAddr;
-use sim_base::{Addr, HostId, NoMemory, Text};
+use base_texts::Text;
+use sim_base::{Addr, HostId, NoMemory};
 use std::alloc::Global;
 use std::fmt;
 

@@ -3,7 +3,8 @@
 ghost use Rattle.std.specs.Prelude.{◌≡◌, ◌++◌, OnOk, OnErr};
 ghost use Rattle.out_text.specs.Summary.{summary_line};
 
-use sim_base::{NoMemory, Text};
+use base_texts::Text;
+use sim_base::NoMemory;
 use std::alloc::Global;
 
 /// How many hosts a run had, and how many lines of its log tell `send`, `lost` and `recv`. A count

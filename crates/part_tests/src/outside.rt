@@ -1,7 +1,8 @@
 //! Sources and sinks in memory with their faults.
 
+use base_texts::Name;
 use memory_outside::{MemSink, MemSource};
-use sim_base::{Name, Place, ReadError, Sink, Source, WriteError, put_all, read_all};
+use run_outside::{Place, ReadError, Sink, Source, WriteError, put_all, read_all};
 use std::alloc::Global;
 use std::test::Fail;
 

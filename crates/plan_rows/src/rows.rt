@@ -5,12 +5,13 @@ ghost use Rattle.sim_base.specs.Limits.{most_hosts};
 ghost use Rattle.run_plan.specs.Plan.{nodes_of};
 ghost use Rattle.plan_rows.specs.Rows.{variable_text, state_of, lane_rule, process_of, processes_of, capture_of, row_of, rows_from, known_of, cut_lookahead};
 
+use base_texts::{Name, Text};
 use file_calls::Known;
 use host_link::{ByteTexts, FinalState, ProcessRow, ProcessRows, Row};
 use net_iface::QueueRule;
 use run_plan::{HostRow, Settings};
 use shd_config::{HostConfig, ProcessConfig, Variable};
-use sim_base::{Book, Bytes, HostId, Ip, Name, NoMemory, Text, Time};
+use sim_base::{Book, Bytes, HostId, Ip, NoMemory, Time};
 use std::alloc::Global;
 
 /// The longest lookahead, which is past every stop.

@@ -1,7 +1,7 @@
 -- The two captures of each host that has them: the bytes that lines of the packet log bring into them.
 use Rattle.std.specs.Prelude.{ℕ, ◌+◌, List, [], ◌∷◌, ◌++◌, Option, Some, None, Bool, true, false, if◌then◌else◌}
 use Rattle.sim_base.specs.declared.address.Ip.{Ip}
-use Rattle.sim_base.specs.declared.outside.sink.Place.TheVariants as place
+use Rattle.run_outside.specs.declared.sink.Place.TheVariants as place
 use Rattle.out_text.specs.Files.{capture_name}
 use Rattle.run_files.specs.Captures.{eth0_of, lo_of, is_on_eth0, is_on_lo, line_record, records_of}
 use Rattle.run_files.specs.Files.{Put}

@@ -1,7 +1,7 @@
 -- The files of a run: their names, and what is put there.
 use Rattle.std.specs.Prelude.{ℕ, List, [], Option, Some, None, ◌&&◌, if◌then◌else◌, flat_map, codes, ◌==◌}
 use Rattle.std.specs.Path.{rsplit_once}
-use Rattle.sim_base.specs.declared.outside.sink.Place.{Place}
+use Rattle.run_outside.specs.declared.sink.Place.{Place}
 use Rattle.sim_base.specs.declared.state.State.{State}
 use Rattle.sim_base.specs.declared.state.State.TheVariants.{Running, Exited, Signaled}
 use Rattle.sim_base.specs.Ascii.{slash}

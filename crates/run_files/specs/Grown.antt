@@ -1,7 +1,7 @@
 -- What outputs and lines put into the files that grow while a run goes on.
 use Rattle.std.specs.Prelude.{◌≡◌, ℕ, ◌+◌, List, [], ◌∷◌, ◌++◌, map, flat_map, slice_get, Option, Some, None, true, Bool, false}
 use Rattle.std.specs.List.{filter}
-use Rattle.sim_base.specs.declared.outside.sink.Place.TheVariants as place
+use Rattle.run_outside.specs.declared.sink.Place.TheVariants as place
 use Rattle.file_calls.specs.declared.task.Output.{Output}
 use Rattle.file_calls.specs.Numbers.{stdout_fileno, stderr_fileno}
 use Rattle.run_files.specs.Captured.{all_captures, no_head}

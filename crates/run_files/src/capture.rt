@@ -2,7 +2,7 @@
 
 ghost use Rattle.std.specs.Prelude.{◌≡◌, ◌++◌, ◌∷◌, [], IfOk, List, OnOk, map};
 ghost use Rattle.std.specs.List.{list_any};
-ghost use Rattle.sim_base.specs.declared.outside.sink.Place.TheVariants as place;
+ghost use Rattle.run_outside.specs.declared.sink.Place.TheVariants as place;
 ghost use Rattle.out_text.specs.Files.{capture_name};
 ghost use Rattle.run_files.specs.Captured as spec;
 ghost use Rattle.run_files.specs.Captures as lines;

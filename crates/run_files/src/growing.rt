@@ -1,7 +1,7 @@
 //! What a round gained, as bytes for the files that grow: what processes wrote, the captures of hosts, and the packet log.
 
 ghost use Rattle.std.specs.Prelude.{◌≡◌, ◌++◌, ◌∷◌, [], IfOk, OnOk, map, flat_map, length, slice_get};
-ghost use Rattle.sim_base.specs.declared.outside.sink.Place.TheVariants as place;
+ghost use Rattle.run_outside.specs.declared.sink.Place.TheVariants as place;
 ghost use Rattle.out_text.specs.Files.{file_name};
 ghost use Rattle.out_text.specs.Log.{log_line};
 ghost use Rattle.run_files.specs.Files.{put_of};
@@ -14,10 +14,11 @@ use crate::capture::push_captures;
 use crate::fitting::lines_fit;
 use crate::listed::{HostListing, Listing, ProcessListing};
 use crate::piece::{Piece, file_piece, log_piece, numbers, written_to};
+use base_texts::{Name, Text};
 use file_calls::Output;
 use host_link::{Line, Logged};
 use out_text::{FileKind, LogLine};
-use sim_base::{Bytes, Name, NoMemory, Text};
+use sim_base::{Bytes, NoMemory};
 use std::alloc::Global;
 
 /// Bytes for a file of a process, behind other pieces, where there are any.

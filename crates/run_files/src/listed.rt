@@ -5,8 +5,9 @@ ghost use Rattle.run_files.specs.Listed as spec;
 ghost use Rattle.run_files.specs.Listed.{HostNames};
 
 use crate::piece::{expected_state, program};
+use base_texts::Name;
 use host_link::{ProcessRow, Row};
-use sim_base::{Ip, Name, NoMemory, State};
+use sim_base::{Ip, NoMemory, State};
 use std::alloc::Global;
 
 /// A process of a host.

@@ -1,15 +1,17 @@
 //! Bytes, and the places where they are put.
 
 ghost use Rattle.std.specs.Prelude.{◌≡◌, ◌+◌, IfOk};
-ghost use Rattle.sim_base.specs.declared.outside.sink.Place.TheVariants as place;
+ghost use Rattle.run_outside.specs.declared.sink.Place.TheVariants as place;
 ghost use Rattle.out_text.specs.Files.{file_name, capture_name};
 ghost use Rattle.run_files.specs.Files as spec;
 ghost use Rattle.run_files.specs.Files.{put_of};
 
+use base_texts::{Name, Text};
 use file_calls::Output;
 use host_link::FinalState;
 use out_text::FileKind;
-use sim_base::{Bytes, Name, NoMemory, Place, State, Text};
+use run_outside::Place;
+use sim_base::{Bytes, NoMemory, State};
 use std::alloc::Global;
 
 /// A place, and the bytes that are put there.

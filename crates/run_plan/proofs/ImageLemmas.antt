@@ -3,7 +3,7 @@ use Rattle.std.proofs.Common.{◌≡◌, List, [], ◌∷◌, ◌++◌, ◌+◌,
 use Rattle.std.proofs.lemmas.List.{at_drop_all, append-nil}
 use Rattle.std.specs.Prelude.{Result, Ok, Err}
 use Rattle.elf_load.specs.ProgramImage.{ProgramImage}
-use Rattle.sim_base.specs.Files.{Held}
+use Rattle.run_outside.specs.Files.{Held}
 use Rattle.run_plan.specs.File.{reads}
 use Rattle.run_plan.specs.Program.{program}
 use Rattle.run_plan.specs.Programs.{images}

@@ -2,7 +2,7 @@
 use Rattle.std.proofs.Common.{◌≡◌, ◌≤◌, ℕ, Bool, true, false, List, Option, IfSome, length, nat_lt, option_map, option_and_then, refl, ap, subst}
 use Rattle.std.specs.Prelude.{Result, Ok, Err, Some, None, if◌then◌else◌, nat_le, ◌&&◌}
 use Rattle.std.proofs.lemmas.Bool.{leb-true, ltb-true}
-use Rattle.sim_base.specs.Quantity.{time_of_text}
+use Rattle.base_texts.specs.Quantity.{time_of_text}
 use Rattle.sim_base.specs.declared.time.Time.{Time}
 use Rattle.sim_base.specs.Refusals.{◌>>=◌, or_refuse}
 use Rattle.command_line.specs.Asked.{asked, Chosen, chosen, subject_of, seed_of, parallelism_of, data_directory_of, stop_of, budget_of, number_within, is_decimal, if_within, read_option, some_text, stop_time_of}

@@ -1,7 +1,7 @@
 -- The steps of a plan.
 use Rattle.std.proofs.Common.{List, ℕ, Option, map, refl, inl, inr}
 use Rattle.std.specs.Prelude.{Result, Ok, Err}
-use Rattle.sim_base.specs.Files.{Held}
+use Rattle.run_outside.specs.Files.{Held}
 use Rattle.sim_base.specs.declared.time.Time.{Time}
 use Rattle.gml_graph.specs.declared.graph.Graph.{Graph}
 use Rattle.elf_load.specs.ProgramImage.{ProgramImage}

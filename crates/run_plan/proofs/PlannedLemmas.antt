@@ -1,7 +1,7 @@
 -- The steps of what is asked by the words of a call.
 use Rattle.std.proofs.Common.{◌≡◌, List, ℕ, Bool, true, false, refl, sym, subst, inl}
 use Rattle.std.specs.Prelude.{Ok, Err, codes}
-use Rattle.sim_base.specs.Files.{Held}
+use Rattle.run_outside.specs.Files.{Held}
 use Rattle.gml_graph.specs.declared.graph.Graph.{Graph}
 use Rattle.shd_config.specs.declared.config.Config.{Config}
 use Rattle.run_plan.specs.Configured.{configured}

@@ -15,7 +15,7 @@ use Rattle.net_routes.specs.declared.table.Routes.{Routes}
 use Rattle.net_routes.proofs.RouteLaws.{no_lack, one_least_lack}
 use Rattle.net_routes.proofs.TableLemmas.{one_table}
 use Rattle.out_text.specs.Hosts.{hosts_text}
-use Rattle.sim_base.specs.Files.{Held}
+use Rattle.run_outside.specs.Files.{Held}
 use Rattle.sim_base.specs.declared.address.Ip.{Ip}
 use Rattle.sim_base.specs.declared.time.Time.{Time}
 use Rattle.yaml_tree.specs.Said.{Said}

@@ -1,6 +1,6 @@
 -- The files that are read.
 use Rattle.std.specs.Prelude.{◌≡◌, ℕ, ◌*◌, ◌^◌, List, length, Result, Ok, Err, if◌then◌else◌, nat_le}
-use Rattle.sim_base.specs.Files.{Held}
+use Rattle.run_outside.specs.Files.{Held}
 use Rattle.sim_base.specs.Refusals.{◌>>=◌, or_refuse}
 use Rattle.run_plan.specs.Outcomes.{Outcomes}
 use Rattle.run_plan.specs.declared.fault.Fault.{Fault}

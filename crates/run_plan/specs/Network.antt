@@ -1,6 +1,6 @@
 -- The graph of the network.
 use Rattle.std.specs.Prelude.{ℕ, List, [], ◌∷◌, Some, Bool, true, false, Result, Ok, Err}
-use Rattle.sim_base.specs.Files.{Held}
+use Rattle.run_outside.specs.Files.{Held}
 use Rattle.sim_base.specs.Units.{millisecond}
 use Rattle.gml_graph.specs.Edges.{lossless}
 use Rattle.gml_graph.specs.Gml.{graph}

@@ -1,7 +1,7 @@
 -- What the steps of the reading may answer. Some steps are functions, and have one answer; others are told by a relation. Each may
 -- answer that memory ran out.
 use Rattle.std.specs.Prelude.{◌≡◌, ℕ, ◌⊎◌, Result, Ok, Err}
-use Rattle.sim_base.specs.Faults.{Rose}
+use Rattle.run_outside.specs.Faults.{Rose}
 use Rattle.run_plan.specs.declared.fault.Fault.{Fault}
 use Rattle.run_plan.specs.declared.fault.ReadStop.{ReadStop}
 use Rattle.run_plan.specs.declared.fault.ReadStop.TheVariants.{Refused, ReadFailed, NoMemory}

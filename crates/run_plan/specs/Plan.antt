@@ -1,6 +1,6 @@
 -- What is asked, read step by step: the order of the steps is that in which faults count.
 use Rattle.std.specs.Prelude.{ℕ, List, map, Option, option_map, Ok, Err, Bool}
-use Rattle.sim_base.specs.Files.{Held}
+use Rattle.run_outside.specs.Files.{Held}
 use Rattle.gml_graph.specs.declared.graph.Graph.{Graph}
 use Rattle.net_routes.specs.Routes.{AreRoutes, IsLeastLack}
 use Rattle.net_routes.specs.Table.{IsTable}

@@ -3,7 +3,7 @@ use Rattle.std.specs.Prelude.{ℕ, List, Result, Ok, Err}
 use Rattle.elf_load.specs.Image.{image}
 use Rattle.elf_load.specs.ProgramImage.{ProgramImage}
 use Rattle.elf_load.specs.declared.fault.ElfFault.{ElfFault}
-use Rattle.sim_base.specs.Files.{Held}
+use Rattle.run_outside.specs.Files.{Held}
 use Rattle.sim_base.specs.Refusals.{◌>>=◌}
 use Rattle.run_plan.specs.File.{file}
 use Rattle.run_plan.specs.declared.fault.Fault.{Fault}

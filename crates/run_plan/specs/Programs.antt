@@ -4,7 +4,7 @@ use Rattle.std.specs.List.{list_any}
 use Rattle.std.specs.Str.{bytes_eq}
 use Rattle.elf_load.specs.ProgramImage.{ProgramImage}
 use Rattle.shd_config.specs.declared.config.HostConfig.{HostConfig}
-use Rattle.sim_base.specs.Files.{Held}
+use Rattle.run_outside.specs.Files.{Held}
 use Rattle.run_plan.specs.File.{reads}
 use Rattle.run_plan.specs.Outcomes.{Outcomes, gives, ◌>>=◌}
 use Rattle.run_plan.specs.Program.{program}

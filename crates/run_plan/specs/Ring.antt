@@ -1,6 +1,6 @@
 -- The guest of a self-load.
 use Rattle.std.specs.Prelude.{ℕ, List, codes}
-use Rattle.sim_base.specs.Files.{Held, no_files, with_file}
+use Rattle.run_outside.specs.Files.{Held, no_files, with_file}
 use Rattle.run_plan.specs.declared.ring.TheConstants.{RING}
 
 -- the bytes of its file

@@ -4,8 +4,8 @@ ghost use Rattle.run_plan.specs.Captured.{captured};
 ghost use Rattle.run_plan.specs.Outcomes.{gives, Meets};
 
 use crate::fault::{Fault, ReadStop};
+use base_texts::Name;
 use pcap_text::{Capture, PcapError, read_pcap};
-use sim_base::Name;
 use std::alloc::Global;
 
 /// The capture that the bytes of a file are.

@@ -13,8 +13,8 @@ ghost use Rattle.run_plan.specs.Names.{AreHostsApart};
 ghost use Rattle.run_plan.specs.Outcomes.{gives, Meets};
 
 use crate::fault::{Fault, ReadStop};
+use base_texts::Name;
 use shd_config::{Config, ConfigError, Overrides, config_of};
-use sim_base::Name;
 use std::alloc::Global;
 use yaml_tree::{Tree, TreeError, read_tree};
 

@@ -3,12 +3,13 @@
 ghost use Rattle.std.specs.Prelude.{◌≡◌};
 ghost use Rattle.run_plan.specs.Fault.{word_of};
 
+use base_texts::Name;
 use command_line::WordsFault;
 use elf_load::ElfFault;
 use gml_graph::GmlFault;
 use pcap_text::PcapFault;
 use shd_config::ConfigFault;
-use sim_base::{Name, NoMemory};
+use sim_base::NoMemory;
 use std::alloc::{AllocError, AllocFailed};
 use yaml_tree::YamlFault;
 

@@ -5,7 +5,8 @@ ghost use Rattle.run_plan.specs.File.{size_of, reads, read, IsReadStop, max_file
 ghost use Rattle.run_plan.specs.Outcomes.{Meets, CountsSource};
 
 use crate::fault::{Fault, ReadStop};
-use sim_base::{Name, ReadError, Source, read_all};
+use base_texts::Name;
+use run_outside::{ReadError, Source, read_all};
 use std::alloc::Global;
 
 /// The most bytes of a file.

@@ -10,9 +10,10 @@ use crate::addresses::addresses_of;
 use crate::fault::ReadStop;
 use crate::programs::place_of;
 use crate::rates::{Rates, all_rates};
+use base_texts::Name;
 use gml_graph::Graph;
 use shd_config::{HostConfig, Hosts};
-use sim_base::{Ip, Name, NoMemory};
+use sim_base::{Ip, NoMemory};
 use std::alloc::Global;
 use std::marker::Model;
 

@@ -1,7 +1,7 @@
 //! Laws of the definitions: two answers for one input are equal, so that it has one plan or one first fault.
 
 ghost use Rattle.std.specs.Prelude.{◌≡◌, ℕ, List, Result, Ok, Err};
-ghost use Rattle.sim_base.specs.Files.{Held};
+ghost use Rattle.run_outside.specs.Files.{Held};
 ghost use Rattle.run_plan.specs.Planned.{planned};
 ghost use Rattle.run_plan.specs.Same.{Agree};
 ghost use Rattle.run_plan.specs.declared.fault.Fault.{Fault};

@@ -10,13 +10,14 @@ ghost use Rattle.out_text.specs.Faults.{at_line, text_name, told_at, file_line};
 ghost use Rattle.run_plan.specs.Line.{words_line, capture_text, line_of};
 
 use crate::fault::{Fault, HostFault};
+use base_texts::{Name, Text};
 use command_line::WordsFault;
 use elf_load::ElfFault;
 use gml_graph::GmlFault;
 use out_text::{FaultText, fault_line};
 use pcap_text::PcapFault;
 use shd_config::ConfigFault;
-use sim_base::{Name, NoMemory, Text};
+use sim_base::NoMemory;
 use std::alloc::{AllocError, Global};
 use yaml_tree::YamlFault;
 

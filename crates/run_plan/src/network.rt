@@ -6,9 +6,11 @@ ghost use Rattle.run_plan.specs.Outcomes.{gives, Meets, CountsSource};
 
 use crate::fault::{Fault, ReadStop};
 use crate::file::read_file;
+use base_texts::Name;
 use gml_graph::{Edge, Edges, GmlError, Graph, Node, Nodes, read_gml};
+use run_outside::Source;
 use shd_config::GraphSource;
-use sim_base::{Name, NoMemory, Source, Time};
+use sim_base::{NoMemory, Time};
 use std::alloc::Global;
 
 /// One node with 1 Gbit both ways, and a loop of 1 ms without loss.

@@ -1,9 +1,9 @@
 //! A source of one file.
 
 ghost use Rattle.std.specs.Prelude.{◌≡◌, ◌≤◌, length};
-ghost use Rattle.sim_base.specs.Source.{IsPiece};
+ghost use Rattle.run_outside.specs.Source.{IsPiece};
 
-use sim_base::{ReadError, Source};
+use run_outside::{ReadError, Source};
 
 /// A source that holds one file, which it tells. None of its calls fails.
 #[derive(Drop)]

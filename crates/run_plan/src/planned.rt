@@ -19,10 +19,12 @@ use crate::one_file::OneFile;
 use crate::plan::{Plan, read_plan_of, read_run};
 use crate::ring::ring_bytes;
 use crate::self_load::{self_load_config, self_load_graph};
+use base_texts::Name;
 use command_line::{Asked, Subject, WordsError, read_words};
 use pcap_text::Capture;
+use run_outside::Source;
 use shd_config::{Config, Overrides};
-use sim_base::{Name, NoMemory, Source};
+use sim_base::NoMemory;
 use std::alloc::Global;
 use std::thread::Threads;
 

@@ -10,9 +10,11 @@ ghost use Rattle.run_plan.specs.Programs.{has_path, mentioned, paths_of, program
 
 use crate::fault::{Fault, ReadStop};
 use crate::file::read_file;
+use base_texts::Name;
 use elf_load::{Image, LoadError};
+use run_outside::Source;
 use shd_config::{HostConfig, ProcessConfig};
-use sim_base::{Name, NoMemory, Source};
+use sim_base::NoMemory;
 use std::alloc::Global;
 
 fn has_path(paths: &[Name], path: &Name) -> bool

@@ -7,9 +7,10 @@ ghost use Rattle.run_plan.specs.Outcomes.{gives, Meets, IsRefusal};
 ghost use Rattle.run_plan.specs.Rates.{node_of, rate_of, at_host, is_given_again, rates_of, all_rates};
 
 use crate::fault::{Fault, HostFault, ReadStop};
+use base_texts::Name;
 use gml_graph::Node;
 use shd_config::HostConfig;
-use sim_base::{Ip, Name, NoMemory};
+use sim_base::{Ip, NoMemory};
 use std::alloc::Global;
 
 /// The rates of a host in bits a second, at least 1.

@@ -7,13 +7,14 @@ ghost use Rattle.shd_config.specs.Limits.{MayOverride, IsWithinLimits};
 ghost use Rattle.run_plan.specs.Names.{AreHostsApart};
 ghost use Rattle.run_plan.specs.SelfLoad.{host_name, next_host, address_number, ring_process, ring_host, self_load_config, ring_node, ring_edge, self_load_graph};
 
+use base_texts::{Name, Text};
 use gml_graph::{Edge, Edges, Graph, Node, Nodes};
 use shd_config::{
     Config, FinalState, GraphSource, HostConfig, Hosts, Overrides, ProcessConfig, Processes,
     QueueRule, Variables,
 };
 use shd_values::Texts;
-use sim_base::{Name, NoMemory, Signal, Text, Time};
+use sim_base::{NoMemory, Signal, Time};
 use std::alloc::Global;
 
 /// 11.0.0.0.

@@ -4,7 +4,7 @@ use Rattle.std.proofs.Common.{◌≡◌, ℕ, ◌&&◌, ◌||◌, ◌==◌, Bool
 use Rattle.std.specs.List.{AllByRecursion, filter_map}
 use Rattle.sim_base.specs.Addresses.{loopback, is_same_ip, host_at}
 use Rattle.sim_base.specs.Packet.{packet_size}
-use Rattle.sim_base.specs.Quantity.{◌>>=◌}
+use Rattle.base_texts.specs.Quantity.{◌>>=◌}
 use Rattle.sim_base.specs.Units.{max_u64}
 use Rattle.sim_base.specs.declared.act.Act.{Act}
 use Rattle.sim_base.specs.declared.act.Act.TheVariants.{Send, Lost, FullUp, Codel}

@@ -2,8 +2,8 @@
 
 use crate::inputs::{source, text, words};
 use memory_outside::MemSink;
+use run_outside::Sink;
 use shadow_top::{OpenGate, shadow};
-use sim_base::Sink;
 use std::process::Abort;
 use std::test::Fail;
 use std::thread::Threads;

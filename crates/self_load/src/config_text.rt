@@ -8,9 +8,10 @@ ghost use Rattle.shown_config.specs.Same.{no_overrides};
 ghost use Rattle.run_plan.specs.SelfLoad.{self_load_config};
 ghost use Rattle.self_load.specs.Means.{SaysConfig};
 
+use base_texts::Text;
 use run_plan::self_load_config;
 use shd_config::Overrides;
-use sim_base::{NoMemory, Text};
+use sim_base::NoMemory;
 use std::alloc::Global;
 
 /// The text that shows the configuration of a ring of hosts.

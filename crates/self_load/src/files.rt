@@ -2,7 +2,8 @@
 
 ghost use Rattle.std.specs.Prelude.{◌≡◌};
 
-use sim_base::{Bytes, Name};
+use base_texts::Name;
+use sim_base::Bytes;
 use std::marker::Model;
 
 /// What a file holds, under the name by which it is read.

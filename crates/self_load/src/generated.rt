@@ -9,8 +9,9 @@ ghost use Rattle.self_load.specs.Means.{AreFilesOf, Means};
 use crate::config_text::config_text;
 use crate::files::{File, Files};
 use crate::graph_text::graph_file;
+use base_texts::{Name, Text};
 use run_plan::ring_bytes;
-use sim_base::{Bytes, Name, NoMemory, Text};
+use sim_base::{Bytes, NoMemory};
 use std::alloc::Global;
 
 /// A configuration and the files that it names.

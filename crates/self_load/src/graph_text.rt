@@ -7,7 +7,8 @@ ghost use Rattle.gml_graph.specs.Gml.{graph};
 ghost use Rattle.run_plan.specs.SelfLoad.{next_host, self_load_graph};
 ghost use Rattle.self_load.specs.GraphText.{node_line, loss_word, edge_line, graph_text};
 
-use sim_base::{NoMemory, Text};
+use base_texts::Text;
+use sim_base::NoMemory;
 use std::alloc::Global;
 
 /// The share of packets that the edge from this node loses.

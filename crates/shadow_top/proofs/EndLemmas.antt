@@ -4,10 +4,10 @@ use Rattle.std.specs.Prelude.{if◌then◌else◌, min}
 use Rattle.std.specs.List.{fold}
 use Rattle.std.proofs.lemmas.List.{length-map, length_push}
 use Rattle.std.proofs.lemmas.Option.{get_or_from_slice_get}
-use Rattle.sim_base.specs.Sink.{Content}
+use Rattle.run_outside.specs.Sink.{Content}
 use Rattle.sim_base.specs.Units.{max_u64}
 use Rattle.sim_base.specs.declared.act.Act.{Act}
-use Rattle.sim_base.specs.declared.outside.sink.WriteError.{WriteError}
+use Rattle.run_outside.specs.declared.sink.WriteError.{WriteError}
 use Rattle.sim_base.specs.declared.state.State.{State}
 use Rattle.host_state.specs.HostRecord.{HostRecord, process_state}
 use Rattle.host_state.specs.Extends.{AreLater, Extends}

@@ -1,7 +1,7 @@
 -- Pieces in parts, and contents that grow.
 use Rattle.std.proofs.Common.{◌≡◌, ℕ, inl, List, [], ◌∷◌, ◌++◌, take, drop, Option, Some, None, option_map, refl, sym, ap, subst, ◌∙◌, append_assoc, append-nil}
 use Rattle.std.proofs.lemmas.List.{take-append-drop}
-use Rattle.sim_base.specs.Sink.{Content, add}
+use Rattle.run_outside.specs.Sink.{Content, add}
 use Rattle.run_files.specs.Files.{Put}
 use Rattle.net_run.specs.Parts.{IsFrontOf, IsPrefix, Grows, Between}
 use Rattle.net_run.specs.Pieces.{with_pieces, PutsFront}

@@ -1,10 +1,10 @@
 -- An input shows one content and one status.
 use Rattle.std.proofs.Common.{◌≡◌, ℕ, ◌≤◌, Bool, true, false, List, [], ◌∷◌, ◌++◌, Option, Some, None, nat_le, Result, Ok, Err, refl, sym, ap, subst, ◌∙◌, inl, inr, rules}
 use Rattle.std.specs.Prelude.{if◌then◌else◌}
-use Rattle.sim_base.specs.Files.{Held}
+use Rattle.run_outside.specs.Files.{Held}
 use Rattle.sim_base.specs.Packet.{packet_size}
-use Rattle.sim_base.specs.Sink.{Content, add, begun}
-use Rattle.sim_base.specs.declared.outside.sink.Place.TheVariants as place
+use Rattle.run_outside.specs.Sink.{Content, add, begun}
+use Rattle.run_outside.specs.declared.sink.Place.TheVariants as place
 use Rattle.sim_base.specs.declared.packet.Packet.{Packet}
 use Rattle.host_state.specs.World.{World, IsResult, opening_world}
 use Rattle.host_link.specs.declared.net.Net.{Net}

@@ -1,7 +1,7 @@
 -- What stands where, when only a part of it was put.
 use Rattle.std.proofs.Common.{◌≡◌, ℕ, ◌≤◌, inl, inr, ⊎_elim, List, [], ◌++◌, length, take, Option, Some, option_map, refl, sym, ap, subst, ◌∙◌, append-nil}
-use Rattle.sim_base.specs.Sink.{Content, add, begun, AddsFront}
-use Rattle.sim_base.specs.declared.outside.sink.Place.TheVariants as place
+use Rattle.run_outside.specs.Sink.{Content, add, begun, AddsFront}
+use Rattle.run_outside.specs.declared.sink.Place.TheVariants as place
 use Rattle.net_run.specs.Parts.{IsBetween, IsPart, IsPrefix, Grows, Between}
 use Rattle.run_files.specs.Files.{Put}
 use Rattle.net_run.specs.Pieces.{with_pieces, PutsFront}

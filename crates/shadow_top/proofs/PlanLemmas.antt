@@ -1,7 +1,7 @@
 -- What a plan's run leaves, from what its steps leave.
 use Rattle.std.proofs.Common.{◌≡◌, ℕ, Bool, true, false, not, List, Option, Some, None, option_map, Result, Ok, Err, IfSome, sym, ap, subst, ◌∙◌, inl, inr}
-use Rattle.sim_base.specs.Sink.{Content, begun}
-use Rattle.sim_base.specs.declared.outside.sink.WriteError.{WriteError}
+use Rattle.run_outside.specs.Sink.{Content, begun}
+use Rattle.run_outside.specs.declared.sink.WriteError.{WriteError}
 use Rattle.host_state.specs.World.{World, IsResult, opening_world}
 use Rattle.host_link.specs.declared.net.Net.{Net}
 use Rattle.host_link.specs.declared.row.Row.{Row}

@@ -2,9 +2,9 @@
 use Rattle.std.proofs.Common.{◌≡◌, ℕ, ◌≤◌, ⊎_elim, inr, Bool, List, All, Option, Some, option_map, Result, Ok, Err, OnOk, OnErr, length, sym, ap, subst, refl, ◌∙◌}
 use Rattle.std.specs.Prelude.{flat_map}
 use Rattle.std.proofs.lemmas.List.{length-map}
-use Rattle.sim_base.specs.Sink.{Content}
+use Rattle.run_outside.specs.Sink.{Content}
 use Rattle.sim_base.specs.declared.event.Event.{Event}
-use Rattle.sim_base.specs.declared.outside.sink.WriteError.{WriteError}
+use Rattle.run_outside.specs.declared.sink.WriteError.{WriteError}
 use Rattle.file_calls.specs.declared.task.Output.{Output}
 use Rattle.host_state.specs.Extends.{Extends}
 use Rattle.run_files.specs.Files.{Put}

@@ -1,7 +1,7 @@
 -- What a run leaves, from what its steps leave.
 use Rattle.std.proofs.Common.{◌≡◌, ℕ, ◌≤◌, Bool, List, [], ◌∷◌, map, All, Option, Some, None, option_map, Result, Ok, Err, IfOk, IfSome, refl, sym, ap, subst, ◌∙◌}
-use Rattle.sim_base.specs.Sink.{Content}
-use Rattle.sim_base.specs.declared.outside.sink.WriteError.{WriteError}
+use Rattle.run_outside.specs.Sink.{Content}
+use Rattle.run_outside.specs.declared.sink.WriteError.{WriteError}
 use Rattle.host_state.specs.World.{World, IsResult, opening_world}
 use Rattle.host_link.specs.declared.net.Net.{Net}
 use Rattle.host_link.specs.declared.row.Row.{Row}

@@ -1,13 +1,13 @@
 -- What the steps of the program leave, put together.
 use Rattle.std.proofs.Common.{◌≡◌, ◌≢◌, ℕ, ◌+◌, ◌<◌, ◌≤◌, ◌⊎◌, inl, inr, ⊎_elim, Bool, false, List, Option, Some, None, option_map, Result, Ok, Err, IfOk, IfSome, refl, sym, ap, subst, ◌∙◌, arith}
-use Rattle.sim_base.specs.Faults.{Rose}
-use Rattle.sim_base.specs.Files.{Held}
-use Rattle.sim_base.specs.Sink.{Content, add, begun, AddsFront}
-use Rattle.sim_base.specs.Tally.{EndsByError, StopsAtError, CountsWrites, one_more}
-use Rattle.sim_base.specs.declared.outside.sink.Place.TheVariants as place
-use Rattle.sim_base.specs.declared.outside.sink.WriteError.{WriteError}
-use Rattle.sim_base.specs.declared.outside.sink.WriteError.TheVariants as write
-use Rattle.sim_base.specs.declared.outside.tally.Tally.{Tally}
+use Rattle.run_outside.specs.Faults.{Rose}
+use Rattle.run_outside.specs.Files.{Held}
+use Rattle.run_outside.specs.Sink.{Content, add, begun, AddsFront}
+use Rattle.run_outside.specs.Tally.{EndsByError, StopsAtError, CountsWrites, one_more}
+use Rattle.run_outside.specs.declared.sink.Place.TheVariants as place
+use Rattle.run_outside.specs.declared.sink.WriteError.{WriteError}
+use Rattle.run_outside.specs.declared.sink.WriteError.TheVariants as write
+use Rattle.run_outside.specs.declared.tally.Tally.{Tally}
 use Rattle.net_run.specs.Parts.{Between}
 use Rattle.net_run.specs.Pieces.{with_pieces}
 use Rattle.net_run.specs.Shown.{status_of}

@@ -1,7 +1,7 @@
 -- The lines of connections, behind all else that is put at the end of a run.
 use Rattle.std.proofs.Common.{◌≡◌, ℕ, Bool, true, List, Option, Some, option_map, Result, Ok, Err, sym, ap, subst, ◌∙◌}
-use Rattle.sim_base.specs.Sink.{Content}
-use Rattle.sim_base.specs.declared.outside.sink.WriteError.{WriteError}
+use Rattle.run_outside.specs.Sink.{Content}
+use Rattle.run_outside.specs.declared.sink.WriteError.{WriteError}
 use Rattle.run_files.specs.Files.{Put}
 use Rattle.run_files.specs.Listed.{HostNames, names_of}
 use Rattle.host_state.specs.Gains.{names_in}

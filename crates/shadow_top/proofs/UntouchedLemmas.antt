@@ -1,10 +1,10 @@
 -- What a refusal and a read that failed leave as it stood.
 use Rattle.std.proofs.Common.{◌≡◌, ℕ, ◌≤◌, inl, inr, List, Option, Some, None, option_map, Result, Ok, Err, IfSome, refl, sym, ap, subst, ◌∙◌, arith}
-use Rattle.sim_base.specs.Sink.{Content, add}
-use Rattle.sim_base.specs.declared.outside.sink.Place.TheVariants as place
-use Rattle.sim_base.specs.declared.outside.sink.WriteError.{WriteError}
-use Rattle.sim_base.specs.declared.outside.sink.WriteError.TheVariants as write
-use Rattle.sim_base.specs.declared.outside.tally.Tally.{Tally}
+use Rattle.run_outside.specs.Sink.{Content, add}
+use Rattle.run_outside.specs.declared.sink.Place.TheVariants as place
+use Rattle.run_outside.specs.declared.sink.WriteError.{WriteError}
+use Rattle.run_outside.specs.declared.sink.WriteError.TheVariants as write
+use Rattle.run_outside.specs.declared.tally.Tally.{Tally}
 use Rattle.run_plan.specs.Line.{line_of}
 use Rattle.run_plan.specs.declared.fault.ReadStop.{ReadStop}
 use Rattle.run_plan.specs.declared.fault.ReadStop.TheVariants as read

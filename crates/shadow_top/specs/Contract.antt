@@ -1,7 +1,7 @@
 -- What the program promises of its status and of what stands where after it.
 use Rattle.std.specs.Prelude.{◌≡◌, ℕ, ◌⊎◌, List, Option, Some, codes}
-use Rattle.sim_base.specs.Sink.{Content, add}
-use Rattle.sim_base.specs.declared.outside.sink.Place.TheVariants as place
+use Rattle.run_outside.specs.Sink.{Content, add}
+use Rattle.run_outside.specs.declared.sink.Place.TheVariants as place
 use Rattle.out_text.specs.Faults.{file_line}
 use Rattle.run_files.specs.LinesFit.{AllFit}
 use Rattle.host_link.specs.Logs.{lines_of}

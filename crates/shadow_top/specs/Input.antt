@@ -1,7 +1,7 @@
 -- What is given to the program, and what is asked of it.
 use Rattle.std.specs.Prelude.{◌≡◌, ℕ, ◌⊎◌, List, Result, Ok, Err, Bool, true, false}
-use Rattle.sim_base.specs.Files.{Held}
-use Rattle.sim_base.specs.Sink.{Content}
+use Rattle.run_outside.specs.Files.{Held}
+use Rattle.run_outside.specs.Sink.{Content}
 use Rattle.run_plan.specs.Planned.{planned}
 use Rattle.run_plan.specs.declared.fault.Fault.{Fault}
 use Rattle.run_plan.specs.declared.fault.Fault.TheVariants.{Exists}

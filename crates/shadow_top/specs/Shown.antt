@@ -1,7 +1,7 @@
 -- What the program shows for an input.
 use Rattle.std.specs.Prelude.{◌≡◌, ℕ, List}
-use Rattle.sim_base.specs.Sink.{Content, add, begun}
-use Rattle.sim_base.specs.declared.outside.sink.Place.TheVariants as place
+use Rattle.run_outside.specs.Sink.{Content, add, begun}
+use Rattle.run_outside.specs.declared.sink.Place.TheVariants as place
 use Rattle.host_state.specs.World.{World, IsResult, opening_world}
 use Rattle.run_files.specs.Files.{Put}
 use Rattle.net_run.specs.Pieces.{with_pieces}

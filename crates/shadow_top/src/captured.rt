@@ -1,7 +1,7 @@
 //! The records of a capture as lines.
 
 ghost use Rattle.std.specs.Prelude.{◌≡◌, ◌++◌, Option, IfSome, IfOk, OnOk};
-ghost use Rattle.sim_base.specs.Tally.{CountsWrites};
+ghost use Rattle.run_outside.specs.Tally.{CountsWrites};
 ghost use Rattle.sim_base.specs.declared.packet.Packet.{Packet};
 ghost use Rattle.pcap_text.specs.Packets.{IsPacketIn};
 ghost use Rattle.shadow_top.specs.Captured.{line_with, AreLinesOf};
@@ -11,7 +11,9 @@ ghost use Rattle.shadow_top.specs.inside.Stop.{IsSmall};
 use crate::stop::Answer;
 use out_text::{cut_line, packet_line};
 use pcap_text::{Capture, Record};
-use sim_base::{NoMemory, Place, Sink, Text, WriteError, put_all};
+use base_texts::Text;
+use run_outside::{Place, Sink, WriteError, put_all};
+use sim_base::NoMemory;
 use std::alloc::Global;
 
 /// Adds the line of a record.

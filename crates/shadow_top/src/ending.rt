@@ -1,8 +1,8 @@
 //! The end of a run: the final states, the unmet expectations and the summary, and the lines of connections.
 
 ghost use Rattle.std.specs.Prelude.{◌≡◌, ◌<◌, ◌≤◌, ◌^◌, All, IfOk, Option, length, slice_get};
-ghost use Rattle.sim_base.specs.Sink.{Content};
-ghost use Rattle.sim_base.specs.Tally.{CountsWrites};
+ghost use Rattle.run_outside.specs.Sink.{Content};
+ghost use Rattle.run_outside.specs.Tally.{CountsWrites};
 ghost use Rattle.host_state.specs.HostRecord.{HostRecord};
 ghost use Rattle.host_state.specs.World.{World as HostWorld};
 ghost use Rattle.run_files.specs.Listed.{HasIds, names_of};
@@ -15,7 +15,8 @@ use crate::streams::put_if_asked;
 use net_run::{parts_are_between, put_rest, runs_grow};
 use out_text::Summary;
 use round_lookahead::World;
-use sim_base::{NoMemory, Sink, State, WriteError};
+use run_outside::{Sink, WriteError};
+use sim_base::{NoMemory, State};
 use std::alloc::Global;
 
 /// The states of the processes of a host, in their order.

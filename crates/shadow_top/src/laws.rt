@@ -1,7 +1,7 @@
 //! A law of the definitions: an input, and what stood before, determine what is shown.
 
 ghost use Rattle.std.specs.Prelude.{◌≡◌, ℕ};
-ghost use Rattle.sim_base.specs.Sink.{Content};
+ghost use Rattle.run_outside.specs.Sink.{Content};
 ghost use Rattle.shadow_top.specs.Input.{Input};
 ghost use Rattle.shadow_top.specs.Shown.{IsShown};
 

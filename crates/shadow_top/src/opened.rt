@@ -6,11 +6,12 @@ ghost use Rattle.run_plan.specs.Names.{AreRowsApart};
 ghost use Rattle.run_plan.specs.Routed.{IsRouted};
 ghost use Rattle.shadow_top.specs.Opened.{Opens, HasOpened};
 
+use base_texts::Name;
 use host_link::{Images, Net, Nodes, Row};
 use plan_rows::{cut_lookahead, known_of, nodes_of, rows_of};
 use run_plan::{Plan, Run, Settings};
 use shd_values::Texts;
-use sim_base::{Name, NoMemory, Time};
+use sim_base::{NoMemory, Time};
 use std::alloc::Global;
 
 /// A run before its first event.

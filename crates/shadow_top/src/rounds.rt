@@ -1,9 +1,9 @@
 //! A run, round by round: what a round gains is put as soon as the round is over.
 
 ghost use Rattle.std.specs.Prelude.{◌≡◌, ◌<◌, ◌≤◌, Any, List, Option, flat_map};
-ghost use Rattle.sim_base.specs.Sink.{Content};
+ghost use Rattle.run_outside.specs.Sink.{Content};
 ghost use Rattle.sim_base.specs.Limits.{most_workers};
-ghost use Rattle.sim_base.specs.Tally.{CountsWrites};
+ghost use Rattle.run_outside.specs.Tally.{CountsWrites};
 ghost use Rattle.run_files.specs.Listed.{names_of};
 ghost use Rattle.host_state.specs.World.{World as HostWorld, opening_world};
 ghost use Rattle.host_link.specs.declared.row.Row.{Row};
@@ -14,7 +14,7 @@ ghost use Rattle.shadow_top.specs.inside.Rounds.{PutsRound, PutsRounds, StandsAt
 
 use net_run::{parts_are_between, put_heads, put_pieces, runs_grow};
 use round_lookahead::{World, rounds_reach_the_result};
-use sim_base::{Sink, WriteError};
+use run_outside::{Sink, WriteError};
 use std::alloc::AllocGlobal;
 use std::thread::Threads;
 use steal_workers::Gate;

@@ -1,8 +1,8 @@
 //! The top call.
 
 ghost use Rattle.std.specs.Prelude.{◌≡◌, ◌≢◌, ◌+◌, ◌<◌, ◌≤◌, ◌⊎◌, map, string_bytes, IfSome, IfOk};
-ghost use Rattle.sim_base.specs.Faults.{Rose};
-ghost use Rattle.sim_base.specs.Tally.{CountsWrites};
+ghost use Rattle.run_outside.specs.Faults.{Rose};
+ghost use Rattle.run_outside.specs.Tally.{CountsWrites};
 ghost use Rattle.shadow_top.specs.Opened.{Opens, HasOpened};
 ghost use Rattle.run_plan.specs.Limits.{KeepsToLimits, AreLimitsKept};
 ghost use Rattle.run_plan.specs.Line.{line_of};
@@ -26,7 +26,9 @@ use round_lookahead::{World, one_result};
 use run_plan::laws::one_plan;
 use run_plan::{Fault, Planned, Run, read_plan, tell, worker_count};
 use shd_config::Config;
-use sim_base::{Name, NoMemory, Place, Sink, Source, Text, WriteError, put_all};
+use base_texts::{Name, Text};
+use run_outside::{Place, Sink, Source, WriteError, put_all};
+use sim_base::NoMemory;
 use std::alloc::{AllocGlobal, Global};
 use std::thread::Threads;
 use steal_workers::Gate;

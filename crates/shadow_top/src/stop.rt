@@ -4,7 +4,8 @@ ghost use Rattle.std.specs.Prelude.{◌≡◌};
 ghost use Rattle.shadow_top.specs.inside.Stop.{ended};
 
 use run_plan::{Fault, ReadStop};
-use sim_base::{Name, WriteError};
+use base_texts::Name;
+use run_outside::WriteError;
 
 /// What a plan comes to, where no write fails and memory suffices.
 #[derive(Drop)]

@@ -1,7 +1,7 @@
 //! What a run tells of its connections, behind all else.
 
 ghost use Rattle.std.specs.Prelude.{◌≡◌, true, OnOk, OnErr, option_map};
-ghost use Rattle.sim_base.specs.Tally.{CountsWrites};
+ghost use Rattle.run_outside.specs.Tally.{CountsWrites};
 ghost use Rattle.host_state.specs.World.{World as HostWorld};
 ghost use Rattle.net_run.specs.Pieces.{with_pieces, PutsFront};
 ghost use Rattle.net_run.specs.Streams.{stream_puts};
@@ -9,7 +9,8 @@ ghost use Rattle.round_lookahead.specs.WorldStands.{WorldStands};
 
 use net_run::put_streams;
 use round_lookahead::World;
-use sim_base::{NoMemory, Sink, WriteError};
+use run_outside::{Sink, WriteError};
+use sim_base::NoMemory;
 use std::alloc::Global;
 
 /// Puts the line of each direction.

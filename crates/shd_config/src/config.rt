@@ -1,8 +1,9 @@
 //! A configuration.
 
 use crate::lists::{Hosts, Processes, Variables};
+use base_texts::{Name, Text};
 use shd_values::Texts;
-use sim_base::{Ip, Name, Signal, Text, Time};
+use sim_base::{Ip, Signal, Time};
 
 /// Where the graph of the network comes from.
 #[derive(Drop)]

@@ -11,7 +11,8 @@ use crate::optional::{check_scalar, optional_time, optional_u32};
 use crate::overrides::Overrides;
 use crate::steps::{below, checked, mapping_line, needed, refused};
 use crate::value::{read_mapping, read_stop_time, read_text};
-use sim_base::{Name, NoMemory, Time};
+use base_texts::Name;
+use sim_base::{NoMemory, Time};
 use std::alloc::Global;
 use yaml_merge::Pair;
 

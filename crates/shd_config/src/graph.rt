@@ -11,7 +11,7 @@ use crate::key::{Key, key_of};
 use crate::optional::optional_text;
 use crate::steps::{below, checked, mapping_line, needed, refused, valued};
 use crate::value::{read_mapping, read_text};
-use sim_base::{Name, Text};
+use base_texts::{Name, Text};
 use std::alloc::Global;
 use yaml_merge::Pair;
 

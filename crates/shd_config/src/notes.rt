@@ -5,8 +5,9 @@ ghost use Rattle.std.specs.List.{flat_map};
 ghost use Rattle.shd_config.specs.Notes.{general_has_no_effect, option_has_no_effect, path_behind, held, general_note, option_note, experimental_note, host_notes, hosts_notes, pair_notes, notes};
 
 use crate::key::{Key, key_of};
+use base_texts::Text;
 use shd_values::Texts;
-use sim_base::{NoMemory, Text};
+use sim_base::NoMemory;
 use std::alloc::Global;
 use yaml_merge::Pair;
 

@@ -9,7 +9,8 @@ use crate::value::{
     read_address, read_rate, read_signal, read_size, read_text, read_time, read_truth, read_u8,
     read_u32,
 };
-use sim_base::{Ip, Signal, Text, Time};
+use base_texts::Text;
+use sim_base::{Ip, Signal, Time};
 use std::alloc::Global;
 use yaml_merge::Pair;
 

@@ -1,6 +1,7 @@
 //! What the command line overrides.
 
-use sim_base::{Name, Time};
+use base_texts::Name;
+use sim_base::Time;
 
 /// The values that options of the command line give in place of those of the configuration.
 #[derive(Drop)]

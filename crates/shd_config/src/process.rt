@@ -17,8 +17,9 @@ use crate::optional::{optional_signal, optional_time};
 use crate::state::optional_state;
 use crate::steps::{below, checked, fault, item_path, mapping_line, needed, refused, valued};
 use crate::value::{read_mapping, read_sequence, read_text, read_time};
+use base_texts::{Name, Text};
 use shd_values::{Texts, has_program, read_words};
-use sim_base::{Name, Signal, Text, Time};
+use sim_base::{Signal, Time};
 use std::alloc::Global;
 use yaml_merge::{Pair, Plain};
 
@@ -132,7 +133,7 @@ fn start_of(pair: &Pair) -> Option<Time>
         return Some(Time { nanos: 0 });
     }
     match pair.value.as_text() {
-        Some(text) => sim_base::read_time(text),
+        Some(text) => base_texts::read_time(text),
         None => None,
     }
 }

@@ -9,9 +9,10 @@ mod quoted;
 mod value;
 
 use crate::config::{Config, GraphSource, QueueRule};
+use base_texts::Text;
 use host::hosts_string;
 use quoted::quoted;
-use sim_base::{NoMemory, Text};
+use sim_base::NoMemory;
 use std::alloc::{AllocError, Global};
 use value::time_string;
 

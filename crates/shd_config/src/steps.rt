@@ -5,7 +5,8 @@ ghost use Rattle.std.specs.Fmt.{decimal};
 ghost use Rattle.shd_config.specs.Steps.{IsFault, IsBelow, Gives, fault_at, valued, needed, checked, mapping_line};
 
 use crate::fault::{ConfigError, ConfigFault, ConfigKind};
-use sim_base::{NoMemory, Text};
+use base_texts::Text;
+use sim_base::NoMemory;
 use std::alloc::{AllocError, Global};
 use yaml_merge::Pair;
 

@@ -91,7 +91,12 @@ pub fn read_time(alloc: Global, pair: &Pair) -> Result<Time, ConfigError>
     ensures { Gives result (time_at pair.now) }
 {
     let text = read_text(alloc, pair)?;
-    valued(alloc, ConfigKind::BadValue, pair, sim_base::read_time(text))
+    valued(
+        alloc,
+        ConfigKind::BadValue,
+        pair,
+        base_texts::read_time(text),
+    )
 }
 
 /// The greatest stop time, in nanoseconds.
@@ -113,7 +118,12 @@ pub fn read_rate(alloc: Global, pair: &Pair) -> Result<u64, ConfigError>
     ensures { Gives result (rate_at pair.now) }
 {
     let text = read_text(alloc, pair)?;
-    let rate = valued(alloc, ConfigKind::BadValue, pair, sim_base::read_rate(text))?;
+    let rate = valued(
+        alloc,
+        ConfigKind::BadValue,
+        pair,
+        base_texts::read_rate(text),
+    )?;
     if 0 < rate {
         return Ok(rate);
     }

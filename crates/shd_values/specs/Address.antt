@@ -2,7 +2,7 @@
 use Rattle.std.specs.Prelude.{ℕ, ◌+◌, ◌*◌, Bool, ◌&&◌, ◌==◌, nat_lt, if◌then◌else◌, List, length, slice_index, Option, Some, None}
 use Rattle.std.specs.List.{before_first, after_first}
 use Rattle.sim_base.specs.Ascii.{full_stop, digit_0}
-use Rattle.sim_base.specs.Quantity.{◌>>=◌}
+use Rattle.base_texts.specs.Quantity.{◌>>=◌}
 use Rattle.sim_base.specs.declared.address.Ip.{Ip}
 use Rattle.shd_values.specs.Number.{number_of}
 

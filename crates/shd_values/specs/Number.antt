@@ -4,7 +4,7 @@ use Rattle.std.specs.Char.{is_ascii_digit}
 use Rattle.std.specs.List.{prefix_len}
 use Rattle.std.specs.Str.{bytes_eq}
 use Rattle.std.specs.Str.Parse.{digits_value}
-use Rattle.sim_base.specs.Quantity.{◌>>=◌, digits_of_text, some_digits, unit_of_text}
+use Rattle.base_texts.specs.Quantity.{◌>>=◌, digits_of_text, some_digits, unit_of_text}
 
 abbrev pub in_128_bits : ℕ → Option ℕ
 in_128_bits n = if nat_lt n (2 ^ 128) then Some n else None

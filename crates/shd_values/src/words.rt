@@ -6,7 +6,8 @@ ghost use Rattle.std.specs.Str.{chars};
 ghost use Rattle.shd_values.specs.Words.{words_of, begun, with_character, next_outside, next_quoted, next, start, finished};
 
 use crate::texts::Texts;
-use sim_base::{NoMemory, Text};
+use base_texts::Text;
+use sim_base::NoMemory;
 use std::alloc::{AllocError, Global};
 
 /// Whether a place of a command line stands in quotes.

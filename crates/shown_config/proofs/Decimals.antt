@@ -10,7 +10,7 @@ use Rattle.std.proofs.lemmas.Fmt.{decimal_is_IsNumeral, decimal_digit, decimal-d
 use Rattle.std.proofs.lemmas.Int.Digits.{first_digits_of}
 use Rattle.std.specs.Int.Digits.{digits_of}
 use Rattle.sim_base.specs.Ascii.{space}
-use Rattle.sim_base.specs.Quantity.{Units, time_units, rate_units, factor_in, in_64_bits, digits_of_text, some_digits, unit_of_text, quantity, rate_of_text}
+use Rattle.base_texts.specs.Quantity.{Units, time_units, rate_units, factor_in, in_64_bits, digits_of_text, some_digits, unit_of_text, quantity, rate_of_text}
 use Rattle.sim_base.specs.declared.time.Time.{Time}
 use Rattle.sim_base.specs.declared.address.Ip.{Ip}
 use Rattle.shd_values.specs.Number.{digits_number, number_of, size_of}

@@ -5,7 +5,7 @@ use Rattle.std.specs.Option.{option_map}
 use Rattle.std.proofs.lemmas.Bool.{and_parts}
 use Rattle.std.specs.Str.{str_eq_ignore_ascii_case}
 use Rattle.sim_base.specs.Units.{latest_time}
-use Rattle.sim_base.specs.Quantity.{◌>>=◌, Units, time_units, rate_units, in_64_bits, some_digits, digits_of_text, unit_of_text, factor_in, quantity, time_of_text, rate_of_text}
+use Rattle.base_texts.specs.Quantity.{◌>>=◌, Units, time_units, rate_units, in_64_bits, some_digits, digits_of_text, unit_of_text, factor_in, quantity, time_of_text, rate_of_text}
 use Rattle.sim_base.specs.declared.time.Time.{Time}
 use Rattle.shd_values.specs.Number.{number_of, size_of}
 use Rattle.shd_values.specs.Address.{address_of}

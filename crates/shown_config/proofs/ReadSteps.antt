@@ -3,7 +3,7 @@ use Rattle.std.proofs.Common.{◌≡◌, ℕ, ◌^◌, ◌<◌, ◌≤◌, Bool,
 use Rattle.std.proofs.lemmas.Bool.{and_from}
 use Rattle.sim_base.specs.Units.{latest_time}
 use Rattle.sim_base.specs.Refusals.{◌>>=◌}
-use Rattle.sim_base.specs.Quantity.{rate_of_text}
+use Rattle.base_texts.specs.Quantity.{rate_of_text}
 use Rattle.shd_values.specs.Number.{number_of, size_of}
 use Rattle.sim_base.specs.declared.time.Time.{Time}
 use Rattle.yaml_tree.specs.Said.{Said}

@@ -3,17 +3,11 @@ pub mod Addresses
 pub mod Ascii
 pub mod Draws
 pub mod Errno
-pub mod Faults
-pub mod Files
 pub mod Key
 pub mod KeyLaws
 pub mod Limits
 pub mod Packet
 pub mod Poll
-pub mod Quantity
 pub mod Refusals
 pub mod Signal
-pub mod Sink
-pub mod Source
-pub mod Tally
 pub mod Units

@@ -1,6 +1,6 @@
 -- The hosts of a plan that is to be run are those of a configuration, and its stop is within the limits.
 use Rattle.std.proofs.Common.{◌≡◌, ℕ, Bool, true, false, List, Result, Ok, Err, IfOk, ap, subst, codes, ◌≤◌, arith}
-use Rattle.sim_base.specs.Files.{Held}
+use Rattle.run_outside.specs.Files.{Held}
 use Rattle.gml_graph.specs.declared.graph.Graph.{Graph}
 use Rattle.yaml_tree.specs.Trees.{is_empty}
 use Rattle.yaml_merge.specs.SaidAt.{said_of}

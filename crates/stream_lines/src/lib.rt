@@ -2,7 +2,7 @@
 #![tactic(auto)]
 
 ghost use Rattle.std.specs.Prelude.{◌≡◌, ℕ, ◌≤◌, Bool, true, List, Contains, Ok, Some, slice_get};
-ghost use Rattle.sim_base.specs.Files.{Held};
+ghost use Rattle.run_outside.specs.Files.{Held};
 ghost use Rattle.sim_base.specs.declared.address.Addr.{Addr};
 ghost use Rattle.tcp_streams.specs.Frame.{inside};
 ghost use Rattle.tcp_streams.specs.Stream.{IsSimple, stream_of, IsFaithful};

@@ -1,7 +1,7 @@
 -- The steps of a round: where each is allowed, and what it does.
 use Rattle.std.specs.Prelude.{ℕ, suc, ◌==◌, Bool, true, false, ◌&&◌, not, is_none, is_some, List, [], ◌∷◌, ◌++◌, filter, Option, Some, None, option_map, if◌then◌else◌, nat_lt, slice_get, slice_set}
 use Rattle.std.specs.List.{list_any, list_all}
-use Rattle.sim_base.specs.Quantity.{◌>>=◌}
+use Rattle.base_texts.specs.Quantity.{◌>>=◌}
 use Rattle.sim_base.specs.declared.event.Event.{Event}
 use Rattle.world_order.specs.EventOrder.{take_least}
 use Rattle.world_order.specs.Model.{Model, Fired}

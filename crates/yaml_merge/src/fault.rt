@@ -1,6 +1,7 @@
 //! Why a tree can't be merged.
 
-use sim_base::{NoMemory, Text};
+use base_texts::Text;
+use sim_base::NoMemory;
 use std::alloc::{AllocError, AllocFailed};
 
 /// A merge key whose value is neither a mapping nor a sequence of mappings: the line of the key, and

@@ -16,7 +16,8 @@ ghost use Rattle.yaml_merge.specs.declared.fault.MergeFault.{MergeFault};
 use crate::fault::{MergeError, MergeFault};
 use crate::plain::{Pair, Plain};
 use crate::taken::Taken;
-use sim_base::{NoMemory, Text};
+use base_texts::Text;
+use sim_base::NoMemory;
 use std::alloc::Global;
 use yaml_tree::{Child, Entries, Node, Scalar, Tree, Value};
 

@@ -9,7 +9,8 @@ ghost use Rattle.yaml_merge.specs.Sources.{pairs_of, sources};
 ghost use Rattle.yaml_merge.specs.inside.Inner.{pairs_held, sources_held, null_inside, text_inside, items_inside, pairs_inside};
 ghost use Rattle.yaml_merge.specs.Plain.{text_in, items_in, pairs_in, is_null, line_of};
 
-use sim_base::{NoMemory, Text};
+use base_texts::Text;
+use sim_base::NoMemory;
 use std::alloc::Global;
 use std::marker::Model;
 

@@ -1,10 +1,10 @@
 -- How the program ends, by its status.
 use Rattle.std.specs.Prelude.{◌≡◌, ℕ, ◌≤◌, ◌⊎◌, List, Option, IfSome}
-use Rattle.sim_base.specs.Faults.{Rose}
-use Rattle.sim_base.specs.Files.{Held}
-use Rattle.sim_base.specs.Sink.{Content}
-use Rattle.sim_base.specs.Tally.{EndsByError, StopsAtError}
-use Rattle.sim_base.specs.declared.outside.tally.Tally.{Tally}
+use Rattle.run_outside.specs.Faults.{Rose}
+use Rattle.run_outside.specs.Files.{Held}
+use Rattle.run_outside.specs.Sink.{Content}
+use Rattle.run_outside.specs.Tally.{EndsByError, StopsAtError}
+use Rattle.run_outside.specs.declared.tally.Tally.{Tally}
 use Rattle.shadow_top.specs.Contract.{Shows, TellsReadFailed, ShowsPart, TellsPart}
 use Rattle.shadow_top.specs.Input.{Input, input}
 

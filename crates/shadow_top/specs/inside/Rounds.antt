@@ -1,7 +1,7 @@
 -- What is put while a run goes on, and at its end.
 use Rattle.std.specs.Prelude.{◌≡◌, ℕ, ◌⊎◌, Bool, List, map, Option, Some, option_map, Result, Ok, Err}
-use Rattle.sim_base.specs.Sink.{Content}
-use Rattle.sim_base.specs.declared.outside.sink.WriteError.{WriteError}
+use Rattle.run_outside.specs.Sink.{Content}
+use Rattle.run_outside.specs.declared.sink.WriteError.{WriteError}
 use Rattle.run_files.specs.Files.{Put, put_of}
 use Rattle.run_files.specs.LinesFit.{AllFit}
 use Rattle.host_state.specs.Gains.{names_in}

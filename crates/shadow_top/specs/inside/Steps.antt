@@ -1,11 +1,11 @@
 -- What the steps of the program leave.
 use Rattle.std.specs.Prelude.{◌≡◌, ℕ, ◌⊎◌, List, Option, Some, option_map, Result, Ok, Err, Bool, true, false}
-use Rattle.sim_base.specs.Faults.{Rose}
-use Rattle.sim_base.specs.Sink.{Content, add, begun, AddsFront}
-use Rattle.sim_base.specs.Tally.{EndsByError, StopsAtError}
-use Rattle.sim_base.specs.declared.outside.sink.Place.TheVariants as place
-use Rattle.sim_base.specs.declared.outside.sink.WriteError.{WriteError}
-use Rattle.sim_base.specs.declared.outside.tally.Tally.{Tally}
+use Rattle.run_outside.specs.Faults.{Rose}
+use Rattle.run_outside.specs.Sink.{Content, add, begun, AddsFront}
+use Rattle.run_outside.specs.Tally.{EndsByError, StopsAtError}
+use Rattle.run_outside.specs.declared.sink.Place.TheVariants as place
+use Rattle.run_outside.specs.declared.sink.WriteError.{WriteError}
+use Rattle.run_outside.specs.declared.tally.Tally.{Tally}
 use Rattle.run_files.specs.LinesFit.{AllFit}
 use Rattle.host_link.specs.Logs.{lines_of}
 use Rattle.host_state.specs.World.{World, IsResult, opening_world}

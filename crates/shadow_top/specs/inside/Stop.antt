@@ -1,10 +1,10 @@
 -- What a plan comes to, why a run stops, and what was counted of source and sink then.
 use Rattle.std.specs.Prelude.{◌≡◌, ℕ, ◌≤◌, Result, Ok, Err}
-use Rattle.sim_base.specs.Faults.{Rose}
-use Rattle.sim_base.specs.Tally.{EndsByError, StopsAtError}
-use Rattle.sim_base.specs.declared.outside.sink.WriteError.{WriteError}
-use Rattle.sim_base.specs.declared.outside.sink.WriteError.TheVariants as write
-use Rattle.sim_base.specs.declared.outside.tally.Tally.{Tally}
+use Rattle.run_outside.specs.Faults.{Rose}
+use Rattle.run_outside.specs.Tally.{EndsByError, StopsAtError}
+use Rattle.run_outside.specs.declared.sink.WriteError.{WriteError}
+use Rattle.run_outside.specs.declared.sink.WriteError.TheVariants as write
+use Rattle.run_outside.specs.declared.tally.Tally.{Tally}
 use Rattle.run_plan.specs.declared.fault.Fault.TheVariants.{Exists}
 use Rattle.run_plan.specs.declared.fault.ReadStop.{ReadStop}
 use Rattle.run_plan.specs.declared.fault.ReadStop.TheVariants as read

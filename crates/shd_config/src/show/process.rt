@@ -8,7 +8,8 @@ ghost use Rattle.shd_config.specs.Shown.{listed, shown_args, shown_variable, sho
 use crate::config::{FinalState, ProcessConfig, Variable};
 use crate::show::quoted::quoted;
 use crate::show::value::time_string;
-use sim_base::{Text, Time};
+use base_texts::Text;
+use sim_base::Time;
 use std::alloc::{AllocError, Global};
 
 /// More arguments behind those so far.

@@ -1,6 +1,6 @@
 use Rattle.std.proofs.Common.{◌≡◌, ◌++◌, [], Some, List, ℕ, Option, Vec, Global, string_bytes, unwrap_or, option_map, ap, sym, ◌∙◌, rules}
 use Rattle.std.proofs.lemmas.Result.{err_from_is_err_and}
-use Rattle.sim_base.specs.Files.{add_to_file}
+use Rattle.run_outside.specs.Files.{add_to_file}
 use Rattle.memory_outside.specs.Files.{files_of}
 use Rattle.memory_outside.proofs.FilesLemmas.{files_of-same, files_of-add_to_file}
 use Rattle.memory_outside.proofs.sink.add_to_file.Goals as goal

@@ -1,5 +1,5 @@
 use Rattle.std.proofs.Common.{ℕ, List, [], ◌∷◌, ◌++◌, map, ap, ◌∙◌}
-use Rattle.sim_base.specs.declared.outside.sink.Place.TheVariants as place
+use Rattle.run_outside.specs.declared.sink.Place.TheVariants as place
 use Rattle.out_text.specs.Files.{capture_name}
 use Rattle.run_files.specs.Files.{Put, put_of}
 use Rattle.net_run.proofs.heads.push_head.Goals as goal

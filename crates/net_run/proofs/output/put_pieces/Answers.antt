@@ -1,5 +1,5 @@
 use Rattle.std.proofs.Common.{◌≡◌, ℕ, ◌+◌, ◌∷◌, List, drop, map, option_map, Option, sym, ap, subst, ◌∙◌, inl, inr}
-use Rattle.sim_base.specs.Sink.{Content, add, AddsFront}
+use Rattle.run_outside.specs.Sink.{Content, add, AddsFront}
 use Rattle.run_files.specs.Files.{Put, put_of}
 use Rattle.net_run.specs.Pieces.{with_pieces, PutsFront}
 use Rattle.net_run.proofs.PieceLemmas.{drop_puts_next, with_pieces_told, on_err}

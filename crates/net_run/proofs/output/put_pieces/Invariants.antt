@@ -1,5 +1,5 @@
 use Rattle.std.proofs.Common.{◌≡◌, drop, map, Option, option_map}
-use Rattle.sim_base.specs.Sink.{Content}
+use Rattle.run_outside.specs.Sink.{Content}
 use Rattle.run_files.specs.Files.{put_of}
 use Rattle.net_run.specs.Pieces.{with_pieces, PutsFront}
 use Rattle.net_run.proofs.output.put_pieces.Given as goal

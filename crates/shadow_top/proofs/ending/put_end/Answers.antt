@@ -1,5 +1,5 @@
 use Rattle.std.proofs.Common.{◌∙◌, arith, length, ap, sym, subst}
-use Rattle.sim_base.specs.declared.outside.sink.WriteError.TheVariants as write
+use Rattle.run_outside.specs.declared.sink.WriteError.TheVariants as write
 use Rattle.run_files.specs.Listed.{names_of}
 use Rattle.run_files.specs.declared.listed.Listing.{Listing}
 use Rattle.shadow_top.specs.inside.Ending.{TellsAll}

@@ -1,5 +1,5 @@
 use Rattle.std.proofs.Common.{◌≡◌, Option}
-use Rattle.sim_base.specs.Sink.{Content}
+use Rattle.run_outside.specs.Sink.{Content}
 use Rattle.host_state.specs.World.{World}
 use Rattle.round_lookahead.specs.WorldStands.{WorldStands}
 use Rattle.round_lookahead.specs.Reached.{time_left}

@@ -1,6 +1,6 @@
 use Rattle.std.proofs.Common.{ℕ, List, Option, option_map, ap, subst, ◌∙◌}
 use Rattle.std.proofs.lemmas.Result.{err_from_is_err_and}
-use Rattle.sim_base.specs.Sink.{Content}
+use Rattle.run_outside.specs.Sink.{Content}
 use Rattle.net_run.specs.Pieces.{with_pieces, PutsFront}
 use Rattle.net_run.specs.Shown.{note_puts}
 use Rattle.shadow_top.proofs.RunLemmas.{noted, notes_stopped}

@@ -1,6 +1,6 @@
 use Rattle.std.proofs.Common.{sym, subst, All, Option}
 use Rattle.std.proofs.lemmas.Result.{err_from_is_err_and}
-use Rattle.sim_base.specs.Sink.{Content}
+use Rattle.run_outside.specs.Sink.{Content}
 use Rattle.run_files.specs.Listed.{HasIds, names_of}
 use Rattle.host_state.specs.World.{opening_world}
 use Rattle.run_files.specs.declared.listed.Listing.{Listing}

@@ -1,4 +1,4 @@
-use Rattle.sim_base.proofs.QuantityLemmas.{AllDigits-front}
+use Rattle.base_texts.proofs.QuantityLemmas.{AllDigits-front}
 use Rattle.shd_values.proofs.number.leading_number.Goals as goal
 
 pub number-requires : goal.number-requires

@@ -3,7 +3,7 @@ use Rattle.std.proofs.lemmas.List.{take_all}
 use Rattle.std.specs.Str.Parse.{digits_value}
 use Rattle.std.proofs.lemmas.Int.Digits.{digits_value_more}
 use Rattle.std.proofs.lemmas.Str.Parse.{digit_at}
-use Rattle.sim_base.proofs.QuantityLemmas.{digits_value-take-le}
+use Rattle.base_texts.proofs.QuantityLemmas.{digits_value-take-le}
 use Rattle.shd_values.proofs.number.number.Goals as goal
 
 pub with_digit-requires : goal.with_digit-requires

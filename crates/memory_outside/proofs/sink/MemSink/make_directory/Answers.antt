@@ -2,7 +2,7 @@ use Rattle.std.proofs.Common.{◌≡◌, Bool, true, false, cond, ◌||◌, List
 use Rattle.std.specs.BTreeSet.{contains_text}
 use Rattle.std.specs.Str.{bytes_eq}
 use Rattle.std.proofs.lemmas.Map.Text.{btree_set_updates_text}
-use Rattle.sim_base.specs.Files.{no_files}
+use Rattle.run_outside.specs.Files.{no_files}
 use Rattle.memory_outside.specs.Files.{files_of}
 use Rattle.memory_outside.proofs.FilesLemmas.{files_of-empty}
 use Rattle.memory_outside.proofs.sink.MemSink.make_directory.Goals as goal

@@ -1,0 +1,5 @@
+pub mod Faults
+pub mod Files
+pub mod Sink
+pub mod Source
+pub mod Tally

@@ -1,5 +1,0 @@
-use Rattle.sim_base.proofs.QuantityLemmas.{AllDigits-front}
-use Rattle.sim_base.proofs.quantity.read_quantity.Goals as goal
-
-pub number-requires : goal.number-requires
-number-requires c = rw (c.split_at.ensures.front, c.digits_len.ensures.len) (AllDigits-front c.args.text.now)

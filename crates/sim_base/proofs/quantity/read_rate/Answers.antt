@@ -1,6 +1,0 @@
-use Rattle.std.proofs.Common.{ap, ◌∙◌}
-use Rattle.sim_base.specs.Quantity.{rate_of_text}
-use Rattle.sim_base.proofs.quantity.read_rate.Goals as goal
-
-pub returns : goal.returns
-returns c = c.read_quantity.ensures ∙ ap rate_of_text c.as_bytes.ensures.value
