@@ -1,5 +1,5 @@
 -- a live record is that of its two ends
-use Rattle.std.proofs.Common.{◌≡◌, ◌≢◌, ℕ, List, [], ◌∷◌, slice_get, Bool, true, false, not, ◌&&◌, ◌||◌, ◌==◌, Option, Some, None, is_some, if◌then◌else◌, Result, Ok, Err, is_ok, OnOk, refl, sym, ap, subst, ◌∙◌}
+use Rattle.std.proofs.Common.{◌≡◌, ◌≢◌, ℕ, List, [], ◌∷◌, slice_get, Bool, true, false, not, ◌&&◌, ◌||◌, ◌==◌, Option, Some, None, is_some, if◌then◌else◌, refl, sym, ap, subst, ◌∙◌}
 use Rattle.std.specs.List.{list_any}
 use Rattle.std.proofs.lemmas.Bool.{eqb-true, eq-eqb}
 use Rattle.sim_base.specs.Addresses.{is_same}
@@ -98,10 +98,6 @@ entry_stays_by places new ends q k others apart at =
     by_bool (same_ends ends q)
     (λ same. absurd (apart (ends_is ends q same)))
     (λ differs. others q differs ∙ at)
-
-pub on_ok : {A E : Type 0} (r : Result A E) (P : Type 0) → is_ok r ≡ true → OnOk r P → P
-on_ok (Ok a) P e h = h
-on_ok (Err x) P e h = cc
 
 -- what the tables have at two ends is the only one that may have them
 pub among_one : (f : Ends → Option ℕ) (ears : List ℕ) (last : ℕ) (socks : List TcpSock) (own other : Addr) (place : ℕ) → Finds f ears (λ k. k ≢ last) socks → f (record { own = own; other = other }) ≡ Some place → (k : ℕ) (c : TcpSock) (s : TcpSocket) → k ≢ last → slice_get socks k ≡ Some c → SocketStands c s → has_record own other s ≡ true → list_any (λ j. j == k) (place ∷ []) ≡ true

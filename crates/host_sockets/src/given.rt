@@ -3,18 +3,13 @@
 ghost use Rattle.std.specs.Prelude.{◌≡◌, ◌≢◌, ℕ, ◌+◌, ◌-◌, ◌^◌, ◌<◌, ◌≤◌, true, length, max, slice_index_or};
 ghost use Rattle.std.specs.List.{sum_by};
 ghost use Rattle.number_sets.specs.Bags.{Holds};
-ghost use Rattle.host_sockets.specs.inside.Given.{given_end, once, times, no_ports};
+ghost use Rattle.number_sets.specs.Ports.{once};
+ghost use Rattle.host_sockets.specs.inside.Given.{times, no_ports};
 
 use crate::tcp_sock::TcpSock;
-use number_sets::NumberBag;
+use number_sets::{NumberBag, free_port, given_end, recount};
 use sim_base::Addr;
 use std::alloc::Global;
-
-/// The first port that is given.
-const FIRST_GIVEN: u16 = 10_000;
-
-/// How many ports are given.
-const GIVEN: usize = 55_536;
 
 /// The given ports, counted from the first one, of what a socket is bound to and of the own end of
 /// its connection.
@@ -35,22 +30,6 @@ const NO_PORTS: Had = Had {
 pub struct Given {
     pub(crate) ends: Vec<Had>,
     pub(crate) counts: NumberBag,
-}
-
-/// The given port of an end, counted from the first one.
-fn given_end(end: Option<Addr>) -> Option<u16>
-    ensures { result ≡ given_end end }
-{
-    match end {
-        Some(at) => {
-            if at.port < FIRST_GIVEN {
-                None
-            } else {
-                Some(at.port - FIRST_GIVEN)
-            }
-        }
-        None => None,
-    }
 }
 
 impl TcpSock {
@@ -80,42 +59,8 @@ impl TcpSock {
     }
 }
 
-/// Counts a port once more, if there is one. Answers whether it did: it doesn't where memory is
-/// wanting.
-fn count(counts: &mut NumberBag, port: Option<u16>) -> bool
-    ensures { result ≡ true → (f : ℕ → ℕ) → Holds counts.old f → Holds counts.new (λ n. f n + once port n) }
-{
-    match port {
-        Some(port) => counts.add(port as usize).is_ok(),
-        None => true,
-    }
-}
-
-/// Counts a port once less, if there is one. Answers whether it did, as `count`.
-fn discount(counts: &mut NumberBag, port: Option<u16>) -> bool
-    ensures { result ≡ true → (f : ℕ → ℕ) → Holds counts.old f → Holds counts.new (λ n. f n - once port n) }
-{
-    match port {
-        Some(port) => counts.remove(port as usize).is_ok(),
-        None => true,
-    }
-}
-
-/// An end has another port than it had. Answers whether that is counted, as `count`.
-fn recount(counts: &mut NumberBag, was: Option<u16>, is: Option<u16>) -> bool
-    ensures { result ≡ true → (f : ℕ → ℕ) → Holds counts.old f → Holds counts.new (λ n. f n + once is n - once was n) }
-{
-    if was == is {
-        return true;
-    }
-    if count(counts, is) {
-        discount(counts, was)
-    } else {
-        false
-    }
-}
-
-/// The ends of a socket have other ports than they had. Answers whether that is counted, as `count`.
+/// The ends of a socket have other ports than they had. Answers whether that is counted: it
+/// isn't where memory is wanting.
 fn recount_both(counts: &mut NumberBag, was: Had, is: Had) -> bool
     ensures { result ≡ true → (f : ℕ → ℕ) → Holds counts.old f
         → Holds counts.new (λ n. f n + once is.bound n - once was.bound n + once is.own n - once was.own n) }
@@ -127,7 +72,7 @@ fn recount_both(counts: &mut NumberBag, was: Had, is: Had) -> bool
     }
 }
 
-/// Makes entries up to a place, without ports. Answers whether it did, as `count`.
+/// Makes entries up to a place, without ports. Answers whether it did, as `recount_both`.
 fn grow(ends: &mut Vec<Had>, place: usize) -> bool
     requires { place < 2 ^ 63 }
     ensures within { result ≡ true → place < length ends.new.items }
@@ -141,7 +86,7 @@ fn grow(ends: &mut Vec<Had>, place: usize) -> bool
     ends.resize(place + 1, NO_PORTS).is_ok()
 }
 
-/// Enters the ports of the socket at a place. Answers whether it did, as `count`.
+/// Enters the ports of the socket at a place. Answers whether it did, as `recount_both`.
 fn enter(ends: &mut Vec<Had>, place: usize, is: Had) -> bool
     requires { place < 2 ^ 63 }
     ensures here { result ≡ true → slice_index_or ends.new.items place no_ports ≡ is }
@@ -214,11 +159,6 @@ impl Given {
         if last < socks.len() {
             return None;
         }
-        let number = self.counts.least_absent();
-        if number < GIVEN {
-            Some(Some(FIRST_GIVEN + number as u16))
-        } else {
-            Some(None)
-        }
+        Some(free_port(&self.counts))
     }
 }

@@ -8,16 +8,18 @@ use Rattle.sim_base.specs.declared.address.Ip.{Ip}
 use Rattle.sim_base.specs.Addresses.{is_same, is_same_ip}
 use Rattle.number_sets.specs.Sets.{has}
 use Rattle.number_sets.specs.Bags.{Holds}
+use Rattle.number_sets.specs.Ports.{given_end, once}
+use Rattle.number_sets.proofs.PortsCounted.{holds_same}
 use Rattle.udp_table.specs.declared.ends.UdpEnds.{UdpEnds}
 use Rattle.udp_table.specs.declared.index.Index.{Index}
 use Rattle.udp_table.specs.Table.{local_in}
-use Rattle.udp_table.specs.inside.Indexing.{at_place, counted, times, Finds, Changes, Indexes}
-use Rattle.udp_table.proofs.Counted.{changed_sum, holds_same}
+use Rattle.udp_table.specs.inside.Indexing.{at_place, times, Finds, Changes, Indexes}
+use Rattle.udp_table.proofs.Counted.{changed_sum}
 
 pub indexes_changed : (i j : Index) (place : ℕ) (before after : Option UdpEnds) (from to : Option Addr) (old new : List (Option UdpEnds))
     → Changes place before after old new → Indexes i old → from ≡ local_in before → to ≡ local_in after
     → ((k : ℕ) → has j.taken k ≡ (if k == place then is_some after else has i.taken k))
-    → ((f : ℕ → ℕ) → Holds i.ports f → Holds j.ports (λ n. f n + counted n to - counted n from))
+    → ((f : ℕ → ℕ) → Holds i.ports f → Holds j.ports (λ n. f n + once (given_end to) n - once (given_end from) n))
     → ((q : Addr) → to ≡ Some q → list_any (is_same_ip q.ip) j.addresses.items ≡ true)
     → ((ip : Ip) → list_any (is_same_ip ip) i.addresses.items ≡ true → list_any (is_same_ip ip) j.addresses.items ≡ true)
     → ((f g : ℕ → Option Addr) → f place ≡ from → g place ≡ to → ((k : ℕ) → k ≢ place → g k ≡ f k) → Finds (get is_same i.bound) f → Finds (get is_same j.bound) g)
@@ -27,9 +29,9 @@ indexes_changed i j place before after from to old new h index is_from is_to mar
     | inl same ↦ mark k ∙ (ap (λ (b : Bool). if b then is_some after else has i.taken k) (eq-eqb k place same) ∙ sym (ap (λ (n : ℕ). is_some (at_place new n)) same ∙ ap is_some h.is))
     | inr apart ↦ mark k ∙ (ap (λ (b : Bool). if b then is_some after else has i.taken k) (ne_eqb k place apart) ∙ (index.taken k ∙ sym (ap is_some (h.others k apart))))
   ];
-  ports = holds_same j.ports (λ n. sum_by (times n) old + counted n to - counted n from) (λ n. sum_by (times n) new)
-      (λ n. ap (λ (o : Option Addr). sum_by (times n) old + counted n o - counted n from) is_to
-      ∙ (ap (λ (o : Option Addr). sum_by (times n) old + counted n (local_in after) - counted n o) is_from ∙ changed_sum place before after old new n h))
+  ports = holds_same j.ports (λ n. sum_by (times n) old + once (given_end to) n - once (given_end from) n) (λ n. sum_by (times n) new)
+      (λ n. ap (λ (o : Option Addr). sum_by (times n) old + once (given_end o) n - once (given_end from) n) is_to
+      ∙ (ap (λ (o : Option Addr). sum_by (times n) old + times n after - once (given_end o) n) is_from ∙ changed_sum place before after old new n h))
       (count (λ n. sum_by (times n) old) index.ports);
   bound = move (λ k. local_in (at_place old k)) (λ k. local_in (at_place new k)) (ap local_in h.was ∙ sym is_from) (ap local_in h.is ∙ sym is_to)
       (λ k apart. ap local_in (h.others k apart)) index.bound;

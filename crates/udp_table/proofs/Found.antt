@@ -1,5 +1,5 @@
 -- which place is found by an end
-use Rattle.std.proofs.Common.{◌≡◌, ◌≢◌, ℕ, Bool, true, false, cond, ◌==◌, Option, Some, None, is_some, Result, Ok, Err, is_ok, OnOk, refl, sym, ap, ◌∙◌, inl, inr}
+use Rattle.std.proofs.Common.{◌≡◌, ◌≢◌, ℕ, Bool, true, false, cond, ◌==◌, Option, Some, None, is_some, refl, sym, ap, ◌∙◌, inl, inr}
 use Rattle.std.proofs.lemmas.Bool.{cases_eq, cases_Bool, eqb-true, eq-eqb, ne_eqb, and_parts, and_from}
 use Rattle.sim_base.specs.declared.address.Addr.{Addr}
 use Rattle.sim_base.specs.Addresses.{is_same}
@@ -101,7 +101,3 @@ without_here place local = ap (λ (b : Bool). cond b None (local place)) (eq-eqb
 
 pub without_other : (place : ℕ) (local : ℕ → Option Addr) (k : ℕ) → k ≢ place → without place local k ≡ local k
 without_other place local k apart = ap (λ (b : Bool). cond b None (local k)) (ne_eqb k place apart)
-
-pub on_ok : {A E : Type 0} (r : Result A E) (P : Type 0) → is_ok r ≡ true → OnOk r P → P
-on_ok (Ok a) P e h = h
-on_ok (Err x) P e h = cc

@@ -6,8 +6,7 @@ ghost use Rattle.udp_table.specs.inside.Indexing.{earlier};
 
 use crate::bound::{is_met_at, move_end, note};
 use crate::ends::{UdpEnds, at_place, local_in, takes};
-use crate::ports::{FIRST_GIVEN, GIVEN, recount};
-use number_sets::{NumberBag, NumberSet};
+use number_sets::{NumberBag, NumberSet, free_port, given_end, recount};
 use sim_base::{Addr, Ip};
 use std::alloc::Global;
 use std::collections::HashMap;
@@ -76,7 +75,9 @@ impl Index {
         if !mark(&mut self.taken, place, is.is_some()) {
             return false;
         }
-        if !recount(&mut self.ports, from, to) {
+        let was_port = given_end(from);
+        let is_port = given_end(to);
+        if !recount(&mut self.ports, was_port, is_port) {
             return false;
         }
         if !note(&mut self.addresses, to) {
@@ -96,12 +97,7 @@ impl Index {
     pub(crate) fn free_port(&self) -> Option<u16>
         ensures { (places : List (Option UdpEnds)) → Indexes self.now places → result ≡ least_free_port (bound_ends places) }
     {
-        let number = self.ports.least_absent();
-        if number < GIVEN {
-            Some(FIRST_GIVEN + number as u16)
-        } else {
-            None
-        }
+        free_port(&self.ports)
     }
 
     /// Whether a socket at an end would meet one of these: they have its port at one of their addresses.

@@ -5,7 +5,6 @@
 mod bound;
 mod ends;
 mod index;
-mod ports;
 mod table;
 
 pub use ends::UdpEnds;

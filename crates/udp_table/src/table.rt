@@ -9,7 +9,7 @@ ghost use Rattle.udp_table.specs.inside.Indexing.{Changes, Indexes};
 
 use crate::ends::{UdpEnds, meets_in, takes};
 use crate::index::Index;
-use crate::ports::{FIRST_GIVEN, GIVEN};
+use number_sets::{FIRST_GIVEN, GIVEN};
 use sim_base::{Addr, Errno, Ip, NoMemory};
 use std::alloc::Global;
 use std::marker::Model;

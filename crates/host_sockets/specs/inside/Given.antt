@@ -1,19 +1,10 @@
 -- the given ports that sockets have
-use Rattle.std.specs.Prelude.{ℕ, ◌+◌, ◌-◌, Option, Some, None, nat_lt, if◌then◌else◌}
+use Rattle.std.specs.Prelude.{ℕ, ◌+◌, Option, Some, None}
 use Rattle.sim_base.specs.declared.address.Addr.{Addr}
-use Rattle.sim_base.specs.Addresses.{first_given_port}
 use Rattle.sock_tcp.specs.connection.Tcb.{Tcb}
-use Rattle.number_sets.specs.Bags.{one}
+use Rattle.number_sets.specs.Ports.{given_end, once}
 use Rattle.host_sockets.specs.declared.given.Had.{Had}
 use Rattle.host_sockets.specs.TcpSocket.{TcpSocket}
-
--- a given port, counted from the first one
-abbrev pub given : ℕ → Option ℕ
-given port = if nat_lt port first_given_port then None else Some (port - first_given_port)
-
-abbrev pub given_end : Option Addr → Option ℕ
-given_end None = None
-given_end (Some at) = given at.port
 
 -- the own end of a record
 abbrev pub own_end : Option Tcb → Option Addr
@@ -28,9 +19,5 @@ abbrev pub no_ports : Had
 no_ports = record { bound = None; own = None }
 
 -- how many of them are a number
-abbrev pub once : Option ℕ → ℕ → ℕ
-once None n = 0
-once (Some number) n = one number n
-
 abbrev pub times : ℕ → Had → ℕ
 times n h = once h.bound n + once h.own n

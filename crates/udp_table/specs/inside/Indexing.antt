@@ -5,9 +5,10 @@ use Rattle.std.specs.List.{list_any, sum_by}
 use Rattle.std.specs.HashMap.{get}
 use Rattle.sim_base.specs.declared.address.Addr.{Addr}
 use Rattle.sim_base.specs.declared.address.Ip.{Ip}
-use Rattle.sim_base.specs.Addresses.{is_same, is_same_ip, meets, at_port, first_given_port}
+use Rattle.sim_base.specs.Addresses.{is_same, is_same_ip, meets, at_port}
 use Rattle.number_sets.specs.Sets.{has}
-use Rattle.number_sets.specs.Bags.{one, Holds}
+use Rattle.number_sets.specs.Bags.{Holds}
+use Rattle.number_sets.specs.Ports.{given_end, once}
 use Rattle.udp_table.specs.declared.ends.UdpEnds.{UdpEnds}
 use Rattle.udp_table.specs.declared.index.Index.{Index}
 use Rattle.udp_table.specs.Table.{local_in}
@@ -16,13 +17,9 @@ use Rattle.udp_table.specs.Table.{local_in}
 abbrev pub at_place : List (Option UdpEnds) → ℕ → Option UdpEnds
 at_place places k = slice_index_or places k None
 
--- how many ends have the given port with a number, counted from the first one. A port below isn't given, and has no number
-abbrev pub counted : ℕ → Option Addr → ℕ
-counted n None = 0
-counted n (Some at) = one at.port (first_given_port + n)
-
+-- whether the socket at a place has the given port with a number
 abbrev pub times : ℕ → Option UdpEnds → ℕ
-times n place = counted n (local_in place)
+times n place = once (given_end (local_in place)) n
 
 -- each place that is bound is found by its end, and no other
 pub record Finds (found : Addr → Option ℕ) (local : ℕ → Option Addr) : Type 0 where

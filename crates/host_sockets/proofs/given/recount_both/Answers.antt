@@ -1,5 +1,5 @@
 use Rattle.std.proofs.Common.{◌+◌, ◌-◌}
-use Rattle.host_sockets.specs.inside.Given.{once}
+use Rattle.number_sets.specs.Ports.{once}
 use Rattle.host_sockets.proofs.given.recount_both.Goals as goal
 
 pub returns-then-recount : goal.returns-then-recount

@@ -2,7 +2,8 @@ use Rattle.std.proofs.Common.{Some, sym, ap, ◌∙◌}
 use Rattle.std.specs.HashMap.{get}
 use Rattle.host_sockets.specs.declared.tables.Ends.{Ends}
 use Rattle.host_sockets.specs.inside.Ends.{same_ends}
-use Rattle.host_sockets.proofs.EndsFound.{entry_stays_by, on_ok}
+use Rattle.number_sets.proofs.PortsCounted.{on_ok}
+use Rattle.host_sockets.proofs.EndsFound.{entry_stays_by}
 use Rattle.host_sockets.proofs.tables.enter.Goals as goal
 
 pub returns-clause-others : goal.returns-clause-others

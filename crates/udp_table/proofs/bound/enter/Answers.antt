@@ -1,7 +1,8 @@
 use Rattle.std.proofs.Common.{sym, ◌∙◌}
 use Rattle.std.specs.HashMap.{get}
 use Rattle.sim_base.specs.Addresses.{is_same}
-use Rattle.udp_table.proofs.Found.{put_in, on_ok}
+use Rattle.number_sets.proofs.PortsCounted.{on_ok}
+use Rattle.udp_table.proofs.Found.{put_in}
 use Rattle.udp_table.proofs.bound.enter.Goals as goal
 
 pub returns-else-contains_key : goal.returns-else-contains_key

@@ -1,7 +1,7 @@
 use Rattle.std.proofs.Common.{◌≡◌, ◌+◌, true, false, sym, ◌∙◌, arith, below_more}
 use Rattle.sim_base.specs.Addresses.{any, at_port, has_port}
 use Rattle.udp_table.specs.Table.{bound_ends}
-use Rattle.udp_table.proofs.Counted.{first_told, all_told}
+use Rattle.number_sets.proofs.PortsCounted.{first_told, all_told}
 use Rattle.udp_table.proofs.Meeting.{met_in, any_meets}
 use Rattle.udp_table.proofs.table.free_port_in.Goals as goal
 

@@ -1,6 +1,6 @@
 use Rattle.std.proofs.Common.{sym, ◌∙◌}
 use Rattle.number_sets.specs.Sets.{has}
-use Rattle.host_sockets.proofs.EndsFound.{on_ok}
+use Rattle.number_sets.proofs.PortsCounted.{on_ok}
 use Rattle.host_sockets.proofs.RoomKnown.{knows_put, knows_out}
 use Rattle.host_sockets.proofs.room.Room.settle.Goals as goal
 

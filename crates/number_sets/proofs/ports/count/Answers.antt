@@ -1,8 +1,7 @@
 use Rattle.std.proofs.Common.{ℕ, ◌+◌, Option, Some, sym, ap, ◌∙◌}
-use Rattle.host_sockets.specs.inside.Given.{once}
-use Rattle.host_sockets.proofs.EndsFound.{on_ok}
-use Rattle.host_sockets.proofs.PortsCounted.{holds_same}
-use Rattle.host_sockets.proofs.given.count.Goals as goal
+use Rattle.number_sets.specs.Ports.{once}
+use Rattle.number_sets.proofs.PortsCounted.{holds_same, on_ok}
+use Rattle.number_sets.proofs.ports.count.Goals as goal
 
 pub returns-in-Some : goal.returns-in-Some
 returns-in-Some c = λ done f h.
