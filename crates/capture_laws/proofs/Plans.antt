@@ -14,10 +14,11 @@ use Rattle.command_line.specs.Asked.{asked}
 use Rattle.command_line.specs.declared.asked.Subject.{Subject}
 use Rattle.command_line.specs.declared.asked.Subject.TheVariants.{Capture, File, SelfLoad}
 use Rattle.config_texts.proofs.Reading.{config_text}
-use Rattle.config_texts.proofs.Trees.{tree_text}
+use Rattle.config_texts.proofs.Trees.{plain_text}
 use Rattle.config_texts.specs.Texts.{HasTexts, HostIsText}
 use Rattle.gml_graph.specs.declared.graph.Graph.{Graph}
 use Rattle.run_fits.specs.Bytes.{AreBytes}
+use Rattle.run_plan.proofs.ConfiguredLemmas.{configured_is}
 use Rattle.run_plan.proofs.InRangeLemmas.{asked_in_range}
 use Rattle.run_plan.proofs.LimitLemmas.{each_ring_host, small_address}
 use Rattle.run_plan.specs.Configured.{configured}
@@ -30,14 +31,12 @@ use Rattle.run_plan.specs.declared.plan.Plan.{Plan}
 use Rattle.run_plan.specs.declared.planned.Manner.{Manner}
 use Rattle.run_plan.specs.declared.planned.Planned.TheVariants.{Runs}
 use Rattle.run_plan.specs.declared.planned.Run.{Run}
-use Rattle.shd_config.specs.Config.{config}
 use Rattle.shd_config.specs.declared.config.Config.{Config}
 use Rattle.shd_config.specs.declared.fault.ConfigFault.{ConfigFault}
 use Rattle.shd_config.specs.declared.overrides.Overrides.{Overrides}
 use Rattle.run_outside.specs.Files.{Held}
-use Rattle.stream_lines.proofs.Planned.{asked_is, config_is, is_run, no_run}
-use Rattle.yaml_merge.specs.SaidAt.{said_of}
-use Rattle.yaml_tree.specs.Trees.{is_empty}
+use Rattle.stream_lines.proofs.Planned.{asked_is, is_run, no_run}
+use Rattle.text_trees.proofs.TextTrees.{text-plain}
 
 -- a plan is that of a configuration of texts over some files, which hold bytes where those that are given do
 pub record IsPlanOver (held : Held) (plan : Plan) : Type 0 where
@@ -52,10 +51,9 @@ pub record IsPlanOver (held : Held) (plan : Plan) : Type 0 where
 -- ---- a file
 
 text_of_file : (name text : List ℕ) (o : Overrides) (c : Config) → configured name text o (Ok c) → HasTexts c
-unfolding configured
-text_of_file name text o c (tree, t, e) =
-    let is = config_is name (config o (is_empty tree) (said_of tree)) c e in
-    subst (λ (read : Result Config ConfigFault). IfOk read HasTexts) is (config_text o (is_empty tree) (said_of tree) (tree_text tree))
+text_of_file name text o c h =
+    let is = configured_is name text o c h in
+    subst (λ (read : Result Config ConfigFault). IfOk read HasTexts) is.2 (config_text o _ is.0 (plain_text is.0 (text-plain text is.0 is.1)))
 
 over_file : (held : Held) (name : List ℕ) (c : Config) (plan : Plan) → HasTexts c → plan_of held name c (Ok plan) → IsPlanOver held plan
 unfolding plan_of

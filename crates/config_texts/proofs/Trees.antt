@@ -1,22 +1,15 @@
 -- the texts and keys of a tree are UTF-8, as it is read and as it is merged
-use Rattle.std.proofs.Common.{Bool, Err, IfOk, List, None, Ok, Option, Result, Some, [], false, if◌then◌else◌, not, refl, slice_get, suc, true, zero, ℕ, ◌&&◌, ◌++◌, ◌∷◌, ◌≡◌}
-use Rattle.std.proofs.lemmas.Str.{IsUtf8-from_is_utf8, IsUtf8-nil}
+use Rattle.std.proofs.Common.{Bool, Err, IfOk, List, Ok, Result, [], false, if◌then◌else◌, not, true, ℕ, ◌&&◌, ◌++◌, ◌∷◌}
 use Rattle.std.specs.List.{AllByRecursion}
-use Rattle.std.specs.Str.{IsUtf8, is_utf8}
+use Rattle.std.specs.Str.{IsUtf8}
 use Rattle.config_texts.proofs.Lists.{all_behind, all_pushed}
 use Rattle.sim_base.specs.Refusals.{◌>>=◌}
 use Rattle.yaml_merge.specs.Merge.{below, has, is_merge_key, item_count, item_place, keys_of, may_merge, merged, merged_rows, new_pairs, put_value, with_merged}
-use Rattle.yaml_merge.specs.SaidAt.{node_said, said_at, valid_text, value_said, with_entries, with_nodes, said_of}
+use Rattle.yaml_merge.specs.Plainness.{IsPlain}
 use Rattle.yaml_merge.specs.Sources.{pairs_of, sources}
 use Rattle.yaml_merge.specs.declared.fault.MergeFault.{MergeFault}
 use Rattle.yaml_merge.specs.declared.plain.Pair.{Pair}
 use Rattle.yaml_merge.specs.inside.Rows.{with_pairs}
-use Rattle.yaml_tree.specs.Limits.{most_tree_levels}
-use Rattle.yaml_tree.specs.declared.node.Value.{Value}
-use Rattle.yaml_tree.specs.declared.node.Value.TheVariants.{Null, Text, Sequence, Mapping}
-use Rattle.yaml_tree.specs.declared.entries.Child.{Child}
-use Rattle.yaml_tree.specs.declared.node.Node.{Node}
-use Rattle.yaml_tree.specs.declared.tree.Tree.{Tree}
 use Rattle.yaml_tree.specs.Said.{Said}
 use Rattle.yaml_tree.specs.Said.Said.{null, text, unknown, sequence, mapping, with_item, with_pair}
 
@@ -31,40 +24,14 @@ SaidIsText (with_pair before line key value) = SaidIsText before × IsUtf8 key �
 
 -- ---- as it is read
 
-valid_by : (bytes : List ℕ) (b : Bool) → is_utf8 bytes ≡ b → IsUtf8 (if b then bytes else [])
-valid_by bytes true e = IsUtf8-from_is_utf8 bytes e
-valid_by bytes false e = IsUtf8-nil
-
-valid : (bytes : List ℕ) → IsUtf8 (valid_text bytes)
-valid bytes = valid_by bytes (is_utf8 bytes) refl
-
-module _ (node : ℕ → Said) (each : (n : ℕ) → SaidIsText (node n)) where
-  nodes_text : (before : Said) (ns : List ℕ) → SaidIsText before → SaidIsText (with_nodes node before ns)
-  nodes_text before [] h = h
-  nodes_text before (n ∷ ns) h = nodes_text (with_item before (node n)) ns (h, each n)
-
-  entries_text : (before : Said) (es : List (List ℕ × Child)) → SaidIsText before → SaidIsText (with_entries node before es)
-  entries_text before [] h = h
-  entries_text before (e ∷ es) h =
-      entries_text (with_pair before e.1.line (valid_text e.0) (node e.1.node)) es (h, valid e.0, each e.1.node)
-
-  value_text : (line : ℕ) (v : Value) → SaidIsText (value_said node line v)
-  value_text line Null = tt
-  value_text line (Text bytes) = valid bytes
-  value_text line (Sequence numbers) = nodes_text (sequence line) numbers tt
-  value_text line (Mapping entries) = entries_text (mapping line) entries tt
-
-  node_text : (o : Option Node) → SaidIsText (node_said node o)
-  node_text None = tt
-  node_text (Some n) = value_text n.line n.value
-
-at_text : (depth : ℕ) (nodes : List Node) (n : ℕ) → SaidIsText (said_at depth nodes n)
-unfolding said_at
-at_text zero nodes n = tt
-at_text (suc depth) nodes n = node_text (said_at depth nodes) (λ m. at_text depth nodes m) (slice_get nodes n)
-
-pub tree_text : (t : Tree) → SaidIsText (said_of t)
-tree_text t = node_text (said_at most_tree_levels t.nodes) (λ n. at_text most_tree_levels t.nodes n) (slice_get t.nodes t.root)
+pub plain_text : (tree : Said) → IsPlain tree → SaidIsText tree
+plain_text (null line) p = tt
+plain_text (text line bytes) p = p
+plain_text (unknown line) p = tt
+plain_text (sequence line) p = tt
+plain_text (mapping line) p = tt
+plain_text (with_item before value) p = (plain_text before p.1, plain_text value p.2)
+plain_text (with_pair before line key value) p = (plain_text before p.3, p.1, plain_text value p.4)
 
 -- ---- as it is merged
 

@@ -2,13 +2,13 @@
 #![tactic(auto)]
 
 ghost use Rattle.std.specs.Prelude.{Bool, IfOk};
-ghost use Rattle.yaml_tree.specs.declared.tree.Tree.{Tree};
-ghost use Rattle.yaml_merge.specs.SaidAt.{said_of};
+ghost use Rattle.yaml_tree.specs.Said.{Said};
+ghost use Rattle.yaml_merge.specs.Plainness.{IsPlain};
 ghost use Rattle.shd_config.specs.Config.{config};
 ghost use Rattle.shd_config.specs.declared.overrides.Overrides.{Overrides};
 ghost use Rattle.config_texts.specs.Texts.{HasTexts};
 
-/// The names of hosts and the texts of processes that are read of a tree are UTF-8.
+/// The names of hosts and the texts of processes that are read of a plain tree are UTF-8.
 pub fn texts_are_utf8()
-    ensures { (o : Overrides) (empty : Bool) (tree : Tree) → IfOk (config o empty (said_of tree)) HasTexts }
+    ensures { (o : Overrides) (empty : Bool) (tree : Said) → IsPlain tree → IfOk (config o empty tree) HasTexts }
 {}

@@ -1,15 +1,12 @@
 -- No two hosts of a configuration have one name.
-use Rattle.std.proofs.Common.{◌≡◌, ◌≢◌, ◌∙◌, ℕ, ◌≤◌, Bool, true, false, List, [], ◌∷◌, ◌++◌, length, map, Option, Some, None, is_some, Result, Ok, Err, IfOk, IfSome, refl, sym, ap, subst, append_assoc, append-nil, arith, codes}
+use Rattle.std.proofs.Common.{◌≡◌, ◌∙◌, ℕ, ◌≤◌, Bool, true, false, List, [], ◌∷◌, ◌++◌, length, map, Option, Some, None, is_some, Result, Ok, Err, IfOk, IfSome, refl, sym, ap, subst, append_assoc, append-nil, codes}
 use Rattle.std.specs.Option.{option_map}
-use Rattle.std.proofs.lemmas.Bool.{false≢true}
 use Rattle.sim_base.specs.Refusals.{◌>>=◌}
 use Rattle.yaml_tree.specs.Said.{Said}
 use Rattle.yaml_tree.specs.Said.Said.{null, text, unknown, sequence, mapping, with_item, with_pair}
-use Rattle.yaml_tree.specs.Trees.{Holds}
-use Rattle.yaml_tree.specs.declared.tree.Tree.{Tree}
 use Rattle.yaml_merge.specs.Merge.{keys_of, merged}
 use Rattle.yaml_merge.specs.Plain.{line_of, pairs_in}
-use Rattle.yaml_merge.specs.SaidAt.{said_of}
+use Rattle.yaml_merge.specs.Plainness.{IsPlain}
 use Rattle.yaml_merge.specs.declared.fault.MergeFault.{MergeFault}
 use Rattle.yaml_merge.specs.declared.plain.Pair.{Pair}
 use Rattle.shd_values.specs.Word.{is_name_of_host}
@@ -31,8 +28,8 @@ use Rattle.shd_config.specs.declared.options.HostOptions.{HostOptions}
 use Rattle.shd_config.specs.declared.overrides.Overrides.{Overrides}
 use Rattle.shd_config.specs.declared.reading.RootDraft.{RootDraft}
 use Rattle.shd_config.proofs.Walks.{then_has, then_all, checked_has, below_has, valued_has, needed_has, weaker, kept_or_read}
-use Rattle.run_plan.proofs.NameCounts.{is_one-other, copies, copies-append}
-use Rattle.run_plan.proofs.TreeKeys.{IsOnce, tree_kind, tree_once}
+use Rattle.run_plan.proofs.NameCounts.{copies}
+use Rattle.run_plan.proofs.TreeKeys.{IsOnce, AreOnce, keys_once, plain_kind, plain_once}
 use Rattle.run_plan.proofs.MergedKeys.{merged_once}
 
 -- ---- the pairs of a mapping
@@ -57,26 +54,21 @@ keys_are (with_pair before line key value) = pairs_by key (record { line = line;
 
 -- ---- a host has the name of its key
 
-record HasName (key : List ℕ) (h : HostRead) : Type 0 where
-  same : h.name ≡ key
-  fits : is_name_of_host key ≡ true
+abbrev HasName : List ℕ → HostRead → Type 0
+HasName key h = h.name ≡ key
 
-finished_named : (p : Pair) (line : ℕ) (d : HostDraft) → is_name_of_host p.key ≡ true → IfOk (finished_host p line d) (HasName p.key)
-finished_named p line d fits = then_all (HasName p.key) (needed (codes "network_node_id") line d.network_node_id) _ (λ node. record { same = refl; fits = fits })
+finished_named : (p : Pair) (line : ℕ) (d : HostDraft) → IfOk (finished_host p line d) (HasName p.key)
+finished_named p line d = then_all (HasName p.key) (needed (codes "network_node_id") line d.network_node_id) _ (λ node. refl)
 
-read_named : (p : Pair) (pairs : List Pair) → is_name_of_host p.key ≡ true → IfOk (host_of p pairs) (HasName p.key)
+read_named : (p : Pair) (pairs : List Pair) → IfOk (host_of p pairs) (HasName p.key)
 unfolding host_of
-read_named p pairs fits = then_all (HasName p.key) (through host_row new_host pairs) _ (λ d. finished_named p _ d fits)
+read_named p pairs = then_all (HasName p.key) (through host_row new_host pairs) _ (λ d. finished_named p _ d)
 
 host_named : (p : Pair) → IfOk (host_at p) (HasName p.key)
 unfolding host_at
 host_named p =
     checked_has (HasName p.key) BadValue p (is_name_of_host p.key) _
-    (λ fits. then_all (HasName p.key) (mapping_at p) _ (λ pairs. below_has (HasName p.key) p (host_of p pairs) (read_named p pairs fits)))
-
-some_name : (key : List ℕ) → is_name_of_host key ≡ true → [] ≢ key
-some_name [] fits e = false≢true fits
-some_name (b ∷ rest) fits e = cc
+    (λ fits. then_all (HasName p.key) (mapping_at p) _ (λ pairs. below_has (HasName p.key) p (host_of p pairs) (read_named p pairs)))
 
 -- ---- the hosts
 
@@ -90,75 +82,56 @@ names_push : (before : List HostRead) (h : HostRead) → names (before ++ h ∷ 
 names_push [] h = refl
 names_push (x ∷ before) h = ap (λ (ns : List (List ℕ)). x.name ∷ ns) (names_push before h)
 
--- these have these names, none of which is empty
-record AreNamed (ns : List (List ℕ)) (all : List HostRead) : Type 0 where
-  same : names all ≡ ns
-  none : copies [] (names all) ≡ 0
+-- these have these names
+abbrev AreNamed : List (List ℕ) → List HostRead → Type 0
+AreNamed ns all = names all ≡ ns
 
-one_named : (before : List HostRead) (p : Pair) → copies [] (names before) ≡ 0 → IfOk (hosts_row before p) (AreNamed (names before ++ p.key ∷ []))
-one_named before p none =
+one_named : (before : List HostRead) (p : Pair) → IfOk (hosts_row before p) (AreNamed (names before ++ p.key ∷ []))
+one_named before p =
     then_has (HasName p.key) (AreNamed (names before ++ p.key ∷ [])) (host_at p) _ (host_named p)
-    (λ host h.
-    let all : names (before ++ host ∷ []) ≡ names before ++ p.key ∷ [] = names_push before host ∙ ap (λ (k : List ℕ). names before ++ k ∷ []) h.same in
-    record { same = all; none = ap (copies []) all ∙ omega (arith, none, copies-append [] (names before) (p.key ∷ []), is_one-other [] p.key (some_name p.key h.fits)) })
+    (λ host h. names_push before host ∙ ap (λ (k : List ℕ). names before ++ k ∷ []) h)
 
-all_named : (before : List HostRead) (ps : List Pair) → copies [] (names before) ≡ 0 → IfOk (through hosts_row before ps) (AreNamed (names before ++ keys_in ps))
-all_named before [] none = record { same = sym (append-nil (names before)); none = none }
-all_named before (p ∷ ps) none =
-    then_has (AreNamed (names before ++ p.key ∷ [])) (AreNamed (names before ++ keys_in (p ∷ ps))) (hosts_row before p) (λ next. through hosts_row next ps) (one_named before p none)
-    (λ next h. subst (λ (ns : List (List ℕ)). IfOk (through hosts_row next ps) (AreNamed ns)) (ap (λ (ns : List (List ℕ)). ns ++ keys_in ps) h.same ∙ append_assoc (names before) (p.key ∷ []) (keys_in ps))
-    (all_named next ps h.none))
-
-keys_once : (name : List ℕ) (s : Said) → IsOnce name s → copies name (keys_of s) ≤ 1
-keys_once name (with_pair before line key value) h = h.0
-keys_once name _ h = omega arith
-
--- the empty name doesn't stand in a mapping that must have it once
-abbrev MayStand : List ℕ → Said → Type 0
-MayStand name s = name ≢ [] → IsOnce name s
-
-few_named : (name : List ℕ) (s : Said) (ns : List (List ℕ)) → MayStand name s → ns ≡ keys_of s → copies [] ns ≡ 0 → copies name ns ≤ 1
-few_named [] s ns h e none = omega (arith, none)
-few_named (b ∷ rest) s ns h e none = subst (λ (ks : List (List ℕ)). copies (b ∷ rest) ks ≤ 1) (sym e) (keys_once (b ∷ rest) s (h (λ q. cc)))
+all_named : (before : List HostRead) (ps : List Pair) → IfOk (through hosts_row before ps) (AreNamed (names before ++ keys_in ps))
+all_named before [] = sym (append-nil (names before))
+all_named before (p ∷ ps) =
+    then_has (AreNamed (names before ++ p.key ∷ [])) (AreNamed (names before ++ keys_in (p ∷ ps))) (hosts_row before p) (λ next. through hosts_row next ps) (one_named before p)
+    (λ next h. subst (λ (ns : List (List ℕ)). IfOk (through hosts_row next ps) (AreNamed ns)) (ap (λ (ns : List (List ℕ)). ns ++ keys_in ps) h ∙ append_assoc (names before) (p.key ∷ []) (keys_in ps))
+    (all_named next ps))
 
 module _ (name : List ℕ) where
   abbrev AreFew : List HostRead → Type 0
   AreFew hs = copies name (names hs) ≤ 1
 
-  hosts_few : (p : Pair) → MayStand name p.value → IfOk (hosts_at p) AreFew
+  hosts_few : (p : Pair) → IsOnce name p.value → IfOk (hosts_at p) AreFew
   unfolding hosts_at
   hosts_few p h =
       then_has (λ ps. keys_in ps ≡ keys_of p.value) AreFew (mapping_at p) _ (valued_has (λ ps. keys_in ps ≡ keys_of p.value) WrongType p (pairs_in p.value) (keys_are p.value))
       (λ ps same. checked_has AreFew OutOfRange p (is_within 1 16384 (length ps)) _
       (λ fits. below_has AreFew p (through hosts_row [] ps)
-      (weaker (AreNamed (keys_in ps)) AreFew (through hosts_row [] ps) (all_named [] ps refl)
-      (λ all k. few_named name p.value (names all) h (k.same ∙ same) k.none))))
+      (weaker (AreNamed (keys_in ps)) AreFew (through hosts_row [] ps) (all_named [] ps)
+      (λ all k. subst (λ (ks : List (List ℕ)). copies name ks ≤ 1) (sym (k ∙ same)) (keys_once name p.value h)))))
 
   -- ---- the root
 
   abbrev IsRoot : RootDraft → Type 0
   IsRoot d = IfSome d.hosts AreFew
 
-  abbrev MayAllStand : List Pair → Type 0
-  MayAllStand [] = Unit {0}
-  MayAllStand (p ∷ ps) = MayStand name p.value × MayAllStand ps
-
-  all_push : (ps : List Pair) (p : Pair) → MayAllStand ps → MayStand name p.value → MayAllStand (ps ++ p ∷ [])
+  all_push : (ps : List Pair) (p : Pair) → AreOnce name ps → IsOnce name p.value → AreOnce name (ps ++ p ∷ [])
   all_push [] p h k = (k, tt)
   all_push (q ∷ ps) p h k = (h.0, all_push ps p h.1 k)
 
-  pushed : (p : Pair) (o : Option (List Pair)) → IfSome o MayAllStand → MayStand name p.value → IfSome (option_map (λ ps. ps ++ p ∷ []) o) MayAllStand
+  pushed : (p : Pair) (o : Option (List Pair)) → IfSome o (AreOnce name) → IsOnce name p.value → IfSome (option_map (λ ps. ps ++ p ∷ []) o) (AreOnce name)
   pushed p None h k = tt
   pushed p (Some ps) h k = all_push ps p h k
 
-  values_stand : (s : Said) → MayStand name s → IfSome (pairs_in s) MayAllStand
-  values_stand (null line) h = tt
-  values_stand (text line bytes) h = tt
-  values_stand (unknown line) h = tt
-  values_stand (sequence line) h = tt
-  values_stand (mapping line) h = tt
-  values_stand (with_item before value) h = tt
-  values_stand (with_pair before line key value) h = pushed (record { line = line; key = key; value = value }) (pairs_in before) (values_stand before (λ some. (h some).1)) (λ some. (h some).2)
+  values_once : (s : Said) → IsOnce name s → IfSome (pairs_in s) (AreOnce name)
+  values_once (null line) h = tt
+  values_once (text line bytes) h = tt
+  values_once (unknown line) h = tt
+  values_once (sequence line) h = tt
+  values_once (mapping line) h = tt
+  values_once (with_item before value) h = tt
+  values_once (with_pair before line key value) h = pushed (record { line = line; key = key; value = value }) (pairs_in before) (values_once before h.1) h.2
 
   abbrev HasFew : Config → Type 0
   HasFew c = copies name (map (λ (h : HostConfig). h.name) c.hosts) ≤ 1
@@ -168,7 +141,7 @@ module _ (name : List ℕ) where
   names_settled all (h ∷ hs) = ap (λ (ns : List (List ℕ)). h.name ∷ ns) (names_settled all hs)
 
   module _ (o : Overrides) where
-    key_few : (key : Option Key) (d : RootDraft) (p : Pair) → MayStand name p.value → IsRoot d → IfOk (root_key o key d p) IsRoot
+    key_few : (key : Option Key) (d : RootDraft) (p : Pair) → IsOnce name p.value → IsRoot d → IfOk (root_key o key d p) IsRoot
     key_few (Some keys.General) d p s h = then_all IsRoot (given (is_some o.stop_time) p (general_at o p)) _ (λ v. h)
     key_few (Some keys.Network) d p s h = then_all IsRoot (network_at p) _ (λ v. h)
     key_few (Some keys.Hosts) d p s h = then_has AreFew IsRoot (hosts_at p) _ (hosts_few p s) (λ v k. k)
@@ -176,7 +149,7 @@ module _ (name : List ℕ) where
     key_few (Some keys.Experimental) d p s h = then_all IsRoot (optional p (experimental_at p)) _ (λ v. h)
     key_few _ d p s h = tt
 
-    rows_few : (ps : List Pair) (d : RootDraft) → MayAllStand ps → IsRoot d → IfOk (through (root_row o) d ps) IsRoot
+    rows_few : (ps : List Pair) (d : RootDraft) → AreOnce name ps → IsRoot d → IfOk (through (root_row o) d ps) IsRoot
     rows_few [] d s h = h
     rows_few (p ∷ ps) d s h = then_has IsRoot IsRoot (root_row o d p) (λ next. through (root_row o) next ps) (kept_or_read IsRoot (is_passed_over p) d (root_key o (key_of p.key) d p) h (key_few (key_of p.key) d p s.0 h)) (λ next k. rows_few ps next s.1 k)
 
@@ -187,24 +160,24 @@ module _ (name : List ℕ) where
         (λ network. then_has AreFew HasFew (needed (codes "hosts") line d.hosts) _ (needed_has AreFew (codes "hosts") line d.hosts h)
         (λ hosts k. subst (λ (ns : List (List ℕ)). copies name ns ≤ 1) (sym (names_settled d.options hosts)) k)))
 
-    root_few : (line : ℕ) (pairs : List Pair) → MayAllStand pairs → IfOk (root_of o line pairs) HasFew
+    root_few : (line : ℕ) (pairs : List Pair) → AreOnce name pairs → IfOk (root_of o line pairs) HasFew
     unfolding root_of
     root_few line pairs s = then_has IsRoot HasFew (through (root_row o) new_root pairs) _ (rows_few pairs new_root s tt) (λ d h. finished_few _ _ d h)
 
-    merged_few : (empty : Bool) (tree : Said) → MayStand name tree → IfOk (merged_config o empty tree) HasFew
+    merged_few : (empty : Bool) (tree : Said) → IsOnce name tree → IfOk (merged_config o empty tree) HasFew
     merged_few true tree s = root_few 1 [] tt
     merged_few false tree s =
-        then_has MayAllStand HasFew (mapping_at (root tree)) _ (valued_has MayAllStand WrongType (root tree) (pairs_in tree) (values_stand tree s)) (λ pairs k. root_few (line_of tree) pairs k)
+        then_has (AreOnce name) HasFew (mapping_at (root tree)) _ (valued_has (AreOnce name) WrongType (root tree) (pairs_in tree) (values_once tree s)) (λ pairs k. root_few (line_of tree) pairs k)
 
-    config_few : (empty : Bool) (tree : Said) → (name ≢ [] → IfOk (merged tree) (IsOnce name)) → IfOk (config o empty tree) HasFew
+    config_few : (empty : Bool) (tree : Said) → IfOk (merged tree) (IsOnce name) → IfOk (config o empty tree) HasFew
     unfolding config
     config_few empty tree h = by (merged tree) h
       where
-        by : (read : Result Said MergeFault) → (name ≢ [] → IfOk read (IsOnce name)) → IfOk (wrong_merge read >>= merged_config o empty) HasFew
+        by : (read : Result Said MergeFault) → IfOk read (IsOnce name) → IfOk (wrong_merge read >>= merged_config o empty) HasFew
         by (Ok after) k = merged_few empty after k
         by (Err f) k = tt
 
-  -- no name is that of two hosts of a configuration
-  pub config_names : (o : Overrides) (empty : Bool) (t : Tree) (said : Said) → Holds t said → IfOk (config o empty (said_of t)) HasFew
-  config_names o empty t said h =
-      config_few o empty (said_of t) (λ some. merged_once name (said_of t) (tree_kind t) (tree_once name some t said h) (tree_once (codes "<<") (λ e. cc) t said h))
+  -- no name is that of two hosts of the configuration of a plain tree
+  pub config_names : (o : Overrides) (empty : Bool) (tree : Said) → IsPlain tree → IfOk (config o empty tree) HasFew
+  config_names o empty tree plain =
+      config_few o empty tree (merged_once name tree (plain_kind tree plain) (plain_once name tree plain) (plain_once (codes "<<") tree plain))

@@ -6,23 +6,22 @@ use Rattle.std.proofs.Math.Nat.{div-add-mod, div-div-eq-div-mul}
 use Rattle.std.proofs.lemmas.Fmt.{decimal_digit}
 use Rattle.std.proofs.lemmas.Option.{none-some}
 use Rattle.gml_graph.specs.declared.graph.Graph.{Graph}
-use Rattle.shd_config.specs.Config.{config}
 use Rattle.shd_config.specs.declared.config.Config.{Config}
 use Rattle.shd_config.specs.declared.config.HostConfig.{HostConfig}
 use Rattle.shd_config.specs.declared.fault.ConfigFault.{ConfigFault}
 use Rattle.shd_config.specs.declared.overrides.Overrides.{Overrides}
-use Rattle.yaml_merge.specs.SaidAt.{said_of}
-use Rattle.yaml_tree.specs.Said.{Said}
-use Rattle.yaml_tree.specs.Trees.{Holds, is_empty}
-use Rattle.yaml_tree.specs.declared.tree.Tree.{Tree}
-use Rattle.run_plan.specs.Configured.{or_config_fault}
+use Rattle.text_trees.proofs.TextTrees.{text-plain}
+use Rattle.yaml_marks.specs.Lines.{lines_of}
+use Rattle.yaml_tree.specs.Tree.{is_empty_document}
+use Rattle.run_plan.specs.Configured.{configured}
 use Rattle.run_plan.specs.HostRows.{host_rows}
 use Rattle.run_plan.specs.Names.{AreApart, AreHostsApart}
-use Rattle.run_plan.specs.Outcomes.{Meets, gives}
+use Rattle.run_plan.specs.Outcomes.{Meets}
 use Rattle.run_plan.specs.SelfLoad.{host_name, ring_host, self_load_config}
 use Rattle.run_plan.specs.declared.fault.ReadStop.{ReadStop}
 use Rattle.run_plan.specs.declared.host_row.HostRow.{HostRow}
 use Rattle.run_plan.proofs.ConfigNames.{config_names}
+use Rattle.run_plan.proofs.ConfiguredLemmas.{configured_is}
 use Rattle.run_plan.proofs.NameCounts.{one_if, copies, copies-permutation, some_is, one_place}
 use Rattle.run_plan.proofs.RowLengthLemmas.{rows_moved}
 
@@ -72,17 +71,13 @@ rows_apart name graph hosts rows h far =
 
 -- ---- configurations
 
-config_is : (file : List ℕ) (read : Result Config ConfigFault) (c : Config) → or_config_fault file read ≡ Ok c → read ≡ Ok c
-config_is file (Ok d) c e = cc
-config_is file (Err f) c e = cc
-
--- what is read of a tree that holds what a text says
-pub config_apart : (file : List ℕ) (o : Overrides) (t : Tree) (said : Said) (result : Result Config ReadStop) → Holds t said
-    → Meets (λ (c : Config). c) (gives (or_config_fault file (config o (is_empty t) (said_of t)))) result → IfOk result (λ (c : Config). AreHostsApart c.hosts)
-config_apart file o t said (Err stop) h told = tt
-config_apart file o t said (Ok c) h told =
+-- the hosts of the configuration of a text are apart
+pub config_apart : (file text : List ℕ) (o : Overrides) (result : Result Config ReadStop) → Meets (λ (c : Config). c) (configured file text o) result → IfOk result (λ (c : Config). AreHostsApart c.hosts)
+config_apart file text o (Err stop) told = tt
+config_apart file text o (Ok c) told =
+    let is = configured_is file text o c told in
     apart (map (λ (x : HostConfig). x.name) c.hosts)
-    (λ n. subst (λ (read : Result Config ConfigFault). IfOk read (λ (d : Config). copies n (map (λ (x : HostConfig). x.name) d.hosts) ≤ 1)) (config_is file (config o (is_empty t) (said_of t)) c told) (config_names n o (is_empty t) t said h))
+    (λ n. subst (λ (read : Result Config ConfigFault). IfOk read (λ (d : Config). copies n (map (λ (x : HostConfig). x.name) d.hosts) ≤ 1)) is.2 (config_names n o (is_empty_document (lines_of text)) is.0 (text-plain text is.0 is.1)))
 
 -- ---- a self-load
 

@@ -19,14 +19,11 @@ use Rattle.run_outside.specs.Files.{Held}
 use Rattle.sim_base.specs.declared.address.Ip.{Ip}
 use Rattle.sim_base.specs.declared.time.Time.{Time}
 use Rattle.yaml_tree.specs.Said.{Said}
-use Rattle.yaml_tree.specs.Trees.{Holds, is_empty}
-use Rattle.yaml_tree.specs.declared.tree.Tree.{Tree}
+use Rattle.yaml_tree.specs.Tree.{IsTreeOf, is_empty_document}
 use Rattle.yaml_tree.proofs.FlowLaws.{flow_reader}
 use Rattle.yaml_tree.proofs.RuleLaws.{one_tree, no_fault}
 use Rattle.yaml_tree.proofs.FaultLaws.{one_fault}
 use Rattle.yaml_marks.specs.Lines.{lines_of}
-use Rattle.yaml_merge.specs.SaidAt.{said_of}
-use Rattle.yaml_merge.proofs.SameLaws.{trees_say_the_same}
 use Rattle.shd_config.specs.Config.{config}
 use Rattle.shd_config.specs.declared.config.Config.{Config}
 use Rattle.shd_config.specs.declared.config.GraphSource.{GraphSource}
@@ -35,7 +32,7 @@ use Rattle.shd_config.specs.declared.config.HostConfig.{HostConfig}
 use Rattle.shd_config.specs.declared.overrides.Overrides.{Overrides}
 use Rattle.run_plan.specs.Addresses.{IsLeastOpen, AreAddressesFrom, given_addresses, first_address}
 use Rattle.run_plan.specs.Captured.{captured}
-use Rattle.run_plan.specs.Configured.{IsTreeFault, HoldsTreeOf, tree_of, or_config_fault, configured}
+use Rattle.run_plan.specs.Configured.{IsTreeFault, tree_of, or_config_fault, configured}
 use Rattle.run_plan.specs.File.{file, read, reads}
 use Rattle.run_plan.specs.HostRows.{AreInOrder, HaveAddresses, rows_of, host_rows}
 use Rattle.run_plan.specs.Network.{one_gbit_switch, graph_at, network}
@@ -139,17 +136,9 @@ some_both P Q Same one (Err NoMemory) s h k = tt
 
 -- ---- the configuration of a text
 
-abbrev SayTheSame : Tree → Tree → Type 0
-SayTheSame t u = (said_of t ≡ said_of u) × (is_empty t ≡ is_empty u)
-
-tree_same : (text : List ℕ) (t u : Tree) → HoldsTreeOf text t → HoldsTreeOf text u → SayTheSame t u
-tree_same text t u h k =
-    let same : k.said ≡ h.said = one_tree flow_reader (lines_of text) k.said h.said k.is.1.says h.is.1.says in
-    (trees_say_the_same t u h.said h.holds (subst (λ (s : Said). Holds u s) same k.holds) h.is.1.shallow, h.empty ∙ sym k.empty)
-
-no_tree_fault : (name text : List ℕ) (t : Tree) (f : Fault) → HoldsTreeOf text t → IsTreeFault name text f → ⊥
-no_tree_fault name text t (fault.Tree n f) h k = no_fault flow_reader text h.said f.line f.kind h.is k.1
-no_tree_fault name text t _ h k = k
+no_tree_fault : (name text : List ℕ) (tree : Said) (f : Fault) → IsTreeOf text tree → IsTreeFault name text f → ⊥
+no_tree_fault name text tree (fault.Tree n f) h k = no_fault flow_reader text tree f.line f.kind h k.1
+no_tree_fault name text tree _ h k = k
 
 one_tree_fault : (name text : List ℕ) (f g : Fault) → IsTreeFault name text f → IsTreeFault name text g → f ≡ g
 one_tree_fault name text (fault.Tree n f) (fault.Tree m g) h k =
@@ -159,8 +148,8 @@ one_tree_fault name text (fault.Tree n f) (fault.Tree m g) h k =
 one_tree_fault name text (fault.Tree n f) _ h k = absurd k
 one_tree_fault name text _ g h k = absurd h
 
-trees_agree : (name text : List ℕ) → Both SayTheSame (tree_of name text) (tree_of name text)
-trees_agree name text (Ok t) (Ok u) h k = tree_same text t u h k
+trees_agree : (name text : List ℕ) → Both Equal (tree_of name text) (tree_of name text)
+trees_agree name text (Ok t) (Ok u) h k = one_tree flow_reader (lines_of text) t u h.1.says k.1.says
 trees_agree name text (Ok t) (Err (Refused f)) h k = no_tree_fault name text t f h k
 trees_agree name text (Ok t) (Err (ReadFailed n)) h k = tt
 trees_agree name text (Ok t) (Err NoMemory) h k = tt
@@ -174,10 +163,7 @@ trees_agree name text (Err NoMemory) s h k = tt
 configs_agree : (name text : List ℕ) (o : Overrides) → Both Equal (configured name text o) (configured name text o)
 unfolding configured
 configs_agree name text o =
-    both_then SayTheSame Equal (tree_of name text) (tree_of name text) (λ t. gives (or_config_fault name (config o (is_empty t) (said_of t)))) (λ t. gives (or_config_fault name (config o (is_empty t) (said_of t)))) (trees_agree name text)
-    (λ t u h k same r s p q.
-    gives_one (or_config_fault name (config o (is_empty t) (said_of t))) r s p
-    (subst (λ (x : Said). gives (or_config_fault name (config o (is_empty t) x)) s) (sym same.0) (subst (λ (b : Bool). gives (or_config_fault name (config o b (said_of u))) s) (sym same.1) q)))
+    one_then Equal (tree_of name text) _ (trees_agree name text) (λ tree h. gives_one (or_config_fault name (config o (is_empty_document (lines_of text)) tree)))
 
 -- ---- rows
 

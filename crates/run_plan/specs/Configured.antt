@@ -3,9 +3,6 @@ use Rattle.std.specs.Prelude.{◌≡◌, ℕ, List, Result, Ok, Err}
 use Rattle.yaml_marks.specs.Lines.{lines_of}
 use Rattle.yaml_tree.specs.Said.{Said}
 use Rattle.yaml_tree.specs.Tree.{IsTreeOf, IsFaultOf, is_empty_document}
-use Rattle.yaml_tree.specs.Trees.{Holds, is_empty}
-use Rattle.yaml_tree.specs.declared.tree.Tree.{Tree}
-use Rattle.yaml_merge.specs.SaidAt.{said_of}
 use Rattle.shd_config.specs.Config.{config}
 use Rattle.shd_config.specs.declared.config.Config.{Config}
 use Rattle.shd_config.specs.declared.fault.ConfigFault.{ConfigFault}
@@ -20,16 +17,9 @@ abbrev pub IsTreeFault : List ℕ → List ℕ → Fault → Type 0
 IsTreeFault name text (fault.Tree file f) = (file ≡ name) × IsFaultOf text f.line f.kind
 IsTreeFault name text _ = ⊥
 
--- the nodes hold the tree of the text
-pub record HoldsTreeOf (text : List ℕ) (tree : Tree) : Type 0 where
-  pub said : Said
-  pub is : IsTreeOf text said
-  pub holds : Holds tree said
-  pub empty : is_empty tree ≡ is_empty_document (lines_of text)
-
 -- the tree of a text, or its first fault
-abbrev pub tree_of : List ℕ → List ℕ → Outcomes Tree
-tree_of name text (Ok tree) = HoldsTreeOf text tree
+abbrev pub tree_of : List ℕ → List ℕ → Outcomes Said
+tree_of name text (Ok tree) = IsTreeOf text tree
 tree_of name text (Err (Refused f)) = IsTreeFault name text f
 tree_of name text (Err (ReadFailed file)) = ⊥
 tree_of name text (Err NoMemory) = Unit {0}
@@ -42,4 +32,4 @@ or_config_fault name (Err f) = Err (fault.Config name f)
 unfoldable pub configured : List ℕ → List ℕ → Overrides → Outcomes Config
 configured name text overrides = do
   tree ← tree_of name text
-  gives (or_config_fault name (config overrides (is_empty tree) (said_of tree)))
+  gives (or_config_fault name (config overrides (is_empty_document (lines_of text)) tree))

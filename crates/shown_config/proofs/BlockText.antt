@@ -11,7 +11,7 @@ use Rattle.yaml_tree.specs.Written.Written.{nothing}
 use Rattle.yaml_tree.specs.Said.{Said, size}
 use Rattle.yaml_tree.specs.Said.Said.{mapping}
 use Rattle.yaml_tree.specs.Tree.{Says, IsTreeOf}
-use Rattle.shown_config.proofs.Bytes.{is_inner, are_inner, not_same, IsText, IsText-append}
+use Rattle.text_trees.proofs.Bytes.{is_inner, are_inner, not_same, IsText, IsText-append}
 use Rattle.shown_config.proofs.Rows.{spaces, pair_text, head_text, dash_text, spaces-text, pair-text, head-text, dash-text}
 use Rattle.shown_config.proofs.Blocks.{Leaf, Item, Block, is_done, leaf_lines, item_lines, block_lines, block_written, block_said}
 use Rattle.shown_config.proofs.Blocks.Block.{done, leaf_then, block_then, items_then}

@@ -6,7 +6,7 @@ use Rattle.yaml_marks.specs.Tokens.{behind_value, flow_tokens, value_tokens_of, 
 use Rattle.yaml_marks.specs.declared.piece.Piece.{Piece}
 use Rattle.yaml_marks.specs.declared.token.Token.{Token}
 use Rattle.yaml_marks.specs.declared.token.Token.TheVariants.{Scalar, Form}
-use Rattle.shown_config.proofs.Bytes.{IsText}
+use Rattle.text_trees.proofs.Bytes.{IsText}
 use Rattle.shown_config.proofs.Words.{Word, text_of, says, IsWord, Opened, opened, scan_of_word, scalar_at-word, word-text}
 use Rattle.shown_config.proofs.Words.Word.{bare, quote}
 use Rattle.shown_config.proofs.Forms.{AreWords, list_text, list_pieces, AreEntries, map_text, map_pieces, IsFlowText, list-flow, map-flow}

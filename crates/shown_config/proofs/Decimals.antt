@@ -18,7 +18,7 @@ use Rattle.shd_values.specs.Address.{is_point, octet, behind_point, address_of}
 use Rattle.yaml_marks.specs.Scalars.{is_space, is_null}
 use Rattle.shd_config.specs.Values.{time_of}
 use Rattle.shd_config.specs.Shown.{shown_time, shown_rate, shown_address}
-use Rattle.shown_config.proofs.Bytes.{all-append, all-weaker}
+use Rattle.text_trees.proofs.Bytes.{all-append, all-weaker}
 use Rattle.shown_config.proofs.Words.{is_bare, is_other, begins_with_letter, last_byte, IsBare}
 
 -- ---- digits

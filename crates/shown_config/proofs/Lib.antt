@@ -1,4 +1,3 @@
-pub mod Bytes
 pub mod Quotes
 pub mod Words
 pub mod Forms
@@ -31,14 +30,3 @@ pub mod PlainLists
 pub mod Starts
 pub mod PlainProcesses
 pub mod PlainHosts
-pub mod Cuts
-pub mod Characters
-pub mod SingleQuotes
-pub mod Escapes
-pub mod Scans
-pub mod GoodPieces
-pub mod GoodTokens
-pub mod GoodBlocks
-pub mod GoodLines
-pub mod FlowTrees
-pub mod TextTrees

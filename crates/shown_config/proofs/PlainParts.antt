@@ -22,7 +22,7 @@ use Rattle.shd_config.specs.Network.{file_key, file_row, file_of, file_at, kind_
 use Rattle.shd_config.specs.Host.{no_options, options_key, options_row, options_at}
 use Rattle.shown_config.specs.Plain.{IsPlainGraph}
 use Rattle.shown_config.specs.Same.{AreOverrides}
-use Rattle.shown_config.proofs.Bytes.{IsText-known}
+use Rattle.text_trees.proofs.Bytes.{IsText-known}
 use Rattle.shown_config.proofs.Has.{then-has, then-any, below-has, needed-has, given-has, optional-has, or_default-has, through-keeps, weaker}
 use Rattle.shown_config.proofs.GoodTrees.{IsGood, IsGoodPair, AreGoodPairs}
 use Rattle.shown_config.proofs.PlainValues.{mapping-has, text-has, number-has, size-has, IsSmall, time-has, stop-has, text_with-has, some_text}

@@ -1,5 +1,5 @@
 -- A text between double quotes is read as that text.
-use Rattle.std.proofs.Common.{◌≡◌, ℕ, suc, ◌+◌, ◌-◌, ◌*◌, ◌/◌, ◌%◌, ◌<◌, ◌≤◌, Bool, true, false, cond, ◌&&◌, ◌||◌, not, ◌==◌, nat_lt, nat_le, List, [], ◌∷◌, ◌++◌, length, Some, IsUtf8, chars, encode_utf8, encode_utf8_all, codes, flat_map, refl, sym, ap, ◌∙◌, subst, append_assoc, append-nil, arith, length-append, take_at, eqb-true, ltb-true, ltb-false, if◌then◌else◌, ⊎_elim, add-zero}
+use Rattle.std.proofs.Common.{◌≡◌, ℕ, suc, ◌+◌, ◌-◌, ◌*◌, ◌/◌, ◌%◌, ◌<◌, ◌≤◌, Bool, true, false, ◌&&◌, ◌||◌, ◌==◌, nat_lt, nat_le, List, [], ◌∷◌, ◌++◌, length, Some, IsUtf8, chars, encode_utf8, encode_utf8_all, codes, flat_map, refl, sym, ap, ◌∙◌, subst, append_assoc, append-nil, arith, length-append, take_at, eqb-true, ltb-true, ltb-false, if◌then◌else◌, ⊎_elim, add-zero}
 use Rattle.std.specs.List.{list_all}
 use Rattle.std.specs.Char.{IsScalar}
 use Rattle.std.proofs.Math.Utf8.{scalar, scalars, encode}
@@ -12,24 +12,8 @@ use Rattle.yaml_marks.specs.Scalars.{put_before, unescaped, double_len, hex_valu
 use Rattle.yaml_marks.specs.declared.scan.Scan.TheVariants.{Quoted}
 use Rattle.yaml_marks.specs.declared.escapes.Escape.TheVariants.{Outside}
 use Rattle.shd_config.specs.Quoted.{hex_digit, hex_escape, escaped, quoted}
-use Rattle.shown_config.proofs.Bytes.{is_inner, are_inner, all-append, all-weaker, not_same, is_known, IsText-known, put_before-nil, put_before-append, plus, plus-zero, plus-plus}
-
--- a byte that stands for itself between quotes
-abbrev pub is_itself : ℕ → Bool
-is_itself b = is_inner b && (not (b == 34) && not (b == 92))
-
-itself-inner : (b : ℕ) → is_itself b ≡ true → is_inner b ≡ true
-itself-inner b h = (and_parts (is_inner b) _ h).0
-
-itself-open : (b : ℕ) → is_itself b ≡ true → ((b == 34) ≡ false) × ((b == 92) ≡ false)
-itself-open b h = let k = and_parts (not (b == 34)) _ (and_parts (is_inner b) _ h).1 in (not_same b 34 k.0, not_same b 92 k.1)
-
-pub unescaped-itself : (bs rest : List ℕ) → list_all is_itself bs ≡ true → unescaped Outside (bs ++ rest) ≡ put_before bs (unescaped Outside rest)
-unfolding unescaped
-unescaped-itself [] rest h = sym (put_before-nil (unescaped Outside rest))
-unescaped-itself (b ∷ bs) rest h =
-    let k = and_parts (is_itself b) (list_all is_itself bs) h in
-    rw ((itself-open b k.0).1) (ap (put_before (b ∷ [])) (unescaped-itself bs rest k.1) ∙ put_before-append (b ∷ []) bs (unescaped Outside rest))
+use Rattle.text_trees.proofs.Bytes.{is_inner, are_inner, all-append, all-weaker, is_known, IsText-known, put_before-nil, put_before-append, plus, plus-zero, plus-plus}
+use Rattle.text_trees.proofs.Itself.{is_itself, itself-inner, itself-open, unescaped-itself, encode-itself}
 
 double_len-itself : (bs rest : List ℕ) → list_all is_itself bs ≡ true → double_len false (bs ++ rest) ≡ plus (length bs) (double_len false rest)
 unfolding double_len
@@ -47,25 +31,6 @@ record Stands (c : ℕ) (bytes : List ℕ) : Type 0 where
   valid : IsUtf8 bytes
 
 -- ---- characters by themselves
-
-pub high-itself : (b : ℕ) → 128 ≤ b → is_itself b ≡ true
-high-itself b h = grind (arith, nat_tests)
-
-pub encode-itself : (c : ℕ) → is_itself c ≡ true → list_all is_itself (encode_utf8 c) ≡ true
-unfolding encode
-encode-itself c h = by (nat_lt c 128) (nat_lt c 2048) (nat_lt c 65536)
-  where
-    one : is_itself c && true ≡ true
-    one = and_from (is_itself c) true h refl
-
-    two : (a b : ℕ) → 128 ≤ a → 128 ≤ b → (is_itself a && (is_itself b && true)) ≡ true
-    two a b p q = and_from (is_itself a) _ (high-itself a p) (and_from (is_itself b) true (high-itself b q) refl)
-
-    by : (s t u : Bool) → list_all is_itself (cond s (c ∷ []) (cond t ((192 + c / 64) ∷ (128 + c % 64) ∷ []) (cond u ((224 + c / 4096) ∷ (128 + c / 64 % 64) ∷ (128 + c % 64) ∷ []) ((240 + c / 262144) ∷ (128 + c / 4096 % 64) ∷ (128 + c / 64 % 64) ∷ (128 + c % 64) ∷ [])))) ≡ true
-    by true t u = one
-    by false true u = two (192 + c / 64) (128 + c % 64) (omega arith) (omega arith)
-    by false false true = and_from (is_itself (224 + c / 4096)) _ (high-itself (224 + c / 4096) (omega arith)) (two (128 + c / 64 % 64) (128 + c % 64) (omega arith) (omega arith))
-    by false false false = and_from (is_itself (240 + c / 262144)) _ (high-itself (240 + c / 262144) (omega arith)) (and_from (is_itself (128 + c / 4096 % 64)) _ (high-itself (128 + c / 4096 % 64) (omega arith)) (two (128 + c / 64 % 64) (128 + c % 64) (omega arith) (omega arith)))
 
 itself-stands : (c : ℕ) → IsScalar c → is_itself c ≡ true → Stands c (encode_utf8 c)
 itself-stands c s h = let k = encode-itself c h in record {

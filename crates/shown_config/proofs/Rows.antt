@@ -7,7 +7,7 @@ use Rattle.yaml_marks.specs.Tokens.{row_tokens, row_tokens_of, node_tokens, valu
 use Rattle.yaml_marks.specs.declared.token.Token.{Token}
 use Rattle.yaml_marks.specs.declared.token.Token.TheVariants.{Dash, Key}
 use Rattle.yaml_marks.specs.declared.place.LinePlace.TheVariants.{Outside}
-use Rattle.shown_config.proofs.Bytes.{IsText, IsText-append, IsText-known}
+use Rattle.text_trees.proofs.Bytes.{IsText, IsText-append, IsText-known}
 use Rattle.shown_config.proofs.Words.{Word, text_of, says, IsWord, StopsWord, Opened, opened, scan_of_word, scalar_at-word, word-text}
 use Rattle.shown_config.proofs.Words.Word.{bare, quote}
 use Rattle.shown_config.proofs.Cells.{Cell, IsCell, cell_text, cell_token, cell-text, cell-value}

@@ -14,7 +14,7 @@ use Rattle.yaml_marks.specs.Pieces.{cell_len, cell_text, bare_cell, cell_scan}
 use Rattle.yaml_marks.specs.declared.scan.Scan.{Scan}
 use Rattle.yaml_marks.specs.declared.scan.Scan.TheVariants.{Plain, Quoted}
 use Rattle.shd_config.specs.Quoted.{quoted}
-use Rattle.shown_config.proofs.Bytes.{is_inner, all-weaker, IsText}
+use Rattle.text_trees.proofs.Bytes.{is_inner, all-weaker, IsText}
 use Rattle.shown_config.proofs.Quotes.{body, quoted-parts, double_scan-body, quoted-inner, quoted-utf8}
 
 -- ---- bytes of a bare word

@@ -2,19 +2,16 @@
 use Rattle.std.proofs.Common.{◌≡◌, ℕ, Bool, true, false, List, Result, Ok, Err, IfOk, ap, subst, codes, ◌≤◌, arith}
 use Rattle.run_outside.specs.Files.{Held}
 use Rattle.gml_graph.specs.declared.graph.Graph.{Graph}
-use Rattle.yaml_tree.specs.Trees.{is_empty}
-use Rattle.yaml_merge.specs.SaidAt.{said_of}
 use Rattle.command_line.specs.Asked.{asked}
 use Rattle.command_line.specs.declared.asked.Asked.{Asked}
 use Rattle.command_line.specs.declared.asked.Subject.{Subject}
 use Rattle.command_line.specs.declared.asked.Subject.TheVariants.{File, SelfLoad, Capture}
 use Rattle.command_line.specs.declared.fault.WordsFault.{WordsFault}
-use Rattle.shd_config.specs.Config.{config}
 use Rattle.shd_config.specs.Limits.{MayOverride, MayStop, IsWithinLimits}
 use Rattle.shd_config.specs.declared.config.Config.{Config}
 use Rattle.shd_config.specs.declared.fault.ConfigFault.{ConfigFault}
 use Rattle.shd_config.specs.declared.overrides.Overrides.{Overrides}
-use Rattle.run_plan.specs.Configured.{or_config_fault, configured}
+use Rattle.run_plan.specs.Configured.{configured}
 use Rattle.run_plan.specs.HostRows.{host_rows}
 use Rattle.run_plan.specs.InRange.{IsInRange}
 use Rattle.run_plan.specs.Outcomes.{Outcomes}
@@ -29,6 +26,7 @@ use Rattle.run_plan.specs.declared.planned.Manner.{Manner}
 use Rattle.run_plan.specs.declared.planned.Planned.{Planned}
 use Rattle.run_plan.specs.declared.planned.Planned.TheVariants.{Runs}
 use Rattle.run_plan.specs.declared.planned.Run.{Run}
+use Rattle.run_plan.proofs.ConfiguredLemmas.{configured_is}
 use Rattle.run_plan.proofs.InRangeLemmas.{asked_in_range}
 use Rattle.run_plan.proofs.LimitLemmas.{self_load_within}
 use Rattle.stream_lines.proofs.Given.{HasHosts, config_has, self_load_has}
@@ -92,17 +90,12 @@ is_run P false c outcomes m is_self_load run each (plan, h, e) =
 
 -- ---- a file
 
-pub config_is : (name : List ℕ) (read : Result Config ConfigFault) (c : Config) → or_config_fault name read ≡ Ok c → read ≡ Ok c
-config_is name (Ok d) c e = cc
-config_is name (Err fault) c e = cc
-
 configured_has : (name text : List ℕ) (o : Overrides) (c : Config) → MayOverride o → configured name text o (Ok c) → IsConfig c
-unfolding configured
-configured_has name text o c may (tree, t, e) =
-    let is = config_is name (config o (is_empty tree) (said_of tree)) c e in
+configured_has name text o c may h =
+    let is = configured_is name text o c h in
     record {
-      hosts = subst (λ (read : Result Config ConfigFault). IfOk read HasHosts) is (config_has o (is_empty tree) (said_of tree));
-      stop = (subst (λ (read : Result Config ConfigFault). IfOk read IsWithinLimits) is (config_within o may (is_empty tree) (said_of tree))).stop;
+      hosts = subst (λ (read : Result Config ConfigFault). IfOk read HasHosts) is.2 (config_has o _ is.0);
+      stop = (subst (λ (read : Result Config ConfigFault). IfOk read IsWithinLimits) is.2 (config_within o may _ is.0)).stop;
     }
 
 file_rows : (m : Manner) (held : Held) (name : List ℕ) (run : Run) → MayOverride m.overrides → file_planned m held name (Ok (Runs run)) → IsOfConfig run.plan

@@ -1,4 +1,4 @@
-use Rattle.shown_config.proofs.TextTrees.{text-plain}
+use Rattle.text_trees.proofs.TextTrees.{text-plain}
 use Rattle.shown_config.proofs.PlainHosts.{config-plain}
 use Rattle.shown_config.proofs.ReadBack.{reads-back}
 use Rattle.shown_config.proofs.laws.shown_again.Goals as goal

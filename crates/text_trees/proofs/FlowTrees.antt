@@ -12,7 +12,7 @@ use Rattle.yaml_tree.specs.Flows.Flow.{absent, word, called, item, pair, form}
 use Rattle.yaml_tree.specs.Said.{Said, Names, Meaning, copied, from_line, given, flow_said, begun_form, word_said, piece_text, scalar_said}
 use Rattle.yaml_tree.specs.Said.Said.{null, text, unknown, sequence, mapping, with_item, with_pair}
 use Rattle.yaml_merge.specs.Plainness.{are_items, are_pairs}
-use Rattle.shown_config.proofs.GoodPieces.{IsGoodPiece}
+use Rattle.text_trees.proofs.GoodPieces.{IsGoodPiece}
 
 -- the rows of each collection are of one kind, and each text is UTF-8
 abbrev pub IsSound : Said → Type 0

@@ -11,8 +11,8 @@ use Rattle.yaml_marks.specs.declared.token.Token.{Token}
 use Rattle.yaml_marks.specs.declared.token.Token.TheVariants.{Dash, Key, Scalar, Name, Copy, Bar, Body, Form, OddToken}
 use Rattle.yaml_marks.specs.declared.place.LinePlace.{LinePlace}
 use Rattle.yaml_marks.specs.declared.place.LinePlace.TheVariants.{Outside, Inside}
-use Rattle.shown_config.proofs.GoodPieces.{IsGoodPiece}
-use Rattle.shown_config.proofs.GoodTokens.{AreGood, node-good}
+use Rattle.text_trees.proofs.GoodPieces.{IsGoodPiece}
+use Rattle.text_trees.proofs.GoodTokens.{AreGood, node-good}
 
 -- ---- literal blocks
 

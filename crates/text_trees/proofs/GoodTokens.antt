@@ -12,9 +12,9 @@ use Rattle.yaml_marks.specs.declared.token.Token.{Token}
 use Rattle.yaml_marks.specs.declared.token.Token.TheVariants.{Dash, Key, Scalar, Name, Copy, Body, Form}
 use Rattle.yaml_marks.specs.declared.scan.Scan.{Scan}
 use Rattle.yaml_marks.specs.declared.scan.Scan.TheVariants.{Plain, Quoted, Refused}
-use Rattle.shown_config.proofs.Cuts.{utf8-tail, utf8-behind, spaces-utf8}
-use Rattle.shown_config.proofs.Scans.{IsGoodScan, scalar_at-good}
-use Rattle.shown_config.proofs.GoodPieces.{IsGoodPiece, plain_value-good, name-ascii, colon-utf8, flow-good}
+use Rattle.text_trees.proofs.Cuts.{utf8-tail, utf8-behind, spaces-utf8}
+use Rattle.text_trees.proofs.Scans.{IsGoodScan, scalar_at-good}
+use Rattle.text_trees.proofs.GoodPieces.{IsGoodPiece, plain_value-good, name-ascii, colon-utf8, flow-good}
 
 -- a token, but a line of a literal block, whose texts are UTF-8
 abbrev pub IsGoodToken : Token → Type 0

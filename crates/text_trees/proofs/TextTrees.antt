@@ -11,9 +11,9 @@ use Rattle.yaml_tree.specs.Said.{Said, Names, Meaning, flow_said, bodies_of, lea
 use Rattle.yaml_tree.specs.Said.Said.{null, text, unknown, sequence, mapping, with_item, with_pair}
 use Rattle.yaml_tree.specs.Tree.{IsTreeOf}
 use Rattle.yaml_merge.specs.Plainness.{are_items, are_pairs, IsPlain}
-use Rattle.shown_config.proofs.GoodBlocks.{AreGoodFrom, tokens-good}
-use Rattle.shown_config.proofs.GoodLines.{lines-utf8, StandFrom, block-utf8}
-use Rattle.shown_config.proofs.FlowTrees.{AreGood, AreSound, IsSound, IsSoundMeaning, copied-sound, form-sound, given-sound, scalar-sound}
+use Rattle.text_trees.proofs.GoodBlocks.{AreGoodFrom, tokens-good}
+use Rattle.text_trees.proofs.GoodLines.{lines-utf8, StandFrom, block-utf8}
+use Rattle.text_trees.proofs.FlowTrees.{AreGood, AreSound, IsSound, IsSoundMeaning, copied-sound, form-sound, given-sound, scalar-sound}
 
 -- ---- blocks
 

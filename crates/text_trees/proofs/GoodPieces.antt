@@ -13,9 +13,9 @@ use Rattle.yaml_marks.specs.declared.piece.Piece.{Piece}
 use Rattle.yaml_marks.specs.declared.piece.Piece.TheVariants.{Opening, Closing, Comma, CellKey, CellScalar, CellName, CellCopy}
 use Rattle.yaml_marks.specs.declared.scan.Scan.{Scan}
 use Rattle.yaml_marks.specs.declared.scan.Scan.TheVariants.{Plain, Quoted, Refused}
-use Rattle.shown_config.proofs.Cuts.{utf8-tail, utf8-behind, spaces-utf8}
-use Rattle.shown_config.proofs.Scans.{IsGoodCell, cell_scan-good}
-use Rattle.shown_config.proofs.Escapes.{double_len-at, IsQuoteAt}
+use Rattle.text_trees.proofs.Cuts.{utf8-tail, utf8-behind, spaces-utf8}
+use Rattle.text_trees.proofs.Scans.{IsGoodCell, cell_scan-good}
+use Rattle.text_trees.proofs.Escapes.{double_len-at, IsQuoteAt}
 
 abbrev pub IsGoodPiece : Piece → Type 0
 IsGoodPiece (CellKey text) = IsUtf8 text

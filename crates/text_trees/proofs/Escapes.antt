@@ -13,9 +13,9 @@ use Rattle.yaml_marks.specs.declared.escapes.Escape.{Escape}
 use Rattle.yaml_marks.specs.declared.escapes.Escape.TheVariants.{Outside, Behind, Digits}
 use Rattle.yaml_marks.specs.declared.escapes.Added.{Added}
 use Rattle.yaml_marks.specs.declared.escapes.Added.TheVariants.{Nothing, Byte, Character}
-use Rattle.shown_config.proofs.Quotes.{is_itself, encode-itself, high-itself, unescaped-itself}
-use Rattle.shown_config.proofs.Characters.{some_map, one_byte, High, encode-high, length-some, high-of}
-use Rattle.shown_config.proofs.SingleQuotes.{IsGoodFound, single-good}
+use Rattle.text_trees.proofs.Itself.{is_itself, encode-itself, high-itself, unescaped-itself}
+use Rattle.text_trees.proofs.Characters.{some_map, one_byte, High, encode-high, length-some, high-of}
+use Rattle.text_trees.proofs.SingleQuotes.{IsGoodFound, single-good}
 
 -- a step of a reader of escapes leaves it in range, and adds UTF-8
 abbrev IsGoodStep : Escape × Added → Type 0

@@ -11,9 +11,9 @@ use Rattle.yaml_marks.specs.Tokens.{column_behind}
 use Rattle.yaml_marks.specs.Scalars.{is_space, is_nothing}
 use Rattle.yaml_marks.specs.declared.chomp.Chomp.{Chomp}
 use Rattle.yaml_marks.specs.declared.chomp.Chomp.TheVariants.{Clip, Strip, Keep}
-use Rattle.shown_config.proofs.Cuts.{utf8-tail, without_feeds-utf8}
-use Rattle.shown_config.proofs.Characters.{one_byte, is_high, High, high-of, length-some, encode-high}
-use Rattle.shown_config.proofs.GoodBlocks.{StandsIn}
+use Rattle.text_trees.proofs.Cuts.{utf8-tail, without_feeds-utf8}
+use Rattle.text_trees.proofs.Characters.{one_byte, is_high, High, high-of, length-some, encode-high}
+use Rattle.text_trees.proofs.GoodBlocks.{StandsIn}
 
 -- ---- lines
 

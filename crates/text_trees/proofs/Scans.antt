@@ -9,9 +9,9 @@ use Rattle.yaml_marks.specs.declared.escapes.Escape.TheVariants.{Outside}
 use Rattle.yaml_marks.specs.declared.odd.Odd.TheVariants as odd
 use Rattle.yaml_marks.specs.declared.scan.Scan.{Scan}
 use Rattle.yaml_marks.specs.declared.scan.Scan.TheVariants.{Plain, Quoted, Refused}
-use Rattle.shown_config.proofs.Cuts.{utf8-tail, utf8-cut, without_spaces-utf8}
-use Rattle.shown_config.proofs.SingleQuotes.{IsGoodFound}
-use Rattle.shown_config.proofs.Escapes.{IsQuoteAt, double_len-at, text-single, text-unescaped}
+use Rattle.text_trees.proofs.Cuts.{utf8-tail, utf8-cut, without_spaces-utf8}
+use Rattle.text_trees.proofs.SingleQuotes.{IsGoodFound}
+use Rattle.text_trees.proofs.Escapes.{IsQuoteAt, double_len-at, text-single, text-unescaped}
 
 -- a scalar of these bytes
 abbrev pub IsGoodScan : List ℕ → Scan → Type 0

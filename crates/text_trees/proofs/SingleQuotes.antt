@@ -6,7 +6,7 @@ use Rattle.std.proofs.Math.Utf8.{scalar, scalars, encode}
 use Rattle.std.proofs.lemmas.Bool.{and_parts, and_from, cases_lt, ne_eqb}
 use Rattle.std.proofs.lemmas.Str.{IsUtf8-append, IsUtf8-encode, IsUtf8-nil, encode_ascii}
 use Rattle.yaml_marks.specs.Scalars.{holds_back, closes, single_part, with_part, single_quoted}
-use Rattle.shown_config.proofs.Characters.{some_map, one_byte, is_high, encode-high, length-some, high-of}
+use Rattle.text_trees.proofs.Characters.{some_map, one_byte, is_high, encode-high, length-some, high-of}
 
 abbrev pub IsGoodFound : List ℕ → List ℕ × ℕ → Type 0
 IsGoodFound bytes f = IsUtf8 f.0 × IsUtf8 (drop f.1 bytes)

@@ -1,0 +1,13 @@
+pub mod Bytes
+pub mod Itself
+pub mod Cuts
+pub mod Characters
+pub mod SingleQuotes
+pub mod Escapes
+pub mod Scans
+pub mod GoodPieces
+pub mod GoodTokens
+pub mod GoodBlocks
+pub mod GoodLines
+pub mod FlowTrees
+pub mod TextTrees
