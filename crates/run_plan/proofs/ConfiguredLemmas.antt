@@ -1,14 +1,9 @@
 -- The configuration of a text.
 use Rattle.std.proofs.Common.{◌≡◌, List, ℕ, Bool, refl, subst, inl, inr}
 use Rattle.std.specs.Prelude.{Result, Ok, Err}
-use Rattle.text_trees.proofs.TextTrees.{text-plain}
 use Rattle.yaml_marks.specs.Lines.{lines_of}
 use Rattle.yaml_tree.specs.Said.{Said}
 use Rattle.yaml_tree.specs.Tree.{IsTreeOf, is_empty_document}
-use Rattle.yaml_tree.specs.Trees.{Holds, is_empty}
-use Rattle.yaml_tree.specs.declared.tree.Tree.{Tree}
-use Rattle.yaml_merge.specs.SaidAt.{said_of}
-use Rattle.yaml_merge.proofs.HeldLaws.{tree_says}
 use Rattle.shd_config.specs.Config.{config}
 use Rattle.shd_config.specs.declared.config.Config.{Config}
 use Rattle.shd_config.specs.declared.fault.ConfigFault.{ConfigFault}
@@ -19,14 +14,13 @@ use Rattle.run_plan.specs.declared.fault.ReadStop.{ReadStop}
 use Rattle.run_plan.specs.declared.fault.ReadStop.TheVariants.{Refused, ReadFailed, NoMemory}
 use Rattle.run_plan.proofs.StepLemmas.{goes_on}
 
--- the nodes that hold the tree of a text say it
-pub config_told : (file text : List ℕ) (o : Overrides) (nodes : Tree) (tree : Said) (result : Result Config ReadStop) → IsTreeOf text tree → Holds nodes tree → is_empty nodes ≡ is_empty_document (lines_of text)
-    → Meets (λ (c : Config). c) (gives (or_config_fault file (config o (is_empty nodes) (said_of nodes)))) result → Meets (λ (c : Config). c) (configured file text o) result
+-- the nodes are those of the tree of the text
+pub config_told : (file text : List ℕ) (o : Overrides) (empty : Bool) (tree : Said) (result : Result Config ReadStop) → IsTreeOf text tree → empty ≡ is_empty_document (lines_of text)
+    → Meets (λ (c : Config). c) (gives (or_config_fault file (config o empty tree))) result → Meets (λ (c : Config). c) (configured file text o) result
 unfolding configured
-config_told file text o nodes tree result t holds empty h =
+config_told file text o empty tree result t same h =
     goes_on (λ (c : Config). c) (tree_of file text) (λ (other : Said). gives (or_config_fault file (config o (is_empty_document (lines_of text)) other))) tree result t
-    (subst (λ (said : Said). Meets (λ (c : Config). c) (gives (or_config_fault file (config o (is_empty_document (lines_of text)) said))) result) (tree_says nodes tree holds (text-plain text tree t) t.1.shallow)
-    (subst (λ (b : Bool). Meets (λ (c : Config). c) (gives (or_config_fault file (config o b (said_of nodes)))) result) empty h))
+    (subst (λ (b : Bool). Meets (λ (c : Config). c) (gives (or_config_fault file (config o b tree))) result) same h)
 
 config_is : (file : List ℕ) (read : Result Config ConfigFault) (c : Config) → or_config_fault file read ≡ Ok c → read ≡ Ok c
 config_is file (Ok d) c e = cc

@@ -1,11 +1,12 @@
 //! The configuration of a text.
 
-ghost use Rattle.std.specs.Prelude.{◌≡◌, IfOk, IfErr};
+ghost use Rattle.std.specs.Prelude.{◌≡◌, ◌≤◌, IfOk, IfErr};
 ghost use Rattle.yaml_marks.specs.Lines.{lines_of};
-ghost use Rattle.yaml_tree.specs.Said.{Said};
+ghost use Rattle.yaml_tree.specs.Limits.{most_tree_levels};
+ghost use Rattle.yaml_tree.specs.Said.{Said, levels};
 ghost use Rattle.yaml_tree.specs.Tree.{IsTreeOf, is_empty_document};
 ghost use Rattle.yaml_tree.specs.Trees.{Holds, is_empty};
-ghost use Rattle.yaml_merge.specs.SaidAt.{said_of};
+ghost use Rattle.yaml_merge.specs.Plainness.{IsPlain};
 ghost use Rattle.shd_config.specs.Config.{config};
 ghost use Rattle.shd_config.specs.Limits.{MayOverride, IsWithinLimits};
 ghost use Rattle.run_plan.specs.Configured.{tree_of, or_config_fault, configured};
@@ -34,7 +35,7 @@ fn parse_tree(alloc: Global, file: &str, text: &[u8]) -> Result<Tree, ReadStop>
     }
 }
 
-/// The configuration of a tree, which stands in a file.
+/// The configuration of a plain tree that the nodes hold, which stands in a file.
 fn config_of_tree(
     alloc: Global,
     file: &str,
@@ -42,7 +43,7 @@ fn config_of_tree(
     overrides: &Overrides,
 ) -> Result<Config, ReadStop>
     requires { MayOverride overrides.now }
-    ensures told { Meets (λ c. c) (gives (or_config_fault file.now (config overrides.now (is_empty tree.now) (said_of tree.now)))) result }
+    ensures told { (said : Said) → Holds tree.now said → IsPlain said → levels said ≤ most_tree_levels → Meets (λ c. c) (gives (or_config_fault file.now (config overrides.now (is_empty tree.now) said))) result }
     ensures limits { IfOk result IsWithinLimits }
 {
     match config_of(alloc, tree, overrides) {

@@ -1,5 +1,5 @@
 -- How the answers of calls follow from those of the calls in them.
-use Rattle.std.proofs.Common.{◌≡◌, ℕ, true, false, List, Option, Some, None, Result, Ok, Err, refl, sym, ap, ◌∙◌}
+use Rattle.std.proofs.Common.{◌≡◌, ℕ, true, false, List, Option, Some, None, Result, Ok, Err, refl, sym, ap, subst, ◌∙◌}
 use Rattle.sim_base.specs.Refusals.{◌>>=◌}
 use Rattle.yaml_merge.specs.Plain.{is_null}
 use Rattle.yaml_merge.specs.declared.plain.Pair.{Pair}
@@ -22,6 +22,10 @@ below_fails errors.NoMemory b p d h r = rw h tt
 pub first_fails : {A B : Type 0} (e : ConfigError) (d : Result A ConfigFault) (next : A → Result B ConfigFault) → Fails e d → Fails e (d >>= next)
 first_fails (errors.Fault g) d next h = ap (λ x. x >>= next) h
 first_fails errors.NoMemory d next h = tt
+
+-- a first step that gives a value leaves what the next one gives
+pub then_gives : {A B : Type 0} (r : Result B ConfigError) (d : Result A ConfigFault) (next : A → Result B ConfigFault) (x : A) → d ≡ Ok x → Gives r (next x) → Gives r (d >>= next)
+then_gives {B = B} r d next x e h = subst (λ y. Gives r (y >>= next)) (sym e) h
 
 pub same_fails : {A : Type 0} (e : ConfigError) (d r : Result A ConfigFault) → Fails e d → r ≡ d → Fails e r
 same_fails (errors.Fault g) d r h q = q ∙ h

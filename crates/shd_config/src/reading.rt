@@ -1,9 +1,11 @@
 //! The configuration of a tree.
 
-ghost use Rattle.std.specs.Prelude.{◌≡◌, All, IfOk, is_some};
+ghost use Rattle.std.specs.Prelude.{◌≡◌, ◌≤◌, All, IfOk, is_some};
 ghost use Rattle.shd_config.specs.Steps.{Gives, Sets, Passes, optional, given, mapping_line, through};
-ghost use Rattle.yaml_tree.specs.Trees.{is_empty};
-ghost use Rattle.yaml_merge.specs.SaidAt.{said_of};
+ghost use Rattle.yaml_tree.specs.Limits.{most_tree_levels};
+ghost use Rattle.yaml_tree.specs.Said.{Said, levels};
+ghost use Rattle.yaml_tree.specs.Trees.{Holds, is_empty};
+ghost use Rattle.yaml_merge.specs.Plainness.{IsPlain};
 ghost use Rattle.yaml_merge.specs.Merge.{merged};
 ghost use Rattle.shd_config.specs.General.{general_at};
 ghost use Rattle.shd_config.specs.Limits.{MayOverride, MayStop, IsSomeText, AreFewHosts, HasFewProcesses, HaveFewBytes};
@@ -221,9 +223,9 @@ fn merged_config(
     root_of(alloc, overrides, line, pairs)
 }
 
-/// The merged tree.
+/// The merged tree of a plain tree that the nodes hold.
 fn merged_tree(alloc: Global, tree: &Tree) -> Result<Plain, ConfigError>
-    ensures { Gives result (wrong_merge (merged (said_of tree.now))) }
+    ensures { (said : Said) → Holds tree.now said → IsPlain said → levels said ≤ most_tree_levels → Gives result (wrong_merge (merged said)) }
 {
     match merge(alloc, tree) {
         Ok(tree) => Ok(tree),
@@ -236,11 +238,11 @@ fn merged_tree(alloc: Global, tree: &Tree) -> Result<Plain, ConfigError>
     }
 }
 
-/// The configuration of a tree, or its first fault in document order.
+/// The configuration of a plain tree that the nodes hold, or its first fault in document order.
 #[tactic(auto, unfolding(crate::specs::Config::config))]
 pub fn config_of(alloc: Global, tree: &Tree, overrides: &Overrides) -> Result<Config, ConfigError>
     requires { MayOverride overrides.now }
-    ensures told { Gives result (config overrides.now (is_empty tree.now) (said_of tree.now)) }
+    ensures told { (said : Said) → Holds tree.now said → IsPlain said → levels said ≤ most_tree_levels → Gives result (config overrides.now (is_empty tree.now) said) }
 
     // A configuration keeps to its limits.
     ensures few { IfOk result (λ c. AreFewHosts c.hosts) }

@@ -1,4 +1,4 @@
--- A tree that holds what is said says it.
+-- The nodes that hold a plain tree say it.
 use Rattle.std.proofs.Common.{◌≡◌, ℕ, zero, suc, ◌+◌, ◌≤◌, Bool, true, false, ◌||◌, cond, List, [], ◌∷◌, ◌++◌, Some, slice_get, is_some, refl, sym, ap, ◌∙◌, arith, ◌==◌}
 use Rattle.std.specs.Cmp.Lexicographic.{pointwise}
 use Rattle.std.specs.Map.{lookup}
@@ -12,7 +12,7 @@ use Rattle.yaml_tree.specs.declared.entries.Child.{Child}
 use Rattle.yaml_tree.specs.declared.node.Node.{Node}
 use Rattle.yaml_tree.specs.declared.tree.Tree.{Tree}
 use Rattle.yaml_tree.proofs.KnownLaws.{lookup-insert_entry}
-use Rattle.yaml_merge.specs.SaidAt.{valid_text, with_nodes, with_entries, node_said, said_at, said_of}
+use Rattle.yaml_merge.specs.inside.SaidAt.{valid_text, with_nodes, with_entries, node_said, said_at}
 use Rattle.yaml_merge.specs.Plainness.{are_items, are_pairs, IsPlain}
 use Rattle.yaml_merge.proofs.SaidAtLaws.{valid_text-utf8}
 
@@ -110,6 +110,6 @@ mutual
       ∙ (with_entries-push (said_at d nodes) h.0.entries (key, record { line = line; node = h.1 }) (mapping (begins_on before))
       ∙ (λ j. with_pair (pairs_say nodes d before h.0 h.2 p.0 p.3 (omega (arith, l)) j) line (valid_text-utf8 key p.1 j) (value_says nodes value h.1 (λ k q. node_says nodes k value h.1 h.3 p.4 q) d (omega (arith, l)) j))))
 
--- a tree says what it holds
-pub tree_says : (t : Tree) (said : Said) → Holds t said → IsPlain said → levels said ≤ 64 → said_of t ≡ said
+-- the root says what the tree holds
+pub tree_says : (t : Tree) (said : Said) → Holds t said → IsPlain said → levels said ≤ 64 → node_said (said_at 64 t.nodes) (slice_get t.nodes t.root) ≡ said
 tree_says t said h p l = node_says t.nodes 64 said t.root h p l

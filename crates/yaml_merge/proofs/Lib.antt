@@ -3,4 +3,3 @@ pub mod SaidAtLaws
 pub mod MergingLaws
 pub mod HeldLaws
 pub mod MergeLaws
-pub mod SameLaws

@@ -8,7 +8,7 @@ use Rattle.yaml_tree.specs.Said.Said.{null, text, sequence, mapping, with_item, 
 use Rattle.yaml_tree.specs.Holds.{is_mapping}
 use Rattle.yaml_tree.specs.declared.entries.Child.{Child}
 use Rattle.yaml_tree.specs.declared.node.Node.{Node}
-use Rattle.yaml_merge.specs.SaidAt.{valid_text, with_nodes, with_entries, node_at, said_at, is_mapping_value, may_merge_value}
+use Rattle.yaml_merge.specs.inside.SaidAt.{valid_text, with_nodes, with_entries, node_at, said_at, is_mapping_value, may_merge_value}
 use Rattle.yaml_merge.specs.inside.Rows.{with_items, with_pairs}
 use Rattle.yaml_merge.specs.Sources.{sources}
 use Rattle.yaml_merge.specs.Merge.{may_merge, has, keys_of, new_pairs, is_merge_key, put_value, fault_below, below, item_count, item_place, with_merged, merged_rows, merged}

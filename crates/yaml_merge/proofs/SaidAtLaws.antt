@@ -11,7 +11,7 @@ use Rattle.yaml_tree.specs.declared.entries.Child.{Child}
 use Rattle.yaml_tree.specs.declared.node.Node.{Node}
 use Rattle.yaml_tree.specs.declared.node.Value.{Value}
 use Rattle.yaml_tree.specs.declared.node.Value.TheVariants.{Null, Text, Sequence, Mapping}
-use Rattle.yaml_merge.specs.SaidAt.{valid_text, with_nodes, with_entries, value_said, node_said, node_at, said_at, is_mapping_value, may_merge_value}
+use Rattle.yaml_merge.specs.inside.SaidAt.{valid_text, with_nodes, with_entries, value_said, node_said, node_at, said_at, is_mapping_value, may_merge_value}
 use Rattle.yaml_merge.specs.Merge.{are_mappings, may_merge, keys_of}
 
 -- ---- texts

@@ -1,6 +1,5 @@
 pub mod Sources
 pub mod Plain
-pub mod SaidAt
 pub mod Plainness
 pub mod Merge
 pub mod inside

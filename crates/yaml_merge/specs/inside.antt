@@ -4,4 +4,5 @@ pub mod Height
 pub mod Inner
 pub mod Merging
 pub mod Rows
+pub mod SaidAt
 pub mod SaidCode

@@ -1,14 +1,16 @@
 //! Merging, node by node.
 
-ghost use Rattle.std.specs.Prelude.{◌≡◌, ◌+◌, ◌++◌, ◌∷◌, ℕ, List, [], Bool, Option, Some, None, Result, Ok, Err, IfOk, IfSome, ◌<◌, if◌then◌else◌, codes};
+ghost use Rattle.std.specs.Prelude.{◌≡◌, ◌+◌, ◌++◌, ◌∷◌, ℕ, List, [], Bool, Option, Some, None, Result, Ok, Err, IfOk, IfSome, ◌<◌, ◌≤◌, if◌then◌else◌, codes};
 ghost use Rattle.std.specs.List.{list_all};
 ghost use Rattle.std.specs.Option.{option_copied};
-ghost use Rattle.yaml_tree.specs.Said.{Said};
+ghost use Rattle.yaml_tree.specs.Limits.{most_tree_levels};
+ghost use Rattle.yaml_tree.specs.Said.{Said, levels};
 ghost use Rattle.yaml_tree.specs.Said.Said.{sequence, mapping};
 ghost use Rattle.yaml_tree.specs.Holds.{is_mapping};
-ghost use Rattle.yaml_tree.specs.Trees.{nodes_of, root_of, node_count};
+ghost use Rattle.yaml_tree.specs.Trees.{Holds, nodes_of, root_of, node_count};
 ghost use Rattle.yaml_merge.specs.inside.Rows.{with_items, with_pairs};
-ghost use Rattle.yaml_merge.specs.SaidAt.{valid_text, node_at, value_said, said_at, with_entries, is_mapping_value, may_merge_value, said_of};
+ghost use Rattle.yaml_merge.specs.inside.SaidAt.{valid_text, node_at, value_said, said_at, with_entries, is_mapping_value, may_merge_value};
+ghost use Rattle.yaml_merge.specs.Plainness.{IsPlain};
 ghost use Rattle.yaml_merge.specs.Merge.{is_merge_key, may_merge, below, fault_below, put_value, item_place, with_merged, merged, new_pairs, keys_of};
 ghost use Rattle.yaml_merge.specs.inside.Merging.{IsFault, IsBelow, Fails, Gives, items_left, pairs_left};
 ghost use Rattle.yaml_merge.specs.declared.fault.MergeFault.{MergeFault};
@@ -315,10 +317,10 @@ fn merge_child(
 /// The most levels of a tree that was read.
 const MOST_LEVELS: usize = 64;
 
-/// The merged tree of a tree, or its first merge key, in document order, whose value is neither a
+/// The merged tree of a plain tree that the nodes hold, or its first merge key, in document order, whose value is neither a
 /// mapping nor a sequence of mappings.
 pub fn merge(alloc: Global, tree: &Tree) -> Result<Plain, MergeError>
-    ensures { Gives (λ p. p) result (merged (said_of tree.now)) }
+    ensures { (said : Said) → Holds tree.now said → IsPlain said → levels said ≤ most_tree_levels → Gives (λ p. p) result (merged said) }
 {
     merge_value(alloc, tree, tree.root(), MOST_LEVELS)
 }

@@ -4,7 +4,7 @@ use Rattle.sim_base.specs.Refusals.{◌>>=◌}
 use Rattle.yaml_tree.specs.Said.{Said}
 use Rattle.yaml_tree.specs.Said.Said.{with_item}
 use Rattle.yaml_tree.specs.declared.entries.Child.{Child}
-use Rattle.yaml_merge.specs.SaidAt.{valid_text}
+use Rattle.yaml_merge.specs.inside.SaidAt.{valid_text}
 use Rattle.yaml_merge.specs.Merge.{has, below, item_place, with_merged, merged}
 use Rattle.yaml_merge.specs.declared.fault.MergeFault.{MergeFault}
 use Rattle.yaml_merge.specs.declared.fault.MergeError.{MergeError}

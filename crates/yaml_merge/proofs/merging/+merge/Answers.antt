@@ -1,7 +1,7 @@
 use Rattle.std.proofs.Common.{Ok, sym, ap, ◌∙◌}
 use Rattle.yaml_tree.specs.Said.Said.{sequence}
 use Rattle.yaml_tree.specs.Trees.{nodes_of}
-use Rattle.yaml_merge.specs.SaidAt.{value_said, said_at}
+use Rattle.yaml_merge.specs.inside.SaidAt.{value_said, said_at}
 use Rattle.yaml_merge.specs.Merge.{merged}
 use Rattle.yaml_merge.specs.inside.Merging.{items_left}
 use Rattle.yaml_merge.proofs.SaidAtLaws.{said_at-found, said_at-none}

@@ -1,7 +1,7 @@
 use Rattle.std.proofs.Common.{◌≡◌, ◌+◌, ◌*◌, drop, vec_len}
 use Rattle.yaml_tree.specs.Said.Said.{sequence, mapping}
 use Rattle.yaml_merge.specs.inside.Rows.{with_items, with_pairs}
-use Rattle.yaml_merge.specs.SaidAt.{said_at, with_entries}
+use Rattle.yaml_merge.specs.inside.SaidAt.{said_at, with_entries}
 use Rattle.yaml_merge.specs.inside.Merging.{items_left, pairs_left}
 use Rattle.yaml_merge.proofs.merging.+merge.Given as goal
 

@@ -3,13 +3,11 @@ use Rattle.std.specs.Prelude.{ℕ, Bool, true, false, List, [], ◌∷◌, Optio
 use Rattle.std.specs.List.{list_all}
 use Rattle.std.specs.Str.{is_utf8}
 use Rattle.std.proofs.Common.{zero, suc}
-use Rattle.yaml_tree.specs.Limits.{most_tree_levels}
 use Rattle.yaml_tree.specs.Said.{Said}
 use Rattle.yaml_tree.specs.Said.Said.{null, text, sequence, mapping, with_item, with_pair}
 use Rattle.yaml_tree.specs.Holds.{is_mapping}
 use Rattle.yaml_tree.specs.declared.entries.Child.{Child}
 use Rattle.yaml_tree.specs.declared.node.Node.{Node}
-use Rattle.yaml_tree.specs.declared.tree.Tree.{Tree}
 use Rattle.yaml_tree.specs.declared.node.Value.{Value}
 use Rattle.yaml_tree.specs.declared.node.Value.TheVariants.{Null, Text, Sequence, Mapping}
 
@@ -57,7 +55,3 @@ node_said at (Some n) = value_said at n.line n.value
 unfoldable pub said_at : ℕ → List Node → ℕ → Said
 said_at zero nodes n = null 0
 said_at (suc depth) nodes n = node_said (said_at depth nodes) (slice_get nodes n)
-
--- What a tree says. A tree that was read has no more levels.
-abbrev pub said_of : Tree → Said
-said_of t = node_said (said_at most_tree_levels t.nodes) (slice_get t.nodes t.root)
