@@ -8,8 +8,8 @@ use Rattle.host_sockets.proofs.EndsFound.{some_is}
 use Rattle.host_sockets.proofs.PortsCounted.{ends_counted}
 use Rattle.host_sockets.proofs.given.Given.free_port.Goals as goal
 
-pub returns-else-last-socks : goal.returns-else-last-socks
-returns-else-last-socks c = λ free e sockets h.
+pub returns : goal.returns
+returns c = λ free e sockets h.
     sym (some_is c.free_port.result free e)
     ∙ c.free_port.ensures (flat_map ends_of sockets)
     (holds_same c.args.self.now.counts (λ n. sum_by (times n) c.args.self.now.ends.items) (λ n. sum_by (had n) (flat_map ends_of sockets))
