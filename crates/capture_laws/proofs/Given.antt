@@ -53,7 +53,7 @@ rows_text programs (host ∷ hosts) [] addresses h = tt
 rows_text programs (host ∷ hosts) (r ∷ rates) [] h = tt
 rows_text programs (host ∷ hosts) (r ∷ rates) (a ∷ addresses) h = (h.0, rows_text programs hosts rates addresses h.1)
 
-host_rows_text : (name : List ℕ) (graph : Graph) (hosts : List HostConfig) (rows : List HostRow) → AllByRecursion HostIsText hosts → host_rows name graph hosts (Ok rows) → AllByRecursion RowIsText rows
+host_rows_text : (name : List ℕ) (graph : Graph) (hosts : List HostConfig) (rows : List HostRow) → AllByRecursion HostIsText hosts → (host_rows name graph hosts).answers (Ok rows) → AllByRecursion RowIsText rows
 unfolding host_rows
 host_rows_text name graph hosts rows texts (ordered, order, (rates, r, (addresses, a, e))) =
     let same : plan.rows_of (programs_of hosts) ordered rates addresses ≡ rows = cc in
@@ -143,7 +143,7 @@ record IsGiven (p : Plan) : Type 0 where
   hosts : AreBytes p.hosts_text
   rows : AllByRecursion RowIsText p.rows
 
-plan_given : (held : Held) (name : List ℕ) (graph : Graph) (c : Config) (p : Plan) → HoldBytes held → HasTexts c → HaveHostAddresses p.rows → run_of held name graph c (Ok p) → IsGiven p
+plan_given : (held : Held) (name : List ℕ) (graph : Graph) (c : Config) (p : Plan) → HoldBytes held → HasTexts c → HaveHostAddresses p.rows → (run_of held name graph c).answers (Ok p) → IsGiven p
 unfolding run_of
 plan_given held name graph c p hold texts may (rows, h, (routes, k, (made, m, (lookahead, n, e)))) =
     let same_rows : rows ≡ p.rows = ap (λ (r : Result Plan Fault). (plan_is p r).rows) e in

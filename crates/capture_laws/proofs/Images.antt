@@ -83,7 +83,7 @@ module _ (held : Held) (hold : HoldBytes held) where
       by_file (Ok bytes) are k = of_elf path bytes (image bytes) made refl are k
       by_file (Err fault) are k = absurd (cc)
 
-  pub images_have : (paths : List (List ℕ)) (made : List ProgramImage) → images held paths (Ok made) → AllByRecursion ImageHasBytes made
+  pub images_have : (paths : List (List ℕ)) (made : List ProgramImage) → (images held paths).answers (Ok made) → AllByRecursion ImageHasBytes made
   images_have [] made e = let same : [] ≡ made = cc in subst (λ (xs : List ProgramImage). AllByRecursion ImageHasBytes xs) same tt
   images_have (path ∷ paths) made (first, h, (rest, k, e)) =
       let same : first ∷ rest ≡ made = cc in

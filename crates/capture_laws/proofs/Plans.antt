@@ -44,22 +44,22 @@ pub record IsPlanOver (held : Held) (plan : Plan) : Type 0 where
   pub name : List ℕ
   pub graph : Graph
   pub configuration : Config
-  pub is : run_of files name graph configuration (Ok plan)
+  pub is : (run_of files name graph configuration).answers (Ok plan)
   pub texts : HasTexts configuration
   pub bytes : HoldBytes held → HoldBytes files
 
 -- ---- a file
 
-text_of_file : (name text : List ℕ) (o : Overrides) (c : Config) → configured name text o (Ok c) → HasTexts c
+text_of_file : (name text : List ℕ) (o : Overrides) (c : Config) → (configured name text o).answers (Ok c) → HasTexts c
 text_of_file name text o c h =
     let is = configured_is name text o c h in
     subst (λ (read : Result Config ConfigFault). IfOk read HasTexts) is.2 (config_text o _ is.0 (plain_text is.0 (text-plain text is.0 is.1)))
 
-over_file : (held : Held) (name : List ℕ) (c : Config) (plan : Plan) → HasTexts c → plan_of held name c (Ok plan) → IsPlanOver held plan
+over_file : (held : Held) (name : List ℕ) (c : Config) (plan : Plan) → HasTexts c → (plan_of held name c).answers (Ok plan) → IsPlanOver held plan
 unfolding plan_of
 over_file held name c plan texts (graph, g, h) = record { files = held; name = name; graph = graph; configuration = c; is = h; texts = texts; bytes = λ hold. hold }
 
-file_over : (m : Manner) (held : Held) (name : List ℕ) (run : Run) → file_planned m held name (Ok (Runs run)) → IsPlanOver held run.plan
+file_over : (m : Manner) (held : Held) (name : List ℕ) (run : Run) → (file_planned m held name).answers (Ok (Runs run)) → IsPlanOver held run.plan
 unfolding file_planned
 file_over m held name run (text, h, (c, k, s)) =
     is_run (IsPlanOver held) m.shows_config c (plan_of held name c) m false run (λ plan p. over_file held name c plan (text_of_file name text m.overrides c k) p) s
@@ -109,7 +109,7 @@ ring_hold name bytes e = by (bytes_eq (codes "ring") name) e
     by true k = let same : ring ≡ bytes = cc in subst AreBytes same ring_are
     by false k = absurd (cc)
 
-self_load_over : (m : Manner) (hosts : ℕ) (held : Held) (run : Run) → IsInRange (SelfLoad hosts) → self_load_planned m hosts (Ok (Runs run)) → IsPlanOver held run.plan
+self_load_over : (m : Manner) (hosts : ℕ) (held : Held) (run : Run) → IsInRange (SelfLoad hosts) → (self_load_planned m hosts).answers (Ok (Runs run)) → IsPlanOver held run.plan
 unfolding self_load_planned
 self_load_over m hosts held run range s =
     let c : Config = self_load_config m.overrides hosts in
@@ -126,12 +126,12 @@ self_load_over m hosts held run range s =
 
 -- ---- what is asked
 
-subject_over : (held : Held) (m : Manner) (subject : Subject) (run : Run) → IsInRange subject → planned_of held m subject (Ok (Runs run)) → IsPlanOver held run.plan
+subject_over : (held : Held) (m : Manner) (subject : Subject) (run : Run) → IsInRange subject → (planned_of held m subject).answers (Ok (Runs run)) → IsPlanOver held run.plan
 subject_over held m (File name) run range h = file_over m held name run h
 subject_over held m (SelfLoad hosts) run range h = self_load_over m hosts held run range h
 subject_over held m (Capture name) run range h = absurd (no_run m held name run h)
 
-pub run_over : (words : List (List ℕ)) (held : Held) (run : Run) → planned words held (Ok (Runs run)) → IsPlanOver held run.plan
+pub run_over : (words : List (List ℕ)) (held : Held) (run : Run) → (planned words held).answers (Ok (Runs run)) → IsPlanOver held run.plan
 unfolding planned
 run_over words held run (a, e, h) =
     let range = asked_in_range words a (asked_is (asked words) a e) in subject_over held (manner_of a) a.subject run range.subject h

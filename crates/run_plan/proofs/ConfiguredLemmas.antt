@@ -9,7 +9,7 @@ use Rattle.shd_config.specs.declared.config.Config.{Config}
 use Rattle.shd_config.specs.declared.fault.ConfigFault.{ConfigFault}
 use Rattle.shd_config.specs.declared.overrides.Overrides.{Overrides}
 use Rattle.run_plan.specs.Configured.{tree_of, or_config_fault, configured}
-use Rattle.run_plan.specs.Outcomes.{gives, Meets, CountsSource}
+use Rattle.run_plan.specs.Reading.{gives, Stops, Meets, CountsSource}
 use Rattle.run_plan.specs.declared.fault.ReadStop.{ReadStop}
 use Rattle.run_plan.specs.declared.fault.ReadStop.TheVariants.{Refused, ReadFailed, NoMemory}
 use Rattle.run_plan.proofs.StepLemmas.{goes_on}
@@ -27,17 +27,17 @@ config_is file (Ok d) c e = cc
 config_is file (Err f) c e = cc
 
 -- it is that of the tree of the text
-pub configured_is : (file text : List ℕ) (o : Overrides) (c : Config) → configured file text o (Ok c) → (tree : Said) × IsTreeOf text tree × (config o (is_empty_document (lines_of text)) tree ≡ Ok c)
+pub configured_is : (file text : List ℕ) (o : Overrides) (c : Config) → (configured file text o).answers (Ok c) → (tree : Said) × IsTreeOf text tree × (config o (is_empty_document (lines_of text)) tree ≡ Ok c)
 unfolding configured
 configured_is file text o c (tree, t, e) = (tree, t, config_is file (config o (is_empty_document (lines_of text)) tree) c e)
 
 -- no file is read
-never_fails : (file text : List ℕ) (o : Overrides) (failed : List ℕ) → configured file text o (Err (ReadFailed failed)) → ⊥
+never_fails : (file text : List ℕ) (o : Overrides) (failed : List ℕ) → (configured file text o).reaches failed → ⊥
 unfolding configured
 never_fails file text o failed (inl h) = h
 never_fails file text o failed (inr (tree, t, h)) = h
 
-pub config_counted : (A : Type 0) (file text : List ℕ) (o : Overrides) (stop : ReadStop) (faults : ℕ) → configured file text o (Err stop) → CountsSource {A = A} (Err stop) faults faults
+pub config_counted : (A : Type 0) (file text : List ℕ) (o : Overrides) (stop : ReadStop) (faults : ℕ) → Stops (configured file text o) stop → CountsSource {A = A} (Err stop) faults faults
 config_counted A file text o (Refused fault) faults h = refl
 config_counted A file text o (ReadFailed failed) faults h = absurd (never_fails file text o failed h)
 config_counted A file text o NoMemory faults h = refl

@@ -27,7 +27,7 @@ each_row P (r ∷ rows) h =
     All-cons (λ (row : HostRow). P row.config) r rows (All-head P r.config (map (λ (row : HostRow). row.config) rows) h) (each_row P rows (All-tail P r.config (map (λ (row : HostRow). row.config) rows) h))
 
 -- a plan of a configuration within its limits
-pub plan_within : (name : List ℕ) (graph : Graph) (config : Config) (plan : Plan) → IsWithinLimits config → host_rows name graph config.hosts (Ok plan.rows) → plan.settings.stop_time ≡ config.stop_time → KeepsToLimits plan
+pub plan_within : (name : List ℕ) (graph : Graph) (config : Config) (plan : Plan) → IsWithinLimits config → (host_rows name graph config.hosts).answers (Ok plan.rows) → plan.settings.stop_time ≡ config.stop_time → KeepsToLimits plan
 plan_within name graph config plan within h stop =
     let configs = map (λ (r : HostRow). r.config) plan.rows in
     let moved : IsPermutation config.hosts configs = rows_moved name graph config.hosts plan.rows h in

@@ -16,7 +16,7 @@ use Rattle.yaml_tree.specs.Tree.{is_empty_document}
 use Rattle.run_plan.specs.Configured.{configured}
 use Rattle.run_plan.specs.HostRows.{host_rows}
 use Rattle.run_plan.specs.Names.{AreApart, AreHostsApart}
-use Rattle.run_plan.specs.Outcomes.{Meets}
+use Rattle.run_plan.specs.Reading.{Meets}
 use Rattle.run_plan.specs.SelfLoad.{host_name, ring_host, self_load_config}
 use Rattle.run_plan.specs.declared.fault.ReadStop.{ReadStop}
 use Rattle.run_plan.specs.declared.host_row.HostRow.{HostRow}
@@ -61,7 +61,7 @@ names_of_rows [] = refl
 names_of_rows (r ∷ rows) = ap (λ (ns : List (List ℕ)). r.config.name ∷ ns) (names_of_rows rows)
 
 -- the rows of hosts that are apart are apart
-pub rows_apart : (name : List ℕ) (graph : Graph) (hosts : List HostConfig) (rows : List HostRow) → host_rows name graph hosts (Ok rows) → AreHostsApart hosts → AreApart (map (λ (r : HostRow). r.config.name) rows)
+pub rows_apart : (name : List ℕ) (graph : Graph) (hosts : List HostConfig) (rows : List HostRow) → (host_rows name graph hosts).answers (Ok rows) → AreHostsApart hosts → AreApart (map (λ (r : HostRow). r.config.name) rows)
 rows_apart name graph hosts rows h far =
     apart (map (λ (r : HostRow). r.config.name) rows)
     (λ n. let few = once n (map (λ (x : HostConfig). x.name) hosts) far in

@@ -52,7 +52,7 @@ hosts_of_rows programs (x ∷ hs) (r ∷ rs) [] h k = absurd (omega (arith, k))
 hosts_of_rows programs (x ∷ hs) (r ∷ rs) (a ∷ addresses) h k = ap (λ (more : List HostConfig). x ∷ more) (hosts_of_rows programs hs rs addresses (omega (arith, h)) (omega (arith, k)))
 
 -- rows are those of the hosts, in some order
-pub rows_moved : (name : List ℕ) (graph : Graph) (hosts : List HostConfig) (rows : List HostRow) → host_rows name graph hosts (Ok rows) → IsPermutation hosts (map (λ (r : HostRow). r.config) rows)
+pub rows_moved : (name : List ℕ) (graph : Graph) (hosts : List HostConfig) (rows : List HostRow) → (host_rows name graph hosts).answers (Ok rows) → IsPermutation hosts (map (λ (r : HostRow). r.config) rows)
 unfolding host_rows
 rows_moved name graph hosts rows (ordered, order, (rates, r, (addresses, a, e))) =
     let same : rows_of (programs_of hosts) ordered rates addresses ≡ rows = cc in

@@ -1,5 +1,5 @@
 -- Two answers for one input agree.
-use Rattle.std.proofs.Common.{◌≡◌, ℕ, ◌+◌, ◌<◌, Bool, true, false, List, [], ◌∷◌, length, map, Option, Some, None, Result, Ok, Err, refl, sym, subst, ◌∙◌, arith, inl, inr, le_antisymm, codes}
+use Rattle.std.proofs.Common.{◌≡◌, ℕ, ◌+◌, ◌<◌, Bool, true, false, List, [], ◌∷◌, length, map, Option, Some, None, Result, Ok, Err, refl, sym, ap, subst, ◌∙◌, arith, inl, inr, le_antisymm, codes}
 use Rattle.std.specs.Ordering.{nat_cmp, is_lt}
 use Rattle.std.specs.Cmp.Lexicographic.{slice_cmp}
 use Rattle.std.proofs.lemmas.Cmp.{nat_list_cmp_total}
@@ -36,103 +36,68 @@ use Rattle.run_plan.specs.Configured.{IsTreeFault, tree_of, or_config_fault, con
 use Rattle.run_plan.specs.File.{file, read, reads}
 use Rattle.run_plan.specs.HostRows.{AreInOrder, HaveAddresses, rows_of, host_rows}
 use Rattle.run_plan.specs.Network.{one_gbit_switch, graph_at, network}
-use Rattle.run_plan.specs.Outcomes.{Outcomes, gives, some_that, ◌>>=◌}
+use Rattle.run_plan.specs.Reading.{Reading, gives, some_that, ◌>>=◌}
 use Rattle.run_plan.specs.Plan.{nodes_of, IsRouteFault, routed, nanos_of, line_of_host, settings_of, run_of, plan_of}
 use Rattle.run_plan.specs.Planned.{or_words_fault, manner_of, runs, shown_or_run, file_planned, self_load_planned, capture_planned, planned_of, planned}
 use Rattle.run_plan.specs.Program.{program}
 use Rattle.run_plan.specs.Programs.{programs_of, images}
 use Rattle.run_plan.specs.Rates.{all_rates}
 use Rattle.run_plan.specs.Ring.{ring_files}
-use Rattle.run_plan.specs.Same.{Agree}
 use Rattle.run_plan.specs.SelfLoad.{self_load_config, self_load_graph}
 use Rattle.run_plan.specs.declared.fault.Fault.{Fault}
 use Rattle.run_plan.specs.declared.fault.Fault.TheVariants as fault
-use Rattle.run_plan.specs.declared.fault.ReadStop.{ReadStop}
-use Rattle.run_plan.specs.declared.fault.ReadStop.TheVariants.{Refused, ReadFailed, NoMemory}
 use Rattle.run_plan.specs.declared.host_row.HostRow.{HostRow}
 use Rattle.run_plan.specs.declared.plan.Plan.{Plan}
 use Rattle.run_plan.specs.declared.planned.Manner.{Manner}
 use Rattle.run_plan.specs.declared.planned.Planned.{Planned}
 use Rattle.run_plan.specs.declared.planned.Planned.TheVariants as plan
+use Rattle.run_plan.proofs.ImageLemmas.{with_first}
+use Rattle.run_plan.proofs.PlanLemmas.{made, with_images, with_routes, with_rows}
+use Rattle.run_plan.proofs.PlannedLemmas.{with_config, with_text}
+use Rattle.run_plan.proofs.RowLemmas.{with_order, with_rates}
 use Rattle.run_plan.proofs.StableLemmas.{one_order}
 
 -- ---- steps
 
--- an answer of the one step agrees with each of the other
-abbrev Both : {A : Type 0} → (A → A → Type 0) → Outcomes A → Outcomes A → Type 0
-Both {A} Same first second = (r s : Result A ReadStop) → first r → second s → Agree Same r s
+-- a part has one answer at most
+abbrev HasOne : {A : Type 0} → Reading A → Type 0
+HasOne {A} reading = (r s : Result A Fault) → reading.answers r → reading.answers s → r ≡ s
 
-abbrev Equal : {A : Type 0} → A → A → Type 0
-Equal a b = a ≡ b
+same_value : {A : Type 0} (a b : A) → ◌≡◌ {A = Result A Fault} (Ok a) (Ok b) → a ≡ b
+same_value a b e = cc
 
-both_then : {A B : Type 0} (SameA : A → A → Type 0) (SameB : B → B → Type 0) (first second : Outcomes A) (next other : A → Outcomes B) → Both SameA first second
-    → ((a b : A) → first (Ok a) → second (Ok b) → SameA a b → Both SameB (next a) (other b)) → Both SameB (first >>= next) (second >>= other)
-both_then SameA SameB first second next other one more (Ok c) (Ok d) (a, h, k) (b, h', k') = more a b h h' (one (Ok a) (Ok b) h h') (Ok c) (Ok d) k k'
-both_then SameA SameB first second next other one more (Ok c) (Err (Refused g)) (a, h, k) (inl h') = one (Ok a) (Err (Refused g)) h h'
-both_then SameA SameB first second next other one more (Ok c) (Err (Refused g)) (a, h, k) (inr (b, h', k')) = more a b h h' (one (Ok a) (Ok b) h h') (Ok c) (Err (Refused g)) k k'
-both_then SameA SameB first second next other one more (Ok c) (Err (ReadFailed n)) h k = tt
-both_then SameA SameB first second next other one more (Ok c) (Err NoMemory) h k = tt
-both_then SameA SameB first second next other one more (Err (Refused f)) (Ok d) (inl h) (b, h', k') = one (Err (Refused f)) (Ok b) h h'
-both_then SameA SameB first second next other one more (Err (Refused f)) (Ok d) (inr (a, h, k)) (b, h', k') = more a b h h' (one (Ok a) (Ok b) h h') (Err (Refused f)) (Ok d) k k'
-both_then SameA SameB first second next other one more (Err (Refused f)) (Err (Refused g)) (inl h) (inl h') = one (Err (Refused f)) (Err (Refused g)) h h'
-both_then SameA SameB first second next other one more (Err (Refused f)) (Err (Refused g)) (inl h) (inr (b, h', k')) = absurd (one (Err (Refused f)) (Ok b) h h')
-both_then SameA SameB first second next other one more (Err (Refused f)) (Err (Refused g)) (inr (a, h, k)) (inl h') = absurd (one (Ok a) (Err (Refused g)) h h')
-both_then SameA SameB first second next other one more (Err (Refused f)) (Err (Refused g)) (inr (a, h, k)) (inr (b, h', k')) =
-    more a b h h' (one (Ok a) (Ok b) h h') (Err (Refused f)) (Err (Refused g)) k k'
-both_then SameA SameB first second next other one more (Err (Refused f)) (Err (ReadFailed n)) h k = tt
-both_then SameA SameB first second next other one more (Err (Refused f)) (Err NoMemory) h k = tt
-both_then SameA SameB first second next other one more (Err (ReadFailed n)) s h k = tt
-both_then SameA SameB first second next other one more (Err NoMemory) s h k = tt
+same_fault : {A : Type 0} (f g : Fault) → ◌≡◌ {A = Result A Fault} (Err f) (Err g) → f ≡ g
+same_fault f g e = cc
 
--- a first step that has one value
-one_then : {A B : Type 0} (SameB : B → B → Type 0) (first : Outcomes A) (next : A → Outcomes B) → Both Equal first first → ((a : A) → first (Ok a) → Both SameB (next a) (next a)) → Both SameB (first >>= next) (first >>= next)
-one_then {A} {B} SameB first next one more =
-    both_then Equal SameB first first next next one (λ a b h h' same r s k k'. more a h r s k (subst (λ (x : A). next x s) (sym same) k'))
+value_or_fault : {A : Type 0} (a : A) (f : Fault) → ◌≡◌ {A = Result A Fault} (Ok a) (Err f) → ⊥
+value_or_fault a f e = cc
 
-ok_same : {A : Type 0} (d : Result A Fault) (a b : A) → d ≡ Ok a → d ≡ Ok b → a ≡ b
-ok_same d a b h k = cc
+module _ {A B : Type 0} (first : Reading A) (next : A → Reading B) (one : HasOne first) (more : (a : A) → first.answers (Ok a) → HasOne (next a)) where
+  behind : (a b : A) (r s : Result B Fault) → first.answers (Ok a) → first.answers (Ok b) → (next a).answers r → (next b).answers s → r ≡ s
+  behind a b r s h h' k k' = more a h r s k (subst (λ (x : A). (next x).answers s) (sym (same_value a b (one (Ok a) (Ok b) h h'))) k')
 
-ok_err : {A : Type 0} (d : Result A Fault) (a : A) (f : Fault) → d ≡ Ok a → d ≡ Err f → ⊥
-ok_err d a f h k = cc
+  -- two parts behind one another
+  one_then : HasOne (first >>= next)
+  one_then (Ok c) (Ok d) (a, h, k) (b, h', k') = behind a b (Ok c) (Ok d) h h' k k'
+  one_then (Ok c) (Err g) (a, h, k) (inl h') = absurd (value_or_fault a g (one (Ok a) (Err g) h h'))
+  one_then (Ok c) (Err g) (a, h, k) (inr (b, h', k')) = behind a b (Ok c) (Err g) h h' k k'
+  one_then (Err f) (Ok d) (inl h) (b, h', k') = absurd (value_or_fault b f (one (Ok b) (Err f) h' h))
+  one_then (Err f) (Ok d) (inr (a, h, k)) (b, h', k') = behind a b (Err f) (Ok d) h h' k k'
+  one_then (Err f) (Err g) (inl h) (inl h') = ap Err (same_fault f g (one (Err f) (Err g) h h'))
+  one_then (Err f) (Err g) (inl h) (inr (b, h', k')) = absurd (value_or_fault b f (one (Ok b) (Err f) h' h))
+  one_then (Err f) (Err g) (inr (a, h, k)) (inl h') = absurd (value_or_fault a g (one (Ok a) (Err g) h h'))
+  one_then (Err f) (Err g) (inr (a, h, k)) (inr (b, h', k')) = behind a b (Err f) (Err g) h h' k k'
 
-err_same : {A : Type 0} (d : Result A Fault) (f g : Fault) → d ≡ Err f → d ≡ Err g → f ≡ g
-err_same d f g h k = cc
+gives_one : {A : Type 0} (d : Result A Fault) → HasOne (gives d)
+gives_one d r s h k = sym h ∙ k
 
-gives_one : {A : Type 0} (d : Result A Fault) → Both Equal (gives d) (gives d)
-gives_one d (Ok a) (Ok b) h k = ok_same d a b h k
-gives_one d (Ok a) (Err (Refused f)) h k = ok_err d a f h k
-gives_one d (Ok a) (Err (ReadFailed n)) h k = tt
-gives_one d (Ok a) (Err NoMemory) h k = tt
-gives_one d (Err (Refused f)) (Ok b) h k = ok_err d b f k h
-gives_one d (Err (Refused f)) (Err (Refused g)) h k = err_same d f g h k
-gives_one d (Err (Refused f)) (Err (ReadFailed n)) h k = tt
-gives_one d (Err (Refused f)) (Err NoMemory) h k = tt
-gives_one d (Err (ReadFailed n)) s h k = tt
-gives_one d (Err NoMemory) s h k = tt
+reads_one : {A : Type 0} (name : List ℕ) (d : Result A Fault) → HasOne (reads name d)
+reads_one name d r s h k = sym h ∙ k
 
-reads_one : {A : Type 0} (name : List ℕ) (d : Result A Fault) → Both Equal (reads name d) (reads name d)
-reads_one name d (Ok a) (Ok b) h k = ok_same d a b h k
-reads_one name d (Ok a) (Err (Refused f)) h k = ok_err d a f h k
-reads_one name d (Ok a) (Err (ReadFailed n)) h k = tt
-reads_one name d (Ok a) (Err NoMemory) h k = tt
-reads_one name d (Err (Refused f)) (Ok b) h k = ok_err d b f k h
-reads_one name d (Err (Refused f)) (Err (Refused g)) h k = err_same d f g h k
-reads_one name d (Err (Refused f)) (Err (ReadFailed n)) h k = tt
-reads_one name d (Err (Refused f)) (Err NoMemory) h k = tt
-reads_one name d (Err (ReadFailed n)) s h k = tt
-reads_one name d (Err NoMemory) s h k = tt
-
-some_both : {A : Type 0} (P Q : A → Type 0) (Same : A → A → Type 0) → ((a b : A) → P a → Q b → Same a b) → Both Same (some_that P) (some_that Q)
-some_both P Q Same one (Ok a) (Ok b) h k = one a b h k
-some_both P Q Same one (Ok a) (Err (Refused f)) h k = k
-some_both P Q Same one (Ok a) (Err (ReadFailed n)) h k = tt
-some_both P Q Same one (Ok a) (Err NoMemory) h k = tt
-some_both P Q Same one (Err (Refused f)) (Ok b) h k = h
-some_both P Q Same one (Err (Refused f)) (Err (Refused g)) h k = absurd h
-some_both P Q Same one (Err (Refused f)) (Err (ReadFailed n)) h k = tt
-some_both P Q Same one (Err (Refused f)) (Err NoMemory) h k = tt
-some_both P Q Same one (Err (ReadFailed n)) s h k = tt
-some_both P Q Same one (Err NoMemory) s h k = tt
+some_one : {A : Type 0} (P : A → Type 0) → ((a b : A) → P a → P b → a ≡ b) → HasOne (some_that P)
+some_one P one (Ok a) (Ok b) h k = ap Ok (one a b h k)
+some_one P one (Ok a) (Err g) h k = absurd k
+some_one P one (Err f) s h k = absurd h
 
 -- ---- the configuration of a text
 
@@ -148,22 +113,17 @@ one_tree_fault name text (fault.Tree n f) (fault.Tree m g) h k =
 one_tree_fault name text (fault.Tree n f) _ h k = absurd k
 one_tree_fault name text _ g h k = absurd h
 
-trees_agree : (name text : List ℕ) → Both Equal (tree_of name text) (tree_of name text)
-trees_agree name text (Ok t) (Ok u) h k = one_tree flow_reader (lines_of text) t u h.1.says k.1.says
-trees_agree name text (Ok t) (Err (Refused f)) h k = no_tree_fault name text t f h k
-trees_agree name text (Ok t) (Err (ReadFailed n)) h k = tt
-trees_agree name text (Ok t) (Err NoMemory) h k = tt
-trees_agree name text (Err (Refused f)) (Ok u) h k = no_tree_fault name text u f k h
-trees_agree name text (Err (Refused f)) (Err (Refused g)) h k = one_tree_fault name text f g h k
-trees_agree name text (Err (Refused f)) (Err (ReadFailed n)) h k = tt
-trees_agree name text (Err (Refused f)) (Err NoMemory) h k = tt
-trees_agree name text (Err (ReadFailed n)) s h k = tt
-trees_agree name text (Err NoMemory) s h k = tt
+one_tree_of : (name text : List ℕ) → HasOne (tree_of name text)
+one_tree_of name text (Ok t) (Ok u) h k = ap Ok (one_tree flow_reader (lines_of text) t u h.1.says k.1.says)
+one_tree_of name text (Ok t) (Err f) h k = absurd (no_tree_fault name text t f h k)
+one_tree_of name text (Err f) (Ok u) h k = absurd (no_tree_fault name text u f k h)
+one_tree_of name text (Err f) (Err g) h k = ap Err (one_tree_fault name text f g h k)
 
-configs_agree : (name text : List ℕ) (o : Overrides) → Both Equal (configured name text o) (configured name text o)
+one_configured : (name text : List ℕ) (o : Overrides) → HasOne (configured name text o)
 unfolding configured
-configs_agree name text o =
-    one_then Equal (tree_of name text) _ (trees_agree name text) (λ tree h. gives_one (or_config_fault name (config o (is_empty_document (lines_of text)) tree)))
+one_configured name text o =
+    let last : Said → Result Config Fault = λ tree. or_config_fault name (config o (is_empty_document (lines_of text)) tree) in
+    one_then (tree_of name text) (λ tree. gives (last tree)) (one_tree_of name text) (λ tree h. gives_one (last tree))
 
 -- ---- rows
 
@@ -190,19 +150,22 @@ addresses_same given from (None ∷ hosts) (x ∷ xs) (y ∷ ys) h k =
     let rest : xs ≡ ys = addresses_same given (x.bits + 1) hosts xs ys h.1 (subst (λ (n : ℕ). AreAddressesFrom given (n + 1) hosts ys) (sym bits) k.1) in
     λ i. first i ∷ rest i
 
-rows_agree : (name : List ℕ) (graph : Graph) (hosts : List HostConfig) → Both Equal (host_rows name graph hosts) (host_rows name graph hosts)
+addresses_are_one : (ordered : List HostConfig) (xs ys : List Ip) → HaveAddresses ordered xs → HaveAddresses ordered ys → xs ≡ ys
+addresses_are_one ordered xs ys h k = addresses_same (given_addresses (map (λ (x : HostConfig). x.ip_addr) ordered)) first_address (map (λ (x : HostConfig). x.ip_addr) ordered) xs ys h k
+
+one_rows : (name : List ℕ) (graph : Graph) (hosts : List HostConfig) → HasOne (host_rows name graph hosts)
 unfolding host_rows
-rows_agree name graph hosts =
-    one_then Equal (some_that (AreInOrder hosts)) _ (some_both (AreInOrder hosts) (AreInOrder hosts) Equal (order_same hosts))
-    (λ ordered h. one_then Equal (gives (all_rates name graph.nodes ordered)) _ (gives_one (all_rates name graph.nodes ordered))
-    (λ rates k. one_then Equal (some_that (HaveAddresses ordered)) _
-    (some_both (HaveAddresses ordered) (HaveAddresses ordered) Equal (λ xs ys p q. addresses_same (given_addresses (map (λ (x : HostConfig). x.ip_addr) ordered)) first_address (map (λ (x : HostConfig). x.ip_addr) ordered) xs ys p q))
+one_rows name graph hosts =
+    one_then (some_that (AreInOrder hosts)) (with_order name graph hosts) (some_one (AreInOrder hosts) (order_same hosts))
+    (λ ordered h. one_then (gives (all_rates name graph.nodes ordered)) (with_rates hosts ordered) (gives_one (all_rates name graph.nodes ordered))
+    (λ rates k. one_then (some_that (HaveAddresses ordered)) (λ addresses. gives (Ok (rows_of (programs_of hosts) ordered rates addresses)))
+    (some_one (HaveAddresses ordered) (addresses_are_one ordered))
     (λ addresses m. gives_one (Ok (rows_of (programs_of hosts) ordered rates addresses)))))
 
 -- ---- routes
 
 module _ (g : Graph) (shortest : Bool) (nodes : List ℕ) where
-  no_route_fault : (r : Routes) (f : Fault) → routed g shortest nodes (Ok r) → IsRouteFault g shortest nodes f → ⊥
+  no_route_fault : (r : Routes) (f : Fault) → (routed g shortest nodes).answers (Ok r) → IsRouteFault g shortest nodes f → ⊥
   no_route_fault r (fault.NoRoute a b) h k = no_lack g shortest nodes r a b h.0 k.lacks
   no_route_fault r _ h k = k
 
@@ -211,17 +174,11 @@ module _ (g : Graph) (shortest : Bool) (nodes : List ℕ) where
   one_route_fault (fault.NoRoute a b) _ h k = absurd k
   one_route_fault _ f' h k = absurd h
 
-  routes_agree : Both Equal (routed g shortest nodes) (routed g shortest nodes)
-  routes_agree (Ok r) (Ok s) h k = one_table g shortest nodes r s h.1 k.1
-  routes_agree (Ok r) (Err (Refused f)) h k = no_route_fault r f h k
-  routes_agree (Ok r) (Err (ReadFailed n)) h k = tt
-  routes_agree (Ok r) (Err NoMemory) h k = tt
-  routes_agree (Err (Refused f)) (Ok s) h k = no_route_fault s f k h
-  routes_agree (Err (Refused f)) (Err (Refused f')) h k = one_route_fault f f' h k
-  routes_agree (Err (Refused f)) (Err (ReadFailed n)) h k = tt
-  routes_agree (Err (Refused f)) (Err NoMemory) h k = tt
-  routes_agree (Err (ReadFailed n)) s h k = tt
-  routes_agree (Err NoMemory) s h k = tt
+  one_routed : HasOne (routed g shortest nodes)
+  one_routed (Ok r) (Ok s) h k = ap Ok (one_table g shortest nodes r s h.1 k.1)
+  one_routed (Ok r) (Err f) h k = absurd (no_route_fault r f h k)
+  one_routed (Err f) (Ok s) h k = absurd (no_route_fault s f k h)
+  one_routed (Err f) (Err f') h k = ap Err (one_route_fault f f' h k)
 
 -- ---- the lookahead
 
@@ -238,65 +195,63 @@ module _ (nodes : List ℕ) (routes : Routes) where
 
 -- ---- the plan
 
-images_agree : (held : Held) (paths : List (List ℕ)) → Both Equal (images held paths) (images held paths)
-images_agree held [] = gives_one (Ok [])
-images_agree held (path ∷ paths) =
-    one_then Equal (reads path (program held path)) _ (reads_one path (program held path)) (λ first h. one_then Equal (images held paths) _ (images_agree held paths) (λ rest k. gives_one (Ok (first ∷ rest))))
+one_images : (held : Held) (paths : List (List ℕ)) → HasOne (images held paths)
+one_images held [] = gives_one (Ok [])
+one_images held (path ∷ paths) =
+    one_then (reads path (program held path)) (λ first. with_first held paths first) (reads_one path (program held path))
+    (λ first h. one_then (images held paths) (λ rest. gives (Ok (first ∷ rest))) (one_images held paths) (λ rest k. gives_one (Ok (first ∷ rest))))
 
-networks_agree : (held : Held) (name : List ℕ) (g : GraphSource) → Both Equal (network held name g) (network held name g)
-networks_agree held name source.OneGbitSwitch = gives_one (Ok one_gbit_switch)
-networks_agree held name (source.Inline text) = gives_one (graph_at name true text)
-networks_agree held name (source.File f) = one_then Equal (read held f) _ (reads_one f (file held f)) (λ text h. gives_one (graph_at f false text))
+one_network : (held : Held) (name : List ℕ) (g : GraphSource) → HasOne (network held name g)
+one_network held name source.OneGbitSwitch = gives_one (Ok one_gbit_switch)
+one_network held name (source.Inline text) = gives_one (graph_at name true text)
+one_network held name (source.File f) = one_then (read held f) (λ text. gives (graph_at f false text)) (reads_one f (file held f)) (λ text h. gives_one (graph_at f false text))
 
-abbrev made : Config → List HostRow → Routes → List ProgramImage → Option Time → Plan
-made c rows routes found lookahead =
-    record { settings = settings_of c; rows = rows; routes = routes; lookahead = lookahead; images = found; hosts_text = hosts_text (map line_of_host rows) }
-
-runs_agree : (held : Held) (name : List ℕ) (g : Graph) (c : Config) → Both Equal (run_of held name g c) (run_of held name g c)
+one_run : (held : Held) (name : List ℕ) (g : Graph) (c : Config) → HasOne (run_of held name g c)
 unfolding run_of
-runs_agree held name g c =
-    one_then Equal (host_rows name g c.hosts) _ (rows_agree name g c.hosts)
-    (λ rows h. one_then Equal (routed g c.use_shortest_path (nodes_of rows)) _ (routes_agree g c.use_shortest_path (nodes_of rows))
-    (λ routes k. one_then Equal (images held (programs_of c.hosts)) _ (images_agree held (programs_of c.hosts))
-    (λ found m. one_then Equal (some_that (λ (t : Option Time). IsLookahead (nodes_of rows) routes (nanos_of t))) _
-    (some_both (λ (t : Option Time). IsLookahead (nodes_of rows) routes (nanos_of t)) (λ (t : Option Time). IsLookahead (nodes_of rows) routes (nanos_of t)) Equal (lookahead_same (nodes_of rows) routes))
+one_run held name g c =
+    one_then (host_rows name g c.hosts) (λ rows. with_rows held g c rows) (one_rows name g c.hosts)
+    (λ rows h. one_then (routed g c.use_shortest_path (nodes_of rows)) (λ routes. with_routes held c rows routes) (one_routed g c.use_shortest_path (nodes_of rows))
+    (λ routes k. one_then (images held (programs_of c.hosts)) (λ found. with_images c rows routes found) (one_images held (programs_of c.hosts))
+    (λ found m. one_then (some_that (λ (t : Option Time). IsLookahead (nodes_of rows) routes (nanos_of t))) (λ t. gives (Ok (made c rows routes found t)))
+    (some_one (λ (t : Option Time). IsLookahead (nodes_of rows) routes (nanos_of t)) (lookahead_same (nodes_of rows) routes))
     (λ t n. gives_one (Ok (made c rows routes found t))))))
 
-plans_agree : (held : Held) (name : List ℕ) (c : Config) → Both Equal (plan_of held name c) (plan_of held name c)
+one_plan_of : (held : Held) (name : List ℕ) (c : Config) → HasOne (plan_of held name c)
 unfolding plan_of
-plans_agree held name c = one_then Equal (network held name c.graph) _ (networks_agree held name c.graph) (λ g h. runs_agree held name g c)
+one_plan_of held name c = one_then (network held name c.graph) (λ g. run_of held name g c) (one_network held name c.graph) (λ g h. one_run held name g c)
 
 -- ---- what is asked
 
-shown_or_run_agree : (b : Bool) (c : Config) (outcomes : Outcomes Plan) (run : Plan → Planned) → Both Equal outcomes outcomes → Both Equal (shown_or_run b c outcomes run) (shown_or_run b c outcomes run)
-shown_or_run_agree true c outcomes run one = gives_one (Ok (plan.Shows c))
-shown_or_run_agree false c outcomes run one = one_then Equal outcomes _ one (λ p h. gives_one (Ok (run p)))
+one_shown_or_run : (b : Bool) (c : Config) (plan_read : Reading Plan) (run : Plan → Planned) → HasOne plan_read → HasOne (shown_or_run b c plan_read run)
+one_shown_or_run true c plan_read run one = gives_one (Ok (plan.Shows c))
+one_shown_or_run false c plan_read run one = one_then plan_read (λ p. gives (Ok (run p))) one (λ p h. gives_one (Ok (run p)))
 
-files_agree : (m : Manner) (held : Held) (name : List ℕ) → Both Equal (file_planned m held name) (file_planned m held name)
+one_file : (m : Manner) (held : Held) (name : List ℕ) → HasOne (file_planned m held name)
 unfolding file_planned
-files_agree m held name =
-    one_then Equal (read held name) _ (reads_one name (file held name))
-    (λ text h. one_then Equal (configured name text m.overrides) _ (configs_agree name text m.overrides) (λ c k. shown_or_run_agree m.shows_config c (plan_of held name c) (runs m false) (plans_agree held name c)))
+one_file m held name =
+    one_then (read held name) (λ text. with_text m held name text) (reads_one name (file held name))
+    (λ text h. one_then (configured name text m.overrides) (λ c. with_config m held name c) (one_configured name text m.overrides)
+    (λ c k. one_shown_or_run m.shows_config c (plan_of held name c) (runs m false) (one_plan_of held name c)))
 
-self_loads_agree : (m : Manner) (hosts : ℕ) → Both Equal (self_load_planned m hosts) (self_load_planned m hosts)
+one_self_load : (m : Manner) (hosts : ℕ) → HasOne (self_load_planned m hosts)
 unfolding self_load_planned
-self_loads_agree m hosts =
+one_self_load m hosts =
     let c : Config = self_load_config m.overrides hosts in
-    shown_or_run_agree m.shows_config c (run_of ring_files (codes "self-load") (self_load_graph hosts) c) (runs m true) (runs_agree ring_files (codes "self-load") (self_load_graph hosts) c)
+    one_shown_or_run m.shows_config c (run_of ring_files (codes "self-load") (self_load_graph hosts) c) (runs m true) (one_run ring_files (codes "self-load") (self_load_graph hosts) c)
 
-captures_agree : (held : Held) (name : List ℕ) → Both Equal (capture_planned held name) (capture_planned held name)
+one_capture : (held : Held) (name : List ℕ) → HasOne (capture_planned held name)
 unfolding capture_planned
-captures_agree held name =
-    one_then Equal (read held name) _ (reads_one name (file held name))
-    (λ bytes h. one_then Equal (gives (captured name bytes)) _ (gives_one (captured name bytes)) (λ c k. gives_one (Ok (plan.Lists c))))
+one_capture held name =
+    one_then (read held name) (λ bytes. gives (captured name bytes) >>= (λ c. gives (Ok (plan.Lists c)))) (reads_one name (file held name))
+    (λ bytes h. one_then (gives (captured name bytes)) (λ c. gives (Ok (plan.Lists c))) (gives_one (captured name bytes)) (λ c k. gives_one (Ok (plan.Lists c))))
 
-subjects_agree : (held : Held) (m : Manner) (x : Subject) → Both Equal (planned_of held m x) (planned_of held m x)
-subjects_agree held m (subject.File name) = files_agree m held name
-subjects_agree held m (subject.SelfLoad hosts) = self_loads_agree m hosts
-subjects_agree held m (subject.Capture name) = captures_agree held name
+one_subject : (held : Held) (m : Manner) (x : Subject) → HasOne (planned_of held m x)
+one_subject held m (subject.File name) = one_file m held name
+one_subject held m (subject.SelfLoad hosts) = one_self_load m hosts
+one_subject held m (subject.Capture name) = one_capture held name
 
--- two answers for one input agree
-pub answers_agree : (words : List (List ℕ)) (held : Held) → Both Equal (planned words held) (planned words held)
+-- two answers for one input are equal
+pub one_answer : (words : List (List ℕ)) (held : Held) → HasOne (planned words held)
 unfolding planned
-answers_agree words held =
-    one_then Equal (gives (or_words_fault (asked words))) _ (gives_one (or_words_fault (asked words))) (λ a h. subjects_agree held (manner_of a) a.subject)
+one_answer words held =
+    one_then (gives (or_words_fault (asked words))) (λ a. planned_of held (manner_of a) a.subject) (gives_one (or_words_fault (asked words))) (λ a h. one_subject held (manner_of a) a.subject)

@@ -1,8 +1,8 @@
 -- Steps one after another.
-use Rattle.std.proofs.Common.{◌≡◌, List, [], ◌∷◌, ◌++◌, append_assoc, Option, Some, None, refl, sym, ap, inr}
+use Rattle.std.proofs.Common.{◌≡◌, List, [], ◌∷◌, ◌++◌, append_assoc, Option, Some, None, refl, sym, ap, inl, inr}
 use Rattle.std.specs.Prelude.{IfSome, Result, Ok, Err}
 use Rattle.sim_base.specs.Refusals as refusals
-use Rattle.run_plan.specs.Outcomes.{Outcomes, Meets, gives, ◌>>=◌}
+use Rattle.run_plan.specs.Reading.{Reading, Stops, Meets, gives, ◌>>=◌}
 use Rattle.run_plan.specs.declared.fault.Fault.{Fault}
 use Rattle.run_plan.specs.declared.fault.ReadStop.{ReadStop}
 use Rattle.run_plan.specs.declared.fault.ReadStop.TheVariants.{Refused, ReadFailed, NoMemory}
@@ -23,15 +23,27 @@ always_told (Some a) f = f a
 
 -- ---- steps
 
--- the step gave a value, and the next one answers so
-pub goes_on : {A B C : Type 0} (view : C → B) (first : Outcomes A) (next : A → Outcomes B) (a : A) (result : Result C ReadStop)
-    → first (Ok a) → Meets view (next a) result → Meets view (first >>= next) result
+-- the first part stops
+pub stops_first : {A B : Type 0} (first : Reading A) (next : A → Reading B) (stop : ReadStop) → Stops first stop → Stops (first >>= next) stop
+stops_first first next (Refused fault) h = inl h
+stops_first first next (ReadFailed name) h = inl h
+stops_first first next NoMemory h = tt
+
+-- the first part gave a value, and the next one stops
+pub stops_next : {A B : Type 0} (first : Reading A) (next : A → Reading B) (a : A) (stop : ReadStop) → first.answers (Ok a) → Stops (next a) stop → Stops (first >>= next) stop
+stops_next first next a (Refused fault) h k = inr (a, h, k)
+stops_next first next a (ReadFailed name) h k = inr (a, h, k)
+stops_next first next a NoMemory h k = tt
+
+-- the first part gave a value, and the next one answers so
+pub goes_on : {A B C : Type 0} (view : C → B) (first : Reading A) (next : A → Reading B) (a : A) (result : Result C ReadStop)
+    → first.answers (Ok a) → Meets view (next a) result → Meets view (first >>= next) result
 goes_on view first next a (Ok c) h k = (a, h, k)
-goes_on view first next a (Err stop) h k = inr (a, h, k)
+goes_on view first next a (Err stop) h k = stops_next first next a stop h k
 
 -- a function stops where its part does
 pub stops : {A B : Type 0} (part : Result A Fault) (whole : Result B Fault) (stop : ReadStop)
-    → ((f : Fault) → part ≡ Err f → whole ≡ Err f) → gives part (Err stop) → gives whole (Err stop)
+    → ((f : Fault) → part ≡ Err f → whole ≡ Err f) → Stops (gives part) stop → Stops (gives whole) stop
 stops part whole (Refused fault) h k = h fault k
 stops part whole (ReadFailed name) h k = k
 stops part whole NoMemory h k = tt

@@ -2,7 +2,7 @@
 use Rattle.std.specs.Prelude.{◌≡◌, ℕ, ◌*◌, ◌^◌, List, length, Result, Ok, Err, if◌then◌else◌, nat_le}
 use Rattle.run_outside.specs.Files.{Held}
 use Rattle.sim_base.specs.Refusals.{◌>>=◌, or_refuse}
-use Rattle.run_plan.specs.Outcomes.{Outcomes}
+use Rattle.run_plan.specs.Reading.{Reading}
 use Rattle.run_plan.specs.declared.fault.Fault.{Fault}
 use Rattle.run_plan.specs.declared.fault.Fault.TheVariants.{NotFound, TooLong}
 use Rattle.run_plan.specs.declared.fault.ReadStop.{ReadStop}
@@ -27,15 +27,12 @@ size_of held name = do
   bytes ← file held name
   Ok (length bytes)
 
--- what a step answers that reads this file, and gives this
-abbrev pub reads : {A : Type 0} → List ℕ → Result A Fault → Outcomes A
-reads name defined (Ok a) = defined ≡ Ok a
-reads name defined (Err (Refused fault)) = defined ≡ Err fault
-reads name defined (Err (ReadFailed failed)) = failed ≡ name
-reads name defined (Err NoMemory) = Unit {0}
+-- a part that reads this file, and gives this
+abbrev pub reads : {A : Type 0} → List ℕ → Result A Fault → Reading A
+reads name defined = record { answers = λ answer. defined ≡ answer; reaches = λ reached. reached ≡ name }
 
 -- a file is read
-abbrev pub read : Held → List ℕ → Outcomes (List ℕ)
+abbrev pub read : Held → List ℕ → Reading (List ℕ)
 read held name = reads name (file held name)
 
 -- the read of this file failed, or memory ran out

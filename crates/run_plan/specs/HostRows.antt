@@ -7,7 +7,7 @@ use Rattle.sim_base.specs.declared.address.Ip.{Ip}
 use Rattle.gml_graph.specs.declared.graph.Graph.{Graph}
 use Rattle.shd_config.specs.declared.config.HostConfig.{HostConfig}
 use Rattle.run_plan.specs.Addresses.{AreAddresses}
-use Rattle.run_plan.specs.Outcomes.{Outcomes, gives, some_that, ◌>>=◌}
+use Rattle.run_plan.specs.Reading.{Reading, gives, some_that, ◌>>=◌}
 use Rattle.run_plan.specs.Programs.{place_of, programs_of}
 use Rattle.run_plan.specs.Rates.{all_rates}
 use Rattle.run_plan.specs.declared.host_row.HostRow.{HostRow}
@@ -36,7 +36,7 @@ rows_of programs (host ∷ hosts) (rates ∷ more) (address ∷ addresses) = row
 rows_of programs _ _ _ = []
 
 -- the rows of the hosts of a configuration that has this name, or the first fault
-unfoldable pub host_rows : List ℕ → Graph → List HostConfig → Outcomes (List HostRow)
+unfoldable pub host_rows : List ℕ → Graph → List HostConfig → Reading (List HostRow)
 host_rows name graph hosts = do
   ordered ← some_that (AreInOrder hosts)
   rates ← gives (all_rates name graph.nodes ordered)

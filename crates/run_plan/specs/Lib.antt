@@ -9,7 +9,7 @@ pub mod Limits
 pub mod Line
 pub mod Names
 pub mod Network
-pub mod Outcomes
+pub mod Reading
 pub mod Plan
 pub mod Planned
 pub mod Program
@@ -17,7 +17,6 @@ pub mod Programs
 pub mod Rates
 pub mod Ring
 pub mod Routed
-pub mod Same
 pub mod SelfLoad
 pub mod Workers
 pub mod inside

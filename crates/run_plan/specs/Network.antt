@@ -9,7 +9,7 @@ use Rattle.gml_graph.specs.declared.fault.GmlFault.{GmlFault}
 use Rattle.shd_config.specs.declared.config.GraphSource.{GraphSource}
 use Rattle.shd_config.specs.declared.config.GraphSource.TheVariants.{OneGbitSwitch, Inline, File}
 use Rattle.run_plan.specs.File.{read}
-use Rattle.run_plan.specs.Outcomes.{Outcomes, gives, ◌>>=◌}
+use Rattle.run_plan.specs.Reading.{Reading, gives, ◌>>=◌}
 use Rattle.run_plan.specs.declared.fault.Fault.{Fault}
 use Rattle.run_plan.specs.declared.fault.Fault.TheVariants as fault
 
@@ -34,13 +34,13 @@ abbrev pub graph_at : List ℕ → Bool → List ℕ → Result Graph Fault
 graph_at file inline text = or_graph_fault file inline (graph text)
 
 -- the graph in a file
-abbrev pub graph_in : Held → List ℕ → Outcomes Graph
+abbrev pub graph_in : Held → List ℕ → Reading Graph
 graph_in held file = do
   text ← read held file
   gives (graph_at file false text)
 
 -- the graph of the configuration in the file of this name
-abbrev pub network : Held → List ℕ → GraphSource → Outcomes Graph
+abbrev pub network : Held → List ℕ → GraphSource → Reading Graph
 network held name OneGbitSwitch = gives (Ok one_gbit_switch)
 network held name (Inline text) = gives (graph_at name true text)
 network held name (File file) = graph_in held file

@@ -1,5 +1,5 @@
 -- What is asked, read step by step: the order of the steps is that in which faults count.
-use Rattle.std.specs.Prelude.{ℕ, List, map, Option, option_map, Ok, Err, Bool}
+use Rattle.std.specs.Prelude.{ℕ, List, map, Option, option_map, Ok, Err, Bool, Result}
 use Rattle.run_outside.specs.Files.{Held}
 use Rattle.gml_graph.specs.declared.graph.Graph.{Graph}
 use Rattle.net_routes.specs.Routes.{AreRoutes, IsLeastLack}
@@ -12,11 +12,10 @@ use Rattle.shd_config.specs.declared.config.Config.{Config}
 use Rattle.sim_base.specs.declared.time.Time.{Time}
 use Rattle.run_plan.specs.HostRows.{host_rows}
 use Rattle.run_plan.specs.Network.{network}
-use Rattle.run_plan.specs.Outcomes.{Outcomes, gives, some_that, ◌>>=◌}
+use Rattle.run_plan.specs.Reading.{Reading, gives, some_that, no_file, ◌>>=◌}
 use Rattle.run_plan.specs.Programs.{programs_of, images}
 use Rattle.run_plan.specs.declared.fault.Fault.{Fault}
 use Rattle.run_plan.specs.declared.fault.Fault.TheVariants as fault
-use Rattle.run_plan.specs.declared.fault.ReadStop.TheVariants.{Refused, ReadFailed, NoMemory}
 use Rattle.run_plan.specs.declared.host_row.HostRow.{HostRow}
 use Rattle.run_plan.specs.declared.plan.Plan.{Plan}
 use Rattle.run_plan.specs.declared.plan.Settings.{Settings}
@@ -31,11 +30,12 @@ IsRouteFault g shortest nodes (fault.NoRoute from to) = IsLeastLack g shortest n
 IsRouteFault g shortest nodes _ = ⊥
 
 -- the table of routes between the nodes of hosts, with those that hosts need; or the least pair that lacks one
-abbrev pub routed : Graph → Bool → List ℕ → Outcomes Routes
-routed g shortest nodes (Ok routes) = AreRoutes g shortest nodes routes × IsTable g shortest nodes routes
-routed g shortest nodes (Err (Refused f)) = IsRouteFault g shortest nodes f
-routed g shortest nodes (Err (ReadFailed file)) = ⊥
-routed g shortest nodes (Err NoMemory) = Unit {0}
+abbrev pub AreRoutesOrFault : Graph → Bool → List ℕ → Result Routes Fault → Type 0
+AreRoutesOrFault g shortest nodes (Ok routes) = AreRoutes g shortest nodes routes × IsTable g shortest nodes routes
+AreRoutesOrFault g shortest nodes (Err f) = IsRouteFault g shortest nodes f
+
+abbrev pub routed : Graph → Bool → List ℕ → Reading Routes
+routed g shortest nodes = record { answers = AreRoutesOrFault g shortest nodes; reaches = no_file }
 
 abbrev pub nanos_of : Option Time → Option ℕ
 nanos_of t = option_map (λ t. t.nanos) t
@@ -57,7 +57,7 @@ abbrev pub line_of_host : HostRow → HostLine
 line_of_host r = record { address = r.address; name = r.config.name }
 
 -- what is run of a configuration that has this name, over a graph
-unfoldable pub run_of : Held → List ℕ → Graph → Config → Outcomes Plan
+unfoldable pub run_of : Held → List ℕ → Graph → Config → Reading Plan
 run_of held name graph config = do
   rows ← host_rows name graph config.hosts
   routes ← routed graph config.use_shortest_path (nodes_of rows)
@@ -73,7 +73,7 @@ run_of held name graph config = do
   }))
 
 -- what is run of a configuration that has this name
-unfoldable pub plan_of : Held → List ℕ → Config → Outcomes Plan
+unfoldable pub plan_of : Held → List ℕ → Config → Reading Plan
 plan_of held name config = do
   graph ← network held name config.graph
   run_of held name graph config

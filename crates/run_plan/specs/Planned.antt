@@ -11,7 +11,7 @@ use Rattle.run_plan.specs.Captured.{captured}
 use Rattle.run_plan.specs.Configured.{configured}
 use Rattle.run_plan.specs.InRange.{overrides_of}
 use Rattle.run_plan.specs.File.{read}
-use Rattle.run_plan.specs.Outcomes.{Outcomes, gives, ◌>>=◌}
+use Rattle.run_plan.specs.Reading.{Reading, gives, ◌>>=◌}
 use Rattle.run_plan.specs.Plan.{plan_of, run_of}
 use Rattle.run_plan.specs.Ring.{ring_files}
 use Rattle.run_plan.specs.SelfLoad.{self_load_config, self_load_graph}
@@ -40,37 +40,37 @@ abbrev pub runs : Manner → Bool → Plan → Planned
 runs m is_self_load plan = Runs (record { plan = plan; budget = m.budget; is_self_load = is_self_load; streams = m.streams })
 
 -- a configuration is shown, or its plan goes on
-abbrev pub shown_or_run : Bool → Config → Outcomes Plan → (Plan → Planned) → Outcomes Planned
+abbrev pub shown_or_run : Bool → Config → Reading Plan → (Plan → Planned) → Reading Planned
 shown_or_run true config plan run = gives (Ok (Shows config))
 shown_or_run false config plan run = plan >>= λ p. gives (Ok (run p))
 
 -- the configuration in a file
-unfoldable pub file_planned : Manner → Held → List ℕ → Outcomes Planned
+unfoldable pub file_planned : Manner → Held → List ℕ → Reading Planned
 file_planned m held name = do
   text ← read held name
   config ← configured name text m.overrides
   shown_or_run m.shows_config config (plan_of held name config) (runs m false)
 
 -- the configuration, the graph and the guest of a self-load stand for those that are read
-unfoldable pub self_load_planned : Manner → ℕ → Outcomes Planned
+unfoldable pub self_load_planned : Manner → ℕ → Reading Planned
 self_load_planned m hosts =
     let config = self_load_config m.overrides hosts in
     shown_or_run m.shows_config config (run_of ring_files (codes "self-load") (self_load_graph hosts) config) (runs m true)
 
 -- the capture in a file, whatever else is asked
-unfoldable pub capture_planned : Held → List ℕ → Outcomes Planned
+unfoldable pub capture_planned : Held → List ℕ → Reading Planned
 capture_planned held name = do
   bytes ← read held name
   capture ← gives (captured name bytes)
   gives (Ok (Lists capture))
 
-abbrev pub planned_of : Held → Manner → Subject → Outcomes Planned
+abbrev pub planned_of : Held → Manner → Subject → Reading Planned
 planned_of held m (File name) = file_planned m held name
 planned_of held m (SelfLoad hosts) = self_load_planned m hosts
 planned_of held m (Capture name) = capture_planned held name
 
 -- the plan of a call with these words, or its first fault, or the file that it comes to with no fault before it
-unfoldable pub planned : List (List ℕ) → Held → Outcomes Planned
+unfoldable pub planned : List (List ℕ) → Held → Reading Planned
 planned words held = do
   a ← gives (or_words_fault (asked words))
   planned_of held (manner_of a) a.subject

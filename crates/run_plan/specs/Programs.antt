@@ -6,7 +6,7 @@ use Rattle.elf_load.specs.ProgramImage.{ProgramImage}
 use Rattle.shd_config.specs.declared.config.HostConfig.{HostConfig}
 use Rattle.run_outside.specs.Files.{Held}
 use Rattle.run_plan.specs.File.{reads}
-use Rattle.run_plan.specs.Outcomes.{Outcomes, gives, ◌>>=◌}
+use Rattle.run_plan.specs.Reading.{Reading, gives, ◌>>=◌}
 use Rattle.run_plan.specs.Program.{program}
 
 -- ---- paths
@@ -35,7 +35,7 @@ abbrev pub place_of : List (List ℕ) → List ℕ → ℕ
 place_of paths path = unwrap_or (position (bytes_eq path) paths) 0
 
 -- the images of programs, one file after another
-abbrev pub images : Held → List (List ℕ) → Outcomes (List ProgramImage)
+abbrev pub images : Held → List (List ℕ) → Reading (List ProgramImage)
 images held [] = gives (Ok [])
 images held (path ∷ paths) = do
   first ← reads path (program held path)

@@ -1,7 +1,7 @@
 //! The capture in a file.
 
 ghost use Rattle.run_plan.specs.Captured.{captured};
-ghost use Rattle.run_plan.specs.Outcomes.{gives, Meets};
+ghost use Rattle.run_plan.specs.Reading.{gives, Meets};
 
 use crate::fault::{Fault, ReadStop};
 use base_texts::Name;

@@ -11,7 +11,7 @@ ghost use Rattle.shd_config.specs.Config.{config};
 ghost use Rattle.shd_config.specs.Limits.{MayOverride, IsWithinLimits};
 ghost use Rattle.run_plan.specs.Configured.{tree_of, or_config_fault, configured};
 ghost use Rattle.run_plan.specs.Names.{AreHostsApart};
-ghost use Rattle.run_plan.specs.Outcomes.{gives, Meets};
+ghost use Rattle.run_plan.specs.Reading.{gives, Stops, Meets};
 
 use crate::fault::{Fault, ReadStop};
 use base_texts::Name;
@@ -23,7 +23,7 @@ use yaml_tree::{Tree, TreeError, read_tree};
 fn parse_tree(alloc: Global, file: &str, text: &[u8]) -> Result<Tree, ReadStop>
     ensures tree { IfOk result (λ tree. (said : Said) × IsTreeOf text.now said × Holds tree said) }
     ensures empty { IfOk result (λ tree. is_empty tree ≡ is_empty_document (lines_of text.now)) }
-    ensures fault { IfErr result (λ stop. tree_of file.now text.now (Err stop)) }
+    ensures fault { IfErr result (Stops (tree_of file.now text.now)) }
 {
     match read_tree(alloc, text) {
         Ok(tree) => Ok(tree),

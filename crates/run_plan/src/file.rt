@@ -2,7 +2,7 @@
 
 ghost use Rattle.std.specs.Prelude.{◌≡◌, ◌≤◌, take, IfSome, IfOk, IfErr};
 ghost use Rattle.run_plan.specs.File.{size_of, reads, read, IsReadStop, max_file};
-ghost use Rattle.run_plan.specs.Outcomes.{Meets, CountsSource};
+ghost use Rattle.run_plan.specs.Reading.{Meets, CountsSource};
 
 use crate::fault::{Fault, ReadStop};
 use base_texts::Name;

@@ -3,7 +3,7 @@
 ghost use Rattle.std.specs.Prelude.{◌≡◌, ◌≤◌, length, map, IfOk, OnOk};
 ghost use Rattle.sim_base.specs.Limits.{most_hosts};
 ghost use Rattle.run_plan.specs.HostRows.{AreInOrder, HaveAddresses, images_of, row_of, rows_of, host_rows};
-ghost use Rattle.run_plan.specs.Outcomes.{Meets};
+ghost use Rattle.run_plan.specs.Reading.{Meets};
 ghost use Rattle.run_plan.specs.Programs.{paths_of, place_of, programs_of};
 
 use crate::addresses::addresses_of;

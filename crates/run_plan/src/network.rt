@@ -2,7 +2,7 @@
 
 ghost use Rattle.std.specs.Prelude.{◌≡◌, IfSome, IfOk};
 ghost use Rattle.run_plan.specs.Network.{one_gbit_switch, graph_at, graph_in, network};
-ghost use Rattle.run_plan.specs.Outcomes.{gives, Meets, CountsSource};
+ghost use Rattle.run_plan.specs.Reading.{gives, Meets, CountsSource};
 
 use crate::fault::{Fault, ReadStop};
 use crate::file::read_file;

@@ -8,7 +8,7 @@ ghost use Rattle.shd_config.specs.Limits.{IsWithinLimits};
 ghost use Rattle.run_plan.specs.Limits.{KeepsToLimits};
 ghost use Rattle.run_plan.specs.Names.{AreHostsApart, AreRowsApart};
 ghost use Rattle.run_plan.specs.Network.{network};
-ghost use Rattle.run_plan.specs.Outcomes.{gives, Meets, CountsSource};
+ghost use Rattle.run_plan.specs.Reading.{gives, Meets, CountsSource};
 ghost use Rattle.run_plan.specs.Routed.{IsRouted, TakeTime};
 ghost use Rattle.run_plan.specs.Plan.{nodes_of, routed, nanos_of, line_of_host, settings_of, run_of, plan_of};
 

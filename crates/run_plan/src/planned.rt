@@ -3,7 +3,7 @@
 ghost use Rattle.std.specs.Prelude.{◌≡◌, ◌<◌, ◌≤◌, map, string_bytes, IfSome, IfOk};
 ghost use Rattle.sim_base.specs.Limits.{most_ring_hosts};
 ghost use Rattle.command_line.specs.Asked.{asked};
-ghost use Rattle.run_plan.specs.Outcomes.{gives, Meets, CountsSource};
+ghost use Rattle.run_plan.specs.Reading.{gives, Meets, CountsSource};
 ghost use Rattle.run_plan.specs.Planned.{or_words_fault, shown_or_run, file_planned, self_load_planned, capture_planned, planned_of, planned};
 ghost use Rattle.run_plan.specs.InRange.{IsInRange, overrides_of};
 ghost use Rattle.run_plan.specs.Limits.{AreLimitsKept};

@@ -4,7 +4,7 @@ ghost use Rattle.std.specs.Prelude.{◌≡◌, fold, map, position, IfSome, IfOk
 ghost use Rattle.std.specs.Str.{bytes_eq};
 ghost use Rattle.elf_load.specs.Image.{image};
 ghost use Rattle.run_plan.specs.File.{reads};
-ghost use Rattle.run_plan.specs.Outcomes.{gives, Meets, CountsSource};
+ghost use Rattle.run_plan.specs.Reading.{gives, Meets, CountsSource};
 ghost use Rattle.run_plan.specs.Program.{or_elf_fault, program};
 ghost use Rattle.run_plan.specs.Programs.{has_path, mentioned, paths_of, programs_of, place_of, images};
 

@@ -3,7 +3,7 @@
 ghost use Rattle.std.specs.Prelude.{◌≡◌, ◌++◌, IfOk, OnOk};
 ghost use Rattle.std.specs.Option.{option_to_list};
 ghost use Rattle.sim_base.specs.Addresses.{has_host};
-ghost use Rattle.run_plan.specs.Outcomes.{gives, Meets, IsRefusal};
+ghost use Rattle.run_plan.specs.Reading.{gives, Meets, IsRefusal};
 ghost use Rattle.run_plan.specs.Rates.{node_of, rate_of, at_host, is_given_again, rates_of, all_rates};
 
 use crate::fault::{Fault, HostFault, ReadStop};

@@ -16,11 +16,8 @@ use Rattle.pcap_text.specs.declared.capture.Capture.{Capture}
 use Rattle.pcap_text.specs.declared.capture.Record.{Record}
 use Rattle.run_plan.specs.Line.{line_of}
 use Rattle.run_plan.specs.Planned.{planned}
-use Rattle.run_plan.specs.Same.{Agree}
 use Rattle.run_plan.specs.declared.fault.Fault.{Fault}
 use Rattle.run_plan.specs.declared.fault.Fault.TheVariants.{Exists}
-use Rattle.run_plan.specs.declared.fault.ReadStop.{ReadStop}
-use Rattle.run_plan.specs.declared.fault.ReadStop.TheVariants.{Refused}
 use Rattle.run_plan.specs.declared.planned.Planned.{Planned}
 use Rattle.run_plan.specs.declared.planned.Planned.TheVariants as plan
 use Rattle.run_plan.specs.declared.planned.Run.{Run}
@@ -34,7 +31,7 @@ use Rattle.shadow_top.specs.Shown.{IsShown, IsRunTo, IsRefused, IsConfigShown, I
 -- ---- what is told of plans, datagrams and results
 
 abbrev pub OnePlan : Type 0
-OnePlan = (words : List (List ℕ)) (held : Held) (r s : Result Planned ReadStop) → planned words held r → planned words held s → Agree (λ p q. p ≡ q) r s
+OnePlan = (words : List (List ℕ)) (held : Held) (r s : Result Planned Fault) → (planned words held).answers r → (planned words held).answers s → r ≡ s
 
 abbrev pub OneDatagram : Type 0
 OneDatagram = (a b : Packet) → Fits a → Fits b → packet_size a ≤ longest → packet_size b ≤ longest → datagram a ≡ datagram b → a ≡ b
@@ -65,18 +62,27 @@ shown_or_run c r h = cc
 there_or_free : (b : Bool) → b ≡ true → b ≡ false → ⊥
 there_or_free b h k = cc
 
+same_plan : (p q : Planned) → ◌≡◌ {A = Result Planned Fault} (Ok p) (Ok q) → p ≡ q
+same_plan p q h = cc
+
+same_fault : (f g : Fault) → ◌≡◌ {A = Result Planned Fault} (Err f) (Err g) → f ≡ g
+same_fault f g h = cc
+
+plan_or_fault : (p : Planned) (f : Fault) → ◌≡◌ {A = Result Planned Fault} (Ok p) (Err f) → ⊥
+plan_or_fault p f h = cc
+
 module _ (plans : OnePlan) (i : Input) where
   one_plan : (p q : Planned) → IsPlanned i (Ok p) → IsPlanned i (Ok q) → p ≡ q
-  one_plan p q h k = plans i.words i.held (Ok p) (Ok q) h k
+  one_plan p q h k = same_plan p q (plans i.words i.held (Ok p) (Ok q) h k)
 
-  no_plan : (p : Planned) (f : Fault) → IsPlanned i (Ok p) → IsPlanned i (Err (Refused f)) → ⊥
-  no_plan p f h k = plans i.words i.held (Ok p) (Err (Refused f)) h k
+  no_plan : (p : Planned) (f : Fault) → IsPlanned i (Ok p) → IsPlanned i (Err f) → ⊥
+  no_plan p f h k = plan_or_fault p f (plans i.words i.held (Ok p) (Err f) h k)
 
   pub one_run : (r s : Run) → IsPlanned i (Ok (plan.Runs r)) → IsPlanned i (Ok (plan.Runs s)) → r ≡ s
   one_run r s h k = same_run r s (one_plan (plan.Runs r) (plan.Runs s) h k)
 
   one_fault : (f g : Fault) → IsFirstFault i f → IsFirstFault i g → f ≡ g
-  one_fault f g (inl h) (inl k) = plans i.words i.held (Err (Refused f)) (Err (Refused g)) h k
+  one_fault f g (inl h) (inl k) = same_fault f g (plans i.words i.held (Err f) (Err g) h k)
   one_fault f g (inl h) (inr k) = absurd (no_plan (plan.Runs k.run) f k.asked h)
   one_fault f g (inr h) (inl k) = absurd (no_plan (plan.Runs h.run) g h.asked k)
   one_fault f g (inr h) (inr k) = h.fault_is ∙ ap (λ (r : Run). Exists (directory_of r)) (one_run h.run k.run h.asked k.asked) ∙ sym k.fault_is

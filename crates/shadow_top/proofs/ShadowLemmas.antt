@@ -13,7 +13,7 @@ use Rattle.net_run.specs.Pieces.{with_pieces}
 use Rattle.net_run.specs.Shown.{status_of}
 use Rattle.net_run.specs.World.{World}
 use Rattle.run_plan.specs.Line.{line_of}
-use Rattle.run_plan.specs.Outcomes.{Meets}
+use Rattle.run_plan.specs.Reading.{Meets}
 use Rattle.run_plan.specs.Planned.{planned}
 use Rattle.run_plan.specs.declared.fault.Fault.{Fault}
 use Rattle.run_plan.specs.declared.fault.Fault.TheVariants as refusal

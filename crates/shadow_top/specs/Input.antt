@@ -5,8 +5,6 @@ use Rattle.run_outside.specs.Sink.{Content}
 use Rattle.run_plan.specs.Planned.{planned}
 use Rattle.run_plan.specs.declared.fault.Fault.{Fault}
 use Rattle.run_plan.specs.declared.fault.Fault.TheVariants.{Exists}
-use Rattle.run_plan.specs.declared.fault.ReadStop.{ReadStop}
-use Rattle.run_plan.specs.declared.fault.ReadStop.TheVariants.{Refused, ReadFailed}
 use Rattle.run_plan.specs.declared.planned.Planned.{Planned}
 use Rattle.run_plan.specs.declared.planned.Planned.TheVariants.{Shows, Runs, Lists}
 use Rattle.run_plan.specs.declared.planned.Run.{Run}
@@ -22,9 +20,9 @@ pub record Input : Type 0 where
 abbrev pub input : List (List ℕ) → Held → Content → Input
 input words held c = record { words = words; held = held; there = c.there }
 
--- what the words ask for, read step by step
-abbrev pub IsPlanned : Input → Result Planned ReadStop → Type 0
-IsPlanned i = planned i.words i.held
+-- what the words ask for, read step by step: what is planned, or the first fault of the reading
+abbrev pub IsPlanned : Input → Result Planned Fault → Type 0
+IsPlanned i = (planned i.words i.held).answers
 
 -- the directory that a run writes to
 abbrev pub directory_of : Run → List ℕ
@@ -39,7 +37,7 @@ pub record IsInTheWay (i : Input) (fault : Fault) : Type 0 where
 
 -- the first fault: that of the first step of the reading that has one, or else that the directory of the run is there
 abbrev pub IsFirstFault : Input → Fault → Type 0
-IsFirstFault i fault = IsPlanned i (Err (Refused fault)) ⊎ IsInTheWay i fault
+IsFirstFault i fault = IsPlanned i (Err fault) ⊎ IsInTheWay i fault
 
 -- the input is accepted, and its configuration is shown
 abbrev pub IsToShow : Input → Config → Type 0
@@ -56,4 +54,4 @@ pub record IsToRun (i : Input) (run : Run) : Type 0 where
 
 -- the reading comes to this file with no fault before it
 abbrev pub IsReached : Input → List ℕ → Type 0
-IsReached i file = IsPlanned i (Err (ReadFailed file))
+IsReached i file = (planned i.words i.held).reaches file

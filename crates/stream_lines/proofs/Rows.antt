@@ -38,7 +38,7 @@ pub record HasAddresses (rows : List HostRow) : Type 0 where
   pub own : AreApart addresses
   pub may : AllByRecursion IsForHost addresses
 
-rows_have : (name : List ℕ) (graph : Graph) (c : Config) (rows : List HostRow) → HasHosts c → host_rows name graph c.hosts (Ok rows) → HasAddresses rows
+rows_have : (name : List ℕ) (graph : Graph) (c : Config) (rows : List HostRow) → HasHosts c → (host_rows name graph c.hosts).answers (Ok rows) → HasAddresses rows
 unfolding host_rows
 rows_have name graph c rows has (ordered, order, (rates, r, (addresses, a, e))) =
     let same : rows_of (programs_of c.hosts) ordered rates addresses ≡ rows = cc in

@@ -25,8 +25,8 @@ ghost use Rattle.stream_lines.specs.Addresses.{HaveOwnAddresses, HaveHostAddress
 /// No two hosts of a plan that is to be run have one address, and each has one that a configuration may
 /// give to a host, so none in 127.0.0.0/8.
 pub fn plan_addresses()
-    ensures own { (words : List (List ℕ)) (held : Held) (run : Run) → planned words held (Ok (Runs run)) → HaveOwnAddresses run.plan.rows }
-    ensures may { (words : List (List ℕ)) (held : Held) (run : Run) → planned words held (Ok (Runs run)) → HaveHostAddresses run.plan.rows }
+    ensures own { (words : List (List ℕ)) (held : Held) (run : Run) → (planned words held).answers (Ok (Runs run)) → HaveOwnAddresses run.plan.rows }
+    ensures may { (words : List (List ℕ)) (held : Held) (run : Run) → (planned words held).answers (Ok (Runs run)) → HaveHostAddresses run.plan.rows }
 {}
 
 /// The rows of each input that is run are those of its net's hosts. So in every world that its run reaches

@@ -5,19 +5,20 @@ use Rattle.net_routes.specs.Least.{IsLookahead}
 use Rattle.net_routes.specs.Routes.{HasRoutes}
 use Rattle.run_plan.specs.Plan.{nodes_of, routed, nanos_of}
 use Rattle.run_plan.specs.Programs.{programs_of, images}
+use Rattle.run_plan.specs.Reading.{Stops}
 use Rattle.run_plan.specs.Routed.{TakeTime}
 use Rattle.run_plan.specs.declared.plan.Plan.{Plan}
 use Rattle.run_plan.proofs.LimitLemmas.{plan_within}
 use Rattle.run_plan.proofs.NameLemmas.{rows_apart}
-use Rattle.run_plan.proofs.PlanLemmas.{rows_stop, images_stop, run_done}
-use Rattle.run_plan.proofs.RowLemmas.{rows_lack_memory, rows_counted}
+use Rattle.run_plan.proofs.PlanLemmas.{images_stop, run_done}
+use Rattle.run_plan.proofs.RowLemmas.{rows_counted}
 use Rattle.run_plan.proofs.StepLemmas.{when_told, always_told}
 use Rattle.run_plan.proofs.plan.read_run.Goals as goal
 
 pub returns-in_err-programs-clause-told : goal.returns-in_err-programs-clause-told
 returns-in_err-programs-clause-told g c =
     let p = err_from_is_err_and c.from_residual.result c.from_residual.ensures.1 in rw (p.1, p.2)
-    (always_told (g.S.Source.held c.args.source.now) (λ held. rows_stop held c.args.name.now c.args.graph.now c.args.config _ (rows_lack_memory c.args.name.now c.args.graph.now c.args.config.hosts)))
+    (always_told (g.S.Source.held c.args.source.now) (λ held. tt))
 
 pub returns-in_err-rows-clause-count : goal.returns-in_err-rows-clause-count
 returns-in_err-rows-clause-count g c =
@@ -28,32 +29,32 @@ pub returns-in_err-images-clause-told : goal.returns-in_err-images-clause-told
 returns-in_err-images-clause-told g c =
     let n : c.deref-2.result.now ≡ nodes_of c.in_ok-rows.rows = c.deref-2.ensures.value ∙ (c.in_ok-nodes.ensures ∙ ap nodes_of c.as_slice-2.ensures) in
     let e : c.deref-3.result.now ≡ programs_of c.args.config.hosts = c.deref-3.ensures.value ∙ (c.in_ok-programs.ensures ∙ ap programs_of c.as_slice.ensures) in
-    let found : routed c.args.graph.now c.args.config.use_shortest_path (nodes_of c.in_ok-rows.rows) (Ok c.in_ok-routes.routes) =
-    subst (λ (ns : List ℕ). routed c.args.graph.now c.args.config.use_shortest_path ns (Ok c.in_ok-routes.routes)) n c.in_ok-routes.ensures.told in
+    let found : (routed c.args.graph.now c.args.config.use_shortest_path (nodes_of c.in_ok-rows.rows)).answers (Ok c.in_ok-routes.routes) =
+    subst (λ (ns : List ℕ). (routed c.args.graph.now c.args.config.use_shortest_path ns).answers (Ok c.in_ok-routes.routes)) n c.in_ok-routes.ensures.told in
     let p = err_from_is_err_and c.from_residual-in_err-images.result c.from_residual-in_err-images.ensures.1 in rw (p.1, p.2)
     (when_told (g.S.Source.held c.args.source.now)
     (λ held h. images_stop held c.args.name.now c.args.graph.now c.args.config c.in_ok-rows.rows c.in_ok-rows.ensures c.in_ok-routes.routes found c.in_err-images.field-0.0
-    (subst (λ (ps : List (List ℕ)). images held ps (Err c.in_err-images.field-0.0)) e h))
+    (subst (λ (ps : List (List ℕ)). Stops (images held ps) c.in_err-images.field-0.0) e h))
     c.in_err-images.ensures.told)
 
 pub returns-in_err-hosts_text-clause-told : goal.returns-in_err-hosts_text-clause-told
 returns-in_err-hosts_text-clause-told g c =
     let p = err_from_is_err_and c.from_residual-in_err-hosts_text.result c.from_residual-in_err-hosts_text.ensures.1 in rw (p.1, p.2)
-    (always_told (g.S.Source.held c.args.source.now) (λ held. rows_stop held c.args.name.now c.args.graph.now c.args.config _ (rows_lack_memory c.args.name.now c.args.graph.now c.args.config.hosts)))
+    (always_told (g.S.Source.held c.args.source.now) (λ held. tt))
 
 pub returns-clause-told : goal.returns-clause-told
 returns-clause-told g c =
     let n : c.deref-2.result.now ≡ nodes_of c.in_ok-rows.rows = c.deref-2.ensures.value ∙ (c.in_ok-nodes.ensures ∙ ap nodes_of c.as_slice-2.ensures) in
     let e : c.deref-3.result.now ≡ programs_of c.args.config.hosts = c.deref-3.ensures.value ∙ (c.in_ok-programs.ensures ∙ ap programs_of c.as_slice.ensures) in
-    let found : routed c.args.graph.now c.args.config.use_shortest_path (nodes_of c.in_ok-rows.rows) (Ok c.in_ok-routes.routes) =
-    subst (λ (ns : List ℕ). routed c.args.graph.now c.args.config.use_shortest_path ns (Ok c.in_ok-routes.routes)) n c.in_ok-routes.ensures.told in
+    let found : (routed c.args.graph.now c.args.config.use_shortest_path (nodes_of c.in_ok-rows.rows)).answers (Ok c.in_ok-routes.routes) =
+    subst (λ (ns : List ℕ). (routed c.args.graph.now c.args.config.use_shortest_path ns).answers (Ok c.in_ok-routes.routes)) n c.in_ok-routes.ensures.told in
     let m : c.deref-4.result.now ≡ nodes_of c.in_ok-rows.rows = c.deref-4.ensures.value ∙ (c.in_ok-nodes.ensures ∙ ap nodes_of c.as_slice-2.ensures) in
     let least : IsLookahead (nodes_of c.in_ok-rows.rows) c.in_ok-routes.routes (nanos_of c.least_between-lookahead.result) =
     subst (λ (ns : List ℕ). IsLookahead ns c.in_ok-routes.routes (nanos_of c.least_between-lookahead.result)) m c.least_between-lookahead.ensures in
     rw (c.from.ensures, c.in_ok-hosts_text.ensures, c.as_slice-3.ensures)
     (when_told (g.S.Source.held c.args.source.now)
     (λ held h. run_done held c.args.name.now c.args.graph.now c.args.config c.in_ok-rows.rows c.in_ok-rows.ensures c.in_ok-routes.routes found c.in_ok-images.images.items c.least_between-lookahead.result
-    (subst (λ (ps : List (List ℕ)). images held ps (Ok c.in_ok-images.images.items)) e h) least)
+    (subst (λ (ps : List (List ℕ)). (images held ps).answers (Ok c.in_ok-images.images.items)) e h) least)
     c.in_ok-images.ensures.told)
 
 pub returns-clause-limits : goal.returns-clause-limits

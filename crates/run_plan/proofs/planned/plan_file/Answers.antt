@@ -17,13 +17,13 @@ returns-in_err-config-clause-count g c =
 
 pub returns-clause-told : goal.returns-clause-told
 returns-clause-told g c =
-    let name : configured c.args.name.now c.deref.result.now c.args.manner.now.overrides (Ok c.in_ok-config.config) =
-    subst (λ (n : List ℕ). configured n c.deref.result.now c.args.manner.now.overrides (Ok c.in_ok-config.config)) c.as_str-2.ensures c.in_ok-config.ensures.told in
-    let said : configured c.args.name.now c.in_ok-text.text.items c.args.manner.now.overrides (Ok c.in_ok-config.config) =
-    subst (λ (t : List ℕ). configured c.args.name.now t c.args.manner.now.overrides (Ok c.in_ok-config.config)) c.deref.ensures.value name in
+    let name : (configured c.args.name.now c.deref.result.now c.args.manner.now.overrides).answers (Ok c.in_ok-config.config) =
+    subst (λ (n : List ℕ). (configured n c.deref.result.now c.args.manner.now.overrides).answers (Ok c.in_ok-config.config)) c.as_str-2.ensures c.in_ok-config.ensures.told in
+    let said : (configured c.args.name.now c.in_ok-text.text.items c.args.manner.now.overrides).answers (Ok c.in_ok-config.config) =
+    subst (λ (t : List ℕ). (configured c.args.name.now t c.args.manner.now.overrides).answers (Ok c.in_ok-config.config)) c.deref.ensures.value name in
     when_both (g.S.Source.held c.args.source.now)
-    (λ held h k. file_run c.args.manner.now held c.args.name.now c.in_ok-text.text.items (subst (λ (n : List ℕ). read held n (Ok c.in_ok-text.text.items)) c.as_str.ensures h)
-    c.in_ok-config.config said c.in_ok-plan.plan c.if-manner.false (subst (λ (n : List ℕ). plan_of held n c.in_ok-config.config (Ok c.in_ok-plan.plan)) c.as_str-3.ensures k))
+    (λ held h k. file_run c.args.manner.now held c.args.name.now c.in_ok-text.text.items (subst (λ (n : List ℕ). (read held n).answers (Ok c.in_ok-text.text.items)) c.as_str.ensures h)
+    c.in_ok-config.config said c.in_ok-plan.plan c.if-manner.false (subst (λ (n : List ℕ). (plan_of held n c.in_ok-config.config).answers (Ok c.in_ok-plan.plan)) c.as_str-3.ensures k))
     c.in_ok-text.ensures.told (rw c.in_ok-text.ensures.same at c.in_ok-plan.ensures.told)
 
 pub returns-clause-apart : goal.returns-clause-apart

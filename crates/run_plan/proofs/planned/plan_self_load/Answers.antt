@@ -1,21 +1,18 @@
 use Rattle.std.proofs.lemmas.Result.{err_from_is_err_and}
-use Rattle.run_plan.proofs.PlannedLemmas.{self_load_lacks_memory, self_load_run}
+use Rattle.run_plan.proofs.PlannedLemmas.{self_load_run}
 use Rattle.run_plan.proofs.planned.plan_self_load.Goals as goal
 
 pub returns-in_err-config-clause-told : goal.returns-in_err-config-clause-told
 returns-in_err-config-clause-told g c =
-    let p = err_from_is_err_and c.from_residual.result c.from_residual.ensures.1 in rw (p.1, p.2)
-    (self_load_lacks_memory c.args.manner.now c.args.hosts)
+    let p = err_from_is_err_and c.from_residual.result c.from_residual.ensures.1 in rw (p.1, p.2) tt
 
 pub returns-in_err-graph-clause-told : goal.returns-in_err-graph-clause-told
 returns-in_err-graph-clause-told g c =
-    let p = err_from_is_err_and c.from_residual-in_err-graph.result c.from_residual-in_err-graph.ensures.1 in rw (p.1, p.2)
-    (self_load_lacks_memory c.args.manner.now c.args.hosts)
+    let p = err_from_is_err_and c.from_residual-in_err-graph.result c.from_residual-in_err-graph.ensures.1 in rw (p.1, p.2) tt
 
 pub returns-in_err-ring_bytes-clause-told : goal.returns-in_err-ring_bytes-clause-told
 returns-in_err-ring_bytes-clause-told g c =
-    let p = err_from_is_err_and c.from_residual-in_err-ring_bytes.result c.from_residual-in_err-ring_bytes.ensures.1 in rw (p.1, p.2)
-    (self_load_lacks_memory c.args.manner.now c.args.hosts)
+    let p = err_from_is_err_and c.from_residual-in_err-ring_bytes.result c.from_residual-in_err-ring_bytes.ensures.1 in rw (p.1, p.2) tt
 
 pub returns-clause-told : goal.returns-clause-told
 returns-clause-told g c =

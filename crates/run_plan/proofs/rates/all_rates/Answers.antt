@@ -1,7 +1,6 @@
 use Rattle.std.proofs.Common.{◌≡◌, ◌∙◌, ◌+◌, List, ◌∷◌, drop, sym, ap, subst}
-use Rattle.std.specs.Prelude.{Err}
 use Rattle.sim_base.specs.declared.address.Ip.{Ip}
-use Rattle.run_plan.specs.Outcomes.{gives}
+use Rattle.run_plan.specs.Reading.{gives, Stops}
 use Rattle.std.proofs.lemmas.List.{drop_more}
 use Rattle.std.proofs.lemmas.Result.{err_from_is_err_and}
 use Rattle.shd_config.specs.declared.config.HostConfig.{HostConfig}
@@ -18,7 +17,7 @@ returns-in_err-rates c =
     let p = err_from_is_err_and c.from_residual.result c.from_residual.ensures.1 in rw (p.1, p.2)
     (stops (rates_of c.args.file.now c.args.nodes.now c.loop-host.earlier.items c.host-item.result) (all_rates c.args.file.now c.args.nodes.now c.args.hosts.now) _
     (λ f e. rates_stop c.args.file.now c.args.nodes.now c.args.hosts.now c.loop-host.host-index c.loop-host.earlier.items c.loop-host.all.items c.loop-host.invariant c.host-item.result f at e)
-    (subst (λ (earlier : List Ip). gives (rates_of c.args.file.now c.args.nodes.now earlier c.host-item.result) (Err c.in_err-rates.field-0.0)) c.deref.ensures.value c.in_err-rates.ensures))
+    (subst (λ (earlier : List Ip). Stops (gives (rates_of c.args.file.now c.args.nodes.now earlier c.host-item.result)) c.in_err-rates.field-0.0) c.deref.ensures.value c.in_err-rates.ensures))
 
 pub loop-host-preserved : goal.loop-host-preserved
 loop-host-preserved c =
