@@ -4,17 +4,19 @@ use Rattle.std.specs.Prelude.{Ok, codes}
 use Rattle.run_outside.specs.Files.{Held}
 use Rattle.gml_graph.specs.declared.graph.Graph.{Graph}
 use Rattle.shd_config.specs.declared.config.Config.{Config}
+use Rattle.run_plan.specs.Captured.{captured}
 use Rattle.run_plan.specs.Configured.{configured}
 use Rattle.run_plan.specs.File.{read}
 use Rattle.run_plan.specs.Reading.{Reading, gives, Stops, ◌>>=◌}
 use Rattle.run_plan.specs.Plan.{plan_of, run_of}
-use Rattle.run_plan.specs.Planned.{runs, shown_or_run, file_planned, self_load_planned}
+use Rattle.run_plan.specs.Planned.{runs, shown_or_run, file_planned, self_load_planned, capture_planned}
 use Rattle.run_plan.specs.Ring.{ring, one_file, ring_files}
 use Rattle.run_plan.specs.SelfLoad.{self_load_config, self_load_graph}
 use Rattle.run_plan.specs.declared.fault.ReadStop.{ReadStop}
 use Rattle.run_plan.specs.declared.plan.Plan.{Plan}
 use Rattle.run_plan.specs.declared.planned.Manner.{Manner}
 use Rattle.run_plan.specs.declared.planned.Planned.{Planned}
+use Rattle.run_plan.specs.declared.planned.Planned.TheVariants.{Lists}
 use Rattle.run_plan.proofs.StepLemmas.{stops_first, stops_next}
 
 -- ---- shown or run
@@ -54,6 +56,15 @@ module _ (m : Manner) (held : Held) (name : List ℕ) where
       pub file_run : (p : Plan) → m.shows_config ≡ false → (plan_of held name config).answers (Ok p) → (file_planned m held name).answers (Ok (runs m false p))
       unfolding file_planned
       file_run p e n = (text, h, (config, k, is_run config (plan_of held name config) (runs m false) m.shows_config p e n))
+
+-- ---- a capture
+
+abbrev with_bytes : List ℕ → List ℕ → Reading Planned
+with_bytes name bytes = gives (captured name bytes) >>= (λ capture. gives (Ok (Lists capture)))
+
+pub capture_stops : (held : Held) (name : List ℕ) (stop : ReadStop) → Stops (read held name) stop → Stops (capture_planned held name) stop
+unfolding capture_planned
+capture_stops held name stop h = stops_first (read held name) (with_bytes name) stop h
 
 -- ---- a self-load
 
