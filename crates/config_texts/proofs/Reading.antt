@@ -7,7 +7,7 @@ use Rattle.std.specs.List.{AllByRecursion}
 use Rattle.std.specs.Str.{IsUtf8}
 use Rattle.config_texts.proofs.Lists.{all_pushed, or_none, through_members}
 use Rattle.config_texts.proofs.Trees.{PairIsText, SaidIsText, merged_text}
-use Rattle.shown_config.proofs.SplitWords.{words-has}
+use Rattle.shown_config.proofs.plain.SplitWords.{words-has}
 use Rattle.config_texts.specs.Texts.{AreUtf8, HasTexts, HostIsText, ProcessIsText, VariableIsText}
 use Rattle.shd_config.proofs.Walks.{below_has, checked_has, kept_or_read, needed_has, optional_has, then_all, then_has, valued_has}
 use Rattle.shd_config.specs.Config.{config, experimental_at, general_or, is_passed_over, kept, merged_config, new_root, root, root_key, root_of, root_row, wrong_merge}

@@ -25,15 +25,15 @@ use Rattle.shd_config.specs.declared.overrides.Overrides.{Overrides}
 use Rattle.shd_config.specs.declared.reading.RootDraft.{RootDraft}
 use Rattle.shown_config.specs.Plain.{IsPlainHost, IsPlain}
 use Rattle.shown_config.specs.Same.{no_overrides}
-use Rattle.shown_config.proofs.ReadSteps.{number-ok, time-ok, stop_time-ok, text-ok}
-use Rattle.shown_config.proofs.Blocks.{block_pairs, after_block}
-use Rattle.shown_config.proofs.BlockTokens.{block-has_tokens}
-use Rattle.shown_config.proofs.BlockText.{tree_of_block, block-is_tidy, block-lines, block-is_tree}
-use Rattle.shown_config.proofs.ConfigBlock.{general_block, network_block, config_block}
-use Rattle.shown_config.proofs.ConfigText.{shown-text}
-use Rattle.shown_config.proofs.ConfigKeys.{config-is_block}
-use Rattle.shown_config.proofs.GeneralReads.{general_pair, network_value, network-reads}
-use Rattle.shown_config.proofs.HostReads.{hosts_read, hosts-reads, hosts-same}
+use Rattle.shown_config.proofs.reading.ReadSteps.{number-ok, time-ok, stop_time-ok, text-ok}
+use Rattle.shown_config.proofs.blocks.Blocks.{block_pairs, after_block}
+use Rattle.shown_config.proofs.blocks.BlockTokens.{block-has_tokens}
+use Rattle.shown_config.proofs.blocks.BlockText.{tree_of_block, block-is_tidy, block-lines, block-is_tree}
+use Rattle.shown_config.proofs.config.ConfigBlock.{general_block, network_block, config_block}
+use Rattle.shown_config.proofs.config.ConfigText.{shown-text}
+use Rattle.shown_config.proofs.config.ConfigKeys.{config-is_block}
+use Rattle.shown_config.proofs.reading.GeneralReads.{general_pair, network_value, network-reads}
+use Rattle.shown_config.proofs.reading.HostReads.{hosts_read, hosts-reads, hosts-same}
 use Rattle.run_plan.specs.SelfLoad.{self_load_config}
 use Rattle.self_load.specs.Means.{without_lines, SaysConfig}
 use Rattle.self_load.proofs.ConfigPlain.{plain}

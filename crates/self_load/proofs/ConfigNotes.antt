@@ -7,11 +7,11 @@ use Rattle.shd_config.specs.Keys.{key_of}
 use Rattle.shd_config.specs.Notes.{held, host_notes, hosts_notes, notes, path_behind}
 use Rattle.shd_config.specs.declared.config.HostConfig.{HostConfig}
 use Rattle.shown_config.specs.Same.{no_overrides}
-use Rattle.shown_config.proofs.Words.Word.{quote}
-use Rattle.shown_config.proofs.Blocks.{Block, block_said, after_block, block_pairs, pair_at}
-use Rattle.shown_config.proofs.BlockSaid.{block-pairs}
-use Rattle.shown_config.proofs.BlockText.{tree_of_block}
-use Rattle.shown_config.proofs.ConfigBlock.{host_block, hosts_block, config_block}
+use Rattle.shown_config.proofs.words.Words.Word.{quote}
+use Rattle.shown_config.proofs.blocks.Blocks.{Block, block_said, after_block, block_pairs, pair_at}
+use Rattle.shown_config.proofs.blocks.BlockSaid.{block-pairs}
+use Rattle.shown_config.proofs.blocks.BlockText.{tree_of_block}
+use Rattle.shown_config.proofs.config.ConfigBlock.{host_block, hosts_block, config_block}
 use Rattle.run_plan.specs.SelfLoad.{ring_host, self_load_config}
 
 abbrev pub ring_hosts : ℕ → ℕ → ℕ → List HostConfig

@@ -1,4 +1,4 @@
-use Rattle.shown_config.proofs.PlainHosts.{config-plain}
+use Rattle.shown_config.proofs.plain.PlainHosts.{config-plain}
 use Rattle.shown_config.proofs.laws.configurations_plain.Goals as goal
 
 pub returns : goal.returns

@@ -1,4 +1,4 @@
-use Rattle.shown_config.proofs.ReadBack.{reads-back}
+use Rattle.shown_config.proofs.reading.ReadBack.{reads-back}
 use Rattle.shown_config.proofs.laws.plain_shown.Goals as goal
 
 pub returns : goal.returns

@@ -1,6 +1,6 @@
 use Rattle.text_trees.proofs.TextTrees.{text-plain}
-use Rattle.shown_config.proofs.PlainHosts.{config-plain}
-use Rattle.shown_config.proofs.ReadBack.{reads-back}
+use Rattle.shown_config.proofs.plain.PlainHosts.{config-plain}
+use Rattle.shown_config.proofs.reading.ReadBack.{reads-back}
 use Rattle.shown_config.proofs.laws.shown_again.Goals as goal
 
 pub returns : goal.returns

@@ -1,0 +1,5 @@
+-- the block of a configuration
+pub mod ConfigBlock
+pub mod ConfigText
+pub mod ConfigWords
+pub mod ConfigKeys
