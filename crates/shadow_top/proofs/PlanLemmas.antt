@@ -11,11 +11,11 @@ use Rattle.net_run.specs.Pieces.{with_pieces}
 use Rattle.net_run.specs.Shown.{pieces}
 use Rattle.run_plan.specs.declared.planned.Run.{Run}
 use Rattle.shadow_top.specs.Input.{directory_of}
-use Rattle.shadow_top.specs.Opened.{Opens}
+use Rattle.opened_run.specs.Opened.{Opens}
 use Rattle.plan_rows.specs.Rows.{rows_of}
 use Rattle.shadow_top.specs.Shown.{IsRunTo, pieces_of}
 use Rattle.shadow_top.specs.inside.Steps.{RunsOpened, RunsPlan}
-use Rattle.shadow_top.specs.declared.opened.Opened.{Opened}
+use Rattle.opened_run.specs.declared.opened.Opened.{Opened}
 use Rattle.shadow_top.specs.declared.stop.Answer.{Answer}
 use Rattle.shadow_top.specs.declared.stop.Answer.TheVariants.{Status, Exists}
 

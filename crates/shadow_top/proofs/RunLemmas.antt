@@ -17,13 +17,14 @@ use Rattle.round_lookahead.specs.WorldStands.{nanos_of, HasRounds, IsBetweenRoun
 use Rattle.round_lookahead.specs.declared.world.world_state.World as rounds
 use Rattle.run_plan.specs.Names.{AreApart}
 use Rattle.shadow_top.specs.inside.Ending.{PutsAll}
-use Rattle.shadow_top.specs.Opened.{HasOpened}
+use Rattle.opened_run.specs.Opened.{HasOpened}
 use Rattle.shadow_top.specs.inside.Rounds.{HasAllRounds, PutsInPart}
 use Rattle.shadow_top.specs.inside.Steps.{RunsNoted, RunsOpened}
-use Rattle.shadow_top.specs.declared.opened.Opened.{Opened}
+use Rattle.opened_run.specs.declared.opened.Opened.{Opened}
 use Rattle.shadow_top.proofs.EndLemmas.{small}
 use Rattle.shadow_top.proofs.GrowLemmas.{AreBetween, with_append, Grows-refl, Grows-with_pieces}
 use Rattle.shadow_top.proofs.NameLemmas.{opening-names, own-files}
+use Rattle.shadow_top.proofs.OpenedLemmas.{has-rounds, host-rows}
 use Rattle.shadow_top.proofs.PartLemmas.{between-after, between-first, between-more}
 
 -- what is told of results: there is one from each world between rounds, as from the one in which all hosts begin
@@ -36,7 +37,7 @@ OpenBetween = (net : Net) (rows : List Row) → AreHostRows net rows → IsBetwe
 -- a run has a result
 ran_exists : HaveResults → OpenBetween → (opened : Opened) → HasOpened opened → (w : World) × IsResult opened.net w (opening_world opened.rows.items)
 ran_exists results between opened has =
-    let r = results opened.net (nanos_of opened.lookahead) (opening_world opened.rows.items) has.rounds (between opened.net opened.rows.items has.rows) in (r.0, r.1)
+    let r = results opened.net (nanos_of opened.lookahead) (opening_world opened.rows.items) (has-rounds opened has) (between opened.net opened.rows.items (host-rows opened has)) in (r.0, r.1)
 
 -- no memory for the run: nothing was put
 pub not_run : HaveResults → OpenBetween → AreBetween → (opened : Opened) (old : Option Content) (error : WriteError) → HasOpened opened

@@ -9,9 +9,9 @@ ghost use Rattle.shadow_top.specs.inside.Steps.{ListsCapture};
 ghost use Rattle.shadow_top.specs.inside.Stop.{IsSmall};
 
 use crate::stop::Answer;
+use base_texts::Text;
 use out_text::{cut_line, packet_line};
 use pcap_text::{Capture, Record};
-use base_texts::Text;
 use run_outside::{Place, Sink, WriteError, put_all};
 use sim_base::NoMemory;
 use std::alloc::Global;

@@ -7,7 +7,6 @@
 mod captured;
 mod ending;
 pub mod laws;
-mod opened;
 mod rounds;
 mod simulation;
 mod stop;

@@ -3,9 +3,9 @@
 ghost use Rattle.std.specs.Prelude.{◌≡◌};
 ghost use Rattle.shadow_top.specs.inside.Stop.{ended};
 
-use run_plan::{Fault, ReadStop};
 use base_texts::Name;
 use run_outside::WriteError;
+use run_plan::{Fault, ReadStop};
 
 /// What a plan comes to, where no write fails and memory suffices.
 #[derive(Drop)]

@@ -23,7 +23,7 @@ use Rattle.shadow_top.specs.Captured.{AreLinesOf}
 use Rattle.shadow_top.specs.Contract.{Shows, ShowsPart, read_failed_line}
 use Rattle.shadow_top.specs.Input.{Input, IsFirstFault, IsReached, directory_of}
 use Rattle.shadow_top.specs.Shown.{IsRunTo, pieces_of}
-use Rattle.shadow_top.specs.declared.opened.Opened.{Opened}
+use Rattle.opened_run.specs.declared.opened.Opened.{Opened}
 use Rattle.shadow_top.specs.declared.stop.Answer.{Answer}
 use Rattle.shadow_top.specs.declared.stop.Answer.TheVariants.{Status, Exists}
 use Rattle.shadow_top.specs.declared.stop.Stop.{Stop}

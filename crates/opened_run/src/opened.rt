@@ -1,10 +1,10 @@
-//! The rows of hosts and the net that a run begins with.
+//! What a run begins with: the rows of hosts and the net of its plan, and what is asked of the run.
 
 ghost use Rattle.std.specs.Prelude.{IfOk};
 ghost use Rattle.run_plan.specs.Limits.{KeepsToLimits};
 ghost use Rattle.run_plan.specs.Names.{AreRowsApart};
 ghost use Rattle.run_plan.specs.Routed.{IsRouted};
-ghost use Rattle.shadow_top.specs.Opened.{Opens, HasOpened};
+ghost use Rattle.opened_run.specs.Opened.{Opens, HasOpened};
 
 use base_texts::Name;
 use host_link::{Images, Net, Nodes, Row};

@@ -1,12 +1,14 @@
 -- What a run begins with: the rows of hosts and the net that its plan says, which can be run by rounds.
-use Rattle.std.specs.Prelude.{◌≡◌, map}
+use Rattle.std.specs.Prelude.{◌≡◌, ◌<◌, ◌≤◌, length, map, IfSome}
+use Rattle.sim_base.specs.Limits.{most_hosts}
 use Rattle.host_link.specs.declared.row.Row.{Row}
+use Rattle.host_state.specs.Fits.{IsLookaheadOf, IsShort}
+use Rattle.host_state.specs.World.{AreRows}
 use Rattle.plan_rows.specs.Rows.{rows_of, net_of, cut_lookahead}
-use Rattle.round_lookahead.specs.OpeningWorld.{AreHostRows}
-use Rattle.round_lookahead.specs.WorldStands.{HasRounds, nanos_of}
 use Rattle.run_plan.specs.Names.{AreApart}
+use Rattle.run_plan.specs.Plan.{nanos_of}
 use Rattle.run_plan.specs.declared.planned.Run.{Run}
-use Rattle.shadow_top.specs.declared.opened.Opened.{Opened}
+use Rattle.opened_run.specs.declared.opened.Opened.{Opened}
 
 -- a run is opened
 pub record Opens (run : Run) (opened : Opened) : Type 0 where
@@ -19,8 +21,13 @@ pub record Opens (run : Run) (opened : Opened) : Type 0 where
   pub rows : opened.rows.items ≡ rows_of run
   pub net : opened.net ≡ net_of run
 
--- its rows are those of its net, which can be run by rounds, and no two hosts have one name
+-- its rows are those of its net, which has 1 to 16,384 hosts; no route from one to another takes less than the lookahead, which is a nanosecond
+-- at least and leaves room before the end of time; and no two hosts have one name
 pub record HasOpened (opened : Opened) : Type 0 where
-  pub rows : AreHostRows opened.net opened.rows.items
-  pub rounds : HasRounds opened.net (nanos_of opened.lookahead)
+  pub rows : AreRows opened.net opened.rows.items
+  pub some : 0 < length opened.net.known.book
+  pub few : length opened.net.known.book ≤ most_hosts
+  pub routes : IsLookaheadOf opened.net (nanos_of opened.lookahead)
+  pub ahead : IfSome opened.lookahead (λ time. 0 < time.nanos)
+  pub short : IsShort (nanos_of opened.lookahead)
   pub names : AreApart (map (λ (row : Row). row.name) opened.rows.items)

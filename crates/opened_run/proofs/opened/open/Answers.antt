@@ -1,8 +1,8 @@
 use Rattle.std.proofs.Common.{rules}
-use Rattle.shadow_top.specs.Opened.{Opens}
-use Rattle.shadow_top.specs.declared.opened.Opened.{Opened}
-use Rattle.shadow_top.proofs.OpenedLemmas.{opened_fits}
-use Rattle.shadow_top.proofs.opened.open.Goals as goal
+use Rattle.opened_run.specs.Opened.{Opens}
+use Rattle.opened_run.specs.declared.opened.Opened.{Opened}
+use Rattle.opened_run.proofs.OpenedLemmas.{opened_fits}
+use Rattle.opened_run.proofs.opened.open.Goals as goal
 
 pub returns-clause-opened : goal.returns-clause-opened
 returns-clause-opened c =
