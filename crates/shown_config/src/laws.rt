@@ -15,11 +15,6 @@ pub fn shown_again()
     ensures { (text : List ℕ) (tree : Said) (o : Overrides) (empty : Bool) (c : Config) → IsTreeOf text tree → AreOverrides o → config o empty tree ≡ Ok c → ReadsBack c }
 {}
 
-/// The tree of a text is plain: each of its texts is UTF-8, and no mapping has a key twice.
-pub fn trees_plain()
-    ensures { (text : List ℕ) (tree : Said) → IsTreeOf text tree → trees.IsPlain tree }
-{}
-
 /// The configuration of a plain tree is plain.
 pub fn configurations_plain()
     ensures { (tree : Said) (o : Overrides) (empty : Bool) (c : Config) → trees.IsPlain tree → AreOverrides o → config o empty tree ≡ Ok c → IsPlain c }

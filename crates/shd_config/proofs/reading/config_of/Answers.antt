@@ -1,8 +1,11 @@
-use Rattle.std.proofs.Common.{All, IfOk}
+use Rattle.std.proofs.Common.{Bool, All, IfOk, subst}
+use Rattle.std.proofs.lemmas.Result.{err_from_is_err_and}
+use Rattle.sim_base.specs.Refusals.{◌>>=◌}
 use Rattle.yaml_tree.specs.Trees.{is_empty}
 use Rattle.yaml_merge.specs.Merge.{merged}
 use Rattle.shd_config.specs.Config.{wrong_merge, merged_config, config}
 use Rattle.shd_config.specs.Limits.{MayStop, IsSomeText, AreFewHosts, HasFewProcesses, HaveFewBytes, IsWithinLimits}
+use Rattle.shd_config.specs.Steps.{Gives}
 use Rattle.shd_config.specs.declared.config.Config.{Config}
 use Rattle.shd_config.proofs.LimitLaws.{answers_within, part}
 use Rattle.shd_config.proofs.StepLaws.{first_fails, then_gives}
@@ -10,12 +13,15 @@ use Rattle.shd_config.proofs.reading.config_of.Goals as goal
 
 pub returns-in_err-merged-clause-told : goal.returns-in_err-merged-clause-told
 unfolding config
-returns-in_err-merged-clause-told c = λ said holds plain shallow. first_fails _ (wrong_merge (merged said)) _ (c.in_err-merged.ensures said holds plain shallow)
+returns-in_err-merged-clause-told c = λ said holds plain shallow.
+    let p = err_from_is_err_and c.from_residual.result c.from_residual.ensures.1 in rw (p.1, p.2)
+    (first_fails c.in_err-merged.field-0.0 (wrong_merge (merged said)) (merged_config c.args.overrides.now (is_empty c.args.tree.now)) (c.in_err-merged.ensures said holds plain shallow))
 
 pub returns-clause-told : goal.returns-clause-told
 unfolding config
 returns-clause-told c = λ said holds plain shallow.
-    then_gives c.merged_config.result (wrong_merge (merged said)) (merged_config c.args.overrides.now c.is_empty.result) c.in_ok-merged.merged (c.in_ok-merged.ensures said holds plain shallow) c.merged_config.ensures
+    subst (λ (empty : Bool). Gives c.merged_config.result (wrong_merge (merged said) >>= merged_config c.args.overrides.now empty)) c.is_empty.ensures
+    (then_gives c.merged_config.result (wrong_merge (merged said)) (merged_config c.args.overrides.now c.is_empty.result) c.in_ok-merged.merged (c.in_ok-merged.ensures said holds plain shallow) c.merged_config.ensures)
 
 pub returns-clause-few : goal.returns-clause-few
 returns-clause-few c =
