@@ -1,5 +1,5 @@
 -- A round in which each host is run in its place is a round of all workers.
-use Rattle.std.proofs.Common.{◌≡◌, ◌≢◌, ℕ, zero, suc, ◌<◌, ◌⊎◌, inl, inr, ⊎_elim, List, [], ◌∷◌, ◌++◌, Some, None, map, flat_map, length, replicate, slice_get, slice_set, get_or, refl, sym, ap, subst, ◌∙◌, append-nil, append_assoc, Vec, arith, IsPermutation, All, length-set}
+use Rattle.std.proofs.Common.{◌≡◌, ◌≢◌, ℕ, zero, suc, ◌<◌, ◌^◌, ◌⊎◌, inl, inr, ⊎_elim, List, [], ◌∷◌, ◌++◌, Some, None, map, flat_map, length, replicate, slice_get, slice_set, get_or, refl, sym, ap, subst, ◌∙◌, append-nil, append_assoc, Vec, arith, IsPermutation, All, length-set}
 use Rattle.std.specs.Prelude.{Contains}
 use Rattle.std.specs.declared.alloc.Global.{Global}
 use Rattle.std.proofs.lemmas.List.{length_push}
@@ -19,12 +19,14 @@ use Rattle.round_lookahead.specs.declared.workers.task.Task.{Task}
 use Rattle.round_lookahead.specs.declared.workers.worked.Done.{Done}
 use Rattle.round_lookahead.specs.declared.workers.worked.Worked.{Worked}
 use Rattle.round_lookahead.specs.declared.world.in_place.Alone.{Alone}
-use Rattle.round_lookahead.specs.Alone.{HasRunFirst, IsPlaced, HasKept, AreRunInPlace}
+use Rattle.round_lookahead.specs.Alone.{HasRunFirst, IsPlaced, HasKept, HasPassed, AreRunInPlace}
 use Rattle.round_lookahead.specs.inside.Arrivals.{Boxed}
 use Rattle.round_lookahead.specs.inside.Backs.{lists_of, lines_done}
+use Rattle.round_lookahead.specs.inside.Idles.{IsIdle}
 use Rattle.round_lookahead.specs.Rounds.{AreWorks, AreRows, IsRound, all_parcels}
 use Rattle.round_lookahead.specs.Tasks.{IsTask, AreTasksOf}
 use Rattle.round_lookahead.specs.Works.{HostJob, IsDone, AreDone, HasRun, done_of, numbers, parcels_made}
+use Rattle.round_lookahead.proofs.IdleSteps.{idle-run}
 use Rattle.round_lookahead.proofs.WorkSteps.{done-more, made-more}
 
 -- ---- lists
@@ -47,6 +49,10 @@ map-more f (y ∷ xs) x = ap (λ (l : List _). f y ∷ l) (map-more f xs x)
 lines-more : (ds : List Done) (d : Done) → lines_done (ds ++ d ∷ []) ≡ lines_done ds ++ d.lines.items
 lines-more [] d = append-nil d.lines.items
 lines-more (e ∷ ds) d = ap (λ (l : List Logged). e.lines.items ++ l) (lines-more ds d) ∙ sym (append_assoc e.lines.items (lines_done ds) d.lines.items)
+
+-- a vector of the logic
+abbrev pub holding : {X Y : Type 0} → Vec X Global → (ys : List Y) → length ys < 2 ^ 63 → Vec Y Global
+holding v ys few = record { ptr = v.ptr; len = length ys; cap = length ys; alloc = v.alloc; items = ys; ok = (refl, omega arith); small = few }
 
 -- ---- one host more
 
@@ -91,10 +97,11 @@ module _ (net : Net) (end : ℕ) (old now : List Task) (i : ℕ) (a : Alone) (t 
   pub may-run-here : (h : HostRecord) × IsTask net t.id.index t h
   may-run-here = let h = are.each i t before in (h.0, subst (λ (n : ℕ). IsTask net n t h.0) (sym numbered) h.1)
 
-  pub placed-more : (b : Alone) (t' : Task) (out : Outbox) → t'.id ≡ t.id → t'.parcels.items ≡ [] → ((h : HostRecord) → IsTask net t.id.index t h → HasRun net end t h (done_of t' out) out.parcels.items)
-      → HasKept t'.id out a b → AreRunInPlace net end old (suc i) (slice_set now i t') b
-  placed-more b t' out id emptied ran kept =
-      let d : Done = done_of t' out in
+  -- one host more was run in its place
+  placed-more : (b : Alone) (t' : Task) (d : Done) (ps : List Parcel) → d.id ≡ t.id → t'.id ≡ d.id → t'.host ≡ d.host → t'.parcels.items ≡ []
+      → ((h : HostRecord) → IsTask net t.id.index t h → HasRun net end t h d ps) → b.outputs.items ≡ a.outputs.items ++ d.outputs ∷ [] → b.lines.items ≡ a.lines.items ++ d.lines.items
+      → b.took.items ≡ a.took.items ++ d.id ∷ [] → b.spill.items ≡ a.spill.items ++ ps → AreRunInPlace net end old (suc i) (slice_set now i t') b
+  placed-more b t' d ps id same host emptied ran outputs lines took spill =
       record {
         ds = r.ds ++ d ∷ [];
         many = (let long = length_push r.ds d in let many = r.many in omega arith);
@@ -109,16 +116,28 @@ module _ (net : Net) (end : ℕ) (old now : List Task) (i : ℕ) (a : Alone) (t 
             (λ (q : (place ≡ length r.ds) × (d ≡ e)).
             let is : place ≡ i = q.0 ∙ r.many in
             subst (λ (x : Done). IsPlaced (slice_set now i t') place x) q.1
-            (record { task = t'; at = ap (slice_get (slice_set now i t')) is ∙ get-set_same now i t t' here; number = ap (λ (x : HostId). x.index) id ∙ numbered ∙ sym is; id = refl; host = refl; emptied = emptied }))
+            (record { task = t'; at = ap (slice_get (slice_set now i t')) is ∙ get-set_same now i t t' here; number = ap (λ (x : HostId). x.index) id ∙ numbered ∙ sym is; id = same; host = host; emptied = emptied }))
             (at-more r.ds d e place at);
         later = λ place h. (let other : place ≢ i = omega arith in get-set_other now i place t' other ∙ r.later place (omega arith));
-        run = λ rec tasks. one-more net end old rec i r.ds a.spill.items b.spill.items t d out.parcels.items before numbered
+        run = λ rec tasks. one-more net end old rec i r.ds a.spill.items b.spill.items t d ps before numbered
             (ran (rec t.id.index) (subst (λ (n : ℕ). IsTask net n t (rec n)) (sym numbered) (tasks i t before)))
-            kept.spill (r.run rec tasks);
-        outputs = kept.outputs ∙ ap (λ (l : List (Vec Output Global)). l ++ out.outputs ∷ []) r.outputs ∙ sym (map-more (λ (x : Done). x.outputs) r.ds d);
-        lines = kept.lines ∙ ap (λ (l : List Logged). l ++ out.lines.items) r.lines ∙ sym (lines-more r.ds d);
-        took = kept.took ∙ ap (λ (l : List HostId). l ++ t'.id ∷ []) r.took ∙ sym (map-more (λ (x : Done). x.id) r.ds d);
+            spill (r.run rec tasks);
+        outputs = outputs ∙ ap (λ (l : List (Vec Output Global)). l ++ d.outputs ∷ []) r.outputs ∙ sym (map-more (λ (x : Done). x.outputs) r.ds d);
+        lines = lines ∙ ap (λ (l : List Logged). l ++ d.lines.items) r.lines ∙ sym (lines-more r.ds d);
+        took = took ∙ ap (λ (l : List HostId). l ++ d.id ∷ []) r.took ∙ sym (map-more (λ (x : Done). x.id) r.ds d);
       }
+
+  pub kept-more : (b : Alone) (t' : Task) (out : Outbox) → t'.id ≡ t.id → t'.parcels.items ≡ [] → ((h : HostRecord) → IsTask net t.id.index t h → HasRun net end t h (done_of t' out) out.parcels.items)
+      → HasKept t'.id out a b → AreRunInPlace net end old (suc i) (slice_set now i t') b
+  kept-more b t' out id emptied ran kept =
+      placed-more b t' (done_of t' out) out.parcels.items id refl refl emptied ran kept.outputs kept.lines kept.took kept.spill
+
+  -- it had nothing to do, and stays as it is
+  pub passed-more : (b : Alone) → IsIdle end t → HasPassed t.id a b → AreRunInPlace net end old (suc i) (slice_set now i t) b
+  passed-more b idle passed =
+      let d : Done = record { id = t.id; host = t.host; lines = holding passed.none [] (omega arith); outputs = passed.none } in
+      placed-more b t d [] refl refl refl idle.none (λ h is. idle-run net end t h d is idle refl refl refl passed.empty)
+      passed.outputs (passed.lines ∙ sym (append-nil a.lines.items)) passed.took (passed.spill ∙ sym (append-nil a.spill.items))
 
 -- ---- idle workers
 

@@ -18,10 +18,10 @@ module _ {X : Type 0} (P : X → Type 0) where
   pub in-any : (xs : List X) (x : X) → IsIn x xs → P x → Any P xs
   in-any xs x h p = let c = Contains-from_IsIn x xs h in (c.0, x, c.1, c.2, p)
 
-abbrev IsDue : Time → Event → Type 0
+abbrev pub IsDue : Time → Event → Type 0
 IsDue due e = e.key.due ≡ due
 
-abbrev IsFrom : Time → Event → Type 0
+abbrev pub IsFrom : Time → Event → Type 0
 IsFrom due e = due.nanos ≤ e.key.due.nanos
 
 from-earlier : (x y : Time) (es : List Event) → x.nanos ≤ y.nanos → All (IsFrom y) es → All (IsFrom x) es

@@ -12,6 +12,7 @@ pub mod SortedLogs
 pub mod RoundOrders
 pub mod RoundJobs
 pub mod DueSteps
+pub mod IdleSteps
 pub mod BackSteps
 pub mod DeliverySteps
 pub mod MergeSteps

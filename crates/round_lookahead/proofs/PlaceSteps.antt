@@ -32,7 +32,7 @@ use Rattle.round_lookahead.specs.inside.Backs.{all_done, all_spilled, ids_of, li
 use Rattle.round_lookahead.specs.RoundsInPlace.{IsRoundInPlace}
 use Rattle.round_lookahead.specs.inside.Settles.{IsBack, HasSettled}
 use Rattle.round_lookahead.specs.inside.Waits.{IsSameHosts, rows_of}
-use Rattle.round_lookahead.proofs.AloneSteps.{AreIdle, alone-round, idle-spills}
+use Rattle.round_lookahead.proofs.AloneSteps.{AreIdle, alone-round, holding, idle-spills}
 use Rattle.round_lookahead.proofs.DeliverySteps.{row-more}
 use Rattle.round_lookahead.proofs.SettleSteps.{get_or-is}
 
@@ -115,10 +115,7 @@ none-away net ts none i row below =
     let empty : (get_or (rows_of ts) i row).items ≡ [] = ap (λ (v : Vec Boxed Global). v.items) is ∙ none i found.0 found.1 in
     λ k b within. absurd (omega (arith, within, ap (λ (l : List Boxed). length l) empty))
 
--- ---- vectors of the logic
-
-abbrev holding : {X Y : Type 0} → Vec X Global → (ys : List Y) → length ys < 2 ^ 63 → Vec Y Global
-holding v ys few = record { ptr = v.ptr; len = length ys; cap = length ys; alloc = v.alloc; items = ys; ok = (refl, omega arith); small = few }
+-- ---- lists of vectors
 
 lists-replicate : {X : Type 0} (n : ℕ) (v : Vec X Global) → lists_of (replicate n v) ≡ replicate n v.items
 lists-replicate zero v = refl

@@ -1,5 +1,6 @@
 -- A task's host that is run up to the end.
-use Rattle.std.proofs.Common.{◌≡◌, ℕ, ◌<◌, ◌≤◌, List, [], ◌++◌, All, map, length, refl, sym, ap, subst, ◌∙◌, IsPermutation}
+use Rattle.std.proofs.Common.{◌≡◌, ℕ, ◌<◌, ◌≤◌, List, [], ◌++◌, All, map, length, refl, sym, ap, subst, ◌∙◌, IsPermutation, Vec}
+use Rattle.std.specs.declared.alloc.Global.{Global}
 use Rattle.std.proofs.lemmas.List.Sorted.{All-permutation, IsPermutation-sym}
 use Rattle.sim_base.specs.Units.{latest_time}
 use Rattle.sim_base.specs.declared.event.Event.{Event}
@@ -13,7 +14,7 @@ use Rattle.host_link.specs.declared.outbox.Outbox.{Outbox}
 use Rattle.host_state.specs.Fits.{model, IsEventOf}
 use Rattle.host_link.specs.Home.{home}
 use Rattle.host_state.specs.HostRecord.{HostRecord}
-use Rattle.host_state.specs.HostStands.{Stands}
+use Rattle.host_state.specs.HostStands.{IsSameBody, Stands}
 use Rattle.host_link.specs.Link.{LinkState}
 use Rattle.host_link.specs.Outbox as out
 use Rattle.host_link.specs.Parcels.{parcel_event}
@@ -22,6 +23,7 @@ use Rattle.world_order.specs.WholeTurns.{RunsTo}
 use Rattle.world_order.proofs.Members.{Each-from_All, All-from_Each}
 use Rattle.round_lookahead.specs.declared.workers.task.Task.{Task}
 use Rattle.round_lookahead.specs.declared.workers.worked.Done.{Done}
+use Rattle.round_lookahead.specs.inside.Arrivals.{Boxed, arrivals}
 use Rattle.round_lookahead.specs.Tasks.{IsTask, waiting}
 use Rattle.round_lookahead.specs.Works.{IsRunOf}
 use Rattle.round_lookahead.proofs.Packets.{IsOwn, packets-events, parcels-within}
@@ -41,6 +43,17 @@ owns-permutation net link q r p owns = record {
 -- a host that stands for two records has one link
 owns-of : (net : Net) (c : Host) (g h : HostRecord) (q : List Event) → Stands c g → Stands c h → Owns net g.link q → Owns net h.link q
 owns-of net c g h q s t owns = subst (λ (l : LinkState). Owns net l q) (sym s.body.link ∙ t.body.link) owns
+
+-- the host holds all that waited, and is the same otherwise
+module _ (t : Task) (start joined again : Host) (parcels : Vec Boxed Global) (start_is : start ≡ t.host.value) (parcels_are : parcels ≡ t.parcels) (again_is : again ≡ joined) where
+  pub all-joined : IsPermutation joined.queue (start.queue ++ arrivals parcels.items) → IsPermutation again.queue (waiting t)
+  all-joined moved =
+      subst (λ (h : Host). IsPermutation h.queue (waiting t)) (sym again_is)
+      (subst (λ (h : Host). IsPermutation joined.queue (h.queue ++ arrivals t.parcels.items)) start_is
+      (subst (λ (v : Vec Boxed Global). IsPermutation joined.queue (start.queue ++ arrivals v.items)) parcels_are moved))
+
+  pub stands-joined : IsSameBody start joined → (h : HostRecord) → Stands t.host.value h → Stands again h
+  stands-joined body h is = subst (λ (x : Host). Stands x h) (sym again_is) (body h (subst (λ (x : Host). Stands x h) (sym start_is) is))
 
 module _ (net : Net) (t : Task) (joined : Host) (moved : IsPermutation joined.queue (waiting t)) where
   owned : (number : ℕ) (h : HostRecord) → IsTask net number t h → Owns net h.link joined.queue

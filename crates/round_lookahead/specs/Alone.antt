@@ -1,8 +1,10 @@
 -- A round on one worker, which runs each host in its place.
-use Rattle.std.specs.Prelude.{◌≡◌, ℕ, ◌≤◌, List, [], ◌∷◌, ◌++◌, map, length, Some, slice_get}
+use Rattle.std.specs.Prelude.{◌≡◌, ℕ, ◌≤◌, List, [], ◌∷◌, ◌++◌, map, length, Some, slice_get, Vec}
+use Rattle.std.specs.declared.alloc.Global.{Global}
 use Rattle.sim_base.specs.declared.event.Parcel.{Parcel}
 use Rattle.sim_base.specs.declared.host.HostId.{HostId}
 use Rattle.list_weights.specs.Weights.{numbers_below}
+use Rattle.file_calls.specs.declared.task.Output.{Output}
 use Rattle.host_link.specs.declared.net.Net.{Net}
 use Rattle.host_link.specs.declared.outbox.Outbox.{Outbox}
 use Rattle.host_state.specs.HostRecord.{HostRecord}
@@ -35,6 +37,15 @@ pub record HasKept (id : HostId) (out : Outbox) (old new : Alone) : Type 0 where
   pub lines : new.lines.items ≡ old.lines.items ++ out.lines.items
   pub took : new.took.items ≡ old.took.items ++ id ∷ []
   pub spill : new.spill.items ≡ old.spill.items ++ out.parcels.items
+
+-- a host had nothing to do, and that is kept behind the rest
+pub record HasPassed (id : HostId) (old new : Alone) : Type 0 where
+  pub none : Vec Output Global
+  pub empty : none.items ≡ []
+  pub outputs : new.outputs.items ≡ old.outputs.items ++ none ∷ []
+  pub lines : new.lines.items ≡ old.lines.items
+  pub took : new.took.items ≡ old.took.items ++ id ∷ []
+  pub spill : new.spill.items ≡ old.spill.items
 
 -- so many hosts were run in their places, and what they made is kept; the others are as before
 pub record AreRunInPlace (net : Net) (end : ℕ) (old : List Task) (count : ℕ) (new : List Task) (a : Alone) : Type 0 where

@@ -3,6 +3,7 @@ pub mod Arrivals
 pub mod Backs
 pub mod Benches
 pub mod Dues
+pub mod Idles
 pub mod Retasks
 pub mod Settles
 pub mod Waits

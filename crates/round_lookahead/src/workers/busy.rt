@@ -1,16 +1,19 @@
 //! How many threads could run a round.
-ghost use Rattle.std.specs.Prelude.{◌≤◌, ◌<◌};
+ghost use Rattle.std.specs.Prelude.{◌≡◌, ◌≤◌, ◌<◌, ◌↔◌, false};
+ghost use Rattle.round_lookahead.specs.inside.Idles.{IsIdle};
 
 use crate::workers::task::Task;
 use sim_base::Time;
 
 impl Task {
     /// Whether the host holds an event that is due before the end, or a packet waits for it.
-    fn is_busy(&self, end: Time) -> bool {
+    pub(crate) fn is_busy(&self, end: Time) -> bool
+        ensures { (result ≡ false) ↔ IsIdle end.nanos self.now }
+    {
         if !self.parcels.is_empty() {
             return true;
         }
-        match self.host.next_due() {
+        match self.due {
             Some(due) => due.nanos < end.nanos,
             None => false,
         }

@@ -9,7 +9,7 @@ ghost use Rattle.round_lookahead.specs.inside.Arrivals.{arrivals};
 ghost use Rattle.round_lookahead.specs.Tasks.{IsTask};
 ghost use Rattle.round_lookahead.specs.Works.{HasRun, done_of};
 
-use crate::workers::task::Task;
+use crate::workers::task::{Task, due_of};
 use crate::workers::worked::Done;
 use host_link::{Net, Outbox};
 use host_state::Host;
@@ -64,9 +64,14 @@ impl Task {
         ensures run { IfOk result (λ out. (h : HostRecord) → IsTask net.now self.old.id.index self.old h → HasRun net.now end.nanos self.old h (done_of self.new out) out.parcels.items) }
     {
         let parcels = mem::replace(&mut self.parcels, Vec::new(alloc));
-        join_parcels(&mut *self.host, parcels)?;
+        let joined = join_parcels(&mut *self.host, parcels);
+        self.due = due_of(&*self.host);
+        joined?;
         let mut out = Outbox::new(alloc);
-        self.host.run_until(net, end, &mut out)?;
+        let ran = self.host.run_until(net, end, &mut out);
+        self.due = due_of(&*self.host);
+        self.work = self.host.work();
+        ran?;
         Ok(out)
     }
 }

@@ -35,7 +35,7 @@ impl Task {
     fn next_due(&self) -> Option<Time>
         ensures { IsLeastDue (waiting self.now) result }
     {
-        earlier(self.host.next_due(), first_arrival(self.parcels.as_slice()))
+        earlier(self.due, first_arrival(self.parcels.as_slice()))
     }
 }
 

@@ -1,7 +1,7 @@
 //! A round on one worker: each host is run in its place.
 ghost use Rattle.std.specs.Prelude.{◌≡◌, ◌≤◌, ◌<◌, [], All, IfOk, OnOk, length};
 ghost use Rattle.sim_base.specs.Units.{latest_time};
-ghost use Rattle.round_lookahead.specs.Alone.{AreRunInPlace, HasKept};
+ghost use Rattle.round_lookahead.specs.Alone.{AreRunInPlace, HasKept, HasPassed};
 ghost use Rattle.round_lookahead.specs.Tasks.{AreTasksOf};
 
 use crate::workers::task::Task;
@@ -53,10 +53,19 @@ impl Alone {
         self.spill.append(&mut parcels)?;
         Ok(())
     }
+
+    /// Keeps that a host had nothing to do.
+    fn pass(&mut self, alloc: Global, idle: HostId) -> Result<(), NoMemory>
+        ensures { OnOk result (HasPassed idle self.old self.new) }
+    {
+        self.outputs.push(Vec::new(alloc))?;
+        self.took.push(idle)?;
+        Ok(())
+    }
 }
 
-/// Runs the hosts of all tasks up to `end`, each in its place. Before it runs a host it tells the gate. Fails for want of memory
-/// alone.
+/// Runs the hosts of all tasks up to `end`, each in its place. Before it runs a host it tells the gate; one with nothing to do stays as
+/// it is. Fails for want of memory alone.
 pub(crate) fn run_in_place<G: Gate>(
     alloc: Global,
     net: &Net,
@@ -73,8 +82,12 @@ pub(crate) fn run_in_place<G: Gate>(
     let mut alone = Alone::new(alloc, tasks.len())?;
     for task in tasks.iter_mut() {
         gate.at_host(0, task.id.index);
-        let out = task.run_here(alloc, net, end)?;
-        alone.keep(task.id, out)?;
+        if task.is_busy(end) {
+            let out = task.run_here(alloc, net, end)?;
+            alone.keep(task.id, out)?;
+        } else {
+            alone.pass(alloc, task.id)?;
+        }
     }
     Ok(alone)
 }

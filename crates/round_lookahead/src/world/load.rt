@@ -60,7 +60,7 @@ impl Load {
         let mut all: u64 = 0;
         let mut busiest: u64 = 0;
         for (task, so_far) in tasks.iter().zip(self.so_far.iter_mut()) {
-            let now = task.host.work();
+            let now = task.work;
             let work = now.saturating_sub(*so_far);
             *so_far = now;
             all = all.saturating_add(work);

@@ -22,8 +22,7 @@ fn open_host(alloc: Global, row: Row, net: &Net) -> Result<Task, NoMemory>
 {
     let id = row.host;
     let host = Box::new(alloc, Host::new(row, net)?)?;
-    let parcels = Vec::new(alloc);
-    Ok(Task { id, host, parcels })
+    Ok(Task::new(id, host, Vec::new(alloc)))
 }
 
 /// The hosts of all rows.

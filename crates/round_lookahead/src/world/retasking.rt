@@ -34,7 +34,7 @@ pub(crate) fn retask(
             unreachable!()
         };
         let Back { id, host, outputs } = back;
-        retasked.tasks.push(Task { id, host, parcels })?;
+        retasked.tasks.push(Task::new(id, host, parcels))?;
         retasked.outputs.push(outputs)?;
     }
     Ok(retasked)

@@ -19,7 +19,8 @@ fn wait_one(alloc: Global, tasks: &mut [Task], parcel: Parcel) -> Result<(), NoM
 {
     let to = parcel.to.index as usize;
     let boxed = Box::new(alloc, parcel)?;
-    tasks[to].parcels.push(boxed)?;
+    let task = &mut tasks[to];
+    task.parcels.push(boxed)?;
     Ok(())
 }
 

@@ -1,10 +1,12 @@
-use Rattle.std.proofs.Common.{◌≡◌, ◌<◌, ◌+◌, ℕ, suc, List, All, length, get_or, slice_set, ap, sym, subst, arith}
+use Rattle.std.proofs.Common.{◌≡◌, ◌<◌, ◌≤◌, ◌+◌, ℕ, suc, List, All, length, get_or, slice_set, ap, sym, subst, arith}
 use Rattle.std.proofs.lemmas.List.Elements.{All-append}
 use Rattle.sim_base.specs.declared.event.Parcel.{Parcel}
 use Rattle.round_lookahead.specs.Alone.{AreRunInPlace}
-use Rattle.round_lookahead.proofs.AloneSteps.{none-placed, placed-more, may-run-here}
+use Rattle.round_lookahead.proofs.AloneSteps.{none-placed, kept-more, passed-more, may-run-here}
 use Rattle.round_lookahead.proofs.PlaceSteps.{get-or-at}
+use Rattle.round_lookahead.specs.declared.workers.task.Task.{Task}
 use Rattle.round_lookahead.proofs.world.in_place.run_in_place.Goals as goal
+use Rattle.round_lookahead.proofs.world.in_place.run_in_place.Goals.{then-is_busy+in_ok-out+in_ok-keep, else-is_busy+in_ok-pass}
 
 pub loop-task-init : goal.loop-task-init
 loop-task-init g c =
@@ -28,16 +30,31 @@ loop-task-preserved g c =
     let r = c.loop-task.invariant.run in
     let within : i < length c.loop-task.tasks = omega (arith, c.loop-task-test.true, r.all) in
     let next : suc i ≡ i + 1 = omega arith in
-    let kept = c.in_ok-keep.ensures in
-    let ran = c.in_ok-out.ensures in
-    record {
-      few = omega (arith, c.loop-task-test.true);
-      to = subst (All (λ (p : Parcel). p.to.index < length c.args.net.now.known.book)) (sym kept.spill)
-          (All-append (λ (p : Parcel). p.to.index < length c.args.net.now.known.book) c.loop-task.alone.spill.items c.in_ok-out.out.parcels.items c.loop-task.invariant.to ran.to);
-      run = subst (λ (n : ℕ). AreRunInPlace c.args.net.now c.args.end.nanos c.args.tasks.now n (slice_set c.loop-task.tasks i c.run_here.new.self) c.keep.new.self) next
-          (placed-more c.args.net.now c.args.end.nanos c.args.tasks.now c.loop-task.tasks i c.loop-task.alone (get_or c.loop-task.tasks i c.task-item.result) c.requires.tasks
-          (get-or-at c.loop-task.tasks i c.task-item.result within) r c.keep.new.self c.run_here.new.self c.in_ok-out.out ran.id ran.emptied ran.run kept);
-    }
+    let t : Task = get_or c.loop-task.tasks i c.task-item.result in
+    let here = get-or-at c.loop-task.tasks i c.task-item.result within in
+    let few : i + 1 ≤ length c.args.tasks.now = omega (arith, c.loop-task-test.true) in
+    elim c.if-is_busy.branch [
+      | then-is_busy+in_ok-out+in_ok-keep w ↦
+          let kept = w.in_ok-keep.ensures in
+          let ran = w.in_ok-out.ensures in
+          rw (w.tasks-is, w.alone-is) (record {
+            few = few;
+            to = subst (All (λ (p : Parcel). p.to.index < length c.args.net.now.known.book)) (sym kept.spill)
+                (All-append (λ (p : Parcel). p.to.index < length c.args.net.now.known.book) c.loop-task.alone.spill.items w.in_ok-out.out.parcels.items c.loop-task.invariant.to ran.to);
+            run = subst (λ (n : ℕ). AreRunInPlace c.args.net.now c.args.end.nanos c.args.tasks.now n (slice_set c.loop-task.tasks i w.run_here.new.self) w.keep.new.self) next
+                (kept-more c.args.net.now c.args.end.nanos c.args.tasks.now c.loop-task.tasks i c.loop-task.alone t c.requires.tasks here r w.keep.new.self w.run_here.new.self w.in_ok-out.out
+                ran.id ran.emptied ran.run kept);
+          })
+      | else-is_busy+in_ok-pass w ↦
+          let passed = w.in_ok-pass.ensures in
+          let idle = c.is_busy.ensures.0 w.if-is_busy.false in
+          rw (w.tasks-is, w.alone-is) (record {
+            few = few;
+            to = subst (All (λ (p : Parcel). p.to.index < length c.args.net.now.known.book)) (sym passed.spill) c.loop-task.invariant.to;
+            run = subst (λ (n : ℕ). AreRunInPlace c.args.net.now c.args.end.nanos c.args.tasks.now n (slice_set c.loop-task.tasks i t) w.pass.new.self) next
+                (passed-more c.args.net.now c.args.end.nanos c.args.tasks.now c.loop-task.tasks i c.loop-task.alone t c.requires.tasks here r w.pass.new.self idle passed);
+          })
+    ]
 
 pub returns-clause-run : goal.returns-clause-run
 returns-clause-run g c =

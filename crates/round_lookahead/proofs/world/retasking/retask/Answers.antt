@@ -1,4 +1,4 @@
-use Rattle.std.proofs.Common.{◌≡◌, ◌++◌, ◌∷◌, [], List, length, map, refl, sym, ap, ◌∙◌, arith, Vec, Global}
+use Rattle.std.proofs.Common.{◌≡◌, ◌++◌, ◌∷◌, [], List, length, map, sym, ap, ◌∙◌, arith, Vec, Global}
 use Rattle.std.specs.Vec.Iter.{into_iter_items}
 use Rattle.round_lookahead.specs.declared.workers.task.Task.{Task}
 use Rattle.round_lookahead.specs.declared.world.backs.Back.{Back}
@@ -18,15 +18,16 @@ loop-back-preserved c =
     let rows_are : rows ≡ row ∷ more = c.in-Some-next.ensures.items in
     let old : List Task = c.loop-back.retasked.tasks.items in
     let new : List Task = c.push.new.self.items in
-    let t : Task = record { id = b.id; host = b.host; parcels = row } in
+    let t : Task = c.new.result in
     let pushed : new ≡ old ++ t ∷ [] = c.in_ok-push.ensures.items in
     let i = c.loop-back.invariant in
     record {
       count = (let long = i.count in let a : length left ≡ length (b ∷ rest) = ap length left_is in let e : length rows ≡ length (row ∷ more) = ap length rows_are in omega arith);
-      ids = seen-more (λ (x : Task). x.id) (λ (x : Back). x.id) old new t left rest b (map (λ (x : Back). x.id) c.args.backs.items) pushed left_is refl i.ids;
-      hosts = seen-more (λ (x : Task). x.host) (λ (x : Back). x.host) old new t left rest b (map (λ (x : Back). x.host) c.args.backs.items) pushed left_is refl i.hosts;
+      ids = seen-more (λ (x : Task). x.id) (λ (x : Back). x.id) old new t left rest b (map (λ (x : Back). x.id) c.args.backs.items) pushed left_is c.new.ensures.id i.ids;
+      hosts = seen-more (λ (x : Task). x.host) (λ (x : Back). x.host) old new t left rest b (map (λ (x : Back). x.host) c.args.backs.items) pushed left_is c.new.ensures.host i.hosts;
       parcels = maps-more (λ (x : Task). x.parcels) old new t more c.args.rows.items pushed
-          (ap (λ (l : List (Vec Boxed Global)). map (λ (x : Task). x.parcels) old ++ l) (sym rows_are) ∙ i.parcels);
+          (ap (λ (v : Vec Boxed Global). map (λ (x : Task). x.parcels) old ++ v ∷ more) c.new.ensures.parcels
+          ∙ ap (λ (l : List (Vec Boxed Global)). map (λ (x : Task). x.parcels) old ++ l) (sym rows_are) ∙ i.parcels);
       outputs = completes c.loop-back.retasked.outputs.items c.push-in-loop-back.new.self.items (b.outputs ∷ []) (map (λ (x : Back). x.outputs) rest) (map (λ (x : Back). x.outputs) c.args.backs.items)
           c.in_ok-push-2.ensures.items
           (ap (λ (l : List Back). c.loop-back.retasked.outputs.items ++ map (λ (x : Back). x.outputs) l) (sym left_is) ∙ i.outputs);
