@@ -50,6 +50,7 @@ impl World {
         requires rows { AreHostRows net rows.items }
         requires rounds { HasRounds net (nanos_of lookahead) }
         ensures net { IfOk result (λ world. world.net ≡ net) }
+        ensures lookahead { IfOk result (λ world. world.lookahead ≡ lookahead) }
         ensures stands { IfOk result (λ world. WorldStands world (opening_world rows.items)) }
         ensures ids { IfOk result (λ world. All HasIds (names_of world.listing)) }
     {
