@@ -6,7 +6,6 @@ use Rattle.sim_base.specs.declared.errno.Errno.TheVariants.{Ebadf}
 use Rattle.sim_base.specs.declared.object.ObjectId.{ObjectId}
 use Rattle.sim_base.specs.declared.time.Time.{Time}
 use Rattle.host_fds.specs.declared.epoll.Watch.{Watch}
-use Rattle.host_fds.specs.declared.eventfd.Eventfd.{Eventfd}
 use Rattle.host_fds.specs.declared.pipe.End.{End}
 use Rattle.host_fds.specs.declared.pipe.End.TheVariants.{Reading, Writing}
 use Rattle.host_fds.specs.Epoll.{names}
@@ -20,6 +19,8 @@ use Rattle.host_files.specs.Slots.{at, without, after, acts}
 use Rattle.host_wants.specs.declared.error.Refusal.{Refusal}
 use Rattle.host_wants.specs.declared.error.Refusal.TheVariants.{Errno}
 use Rattle.host_sockets.specs.Sockets.{SocketsRecord}
+use Rattle.host_sockets.specs.Closing.{closes_tcp}
+use Rattle.host_sockets.specs.Udp.{closes_udp}
 use Rattle.file_calls.specs.declared.descriptors.Descriptor.{Descriptor}
 use Rattle.file_calls.specs.declared.task.Shared.{Shared}
 use Rattle.file_calls.specs.declared.task.Task.{Task}
@@ -27,7 +28,10 @@ use Rattle.file_calls.specs.Descriptors.{descriptor_by}
 use Rattle.host_calls.specs.Closing.{ends, without_epoll}
 use Rattle.file_laws.proofs.Places.{acts_here, without_here, set_other}
 use Rattle.call_rises.specs.Names.{has_end, is_there, is_single, object_alone, HasEntry}
+use Rattle.call_rises.specs.Sockets.{has_udp, has_tcp}
 use Rattle.call_rises.proofs.Epolls.{entry_forgotten, entry_ended, another_fd}
+use Rattle.call_rises.proofs.There.{AllStay, all_stay, not_both, OneGone}
+use Rattle.call_rises.proofs.SocketActs.{closes_tcp_there, closes_udp_there}
 use Rattle.call_rises.proofs.Views.{View, IsOthers, Sound, SameObject, came_as_it_was, Named, Fewer, grows_object, by_number, some_same, is_there_of, not_none, remove_other, removed}
 
 -- what an object that ends leaves of the files
@@ -107,70 +111,70 @@ ends_differ : Reading ≡ Writing → ⊥
 ends_differ e = cc
 
 -- what is there of other objects stays
-reading_shut : (k : ℕ) (other : Object) (files : FilesState) → kind.ReadEnd k ≢ other → is_there other files ≡ true → is_there other (pipe_shut Reading k files) ≡ true
-reading_shut k kind.Input files apart e = refl
-reading_shut k kind.Output files apart e = refl
-reading_shut k kind.Errors files apart e = refl
-reading_shut k (kind.Hosts read) files apart e = refl
-reading_shut k (kind.ReadEnd j) files apart e = shut_keeps Reading Reading k j files.pipes (λ p. apart (ap (λ (n : ℕ). kind.ReadEnd n) p.1)) e
-reading_shut k (kind.WriteEnd j) files apart e = shut_keeps Reading Writing k j files.pipes (λ p. ends_differ p.0) e
-reading_shut k (kind.Timer j) files apart e = e
-reading_shut k (kind.Eventfd j) files apart e = e
-reading_shut k (kind.Epoll j) files apart e = refl
-reading_shut k (kind.Udp j) files apart e = refl
-reading_shut k (kind.Tcp j) files apart e = refl
+reading_shut : (k : ℕ) (other : Object) (files : FilesState) (t : SocketsRecord) → kind.ReadEnd k ≢ other → is_there other files t ≡ true → is_there other (pipe_shut Reading k files) t ≡ true
+reading_shut k kind.Input files t apart e = refl
+reading_shut k kind.Output files t apart e = refl
+reading_shut k kind.Errors files t apart e = refl
+reading_shut k (kind.Hosts read) files t apart e = refl
+reading_shut k (kind.ReadEnd j) files t apart e = shut_keeps Reading Reading k j files.pipes (λ p. apart (ap (λ (n : ℕ). kind.ReadEnd n) p.1)) e
+reading_shut k (kind.WriteEnd j) files t apart e = shut_keeps Reading Writing k j files.pipes (λ p. ends_differ p.0) e
+reading_shut k (kind.Timer j) files t apart e = e
+reading_shut k (kind.Eventfd j) files t apart e = e
+reading_shut k (kind.Epoll j) files t apart e = refl
+reading_shut k (kind.Udp j) files t apart e = e
+reading_shut k (kind.Tcp j) files t apart e = e
 
-writing_shut : (k : ℕ) (other : Object) (files : FilesState) → kind.WriteEnd k ≢ other → is_there other files ≡ true → is_there other (pipe_shut Writing k files) ≡ true
-writing_shut k kind.Input files apart e = refl
-writing_shut k kind.Output files apart e = refl
-writing_shut k kind.Errors files apart e = refl
-writing_shut k (kind.Hosts read) files apart e = refl
-writing_shut k (kind.ReadEnd j) files apart e = shut_keeps Writing Reading k j files.pipes (λ p. ends_differ (sym p.0)) e
-writing_shut k (kind.WriteEnd j) files apart e = shut_keeps Writing Writing k j files.pipes (λ p. apart (ap (λ (n : ℕ). kind.WriteEnd n) p.1)) e
-writing_shut k (kind.Timer j) files apart e = e
-writing_shut k (kind.Eventfd j) files apart e = e
-writing_shut k (kind.Epoll j) files apart e = refl
-writing_shut k (kind.Udp j) files apart e = refl
-writing_shut k (kind.Tcp j) files apart e = refl
+writing_shut : (k : ℕ) (other : Object) (files : FilesState) (t : SocketsRecord) → kind.WriteEnd k ≢ other → is_there other files t ≡ true → is_there other (pipe_shut Writing k files) t ≡ true
+writing_shut k kind.Input files t apart e = refl
+writing_shut k kind.Output files t apart e = refl
+writing_shut k kind.Errors files t apart e = refl
+writing_shut k (kind.Hosts read) files t apart e = refl
+writing_shut k (kind.ReadEnd j) files t apart e = shut_keeps Writing Reading k j files.pipes (λ p. ends_differ (sym p.0)) e
+writing_shut k (kind.WriteEnd j) files t apart e = shut_keeps Writing Writing k j files.pipes (λ p. apart (ap (λ (n : ℕ). kind.WriteEnd n) p.1)) e
+writing_shut k (kind.Timer j) files t apart e = e
+writing_shut k (kind.Eventfd j) files t apart e = e
+writing_shut k (kind.Epoll j) files t apart e = refl
+writing_shut k (kind.Udp j) files t apart e = e
+writing_shut k (kind.Tcp j) files t apart e = e
 
-timer_goes : (k : ℕ) (other : Object) (files : FilesState) → kind.Timer k ≢ other → is_there other files ≡ true → is_there other (timer_ended k files) ≡ true
-timer_goes k kind.Input files apart e = refl
-timer_goes k kind.Output files apart e = refl
-timer_goes k kind.Errors files apart e = refl
-timer_goes k (kind.Hosts read) files apart e = refl
-timer_goes k (kind.ReadEnd j) files apart e = e
-timer_goes k (kind.WriteEnd j) files apart e = e
-timer_goes k (kind.Timer j) files apart e = without_keeps k j files.timers (λ same. apart (ap (λ (n : ℕ). kind.Timer n) same)) e
-timer_goes k (kind.Eventfd j) files apart e = e
-timer_goes k (kind.Epoll j) files apart e = refl
-timer_goes k (kind.Udp j) files apart e = refl
-timer_goes k (kind.Tcp j) files apart e = refl
+timer_goes : (k : ℕ) (other : Object) (files : FilesState) (t : SocketsRecord) → kind.Timer k ≢ other → is_there other files t ≡ true → is_there other (timer_ended k files) t ≡ true
+timer_goes k kind.Input files t apart e = refl
+timer_goes k kind.Output files t apart e = refl
+timer_goes k kind.Errors files t apart e = refl
+timer_goes k (kind.Hosts read) files t apart e = refl
+timer_goes k (kind.ReadEnd j) files t apart e = e
+timer_goes k (kind.WriteEnd j) files t apart e = e
+timer_goes k (kind.Timer j) files t apart e = without_keeps k j files.timers (λ same. apart (ap (λ (n : ℕ). kind.Timer n) same)) e
+timer_goes k (kind.Eventfd j) files t apart e = e
+timer_goes k (kind.Epoll j) files t apart e = refl
+timer_goes k (kind.Udp j) files t apart e = e
+timer_goes k (kind.Tcp j) files t apart e = e
 
-eventfd_goes : (k : ℕ) (other : Object) (files : FilesState) → kind.Eventfd k ≢ other → is_there other files ≡ true → is_there other (eventfd_ended k files) ≡ true
-eventfd_goes k kind.Input files apart e = refl
-eventfd_goes k kind.Output files apart e = refl
-eventfd_goes k kind.Errors files apart e = refl
-eventfd_goes k (kind.Hosts read) files apart e = refl
-eventfd_goes k (kind.ReadEnd j) files apart e = e
-eventfd_goes k (kind.WriteEnd j) files apart e = e
-eventfd_goes k (kind.Timer j) files apart e = e
-eventfd_goes k (kind.Eventfd j) files apart e = without_keeps k j files.eventfds (λ same. apart (ap (λ (n : ℕ). kind.Eventfd n) same)) e
-eventfd_goes k (kind.Epoll j) files apart e = refl
-eventfd_goes k (kind.Udp j) files apart e = refl
-eventfd_goes k (kind.Tcp j) files apart e = refl
+eventfd_goes : (k : ℕ) (other : Object) (files : FilesState) (t : SocketsRecord) → kind.Eventfd k ≢ other → is_there other files t ≡ true → is_there other (eventfd_ended k files) t ≡ true
+eventfd_goes k kind.Input files t apart e = refl
+eventfd_goes k kind.Output files t apart e = refl
+eventfd_goes k kind.Errors files t apart e = refl
+eventfd_goes k (kind.Hosts read) files t apart e = refl
+eventfd_goes k (kind.ReadEnd j) files t apart e = e
+eventfd_goes k (kind.WriteEnd j) files t apart e = e
+eventfd_goes k (kind.Timer j) files t apart e = e
+eventfd_goes k (kind.Eventfd j) files t apart e = without_keeps k j files.eventfds (λ same. apart (ap (λ (n : ℕ). kind.Eventfd n) same)) e
+eventfd_goes k (kind.Epoll j) files t apart e = refl
+eventfd_goes k (kind.Udp j) files t apart e = e
+eventfd_goes k (kind.Tcp j) files t apart e = e
 
-ended_there : (object other : Object) (files : FilesState) → (is_single object ≡ true → object ≢ other) → is_there other files ≡ true → is_there other (files_ended object files) ≡ true
-ended_there kind.Input other files apart e = e
-ended_there kind.Output other files apart e = e
-ended_there kind.Errors other files apart e = e
-ended_there (kind.Hosts read) other files apart e = e
-ended_there (kind.ReadEnd k) other files apart e = reading_shut k other files (apart refl) e
-ended_there (kind.WriteEnd k) other files apart e = writing_shut k other files (apart refl) e
-ended_there (kind.Timer k) other files apart e = timer_goes k other files (apart refl) e
-ended_there (kind.Eventfd k) other files apart e = eventfd_goes k other files (apart refl) e
-ended_there (kind.Epoll k) other files apart e = e
-ended_there (kind.Udp k) other files apart e = e
-ended_there (kind.Tcp k) other files apart e = e
+ended_there : (object other : Object) (files : FilesState) (t : SocketsRecord) → (is_single object ≡ true → object ≢ other) → is_there other files t ≡ true → is_there other (files_ended object files) t ≡ true
+ended_there kind.Input other files t apart e = e
+ended_there kind.Output other files t apart e = e
+ended_there kind.Errors other files t apart e = e
+ended_there (kind.Hosts read) other files t apart e = e
+ended_there (kind.ReadEnd k) other files t apart e = reading_shut k other files t (apart refl) e
+ended_there (kind.WriteEnd k) other files t apart e = writing_shut k other files t (apart refl) e
+ended_there (kind.Timer k) other files t apart e = timer_goes k other files t (apart refl) e
+ended_there (kind.Eventfd k) other files t apart e = eventfd_goes k other files t (apart refl) e
+ended_there (kind.Epoll k) other files t apart e = e
+ended_there (kind.Udp k) other files t apart e = e
+ended_there (kind.Tcp k) other files t apart e = e
 
 -- nothing is made
 shut_fewer : (end : End) (k j : ℕ) (slots : List (Option PipeState)) → is_some (at j (acts (after_shut end) k slots)) ≡ true → is_some (at j slots) ≡ true
@@ -244,6 +248,71 @@ entry_kept (kind.Epoll n) k epolls x e = entry_ended x n k epolls e
 entry_kept (kind.Udp n) k epolls x e = e
 entry_kept (kind.Tcp n) k epolls x e = e
 
+-- what it leaves of the sockets: none is made, and all others stay
+pub record SocketsEnded (object : Object) (t u : SocketsRecord) : Type 0 where
+  pub were : AllStay u t
+  pub stay : (other : Object) (files : FilesState) → (is_single object ≡ true → object ≢ other) → is_there other files t ≡ true → is_there other files u ≡ true
+
+rest_ended : (object : Object) (t : SocketsRecord) → SocketsEnded object t t
+rest_ended object t = record { were = all_stay t; stay = λ other files apart e. e }
+
+gone_were : (k : ℕ) (has others : ℕ → SocketsRecord → Bool) (t u : SocketsRecord) → OneGone k has others t u → (j : ℕ) → has j u ≡ true → has j t ≡ true
+gone_were k has others t u left j e =
+    by_number k j (has j t ≡ true)
+    (λ same. absurd (not_both (has k u) (subst (λ (n : ℕ). has n u ≡ true) (sym same) e) left.gone))
+    (λ apart. left.apart j apart ∙ e)
+
+udp_stay : (k : ℕ) (t u : SocketsRecord) → OneGone k has_udp has_tcp t u → (other : Object) (files : FilesState) → kind.Udp k ≢ other → is_there other files t ≡ true → is_there other files u ≡ true
+udp_stay k t u left kind.Input files apart e = refl
+udp_stay k t u left kind.Output files apart e = refl
+udp_stay k t u left kind.Errors files apart e = refl
+udp_stay k t u left (kind.Hosts read) files apart e = refl
+udp_stay k t u left (kind.ReadEnd j) files apart e = e
+udp_stay k t u left (kind.WriteEnd j) files apart e = e
+udp_stay k t u left (kind.Timer j) files apart e = e
+udp_stay k t u left (kind.Eventfd j) files apart e = e
+udp_stay k t u left (kind.Epoll j) files apart e = refl
+udp_stay k t u left (kind.Udp j) files apart e = sym (left.apart j (λ same. apart (ap (λ (n : ℕ). kind.Udp n) same))) ∙ e
+udp_stay k t u left (kind.Tcp j) files apart e = sym (left.same j) ∙ e
+
+tcp_stay : (k : ℕ) (t u : SocketsRecord) → OneGone k has_tcp has_udp t u → (other : Object) (files : FilesState) → kind.Tcp k ≢ other → is_there other files t ≡ true → is_there other files u ≡ true
+tcp_stay k t u left kind.Input files apart e = refl
+tcp_stay k t u left kind.Output files apart e = refl
+tcp_stay k t u left kind.Errors files apart e = refl
+tcp_stay k t u left (kind.Hosts read) files apart e = refl
+tcp_stay k t u left (kind.ReadEnd j) files apart e = e
+tcp_stay k t u left (kind.WriteEnd j) files apart e = e
+tcp_stay k t u left (kind.Timer j) files apart e = e
+tcp_stay k t u left (kind.Eventfd j) files apart e = e
+tcp_stay k t u left (kind.Epoll j) files apart e = refl
+tcp_stay k t u left (kind.Udp j) files apart e = sym (left.same j) ∙ e
+tcp_stay k t u left (kind.Tcp j) files apart e = sym (left.apart j (λ same. apart (ap (λ (n : ℕ). kind.Tcp n) same))) ∙ e
+
+udp_ended : (k : ℕ) (t u : SocketsRecord) → OneGone k has_udp has_tcp t u → SocketsEnded (kind.Udp k) t u
+udp_ended k t u left = record {
+  were = record { udp = gone_were k has_udp has_tcp t u left; tcp = λ j e. left.same j ∙ e };
+  stay = λ other files apart e. udp_stay k t u left other files (apart refl) e;
+}
+
+tcp_ended : (k : ℕ) (t u : SocketsRecord) → OneGone k has_tcp has_udp t u → SocketsEnded (kind.Tcp k) t u
+tcp_ended k t u left = record {
+  were = record { udp = λ j e. left.same j ∙ e; tcp = gone_were k has_tcp has_udp t u left };
+  stay = λ other files apart e. tcp_stay k t u left other files (apart refl) e;
+}
+
+pub sockets_ended : (now : Time) (object : Object) (shared : Shared) (t : SocketsRecord) → SocketsEnded object t (ends now object shared t).1
+sockets_ended now kind.Input shared t = rest_ended kind.Input t
+sockets_ended now kind.Output shared t = rest_ended kind.Output t
+sockets_ended now kind.Errors shared t = rest_ended kind.Errors t
+sockets_ended now (kind.Hosts read) shared t = rest_ended (kind.Hosts read) t
+sockets_ended now (kind.ReadEnd k) shared t = rest_ended (kind.ReadEnd k) t
+sockets_ended now (kind.WriteEnd k) shared t = rest_ended (kind.WriteEnd k) t
+sockets_ended now (kind.Timer k) shared t = rest_ended (kind.Timer k) t
+sockets_ended now (kind.Eventfd k) shared t = rest_ended (kind.Eventfd k) t
+sockets_ended now (kind.Epoll k) shared t = rest_ended (kind.Epoll k) t
+sockets_ended now (kind.Udp k) shared t = udp_ended k t (closes_udp k t) (closes_udp_there t k)
+sockets_ended now (kind.Tcp k) shared t = tcp_ended k t (closes_tcp now k t shared.outlet).0 (closes_tcp_there t now k shared.outlet)
+
 abbrev pub closed_view : View → ℕ → ObjectId → Object → SocketsRecord → View
 closed_view v fd id object t = record {
   table = map.remove v.table fd;
@@ -252,7 +321,7 @@ closed_view v fd id object t = record {
   sockets = t;
 }
 
-module _ (now : ℕ) (v : View) (fd : ℕ) (d : Descriptor) (t : SocketsRecord) (named : map.get v.table fd ≡ Some d.id) (is : at d.id.number v.files.files ≡ Some d.file) where
+module _ (now : ℕ) (v : View) (fd : ℕ) (d : Descriptor) (t : SocketsRecord) (left : SocketsEnded d.file.object v.sockets t) (named : map.get v.table fd ≡ Some d.id) (is : at d.id.number v.files.files ≡ Some d.file) where
   abbrev w : View
   w = closed_view v fd d.id d.file.object t
 
@@ -294,17 +363,16 @@ module _ (now : ℕ) (v : View) (fd : ℕ) (d : Descriptor) (t : SocketsRecord) 
     closed_others n o =
         file_after n (λ same. h.apart_others fd d.id named (subst (λ (m : ℕ). IsOthers process tasks m) (sym same) o)) (h.others n o)
 
-    closed_there : (n : ℕ) (f : File) → at n w.files.files ≡ Some f → is_there f.object w.files ≡ true
+    closed_there : (n : ℕ) (f : File) → at n w.files.files ≡ Some f → is_there f.object w.files t ≡ true
     closed_there n f e =
         let before = file_before n f e in
+        let apart : is_single d.file.object ≡ true → d.file.object ≢ f.object = λ one same. before.0 (h.single d.id.number n d.file f is before.1 same one) in
         grows_closed f.object
-        (ended_there d.file.object f.object v.files
-        (λ one same. before.0 (h.single d.id.number n d.file f is before.1 same one))
-        (h.there n f before.1))
+        (left.stay f.object (files_ended d.file.object v.files) apart (ended_there d.file.object f.object v.files v.sockets apart (h.there n f before.1)))
       where
-        grows_closed : (object : Object) → is_there object (files_ended d.file.object v.files) ≡ true → is_there object w.files ≡ true
+        grows_closed : (object : Object) → is_there object (files_ended d.file.object v.files) t ≡ true → is_there object w.files t ≡ true
         grows_closed object e =
-            grows_object (files_ended d.file.object v.files) w.files (record { ends = λ end k q. q; eventfds = λ k q. q; timers = λ k q. q }) object e
+            grows_object (files_ended d.file.object v.files) w.files t t (record { ends = λ end k q. q; eventfds = λ k q. q; timers = λ k q. q }) (all_stay t) object e
 
     closed_watched : (k : ℕ) (x : Watch) → HasEntry k w.epolls x → is_some (map.get w.table x.fd) ≡ true
     closed_watched k x e =
@@ -336,6 +404,7 @@ module _ (now : ℕ) (v : View) (fd : ℕ) (d : Descriptor) (t : SocketsRecord) 
     pipes = fewer_pipes d.file.object v.files;
     eventfds = fewer_eventfds d.file.object v.files;
     timers = fewer_timers d.file.object v.files;
+    sockets = left.were;
     entries = λ k x e. (entry_before k x e).0;
   }
 
@@ -380,5 +449,6 @@ module _ (now : ℕ) (v : View) (fd : ℕ) (why : Refusal) (none : descriptor_by
     pipes = λ k e. e;
     eventfds = λ k e. e;
     timers = λ k e. e;
+    sockets = all_stay v.sockets;
     entries = λ k x e. e;
   }

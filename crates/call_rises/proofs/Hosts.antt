@@ -2,9 +2,12 @@
 use Rattle.std.proofs.Common.{◌≡◌, ◌≢◌, ℕ, zero, suc, true, List, [], ◌∷◌, Option, Some, None, is_some, slice_set, refl, sym, ap, subst, ◌∙◌}
 use Rattle.std.specs.FinMap as map
 use Rattle.std.specs.Ordering.{nat_cmp}
+use Rattle.sim_base.specs.declared.address.Ip.{Ip}
 use Rattle.sim_base.specs.declared.object.ObjectId.{ObjectId}
 use Rattle.sim_base.specs.declared.time.Time.{Time}
 use Rattle.guest_mem.specs.Memory.{Memory}
+use Rattle.host_wants.specs.Wanted.{Wanted}
+use Rattle.host_sockets.specs.Sockets.{SocketsRecord}
 use Rattle.host_fds.specs.declared.epoll.Watch.{Watch}
 use Rattle.host_fds.specs.declared.pipe.End.{End}
 use Rattle.host_fds.specs.declared.pipe.End.TheVariants.{Reading, Writing}
@@ -20,8 +23,10 @@ use Rattle.host_calls.specs.Parts.{PartsRecord, Place, place, with_place}
 use Rattle.host_calls.specs.Starting.{fresh_task, std_file, starts}
 use Rattle.file_laws.proofs.Places.{set_same, set_other}
 use Rattle.call_rises.specs.Moves.{FilesMove}
+use Rattle.call_rises.specs.Sockets.{SocketsMove}
 use Rattle.call_rises.specs.Names.{named_in, names, has_end, is_there, object_alone, HasEntry, NamesHold, ObjectLasts, NamesOne, ComesFrom, as_it_was, was_told, never_told, MarksMove}
 use Rattle.call_rises.proofs.Opening.{with_open, opened_sound, file_still}
+use Rattle.call_rises.proofs.There.{AllStay, all_stay}
 use Rattle.call_rises.proofs.Views.{View, view, IsOthers, Sound, SameObject, Came, came_as_it_was, came_told, came_unsaid, Named, Grows, grows_object, grows_so, by_number, some_same, insert_other}
 
 id_same : (id jd : ObjectId) → id.number ≡ jd.number → id ≡ jd
@@ -36,7 +41,7 @@ named_by fd None id e = let no : ⊥ = cc in absurd no
 named_by fd (Some task) id e = (task, (refl, e))
 
 -- as one process sees them
-pub sound_of : (h : PartsRecord) (process : ℕ) (task : Task) → at process h.tasks ≡ Some task → NamesHold h.tasks h.shared.files → Sound process h.tasks (view task h.shared h.sockets)
+pub sound_of : (h : PartsRecord) (process : ℕ) (task : Task) → at process h.tasks ≡ Some task → NamesHold h.tasks h.shared.files h.sockets → Sound process h.tasks (view task h.shared h.sockets)
 sound_of h process task there hold = record {
   opened = λ fd id e. hold.opened process fd id (mine fd id e);
   others = λ n o. subst (λ (m : ℕ). is_some (at m h.shared.files.files) ≡ true) o.number (hold.opened o.other o.fd o.id o.names);
@@ -56,41 +61,42 @@ has_end_some : (end : End) (o : Option PipeState) → has_end end o ≡ true →
 has_end_some end None e = e
 has_end_some end (Some p) e = refl
 
-object_lasts : (now : ℕ) (x y : FilesState) (m : FilesMove now x y) (object : Object) → is_there object x ≡ true → is_there (object_alone object) y ≡ true → ObjectLasts object m.on_pipes m.on_eventfds m.on_timers x
-object_lasts now x y m kind.Input e k = tt
-object_lasts now x y m kind.Output e k = tt
-object_lasts now x y m kind.Errors e k = tt
-object_lasts now x y m (kind.Hosts read) e k = tt
-object_lasts now x y m (kind.ReadEnd n) e k =
-    m.pipes_last n (has_end_some Reading (at n x.pipes) e) (has_end_some Reading (at n y.pipes) k)
-object_lasts now x y m (kind.WriteEnd n) e k =
-    m.pipes_last n (has_end_some Writing (at n x.pipes) e) (has_end_some Writing (at n y.pipes) k)
-object_lasts now x y m (kind.Timer n) e k = m.timers_last n e k
-object_lasts now x y m (kind.Eventfd n) e k = m.eventfds_last n e k
-object_lasts now x y m (kind.Epoll n) e k = tt
-object_lasts now x y m (kind.Udp n) e k = tt
-object_lasts now x y m (kind.Tcp n) e k = tt
+module _ (hosts : List Ip) (now : ℕ) (x y : FilesState) (t u : SocketsRecord) (m : FilesMove now x y) (s : SocketsMove hosts t u) where
+  object_lasts : (object : Object) → is_there object x t ≡ true → is_there (object_alone object) y u ≡ true → (w : Wanted) → ObjectLasts hosts object m.on_pipes m.on_eventfds m.on_timers s.acts x t w
+  object_lasts kind.Input e k w = tt
+  object_lasts kind.Output e k w = tt
+  object_lasts kind.Errors e k w = tt
+  object_lasts (kind.Hosts read) e k w = tt
+  object_lasts (kind.ReadEnd n) e k w =
+      m.pipes_last n (has_end_some Reading (at n x.pipes) e) (has_end_some Reading (at n y.pipes) k)
+  object_lasts (kind.WriteEnd n) e k w =
+      m.pipes_last n (has_end_some Writing (at n x.pipes) e) (has_end_some Writing (at n y.pipes) k)
+  object_lasts (kind.Timer n) e k w = m.timers_last n e k
+  object_lasts (kind.Eventfd n) e k w = m.eventfds_last n e k
+  object_lasts (kind.Epoll n) e k w = tt
+  object_lasts (kind.Udp n) e k w = s.udp_last n e k w
+  object_lasts (kind.Tcp n) e k w = s.tcp_last n e k w
 
-pub alone_there : (object : Object) (files : FilesState) → is_there object files ≡ is_there (object_alone object) files
-alone_there kind.Input files = refl
-alone_there kind.Output files = refl
-alone_there kind.Errors files = refl
-alone_there (kind.Hosts read) files = refl
-alone_there (kind.ReadEnd n) files = refl
-alone_there (kind.WriteEnd n) files = refl
-alone_there (kind.Timer n) files = refl
-alone_there (kind.Eventfd n) files = refl
-alone_there (kind.Epoll n) files = refl
-alone_there (kind.Udp n) files = refl
-alone_there (kind.Tcp n) files = refl
+pub alone_there : (object : Object) (files : FilesState) (sockets : SocketsRecord) → is_there object files sockets ≡ is_there (object_alone object) files sockets
+alone_there kind.Input files sockets = refl
+alone_there kind.Output files sockets = refl
+alone_there kind.Errors files sockets = refl
+alone_there (kind.Hosts read) files sockets = refl
+alone_there (kind.ReadEnd n) files sockets = refl
+alone_there (kind.WriteEnd n) files sockets = refl
+alone_there (kind.Timer n) files sockets = refl
+alone_there (kind.Eventfd n) files sockets = refl
+alone_there (kind.Epoll n) files sockets = refl
+alone_there (kind.Udp n) files sockets = refl
+alone_there (kind.Tcp n) files sockets = refl
 
 -- what is the same before and after, together
-names_one : (now : ℕ) (x y : PartsRecord) (m : FilesMove now x.shared.files y.shared.files) (id jd : ObjectId) (f g : File) → NamesHold x.tasks x.shared.files → NamesHold y.tasks y.shared.files → file_at id x.shared.files ≡ Some f → file_at jd y.shared.files ≡ Some g → id ≡ jd → object_alone f.object ≡ object_alone g.object → NamesOne now x y m id jd f g
-names_one now x y m id jd f g before after e k same alone = record {
+names_one : (hosts : List Ip) (now : ℕ) (x y : PartsRecord) (m : FilesMove now x.shared.files y.shared.files) (s : SocketsMove hosts x.sockets y.sockets) (id jd : ObjectId) (f g : File) → NamesHold x.tasks x.shared.files x.sockets → NamesHold y.tasks y.shared.files y.sockets → file_at id x.shared.files ≡ Some f → file_at jd y.shared.files ≡ Some g → id ≡ jd → object_alone f.object ≡ object_alone g.object → NamesOne hosts now x y m s id jd f g
+names_one hosts now x y m s id jd f g before after e k same alone = record {
   same_file = same;
   same_object = alone;
-  lasts = object_lasts now x.shared.files y.shared.files m f.object (before.there id f e)
-      (subst (λ (o : Object). is_there o y.shared.files ≡ true) (sym alone) (sym (alone_there g.object y.shared.files) ∙ after.there jd g k));
+  lasts = object_lasts hosts now x.shared.files y.shared.files x.sockets y.sockets m s f.object (before.there id f e)
+      (subst (λ (o : Object). is_there o y.shared.files y.sockets ≡ true) (sym alone) (sym (alone_there g.object y.shared.files y.sockets) ∙ after.there jd g k));
 }
 
 -- a process is put in its place, as it is left
@@ -120,7 +126,7 @@ module _ (h : PartsRecord) (process : ℕ) (p : Place) (left : Task) (is : p.tas
   others_file : (q fd : ℕ) (id : ObjectId) → process ≢ q → names q fd h.tasks ≡ Some id → IsOthers process h.tasks id.number
   others_file q fd id apart e = record { other = q; fd = fd; id = id; apart = apart; names = e; number = refl }
 
-  pub hold_placed : Sound process h.tasks after_view → NamesHold h.tasks h.shared.files → NamesHold y.tasks p.shared.files
+  pub hold_placed : Sound process h.tasks after_view → NamesHold h.tasks h.shared.files h.sockets → NamesHold y.tasks p.shared.files p.sockets
   hold_placed sound hold = record {
     opened = λ q fd id e. whose (is_some (at id.number p.shared.files.files) ≡ true) q fd id e
         (λ same mine. sound.opened fd id mine)
@@ -144,11 +150,11 @@ module _ (h : PartsRecord) (process : ℕ) (p : Place) (left : Task) (is : p.tas
     abbrev before_view : View
     before_view = view before h.shared h.sockets
 
-    pub hold_after : NamesHold h.tasks h.shared.files → NamesHold y.tasks p.shared.files
+    pub hold_after : NamesHold h.tasks h.shared.files h.sockets → NamesHold y.tasks p.shared.files p.sockets
     hold_after hold =
         hold_placed (named.sound process h.tasks (sound_of h process before there hold)) hold
 
-    same_name : NamesHold h.tasks h.shared.files → (q fd : ℕ) (id jd : ObjectId) → names q fd h.tasks ≡ Some id → names q fd y.tasks ≡ Some jd → (id ≡ jd) × SameObject before_view after_view id.number
+    same_name : NamesHold h.tasks h.shared.files h.sockets → (q fd : ℕ) (id jd : ObjectId) → names q fd h.tasks ≡ Some id → names q fd y.tasks ≡ Some jd → (id ≡ jd) × SameObject before_view after_view id.number
     same_name hold q fd id jd e k =
         let sound = sound_of h process before there hold in
         whose ((id ≡ jd) × SameObject before_view after_view id.number) q fd jd k
@@ -158,10 +164,10 @@ module _ (h : PartsRecord) (process : ℕ) (p : Place) (left : Task) (is : p.tas
         (λ apart theirs.
         (some_same id jd (sym e ∙ theirs), named.others process h.tasks sound id.number (others_file q fd id apart e)))
 
-    pub one_after : (m : FilesMove now.nanos h.shared.files p.shared.files) → NamesHold h.tasks h.shared.files → (q fd : ℕ) (id jd : ObjectId) (f g : File) → names q fd h.tasks ≡ Some id → names q fd y.tasks ≡ Some jd → file_at id h.shared.files ≡ Some f → file_at jd p.shared.files ≡ Some g → NamesOne now.nanos h y m id jd f g
-    one_after m hold q fd id jd f g e k there_f there_g =
+    pub one_after : (hosts : List Ip) (m : FilesMove now.nanos h.shared.files p.shared.files) (s : SocketsMove hosts h.sockets p.sockets) → NamesHold h.tasks h.shared.files h.sockets → (q fd : ℕ) (id jd : ObjectId) (f g : File) → names q fd h.tasks ≡ Some id → names q fd y.tasks ≡ Some jd → file_at id h.shared.files ≡ Some f → file_at jd p.shared.files ≡ Some g → NamesOne hosts now.nanos h y m s id jd f g
+    one_after hosts m s hold q fd id jd f g e k there_f there_g =
         let same = same_name hold q fd id jd e k in
-        names_one now.nanos h y m id jd f g hold (hold_after hold) there_f there_g same.0
+        names_one hosts now.nanos h y m s id jd f g hold (hold_after hold) there_f there_g same.0
         (same.1 f g there_f (subst (λ (x : ObjectId). file_at x p.shared.files ≡ Some g) (sym same.0) there_g))
 
     pub were_after : (q : ℕ) (last : Task) → at q y.tasks ≡ Some last → (first : Task) × (at q h.tasks ≡ Some first)
@@ -195,27 +201,27 @@ placed_same zero (x ∷ slots) (suc q) = refl
 placed_same (suc k) (x ∷ slots) zero = refl
 placed_same (suc k) (x ∷ slots) (suc q) = placed_same k slots q
 
-module _ (now : Time) (x y : PartsRecord) (tasks : (q : ℕ) → at q y.tasks ≡ at q x.tasks) (files : x.shared.files.files ≡ y.shared.files.files) (grows : Grows x.shared.files y.shared.files) where
+module _ (now : Time) (x y : PartsRecord) (tasks : (q : ℕ) → at q y.tasks ≡ at q x.tasks) (files : x.shared.files.files ≡ y.shared.files.files) (grows : Grows x.shared.files y.shared.files) (stay : AllStay x.sockets y.sockets) where
   name_was : (q fd : ℕ) (id : ObjectId) → names q fd y.tasks ≡ Some id → names q fd x.tasks ≡ Some id
   name_was q fd id e = ap (λ (o : Option Task). named_in fd o) (sym (tasks q)) ∙ e
 
   file_was : (id : ObjectId) (f : File) → file_at id y.shared.files ≡ Some f → file_at id x.shared.files ≡ Some f
   file_was id f e = ap (λ (fs : List (Option File)). at id.number fs) files ∙ e
 
-  pub hold_rests : NamesHold x.tasks x.shared.files → NamesHold y.tasks y.shared.files
+  pub hold_rests : NamesHold x.tasks x.shared.files x.sockets → NamesHold y.tasks y.shared.files y.sockets
   hold_rests hold = record {
     opened = λ q fd id e. subst (λ (fs : List (Option File)). is_some (at id.number fs) ≡ true) files (hold.opened q fd id (name_was q fd id e));
     apart = λ q fd r gd id e k. hold.apart q fd r gd id (name_was q fd id e) (name_was r gd id k);
-    there = λ id f e. grows_object x.shared.files y.shared.files grows f.object (hold.there id f (file_was id f e));
+    there = λ id f e. grows_object x.shared.files y.shared.files x.sockets y.sockets grows stay f.object (hold.there id f (file_was id f e));
     single = λ id jd f g e k same one. hold.single id jd f g (file_was id f e) (file_was jd g k) same one;
     watched = λ q k task w e entry. hold.watched q k task w (sym (tasks q) ∙ e) entry;
   }
 
-  pub one_rests : (m : FilesMove now.nanos x.shared.files y.shared.files) → NamesHold x.tasks x.shared.files → (q fd : ℕ) (id jd : ObjectId) (f g : File) → names q fd x.tasks ≡ Some id → names q fd y.tasks ≡ Some jd → file_at id x.shared.files ≡ Some f → file_at jd y.shared.files ≡ Some g → NamesOne now.nanos x y m id jd f g
-  one_rests m hold q fd id jd f g e k there_f there_g =
+  pub one_rests : (hosts : List Ip) (m : FilesMove now.nanos x.shared.files y.shared.files) (s : SocketsMove hosts x.sockets y.sockets) → NamesHold x.tasks x.shared.files x.sockets → (q fd : ℕ) (id jd : ObjectId) (f g : File) → names q fd x.tasks ≡ Some id → names q fd y.tasks ≡ Some jd → file_at id x.shared.files ≡ Some f → file_at jd y.shared.files ≡ Some g → NamesOne hosts now.nanos x y m s id jd f g
+  one_rests hosts m s hold q fd id jd f g e k there_f there_g =
       let same : id ≡ jd = some_same id jd (sym e ∙ name_was q fd jd k) in
       let same_file : f ≡ g = some_same f g (sym there_f ∙ subst (λ (i : ObjectId). file_at i x.shared.files ≡ Some g) (sym same) (file_was jd g there_g)) in
-      names_one now.nanos x y m id jd f g hold (hold_rests hold) there_f there_g same (ap (λ (z : File). object_alone z.object) same_file)
+      names_one hosts now.nanos x y m s id jd f g hold (hold_rests hold) there_f there_g same (ap (λ (z : File). object_alone z.object) same_file)
 
   pub marks_rest : MarksMove now x y
   marks_rest q k first last w at_first at_last entry =
@@ -239,7 +245,7 @@ module _ (process : ℕ) (memory : Memory) (h : PartsRecord) where
       none_some : (entries : List Watch) → None ≡ Some entries → ⊥
       none_some entries e = cc
 
-  nothing_sound : NamesHold h.tasks h.shared.files → Sound process h.tasks no_view
+  nothing_sound : NamesHold h.tasks h.shared.files h.sockets → Sound process h.tasks no_view
   nothing_sound hold = record {
     opened = λ fd id e. absurd (none_named fd id e);
     others = λ n o. subst (λ (m : ℕ). is_some (at m h.shared.files.files) ≡ true) o.number (hold.opened o.other o.fd o.id o.names);
@@ -271,11 +277,11 @@ module _ (process : ℕ) (memory : Memory) (h : PartsRecord) where
       insert_other input_view.table 1 (next_file input_view.files) 2 (λ e. cc)
       ∙ (insert_other no_view.table 0 (next_file h.shared.files) 2 (λ e. cc) ∙ map.get-empty nat_cmp 2)
 
-  started_sound : NamesHold h.tasks h.shared.files → Sound process h.tasks errors_view
+  started_sound : NamesHold h.tasks h.shared.files h.sockets → Sound process h.tasks errors_view
   started_sound hold =
-      opened_sound 0 output_view 2 (std_file kind.Errors) output_view.files [] h.sockets errors_free refl (grows_so output_view.files output_view.files refl refl refl) refl (λ k x e. e) process h.tasks
-      (opened_sound 0 input_view 1 (std_file kind.Output) input_view.files [] h.sockets output_free refl (grows_so input_view.files input_view.files refl refl refl) refl (λ k x e. e) process h.tasks
-      (opened_sound 0 no_view 0 (std_file kind.Input) h.shared.files [] h.sockets input_free refl (grows_so h.shared.files h.shared.files refl refl refl) refl (λ k x e. e) process h.tasks (nothing_sound hold) (λ n f e same one. cc))
+      opened_sound 0 output_view 2 (std_file kind.Errors) output_view.files [] h.sockets errors_free refl (grows_so output_view.files output_view.files refl refl refl) (all_stay h.sockets) refl (λ k x e. e) process h.tasks
+      (opened_sound 0 input_view 1 (std_file kind.Output) input_view.files [] h.sockets output_free refl (grows_so input_view.files input_view.files refl refl refl) (all_stay h.sockets) refl (λ k x e. e) process h.tasks
+      (opened_sound 0 no_view 0 (std_file kind.Input) h.shared.files [] h.sockets input_free refl (grows_so h.shared.files h.shared.files refl refl refl) (all_stay h.sockets) refl (λ k x e. e) process h.tasks (nothing_sound hold) (λ n f e same one. cc))
       (λ n f e same one. cc))
       (λ n f e same one. cc)
 
@@ -288,7 +294,7 @@ module _ (process : ℕ) (memory : Memory) (h : PartsRecord) where
   abbrev begun_parts : PartsRecord
   begun_parts = with_place process begun_place h
 
-  pub hold_begun : NamesHold h.tasks h.shared.files → NamesHold begun_parts.tasks begun_parts.shared.files
+  pub hold_begun : NamesHold h.tasks h.shared.files h.sockets → NamesHold begun_parts.tasks begun_parts.shared.files begun_parts.sockets
   hold_begun hold = hold_placed h process begun_place begun.0 refl (started_sound hold) hold
 
   file_stays : (n : ℕ) (f : File) → at n h.shared.files.files ≡ Some f → at n begun.1.files.files ≡ Some f
@@ -297,12 +303,12 @@ module _ (process : ℕ) (memory : Memory) (h : PartsRecord) where
       (file_still 0 input_view 1 (std_file kind.Output) input_view.files [] h.sockets output_free refl n f
       (file_still 0 no_view 0 (std_file kind.Input) h.shared.files [] h.sockets input_free refl n f e))
 
-  pub one_begun : (now : Time) (m : FilesMove now.nanos h.shared.files begun_parts.shared.files) → NamesHold h.tasks h.shared.files → (q fd : ℕ) (id jd : ObjectId) (f g : File) → process ≢ q → names q fd h.tasks ≡ Some id → names q fd begun_parts.tasks ≡ Some jd → file_at id h.shared.files ≡ Some f → file_at jd begun_parts.shared.files ≡ Some g → NamesOne now.nanos h begun_parts m id jd f g
-  one_begun now m hold q fd id jd f g apart e k there_f there_g =
+  pub one_begun : (hosts : List Ip) (now : Time) (m : FilesMove now.nanos h.shared.files begun_parts.shared.files) (s : SocketsMove hosts h.sockets begun_parts.sockets) → NamesHold h.tasks h.shared.files h.sockets → (q fd : ℕ) (id jd : ObjectId) (f g : File) → process ≢ q → names q fd h.tasks ≡ Some id → names q fd begun_parts.tasks ≡ Some jd → file_at id h.shared.files ≡ Some f → file_at jd begun_parts.shared.files ≡ Some g → NamesOne hosts now.nanos h begun_parts m s id jd f g
+  one_begun hosts now m s hold q fd id jd f g apart e k there_f there_g =
       let still : names q fd begun_parts.tasks ≡ Some id = ap (λ (o : Option Task). named_in fd o) (set_other process q (Some begun.0) h.tasks apart) ∙ e in
       let same : id ≡ jd = some_same id jd (sym still ∙ k) in
       let same_file : f ≡ g = some_same f g (sym (file_stays id.number f there_f) ∙ subst (λ (i : ObjectId). file_at i begun_parts.shared.files ≡ Some g) (sym same) there_g) in
-      names_one now.nanos h begun_parts m id jd f g hold (hold_begun hold) there_f there_g same (ap (λ (z : File). object_alone z.object) same_file)
+      names_one hosts now.nanos h begun_parts m s id jd f g hold (hold_begun hold) there_f there_g same (ap (λ (z : File). object_alone z.object) same_file)
 
   -- it has no entries, and those of the others stay
   pub entry_begun : (P : Type 0) (q k : ℕ) (last : Task) (w : Watch) → at q begun_parts.tasks ≡ Some last → HasEntry k last.epolls w → (process ≢ q → at q h.tasks ≡ Some last → P) → P

@@ -1,3 +1,7 @@
+pub mod There
+pub mod SocketActs
+pub mod SocketMoves
+pub mod SocketLives
 pub mod Views
 pub mod Epolls
 pub mod Growing

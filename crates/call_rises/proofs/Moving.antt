@@ -11,6 +11,7 @@ use Rattle.file_laws.specs.Kinds.{pipes, eventfds, timers}
 use Rattle.file_laws.specs.Lives.{Kind, SlotAct, makes, does, ends, slots_acted, slots_after, Lasts}
 use Rattle.file_laws.specs.Timers.{TimerAct}
 use Rattle.call_rises.specs.Moves.{AreAt, AllRise, FilesMove}
+use Rattle.call_rises.proofs.There.{AllStay, all_stay}
 use Rattle.call_rises.proofs.Views.{View, Named, Fewer, Grows, grows_so, quiet, named_both}
 
 -- what holds either way holds of the choice
@@ -143,11 +144,11 @@ moved_by now v w m same named = record {
 }
 
 -- nothing is opened or closed, and all that was there still is
-pub moved : (now : ℕ) (v w : View) → FilesMove now v.files w.files → v.table ≡ w.table → v.files.files ≡ w.files.files → v.epolls ≡ w.epolls → Grows v.files w.files → Moved now v w
-moved now v w m table files epolls grows = moved_by now v w m epolls (quiet now v w table files epolls grows)
+pub moved : (now : ℕ) (v w : View) → FilesMove now v.files w.files → v.table ≡ w.table → v.files.files ≡ w.files.files → v.epolls ≡ w.epolls → Grows v.files w.files → AllStay v.sockets w.sockets → Moved now v w
+moved now v w m table files epolls grows stay = moved_by now v w m epolls (quiet now v w table files epolls grows stay)
 
 pub moved_none : (now : ℕ) (v : View) → Moved now v v
-moved_none now v = moved now v v (none now v.files) refl refl refl (grows_so v.files v.files refl refl refl)
+moved_none now v = moved now v v (none now v.files) refl refl refl (grows_so v.files v.files refl refl refl) (all_stay v.sockets)
 
 pub moved_both : (now : ℕ) (v u w : View) → Moved now v u → Moved now u w → Fewer u w → Moved now v w
 moved_both now v u w a b fewer = record {

@@ -19,6 +19,7 @@ use Rattle.file_calls.specs.Files.{read_end, write_end}
 use Rattle.file_laws.proofs.Places.{acts_here, set_other, made_here, made_other, none_free}
 use Rattle.call_rises.specs.Names.{has_end, is_there, is_single, object_alone, HasEntry}
 use Rattle.call_rises.proofs.Growing.{grows_by_pipe}
+use Rattle.call_rises.proofs.There.{AllStay, all_stay}
 use Rattle.call_rises.proofs.Views.{View, Sound, SameObject, came_as_it_was, Named, Grows, grows_object, grows_so, by_number, some_same, some_of, is_there_of, not_none, insert_here, insert_other}
 
 -- no open file is of the object
@@ -89,7 +90,7 @@ module _ (now : ℕ) (v : View) (fd : ℕ) (file : File) (y : FilesState) (epoll
       let same = insert_other v.table fd (next_file y) gd (open_apart gd (is_there_of (map.get v.table gd) id e)) in
       (some_same id jd (sym e ∙ (sym same ∙ k)), same_objects id.number)
 
-  module _ (grows : Grows v.files y) (is_here : is_there file.object y ≡ true) (entries : (k : ℕ) (x : Watch) → HasEntry k epolls x → HasEntry k v.epolls x) where
+  module _ (grows : Grows v.files y) (stay : AllStay v.sockets t) (is_here : is_there file.object y t ≡ true) (entries : (k : ℕ) (x : Watch) → HasEntry k epolls x → HasEntry k v.epolls x) where
     pub opened_sound : (process : ℕ) (tasks : List (Option Task)) → Sound process tasks v → IsNew v file → Sound process tasks w
     opened_sound process tasks h new = record {
       opened = λ gd id e. either_name (is_some (at id.number here) ≡ true) gd id e
@@ -106,10 +107,10 @@ module _ (now : ℕ) (v : View) (fd : ℕ) (file : File) (y : FilesState) (epoll
       apart_others = λ gd id e o. either_name ⊥ gd id e
           (λ same is. apart_of id.number (h.others id.number o) (number_of id is))
           (λ apart old. h.apart_others gd id old o);
-      there = λ n f e. grows_object y w.files (record { ends = λ end k q. q; eventfds = λ k q. q; timers = λ k q. q }) f.object
-          (either_file (is_there f.object y ≡ true) n f e
-          (λ same is. subst (λ (x : File). is_there x.object y ≡ true) is is_here)
-          (λ old. grows_object v.files y grows f.object (h.there n f old)));
+      there = λ n f e. grows_object y w.files t t (record { ends = λ end k q. q; eventfds = λ k q. q; timers = λ k q. q }) (all_stay t) f.object
+          (either_file (is_there f.object y t ≡ true) n f e
+          (λ same is. subst (λ (x : File). is_there x.object y t ≡ true) is is_here)
+          (λ old. grows_object v.files y v.sockets t grows stay f.object (h.there n f old)));
       single = λ n m f g e k same one. either_file (n ≡ m) n f e
           (λ n_new f_new. either_file (n ≡ m) m g k
           (λ m_new g_new. sym n_new ∙ m_new)
@@ -164,7 +165,7 @@ module _ (now : ℕ) (v : View) (id : ObjectId) (old new : File) (is : at id.num
       (λ same. subst (λ (m : ℕ). is_some (at m changed_files) ≡ true) same (is_there_of (at id.number changed_files) new changed_here))
       (λ apart. subst (λ (o : Option File). is_some o ≡ true) (sym (changed_other n apart)) h)
 
-  module _ (alone : object_alone old.object ≡ object_alone new.object) (there : is_there old.object v.files ≡ true → is_there new.object v.files ≡ true) (single : is_single new.object ≡ true → old.object ≡ new.object) where
+  module _ (alone : object_alone old.object ≡ object_alone new.object) (there : is_there old.object v.files v.sockets ≡ true → is_there new.object v.files v.sockets ≡ true) (single : is_single new.object ≡ true → old.object ≡ new.object) where
     changed_objects : (n : ℕ) → SameObject v changed_view n
     changed_objects n f g a b =
         file_before (object_alone f.object ≡ object_alone g.object) n g b
@@ -189,9 +190,9 @@ module _ (now : ℕ) (v : View) (id : ObjectId) (old new : File) (is : at id.num
         others = λ n o. changed_still n (h.others n o);
         apart = λ fd gd jd kd e k same. h.apart fd gd jd kd e k same;
         apart_others = λ fd jd e o. h.apart_others fd jd e o;
-        there = λ n f e. grows_object v.files changed_view.files (record { ends = λ end k q. q; eventfds = λ k q. q; timers = λ k q. q }) f.object
-            (file_before (is_there f.object v.files ≡ true) n f e
-            (λ same is_new. subst (λ (x : File). is_there x.object v.files ≡ true) is_new (there (h.there id.number old is)))
+        there = λ n f e. grows_object v.files changed_view.files v.sockets v.sockets (record { ends = λ end k q. q; eventfds = λ k q. q; timers = λ k q. q }) (all_stay v.sockets) f.object
+            (file_before (is_there f.object v.files v.sockets ≡ true) n f e
+            (λ same is_new. subst (λ (x : File). is_there x.object v.files v.sockets ≡ true) is_new (there (h.there id.number old is)))
             (λ e. h.there n f e));
         single = λ n m f g e k same one.
             file_of (n ≡ m) n f e one
@@ -205,9 +206,9 @@ module _ (now : ℕ) (v : View) (id : ObjectId) (old new : File) (is : at id.num
     }
 
 -- an object that wasn't there is new
-pub new_object : (v : View) (file : File) (process : ℕ) (tasks : List (Option Task)) → Sound process tasks v → (is_single file.object ≡ true → is_there file.object v.files ≡ false) → IsNew v file
+pub new_object : (v : View) (file : File) (process : ℕ) (tasks : List (Option Task)) → Sound process tasks v → (is_single file.object ≡ true → is_there file.object v.files v.sockets ≡ false) → IsNew v file
 new_object v file process tasks h absent n f e same one =
-    let there = subst (λ (o : Object). is_there o v.files ≡ true) same (h.there n f e) in
+    let there = subst (λ (o : Object). is_there o v.files v.sockets ≡ true) same (h.there n f e) in
     let no : false ≡ true = sym (absent one) ∙ there in
     false_true no
   where
@@ -244,7 +245,7 @@ module _ (now : ℕ) (v : View) (fds : Ends) (nonblocking : Bool) (free : AreFre
 
   first_named : Named now v first
   first_named =
-      opened_named now v fds.reading reader made v.epolls v.sockets free.reading refl (grows_by_pipe v.files) (ap (λ (o : Option PipeState). has_end Reading o) pipe_here) (λ j x e. e)
+      opened_named now v fds.reading reader made v.epolls v.sockets free.reading refl (grows_by_pipe v.files) (all_stay v.sockets) (ap (λ (o : Option PipeState). has_end Reading o) pipe_here) (λ j x e. e)
       (λ process tasks h. new_object v reader process tasks h (λ one. ap (λ (o : Option PipeState). has_end Reading o) (none_free v.files.pipes)))
 
   -- no other file is of its writing end
@@ -263,7 +264,7 @@ module _ (now : ℕ) (v : View) (fds : Ends) (nonblocking : Bool) (free : AreFre
   pub pipe_named : Named now v second
   pipe_named = record {
     sound = λ process tasks h.
-        opened_sound now first fds.writing writer first.files v.epolls v.sockets writing_free refl (grows_so first.files first.files refl refl refl) (ap (λ (o : Option PipeState). has_end Writing o) pipe_here) (λ j x e. e) process tasks (first_named.sound process tasks h) (writer_new process tasks h);
+        opened_sound now first fds.writing writer first.files v.epolls v.sockets writing_free refl (grows_so first.files first.files refl refl refl) (all_stay v.sockets) (ap (λ (o : Option PipeState). has_end Writing o) pipe_here) (λ j x e. e) process tasks (first_named.sound process tasks h) (writer_new process tasks h);
     own = λ process tasks h fd id jd e k.
         let still = still_named now v fds.reading reader made v.epolls v.sockets free.reading refl fd id e in
         let found = some_of (at id.number first.files.files) ((first_named.sound process tasks h).opened fd id still) in

@@ -53,6 +53,7 @@ use Rattle.call_rises.proofs.Epolls.{rise_made, rise_changed, entry_made, entry_
 use Rattle.call_rises.proofs.Growing.{grows_read, grows_written, grows_timer, grows_eventfd, grows_by_timer, grows_by_eventfd}
 use Rattle.call_rises.proofs.Moving.{by_test, none, stays, Moved, moved_by, moved, on_pipe, on_eventfd, on_timer, Leads, answers, refused, asks, asks_so, tries}
 use Rattle.call_rises.proofs.Opening.{with_open, opened_named, changed_named, new_object, pipe_named}
+use Rattle.call_rises.proofs.There.{all_stay}
 use Rattle.call_rises.proofs.Views.{View, view, came_as_it_was, came_unsaid, Named, Grows, grows_so, quiet, resting, descriptor_named, is_there_of}
 
 module _ (now : ℕ) where
@@ -75,12 +76,12 @@ module _ (now : ℕ) where
       answers (LocalMoved task shared) a after
       (λ t.
       moved now (view task shared t) (view after.0 after.1 t) (stays now shared.files after.1.files pipes eventfds timers) table (ap (λ (x : FilesState). x.files) files) epolls
-      (grows_so shared.files after.1.files pipes eventfds timers))
+      (grows_so shared.files after.1.files pipes eventfds timers) (all_stay t))
 
   -- nothing is opened or closed
   acted : (task after : Task) (shared left : Shared) → task.table ≡ after.table → shared.files.files ≡ left.files.files → task.epolls ≡ after.epolls → Grows shared.files left.files → (t : SocketsRecord) → Named now (view task shared t) (view after left t)
   acted task after shared left table files epolls grows t =
-      quiet now (view task shared t) (view after left t) table files epolls grows
+      quiet now (view task shared t) (view after left t) table files epolls grows (all_stay t)
 
   -- an open file, as it is named
   abbrev IsNamed : Descriptor → Shared → Type 0
@@ -111,7 +112,7 @@ module _ (now : ℕ) where
       (λ d e. fcntl_leads command flags d task shared (descriptor_named (map.get task.table fd) shared.files d e).1)
 
   -- rows that open a file
-  opens_row : {A : Type 0} (a : A) (fd : ℕ) (file : File) (task : Task) (shared made : Shared) (after : Local) (epolls : EpollsState) → FilesMove now shared.files after.1.files → (AllRise task.epolls → AllRise after.0.epolls) → map.get task.table fd ≡ None → shared.files.files ≡ made.files.files → Grows shared.files made.files → is_there file.object made.files ≡ true → (is_single file.object ≡ true → is_there file.object shared.files ≡ false) → ((k : ℕ) (x : Watch) → HasEntry k epolls x → HasEntry k task.epolls x) → ((t : SocketsRecord) → view after.0 after.1 t ≡ with_open (view task shared t) fd file made.files epolls t) → R task shared (Ok (a, after))
+  opens_row : {A : Type 0} (a : A) (fd : ℕ) (file : File) (task : Task) (shared made : Shared) (after : Local) (epolls : EpollsState) → FilesMove now shared.files after.1.files → (AllRise task.epolls → AllRise after.0.epolls) → map.get task.table fd ≡ None → shared.files.files ≡ made.files.files → Grows shared.files made.files → ((t : SocketsRecord) → is_there file.object made.files t ≡ true) → ((t : SocketsRecord) → is_single file.object ≡ true → is_there file.object shared.files t ≡ false) → ((k : ℕ) (x : Watch) → HasEntry k epolls x → HasEntry k task.epolls x) → ((t : SocketsRecord) → view after.0 after.1 t ≡ with_open (view task shared t) fd file made.files epolls t) → R task shared (Ok (a, after))
   opens_row a fd file task shared made after epolls m rise free files grows here new entries is =
       answers (LocalMoved task shared) a after
       (λ t.
@@ -119,8 +120,8 @@ module _ (now : ℕ) where
         files = m;
         epolls = rise;
         names = subst (λ (w : View). Named now (view task shared t) w) (sym (is t))
-            (opened_named now (view task shared t) fd file made.files epolls t free files grows here entries
-            (λ process tasks h. new_object (view task shared t) file process tasks h new));
+            (opened_named now (view task shared t) fd file made.files epolls t free files grows (all_stay t) (here t) entries
+            (λ process tasks h. new_object (view task shared t) file process tasks h (new t)));
       })
 
   openat_leads : (path flags : ℕ) (task : Task) (shared : Shared) → R task shared (openat path flags (task, shared))
@@ -129,7 +130,7 @@ module _ (now : ℕ) where
       (λ fd e.
       let after = opens fd hosts_file (task, shared) in
       opens_row fd fd hosts_file task shared shared after task.epolls (stays now shared.files after.1.files refl refl refl) (λ rise. rise) ((openat_free path flags task).gives fd e) refl
-      (grows_so shared.files shared.files refl refl refl) refl (λ one. cc) (λ k x h. h) (λ t. refl))
+      (grows_so shared.files shared.files refl refl refl) (λ t. refl) (λ t one. cc) (λ k x h. h) (λ t. refl))
 
   pipe2_leads : (at flags : ℕ) (task : Task) (shared : Shared) → R task shared (pipe2 at flags (task, shared))
   pipe2_leads at flags task shared =
@@ -148,8 +149,8 @@ module _ (now : ℕ) where
       let after = opens fd file (new_timer clock (task, shared)) in
       opens_row fd fd file task shared made after task.epolls (on_timer now (makes clock) shared.files after.1.files tt refl refl refl) (λ rise. rise) ((create_free clock flags task).gives fd e) refl
       (grows_by_timer clock shared.files)
-      (is_there_of (at (next_timer shared.files) made.files.timers) (kept_timer clock) (made_here (kept_timer clock) shared.files.timers))
-      (λ one. ap is_some (none_free shared.files.timers)) (λ k x h. h) (λ t. refl))
+      (λ t. is_there_of (at (next_timer shared.files) made.files.timers) (kept_timer clock) (made_here (kept_timer clock) shared.files.timers))
+      (λ t one. ap is_some (none_free shared.files.timers)) (λ k x h. h) (λ t. refl))
 
   eventfd_leads : (count flags : ℕ) (task : Task) (shared : Shared) → R task shared (eventfd2 count flags (task, shared))
   eventfd_leads count flags task shared =
@@ -161,8 +162,8 @@ module _ (now : ℕ) where
       let after = opens fd file (new_eventfd count flags (task, shared)) in
       opens_row fd fd file task shared made after task.epolls (on_eventfd now (makes (count, has efd_semaphore flags)) shared.files after.1.files refl refl refl) (λ rise. rise) ((eventfd_free flags task).gives fd e) refl
       (grows_by_eventfd new shared.files)
-      (is_there_of (at (next_eventfd shared.files) made.files.eventfds) new (made_here new shared.files.eventfds))
-      (λ one. ap is_some (none_free shared.files.eventfds)) (λ k x h. h) (λ t. refl))
+      (λ t. is_there_of (at (next_eventfd shared.files) made.files.eventfds) new (made_here new shared.files.eventfds))
+      (λ t one. ap is_some (none_free shared.files.eventfds)) (λ k x h. h) (λ t. refl))
 
   setsockopt_leads : (fd level option at n : ℕ) (task : Task) (shared : Shared) → R task shared (setsockopt fd level option at n (task, shared))
   setsockopt_leads fd level option at n task shared =
@@ -189,7 +190,7 @@ module _ (now : ℕ) where
       let file = epoll_file (next_epoll task.epolls) in
       let after = opens fd file (new_epoll (task, shared)) in
       opens_row fd fd file task shared shared after (with_epoll task.epolls) (stays now shared.files after.1.files refl refl refl) (λ rise. rise_made task.epolls rise) ((epoll_free flags task).gives fd e) refl
-      (grows_so shared.files shared.files refl refl refl) refl (λ one. cc) (λ k x h. entry_made x task.epolls k h) (λ t. refl))
+      (grows_so shared.files shared.files refl refl refl) (λ t. refl) (λ t one. cc) (λ k x h. entry_made x task.epolls k h) (λ t. refl))
 
   -- an entry that is put is of an open descriptor, and was never told
   entries_changed : (c : Control) (task : Task) (shared : Shared) → ChangeFits task.table c.change → (t : SocketsRecord) → Named now (view task shared t) (view (controlled c (task, shared)).0 (controlled c (task, shared)).1 t)
@@ -197,11 +198,11 @@ module _ (now : ℕ) where
     where
       by_change : (change : Change) → ChangeFits task.table change → Named now (view task shared t) (record { table = task.table; files = shared.files; epolls = changed change c.place task.epolls; sockets = t })
       by_change (Put w) (is_open, unreported) =
-          resting now (view task shared t) _ refl refl (grows_so shared.files shared.files refl refl refl)
+          resting now (view task shared t) _ refl refl (grows_so shared.files shared.files refl refl refl) (all_stay t)
           (λ process tasks h k x e. ⊎_elim (λ same. subst (λ (v : Watch). is_some (map.get task.table v.fd) ≡ true) (sym same) is_open) (λ old. h.watched k x old) (entry_put x w c.place task.epolls k e))
           (λ k x e. ⊎_elim (λ same. came_unsaid (subst (λ (v : Watch). v.reported ≡ None) (sym same) unreported)) (λ old. came_as_it_was old) (entry_put x w c.place task.epolls k e))
       by_change (Remove fd) fits =
-          resting now (view task shared t) _ refl refl (grows_so shared.files shared.files refl refl refl)
+          resting now (view task shared t) _ refl refl (grows_so shared.files shared.files refl refl refl) (all_stay t)
           (λ process tasks h k x e. h.watched k x (entry_removed x fd c.place task.epolls k e))
           (λ k x e. came_as_it_was (entry_removed x fd c.place task.epolls k e))
 

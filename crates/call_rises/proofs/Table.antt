@@ -1,6 +1,7 @@
 -- the table of system calls, and what else happens at a host
 use Rattle.std.proofs.Common.{◌≡◌, ◌⊎◌, ⊎_elim, ℕ, zero, suc, ◌*◌, true, List, Option, Some, None, is_some, Result, Ok, Err, nat_lt, slice_set, refl, sym, ap, subst, ◌∙◌}
 use Rattle.std.specs.FinMap as map
+use Rattle.sim_base.specs.declared.address.Ip.{Ip}
 use Rattle.sim_base.specs.declared.object.ObjectId.{ObjectId}
 use Rattle.sim_base.specs.declared.packet.Packet.{Packet}
 use Rattle.sim_base.specs.declared.time.Time.{Time}
@@ -37,7 +38,7 @@ use Rattle.host_calls.specs.declared.plan.Plan.{Plan}
 use Rattle.host_calls.specs.declared.plan.Plan.TheVariants as plan
 use Rattle.host_calls.specs.declared.polling.PollPlan.{PollPlan}
 use Rattle.call_parts.specs.Call.{call_of}
-use Rattle.host_calls.specs.Calls.{arg, plain_row, reacts, network_row, asked, done, row, row_of, deadline_object, with_alarm, blocks_by, blocked, all_ended, cleared, answered, scene_at, call_by, call}
+use Rattle.host_calls.specs.Calls.{arg, plain_row, reacts, network_row, asked, done, row, row_of, with_alarm, blocks_by, blocked, all_ended, cleared, answered, scene_at, call_by, call}
 use Rattle.host_calls.specs.Closing.{ends, without_epoll, closes, close, closed_by, closed_one, closed_below}
 use Rattle.file_calls.specs.Descriptors.{descriptor}
 use Rattle.host_calls.specs.Epoll.{seen_of, all_seen, told_of, epoll_waits}
@@ -51,30 +52,36 @@ use Rattle.host_calls.specs.Ready.{seen}
 use Rattle.host_calls.specs.Sockets.{socket, bind, listen, getsockname, getpeername, getsockopt, shutdown, accepts, sends_by, receives}
 use Rattle.host_calls.specs.Starting.{starts, task_starts}
 use Rattle.file_calls.specs.Times.{first_timer, timer_object, at_nanos, rings_at, next_ring}
+use Rattle.socket_laws.specs.Histories.{SocketsAct as act}
+use Rattle.socket_laws.specs.Histories.{SocketsAct, sockets_acted}
 use Rattle.pipe_laws.specs.Acts.{LetsGo}
 use Rattle.file_laws.specs.Lives.{does, ends as slot_ends}
 use Rattle.file_laws.specs.Timers.{Rings}
 use Rattle.file_laws.proofs.Places.{set_same, set_other}
 use Rattle.call_rises.specs.Moves.{FilesMove, AllRise, TasksRise}
+use Rattle.call_rises.specs.Sockets.{SocketsMove}
 use Rattle.call_rises.specs.Names.{named_in, names, HasEntry, NamesHold, NamesOne, NamesMove, MarksMove}
 use Rattle.call_rises.proofs.Asked.{PlanFits, asked_fits}
-use Rattle.call_rises.proofs.Ending.{ended_is, closed_named, closed_fewer, dropped_named, dropped_fewer}
+use Rattle.call_rises.proofs.Ending.{ended_is, sockets_ended, closed_named, closed_fewer, dropped_named, dropped_fewer}
 use Rattle.call_rises.proofs.Epolls.{rise_reported, rise_ended, rise_forgotten, none_rise, seen_of_all, entry_reported}
 use Rattle.call_rises.proofs.Growing.{grows_timer}
 use Rattle.call_rises.proofs.Hosts.{placed_same, hold_after, one_after, marks_after, were_after, hold_rests, one_rests, marks_rest, hold_begun, one_begun, entry_begun, marks_begun}
 use Rattle.call_rises.proofs.Moving.{by_test, none, stays, on_pipe, on_eventfd, on_timer, both, Moved, moved_by, moved_none, moved_both, Leads, answers, refused, asks_so, asks}
 use Rattle.call_rises.proofs.PlainRows.{LocalMoved, plain_leads, reads_lead, writes_lead}
 use Rattle.call_rises.proofs.NetworkRows.{scene_view, SceneMoved, keeps, socket_leads, bind_leads, listen_leads, accept_leads, connect_leads, getsockname_leads, getpeername_leads, send_leads, recv_leads, getsockopt_leads, shutdown_leads}
+use Rattle.call_rises.proofs.There.{AllStay, all_stay, same_stay}
+use Rattle.call_rises.proofs.SocketActs.{Stays, stays_there}
+use Rattle.call_rises.proofs.SocketMoves.{sockets_rest, sockets_move, sockets_both}
 use Rattle.call_rises.proofs.Views as views
 use Rattle.call_rises.proofs.Views.{View, view, came_as_it_was, came_told, Named, Grows, grows_so, fewer_so, resting, by_number, descriptor_named}
 
-module _ (now : Time) where
+module _ (hosts : List Ip) (now : Time) where
   abbrev M : FilesState → FilesState → Type 0
   M x y = FilesMove now.nanos x y
 
   -- what a scene leaves, and what a row leaves of it
   abbrev Q : Scene → Scene → Type 0
-  Q s t = SceneMoved now.nanos s t
+  Q s t = SceneMoved hosts now.nanos s t
 
   abbrev R : {A : Type 0} → Scene → Result (A × Scene) Refusal → Type 0
   R s row = Leads (Q s) row
@@ -83,17 +90,20 @@ module _ (now : Time) where
   rests x = none now.nanos x
 
   stays_so : (s : Scene) → Q s s
-  stays_so s = moved_none now.nanos (scene_view s)
+  stays_so s = (moved_none now.nanos (scene_view s), sockets_rest hosts s.sockets)
 
   -- the second opens and makes nothing
   abbrev Fewer : Scene → Scene → Type 0
   Fewer s t = views.Fewer (scene_view s) (scene_view t)
 
   then : (s t u : Scene) → Q s t → Q t u → Fewer t u → Q s u
-  then s t u a b fewer = moved_both now.nanos (scene_view s) (scene_view t) (scene_view u) a b fewer
+  then s t u a b fewer = (
+    moved_both now.nanos (scene_view s) (scene_view t) (scene_view u) a.0 b.0 fewer,
+    sockets_both hosts s.sockets t.sockets u.sockets a.1 b.1 fewer.sockets,
+  )
 
   fewer_none : (v : View) → views.Fewer v v
-  fewer_none v = fewer_so now.nanos v v refl refl refl refl refl refl
+  fewer_none v = fewer_so now.nanos v v refl refl refl refl refl refl (all_stay v.sockets)
 
   reacting : (s : Scene) (row : Result (ℕ × Scene) Refusal) → R s row → R s (reacts row)
   reacting s (Ok (value, after)) h = answers (Q s) (Value value) after (h.leads value after refl)
@@ -101,7 +111,8 @@ module _ (now : Time) where
 
   plain_rows : {A : Type 0} (s : Scene) (row : Result (A × Local) Refusal) → Leads (LocalMoved now.nanos s.task s.shared) row → R s (plainly row s)
   plain_rows s (Ok (a, (task, shared))) h =
-      answers (Q s) a (with_local (task, shared) s) (h.leads a (task, shared) refl s.sockets)
+      answers (Q s) a (with_local (task, shared) s)
+      (h.leads a (task, shared) refl s.sockets, sockets_rest hosts s.sockets)
   plain_rows s (Err why) h = refused (Q s) why
 
   -- close(2): an end of a pipe is let go, and a timer, an eventfd and an epoll end
@@ -121,6 +132,19 @@ module _ (now : Time) where
   ends_move (kind.Epoll k) shared t = rests shared.files
   ends_move (kind.Udp k) shared t = rests shared.files
   ends_move (kind.Tcp k) shared t = rests shared.files
+
+  sockets_end : (object : Object) (shared : Shared) (t : SocketsRecord) → SocketsMove hosts t (ends now object shared t).1
+  sockets_end kind.Input shared t = sockets_rest hosts t
+  sockets_end kind.Output shared t = sockets_rest hosts t
+  sockets_end kind.Errors shared t = sockets_rest hosts t
+  sockets_end (kind.Hosts read) shared t = sockets_rest hosts t
+  sockets_end (kind.ReadEnd k) shared t = sockets_rest hosts t
+  sockets_end (kind.WriteEnd k) shared t = sockets_rest hosts t
+  sockets_end (kind.Timer k) shared t = sockets_rest hosts t
+  sockets_end (kind.Eventfd k) shared t = sockets_rest hosts t
+  sockets_end (kind.Epoll k) shared t = sockets_rest hosts t
+  sockets_end (kind.Udp k) shared t = sockets_move hosts now (act.close_udp k) t _ shared.outlet refl
+  sockets_end (kind.Tcp k) shared t = sockets_move hosts now (act.close_tcp k) t _ shared.outlet refl
 
   ended_rises : (object : Object) (epolls : EpollsState) → AllRise epolls → AllRise (without_epoll object epolls)
   ended_rises kind.Input epolls rise = rise
@@ -147,20 +171,22 @@ module _ (now : Time) where
   closes_move fd d s e =
       let ended = (ends now d.file.object s.shared s.sockets).0.files in
       let after = (closes now fd d s).shared.files in
-      let named = descriptor_named (map.get s.task.table fd) s.shared.files d e in
-      record {
-        files = both now.nanos s.shared.files ended after (ends_move d.file.object s.shared s.sockets) (stays now.nanos ended after refl refl refl)
-            (record { pipes = λ k h. h; eventfds = λ k h. h; timers = λ k h. h });
-        epolls = λ rise. rise_forgotten fd (without_epoll d.file.object s.task.epolls) (ended_rises d.file.object s.task.epolls rise);
-        names = subst (λ (y : FilesState). Named now.nanos (scene_view s) (after_closing fd d s y)) (ended_is now d.file.object s.shared s.sockets)
-            (closed_named now.nanos (scene_view s) fd d (ends now d.file.object s.shared s.sockets).1 named.0 named.1);
-      }
+      let named = descriptor_named (map.get s.task.table fd) s.shared.files d e in (
+        record {
+          files = both now.nanos s.shared.files ended after (ends_move d.file.object s.shared s.sockets) (stays now.nanos ended after refl refl refl)
+              (record { pipes = λ k h. h; eventfds = λ k h. h; timers = λ k h. h });
+          epolls = λ rise. rise_forgotten fd (without_epoll d.file.object s.task.epolls) (ended_rises d.file.object s.task.epolls rise);
+          names = subst (λ (y : FilesState). Named now.nanos (scene_view s) (after_closing fd d s y)) (ended_is now d.file.object s.shared s.sockets)
+              (closed_named now.nanos (scene_view s) fd d (ends now d.file.object s.shared s.sockets).1 (sockets_ended now d.file.object s.shared s.sockets) named.0 named.1);
+        },
+        sockets_end d.file.object s.shared s.sockets,
+      )
 
   closes_fewer : (fd : ℕ) (d : Descriptor) (s : Scene) → descriptor fd s.task s.shared.files ≡ Ok d → Fewer s (closes now fd d s)
   closes_fewer fd d s e =
       let named = descriptor_named (map.get s.task.table fd) s.shared.files d e in
       subst (λ (y : FilesState). views.Fewer (scene_view s) (after_closing fd d s y)) (ended_is now d.file.object s.shared s.sockets)
-      (closed_fewer now.nanos (scene_view s) fd d (ends now d.file.object s.shared s.sockets).1 named.0 named.1)
+      (closed_fewer now.nanos (scene_view s) fd d (ends now d.file.object s.shared s.sockets).1 (sockets_ended now d.file.object s.shared s.sockets) named.0 named.1)
 
   close_leads : (fd : ℕ) (s : Scene) → R s (close now fd s)
   close_leads fd s =
@@ -168,8 +194,10 @@ module _ (now : Time) where
 
   closed_move_by : (fd : ℕ) (o : Result Descriptor Refusal) (s : Scene) → descriptor fd s.task s.shared.files ≡ o → Q s (closed_by now fd o s)
   closed_move_by fd (Ok d) s e = closes_move fd d s e
-  closed_move_by fd (Err why) s e =
-      moved_by now.nanos (scene_view s) (scene_view (closed_by now fd (Err why) s)) (rests s.shared.files) refl (dropped_named now.nanos (scene_view s) fd why e)
+  closed_move_by fd (Err why) s e = (
+    moved_by now.nanos (scene_view s) (scene_view (closed_by now fd (Err why) s)) (rests s.shared.files) refl (dropped_named now.nanos (scene_view s) fd why e),
+    sockets_rest hosts s.sockets,
+  )
 
   closed_fewer_by : (fd : ℕ) (o : Result Descriptor Refusal) (s : Scene) → descriptor fd s.task s.shared.files ≡ o → Fewer s (closed_by now fd o s)
   closed_fewer_by fd (Ok d) s e = closes_fewer fd d s e
@@ -201,8 +229,10 @@ module _ (now : Time) where
   blocks_same process why (Some first) task shared t = refl
 
   blocked_move : (process : ℕ) (why : Why) (s : Scene) → Q s (blocked process why s).1
-  blocked_move process why s =
-      subst (λ (w : View). Moved now.nanos (scene_view s) w) (blocks_same process why s.task.kept s.task s.shared s.sockets) (moved_none now.nanos (scene_view s))
+  blocked_move process why s = (
+    subst (λ (w : View). Moved now.nanos (scene_view s) w) (blocks_same process why s.task.kept s.task s.shared s.sockets) (moved_none now.nanos (scene_view s)),
+    sockets_rest hosts s.sockets,
+  )
 
   blocked_fewer : (process : ℕ) (why : Why) (s : Scene) → Fewer s (blocked process why s).1
   blocked_fewer process why s =
@@ -228,10 +258,10 @@ module _ (now : Time) where
       entry_reported x p.room (seen_of now s) p.place s.task.epolls k
       (subst (λ (all : List Seen). HasEntry k (entries_reported p.room all p.place s.task.epolls) x) (sym (seen_is s (epoll_at p.place s.task.epolls))) h)
 
-  report_named : (p : WaitPlan) (s after : Scene) → s.task.table ≡ after.task.table → s.shared.files ≡ after.shared.files → after.task.epolls ≡ entries_reported p.room (all_seen now s (epoll_at p.place s.task.epolls)) p.place s.task.epolls → Named now.nanos (scene_view s) (scene_view after)
-  report_named p s after table files epolls =
+  report_named : (p : WaitPlan) (s after : Scene) → s.task.table ≡ after.task.table → s.shared.files ≡ after.shared.files → after.task.epolls ≡ entries_reported p.room (all_seen now s (epoll_at p.place s.task.epolls)) p.place s.task.epolls → AllStay s.sockets after.sockets → Named now.nanos (scene_view s) (scene_view after)
+  report_named p s after table files epolls stay =
       resting now.nanos (scene_view s) (scene_view after) table (ap (λ (x : FilesState). x.files) files)
-      (grows_so s.shared.files after.shared.files (ap (λ (x : FilesState). x.pipes) files) (ap (λ (x : FilesState). x.eventfds) files) (ap (λ (x : FilesState). x.timers) files))
+      (grows_so s.shared.files after.shared.files (ap (λ (x : FilesState). x.pipes) files) (ap (λ (x : FilesState). x.eventfds) files) (ap (λ (x : FilesState). x.timers) files)) stay
       (λ process tasks h k x e.
       let from = reported_from p s k x (subst (λ (es : EpollsState). HasEntry k es x) epolls e) in
       let is_open = h.watched k from.0 from.1.0 in
@@ -246,12 +276,12 @@ module _ (now : Time) where
       let all = all_seen now s (epoll_at p.place s.task.epolls) in
       let answer = told_of p all s in
       answers (Q s) answer.0 answer.1
-      (record { files = rests s.shared.files; epolls = λ rise. rise_reported p.room all p.place s.task.epolls rise; names = report_named p s answer.1 refl refl refl })
+      (record { files = rests s.shared.files; epolls = λ rise. rise_reported p.room all p.place s.task.epolls rise; names = report_named p s answer.1 refl refl refl (all_stay s.sockets) }, sockets_rest hosts s.sockets)
 
   polls_lead : (p : PollPlan) (s : Scene) → R s (polls now p s)
   polls_lead p s =
       asks (Q s) (poll_entries p.at (entry_size * p.count) s.task.memory) (λ entries. Ok (p.found, polled now p.at p.count entries s))
-      (λ entries. keeps now.nanos p.found s (polled now p.at p.count entries s) refl refl refl)
+      (λ entries. keeps hosts now.nanos p.found s (polled now p.at p.count entries s) refl refl refl refl)
 
 -- a process in its place among those of its host
 module _ (h : PartsRecord) (process : ℕ) where
@@ -289,32 +319,34 @@ module _ (h : PartsRecord) (process : ℕ) where
       (λ apart. rise q other (sym (set_other process q p.task h.tasks apart) ∙ there))
 
 -- what is left of all processes of a host
-pub record Keeps (now : Time) (x y : PartsRecord) : Type 0 where
+pub record Keeps (hosts : List Ip) (now : Time) (x y : PartsRecord) : Type 0 where
   pub files : FilesMove now.nanos x.shared.files y.shared.files
+  pub sockets : SocketsMove hosts x.sockets y.sockets
   pub tasks : TasksRise x → TasksRise y
-  pub hold : NamesHold x.tasks x.shared.files → NamesHold y.tasks y.shared.files
+  pub hold : NamesHold x.tasks x.shared.files x.sockets → NamesHold y.tasks y.shared.files y.sockets
   pub marks : MarksMove now x y
   -- a process that has entries was there
   pub were : (q k : ℕ) (last : Task) (w : Watch) → at q y.tasks ≡ Some last → HasEntry k last.epolls w → (first : Task) × (at q x.tasks ≡ Some first)
   -- the descriptors of entries name what they named
-  pub entries_name : NamesHold x.tasks x.shared.files → (q k : ℕ) (last : Task) (w : Watch) → at q y.tasks ≡ Some last → HasEntry k last.epolls w → (id jd : ObjectId) (f g : File) → names q w.fd x.tasks ≡ Some id → names q w.fd y.tasks ≡ Some jd → file_at id x.shared.files ≡ Some f → file_at jd y.shared.files ≡ Some g → NamesOne now.nanos x y files id jd f g
+  pub entries_name : NamesHold x.tasks x.shared.files x.sockets → (q k : ℕ) (last : Task) (w : Watch) → at q y.tasks ≡ Some last → HasEntry k last.epolls w → (id jd : ObjectId) (f g : File) → names q w.fd x.tasks ≡ Some id → names q w.fd y.tasks ≡ Some jd → file_at id x.shared.files ≡ Some f → file_at jd y.shared.files ≡ Some g → NamesOne hosts now.nanos x y files sockets id jd f g
 
 -- and all descriptors do
-abbrev pub NameOne : (now : Time) (x y : PartsRecord) → FilesMove now.nanos x.shared.files y.shared.files → Type 0
-NameOne now x y files =
-    (q fd : ℕ) (id jd : ObjectId) (f g : File) → names q fd x.tasks ≡ Some id → names q fd y.tasks ≡ Some jd → file_at id x.shared.files ≡ Some f → file_at jd y.shared.files ≡ Some g → NamesOne now.nanos x y files id jd f g
+abbrev pub NameOne : (hosts : List Ip) (now : Time) (x y : PartsRecord) → FilesMove now.nanos x.shared.files y.shared.files → SocketsMove hosts x.sockets y.sockets → Type 0
+NameOne hosts now x y files sockets =
+    (q fd : ℕ) (id jd : ObjectId) (f g : File) → names q fd x.tasks ≡ Some id → names q fd y.tasks ≡ Some jd → file_at id x.shared.files ≡ Some f → file_at jd y.shared.files ≡ Some g → NamesOne hosts now.nanos x y files sockets id jd f g
 
-pub record KeepsNames (now : Time) (x y : PartsRecord) : Type 0 where
-  pub keeps : Keeps now x y
-  pub one : NamesHold x.tasks x.shared.files → NameOne now x y keeps.files
+pub record KeepsNames (hosts : List Ip) (now : Time) (x y : PartsRecord) : Type 0 where
+  pub keeps : Keeps hosts now x y
+  pub one : NamesHold x.tasks x.shared.files x.sockets → NameOne hosts now x y keeps.files keeps.sockets
 
-pub moves_names : (now : Time) (x y : PartsRecord) → KeepsNames now x y → NamesHold x.tasks x.shared.files → NamesMove now.nanos x y
-moves_names now x y k hold = record { files = k.keeps.files; hold = k.keeps.hold hold; one = k.one hold }
+pub moves_names : (hosts : List Ip) (now : Time) (x y : PartsRecord) → KeepsNames hosts now x y → NamesHold x.tasks x.shared.files x.sockets → NamesMove hosts now.nanos x y
+moves_names hosts now x y k hold = record { files = k.keeps.files; sockets = k.keeps.sockets; hold = k.keeps.hold hold; one = k.one hold }
 
-keeps_by : (now : Time) (x y : PartsRecord) (m : FilesMove now.nanos x.shared.files y.shared.files) → (TasksRise x → TasksRise y) → (NamesHold x.tasks x.shared.files → NamesHold y.tasks y.shared.files) → MarksMove now x y → ((q : ℕ) (last : Task) → at q y.tasks ≡ Some last → (first : Task) × (at q x.tasks ≡ Some first)) → (NamesHold x.tasks x.shared.files → NameOne now x y m) → KeepsNames now x y
-keeps_by now x y m tasks hold marks were one = record {
+keeps_by : (hosts : List Ip) (now : Time) (x y : PartsRecord) (m : FilesMove now.nanos x.shared.files y.shared.files) (s : SocketsMove hosts x.sockets y.sockets) → (TasksRise x → TasksRise y) → (NamesHold x.tasks x.shared.files x.sockets → NamesHold y.tasks y.shared.files y.sockets) → MarksMove now x y → ((q : ℕ) (last : Task) → at q y.tasks ≡ Some last → (first : Task) × (at q x.tasks ≡ Some first)) → (NamesHold x.tasks x.shared.files x.sockets → NameOne hosts now x y m s) → KeepsNames hosts now x y
+keeps_by hosts now x y m s tasks hold marks were one = record {
   keeps = record {
     files = m;
+    sockets = s;
     tasks = tasks;
     hold = hold;
     marks = marks;
@@ -325,65 +357,68 @@ keeps_by now x y m tasks hold marks were one = record {
 }
 
 -- a process is left as an act leaves it
-pub moved_place : (now : Time) (h : PartsRecord) (process : ℕ) (before : Task) (p : Place) (left : Task) → at process h.tasks ≡ Some before → p.task ≡ Some left → Moved now.nanos (view before h.shared h.sockets) (view left p.shared p.sockets) → KeepsNames now h (with_place process p h)
-moved_place now h process before p left there is m =
-    keeps_by now h (with_place process p h) m.files
+pub moved_place : (hosts : List Ip) (now : Time) (h : PartsRecord) (process : ℕ) (before : Task) (p : Place) (left : Task) → at process h.tasks ≡ Some before → p.task ≡ Some left → Moved now.nanos (view before h.shared h.sockets) (view left p.shared p.sockets) → SocketsMove hosts h.sockets p.sockets → KeepsNames hosts now h (with_place process p h)
+moved_place hosts now h process before p left there is m s =
+    keeps_by hosts now h (with_place process p h) m.files s
     (λ rise. placed_by h process p left is (m.epolls (rise process before there)) rise)
     (hold_after h process p left is now before there m.names)
     (marks_after h process p left is now before there m.names)
     (were_after h process p left is now before there m.names)
-    (one_after h process p left is now before there m.names m.files)
+    (one_after h process p left is now before there m.names hosts m.files s)
 
 -- none of them is
-pub rest_there : (now : Time) (x y : PartsRecord) (m : FilesMove now.nanos x.shared.files y.shared.files) → (TasksRise x → TasksRise y) → ((q : ℕ) → at q y.tasks ≡ at q x.tasks) → x.shared.files.files ≡ y.shared.files.files → Grows x.shared.files y.shared.files → KeepsNames now x y
-rest_there now x y m tasks same files grows =
-    keeps_by now x y m tasks (hold_rests now x y same files grows) (marks_rest now x y same files grows) (λ q last e. (last, sym (same q) ∙ e)) (one_rests now x y same files grows m)
+pub rest_there : (hosts : List Ip) (now : Time) (x y : PartsRecord) (m : FilesMove now.nanos x.shared.files y.shared.files) (s : SocketsMove hosts x.sockets y.sockets) → (TasksRise x → TasksRise y) → ((q : ℕ) → at q y.tasks ≡ at q x.tasks) → x.shared.files.files ≡ y.shared.files.files → Grows x.shared.files y.shared.files → AllStay x.sockets y.sockets → KeepsNames hosts now x y
+rest_there hosts now x y m s tasks same files grows stay =
+    keeps_by hosts now x y m s tasks (hold_rests now x y same files grows stay) (marks_rest now x y same files grows stay) (λ q last e. (last, sym (same q) ∙ e)) (one_rests now x y same files grows stay hosts m s)
 
-module _ (now : Time) where
-  no_task : (process : ℕ) (h : PartsRecord) → KeepsNames now h (with_place process (place_in process h) h)
+module _ (hosts : List Ip) (now : Time) where
+  no_task : (process : ℕ) (h : PartsRecord) → KeepsNames hosts now h (with_place process (place_in process h) h)
   no_task process h =
-      rest_there now h (with_place process (place_in process h) h) (none now.nanos h.shared.files) (kept_by h process (place_in process h) refl) (placed_same process h.tasks) refl
-      (grows_so h.shared.files h.shared.files refl refl refl)
+      rest_there hosts now h (with_place process (place_in process h) h) (none now.nanos h.shared.files) (sockets_rest hosts h.sockets) (kept_by h process (place_in process h) refl) (placed_same process h.tasks) refl
+      (grows_so h.shared.files h.shared.files refl refl refl) (all_stay h.sockets)
 
   -- an end of a process, and a start
-  ended_by_option : (process : ℕ) (h : PartsRecord) (o : Option Task) → at process h.tasks ≡ o → KeepsNames now h (with_place process (ended_by now o (place_in process h)) h)
+  ended_by_option : (process : ℕ) (h : PartsRecord) (o : Option Task) → at process h.tasks ≡ o → KeepsNames hosts now h (with_place process (ended_by now o (place_in process h)) h)
   ended_by_option process h None e = no_task process h
   ended_by_option process h (Some task) e =
       let s = scene_at task (place_in process h) in
-      moved_place now h process task (place_of (all_ended now s)) (all_ended now s).task e refl (all_ended_move now s)
+      let left = all_ended_move hosts now s in
+      moved_place hosts now h process task (place_of (all_ended now s)) (all_ended now s).task e refl left.0 left.1
 
-  pub ended_keep_names : (process : ℕ) (h : PartsRecord) → KeepsNames now h (ended now process h)
+  pub ended_keep_names : (process : ℕ) (h : PartsRecord) → KeepsNames hosts now h (ended now process h)
   ended_keep_names process h = ended_by_option process h (at process h.tasks) refl
 
-  pub ended_keeps : (process : ℕ) (h : PartsRecord) → Keeps now h (ended now process h)
+  pub ended_keeps : (process : ℕ) (h : PartsRecord) → Keeps hosts now h (ended now process h)
   ended_keeps process h = (ended_keep_names process h).keeps
 
-  pub starts_keep : (process : ℕ) (memory : Memory) (h : PartsRecord) → Keeps now h (task_starts process memory h)
+  pub starts_keep : (process : ℕ) (memory : Memory) (h : PartsRecord) → Keeps hosts now h (task_starts process memory h)
   starts_keep process memory h =
       let s = starts memory h.shared in
       let m = stays now.nanos h.shared.files (task_starts process memory h).shared.files refl refl refl in
+      let rest = sockets_rest hosts h.sockets in
       record {
         files = m;
+        sockets = rest;
         tasks = λ rise. placed_by h process (place (Some s.0) s.1 h.sockets) s.0 refl none_rise rise;
         hold = hold_begun process memory h;
         marks = marks_begun process memory h now;
         were = λ q k last w e entry.
             entry_begun process memory h ((first : Task) × (at q h.tasks ≡ Some first)) q k last w e entry (λ apart there. (last, there));
         entries_name = λ hold q k last w e entry id jd f g first last_is there_f there_g.
-            entry_begun process memory h (NamesOne now.nanos h (task_starts process memory h) m id jd f g) q k last w e entry
-            (λ apart there. one_begun process memory h now m hold q w.fd id jd f g apart first last_is there_f there_g);
+            entry_begun process memory h (NamesOne hosts now.nanos h (task_starts process memory h) m rest id jd f g) q k last w e entry
+            (λ apart there. one_begun process memory h hosts now m rest hold q w.fd id jd f g apart first last_is there_f there_g);
       }
 
   -- where no process was in its place, all names stay
-  pub starts_keep_names : (process : ℕ) (memory : Memory) (h : PartsRecord) → at process h.tasks ≡ None → KeepsNames now h (task_starts process memory h)
+  pub starts_keep_names : (process : ℕ) (memory : Memory) (h : PartsRecord) → at process h.tasks ≡ None → KeepsNames hosts now h (task_starts process memory h)
   starts_keep_names process memory h empty =
       let k = starts_keep process memory h in
       record {
         keeps = k;
         one = λ hold q fd id jd f g e last_is there_f there_g.
-            by_number process q (NamesOne now.nanos h (task_starts process memory h) k.files id jd f g)
+            by_number process q (NamesOne hosts now.nanos h (task_starts process memory h) k.files k.sockets id jd f g)
             (λ same. absurd (none_named fd id (at q h.tasks) (subst (λ (n : ℕ). at n h.tasks ≡ None) same empty) e))
-            (λ apart. one_begun process memory h now k.files hold q fd id jd f g apart e last_is there_f there_g);
+            (λ apart. one_begun process memory h hosts now k.files k.sockets hold q fd id jd f g apart e last_is there_f there_g);
       }
     where
       none_named : (fd : ℕ) (id : ObjectId) (o : Option Task) → o ≡ None → named_in fd o ≡ Some id → ⊥
@@ -406,93 +441,100 @@ module _ (now : Time) where
   rings_same k None shared = refl
   rings_same k (Some due) shared = refl
 
-  rung_keeps : (object : ObjectId) (serial : ℕ) (h : PartsRecord) → KeepsNames now h (rung now object serial h)
+  rung_keeps : (object : ObjectId) (serial : ℕ) (h : PartsRecord) → KeepsNames hosts now h (rung now object serial h)
   rung_keeps object serial h =
       let k = timer_number object in
       let o = next_ring now serial (timer_at k h.shared.files) in
-      rest_there now h (rung now object serial h) (rings_move k o h.shared) (λ rise. rise) (λ q. refl) (rings_same k o h.shared) (rings_grow k o h.shared)
+      rest_there hosts now h (rung now object serial h) (rings_move k o h.shared) (sockets_rest hosts h.sockets) (λ rise. rise) (λ q. refl) (rings_same k o h.shared) (rings_grow k o h.shared) (all_stay h.sockets)
 
-  files_rest : (x y : PartsRecord) → x.shared.files ≡ y.shared.files → (TasksRise x → TasksRise y) → ((q : ℕ) → at q y.tasks ≡ at q x.tasks) → KeepsNames now x y
-  files_rest x y files tasks same =
+  -- the files rest, and an act that makes and closes none is done to the sockets
+  files_rest : (x y : PartsRecord) (done : SocketsAct) → Stays done → (sockets_acted hosts now done x.sockets x.shared.outlet).0 ≡ y.sockets → x.shared.files ≡ y.shared.files → (TasksRise x → TasksRise y) → ((q : ℕ) → at q y.tasks ≡ at q x.tasks) → KeepsNames hosts now x y
+  files_rest x y done quiet acted files tasks same =
       let pipes = ap (λ (z : FilesState). z.pipes) files in
       let eventfds = ap (λ (z : FilesState). z.eventfds) files in
       let timers = ap (λ (z : FilesState). z.timers) files in
-      rest_there now x y (stays now.nanos x.shared.files y.shared.files pipes eventfds timers) tasks same (ap (λ (z : FilesState). z.files) files) (grows_so x.shared.files y.shared.files pipes eventfds timers)
+      let left = (sockets_acted hosts now done x.sockets x.shared.outlet).0 in
+      rest_there hosts now x y (stays now.nanos x.shared.files y.shared.files pipes eventfds timers) (sockets_move hosts now done x.sockets y.sockets x.shared.outlet acted) tasks same (ap (λ (z : FilesState). z.files) files) (grows_so x.shared.files y.shared.files pipes eventfds timers)
+      (subst (λ (u : SocketsRecord). AllStay x.sockets u) acted (same_stay x.sockets left (stays_there x.sockets hosts now done x.shared.outlet quiet)))
 
-  pub alarmed_keep_names : (object : ObjectId) (serial : ℕ) (h : PartsRecord) → KeepsNames now h (alarmed now object serial h)
+  all_rest : (h : PartsRecord) → KeepsNames hosts now h h
+  all_rest h =
+      rest_there hosts now h h (none now.nanos h.shared.files) (sockets_rest hosts h.sockets) (λ rise. rise) (λ q. refl) refl (grows_so h.shared.files h.shared.files refl refl refl) (all_stay h.sockets)
+
+  pub alarmed_keep_names : (object : ObjectId) (serial : ℕ) (h : PartsRecord) → KeepsNames hosts now h (alarmed now object serial h)
   alarmed_keep_names object serial h =
-      by_test (KeepsNames now h) (nat_lt object.number first_timer) _ _
-      (λ e. files_rest h h refl (λ rise. rise) (λ q. refl))
-      (λ e. by_test (KeepsNames now h) (nat_lt object.number first_object) _ _
+      by_test (KeepsNames hosts now h) (nat_lt object.number first_timer) _ _
+      (λ e. all_rest h)
+      (λ e. by_test (KeepsNames hosts now h) (nat_lt object.number first_object) _ _
       (λ k. rung_keeps object serial h)
-      (λ k. files_rest h _ refl (λ rise. rise) (λ q. refl)))
+      (λ k. files_rest h _ (act.alarm object serial) tt refl refl (λ rise. rise) (λ q. refl)))
 
-  pub alarmed_keeps : (object : ObjectId) (serial : ℕ) (h : PartsRecord) → Keeps now h (alarmed now object serial h)
+  pub alarmed_keeps : (object : ObjectId) (serial : ℕ) (h : PartsRecord) → Keeps hosts now h (alarmed now object serial h)
   alarmed_keeps object serial h = (alarmed_keep_names object serial h).keeps
 
-  pub arrives_keep_names : (packet : Packet) (h : PartsRecord) → KeepsNames now h (arrives now packet h).1
-  arrives_keep_names packet h = files_rest h (arrives now packet h).1 refl (λ rise. rise) (λ q. refl)
+  pub arrives_keep_names : (packet : Packet) (h : PartsRecord) → KeepsNames hosts now h (arrives now packet h).1
+  arrives_keep_names packet h = files_rest h (arrives now packet h).1 (act.arrival packet) tt refl refl (λ rise. rise) (λ q. refl)
 
-  pub arrives_keeps : (packet : Packet) (h : PartsRecord) → Keeps now h (arrives now packet h).1
+  pub arrives_keeps : (packet : Packet) (h : PartsRecord) → Keeps hosts now h (arrives now packet h).1
   arrives_keeps packet h = (arrives_keep_names packet h).keeps
 
 -- the rows
 module _ (known : Known) (now : Time) where
-  done_leads : (process : ℕ) (p : Plan) (s : Scene) → PlanFits s p → R now s (done known now process p s)
+  done_leads : (process : ℕ) (p : Plan) (s : Scene) → PlanFits s p → R known.book now s (done known now process p s)
   done_leads process (plan.Read t) s fits =
       let r = reads known.hosts now t (local_of s) in
-      reacting now s (plainly r s) (plain_rows now s r (reads_lead now known.hosts t s.task s.shared fits))
+      reacting known.book now s (plainly r s) (plain_rows known.book now s r (reads_lead now known.hosts t s.task s.shared fits))
   done_leads process (plan.Write t) s fits =
       let r = writes process t (local_of s) in
-      reacting now s (plainly r s) (plain_rows now s r (writes_lead now process t s.task s.shared))
-  done_leads process (plan.Accept a) s fits = reacting now s (accepts a s) (accept_leads now.nanos a s fits)
-  done_leads process (plan.Connect c) s fits = connect_leads now.nanos known.book now c s
-  done_leads process (plan.Send m) s fits = reacting now s (sends_by known.book now m s) (send_leads now.nanos known.book now m s)
-  done_leads process (plan.Receive r) s fits = reacting now s (receives now r s) (recv_leads now.nanos now r s)
-  done_leads process plan.Sleep s fits = keeps now.nanos _ s s refl refl refl
-  done_leads process (plan.Poll p) s fits = reacting now s (polls now p s) (polls_lead now p s)
-  done_leads process (plan.EpollWait p) s fits = reacting now s (epoll_waits now p s) (waits_lead now p s)
+      reacting known.book now s (plainly r s) (plain_rows known.book now s r (writes_lead now process t s.task s.shared))
+  done_leads process (plan.Accept a) s fits = reacting known.book now s (accepts a s) (accept_leads known.book now.nanos a s fits)
+  done_leads process (plan.Connect c) s fits = connect_leads known.book now.nanos now c s
+  done_leads process (plan.Send m) s fits = reacting known.book now s (sends_by known.book now m s) (send_leads known.book now.nanos now m s)
+  done_leads process (plan.Receive r) s fits = reacting known.book now s (receives now r s) (recv_leads known.book now.nanos now r s)
+  done_leads process plan.Sleep s fits = keeps known.book now.nanos _ s s refl refl refl refl
+  done_leads process (plan.Poll p) s fits = reacting known.book now s (polls now p s) (polls_lead known.book now p s)
+  done_leads process (plan.EpollWait p) s fits = reacting known.book now s (epoll_waits now p s) (waits_lead known.book now p s)
 
-  network_leads : (call : NetworkCall) (args : List ℕ) (s : Scene) → R now s (network_row known now call args s)
+  network_leads : (call : NetworkCall) (args : List ℕ) (s : Scene) → R known.book now s (network_row known now call args s)
   network_leads network.Socket args s =
-      reacting now s (socket (arg args 0) (arg args 1) (arg args 2) s) (socket_leads now.nanos (arg args 0) (arg args 1) (arg args 2) s)
+      reacting known.book now s (socket (arg args 0) (arg args 1) (arg args 2) s) (socket_leads known.book now.nanos (arg args 0) (arg args 1) (arg args 2) s)
   network_leads network.Bind args s =
-      reacting now s (bind known.book (arg args 0) (arg args 1) (arg args 2) s) (bind_leads now.nanos known.book (arg args 0) (arg args 1) (arg args 2) s)
+      reacting known.book now s (bind known.book (arg args 0) (arg args 1) (arg args 2) s) (bind_leads known.book now.nanos (arg args 0) (arg args 1) (arg args 2) s)
   network_leads network.Listen args s =
-      reacting now s (listen (arg args 0) (arg args 1) s) (listen_leads now.nanos (arg args 0) (arg args 1) s)
+      reacting known.book now s (listen (arg args 0) (arg args 1) s) (listen_leads known.book now.nanos (arg args 0) (arg args 1) s)
   network_leads network.Getsockname args s =
-      reacting now s (getsockname (arg args 0) (arg args 1) (arg args 2) s) (getsockname_leads now.nanos (arg args 0) (arg args 1) (arg args 2) s)
+      reacting known.book now s (getsockname (arg args 0) (arg args 1) (arg args 2) s) (getsockname_leads known.book now.nanos (arg args 0) (arg args 1) (arg args 2) s)
   network_leads network.Getpeername args s =
-      reacting now s (getpeername (arg args 0) (arg args 1) (arg args 2) s) (getpeername_leads now.nanos (arg args 0) (arg args 1) (arg args 2) s)
+      reacting known.book now s (getpeername (arg args 0) (arg args 1) (arg args 2) s) (getpeername_leads known.book now.nanos (arg args 0) (arg args 1) (arg args 2) s)
   network_leads network.Getsockopt args s =
-      reacting now s (getsockopt now (arg args 0) (arg args 1) (arg args 2) (arg args 3) (arg args 4) s) (getsockopt_leads now.nanos now (arg args 0) (arg args 1) (arg args 2) (arg args 3) (arg args 4) s)
+      reacting known.book now s (getsockopt now (arg args 0) (arg args 1) (arg args 2) (arg args 3) (arg args 4) s) (getsockopt_leads known.book now.nanos now (arg args 0) (arg args 1) (arg args 2) (arg args 3) (arg args 4) s)
   network_leads network.Shutdown args s =
-      reacting now s (shutdown now (arg args 0) (arg args 1) s) (shutdown_leads now.nanos now (arg args 0) (arg args 1) s)
+      reacting known.book now s (shutdown now (arg args 0) (arg args 1) s) (shutdown_leads known.book now.nanos now (arg args 0) (arg args 1) s)
 
-  row_leads : (process : ℕ) (call : Call) (args : List ℕ) (s : Scene) → R now s (row known now process call args s)
+  row_leads : (process : ℕ) (call : Call) (args : List ℕ) (s : Scene) → R known.book now s (row known now process call args s)
   row_leads process (system_call.Plain p) args s =
       let r = plain_row now process p args (local_of s) in
-      reacting now s (plainly r s) (plain_rows now s r (plain_leads now process p args s.task s.shared))
+      reacting known.book now s (plainly r s) (plain_rows known.book now s r (plain_leads now process p args s.task s.shared))
   row_leads process (system_call.Network n) args s = network_leads n args s
   row_leads process (system_call.Waiting w) args s =
-      asks_so (Q now s) (asked known now w args s) _ (λ p e. done_leads process p s ((asked_fits known now w args s).gives p e))
-  row_leads process system_call.Close args s = reacting now s (close now (arg args 0) s) (close_leads now (arg args 0) s)
-  row_leads process system_call.Exit args s = refused (Q now s) _
+      asks_so (Q known.book now s) (asked known now w args s) _ (λ p e. done_leads process p s ((asked_fits known now w args s).gives p e))
+  row_leads process system_call.Close args s = reacting known.book now s (close now (arg args 0) s) (close_leads known.book now (arg args 0) s)
+  row_leads process system_call.Exit args s = refused (Q known.book now s) _
 
-  row_of_leads : (process : ℕ) (o : Option Call) (args : List ℕ) (s : Scene) → R now s (row_of known now process o args s)
-  row_of_leads process None args s = refused (Q now s) _
+  row_of_leads : (process : ℕ) (o : Option Call) (args : List ℕ) (s : Scene) → R known.book now s (row_of known now process o args s)
+  row_of_leads process None args s = refused (Q known.book now s) _
   row_of_leads process (Some c) args s = row_leads process c args s
 
-  call_by_option : (process number : ℕ) (args : List ℕ) (h : PartsRecord) (o : Option Task) → at process h.tasks ≡ o → KeepsNames now h (with_place process (call_by known now process number args o (place_in process h)).1 h)
-  call_by_option process number args h None e = no_task now process h
+  call_by_option : (process number : ℕ) (args : List ℕ) (h : PartsRecord) (o : Option Task) → at process h.tasks ≡ o → KeepsNames known.book now h (with_place process (call_by known now process number args o (place_in process h)).1 h)
+  call_by_option process number args h None e = no_task known.book now process h
   call_by_option process number args h (Some task) e =
       let s = scene_at task (place_in process h) in
       let answer = answered now process number args (row_of known now process (call_of number) args s) s in
-      moved_place now h process task (place_of answer.1) answer.1.task e refl
-      (answered_move now process number args (row_of known now process (call_of number) args s) s (row_of_leads process (call_of number) args s))
+      let left = answered_move known.book now process number args (row_of known now process (call_of number) args s) s (row_of_leads process (call_of number) args s) in
+      moved_place known.book now h process task (place_of answer.1) answer.1.task e refl left.0 left.1
 
-  pub call_keep_names : (process number : ℕ) (args : List ℕ) (h : PartsRecord) → KeepsNames now h (call known now process number args h).1
+  pub call_keep_names : (process number : ℕ) (args : List ℕ) (h : PartsRecord) → KeepsNames known.book now h (call known now process number args h).1
   call_keep_names process number args h = call_by_option process number args h (at process h.tasks) refl
 
-  pub call_keeps : (process number : ℕ) (args : List ℕ) (h : PartsRecord) → Keeps now h (call known now process number args h).1
+  pub call_keeps : (process number : ℕ) (args : List ℕ) (h : PartsRecord) → Keeps known.book now h (call known now process number args h).1
   call_keeps process number args h = (call_keep_names process number args h).keeps

@@ -33,6 +33,7 @@ use Rattle.file_calls.specs.declared.task.Task.{Task}
 use Rattle.file_calls.specs.Descriptors.{descriptor_by}
 use Rattle.host_calls.specs.Ready.{seen_by}
 use Rattle.call_rises.specs.Names.{named_in, has_end, is_there, is_single, object_alone, HasEntry}
+use Rattle.call_rises.proofs.There.{AllStay}
 
 pub record View : Type 0 where
   pub table : Descriptors
@@ -61,7 +62,7 @@ pub record Sound (process : ℕ) (tasks : List (Option Task)) (v : View) : Type 
   pub others : (n : ℕ) → IsOthers process tasks n → is_some (at n v.files.files) ≡ true
   pub apart : (fd gd : ℕ) (id jd : ObjectId) → map.get v.table fd ≡ Some id → map.get v.table gd ≡ Some jd → id.number ≡ jd.number → fd ≡ gd
   pub apart_others : (fd : ℕ) (id : ObjectId) → map.get v.table fd ≡ Some id → IsOthers process tasks id.number → ⊥
-  pub there : (n : ℕ) (file : File) → at n v.files.files ≡ Some file → is_there file.object v.files ≡ true
+  pub there : (n : ℕ) (file : File) → at n v.files.files ≡ Some file → is_there file.object v.files v.sockets ≡ true
   pub single : (n m : ℕ) (f g : File) → at n v.files.files ≡ Some f → at m v.files.files ≡ Some g → f.object ≡ g.object → is_single f.object ≡ true → n ≡ m
   pub watched : (k : ℕ) (w : Watch) → HasEntry k v.epolls w → is_some (map.get v.table w.fd) ≡ true
 
@@ -88,6 +89,7 @@ pub record Fewer (v w : View) : Type 0 where
   pub pipes : (k : ℕ) → is_some (at k w.files.pipes) ≡ true → is_some (at k v.files.pipes) ≡ true
   pub eventfds : (k : ℕ) → is_some (at k w.files.eventfds) ≡ true → is_some (at k v.files.eventfds) ≡ true
   pub timers : (k : ℕ) → is_some (at k w.files.timers) ≡ true → is_some (at k v.files.timers) ≡ true
+  pub sockets : AllStay w.sockets v.sockets
   pub entries : (k : ℕ) (x : Watch) → HasEntry k w.epolls x → HasEntry k v.epolls x
 
 -- all ends, timers and eventfds that are there stay there
@@ -96,18 +98,18 @@ pub record Grows (x y : FilesState) : Type 0 where
   pub eventfds : (k : ℕ) → is_some (at k x.eventfds) ≡ true → is_some (at k y.eventfds) ≡ true
   pub timers : (k : ℕ) → is_some (at k x.timers) ≡ true → is_some (at k y.timers) ≡ true
 
-pub grows_object : (x y : FilesState) → Grows x y → (object : Object) → is_there object x ≡ true → is_there object y ≡ true
-grows_object x y h kind.Input e = refl
-grows_object x y h kind.Output e = refl
-grows_object x y h kind.Errors e = refl
-grows_object x y h (kind.Hosts read) e = refl
-grows_object x y h (kind.ReadEnd k) e = h.ends Reading k e
-grows_object x y h (kind.WriteEnd k) e = h.ends Writing k e
-grows_object x y h (kind.Timer k) e = h.timers k e
-grows_object x y h (kind.Eventfd k) e = h.eventfds k e
-grows_object x y h (kind.Epoll k) e = refl
-grows_object x y h (kind.Udp k) e = refl
-grows_object x y h (kind.Tcp k) e = refl
+pub grows_object : (x y : FilesState) (t u : SocketsRecord) → Grows x y → AllStay t u → (object : Object) → is_there object x t ≡ true → is_there object y u ≡ true
+grows_object x y t u h s kind.Input e = refl
+grows_object x y t u h s kind.Output e = refl
+grows_object x y t u h s kind.Errors e = refl
+grows_object x y t u h s (kind.Hosts read) e = refl
+grows_object x y t u h s (kind.ReadEnd k) e = h.ends Reading k e
+grows_object x y t u h s (kind.WriteEnd k) e = h.ends Writing k e
+grows_object x y t u h s (kind.Timer k) e = h.timers k e
+grows_object x y t u h s (kind.Eventfd k) e = h.eventfds k e
+grows_object x y t u h s (kind.Epoll k) e = refl
+grows_object x y t u h s (kind.Udp k) e = s.udp k e
+grows_object x y t u h s (kind.Tcp k) e = s.tcp k e
 
 pub grows_so : (x y : FilesState) → x.pipes ≡ y.pipes → x.eventfds ≡ y.eventfds → x.timers ≡ y.timers → Grows x y
 grows_so x y p e t = record {
@@ -190,14 +192,14 @@ module _ (now : ℕ) (v w : View) (table : v.table ≡ w.table) (files : v.files
   same_objects n f g a b =
       let same : f ≡ g = some_same f g (sym a ∙ file_was n g b) in ap (λ (x : File). object_alone x.object) same
 
-  pub resting : Grows v.files w.files → ((process : ℕ) (tasks : List (Option Task)) → Sound process tasks v → (k : ℕ) (x : Watch) → HasEntry k w.epolls x → is_some (map.get v.table x.fd) ≡ true) → ((k : ℕ) (x : Watch) → HasEntry k w.epolls x → Came now v k x) → Named now v w
-  resting grows is_open came = record {
+  pub resting : Grows v.files w.files → AllStay v.sockets w.sockets → ((process : ℕ) (tasks : List (Option Task)) → Sound process tasks v → (k : ℕ) (x : Watch) → HasEntry k w.epolls x → is_some (map.get v.table x.fd) ≡ true) → ((k : ℕ) (x : Watch) → HasEntry k w.epolls x → Came now v k x) → Named now v w
+  resting grows stay is_open came = record {
     sound = λ process tasks h. record {
       opened = λ fd id e. there_still id.number (h.opened fd id (was fd id e));
       others = λ n o. there_still n (h.others n o);
       apart = λ fd gd id jd e k same. h.apart fd gd id jd (was fd id e) (was gd jd k) same;
       apart_others = λ fd id e o. h.apart_others fd id (was fd id e) o;
-      there = λ n file e. grows_object v.files w.files grows file.object (h.there n file (file_was n file e));
+      there = λ n file e. grows_object v.files w.files v.sockets w.sockets grows stay file.object (h.there n file (file_was n file e));
       single = λ n m f g e k same one. h.single n m f g (file_was n f e) (file_was m g k) same one;
       watched = λ k x e. subst (λ (t : Descriptors). is_some (map.get t x.fd) ≡ true) table (is_open process tasks h k x e);
     };
@@ -206,17 +208,18 @@ module _ (now : ℕ) (v w : View) (table : v.table ≡ w.table) (files : v.files
     entries = came;
   }
 
-  pub quiet : v.epolls ≡ w.epolls → Grows v.files w.files → Named now v w
-  quiet epolls grows =
-      resting grows (λ process tasks h k x e. h.watched k x (subst (λ (es : EpollsState). HasEntry k es x) (sym epolls) e))
+  pub quiet : v.epolls ≡ w.epolls → Grows v.files w.files → AllStay v.sockets w.sockets → Named now v w
+  quiet epolls grows stay =
+      resting grows stay (λ process tasks h k x e. h.watched k x (subst (λ (es : EpollsState). HasEntry k es x) (sym epolls) e))
       (λ k x e. came_as_it_was (subst (λ (es : EpollsState). HasEntry k es x) (sym epolls) e))
 
-  pub fewer_so : v.files.pipes ≡ w.files.pipes → v.files.eventfds ≡ w.files.eventfds → v.files.timers ≡ w.files.timers → v.epolls ≡ w.epolls → Fewer v w
-  fewer_so p e t epolls = record {
+  pub fewer_so : v.files.pipes ≡ w.files.pipes → v.files.eventfds ≡ w.files.eventfds → v.files.timers ≡ w.files.timers → v.epolls ≡ w.epolls → AllStay w.sockets v.sockets → Fewer v w
+  fewer_so p e t epolls were = record {
     table = was;
     pipes = λ k h. subst (λ (slots : List (Option PipeState)). is_some (at k slots) ≡ true) (sym p) h;
     eventfds = λ k h. subst (λ (slots : List (Option Eventfd)). is_some (at k slots) ≡ true) (sym e) h;
     timers = λ k h. subst (λ (slots : List (Option KeptTimer)). is_some (at k slots) ≡ true) (sym t) h;
+    sockets = were;
     entries = λ k x h. subst (λ (es : EpollsState). HasEntry k es x) (sym epolls) h;
   }
 
@@ -246,6 +249,7 @@ fewer_both v u w a b = record {
   pipes = λ k h. a.pipes k (b.pipes k h);
   eventfds = λ k h. a.eventfds k (b.eventfds k h);
   timers = λ k h. a.timers k (b.timers k h);
+  sockets = record { udp = λ k h. a.sockets.udp k (b.sockets.udp k h); tcp = λ k h. a.sockets.tcp k (b.sockets.tcp k h) };
   entries = λ k x h. a.entries k x (b.entries k x h);
 }
 

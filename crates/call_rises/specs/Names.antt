@@ -2,6 +2,7 @@
 -- of an object is given again only where no descriptor names it any more.
 use Rattle.std.specs.Prelude.{◌≡◌, ◌⊎◌, ℕ, Bool, true, false, List, [], ◌∷◌, Option, Some, None, is_some}
 use Rattle.std.specs.FinMap as map
+use Rattle.sim_base.specs.declared.address.Ip.{Ip}
 use Rattle.sim_base.specs.declared.object.ObjectId.{ObjectId}
 use Rattle.sim_base.specs.declared.time.Time.{Time}
 use Rattle.host_fds.specs.declared.epoll.Watch.{Watch}
@@ -15,16 +16,20 @@ use Rattle.host_files.specs.declared.file.Object.TheVariants as kind
 use Rattle.host_files.specs.Epolls.{EpollsState}
 use Rattle.host_files.specs.Files.{FilesState, file_at, pipe_at, timer_at, eventfd_at}
 use Rattle.host_files.specs.Slots.{at}
+use Rattle.host_wants.specs.Wanted.{Wanted}
+use Rattle.host_sockets.specs.Sockets.{SocketsRecord}
 use Rattle.file_calls.specs.declared.task.Task.{Task}
 use Rattle.host_calls.specs.Calls.{scene_at}
 use Rattle.host_calls.specs.Parts.{PartsRecord, place_in}
 use Rattle.host_calls.specs.Ready.{seen}
+use Rattle.socket_laws.specs.Histories.{SocketsAct}
 use Rattle.pipe_laws.specs.Acts.{PipeAct}
 use Rattle.pipe_laws.specs.Eventfds.{EventfdAct}
 use Rattle.file_laws.specs.Kinds.{pipes, eventfds, timers}
 use Rattle.file_laws.specs.Lives.{SlotAct, Lasts}
 use Rattle.file_laws.specs.Timers.{TimerAct}
 use Rattle.call_rises.specs.Moves.{FilesMove}
+use Rattle.call_rises.specs.Sockets.{has_udp, has_tcp, SocketLasts, SocketsMove}
 
 -- the open file that a descriptor of a process names
 abbrev pub named_in : ℕ → Option Task → Option ObjectId
@@ -34,18 +39,20 @@ named_in fd (Some task) = map.get task.table fd
 abbrev pub names : ℕ → ℕ → List (Option Task) → Option ObjectId
 names process fd tasks = named_in fd (at process tasks)
 
--- an end of a pipe, a timer or an eventfd is there, or not
+-- an end of a pipe, a timer, an eventfd or a socket is there, or not
 abbrev pub has_end : End → Option PipeState → Bool
 has_end end None = false
 has_end Reading (Some p) = p.has_reader
 has_end Writing (Some p) = p.has_writer
 
-abbrev pub is_there : Object → FilesState → Bool
-is_there (kind.ReadEnd k) files = has_end Reading (pipe_at k files)
-is_there (kind.WriteEnd k) files = has_end Writing (pipe_at k files)
-is_there (kind.Timer k) files = is_some (timer_at k files)
-is_there (kind.Eventfd k) files = is_some (eventfd_at k files)
-is_there _ files = true
+abbrev pub is_there : Object → FilesState → SocketsRecord → Bool
+is_there (kind.ReadEnd k) files sockets = has_end Reading (pipe_at k files)
+is_there (kind.WriteEnd k) files sockets = has_end Writing (pipe_at k files)
+is_there (kind.Timer k) files sockets = is_some (timer_at k files)
+is_there (kind.Eventfd k) files sockets = is_some (eventfd_at k files)
+is_there (kind.Udp k) files sockets = has_udp k sockets
+is_there (kind.Tcp k) files sockets = has_tcp k sockets
+is_there _ files sockets = true
 
 -- these are each of one open file alone
 abbrev pub is_single : Object → Bool
@@ -53,6 +60,8 @@ is_single (kind.ReadEnd k) = true
 is_single (kind.WriteEnd k) = true
 is_single (kind.Timer k) = true
 is_single (kind.Eventfd k) = true
+is_single (kind.Udp k) = true
+is_single (kind.Tcp k) = true
 is_single _ = false
 
 -- the object alone, without how much of a text was read
@@ -70,32 +79,35 @@ HasEntry k epolls w = (entries : List Watch) × ((at k epolls ≡ Some entries) 
 
 -- each descriptor names an open file, and no two name one; the object of each is there, and no other one's; and each entry of an epoll
 -- is of a descriptor that is open
-pub record NamesHold (tasks : List (Option Task)) (files : FilesState) : Type 0 where
+pub record NamesHold (tasks : List (Option Task)) (files : FilesState) (sockets : SocketsRecord) : Type 0 where
   pub opened : (process fd : ℕ) (id : ObjectId) → names process fd tasks ≡ Some id → is_some (file_at id files) ≡ true
   pub apart : (process fd other gd : ℕ) (id : ObjectId) → names process fd tasks ≡ Some id → names other gd tasks ≡ Some id → (process ≡ other) × (fd ≡ gd)
-  pub there : (id : ObjectId) (file : File) → file_at id files ≡ Some file → is_there file.object files ≡ true
+  pub there : (id : ObjectId) (file : File) → file_at id files ≡ Some file → is_there file.object files sockets ≡ true
   pub single : (id other : ObjectId) (f g : File) → file_at id files ≡ Some f → file_at other files ≡ Some g → f.object ≡ g.object → is_single f.object ≡ true → id ≡ other
   pub watched : (process k : ℕ) (task : Task) (w : Watch) → at process tasks ≡ Some task → HasEntry k task.epolls w → is_some (map.get task.table w.fd) ≡ true
 
--- the object of an open file is there after each of some acts on pipes, eventfds and timers
-abbrev pub ObjectLasts : Object → List (SlotAct (Unit {0}) PipeAct) → List (SlotAct (ℕ × Bool) EventfdAct) → List (SlotAct ℕ TimerAct) → FilesState → Type 0
-ObjectLasts (kind.ReadEnd k) on_pipes on_eventfds on_timers files = Lasts pipes k on_pipes files.pipes
-ObjectLasts (kind.WriteEnd k) on_pipes on_eventfds on_timers files = Lasts pipes k on_pipes files.pipes
-ObjectLasts (kind.Timer k) on_pipes on_eventfds on_timers files = Lasts timers k on_timers files.timers
-ObjectLasts (kind.Eventfd k) on_pipes on_eventfds on_timers files = Lasts eventfds k on_eventfds files.eventfds
-ObjectLasts _ on_pipes on_eventfds on_timers files = Unit {0}
+-- the object of an open file is there after each of some acts on pipes, eventfds, timers and sockets
+abbrev pub ObjectLasts : List Ip → Object → List (SlotAct (Unit {0}) PipeAct) → List (SlotAct (ℕ × Bool) EventfdAct) → List (SlotAct ℕ TimerAct) → List (Time × SocketsAct) → FilesState → SocketsRecord → Wanted → Type 0
+ObjectLasts hosts (kind.ReadEnd k) on_pipes on_eventfds on_timers on_sockets files sockets w = Lasts pipes k on_pipes files.pipes
+ObjectLasts hosts (kind.WriteEnd k) on_pipes on_eventfds on_timers on_sockets files sockets w = Lasts pipes k on_pipes files.pipes
+ObjectLasts hosts (kind.Timer k) on_pipes on_eventfds on_timers on_sockets files sockets w = Lasts timers k on_timers files.timers
+ObjectLasts hosts (kind.Eventfd k) on_pipes on_eventfds on_timers on_sockets files sockets w = Lasts eventfds k on_eventfds files.eventfds
+ObjectLasts hosts (kind.Udp k) on_pipes on_eventfds on_timers on_sockets files sockets w = SocketLasts hosts (has_udp k) on_sockets sockets w
+ObjectLasts hosts (kind.Tcp k) on_pipes on_eventfds on_timers on_sockets files sockets w = SocketLasts hosts (has_tcp k) on_sockets sockets w
+ObjectLasts hosts _ on_pipes on_eventfds on_timers on_sockets files sockets w = Unit {0}
 
--- a descriptor that is open before and after names one open file, of one object, which was there all along
-pub record NamesOne (now : ℕ) (x y : PartsRecord) (files : FilesMove now x.shared.files y.shared.files) (id jd : ObjectId) (f g : File) : Type 0 where
+-- a descriptor that is open before and after names one open file, of one object, which was there all along, whatever was wanted
+pub record NamesOne (hosts : List Ip) (now : ℕ) (x y : PartsRecord) (files : FilesMove now x.shared.files y.shared.files) (sockets : SocketsMove hosts x.sockets y.sockets) (id jd : ObjectId) (f g : File) : Type 0 where
   pub same_file : id ≡ jd
   pub same_object : object_alone f.object ≡ object_alone g.object
-  pub lasts : ObjectLasts f.object files.on_pipes files.on_eventfds files.on_timers x.shared.files
+  pub lasts : (w : Wanted) → ObjectLasts hosts f.object files.on_pipes files.on_eventfds files.on_timers sockets.acts x.shared.files x.sockets w
 
 -- so what each descriptor of a host names stays, and the names hold afterwards
-pub record NamesMove (now : ℕ) (x y : PartsRecord) : Type 0 where
+pub record NamesMove (hosts : List Ip) (now : ℕ) (x y : PartsRecord) : Type 0 where
   pub files : FilesMove now x.shared.files y.shared.files
-  pub hold : NamesHold y.tasks y.shared.files
-  pub one : (process fd : ℕ) (id jd : ObjectId) (f g : File) → names process fd x.tasks ≡ Some id → names process fd y.tasks ≡ Some jd → file_at id x.shared.files ≡ Some f → file_at jd y.shared.files ≡ Some g → NamesOne now x y files id jd f g
+  pub sockets : SocketsMove hosts x.sockets y.sockets
+  pub hold : NamesHold y.tasks y.shared.files y.sockets
+  pub one : (process fd : ℕ) (id jd : ObjectId) (f g : File) → names process fd x.tasks ≡ Some id → names process fd y.tasks ≡ Some jd → file_at id x.shared.files ≡ Some f → file_at jd y.shared.files ≡ Some g → NamesOne hosts now x y files sockets id jd f g
 
 -- where an entry comes from: it was there as it is, it was there and was told, with the rises that were seen of its descriptor then, or
 -- it was never told

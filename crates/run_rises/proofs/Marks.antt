@@ -19,7 +19,8 @@ use Rattle.host_files.specs.Files.{FilesState, file_at}
 use Rattle.host_files.specs.Slots.{at}
 use Rattle.host_wants.specs.declared.error.Refusal.{Refusal}
 use Rattle.host_wants.specs.declared.error.Refusal.TheVariants.{Errno}
-use Rattle.host_sockets.specs.Sockets.{SocketsRecord}
+use Rattle.host_wants.specs.Wanted.{Wanted, nothing_wanted}
+use Rattle.host_sockets.specs.Sockets.{SocketsRecord, no_sockets}
 use Rattle.file_calls.specs.declared.descriptors.Descriptor.{Descriptor}
 use Rattle.file_calls.specs.declared.task.Task.{Task}
 use Rattle.file_calls.specs.Descriptors.{descriptor_by, descriptor}
@@ -27,7 +28,7 @@ use Rattle.host_calls.specs.Calls.{scene_at}
 use Rattle.host_calls.specs.Parts.{PartsRecord, place_in, Scene}
 use Rattle.host_calls.specs.Ready as ready
 use Rattle.host_calls.specs.Ready.{object_rises, seen_by, seen}
-use Rattle.socket_laws.specs.Histories.{SocketsAct}
+use Rattle.socket_laws.specs.Histories.{SocketsAct, sockets_after}
 use Rattle.pipe_laws.specs.Acts.{PipeAct}
 use Rattle.pipe_laws.specs.Eventfds.{EventfdAct}
 use Rattle.file_laws.specs.Kinds.{pipes, eventfds, timers}
@@ -35,30 +36,33 @@ use Rattle.file_laws.specs.Lives.{Kind, SlotAct, slots_after, slots_of}
 use Rattle.file_laws.specs.Timers.{TimerAct}
 use Rattle.file_laws.proofs.Places.{set_same, set_other}
 use Rattle.call_rises.specs.Moves.{FilesMove}
-use Rattle.call_rises.specs.Names.{named_in, names, object_alone, HasEntry, NamesHold, ObjectLasts, NamesOne, ComesFrom, as_it_was, was_told, never_told}
+use Rattle.call_rises.specs.Sockets.{has_udp, has_tcp, SocketLasts, SocketsMove, sockets_left}
+use Rattle.call_rises.specs.Names.{named_in, names, is_there, object_alone, HasEntry, NamesHold, ObjectLasts, NamesOne, ComesFrom, as_it_was, was_told, never_told}
 use Rattle.call_rises.proofs.Hosts.{alone_there}
 use Rattle.call_rises.proofs.Moving.{slots_on, lasts_joined}
+use Rattle.call_rises.proofs.SocketMoves.{sockets_on, LastsFrom, lasts_on}
 use Rattle.call_rises.proofs.Table.{Keeps}
 use Rattle.call_rises.proofs.Views.{by_number, some_same, some_of}
 use Rattle.run_rises.specs.Histories.{HostHistory, Leaves, GoesOn}
-use Rattle.run_rises.specs.Marks.{IsMark, MarksHold, Holds}
+use Rattle.run_rises.specs.Marks.{sockets_by, IsMark, MarksHold, Holds}
 use Rattle.run_rises.specs.Rises.{rises_counted, counts}
 use Rattle.run_rises.specs.Seeing.{counted_by, counted, is_due_since}
 use Rattle.run_rises.proofs.Counted.{object_counts, due_so}
 
 -- an object alone is as it is
-alone_lasts : (object : Object) (p : List (SlotAct (Unit {0}) PipeAct)) (e : List (SlotAct (ℕ × Bool) EventfdAct)) (t : List (SlotAct ℕ TimerAct)) (files : FilesState) → ObjectLasts object p e t files → ObjectLasts (object_alone object) p e t files
-alone_lasts kind.Input p e t files h = h
-alone_lasts kind.Output p e t files h = h
-alone_lasts kind.Errors p e t files h = h
-alone_lasts (kind.Hosts read) p e t files h = h
-alone_lasts (kind.ReadEnd k) p e t files h = h
-alone_lasts (kind.WriteEnd k) p e t files h = h
-alone_lasts (kind.Timer k) p e t files h = h
-alone_lasts (kind.Eventfd k) p e t files h = h
-alone_lasts (kind.Epoll k) p e t files h = h
-alone_lasts (kind.Udp k) p e t files h = h
-alone_lasts (kind.Tcp k) p e t files h = h
+module _ (hosts : List Ip) (p : List (SlotAct (Unit {0}) PipeAct)) (e : List (SlotAct (ℕ × Bool) EventfdAct)) (t : List (SlotAct ℕ TimerAct)) (s : List (Time × SocketsAct)) (files : FilesState) (sockets : SocketsRecord) (w : Wanted) where
+  alone_lasts : (object : Object) → ObjectLasts hosts object p e t s files sockets w → ObjectLasts hosts (object_alone object) p e t s files sockets w
+  alone_lasts kind.Input h = h
+  alone_lasts kind.Output h = h
+  alone_lasts kind.Errors h = h
+  alone_lasts (kind.Hosts read) h = h
+  alone_lasts (kind.ReadEnd k) h = h
+  alone_lasts (kind.WriteEnd k) h = h
+  alone_lasts (kind.Timer k) h = h
+  alone_lasts (kind.Eventfd k) h = h
+  alone_lasts (kind.Epoll k) h = h
+  alone_lasts (kind.Udp k) h = h
+  alone_lasts (kind.Tcp k) h = h
 
 alone_counts : (hosts : List Ip) (own : Ip) (history : HostHistory) (now : Time) (object : Object) → counts (rises_counted hosts own history now object) ≡ counts (rises_counted hosts own history now (object_alone object))
 alone_counts hosts own history now kind.Input = refl
@@ -74,8 +78,11 @@ alone_counts hosts own history now (kind.Udp k) = refl
 alone_counts hosts own history now (kind.Tcp k) = refl
 
 -- what lasts through both of two stretches of acts
-module _ (p q : List (SlotAct (Unit {0}) PipeAct)) (e f : List (SlotAct (ℕ × Bool) EventfdAct)) (t u : List (SlotAct ℕ TimerAct)) (x y : FilesState) (pipes_are : slots_after pipes p x.pipes ≡ y.pipes) (eventfds_are : slots_after eventfds e x.eventfds ≡ y.eventfds) (timers_are : slots_after timers t x.timers ≡ y.timers) where
-  both_last : (object : Object) → ObjectLasts object p e t x → ObjectLasts object q f u y → ObjectLasts object (p ++ q) (e ++ f) (t ++ u) x
+module _ (hosts : List Ip) (p q : List (SlotAct (Unit {0}) PipeAct)) (e f : List (SlotAct (ℕ × Bool) EventfdAct)) (t u : List (SlotAct ℕ TimerAct)) (s v : List (Time × SocketsAct)) (x y : FilesState) (m n : SocketsRecord × Wanted) (pipes_are : slots_after pipes p x.pipes ≡ y.pipes) (eventfds_are : slots_after eventfds e x.eventfds ≡ y.eventfds) (timers_are : slots_after timers t x.timers ≡ y.timers) (sockets_are : sockets_after hosts s m ≡ n) where
+  sockets_last : (has : SocketsRecord → Bool) → SocketLasts hosts has s m.0 m.1 → SocketLasts hosts has v n.0 n.1 → SocketLasts hosts has (s ++ v) m.0 m.1
+  sockets_last has a b = lasts_on hosts has s v m.0 m.1 a (subst (λ (z : SocketsRecord × Wanted). LastsFrom hosts has v z) (sym sockets_are) b)
+
+  both_last : (object : Object) → ObjectLasts hosts object p e t s x m.0 m.1 → ObjectLasts hosts object q f u v y n.0 n.1 → ObjectLasts hosts object (p ++ q) (e ++ f) (t ++ u) (s ++ v) x m.0 m.1
   both_last kind.Input a b = tt
   both_last kind.Output a b = tt
   both_last kind.Errors a b = tt
@@ -85,8 +92,8 @@ module _ (p q : List (SlotAct (Unit {0}) PipeAct)) (e f : List (SlotAct (ℕ × 
   both_last (kind.Timer k) a b = lasts_joined timers k t u x.timers y.timers timers_are a b
   both_last (kind.Eventfd k) a b = lasts_joined eventfds k e f x.eventfds y.eventfds eventfds_are a b
   both_last (kind.Epoll k) a b = tt
-  both_last (kind.Udp k) a b = tt
-  both_last (kind.Tcp k) a b = tt
+  both_last (kind.Udp k) a b = sockets_last (has_udp k) a b
+  both_last (kind.Tcp k) a b = sockets_last (has_tcp k) a b
 
 -- a history that goes on from one which went on from another
 pub joined : {A : Type 0} (first rest acts second last : List A) → first ++ rest ≡ second → second ++ acts ≡ last → first ++ (rest ++ acts) ≡ last
@@ -97,6 +104,12 @@ slots_since : {M A B : Type 0} (kind : Kind M A B) (first rest second : List (Sl
 slots_since {M} {A} {B} kind first rest second x y e is_x is_y =
     ap (λ (s : List (Option A)). slots_after kind rest s) (sym is_x)
     ∙ (sym (slots_on kind first rest []) ∙ (ap (λ (acts : List (SlotAct M B)). slots_of kind acts) e ∙ is_y))
+
+sockets_since : (hosts : List Ip) (own : Ip) (first second : HostHistory) (on : GoesOn first second) → sockets_after hosts on.on_sockets.0 (sockets_by hosts own first) ≡ sockets_by hosts own second
+sockets_since hosts own first second on =
+    sym (sockets_on hosts first.on_sockets on.on_sockets.0 (no_sockets own) (nothing_wanted first.draws))
+    ∙ (ap (λ (acts : List (Time × SocketsAct)). sockets_left hosts own first.draws acts) on.on_sockets.1
+    ∙ ap (λ (draws : List ℕ). sockets_left hosts own draws second.on_sockets) on.draws)
 
 pub goes_none : (history : HostHistory) → GoesOn history history
 goes_none history = record {
@@ -131,26 +144,35 @@ seen_open now fd (Some jd) id file files sockets e there =
     by_file (Some f) k = ap (λ (g : File). object_rises now g.object files sockets) (some_same f file k)
 
 -- a history that goes on by the acts that are kept
-pub record GoesBy (history more : HostHistory) (now : ℕ) (x y : FilesState) (m : FilesMove now x y) : Type 0 where
+pub record GoesBy (hosts : List Ip) (history more : HostHistory) (now : ℕ) (x y : FilesState) (m : FilesMove now x y) (t u : SocketsRecord) (s : SocketsMove hosts t u) : Type 0 where
   pub on_pipes : history.on_pipes ++ m.on_pipes ≡ more.on_pipes
   pub on_eventfds : history.on_eventfds ++ m.on_eventfds ≡ more.on_eventfds
   pub on_timers : history.on_timers ++ m.on_timers ≡ more.on_timers
   pub draws : history.draws ≡ more.draws
-  pub on_sockets : (rest : List (Time × SocketsAct)) × (history.on_sockets ++ rest ≡ more.on_sockets)
+  pub on_sockets : history.on_sockets ++ s.acts ≡ more.on_sockets
 
-abbrev pub goes_so : (history more : HostHistory) (now : ℕ) (x y : FilesState) (m : FilesMove now x y) → GoesBy history more now x y m → GoesOn history more
-goes_so history more now x y m by = record {
+abbrev pub goes_so : (hosts : List Ip) (history more : HostHistory) (now : ℕ) (x y : FilesState) (m : FilesMove now x y) (t u : SocketsRecord) (s : SocketsMove hosts t u) → GoesBy hosts history more now x y m t u s → GoesOn history more
+goes_so hosts history more now x y m t u s by = record {
   on_pipes = (m.on_pipes, by.on_pipes);
   on_eventfds = (m.on_eventfds, by.on_eventfds);
   on_timers = (m.on_timers, by.on_timers);
   draws = by.draws;
-  on_sockets = by.on_sockets;
+  on_sockets = (s.acts, by.on_sockets);
 }
 
-module _ (hosts : List Ip) (own : Ip) (history more : HostHistory) (now : Time) (x y : PartsRecord) (kept : Keeps now x y) (by : GoesBy history more now.nanos x.shared.files y.shared.files kept.files) (leaves : Leaves hosts own history x.shared.files x.sockets) (hold : NamesHold x.tasks x.shared.files) where
-  -- an object is there through the acts that are kept
+module _ (hosts : List Ip) (own : Ip) (history more : HostHistory) (now : Time) (x y : PartsRecord) (kept : Keeps hosts now x y) (by : GoesBy hosts history more now.nanos x.shared.files y.shared.files kept.files x.sockets y.sockets kept.sockets) (leaves : Leaves hosts own history x.shared.files x.sockets) (hold : NamesHold x.tasks x.shared.files x.sockets) where
+  -- an object is there through the acts that are kept, whatever is wanted
   abbrev KeptLasts : Object → Type 0
-  KeptLasts object = ObjectLasts object kept.files.on_pipes kept.files.on_eventfds kept.files.on_timers x.shared.files
+  KeptLasts object =
+      (w : Wanted) → ObjectLasts hosts object kept.files.on_pipes kept.files.on_eventfds kept.files.on_timers kept.sockets.acts x.shared.files x.sockets w
+
+  abbrev goes : GoesOn history more
+  goes = goes_so hosts history more now.nanos x.shared.files y.shared.files kept.files x.sockets y.sockets kept.sockets by
+
+  kept_here : (object : Object) → KeptLasts object → ObjectLasts hosts object kept.files.on_pipes kept.files.on_eventfds kept.files.on_timers kept.sockets.acts x.shared.files (sockets_by hosts own history).0 (sockets_by hosts own history).1
+  kept_here object lasts =
+      subst (λ (t : SocketsRecord). ObjectLasts hosts object kept.files.on_pipes kept.files.on_eventfds kept.files.on_timers kept.sockets.acts x.shared.files t (sockets_by hosts own history).1) leaves.sockets_are
+      (lasts (sockets_by hosts own history).1)
 
   -- a mark that was one is one
   still_mark : (object : Object) (mark : Rises) → IsMark hosts own history object mark → KeptLasts object → IsMark hosts own more object mark
@@ -158,17 +180,19 @@ module _ (hosts : List Ip) (own : Ip) (history more : HostHistory) (now : Time) 
       let p = m.goes_on.on_pipes in
       let e = m.goes_on.on_eventfds in
       let t = m.goes_on.on_timers in
+      let s = m.goes_on.on_sockets in
       record {
         before = m.before;
         moment = m.moment;
         files = m.files;
         left = m.left;
-        goes_on = goes_both m.before history more m.goes_on (goes_so history more now.nanos x.shared.files y.shared.files kept.files by);
+        goes_on = goes_both m.before history more m.goes_on goes;
         was_there = m.was_there;
-        lasts = both_last p.0 kept.files.on_pipes e.0 kept.files.on_eventfds t.0 kept.files.on_timers m.files x.shared.files
+        lasts = both_last hosts p.0 kept.files.on_pipes e.0 kept.files.on_eventfds t.0 kept.files.on_timers s.0 kept.sockets.acts m.files x.shared.files (sockets_by hosts own m.before) (sockets_by hosts own history)
             (slots_since pipes m.before.on_pipes p.0 history.on_pipes m.files.pipes x.shared.files.pipes p.1 m.left.pipes_are leaves.files_are.pipes_are)
             (slots_since eventfds m.before.on_eventfds e.0 history.on_eventfds m.files.eventfds x.shared.files.eventfds e.1 m.left.eventfds_are leaves.files_are.eventfds_are)
-            (slots_since timers m.before.on_timers t.0 history.on_timers m.files.timers x.shared.files.timers t.1 m.left.timers_are leaves.files_are.timers_are) object m.lasts lasts;
+            (slots_since timers m.before.on_timers t.0 history.on_timers m.files.timers x.shared.files.timers t.1 m.left.timers_are leaves.files_are.timers_are)
+            (sockets_since hosts own m.before history m.goes_on) object m.lasts (kept_here object lasts);
         is = m.is;
       }
 
@@ -179,9 +203,10 @@ module _ (hosts : List Ip) (own : Ip) (history more : HostHistory) (now : Time) 
     moment = now;
     files = x.shared.files;
     left = leaves.files_are;
-    goes_on = goes_so history more now.nanos x.shared.files y.shared.files kept.files by;
-    was_there = sym (alone_there file.object x.shared.files) ∙ hold.there id file there;
-    lasts = lasts;
+    goes_on = goes;
+    was_there = subst (λ (t : SocketsRecord). is_there (object_alone file.object) x.shared.files t ≡ true) leaves.sockets_are
+        (sym (alone_there file.object x.shared.files x.sockets) ∙ hold.there id file there);
+    lasts = kept_here (object_alone file.object) lasts;
     is = sym e ∙ (object_counts hosts own history now file.object x.shared.files x.sockets leaves ∙ alone_counts hosts own history now file.object);
   }
 
@@ -193,7 +218,7 @@ module _ (hosts : List Ip) (own : Ip) (history more : HostHistory) (now : Time) 
         let file = some_of (file_at id.0 x.shared.files) (hold.opened process v.fd id.0 (ap (λ (o : Option Task). named_in v.fd o) at_first ∙ id.1)) in
         (id.0, (file.0, (id.1, file.1)))
 
-    one : (id : ObjectId) (file : File) → map.get first.table w.fd ≡ Some id → file_at id x.shared.files ≡ Some file → NamesOne now.nanos x y kept.files id jd file g
+    one : (id : ObjectId) (file : File) → map.get first.table w.fd ≡ Some id → file_at id x.shared.files ≡ Some file → NamesOne hosts now.nanos x y kept.files kept.sockets id jd file g
     one id file e there_file =
         kept.entries_name hold process k last w at_last entry id jd file g (ap (λ (o : Option Task). named_in w.fd o) at_first ∙ e) (ap (λ (o : Option Task). named_in w.fd o) at_last ∙ named) there_file there
 
@@ -205,7 +230,7 @@ module _ (hosts : List Ip) (own : Ip) (history more : HostHistory) (now : Time) 
         let same = one id file before.1.1.0 before.1.1.1 in
         subst (λ (o : Object). IsMark hosts own more o mark) same.same_object
         (still_mark (object_alone file.object) mark (marks process k first w mark id file at_first e marked before.1.1.0 before.1.1.1)
-        (alone_lasts file.object kept.files.on_pipes kept.files.on_eventfds kept.files.on_timers x.shared.files same.lasts))
+        (λ u. alone_lasts hosts kept.files.on_pipes kept.files.on_eventfds kept.files.on_timers kept.sockets.acts x.shared.files x.sockets u file.object (same.lasts u)))
 
     told_mark : (v : Watch) → HasEntry k first.epolls v → w ≡ report_of v (seen now (scene_at first (place_in process x)) v.fd) → IsMark hosts own more (object_alone g.object) mark
     told_mark v e is =
@@ -219,7 +244,7 @@ module _ (hosts : List Ip) (own : Ip) (history more : HostHistory) (now : Time) 
         subst (λ (o : Object). IsMark hosts own more o mark) same.same_object
         (new_mark id file mark before.1.1.1
         (sym (seen_open now v.fd (map.get first.table v.fd) id file x.shared.files x.sockets before.1.1.0 before.1.1.1) ∙ is_mark)
-        (alone_lasts file.object kept.files.on_pipes kept.files.on_eventfds kept.files.on_timers x.shared.files same.lasts))
+        (λ u. alone_lasts hosts kept.files.on_pipes kept.files.on_eventfds kept.files.on_timers kept.sockets.acts x.shared.files x.sockets u file.object (same.lasts u)))
 
     came_mark : ComesFrom now process k first x w → IsMark hosts own more (object_alone g.object) mark
     came_mark (as_it_was e) = kept_mark e

@@ -44,11 +44,11 @@ use Rattle.pipe_laws.specs.Eventfds.{EventfdAct}
 use Rattle.file_laws.specs.Kinds.{pipes, eventfds, timers}
 use Rattle.file_laws.specs.Lives.{SlotAct, slots_after}
 use Rattle.file_laws.specs.Timers.{TimerAct}
-use Rattle.socket_streams.proofs.Moving.{moves_none}
-use Rattle.call_streams.specs.Parts.{sockets_in}
 use Rattle.call_rises.specs.Moves.{FilesMove, TasksRise}
 use Rattle.call_rises.proofs.Moving.{by_test, none, moved, slots_joined}
 use Rattle.call_rises.proofs.Table.{Keeps, moved_place, emptied, call_keeps, ended_keeps, starts_keep, arrives_keeps, alarmed_keeps}
+use Rattle.call_rises.proofs.SocketMoves.{sockets_rest}
+use Rattle.call_rises.proofs.There.{all_stay}
 use Rattle.call_rises.proofs.Views.{view, grows_so}
 use Rattle.run_rises.specs.Histories.{HostHistory}
 use Rattle.run_rises.specs.Marks.{HoldsOn}
@@ -135,7 +135,7 @@ module _ (net : Net) where
   )
 
   -- its parts act
-  kept : (h : HostRecord) (parts : PartsRecord) → Keeps h.link.time h.parts parts → ((own : Ip) (history : HostHistory) → HoldsOn net.known.book own history h.parts parts) → H h (with_parts parts h)
+  kept : (h : HostRecord) (parts : PartsRecord) → Keeps net.known.book h.link.time h.parts parts → ((own : Ip) (history : HostHistory) → HoldsOn net.known.book own history h.parts parts) → H h (with_parts parts h)
   kept h parts m holds =
       (lead_by h.link.time.nanos (host_files h) parts.shared.files m.files, (m.tasks, (refl, holds)))
 
@@ -151,7 +151,7 @@ module _ (net : Net) where
   handed packet h =
       let parts = (arrives h.link.time packet h.parts).1 in
       then h (with_parts parts h) (is_handed_over net packet h)
-      (kept h parts (arrives_keeps h.link.time packet h.parts) (λ own history. arrival_holds_on net.known.book own history h.link.time packet h.parts)) (stays (with_parts parts h))
+      (kept h parts (arrives_keeps net.known.book h.link.time packet h.parts) (λ own history. arrival_holds_on net.known.book own history h.link.time packet h.parts)) (stays (with_parts parts h))
 
   all_handed : (packets : List Packet) (h : HostRecord) → H h (are_handed_over net packets h)
   unfolding are_handed_over
@@ -210,7 +210,7 @@ module _ (net : Net) where
       by_test (H h) (has_task p h.parts) _ _
       (λ e.
       acted h (with_parts left h)
-      (kept h left (ended_keeps h.link.time p h.parts) (λ own history. end_holds_on net.known.book own history h.link.time p h.parts)))
+      (kept h left (ended_keeps net.known.book h.link.time p h.parts) (λ own history. end_holds_on net.known.book own history h.link.time p h.parts)))
       (λ e. stays h)
 
   killing : (p : ℕ) (cause : Signal) (h : HostRecord) → S h (is_killed net p cause h)
@@ -229,10 +229,10 @@ module _ (net : Net) where
       let shared = h.parts.shared in
       let sockets = h.parts.sockets in
       let parts = with_task p (Some task) h.parts in
-      let moved_so = moved h.link.time.nanos (view before shared sockets) (view task shared sockets) (none h.link.time.nanos shared.files) table refl epolls (grows_so shared.files shared.files refl refl refl) in
-      let k = (moved_place h.link.time h.parts p before (place (Some task) shared sockets) task there refl moved_so).keeps in
+      let moved_so = moved h.link.time.nanos (view before shared sockets) (view task shared sockets) (none h.link.time.nanos shared.files) table refl epolls (grows_so shared.files shared.files refl refl refl) (all_stay sockets) in
+      let k = (moved_place net.known.book h.link.time h.parts p before (place (Some task) shared sockets) task there refl moved_so (sockets_rest net.known.book sockets)).keeps in
       kept h parts k
-      (λ own history. holds_on net.known.book own history [] h.link.time h.parts parts k (moves_none net.known.book [] (sockets_in h.parts)))
+      (λ own history. holds_on net.known.book own history h.link.time h.parts parts k)
 
   turning : (p : ℕ) (cpu : Cpu) (found : Option (Option Task)) (h : HostRecord) → slice_get h.parts.tasks p ≡ found → S h (turns net p cpu found h)
   turning p cpu None h e = stays h
@@ -289,7 +289,7 @@ module _ (net : Net) where
       by_test (H h) (has_task p h.parts) (slice net p 100 s.cpu (with_parts parts h)) h
       (λ k.
       then h (with_parts parts h) (slice net p 100 s.cpu (with_parts parts h))
-      (kept h parts (starts_keep h.link.time p s.memory h.parts) (λ own history. start_holds_on net.known.book own history h.link.time p s.memory h.parts))
+      (kept h parts (starts_keep net.known.book h.link.time p s.memory h.parts) (λ own history. start_holds_on net.known.book own history h.link.time p s.memory h.parts))
       (slicing p 100 s.cpu (with_parts parts h)))
       (λ k. stays h)))
       (λ e. stays h)
@@ -323,7 +323,7 @@ module _ (net : Net) where
   unfolding rings
   ringing object serial h =
       let parts = alarmed h.link.time object serial h.parts in
-      acted h (with_parts parts h) (kept h parts (alarmed_keeps h.link.time object serial h.parts) (λ own history. alarm_holds_on net.known.book own history h.link.time object serial h.parts))
+      acted h (with_parts parts h) (kept h parts (alarmed_keeps net.known.book h.link.time object serial h.parts) (λ own history. alarm_holds_on net.known.book own history h.link.time object serial h.parts))
 
   acting : (w : What) (h : HostRecord) → H h (acts net w h)
   unfolding acts

@@ -6,19 +6,19 @@ use Rattle.call_rises.proofs.descriptors_name_one_object.Goals as goal
 
 pub returns-clause-call : goal.returns-clause-call
 returns-clause-call c = λ known now process number args h hold.
-    moves_names now h (call known now process number args h).1 (call_keep_names known now process number args h) hold
+    moves_names known.book now h (call known now process number args h).1 (call_keep_names known now process number args h) hold
 
 pub returns-clause-start : goal.returns-clause-start
-returns-clause-start c = λ now process memory h empty hold.
-    moves_names now h (task_starts process memory h) (starts_keep_names now process memory h empty) hold
+returns-clause-start c = λ hosts now process memory h empty hold.
+    moves_names hosts now h (task_starts process memory h) (starts_keep_names hosts now process memory h empty) hold
 
 pub returns-clause-end : goal.returns-clause-end
-returns-clause-end c = λ now process h hold. moves_names now h (ended now process h) (ended_keep_names now process h) hold
+returns-clause-end c = λ hosts now process h hold. moves_names hosts now h (ended now process h) (ended_keep_names hosts now process h) hold
 
 pub returns-clause-alarm : goal.returns-clause-alarm
-returns-clause-alarm c = λ now object serial h hold.
-    moves_names now h (alarmed now object serial h) (alarmed_keep_names now object serial h) hold
+returns-clause-alarm c = λ hosts now object serial h hold.
+    moves_names hosts now h (alarmed now object serial h) (alarmed_keep_names hosts now object serial h) hold
 
 pub returns-clause-arrival : goal.returns-clause-arrival
-returns-clause-arrival c = λ now packet h hold.
-    moves_names now h (arrives now packet h).1 (arrives_keep_names now packet h) hold
+returns-clause-arrival c = λ hosts now packet h hold.
+    moves_names hosts now h (arrives now packet h).1 (arrives_keep_names hosts now packet h) hold
