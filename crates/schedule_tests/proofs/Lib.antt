@@ -1,0 +1,4 @@
+pub mod Reading
+pub mod Hosts
+pub mod Begun
+pub mod Stepping

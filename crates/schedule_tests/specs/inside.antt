@@ -1,0 +1,2 @@
+-- a round of a run, for a test
+pub mod Played
