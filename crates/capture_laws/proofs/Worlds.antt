@@ -14,8 +14,8 @@ use Rattle.run_streams.specs.Run.{IsReached}
 use Rattle.run_streams.specs.Run.IsReached.{begins, turns}
 use Rattle.host_link.specs.declared.line.Line.{Line}
 use Rattle.host_link.specs.declared.net.Net.{Net}
-use Rattle.host_link.specs.declared.row.ProcessRow.{ProcessRow}
-use Rattle.host_link.specs.declared.row.Row.{Row}
+use Rattle.host_rows.specs.declared.row.ProcessRow.{ProcessRow}
+use Rattle.host_rows.specs.declared.row.Row.{Row}
 use Rattle.host_state.specs.Fire.{fire}
 use Rattle.host_state.specs.Fits.{model}
 use Rattle.host_link.specs.Home.{home}

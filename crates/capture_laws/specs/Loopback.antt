@@ -6,7 +6,7 @@ use Rattle.run_files.specs.Captures.{is_at, is_sent, passes, is_on_eth0, is_on_l
 use Rattle.host_link.specs.Sending.{stays_here}
 use Rattle.host_link.specs.declared.line.Line.{Line}
 use Rattle.host_link.specs.declared.net.Net.{Net}
-use Rattle.host_link.specs.declared.row.Row.{Row}
+use Rattle.host_rows.specs.declared.row.Row.{Row}
 use Rattle.world_order.specs.World.{Logged}
 use Rattle.run_streams.specs.Past.{stays, WasLogged}
 

@@ -15,7 +15,7 @@ use Rattle.host_calls.specs.Parts.{PartsRecord}
 use Rattle.host_link.specs.declared.net.Net.{Net}
 use Rattle.guest_process.specs.declared.process.Process.TheVariants as process
 use Rattle.guest_process.specs.declared.process.Running.{Running}
-use Rattle.host_link.specs.declared.row.Row.{Row}
+use Rattle.host_rows.specs.declared.row.Row.{Row}
 use Rattle.host_state.specs.Opening.{opening}
 use Rattle.host_state.specs.Fire.{kept_in, acts, at_time, wakes_all, has_acted, fire}
 use Rattle.host_state.specs.HostRecord.{HostRecord}

@@ -2,7 +2,7 @@
 use Rattle.std.specs.Prelude.{ℕ, ◌+◌, List, [], ◌∷◌, Option, Some, None}
 use Rattle.sim_base.specs.declared.event.What.TheVariants as what
 use Rattle.sim_base.specs.declared.time.Time.{Time}
-use Rattle.host_link.specs.declared.row.ProcessRow.{ProcessRow}
+use Rattle.host_rows.specs.declared.row.ProcessRow.{ProcessRow}
 use Rattle.host_link.specs.Link.{LinkState, numbers}
 
 abbrev pub begins_shutdown : ℕ → Option Time → LinkState → LinkState

@@ -12,7 +12,7 @@ use Rattle.sim_base.specs.Units.{max_u64, millisecond, latest_time}
 use Rattle.net_iface.specs.Lane.{LaneState, empty_lane}
 use Rattle.net_iface.specs.declared.lane.QueueRule.TheVariants.{Fifo}
 use Rattle.host_link.specs.declared.line.Line.{Line}
-use Rattle.host_link.specs.declared.row.Row.{Row}
+use Rattle.host_rows.specs.declared.row.Row.{Row}
 
 -- the host's number; when it fires, or fired last; the number of the next event that it makes; the lane to the network and that of
 -- its router; and, of the event that fires, the events made so far and the lines of the log

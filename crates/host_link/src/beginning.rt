@@ -4,7 +4,7 @@ ghost use Rattle.std.specs.Prelude.{◌≡◌, ◌≤◌, ◌^◌, length, OnOk}
 ghost use Rattle.host_link.specs.Beginning.{begins_process, begins_all};
 
 use crate::link::Link;
-use crate::row::ProcessRow;
+use host_rows::ProcessRow;
 use sim_base::{NoMemory, What};
 
 impl Link {

@@ -6,7 +6,6 @@ mod line;
 mod link;
 mod net;
 mod outbox;
-mod row;
 mod sending;
 mod wanting;
 
@@ -14,4 +13,3 @@ pub use line::{Line, Logged};
 pub use link::{Link, later};
 pub use net::{Images, Net, Nodes};
 pub use outbox::{Made, Outbox};
-pub use row::{ByteTexts, FinalState, ProcessRow, ProcessRows, Row};

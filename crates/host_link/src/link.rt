@@ -7,7 +7,7 @@ ghost use Rattle.host_link.specs.Lanes.{pushes_up, pushes_down, releases_up, rel
 ghost use Rattle.host_link.specs.Link.{kind_of, new_link, numbers, makes, later, logs, comes_to, without_made};
 
 use crate::line::Line;
-use crate::row::Row;
+use host_rows::Row;
 use net_iface::{Lane, Pushed, QueueRule, Released};
 use sim_base::{Act, Event, HostId, Key, Kind, MAX_PACKET, NoMemory, Packet, Time, What};
 use std::alloc::Global;

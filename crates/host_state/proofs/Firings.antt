@@ -15,7 +15,7 @@ use Rattle.host_state.specs.declared.host.Body.{Body}
 use Rattle.host_link.specs.declared.net.Net.{Net}
 use Rattle.guest_process.specs.declared.process.Process.{Process}
 use Rattle.guest_process.specs.declared.process.Running.{Running}
-use Rattle.host_link.specs.declared.row.Row.{Row}
+use Rattle.host_rows.specs.declared.row.Row.{Row}
 use Rattle.guest_process.specs.declared.start.Started.{Started}
 use Rattle.host_state.specs.HostRecord.{HostRecord}
 use Rattle.host_state.specs.Host.{with_parts}

@@ -8,7 +8,7 @@ use Rattle.run_files.specs.Listed.{HostNames, listed}
 use Rattle.host_link.specs.Logs.{lines_of}
 use Rattle.host_state.specs.World.{World}
 use Rattle.host_link.specs.declared.line.Line.{Line}
-use Rattle.host_link.specs.declared.row.Row.{Row}
+use Rattle.host_rows.specs.declared.row.Row.{Row}
 
 abbrev pub rows_of : List HostRecord → List Row
 rows_of hs = map (λ (h : HostRecord). h.row) hs

@@ -9,8 +9,8 @@ use Rattle.sim_base.specs.declared.event.What.TheVariants as what
 use Rattle.sim_base.specs.declared.time.Time.{Time}
 use Rattle.net_iface.specs.Lane.{AllFit}
 use Rattle.host_link.specs.declared.net.Net.{Net}
-use Rattle.host_link.specs.declared.row.ProcessRow.{ProcessRow}
-use Rattle.host_link.specs.declared.row.Row.{Row}
+use Rattle.host_rows.specs.declared.row.ProcessRow.{ProcessRow}
+use Rattle.host_rows.specs.declared.row.Row.{Row}
 use Rattle.host_state.specs.Fits.{FitsWhat, FitsNet, IsEventOf, OpensFit}
 use Rattle.host_link.specs.Home.{home, home_of}
 use Rattle.host_link.specs.Link.{LinkState, new_link, event_of, numbers}

@@ -7,7 +7,7 @@ use Rattle.host_sockets.specs.Sockets.{SocketsRecord}
 use Rattle.host_sockets.specs.StandsFor.{Stand}
 use Rattle.host_state.specs.declared.host.Body.{Body}
 use Rattle.guest_process.specs.declared.process.Process.{Process}
-use Rattle.host_link.specs.declared.row.Row.{Row}
+use Rattle.host_rows.specs.declared.row.Row.{Row}
 use Rattle.host_state.specs.HostRecord.{HostRecord}
 use Rattle.host_link.specs.Link.{LinkState}
 use Rattle.host_state.specs.StandsFor.{BodyStands}

@@ -18,8 +18,8 @@ use Rattle.host_link.specs.declared.net.Net.{Net}
 use Rattle.guest_process.specs.declared.process.Process.{Process}
 use Rattle.guest_process.specs.declared.process.Process.TheVariants as process
 use Rattle.guest_process.specs.declared.process.Running.{Running}
-use Rattle.host_link.specs.declared.row.ProcessRow.{ProcessRow}
-use Rattle.host_link.specs.declared.row.Row.{Row}
+use Rattle.host_rows.specs.declared.row.ProcessRow.{ProcessRow}
+use Rattle.host_rows.specs.declared.row.Row.{Row}
 use Rattle.guest_process.specs.declared.start.Started.{Started}
 use Rattle.sim_base.specs.declared.signal.Signal.{Signal}
 use Rattle.host_state.specs.HostRecord.{HostRecord}

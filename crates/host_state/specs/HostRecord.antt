@@ -7,7 +7,7 @@ use Rattle.host_calls.specs.Parts.{PartsRecord}
 use Rattle.host_link.specs.Link.{LinkState}
 use Rattle.guest_process.specs.declared.process.Process.{Process}
 use Rattle.guest_process.specs.States.{state_of}
-use Rattle.host_link.specs.declared.row.Row.{Row}
+use Rattle.host_rows.specs.declared.row.Row.{Row}
 
 -- a host's row; its link; its processes in their order; their calls' records (descriptors, memories, kept calls, files, sockets,
 -- generator); and all that they wrote, in order

@@ -4,7 +4,7 @@ use Rattle.sim_base.specs.Draws.{host_generator}
 use Rattle.host_calls.specs.Starting.{no_parts}
 use Rattle.host_link.specs.declared.line.Line.{Line}
 use Rattle.guest_process.specs.declared.process.Process.TheVariants as process
-use Rattle.host_link.specs.declared.row.Row.{Row}
+use Rattle.host_rows.specs.declared.row.Row.{Row}
 use Rattle.host_state.specs.HostRecord.{HostRecord}
 use Rattle.host_link.specs.Beginning.{begins_all}
 use Rattle.host_link.specs.Link.{new_link}

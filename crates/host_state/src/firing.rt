@@ -11,7 +11,8 @@ use crate::host::Body;
 use file_calls::Why;
 use guest_process::{Process, Running, Started, start_guest, texts_fit};
 use host_calls::{answers_now, start_task};
-use host_link::{Made, Net, Row};
+use host_link::{Made, Net};
+use host_rows::Row;
 use sim_base::{Event, NoMemory, Signal, What};
 use std::alloc::Global;
 

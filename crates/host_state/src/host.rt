@@ -11,7 +11,8 @@ ghost use Rattle.guest_process.specs.declared.process.Process.TheVariants as pro
 use event_order::{Queue, Refused};
 use guest_process::Process;
 use host_calls::Parts;
-use host_link::{Link, Net, Outbox, Row};
+use host_link::{Link, Net, Outbox};
+use host_rows::Row;
 use sim_base::{Draws, Event, NoMemory, State, Time};
 use std::alloc::Global;
 

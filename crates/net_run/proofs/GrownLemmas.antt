@@ -9,7 +9,7 @@ use Rattle.file_calls.specs.declared.task.Output.{Output}
 use Rattle.host_state.specs.HostRecord.{HostRecord}
 use Rattle.host_state.specs.Opening.{opening}
 use Rattle.host_link.specs.declared.line.Line.{Line}
-use Rattle.host_link.specs.declared.row.Row.{Row}
+use Rattle.host_rows.specs.declared.row.Row.{Row}
 use Rattle.out_text.specs.Files.{file_name}
 use Rattle.out_text.specs.declared.files.FileKind.TheVariants as kind
 use Rattle.host_state.proofs.Gaining.{names-kept}

@@ -12,7 +12,7 @@ use Rattle.file_calls.specs.declared.task.Output.{Output}
 use Rattle.host_state.specs.HostRecord.{HostRecord, state_in, process_state}
 use Rattle.guest_process.specs.States.{state_of}
 use Rattle.guest_process.specs.declared.process.Process.{Process}
-use Rattle.host_link.specs.declared.row.ProcessRow.{ProcessRow}
+use Rattle.host_rows.specs.declared.row.ProcessRow.{ProcessRow}
 use Rattle.out_text.specs.Files.{state_line}
 use Rattle.run_files.specs.Grown.{process_grown, host_grown, hosts_grown}
 use Rattle.host_state.specs.Gains.{AreGained}

@@ -12,7 +12,7 @@ use Rattle.host_state.specs.HostRecord.{HostRecord}
 use Rattle.guest_process.specs.States.{state_of}
 use Rattle.host_state.specs.Opening.{opening}
 use Rattle.host_link.specs.declared.line.Line.{Line}
-use Rattle.host_link.specs.declared.row.Row.{Row}
+use Rattle.host_rows.specs.declared.row.Row.{Row}
 use Rattle.out_text.specs.Files.{state_line}
 use Rattle.out_text.specs.Summary.{is_send, is_lost, is_recv, acts_counted, summary_of}
 use Rattle.out_text.specs.declared.log.LogLine.{LogLine}

@@ -6,7 +6,7 @@ use Rattle.file_calls.specs.declared.task.Output.{Output}
 use Rattle.host_state.specs.Extends.{Extends}
 use Rattle.host_state.specs.HostRecord.{HostRecord}
 use Rattle.host_link.specs.declared.line.Line.{Line}
-use Rattle.host_link.specs.declared.row.Row.{Row}
+use Rattle.host_rows.specs.declared.row.Row.{Row}
 use Rattle.run_files.specs.Grown.{all_grown, with_bytes}
 use Rattle.host_state.specs.Gains.{Gains, names_in}
 use Rattle.net_run.specs.Grown.{IsGrown, HaveOwnFiles, IsUnderway}

@@ -10,7 +10,7 @@ use Rattle.file_calls.specs.declared.task.Output.{Output}
 use Rattle.host_state.specs.HostRecord.{HostRecord, process_state}
 use Rattle.guest_process.specs.States.{state_of}
 use Rattle.host_link.specs.declared.line.Line.{Line}
-use Rattle.host_link.specs.declared.row.ProcessRow.{ProcessRow}
+use Rattle.host_rows.specs.declared.row.ProcessRow.{ProcessRow}
 use Rattle.out_text.specs.Files.{state_text, process_text}
 use Rattle.out_text.specs.Faults.{unmet_line}
 use Rattle.out_text.specs.Log.{log_line}

@@ -6,7 +6,7 @@ use Rattle.sim_base.specs.declared.state.State.{State}
 use Rattle.sim_base.specs.declared.state.State.TheVariants.{NotStarted, Running, Exited, Signaled}
 use Rattle.host_state.specs.HostRecord.{HostRecord, process_state}
 use Rattle.host_link.specs.declared.line.Line.{Line}
-use Rattle.host_link.specs.declared.row.ProcessRow.{ProcessRow}
+use Rattle.host_rows.specs.declared.row.ProcessRow.{ProcessRow}
 use Rattle.out_text.specs.Faults.{note_line, unmet_line}
 use Rattle.out_text.specs.Files.{file_name, state_line, state_text, process_text}
 use Rattle.out_text.specs.Log.{log_line}

@@ -10,7 +10,7 @@ ghost use Rattle.host_state.specs.Gains.{Gains, names_in};
 ghost use Rattle.run_files.specs.Grown.{all_grown, with_bytes};
 ghost use Rattle.run_files.specs.Listed.{HostNames};
 ghost use Rattle.host_link.specs.declared.line.Line.{Line};
-ghost use Rattle.host_link.specs.declared.row.Row.{Row};
+ghost use Rattle.host_rows.specs.declared.row.Row.{Row};
 ghost use Rattle.net_run.specs.Grown.{HaveOwnFiles, IsUnderway};
 ghost use Rattle.net_run.specs.Heads.{all_heads};
 ghost use Rattle.net_run.specs.Parts.{Between};

@@ -1,7 +1,7 @@
 -- What a run begins with: the rows of hosts and the net that its plan says, which can be run by rounds.
 use Rattle.std.specs.Prelude.{◌≡◌, ◌<◌, ◌≤◌, length, map, IfSome}
 use Rattle.sim_base.specs.Limits.{most_hosts}
-use Rattle.host_link.specs.declared.row.Row.{Row}
+use Rattle.host_rows.specs.declared.row.Row.{Row}
 use Rattle.host_state.specs.Fits.{IsLookaheadOf, IsShort}
 use Rattle.host_state.specs.World.{AreRows}
 use Rattle.plan_rows.specs.Rows.{rows_of, net_of, cut_lookahead}

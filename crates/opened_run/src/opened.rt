@@ -7,7 +7,8 @@ ghost use Rattle.run_plan.specs.Routed.{IsRouted};
 ghost use Rattle.opened_run.specs.Opened.{Opens, HasOpened};
 
 use base_texts::Name;
-use host_link::{Images, Net, Nodes, Row};
+use host_link::{Images, Net, Nodes};
+use host_rows::Row;
 use plan_rows::{cut_lookahead, known_of, nodes_of, rows_of};
 use run_plan::{Plan, Run, Settings};
 use shd_values::Texts;

@@ -3,36 +3,19 @@ use Rattle.std.specs.Prelude.{ℕ, ◌+◌, ◌^◌, List, [], ◌∷◌, ◌++�
 use Rattle.sim_base.specs.declared.time.Time.{Time}
 use Rattle.file_calls.specs.declared.known.Known.{Known}
 use Rattle.host_link.specs.declared.net.Net.{Net}
-use Rattle.host_link.specs.declared.row.FinalState.{FinalState}
-use Rattle.host_link.specs.declared.row.FinalState.TheVariants as state
-use Rattle.host_link.specs.declared.row.ProcessRow.{ProcessRow}
-use Rattle.host_link.specs.declared.row.Row.{Row}
-use Rattle.net_iface.specs.declared.lane.QueueRule.{QueueRule}
-use Rattle.net_iface.specs.declared.lane.QueueRule.TheVariants as lane
+use Rattle.host_rows.specs.declared.row.ProcessRow.{ProcessRow}
+use Rattle.host_rows.specs.declared.row.Row.{Row}
 use Rattle.run_plan.specs.Plan.{nodes_of}
 use Rattle.run_plan.specs.declared.host_row.HostRow.{HostRow}
 use Rattle.run_plan.specs.declared.plan.Settings.{Settings}
 use Rattle.run_plan.specs.declared.planned.Run.{Run}
-use Rattle.shd_config.specs.declared.config.FinalState as config_state
-use Rattle.shd_config.specs.declared.config.FinalState.TheVariants as expected
 use Rattle.shd_config.specs.declared.config.HostConfig.{HostConfig}
 use Rattle.shd_config.specs.declared.config.ProcessConfig.{ProcessConfig}
-use Rattle.shd_config.specs.declared.config.QueueRule as config_rule
-use Rattle.shd_config.specs.declared.config.QueueRule.TheVariants as rule
 use Rattle.shd_config.specs.declared.config.Variable.{Variable}
 
 -- a variable of an environment as its process finds it: NAME=VALUE
 abbrev pub variable_text : Variable → List ℕ
 variable_text v = v.name ++ (codes "=" ++ v.value)
-
-abbrev pub state_of : config_state.FinalState → FinalState
-state_of (expected.Exited status) = state.Exited status
-state_of (expected.Signaled signal) = state.Signaled signal
-state_of expected.Running = state.Running
-
-abbrev pub lane_rule : config_rule.QueueRule → QueueRule
-lane_rule rule.Fifo = lane.Fifo
-lane_rule rule.Codel = lane.Codel
 
 -- a process of a configuration, and its image by its place; its path is its first argument
 abbrev pub process_of : ProcessConfig → ℕ → ProcessRow
@@ -44,7 +27,7 @@ process_of c image = record {
   start = c.start_time;
   shutdown = c.shutdown_time;
   shutdown_signal = c.shutdown_signal;
-  expected = state_of c.expected_final_state;
+  expected = c.expected_final_state;
 }
 
 abbrev pub processes_of : List ProcessConfig → List ℕ → List ProcessRow
@@ -63,7 +46,7 @@ row_of settings number h = record {
   address = h.address;
   bandwidth_up = h.rates.up;
   bandwidth_down = h.rates.down;
-  router_queue = lane_rule settings.router_queue;
+  router_queue = settings.router_queue;
   seed = settings.seed;
   processes = processes_of h.config.processes h.images;
   capture = capture_of h.config;

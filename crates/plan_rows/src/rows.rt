@@ -3,12 +3,11 @@
 ghost use Rattle.std.specs.Prelude.{◌≡◌, ◌≤◌, ◌∷◌, map, length, IfOk};
 ghost use Rattle.sim_base.specs.Limits.{most_hosts};
 ghost use Rattle.run_plan.specs.Plan.{nodes_of};
-ghost use Rattle.plan_rows.specs.Rows.{variable_text, state_of, lane_rule, process_of, processes_of, capture_of, row_of, rows_from, known_of, cut_lookahead};
+ghost use Rattle.plan_rows.specs.Rows.{variable_text, process_of, processes_of, capture_of, row_of, rows_from, known_of, cut_lookahead};
 
 use base_texts::{Name, Text};
 use file_calls::Known;
-use host_link::{ByteTexts, FinalState, ProcessRow, ProcessRows, Row};
-use net_iface::QueueRule;
+use host_rows::{ByteTexts, ProcessRow, ProcessRows, Row};
 use run_plan::{HostRow, Settings};
 use shd_config::{HostConfig, ProcessConfig, Variable};
 use sim_base::{Book, Bytes, HostId, Ip, NoMemory, Time};
@@ -55,16 +54,6 @@ fn environment_of(alloc: Global, variables: &[Variable]) -> Result<Vec<Bytes>, N
     Ok(environment)
 }
 
-fn state_of(state: shd_config::FinalState) -> FinalState
-    ensures { result ≡ state_of state }
-{
-    match state {
-        shd_config::FinalState::Exited(status) => FinalState::Exited(status),
-        shd_config::FinalState::Signaled(signal) => FinalState::Signaled(signal),
-        shd_config::FinalState::Running => FinalState::Running,
-    }
-}
-
 /// A process, and the place of its image.
 fn process_row(alloc: Global, process: &ProcessConfig, image: usize) -> Result<ProcessRow, NoMemory>
     ensures { IfOk result (λ row. row ≡ process_of process.now image) }
@@ -77,7 +66,7 @@ fn process_row(alloc: Global, process: &ProcessConfig, image: usize) -> Result<P
         start: process.start_time,
         shutdown: process.shutdown_time,
         shutdown_signal: process.shutdown_signal,
-        expected: state_of(process.expected_final_state),
+        expected: process.expected_final_state,
     })
 }
 
@@ -96,15 +85,6 @@ fn process_rows(
         rows.push(process_row(alloc, process, *image)?)?;
     }
     Ok(rows)
-}
-
-fn lane_rule(rule: shd_config::QueueRule) -> QueueRule
-    ensures { result ≡ lane_rule rule }
-{
-    match rule {
-        shd_config::QueueRule::Fifo => QueueRule::Fifo,
-        shd_config::QueueRule::Codel => QueueRule::Codel,
-    }
 }
 
 /// The capture size of a host whose packets are captured.
@@ -130,7 +110,7 @@ fn row_of(alloc: Global, settings: &Settings, number: u32, host: &HostRow) -> Re
         address: host.address,
         bandwidth_up: host.rates.up,
         bandwidth_down: host.rates.down,
-        router_queue: lane_rule(settings.router_queue),
+        router_queue: settings.router_queue,
         seed: settings.seed,
         processes: ProcessRows::from(processes),
         capture: capture_of(config),

@@ -4,7 +4,7 @@ ghost use Rattle.std.specs.Prelude.{◌≡◌, ◌<◌, ◌≤◌, ℕ, List, Op
 ghost use Rattle.host_state.specs.Extends.{Extends};
 ghost use Rattle.host_state.specs.World.{IsResult};
 ghost use Rattle.host_link.specs.declared.net.Net.{Net};
-ghost use Rattle.host_link.specs.declared.row.Row.{Row};
+ghost use Rattle.host_rows.specs.declared.row.Row.{Row};
 ghost use Rattle.round_lookahead.specs.Gains.{HasRound};
 ghost use Rattle.round_lookahead.specs.OpeningWorld.{AreHostRows, opening_world};
 ghost use Rattle.round_lookahead.specs.Reached.{HasReached, time_left};

@@ -7,8 +7,8 @@ use Rattle.sim_base.specs.declared.state.State.TheVariants.{Running, Exited, Sig
 use Rattle.sim_base.specs.Ascii.{slash}
 use Rattle.file_calls.specs.declared.task.Output.{Output}
 use Rattle.run_files.specs.declared.piece.Piece.{Piece}
-use Rattle.host_link.specs.declared.row.FinalState.{FinalState}
-use Rattle.host_link.specs.declared.row.FinalState.TheVariants as final
+use Rattle.host_rows.specs.declared.row.FinalState.{FinalState}
+use Rattle.host_rows.specs.declared.row.FinalState.TheVariants as final
 
 -- a place, and the bytes that are put there
 abbrev pub Put : Type 0

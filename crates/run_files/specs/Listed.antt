@@ -2,8 +2,8 @@
 use Rattle.std.specs.Prelude.{ℕ, ◌+◌, ◌≤◌, ◌^◌, List, [], ◌∷◌, ◌++◌, length, map, Option}
 use Rattle.sim_base.specs.declared.address.Ip.{Ip}
 use Rattle.run_files.specs.Files.{Put, first_id, program_of, expected_state}
-use Rattle.host_link.specs.declared.row.ProcessRow.{ProcessRow}
-use Rattle.host_link.specs.declared.row.Row.{Row}
+use Rattle.host_rows.specs.declared.row.ProcessRow.{ProcessRow}
+use Rattle.host_rows.specs.declared.row.Row.{Row}
 use Rattle.run_files.specs.declared.listed.HostListing.{HostListing}
 use Rattle.run_files.specs.declared.listed.Listing.{Listing}
 use Rattle.run_files.specs.declared.listed.ProcessListing.{ProcessListing}

@@ -6,7 +6,7 @@ ghost use Rattle.run_files.specs.Listed.{HostNames};
 
 use crate::piece::{expected_state, program};
 use base_texts::Name;
-use host_link::{ProcessRow, Row};
+use host_rows::{ProcessRow, Row};
 use sim_base::{Ip, NoMemory, State};
 use std::alloc::Global;
 

@@ -8,7 +8,7 @@ ghost use Rattle.run_files.specs.Files.{put_of};
 
 use base_texts::{Name, Text};
 use file_calls::Output;
-use host_link::FinalState;
+use host_rows::FinalState;
 use out_text::FileKind;
 use run_outside::Place;
 use sim_base::{Bytes, NoMemory, State};

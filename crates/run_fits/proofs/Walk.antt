@@ -2,8 +2,8 @@
 use Rattle.std.proofs.Common.{refl, ◌≡◌, Bool, IfSome, List, None, Option, Some, [], false, length, min, nat_lt, not, option_and_then, slice_get, suc, true, zero, ℕ, ◌&&◌, ◌∷◌}
 use Rattle.elf_load.specs.ProgramImage.{ProgramImage}
 use Rattle.guest_process.specs.Start.{texts_fit}
-use Rattle.host_link.specs.declared.row.ProcessRow.{ProcessRow}
-use Rattle.host_link.specs.declared.row.Row.{Row}
+use Rattle.host_rows.specs.declared.row.ProcessRow.{ProcessRow}
+use Rattle.host_rows.specs.declared.row.Row.{Row}
 use Rattle.pcap_text.specs.Laws.{IsWhole}
 use Rattle.run_fits.proofs.Bytes.{all_set, got}
 use Rattle.run_fits.proofs.Lanes.{PushWhole, left_whole, pushed_whole}

@@ -13,8 +13,8 @@ use Rattle.host_state.specs.Opening.{host_begins, opening}
 use Rattle.host_state.specs.World.{World, opening_world}
 use Rattle.host_link.specs.declared.line.Line.{Line}
 use Rattle.host_link.specs.declared.net.Net.{Net}
-use Rattle.host_link.specs.declared.row.ProcessRow.{ProcessRow}
-use Rattle.host_link.specs.declared.row.Row.{Row}
+use Rattle.host_rows.specs.declared.row.ProcessRow.{ProcessRow}
+use Rattle.host_rows.specs.declared.row.Row.{Row}
 use Rattle.run_fits.proofs.Bytes.{all_flat_map, all_set, got, all_append}
 use Rattle.run_fits.proofs.Links.{LineFits, LinkFits, numbers_fit, EventFits}
 use Rattle.run_fits.proofs.Walk.{HostFits, acted_fits}

@@ -10,11 +10,11 @@ use Rattle.gml_graph.specs.declared.graph.Graph.{Graph}
 use Rattle.gml_graph.specs.declared.graph.Node.{Node}
 use Rattle.gml_graph.specs.declared.graph.Edge.{Edge}
 use Rattle.shd_config.specs.declared.config.Config.{Config}
-use Rattle.shd_config.specs.declared.config.FinalState.TheVariants.{Exited}
+use Rattle.host_rows.specs.declared.row.FinalState.TheVariants.{Exited}
 use Rattle.shd_config.specs.declared.config.GraphSource.TheVariants.{File}
 use Rattle.shd_config.specs.declared.config.HostConfig.{HostConfig}
 use Rattle.shd_config.specs.declared.config.ProcessConfig.{ProcessConfig}
-use Rattle.shd_config.specs.declared.config.QueueRule.TheVariants.{Fifo}
+use Rattle.net_iface.specs.declared.lane.QueueRule.TheVariants.{Fifo}
 use Rattle.shd_config.specs.declared.overrides.Overrides.{Overrides}
 use Rattle.run_plan.specs.Network.{gigabit}
 

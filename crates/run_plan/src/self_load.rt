@@ -9,10 +9,9 @@ ghost use Rattle.run_plan.specs.SelfLoad.{host_name, next_host, address_number, 
 
 use base_texts::{Name, Text};
 use gml_graph::{Edge, Edges, Graph, Node, Nodes};
-use shd_config::{
-    Config, FinalState, GraphSource, HostConfig, Hosts, Overrides, ProcessConfig, Processes,
-    QueueRule, Variables,
-};
+use host_rows::FinalState;
+use net_iface::QueueRule;
+use shd_config::{Config, GraphSource, HostConfig, Hosts, Overrides, ProcessConfig, Processes, Variables};
 use shd_values::Texts;
 use sim_base::{NoMemory, Signal, Time};
 use std::alloc::Global;

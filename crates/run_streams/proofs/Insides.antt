@@ -22,7 +22,7 @@ use Rattle.tcp_streams.proofs.Frames.{joined, comes_outside}
 use Rattle.tcp_streams.proofs.Promise.{streams}
 use Rattle.host_link.specs.declared.line.Line.{Line}
 use Rattle.host_link.specs.declared.net.Net.{Net}
-use Rattle.host_link.specs.declared.row.Row.{Row}
+use Rattle.host_rows.specs.declared.row.Row.{Row}
 use Rattle.host_state.specs.Fire.{fire}
 use Rattle.host_state.specs.Fits.{model}
 use Rattle.host_link.specs.Home.{home, home_of}

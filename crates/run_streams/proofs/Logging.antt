@@ -6,7 +6,7 @@ use Rattle.sim_base.specs.declared.event.Event.{Event}
 use Rattle.tcp_streams.proofs.Members.{Contains-here, Contains-there}
 use Rattle.host_link.specs.declared.line.Line.{Line}
 use Rattle.host_link.specs.declared.net.Net.{Net}
-use Rattle.host_link.specs.declared.row.Row.{Row}
+use Rattle.host_rows.specs.declared.row.Row.{Row}
 use Rattle.host_state.specs.Fire.{fire}
 use Rattle.host_state.specs.Fits.{model}
 use Rattle.host_link.specs.Home.{home}

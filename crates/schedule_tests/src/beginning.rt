@@ -5,7 +5,8 @@ ghost use Rattle.host_state.specs.World.{AreRows, opening_world};
 ghost use Rattle.round_schedule.specs.Standing.{HostsStand};
 ghost use Rattle.schedule_tests.specs.inside.Played.{MayBegin, HasBegun};
 
-use host_link::{Net, Row};
+use host_link::Net;
+use host_rows::Row;
 use host_state::Host;
 use opened_run::{Opened, open};
 use round_lookahead::one_result;

@@ -6,7 +6,7 @@ use Rattle.std.proofs.lemmas.Slice.Eq.{bytes_eq-Decides}
 use Rattle.run_files.specs.Listed.{HostNames, HasIds, listed}
 use Rattle.host_state.specs.Gains.{names_in}
 use Rattle.host_state.specs.World.{opening_world}
-use Rattle.host_link.specs.declared.row.Row.{Row}
+use Rattle.host_rows.specs.declared.row.Row.{Row}
 use Rattle.net_run.specs.Grown.{HaveOwnFiles}
 use Rattle.run_plan.specs.Names.{AreApart}
 

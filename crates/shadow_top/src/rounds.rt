@@ -6,7 +6,7 @@ ghost use Rattle.sim_base.specs.Limits.{most_workers};
 ghost use Rattle.run_outside.specs.Tally.{CountsWrites};
 ghost use Rattle.run_files.specs.Listed.{names_of};
 ghost use Rattle.host_state.specs.World.{World as HostWorld, opening_world};
-ghost use Rattle.host_link.specs.declared.row.Row.{Row};
+ghost use Rattle.host_rows.specs.declared.row.Row.{Row};
 ghost use Rattle.net_run.specs.Grown.{HaveOwnFiles};
 ghost use Rattle.round_lookahead.specs.Tasks.{waiting};
 ghost use Rattle.round_lookahead.specs.WorldStands.{WorldStands};

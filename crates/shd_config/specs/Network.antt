@@ -10,8 +10,8 @@ use Rattle.shd_config.specs.declared.key.Key.{Key}
 use Rattle.shd_config.specs.declared.key.Key.TheVariants as keys
 use Rattle.shd_config.specs.declared.config.GraphSource.{GraphSource}
 use Rattle.shd_config.specs.declared.config.GraphSource.TheVariants as sources
-use Rattle.shd_config.specs.declared.config.QueueRule.{QueueRule}
-use Rattle.shd_config.specs.declared.config.QueueRule.TheVariants.{Fifo, Codel}
+use Rattle.net_iface.specs.declared.lane.QueueRule.{QueueRule}
+use Rattle.net_iface.specs.declared.lane.QueueRule.TheVariants.{Fifo, Codel}
 use Rattle.shd_config.specs.declared.graph.GraphKind.{GraphKind}
 use Rattle.shd_config.specs.declared.graph.GraphKind.TheVariants.{Gml, OneGbitSwitch}
 use Rattle.shd_config.specs.declared.graph.GraphDraft.{GraphDraft}

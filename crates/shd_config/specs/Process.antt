@@ -15,8 +15,8 @@ use Rattle.shd_config.specs.declared.fault.ConfigKind.TheVariants.{UnknownKey, O
 use Rattle.shd_config.specs.declared.fault.ConfigFault.{ConfigFault}
 use Rattle.shd_config.specs.declared.key.Key.{Key}
 use Rattle.shd_config.specs.declared.key.Key.TheVariants as keys
-use Rattle.shd_config.specs.declared.config.FinalState.{FinalState}
-use Rattle.shd_config.specs.declared.config.FinalState.TheVariants as states
+use Rattle.host_rows.specs.declared.row.FinalState.{FinalState}
+use Rattle.host_rows.specs.declared.row.FinalState.TheVariants as states
 use Rattle.shd_config.specs.declared.config.Variable.{Variable}
 use Rattle.shd_config.specs.declared.config.ProcessConfig.{ProcessConfig}
 use Rattle.shd_config.specs.declared.state.StateDraft.{StateDraft}

@@ -7,10 +7,10 @@ use Rattle.sim_base.specs.declared.address.Ip.{Ip}
 use Rattle.sim_base.specs.Signal.{signal_name}
 use Rattle.shd_config.specs.declared.config.GraphSource.{GraphSource}
 use Rattle.shd_config.specs.declared.config.GraphSource.TheVariants as sources
-use Rattle.shd_config.specs.declared.config.QueueRule.{QueueRule}
-use Rattle.shd_config.specs.declared.config.QueueRule.TheVariants.{Fifo, Codel}
-use Rattle.shd_config.specs.declared.config.FinalState.{FinalState}
-use Rattle.shd_config.specs.declared.config.FinalState.TheVariants.{Exited, Signaled, Running}
+use Rattle.net_iface.specs.declared.lane.QueueRule.{QueueRule}
+use Rattle.net_iface.specs.declared.lane.QueueRule.TheVariants.{Fifo, Codel}
+use Rattle.host_rows.specs.declared.row.FinalState.{FinalState}
+use Rattle.host_rows.specs.declared.row.FinalState.TheVariants.{Exited, Signaled, Running}
 use Rattle.shd_config.specs.declared.config.Variable.{Variable}
 use Rattle.shd_config.specs.declared.config.ProcessConfig.{ProcessConfig}
 use Rattle.shd_config.specs.declared.config.HostConfig.{HostConfig}

@@ -2,6 +2,8 @@
 
 use crate::lists::{Hosts, Processes, Variables};
 use base_texts::{Name, Text};
+use host_rows::FinalState;
+use net_iface::QueueRule;
 use shd_values::Texts;
 use sim_base::{Ip, Signal, Time};
 
@@ -14,26 +16,6 @@ pub enum GraphSource {
     Inline(Text),
     /// The name of a file that has the text of a graph.
     File(Name),
-}
-
-/// How a router's queue chooses the packets that it drops.
-#[derive(Clone, Copy)]
-pub enum QueueRule {
-    /// It drops what comes while it is full.
-    Fifo,
-    /// As RFC 8289 says.
-    Codel,
-}
-
-/// The state in which a process is expected to be in the end.
-#[derive(Clone, Copy)]
-pub enum FinalState {
-    /// It ended by an exit with this status.
-    Exited(u8),
-    /// It was ended by this signal.
-    Signaled(Signal),
-    /// It runs or is blocked.
-    Running,
 }
 
 /// A variable of an environment.

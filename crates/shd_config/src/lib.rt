@@ -21,7 +21,7 @@ mod state;
 mod steps;
 mod value;
 
-pub use config::{Config, FinalState, GraphSource, HostConfig, ProcessConfig, QueueRule, Variable};
+pub use config::{Config, GraphSource, HostConfig, ProcessConfig, Variable};
 pub use fault::{ConfigError, ConfigFault, ConfigKind};
 pub use lists::{Hosts, Processes, Variables};
 pub use overrides::Overrides;

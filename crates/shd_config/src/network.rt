@@ -5,7 +5,8 @@ ghost use Rattle.shd_config.specs.Steps.{Gives, Sets, optional, through};
 ghost use Rattle.shd_config.specs.Values.{scalar_at};
 ghost use Rattle.shd_config.specs.Network.{queue_rule, new_network, network_key, network_row, finished_network, network_of, network_at};
 
-use crate::config::{GraphSource, QueueRule};
+use crate::config::GraphSource;
+use net_iface::QueueRule;
 use crate::fault::{ConfigError, ConfigKind};
 use crate::graph::read_graph;
 use crate::key::{Key, key_of};

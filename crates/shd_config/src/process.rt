@@ -9,7 +9,8 @@ ghost use Rattle.shd_values.specs.Word.{names_program};
 ghost use Rattle.shd_values.specs.Words.{words_of};
 ghost use Rattle.shd_config.specs.Process.{argument_row, arguments_in, arguments_at, variable_row, environment_at, zero_time, start_of, start_in, start_in_row, is_behind, shutdown_at, new_process, process_key, process_row, finished_process, process_of, texts_size, process_in, process_at, process_item, processes_at};
 
-use crate::config::{FinalState, ProcessConfig, Variable};
+use crate::config::{ProcessConfig, Variable};
+use host_rows::FinalState;
 use crate::fault::{ConfigError, ConfigKind};
 use crate::key::{Key, key_of};
 use crate::lists::{Processes, Variables};

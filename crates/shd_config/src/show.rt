@@ -8,7 +8,8 @@ mod process;
 mod quoted;
 mod value;
 
-use crate::config::{Config, GraphSource, QueueRule};
+use crate::config::{Config, GraphSource};
+use net_iface::QueueRule;
 use base_texts::Text;
 use host::hosts_string;
 use quoted::quoted;

@@ -4,7 +4,7 @@ ghost use Rattle.std.specs.Prelude.{◌≡◌, is_some};
 ghost use Rattle.shd_config.specs.Steps.{Gives, optional, through};
 ghost use Rattle.shd_config.specs.Process.{new_state, state_alone, state_key, state_row, ended_state, state_of, running_state, state_at};
 
-use crate::config::FinalState;
+use host_rows::FinalState;
 use crate::fault::{ConfigError, ConfigKind};
 use crate::key::{Key, key_of};
 use crate::optional::{optional_signal, optional_u8};

@@ -10,8 +10,8 @@ use Rattle.shd_config.specs.Process.{texts_size}
 use Rattle.shd_config.specs.Limits.{MayStop, IsSomeText, AreFewHosts}
 use Rattle.shd_config.specs.declared.config.GraphSource.{GraphSource}
 use Rattle.shd_config.specs.declared.config.GraphSource.TheVariants as sources
-use Rattle.shd_config.specs.declared.config.FinalState.{FinalState}
-use Rattle.shd_config.specs.declared.config.FinalState.TheVariants as states
+use Rattle.host_rows.specs.declared.row.FinalState.{FinalState}
+use Rattle.host_rows.specs.declared.row.FinalState.TheVariants as states
 use Rattle.shd_config.specs.declared.config.Variable.{Variable}
 use Rattle.shd_config.specs.declared.config.ProcessConfig.{ProcessConfig}
 use Rattle.shd_config.specs.declared.config.HostConfig.{HostConfig}

@@ -3,7 +3,7 @@ use Rattle.std.proofs.Common.{◌≡◌, ℕ, zero, suc, ◌+◌, true, false, L
 use Rattle.std.proofs.lemmas.Bool.{false≢true, false_from_ne_true}
 use Rattle.sim_base.specs.Addresses.{loopback, is_same_ip}
 use Rattle.sim_base.specs.declared.address.Ip.{Ip}
-use Rattle.host_link.specs.declared.row.Row.{Row}
+use Rattle.host_rows.specs.declared.row.Row.{Row}
 use Rattle.shd_config.specs.Values.{may_be_host}
 use Rattle.run_plan.specs.declared.host_row.HostRow.{HostRow}
 use Rattle.run_plan.specs.declared.plan.Settings.{Settings}

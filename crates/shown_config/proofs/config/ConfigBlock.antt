@@ -4,8 +4,8 @@ use Rattle.sim_base.specs.Signal.{signal_name}
 use Rattle.sim_base.specs.declared.time.Time.{Time}
 use Rattle.shd_config.specs.declared.config.GraphSource.{GraphSource}
 use Rattle.shd_config.specs.declared.config.GraphSource.TheVariants as sources
-use Rattle.shd_config.specs.declared.config.FinalState.{FinalState}
-use Rattle.shd_config.specs.declared.config.FinalState.TheVariants.{Exited, Signaled, Running}
+use Rattle.host_rows.specs.declared.row.FinalState.{FinalState}
+use Rattle.host_rows.specs.declared.row.FinalState.TheVariants.{Exited, Signaled, Running}
 use Rattle.shd_config.specs.declared.config.Variable.{Variable}
 use Rattle.shd_config.specs.declared.config.ProcessConfig.{ProcessConfig}
 use Rattle.shd_config.specs.declared.config.HostConfig.{HostConfig}

@@ -5,7 +5,7 @@ use Rattle.shd_values.specs.Words.{words_of}
 use Rattle.yaml_tree.specs.Said.{Said}
 use Rattle.yaml_merge.specs.Plain.{items_in, pairs_in}
 use Rattle.yaml_merge.specs.declared.plain.Pair.{Pair}
-use Rattle.shd_config.specs.declared.config.FinalState.TheVariants.{Running}
+use Rattle.host_rows.specs.declared.row.FinalState.TheVariants.{Running}
 use Rattle.shd_config.specs.declared.config.Variable.{Variable}
 use Rattle.shd_config.specs.declared.key.Key.{Key}
 use Rattle.shd_config.specs.declared.key.Key.TheVariants as keys

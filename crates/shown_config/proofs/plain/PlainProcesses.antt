@@ -6,7 +6,7 @@ use Rattle.sim_base.specs.declared.time.Time.{Time}
 use Rattle.shd_values.specs.Word.{names_program}
 use Rattle.yaml_tree.specs.Said.{Said}
 use Rattle.yaml_merge.specs.declared.plain.Pair.{Pair}
-use Rattle.shd_config.specs.declared.config.FinalState.TheVariants.{Exited}
+use Rattle.host_rows.specs.declared.row.FinalState.TheVariants.{Exited}
 use Rattle.shd_config.specs.declared.config.ProcessConfig.{ProcessConfig}
 use Rattle.shd_config.specs.declared.key.Key.{Key}
 use Rattle.shd_config.specs.declared.key.Key.TheVariants as keys

@@ -4,8 +4,8 @@ use Rattle.yaml_tree.specs.Said.Said.{mapping}
 use Rattle.yaml_merge.specs.declared.plain.Pair.{Pair}
 use Rattle.shd_config.specs.declared.config.GraphSource.{GraphSource}
 use Rattle.shd_config.specs.declared.config.GraphSource.TheVariants as sources
-use Rattle.shd_config.specs.declared.config.QueueRule.{QueueRule}
-use Rattle.shd_config.specs.declared.config.QueueRule.TheVariants.{Fifo, Codel}
+use Rattle.net_iface.specs.declared.lane.QueueRule.{QueueRule}
+use Rattle.net_iface.specs.declared.lane.QueueRule.TheVariants.{Fifo, Codel}
 use Rattle.shd_config.specs.declared.config.Config.{Config}
 use Rattle.shd_config.specs.declared.general.General.{General}
 use Rattle.shd_config.specs.declared.network.Network.{Network}

@@ -10,8 +10,8 @@ use Rattle.shd_values.specs.Word.{signal_of, names_program}
 use Rattle.yaml_tree.specs.Said.Said.{sequence, mapping}
 use Rattle.yaml_merge.specs.Plain.{is_null}
 use Rattle.yaml_merge.specs.declared.plain.Pair.{Pair}
-use Rattle.shd_config.specs.declared.config.FinalState.{FinalState}
-use Rattle.shd_config.specs.declared.config.FinalState.TheVariants.{Exited, Signaled, Running}
+use Rattle.host_rows.specs.declared.row.FinalState.{FinalState}
+use Rattle.host_rows.specs.declared.row.FinalState.TheVariants.{Exited, Signaled, Running}
 use Rattle.shd_config.specs.declared.config.Variable.{Variable}
 use Rattle.shd_config.specs.declared.config.ProcessConfig.{ProcessConfig}
 use Rattle.shd_config.specs.declared.process.ProcessDraft.{ProcessDraft}

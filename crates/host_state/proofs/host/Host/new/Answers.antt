@@ -4,7 +4,7 @@ use Rattle.sim_base.specs.Draws.{host_generator}
 use Rattle.host_calls.specs.Parts.{PartsStand}
 use Rattle.host_calls.specs.Starting.{no_parts}
 use Rattle.guest_process.specs.declared.process.Process.TheVariants as process
-use Rattle.host_link.specs.declared.row.ProcessRow.{ProcessRow}
+use Rattle.host_rows.specs.declared.row.ProcessRow.{ProcessRow}
 use Rattle.host_state.specs.HostStands.{with_events}
 use Rattle.host_link.specs.Link.{LinkState, new_link, without_made}
 use Rattle.host_link.specs.Beginning.{begins_all}

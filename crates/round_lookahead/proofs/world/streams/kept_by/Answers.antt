@@ -1,7 +1,7 @@
 use Rattle.std.proofs.Common.{ap, sym, subst}
 use Rattle.host_state.specs.HostStands.{Stands}
 use Rattle.host_state.specs.declared.host.Host.{Host}
-use Rattle.host_link.specs.declared.row.Row.{Row}
+use Rattle.host_rows.specs.declared.row.Row.{Row}
 use Rattle.round_lookahead.proofs.StreamSteps.{kept-is}
 use Rattle.round_lookahead.proofs.world.streams.kept_by.Goals as goal
 

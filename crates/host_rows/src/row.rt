@@ -75,7 +75,7 @@ pub struct ProcessRows {
 
 impl Model for ProcessRows {
     ghost use Rattle.std.specs.Prelude.{List};
-    ghost use Rattle.host_link.specs.declared.row.ProcessRow.{ProcessRow};
+    ghost use Rattle.host_rows.specs.declared.row.ProcessRow.{ProcessRow};
 
     ghost Value = { List ProcessRow };
 
