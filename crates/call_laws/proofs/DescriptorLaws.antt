@@ -20,44 +20,44 @@ taken_from fds from fd here later lower least more = taken_at (nat_eq from lower
   taken_at true e = subst (λ n. IsSome (map.get fds n)) (eqb-true from lower e) here
   taken_at false e = later lower (grind (arith, nat_tests)) more
 
-first_free-cases : (fds : Descriptors) (from count fd : ℕ) (o : Option ObjectId) → map.get fds from ≡ o
+first_free_cases : (fds : Descriptors) (from count fd : ℕ) (o : Option ObjectId) → map.get fds from ≡ o
     → (first_free fds (from + 1) count ≡ Some fd → IsFirstFree fds (from + 1) count fd)
     → (if is_none o then Some from else first_free fds (from + 1) count) ≡ Some fd → IsFirstFree fds from (suc count) fd
-first_free-cases fds from count fd None here later e =
+first_free_cases fds from count fd None here later e =
     let same : from ≡ fd = cc in
     record { no_less = omega arith; within = omega arith; is_free = subst (λ n. map.get fds n ≡ None) same here; below = λ lower least more. absurd (omega (arith, least, more, same)) }
-first_free-cases fds from count fd (Some object) here later e =
+first_free_cases fds from count fd (Some object) here later e =
     let first = later e in
     record { no_less = omega (arith, first.no_less); within = omega (arith, first.within); is_free = first.is_free; below = taken_from fds from fd (ap is_some here) first.below }
 
-pub first_free-IsFirstFree : (fds : Descriptors) (from count fd : ℕ) → first_free fds from count ≡ Some fd → IsFirstFree fds from count fd
+pub first_free_IsFirstFree : (fds : Descriptors) (from count fd : ℕ) → first_free fds from count ≡ Some fd → IsFirstFree fds from count fd
 unfolding first_free
-first_free-IsFirstFree fds from zero fd e = cc
-first_free-IsFirstFree fds from (suc count) fd e =
-    first_free-cases fds from count fd (map.get fds from) refl (first_free-IsFirstFree fds (from + 1) count fd) e
+first_free_IsFirstFree fds from zero fd e = cc
+first_free_IsFirstFree fds from (suc count) fd e =
+    first_free_cases fds from count fd (map.get fds from) refl (first_free_IsFirstFree fds (from + 1) count fd) e
 
 -- a new descriptor is the least free one of all
-pub lowest_free-IsLowestFree : (fds : Descriptors) (fd : ℕ) → lowest_free fds ≡ Some fd → IsLowestFree fds fd
-lowest_free-IsLowestFree fds fd e =
-    let first = first_free-IsFirstFree fds 0 limit fd e in
+pub lowest_free_IsLowestFree : (fds : Descriptors) (fd : ℕ) → lowest_free fds ≡ Some fd → IsLowestFree fds fd
+lowest_free_IsLowestFree fds fd e =
+    let first = first_free_IsFirstFree fds 0 limit fd e in
     record { in_range = omega (arith, first.within); is_free = first.is_free; below = λ lower more. first.below lower (omega arith) more }
 
 -- the end of a process leaves no descriptor
-closed_by-table : (now : Time) (fd : ℕ) (d : Result Descriptor Refusal) (s : Scene) → (closed_by now fd d s).task.table ≡ map.remove s.task.table fd
-closed_by-table now fd (Ok d) s = refl
-closed_by-table now fd (Err refusal) s = refl
+closed_by_table : (now : Time) (fd : ℕ) (d : Result Descriptor Refusal) (s : Scene) → (closed_by now fd d s).task.table ≡ map.remove s.task.table fd
+closed_by_table now fd (Ok d) s = refl
+closed_by_table now fd (Err refusal) s = refl
 
-closed_one-table : (now : Time) (fd : ℕ) (s : Scene) → (closed_one now fd s).task.table ≡ map.remove s.task.table fd
-closed_one-table now fd s = closed_by-table now fd (descriptor fd s.task s.shared.files) s
+closed_one_table : (now : Time) (fd : ℕ) (s : Scene) → (closed_one now fd s).task.table ≡ map.remove s.task.table fd
+closed_one_table now fd s = closed_by_table now fd (descriptor fd s.task s.shared.files) s
 
 removed : (fds : Descriptors) (fd other : ℕ) → (other < fd → map.get fds other ≡ None) → other < suc fd → map.get (map.remove fds fd) other ≡ None
 removed fds fd other below more = grind (arith, map.gets, nat_tests)
 
-pub closed_below-is_free : (now : Time) (count : ℕ) (s : Scene) (fd : ℕ) → fd < count → map.get (closed_below now count s).task.table fd ≡ None
+pub closed_below_is_free : (now : Time) (count : ℕ) (s : Scene) (fd : ℕ) → fd < count → map.get (closed_below now count s).task.table fd ≡ None
 unfolding closed_below
-closed_below-is_free now zero s fd more = absurd (omega (arith, more))
-closed_below-is_free now (suc count) s fd more =
-    rw (closed_one-table now count (closed_below now count s)) (removed (closed_below now count s).task.table count fd (closed_below-is_free now count s fd) more)
+closed_below_is_free now zero s fd more = absurd (omega (arith, more))
+closed_below_is_free now (suc count) s fd more =
+    rw (closed_one_table now count (closed_below now count s)) (removed (closed_below now count s).task.table count fd (closed_below_is_free now count s fd) more)
 
-pub all_closed-is_free : (now : Time) (s : Scene) (fd : ℕ) → fd < limit → map.get (all_closed now s).task.table fd ≡ None
-all_closed-is_free now s fd in_range = closed_below-is_free now limit s fd in_range
+pub all_closed_is_free : (now : Time) (s : Scene) (fd : ℕ) → fd < limit → map.get (all_closed now s).task.table fd ≡ None
+all_closed_is_free now s fd in_range = closed_below_is_free now limit s fd in_range

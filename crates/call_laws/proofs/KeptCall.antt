@@ -36,126 +36,126 @@ use Rattle.host_calls.specs.Polling.{poll_plan, polls}
 use Rattle.file_calls.specs.Scene.{Local}
 use Rattle.host_calls.specs.Sockets.{socket, bind, listen, accept_plan, accepts, connect_plan, getsockname, getpeername, send_plan, sendto_plan, sends_by, recv_plan, recvfrom_plan, receives, getsockopt, shutdown}
 use Rattle.call_parts.specs.Sockets.{open_socket, socket_number}
-use Rattle.call_laws.proofs.Waits.{Never, reaction_waits, is_wait-is, nevers, reacts-is, plainly-is, asked_then, gives_bind, gives_then, gives_map}
-use Rattle.call_laws.proofs.PlainWaits.{plain-never}
-use Rattle.call_laws.proofs.SocketWaits.{accept-settles, connect-settles, send-settles, recv-settles}
-use Rattle.call_laws.proofs.SocketNevers.{socket-never, bind-never, listen-never, getsockname-never, getpeername-never, getsockopt-never, shutdown-never}
+use Rattle.call_laws.proofs.Waits.{Never, reaction_waits, is_wait_is, nevers, reacts_is, plainly_is, asked_then, gives_bind, gives_then, gives_map}
+use Rattle.call_laws.proofs.PlainWaits.{plain_never}
+use Rattle.call_laws.proofs.SocketWaits.{accept_settles, connect_settles, send_settles, recv_settles}
+use Rattle.call_laws.proofs.SocketNevers.{socket_never, bind_never, listen_never, getsockname_never, getpeername_never, getsockopt_never, shutdown_never}
 
 -- calls on sockets that never wait
-network-never : (known : Known) (now : Time) (n : NetworkCall) (args : List ℕ) (s : Scene) → reaction_waits (network_row known now n args s) ≡ false
-network-never known now network.Socket args s =
-    reacts-is (socket (arg args 0) (arg args 1) (arg args 2) s) ∙ socket-never (arg args 0) (arg args 1) (arg args 2) s
-network-never known now network.Bind args s =
-    reacts-is (bind known.book (arg args 0) (arg args 1) (arg args 2) s) ∙ bind-never known.book (arg args 0) (arg args 1) (arg args 2) s
-network-never known now network.Listen args s = reacts-is (listen (arg args 0) (arg args 1) s) ∙ listen-never (arg args 0) (arg args 1) s
-network-never known now network.Getsockname args s =
-    reacts-is (getsockname (arg args 0) (arg args 1) (arg args 2) s) ∙ getsockname-never (arg args 0) (arg args 1) (arg args 2) s
-network-never known now network.Getpeername args s =
-    reacts-is (getpeername (arg args 0) (arg args 1) (arg args 2) s) ∙ getpeername-never (arg args 0) (arg args 1) (arg args 2) s
-network-never known now network.Getsockopt args s =
-    reacts-is (getsockopt now (arg args 0) (arg args 1) (arg args 2) (arg args 3) (arg args 4) s)
-    ∙ getsockopt-never now (arg args 0) (arg args 1) (arg args 2) (arg args 3) (arg args 4) s
-network-never known now network.Shutdown args s = reacts-is (shutdown now (arg args 0) (arg args 1) s) ∙ shutdown-never now (arg args 0) (arg args 1) s
+network_never : (known : Known) (now : Time) (n : NetworkCall) (args : List ℕ) (s : Scene) → reaction_waits (network_row known now n args s) ≡ false
+network_never known now network.Socket args s =
+    reacts_is (socket (arg args 0) (arg args 1) (arg args 2) s) ∙ socket_never (arg args 0) (arg args 1) (arg args 2) s
+network_never known now network.Bind args s =
+    reacts_is (bind known.book (arg args 0) (arg args 1) (arg args 2) s) ∙ bind_never known.book (arg args 0) (arg args 1) (arg args 2) s
+network_never known now network.Listen args s = reacts_is (listen (arg args 0) (arg args 1) s) ∙ listen_never (arg args 0) (arg args 1) s
+network_never known now network.Getsockname args s =
+    reacts_is (getsockname (arg args 0) (arg args 1) (arg args 2) s) ∙ getsockname_never (arg args 0) (arg args 1) (arg args 2) s
+network_never known now network.Getpeername args s =
+    reacts_is (getpeername (arg args 0) (arg args 1) (arg args 2) s) ∙ getpeername_never (arg args 0) (arg args 1) (arg args 2) s
+network_never known now network.Getsockopt args s =
+    reacts_is (getsockopt now (arg args 0) (arg args 1) (arg args 2) (arg args 3) (arg args 4) s)
+    ∙ getsockopt_never now (arg args 0) (arg args 1) (arg args 2) (arg args 3) (arg args 4) s
+network_never known now network.Shutdown args s = reacts_is (shutdown now (arg args 0) (arg args 1) s) ∙ shutdown_never now (arg args 0) (arg args 1) s
 
 -- what is done after a call was asked doesn't wait
 abbrev Settles : Known → Time → ℕ → Scene → Plan → Type 0
 Settles known now process s p = reaction_waits (done known now process p s) ≡ false
 
-read_plan_of-settles : (known : Known) (now : Time) (process : ℕ) (d : Descriptor) (n : Result SocketNumber Refusal) (at count : ℕ) (s : Scene)
+read_plan_of_settles : (known : Known) (now : Time) (process : ℕ) (d : Descriptor) (n : Result SocketNumber Refusal) (at count : ℕ) (s : Scene)
     → IfOk (read_plan_of now d n at count s) (Settles known now process s)
-read_plan_of-settles known now process d (Ok socket) at count s =
-    gives_map (recv_plan (open_by d socket) 0 (room_of at count 0 0) s.task.memory s.sockets) (λ r. plan.Receive r) _ _ (recv-settles now (open_by d socket) 0 (room_of at count 0 0) s)
-    (λ r h. reacts-is (receives now r s) ∙ h)
-read_plan_of-settles known now process d (Err e) at count s =
+read_plan_of_settles known now process d (Ok socket) at count s =
+    gives_map (recv_plan (open_by d socket) 0 (room_of at count 0 0) s.task.memory s.sockets) (λ r. plan.Receive r) _ _ (recv_settles now (open_by d socket) 0 (room_of at count 0 0) s)
+    (λ r h. reacts_is (receives now r s) ∙ h)
+read_plan_of_settles known now process d (Err e) at count s =
     gives_bind (file_read_plan now d at count (local_of s)) _ _
-    (λ t e. reacts-is (plainly (reads known.hosts now t (local_of s)) s) ∙ plainly-is (reads known.hosts now t (local_of s)) s)
+    (λ t e. reacts_is (plainly (reads known.hosts now t (local_of s)) s) ∙ plainly_is (reads known.hosts now t (local_of s)) s)
 
-writes-never : (process : ℕ) (t : Transfer) (s : Scene) → Never (writes process t (local_of s))
-writes-never process t s = search nevers
+writes_never : (process : ℕ) (t : Transfer) (s : Scene) → Never (writes process t (local_of s))
+writes_never process t s = search nevers
 
-write_plan_of-settles : (known : Known) (now : Time) (process : ℕ) (d : Descriptor) (n : Result SocketNumber Refusal) (at count : ℕ) (s : Scene)
+write_plan_of_settles : (known : Known) (now : Time) (process : ℕ) (d : Descriptor) (n : Result SocketNumber Refusal) (at count : ℕ) (s : Scene)
     → IfOk (write_plan_of known d n at count s) (Settles known now process s)
-write_plan_of-settles known now process d (Ok socket) at count s =
+write_plan_of_settles known now process d (Ok socket) at count s =
     gives_map (send_plan known.book (open_by d socket) 0 (message_of at count 0 0) s.task.memory s.sockets) (λ m. plan.Send m) _ _
-    (send-settles known.book now (open_by d socket) 0 (message_of at count 0 0) s) (λ m h. reacts-is (sends_by known.book now m s) ∙ h)
-write_plan_of-settles known now process d (Err e) at count s =
+    (send_settles known.book now (open_by d socket) 0 (message_of at count 0 0) s) (λ m h. reacts_is (sends_by known.book now m s) ∙ h)
+write_plan_of_settles known now process d (Err e) at count s =
     gives_bind (file_write_plan d at count (local_of s)) _ _
-    (λ t e. reacts-is (plainly (writes process t (local_of s)) s) ∙ plainly-is (writes process t (local_of s)) s ∙ writes-never process t s)
+    (λ t e. reacts_is (plainly (writes process t (local_of s)) s) ∙ plainly_is (writes process t (local_of s)) s ∙ writes_never process t s)
 
-polls-never : (now : Time) (p : PollPlan) (s : Scene) → Never (polls now p s)
-polls-never now p s = search nevers
+polls_never : (now : Time) (p : PollPlan) (s : Scene) → Never (polls now p s)
+polls_never now p s = search nevers
 
-asked-settles : (known : Known) (now : Time) (process : ℕ) (w : WaitingCall) (args : List ℕ) (s : Scene) (why : Why) → s.task.kept ≡ Some why
+asked_settles : (known : Known) (now : Time) (process : ℕ) (w : WaitingCall) (args : List ℕ) (s : Scene) (why : Why) → s.task.kept ≡ Some why
     → IfOk (asked known now w args s) (Settles known now process s)
-asked-settles known now process waiting.Read args s why e =
-    gives_bind (descriptor (arg args 0) s.task s.shared.files) _ _ (λ d f. read_plan_of-settles known now process d (socket_number d.file.object) (arg args 1) (arg args 2) s)
-asked-settles known now process waiting.Write args s why e =
-    gives_bind (descriptor (arg args 0) s.task s.shared.files) _ _ (λ d f. write_plan_of-settles known now process d (socket_number d.file.object) (arg args 1) (arg args 2) s)
-asked-settles known now process waiting.Accept args s why e =
-    gives_map (accept_plan (arg args 0) (arg args 1) (arg args 2) s) (λ a. plan.Accept a) _ _ (accept-settles (arg args 0) (arg args 1) (arg args 2) s)
-    (λ a h. reacts-is (accepts a s) ∙ h)
-asked-settles known now process waiting.Connect args s why e =
+asked_settles known now process waiting.Read args s why e =
+    gives_bind (descriptor (arg args 0) s.task s.shared.files) _ _ (λ d f. read_plan_of_settles known now process d (socket_number d.file.object) (arg args 1) (arg args 2) s)
+asked_settles known now process waiting.Write args s why e =
+    gives_bind (descriptor (arg args 0) s.task s.shared.files) _ _ (λ d f. write_plan_of_settles known now process d (socket_number d.file.object) (arg args 1) (arg args 2) s)
+asked_settles known now process waiting.Accept args s why e =
+    gives_map (accept_plan (arg args 0) (arg args 1) (arg args 2) s) (λ a. plan.Accept a) _ _ (accept_settles (arg args 0) (arg args 1) (arg args 2) s)
+    (λ a h. reacts_is (accepts a s) ∙ h)
+asked_settles known now process waiting.Connect args s why e =
     gives_map (connect_plan (arg args 0) (arg args 1) (arg args 2) s) (λ c. plan.Connect c) _ _
-    (connect-settles known.book now (arg args 0) (arg args 1) (arg args 2) s why e) (λ c h. h)
-asked-settles known now process waiting.Sendto args s why e =
+    (connect_settles known.book now (arg args 0) (arg args 1) (arg args 2) s why e) (λ c h. h)
+asked_settles known now process waiting.Sendto args s why e =
     gives_map (sendto_plan known.book (arg args 0) (arg args 3) (message_of (arg args 1) (arg args 2) (arg args 4) (arg args 5)) s) (λ m. plan.Send m) _ _
-    (gives_bind (open_socket (arg args 0) (local_of s)) _ _ (λ socket f. send-settles known.book now socket (arg args 3) (message_of (arg args 1) (arg args 2) (arg args 4) (arg args 5)) s))
-    (λ m h. reacts-is (sends_by known.book now m s) ∙ h)
-asked-settles known now process waiting.Recvfrom args s why e =
+    (gives_bind (open_socket (arg args 0) (local_of s)) _ _ (λ socket f. send_settles known.book now socket (arg args 3) (message_of (arg args 1) (arg args 2) (arg args 4) (arg args 5)) s))
+    (λ m h. reacts_is (sends_by known.book now m s) ∙ h)
+asked_settles known now process waiting.Recvfrom args s why e =
     gives_map (recvfrom_plan (arg args 0) (arg args 3) (room_of (arg args 1) (arg args 2) (arg args 4) (arg args 5)) s) (λ r. plan.Receive r) _ _
-    (gives_bind (open_socket (arg args 0) (local_of s)) _ _ (λ socket f. recv-settles now socket (arg args 3) (room_of (arg args 1) (arg args 2) (arg args 4) (arg args 5)) s))
-    (λ r h. reacts-is (receives now r s) ∙ h)
-asked-settles known now process waiting.ClockNanosleep args s why e = gives_then (sleep_asked now (arg args 0) (arg args 1) (arg args 2) s.task) _ _ (λ u f. refl)
-asked-settles known now process waiting.Ppoll args s why e =
-    gives_bind (poll_plan now (arg args 0) (arg args 1) (arg args 2) s) _ _ (λ p f. reacts-is (polls now p s) ∙ polls-never now p s)
-asked-settles known now process waiting.EpollWait args s why e =
+    (gives_bind (open_socket (arg args 0) (local_of s)) _ _ (λ socket f. recv_settles now socket (arg args 3) (room_of (arg args 1) (arg args 2) (arg args 4) (arg args 5)) s))
+    (λ r h. reacts_is (receives now r s) ∙ h)
+asked_settles known now process waiting.ClockNanosleep args s why e = gives_then (sleep_asked now (arg args 0) (arg args 1) (arg args 2) s.task) _ _ (λ u f. refl)
+asked_settles known now process waiting.Ppoll args s why e =
+    gives_bind (poll_plan now (arg args 0) (arg args 1) (arg args 2) s) _ _ (λ p f. reacts_is (polls now p s) ∙ polls_never now p s)
+asked_settles known now process waiting.EpollWait args s why e =
     gives_bind (wait_plan now (arg args 0) (arg args 1) (arg args 2) (arg args 3) s) _ _ (λ p f. refl)
 
-close-never : (now : Time) (fd : ℕ) (s : Scene) → Never (close now fd s)
-close-never now fd s = search nevers
+close_never : (now : Time) (fd : ℕ) (s : Scene) → Never (close now fd s)
+close_never now fd s = search nevers
 
 row-same : (known : Known) (now : Time) (process : ℕ) (c : Option Call) (args : List ℕ) (s : Scene) (why : Why) → s.task.kept ≡ Some why
     → reaction_waits (row_of known now process c args s) ≡ waits known now c args s
 row-same known now process None args s why e = refl
 row-same known now process (Some (system_call.Plain p)) args s why e =
-    reacts-is (plainly (plain_row now process p args (local_of s)) s) ∙ plainly-is (plain_row now process p args (local_of s)) s
-    ∙ plain-never now process p args s.task s.shared
-row-same known now process (Some (system_call.Network n)) args s why e = network-never known now n args s
+    reacts_is (plainly (plain_row now process p args (local_of s)) s) ∙ plainly_is (plain_row now process p args (local_of s)) s
+    ∙ plain_never now process p args s.task s.shared
+row-same known now process (Some (system_call.Network n)) args s why e = network_never known now n args s
 row-same known now process (Some (system_call.Waiting w)) args s why e =
-    asked_then (asked known now w args s) _ (asked-settles known now process w args s why e) ∙ sym (is_wait-is (asked known now w args s))
-row-same known now process (Some system_call.Close) args s why e = reacts-is (close now (arg args 0) s) ∙ close-never now (arg args 0) s
+    asked_then (asked known now w args s) _ (asked_settles known now process w args s why e) ∙ sym (is_wait_is (asked known now w args s))
+row-same known now process (Some system_call.Close) args s why e = reacts_is (close now (arg args 0) s) ∙ close_never now (arg args 0) s
 row-same known now process (Some system_call.Exit) args s why e = refl
 
 -- a process waits where its row does
-blocks_by-waits : (process : ℕ) (why : Why) (kept : Option Why) (s : Local) (t : SocketsRecord) → is_block (in_scene t (blocks_by process why kept s)).0 ≡ true
-blocks_by-waits process why None (task, shared) t = refl
-blocks_by-waits process why (Some first) (task, shared) t = refl
+blocks_by_waits : (process : ℕ) (why : Why) (kept : Option Why) (s : Local) (t : SocketsRecord) → is_block (in_scene t (blocks_by process why kept s)).0 ≡ true
+blocks_by_waits process why None (task, shared) t = refl
+blocks_by_waits process why (Some first) (task, shared) t = refl
 
-answered-waits : (now : Time) (process number : ℕ) (args : List ℕ) (r : Result (Reaction × Scene) Refusal) (s : Scene)
+answered_waits : (now : Time) (process number : ℕ) (args : List ℕ) (r : Result (Reaction × Scene) Refusal) (s : Scene)
     → is_block (answered now process number args r s).0 ≡ reaction_waits r
-answered-waits now process number args (Ok (Value value, t)) s = refl
-answered-waits now process number args (Ok (Waits, t)) s = blocks_by-waits process _ t.task.kept (t.task, t.shared) t.sockets
-answered-waits now process number args (Err (refusal.Errno errno)) s = refl
-answered-waits now process number args (Err (refusal.Kept errno)) s = refl
-answered-waits now process number args (Err (refusal.Wait until)) s = blocks_by-waits process _ s.task.kept (s.task, s.shared) s.sockets
-answered-waits now process number args (Err (refusal.End state)) s = refl
+answered_waits now process number args (Ok (Value value, t)) s = refl
+answered_waits now process number args (Ok (Waits, t)) s = blocks_by_waits process _ t.task.kept (t.task, t.shared) t.sockets
+answered_waits now process number args (Err (refusal.Errno errno)) s = refl
+answered_waits now process number args (Err (refusal.Kept errno)) s = refl
+answered_waits now process number args (Err (refusal.Wait until)) s = blocks_by_waits process _ s.task.kept (s.task, s.shared) s.sockets
+answered_waits now process number args (Err (refusal.End state)) s = refl
 
 not-not : (b : Bool) → b ≡ not (not b)
 not-not true = refl
 not-not false = refl
 
-scene-answers : (known : Known) (now : Time) (process : ℕ) (why : Why) (s : Scene) → s.task.kept ≡ Some why
+scene_answers : (known : Known) (now : Time) (process : ℕ) (why : Why) (s : Scene) → s.task.kept ≡ Some why
     → is_block (call_scene known now process why.number why.args s).0 ≡ not (answers_scene known now why s)
-scene-answers known now process why s e =
-    answered-waits now process why.number why.args (row_of known now process (call_of why.number) why.args s) s
+scene_answers known now process why s e =
+    answered_waits now process why.number why.args (row_of known now process (call_of why.number) why.args s) s
     ∙ row-same known now process (call_of why.number) why.args s why e ∙ not-not _
 
-place-answers : (known : Known) (now : Time) (process : ℕ) (why : Why) (task : Option Task) (p : Place) → kept_by task ≡ Some why
+place_answers : (known : Known) (now : Time) (process : ℕ) (why : Why) (task : Option Task) (p : Place) → kept_by task ≡ Some why
     → is_block (call_by known now process why.number why.args task p).0 ≡ not (answers_by known now why task p)
-place-answers known now process why None p e = cc
-place-answers known now process why (Some task) p e = scene-answers known now process why (scene_at task p) e
+place_answers known now process why None p e = cc
+place_answers known now process why (Some task) p e = scene_answers known now process why (scene_at task p) e
 
 -- the call that a process waits in would answer exactly where making it again doesn't wait
-pub kept_call-answers : (known : Known) (now : Time) (process : ℕ) (why : Why) (h : PartsRecord) → kept_call process h ≡ Some why
+pub kept_call_answers_is : (known : Known) (now : Time) (process : ℕ) (why : Why) (h : PartsRecord) → kept_call process h ≡ Some why
     → is_block (call known now process why.number why.args h).0 ≡ not (answers known now process why h)
-kept_call-answers known now process why h e = place-answers known now process why (at process h.tasks) (place_in process h) e
+kept_call_answers_is known now process why h e = place_answers known now process why (at process h.tasks) (place_in process h) e

@@ -34,7 +34,7 @@ use Rattle.guest_args.specs.Address.{inet}
 use Rattle.call_parts.specs.Sockets.{is_stream, protocol_of, socket_asked, tcp_number, result_address, open_socket}
 use Rattle.host_calls.specs.Sockets.{socket, accept_place, accept_plan_of, accept_plan, accepted_by, accepts}
 use Rattle.file_calls.specs.Times.{create_asked, timerfd_create}
-use Rattle.call_laws.proofs.DescriptorLaws.{first_free-IsFirstFree, lowest_free-IsLowestFree}
+use Rattle.call_laws.proofs.DescriptorLaws.{first_free_IsFirstFree, lowest_free_IsLowestFree}
 
 -- what answers wasn't refused on the way
 bind_ok : {A B : Type 0} (r : Result A Refusal) (f : A → Result B Refusal) (b : B) (P : Type 0) → r >>= f ≡ Ok b → ((a : A) → r ≡ Ok a → f a ≡ Ok b → P) → P
@@ -76,64 +76,64 @@ place_fd (Ok new) = new.fd
 place_fd (Err x) = 0
 
 -- openat(2)
-openat_asked-least : (path flags fd : ℕ) (task : Task) → openat_asked path flags task ≡ Ok fd → lowest_free task.table ≡ Some fd
-openat_asked-least path flags fd task e =
+openat_asked_least : (path flags fd : ℕ) (task : Task) → openat_asked path flags task ≡ Ok fd → lowest_free task.table ≡ Some fd
+openat_asked_least path flags fd task e =
     bind_ok (path_length path task.memory) _ fd (lowest_free task.table ≡ Some fd) e
     (λ count p q. or_refuse_ok (lowest_free task.table) (refusal.Errno Emfile) fd (then_ok (refuse_if (not (flags % 4 == 0)) (refusal.Errno Eacces)) _ fd
     (then_ok (refuse_if (not (is_hosts_path count path task.memory)) (refusal.Errno Enoent)) _ fd q)))
 
-pub openat-least : (path flags fd : ℕ) (task : Task) (shared : Shared) (after : Local) → openat path flags (task, shared) ≡ Ok (fd, after) → IsLowestFree task.table fd
-openat-least path flags fd task shared after e =
+pub openat_least : (path flags fd : ℕ) (task : Task) (shared : Shared) (after : Local) → openat path flags (task, shared) ≡ Ok (fd, after) → IsLowestFree task.table fd
+openat_least path flags fd task shared after e =
     bind_ok (openat_asked path flags task) _ (fd, after) (IsLowestFree task.table fd) e
-    (λ n p q. lowest_free-IsLowestFree task.table fd (openat_asked-least path flags n task p ∙ ap (λ (k : ℕ). Some k) (ap (answer_of {S = Local}) q)))
+    (λ n p q. lowest_free_IsLowestFree task.table fd (openat_asked_least path flags n task p ∙ ap (λ (k : ℕ). Some k) (ap (answer_of {S = Local}) q)))
 
 -- timerfd_create(2)
-create_asked-least : (clock flags fd : ℕ) (task : Task) → create_asked clock flags task ≡ Ok fd → lowest_free task.table ≡ Some fd
-create_asked-least clock flags fd task e =
+create_asked_least : (clock flags fd : ℕ) (task : Task) → create_asked clock flags task ≡ Ok fd → lowest_free task.table ≡ Some fd
+create_asked_least clock flags fd task e =
     or_refuse_ok (lowest_free task.table) (refusal.Errno Emfile) fd (then_ok (refuse_if (not (beside_open flags == 0)) (refusal.Errno Einval)) _ fd
     (then_ok (refuse_if (nat_lt 1 clock) (refusal.Errno Einval)) _ fd e))
 
-pub timerfd_create-least : (clock flags fd : ℕ) (task : Task) (shared : Shared) (after : Local) → timerfd_create clock flags (task, shared) ≡ Ok (fd, after) → IsLowestFree task.table fd
-timerfd_create-least clock flags fd task shared after e =
+pub timerfd_create_least : (clock flags fd : ℕ) (task : Task) (shared : Shared) (after : Local) → timerfd_create clock flags (task, shared) ≡ Ok (fd, after) → IsLowestFree task.table fd
+timerfd_create_least clock flags fd task shared after e =
     bind_ok (create_asked clock flags task) _ (fd, after) (IsLowestFree task.table fd) e
-    (λ n p q. lowest_free-IsLowestFree task.table fd (create_asked-least clock flags n task p ∙ ap (λ (k : ℕ). Some k) (ap (answer_of {S = Local}) q)))
+    (λ n p q. lowest_free_IsLowestFree task.table fd (create_asked_least clock flags n task p ∙ ap (λ (k : ℕ). Some k) (ap (answer_of {S = Local}) q)))
 
 -- eventfd(2)
-eventfd_asked-least : (flags fd : ℕ) (task : Task) → eventfd_asked flags task ≡ Ok fd → lowest_free task.table ≡ Some fd
-eventfd_asked-least flags fd task e =
+eventfd_asked_least : (flags fd : ℕ) (task : Task) → eventfd_asked flags task ≡ Ok fd → lowest_free task.table ≡ Some fd
+eventfd_asked_least flags fd task e =
     or_refuse_ok (lowest_free task.table) (refusal.Errno Emfile) fd (then_ok (refuse_if (not (beside_eventfd flags == 0)) (refusal.Errno Einval)) _ fd e)
 
-pub eventfd2-least : (count flags fd : ℕ) (task : Task) (shared : Shared) (after : Local) → eventfd2 count flags (task, shared) ≡ Ok (fd, after) → IsLowestFree task.table fd
-eventfd2-least count flags fd task shared after e =
+pub eventfd2_least : (count flags fd : ℕ) (task : Task) (shared : Shared) (after : Local) → eventfd2 count flags (task, shared) ≡ Ok (fd, after) → IsLowestFree task.table fd
+eventfd2_least count flags fd task shared after e =
     bind_ok (eventfd_asked flags task) _ (fd, after) (IsLowestFree task.table fd) e
-    (λ n p q. lowest_free-IsLowestFree task.table fd (eventfd_asked-least flags n task p ∙ ap (λ (k : ℕ). Some k) (ap (answer_of {S = Local}) q)))
+    (λ n p q. lowest_free_IsLowestFree task.table fd (eventfd_asked_least flags n task p ∙ ap (λ (k : ℕ). Some k) (ap (answer_of {S = Local}) q)))
 
 -- epoll_create(2)
-epoll_asked-least : (flags fd : ℕ) (task : Task) → epoll_asked flags task ≡ Ok fd → lowest_free task.table ≡ Some fd
-epoll_asked-least flags fd task e =
+epoll_asked_least : (flags fd : ℕ) (task : Task) → epoll_asked flags task ≡ Ok fd → lowest_free task.table ≡ Some fd
+epoll_asked_least flags fd task e =
     or_refuse_ok (lowest_free task.table) (refusal.Errno Emfile) fd (then_ok (refuse_if (not (beside_cloexec flags == 0)) (refusal.Errno Einval)) _ fd e)
 
-pub epoll_create1-least : (flags fd : ℕ) (task : Task) (shared : Shared) (after : Local) → epoll_create1 flags (task, shared) ≡ Ok (fd, after) → IsLowestFree task.table fd
-epoll_create1-least flags fd task shared after e =
+pub epoll_create1_least : (flags fd : ℕ) (task : Task) (shared : Shared) (after : Local) → epoll_create1 flags (task, shared) ≡ Ok (fd, after) → IsLowestFree task.table fd
+epoll_create1_least flags fd task shared after e =
     bind_ok (epoll_asked flags task) _ (fd, after) (IsLowestFree task.table fd) e
-    (λ n p q. lowest_free-IsLowestFree task.table fd (epoll_asked-least flags n task p ∙ ap (λ (k : ℕ). Some k) (ap (answer_of {S = Local}) q)))
+    (λ n p q. lowest_free_IsLowestFree task.table fd (epoll_asked_least flags n task p ∙ ap (λ (k : ℕ). Some k) (ap (answer_of {S = Local}) q)))
 
 -- socket(2)
-socket_asked-least : (family type protocol : ℕ) (task : Task) (new : NewSocket) → socket_asked family type protocol task ≡ Ok new → lowest_free task.table ≡ Some new.fd
-socket_asked-least family type protocol task new e =
+socket_asked_least : (family type protocol : ℕ) (task : Task) (new : NewSocket) → socket_asked family type protocol task ≡ Ok new → lowest_free task.table ≡ Some new.fd
+socket_asked_least family type protocol task new e =
     bind_ok (is_stream (beside_open type)) _ new (lowest_free task.table ≡ Some new.fd) (then_ok (refuse_if (not (family == inet)) (refusal.Errno Eafnosupport)) _ new e)
     (λ stream p q. bind_ok (or_refuse (lowest_free task.table) (refusal.Errno Emfile)) _ new (lowest_free task.table ≡ Some new.fd)
     (then_ok (refuse_if (not (protocol == 0 || protocol == protocol_of stream)) (refusal.Errno Eprotonosupport)) _ new q)
     (λ fd p' q'. or_refuse_ok (lowest_free task.table) (refusal.Errno Emfile) fd p' ∙ ap (λ (k : ℕ). Some k) (ap socket_fd q')))
 
-pub socket-least : (family type protocol fd : ℕ) (s after : Scene) → socket family type protocol s ≡ Ok (fd, after) → IsLowestFree s.task.table fd
-socket-least family type protocol fd s after e =
+pub socket_least : (family type protocol fd : ℕ) (s after : Scene) → socket family type protocol s ≡ Ok (fd, after) → IsLowestFree s.task.table fd
+socket_least family type protocol fd s after e =
     bind_ok (socket_asked family type protocol s.task) _ (fd, after) (IsLowestFree s.task.table fd) e
-    (λ new p q. lowest_free-IsLowestFree s.task.table fd (socket_asked-least family type protocol s.task new p ∙ ap (λ (k : ℕ). Some k) (ap (answer_of {S = Scene}) q)))
+    (λ new p q. lowest_free_IsLowestFree s.task.table fd (socket_asked_least family type protocol s.task new p ∙ ap (λ (k : ℕ). Some k) (ap (answer_of {S = Scene}) q)))
 
 -- accept(2)
-accept_place-least : (k at size_at : ℕ) (task : Task) (t : SocketsRecord) (new : NewPlace) → accept_place k at size_at task t ≡ Ok new → lowest_free task.table ≡ Some new.fd
-accept_place-least k at size_at task t new e =
+accept_place_least : (k at size_at : ℕ) (task : Task) (t : SocketsRecord) (new : NewPlace) → accept_place k at size_at task t ≡ Ok new → lowest_free task.table ≡ Some new.fd
+accept_place_least k at size_at task t new e =
     bind_ok (result_address at size_at task.memory) _ new (lowest_free task.table ≡ Some new.fd) (then_ok (accept_asked k t) _ new e)
     (λ place p q. bind_ok (or_refuse (lowest_free task.table) (refusal.Errno Emfile)) _ new (lowest_free task.table ≡ Some new.fd) q
     (λ fd p' q'. or_refuse_ok (lowest_free task.table) (refusal.Errno Emfile) fd p' ∙ ap (λ (n : ℕ). Some n) (ap place_fd q')))
@@ -142,26 +142,26 @@ abbrev plan_fd : Result AcceptPlan Refusal → ℕ
 plan_fd (Ok a) = a.new.fd
 plan_fd (Err x) = 0
 
-accept_plan_of-least : (o : OpenSocket) (at size_at : ℕ) (task : Task) (t : SocketsRecord) (a : AcceptPlan) → accept_plan_of o at size_at task t ≡ Ok a → lowest_free task.table ≡ Some a.new.fd
-accept_plan_of-least o at size_at task t a e =
+accept_plan_of_least : (o : OpenSocket) (at size_at : ℕ) (task : Task) (t : SocketsRecord) (a : AcceptPlan) → accept_plan_of o at size_at task t ≡ Ok a → lowest_free task.table ≡ Some a.new.fd
+accept_plan_of_least o at size_at task t a e =
     bind_ok (tcp_number o.number) _ a (lowest_free task.table ≡ Some a.new.fd) e
     (λ k p q. bind_ok (accept_place k at size_at task t) _ a (lowest_free task.table ≡ Some a.new.fd) q
-    (λ new p' q'. accept_place-least k at size_at task t new p' ∙ ap (λ (n : ℕ). Some n) (ap plan_fd (then_ok (or_again o.nonblocking (accept_ready k t)) _ a q'))))
+    (λ new p' q'. accept_place_least k at size_at task t new p' ∙ ap (λ (n : ℕ). Some n) (ap plan_fd (then_ok (or_again o.nonblocking (accept_ready k t)) _ a q'))))
 
-accept_plan-least : (from at size_at : ℕ) (s : Scene) (a : AcceptPlan) → accept_plan from at size_at s ≡ Ok a → lowest_free s.task.table ≡ Some a.new.fd
-accept_plan-least from at size_at s a e =
-    bind_ok (open_socket from (local_of s)) _ a (lowest_free s.task.table ≡ Some a.new.fd) e (λ o p q. accept_plan_of-least o at size_at s.task s.sockets a q)
+accept_plan_least : (from at size_at : ℕ) (s : Scene) (a : AcceptPlan) → accept_plan from at size_at s ≡ Ok a → lowest_free s.task.table ≡ Some a.new.fd
+accept_plan_least from at size_at s a e =
+    bind_ok (open_socket from (local_of s)) _ a (lowest_free s.task.table ≡ Some a.new.fd) e (λ o p q. accept_plan_of_least o at size_at s.task s.sockets a q)
 
 accepts_fd : (a : AcceptPlan) (fd : ℕ) (s after : Scene) → reacts (accepts a s) ≡ Ok (Value fd, after) → a.new.fd ≡ fd
 accepts_fd a fd s after e =
     reacts_ok (accepts_tcp a.listener s.sockets) a.new.fd fd (λ x. accepted_by a.new x.0 x.1 s) after e
 
-pub accept-least : (known : Known) (now : Time) (process : ℕ) (args : List ℕ) (fd : ℕ) (s after : Scene) → waiting_row known now process waiting.Accept args s ≡ Ok (Value fd, after)
+pub accept_least : (known : Known) (now : Time) (process : ℕ) (args : List ℕ) (fd : ℕ) (s after : Scene) → waiting_row known now process waiting.Accept args s ≡ Ok (Value fd, after)
     → IsLowestFree s.task.table fd
-accept-least known now process args fd s after e =
+accept_least known now process args fd s after e =
     map_ok (accept_plan (arg args 0) (arg args 1) (arg args 2) s) (λ a. plan.Accept a) (λ p. done known now process p s) (Value fd, after) (IsLowestFree s.task.table fd) e
-    (λ a p q. lowest_free-IsLowestFree s.task.table fd
-    (accept_plan-least (arg args 0) (arg args 1) (arg args 2) s a p ∙ ap (λ (n : ℕ). Some n) (accepts_fd a fd s after q)))
+    (λ a p q. lowest_free_IsLowestFree s.task.table fd
+    (accept_plan_least (arg args 0) (arg args 1) (arg args 2) s a p ∙ ap (λ (n : ℕ). Some n) (accepts_fd a fd s after q)))
 
 -- pipe(2)
 abbrev reading_of : Result Ends Refusal → ℕ
@@ -172,26 +172,26 @@ abbrev writing_of : Result Ends Refusal → ℕ
 writing_of (Ok fds) = fds.writing
 writing_of (Err x) = 0
 
-second_end-reading : (reading : ℕ) (table : Descriptors) (fds : Ends) → second_end reading table ≡ Ok fds → reading ≡ fds.reading
-second_end-reading reading table fds e =
+second_end_reading : (reading : ℕ) (table : Descriptors) (fds : Ends) → second_end reading table ≡ Ok fds → reading ≡ fds.reading
+second_end_reading reading table fds e =
     bind_ok (or_refuse (free_from table (reading + 1)) (refusal.Errno Emfile)) _ fds (reading ≡ fds.reading) e (λ writing p q. ap reading_of q)
 
-second_end-writing : (reading : ℕ) (table : Descriptors) (fds : Ends) → second_end reading table ≡ Ok fds → free_from table (reading + 1) ≡ Some fds.writing
-second_end-writing reading table fds e =
+second_end_writing : (reading : ℕ) (table : Descriptors) (fds : Ends) → second_end reading table ≡ Ok fds → free_from table (reading + 1) ≡ Some fds.writing
+second_end_writing reading table fds e =
     bind_ok (or_refuse (free_from table (reading + 1)) (refusal.Errno Emfile)) _ fds (free_from table (reading + 1) ≡ Some fds.writing) e
     (λ writing p q. or_refuse_ok (free_from table (reading + 1)) (refusal.Errno Emfile) writing p ∙ ap (λ (n : ℕ). Some n) (ap writing_of q))
 
-pub pipe2-reading : (at flags : ℕ) (task : Task) (fds : Ends) → pipe2_asked at flags task ≡ Ok fds → IsLowestFree task.table fds.reading
-pipe2-reading at flags task fds e =
+pub pipe2_reading : (at flags : ℕ) (task : Task) (fds : Ends) → pipe2_asked at flags task ≡ Ok fds → IsLowestFree task.table fds.reading
+pipe2_reading at flags task fds e =
     bind_ok (or_refuse (lowest_free task.table) (refusal.Errno Emfile)) _ fds (IsLowestFree task.table fds.reading)
     (then_ok (refuse_if (not (can_write 8 at task.memory)) (refusal.Errno Efault)) _ fds (then_ok (refuse_if (not (beside_open flags == 0)) (refusal.Errno Einval)) _ fds e))
-    (λ reading p q. lowest_free-IsLowestFree task.table fds.reading
-    (or_refuse_ok (lowest_free task.table) (refusal.Errno Emfile) reading p ∙ ap (λ (n : ℕ). Some n) (second_end-reading reading task.table fds q)))
+    (λ reading p q. lowest_free_IsLowestFree task.table fds.reading
+    (or_refuse_ok (lowest_free task.table) (refusal.Errno Emfile) reading p ∙ ap (λ (n : ℕ). Some n) (second_end_reading reading task.table fds q)))
 
-pub pipe2-writing : (at flags : ℕ) (task : Task) (fds : Ends) → pipe2_asked at flags task ≡ Ok fds
+pub pipe2_writing : (at flags : ℕ) (task : Task) (fds : Ends) → pipe2_asked at flags task ≡ Ok fds
     → IsFirstFree task.table (fds.reading + 1) (limit - (fds.reading + 1)) fds.writing
-pipe2-writing at flags task fds e =
+pipe2_writing at flags task fds e =
     bind_ok (or_refuse (lowest_free task.table) (refusal.Errno Emfile)) _ fds (IsFirstFree task.table (fds.reading + 1) (limit - (fds.reading + 1)) fds.writing)
     (then_ok (refuse_if (not (can_write 8 at task.memory)) (refusal.Errno Efault)) _ fds (then_ok (refuse_if (not (beside_open flags == 0)) (refusal.Errno Einval)) _ fds e))
-    (λ reading p q. first_free-IsFirstFree task.table (fds.reading + 1) (limit - (fds.reading + 1)) fds.writing
-    (ap (λ (n : ℕ). free_from task.table (n + 1)) (sym (second_end-reading reading task.table fds q)) ∙ second_end-writing reading task.table fds q))
+    (λ reading p q. first_free_IsFirstFree task.table (fds.reading + 1) (limit - (fds.reading + 1)) fds.writing
+    (ap (λ (n : ℕ). free_from task.table (n + 1)) (sym (second_end_reading reading task.table fds q)) ∙ second_end_writing reading task.table fds q))

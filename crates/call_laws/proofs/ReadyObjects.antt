@@ -84,9 +84,9 @@ drained true false = refl
 drained false true = refl
 drained false false = refl
 
-pub read_end-tells : (o : Option PipeState) → Tells (or_refuse o (refusal.Errno Ebadf) >>= λ p. waits_if (is_drained p)) (has 1 (pipe_ready o Reading) || has_no_writer o)
-read_end-tells None = tt
-read_end-tells (Some p) =
+pub read_end_tells : (o : Option PipeState) → Tells (or_refuse o (refusal.Errno Ebadf) >>= λ p. waits_if (is_drained p)) (has 1 (pipe_ready o Reading) || has_no_writer o)
+read_end_tells None = tt
+read_end_tells (Some p) =
     tells_if (is_drained p) _ (drained (length p.bytes == 0) p.has_writer
     ∙ ap (λ (b : Bool). b || not p.has_writer) (not_zero (length p.bytes) ∙ sym (in_pipe (nat_lt 0 (length p.bytes)) p.has_writer)))
 
@@ -109,10 +109,10 @@ write_pipe : (some full reader : Bool) → Tells (refuse_if (not reader) (broken
 write_pipe some full false = let_go (not some) (not full)
 write_pipe some full true = tells_if (some && full) _ (crowded some full)
 
-pub write_end-tells : (o : Option PipeState) (some : Bool) → Tells (or_refuse o (refusal.Errno Ebadf) >>= λ p. refuse_if (not p.has_reader) (broken_pipe false) >> waits_if (some && (room p == 0)))
+pub write_end_tells : (o : Option PipeState) (some : Bool) → Tells (or_refuse o (refusal.Errno Ebadf) >>= λ p. refuse_if (not p.has_reader) (broken_pipe false) >> waits_if (some && (room p == 0)))
     (not some || (has 4 (pipe_ready o Writing) || has_no_reader o))
-write_end-tells None some = tt
-write_end-tells (Some p) some =
+write_end_tells None some = tt
+write_end_tells (Some p) some =
     let same : not (room p == 0) ≡ has 4 (pipe_ready (Some p) Writing) = is_full (length p.bytes) ∙ sym (out_pipe (nat_lt (length p.bytes) 65536) p.has_reader) in
     subst (λ (b : Bool). Tells (refuse_if (not p.has_reader) (broken_pipe false) >> waits_if (some && (room p == 0))) (not some || (b || not p.has_reader))) same
     (write_pipe some (room p == 0) p.has_reader)
@@ -126,8 +126,8 @@ or_nothing : (b : Bool) → b ≡ (b || false)
 or_nothing true = refl
 or_nothing false = refl
 
-pub timer-tells : (count : ℕ) → Tells (waits_if (count == 0)) (has 1 (bit_if (nat_lt 0 count) 1) || false)
-timer-tells count = tells_if (count == 0) _ (not_zero count ∙ sym (in_timer (nat_lt 0 count)) ∙ or_nothing (has 1 (bit_if (nat_lt 0 count) 1)))
+pub timer_tells : (count : ℕ) → Tells (waits_if (count == 0)) (has 1 (bit_if (nat_lt 0 count) 1) || false)
+timer_tells count = tells_if (count == 0) _ (not_zero count ∙ sym (in_timer (nat_lt 0 count)) ∙ or_nothing (has 1 (bit_if (nat_lt 0 count) 1)))
 
 -- eventfds
 in_eventfd : (some space : Bool) → has 1 (bit_of 1 some + bit_of 4 space) ≡ some
@@ -136,9 +136,9 @@ in_eventfd true false = refl
 in_eventfd false true = refl
 in_eventfd false false = refl
 
-pub eventfd_read-tells : (o : Option Eventfd) → Tells (or_refuse o (refusal.Errno Ebadf) >>= λ e. waits_if (e.count == 0)) (has 1 (eventfd_ready o) || false)
-eventfd_read-tells None = tt
-eventfd_read-tells (Some e) =
+pub eventfd_read_tells : (o : Option Eventfd) → Tells (or_refuse o (refusal.Errno Ebadf) >>= λ e. waits_if (e.count == 0)) (has 1 (eventfd_ready o) || false)
+eventfd_read_tells None = tt
+eventfd_read_tells (Some e) =
     tells_if (e.count == 0) _ (not_zero e.count ∙ sym (in_eventfd (nat_lt 0 e.count) (nat_lt e.count eventfd.most)) ∙ or_nothing (has 1 (eventfd_ready (Some e))))
 
 -- epolls
@@ -147,14 +147,14 @@ due_or_come true come deadline = refl
 due_or_come false true deadline = refl
 due_or_come false false deadline = refl
 
-has_due-is : (now : Time) (s : Scene) (slot : Option (List Watch)) → has_due now s slot ≡ has 1 (epoll_ready now s slot)
-has_due-is now s None = refl
-has_due-is now s (Some entries) = sym (in_timer (some_due now s entries))
+has_due_is : (now : Time) (s : Scene) (slot : Option (List Watch)) → has_due now s slot ≡ has 1 (epoll_ready now s slot)
+has_due_is now s None = refl
+has_due_is now s (Some entries) = sym (in_timer (some_due now s entries))
 
-pub epoll-tells : (now : Time) (deadline : Option Time) (k : ℕ) (s : Scene)
+pub epoll_tells : (now : Time) (deadline : Option Time) (k : ℕ) (s : Scene)
     → Tells (waits_for now deadline k s) (has 1 (epoll_ready now s (epoll_at k s.task.epolls)) || has_come now deadline)
-epoll-tells now deadline k s =
-    subst (λ (b : Bool). Tells (waits_for now deadline k s) (b || has_come now deadline)) (has_due-is now s (epoll_at k s.task.epolls))
+epoll_tells now deadline k s =
+    subst (λ (b : Bool). Tells (waits_for now deadline k s) (b || has_come now deadline)) (has_due_is now s (epoll_at k s.task.epolls))
     (due_or_come (has_due now s (epoll_at k s.task.epolls)) (has_come now deadline) deadline)
 
 not_not : (b : Bool) → not (not b) ≡ b
@@ -169,8 +169,8 @@ past_none : (none : Bool) (q : Result (Unit {0}) Refusal) (holds : Bool) → Tel
 past_none true q holds h = tt
 past_none false q holds h = h
 
-pub fits-tells : (number : ℕ) (slot : Option Eventfd) → Tells (number_fits number slot) (room_in number slot)
-fits-tells number slot = past_none _ _ (room_in number slot) (fits_in number slot)
+pub fits_tells : (number : ℕ) (slot : Option Eventfd) → Tells (number_fits number slot) (room_in number slot)
+fits_tells number slot = past_none _ _ (room_in number slot) (fits_in number slot)
 
 -- UDP sockets
 in_udp : (some : Bool) → not (not some) ≡ (has 1 (if some then 5 else 4) || false)
@@ -181,13 +181,13 @@ out_udp : (some : Bool) → has 4 (if some then 5 else 4) ≡ true
 out_udp true = refl
 out_udp false = refl
 
-pub recv_udp-tells : (o : Option UdpState) → Tells (recv_asked_in o) (has 1 (udp_ready_in o) || false)
-recv_udp-tells None = tt
-recv_udp-tells (Some u) = tells_if (not (nat_lt 0 (length u.waiting))) _ (in_udp (nat_lt 0 (length u.waiting)))
+pub recv_udp_tells : (o : Option UdpState) → Tells (recv_asked_in o) (has 1 (udp_ready_in o) || false)
+recv_udp_tells None = tt
+recv_udp_tells (Some u) = tells_if (not (nat_lt 0 (length u.waiting))) _ (in_udp (nat_lt 0 (length u.waiting)))
 
-pub send_udp-holds : (o : Option UdpState) → IsSome o → has 4 (udp_ready_in o) ≡ true
-send_udp-holds None h = let no : ⊥ = cc in absurd no
-send_udp-holds (Some u) h = out_udp (nat_lt 0 (length u.waiting))
+pub send_udp_holds : (o : Option UdpState) → IsSome o → has 4 (udp_ready_in o) ≡ true
+send_udp_holds None h = let no : ⊥ = cc in absurd no
+send_udp_holds (Some u) h = out_udp (nat_lt 0 (length u.waiting))
 
 -- connections: the bits of their readiness
 in_bits : (a b c d : Bool) → has 1 (bit_or (bit_or (bit_if a 1) (bit_if b 4)) (bit_or (bit_if c 8) (bit_if d 16))) ≡ a
@@ -226,13 +226,13 @@ out_bits false false true false = refl
 out_bits false false false true = refl
 out_bits false false false false = refl
 
-in-open : (r : Tcb) → is_opening r.control.state ≡ false → has 1 (readiness r) ≡ can_read r
+in_open : (r : Tcb) → is_opening r.control.state ≡ false → has 1 (readiness r) ≡ can_read r
 unfolding readiness
-in-open r e = rw e (in_bits _ _ _ _)
+in_open r e = rw e (in_bits _ _ _ _)
 
-out-open : (r : Tcb) → is_opening r.control.state ≡ false → has 4 (readiness r) ≡ can_write r
+out_open : (r : Tcb) → is_opening r.control.state ≡ false → has 4 (readiness r) ≡ can_write r
 unfolding readiness
-out-open r e = rw e (out_bits _ _ _ _)
+out_open r e = rw e (out_bits _ _ _ _)
 
 not_opening : (state : TcpState) → is_syn_sent state ≡ false → is_syn_received state ≡ false → is_opening state ≡ false
 not_opening SynSent e f = cc
@@ -252,8 +252,8 @@ is_not : (b : Bool) → (b ≡ true → ⊥) → b ≡ false
 is_not true h = absurd (h refl)
 is_not false h = refl
 
-keeps-open : (r : Tcb) (errno : Errno) → IsOwnRecord r → r.control.error ≡ Some errno → is_opening r.control.state ≡ false
-keeps-open r errno own e = not_opening r.control.state (is_not (is_syn_sent r.control.state) (λ sent. let none : r.control.error ≡ None = own.no_error sent in cc)) own.is_own
+keeps_open : (r : Tcb) (errno : Errno) → IsOwnRecord r → r.control.error ≡ Some errno → is_opening r.control.state ≡ false
+keeps_open r errno own e = not_opening r.control.state (is_not (is_syn_sent r.control.state) (λ sent. let none : r.control.error ≡ None = own.no_error sent in cc)) own.is_own
 
 -- reading
 recv_holds : (a f e o : Bool) → ((a || ((f || e) || true)) || o) ≡ true
@@ -295,14 +295,14 @@ recv_same false false false false = refl
 recv_by : (r : Tcb) (error : Option Errno) (sent : Bool) → IsOwnRecord r → r.control.error ≡ error → is_syn_sent r.control.state ≡ sent
     → Tells (stop_kept error >> (or_refuse (if sent then None else Some r) (refusal.Errno Enotconn) >>= λ x. waits_if (not (would_read x)))) (has 1 (readiness r) || is_over r.control.state)
 recv_by r (Some errno) sent own e f =
-    ap (λ (b : Bool). b || is_over r.control.state) (in-open r (keeps-open r errno own e))
+    ap (λ (b : Bool). b || is_over r.control.state) (in_open r (keeps_open r errno own e))
     ∙ ap (λ (x : Option Errno). (nat_lt 0 (unread r) || ((r.control.fin_taken || r.control.reading_ended) || is_some x)) || is_over r.control.state) e
     ∙ recv_holds (nat_lt 0 (unread r)) r.control.fin_taken r.control.reading_ended (is_over r.control.state)
 recv_by r None true own e f = tt
 recv_by r None false own e f =
     tells_if (not (would_read r)) _ (recv_same (nat_lt 0 (unread r)) r.control.fin_taken r.control.reading_ended (is_over r.control.state)
     ∙ ap (λ (x : Option Errno). (nat_lt 0 (unread r) || ((r.control.fin_taken || r.control.reading_ended) || is_some x)) || is_over r.control.state) (sym e)
-    ∙ ap (λ (b : Bool). b || is_over r.control.state) (sym (in-open r (not_opening r.control.state f own.is_own))))
+    ∙ ap (λ (b : Bool). b || is_over r.control.state) (sym (in_open r (not_opening r.control.state f own.is_own))))
 
 recv_of : (tcb : Option Tcb) (listen : Option Listen) → AreWhole tcb listen → Tells (may_recv tcb) (has 1 (ready_of tcb listen) || record_is_over tcb)
 recv_of None None whole = tt
@@ -310,9 +310,9 @@ recv_of None (Some l) whole = tt
 recv_of (Some r) None own = recv_by r r.control.error (is_syn_sent r.control.state) own refl refl
 recv_of (Some r) (Some l) whole = absurd whole
 
-pub recv-tells : (o : Option TcpSocket) → IsWholeSocket o → Tells (or_refuse o (refusal.Errno Ebadf) >>= λ s. may_recv s.tcb) (has 1 (ready_in o) || record_is_over (tcb_in o))
-recv-tells None whole = absurd whole
-recv-tells (Some s) whole = recv_of s.tcb s.listen whole
+pub recv_tells : (o : Option TcpSocket) → IsWholeSocket o → Tells (or_refuse o (refusal.Errno Ebadf) >>= λ s. may_recv s.tcb) (has 1 (ready_in o) || record_is_over (tcb_in o))
+recv_tells None whole = absurd whole
+recv_tells (Some s) whole = recv_of s.tcb s.listen whole
 
 -- writing
 send_holds : (n m f o : Bool) → (not n || ((m || (f || true)) || o)) ≡ true
@@ -387,13 +387,13 @@ holds_out some r = not some || (has 4 (readiness r) || is_over r.control.state)
 
 out_as : (r : Tcb) (some : Bool) → is_opening r.control.state ≡ false
     → holds_out some r ≡ (not some || ((nat_lt 0 (process.room r) || (r.control.fin_wanted || is_some r.control.error)) || is_over r.control.state))
-out_as r some e = ap (λ (b : Bool). not some || (b || is_over r.control.state)) (out-open r e)
+out_as r some e = ap (λ (b : Bool). not some || (b || is_over r.control.state)) (out_open r e)
 
 send_by : (r : Tcb) (some quiet : Bool) (error : Option Errno) (sent : Bool) → IsOwnRecord r → r.control.error ≡ error → is_syn_sent r.control.state ≡ sent
     → Tells (stop_kept error >> (or_refuse (if sent then None else Some r) (refusal.Errno Enotconn) >>= λ x. refuse_if (not (takes_bytes x.control)) (broken_pipe quiet) >> waits_if (some && (process.room x == 0))))
     (holds_out some r)
 send_by r some quiet (Some errno) sent own e f =
-    out_as r some (keeps-open r errno own e)
+    out_as r some (keeps_open r errno own e)
     ∙ ap (λ (x : Option Errno). not some || ((nat_lt 0 (process.room r) || (r.control.fin_wanted || is_some x)) || is_over r.control.state)) e
     ∙ send_holds some (nat_lt 0 (process.room r)) r.control.fin_wanted (is_over r.control.state)
 send_by r some quiet None true own e f = tt
@@ -446,15 +446,15 @@ accept_of (Some r) None whole = tt
 accept_of None (Some l) whole = tells_if (is_none (accepts l)) _ (queue_waits l whole ∙ sym (in_timer (nat_lt 0 (length l.accept_queue))))
 accept_of (Some r) (Some l) whole = absurd whole
 
-pub accept-tells : (o : Option TcpSocket) → IsWholeSocket o
+pub accept_tells : (o : Option TcpSocket) → IsWholeSocket o
     → Tells ((or_refuse o (refusal.Errno Ebadf) >>= λ s. refuse_if (is_none s.listen) (refusal.Errno Einval)) >> waits_if (is_none (accepts_of o))) (has 1 (ready_in o))
-accept-tells None whole = absurd whole
-accept-tells (Some s) whole = accept_of s.tcb s.listen whole
+accept_tells None whole = absurd whole
+accept_tells (Some s) whole = accept_of s.tcb s.listen whole
 
-pub send-tells : (o : Option TcpSocket) (some quiet : Bool) → IsWholeSocket o
+pub send_tells : (o : Option TcpSocket) (some quiet : Bool) → IsWholeSocket o
     → Tells (or_refuse o (refusal.Errno Ebadf) >>= λ s. may_write_by some quiet s.tcb) (not some || (has 4 (ready_in o) || record_is_over (tcb_in o)))
-send-tells None some quiet whole = absurd whole
-send-tells (Some s) some quiet whole = send_of s.tcb s.listen some quiet whole
+send_tells None some quiet whole = absurd whole
+send_tells (Some s) some quiet whole = send_of s.tcb s.listen some quiet whole
 
 -- connecting
 connect_by : (sent : Bool) (error : Option Errno) → Tells (waits_if sent >> stop_kept error) (not sent)
@@ -466,6 +466,6 @@ connect_of : (tcb : Option Tcb) → Tells (connect_ends tcb) (not (is_connecting
 connect_of None = tt
 connect_of (Some r) = connect_by (is_syn_sent r.control.state) (connect_error r)
 
-pub connect-tells : (o : Option TcpSocket) → Tells (or_refuse o (refusal.Errno Ebadf) >>= λ s. connect_ends s.tcb) (not (is_connecting (tcb_in o)))
-connect-tells None = tt
-connect-tells (Some s) = connect_of s.tcb
+pub connect_tells : (o : Option TcpSocket) → Tells (or_refuse o (refusal.Errno Ebadf) >>= λ s. connect_ends s.tcb) (not (is_connecting (tcb_in o)))
+connect_tells None = tt
+connect_tells (Some s) = connect_of s.tcb

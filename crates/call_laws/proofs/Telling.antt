@@ -55,8 +55,8 @@ roomy_place true shut p h = tt
 roomy_place false true p h = tt
 roomy_place false false p h = h refl
 
-wait_place-roomy : (epfd at count : ℕ) (task : Task) (shared : Shared) → Roomy (wait_place epfd at count (task, shared))
-wait_place-roomy epfd at count task shared =
+wait_place_roomy : (epfd at count : ℕ) (task : Task) (shared : Shared) → Roomy (wait_place epfd at count (task, shared))
+wait_place_roomy epfd at count task shared =
     roomy_bind (descriptor epfd task shared.files) _ (λ d. roomy_bind (epoll_number d.file.object) _ (λ place.
     roomy_place (count == 0 || is_negative count) (not (can_write (event_size * min count most_told) at task.memory)) (record { place = place; at = at; room = min count most_told })
     (some_room count (is_negative count))))
@@ -73,6 +73,6 @@ told_after : (r : Result WaitPlan Refusal) (q : WaitPlan → Result (Unit {0}) R
 told_after (Ok p) q now s some = told_then (q p) now s p some
 told_after (Err x) q now s some = tt
 
-pub waits-tell : (now : Time) (epfd at count ms : ℕ) (s : Scene) → IfOk (wait_plan now epfd at count ms s) (TellsDue now s)
-waits-tell now epfd at count ms s =
-    told_after (wait_place epfd at count (s.task, s.shared)) (λ p. waits_for now (wait_deadline now ms s.task) p.place s) now s (wait_place-roomy epfd at count s.task s.shared)
+pub waits_tell_is : (now : Time) (epfd at count ms : ℕ) (s : Scene) → IfOk (wait_plan now epfd at count ms s) (TellsDue now s)
+waits_tell_is now epfd at count ms s =
+    told_after (wait_place epfd at count (s.task, s.shared)) (λ p. waits_for now (wait_deadline now ms s.task) p.place s) now s (wait_place_roomy epfd at count s.task s.shared)

@@ -46,12 +46,12 @@ Same r q = waits_in r ≡ waits_in q
 abbrev pub Never : {A : Type 0} → Result A Refusal → Type 0
 Never r = waits_in r ≡ false
 
-pub is_wait-is : (r : Result Plan Refusal) → is_wait r ≡ waits_in r
-is_wait-is (Ok plan) = refl
-is_wait-is (Err (refusal.Wait until)) = refl
-is_wait-is (Err (refusal.Errno errno)) = refl
-is_wait-is (Err (refusal.Kept errno)) = refl
-is_wait-is (Err (refusal.End state)) = refl
+pub is_wait_is : (r : Result Plan Refusal) → is_wait r ≡ waits_in r
+is_wait_is (Ok plan) = refl
+is_wait_is (Err (refusal.Wait until)) = refl
+is_wait_is (Err (refusal.Errno errno)) = refl
+is_wait_is (Err (refusal.Kept errno)) = refl
+is_wait_is (Err (refusal.End state)) = refl
 
 pub never_bind : {A B : Type 0} (r : Result A Refusal) (f : A → Result B Refusal) → Never r → ((a : A) → Never (f a)) → Never (r >>= f)
 never_bind (Ok a) f h k = k a
@@ -108,51 +108,51 @@ never_not false = refl
 pub never_again : {A : Type 0} (b : Bool) (r : Result A Refusal) → Never r → Never (or_again b r)
 never_again b r h = again_is b r ∙ ap (λ (x : Bool). not b && x) h ∙ never_not b
 
-pub reacts-is : (r : Result (ℕ × Scene) Refusal) → reaction_waits (reacts r) ≡ waits_in r
-reacts-is (Ok (value, s)) = refl
-reacts-is (Err r) = refl
+pub reacts_is : (r : Result (ℕ × Scene) Refusal) → reaction_waits (reacts r) ≡ waits_in r
+reacts_is (Ok (value, s)) = refl
+reacts_is (Err r) = refl
 
-pub plainly-is : {A : Type 0} (r : Result (A × Local) Refusal) (s : Scene) → Same (plainly r s) r
-plainly-is (Ok (a, local)) s = refl
-plainly-is (Err r) s = refl
+pub plainly_is : {A : Type 0} (r : Result (A × Local) Refusal) (s : Scene) → Same (plainly r s) r
+plainly_is (Ok (a, local)) s = refl
+plainly_is (Err r) s = refl
 
 -- looking a descriptor up
-descriptor_by-never : (o : Option ObjectId) (files : FilesState) → Never (descriptor_by o files)
-descriptor_by-never None files = refl
-descriptor_by-never (Some id) files = never_bind (or_refuse (file_at id files) (refusal.Errno Ebadf)) _ (never_or_refuse (file_at id files) Ebadf) (λ file. refl)
+descriptor_by_never : (o : Option ObjectId) (files : FilesState) → Never (descriptor_by o files)
+descriptor_by_never None files = refl
+descriptor_by_never (Some id) files = never_bind (or_refuse (file_at id files) (refusal.Errno Ebadf)) _ (never_or_refuse (file_at id files) Ebadf) (λ file. refl)
 
-pub descriptor-never : (fd : ℕ) (task : Task) (files : FilesState) → Never (descriptor fd task files)
-descriptor-never fd task files = descriptor_by-never (map.get task.table fd) files
+pub descriptor_never : (fd : ℕ) (task : Task) (files : FilesState) → Never (descriptor fd task files)
+descriptor_never fd task files = descriptor_by_never (map.get task.table fd) files
 
-pub socket_number-never : (object : Object) → Never (socket_number object)
-socket_number-never kind.Input = refl
-socket_number-never kind.Output = refl
-socket_number-never kind.Errors = refl
-socket_number-never (kind.Hosts read) = refl
-socket_number-never (kind.ReadEnd k) = refl
-socket_number-never (kind.WriteEnd k) = refl
-socket_number-never (kind.Timer k) = refl
-socket_number-never (kind.Eventfd k) = refl
-socket_number-never (kind.Epoll k) = refl
-socket_number-never (kind.Udp k) = refl
-socket_number-never (kind.Tcp k) = refl
+pub socket_number_never : (object : Object) → Never (socket_number object)
+socket_number_never kind.Input = refl
+socket_number_never kind.Output = refl
+socket_number_never kind.Errors = refl
+socket_number_never (kind.Hosts read) = refl
+socket_number_never (kind.ReadEnd k) = refl
+socket_number_never (kind.WriteEnd k) = refl
+socket_number_never (kind.Timer k) = refl
+socket_number_never (kind.Eventfd k) = refl
+socket_number_never (kind.Epoll k) = refl
+socket_number_never (kind.Udp k) = refl
+socket_number_never (kind.Tcp k) = refl
 
-pub epoll_number-never : (object : Object) → Never (epoll_number object)
-epoll_number-never kind.Input = refl
-epoll_number-never kind.Output = refl
-epoll_number-never kind.Errors = refl
-epoll_number-never (kind.Hosts read) = refl
-epoll_number-never (kind.ReadEnd k) = refl
-epoll_number-never (kind.WriteEnd k) = refl
-epoll_number-never (kind.Timer k) = refl
-epoll_number-never (kind.Eventfd k) = refl
-epoll_number-never (kind.Epoll k) = refl
-epoll_number-never (kind.Udp k) = refl
-epoll_number-never (kind.Tcp k) = refl
+pub epoll_number_never : (object : Object) → Never (epoll_number object)
+epoll_number_never kind.Input = refl
+epoll_number_never kind.Output = refl
+epoll_number_never kind.Errors = refl
+epoll_number_never (kind.Hosts read) = refl
+epoll_number_never (kind.ReadEnd k) = refl
+epoll_number_never (kind.WriteEnd k) = refl
+epoll_number_never (kind.Timer k) = refl
+epoll_number_never (kind.Eventfd k) = refl
+epoll_number_never (kind.Epoll k) = refl
+epoll_number_never (kind.Udp k) = refl
+epoll_number_never (kind.Tcp k) = refl
 
-pub open_socket-never : (fd : ℕ) (task : Task) (shared : Shared) → Never (open_socket fd (task, shared))
-open_socket-never fd task shared =
-    never_bind (descriptor fd task shared.files) _ (descriptor-never fd task shared.files) (λ d. never_bind (socket_number d.file.object) _ (socket_number-never d.file.object) (λ n. refl))
+pub open_socket_never : (fd : ℕ) (task : Task) (shared : Shared) → Never (open_socket fd (task, shared))
+open_socket_never fd task shared =
+    never_bind (descriptor fd task shared.files) _ (descriptor_never fd task shared.files) (λ d. never_bind (socket_number d.file.object) _ (socket_number_never d.file.object) (λ n. refl))
 
 -- a row waits nowhere but where it is asked
 pub asked_then : {A : Type 0} (r : Result A Refusal) (f : A → Result (Reaction × Scene) Refusal) → IfOk r (λ a. reaction_waits (f a) ≡ false) → reaction_waits (r >>= f) ≡ waits_in r
@@ -177,23 +177,23 @@ pub ok_never : {A : Type 0} (b : Bool) (r : Result A Refusal) (a : A) → or_aga
 ok_never b (Ok c) a e = refl
 ok_never b (Err x) a e = cc
 
-pub kept-never : (r : Result (Unit {0}) Refusal) (u : Unit {0}) → kept_answers r ≡ Ok u → Never r
-kept-never (Ok c) u e = refl
-kept-never (Err (refusal.Kept errno)) u e = refl
-kept-never (Err (refusal.Wait until)) u e = cc
-kept-never (Err (refusal.Errno errno)) u e = refl
-kept-never (Err (refusal.End state)) u e = refl
+pub kept_never : (r : Result (Unit {0}) Refusal) (u : Unit {0}) → kept_answers r ≡ Ok u → Never r
+kept_never (Ok c) u e = refl
+kept_never (Err (refusal.Kept errno)) u e = refl
+kept_never (Err (refusal.Wait until)) u e = cc
+kept_never (Err (refusal.Errno errno)) u e = refl
+kept_never (Err (refusal.End state)) u e = refl
 
-pub again_kept-never : (b : Bool) (r : Result (Unit {0}) Refusal) (u : Unit {0}) → or_again b (kept_answers r) ≡ Ok u → Never r
-again_kept-never b (Ok c) u e = refl
-again_kept-never b (Err (refusal.Kept errno)) u e = refl
-again_kept-never b (Err (refusal.Wait until)) u e = cc
-again_kept-never b (Err (refusal.Errno errno)) u e = refl
-again_kept-never b (Err (refusal.End state)) u e = refl
+pub again_kept_never : (b : Bool) (r : Result (Unit {0}) Refusal) (u : Unit {0}) → or_again b (kept_answers r) ≡ Ok u → Never r
+again_kept_never b (Ok c) u e = refl
+again_kept_never b (Err (refusal.Kept errno)) u e = refl
+again_kept_never b (Err (refusal.Wait until)) u e = cc
+again_kept_never b (Err (refusal.Errno errno)) u e = refl
+again_kept_never b (Err (refusal.End state)) u e = refl
 
 -- bytes that are read
-pub span-never : {A : Type 0} (o : Option (List ℕ)) (f : List ℕ → Result A Refusal) → ((bytes : List ℕ) → o ≡ Some bytes → Never (f bytes)) → Never (or_refuse o (refusal.Errno Efault) >>= f)
-span-never None f k = refl
-span-never (Some bytes) f k = k bytes refl
+pub span_never : {A : Type 0} (o : Option (List ℕ)) (f : List ℕ → Result A Refusal) → ((bytes : List ℕ) → o ≡ Some bytes → Never (f bytes)) → Never (or_refuse o (refusal.Errno Efault) >>= f)
+span_never None f k = refl
+span_never (Some bytes) f k = k bytes refl
 
-pub ruleset nevers = (never_bind, never_then, never_if, never_or_refuse, never_refuse_if, never_again, descriptor-never, socket_number-never, open_socket-never)
+pub ruleset nevers = (never_bind, never_then, never_if, never_or_refuse, never_refuse_if, never_again, descriptor_never, socket_number_never, open_socket_never)

@@ -35,7 +35,7 @@ use Rattle.file_calls.specs.Times.{timer_object, at_nanos, clock_gettime, timer_
 use Rattle.host_calls.specs.Calls.{arg, plain_row}
 use Rattle.socket_laws.specs.Histories.{left_by}
 use Rattle.socket_streams.specs.Records.{packets_of}
-use Rattle.socket_streams.proofs.Wants.{alarm-packets}
+use Rattle.socket_streams.proofs.Wants.{alarm_packets}
 
 -- whatever a row leaves wants the same packets
 pub record Rests {A : Type 0} (w : Wanted) (row : Result (A × Local) Refusal) : Type 0 where
@@ -72,19 +72,19 @@ fcntl_rests command flags d task shared =
     (λ n. refused_rests shared.outlet _))))
 
 -- getrandom(2): words are drawn
-words-packets : (count : ℕ) (w : Wanted) → packets_of (words count w).1 ≡ packets_of w
-words-packets zero w = refl
-words-packets (suc count) w = words-packets count (draws_word w).1
+words_packets : (count : ℕ) (w : Wanted) → packets_of (words count w).1 ≡ packets_of w
+words_packets zero w = refl
+words_packets (suc count) w = words_packets count (draws_word w).1
 
 -- timerfd_settime(2): an alarm is wanted
-sets-packets : (now : Time) (k old first interval : ℕ) (shared : Shared) → packets_of (sets now k old first interval shared).outlet ≡ packets_of shared.outlet
-sets-packets now k old first interval shared =
+sets_packets : (now : Time) (k old first interval : ℕ) (shared : Shared) → packets_of (sets now k old first interval shared).outlet ≡ packets_of shared.outlet
+sets_packets now k old first interval shared =
     by_test (λ (x : Shared). packets_of x.outlet ≡ packets_of shared.outlet) (first == 0) _ _
     (λ e. refl)
-    (λ e. alarm-packets (timer_object k) (at_nanos first) shared.outlet)
+    (λ e. alarm_packets (timer_object k) (at_nanos first) shared.outlet)
 
-set_by-packets : (now : Time) (flags : ℕ) (old : OldTimer) (setting : Setting) (shared : Shared) → packets_of (set_by now flags old setting shared).outlet ≡ packets_of shared.outlet
-set_by-packets now flags old setting shared = sets-packets now old.place old.serial _ _ shared
+set_by_packets : (now : Time) (flags : ℕ) (old : OldTimer) (setting : Setting) (shared : Shared) → packets_of (set_by now flags old setting shared).outlet ≡ packets_of shared.outlet
+set_by_packets now flags old setting shared = sets_packets now old.place old.serial _ _ shared
 
 -- read(2) and write(2) where no socket is meant
 read_rests_by : (text : List ℕ) (now : Time) (d : Descriptor) (object : Object) (at count : ℕ) (task : Task) (shared : Shared) → packets_of (is_read_by text now d object at count (task, shared)).1.1.outlet ≡ packets_of shared.outlet
@@ -147,7 +147,7 @@ getrandom_rests at n flags task shared =
     let drawn = random_told at count (words (words_in count) shared.outlet) (task, shared) in
     tries_rests shared.outlet (refuse_if (nat_lt (grnd_nonblock + grnd_random) flags) (Errno Einval)) _
     (tries_rests shared.outlet (refuse_if (not (can_write count at task.memory)) (Errno Efault)) (Ok (count, drawn))
-    (answers_rest shared.outlet count drawn (words-packets (words_in count) shared.outlet)))
+    (answers_rest shared.outlet count drawn (words_packets (words_in count) shared.outlet)))
 
 gettime_rests : (now : Time) (clock at : ℕ) (task : Task) (shared : Shared) → Rests shared.outlet (clock_gettime now clock at (task, shared))
 gettime_rests now clock at task shared =
@@ -171,7 +171,7 @@ settime_rests : (now : Time) (fd flags at old_at : ℕ) (task : Task) (shared : 
 settime_rests now fd flags at old_at task shared =
     asks_rests shared.outlet (old_timer now fd task shared.files) _
     (λ old. asks_rests shared.outlet (settime_asked flags at old_at task) _
-    (λ setting. answers_rest shared.outlet 0 (tell_setting old_at old.setting (task, set_by now flags old setting shared)) (set_by-packets now flags old setting shared)))
+    (λ setting. answers_rest shared.outlet 0 (tell_setting old_at old.setting (task, set_by now flags old setting shared)) (set_by_packets now flags old setting shared)))
 
 -- each of the plain calls
 pub plain_rests : (now : Time) (process : ℕ) (call : PlainCall) (args : List ℕ) (task : Task) (shared : Shared) → Rests shared.outlet (plain_row now process call args (task, shared))

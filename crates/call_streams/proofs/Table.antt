@@ -48,7 +48,7 @@ use Rattle.socket_laws.specs.Histories.{SocketsAct as act}
 use Rattle.socket_streams.specs.Records.{packets_of}
 use Rattle.socket_streams.specs.May.{Moves, MovesFreely}
 use Rattle.socket_streams.proofs.Moving.{moves_none, moves_by, moves_both, moves_quietly}
-use Rattle.socket_streams.proofs.Wants.{alarm-packets}
+use Rattle.socket_streams.proofs.Wants.{alarm_packets}
 use Rattle.call_streams.specs.Parts.{sockets_in}
 use Rattle.call_streams.proofs.PlainRows.{plain_rests, reads_rest, writes_rest}
 use Rattle.call_streams.proofs.Rows.{sockets_at, RowMoves, answers, refused, asks, reacting, plain_moves}
@@ -99,7 +99,7 @@ module _ (hosts : List Ip) (flying : List Packet) where
   -- a call that waits wants an alarm
   alarm_quiet : (process : ℕ) (deadline : Option Time) (shared : Shared) → packets_of (with_alarm process deadline shared).outlet ≡ packets_of shared.outlet
   alarm_quiet process None shared = refl
-  alarm_quiet process (Some deadline) shared = alarm-packets (deadline_object process) deadline shared.outlet
+  alarm_quiet process (Some deadline) shared = alarm_packets (deadline_object process) deadline shared.outlet
 
   blocks_quiet : (process : ℕ) (why : Why) (kept : Option Why) (task : Task) (shared : Shared) → packets_of (blocks_by process why kept (task, shared)).1.1.outlet ≡ packets_of shared.outlet
   blocks_quiet process why None task shared = alarm_quiet process why.deadline shared
@@ -152,7 +152,7 @@ module _ (hosts : List Ip) (flying : List Packet) where
   -- an alarm
   rings_quiet : (k : ℕ) (o : Option ℕ) (shared : Shared) → packets_of (rings_at k o shared).outlet ≡ packets_of shared.outlet
   rings_quiet k None shared = refl
-  rings_quiet k (Some due) shared = alarm-packets (timer_object k) (at_nanos due) shared.outlet
+  rings_quiet k (Some due) shared = alarm_packets (timer_object k) (at_nanos due) shared.outlet
 
   rung_moves : (now : Time) (object : ObjectId) (serial : ℕ) (h : PartsRecord) → M (sockets_in h) (sockets_in (rung now object serial h))
   rung_moves now object serial h =

@@ -8,7 +8,7 @@ use Rattle.sim_base.specs.declared.act.Act.TheVariants.{Send, Recv, SockFull, No
 use Rattle.sim_base.specs.declared.address.Ip.{Ip}
 use Rattle.sim_base.specs.declared.event.What.{What}
 use Rattle.sim_base.specs.declared.packet.Packet.{Packet}
-use Rattle.tcp_streams.proofs.Members.{Contains-here, Contains-there}
+use Rattle.tcp_streams.proofs.Members.{Contains_here, Contains_there}
 use Rattle.run_files.specs.Captures.{is_at, is_sent, passes, is_on_lo, lo_of}
 use Rattle.host_state.specs.HostRecord.{HostRecord}
 use Rattle.host_link.specs.Logs.{lines_of}
@@ -75,8 +75,8 @@ module _ (net : Net) (rows : List Row) (are : AreHosts net rows) (w : World) (re
   past : (log : List (Logged Line)) → ((l : Logged Line) → Contains log l → Contains w.log l) → filter on_lo (lines_of log) ≡ filter on_past (lines_of log)
   past [] from = refl
   past (l ∷ log) from =
-      let rest = past log (λ x c. from x (Contains-there l x log c)) in
-      ap (λ (b : Bool). if b then l.line ∷ filter on_lo (lines_of log) else filter on_lo (lines_of log)) (past_by l (is_at i l.line) refl (from l (Contains-here l log)))
+      let rest = past log (λ x c. from x (Contains_there l x log c)) in
+      ap (λ (b : Bool). if b then l.line ∷ filter on_lo (lines_of log) else filter on_lo (lines_of log)) (past_by l (is_at i l.line) refl (from l (Contains_here l log)))
       ∙ ap (λ (ls : List Line). if on_past l.line then l.line ∷ ls else ls) rest
 
   pub lo_is_past : lo_of i h.row.address (lines_of w.log) ≡ past_of i h.row.address (lines_of w.log)

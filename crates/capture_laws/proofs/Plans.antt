@@ -36,7 +36,7 @@ use Rattle.shd_config.specs.declared.fault.ConfigFault.{ConfigFault}
 use Rattle.shd_config.specs.declared.overrides.Overrides.{Overrides}
 use Rattle.run_outside.specs.Files.{Held}
 use Rattle.stream_lines.proofs.Planned.{asked_is, is_run, no_run}
-use Rattle.text_trees.proofs.TextTrees.{text-plain}
+use Rattle.text_trees.proofs.TextTrees.{text_plain}
 
 -- a plan is that of a configuration of texts over some files, which hold bytes where those that are given do
 pub record IsPlanOver (held : Held) (plan : Plan) : Type 0 where
@@ -53,7 +53,7 @@ pub record IsPlanOver (held : Held) (plan : Plan) : Type 0 where
 text_of_file : (name text : List ℕ) (o : Overrides) (c : Config) → (configured name text o).answers (Ok c) → HasTexts c
 text_of_file name text o c h =
     let is = configured_is name text o c h in
-    subst (λ (read : Result Config ConfigFault). IfOk read HasTexts) is.2 (config_text o _ is.0 (plain_text is.0 (text-plain text is.0 is.1)))
+    subst (λ (read : Result Config ConfigFault). IfOk read HasTexts) is.2 (config_text o _ is.0 (plain_text is.0 (text_plain text is.0 is.1)))
 
 over_file : (held : Held) (name : List ℕ) (c : Config) (plan : Plan) → HasTexts c → (plan_of held name c).answers (Ok plan) → IsPlanOver held plan
 unfolding plan_of

@@ -7,7 +7,7 @@ use Rattle.std.specs.List.{AllByRecursion}
 use Rattle.std.specs.Str.{IsUtf8}
 use Rattle.config_texts.proofs.Lists.{all_pushed, or_none, through_members}
 use Rattle.config_texts.proofs.Trees.{PairIsText, SaidIsText, merged_text}
-use Rattle.shown_config.proofs.plain.SplitWords.{words-has}
+use Rattle.shown_config.proofs.plain.SplitWords.{words_has}
 use Rattle.config_texts.specs.Texts.{AreUtf8, HasTexts, HostIsText, ProcessIsText, VariableIsText}
 use Rattle.shd_config.proofs.Walks.{below_has, checked_has, kept_or_read, needed_has, optional_has, then_all, then_has, valued_has}
 use Rattle.shd_config.specs.Config.{config, experimental_at, general_or, is_passed_over, kept, merged_config, new_root, root, root_key, root_of, root_row, wrong_merge}
@@ -104,7 +104,7 @@ argument_text key before value h k =
 arguments_by : (p : Pair) (items : Option (List Said)) → SaidIsText p.value → IfSome items (λ (xs : List Said). AllByRecursion SaidIsText xs) → IfOk (arguments_in p items) AreUtf8
 arguments_by p (Some items) h k = through_members AreUtf8 SaidIsText (argument_row p.key) (argument_text p.key) [] items tt k
 arguments_by p None h k =
-    then_has IsUtf8 AreUtf8 (text_at p) _ (scalar_text p h) (λ found m. valued_has AreUtf8 BadValue p (words_of found) (words-has found m))
+    then_has IsUtf8 AreUtf8 (text_at p) _ (scalar_text p h) (λ found m. valued_has AreUtf8 BadValue p (words_of found) (words_has found m))
 
 arguments_text : (p : Pair) → SaidIsText p.value → IfOk (arguments_at p) AreUtf8
 unfolding arguments_at

@@ -20,27 +20,27 @@ module _ (bytes : List ℕ) (ss : List ProgramHeader) where
   same_cell : (b byte : ℕ) (r rights : Rights) → b ≡ byte → r ≡ rights → ◌≡◌ {A = Cell} (record { byte = b; rights = r }) (record { byte = byte; rights = rights })
   same_cell b byte r rights e f = cc
 
-  cells_from-is : (rights : Rights) (at : ℕ) (bs : List ℕ)
+  cells_from_is : (rights : Rights) (at : ℕ) (bs : List ℕ)
       → ((i : ℕ) → i < length bs → get_or bs i 0 ≡ byte_at bytes ss (at + i))
       → ((i : ℕ) → i < length bs → rights ≡ rights_at ss ((at + i) / page_size))
       → cells_from rights at bs ≡ map entry (range_with_len at (length bs))
-  cells_from-is rights at [] bytes_are rights_are = refl
-  cells_from-is rights at (b ∷ bs) bytes_are rights_are =
+  cells_from_is rights at [] bytes_are rights_are = refl
+  cells_from_is rights at (b ∷ bs) bytes_are rights_are =
       let here : at + 0 ≡ at = omega arith in
       let byte_is : b ≡ byte_at bytes ss at = bytes_are 0 (omega arith) ∙ ap (byte_at bytes ss) here in
       let rights_is : rights ≡ rights_at ss (at / page_size) = rights_are 0 (omega arith) ∙ ap (λ a. rights_at ss (a / page_size)) here in
       let next : (i : ℕ) → at + suc i ≡ (at + 1) + i = λ i. omega arith in
       let first : ◌≡◌ {A = ℕ × Cell} (at, record { byte = b; rights = rights }) (entry at) = ap (λ c. (at, c)) (same_cell b _ rights _ byte_is rights_is) in
       let rest : cells_from rights (at + 1) bs ≡ map entry (range_with_len (at + 1) (length bs)) =
-      cells_from-is rights (at + 1) bs
+      cells_from_is rights (at + 1) bs
       (λ i within. bytes_are (suc i) (omega arith) ∙ ap (byte_at bytes ss) (next i))
       (λ i within. rights_are (suc i) (omega arith) ∙ ap (λ a. rights_at ss (a / page_size)) (next i)) in
       ap (λ e. e ∷ cells_from rights (at + 1) bs) first ∙ ap (λ es. entry at ∷ es) rest
 
-  pub cells_of_page-is : (number : ℕ) (page : Page) → length page.bytes.items ≡ page_size → IsPageOf bytes ss number page → cells_of_page page ≡ cells_on bytes ss number
-  cells_of_page-is number page whole is =
+  pub cells_of_page_is : (number : ℕ) (page : Page) → length page.bytes.items ≡ page_size → IsPageOf bytes ss number page → cells_of_page page ≡ cells_on bytes ss number
+  cells_of_page_is number page whole is =
       ap (λ n. cells_from page.rights (page_size * n) page.bytes.items) is.number_is
-      ∙ cells_from-is page.rights (page_size * number) page.bytes.items
+      ∙ cells_from_is page.rights (page_size * number) page.bytes.items
       (λ i within. is.bytes_are i (omega arith))
       (λ i within. let same : number ≡ (page_size * number + i) / page_size = omega arith in is.rights_are ∙ ap (rights_at ss) same)
       ∙ ap (λ n. map entry (range_with_len (page_size * number) n)) whole
@@ -54,7 +54,7 @@ module _ (bytes : List ℕ) (ss : List ProgramHeader) where
       ap (flat_map cells_of_page) pushed
       ∙ flat_map-append cells_of_page pages (page ∷ [])
       ∙ ap (λ es. es ++ flat_map cells_of_page (page ∷ [])) before
-      ∙ ap (λ es. flat_map (cells_on bytes ss) (take i numbers) ++ (es ++ [])) (cells_of_page-is number page whole is)
+      ∙ ap (λ es. flat_map (cells_on bytes ss) (take i numbers) ++ (es ++ [])) (cells_of_page_is number page whole is)
       ∙ sym (flat_map-append (cells_on bytes ss) (take i numbers) (number ∷ []))
       ∙ ap (λ n. flat_map (cells_on bytes ss) (take i numbers ++ n ∷ [])) (sym number_is)
       ∙ ap (flat_map (cells_on bytes ss)) (sym (take_more numbers i 0 within))

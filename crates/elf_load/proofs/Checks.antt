@@ -19,7 +19,7 @@ use Rattle.elf_load.specs.Elf.{elf_header, program_header, program_headers}
 use Rattle.elf_load.specs.Image.{Check, program_header_checks, all_program_header_checks, first_fault}
 use Rattle.elf_load.specs.inside.Layout.{IsFound, IsListOf, IsPlaced, IsSound}
 use Rattle.elf_load.specs.Pages.{is_segment, segments, end_of, share_a_byte, pages_of, touched_pages}
-use Rattle.elf_load.proofs.Numbers.{set_of, set_of-append, IsListOf_none, IsListOf_append}
+use Rattle.elf_load.proofs.Numbers.{set_of, set_of_append, IsListOf_none, IsListOf_append}
 use Rattle.elf_load.specs.Room.{page_size, room_end, max_program_pages}
 use Rattle.elf_load.specs.Standard.{program_header_size}
 
@@ -65,9 +65,9 @@ pub listed_more : (numbers more : List ℕ) (ss : List ProgramHeader) (h : Progr
     → IsListOf numbers (flat_map pages_of ss) → IsListOf more (numbers ++ pages_of h) → IsListOf more (flat_map pages_of (ss ++ h ∷ []))
 listed_more numbers more ss h listed added = subst (IsListOf more) (sym (pages_more ss h)) (IsListOf_append numbers more _ _ listed added)
 
-len-pages_more : (numbers : List ℕ) (ss : List ProgramHeader) (h : ProgramHeader)
+len_pages_more : (numbers : List ℕ) (ss : List ProgramHeader) (h : ProgramHeader)
     → IsListOf numbers (flat_map pages_of ss) → len (touched_pages (ss ++ h ∷ [])) ≡ len (set_of (numbers ++ pages_of h))
-len-pages_more numbers ss h listed = ap len (ap set_of (pages_more ss h) ∙ sym (set_of-append numbers (flat_map pages_of ss) (pages_of h) listed.same))
+len_pages_more numbers ss h listed = ap len (ap set_of (pages_more ss h) ∙ sym (set_of_append numbers (flat_map pages_of ss) (pages_of h) listed.same))
 
 only_many : (m o : Bool) (f : ElfFault) → (if m then Some Range else None) ≡ Some f → (if m then Some Range else (if o then Some Overlap else None)) ≡ Some f
 only_many true o f e = e
@@ -78,13 +78,13 @@ module _ (bytes numbers : List ℕ) (earlier : List ProgramHeader) (h : ProgramH
   pub fault_of_many : (f : ElfFault) → (if nat_lt max_program_pages (len (set_of (numbers ++ pages_of h))) then Some Range else None) ≡ Some f → first_fault (program_header_checks bytes earlier h) ≡ Some f
   fault_of_many f many =
       fault_of_segment bytes earlier h passes
-      ∙ only_many _ _ f (ap (λ n. if nat_lt max_program_pages n then Some Range else None) (len-pages_more numbers earlier h listed) ∙ many)
+      ∙ only_many _ _ f (ap (λ n. if nat_lt max_program_pages n then Some Range else None) (len_pages_more numbers earlier h listed) ∙ many)
 
   -- its pages are few enough
   pub fault_of_few : (more : List ℕ) → IsListOf more (numbers ++ pages_of h) → length more ≤ max_program_pages
       → first_fault (program_header_checks bytes earlier h) ≡ (if list_any (share_a_byte h) earlier then Some Overlap else None)
   fault_of_few more added few =
-      let size : len (touched_pages (earlier ++ h ∷ [])) ≡ length more = len-pages_more numbers earlier h listed ∙ sym added.once in
+      let size : len (touched_pages (earlier ++ h ∷ [])) ≡ length more = len_pages_more numbers earlier h listed ∙ sym added.once in
       let small : nat_lt max_program_pages (len (touched_pages (earlier ++ h ∷ []))) ≡ false = le-ltb _ _ (omega arith) in
       fault_of_segment bytes earlier h passes ∙ ap (λ b. if b then Some Range else (if list_any (share_a_byte h) earlier then Some Overlap else None)) small
 
@@ -92,20 +92,20 @@ pub IsFound_along : (found other : Option ElfFault) (e : LoadError) → ((f : El
 IsFound_along found other (Fault f) along is = along f is
 IsFound_along found other NoMemory along is = tt
 
-first_fault-cons : (c : Check) (cs : List Check) → first_fault (c ∷ cs) ≡ (if c.0 then Some c.1 else first_fault cs)
-first_fault-cons (true, f) cs = refl
-first_fault-cons (false, f) cs = refl
+first_fault_cons : (c : Check) (cs : List Check) → first_fault (c ∷ cs) ≡ (if c.0 then Some c.1 else first_fault cs)
+first_fault_cons (true, f) cs = refl
+first_fault_cons (false, f) cs = refl
 
 -- checks behind others that found nothing, and behind some that found a fault
-pub first_fault-none : (cs ds : List Check) → first_fault cs ≡ None → first_fault (cs ++ ds) ≡ first_fault ds
-first_fault-none [] ds none = refl
-first_fault-none ((true, f) ∷ cs) ds none = cc
-first_fault-none ((false, f) ∷ cs) ds none = first_fault-none cs ds none
+pub first_fault_none : (cs ds : List Check) → first_fault cs ≡ None → first_fault (cs ++ ds) ≡ first_fault ds
+first_fault_none [] ds none = refl
+first_fault_none ((true, f) ∷ cs) ds none = cc
+first_fault_none ((false, f) ∷ cs) ds none = first_fault_none cs ds none
 
-pub first_fault-some : (cs ds : List Check) (f : ElfFault) → first_fault cs ≡ Some f → first_fault (cs ++ ds) ≡ Some f
-first_fault-some [] ds f some = cc
-first_fault-some ((true, g) ∷ cs) ds f some = some
-first_fault-some ((false, g) ∷ cs) ds f some = first_fault-some cs ds f some
+pub first_fault_some : (cs ds : List Check) (f : ElfFault) → first_fault cs ≡ Some f → first_fault (cs ++ ds) ≡ Some f
+first_fault_some [] ds f some = cc
+first_fault_some ((true, g) ∷ cs) ds f some = some
+first_fault_some ((false, g) ∷ cs) ds f some = first_fault_some cs ds f some
 
 pub IsSound_empty : (bytes : List ℕ) (layout : Layout) → layout.segments.items ≡ [] → layout.pages.items ≡ [] → vec_len layout.pages ≡ 0 → IsSound bytes layout
 IsSound_empty bytes layout no_segments no_pages size = record {
@@ -118,23 +118,23 @@ IsSound_empty bytes layout no_segments no_pages size = record {
 abbrev header_at : List ℕ → ℕ → ProgramHeader
 header_at bytes i = program_header bytes ((elf_header bytes).table + program_header_size * i)
 
-pub length-program_headers : (bytes : List ℕ) → length (program_headers bytes) ≡ (elf_header bytes).count
+pub length_program_headers : (bytes : List ℕ) → length (program_headers bytes) ≡ (elf_header bytes).count
 unfolding program_headers
-length-program_headers bytes = length-map-range_with_len (header_at bytes) 0 (elf_header bytes).count
+length_program_headers bytes = length-map-range_with_len (header_at bytes) 0 (elf_header bytes).count
 
-get_or-program_headers : (bytes : List ℕ) (i : ℕ) (d : ProgramHeader) → i < (elf_header bytes).count → get_or (program_headers bytes) i d ≡ header_at bytes i
+get_or_program_headers : (bytes : List ℕ) (i : ℕ) (d : ProgramHeader) → i < (elf_header bytes).count → get_or (program_headers bytes) i d ≡ header_at bytes i
 unfolding program_headers
-get_or-program_headers bytes i d within = get_or-map-range_with_len (header_at bytes) 0 (elf_header bytes).count i i d within (omega arith)
+get_or_program_headers bytes i d within = get_or-map-range_with_len (header_at bytes) 0 (elf_header bytes).count i i d within (omega arith)
 
 module _ (bytes : List ℕ) (i : ℕ) (within : i < (elf_header bytes).count) where
   inside : i < length (program_headers bytes)
-  inside = omega (arith, length-program_headers bytes)
+  inside = omega (arith, length_program_headers bytes)
 
   next : take (i + 1) (program_headers bytes) ≡ take i (program_headers bytes) ++ header_at bytes i ∷ []
-  next = take_more (program_headers bytes) i (header_at bytes i) inside ∙ ap (λ h. take i (program_headers bytes) ++ h ∷ []) (get_or-program_headers bytes i (header_at bytes i) within)
+  next = take_more (program_headers bytes) i (header_at bytes i) inside ∙ ap (λ h. take i (program_headers bytes) ++ h ∷ []) (get_or_program_headers bytes i (header_at bytes i) within)
 
   left : drop i (program_headers bytes) ≡ header_at bytes i ∷ drop (i + 1) (program_headers bytes)
-  left = drop_more (program_headers bytes) i (header_at bytes i) inside ∙ ap (λ h. h ∷ drop (i + 1) (program_headers bytes)) (get_or-program_headers bytes i (header_at bytes i) within)
+  left = drop_more (program_headers bytes) i (header_at bytes i) inside ∙ ap (λ h. h ∷ drop (i + 1) (program_headers bytes)) (get_or_program_headers bytes i (header_at bytes i) within)
 
   pub segments_more : segments (take (i + 1) (program_headers bytes)) ≡ segments (take i (program_headers bytes)) ++ segments (header_at bytes i ∷ [])
   segments_more = ap segments next ∙ filter-append is_segment (take i (program_headers bytes)) (header_at bytes i ∷ [])
@@ -149,23 +149,23 @@ module _ (bytes : List ℕ) (i : ℕ) (within : i < (elf_header bytes).count) wh
       ≡ first_fault (all_program_header_checks bytes (take (i + 1) (program_headers bytes)) (drop (i + 1) (program_headers bytes)))
   fault_behind none =
       ap first_fault split
-      ∙ first_fault-none (program_header_checks bytes (segments (take i (program_headers bytes))) (header_at bytes i)) (all_program_header_checks bytes (take (i + 1) (program_headers bytes)) (drop (i + 1) (program_headers bytes))) none
+      ∙ first_fault_none (program_header_checks bytes (segments (take i (program_headers bytes))) (header_at bytes i)) (all_program_header_checks bytes (take (i + 1) (program_headers bytes)) (drop (i + 1) (program_headers bytes))) none
 
   pub fault_here : (f : ElfFault) → first_fault (program_header_checks bytes (segments (take i (program_headers bytes))) (header_at bytes i)) ≡ Some f
       → first_fault (all_program_header_checks bytes (take i (program_headers bytes)) (drop i (program_headers bytes))) ≡ Some f
   fault_here f some =
       ap first_fault split
-      ∙ first_fault-some (program_header_checks bytes (segments (take i (program_headers bytes))) (header_at bytes i)) (all_program_header_checks bytes (take (i + 1) (program_headers bytes)) (drop (i + 1) (program_headers bytes))) f some
+      ∙ first_fault_some (program_header_checks bytes (segments (take i (program_headers bytes))) (header_at bytes i)) (all_program_header_checks bytes (take (i + 1) (program_headers bytes)) (drop (i + 1) (program_headers bytes))) f some
 
 pub fault_at_end : (bytes : List ℕ) (i : ℕ) → (elf_header bytes).count ≤ i
     → first_fault (all_program_header_checks bytes (take i (program_headers bytes)) (drop i (program_headers bytes))) ≡ None
 fault_at_end bytes i past =
-    let all : length (program_headers bytes) ≤ i = omega (arith, length-program_headers bytes) in
+    let all : length (program_headers bytes) ≤ i = omega (arith, length_program_headers bytes) in
     ap (λ rest. first_fault (all_program_header_checks bytes (take i (program_headers bytes)) rest)) (drop_all i (program_headers bytes) all)
 
 pub segments_at_end : (bytes : List ℕ) (i : ℕ) → (elf_header bytes).count ≤ i → segments (take i (program_headers bytes)) ≡ segments (program_headers bytes)
 segments_at_end bytes i past =
-    let all : length (program_headers bytes) ≤ i = omega (arith, length-program_headers bytes) in
+    let all : length (program_headers bytes) ≤ i = omega (arith, length_program_headers bytes) in
     ap segments (take_all i (program_headers bytes) all)
 
 -- the checks of all program headers, when those before one have passed

@@ -15,20 +15,20 @@ use Rattle.elf_load.specs.Elf.{elf_header, program_headers}
 use Rattle.elf_load.specs.Image.{header_checks, all_program_header_checks, entry_checks, first_fault, cells_on, cells_of_segments, image_of, unless, image, IsRefusal}
 use Rattle.elf_load.specs.inside.Layout.{IsFound, IsListOf}
 use Rattle.elf_load.specs.Pages.{segments, pages_of, touched_pages, highest_end, rounded_up}
-use Rattle.elf_load.proofs.Checks.{first_fault-none, first_fault-some}
-use Rattle.elf_load.proofs.Lookups.{cells-from_numbers}
+use Rattle.elf_load.proofs.Checks.{first_fault_none, first_fault_some}
+use Rattle.elf_load.proofs.Lookups.{cells_from_numbers}
 use Rattle.elf_load.specs.Room.{page_size}
 
 module _ (bytes : List ℕ) where
   pub fault_of_header : (f : ElfFault) → first_fault (header_checks bytes) ≡ Some f → image bytes ≡ Err f
   unfolding image
-  fault_of_header f found = ap (λ o. unless o (image_of bytes)) (first_fault-some (header_checks bytes) _ f found)
+  fault_of_header f found = ap (λ o. unless o (image_of bytes)) (first_fault_some (header_checks bytes) _ f found)
 
   module _ (header_sound : first_fault (header_checks bytes) ≡ None) where
     fault_of_program_header : (f : ElfFault) → first_fault (all_program_header_checks bytes [] (program_headers bytes)) ≡ Some f → image bytes ≡ Err f
     unfolding image
     fault_of_program_header f found =
-        ap (λ o. unless o (image_of bytes)) (first_fault-none (header_checks bytes) _ header_sound ∙ first_fault-some (all_program_header_checks bytes [] (program_headers bytes)) _ f found)
+        ap (λ o. unless o (image_of bytes)) (first_fault_none (header_checks bytes) _ header_sound ∙ first_fault_some (all_program_header_checks bytes [] (program_headers bytes)) _ f found)
 
     pub refusal_of_program_header : (e : LoadError) → IsFound (first_fault (all_program_header_checks bytes [] (program_headers bytes))) e → IsRefusal (image bytes) e
     refusal_of_program_header (Fault f) found = fault_of_program_header f found
@@ -37,7 +37,7 @@ module _ (bytes : List ℕ) where
     module _ (headers_sound : first_fault (all_program_header_checks bytes [] (program_headers bytes)) ≡ None) where
       to_entry : image bytes ≡ unless (first_fault (entry_checks (elf_header bytes).entry (segments (program_headers bytes)))) (image_of bytes)
       unfolding image
-      to_entry = ap (λ o. unless o (image_of bytes)) (first_fault-none (header_checks bytes) _ header_sound ∙ first_fault-none (all_program_header_checks bytes [] (program_headers bytes)) _ headers_sound)
+      to_entry = ap (λ o. unless o (image_of bytes)) (first_fault_none (header_checks bytes) _ header_sound ∙ first_fault_none (all_program_header_checks bytes [] (program_headers bytes)) _ headers_sound)
 
       module _ (entry : ℕ) (ss : List ProgramHeader) (entry_is : entry ≡ (elf_header bytes).entry) (ss_are : ss ≡ segments (program_headers bytes)) where
         same_entry : first_fault (entry_checks (elf_header bytes).entry (segments (program_headers bytes))) ≡ first_fault (entry_checks entry ss)
@@ -57,7 +57,7 @@ pub made_image : (bytes : List ℕ) (pages : List Page) (numbers : List ℕ) (ss
 unfolding cells_of
 made_image bytes pages numbers ss entry start count ss_are listed made entry_is start_is count_is =
     let cells : from_entries {R = nat_cmp} (flat_map cells_of_page pages) ≡ cells_of_segments bytes ss =
-    ap from_entries made ∙ cells-from_numbers bytes ss numbers listed in
+    ap from_entries made ∙ cells_from_numbers bytes ss numbers listed in
     let size : count ≡ len (touched_pages ss) = count_is ∙ listed.once in
     let there : cells_of_segments bytes ss ≡ cells_of_segments bytes (segments (program_headers bytes)) = ap (cells_of_segments bytes) ss_are in
     let starts : rounded_up (highest_end ss) ≡ rounded_up (highest_end (segments (program_headers bytes))) = ap (λ xs. rounded_up (highest_end xs)) ss_are in

@@ -6,17 +6,17 @@ use Rattle.std.specs.FinSet.{len}
 use Rattle.elf_load.specs.inside.Layout.{IsListOf}
 use Rattle.elf_load.proofs.Numbers.{set_of, IsListOf_old, IsListOf_new, many_new}
 
-pub range_with_len-append : (a n m b k : ℕ) → a + n ≡ b → n + m ≡ k → range_with_len a k ≡ range_with_len a n ++ range_with_len b m
-range_with_len-append a zero m b k at size =
+pub range_with_len_append : (a n m b k : ℕ) → a + n ≡ b → n + m ≡ k → range_with_len a k ≡ range_with_len a n ++ range_with_len b m
+range_with_len_append a zero m b k at size =
     let same_size : k ≡ m = omega arith in
     let same_place : a ≡ b = omega arith in
     ap (range_with_len a) same_size ∙ ap (λ x. range_with_len x m) same_place
-range_with_len-append a (suc n) m b k at size =
+range_with_len_append a (suc n) m b k at size =
     let same_size : k ≡ suc (n + m) = omega arith in
-    ap (range_with_len a) same_size ∙ ap (λ rest. a ∷ rest) (range_with_len-append (a + 1) n m b (n + m) (omega arith) refl)
+    ap (range_with_len a) same_size ∙ ap (λ rest. a ∷ rest) (range_with_len_append (a + 1) n m b (n + m) (omega arith) refl)
 
 range_push : (a n b k : ℕ) → a + n ≡ b → n + 1 ≡ k → range_with_len a k ≡ range_with_len a n ++ b ∷ []
-range_push a n b k at size = range_with_len-append a n 1 b k at size
+range_push a n b k at size = range_with_len_append a n 1 b k at size
 
 seen_more : (old : List ℕ) (first page : ℕ) → first ≤ page → old ++ range_with_len first (page + 1 - first) ≡ (old ++ range_with_len first (page - first)) ++ page ∷ []
 seen_more old first page from =
@@ -33,7 +33,7 @@ module _ (old numbers : List ℕ) (first page : ℕ) (from : first ≤ page) (li
   listed_too_many end before new =
       let rest : List ℕ = range_with_len (page + 1) (end - (page + 1)) in
       let split : old ++ range_with_len first (end - first) ≡ ((old ++ range_with_len first (page - first)) ++ page ∷ []) ++ rest =
-      ap (λ xs. old ++ xs) (range_with_len-append first (page + 1 - first) (end - (page + 1)) (page + 1) (end - first) (omega arith) (omega arith))
+      ap (λ xs. old ++ xs) (range_with_len_append first (page + 1 - first) (end - (page + 1)) (page + 1) (end - first) (omega arith) (omega arith))
       ∙ sym (append_assoc old (range_with_len first (page + 1 - first)) rest)
       ∙ ap (λ xs. xs ++ rest) (seen_more old first page from) in
       subst (λ xs. length numbers < len (set_of xs)) (sym split) (many_new numbers _ rest page listed new)

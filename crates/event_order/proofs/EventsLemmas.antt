@@ -27,63 +27,63 @@ inserted Equal key what e es more new behind = absurd (false≢true (sym new))
 inserted Greater key what e es more new behind = ap (λ events. event_of e ∷ events) (behind new)
 
 -- an entry of a new key is an event in its place
-pub events_of-insert_entry : (key : Key) (what : What) (es : List (Key × What)) → has_key key (events_of es) ≡ false
+pub events_of_insert_entry : (key : Key) (what : What) (es : List (Key × What)) → has_key key (events_of es) ≡ false
     → events_of (insert_entry key_order es key what) ≡ with_event (event_of (key, what)) (events_of es)
-events_of-insert_entry key what [] new = refl
-events_of-insert_entry key what (e ∷ es) new =
-    inserted (key_order key e.0) key what e es (insert_entry key_order es key what) new (events_of-insert_entry key what es)
+events_of_insert_entry key what [] new = refl
+events_of_insert_entry key what (e ∷ es) new =
+    inserted (key_order key e.0) key what e es (insert_entry key_order es key what) new (events_of_insert_entry key what es)
 
 any_key : (key : Key) (es : List (Key × What)) → list_any (is_at (key_order key)) (keys_of es) ≡ has_key key (events_of es)
 any_key key [] = refl
 any_key key (e ∷ es) = ap (λ rest. is_eq (key_order key e.0) || rest) (any_key key es)
 
 -- a key is held where the map has an entry for it
-pub has_key-events_of : (key : Key) (es : List (Key × What)) → is_some (lookup (is_at (key_order key)) es) ≡ has_key key (events_of es)
-has_key-events_of key es = is_some-lookup (is_at (key_order key)) es ∙ any_key key es
+pub has_key_events_of : (key : Key) (es : List (Key × What)) → is_some (lookup (is_at (key_order key)) es) ≡ has_key key (events_of es)
+has_key_events_of key es = is_some-lookup (is_at (key_order key)) es ∙ any_key key es
 
 later_keys : (event : Event) (es : List (Key × What)) → AllByRecursion (IsLtBy key_order event.key) (keys_of es) → AllByRecursion (IsBefore event) (events_of es)
 later_keys event [] h = tt
 later_keys event (e ∷ es) h = (h.0, later_keys event es h.1)
 
 -- where the keys come later, the events do
-pub All-IsBefore : (event : Event) (es : List (Key × What)) → All (IsLtBy key_order event.key) (keys_of es) → All (IsBefore event) (events_of es)
-All-IsBefore event es h = All-from_recursion _ _ (later_keys event es (recursion_from_All _ _ h))
+pub All_IsBefore : (event : Event) (es : List (Key × What)) → All (IsLtBy key_order event.key) (keys_of es) → All (IsBefore event) (events_of es)
+All_IsBefore event es h = All-from_recursion _ _ (later_keys event es (recursion_from_All _ _ h))
 
 -- when the first event is due
-pub due_of-first : (es : List (Key × What)) (e : Key × What) → slice_get es 0 ≡ Some e → option_map (λ (event : Event). event.key.due) (slice_get (events_of es) 0) ≡ Some e.0.due
-due_of-first [] e first = cc
-due_of-first (x ∷ es) e first = ap (option_map (λ (y : Key × What). y.0.due)) first
+pub due_of_first : (es : List (Key × What)) (e : Key × What) → slice_get es 0 ≡ Some e → option_map (λ (event : Event). event.key.due) (slice_get (events_of es) 0) ≡ Some e.0.due
+due_of_first [] e first = cc
+due_of_first (x ∷ es) e first = ap (option_map (λ (y : Key × What). y.0.due)) first
 
 -- where the keys are in order, the events are
 ordered_events : (es : List (Key × What)) → IsStrictlySortedBy key_order (keys_of es) → IsOrdered (events_of es)
 ordered_events [] h = tt
 ordered_events (e ∷ es) h =
-    (All-IsBefore (event_of e) es (All-after_first key_order e.0 (keys_of es) h), ordered_events es (sorted_tail key_order e.0 (keys_of es) h))
+    (All_IsBefore (event_of e) es (All-after_first key_order e.0 (keys_of es) h), ordered_events es (sorted_tail key_order e.0 (keys_of es) h))
 
 -- the same where the first entry was taken out
-pub ordered-taken : (es rest : List (Key × What)) (e : Key × What) → es ≡ e ∷ rest → All (IsLtBy key_order e.0) (keys_of rest) → IsStrictlySortedBy key_order (keys_of rest)
+pub ordered_taken : (es rest : List (Key × What)) (e : Key × What) → es ≡ e ∷ rest → All (IsLtBy key_order e.0) (keys_of rest) → IsStrictlySortedBy key_order (keys_of rest)
     → IsOrdered (events_of es)
-ordered-taken es rest e taken above sorted =
-    subst (λ (l : List (Key × What)). IsOrdered (events_of l)) (sym taken) (All-IsBefore (event_of e) rest above, ordered_events rest sorted)
+ordered_taken es rest e taken above sorted =
+    subst (λ (l : List (Key × What)). IsOrdered (events_of l)) (sym taken) (All_IsBefore (event_of e) rest above, ordered_events rest sorted)
 
-not_gt-first : (o rest : Ordering) → is_gt (ordering_then o rest) ≡ false → is_gt o ≡ false
-not_gt-first Less rest is = refl
-not_gt-first Equal rest is = refl
-not_gt-first Greater rest is = is
+not_gt_first : (o rest : Ordering) → is_gt (ordering_then o rest) ≡ false → is_gt o ≡ false
+not_gt_first Less rest is = refl
+not_gt_first Equal rest is = refl
+not_gt_first Greater rest is = is
 
 -- a key that comes later is not due earlier
-due-not_gt : (a b : Key) → is_gt (key_order a b) ≡ false → a.due.nanos ≤ b.due.nanos
-due-not_gt a b is = le_from_not_gt a.due.nanos b.due.nanos (not_gt-first (nat_cmp a.due.nanos b.due.nanos) _ is)
+due_not_gt : (a b : Key) → is_gt (key_order a b) ≡ false → a.due.nanos ≤ b.due.nanos
+due_not_gt a b is = le_from_not_gt a.due.nanos b.due.nanos (not_gt_first (nat_cmp a.due.nanos b.due.nanos) _ is)
 
 later_dues : (key : Key) (es : List (Key × What)) → AllByRecursion (IsLeBy key_order key) (keys_of es)
     → AllByRecursion (λ (e : Event). key.due.nanos ≤ e.key.due.nanos) (events_of es)
 later_dues key [] h = tt
-later_dues key (e ∷ es) h = (due-not_gt key e.0 h.0, later_dues key es h.1)
+later_dues key (e ∷ es) h = (due_not_gt key e.0 h.0, later_dues key es h.1)
 
 -- the first entry's time is the least
-pub least-of_first : (es : List (Key × What)) (e : Key × What) → slice_get es 0 ≡ Some e → All (IsLeBy key_order e.0) (keys_of es) → IsLeastDue (events_of es) (Some e.0.due)
-least-of_first [] e first all = absurd (cc)
-least-of_first (x ∷ es) e first all =
+pub least_of_first : (es : List (Key × What)) (e : Key × What) → slice_get es 0 ≡ Some e → All (IsLeBy key_order e.0) (keys_of es) → IsLeastDue (events_of es) (Some e.0.due)
+least_of_first [] e first all = absurd (cc)
+least_of_first (x ∷ es) e first all =
     let dues : Some x.0.due ≡ Some e.0.due = ap (option_map (λ (y : Key × What). y.0.due)) first in
     let same : x.0.due ≡ e.0.due = cc in
     ((0, event_of x, omega arith, refl, same), All-from_recursion _ (events_of (x ∷ es)) (later_dues e.0 (x ∷ es) (recursion_from_All (IsLeBy key_order e.0) (keys_of (x ∷ es)) all)))

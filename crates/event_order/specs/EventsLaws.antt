@@ -14,7 +14,7 @@ placed event next events more h false =
     IsPermutation-trans _ _ _ (IsPermutation-insert (next ∷ events) 1 event) (IsPermutation-cons next _ _ h)
 
 -- an event more, and no other change but of places
-pub with_event-IsPermutation : (event : Event) (events : List Event) → IsPermutation (event ∷ events) (with_event event events)
-with_event-IsPermutation event [] = IsPermutation-refl _
-with_event-IsPermutation event (next ∷ events) =
-    placed event next events (with_event event events) (with_event-IsPermutation event events) (is_lt (key_order event.key next.key))
+pub with_event_IsPermutation : (event : Event) (events : List Event) → IsPermutation (event ∷ events) (with_event event events)
+with_event_IsPermutation event [] = IsPermutation-refl _
+with_event_IsPermutation event (next ∷ events) =
+    placed event next events (with_event event events) (with_event_IsPermutation event events) (is_lt (key_order event.key next.key))

@@ -10,22 +10,22 @@ use Rattle.file_calls.specs.Descriptors.{first_free, free_from}
 left : (fd : ℕ) → fd < limit → limit - fd ≡ suc (limit - (fd + 1))
 left fd h = omega arith
 
-pub free_from-taken : (fds : Descriptors) (fd : ℕ) → fd < limit → is_none (map.get fds fd) ≡ false → free_from fds fd ≡ free_from fds (fd + 1)
+pub free_from_taken : (fds : Descriptors) (fd : ℕ) → fd < limit → is_none (map.get fds fd) ≡ false → free_from fds fd ≡ free_from fds (fd + 1)
 unfolding first_free
-free_from-taken fds fd h e = rw (left fd h) (rw e refl)
+free_from_taken fds fd h e = rw (left fd h) (rw e refl)
 
-pub free_from-free : (fds : Descriptors) (fd : ℕ) → fd < limit → is_none (map.get fds fd) ≡ true → free_from fds fd ≡ Some fd
+pub free_from_free : (fds : Descriptors) (fd : ℕ) → fd < limit → is_none (map.get fds fd) ≡ true → free_from fds fd ≡ Some fd
 unfolding first_free
-free_from-free fds fd h e = rw (left fd h) (rw e refl)
+free_from_free fds fd h e = rw (left fd h) (rw e refl)
 
 over : (fd : ℕ) → limit ≤ fd → limit - fd ≡ 0
 over fd h = omega arith
 
-pub free_from-over : (fds : Descriptors) (fd : ℕ) → limit ≤ fd → free_from fds fd ≡ None
+pub free_from_over : (fds : Descriptors) (fd : ℕ) → limit ≤ fd → free_from fds fd ≡ None
 unfolding first_free
-free_from-over fds fd h = rw (over fd h) refl
+free_from_over fds fd h = rw (over fd h) refl
 
-pub ruleset steps = (free_from-taken, free_from-free, free_from-over)
+pub ruleset steps = (free_from_taken, free_from_free, free_from_over)
 
 -- another descriptor that is free stays so where one is given out
 pub still_free : (fds : Descriptors) (fd other : ℕ) (object : ObjectId) → fd < other → map.get fds other ≡ None → map.get (map.insert fds fd object) other ≡ None

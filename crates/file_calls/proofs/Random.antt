@@ -20,15 +20,15 @@ whole count = omega arith
 over : (word count : ℕ) → count ≤ word → count - word ≡ 0
 over word count h = omega arith
 
-pub words-first : (count : ℕ) (w : Wanted) → bytes_before [] (words (count - 0) w) ≡ words count w
-words-first count w = rw (whole count) (nothing (words count w))
+pub words_first : (count : ℕ) (w : Wanted) → bytes_before [] (words (count - 0) w) ≡ words count w
+words_first count w = rw (whole count) (nothing (words count w))
 
-pub words-step : (word count : ℕ) (bytes : List ℕ) (w : Wanted) → word < count
+pub words_step : (word count : ℕ) (bytes : List ℕ) (w : Wanted) → word < count
     → bytes_before bytes (words (count - word) w)
     ≡ bytes_before (bytes ++ to_le_bytes w64 (draws_word w).0) (words (count - (word + 1)) (draws_word w).1)
-words-step word count bytes w h = rw (left word count h) (twice bytes (to_le_bytes w64 (draws_word w).0) (words (count - (word + 1)) (draws_word w).1))
+words_step word count bytes w h = rw (left word count h) (twice bytes (to_le_bytes w64 (draws_word w).0) (words (count - (word + 1)) (draws_word w).1))
 
-pub words-last : (word count : ℕ) (bytes : List ℕ) (w : Wanted) → count ≤ word → bytes_before bytes (words (count - word) w) ≡ (bytes, w)
-words-last word count bytes w h = rw (over word count h) (ap (λ (all : List ℕ). (all, w)) (append-nil bytes))
+pub words_last : (word count : ℕ) (bytes : List ℕ) (w : Wanted) → count ≤ word → bytes_before bytes (words (count - word) w) ≡ (bytes, w)
+words_last word count bytes w h = rw (over word count h) (ap (λ (all : List ℕ). (all, w)) (append-nil bytes))
 
-pub ruleset word_steps = (words-first, words-step, words-last)
+pub ruleset word_steps = (words_first, words_step, words_last)

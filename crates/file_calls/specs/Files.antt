@@ -70,8 +70,8 @@ hosts_path = codes "/etc/hosts"
 abbrev pub hosts_path_size : ℕ
 hosts_path_size = 10
 
-hosts_path_size-is : length hosts_path ≡ hosts_path_size
-hosts_path_size-is = refl
+hosts_path_size_is : length hosts_path ≡ hosts_path_size
+hosts_path_size_is = refl
 
 abbrev pub is_hosts : Option (List ℕ) → Bool
 is_hosts None = false

@@ -75,9 +75,9 @@ inside_cases d reach r rest false false e f more =
     ∙ none_inside d (min reach r.depth) rest (omega arith)
     ∙ ap (asked reach) (sym (inside_step d r rest false f))
 
-inside-asked : (d reach : ℕ) (rows : List OutlineRow) → inside d (asked reach rows) ≡ asked reach (inside d rows)
-inside-asked d reach [] = refl
-inside-asked d reach (r ∷ rest) = inside_cases d reach r rest (is_kept reach r) (nat_lt d r.depth) refl refl (λ n. inside-asked d n rest)
+inside_asked : (d reach : ℕ) (rows : List OutlineRow) → inside d (asked reach rows) ≡ asked reach (inside d rows)
+inside_asked d reach [] = refl
+inside_asked d reach (r ∷ rest) = inside_cases d reach r rest (is_kept reach r) (nat_lt d r.depth) refl refl (λ n. inside_asked d n rest)
 
 -- rows that all lie so deep at least
 abbrev Deep : ℕ → List OutlineRow → Type 0
@@ -145,7 +145,7 @@ block_kept part reach r le h =
 same_block : (part : Part) (r : OutlineRow) (rest : List OutlineRow) → r.depth ≡ depth_of part → block r (asked (r.depth + 1) rest) ≡ asked_block part (block r rest)
 same_block part r rest d =
     let with_rows : List OutlineRow → Block = λ rows. record { line = r.line; value = r.value; rows = rows } in
-    ap with_rows (inside-asked r.depth (r.depth + 1) rest) ∙ ap (λ n. with_rows (asked (n + 1) (inside r.depth rest))) d
+    ap with_rows (inside_asked r.depth (r.depth + 1) rest) ∙ ap (λ n. with_rows (asked (n + 1) (inside r.depth rest))) d
 
 kept_cases : (part : Part) (reach : ℕ) (r : OutlineRow) (rest : List OutlineRow) (b c : Bool) → is_kept reach r ≡ b → is_block part r ≡ c
     → depth_of part ≤ reach → depth_of part ≤ r.depth
@@ -168,24 +168,24 @@ kept_cases part reach r rest false false e f le deep more =
     ∙ more (min reach r.depth) (omega arith)
     ∙ ap (map (asked_block part)) (sym (blocks_step part r rest false f))
 
-blocks-asked : (part : Part) (reach : ℕ) (rows : List OutlineRow) → depth_of part ≤ reach → Deep (depth_of part) rows
+blocks_asked : (part : Part) (reach : ℕ) (rows : List OutlineRow) → depth_of part ≤ reach → Deep (depth_of part) rows
     → blocks part (asked reach rows) ≡ map (asked_block part) (blocks part rows)
-blocks-asked part reach [] le deep = refl
-blocks-asked part reach (r ∷ rest) le deep =
-    kept_cases part reach r rest (is_kept reach r) (is_block part r) refl refl le deep.0 (λ n more. blocks-asked part n rest more deep.1)
+blocks_asked part reach [] le deep = refl
+blocks_asked part reach (r ∷ rest) le deep =
+    kept_cases part reach r rest (is_kept reach r) (is_block part r) refl refl le deep.0 (λ n more. blocks_asked part n rest more deep.1)
 
 -- a step for each block or row that gives the same
 bind_same : {A B : Type 0} (x : Result A GmlFault) (f g : A → Result B GmlFault) → ((a : A) → f a ≡ g a) → (x >>= f) ≡ (x >>= g)
 bind_same (Ok a) f g h = h a
 bind_same (Err e) f g h = refl
 
-through-asked_block : {S : Type 0} (part : Part) (step : S → Block → Result S GmlFault)
+through_asked_block : {S : Type 0} (part : Part) (step : S → Block → Result S GmlFault)
     → ((s : S) (b : Block) → Deep (depth_of part + 1) b.rows → step s (asked_block part b) ≡ step s b)
     → (bs : List Block) → AreDeep (depth_of part + 1) bs → (s : S) → through step s (map (asked_block part) bs) ≡ through step s bs
-through-asked_block part step same [] deep s = refl
-through-asked_block part step same (b ∷ bs) deep s =
+through_asked_block part step same [] deep s = refl
+through_asked_block part step same (b ∷ bs) deep s =
     ap (λ n. n >>= λ next. through step next (map (asked_block part) bs)) (same s b deep.0)
-    ∙ bind_same (step s b) (λ next. through step next (map (asked_block part) bs)) (λ next. through step next bs) (λ next. through-asked_block part step same bs deep.1 next)
+    ∙ bind_same (step s b) (λ next. through step next (map (asked_block part) bs)) (λ next. through step next bs) (λ next. through_asked_block part step same bs deep.1 next)
 
 -- a row that is dropped in a node or in an edge
 dropped_cases : (depth reach : ℕ) (key : Key) (b : Bool) → (depth == 2) ≡ b → 2 ≤ reach → (nat_le depth reach && is_asked depth key) ≡ false → ((depth == 2) && is_attribute key) ≡ false
@@ -208,12 +208,12 @@ rows_cases step skips reach r rest false e le deep more d =
     ∙ more (min reach r.depth) (omega arith) d
     ∙ ap (λ n. n >>= λ next. through step next rest) (sym (skips d r (dropped_cases r.depth reach r.key (r.depth == 2) refl le e)))
 
-through-asked : {D : Type 0} (step : D → OutlineRow → Result D GmlFault)
+through_asked : {D : Type 0} (step : D → OutlineRow → Result D GmlFault)
     → ((d : D) (r : OutlineRow) → ((r.depth == 2) && is_attribute r.key) ≡ false → step d r ≡ Ok d)
     → (reach : ℕ) (rows : List OutlineRow) → 2 ≤ reach → Deep 2 rows → (d : D) → through step d (asked reach rows) ≡ through step d rows
-through-asked step skips reach [] le deep d = refl
-through-asked step skips reach (r ∷ rest) le deep d =
-    rows_cases step skips reach r rest (is_kept reach r) refl le deep.0 (λ n more e. through-asked step skips n rest more deep.1 e) d
+through_asked step skips reach [] le deep d = refl
+through_asked step skips reach (r ∷ rest) le deep d =
+    rows_cases step skips reach r rest (is_kept reach r) refl le deep.0 (λ n more e. through_asked step skips n rest more deep.1 e) d
 
 -- nodes
 other_node : (key : Key) (before : List Node) (d : NodeDraft) (r : OutlineRow) → is_attribute key ≡ false → node_attribute key before d r ≡ Ok d
@@ -242,13 +242,13 @@ node_skips before d r h = skip_cases (r.depth == 2) (is_attribute r.key) (node_a
 
 same_node : (before : List Node) (b : Block) → Deep 2 b.rows → add_node before (asked_block parts.Node b) ≡ add_node before b
 unfolding add_node node_of
-same_node before b deep = rw (through-asked (node_row before) (node_skips before) 2 b.rows (omega arith) deep new_node) refl
+same_node before b deep = rw (through_asked (node_row before) (node_skips before) 2 b.rows (omega arith) deep new_node) refl
 
-nodes-asked : (rows : List OutlineRow) → Deep 1 rows → nodes_of (asked 1 rows) ≡ nodes_of rows
+nodes_asked : (rows : List OutlineRow) → Deep 1 rows → nodes_of (asked 1 rows) ≡ nodes_of rows
 unfolding nodes_of
-nodes-asked rows deep =
-    ap (through add_node []) (blocks-asked parts.Node 1 rows (omega arith) deep)
-    ∙ through-asked_block parts.Node add_node same_node (blocks parts.Node rows) (blocks_deep parts.Node rows) []
+nodes_asked rows deep =
+    ap (through add_node []) (blocks_asked parts.Node 1 rows (omega arith) deep)
+    ∙ through_asked_block parts.Node add_node same_node (blocks parts.Node rows) (blocks_deep parts.Node rows) []
 
 -- edges
 other_edge : (key : Key) (nodes : List Node) (d : EdgeDraft) (r : OutlineRow) → is_attribute key ≡ false → edge_attribute key nodes d r ≡ Ok d
@@ -273,13 +273,13 @@ edge_skips nodes d r h = skip_cases (r.depth == 2) (is_attribute r.key) (edge_at
 
 same_edge : (nodes : List Node) (before : List Edge) (b : Block) → Deep 2 b.rows → add_edge nodes before (asked_block parts.Edge b) ≡ add_edge nodes before b
 unfolding add_edge edge_of
-same_edge nodes before b deep = rw (through-asked (edge_row nodes) (edge_skips nodes) 2 b.rows (omega arith) deep new_edge) refl
+same_edge nodes before b deep = rw (through_asked (edge_row nodes) (edge_skips nodes) 2 b.rows (omega arith) deep new_edge) refl
 
-edges-asked : (nodes : List Node) (rows : List OutlineRow) → Deep 1 rows → edges_of nodes (asked 1 rows) ≡ edges_of nodes rows
+edges_asked : (nodes : List Node) (rows : List OutlineRow) → Deep 1 rows → edges_of nodes (asked 1 rows) ≡ edges_of nodes rows
 unfolding edges_of
-edges-asked nodes rows deep =
-    ap (through (add_edge nodes) []) (blocks-asked parts.Edge 1 rows (omega arith) deep)
-    ∙ through-asked_block parts.Edge (add_edge nodes) (same_edge nodes) (blocks parts.Edge rows) (blocks_deep parts.Edge rows) []
+edges_asked nodes rows deep =
+    ap (through (add_edge nodes) []) (blocks_asked parts.Edge 1 rows (omega arith) deep)
+    ∙ through_asked_block parts.Edge (add_edge nodes) (same_edge nodes) (blocks parts.Edge rows) (blocks_deep parts.Edge rows) []
 
 -- whether edges go one way alone
 directed_cases : (bs : List Block) → directed_in (map (asked_block parts.Directed) bs) ≡ directed_in bs
@@ -287,9 +287,9 @@ directed_cases [] = refl
 directed_cases (b ∷ []) = refl
 directed_cases (b ∷ c ∷ bs) = refl
 
-directed-asked : (rows : List OutlineRow) → Deep 1 rows → is_directed (asked 1 rows) ≡ is_directed rows
+directed_asked : (rows : List OutlineRow) → Deep 1 rows → is_directed (asked 1 rows) ≡ is_directed rows
 unfolding is_directed
-directed-asked rows deep = ap directed_in (blocks-asked parts.Directed 1 rows (omega arith) deep) ∙ directed_cases (blocks parts.Directed rows)
+directed_asked rows deep = ap directed_in (blocks_asked parts.Directed 1 rows (omega arith) deep) ∙ directed_cases (blocks parts.Directed rows)
 
 -- THE GRAPH
 
@@ -302,8 +302,8 @@ graph_in_rows inner = do
 
 same_inside : (inner : List OutlineRow) → Deep 1 inner → graph_in_rows (asked 1 inner) ≡ graph_in_rows inner
 same_inside inner deep =
-    rw (directed-asked inner deep, nodes-asked inner deep)
-    (bind_same (is_directed inner) _ _ (λ directed. bind_same (nodes_of inner) _ _ (λ nodes. rw (edges-asked nodes inner deep) refl)))
+    rw (directed_asked inner deep, nodes_asked inner deep)
+    (bind_same (is_directed inner) _ _ (λ directed. bind_same (nodes_of inner) _ _ (λ nodes. rw (edges_asked nodes inner deep) refl)))
 
 one_cases : (v : Value) (line : ℕ) (rows : List OutlineRow) (bs : List Block) → Deep 1 rows
     → ((list_at v line >>= λ _. only (asked 1 rows) (map (asked_block parts.Graph) bs)) >>= graph_in_rows) ≡ ((list_at v line >>= λ _. only rows bs) >>= graph_in_rows)
@@ -324,5 +324,5 @@ all_deep (r ∷ rest) = (omega arith, all_deep rest)
 pub graph_of_asked : (rows : List OutlineRow) → graph_of (asked 0 rows) ≡ graph_of rows
 unfolding graph_of graph_rows
 graph_of_asked rows =
-    ap (λ bs. graph_in bs >>= graph_in_rows) (blocks-asked parts.Graph 0 rows (omega arith) (all_deep rows))
+    ap (λ bs. graph_in bs >>= graph_in_rows) (blocks_asked parts.Graph 0 rows (omega arith) (all_deep rows))
     ∙ graph_cases (blocks parts.Graph rows) (blocks_deep parts.Graph rows)

@@ -35,9 +35,9 @@ append_cases : (xs ys : List Lexeme) (r : Result Shape GmlFault)
 append_cases xs ys (Ok n) rest = rest n
 append_cases xs ys (Err f) rest = refl
 
-pub through-append : (xs ys : List Lexeme) (s : Shape) → through accept s (xs ++ ys) ≡ (through accept s xs >>= (λ t. through accept t ys))
-through-append [] ys s = refl
-through-append (x ∷ xs) ys s = append_cases xs ys (accept s x) (through-append xs ys)
+pub through_append : (xs ys : List Lexeme) (s : Shape) → through accept s (xs ++ ys) ≡ (through accept s xs >>= (λ t. through accept t ys))
+through_append [] ys s = refl
+through_append (x ∷ xs) ys s = append_cases xs ys (accept s x) (through_append xs ys)
 
 -- what each step keeps: lists lie no deeper than they may, and the text's last line is told
 record Keeps (s t : Shape) : Type 0 where
@@ -117,7 +117,7 @@ pub reached_begins : (last : ℕ) (before : List Lexeme) (reached : Shape) → t
 reached_begins last before reached h =
     let c = can_end reached in
     let is_read : read (shape last 0 []) (before ++ c.rest) ≡ Ok c.out =
-    ap (λ r. r >>= finish) (through-append before c.rest (shape last 0 []))
+    ap (λ r. r >>= finish) (through_append before c.rest (shape last 0 []))
     ∙ ap (λ r. (r >>= (λ t. through accept t c.rest)) >>= finish) h
     ∙ c.ends in
     let s = read_spells last (before ++ c.rest) c.out is_read in
@@ -127,7 +127,7 @@ pub accepted_begins : (last : ℕ) (before : List Lexeme) (x : Lexeme) (reached 
     → through accept (shape last 0 []) before ≡ Ok reached → accept reached x ≡ Ok next → Begins (before ++ x ∷ [])
 accepted_begins last before x reached next h e =
     reached_begins last (before ++ x ∷ []) next
-    (through-append before (x ∷ []) (shape last 0 [])
+    (through_append before (x ∷ []) (shape last 0 [])
     ∙ ap (λ r. r >>= (λ t. through accept t (x ∷ []))) h
     ∙ ap (λ r. r >>= (λ t. through accept t [])) e)
 
@@ -137,7 +137,7 @@ refused_begins last before x reached f h e b =
     let is_read : read (shape last 0 []) (spelled b.pairs) ≡ Ok (rows_of 0 b.pairs) = spelled_read b.pairs last b.nested in
     let refuses : read (shape last 0 []) (spelled b.pairs) ≡ Err f =
     ap (λ t. read (shape last 0 []) t) (b.as_tokens ∙ append_assoc before (x ∷ []) b.more)
-    ∙ ap (λ r. r >>= finish) (through-append before (x ∷ b.more) (shape last 0 []))
+    ∙ ap (λ r. r >>= finish) (through_append before (x ∷ b.more) (shape last 0 []))
     ∙ ap (λ r. (r >>= (λ t. through accept t (x ∷ b.more))) >>= finish) h
     ∙ ap (λ r. (r >>= (λ t. through accept t b.more)) >>= finish) e in
     let no : ⊥ = cc in no

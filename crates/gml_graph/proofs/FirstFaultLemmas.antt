@@ -14,7 +14,7 @@ use Rattle.gml_graph.specs.Outline.{Shape, accept_at, accept, finish}
 use Rattle.gml_graph.specs.Grammar.{spelled, rows_of, Spells, Begins, closed_token, closed}
 use Rattle.gml_graph.proofs.EdgeLemmas.{bind_ok}
 use Rattle.gml_graph.proofs.GrammarLemmas.{shape, read, spelled_read, read_spells}
-use Rattle.gml_graph.proofs.FaultLemmas.{fault_at, through-append, accepted_begins, Reason, misplaced, lacks_quote, reason, end_reason, last_kept}
+use Rattle.gml_graph.proofs.FaultLemmas.{fault_at, through_append, accepted_begins, Reason, misplaced, lacks_quote, reason, end_reason, last_kept}
 
 -- what begins pairs is read
 record IsAccepted (last : ℕ) (before : List Lexeme) : Type 0 where
@@ -30,7 +30,7 @@ begins_read : (last : ℕ) (before : List Lexeme) → Begins before → IsAccept
 begins_read last before b =
     let h : read (shape last 0 []) (spelled b.pairs) ≡ Ok (rows_of 0 b.pairs) = spelled_read b.pairs last b.nested in
     let both : ((through accept (shape last 0 []) before >>= (λ t. through accept t b.more)) >>= finish) ≡ Ok (rows_of 0 b.pairs) =
-    sym (ap (λ r. r >>= finish) (through-append before b.more (shape last 0 [])))
+    sym (ap (λ r. r >>= finish) (through_append before b.more (shape last 0 [])))
     ∙ sym (ap (λ t. read (shape last 0 []) t) b.as_tokens)
     ∙ h in
     accepted_cases last before b.more (rows_of 0 b.pairs) (through accept (shape last 0 []) before) refl both
@@ -55,7 +55,7 @@ closed_cases (Some key) Odd s t line h = h
 refuses_at : (s : Shape) (before : List Lexeme) (x : Lexeme) (behind : List Lexeme) (reached : Shape) (f : GmlFault)
     → through accept s before ≡ Ok reached → accept reached x ≡ Err f → read s (before ++ x ∷ behind) ≡ Err f
 refuses_at s before x behind reached f h e =
-    ap (λ r. r >>= finish) (through-append before (x ∷ behind) s)
+    ap (λ r. r >>= finish) (through_append before (x ∷ behind) s)
     ∙ ap (λ r. (r >>= (λ t. through accept t (x ∷ behind))) >>= finish) h
     ∙ ap (λ r. (r >>= (λ t. through accept t behind)) >>= finish) e
 
@@ -93,7 +93,7 @@ quote_read last before line behind may =
     let x : Lexeme = lexeme line (Text (quoted [])) in
     let a = begins_read last (before ++ x ∷ []) may in
     let p = bind_ok (through accept (shape last 0 []) before) (λ t. through accept t (x ∷ [])) a.reached
-    (sym (through-append before (x ∷ []) (shape last 0 [])) ∙ a.is_reached) in
+    (sym (through_append before (x ∷ []) (shape last 0 [])) ∙ a.is_reached) in
     let q = bind_ok (accept p.0 x) (λ t. through accept t []) a.reached p.2 in
     refuses_at (shape last 0 []) before (lexeme line Unclosed) behind p.0 (fault_at p.0.last) p.1 (quote_at p.0.waiting p.0 q.0 line q.1)
     ∙ ap (λ n. Err (fault_at n)) (last_kept last before p.0 p.1)

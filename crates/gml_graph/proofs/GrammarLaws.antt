@@ -18,14 +18,14 @@ spells_read ts rows s last =
     ap (λ t. read (shape last 0 []) t) (sym s.as_tokens) ∙ spelled_read s.pairs last s.nested ∙ ap (λ r. Ok r) s.as_rows
 
 -- an outline has the rows of pairs that the tokens spell
-pub outline-Ok : (text : List ℕ) (rows : List OutlineRow) → outline text ≡ Ok rows → Spells (tokens text) rows
+pub outline_Ok : (text : List ℕ) (rows : List OutlineRow) → outline text ≡ Ok rows → Spells (tokens text) rows
 unfolding outline
-outline-Ok text rows h = read_spells (last_line text) (tokens text) rows h
+outline_Ok text rows h = read_spells (last_line text) (tokens text) rows h
 
 -- pairs that the tokens spell have their rows in the outline
-pub Spells-outline : (text : List ℕ) (rows : List OutlineRow) → Spells (tokens text) rows → outline text ≡ Ok rows
+pub Spells_outline : (text : List ℕ) (rows : List OutlineRow) → Spells (tokens text) rows → outline text ≡ Ok rows
 unfolding outline
-Spells-outline text rows s = spells_read (tokens text) rows s (last_line text)
+Spells_outline text rows s = spells_read (tokens text) rows s (last_line text)
 
 token_fault : (last : ℕ) (ts before : List Lexeme) (reached : Shape) (x : Lexeme) (behind : List Lexeme) (f : GmlFault)
     → through accept (shape last 0 []) before ≡ Ok reached → before ++ x ∷ behind ≡ ts
@@ -70,9 +70,9 @@ first_fault last ts f e (at_end reached h a) =
     (ap (λ d. d.kind) is, inr (ap (λ d. d.line) is ∙ last_kept last ts reached h, inr (record { may = reached_begins last ts reached h; not_whole = not_whole })))
 
 -- without an outline there is a first fault
-pub outline-Err : (text : List ℕ) (fault : GmlFault) → outline text ≡ Err fault → IsFirstFault (tokens text) (last_line text) fault
+pub outline_Err : (text : List ℕ) (fault : GmlFault) → outline text ≡ Err fault → IsFirstFault (tokens text) (last_line text) fault
 unfolding outline
-outline-Err text fault h = first_fault (last_line text) (tokens text) fault h (fails (tokens text) (start text) fault h)
+outline_Err text fault h = first_fault (last_line text) (tokens text) fault h (fails (tokens text) (start text) fault h)
 
 -- and where there is one, there is no outline
 same_fault : (ts : List Lexeme) (last line : ℕ) (f : GmlFault) → f.kind ≡ Syntax → f.line ≡ line → read (shape last 0 []) ts ≡ Err (fault_at line) → read (shape last 0 []) ts ≡ Err f
@@ -90,6 +90,6 @@ first_read last ts f (k, inr (l, inl q)) =
     (ap (λ t. read (shape last 0 []) t) q.at ∙ lacks_quote_read last q.before q.token.line q.token.token q.behind q.lacks q.may)
 first_read last ts f (k, inr (l, inr e)) = same_fault ts last last f k l (early_read last ts e.may e.not_whole)
 
-pub IsFirstFault-outline : (text : List ℕ) (fault : GmlFault) → IsFirstFault (tokens text) (last_line text) fault → outline text ≡ Err fault
+pub IsFirstFault_outline : (text : List ℕ) (fault : GmlFault) → IsFirstFault (tokens text) (last_line text) fault → outline text ≡ Err fault
 unfolding outline
-IsFirstFault-outline text fault h = first_read (last_line text) (tokens text) fault h
+IsFirstFault_outline text fault h = first_read (last_line text) (tokens text) fault h

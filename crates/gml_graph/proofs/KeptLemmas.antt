@@ -23,10 +23,10 @@ use Rattle.gml_graph.specs.Limits.{greatest_depth}
 abbrev pub kept : Shape → Kept
 kept s = record { reach = fold reach_behind 0 s.rows; shape = record s { rows = asked 0 s.rows } }
 
-asked-append : (reach : ℕ) (rows : List OutlineRow) (r : OutlineRow) → asked reach (rows ++ r ∷ []) ≡ asked reach rows ++ asked_row (fold reach_behind reach rows) r
-asked-append reach [] r = append-nil (asked_row reach r)
-asked-append reach (x ∷ rows) r =
-    ap (λ t. asked_row reach x ++ t) (asked-append (reach_behind reach x) rows r)
+asked_append : (reach : ℕ) (rows : List OutlineRow) (r : OutlineRow) → asked reach (rows ++ r ∷ []) ≡ asked reach rows ++ asked_row (fold reach_behind reach rows) r
+asked_append reach [] r = append-nil (asked_row reach r)
+asked_append reach (x ∷ rows) r =
+    ap (λ t. asked_row reach x ++ t) (asked_append (reach_behind reach x) rows r)
     ∙ sym (append_assoc (asked_row reach x) (asked (reach_behind reach x) rows) (asked_row (fold reach_behind (reach_behind reach x) rows) r))
 
 same_row : (s : Shape) (key : Waiting) (value : Value) → keep_row (kept s) key value ≡ kept (with_row s key value)
@@ -34,7 +34,7 @@ same_row s key value =
     let r : OutlineRow = row_of s key value in
     let with_rows : ℕ → List OutlineRow → Kept = λ reach rows. record { reach = reach; shape = record (with_row s key value) { rows = rows } } in
     ap (λ reach. with_rows reach (asked 0 s.rows ++ asked_row (fold reach_behind 0 s.rows) r)) (sym (fold-append reach_behind 0 s.rows (r ∷ [])))
-    ∙ ap (with_rows (fold reach_behind 0 (s.rows ++ r ∷ []))) (sym (asked-append 0 s.rows r))
+    ∙ ap (with_rows (fold reach_behind 0 (s.rows ++ r ∷ []))) (sym (asked_append 0 s.rows r))
 
 -- one token
 close_same : (s : Shape) (line : ℕ) (b : Bool)

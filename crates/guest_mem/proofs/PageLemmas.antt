@@ -18,7 +18,7 @@ use Rattle.guest_mem.specs.Memory.{permits, permitted, byte_for, bytes_for, put_
 use Rattle.guest_mem.specs.declared.entry.Entry.{Entry}
 use Rattle.guest_mem.specs.inside.Slots.{entry_numbers}
 use Rattle.guest_mem.specs.inside.Pages.{GuestPage, cell_in, cells_within, mapped_cells, numbers, place_of, Rewrites, AreKnown, IsPageTable}
-use Rattle.guest_mem.proofs.CellLemmas.{get-put_all_in, get-put_all_out, get-put_all_none, bytes_for-all, bytes_for-none}
+use Rattle.guest_mem.proofs.CellLemmas.{get_put_all_in, get_put_all_out, get_put_all_none, bytes_for_all, bytes_for_none}
 
 abbrev pub Entries : Type 0
 Entries = List (ℕ × Cell)
@@ -33,16 +33,16 @@ look_same : (k : ℕ) (cell : Cell) (es : Entries) → look k ((k, cell) ∷ es)
 look_same k cell es = ap (λ (tied : Bool). cond tied (Some cell) (look k es)) (unsigned_tied k k ∙ eq-eqb k k refl)
 
 -- the first list that has a key decides
-look-append_none : (q : ℕ) (xs ys : Entries) → look q xs ≡ None → look q (xs ++ ys) ≡ look q ys
-look-append_none q [] ys none = refl
-look-append_none q (x ∷ xs) ys none =
-    let rest : look q xs ≡ None → look q (xs ++ ys) ≡ look q ys = look-append_none q xs ys in
+look_append_none : (q : ℕ) (xs ys : Entries) → look q xs ≡ None → look q (xs ++ ys) ≡ look q ys
+look_append_none q [] ys none = refl
+look_append_none q (x ∷ xs) ys none =
+    let rest : look q xs ≡ None → look q (xs ++ ys) ≡ look q ys = look_append_none q xs ys in
     elim (eq_by_cmp nat_cmp q x.0) as (λ (tied : Bool). cond tied (Some x.1) (look q xs) ≡ None → cond tied (Some x.1) (look q (xs ++ ys)) ≡ look q ys) [ true ↦ λ none. cc | false ↦ λ none. rest none ] none
 
-look-append_some : (q : ℕ) (xs ys : Entries) (cell : Cell) → look q xs ≡ Some cell → look q (xs ++ ys) ≡ Some cell
-look-append_some q [] ys cell some = cc
-look-append_some q (x ∷ xs) ys cell some =
-    let rest : look q xs ≡ Some cell → look q (xs ++ ys) ≡ Some cell = look-append_some q xs ys cell in
+look_append_some : (q : ℕ) (xs ys : Entries) (cell : Cell) → look q xs ≡ Some cell → look q (xs ++ ys) ≡ Some cell
+look_append_some q [] ys cell some = cc
+look_append_some q (x ∷ xs) ys cell some =
+    let rest : look q xs ≡ Some cell → look q (xs ++ ys) ≡ Some cell = look_append_some q xs ys cell in
     elim (eq_by_cmp nat_cmp q x.0) as (λ (tied : Bool). cond tied (Some x.1) (look q xs) ≡ Some cell → cond tied (Some x.1) (look q (xs ++ ys)) ≡ Some cell) [ true ↦ λ some. some | false ↦ λ some. rest some ] some
 
 apart_sides : (m n : ℕ) → m ≢ n → (m < n) ⊎ (n < m)
@@ -68,11 +68,11 @@ cells_within_in p o (suc n) (suc k) l =
     look_other (page_size * p.number + (o + suc k)) (page_size * p.number + o) (cell_in p o) (cells_within p (o + 1) n) (λ same. omega arith)
     ∙ subst (λ (x : ℕ). look (page_size * p.number + x) (cells_within p (o + 1) n) ≡ Some (cell_in p x)) there (cells_within_in p (o + 1) n k (omega arith))
 
-look-page_in : (p : GuestPage) (o : ℕ) → o < page_size → look (page_size * p.number + o) (cells_within p 0 page_size) ≡ Some (cell_in p o)
-look-page_in p o l = subst (λ (x : ℕ). look (page_size * p.number + x) (cells_within p 0 page_size) ≡ Some (cell_in p x)) (let e : 0 + o ≡ o = omega arith in e) (cells_within_in p 0 page_size o l)
+look_page_in : (p : GuestPage) (o : ℕ) → o < page_size → look (page_size * p.number + o) (cells_within p 0 page_size) ≡ Some (cell_in p o)
+look_page_in p o l = subst (λ (x : ℕ). look (page_size * p.number + x) (cells_within p 0 page_size) ≡ Some (cell_in p x)) (let e : 0 + o ≡ o = omega arith in e) (cells_within_in p 0 page_size o l)
 
-look-page_out : (p : GuestPage) (n o : ℕ) → o < page_size → p.number ≢ n → look (page_size * n + o) (cells_within p 0 page_size) ≡ None
-look-page_out p n o l apart =
+look_page_out : (p : GuestPage) (n o : ℕ) → o < page_size → p.number ≢ n → look (page_size * n + o) (cells_within p 0 page_size) ≡ None
+look_page_out p n o l apart =
     cells_within_out p 0 page_size (page_size * n + o)
     (⊎_elim (λ (below : n < p.number). inl (omega arith)) (λ (above : p.number < n). inr (omega arith)) (apart_sides n p.number (λ same. apart (sym same))))
 
@@ -82,36 +82,36 @@ told None = inl refl
 told (Some x) = inr (x, refl)
 
 -- one step of the search for a place
-place_of-same : (m : ℕ) (ms : List ℕ) (n : ℕ) → m ≡ n → place_of (m ∷ ms) n ≡ Some 0
-place_of-same m ms n same = ap (λ (b : Bool). cond b (Some 0) (option_map (λ i. i + 1) (place_of ms n))) (eq-eqb m n same)
+place_of_same : (m : ℕ) (ms : List ℕ) (n : ℕ) → m ≡ n → place_of (m ∷ ms) n ≡ Some 0
+place_of_same m ms n same = ap (λ (b : Bool). cond b (Some 0) (option_map (λ i. i + 1) (place_of ms n))) (eq-eqb m n same)
 
-place_of-other : (m : ℕ) (ms : List ℕ) (n : ℕ) → m ≢ n → place_of (m ∷ ms) n ≡ option_map (λ i. i + 1) (place_of ms n)
-place_of-other m ms n apart = ap (λ (b : Bool). cond b (Some 0) (option_map (λ i. i + 1) (place_of ms n))) (ne_eqb m n apart)
+place_of_other : (m : ℕ) (ms : List ℕ) (n : ℕ) → m ≢ n → place_of (m ∷ ms) n ≡ option_map (λ i. i + 1) (place_of ms n)
+place_of_other m ms n apart = ap (λ (b : Bool). cond b (Some 0) (option_map (λ i. i + 1) (place_of ms n))) (ne_eqb m n apart)
 
-place_of-later : (m : ℕ) (ms : List ℕ) (n j : ℕ) → m ≢ n → place_of ms n ≡ Some j → place_of (m ∷ ms) n ≡ Some (j + 1)
-place_of-later m ms n j apart is = place_of-other m ms n apart ∙ ap (option_map (λ i. i + 1)) is
+place_of_later : (m : ℕ) (ms : List ℕ) (n j : ℕ) → m ≢ n → place_of ms n ≡ Some j → place_of (m ∷ ms) n ≡ Some (j + 1)
+place_of_later m ms n j apart is = place_of_other m ms n apart ∙ ap (option_map (λ i. i + 1)) is
 
-pub place_of-nowhere : (m : ℕ) (ms : List ℕ) (n : ℕ) → m ≢ n → place_of ms n ≡ None → place_of (m ∷ ms) n ≡ None
-place_of-nowhere m ms n apart is = place_of-other m ms n apart ∙ ap (option_map (λ i. i + 1)) is
+pub place_of_nowhere : (m : ℕ) (ms : List ℕ) (n : ℕ) → m ≢ n → place_of ms n ≡ None → place_of (m ∷ ms) n ≡ None
+place_of_nowhere m ms n apart is = place_of_other m ms n apart ∙ ap (option_map (λ i. i + 1)) is
 
 -- where the first of a list stands, and where a later one does
-place_of-step : (m : ℕ) (ms : List ℕ) (n : ℕ) → ((m ≡ n) × (place_of (m ∷ ms) n ≡ Some 0)) ⊎ ((m ≢ n) × ((place_of ms n ≡ None) × (place_of (m ∷ ms) n ≡ None)) ⊎ ((j : ℕ) × (m ≢ n) × (place_of ms n ≡ Some j) × (place_of (m ∷ ms) n ≡ Some (j + 1))))
-place_of-step m ms n =
-    ⊎_elim (λ (same : m ≡ n). inl (same, place_of-same m ms n same))
-    (λ (apart : m ≢ n). inr (⊎_elim (λ none. inl (apart, (none, place_of-nowhere m ms n apart none)))
-    (λ some. inr (some.0, apart, some.1, place_of-later m ms n some.0 apart some.1)) (told (place_of ms n))))
+place_of_step : (m : ℕ) (ms : List ℕ) (n : ℕ) → ((m ≡ n) × (place_of (m ∷ ms) n ≡ Some 0)) ⊎ ((m ≢ n) × ((place_of ms n ≡ None) × (place_of (m ∷ ms) n ≡ None)) ⊎ ((j : ℕ) × (m ≢ n) × (place_of ms n ≡ Some j) × (place_of (m ∷ ms) n ≡ Some (j + 1))))
+place_of_step m ms n =
+    ⊎_elim (λ (same : m ≡ n). inl (same, place_of_same m ms n same))
+    (λ (apart : m ≢ n). inr (⊎_elim (λ none. inl (apart, (none, place_of_nowhere m ms n apart none)))
+    (λ some. inr (some.0, apart, some.1, place_of_later m ms n some.0 apart some.1)) (told (place_of ms n))))
     (cases_eq m n)
 
 -- what stands at a place that is found
-pub place_of-in : (ns : List ℕ) (n i : ℕ) → place_of ns n ≡ Some i → (i < length ns) × (get_or ns i 0 ≡ n)
-place_of-in [] n i is = cc
-place_of-in (m ∷ ms) n i is =
-    elim (place_of-step m ms n) [
+pub place_of_in : (ns : List ℕ) (n i : ℕ) → place_of ns n ≡ Some i → (i < length ns) × (get_or ns i 0 ≡ n)
+place_of_in [] n i is = cc
+place_of_in (m ∷ ms) n i is =
+    elim (place_of_step m ms n) [
       | inl first ↦ let at : 0 ≡ i = cc in subst (λ (x : ℕ). (x < length (m ∷ ms)) × (get_or (m ∷ ms) x 0 ≡ n)) at (omega arith, first.0)
       | inr later ↦ elim later [
         | inl nowhere ↦ cc
         | inr there ↦ let at : suc there.0 ≡ i = (let e : there.0 + 1 ≡ i = cc in omega arith) in
-            let h : (there.0 < length ms) × (get_or ms there.0 0 ≡ n) = place_of-in ms n there.0 there.2 in
+            let h : (there.0 < length ms) × (get_or ms there.0 0 ≡ n) = place_of_in ms n there.0 there.2 in
             subst (λ (x : ℕ). (x < length (m ∷ ms)) × (get_or (m ∷ ms) x 0 ≡ n)) at (omega (arith, h.0), h.1)
       ]
     ]
@@ -120,51 +120,51 @@ place_of-in (m ∷ ms) n i is =
 abbrev pub entries_of : GuestPage → Entries
 entries_of p = cells_within p 0 page_size
 
-look-pages_some : (ps : List GuestPage) (n i o : ℕ) (d : GuestPage) → o < page_size → place_of (numbers ps) n ≡ Some i → look (page_size * n + o) (flat_map entries_of ps) ≡ Some (cell_in (get_or ps i d) o)
-look-pages_some [] n i o d l is = cc
-look-pages_some (p ∷ ps) n i o d l is =
-    elim (place_of-step p.number (numbers ps) n) [
+look_pages_some : (ps : List GuestPage) (n i o : ℕ) (d : GuestPage) → o < page_size → place_of (numbers ps) n ≡ Some i → look (page_size * n + o) (flat_map entries_of ps) ≡ Some (cell_in (get_or ps i d) o)
+look_pages_some [] n i o d l is = cc
+look_pages_some (p ∷ ps) n i o d l is =
+    elim (place_of_step p.number (numbers ps) n) [
       | inl first ↦ let at : 0 ≡ i = cc in
-          let found : look (page_size * n + o) (entries_of p) ≡ Some (cell_in p o) = subst (λ (m : ℕ). look (page_size * m + o) (entries_of p) ≡ Some (cell_in p o)) first.0 (look-page_in p o l) in
-          subst (λ (x : ℕ). look (page_size * n + o) (flat_map entries_of (p ∷ ps)) ≡ Some (cell_in (get_or (p ∷ ps) x d) o)) at (look-append_some (page_size * n + o) (entries_of p) (flat_map entries_of ps) (cell_in p o) found)
+          let found : look (page_size * n + o) (entries_of p) ≡ Some (cell_in p o) = subst (λ (m : ℕ). look (page_size * m + o) (entries_of p) ≡ Some (cell_in p o)) first.0 (look_page_in p o l) in
+          subst (λ (x : ℕ). look (page_size * n + o) (flat_map entries_of (p ∷ ps)) ≡ Some (cell_in (get_or (p ∷ ps) x d) o)) at (look_append_some (page_size * n + o) (entries_of p) (flat_map entries_of ps) (cell_in p o) found)
       | inr later ↦ elim later [
         | inl nowhere ↦ cc
         | inr there ↦ let at : suc there.0 ≡ i = (let e : there.0 + 1 ≡ i = cc in omega arith) in
             let found : look (page_size * n + o) (flat_map entries_of (p ∷ ps)) ≡ Some (cell_in (get_or ps there.0 d) o) =
-            look-append_none (page_size * n + o) (entries_of p) (flat_map entries_of ps) (look-page_out p n o l there.1) ∙ look-pages_some ps n there.0 o d l there.2 in
+            look_append_none (page_size * n + o) (entries_of p) (flat_map entries_of ps) (look_page_out p n o l there.1) ∙ look_pages_some ps n there.0 o d l there.2 in
             subst (λ (x : ℕ). look (page_size * n + o) (flat_map entries_of (p ∷ ps)) ≡ Some (cell_in (get_or (p ∷ ps) x d) o)) at found
       ]
     ]
 
-look-pages_none : (ps : List GuestPage) (n o : ℕ) → o < page_size → place_of (numbers ps) n ≡ None → look (page_size * n + o) (flat_map entries_of ps) ≡ None
-look-pages_none [] n o l is = refl
-look-pages_none (p ∷ ps) n o l is =
-    elim (place_of-step p.number (numbers ps) n) [
+look_pages_none : (ps : List GuestPage) (n o : ℕ) → o < page_size → place_of (numbers ps) n ≡ None → look (page_size * n + o) (flat_map entries_of ps) ≡ None
+look_pages_none [] n o l is = refl
+look_pages_none (p ∷ ps) n o l is =
+    elim (place_of_step p.number (numbers ps) n) [
       | inl first ↦ cc
       | inr later ↦ elim later [
-        | inl nowhere ↦ look-append_none (page_size * n + o) (entries_of p) (flat_map entries_of ps) (look-page_out p n o l nowhere.0) ∙ look-pages_none ps n o l nowhere.1.0
+        | inl nowhere ↦ look_append_none (page_size * n + o) (entries_of p) (flat_map entries_of ps) (look_page_out p n o l nowhere.0) ∙ look_pages_none ps n o l nowhere.1.0
         | inr there ↦ cc
       ]
     ]
 
-pub get-cells : (ps : List GuestPage) (q : ℕ) → map.get (mapped_cells ps) q ≡ look q (flat_map entries_of ps)
+pub get_cells : (ps : List GuestPage) (q : ℕ) → map.get (mapped_cells ps) q ≡ look q (flat_map entries_of ps)
 unfolding mapped_cells
-get-cells ps q = get-from_entries nat_cmp_total (flat_map entries_of ps) q
+get_cells ps q = get-from_entries nat_cmp_total (flat_map entries_of ps) q
 
 -- the cell at an offset of page n: that of the first page with the number, or none
-pub get-cells_some : (ps : List GuestPage) (n i o : ℕ) (d : GuestPage) → o < page_size → place_of (numbers ps) n ≡ Some i → map.get (mapped_cells ps) (page_size * n + o) ≡ Some (cell_in (get_or ps i d) o)
-get-cells_some ps n i o d l is = get-cells ps (page_size * n + o) ∙ look-pages_some ps n i o d l is
+pub get_cells_some : (ps : List GuestPage) (n i o : ℕ) (d : GuestPage) → o < page_size → place_of (numbers ps) n ≡ Some i → map.get (mapped_cells ps) (page_size * n + o) ≡ Some (cell_in (get_or ps i d) o)
+get_cells_some ps n i o d l is = get_cells ps (page_size * n + o) ∙ look_pages_some ps n i o d l is
 
-pub get-cells_none : (ps : List GuestPage) (n o : ℕ) → o < page_size → place_of (numbers ps) n ≡ None → map.get (mapped_cells ps) (page_size * n + o) ≡ None
-get-cells_none ps n o l is = get-cells ps (page_size * n + o) ∙ look-pages_none ps n o l is
+pub get_cells_none : (ps : List GuestPage) (n o : ℕ) → o < page_size → place_of (numbers ps) n ≡ None → map.get (mapped_cells ps) (page_size * n + o) ≡ None
+get_cells_none ps n o l is = get_cells ps (page_size * n + o) ∙ look_pages_none ps n o l is
 
 -- a fact at each address is one at each offset of each page
 pub by_page : (P : ℕ → Type 0) → ((n o : ℕ) → o < page_size → P (page_size * n + o)) → (q : ℕ) → P q
 by_page P at q = subst P (let e : page_size * (q / page_size) + q % page_size ≡ q = omega arith in e) (at (q / page_size) (q % page_size) (omega arith))
 
 -- a page in the place of another with its number
-pub numbers-set : (ps : List GuestPage) (i : ℕ) (p : GuestPage) → p.number ≡ get_or (numbers ps) i 0 → numbers (set ps i p) ≡ numbers ps
-numbers-set ps i p same = map-set (λ (x : GuestPage). x.number) ps i p ∙ ap (λ (x : ℕ). set (numbers ps) i x) same ∙ set-get_or (numbers ps) i 0
+pub numbers_set : (ps : List GuestPage) (i : ℕ) (p : GuestPage) → p.number ≡ get_or (numbers ps) i 0 → numbers (set ps i p) ≡ numbers ps
+numbers_set ps i p same = map-set (λ (x : GuestPage). x.number) ps i p ∙ ap (λ (x : ℕ). set (numbers ps) i x) same ∙ set-get_or (numbers ps) i 0
 
 same_cell : (b c : ℕ) (r s : Rights) → b ≡ c → r ≡ s → ◌≡◌ {A = Option Cell} (Some (record { byte = b; rights = r })) (Some (record { byte = c; rights = s }))
 same_cell b c r s e f = cc
@@ -180,7 +180,7 @@ written_same cells n o bytes old new q writes l is =
     outside : (q < o) ⊎ (o + length bytes ≤ q) → Some (cell_in new q) ≡ map.get (put_all cells (page_size * n + o) bytes) (page_size * n + q)
     outside out =
         same_cell _ _ _ _ (writes.outside q out) writes.rights
-        ∙ sym (get-put_all_out cells (page_size * n + o) bytes (page_size * n + q) (⊎_elim (λ (h : q < o). inl (omega arith)) (λ (h : o + length bytes ≤ q). inr (omega arith)) out) ∙ is)
+        ∙ sym (get_put_all_out cells (page_size * n + o) bytes (page_size * n + q) (⊎_elim (λ (h : q < o). inl (omega arith)) (λ (h : o + length bytes ≤ q). inr (omega arith)) out) ∙ is)
 
     inside : o ≤ q → q < o + length bytes → Some (cell_in new q) ≡ map.get (put_all cells (page_size * n + o) bytes) (page_size * n + q)
     inside above within =
@@ -189,19 +189,19 @@ written_same cells n o bytes old new q writes l is =
         let there : page_size * n + o + k ≡ page_size * n + q = omega arith in
         let was : map.get cells (page_size * n + o + k) ≡ Some (cell_in old q) = subst (λ (x : ℕ). map.get cells x ≡ Some (cell_in old q)) (sym there) is in
         let now : map.get (put_all cells (page_size * n + o) bytes) (page_size * n + o + k) ≡ Some (record { byte = get_or bytes k 0; rights = old.rights }) =
-        get-put_all_in cells (page_size * n + o) bytes k (cell_in old q) (omega arith) was in
+        get_put_all_in cells (page_size * n + o) bytes k (cell_in old q) (omega arith) was in
         let byte : get_or new.bytes q 0 ≡ get_or bytes k 0 = subst (λ (x : ℕ). get_or new.bytes x 0 ≡ get_or bytes k 0) at (writes.inside k (omega arith)) in
         same_cell _ _ _ _ byte writes.rights ∙ sym (subst (λ (x : ℕ). map.get (put_all cells (page_size * n + o) bytes) x ≡ Some (record { byte = get_or bytes k 0; rights = old.rights })) there now)
 
 -- a page in the place of the first with its number stands for the cells with bytes put into that page
-pub cells-set : (ps : List GuestPage) (i n o : ℕ) (bytes : List ℕ) (new d : GuestPage) → place_of (numbers ps) n ≡ Some i → new.number ≡ n → Rewrites (get_or ps i d) new o bytes → mapped_cells (set ps i new) ≡ put_all (mapped_cells ps) (page_size * n + o) bytes
-cells-set ps i n o bytes new d is numbered writes = same_map nat_cmp_total nat_cmp-IsAntisymmetric _ _ (by_page (λ q. map.get (mapped_cells (set ps i new)) q ≡ map.get (put_all (mapped_cells ps) (page_size * n + o) bytes) q) each)
+pub cells_set : (ps : List GuestPage) (i n o : ℕ) (bytes : List ℕ) (new d : GuestPage) → place_of (numbers ps) n ≡ Some i → new.number ≡ n → Rewrites (get_or ps i d) new o bytes → mapped_cells (set ps i new) ≡ put_all (mapped_cells ps) (page_size * n + o) bytes
+cells_set ps i n o bytes new d is numbered writes = same_map nat_cmp_total nat_cmp-IsAntisymmetric _ _ (by_page (λ q. map.get (mapped_cells (set ps i new)) q ≡ map.get (put_all (mapped_cells ps) (page_size * n + o) bytes) q) each)
   where
     found : (i < length (numbers ps)) × (get_or (numbers ps) i 0 ≡ n)
-    found = place_of-in (numbers ps) n i is
+    found = place_of_in (numbers ps) n i is
 
     same_numbers : numbers (set ps i new) ≡ numbers ps
-    same_numbers = numbers-set ps i new (numbered ∙ sym found.1)
+    same_numbers = numbers_set ps i new (numbered ∙ sym found.1)
 
     i_below : i < length ps
     i_below = omega (arith, found.0, length-map ps (λ (p : GuestPage). p.number))
@@ -217,115 +217,115 @@ cells-set ps i n o bytes new d is numbered writes = same_map nat_cmp_total nat_c
     at_page : (m q : ℕ) → q < page_size → m ≡ n → map.get (mapped_cells (set ps i new)) (page_size * m + q) ≡ map.get (put_all (mapped_cells ps) (page_size * n + o) bytes) (page_size * m + q)
     at_page m q l same =
         let now : map.get (mapped_cells (set ps i new)) (page_size * n + q) ≡ Some (cell_in new q) =
-        get-cells_some (set ps i new) n i q d l (ap (λ (ns : List ℕ). place_of ns n) same_numbers ∙ is) ∙ ap (λ (p : GuestPage). Some (cell_in p q)) (get_or-set_same ps i new d i_below) in
+        get_cells_some (set ps i new) n i q d l (ap (λ (ns : List ℕ). place_of ns n) same_numbers ∙ is) ∙ ap (λ (p : GuestPage). Some (cell_in p q)) (get_or-set_same ps i new d i_below) in
         subst (λ (x : ℕ). map.get (mapped_cells (set ps i new)) (page_size * x + q) ≡ map.get (put_all (mapped_cells ps) (page_size * n + o) bytes) (page_size * x + q)) (sym same)
-        (now ∙ written_same (mapped_cells ps) n o bytes (get_or ps i d) new q writes l (get-cells_some ps n i q d l is))
+        (now ∙ written_same (mapped_cells ps) n o bytes (get_or ps i d) new q writes l (get_cells_some ps n i q d l is))
 
     each : (m q : ℕ) → q < page_size → map.get (mapped_cells (set ps i new)) (page_size * m + q) ≡ map.get (put_all (mapped_cells ps) (page_size * n + o) bytes) (page_size * m + q)
     each m q l =
         ⊎_elim (λ (none : place_of (numbers ps) m ≡ None).
-        get-cells_none (set ps i new) m q l (ap (λ (ns : List ℕ). place_of ns m) same_numbers ∙ none) ∙ sym (get-put_all_none (mapped_cells ps) (page_size * n + o) bytes (page_size * m + q) (get-cells_none ps m q l none)))
+        get_cells_none (set ps i new) m q l (ap (λ (ns : List ℕ). place_of ns m) same_numbers ∙ none) ∙ sym (get_put_all_none (mapped_cells ps) (page_size * n + o) bytes (page_size * m + q) (get_cells_none ps m q l none)))
         (λ (some : (j : ℕ) × (place_of (numbers ps) m ≡ Some j)).
         let j : ℕ = some.0 in
-        let there : (j < length (numbers ps)) × (get_or (numbers ps) j 0 ≡ m) = place_of-in (numbers ps) m j some.1 in
+        let there : (j < length (numbers ps)) × (get_or (numbers ps) j 0 ≡ m) = place_of_in (numbers ps) m j some.1 in
         let now : map.get (mapped_cells (set ps i new)) (page_size * m + q) ≡ Some (cell_in (get_or (set ps i new) j d) q) =
-        get-cells_some (set ps i new) m j q d l (ap (λ (ns : List ℕ). place_of ns m) same_numbers ∙ some.1) in
-        let was : map.get (mapped_cells ps) (page_size * m + q) ≡ Some (cell_in (get_or ps j d) q) = get-cells_some ps m j q d l some.1 in
+        get_cells_some (set ps i new) m j q d l (ap (λ (ns : List ℕ). place_of ns m) same_numbers ∙ some.1) in
+        let was : map.get (mapped_cells ps) (page_size * m + q) ≡ Some (cell_in (get_or ps j d) q) = get_cells_some ps m j q d l some.1 in
         ⊎_elim (λ (same : j ≡ i). at_page m q l (sym there.1 ∙ ap (λ (x : ℕ). get_or (numbers ps) x 0) same ∙ found.1))
         (λ (apart : j ≢ i).
         let other : m ≢ n = λ (same : m ≡ n). apart (same_place j (subst (λ (x : ℕ). place_of (numbers ps) x ≡ Some j) same some.1)) in
         now ∙ ap (λ (p : GuestPage). Some (cell_in p q)) (get_or-set_other ps i j new d apart)
-        ∙ sym (get-put_all_out (mapped_cells ps) (page_size * n + o) bytes (page_size * m + q) (elsewhere m q l other) ∙ was))
+        ∙ sym (get_put_all_out (mapped_cells ps) (page_size * n + o) bytes (page_size * m + q) (elsewhere m q l other) ∙ was))
         (cases_eq j i))
         (told (place_of (numbers ps) m))
 
 -- a list of page numbers behind another
-pub place_of-append_some : (ms ns : List ℕ) (n i : ℕ) → place_of ms n ≡ Some i → place_of (ms ++ ns) n ≡ Some i
-place_of-append_some [] ns n i is = cc
-place_of-append_some (m ∷ ms) ns n i is =
-    elim (place_of-step m ms n) [
-      | inl first ↦ place_of-same m (ms ++ ns) n first.0 ∙ (let e : ◌≡◌ {A = Option ℕ} (Some 0) (Some i) = cc in e)
+pub place_of_append_some : (ms ns : List ℕ) (n i : ℕ) → place_of ms n ≡ Some i → place_of (ms ++ ns) n ≡ Some i
+place_of_append_some [] ns n i is = cc
+place_of_append_some (m ∷ ms) ns n i is =
+    elim (place_of_step m ms n) [
+      | inl first ↦ place_of_same m (ms ++ ns) n first.0 ∙ (let e : ◌≡◌ {A = Option ℕ} (Some 0) (Some i) = cc in e)
       | inr later ↦ elim later [
         | inl nowhere ↦ cc
-        | inr there ↦ place_of-later m (ms ++ ns) n there.0 there.1 (place_of-append_some ms ns n there.0 there.2) ∙ (let e : ◌≡◌ {A = Option ℕ} (Some (there.0 + 1)) (Some i) = cc in e)
+        | inr there ↦ place_of_later m (ms ++ ns) n there.0 there.1 (place_of_append_some ms ns n there.0 there.2) ∙ (let e : ◌≡◌ {A = Option ℕ} (Some (there.0 + 1)) (Some i) = cc in e)
       ]
     ]
 
-pub place_of-append_none : (ms ns : List ℕ) (n j : ℕ) → place_of ms n ≡ None → place_of ns n ≡ Some j → place_of (ms ++ ns) n ≡ Some (length ms + j)
-place_of-append_none [] ns n j none is = is ∙ ap (λ (x : ℕ). Some x) (let e : j ≡ 0 + j = omega arith in e)
-place_of-append_none (m ∷ ms) ns n j none is =
-    elim (place_of-step m ms n) [
+pub place_of_append_none : (ms ns : List ℕ) (n j : ℕ) → place_of ms n ≡ None → place_of ns n ≡ Some j → place_of (ms ++ ns) n ≡ Some (length ms + j)
+place_of_append_none [] ns n j none is = is ∙ ap (λ (x : ℕ). Some x) (let e : j ≡ 0 + j = omega arith in e)
+place_of_append_none (m ∷ ms) ns n j none is =
+    elim (place_of_step m ms n) [
       | inl first ↦ cc
       | inr later ↦ elim later [
-        | inl nowhere ↦ place_of-later m (ms ++ ns) n (length ms + j) nowhere.0 (place_of-append_none ms ns n j nowhere.1.0 is) ∙ ap (λ (x : ℕ). Some x) (let e : length ms + j + 1 ≡ suc (length ms) + j = omega arith in e)
+        | inl nowhere ↦ place_of_later m (ms ++ ns) n (length ms + j) nowhere.0 (place_of_append_none ms ns n j nowhere.1.0 is) ∙ ap (λ (x : ℕ). Some x) (let e : length ms + j + 1 ≡ suc (length ms) + j = omega arith in e)
         | inr there ↦ cc
       ]
     ]
 
-pub place_of-append_nowhere : (ms ns : List ℕ) (n : ℕ) → place_of ms n ≡ None → place_of ns n ≡ None → place_of (ms ++ ns) n ≡ None
-place_of-append_nowhere [] ns n none is = is
-place_of-append_nowhere (m ∷ ms) ns n none is =
-    elim (place_of-step m ms n) [
+pub place_of_append_nowhere : (ms ns : List ℕ) (n : ℕ) → place_of ms n ≡ None → place_of ns n ≡ None → place_of (ms ++ ns) n ≡ None
+place_of_append_nowhere [] ns n none is = is
+place_of_append_nowhere (m ∷ ms) ns n none is =
+    elim (place_of_step m ms n) [
       | inl first ↦ cc
       | inr later ↦ elim later [
-        | inl nowhere ↦ place_of-nowhere m (ms ++ ns) n nowhere.0 (place_of-append_nowhere ms ns n nowhere.1.0 is)
+        | inl nowhere ↦ place_of_nowhere m (ms ++ ns) n nowhere.0 (place_of_append_nowhere ms ns n nowhere.1.0 is)
         | inr there ↦ cc
       ]
     ]
 
 -- numbers that rise
-pub place_of-range_in : (a count k : ℕ) → k < count → place_of (range_with_len a count) (a + k) ≡ Some k
-place_of-range_in a zero k l = absurd (omega arith)
-place_of-range_in a (suc count) zero l = place_of-same a (range_with_len (a + 1) count) (a + 0) (omega arith)
-place_of-range_in a (suc count) (suc k) l =
+pub place_of_range_in : (a count k : ℕ) → k < count → place_of (range_with_len a count) (a + k) ≡ Some k
+place_of_range_in a zero k l = absurd (omega arith)
+place_of_range_in a (suc count) zero l = place_of_same a (range_with_len (a + 1) count) (a + 0) (omega arith)
+place_of_range_in a (suc count) (suc k) l =
     let rest : place_of (range_with_len (a + 1) count) (a + suc k) ≡ Some k =
-    subst (λ (x : ℕ). place_of (range_with_len (a + 1) count) x ≡ Some k) (let e : a + 1 + k ≡ a + suc k = omega arith in e) (place_of-range_in (a + 1) count k (omega arith)) in
-    place_of-later a (range_with_len (a + 1) count) (a + suc k) k (λ same. omega arith) rest ∙ ap (λ (x : ℕ). Some x) (let e : k + 1 ≡ suc k = omega arith in e)
+    subst (λ (x : ℕ). place_of (range_with_len (a + 1) count) x ≡ Some k) (let e : a + 1 + k ≡ a + suc k = omega arith in e) (place_of_range_in (a + 1) count k (omega arith)) in
+    place_of_later a (range_with_len (a + 1) count) (a + suc k) k (λ same. omega arith) rest ∙ ap (λ (x : ℕ). Some x) (let e : k + 1 ≡ suc k = omega arith in e)
 
-pub place_of-range_out : (a count n : ℕ) → (n < a) ⊎ (a + count ≤ n) → place_of (range_with_len a count) n ≡ None
-place_of-range_out a zero n out = refl
-place_of-range_out a (suc count) n out =
+pub place_of_range_out : (a count n : ℕ) → (n < a) ⊎ (a + count ≤ n) → place_of (range_with_len a count) n ≡ None
+place_of_range_out a zero n out = refl
+place_of_range_out a (suc count) n out =
     let apart : a ≢ n = ⊎_elim (λ l same. omega arith) (λ l same. omega arith) out in
     let later : (n < a + 1) ⊎ (a + 1 + count ≤ n) = ⊎_elim (λ l. inl (omega arith)) (λ l. inr (omega arith)) out in
-    place_of-nowhere a (range_with_len (a + 1) count) n apart (place_of-range_out (a + 1) count n later)
+    place_of_nowhere a (range_with_len (a + 1) count) n apart (place_of_range_out (a + 1) count n later)
 
 -- where a table finds a page
 module _ (found : ℕ → Option ℕ) (ns : List ℕ) (fixed heap : ℕ) (table : IsPageTable found ns fixed heap) where
   split : take fixed ns ++ drop fixed ns ≡ ns
   split = take-append-drop fixed ns
 
-  length-fixed : length (take fixed ns) ≡ fixed
-  length-fixed = length-take-le fixed ns table.fixed_in
+  length_fixed : length (take fixed ns) ≡ fixed
+  length_fixed = length-take-le fixed ns table.fixed_in
 
-  pub place_of-heap : (n k : ℕ) → n ≡ heap + k → k < length ns - fixed → place_of ns n ≡ Some (fixed + k)
-  place_of-heap n k at l =
+  pub place_of_heap : (n k : ℕ) → n ≡ heap + k → k < length ns - fixed → place_of ns n ≡ Some (fixed + k)
+  place_of_heap n k at l =
       let bounded : heap + (length ns - fixed) ≤ room_pages = table.bounded in
       let behind : place_of (drop fixed ns) n ≡ Some k =
-      ap (λ (ms : List ℕ). place_of ms n) table.rising ∙ subst (λ (x : ℕ). place_of (range_with_len heap (length ns - fixed)) x ≡ Some k) (sym at) (place_of-range_in heap (length ns - fixed) k l) in
+      ap (λ (ms : List ℕ). place_of ms n) table.rising ∙ subst (λ (x : ℕ). place_of (range_with_len heap (length ns - fixed)) x ≡ Some k) (sym at) (place_of_range_in heap (length ns - fixed) k l) in
       subst (λ (ms : List ℕ). place_of ms n ≡ Some (fixed + k)) split
-      (place_of-append_none (take fixed ns) (drop fixed ns) n k (table.apart n (omega arith) (omega arith)) behind ∙ ap (λ (x : ℕ). Some (x + k)) length-fixed)
+      (place_of_append_none (take fixed ns) (drop fixed ns) n k (table.apart n (omega arith) (omega arith)) behind ∙ ap (λ (x : ℕ). Some (x + k)) length_fixed)
 
-  pub place_of-fixed : (n : ℕ) → (n < heap) ⊎ (heap + (length ns - fixed) ≤ n) → n < 2 ^ 20 → place_of ns n ≡ found n
-  place_of-fixed n out l =
-      let behind : place_of (drop fixed ns) n ≡ None = ap (λ (ms : List ℕ). place_of ms n) table.rising ∙ place_of-range_out heap (length ns - fixed) n out in
+  pub place_of_fixed : (n : ℕ) → (n < heap) ⊎ (heap + (length ns - fixed) ≤ n) → n < 2 ^ 20 → place_of ns n ≡ found n
+  place_of_fixed n out l =
+      let behind : place_of (drop fixed ns) n ≡ None = ap (λ (ms : List ℕ). place_of ms n) table.rising ∙ place_of_range_out heap (length ns - fixed) n out in
       subst (λ (ms : List ℕ). place_of ms n ≡ found n) split
-      (⊎_elim (λ (none : place_of (take fixed ns) n ≡ None). place_of-append_nowhere (take fixed ns) (drop fixed ns) n none behind ∙ sym none ∙ sym (table.indexed n l))
-      (λ (some : (j : ℕ) × (place_of (take fixed ns) n ≡ Some j)). place_of-append_some (take fixed ns) (drop fixed ns) n some.0 some.1 ∙ sym some.1 ∙ sym (table.indexed n l))
+      (⊎_elim (λ (none : place_of (take fixed ns) n ≡ None). place_of_append_nowhere (take fixed ns) (drop fixed ns) n none behind ∙ sym none ∙ sym (table.indexed n l))
+      (λ (some : (j : ℕ) × (place_of (take fixed ns) n ≡ Some j)). place_of_append_some (take fixed ns) (drop fixed ns) n some.0 some.1 ∙ sym some.1 ∙ sym (table.indexed n l))
       (told (place_of (take fixed ns) n)))
 
 -- what an access asks of the page that holds its address
-pub byte_for-some : (right : Right) (ps : List GuestPage) (n i o : ℕ) (d : GuestPage) → o < page_size → place_of (numbers ps) n ≡ Some i → permits right (get_or ps i d).rights ≡ true → byte_for right (mapped_cells ps) (page_size * n + o) ≡ Some (get_or (get_or ps i d).bytes o 0)
-byte_for-some right ps n i o d l is may = ap (permitted right) (get-cells_some ps n i o d l is) ∙ ap (λ (b : Bool). cond b (Some (get_or (get_or ps i d).bytes o 0)) None) may
+pub byte_for_some : (right : Right) (ps : List GuestPage) (n i o : ℕ) (d : GuestPage) → o < page_size → place_of (numbers ps) n ≡ Some i → permits right (get_or ps i d).rights ≡ true → byte_for right (mapped_cells ps) (page_size * n + o) ≡ Some (get_or (get_or ps i d).bytes o 0)
+byte_for_some right ps n i o d l is may = ap (permitted right) (get_cells_some ps n i o d l is) ∙ ap (λ (b : Bool). cond b (Some (get_or (get_or ps i d).bytes o 0)) None) may
 
-byte_for-denied : (right : Right) (ps : List GuestPage) (n i o : ℕ) (d : GuestPage) → o < page_size → place_of (numbers ps) n ≡ Some i → permits right (get_or ps i d).rights ≡ false → byte_for right (mapped_cells ps) (page_size * n + o) ≡ None
-byte_for-denied right ps n i o d l is may = ap (permitted right) (get-cells_some ps n i o d l is) ∙ ap (λ (b : Bool). cond b (Some (get_or (get_or ps i d).bytes o 0)) None) may
+byte_for_denied : (right : Right) (ps : List GuestPage) (n i o : ℕ) (d : GuestPage) → o < page_size → place_of (numbers ps) n ≡ Some i → permits right (get_or ps i d).rights ≡ false → byte_for right (mapped_cells ps) (page_size * n + o) ≡ None
+byte_for_denied right ps n i o d l is may = ap (permitted right) (get_cells_some ps n i o d l is) ∙ ap (λ (b : Bool). cond b (Some (get_or (get_or ps i d).bytes o 0)) None) may
 
-byte_for-none : (right : Right) (ps : List GuestPage) (n o : ℕ) → o < page_size → place_of (numbers ps) n ≡ None → byte_for right (mapped_cells ps) (page_size * n + o) ≡ None
-byte_for-none right ps n o l is = ap (permitted right) (get-cells_none ps n o l is)
+byte_for_none : (right : Right) (ps : List GuestPage) (n o : ℕ) → o < page_size → place_of (numbers ps) n ≡ None → byte_for right (mapped_cells ps) (page_size * n + o) ≡ None
+byte_for_none right ps n o l is = ap (permitted right) (get_cells_none ps n o l is)
 
-pub within-some : (right : Right) (ps : List GuestPage) (a i k : ℕ) (d : GuestPage) → a % page_size + k ≤ page_size → length (get_or ps i d).bytes ≡ page_size → place_of (numbers ps) (a / page_size) ≡ Some i → permits right (get_or ps i d).rights ≡ true
+pub within_some : (right : Right) (ps : List GuestPage) (a i k : ℕ) (d : GuestPage) → a % page_size + k ≤ page_size → length (get_or ps i d).bytes ≡ page_size → place_of (numbers ps) (a / page_size) ≡ Some i → permits right (get_or ps i d).rights ≡ true
     → bytes_for right k (mapped_cells ps) a ≡ Some (take k (drop (a % page_size) (get_or ps i d).bytes))
-within-some right ps a i k d fits whole is may =
+within_some right ps a i k d fits whole is may =
     let bytes : List ℕ = (get_or ps i d).bytes in
     let part : List ℕ = take k (drop (a % page_size) bytes) in
     let as_long : length part ≡ k = length-take-le k (drop (a % page_size) bytes) (omega (arith, length-drop (a % page_size) bytes)) in
@@ -333,85 +333,85 @@ within-some right ps a i k d fits whole is may =
     λ o l.
     let there : page_size * (a / page_size) + (a % page_size + o) ≡ a + o = omega arith in
     let read : get_or part o 0 ≡ get_or bytes (a % page_size + o) 0 = get_or-take k (drop (a % page_size) bytes) o 0 (omega arith) ∙ get_or-drop (a % page_size) bytes o 0 in
-    subst (λ (x : ℕ). byte_for right (mapped_cells ps) x ≡ Some (get_or part o 0)) there (byte_for-some right ps (a / page_size) i (a % page_size + o) d (omega arith) is may ∙ ap (λ (x : ℕ). Some x) (sym read)) in
-    subst (λ (x : ℕ). bytes_for right x (mapped_cells ps) a ≡ Some part) as_long (bytes_for-all right (mapped_cells ps) part a each)
+    subst (λ (x : ℕ). byte_for right (mapped_cells ps) x ≡ Some (get_or part o 0)) there (byte_for_some right ps (a / page_size) i (a % page_size + o) d (omega arith) is may ∙ ap (λ (x : ℕ). Some x) (sym read)) in
+    subst (λ (x : ℕ). bytes_for right x (mapped_cells ps) a ≡ Some part) as_long (bytes_for_all right (mapped_cells ps) part a each)
 
-pub within-denied : (right : Right) (ps : List GuestPage) (a i k : ℕ) (d : GuestPage) → 0 < k → place_of (numbers ps) (a / page_size) ≡ Some i → permits right (get_or ps i d).rights ≡ false → bytes_for right k (mapped_cells ps) a ≡ None
-within-denied right ps a i k d some is may =
-    bytes_for-none right (mapped_cells ps) k a 0 some
-    (subst (λ (x : ℕ). byte_for right (mapped_cells ps) x ≡ None) (let e : page_size * (a / page_size) + a % page_size ≡ a + 0 = omega arith in e) (byte_for-denied right ps (a / page_size) i (a % page_size) d (omega arith) is may))
+pub within_denied : (right : Right) (ps : List GuestPage) (a i k : ℕ) (d : GuestPage) → 0 < k → place_of (numbers ps) (a / page_size) ≡ Some i → permits right (get_or ps i d).rights ≡ false → bytes_for right k (mapped_cells ps) a ≡ None
+within_denied right ps a i k d some is may =
+    bytes_for_none right (mapped_cells ps) k a 0 some
+    (subst (λ (x : ℕ). byte_for right (mapped_cells ps) x ≡ None) (let e : page_size * (a / page_size) + a % page_size ≡ a + 0 = omega arith in e) (byte_for_denied right ps (a / page_size) i (a % page_size) d (omega arith) is may))
 
-pub within-none : (right : Right) (ps : List GuestPage) (a k : ℕ) → 0 < k → place_of (numbers ps) (a / page_size) ≡ None → bytes_for right k (mapped_cells ps) a ≡ None
-within-none right ps a k some is =
-    bytes_for-none right (mapped_cells ps) k a 0 some
-    (subst (λ (x : ℕ). byte_for right (mapped_cells ps) x ≡ None) (let e : page_size * (a / page_size) + a % page_size ≡ a + 0 = omega arith in e) (byte_for-none right ps (a / page_size) (a % page_size) (omega arith) is))
+pub within_none : (right : Right) (ps : List GuestPage) (a k : ℕ) → 0 < k → place_of (numbers ps) (a / page_size) ≡ None → bytes_for right k (mapped_cells ps) a ≡ None
+within_none right ps a k some is =
+    bytes_for_none right (mapped_cells ps) k a 0 some
+    (subst (λ (x : ℕ). byte_for right (mapped_cells ps) x ≡ None) (let e : page_size * (a / page_size) + a % page_size ≡ a + 0 = omega arith in e) (byte_for_none right ps (a / page_size) (a % page_size) (omega arith) is))
 
 -- a write within the page that holds an address
 numbered : (ps : List GuestPage) (n i : ℕ) (d : GuestPage) → place_of (numbers ps) n ≡ Some i → (get_or ps i d).number ≡ n
 numbered ps n i d is =
-    let found : (i < length (numbers ps)) × (get_or (numbers ps) i 0 ≡ n) = place_of-in (numbers ps) n i is in
+    let found : (i < length (numbers ps)) × (get_or (numbers ps) i 0 ≡ n) = place_of_in (numbers ps) n i is in
     let below : i < length ps = omega (arith, found.0, length-map ps (λ (p : GuestPage). p.number)) in
     sym (get_or-map (λ (p : GuestPage). p.number) ps i d 0 below) ∙ found.1
 
-pub numbers-put : (ps : List GuestPage) (n i o : ℕ) (bytes : List ℕ) (new d : GuestPage) → place_of (numbers ps) n ≡ Some i → Rewrites (get_or ps i d) new o bytes → numbers (set ps i new) ≡ numbers ps
-numbers-put ps n i o bytes new d is writes = numbers-set ps i new (writes.number ∙ numbered ps n i d is ∙ sym (place_of-in (numbers ps) n i is).1)
+pub numbers_put : (ps : List GuestPage) (n i o : ℕ) (bytes : List ℕ) (new d : GuestPage) → place_of (numbers ps) n ≡ Some i → Rewrites (get_or ps i d) new o bytes → numbers (set ps i new) ≡ numbers ps
+numbers_put ps n i o bytes new d is writes = numbers_set ps i new (writes.number ∙ numbered ps n i d is ∙ sym (place_of_in (numbers ps) n i is).1)
 
-pub cells-put : (ps : List GuestPage) (a i : ℕ) (bytes : List ℕ) (new d : GuestPage) → place_of (numbers ps) (a / page_size) ≡ Some i → Rewrites (get_or ps i d) new (a % page_size) bytes → mapped_cells (set ps i new) ≡ put_all (mapped_cells ps) a bytes
-cells-put ps a i bytes new d is writes =
+pub cells_put : (ps : List GuestPage) (a i : ℕ) (bytes : List ℕ) (new d : GuestPage) → place_of (numbers ps) (a / page_size) ≡ Some i → Rewrites (get_or ps i d) new (a % page_size) bytes → mapped_cells (set ps i new) ≡ put_all (mapped_cells ps) a bytes
+cells_put ps a i bytes new d is writes =
     subst (λ (x : ℕ). mapped_cells (set ps i new) ≡ put_all (mapped_cells ps) x bytes) (let e : page_size * (a / page_size) + a % page_size ≡ a = omega arith in e)
-    (cells-set ps i (a / page_size) (a % page_size) bytes new d is (writes.number ∙ numbered ps (a / page_size) i d is) writes)
+    (cells_set ps i (a / page_size) (a % page_size) bytes new d is (writes.number ∙ numbered ps (a / page_size) i d is) writes)
 
 -- no page has an address at or past 2^32
-pub byte_for-past : (right : Right) (ps : List GuestPage) (a : ℕ) → ((n : ℕ) → 2 ^ 20 ≤ n → place_of (numbers ps) n ≡ None) → 2 ^ 32 ≤ a → byte_for right (mapped_cells ps) a ≡ None
-byte_for-past right ps a low l =
+pub byte_for_past : (right : Right) (ps : List GuestPage) (a : ℕ) → ((n : ℕ) → 2 ^ 20 ≤ n → place_of (numbers ps) n ≡ None) → 2 ^ 32 ≤ a → byte_for right (mapped_cells ps) a ≡ None
+byte_for_past right ps a low l =
     subst (λ (x : ℕ). byte_for right (mapped_cells ps) x ≡ None) (let e : page_size * (a / page_size) + a % page_size ≡ a = omega arith in e)
-    (byte_for-none right ps (a / page_size) (a % page_size) (omega arith) (low (a / page_size) (omega arith)))
+    (byte_for_none right ps (a / page_size) (a % page_size) (omega arith) (low (a / page_size) (omega arith)))
 
 -- one page number behind others
 one_other : (m n : ℕ) → n ≢ m → place_of (m ∷ []) n ≡ None
-one_other m n ne = place_of-nowhere m [] n (λ same. ne (sym same)) refl
+one_other m n ne = place_of_nowhere m [] n (λ same. ne (sym same)) refl
 
 pub pushed_known : (ms : List ℕ) (m j : ℕ) → place_of ms m ≡ Some j → (n : ℕ) → place_of (ms ++ m ∷ []) n ≡ place_of ms n
 pushed_known ms m j is n =
     ⊎_elim (λ (none : place_of ms n ≡ None).
     let ne : n ≢ m = λ (same : n ≡ m). (let at : place_of ms m ≡ None = subst (λ (x : ℕ). place_of ms x ≡ None) same none in cc) in
-    place_of-append_nowhere ms (m ∷ []) n none (one_other m n ne) ∙ sym none)
-    (λ (some : (k : ℕ) × (place_of ms n ≡ Some k)). place_of-append_some ms (m ∷ []) n some.0 some.1 ∙ sym some.1)
+    place_of_append_nowhere ms (m ∷ []) n none (one_other m n ne) ∙ sym none)
+    (λ (some : (k : ℕ) × (place_of ms n ≡ Some k)). place_of_append_some ms (m ∷ []) n some.0 some.1 ∙ sym some.1)
     (told (place_of ms n))
 
 pub pushed_new : (ms : List ℕ) (m : ℕ) → place_of ms m ≡ None → (n : ℕ) → place_of (ms ++ m ∷ []) n ≡ cond (eqb n m) (Some (length ms)) (place_of ms n)
 pushed_new ms m none n =
     ⊎_elim (λ (same : n ≡ m).
-    place_of-append_none ms (m ∷ []) n 0 (subst (λ (x : ℕ). place_of ms x ≡ None) (sym same) none) (place_of-same m [] n (sym same))
+    place_of_append_none ms (m ∷ []) n 0 (subst (λ (x : ℕ). place_of ms x ≡ None) (sym same) none) (place_of_same m [] n (sym same))
     ∙ ap (λ (x : ℕ). Some x) (let e : length ms + 0 ≡ length ms = omega arith in e) ∙ sym (ap (λ (b : Bool). cond b (Some (length ms)) (place_of ms n)) (eq-eqb n m same)))
     (λ (ne : n ≢ m). behind ne ∙ sym (ap (λ (b : Bool). cond b (Some (length ms)) (place_of ms n)) (ne_eqb n m ne)))
     (cases_eq n m)
   where
     behind : n ≢ m → place_of (ms ++ m ∷ []) n ≡ place_of ms n
     behind ne =
-        ⊎_elim (λ (nowhere : place_of ms n ≡ None). place_of-append_nowhere ms (m ∷ []) n nowhere (one_other m n ne) ∙ sym nowhere)
-        (λ (some : (k : ℕ) × (place_of ms n ≡ Some k)). place_of-append_some ms (m ∷ []) n some.0 some.1 ∙ sym some.1)
+        ⊎_elim (λ (nowhere : place_of ms n ≡ None). place_of_append_nowhere ms (m ∷ []) n nowhere (one_other m n ne) ∙ sym nowhere)
+        (λ (some : (k : ℕ) × (place_of ms n ≡ Some k)). place_of_append_some ms (m ∷ []) n some.0 some.1 ∙ sym some.1)
         (told (place_of ms n))
 
 pub numbers-more : (es : List Entry) (i : ℕ) (e : Entry) → i < length es → e ≡ get_or es i e → entry_numbers (take (i + 1) es) ≡ entry_numbers (take i es) ++ e.number ∷ []
 numbers-more es i e l is =
     ap entry_numbers (take_more es i e l) ∙ map-append (λ (x : Entry). x.number) (take i es) (get_or es i e ∷ []) ∙ ap (λ (x : Entry). entry_numbers (take i es) ++ x.number ∷ []) (sym is)
 
-pub length-numbers_so_far : (es : List Entry) (i : ℕ) → i ≤ length es → length (entry_numbers (take i es)) ≡ i
-length-numbers_so_far es i l = length-map (take i es) (λ (x : Entry). x.number) ∙ length-take-le i es l
+pub length_numbers_so_far : (es : List Entry) (i : ℕ) → i ≤ length es → length (entry_numbers (take i es)) ≡ i
+length_numbers_so_far es i l = length-map (take i es) (λ (x : Entry). x.number) ∙ length-take-le i es l
 
 -- a page of a table that is found where it stands is the first with its number
-pub known-place : (found : ℕ → Option ℕ) (ns : List ℕ) (fixed heap known : ℕ) → IsPageTable found ns fixed heap → AreKnown found (take fixed ns) known
+pub known_place : (found : ℕ → Option ℕ) (ns : List ℕ) (fixed heap known : ℕ) → IsPageTable found ns fixed heap → AreKnown found (take fixed ns) known
     → (i n : ℕ) → i < known → get_or ns i 0 ≡ n → n < 2 ^ 20 → place_of ns n ≡ Some i
-known-place found ns fixed heap known table are i n below is low =
+known_place found ns fixed heap known table are i n below is low =
     let long : length (take fixed ns) ≡ fixed = length-take-le fixed ns table.fixed_in in
     let at : get_or (take fixed ns) i 0 ≡ n = get_or-take fixed ns i 0 (omega (arith, are.within)) ∙ is in
     let among : place_of (take fixed ns) n ≡ Some i = sym (table.indexed n low) ∙ ap found (sym at) ∙ are.where_they_stand i below in
-    subst (λ (ms : List ℕ). place_of ms n ≡ Some i) (take-append-drop fixed ns) (place_of-append_some (take fixed ns) (drop fixed ns) n i among)
+    subst (λ (ms : List ℕ). place_of ms n ≡ Some i) (take-append-drop fixed ns) (place_of_append_some (take fixed ns) (drop fixed ns) n i among)
 
 -- one more page that is found where it stands
-pub known-more : (found : ℕ → Option ℕ) (ns : List ℕ) (known : ℕ) → AreKnown found ns known → known < length ns → found (get_or ns known 0) ≡ Some known → AreKnown found ns (known + 1)
-known-more found ns known are l is = record {
+pub known_more : (found : ℕ → Option ℕ) (ns : List ℕ) (known : ℕ) → AreKnown found ns known → known < length ns → found (get_or ns known 0) ≡ Some known → AreKnown found ns (known + 1)
+known_more found ns known are l is = record {
   within = omega arith;
   where_they_stand = λ i below. ⊎_elim (λ (less : i < known). are.where_they_stand i less)
       (λ (above : known ≤ i). let same : known ≡ i = omega arith in subst (λ (x : ℕ). found (get_or ns x 0) ≡ Some x) same is) (cases_lt i known);

@@ -15,12 +15,12 @@ stack_base = 0xBFF00000
 abbrev pub stack_end : ℕ
 stack_end = 0xC0000000
 
-stack-fills : stack_base + page_size * stack_pages ≡ stack_end
-stack-fills = refl
+stack_fills : stack_base + page_size * stack_pages ≡ stack_end
+stack_fills = refl
 
 -- the most pages of a program leave room for those of the stack
-max_program_pages-fill : max_program_pages + stack_pages ≡ max_pages
-max_program_pages-fill = refl
+max_program_pages_fill : max_program_pages + stack_pages ≡ max_pages
+max_program_pages_fill = refl
 
 -- the image's cells, and the stack; the break stands where the heap begins
 unfoldable pub opening : ProgramImage → Memory

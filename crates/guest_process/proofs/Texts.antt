@@ -7,10 +7,10 @@ use Rattle.guest_mem.specs.Memory.{Memory, low_bytes}
 use Rattle.guest_mem.specs.Opening.{opening}
 use Rattle.guest_process.specs.Start.{texts_bytes, pointers, rounded_down, texts_at, auxiliary_vector, words_at, fixed_words, start_words, stack_pointer, word_bytes, filled, start_memory, IsStarted}
 
-pub texts_bytes-append : (xs ys : List (List ℕ)) → texts_bytes (xs ++ ys) ≡ texts_bytes xs ++ texts_bytes ys
-texts_bytes-append [] ys = refl
-texts_bytes-append (x ∷ xs) ys =
-    ap (λ (bs : List ℕ). (x ++ 0 ∷ []) ++ bs) (texts_bytes-append xs ys) ∙ sym (append_assoc (x ++ 0 ∷ []) (texts_bytes xs) (texts_bytes ys))
+pub texts_bytes_append : (xs ys : List (List ℕ)) → texts_bytes (xs ++ ys) ≡ texts_bytes xs ++ texts_bytes ys
+texts_bytes_append [] ys = refl
+texts_bytes_append (x ∷ xs) ys =
+    ap (λ (bs : List ℕ). (x ++ 0 ∷ []) ++ bs) (texts_bytes_append xs ys) ∙ sym (append_assoc (x ++ 0 ∷ []) (texts_bytes xs) (texts_bytes ys))
 
 pub texts_count : (xs : List (List ℕ)) → length xs ≤ length (texts_bytes xs)
 texts_count [] = omega arith
@@ -43,7 +43,7 @@ words_few at arguments environment few =
       words_count at arguments environment,
       texts_count arguments,
       texts_count environment,
-      ap length (texts_bytes-append arguments environment),
+      ap length (texts_bytes_append arguments environment),
       length-append (texts_bytes arguments) (texts_bytes environment),
     )
 

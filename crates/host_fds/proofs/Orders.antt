@@ -9,5 +9,5 @@ cut : (n m : ℕ) → n ≤ m → (b : Bool) → nat_lt n m ≡ b → unwrap_or 
 cut n m h true e = refl
 cut n m h false e = grind (arith, nat_tests)
 
-pub position-unwrap_or : {X : Type 0} (p : X → Bool) (xs : List X) → unwrap_or (position p xs) (length xs) ≡ position_or_len p xs
-position-unwrap_or p xs = cut (position_or_len p xs) (length xs) (prefix_len-le-length _ xs) (nat_lt (position_or_len p xs) (length xs)) refl
+pub position_unwrap_or : {X : Type 0} (p : X → Bool) (xs : List X) → unwrap_or (position p xs) (length xs) ≡ position_or_len p xs
+position_unwrap_or p xs = cut (position_or_len p xs) (length xs) (prefix_len-le-length _ xs) (nat_lt (position_or_len p xs) (length xs)) refl

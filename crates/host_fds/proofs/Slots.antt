@@ -37,9 +37,9 @@ find_at (Some o ∷ slots) fd (suc i) q at =
     let differ : q ≢ fd = omega arith in
     ap (λ b. cond b (Some o) (find nat_cmp q (entries_from (fd + 1) slots))) (apart q fd differ) ∙ find_at slots (fd + 1) i q (omega arith)
 
-pub get-descriptors_of : (slots : List (Option ObjectId)) (q : ℕ) → get (descriptors_of slots) q ≡ get_or slots q None
+pub get_descriptors_of : (slots : List (Option ObjectId)) (q : ℕ) → get (descriptors_of slots) q ≡ get_or slots q None
 unfolding descriptors_of
-get-descriptors_of slots q = get-from_entries nat_cmp_total (entries_from 0 slots) q ∙ find_at slots 0 q q (omega arith)
+get_descriptors_of slots q = get-from_entries nat_cmp_total (entries_from 0 slots) q ∙ find_at slots 0 q q (omega arith)
 
 same_descriptors : (fds gds : Descriptors) → ((q : ℕ) → get fds q ≡ get gds q) → fds ≡ gds
 same_descriptors fds gds is = same_map nat_cmp_total nat_cmp-IsAntisymmetric fds gds is
@@ -47,13 +47,13 @@ same_descriptors fds gds is = same_map nat_cmp_total nat_cmp-IsAntisymmetric fds
 abbrev free_slots : ℕ → List (Option ObjectId)
 free_slots n = replicate n None
 
-get_or-none : (n q : ℕ) → get_or (free_slots n) q None ≡ None
-get_or-none zero q = refl
-get_or-none (suc n) zero = refl
-get_or-none (suc n) (suc q) = get_or-none n q
+get_or_none : (n q : ℕ) → get_or (free_slots n) q None ≡ None
+get_or_none zero q = refl
+get_or_none (suc n) zero = refl
+get_or_none (suc n) (suc q) = get_or_none n q
 
-pub descriptors_of-none : (n : ℕ) → descriptors_of (replicate n None) ≡ empty
-descriptors_of-none n = same_descriptors _ _ (λ q. get-descriptors_of (free_slots n) q ∙ get_or-none n q ∙ sym (get-empty nat_cmp q))
+pub descriptors_of_none : (n : ℕ) → descriptors_of (replicate n None) ≡ empty
+descriptors_of_none n = same_descriptors _ _ (λ q. get_descriptors_of (free_slots n) q ∙ get_or_none n q ∙ sym (get-empty nat_cmp q))
 
 -- what a look-up in the slots finds
 pub flattened : (found : Option (Option ObjectId)) → option_flatten found ≡ unwrap_or found None
@@ -73,28 +73,28 @@ none_from_test (Some o) absent = absurd (false≢true (sym absent))
 
 -- a slot that is written
 module _ (slots : List (Option ObjectId)) (fd : ℕ) (within : fd < length slots) where
-  get-written : (slot : Option ObjectId) (q : ℕ) → get (descriptors_of (set slots fd slot)) q ≡ cond (eq_by_cmp nat_cmp q fd) slot (get (descriptors_of slots) q)
-  get-written slot q =
+  get_written : (slot : Option ObjectId) (q : ℕ) → get (descriptors_of (set slots fd slot)) q ≡ cond (eq_by_cmp nat_cmp q fd) slot (get (descriptors_of slots) q)
+  get_written slot q =
       elim (eqb_tells q fd) [
         | inl is ↦
             let same : q ≡ fd = is.1 in
-            get-descriptors_of (set slots fd slot) q
+            get_descriptors_of (set slots fd slot) q
             ∙ ap (λ k. get_or (set slots fd slot) k None) same
             ∙ get_or-set_same slots fd slot None within
             ∙ sym (ap (λ b. cond b slot (get (descriptors_of slots) q)) (tied q fd same))
         | inr is ↦
             let differ : q ≢ fd = is.1 in
-            get-descriptors_of (set slots fd slot) q
+            get_descriptors_of (set slots fd slot) q
             ∙ get_or-set_other slots fd q slot None differ
-            ∙ sym (get-descriptors_of slots q)
+            ∙ sym (get_descriptors_of slots q)
             ∙ sym (ap (λ b. cond b slot (get (descriptors_of slots) q)) (apart q fd differ))
       ]
 
   pub placed : (object : ObjectId) → descriptors_of (set slots fd (Some object)) ≡ insert (descriptors_of slots) fd object
-  placed object = same_descriptors _ _ (λ q. get-written (Some object) q ∙ sym (get-insert nat_cmp_total (descriptors_of slots) fd object q))
+  placed object = same_descriptors _ _ (λ q. get_written (Some object) q ∙ sym (get-insert nat_cmp_total (descriptors_of slots) fd object q))
 
   pub freed : descriptors_of (set slots fd None) ≡ remove (descriptors_of slots) fd
-  freed = same_descriptors _ _ (λ q. get-written None q ∙ sym (get-remove nat_cmp_total (descriptors_of slots) fd q))
+  freed = same_descriptors _ _ (λ q. get_written None q ∙ sym (get-remove nat_cmp_total (descriptors_of slots) fd q))
 
 -- a number that is free already
 pub freed_already : (fds : Descriptors) (fd : ℕ) → get fds fd ≡ None → fds ≡ remove fds fd

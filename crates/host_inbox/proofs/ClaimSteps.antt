@@ -16,7 +16,7 @@ use Rattle.list_weights.specs.Weights.{weigh, numbers_below, only}
 use Rattle.host_inbox.specs.Entries.{place_of, claim, entry}
 use Rattle.host_inbox.specs.Inboxes.{IsSettled, IsPending, Fits, AreInboxes, known_weight}
 use Rattle.host_inbox.specs.Steps.{after_claim, after_full, Claimed}
-use Rattle.list_weights.proofs.Weights.{weigh-set}
+use Rattle.list_weights.proofs.Weights.{weigh_set}
 use Rattle.host_inbox.proofs.Weights.{weigh_next}
 use Rattle.host_inbox.proofs.Members.{within}
 use Rattle.host_inbox.proofs.Knowing.{same_place, claimed_few, claim_adds, full_adds, fits_taken}
@@ -40,7 +40,7 @@ module _ {T : Type 0} where
       → (other : ℕ) (h : ℕ → ℕ) → other < size.hosts → weigh (known_weight other h) (set s.views id w) ≡ weigh h (numbers_below (get_or (set s.words host m) other 0))
   claim_once size s host m id v w rule near at next adds other h there =
       let n : ℕ = get_or s.words host 0 in
-      let change = weigh-set (known_weight other h) s.views id v w at in
+      let change = weigh_set (known_weight other h) s.views id v w at in
       let more = adds other h in
       let before = rule.once other h there in
       let long = rule.words in
@@ -72,7 +72,7 @@ module _ {T : Type 0} where
       record {
         words = length-set s.words host m ∙ rule.words;
         homes = length-set s.homes k none ∙ rule.homes;
-        shares = (let change = weigh-set (λ (u : Known T). u.share) s.views id v w at in let all = rule.shares in omega arith);
+        shares = (let change = weigh_set (λ (u : Known T). u.share) s.views id v w at in let all = rule.shares in omega arith);
         few = rule.few;
         once = claim_once size s host m id v w rule near at next (λ other h. claim_adds v host n other h);
         free = λ other p there from below.
@@ -113,7 +113,7 @@ module _ {T : Type 0} where
       record {
         words = length-set s.words host m ∙ rule.words;
         homes = rule.homes;
-        shares = (let change = weigh-set (λ (u : Known T). u.share) s.views id v w at in let all = rule.shares in omega arith);
+        shares = (let change = weigh_set (λ (u : Known T). u.share) s.views id v w at in let all = rule.shares in omega arith);
         few = rule.few;
         once = claim_once size s host m id v w rule near at next (λ other h. full_adds v host n other h);
         free = λ other p there from below.

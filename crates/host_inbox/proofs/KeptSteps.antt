@@ -12,14 +12,14 @@ use Rattle.list_weights.specs.Weights.{weigh, numbers_below, only}
 use Rattle.host_inbox.specs.Entries.{entry_weight}
 use Rattle.host_inbox.specs.Drains.{numbers_of, IsInboxOf, IsDrained}
 use Rattle.host_inbox.specs.Kept.{back_weight, AreKept}
-use Rattle.list_weights.proofs.Weights.{weigh-append, weigh_once}
-use Rattle.list_weights.proofs.Permutations.{weigh-permutation}
+use Rattle.list_weights.proofs.Weights.{weigh_append, weigh_once}
+use Rattle.list_weights.proofs.Permutations.{weigh_permutation}
 use Rattle.host_inbox.proofs.CloseSteps.{numbers_weigh}
 
 -- the numbers below n + 1 are 0 and those after it
 shifted : (f : ℕ → ℕ) (n : ℕ) → weigh f (numbers_below (suc n)) ≡ f 0 + weigh (λ k. f (suc k)) (numbers_below n)
 shifted f zero = refl
-shifted f (suc n) = omega (arith, weigh-append f (numbers_below (suc n)) (suc n ∷ []), weigh-append (λ k. f (suc k)) (numbers_below n) (n ∷ []), shifted f n)
+shifted f (suc n) = omega (arith, weigh_append f (numbers_below (suc n)) (suc n ∷ []), weigh_append (λ k. f (suc k)) (numbers_below n) (n ∷ []), shifted f n)
 
 plus : {X : Type 0} (f g : X → ℕ) (xs : List X) → weigh (λ x. f x + g x) xs ≡ weigh f xs + weigh g xs
 plus f g [] = refl
@@ -75,7 +75,7 @@ module _ {T : Type 0} where
       let few : length row ≤ 16 = omega arith in
       let all : length row ≤ is.claimed = omega arith in
       sym (by_place h row is.claimed all)
-      ∙ weigh-permutation f (numbers_of host es) (numbers_below is.claimed) is.once
+      ∙ weigh_permutation f (numbers_of host es) (numbers_below is.claimed) is.once
       ∙ numbers_weigh host f es
       ∙ sym (all_entries_of h host row es few is.placed)
 

@@ -12,8 +12,8 @@ use Rattle.list_weights.specs.Weights.{weigh, numbers_below, only}
 use Rattle.host_inbox.specs.Entries.{place_of, claim, entry, claim_weight, entry_weight}
 use Rattle.host_inbox.specs.Inboxes.{IsSettled, IsPending, Fits, AreInboxes, known_weight}
 use Rattle.host_inbox.specs.Steps.{after_claim, after_full, after_settle}
-use Rattle.list_weights.proofs.Weights.{weigh-append, weigh_below, weigh-ones, length-numbers_below}
-use Rattle.host_inbox.proofs.Weights.{weigh-times}
+use Rattle.list_weights.proofs.Weights.{weigh_append, weigh_below, weigh_ones, length_numbers_below}
+use Rattle.host_inbox.proofs.Weights.{weigh_times}
 use Rattle.atomic_table.proofs.Lists.{set_else}
 
 only_at_most : (b : Bool) (n : ℕ) → only b n ≤ n
@@ -41,19 +41,19 @@ module _ {T : Type 0} where
   pub claimed_few : (size : Size) (s : State (Option T) (Known T)) (host : ℕ) → AreInboxes size s → host < size.hosts → get_or s.words host 0 ≤ 274877906944
   claimed_few size s host rule near =
       let all = rule.once host (λ _. 1) near in
-      let count = weigh-ones (numbers_below (get_or s.words host 0)) ∙ length-numbers_below (get_or s.words host 0) in
+      let count = weigh_ones (numbers_below (get_or s.words host 0)) ∙ length_numbers_below (get_or s.words host 0) in
       let below : weigh (known_weight host (λ _. 1)) s.views ≤ weigh (λ (v : Known T). v.share * 4294967296) s.views = weigh_below (known_weight host (λ _. 1)) (λ (v : Known T). v.share * 4294967296) s.views (λ j u at. known_few size.hosts s.homes host u (rule.each j u at)) in
-      let times = weigh-times (λ (v : Known T). v.share) s.views in
+      let times = weigh_times (λ (v : Known T). v.share) s.views in
       let shares = rule.shares in
       let few = rule.few in
       omega arith
 
   -- what each step adds to a seat's claims
   pub claim_adds : (v : Known T) (at n host : ℕ) (h : ℕ → ℕ) → known_weight host h (after_claim v at n) ≡ known_weight host h v + only (at == host) (h n)
-  claim_adds v at n host h = omega (arith, weigh-append (claim_weight host h) v.pending (claim at n ∷ []))
+  claim_adds v at n host h = omega (arith, weigh_append (claim_weight host h) v.pending (claim at n ∷ []))
 
   pub full_adds : (v : Known T) (at n host : ℕ) (h : ℕ → ℕ) → known_weight host h (after_full v at n) ≡ known_weight host h v + only (at == host) (h n)
-  full_adds v at n host h = let e : Entry (Option T) = entry at n None in omega (arith, weigh-append (entry_weight host h) v.settled (e ∷ []))
+  full_adds v at n host h = let e : Entry (Option T) = entry at n None in omega (arith, weigh_append (entry_weight host h) v.settled (e ∷ []))
 
   filled_weight : (x : Option T) (host : ℕ) (h : ℕ → ℕ) (xs : List Claim) → weigh (entry_weight host h) (map (λ (c : Claim). entry c.host c.number x) xs) ≡ weigh (claim_weight host h) xs
   filled_weight x host h [] = refl
@@ -61,7 +61,7 @@ module _ {T : Type 0} where
 
   pub settle_adds : (v : Known T) (x : Option T) (host : ℕ) (h : ℕ → ℕ) → known_weight host h (after_settle v x) ≡ known_weight host h v
   settle_adds v x host h = let m : List (Entry (Option T)) = map (λ (c : Claim). entry c.host c.number x) v.pending in
-      omega (arith, weigh-append (entry_weight host h) v.settled m, filled_weight x host h v.pending)
+      omega (arith, weigh_append (entry_weight host h) v.settled m, filled_weight x host h v.pending)
 
   -- what a seat knows stays so while an empty place at home is taken
   pub fits_taken : (hosts : ℕ) (homes : List (Place (Option T))) (k : ℕ) (v : Known T) → get_elem? homes k ≡ some (some None) → Fits hosts homes v → Fits hosts (set homes k none) v

@@ -15,7 +15,7 @@ use Rattle.host_inbox.specs.Entries.{place_of}
 use Rattle.host_inbox.specs.Drains.{numbers_of, IsInboxOf, IsDrained}
 use Rattle.host_inbox.specs.inside.Slots.{listed, parcels_from, row_of, AreLaid, AreClosed}
 use Rattle.list_weights.proofs.Weights.{is_number}
-use Rattle.list_weights.proofs.Permutations.{weigh-permutation}
+use Rattle.list_weights.proofs.Permutations.{weigh_permutation}
 use Rattle.host_inbox.proofs.Weights.{just_once}
 use Rattle.host_inbox.proofs.DrainSteps.{read_at}
 use Rattle.host_inbox.proofs.CloseSteps.{find_entry, numbers_weigh}
@@ -118,7 +118,7 @@ module _ {T : Type 0} where
       let here : k < is.claimed = omega arith in
       let small : k < 16 = omega arith in
       let one = just_once k is.claimed here in
-      let same = weigh-permutation (is_number k) (numbers_of host es) (numbers_below is.claimed) is.once in
+      let same = weigh_permutation (is_number k) (numbers_of host es) (numbers_below is.claimed) is.once in
       let sum = numbers_weigh host (is_number k) es in
       let Q : Entry T → Type 0 = λ e. P e.host e.parcel × (e.host ≡ host → e.number < 16 → slice_get row e.number ≡ Some e.parcel) in
       let found = find_entry Q host k es (omega arith) (recursion_from_All Q es (λ i e w. (holds i e w, is.placed i e w))) in

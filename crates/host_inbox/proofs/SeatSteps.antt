@@ -14,7 +14,7 @@ use Rattle.list_weights.specs.Weights.{weigh, numbers_below}
 use Rattle.host_inbox.specs.Entries.{place_of, claim_weight, entry_weight}
 use Rattle.host_inbox.specs.Inboxes.{IsSettled, IsPending, Fits, AreInboxes, known, known_weight}
 use Rattle.host_inbox.specs.Steps.{less_one, one, both, spent}
-use Rattle.list_weights.proofs.Weights.{weigh-append, weigh-set}
+use Rattle.list_weights.proofs.Weights.{weigh_append, weigh_set}
 
 module _ {T : Type 0} where
   -- a seat that has put nothing may give one seat away
@@ -27,13 +27,13 @@ module _ {T : Type 0} where
       record {
         words = rule.words;
         homes = rule.homes;
-        shares = (let change = weigh-set (λ (u : Known T). u.share) s.views id v l at in
-            let more = weigh-append (λ (u : Known T). u.share) (set s.views id l) (r ∷ []) in
+        shares = (let change = weigh_set (λ (u : Known T). u.share) s.views id v l at in
+            let more = weigh_append (λ (u : Known T). u.share) (set s.views id l) (r ∷ []) in
             let all = rule.shares in omega arith);
         few = rule.few;
         once = λ host h there.
-            (let change = weigh-set (known_weight host h) s.views id v l at in
-            let more = weigh-append (known_weight host h) (set s.views id l) (r ∷ []) in
+            (let change = weigh_set (known_weight host h) s.views id v l at in
+            let more = weigh_append (known_weight host h) (set s.views id l) (r ∷ []) in
             let all = rule.once host h there in omega arith);
         free = rule.free;
         each = λ seat u to. ⊎_elim
@@ -54,15 +54,15 @@ module _ {T : Type 0} where
       record {
         words = rule.words;
         homes = rule.homes;
-        shares = (let first = weigh-set (λ (u : Known T). u.share) s.views id v b at in
-            let second = weigh-set (λ (u : Known T). u.share) (set s.views id b) other w spent to in
+        shares = (let first = weigh_set (λ (u : Known T). u.share) s.views id v b at in
+            let second = weigh_set (λ (u : Known T). u.share) (set s.views id b) other w spent to in
             let all = rule.shares in omega arith);
         few = rule.few;
         once = λ host h there.
-            (let first = weigh-set (known_weight host h) s.views id v b at in
-            let second = weigh-set (known_weight host h) (set s.views id b) other w spent to in
-            let settled = weigh-append (entry_weight host h) v.settled w.settled in
-            let pending = weigh-append (claim_weight host h) v.pending w.pending in
+            (let first = weigh_set (known_weight host h) s.views id v b at in
+            let second = weigh_set (known_weight host h) (set s.views id b) other w spent to in
+            let settled = weigh_append (entry_weight host h) v.settled w.settled in
+            let pending = weigh_append (claim_weight host h) v.pending w.pending in
             let all = rule.once host h there in omega arith);
         free = rule.free;
         each = λ seat u at_seat. ⊎_elim

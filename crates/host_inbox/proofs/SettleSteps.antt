@@ -15,7 +15,7 @@ use Rattle.list_weights.specs.Weights.{weigh, numbers_below, only}
 use Rattle.host_inbox.specs.Entries.{place_of, claim, entry, claim_weight}
 use Rattle.host_inbox.specs.Inboxes.{IsSettled, IsPending, Fits, AreInboxes, known_weight}
 use Rattle.host_inbox.specs.Steps.{after_settle, Settled}
-use Rattle.list_weights.proofs.Weights.{weigh-set, weigh_two, is_number, is_itself}
+use Rattle.list_weights.proofs.Weights.{weigh_set, weigh_two, is_number, is_itself}
 use Rattle.host_inbox.proofs.Weights.{at_most_once}
 use Rattle.host_inbox.proofs.Members.{within}
 use Rattle.host_inbox.proofs.Knowing.{same_place, settle_adds}
@@ -84,10 +84,10 @@ module _ {T : Type 0} where
       record {
         words = length-set s.words (size.hosts + host) m ∙ rule.words;
         homes = length-set s.homes k (some (Some x)) ∙ rule.homes;
-        shares = (let change = weigh-set (λ (u : Known T). u.share) s.views id v w at in let all = rule.shares in omega arith);
+        shares = (let change = weigh_set (λ (u : Known T). u.share) s.views id v w at in let all = rule.shares in omega arith);
         few = rule.few;
         once = λ other h there.
-            (let change = weigh-set (known_weight other h) s.views id v w at in
+            (let change = weigh_set (known_weight other h) s.views id v w at in
             let same = settle_adds v (Some x) other h in
             let before = rule.once other h there in
             let words : weigh h (numbers_below (get_or (set s.words (size.hosts + host) m) other 0)) ≡ weigh h (numbers_below (get_or s.words other 0)) = ap (λ (n : ℕ). weigh h (numbers_below n)) (same_claims size s.words host m other there) in

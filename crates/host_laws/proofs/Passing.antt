@@ -15,7 +15,7 @@ use Rattle.guest_process.specs.declared.process.Running.{Running}
 use Rattle.host_state.specs.HostRecord.{HostRecord}
 use Rattle.host_link.specs.Link.{LinkState, numbers, makes, later, not_before_next}
 use Rattle.host_state.specs.Slice.{rests, has_ended, goes_later}
-use Rattle.world_order.proofs.Homes.{get-set_same}
+use Rattle.world_order.proofs.Homes.{get_set_same}
 use Rattle.host_laws.specs.Waiting.{HasGo}
 use Rattle.host_laws.proofs.Links.{IsLater, stays, then_later, by_if, makes_later}
 
@@ -144,12 +144,12 @@ IsFresh p h = (r : Running) → slice_get h.processes p ≡ Some (process.Runnin
 pub rests_fresh : (p : ℕ) (cpu : Cpu) (h : HostRecord) (x : Process) → slice_get h.processes p ≡ Some x → IsFresh p (rests p cpu h)
 unfolding rests
 rests_fresh p cpu h x there =
-    λ r at on left. let set : Some (process.Running (record { cpu = cpu; goes = false })) ≡ Some (process.Running r) = sym (get-set_same h.processes p x _ there) ∙ at in absurd (cc)
+    λ r at on left. let set : Some (process.Running (record { cpu = cpu; goes = false })) ≡ Some (process.Running r) = sym (get_set_same h.processes p x _ there) ∙ at in absurd (cc)
 
 pub ended_fresh : (p : ℕ) (s : State) (h : HostRecord) (x : Process) → slice_get h.processes p ≡ Some x → IsFresh p (has_ended p s h)
 unfolding has_ended
 ended_fresh p s h x there =
-    λ r at on left. let set : Some (process.Ended s) ≡ Some (process.Running r) = sym (get-set_same h.processes p x _ there) ∙ at in absurd (cc)
+    λ r at on left. let set : Some (process.Ended s) ≡ Some (process.Running r) = sym (get_set_same h.processes p x _ there) ∙ at in absurd (cc)
 
 pub later_fresh : (nanos p : ℕ) (cpu : Cpu) (h : HostRecord) → IsFresh p (goes_later nanos p cpu h)
 unfolding goes_later

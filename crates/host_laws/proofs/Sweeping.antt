@@ -13,7 +13,7 @@ use Rattle.guest_process.specs.declared.process.Running.{Running}
 use Rattle.host_state.specs.Fire.{running_in, kept_in, kept_by, wakes_if, would_answer, wakes_in, wakes, wakes_from, wakes_all}
 use Rattle.host_state.specs.HostRecord.{HostRecord}
 use Rattle.host_state.specs.Slice.{has_task, goes_later}
-use Rattle.world_order.proofs.Homes.{get-set_same, get-set_other}
+use Rattle.world_order.proofs.Homes.{get_set_same, get_set_other}
 use Rattle.host_laws.proofs.Passing.{still, PassesTo, passes_quiet, passes_on, later_passes}
 
 module _ (net : Net) where
@@ -50,7 +50,7 @@ module _ (net : Net) where
   leaves_later p r h = record {
     parts = refl;
     time = (later_passes 1 p r.cpu h).link.time;
-    others = λ q apart. get-set_other h.processes p q _ apart;
+    others = λ q apart. get_set_other h.processes p q _ apart;
   }
 
   if_leaves : (wake : Bool) (p : ℕ) (r : Running) (h : HostRecord) → Leaves p h (wakes_if wake p r h)
@@ -77,7 +77,7 @@ module _ (net : Net) where
   woken_if : (wake : Bool) (p : ℕ) (r : Running) (h : HostRecord) → (not r.goes && would_answer net p (kept_by p h) h) ≡ wake
       → slice_get h.processes p ≡ Some (process.Running r) → forgotten p (wakes_if wake p r h) ≡ false
   unfolding goes_later
-  woken_if true p r h e there = ap (forgets p _ h.parts) (get-set_same h.processes p (process.Running r) _ there)
+  woken_if true p r h e there = ap (forgets p _ h.parts) (get_set_same h.processes p (process.Running r) _ there)
   woken_if false p r h e there =
       ap (forgets p h.link.time h.parts) there ∙ (ap (λ (b : Bool). not r.goes && b) (would_same p h (kept_by p h)) ∙ e)
 

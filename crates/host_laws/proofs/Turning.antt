@@ -14,11 +14,11 @@ use Rattle.host_link.specs.Home.{home, home_of}
 use Rattle.host_state.specs.HostRecord.{HostRecord}
 use Rattle.host_state.specs.Opening.{opening}
 use Rattle.host_state.specs.World.{World, AreRows, opening_world}
-use Rattle.host_state.proofs.Openings.{opens-fit}
+use Rattle.host_state.proofs.Openings.{opens_fit}
 use Rattle.world_order.specs.EventOrder.{is_before, taken_with, take_least}
 use Rattle.world_order.specs.Model.{Fired, fires, fires_at}
 use Rattle.world_order.specs.World.{after_firing, by_least, next}
-use Rattle.world_order.proofs.Homes.{fires-other, get-set_same, some_is}
+use Rattle.world_order.proofs.Homes.{fires_other, get_set_same, some_is}
 use Rattle.host_laws.specs.Waiting.{HasGo, HaveGoes, AllHaveGoes}
 use Rattle.host_laws.proofs.Links.{by_if}
 use Rattle.host_laws.proofs.Passing.{go_before}
@@ -70,7 +70,7 @@ module _ (net : Net) (w : World) (e : Event) (rest : List Event) (goes : (i : �
   fired_here (Some h) is k at =
       let f : Fired HostRecord Line = fires_before_stop net h e in
       let same : f ≡ fire net h e = fires_early net h e (nat_lt e.key.due.nanos net.stop.nanos) early in
-      let host : f.host ≡ k = some_is f.host k (sym (get-set_same w.hosts (home net e) h f.host is) ∙ at) in
+      let host : f.host ≡ k = some_is f.host k (sym (get_set_same w.hosts (home net e) h f.host is) ∙ at) in
       let was = goes (home net e) h is in
       subst (λ (x : HostRecord). Kept (home net e) x f.made) host
       (subst (λ (x : Fired HostRecord Line). Kept (home net e) x.host x.made) (sym same) (number_after net h e ∙ was.0, goes_after net h e rest was.1))
@@ -83,7 +83,7 @@ module _ (net : Net) (w : World) (e : Event) (rest : List Event) (goes : (i : �
       subst (λ (j : ℕ). Kept j k (fires (model net) w.hosts e).made) here
       (fired_here (slice_get w.hosts (home net e)) refl k (subst (λ (j : ℕ). slice_get (fires (model net) w.hosts e).hosts j ≡ Some k) (sym here) at)))
       (λ other.
-      let was = goes i k (sym (fires-other (model net) w.hosts e i other.1) ∙ at) in
+      let was = goes i k (sym (fires_other (model net) w.hosts e i other.1) ∙ at) in
       (was.0, goes_elsewhere net k e rest (fires (model net) w.hosts e).made (λ is. other.1 (sym was.0 ∙ is)) was.1))
       (eqb_tells i (home net e))
 
@@ -110,6 +110,6 @@ pub opening_goes : (net : Net) (rows : List Row) → AreRows net rows → AllHav
 opening_goes net rows are i h at =
     let found = opened_row rows i (slice_get rows i) h refl (sym (slice_get-map (λ (row : Row). (opening row).host) rows i) ∙ at) in
     let row : Row = found.0 in
-    let fits = opens-fit net row (are.fit i row found.1.0) in
+    let fits = opens_fit net row (are.fit i row found.1.0) in
     subst (λ (k : HostRecord). (k.link.number ≡ i) × HaveGoes k (opening_world rows).events) found.1.1
     (fits.host.number ∙ are.places i row found.1.0, none_goes row (opening_world rows).events)

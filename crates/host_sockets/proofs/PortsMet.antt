@@ -6,7 +6,7 @@ use Rattle.std.proofs.lemmas.List.Folds.{list_any-append}
 use Rattle.sim_base.specs.declared.address.Ip.{Ip}
 use Rattle.sim_base.specs.declared.address.Addr.{Addr}
 use Rattle.sim_base.specs.Addresses.{at_port, has_port, least_free_port, at_free_port, with_port, is_taken, first_given_port, given_ports}
-use Rattle.sim_base.specs.AddressLaws.{first_free_port-IsLeastFree, has_port-meets}
+use Rattle.sim_base.specs.AddressLaws.{first_free_port_IsLeastFree, has_port_meets}
 use Rattle.host_sockets.specs.Sockets.{SocketsRecord, bound_ends, tcp_ends}
 use Rattle.host_sockets.specs.TcpSocket.{TcpSocket, ends_of, bound_end, record_end}
 
@@ -21,8 +21,8 @@ free_met : (t : SocketsRecord) (ip : Ip) (end : Addr) (found : Option ℕ) → l
 free_met t ip end None is e = cc
 free_met t ip end (Some port) is e =
     let same : at_port ip port ≡ end = cc in
-    let free = (first_free_port-IsLeastFree (tcp_ends t) first_given_port given_ports port is).free in
-    subst (λ (x : Addr). is_taken (bound_ends t) x ≡ false) same (has_port-meets ip port (bound_ends t) (bound_has port t.tcp free))
+    let free = (first_free_port_IsLeastFree (tcp_ends t) first_given_port given_ports port is).free in
+    subst (λ (x : Addr). is_taken (bound_ends t) x ≡ false) same (has_port_meets ip port (bound_ends t) (bound_has port t.tcp free))
 
 pub none_met : (t : SocketsRecord) (at end : Addr) → at.port ≡ 0 → with_port (tcp_ends t) at ≡ Some end → false ≡ is_taken (bound_ends t) end
 none_met t at end zero e =

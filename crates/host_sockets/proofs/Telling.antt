@@ -43,23 +43,23 @@ has : Ends → List (Ends × Option Carried) → Bool
 has ends es = is_some (lookup (is_at (ends_order ends)) es)
 
 -- whether there is an entry, where the first one is behind, here or before
-has-behind : (ends : Ends) (e : Ends × Option Carried) (es : List (Ends × Option Carried)) → IsStrictlySortedBy ends_order (keys_of (e ∷ es)) → ends_order ends e.0 ≡ Less → has ends (e ∷ es) ≡ false
+has_behind : (ends : Ends) (e : Ends × Option Carried) (es : List (Ends × Option Carried)) → IsStrictlySortedBy ends_order (keys_of (e ∷ es)) → ends_order ends e.0 ≡ Less → has ends (e ∷ es) ≡ false
 unfolding has
-has-behind ends e es sorted o = ap is_some (lookup-none (is_at (ends_order ends)) (e ∷ es) (none_below_head ends_order_total ends e es sorted o))
+has_behind ends e es sorted o = ap is_some (lookup-none (is_at (ends_order ends)) (e ∷ es) (none_below_head ends_order_total ends e es sorted o))
 
-has-here : (ends : Ends) (e : Ends × Option Carried) (es : List (Ends × Option Carried)) → ends_order ends e.0 ≡ Equal → has ends (e ∷ es) ≡ true
+has_here : (ends : Ends) (e : Ends × Option Carried) (es : List (Ends × Option Carried)) → ends_order ends e.0 ≡ Equal → has ends (e ∷ es) ≡ true
 unfolding has
-has-here ends e es o = ap (λ x. is_some (cond (is_eq x) (Some e.1) (lookup (is_at (ends_order ends)) es))) o
+has_here ends e es o = ap (λ x. is_some (cond (is_eq x) (Some e.1) (lookup (is_at (ends_order ends)) es))) o
 
-has-before : (ends : Ends) (e : Ends × Option Carried) (es : List (Ends × Option Carried)) → ends_order ends e.0 ≡ Greater → has ends (e ∷ es) ≡ has ends es
+has_before : (ends : Ends) (e : Ends × Option Carried) (es : List (Ends × Option Carried)) → ends_order ends e.0 ≡ Greater → has ends (e ∷ es) ≡ has ends es
 unfolding has
-has-before ends e es o = ap (λ x. is_some (cond (is_eq x) (Some e.1) (lookup (is_at (ends_order ends)) es))) o
+has_before ends e es o = ap (λ x. is_some (cond (is_eq x) (Some e.1) (lookup (is_at (ends_order ends)) es))) o
 
 first : (c : Carried) (again : Bool) (e : Ends × Option Carried) (es : List (Ends × Option Carried)) → IsStrictlySortedBy ends_order (keys_of (e ∷ es)) → again ≡ has (ends_of c) (e ∷ es) → ends_order (ends_of c) e.0 ≡ Less → told (ends_of c, unless again c) ≡ stream_of c
-first c again e es sorted is o = ap (λ b. told (ends_of c, unless b c)) (is ∙ has-behind (ends_of c) e es sorted o)
+first c again e es sorted is o = ap (λ b. told (ends_of c, unless b c)) (is ∙ has_behind (ends_of c) e es sorted o)
 
 repeated : (c : Carried) (again : Bool) (e : Ends × Option Carried) (es : List (Ends × Option Carried)) → again ≡ has (ends_of c) (e ∷ es) → ends_order (ends_of c) e.0 ≡ Equal → told (e.0, unless again c) ≡ used_again (told e)
-repeated c again e es is o = ap (λ b. told (e.0, unless b c)) (is ∙ has-here (ends_of c) e es o) ∙ again_told e.0 e.1
+repeated c again e es is o = ap (λ b. told (e.0, unless b c)) (is ∙ has_here (ends_of c) e es o) ∙ again_told e.0 e.1
 
 -- what a table tells once an entry was made
 all_entered : (c : Carried) (again : Bool) (es : List (Ends × Option Carried)) → IsStrictlySortedBy ends_order (keys_of es) → again ≡ has (ends_of c) es → all_told (insert_entry ends_order es (ends_of c) (unless again c)) ≡ with_carried (all_told es) c
@@ -68,11 +68,11 @@ all_entered c again [] sorted is = ap (λ b. told (ends_of c, unless b c) ∷ []
 all_entered c again ((ends, None) ∷ es) sorted is =
     placed (ends_order (ends_of c) ends) (ends_of c) (unless again c) (stream_of c) (ends, None) es (insert_entry ends_order es (ends_of c) (unless again c)) (with_carried (all_told es) c)
     (first c again (ends, None) es sorted is) (repeated c again (ends, None) es is)
-    (λ o. all_entered c again es (sorted_tail ends_order ends (keys_of es) sorted) (is ∙ has-before (ends_of c) (ends, None) es o))
+    (λ o. all_entered c again es (sorted_tail ends_order ends (keys_of es) sorted) (is ∙ has_before (ends_of c) (ends, None) es o))
 all_entered c again ((ends, Some d) ∷ es) sorted is =
     placed (ends_order (ends_of c) ends) (ends_of c) (unless again c) (stream_of c) (ends, Some d) es (insert_entry ends_order es (ends_of c) (unless again c)) (with_carried (all_told es) c)
     (first c again (ends, Some d) es sorted is) (repeated c again (ends, Some d) es is)
-    (λ o. all_entered c again es (sorted_tail ends_order ends (keys_of es) sorted) (is ∙ has-before (ends_of c) (ends, Some d) es o))
+    (λ o. all_entered c again es (sorted_tail ends_order ends (keys_of es) sorted) (is ∙ has_before (ends_of c) (ends, Some d) es o))
 
 pub entered : (c : Carried) (again : Bool) (es : List (Ends × Option Carried)) → IsStrictlySortedBy ends_order (keys_of es) → again ≡ is_some (lookup (is_at (ends_order (ends_of c))) es) → all_told (insert_entry ends_order es (ends_of c) (unless again c)) ≡ with_carried (all_told es) c
 unfolding has

@@ -22,31 +22,31 @@ rows-kept (h ∷ hs) (k ∷ ks) later = let first = later.0.row in let rest = ro
 abbrev written_by : List HostRecord → List (List Output)
 written_by hs = map (λ (h : HostRecord). h.written) hs
 
-gained-at : (hs ks : List HostRecord) (outputs : List (Vec Output Global)) → AreLater hs ks → length outputs ≡ length hs
+gained_at : (hs ks : List HostRecord) (outputs : List (Vec Output Global)) → AreLater hs ks → length outputs ≡ length hs
     → ((i : ℕ) (before after : HostRecord) (gained : Vec Output Global) → slice_get hs i ≡ Some before → slice_get ks i ≡ Some after → slice_get outputs i ≡ Some gained → after.written ≡ before.written ++ gained.items)
     → AreGained (written_by hs) (map (λ (v : Vec Output Global). v.items) outputs) (written_by ks)
-gained-at [] [] [] later count each = tt
-gained-at [] [] (o ∷ outputs) later count each = absurd (omega arith)
-gained-at [] (k ∷ ks) outputs later count each = absurd later
-gained-at (h ∷ hs) [] outputs later count each = absurd later
-gained-at (h ∷ hs) (k ∷ ks) [] later count each = absurd (omega arith)
-gained-at (h ∷ hs) (k ∷ ks) (o ∷ outputs) later count each =
-    (each 0 h k o refl refl refl, gained-at hs ks outputs later.1 (omega arith) (λ i b a g x y z. each (suc i) b a g x y z))
+gained_at [] [] [] later count each = tt
+gained_at [] [] (o ∷ outputs) later count each = absurd (omega arith)
+gained_at [] (k ∷ ks) outputs later count each = absurd later
+gained_at (h ∷ hs) [] outputs later count each = absurd later
+gained_at (h ∷ hs) (k ∷ ks) [] later count each = absurd (omega arith)
+gained_at (h ∷ hs) (k ∷ ks) (o ∷ outputs) later count each =
+    (each 0 h k o refl refl refl, gained_at hs ks outputs later.1 (omega arith) (λ i b a g x y z. each (suc i) b a g x y z))
 
 -- a round gained these outputs, each host's by its place, and these lines
-pub gains-round : (w v : World) (outputs : List (Vec Output Global)) (lines : List Line) → Extends w v → length outputs ≡ length w.hosts
+pub gains_round : (w v : World) (outputs : List (Vec Output Global)) (lines : List Line) → Extends w v → length outputs ≡ length w.hosts
     → ((i : ℕ) (before after : HostRecord) (gained : Vec Output Global) → slice_get w.hosts i ≡ Some before → slice_get v.hosts i ≡ Some after → slice_get outputs i ≡ Some gained
     → after.written ≡ before.written ++ gained.items) → lines_of v.log ≡ lines_of w.log ++ lines → Gains w v (map (λ (o : Vec Output Global). o.items) outputs) lines
-gains-round w v outputs lines later count each log = record { rows = rows-kept w.hosts v.hosts later.hosts; written = gained-at w.hosts v.hosts outputs later.hosts count each; log = log }
+gains_round w v outputs lines later count each log = record { rows = rows-kept w.hosts v.hosts later.hosts; written = gained_at w.hosts v.hosts outputs later.hosts count each; log = log }
 
 -- ---- names
 
-names-by_rows : (hs : List HostRecord) → map (λ (h : HostRecord). listed h.row) hs ≡ map listed (map (λ (h : HostRecord). h.row) hs)
-names-by_rows [] = refl
-names-by_rows (h ∷ hs) = ap (λ (l : List HostNames). listed h.row ∷ l) (names-by_rows hs)
+names_by_rows : (hs : List HostRecord) → map (λ (h : HostRecord). listed h.row) hs ≡ map listed (map (λ (h : HostRecord). h.row) hs)
+names_by_rows [] = refl
+names_by_rows (h ∷ hs) = ap (λ (l : List HostNames). listed h.row ∷ l) (names_by_rows hs)
 
-pub names-kept : (w v : World) (outputs : List (List Output)) (lines : List Line) → Gains w v outputs lines → names_in v ≡ names_in w
-names-kept w v outputs lines gains = names-by_rows v.hosts ∙ ap (map listed) gains.rows ∙ sym (names-by_rows w.hosts)
+pub names_kept : (w v : World) (outputs : List (List Output)) (lines : List Line) → Gains w v outputs lines → names_in v ≡ names_in w
+names_kept w v outputs lines gains = names_by_rows v.hosts ∙ ap (map listed) gains.rows ∙ sym (names_by_rows w.hosts)
 
-pub names-later : (w v : World) → Extends w v → names_in v ≡ names_in w
-names-later w v later = names-by_rows v.hosts ∙ ap (map listed) (rows-kept w.hosts v.hosts later.hosts) ∙ sym (names-by_rows w.hosts)
+pub names_later : (w v : World) → Extends w v → names_in v ≡ names_in w
+names_later w v later = names_by_rows v.hosts ∙ ap (map listed) (rows-kept w.hosts v.hosts later.hosts) ∙ sym (names_by_rows w.hosts)

@@ -65,10 +65,10 @@ pub record Grows (net : Net) (lookahead : Option ℕ) (l m : LinkState) : Type 0
   pub each : All (IsMade net lookahead l.number l.time) more
   pub sound : IsSound net m
 
-AreNumbered-append : (source n : ℕ) (xs ys : List Event) → AreNumbered source n xs → AreNumbered source (n + length xs) ys → AreNumbered source n (xs ++ ys)
-AreNumbered-append source n [] ys h k = subst (λ (m : ℕ). AreNumbered source m ys) (omega arith) k
-AreNumbered-append source n (x ∷ xs) ys h k =
-    (h.0, h.1, AreNumbered-append source (n + 1) xs ys h.2 (subst (λ (m : ℕ). AreNumbered source m ys) (omega arith) k))
+AreNumbered_append : (source n : ℕ) (xs ys : List Event) → AreNumbered source n xs → AreNumbered source (n + length xs) ys → AreNumbered source n (xs ++ ys)
+AreNumbered_append source n [] ys h k = subst (λ (m : ℕ). AreNumbered source m ys) (omega arith) k
+AreNumbered_append source n (x ∷ xs) ys h k =
+    (h.0, h.1, AreNumbered_append source (n + 1) xs ys h.2 (subst (λ (m : ℕ). AreNumbered source m ys) (omega arith) k))
 
 pub by_if : {A : Type 0} (P : A → Type 0) (b : Bool) (x y : A) → (b ≡ true → P x) → (b ≡ false → P y) → P (if b then x else y)
 by_if P true x y h k = h refl
@@ -80,9 +80,9 @@ far_enough (Some n) latency now h short early = omega arith
 
 -- ---- lanes
 
-AllFit-behind : (ws : List Waiting) (w : Waiting) → AllFit ws → waiting_size w ≤ LARGEST → AllFit (ws ++ w ∷ [])
-AllFit-behind [] w h small = (small, tt)
-AllFit-behind (x ∷ ws) w h small = (h.0, AllFit-behind ws w h.1 small)
+AllFit_behind : (ws : List Waiting) (w : Waiting) → AllFit ws → waiting_size w ≤ LARGEST → AllFit (ws ++ w ∷ [])
+AllFit_behind [] w h small = (small, tt)
+AllFit_behind (x ∷ ws) w h small = (h.0, AllFit_behind ws w h.1 small)
 
 -- what a push gives and leaves is small
 abbrev pub IsSmallPush : Pushed → Type 0
@@ -94,11 +94,11 @@ FitsPush t = IsSmallPush t.0 × AllFit t.1.waiting
 
 push_first : (now : Time) (packet : Packet) (lane : LaneState) → packet_size packet ≤ MAX_PACKET → AllFit lane.waiting → FitsPush (pushed_first now packet lane)
 push_first now packet lane small fit =
-    by_if FitsPush (nat_le (packet_size packet) lane.bucket.tokens) _ _ (λ _. (small, fit)) (λ _. (tt, AllFit-behind lane.waiting _ fit small))
+    by_if FitsPush (nat_le (packet_size packet) lane.bucket.tokens) _ _ (λ _. (small, fit)) (λ _. (tt, AllFit_behind lane.waiting _ fit small))
 
 push_behind : (now : Time) (packet : Packet) (lane : LaneState) → packet_size packet ≤ MAX_PACKET → AllFit lane.waiting → FitsPush (pushed_behind now packet lane)
 push_behind now packet lane small fit =
-    by_if FitsPush (nat_lt (length lane.waiting) WAITING) _ _ (λ _. (tt, AllFit-behind lane.waiting _ fit small)) (λ _. (tt, fit))
+    by_if FitsPush (nat_lt (length lane.waiting) WAITING) _ _ (λ _. (tt, AllFit_behind lane.waiting _ fit small)) (λ _. (tt, fit))
 
 push_on : (now : Time) (packet : Packet) (lane : LaneState) (ws : List Waiting) → packet_size packet ≤ MAX_PACKET → AllFit lane.waiting → FitsPush (pushed_on now packet lane ws)
 push_on now packet lane [] small fit = push_first now packet lane small fit
@@ -153,7 +153,7 @@ module _ (net : Net) (lookahead : Option ℕ) (routes : IsLookaheadOf net lookah
         time = second.time ∙ first.time;
         more = first.more ++ second.more;
         made = second.made ∙ (ap (λ (es : List Event). es ++ second.more) first.made ∙ append_assoc l.made first.more second.more);
-        numbered = AreNumbered-append l.number l.next first.more second.more first.numbered numbered;
+        numbered = AreNumbered_append l.number l.next first.more second.more first.numbered numbered;
         counted = omega (arith, length-append first.more second.more, second.counted, first.counted);
         each = All-append (IsMade net lookahead l.number l.time) first.more second.more first.each each;
         sound = second.sound;

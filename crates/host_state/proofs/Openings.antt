@@ -20,11 +20,11 @@ use Rattle.world_order.specs.Premises.{AreNumbered}
 use Rattle.host_state.proofs.Growth.{by_if}
 
 -- one event more
-AreNumbered-push : (n start : ℕ) (es : List Event) (e : Event) → AreNumbered n start es → e.key.source.index ≡ n → e.key.number ≡ start + length es → AreNumbered n start (es ++ e ∷ [])
-AreNumbered-push n start [] e numbered source number = let first : e.key.number ≡ start = omega (arith, number) in (source, first, tt)
-AreNumbered-push n start (f ∷ es) e numbered source number =
+AreNumbered_push : (n start : ℕ) (es : List Event) (e : Event) → AreNumbered n start es → e.key.source.index ≡ n → e.key.number ≡ start + length es → AreNumbered n start (es ++ e ∷ [])
+AreNumbered_push n start [] e numbered source number = let first : e.key.number ≡ start = omega (arith, number) in (source, first, tt)
+AreNumbered_push n start (f ∷ es) e numbered source number =
     let next : e.key.number ≡ (start + 1) + length es = omega (arith, number) in
-    (numbered.0, numbered.1, AreNumbered-push n (start + 1) es e numbered.2 source next)
+    (numbered.0, numbered.1, AreNumbered_push n (start + 1) es e numbered.2 source next)
 
 below : (a b : ℕ) → nat_lt a b ≡ true → a + 1 ≤ b
 below a b e = grind (arith, nat_tests)
@@ -43,14 +43,14 @@ record Opens (net : Net) (n : ℕ) (link : LinkState) : Type 0 where
   down : AllFit link.down.waiting
 
 module _ (net : Net) (n : ℕ) where
-  numbers-opens : (at : Time) (w : What) (link : LinkState) → Opens net n link → FitsWhat net w → home_of net link.number w ≡ link.number → Opens net n (numbers at w link)
+  numbers_opens : (at : Time) (w : What) (link : LinkState) → Opens net n link → FitsWhat net w → home_of net link.number w ≡ link.number → Opens net n (numbers at w link)
   unfolding numbers
-  numbers-opens at w link k fits here = by_if (Opens net n) (nat_lt link.next (2 ^ 64 - 1)) _ _
+  numbers_opens at w link k fits here = by_if (Opens net n) (nat_lt link.next (2 ^ 64 - 1)) _ _
       (λ more. record {
         number = k.number;
         within = k.within;
         time = k.time;
-        numbered = AreNumbered-push n 0 link.made (event_of link at w) k.numbered k.number (omega (arith, k.counted));
+        numbered = AreNumbered_push n 0 link.made (event_of link at w) k.numbered k.number (omega (arith, k.counted));
         counted = omega (arith, k.counted, length_push link.made (event_of link at w));
         limited = below link.next (2 ^ 64 - 1) more;
         events = All-push (IsEventOf net) link.made (event_of link at w) k.events (record { source = rw k.number k.within; what = fits });
@@ -60,20 +60,20 @@ module _ (net : Net) (n : ℕ) where
       })
       (λ full. k)
 
-  shutdown-opens : (p : ℕ) (due : Option Time) (link : LinkState) → Opens net n link → Opens net n (begins_shutdown p due link)
-  shutdown-opens p None link k = k
-  shutdown-opens p (Some due) link k = numbers-opens due (what.Shutdown p) link k tt refl
+  shutdown_opens : (p : ℕ) (due : Option Time) (link : LinkState) → Opens net n link → Opens net n (begins_shutdown p due link)
+  shutdown_opens p None link k = k
+  shutdown_opens p (Some due) link k = numbers_opens due (what.Shutdown p) link k tt refl
 
-  process-opens : (p : ℕ) (row : ProcessRow) (link : LinkState) → Opens net n link → Opens net n (begins_process p row link)
-  process-opens p row link k = shutdown-opens p row.shutdown _ (numbers-opens row.start (what.Start p) link k tt refl)
+  process_opens : (p : ℕ) (row : ProcessRow) (link : LinkState) → Opens net n link → Opens net n (begins_process p row link)
+  process_opens p row link k = shutdown_opens p row.shutdown _ (numbers_opens row.start (what.Start p) link k tt refl)
 
-  all-opens : (p : ℕ) (rows : List ProcessRow) (link : LinkState) → Opens net n link → Opens net n (begins_all p rows link)
+  all_opens : (p : ℕ) (rows : List ProcessRow) (link : LinkState) → Opens net n link → Opens net n (begins_all p rows link)
   unfolding begins_all
-  all-opens p [] link k = k
-  all-opens p (row ∷ rows) link k = all-opens (p + 1) rows (begins_process p row link) (process-opens p row link k)
+  all_opens p [] link k = k
+  all_opens p (row ∷ rows) link k = all_opens (p + 1) rows (begins_process p row link) (process_opens p row link k)
 
-new-opens : (net : Net) (row : Row) → row.host.index < length net.known.book → Opens net row.host.index (new_link row)
-new-opens net row within = record {
+new_opens : (net : Net) (row : Row) → row.host.index < length net.known.book → Opens net row.host.index (new_link row)
+new_opens net row within = record {
   number = refl;
   within = within;
   time = refl;
@@ -86,9 +86,9 @@ new-opens net row within = record {
   down = tt;
 }
 
-pub opens-fit : (net : Net) (row : Row) → FitsNet net row → OpensFit net row.host.index (opening row)
-opens-fit net row fits =
-    let k : Opens net row.host.index (host_begins row).link = all-opens net row.host.index 0 row.processes (new_link row) (new-opens net row fits.within) in
+pub opens_fit : (net : Net) (row : Row) → FitsNet net row → OpensFit net row.host.index (opening row)
+opens_fit net row fits =
+    let k : Opens net row.host.index (host_begins row).link = all_opens net row.host.index 0 row.processes (new_link row) (new_opens net row fits.within) in
     record {
       host = record { number = k.number; within = k.within; limited = k.limited; up = k.up; down = k.down; made = refl; lines = refl };
       clock = k.time;

@@ -52,8 +52,8 @@ home_in net source what.Up own = own
 home_in net source what.Down own = own
 
 -- an event fires at a host of the net
-pub home-within : (net : Net) (e : Event) → IsEventOf net e → home net e < length net.known.book
-home-within net e event = home_in net e.key.source.index e.what event.source
+pub home_within : (net : Net) (e : Event) → IsEventOf net e → home net e < length net.known.book
+home_within net e event = home_in net e.key.source.index e.what event.source
 
 -- ---- firings
 
@@ -62,8 +62,8 @@ fires_if : (b : Bool) (fired unfired : Fired HostRecord Line) → b ≡ true →
 fires_if true fired unfired is = refl
 fires_if false fired unfired is = absurd (cc)
 
-pub fires-before_stop : (net : Net) (host : HostRecord) (e : Event) → e.key.due.nanos < net.stop.nanos → fires_before_stop net host e ≡ fire net host e
-fires-before_stop net host e before =
+pub fires_before_stop_is : (net : Net) (host : HostRecord) (e : Event) → e.key.due.nanos < net.stop.nanos → fires_before_stop net host e ≡ fire net host e
+fires_before_stop_is net host e before =
     let is : nat_lt e.key.due.nanos net.stop.nanos ≡ true = search rules in
     fires_if (nat_lt e.key.due.nanos net.stop.nanos) (fire net host e) (record { host = host; made = []; lines = [] }) is
 
@@ -135,6 +135,6 @@ simulation net lookahead routes short early = record {
   count = length net.known.book;
   IsHost = IsHostOf net;
   IsEvent = IsEventOf net;
-  homes = λ e event. home-within net e event;
+  homes = λ e event. home_within net e event;
   fit = firings_fit net lookahead routes short early;
 }

@@ -56,11 +56,11 @@ unfolding slice
 short net p zero cpu host = record { answered = 0; stretches = []; slice = pauses cpu host refl; few = omega arith; within = All-nil _ }
 short net p (suc most) cpu host = short_by net p most cpu host (runs_to_call net p cpu host) refl (λ next after. short net p most next after)
 
-pub slice-short : (net : Net) (p : ℕ) (cpu : Cpu) (host : HostRecord) → IsShortSlice net p 100 (slice net p 100 cpu host) cpu host
-slice-short net p cpu host = short net p 100 cpu host
+pub slice_short : (net : Net) (p : ℕ) (cpu : Cpu) (host : HostRecord) → IsShortSlice net p 100 (slice net p 100 cpu host) cpu host
+slice_short net p cpu host = short net p 100 cpu host
 
-pub kept-short : (net : Net) (p number : ℕ) (arguments : List ℕ) (cpu next : Cpu) (host after : HostRecord) → calls net p number arguments cpu host ≡ (step.GoesOn next, after)
+pub kept_short : (net : Net) (p number : ℕ) (arguments : List ℕ) (cpu next : Cpu) (host after : HostRecord) → calls net p number arguments cpu host ≡ (step.GoesOn next, after)
     → IsShortSlice net p 99 (calls_again net p number arguments cpu host) next after
 unfolding follows
-kept-short net p number arguments cpu next host after is =
+kept_short net p number arguments cpu next host after is =
     subst (λ (last : HostRecord). IsShortSlice net p 99 last next after) (sym (ap (follows net p) is)) (short net p 99 next after)

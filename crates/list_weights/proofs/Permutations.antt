@@ -21,8 +21,8 @@ pub numbers_are_range : (n : ℕ) → numbers_below n ≡ range_with_len 0 n
 numbers_are_range zero = refl
 numbers_are_range (suc n) = ap (λ l. l ++ n ∷ []) (numbers_are_range n) ∙ ap (λ k. range_with_len 0 n ++ k ∷ []) (let e : n ≡ 0 + n = omega arith in e) ∙ sym (range_snoc 0 n)
 
-pub weigh-permutation : {X : Type 0} (f : X → ℕ) (xs ys : List X) → IsPermutation xs ys → weigh f ys ≡ weigh f xs
-weigh-permutation f xs ys p = weigh_is_sum f ys ∙ sum_by-IsPermutation f xs ys p ∙ sym (weigh_is_sum f xs)
+pub weigh_permutation : {X : Type 0} (f : X → ℕ) (xs ys : List X) → IsPermutation xs ys → weigh f ys ≡ weigh f xs
+weigh_permutation f xs ys p = weigh_is_sum f ys ∙ sum_by-IsPermutation f xs ys p ∙ sym (weigh_is_sum f xs)
 
 find_number : (x : ℕ) (ys : List ℕ) → 0 < weigh (is_number x) ys → (i : ℕ) × (i < length ys) × (x ≡ get_or ys i x)
 find_number x [] some_there = absurd (omega arith)
@@ -40,6 +40,6 @@ same_weights (x ∷ xs) ys same =
     let one = is_itself x in
     let there = find_number x ys (let e = same (is_number x) in omega arith) in
     let moved = IsPermutation-remove ys there.0 x there.1 there.2 in
-    let rest : (h : ℕ → ℕ) → weigh h xs ≡ weigh h (remove ys there.0) = λ h. (let p = weigh-permutation h ys (x ∷ remove ys there.0) moved in let e = same h in omega arith) in
+    let rest : (h : ℕ → ℕ) → weigh h xs ≡ weigh h (remove ys there.0) = λ h. (let p = weigh_permutation h ys (x ∷ remove ys there.0) moved in let e = same h in omega arith) in
     IsPermutation-trans (x ∷ xs) (x ∷ remove ys there.0) ys (IsPermutation-cons x xs (remove ys there.0) (same_weights xs (remove ys there.0) rest))
     (IsPermutation-sym ys (x ∷ remove ys there.0) moved)

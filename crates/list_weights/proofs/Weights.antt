@@ -7,15 +7,15 @@ use native.Mathlib.Decide.{ℕ_discrete}
 use Rattle.list_weights.specs.Weights.{weigh, numbers_below, only}
 
 module _ {X : Type 0} where
-  pub weigh-append : (h : X → ℕ) (xs ys : List X) → weigh h (xs ++ ys) ≡ weigh h xs + weigh h ys
-  weigh-append h [] ys = omega arith
-  weigh-append h (x ∷ xs) ys = omega (arith, weigh-append h xs ys)
+  pub weigh_append : (h : X → ℕ) (xs ys : List X) → weigh h (xs ++ ys) ≡ weigh h xs + weigh h ys
+  weigh_append h [] ys = omega arith
+  weigh_append h (x ∷ xs) ys = omega (arith, weigh_append h xs ys)
 
   -- one member changes
-  pub weigh-set : (f : X → ℕ) (xs : List X) (i : ℕ) (v w : X) → get_elem? xs i ≡ some v → weigh f (set xs i w) + f v ≡ weigh f xs + f w
-  weigh-set f [] i v w e = absurd (some-ne-none v (sym e))
-  weigh-set f (x ∷ xs) zero v w e = let same : f x ≡ f v = ap f (some-injective x v e) in omega arith
-  weigh-set f (x ∷ xs) (suc i) v w e = omega (arith, weigh-set f xs i v w e)
+  pub weigh_set : (f : X → ℕ) (xs : List X) (i : ℕ) (v w : X) → get_elem? xs i ≡ some v → weigh f (set xs i w) + f v ≡ weigh f xs + f w
+  weigh_set f [] i v w e = absurd (some-ne-none v (sym e))
+  weigh_set f (x ∷ xs) zero v w e = let same : f x ≡ f v = ap f (some-injective x v e) in omega arith
+  weigh_set f (x ∷ xs) (suc i) v w e = omega (arith, weigh_set f xs i v w e)
 
   -- a member weighs no more than all
   pub weigh_part : (f : X → ℕ) (xs : List X) (i : ℕ) (v : X) → get_elem? xs i ≡ some v → f v ≤ weigh f xs
@@ -54,13 +54,13 @@ module _ {X : Type 0} where
   weigh_below f g [] below = omega arith
   weigh_below f g (x ∷ xs) below = let here = below 0 x refl in omega (arith, weigh_below f g xs (λ j u to. below (suc j) u to))
 
-  pub weigh-ones : (xs : List X) → weigh (λ (_ : X). 1) xs ≡ length xs
-  weigh-ones [] = refl
-  weigh-ones (x ∷ xs) = omega (arith, weigh-ones xs)
+  pub weigh_ones : (xs : List X) → weigh (λ (_ : X). 1) xs ≡ length xs
+  weigh_ones [] = refl
+  weigh_ones (x ∷ xs) = omega (arith, weigh_ones xs)
 
-pub length-numbers_below : (n : ℕ) → length (numbers_below n) ≡ n
-length-numbers_below zero = refl
-length-numbers_below (suc n) = omega (arith, length-append (numbers_below n) (n ∷ []), length-numbers_below n)
+pub length_numbers_below : (n : ℕ) → length (numbers_below n) ≡ n
+length_numbers_below zero = refl
+length_numbers_below (suc n) = omega (arith, length-append (numbers_below n) (n ∷ []), length_numbers_below n)
 
 -- counts a number
 pub is_number : ℕ → ℕ → ℕ
@@ -79,7 +79,7 @@ pub weigh_past : (f : ℕ → ℕ) (d n : ℕ) → n ≤ d → ((p : ℕ) → d 
 weigh_past f d zero le others = refl
 weigh_past f d (suc n) le others =
     let last : f n ≡ 0 = others n (λ e. absurd (omega arith)) in
-    omega (arith, weigh-append f (numbers_below n) (n ∷ []), weigh_past f d n (omega arith) others)
+    omega (arith, weigh_append f (numbers_below n) (n ∷ []), weigh_past f d n (omega arith) others)
 
 -- and where it is one of them, they weigh what it does
 pub weigh_only : (f : ℕ → ℕ) (d n : ℕ) → d < n → ((p : ℕ) → d ≢ p → f p ≡ 0) → weigh f (numbers_below n) ≡ f d
@@ -87,10 +87,10 @@ weigh_only f d zero w others = absurd (omega arith)
 weigh_only f d (suc n) w others = dite (ℕ_discrete d n)
     (λ (e : d ≡ n).
     let last : f n ≡ f d = ap f (sym e) in
-    omega (arith, weigh-append f (numbers_below n) (n ∷ []), weigh_past f d n (omega arith) others))
+    omega (arith, weigh_append f (numbers_below n) (n ∷ []), weigh_past f d n (omega arith) others))
     (λ (ne : d ≢ n).
     let last : f n ≡ 0 = others n ne in
-    omega (arith, weigh-append f (numbers_below n) (n ∷ []), weigh_only f d n (omega arith) others))
+    omega (arith, weigh_append f (numbers_below n) (n ∷ []), weigh_only f d n (omega arith) others))
 
 -- each number below n stands there once
 pub weigh_once : (d m n : ℕ) → d < n → weigh (λ p. only (d == p) m) (numbers_below n) ≡ m

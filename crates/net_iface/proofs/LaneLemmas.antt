@@ -13,9 +13,9 @@ use Rattle.net_iface.specs.declared.lane.Waiting.{Waiting}
 use Rattle.net_iface.specs.Bucket.{BucketState, paid}
 use Rattle.net_iface.specs.Lane.{LaneState, AllFit, IsLane, Left, waiting_size, waiting_bytes, treated, with_rest, popped, first_of, taken_as, taken_front, front_taken, none_left, with_taken, with_first, leaving}
 
-AllFit-push : (ws : List Waiting) (w : Waiting) → AllFit ws → waiting_size w ≤ max_packet → AllFit (ws ++ w ∷ [])
-AllFit-push [] w h small = (small, tt)
-AllFit-push (x ∷ ws) w h small = (h.0, AllFit-push ws w h.1 small)
+AllFit_push : (ws : List Waiting) (w : Waiting) → AllFit ws → waiting_size w ≤ max_packet → AllFit (ws ++ w ∷ [])
+AllFit_push [] w h small = (small, tt)
+AllFit_push (x ∷ ws) w h small = (h.0, AllFit_push ws w h.1 small)
 
 pub bytes_bound : (ws : List Waiting) → AllFit ws → waiting_bytes ws ≤ max_packet * length ws
 bytes_bound [] h = omega arith
@@ -25,10 +25,10 @@ bytes_bound (w ∷ ws) h = rw (sum_by-cons waiting_size w ws) (omega (arith, byt
 pub bytes_fit : (ws : List Waiting) (bytes more : ℕ) → IsLane ws bytes → more ≤ max_packet → bytes + more ≤ 1501500
 bytes_fit ws bytes more h small = omega (arith, bytes_bound ws h.fit, h.few, h.told)
 
-pub IsLane-push : (ws : List Waiting) (w : Waiting) (bytes : ℕ) → IsLane ws bytes → waiting_size w ≤ max_packet → length ws < 1000
+pub IsLane_push : (ws : List Waiting) (w : Waiting) (bytes : ℕ) → IsLane ws bytes → waiting_size w ≤ max_packet → length ws < 1000
     → IsLane (ws ++ w ∷ []) (bytes + waiting_size w)
-IsLane-push ws w bytes h small room = record {
-  fit = AllFit-push ws w h.fit small;
+IsLane_push ws w bytes h small room = record {
+  fit = AllFit_push ws w h.fit small;
   few = omega (arith, length_push ws w);
   told = ap (λ n. n + waiting_size w) h.told ∙ sym (sum_by_push waiting_size ws w);
 }
@@ -44,15 +44,15 @@ front_enough : (T : Option Taken × LaneState) (other : Option Taken × LaneStat
 front_enough T other true n tokens e within = refl
 front_enough T other false n tokens e within = absurd (grind (arith, nat_tests))
 
-pub front_taken-is : (now : Time) (l : LaneState) (ws : List Waiting) (n : ℕ) (front : Waiting) (p q : LaneState) (dropped : Bool) (left : ℕ) (b : BucketState)
+pub front_taken_is : (now : Time) (l : LaneState) (ws : List Waiting) (n : ℕ) (front : Waiting) (p q : LaneState) (dropped : Bool) (left : ℕ) (b : BucketState)
     → Some n ≡ option_map waiting_size (slice_get ws 0) → n ≤ l.bucket.tokens
     → ◌≡◌ {A = Option Waiting × LaneState} (Some front, p) (popped l ws)
     → left ≡ waiting_bytes p.waiting
     → ◌≡◌ {A = Bool × CodelState} (dropped, q.codel) (treated p.rule now front.since left p.codel)
     → q ≡ record p { codel = q.codel } → b ≡ paid dropped n q.bucket
     → ◌≡◌ {A = Option Taken × LaneState} (Some (record { packet = front.packet; dropped = dropped }), record q { bucket = b }) (front_taken now l ws)
-front_taken-is now l [] n front p q dropped left b size enough out told verdict rest pays = absurd cc
-front_taken-is now l (w ∷ ws) n front p q dropped left b size enough out told verdict rest pays =
+front_taken_is now l [] n front p q dropped left b size enough out told verdict rest pays = absurd cc
+front_taken_is now l (w ∷ ws) n front p q dropped left b size enough out told verdict rest pays =
     let given : Some front ≡ Some w = ap (λ (t : Option Waiting × LaneState). t.0) out in
     let same : front ≡ w = cc in
     let stays : p ≡ with_rest l ws = ap (λ (t : Option Waiting × LaneState). t.1) out in
@@ -79,30 +79,30 @@ leaving_step : (now : Time) (lane : LaneState) (w : Waiting) (ws : List Waiting)
 leaving_step now lane w ws true = refl
 leaving_step now lane w ws false = refl
 
-leaving-follow : (now : Time) (lane : LaneState) (ws : List Waiting) → leaving now lane ws ≡ followed now (front_taken now lane ws)
-leaving-follow now lane [] = refl
-leaving-follow now lane (w ∷ ws) = leaving_step now lane w ws (nat_le (waiting_size w) lane.bucket.tokens)
+leaving_follow : (now : Time) (lane : LaneState) (ws : List Waiting) → leaving now lane ws ≡ followed now (front_taken now lane ws)
+leaving_follow now lane [] = refl
+leaving_follow now lane (w ∷ ws) = leaving_step now lane w ws (nat_le (waiting_size w) lane.bucket.tokens)
 
 -- behind packets that left and were dropped before
 abbrev pub behind_first : List Packet → List Packet → Left → Left
 behind_first ps ds left = record left { packets = ps ++ left.packets; dropped = ds ++ left.dropped }
 
 -- one more was taken
-pub leaving-more : (now : Time) (ps ds : List Packet) (l : LaneState) (ws : List Waiting) (t : Taken) (next : LaneState)
+pub leaving_more : (now : Time) (ps ds : List Packet) (l : LaneState) (ws : List Waiting) (t : Taken) (next : LaneState)
     → ◌≡◌ {A = Option Taken × LaneState} (Some t, next) (front_taken now l ws)
     → behind_first ps ds (with_first t (leaving now next next.waiting)) ≡ behind_first ps ds (leaving now l ws)
-leaving-more now ps ds l ws t next taken = ap (behind_first ps ds) (ap (followed now) taken ∙ sym (leaving-follow now l ws))
+leaving_more now ps ds l ws t next taken = ap (behind_first ps ds) (ap (followed now) taken ∙ sym (leaving_follow now l ws))
 
 pub behind_leaving : (ps ds : List Packet) (p : Packet) (left : Left) → behind_first (ps ++ p ∷ []) ds left ≡ behind_first ps ds (with_taken false p left)
 behind_leaving ps ds p left = ap (λ xs. record left { packets = xs; dropped = ds ++ left.dropped }) (append_assoc ps (p ∷ []) left.packets)
 
 -- no other is taken where the front stays
-pub leaving-last : (now : Time) (ps ds : List Packet) (l : LaneState) (ws : List Waiting) (front : Option Taken) (next : LaneState) (whole : Left)
+pub leaving_last : (now : Time) (ps ds : List Packet) (l : LaneState) (ws : List Waiting) (front : Option Taken) (next : LaneState) (whole : Left)
     → ◌≡◌ {A = Option Taken × LaneState} (front, next) (front_taken now l ws) → front ≡ None → behind_first ps ds (leaving now l ws) ≡ whole
     → ◌≡◌ {A = Left} (record { packets = ps; dropped = ds; lane = next }) whole
-leaving-last now ps ds l ws front next whole taken none e =
+leaving_last now ps ds l ws front next whole taken none e =
     (λ i. record { packets = sym (append-nil ps) i; dropped = sym (append-nil ds) i; lane = next })
     ∙ ap (λ (o : Option Taken). behind_first ps ds (follow now o next)) (sym none)
     ∙ ap (λ (t : Option Taken × LaneState). behind_first ps ds (followed now t)) taken
-    ∙ ap (behind_first ps ds) (sym (leaving-follow now l ws))
+    ∙ ap (behind_first ps ds) (sym (leaving_follow now l ws))
     ∙ e

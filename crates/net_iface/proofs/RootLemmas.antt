@@ -19,18 +19,18 @@ root_step k n s within square greatest rest false e =
     let past : n < suc k * suc k = grind (arith, nat_tests) in
     elim (cases_lt k s) [ inl less ↦ absurd (let same : s ≡ suc k = omega arith in omega (arith, mul-le (suc k) (suc k) s s (omega arith) (omega arith))) | inr within ↦ rest within ]
 
-pub root_below-is : (k n s : ℕ) → s ≤ k → s * s ≤ n → n < (s + 1) * (s + 1) → root_below k n ≡ s
+pub root_below_is : (k n s : ℕ) → s ≤ k → s * s ≤ n → n < (s + 1) * (s + 1) → root_below k n ≡ s
 unfolding root_below
-root_below-is zero n s within square greatest = omega arith
-root_below-is (suc k) n s within square greatest =
-    root_step k n s within square greatest (λ h. root_below-is k n s h square greatest) (nat_le (suc k * suc k) n) refl
+root_below_is zero n s within square greatest = omega arith
+root_below_is (suc k) n s within square greatest =
+    root_step k n s within square greatest (λ h. root_below_is k n s h square greatest) (nat_le (suc k * suc k) n) refl
 
 small : (s n : ℕ) → s * s ≤ n → s ≤ n
 small zero n h = omega arith
 small (suc s) n h = omega (arith, mul-le 1 (suc s) (suc s) (suc s) (omega arith) (omega arith))
 
-pub root-is : (n s : ℕ) → s * s ≤ n → n < (s + 1) * (s + 1) → s ≡ root n
-root-is n s square greatest = sym (root_below-is n n s (small s n square) square greatest)
+pub root_is : (n s : ℕ) → s * s ≤ n → n < (s + 1) * (s + 1) → s ≡ root n
+root_is n s square greatest = sym (root_below_is n n s (small s n square) square greatest)
 
 -- a square that is at most a part of a square is of no greater number
 pub small_root : (s count bound : ℕ) → s * s ≤ bound * bound / count → s ≤ bound

@@ -12,9 +12,9 @@ use Rattle.net_run.specs.Pieces.{with_pieces}
 use Rattle.net_run.specs.Places.{is_place, bytes_at, is_touched}
 
 -- no byte is put where nothing is
-pub untouched-bytes : (at : Place) (puts : List Put) → is_touched at puts ≡ false → bytes_at at puts ≡ []
-untouched-bytes at [] none = refl
-untouched-bytes at (put ∷ puts) none = go (is_place put.0 at) none (λ e. untouched-bytes at puts e) where
+pub untouched_bytes : (at : Place) (puts : List Put) → is_touched at puts ≡ false → bytes_at at puts ≡ []
+untouched_bytes at [] none = refl
+untouched_bytes at (put ∷ puts) none = go (is_place put.0 at) none (λ e. untouched_bytes at puts e) where
   go : (b : Bool) → (b || is_touched at puts) ≡ false → (is_touched at puts ≡ false → bytes_at at puts ≡ []) → (if b then put.1 else []) ++ bytes_at at puts ≡ []
   go true e later = absurd (cc)
   go false e later = later e
@@ -46,7 +46,7 @@ one_more : (put : Put) (puts : List Put) (c : Content) → at_places puts (add p
 one_more (place.Out, bytes) puts c = ap (λ (out : List ℕ). content c.there out (c.err ++ bytes_at place.Err puts) (at_places puts c).files) (append_assoc c.out bytes (bytes_at place.Out puts))
 one_more (place.Err, bytes) puts c = ap (λ (err : List ℕ). content c.there (c.out ++ bytes_at place.Out puts) err (at_places puts c).files) (append_assoc c.err bytes (bytes_at place.Err puts))
 one_more (place.File file, bytes) puts c = ap (content c.there (c.out ++ bytes_at place.Out puts) (c.err ++ bytes_at place.Err puts)) (λ i name.
-    one_file_more (c.files name) bytes (bytes_at (place.File name) puts) (bytes_eq file name) (is_touched (place.File name) puts) (untouched-bytes (place.File name) puts) i)
+    one_file_more (c.files name) bytes (bytes_at (place.File name) puts) (bytes_eq file name) (is_touched (place.File name) puts) (untouched_bytes (place.File name) puts) i)
 
 nothing_added : (c : Content) → c ≡ at_places [] c
 nothing_added c = ap (λ (out : List ℕ). content c.there out c.err c.files) (sym (append-nil c.out)) ∙ ap (λ (err : List ℕ). content c.there (c.out ++ []) err c.files) (sym (append-nil c.err))
@@ -56,8 +56,8 @@ by_place [] c = nothing_added c
 by_place (put ∷ puts) c = by_place puts (add put.0 put.1 c) ∙ one_more put puts c
 
 -- pieces that put the same bytes at each place, and touch the same files, leave the same
-pub same-content : (ps qs : List Put) (c : Content) → ((at : Place) → bytes_at at ps ≡ bytes_at at qs) → ((name : List ℕ) → is_touched (place.File name) ps ≡ is_touched (place.File name) qs)
+pub same_content : (ps qs : List Put) (c : Content) → ((at : Place) → bytes_at at ps ≡ bytes_at at qs) → ((name : List ℕ) → is_touched (place.File name) ps ≡ is_touched (place.File name) qs)
     → with_pieces ps c ≡ with_pieces qs c
-same-content ps qs c bytes touched = by_place ps c ∙ same ∙ sym (by_place qs c) where
+same_content ps qs c bytes touched = by_place ps c ∙ same ∙ sym (by_place qs c) where
   same : at_places ps c ≡ at_places qs c
   same = λ i. content c.there (c.out ++ bytes place.Out i) (c.err ++ bytes place.Err i) (λ name. added (touched name i) (c.files name) (bytes (place.File name) i))

@@ -11,16 +11,16 @@ use Rattle.host_state.proofs.Gaining.{rows-kept}
 use Rattle.net_run.specs.World.{World}
 use Rattle.net_run.proofs.HostLemmas.{written_by}
 
-more-of : (hs ks : List HostRecord) → AreLater hs ks → (outputs : List (List Output)) × AreGained (written_by hs) outputs (written_by ks)
-more-of [] [] later = ([], tt)
-more-of [] (k ∷ ks) later = absurd later
-more-of (h ∷ hs) [] later = absurd later
-more-of (h ∷ hs) (k ∷ ks) later = let rest = more-of hs ks later.1 in (later.0.more ∷ rest.0, (later.0.written, rest.1))
+more_of : (hs ks : List HostRecord) → AreLater hs ks → (outputs : List (List Output)) × AreGained (written_by hs) outputs (written_by ks)
+more_of [] [] later = ([], tt)
+more_of [] (k ∷ ks) later = absurd later
+more_of (h ∷ hs) [] later = absurd later
+more_of (h ∷ hs) (k ∷ ks) later = let rest = more_of hs ks later.1 in (later.0.more ∷ rest.0, (later.0.written, rest.1))
 
 -- a world that extends another gained what its processes wrote more, and the lines more of its log
-pub gains-later : (w u : World) → Extends w u → (outputs : List (List Output)) × (lines : List Line) × Gains w u outputs lines
-gains-later w u later =
-    let written = more-of w.hosts u.hosts later.hosts in (
+pub gains_later : (w u : World) → Extends w u → (outputs : List (List Output)) × (lines : List Line) × Gains w u outputs lines
+gains_later w u later =
+    let written = more_of w.hosts u.hosts later.hosts in (
       written.0,
       lines_of later.more,
       record { rows = rows-kept w.hosts u.hosts later.hosts; written = written.1; log = ap lines_of later.log ∙ map-append _ w.log later.more },

@@ -8,17 +8,17 @@ use Rattle.net_run.specs.Heads.{heads_by}
 use Rattle.net_run.specs.Shown.{note_puts}
 use Rattle.run_files.proofs.Listings.{drop_at}
 
-pub notes-step : (notes : List (List ℕ)) (i : ℕ) (note : List ℕ) (old new whole : List Put) → i < length notes → note ≡ get_or notes i note
+pub notes_step : (notes : List (List ℕ)) (i : ℕ) (note : List ℕ) (old new whole : List Put) → i < length notes → note ≡ get_or notes i note
     → new ≡ old ++ note_puts (note ∷ []) → old ++ note_puts (drop i notes) ≡ whole → new ++ note_puts (drop (i + 1) notes) ≡ whole
-notes-step notes i note old new whole below is new_is so_far =
+notes_step notes i note old new whole below is new_is so_far =
     let rest = note_puts (drop (i + 1) notes) in
     ap (λ (l : List Put). l ++ rest) new_is ∙ append_assoc old (note_puts (note ∷ [])) rest
     ∙ ap (λ (l : List (List ℕ)). old ++ note_puts l) (sym (drop_at notes i note below is)) ∙ so_far
 
 -- the heads of both captures of a host
-pub heads-two : (old first second : List Put) (name told : List ℕ) (size : ℕ) (capture : Option ℕ) → capture ≡ Some size → told ≡ name
+pub heads_two : (old first second : List Put) (name told : List ℕ) (size : ℕ) (capture : Option ℕ) → capture ≡ Some size → told ≡ name
     → first ≡ old ++ ((place.File (capture_name told false), head size) ∷ []) → second ≡ first ++ ((place.File (capture_name told true), head size) ∷ []) → second ≡ old ++ heads_by name capture
-heads-two old first second name told size capture is same one two =
+heads_two old first second name told size capture is same one two =
     two ∙ ap (λ (l : List Put). l ++ ((place.File (capture_name told true), head size) ∷ [])) one
     ∙ append_assoc old ((place.File (capture_name told false), head size) ∷ []) ((place.File (capture_name told true), head size) ∷ [])
     ∙ ap (λ (host : List ℕ). old ++ heads_by host (Some size)) same ∙ ap (λ (o : Option ℕ). old ++ heads_by name o) (sym is)

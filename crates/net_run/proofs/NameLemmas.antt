@@ -33,9 +33,9 @@ with_word : (p d : List ℕ) (k : FileKind) → p ++ (46 ∷ (d ++ file_suffix k
 with_word p d k = ap (λ (s : List ℕ). p ++ (46 ∷ (d ++ s))) (suffix_is k) ∙ sym (append_assoc p (46 ∷ d) (46 ∷ kind_word k))
 
 -- a file's name tells its host, program, process and kind, where the program's name has no slash
-pub same-file : (h g p q : List ℕ) (m n : ℕ) (k l : FileKind) → lacks 47 p ≡ true → lacks 47 q ≡ true → m < 2 ^ 64 → n < 2 ^ 64
+pub same_file : (h g p q : List ℕ) (m n : ℕ) (k l : FileKind) → lacks 47 p ≡ true → lacks 47 q ≡ true → m < 2 ^ 64 → n < 2 ^ 64
     → file_name h p m k ≡ file_name g q n l → (h ≡ g) × (p ≡ q) × (m ≡ n) × (k ≡ l)
-same-file h g p q m n k l pl ql ms ns e =
+same_file h g p q m n k l pl ql ms ns e =
     let name = append_cancel_left (codes "hosts/") _ _ e in
     let host = cut_at_last 47 h g (tail p m k) (tail q n l) (tail_lacks_slash p m k pl ms) (tail_lacks_slash q n l ql ns) name in
     let rest : (p ++ (46 ∷ decimal m)) ++ (46 ∷ kind_word k) ≡ (q ++ (46 ∷ decimal n)) ++ (46 ∷ kind_word l) =
@@ -51,8 +51,8 @@ first_byte : (x y : ℕ) (xs ys : List ℕ) → x ∷ xs ≡ y ∷ ys → x ≡ 
 first_byte x y xs ys e = cc
 
 -- the packet log isn't a process's file
-pub log-is_no_file : (h p : List ℕ) (m : ℕ) (k : FileKind) → log_name ≡ file_name h p m k → ⊥
-log-is_no_file h p m k e = apart (first_byte 112 104 _ _ e)
+pub log_is_no_file : (h p : List ℕ) (m : ℕ) (k : FileKind) → log_name ≡ file_name h p m k → ⊥
+log_is_no_file h p m k e = apart (first_byte 112 104 _ _ e)
 
 -- ---- captures
 
@@ -70,8 +70,8 @@ same_interface true false e = absurd (let f : ◌≡◌ {A = ℕ} 108 101 = firs
 same_interface false true e = absurd (let f : ◌≡◌ {A = ℕ} 101 108 = first_byte 101 108 _ _ e in omega arith)
 
 -- a capture's name tells its host and its interface
-pub same-capture : (h g : List ℕ) (j k : Bool) → capture_name h j ≡ capture_name g k → (h ≡ g) × (j ≡ k)
-same-capture h g j k e =
+pub same_capture : (h g : List ℕ) (j k : Bool) → capture_name h j ≡ capture_name g k → (h ≡ g) × (j ≡ k)
+same_capture h g j k e =
     let name = append_cancel_left (codes "hosts/") _ _ e in
     let host = cut_at_last 47 h g (capture_tail j) (capture_tail k) (capture_lacks_slash j) (capture_lacks_slash k) name in
     (host.0, same_interface j k host.1)
@@ -81,26 +81,26 @@ abbrev last_of : ℕ → List ℕ → ℕ
 last_of byte [] = byte
 last_of byte (x ∷ xs) = last_of x xs
 
-last-behind : (byte : ℕ) (xs : List ℕ) (y : ℕ) (ys : List ℕ) → last_of byte (xs ++ (y ∷ ys)) ≡ last_of y ys
-last-behind byte [] y ys = refl
-last-behind byte (x ∷ xs) y ys = last-behind x xs y ys
+last_behind : (byte : ℕ) (xs : List ℕ) (y : ℕ) (ys : List ℕ) → last_of byte (xs ++ (y ∷ ys)) ≡ last_of y ys
+last_behind byte [] y ys = refl
+last_behind byte (x ∷ xs) y ys = last_behind x xs y ys
 
-last-of_capture : (g : List ℕ) (k : Bool) → last_of 0 (capture_name g k) ≡ 112
-last-of_capture g true = last-behind 47 g 47 (capture_tail true)
-last-of_capture g false = last-behind 47 g 47 (capture_tail false)
+last_of_capture : (g : List ℕ) (k : Bool) → last_of 0 (capture_name g k) ≡ 112
+last_of_capture g true = last_behind 47 g 47 (capture_tail true)
+last_of_capture g false = last_behind 47 g 47 (capture_tail false)
 
 abbrev last_of_kind : FileKind → ℕ
 last_of_kind Stdout = 116
 last_of_kind Stderr = 114
 last_of_kind Exit = 116
 
-last-of_suffix : (d : List ℕ) (k : FileKind) → last_of 46 (d ++ file_suffix k) ≡ last_of_kind k
-last-of_suffix d Stdout = last-behind 46 d 46 _
-last-of_suffix d Stderr = last-behind 46 d 46 _
-last-of_suffix d Exit = last-behind 46 d 46 _
+last_of_suffix : (d : List ℕ) (k : FileKind) → last_of 46 (d ++ file_suffix k) ≡ last_of_kind k
+last_of_suffix d Stdout = last_behind 46 d 46 _
+last_of_suffix d Stderr = last_behind 46 d 46 _
+last_of_suffix d Exit = last_behind 46 d 46 _
 
-last-of_file : (h p : List ℕ) (m : ℕ) (k : FileKind) → last_of 0 (file_name h p m k) ≡ last_of_kind k
-last-of_file h p m k = last-behind 47 h 47 (tail p m k) ∙ last-behind 47 p 46 (decimal m ++ file_suffix k) ∙ last-of_suffix (decimal m) k
+last_of_file : (h p : List ℕ) (m : ℕ) (k : FileKind) → last_of 0 (file_name h p m k) ≡ last_of_kind k
+last_of_file h p m k = last_behind 47 h 47 (tail p m k) ∙ last_behind 47 p 46 (decimal m ++ file_suffix k) ∙ last_of_suffix (decimal m) k
 
 other_end : (k : FileKind) → last_of_kind k ≡ 112 → ⊥
 other_end Stdout e = omega arith
@@ -108,26 +108,26 @@ other_end Stderr e = omega arith
 other_end Exit e = omega arith
 
 -- a capture isn't a process's file, and not the packet log
-pub capture-is_no_file : (g h p : List ℕ) (loopback : Bool) (m : ℕ) (k : FileKind) → capture_name g loopback ≡ file_name h p m k → ⊥
-capture-is_no_file g h p loopback m k e = other_end k (sym (last-of_file h p m k) ∙ sym (ap (last_of 0) e) ∙ last-of_capture g loopback)
+pub capture_is_no_file : (g h p : List ℕ) (loopback : Bool) (m : ℕ) (k : FileKind) → capture_name g loopback ≡ file_name h p m k → ⊥
+capture_is_no_file g h p loopback m k e = other_end k (sym (last_of_file h p m k) ∙ sym (ap (last_of 0) e) ∙ last_of_capture g loopback)
 
-pub log-is_no_capture : (h : List ℕ) (loopback : Bool) → log_name ≡ capture_name h loopback → ⊥
-log-is_no_capture h loopback e = apart (first_byte 112 104 _ _ e)
+pub log_is_no_capture : (h : List ℕ) (loopback : Bool) → log_name ≡ capture_name h loopback → ⊥
+log_is_no_capture h loopback e = apart (first_byte 112 104 _ _ e)
 
 -- ---- the part of a path behind its last slash has no slash
 
-lacks-all : (c : ℕ) (text : List ℕ) → ((i : ℕ) → i < length text → get_or text i 0 ≡ c → ⊥) → lacks c text ≡ true
-lacks-all c [] none = refl
-lacks-all c (x ∷ xs) none = ap (λ (b : Bool). not b && lacks c xs) (ne_eqb x c (none 0 (omega arith))) ∙ lacks-all c xs (λ i below is. none (suc i) (omega arith) is)
+lacks_all : (c : ℕ) (text : List ℕ) → ((i : ℕ) → i < length text → get_or text i 0 ≡ c → ⊥) → lacks c text ≡ true
+lacks_all c [] none = refl
+lacks_all c (x ∷ xs) none = ap (λ (b : Bool). not b && lacks c xs) (ne_eqb x c (none 0 (omega arith))) ∙ lacks_all c xs (λ i below is. none (suc i) (omega arith) is)
 
 -- behind the byte that was found; where none was, everywhere
 abbrev Behind : Option ℕ → ℕ → Type 0
 Behind None i = Unit {0}
 Behind (Some k) i = k < i
 
-none-behind : (c : ℕ) (text : List ℕ) (n i : ℕ) → Behind (rfind_below c text n) i → i < n → get_or text i 0 ≡ c → ⊥
-none-behind c text zero i behind below is = absurd (omega arith)
-none-behind c text (suc n) i behind below is = go (get_or text n 0 == c) refl behind (λ h less. none-behind c text n i h less is) where
+none_behind : (c : ℕ) (text : List ℕ) (n i : ℕ) → Behind (rfind_below c text n) i → i < n → get_or text i 0 ≡ c → ⊥
+none_behind c text zero i behind below is = absurd (omega arith)
+none_behind c text (suc n) i behind below is = go (get_or text n 0 == c) refl behind (λ h less. none_behind c text n i h less is) where
   go : (b : Bool) → (get_or text n 0 == c) ≡ b → Behind (if b then Some n else rfind_below c text n) i → (Behind (rfind_below c text n) i → i < n → ⊥) → ⊥
   go true e h later = let far : n < i = h in absurd (omega arith)
   go false e h later = ⊎_elim
@@ -135,11 +135,11 @@ none-behind c text (suc n) i behind below is = go (get_or text n 0 == c) refl be
       (λ (other : i ≢ n). later h (omega arith))
       (cases_eq i n)
 
-pub program-is_plain : (path : List ℕ) → lacks 47 (program_of path) ≡ true
+pub program_is_plain : (path : List ℕ) → lacks 47 (program_of path) ≡ true
 unfolding program_of rsplit_once
-program-is_plain path = go (rfind_below 47 path (length path)) (λ i behind below is. none-behind 47 path (length path) i behind below is) where
+program_is_plain path = go (rfind_below 47 path (length path)) (λ i behind below is. none_behind 47 path (length path) i behind below is) where
   go : (o : Option ℕ) → ((i : ℕ) → Behind o i → i < length path → get_or path i 0 ≡ 47 → ⊥)
       → lacks 47 (last_part path (option_map (λ (i : ℕ). (take i path, drop (i + 1) path)) o)) ≡ true
-  go None none = lacks-all 47 path (λ i below is. none i tt below is)
-  go (Some k) none = lacks-all 47 (drop (k + 1) path) (λ i below is.
+  go None none = lacks_all 47 path (λ i below is. none i tt below is)
+  go (Some k) none = lacks_all 47 (drop (k + 1) path) (λ i below is.
       none (k + 1 + i) (omega arith) (omega (arith, length-drop (k + 1) path)) (sym (get_or-drop (k + 1) path i 0) ∙ is))

@@ -17,60 +17,60 @@ use Rattle.net_run.specs.Rest.{rest_in}
 use Rattle.net_run.specs.Shown.{run_pieces}
 use Rattle.net_run.specs.World.{World}
 use Rattle.net_run.proofs.ContentLemmas.{added, at_places, by_place}
-use Rattle.host_state.proofs.Gaining.{names-kept}
-use Rattle.net_run.proofs.GrownLemmas.{splits-round}
-use Rattle.net_run.proofs.HostLemmas.{own-hosts}
-use Rattle.net_run.proofs.PartLemmas.{front-refl, Grows-with_pieces}
-use Rattle.net_run.proofs.WholeLemmas.{whole-run}
+use Rattle.host_state.proofs.Gaining.{names_kept}
+use Rattle.net_run.proofs.GrownLemmas.{splits_round}
+use Rattle.net_run.proofs.HostLemmas.{own_hosts}
+use Rattle.net_run.proofs.PartLemmas.{front_refl, Grows_with_pieces}
+use Rattle.net_run.proofs.WholeLemmas.{whole_run}
 
 -- ---- place by place
 
 behind : (was xs ys : List ℕ) → IsPrefix xs ys → IsPrefix (was ++ xs) (was ++ ys)
 behind was xs ys p = record { rest = p.rest; whole = ap (λ (l : List ℕ). was ++ l) p.whole ∙ sym (append_assoc was xs p.rest) }
 
-front-added : (here there : Bool) (was : Option (List ℕ)) (xs ys : List ℕ) → (here ≡ true → there ≡ true) → IsPrefix xs ys → IsFrontOf (added here was xs) (added there was ys)
-front-added true true was xs ys touched p = let q = behind (unwrap_or was []) xs ys p in (q.rest, ap Some q.whole)
-front-added true false was xs ys touched p = absurd (let e : false ≡ true = touched refl in cc)
-front-added false true None xs ys touched p = tt
-front-added false true (Some bytes) xs ys touched p = (ys, refl)
-front-added false false was xs ys touched p = front-refl was
+front_added : (here there : Bool) (was : Option (List ℕ)) (xs ys : List ℕ) → (here ≡ true → there ≡ true) → IsPrefix xs ys → IsFrontOf (added here was xs) (added there was ys)
+front_added true true was xs ys touched p = let q = behind (unwrap_or was []) xs ys p in (q.rest, ap Some q.whole)
+front_added true false was xs ys touched p = absurd (let e : false ≡ true = touched refl in cc)
+front_added false true None xs ys touched p = tt
+front_added false true (Some bytes) xs ys touched p = (ys, refl)
+front_added false false was xs ys touched p = front_refl was
 
-grows-places : (ps qs : List Put) (c : Content) → ((at : Place) → IsPrefix (bytes_at at ps) (bytes_at at qs)) → ((at : Place) → is_touched at ps ≡ true → is_touched at qs ≡ true)
+grows_places : (ps qs : List Put) (c : Content) → ((at : Place) → IsPrefix (bytes_at at ps) (bytes_at at qs)) → ((at : Place) → is_touched at ps ≡ true → is_touched at qs ≡ true)
     → Grows (at_places ps c) (at_places qs c)
-grows-places ps qs c bytes touched = record {
+grows_places ps qs c bytes touched = record {
   there = refl;
   out = behind c.out _ _ (bytes place.Out);
   err = behind c.err _ _ (bytes place.Err);
-  files = λ name. front-added (is_touched (place.File name) ps) (is_touched (place.File name) qs) (c.files name) _ _ (touched (place.File name)) (bytes (place.File name));
+  files = λ name. front_added (is_touched (place.File name) ps) (is_touched (place.File name) qs) (c.files name) _ _ (touched (place.File name)) (bytes (place.File name));
 }
 
-grows-by_place : (ps qs : List Put) (c : Content) → ((at : Place) → IsPrefix (bytes_at at ps) (bytes_at at qs)) → ((at : Place) → is_touched at ps ≡ true → is_touched at qs ≡ true)
+grows_by_place : (ps qs : List Put) (c : Content) → ((at : Place) → IsPrefix (bytes_at at ps) (bytes_at at qs)) → ((at : Place) → is_touched at ps ≡ true → is_touched at qs ≡ true)
     → Grows (with_pieces ps c) (with_pieces qs c)
-grows-by_place ps qs c bytes touched =
-    subst (λ (d : Content). Grows d (with_pieces qs c)) (sym (by_place ps c)) (subst (λ (d : Content). Grows (at_places ps c) d) (sym (by_place qs c)) (grows-places ps qs c bytes touched))
+grows_by_place ps qs c bytes touched =
+    subst (λ (d : Content). Grows d (with_pieces qs c)) (sym (by_place ps c)) (subst (λ (d : Content). Grows (at_places ps c) d) (sym (by_place qs c)) (grows_places ps qs c bytes touched))
 
 -- ---- while a run goes on
 
 module _ (load : Bool) (w u : World) (outputs : List (List Output)) (lines : List Line) (own : HaveOwnFiles (names_in w)) (gains : Gains w u outputs lines) (puts : List Put) (grown : IsGrown w puts) (c : Content) where
-  own-later : HaveOwnFiles (names_in u)
-  own-later = subst HaveOwnFiles (sym (names-kept w u outputs lines gains)) own
+  own_later : HaveOwnFiles (names_in u)
+  own_later = subst HaveOwnFiles (sym (names_kept w u outputs lines gains)) own
 
-  bytes-later : (at : Place) → IsPrefix (bytes_at at puts) (bytes_at at (run_pieces load u))
-  bytes-later at =
+  bytes_later : (at : Place) → IsPrefix (bytes_at at puts) (bytes_at at (run_pieces load u))
+  bytes_later at =
       let more = bytes_at at (all_grown (names_in w) outputs lines) in
       let rest = bytes_at at (rest_in load u) in
       record {
         rest = more ++ rest;
-        whole = (whole-run at load u (own-hosts u.hosts own-later)).bytes ∙ ap (λ (l : List ℕ). l ++ rest) ((splits-round w u outputs lines own gains at).bytes)
+        whole = (whole_run at load u (own_hosts u.hosts own_later)).bytes ∙ ap (λ (l : List ℕ). l ++ rest) ((splits_round w u outputs lines own gains at).bytes)
             ∙ append_assoc (bytes_at at (grown_in w)) more rest ∙ ap (λ (l : List ℕ). l ++ (more ++ rest)) (sym (grown.bytes at));
       }
 
-  touched-later : (at : Place) → is_touched at puts ≡ true → is_touched at (run_pieces load u) ≡ true
-  touched-later at e = (whole-run at load u (own-hosts u.hosts own-later)).first ((splits-round w u outputs lines own gains at).first (grown.places at e))
+  touched_later : (at : Place) → is_touched at puts ≡ true → is_touched at (run_pieces load u) ≡ true
+  touched_later at e = (whole_run at load u (own_hosts u.hosts own_later)).first ((splits_round w u outputs lines own gains at).first (grown.places at e))
 
-  pub grows-to_run : Grows (with_pieces puts c) (with_pieces (run_pieces load u) c)
-  grows-to_run = grows-by_place puts (run_pieces load u) c bytes-later touched-later
+  pub grows_to_run : Grows (with_pieces puts c) (with_pieces (run_pieces load u) c)
+  grows_to_run = grows_by_place puts (run_pieces load u) c bytes_later touched_later
 
   -- what was put so far is a front of the run of any world that comes later
-  pub part-so_far : Between c (Some (with_pieces puts c)) (with_pieces (run_pieces load u) c)
-  part-so_far = record { now = with_pieces puts c; now_is = refl; grown = Grows-with_pieces puts c; rest = grows-to_run }
+  pub part_so_far : Between c (Some (with_pieces puts c)) (with_pieces (run_pieces load u) c)
+  part_so_far = record { now = with_pieces puts c; now_is = refl; grown = Grows_with_pieces puts c; rest = grows_to_run }

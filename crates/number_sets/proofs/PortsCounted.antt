@@ -6,8 +6,8 @@ use Rattle.std.proofs.lemmas.Bool.Decides.{nat_tests}
 use Rattle.std.proofs.lemmas.List.Sums.{sum_by-cons}
 use Rattle.sim_base.specs.declared.address.Addr.{Addr}
 use Rattle.sim_base.specs.Addresses.{has_port, first_free_port, least_free_port}
-use Rattle.sim_base.specs.AddressLaws.{first_free_port-IsLeastFree}
-use Rattle.sim_base.proofs.PortLemmas.{first_free_port-free, first_free_port-taken, first_free_port-none}
+use Rattle.sim_base.specs.AddressLaws.{first_free_port_IsLeastFree}
+use Rattle.sim_base.proofs.PortLemmas.{first_free_port_free, first_free_port_taken, first_free_port_none}
 use Rattle.number_sets.specs.Bags.{Holds}
 use Rattle.number_sets.specs.Ports.{given, once, had}
 use Rattle.number_sets.specs.declared.bag.NumberBag.{NumberBag}
@@ -27,13 +27,13 @@ lt_suc n m = elim (cases_lt n m) [
 -- the first of some ports in a row that is free
 first_is : (bound : List Addr) (first count n : ℕ) → has_port bound (first + n) ≡ false → ((m : ℕ) → m < n → has_port bound (first + m) ≡ true)
     → first_free_port bound first count ≡ (if nat_lt n count then Some (first + n) else None)
-first_is bound first zero n free had = first_free_port-none bound first 0 refl ∙ sym (ap (λ (b : Bool). if b then Some (first + n) else None) (not_less n))
+first_is bound first zero n free had = first_free_port_none bound first 0 refl ∙ sym (ap (λ (b : Bool). if b then Some (first + n) else None) (not_less n))
   where
     not_less : (n : ℕ) → nat_lt n 0 ≡ false
     not_less n = grind (arith, nat_tests)
 first_is bound first (suc count) zero free had =
     let here : first + 0 ≡ first = omega arith in
-    first_free_port-free bound first (suc count) (ap (has_port bound) (sym here) ∙ free) (omega arith)
+    first_free_port_free bound first (suc count) (ap (has_port bound) (sym here) ∙ free) (omega arith)
     ∙ (ap (λ (k : ℕ). Some k) (sym here) ∙ sym (ap (λ (b : Bool). if b then Some (first + 0) else None) (lt_test 0 (suc count) (omega arith))))
 first_is bound first (suc count) (suc n) free had =
     let here : first ≡ first + 0 = omega arith in
@@ -43,7 +43,7 @@ first_is bound first (suc count) (suc n) free had =
     (λ m less. let further : first + 1 + m ≡ first + suc m = omega arith in ap (has_port bound) further ∙ had (suc m) (omega arith)) in
     let told : (if nat_lt n count then Some (first + suc n) else None) ≡ (if nat_lt (suc n) (suc count) then Some (first + suc n) else None) =
     sym (ap (λ (b : Bool). if b then Some (first + suc n) else None) (lt_suc n count)) in
-    first_free_port-taken bound first (suc count) (ap (has_port bound) here ∙ had 0 (omega arith)) (omega arith)
+    first_free_port_taken bound first (suc count) (ap (has_port bound) here ∙ had 0 (omega arith)) (omega arith)
     ∙ (ap (λ (k : ℕ). first_free_port bound (first + 1) k) fewer
     ∙ (rest ∙ (ap (λ (k : ℕ). if nat_lt n count then Some k else None) next ∙ told)))
 
@@ -58,7 +58,7 @@ all_told bound had = by_found (least_free_port bound) refl
     by_found : (found : Option ℕ) → least_free_port bound ≡ found → None ≡ least_free_port bound
     by_found None e = sym e
     by_found (Some port) e =
-        let least = first_free_port-IsLeastFree bound 10000 55536 port e in
+        let least = first_free_port_IsLeastFree bound 10000 55536 port e in
         let from = least.from in
         let within = least.within in
         let back : 10000 + (port - 10000) ≡ port = omega arith in

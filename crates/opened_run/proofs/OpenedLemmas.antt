@@ -65,13 +65,13 @@ slice_within (y ∷ ys) zero x at = omega arith
 slice_within (y ∷ ys) (suc i) x at = let rest = slice_within ys i x at in omega (arith, rest)
 
 -- each host has a name in the book
-length-book : (run : Run) → length (net_of run).known.book ≡ length run.plan.rows
-length-book run = length-map (λ (h : HostRow). h.address) run.plan.rows
+length_book : (run : Run) → length (net_of run).known.book ≡ length run.plan.rows
+length_book run = length-map (λ (h : HostRow). h.address) run.plan.rows
 
 rows_fit : (run : Run) → KeepsToLimits run.plan → AreRows (net_of run) (rows_of run)
 rows_fit run within =
     let hs : List HostRow = run.plan.rows in
-    let count : length (rows_of run) ≡ length (net_of run).known.book = length-rows run.plan.settings 0 hs ∙ sym (length-book run) in
+    let count : length (rows_of run) ≡ length (net_of run).known.book = length-rows run.plan.settings 0 hs ∙ sym (length_book run) in
     let at : (i : ℕ) (row : Row) → slice_get (rows_of run) i ≡ Some row → IsRowAt i row = λ i row is. subst (λ (k : ℕ). IsRowAt k row) (let e : 0 + i ≡ i = omega arith in e) (rows_at run.plan.settings 0 hs within.processes i row is) in
     record {
       count = count;
@@ -177,7 +177,7 @@ module _ (run : Run) (opened : Opened) (opens : Opens run opened) where
       (subst (λ (l : Option Time). IsLookaheadOf (net_of run) (nanos_of l)) (sym opens.lookahead) is)
 
   book_opened : length opened.net.known.book ≡ length run.plan.rows
-  book_opened = ap (λ (net : Net). length net.known.book) opens.net ∙ length-book run
+  book_opened = ap (λ (net : Net). length net.known.book) opens.net ∙ length_book run
 
 pub opened_fits : (run : Run) (opened : Opened) → KeepsToLimits run.plan → IsRouted run.plan → AreRowsApart run.plan → Opens run opened → HasOpened opened
 opened_fits run opened within routed apart opens = record {

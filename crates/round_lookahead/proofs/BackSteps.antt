@@ -4,8 +4,8 @@ use Rattle.std.specs.declared.alloc.Global.{Global}
 use Rattle.sim_base.specs.declared.event.Parcel.{Parcel}
 use Rattle.sim_base.specs.declared.host.HostId.{HostId}
 use Rattle.host_link.specs.declared.line.Logged.{Logged}
-use Rattle.world_order.proofs.Homes.{get-set_same, get-set_other, get-below}
-use Rattle.world_order.proofs.Members.{Each, Each-from_All, All-from_Each}
+use Rattle.world_order.proofs.Homes.{get_set_same, get_set_other, get_below}
+use Rattle.world_order.proofs.Members.{Each, Each_from_All, All_from_Each}
 use Rattle.round_lookahead.specs.declared.workers.worked.Done.{Done}
 use Rattle.round_lookahead.specs.declared.workers.worked.Worked.{Worked}
 use Rattle.round_lookahead.specs.declared.world.backs.Back.{Back}
@@ -15,38 +15,38 @@ use Rattle.round_lookahead.specs.inside.Backs.{back_of, with_done, ids_of, lines
 -- ---- lists
 
 module _ {X : Type 0} where
-  pub first-of : (P : X → Type 0) (l rest : List X) (x : X) → l ≡ x ∷ rest → All P l → P x
-  first-of P l rest x is all = Each-from_All P (x ∷ rest) (subst (All P) is all) x (inl refl)
+  pub first_of : (P : X → Type 0) (l rest : List X) (x : X) → l ≡ x ∷ rest → All P l → P x
+  first_of P l rest x is all = Each_from_All P (x ∷ rest) (subst (All P) is all) x (inl refl)
 
-  pub rest-of : (P : X → Type 0) (l rest : List X) (x : X) → l ≡ x ∷ rest → All P l → All P rest
-  rest-of P l rest x is all = All-from_Each P rest (λ y h. Each-from_All P (x ∷ rest) (subst (All P) is all) y (inr h))
+  pub rest_of : (P : X → Type 0) (l rest : List X) (x : X) → l ≡ x ∷ rest → All P l → All P rest
+  rest_of P l rest x is all = All_from_Each P rest (λ y h. Each_from_All P (x ∷ rest) (subst (All P) is all) y (inr h))
 
   -- what is left completes the whole once some of it is there
   pub completes : (old new more left whole : List X) → new ≡ old ++ more → old ++ (more ++ left) ≡ whole → new ++ left ≡ whole
   completes old new more left whole is all = ap (λ (l : List X). l ++ left) is ∙ append_assoc old more left ∙ all
 
-  pub at-index : (xs : List X) (i : ℕ) (x : X) → i < length xs → x ≡ get_or xs i x → slice_get xs i ≡ Some x
-  at-index [] i x below is = absurd (omega arith)
-  at-index (y ∷ ys) zero x below is = ap Some (sym is)
-  at-index (y ∷ ys) (suc i) x below is = at-index ys i x (omega arith) is
+  pub at_index : (xs : List X) (i : ℕ) (x : X) → i < length xs → x ≡ get_or xs i x → slice_get xs i ≡ Some x
+  at_index [] i x below is = absurd (omega arith)
+  at_index (y ∷ ys) zero x below is = ap Some (sym is)
+  at_index (y ∷ ys) (suc i) x below is = at_index ys i x (omega arith) is
 
-map-more : {X Y : Type 0} (f : X → Y) (xs : List X) (x : X) → map f (xs ++ x ∷ []) ≡ map f xs ++ f x ∷ []
-map-more f [] x = refl
-map-more f (y ∷ ys) x = ap (λ (l : List _). f y ∷ l) (map-more f ys x)
+map_more : {X Y : Type 0} (f : X → Y) (xs : List X) (x : X) → map f (xs ++ x ∷ []) ≡ map f xs ++ f x ∷ []
+map_more f [] x = refl
+map_more f (y ∷ ys) x = ap (λ (l : List _). f y ∷ l) (map_more f ys x)
 
 -- one more of a list that is seen through a function
-pub maps-more : {X Y : Type 0} (f : X → Y) (old new : List X) (x : X) (left whole : List Y) → new ≡ old ++ x ∷ [] → map f old ++ (f x ∷ left) ≡ whole → map f new ++ left ≡ whole
-maps-more f old new x left whole is all = completes (map f old) (map f new) (f x ∷ []) left whole (ap (map f) is ∙ map-more f old x) all
+pub maps_more : {X Y : Type 0} (f : X → Y) (old new : List X) (x : X) (left whole : List Y) → new ≡ old ++ x ∷ [] → map f old ++ (f x ∷ left) ≡ whole → map f new ++ left ≡ whole
+maps_more f old new x left whole is all = completes (map f old) (map f new) (f x ∷ []) left whole (ap (map f) is ∙ map_more f old x) all
 
 -- ---- slots
 
-pub length-with_done : (ds : List Done) (slots : List (Option Back)) → length (with_done ds slots) ≡ length slots
-length-with_done [] slots = refl
-length-with_done (d ∷ ds) slots = length-with_done ds (slice_set slots d.id.index (Some (back_of d))) ∙ length-set slots d.id.index (Some (back_of d))
+pub length_with_done : (ds : List Done) (slots : List (Option Back)) → length (with_done ds slots) ≡ length slots
+length_with_done [] slots = refl
+length_with_done (d ∷ ds) slots = length_with_done ds (slice_set slots d.id.index (Some (back_of d))) ∙ length-set slots d.id.index (Some (back_of d))
 
-with_done-append : (ds es : List Done) (slots : List (Option Back)) → with_done (ds ++ es) slots ≡ with_done es (with_done ds slots)
-with_done-append [] es slots = refl
-with_done-append (d ∷ ds) es slots = with_done-append ds es (slice_set slots d.id.index (Some (back_of d)))
+with_done_append : (ds es : List Done) (slots : List (Option Back)) → with_done (ds ++ es) slots ≡ with_done es (with_done ds slots)
+with_done_append [] es slots = refl
+with_done_append (d ∷ ds) es slots = with_done_append ds es (slice_set slots d.id.index (Some (back_of d)))
 
 -- no two have the same number
 abbrev pub IdsApart : List Done → Type 0
@@ -57,26 +57,26 @@ stays : (ds : List Done) (slots : List (Option Back)) (i : ℕ) → Each (λ (e 
 stays [] slots i other = refl
 stays (d ∷ ds) slots i other =
     stays ds (slice_set slots d.id.index (Some (back_of d))) i (λ e h. other e (inr h))
-    ∙ get-set_other slots d.id.index i (Some (back_of d)) (λ same. other d (inl refl) (sym same))
+    ∙ get_set_other slots d.id.index i (Some (back_of d)) (λ same. other d (inl refl) (sym same))
 
 -- each stands in the slot of its number
-pub in-slot : (ds : List Done) (slots : List (Option Back)) → IdsApart ds → Each (λ (d : Done). d.id.index < length slots) ds
+pub in_slot : (ds : List Done) (slots : List (Option Back)) → IdsApart ds → Each (λ (d : Done). d.id.index < length slots) ds
     → Each (λ (d : Done). slice_get (with_done ds slots) d.id.index ≡ Some (Some (back_of d))) ds
-in-slot [] slots apart below d h = absurd h
-in-slot (d ∷ ds) slots apart below e (inl same) =
-    let there = get-below slots d.id.index (below d (inl refl)) in
+in_slot [] slots apart below d h = absurd h
+in_slot (d ∷ ds) slots apart below e (inl same) =
+    let there = get_below slots d.id.index (below d (inl refl)) in
     let here : slice_get (with_done ds (slice_set slots d.id.index (Some (back_of d)))) d.id.index ≡ Some (Some (back_of d)) =
-    stays ds (slice_set slots d.id.index (Some (back_of d))) d.id.index apart.0 ∙ get-set_same slots d.id.index there.0 (Some (back_of d)) there.1 in
+    stays ds (slice_set slots d.id.index (Some (back_of d))) d.id.index apart.0 ∙ get_set_same slots d.id.index there.0 (Some (back_of d)) there.1 in
     subst (λ (x : Done). slice_get (with_done (d ∷ ds) slots) x.id.index ≡ Some (Some (back_of x))) (sym same) here
-in-slot (d ∷ ds) slots apart below e (inr h) =
-    in-slot ds (slice_set slots d.id.index (Some (back_of d))) apart.1
+in_slot (d ∷ ds) slots apart below e (inr h) =
+    in_slot ds (slice_set slots d.id.index (Some (back_of d))) apart.1
     (λ x g. (let long = length-set slots d.id.index (Some (back_of d)) in let b = below x (inr g) in omega arith)) e h
 
 -- ---- workers' work, one after another
 
-pub flat-append : {X Y : Type 0} (f : X → List Y) (xs ys : List X) → flat_map f (xs ++ ys) ≡ flat_map f xs ++ flat_map f ys
-flat-append f [] ys = refl
-flat-append f (x ∷ xs) ys = ap (λ (l : List _). f x ++ l) (flat-append f xs ys) ∙ sym (append_assoc (f x) (flat_map f xs) (flat_map f ys))
+pub flat_append : {X Y : Type 0} (f : X → List Y) (xs ys : List X) → flat_map f (xs ++ ys) ≡ flat_map f xs ++ flat_map f ys
+flat_append f [] ys = refl
+flat_append f (x ∷ xs) ys = ap (λ (l : List _). f x ++ l) (flat_append f xs ys) ∙ sym (append_assoc (f x) (flat_map f xs) (flat_map f ys))
 
 -- what is left of workers' work completes the whole
 pub record IsReturning (count : ℕ) (works left : List Worked) (r : Returned) : Type 0 where
@@ -87,38 +87,38 @@ pub record IsReturning (count : ℕ) (works left : List Worked) (r : Returned) :
   pub spill : r.spill.items ++ all_spilled left ≡ all_spilled works
   pub below : All (λ (w : Worked). All (λ (d : Done). d.id.index < count) w.done.items) left
 
-pub returned-more : (count : ℕ) (works left rest : List Worked) (w : Worked) (old new : Returned) → left ≡ w ∷ rest → Returns (w ∷ []) old new
+pub returned_more : (count : ℕ) (works left rest : List Worked) (w : Worked) (old new : Returned) → left ≡ w ∷ rest → Returns (w ∷ []) old new
     → IsReturning count works left old → IsReturning count works rest new
-returned-more count works left rest w old new is more so_far =
+returned_more count works left rest w old new is more so_far =
     let done : all_done (w ∷ []) ≡ w.done.items = append-nil w.done.items in
     let spilled : all_spilled (w ∷ []) ≡ w.spill.items = append-nil w.spill.items in
     let slots : new.slots.items ≡ with_done w.done.items old.slots.items = more.slots ∙ ap (λ (ds : List Done). with_done ds old.slots.items) done in
     record {
-      long = ap length slots ∙ length-with_done w.done.items old.slots.items ∙ so_far.long;
-      slots = ap (with_done (all_done rest)) slots ∙ sym (with_done-append w.done.items (all_done rest) old.slots.items)
+      long = ap length slots ∙ length_with_done w.done.items old.slots.items ∙ so_far.long;
+      slots = ap (with_done (all_done rest)) slots ∙ sym (with_done_append w.done.items (all_done rest) old.slots.items)
           ∙ ap (λ (ws : List Worked). with_done (all_done ws) old.slots.items) (sym is) ∙ so_far.slots;
       lines = completes old.lines.items new.lines.items (lines_done w.done.items) (lines_done (all_done rest)) (lines_done (all_done works))
           (more.lines ∙ ap (λ (ds : List Done). old.lines.items ++ lines_done ds) done)
-          (ap (λ (l : List Logged). old.lines.items ++ l) (sym (flat-append (λ (d : Done). d.lines.items) w.done.items (all_done rest)))
+          (ap (λ (l : List Logged). old.lines.items ++ l) (sym (flat_append (λ (d : Done). d.lines.items) w.done.items (all_done rest)))
           ∙ ap (λ (ws : List Worked). old.lines.items ++ lines_done (all_done ws)) (sym is) ∙ so_far.lines);
       took = completes (lists_of old.took.items) (lists_of new.took.items) (took_by (w ∷ [])) (took_by rest) (took_by works) more.took
           (ap (λ (ws : List Worked). lists_of old.took.items ++ took_by ws) (sym is) ∙ so_far.took);
       spill = completes old.spill.items new.spill.items w.spill.items (all_spilled rest) (all_spilled works)
           (more.spill ∙ ap (λ (ps : List Parcel). old.spill.items ++ ps) spilled)
           (ap (λ (ws : List Worked). old.spill.items ++ all_spilled ws) (sym is) ∙ so_far.spill);
-      below = rest-of (λ (v : Worked). All (λ (d : Done). d.id.index < count) v.done.items) left rest w is so_far.below;
+      below = rest_of (λ (v : Worked). All (λ (d : Done). d.id.index < count) v.done.items) left rest w is so_far.below;
     }
 
 -- one worker's work comes back
-pub one-returned : (w : Worked) (old new : Returned) (took : Vec HostId Global) → new.slots.items ≡ with_done w.done.items old.slots.items → new.lines.items ≡ old.lines.items ++ lines_done w.done.items
+pub one_returned : (w : Worked) (old new : Returned) (took : Vec HostId Global) → new.slots.items ≡ with_done w.done.items old.slots.items → new.lines.items ≡ old.lines.items ++ lines_done w.done.items
     → took.items ≡ ids_of w.done.items → new.took.items ≡ old.took.items ++ took ∷ [] → new.spill.items ≡ old.spill.items ++ w.spill.items → Returns (w ∷ []) old new
-one-returned w old new took slots lines ids took_is spill =
+one_returned w old new took slots lines ids took_is spill =
     let done : all_done (w ∷ []) ≡ w.done.items = append-nil w.done.items in
     let spilled : all_spilled (w ∷ []) ≡ w.spill.items = append-nil w.spill.items in
     record {
       slots = slots ∙ ap (λ (ds : List Done). with_done ds old.slots.items) (sym done);
       lines = lines ∙ ap (λ (ds : List Done). old.lines.items ++ lines_done ds) (sym done);
-      took = ap (map (λ (v : Vec HostId Global). v.items)) took_is ∙ map-more (λ (v : Vec HostId Global). v.items) old.took.items took
+      took = ap (map (λ (v : Vec HostId Global). v.items)) took_is ∙ map_more (λ (v : Vec HostId Global). v.items) old.took.items took
           ∙ ap (λ (l : List HostId). lists_of old.took.items ++ l ∷ []) ids;
       spill = spill ∙ ap (λ (ps : List Parcel). old.spill.items ++ ps) (sym spilled);
     }
@@ -127,5 +127,5 @@ one-returned w old new took slots lines ids took_is spill =
 pub seen-more : {X B Y : Type 0} (f : X → Y) (g : B → Y) (old new : List X) (x : X) (left rest : List B) (b : B) (whole : List Y) → new ≡ old ++ x ∷ [] → left ≡ b ∷ rest → f x ≡ g b
     → map f old ++ map g left ≡ whole → map f new ++ map g rest ≡ whole
 seen-more f g old new x left rest b whole more is same all =
-    maps-more f old new x (map g rest) whole more
+    maps_more f old new x (map g rest) whole more
     (ap (λ y. map f old ++ y ∷ map g rest) same ∙ ap (λ l. map f old ++ map g l) (sym is) ∙ all)

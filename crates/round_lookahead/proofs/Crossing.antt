@@ -20,27 +20,27 @@ use Rattle.round_lookahead.proofs.workers.worked.Worked.TheSendSync as works
 use Rattle.round_lookahead.specs.contracts.workers.bench.Bench as bench
 
 module _ (T : RattleType) where
-  seat_fields-send : IsSend T → IsSend (seat_inside.the_row T)
-  seat_fields-send s =
+  seat_fields_send : IsSend T → IsSend (seat_inside.the_row T)
+  seat_fields_send s =
       declared_send (seat_inside.the_type T) (search sendable, (search sendable, (search (share.the_send, heap.Vec-send, sendable) depth 20, (search (trails.send-Trail, sendable) depth 20, (search (heap.crosses, sendable) depth 20, tt)))))
 
-  pub seat-send : IsSend T → IsSend (seat.the_row T)
-  seat-send s = let f = seat_fields-send s in search (view_send) depth 20
+  pub seat_send : IsSend T → IsSend (seat.the_row T)
+  seat_send s = let f = seat_fields_send s in search (view_send) depth 20
 
-  put-send : IsSend T → IsSend (put.the_row T)
-  put-send s = search (heap.crosses, view_send, sendable) depth 60 fits 100000
+  put_send : IsSend T → IsSend (put.the_row T)
+  put_send s = search (heap.crosses, view_send, sendable) depth 60 fits 100000
 
-  trail-send : IsSend T → IsSend (trail.the_row (put.the_row T))
-  trail-send s = let p = put-send s in trails.send-Trail (put.the_row T) (search (heap.crosses, sendable) depth 60 fits 100000)
+  trail_send : IsSend T → IsSend (trail.the_row (put.the_row T))
+  trail_send s = let p = put_send s in trails.send-Trail (put.the_row T) (search (heap.crosses, sendable) depth 60 fits 100000)
 
-  carrier_fields-send : IsSend T → IsSend (carrier_inside.the_row T)
-  carrier_fields-send s =
-      declared_send (carrier_inside.the_type T) (search (places.the_send, sendable) depth 20, (as_row_send (trail.the_field (put.the_row T)) (trail-send s), tt))
+  carrier_fields_send : IsSend T → IsSend (carrier_inside.the_row T)
+  carrier_fields_send s =
+      declared_send (carrier_inside.the_type T) (search (places.the_send, sendable) depth 20, (as_row_send (trail.the_field (put.the_row T)) (trail_send s), tt))
 
-  pub carrier-send : IsSend T → IsSend (carrier.the_row T)
-  carrier-send s = let f = carrier_fields-send s in search (view_send) depth 20
+  pub carrier_send : IsSend T → IsSend (carrier.the_row T)
+  carrier_send s = let f = carrier_fields_send s in search (view_send) depth 20
 
-pub bench-send : IsSend bench.the_row
-bench-send =
-    let s = seat-send task.the_row tasks.the_send in let c = carrier-send _ (heap.Box-send parcel.the_row parcels.the_send) in
+pub bench_send : IsSend bench.the_row
+bench_send =
+    let s = seat_send task.the_row tasks.the_send in let c = carrier_send _ (heap.Box-send parcel.the_row parcels.the_send) in
     declared_send bench.the_type (search sendable, (search sendable depth 20, (search sendable depth 20, (search (works.the_send, sendable) depth 20, tt))))

@@ -8,24 +8,24 @@ use Rattle.host_link.specs.Parcels.{parcel_event}
 use Rattle.world_order.proofs.Parts.{part-more}
 use Rattle.round_lookahead.specs.inside.Arrivals.{Boxed, arrivals}
 use Rattle.round_lookahead.specs.inside.Backs.{row_arrivals}
-use Rattle.round_lookahead.proofs.BackSteps.{at-index}
+use Rattle.round_lookahead.proofs.BackSteps.{at_index}
 
-arrivals-more : (bs : List Boxed) (b : Boxed) → arrivals (bs ++ b ∷ []) ≡ arrivals bs ++ parcel_event b.value ∷ []
-arrivals-more [] b = Rattle.std.proofs.Common.refl
-arrivals-more (x ∷ bs) b = ap (λ (l : List Event). parcel_event x.value ∷ l) (arrivals-more bs b)
+arrivals_more : (bs : List Boxed) (b : Boxed) → arrivals (bs ++ b ∷ []) ≡ arrivals bs ++ parcel_event b.value ∷ []
+arrivals_more [] b = Rattle.std.proofs.Common.refl
+arrivals_more (x ∷ bs) b = ap (λ (l : List Event). parcel_event x.value ∷ l) (arrivals_more bs b)
 
 pub row-more : (rows : List (Vec Boxed Global)) (to : ℕ) (row new : Vec Boxed Global) (boxed : Boxed) (p : Parcel) → to < length rows → row ≡ get_or rows to row → new.items ≡ row.items ++ boxed ∷ [] → boxed.value ≡ p
     → IsPermutation (row_arrivals (slice_set rows to new)) (parcel_event p ∷ row_arrivals rows)
 row-more rows to row new boxed p below at more is =
     let e : Event = parcel_event p in
     let same : arrivals new.items ≡ arrivals row.items ++ e ∷ [] =
-    ap arrivals more ∙ arrivals-more row.items boxed ∙ ap (λ (q : Parcel). arrivals row.items ++ parcel_event q ∷ []) is in
-    part-more (λ (r : Vec Boxed Global). arrivals r.items) rows to row new (e ∷ []) (at-index rows to row below at)
+    ap arrivals more ∙ arrivals_more row.items boxed ∙ ap (λ (q : Parcel). arrivals row.items ++ parcel_event q ∷ []) is in
+    part-more (λ (r : Vec Boxed Global). arrivals r.items) rows to row new (e ∷ []) (at_index rows to row below at)
     (subst (λ (l : List Event). IsPermutation l (e ∷ arrivals row.items)) (sym same) (IsPermutation-to_front (arrivals row.items) e))
 
-pub delivered-more : (left rest : List Parcel) (p : Parcel) (old new whole : List Event) → left ≡ p ∷ rest → IsPermutation new (parcel_event p ∷ old)
+pub delivered_more : (left rest : List Parcel) (p : Parcel) (old new whole : List Event) → left ≡ p ∷ rest → IsPermutation new (parcel_event p ∷ old)
     → IsPermutation (map parcel_event left ++ old) whole → IsPermutation (map parcel_event rest ++ new) whole
-delivered-more left rest p old new whole is more all =
+delivered_more left rest p old new whole is more all =
     IsPermutation-trans (map parcel_event rest ++ new) (map parcel_event rest ++ (parcel_event p ∷ old)) whole
     (IsPermutation-append_right (map parcel_event rest) new (parcel_event p ∷ old) more)
     (IsPermutation-trans (map parcel_event rest ++ (parcel_event p ∷ old)) (parcel_event p ∷ (map parcel_event rest ++ old)) whole

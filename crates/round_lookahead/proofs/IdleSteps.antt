@@ -20,7 +20,7 @@ use Rattle.host_state.specs.HostStands.{Stands}
 use Rattle.host_state.specs.Running.{Owns}
 use Rattle.world_order.specs.Steps.{has_due}
 use Rattle.world_order.specs.WholeTurns.{unfired, rests}
-use Rattle.world_order.proofs.Members.{Each, Each-from_All, All-from_Each}
+use Rattle.world_order.proofs.Members.{Each, Each_from_All, All_from_Each}
 use Rattle.round_lookahead.specs.declared.workers.task.Task.{Task}
 use Rattle.round_lookahead.specs.declared.workers.worked.Done.{Done}
 use Rattle.round_lookahead.specs.inside.Arrivals.{Boxed, arrivals}
@@ -28,39 +28,39 @@ use Rattle.round_lookahead.specs.inside.Dues.{first_due}
 use Rattle.round_lookahead.specs.inside.Idles.{IsIdle}
 use Rattle.round_lookahead.specs.Tasks.{IsTask, waiting}
 use Rattle.round_lookahead.specs.Works.{HasRun}
-use Rattle.round_lookahead.proofs.DueSteps.{any-in, IsDue, IsFrom, least-both, least-one}
+use Rattle.round_lookahead.proofs.DueSteps.{any_in, IsDue, IsFrom, least_both, least-one}
 
 -- ---- the first that is due
 
-pub first-least : (es : List Event) → IsLeastDue es (first_due es)
-first-least [] = refl
-first-least (e ∷ es) = least-both (e ∷ []) es (Some e.key.due) (first_due es) (least-one e e.key.due refl) (first-least es)
+pub first_least : (es : List Event) → IsLeastDue es (first_due es)
+first_least [] = refl
+first_least (e ∷ es) = least_both (e ∷ []) es (Some e.key.due) (first_due es) (least-one e e.key.due refl) (first_least es)
 
-none-due_first : (x : Time) (es : List Event) → es ≡ [] → IsLeastDue es (Some x) → ⊥
-none-due_first x es none least = (any-in (IsDue x) [] (subst (Any (IsDue x)) none least.0)).1
+none_due_first : (x : Time) (es : List Event) → es ≡ [] → IsLeastDue es (Some x) → ⊥
+none_due_first x es none least = (any_in (IsDue x) [] (subst (Any (IsDue x)) none least.0)).1
 
-same-time : (x y : Time) → x.nanos ≡ y.nanos → x ≡ y
-same-time x y same = ap (λ (n : ℕ). record { nanos = n }) same
+same_time : (x y : Time) → x.nanos ≡ y.nanos → x ≡ y
+same_time x y same = ap (λ (n : ℕ). record { nanos = n }) same
 
 -- there is one such time
-first-one : (es : List Event) (a b : Option Time) → IsLeastDue es a → IsLeastDue es b → a ≡ b
-first-one es None None first second = refl
-first-one es None (Some y) first second = absurd (none-due_first y es first second)
-first-one es (Some x) None first second = absurd (none-due_first x es second first)
-first-one es (Some x) (Some y) first second =
-    let i = any-in (IsDue x) es first.0 in
-    let j = any-in (IsDue y) es second.0 in
+first_one : (es : List Event) (a b : Option Time) → IsLeastDue es a → IsLeastDue es b → a ≡ b
+first_one es None None first second = refl
+first_one es None (Some y) first second = absurd (none_due_first y es first second)
+first_one es (Some x) None first second = absurd (none_due_first x es second first)
+first_one es (Some x) (Some y) first second =
+    let i = any_in (IsDue x) es first.0 in
+    let j = any_in (IsDue y) es second.0 in
     let here : i.0.key.due.nanos ≡ x.nanos = ap (λ (t : Time). t.nanos) i.2 in
     let there : j.0.key.due.nanos ≡ y.nanos = ap (λ (t : Time). t.nanos) j.2 in
-    let less : x.nanos ≤ j.0.key.due.nanos = Each-from_All (IsFrom x) es first.1 j.0 j.1 in
-    let more : y.nanos ≤ i.0.key.due.nanos = Each-from_All (IsFrom y) es second.1 i.0 i.1 in
-    ap Some (same-time x y (omega (arith, here, there, less, more)))
+    let less : x.nanos ≤ j.0.key.due.nanos = Each_from_All (IsFrom x) es first.1 j.0 j.1 in
+    let more : y.nanos ≤ i.0.key.due.nanos = Each_from_All (IsFrom y) es second.1 i.0 i.1 in
+    ap Some (same_time x y (omega (arith, here, there, less, more)))
 
 pub first-is : (es : List Event) (a : Option Time) → IsLeastDue es a → a ≡ first_due es
-first-is es a least = first-one es a (first_due es) least (first-least es)
+first-is es a least = first_one es a (first_due es) least (first_least es)
 
-pub least-of : (es : List Event) (a : Option Time) → a ≡ first_due es → IsLeastDue es a
-least-of es a is = subst (IsLeastDue es) (sym is) (first-least es)
+pub least_of : (es : List Event) (a : Option Time) → a ≡ first_due es → IsLeastDue es a
+least_of es a is = subst (IsLeastDue es) (sym is) (first_least es)
 
 -- ---- nothing due
 
@@ -68,11 +68,11 @@ abbrev pub is_before : ℕ → Option Time → Bool
 is_before end None = false
 is_before end (Some due) = nat_lt due.nanos end
 
-late-is : (end due : ℕ) → end ≤ due → nat_lt due end ≡ false
-late-is end due late = search rules
+late_is : (end due : ℕ) → end ≤ due → nat_lt due end ≡ false
+late_is end due late = search rules
 
-late-from : (end due : ℕ) → nat_lt due end ≡ false → end ≤ due
-late-from end due late = search rules
+late_from : (end due : ℕ) → nat_lt due end ≡ false → end ≤ due
+late_from end due late = search rules
 
 abbrev IsLate : ℕ → Event → Type 0
 IsLate end e = end ≤ e.key.due.nanos
@@ -81,32 +81,32 @@ IsLate end e = end ≤ e.key.due.nanos
 late_by : (end : ℕ) (es : List Event) (a : Option Time) → IsLeastDue es a → (is_before end a ≡ false) ↔ All (IsLate end) es
 late_by end es None none = (λ h. subst (All (IsLate end)) (sym none) (All-nil (IsLate end)), λ h. refl)
 late_by end es (Some x) least = (
-  (λ h. All-from_Each (IsLate end) es (λ e i. (let from : x.nanos ≤ e.key.due.nanos = Each-from_All (IsFrom x) es least.1 e i in let late = late-from end x.nanos h in omega (arith, from, late)))),
+  (λ h. All_from_Each (IsLate end) es (λ e i. (let from : x.nanos ≤ e.key.due.nanos = Each_from_All (IsFrom x) es least.1 e i in let late = late_from end x.nanos h in omega (arith, from, late)))),
   (λ all.
-      let i = any-in (IsDue x) es least.0 in
+      let i = any_in (IsDue x) es least.0 in
       let is : i.0.key.due.nanos ≡ x.nanos = ap (λ (t : Time). t.nanos) i.2 in
-      let late : end ≤ i.0.key.due.nanos = Each-from_All (IsLate end) es all i.0 i.1 in
-      late-is end x.nanos (omega (arith, is, late))),
+      let late : end ≤ i.0.key.due.nanos = Each_from_All (IsLate end) es all i.0 i.1 in
+      late_is end x.nanos (omega (arith, is, late))),
 )
 
-pub idle-where : (end : ℕ) (t : Task) → t.parcels.items ≡ [] → (is_before end t.due ≡ false) ↔ IsIdle end t
-idle-where end t none =
-    let both = late_by end t.host.value.queue t.due (least-of t.host.value.queue t.due t.told) in
+pub idle_where : (end : ℕ) (t : Task) → t.parcels.items ≡ [] → (is_before end t.due ≡ false) ↔ IsIdle end t
+idle_where end t none =
+    let both = late_by end t.host.value.queue t.due (least_of t.host.value.queue t.due t.told) in
     (λ h. record { none = none; later = both.0 h }, λ idle. both.1 idle.later)
 
-pub none-wait : (t : Task) (b : Bool) → b ≡ (vec_len t.parcels == 0) → b ≡ true → t.parcels.items ≡ []
-none-wait t b is empty = nil_from_length t.parcels.items (let none : vec_len t.parcels ≡ 0 = eqb-true (vec_len t.parcels) 0 (sym is ∙ empty) in omega (arith, none, t.parcels.ok.0))
+pub none_wait : (t : Task) (b : Bool) → b ≡ (vec_len t.parcels == 0) → b ≡ true → t.parcels.items ≡ []
+none_wait t b is empty = nil_from_length t.parcels.items (let none : vec_len t.parcels ≡ 0 = eqb-true (vec_len t.parcels) 0 (sym is ∙ empty) in omega (arith, none, t.parcels.ok.0))
 
 -- ---- a host with nothing to do
 
-none-due : (end : ℕ) (es : List Event) → Each (IsLate end) es → has_due end es ≡ false
-none-due end [] late = refl
-none-due end (e ∷ es) late = ap (λ (b : Bool). b || has_due end es) (late-is end e.key.due.nanos (late e (inl refl))) ∙ none-due end es (λ x h. late x (inr h))
+none_due : (end : ℕ) (es : List Event) → Each (IsLate end) es → has_due end es ≡ false
+none_due end [] late = refl
+none_due end (e ∷ es) late = ap (λ (b : Bool). b || has_due end es) (late_is end e.key.due.nanos (late e (inl refl))) ∙ none_due end es (λ x h. late x (inr h))
 
 -- it was run where it stays as it is
-pub idle-run : (net : Net) (end : ℕ) (t : Task) (h : HostRecord) (d : Done) → IsTask net t.id.index t h → IsIdle end t
+pub idle_run : (net : Net) (end : ℕ) (t : Task) (h : HostRecord) (d : Done) → IsTask net t.id.index t h → IsIdle end t
     → d.id ≡ t.id → d.host ≡ t.host → d.lines.items ≡ [] → d.outputs.items ≡ [] → HasRun net end t h d []
-idle-run net end t h d is idle id host lines outputs =
+idle_run net end t h d is idle id host lines outputs =
     let q : List Event = t.host.value.queue in
     let all : waiting t ≡ q = ap (λ (bs : List Boxed). q ++ arrivals bs) idle.none ∙ append-nil q in
     record {
@@ -115,7 +115,7 @@ idle-run net end t h d is idle id host lines outputs =
         id = ap (λ (i : HostId). i.index) id;
         start = waiting t;
         joined = IsPermutation-refl (waiting t);
-        runs = rests h (waiting t) (ap (has_due end) all ∙ none-due end q (Each-from_All (IsLate end) q idle.later));
+        runs = rests h (waiting t) (ap (has_due end) all ∙ none_due end q (Each_from_All (IsLate end) q idle.later));
         stands = subst (λ (b : Box Host Global). Stands b.value h) (sym host) is.stands;
         queue = subst (λ (b : Box Host Global). IsPermutation b.value.queue (waiting t)) (sym host) (subst (IsPermutation q) (sym all) (IsPermutation-refl q));
         over = subst (λ (b : Box Host Global). All (IsLate end) b.value.queue) (sym host) idle.later;

@@ -13,15 +13,15 @@ use Rattle.host_state.specs.Fits.{model, fires_before_stop, IsHostOf, IsEventOf}
 use Rattle.host_link.specs.Home.{home}
 use Rattle.host_state.specs.HostRecord.{HostRecord}
 use Rattle.host_link.specs.Outbox.{parcels_of, posted}
-use Rattle.host_state.proofs.Simulations.{home-within, firings_fit}
+use Rattle.host_state.proofs.Simulations.{home_within, firings_fit}
 use Rattle.world_order.specs.EventOrder.{take_least}
 use Rattle.world_order.specs.Model.{Fired}
 use Rattle.world_order.specs.Premises.{IsFit}
 use Rattle.world_order.specs.Round.{events_at}
 use Rattle.world_order.specs.WholeTurns.{Ran, RunsTo, rests, goes}
 use Rattle.world_order.proofs.Keys.{due_from}
-use Rattle.world_order.proofs.Least.{take_least-least, take_least-there, take_least-IsPermutation}
-use Rattle.world_order.proofs.Members.{IsIn, Each, Each-from_All, Each-append, IsIn-permutation, IsIn-filter_from}
+use Rattle.world_order.proofs.Least.{take_least_least, take_least_there, take_least_IsPermutation}
+use Rattle.world_order.proofs.Members.{IsIn, Each, Each_from_All, Each-append, IsIn_permutation, IsIn_filter_from}
 use Rattle.std.proofs.lemmas.List.Sorted.{IsPermutation-sym}
 use Rattle.sim_base.specs.Units.{latest_time}
 
@@ -41,15 +41,15 @@ within_if : (n : ℕ) (b : Bool) (ps qs : List Parcel) → All (λ (p : Parcel).
 within_if n true ps qs p q = p
 within_if n false ps qs p q = q
 
-pub parcels-within : (net : Net) (number : ℕ) (es : List Event) → All (IsEventOf net) es → All (λ (p : Parcel). p.to.index < length net.known.book) (parcels_of net number es)
-parcels-within net number es all = go es (Each-from_All (IsEventOf net) es all)
+pub parcels_within : (net : Net) (number : ℕ) (es : List Event) → All (IsEventOf net) es → All (λ (p : Parcel). p.to.index < length net.known.book) (parcels_of net number es)
+parcels_within net number es all = go es (Each_from_All (IsEventOf net) es all)
   where
     go : (es : List Event) → Each (IsEventOf net) es → All (λ (p : Parcel). p.to.index < length net.known.book) (parcels_of net number es)
     go [] each = All-nil (λ (p : Parcel). p.to.index < length net.known.book)
     go (e ∷ es) each =
         let rest = go es (λ x h. each x (inr h)) in
         within_if (length net.known.book) (home net e == number) (parcels_of net number es) (posted (home net e) e.key e.what (parcels_of net number es)) rest
-        (within_by (length net.known.book) (home net e) e.key e.what (parcels_of net number es) (home-within net e (each e (inl refl))) rest)
+        (within_by (length net.known.book) (home net e) e.key e.what (parcels_of net number es) (home_within net e (each e (inl refl))) rest)
 
 -- ---- what a run makes
 
@@ -66,10 +66,10 @@ module _ (net : Net) (early : net.stop.nanos ≤ latest_time) (number end : ℕ)
 
   module _ (h : HostRecord) (queue : List Event) (own : IsOwn net number h queue) (e : Event) (rest : List Event) (taken : take_least queue ≡ Some (e, rest)) where
     there : IsIn e queue
-    there = take_least-there queue (e, rest) taken
+    there = take_least_there queue (e, rest) taken
 
     was : (x : Event) → IsIn x rest → IsIn x queue
-    was x i = IsIn-permutation x (e ∷ rest) queue (IsPermutation-sym queue (e ∷ rest) (take_least-IsPermutation queue (e, rest) taken)) (inr i)
+    was x i = IsIn_permutation x (e ∷ rest) queue (IsPermutation-sym queue (e ∷ rest) (take_least_IsPermutation queue (e, rest) taken)) (inr i)
 
     fits : IsFit (model net) (Some 0) (2 ^ 64 - 1) (IsHostOf net) (IsEventOf net) h e (fired h e)
     fits =
@@ -77,7 +77,7 @@ module _ (net : Net) (early : net.stop.nanos ≤ latest_time) (number end : ℕ)
         (subst (λ (n : ℕ). IsHostOf net n h) (sym (own.home e there)) own.good) (own.events e there) (own.clock e there)
 
     in_made : (x : Event) → IsIn x (events_at (model net) number (fired h e).made) → IsIn x (fired h e).made × ((home net x == number) ≡ true)
-    in_made x i = IsIn-filter_from (λ (g : Event). home net g == number) x (fired h e).made i
+    in_made x i = IsIn_filter_from (λ (g : Event). home net g == number) x (fired h e).made i
 
     own_after : IsOwn net number (fired h e).host (rest ++ events_at (model net) number (fired h e).made)
     own_after =
@@ -85,18 +85,18 @@ module _ (net : Net) (early : net.stop.nanos ≤ latest_time) (number end : ℕ)
         let f = fits in
         record {
           good = subst (λ (n : ℕ). IsHostOf net n (fired h e).host) (own.home e there) f.host;
-          events = Each-append (IsEventOf net) rest mine (λ x i. own.events x (was x i)) (λ x i. Each-from_All (IsEventOf net) (fired h e).made f.events x (in_made x i).0);
+          events = Each-append (IsEventOf net) rest mine (λ x i. own.events x (was x i)) (λ x i. Each_from_All (IsEventOf net) (fired h e).made f.events x (in_made x i).0);
           home = Each-append (λ (g : Event). home net g ≡ number) rest mine (λ x i. own.home x (was x i)) (λ x i. eqb-true (home net x) number (in_made x i).1);
           clock = Each-append (λ (g : Event). (fired h e).host.link.time.nanos ≤ g.key.due.nanos) rest mine
-              (λ x i. (let c = f.clock in let o : e.key.due.nanos ≤ x.key.due.nanos = due_from x.key e.key (take_least-least queue (e, rest) taken x (was x i)) in omega arith))
-              (λ x i. (let c = f.clock in let l = Each-from_All (λ (g : Event). e.key.due.nanos < g.key.due.nanos) (fired h e).made f.later x (in_made x i).0 in omega arith));
+              (λ x i. (let c = f.clock in let o : e.key.due.nanos ≤ x.key.due.nanos = due_from x.key e.key (take_least_least queue (e, rest) taken x (was x i)) in omega arith))
+              (λ x i. (let c = f.clock in let l = Each_from_All (λ (g : Event). e.key.due.nanos < g.key.due.nanos) (fired h e).made f.later x (in_made x i).0 in omega arith));
         }
 
   -- each packet that a run makes is an event of the net
-  pub packets-events : (h : HostRecord) (queue : List Event) (ran : Ran HostRecord Line) → IsOwn net number h queue → RunsTo (model net) number end h queue ran → Each (IsEventOf net) ran.packets
-  packets-events h queue ran own (rests host q none) = λ x i. absurd i
-  packets-events h queue ran own (goes host q e rest more taken due runs) =
+  pub packets_events : (h : HostRecord) (queue : List Event) (ran : Ran HostRecord Line) → IsOwn net number h queue → RunsTo (model net) number end h queue ran → Each (IsEventOf net) ran.packets
+  packets_events h queue ran own (rests host q none) = λ x i. absurd i
+  packets_events h queue ran own (goes host q e rest more taken due runs) =
       let f = fits h queue own e rest taken in
       Each-append (IsEventOf net) (filter (λ (g : Event). not (home net g == number)) (fired h e).made) more.packets
-      (λ x i. Each-from_All (IsEventOf net) (fired h e).made f.events x (IsIn-filter_from (λ (g : Event). not (home net g == number)) x (fired h e).made i).0)
-      (packets-events (fired h e).host (rest ++ events_at (model net) number (fired h e).made) more (own_after h queue own e rest taken) runs)
+      (λ x i. Each_from_All (IsEventOf net) (fired h e).made f.events x (IsIn_filter_from (λ (g : Event). not (home net g == number)) x (fired h e).made i).0)
+      (packets_events (fired h e).host (rest ++ events_at (model net) number (fired h e).made) more (own_after h queue own e rest taken) runs)

@@ -19,7 +19,7 @@ use Rattle.host_state.specs.Running.{kept_line}
 use Rattle.world_order.specs.Round.{in_order}
 use Rattle.world_order.specs.World as order
 use Rattle.world_order.proofs.Fires.{get-map}
-use Rattle.world_order.proofs.Homes.{some_is, get-below, below-get}
+use Rattle.world_order.proofs.Homes.{some_is, get_below, below_get}
 use Rattle.round_lookahead.specs.declared.workers.task.Task.{Task}
 use Rattle.round_lookahead.specs.declared.workers.worked.Done.{Done}
 use Rattle.round_lookahead.specs.declared.workers.worked.Worked.{Worked}
@@ -32,14 +32,14 @@ use Rattle.round_lookahead.specs.inside.Backs.{all_done, all_spilled, ids_of, li
 use Rattle.round_lookahead.specs.RoundsInPlace.{IsRoundInPlace}
 use Rattle.round_lookahead.specs.inside.Settles.{IsBack, HasSettled}
 use Rattle.round_lookahead.specs.inside.Waits.{IsSameHosts, rows_of}
-use Rattle.round_lookahead.proofs.AloneSteps.{AreIdle, alone-round, holding, idle-spills}
+use Rattle.round_lookahead.proofs.AloneSteps.{AreIdle, alone_round, holding, idle_spills}
 use Rattle.round_lookahead.proofs.DeliverySteps.{row-more}
-use Rattle.round_lookahead.proofs.SettleSteps.{get_or-is}
+use Rattle.round_lookahead.proofs.SettleSteps.{get_or_is}
 
 -- ---- the same hosts
 
-pub same-length : (old new : List Task) → IsSameHosts old new → length new ≡ length old
-same-length old new same = sym (length-map new (λ (t : Task). t.id)) ∙ ap length same.ids ∙ length-map old (λ (t : Task). t.id)
+pub same_length : (old new : List Task) → IsSameHosts old new → length new ≡ length old
+same_length old new same = sym (length-map new (λ (t : Task). t.id)) ∙ ap length same.ids ∙ length-map old (λ (t : Task). t.id)
 
 -- one place changes, and what is seen of it stays
 pub map-set : {X Y : Type 0} (f : X → Y) (xs : List X) (i : ℕ) (x y : X) → slice_get xs i ≡ Some x → f y ≡ f x → map f (slice_set xs i y) ≡ map f xs
@@ -48,49 +48,49 @@ map-set f (z ∷ zs) zero x y at same = ap (λ (w : _). w ∷ map f zs) (same �
 map-set f (z ∷ zs) (suc i) x y at same = ap (λ (l : List _). f z ∷ l) (map-set f zs i x y at same)
 
 -- one place changes, also as seen
-pub set-map : {X Y : Type 0} (f : X → Y) (xs : List X) (i : ℕ) (y : X) → map f (slice_set xs i y) ≡ slice_set (map f xs) i (f y)
-set-map f [] i y = refl
-set-map f (z ∷ zs) zero y = refl
-set-map f (z ∷ zs) (suc i) y = ap (λ (l : List _). f z ∷ l) (set-map f zs i y)
+pub set_map : {X Y : Type 0} (f : X → Y) (xs : List X) (i : ℕ) (y : X) → map f (slice_set xs i y) ≡ slice_set (map f xs) i (f y)
+set_map f [] i y = refl
+set_map f (z ∷ zs) zero y = refl
+set_map f (z ∷ zs) (suc i) y = ap (λ (l : List _). f z ∷ l) (set_map f zs i y)
 
-pub get-or-at : {X : Type 0} (xs : List X) (i : ℕ) (d : X) → i < length xs → slice_get xs i ≡ Some (get_or xs i d)
-get-or-at [] i d below = absurd (omega arith)
-get-or-at (x ∷ xs) zero d below = refl
-get-or-at (x ∷ xs) (suc i) d below = get-or-at xs i d (omega arith)
+pub get_or_at : {X : Type 0} (xs : List X) (i : ℕ) (d : X) → i < length xs → slice_get xs i ≡ Some (get_or xs i d)
+get_or_at [] i d below = absurd (omega arith)
+get_or_at (x ∷ xs) zero d below = refl
+get_or_at (x ∷ xs) (suc i) d below = get_or_at xs i d (omega arith)
 
 -- ---- a packet waits
 
-pub same-hosts : (ts : List Task) (i : ℕ) (d t : Task) → i < length ts → t.id ≡ (get_or ts i d).id → t.host ≡ (get_or ts i d).host → IsSameHosts ts (slice_set ts i t)
-same-hosts ts i d t below id host = record {
-  ids = map-set (λ (x : Task). x.id) ts i (get_or ts i d) t (get-or-at ts i d below) id;
-  hosts = map-set (λ (x : Task). x.host) ts i (get_or ts i d) t (get-or-at ts i d below) host;
+pub same_hosts : (ts : List Task) (i : ℕ) (d t : Task) → i < length ts → t.id ≡ (get_or ts i d).id → t.host ≡ (get_or ts i d).host → IsSameHosts ts (slice_set ts i t)
+same_hosts ts i d t below id host = record {
+  ids = map-set (λ (x : Task). x.id) ts i (get_or ts i d) t (get_or_at ts i d below) id;
+  hosts = map-set (λ (x : Task). x.host) ts i (get_or ts i d) t (get_or_at ts i d below) host;
 }
 
 module _ (ts : List Task) (i : ℕ) (d t : Task) (boxed : Boxed) (below : i < length ts) (more : t.parcels.items ≡ (get_or ts i d).parcels.items ++ boxed ∷ []) where
   abbrev row : Vec Boxed Global
   row = (get_or ts i d).parcels
 
-  at-row : slice_get (rows_of ts) i ≡ Some row
-  at-row = get-map (λ (x : Task). x.parcels) ts i (get_or ts i d) (get-or-at ts i d below)
+  at_row : slice_get (rows_of ts) i ≡ Some row
+  at_row = get-map (λ (x : Task). x.parcels) ts i (get_or ts i d) (get_or_at ts i d below)
 
   within : i < length (rows_of ts)
-  within = below-get (rows_of ts) i row at-row
+  within = below_get (rows_of ts) i row at_row
 
-  set-is : rows_of (slice_set ts i t) ≡ slice_set (rows_of ts) i t.parcels
-  set-is = set-map (λ (x : Task). x.parcels) ts i t
+  set_is : rows_of (slice_set ts i t) ≡ slice_set (rows_of ts) i t.parcels
+  set_is = set_map (λ (x : Task). x.parcels) ts i t
 
-  pub waits-more : (p : Parcel) → boxed.value ≡ p → IsPermutation (row_arrivals (rows_of (slice_set ts i t))) (parcel_event p ∷ row_arrivals (rows_of ts))
-  waits-more p is = subst (λ (l : List (Vec Boxed Global)). IsPermutation (row_arrivals l) (parcel_event p ∷ row_arrivals (rows_of ts))) (sym set-is)
-      (row-more (rows_of ts) i row t.parcels boxed p within (sym (get_or-is (rows_of ts) i row row at-row)) more is)
+  pub waits_more : (p : Parcel) → boxed.value ≡ p → IsPermutation (row_arrivals (rows_of (slice_set ts i t))) (parcel_event p ∷ row_arrivals (rows_of ts))
+  waits_more p is = subst (λ (l : List (Vec Boxed Global)). IsPermutation (row_arrivals l) (parcel_event p ∷ row_arrivals (rows_of ts))) (sym set_is)
+      (row-more (rows_of ts) i row t.parcels boxed p within (sym (get_or_is (rows_of ts) i row row at_row)) more is)
 
-  pub waits-home : (p : Parcel) → boxed.value ≡ p → (net : Net) → home net (parcel_event p) ≡ i → AreAtHome net (rows_of ts) → AreAtHome net (rows_of (slice_set ts i t))
-  waits-home p is net to all = subst (AreAtHome net) (sym set-is)
+  pub waits_home : (p : Parcel) → boxed.value ≡ p → (net : Net) → home net (parcel_event p) ≡ i → AreAtHome net (rows_of ts) → AreAtHome net (rows_of (slice_set ts i t))
+  waits_home p is net to all = subst (AreAtHome net) (sym set_is)
       (λ k r under.
       let same = length-set (rows_of ts) i t.parcels in
       ⊎_elim
       (λ (e : k ≡ i).
       let new : get_or (slice_set (rows_of ts) i t.parcels) k r ≡ t.parcels = ap (λ (n : ℕ). get_or (slice_set (rows_of ts) i t.parcels) n r) e ∙ get_or-set_same (rows_of ts) i t.parcels r within in
-      let theirs : All (λ (b : Boxed). home net (parcel_event b.value) ≡ i) row.items = subst (λ (v : Vec Boxed Global). All (λ (b : Boxed). home net (parcel_event b.value) ≡ i) v.items) (get_or-is (rows_of ts) i row row at-row) (all i row within) in
+      let theirs : All (λ (b : Boxed). home net (parcel_event b.value) ≡ i) row.items = subst (λ (v : Vec Boxed Global). All (λ (b : Boxed). home net (parcel_event b.value) ≡ i) v.items) (get_or_is (rows_of ts) i row row at_row) (all i row within) in
       let mine : home net (parcel_event boxed.value) ≡ i = ap (λ (q : Parcel). home net (parcel_event q)) is ∙ to in
       subst (λ (v : Vec Boxed Global). All (λ (b : Boxed). home net (parcel_event b.value) ≡ k) v.items) (sym new)
       (subst (λ (n : ℕ). All (λ (b : Boxed). home net (parcel_event b.value) ≡ n) t.parcels.items) (sym e)
@@ -103,54 +103,54 @@ module _ (ts : List Task) (i : ℕ) (d t : Task) (boxed : Boxed) (below : i < le
 
 -- ---- no packet waits
 
-none-wait : (ts : List Task) → ((k : ℕ) (t : Task) → slice_get ts k ≡ Some t → t.parcels.items ≡ []) → row_arrivals (rows_of ts) ≡ []
-none-wait [] none = refl
-none-wait (t ∷ ts) none = ap (λ (l : List Boxed). arrivals l ++ row_arrivals (rows_of ts)) (none 0 t refl) ∙ none-wait ts (λ k u at. none (suc k) u at)
+none_wait : (ts : List Task) → ((k : ℕ) (t : Task) → slice_get ts k ≡ Some t → t.parcels.items ≡ []) → row_arrivals (rows_of ts) ≡ []
+none_wait [] none = refl
+none_wait (t ∷ ts) none = ap (λ (l : List Boxed). arrivals l ++ row_arrivals (rows_of ts)) (none 0 t refl) ∙ none_wait ts (λ k u at. none (suc k) u at)
 
-none-away : (net : Net) (ts : List Task) → ((k : ℕ) (t : Task) → slice_get ts k ≡ Some t → t.parcels.items ≡ []) → AreAtHome net (rows_of ts)
-none-away net ts none i row below =
+none_away : (net : Net) (ts : List Task) → ((k : ℕ) (t : Task) → slice_get ts k ≡ Some t → t.parcels.items ≡ []) → AreAtHome net (rows_of ts)
+none_away net ts none i row below =
     let long = length-map ts (λ (t : Task). t.parcels) in
-    let found = get-below ts i (omega arith) in
-    let is : get_or (rows_of ts) i row ≡ found.0.parcels = get_or-is (rows_of ts) i found.0.parcels row (get-map (λ (t : Task). t.parcels) ts i found.0 found.1) in
+    let found = get_below ts i (omega arith) in
+    let is : get_or (rows_of ts) i row ≡ found.0.parcels = get_or_is (rows_of ts) i found.0.parcels row (get-map (λ (t : Task). t.parcels) ts i found.0 found.1) in
     let empty : (get_or (rows_of ts) i row).items ≡ [] = ap (λ (v : Vec Boxed Global). v.items) is ∙ none i found.0 found.1 in
     λ k b within. absurd (omega (arith, within, ap (λ (l : List Boxed). length l) empty))
 
 -- ---- lists of vectors
 
-lists-replicate : {X : Type 0} (n : ℕ) (v : Vec X Global) → lists_of (replicate n v) ≡ replicate n v.items
-lists-replicate zero v = refl
-lists-replicate (suc n) v = ap (λ (l : List (List _)). v.items ∷ l) (lists-replicate n v)
+lists_replicate : {X : Type 0} (n : ℕ) (v : Vec X Global) → lists_of (replicate n v) ≡ replicate n v.items
+lists_replicate zero v = refl
+lists_replicate (suc n) v = ap (λ (l : List (List _)). v.items ∷ l) (lists_replicate n v)
 
 length-replicate : {X : Type 0} (n : ℕ) (x : X) → length (replicate n x) ≡ n
 length-replicate zero x = refl
 length-replicate (suc n) x = ap suc (length-replicate n x)
 
-idle-replicate : (n : ℕ) (w : Worked) → w.done.items ≡ [] → w.spill.items ≡ [] → AreIdle (replicate n w)
-idle-replicate zero w done spill = tt
-idle-replicate (suc n) w done spill = (done, spill, idle-replicate n w done spill)
+idle_replicate : (n : ℕ) (w : Worked) → w.done.items ≡ [] → w.spill.items ≡ [] → AreIdle (replicate n w)
+idle_replicate zero w done spill = tt
+idle_replicate (suc n) w done spill = (done, spill, idle_replicate n w done spill)
 
-idle-done : (ws : List Worked) → AreIdle ws → all_done ws ≡ []
-idle-done [] idle = refl
-idle-done (w ∷ ws) idle = ap (λ (l : List Done). l ++ all_done ws) idle.0 ∙ idle-done ws idle.2
+idle_done : (ws : List Worked) → AreIdle ws → all_done ws ≡ []
+idle_done [] idle = refl
+idle_done (w ∷ ws) idle = ap (λ (l : List Done). l ++ all_done ws) idle.0 ∙ idle_done ws idle.2
 
-took-idle : (n : ℕ) (w : Worked) → w.done.items ≡ [] → took_by (replicate n w) ≡ replicate n []
-took-idle zero w done = refl
-took-idle (suc n) w done = ap (λ (l : List Done). ids_of l ∷ took_by (replicate n w)) done ∙ ap (λ (l : List (List HostId)). [] ∷ l) (took-idle n w done)
+took_idle : (n : ℕ) (w : Worked) → w.done.items ≡ [] → took_by (replicate n w) ≡ replicate n []
+took_idle zero w done = refl
+took_idle (suc n) w done = ap (λ (l : List Done). ids_of l ∷ took_by (replicate n w)) done ∙ ap (λ (l : List (List HostId)). [] ∷ l) (took_idle n w done)
 
-replicate-more : {X : Type 0} (n : ℕ) (x : X) → replicate n x ++ x ∷ [] ≡ replicate (suc n) x
-replicate-more zero x = refl
-replicate-more (suc n) x = ap (λ (l : List _). x ∷ l) (replicate-more n x)
+replicate_more : {X : Type 0} (n : ℕ) (x : X) → replicate n x ++ x ∷ [] ≡ replicate (suc n) x
+replicate_more zero x = refl
+replicate_more (suc n) x = ap (λ (l : List _). x ∷ l) (replicate_more n x)
 
-lists-more : {X : Type 0} (vs : List (Vec X Global)) (v : Vec X Global) → lists_of (vs ++ v ∷ []) ≡ lists_of vs ++ v.items ∷ []
-lists-more [] v = refl
-lists-more (w ∷ vs) v = ap (λ (l : List (List _)). w.items ∷ l) (lists-more vs v)
+lists_more : {X : Type 0} (vs : List (Vec X Global)) (v : Vec X Global) → lists_of (vs ++ v ∷ []) ≡ lists_of vs ++ v.items ∷ []
+lists_more [] v = refl
+lists_more (w ∷ vs) v = ap (λ (l : List (List _)). w.items ∷ l) (lists_more vs v)
 
 -- one empty list more
-pub one-list-more : (first : List HostId) (old new : List (Vec HostId Global)) (v : Vec HostId Global) (n m : ℕ) → m ≡ suc n → new ≡ old ++ v ∷ [] → v.items ≡ []
+pub one_list_more : (first : List HostId) (old new : List (Vec HostId Global)) (v : Vec HostId Global) (n m : ℕ) → m ≡ suc n → new ≡ old ++ v ∷ [] → v.items ≡ []
     → lists_of old ≡ first ∷ replicate n [] → lists_of new ≡ first ∷ replicate m []
-one-list-more first old new v n m next more empty are =
-    ap lists_of more ∙ lists-more old v ∙ ap (λ (l : List (List HostId)). l ++ v.items ∷ []) are ∙ ap (λ (l : List HostId). first ∷ (replicate n [] ++ l ∷ [])) empty
-    ∙ ap (λ (l : List (List HostId)). first ∷ l) (replicate-more n []) ∙ ap (λ (k : ℕ). first ∷ replicate k []) (sym next)
+one_list_more first old new v n m next more empty are =
+    ap lists_of more ∙ lists_more old v ∙ ap (λ (l : List (List HostId)). l ++ v.items ∷ []) are ∙ ap (λ (l : List HostId). first ∷ (replicate n [] ++ l ∷ [])) empty
+    ∙ ap (λ (l : List (List HostId)). first ∷ l) (replicate_more n []) ∙ ap (λ (k : ℕ). first ∷ replicate k []) (sym next)
 
 -- ---- the round
 
@@ -160,11 +160,11 @@ module _ (net : Net) (end : ℕ) (old now : List Task) (a : Alone) (r : AreRunIn
     (theirs : (n : Net) → All (λ (q : Parcel). home n (parcel_event q) ≡ q.to.index) a.spill.items → AreAtHome n (rows_of now) → AreAtHome n (rows_of new.items))
     (outputs_are : p.outputs ≡ a.outputs) (sorted : (all : List (order.Logged Line)) → a.lines.items ≡ map kept_line all → p.lines.items ≡ map kept_line (in_order all))
     (took_are : lists_of p.took.items ≡ a.took.items ∷ replicate others []) where
-  done-few : length r.ds < 2 ^ 63
-  done-few = let many = r.many in omega arith
+  done_few : length r.ds < 2 ^ 63
+  done_few = let many = r.many in omega arith
 
   abbrev first : Worked
-  first = record { done = holding a.took r.ds done-few; spill = a.spill }
+  first = record { done = holding a.took r.ds done_few; spill = a.spill }
 
   abbrev idle : Worked
   idle = record { done = holding a.took [] (omega arith); spill = holding a.took [] (omega arith) }
@@ -175,44 +175,44 @@ module _ (net : Net) (end : ℕ) (old now : List Task) (a : Alone) (r : AreRunIn
   abbrev rows : List (Vec Boxed Global)
   rows = replicate (length old) (holding a.took [] (omega arith))
 
-  idle-are : AreIdle (replicate others idle)
-  idle-are = idle-replicate others idle refl refl
+  idle_are : AreIdle (replicate others idle)
+  idle_are = idle_replicate others idle refl refl
 
-  done-are : all_done works ≡ r.ds
-  done-are = ap (λ (l : List Done). r.ds ++ l) (idle-done (replicate others idle) idle-are) ∙ append-nil r.ds
+  done_are : all_done works ≡ r.ds
+  done_are = ap (λ (l : List Done). r.ds ++ l) (idle_done (replicate others idle) idle_are) ∙ append-nil r.ds
 
-  spilled-are : all_spilled works ≡ a.spill.items
-  spilled-are = ap (λ (l : List Parcel). a.spill.items ++ l) (idle-spills (replicate others idle) idle-are) ∙ append-nil a.spill.items
+  spilled_are : all_spilled works ≡ a.spill.items
+  spilled_are = ap (λ (l : List Parcel). a.spill.items ++ l) (idle_spills (replicate others idle) idle_are) ∙ append-nil a.spill.items
 
   rows-empty : lists_of rows ≡ replicate (length old) []
-  rows-empty = lists-replicate (length old) (holding a.took [] (omega arith))
+  rows-empty = lists_replicate (length old) (holding a.took [] (omega arith))
 
-  no-rows : (n : ℕ) → row_arrivals (replicate n (holding a.took [] (omega arith))) ≡ []
-  no-rows zero = refl
-  no-rows (suc n) = no-rows n
+  no_rows : (n : ℕ) → row_arrivals (replicate n (holding a.took [] (omega arith))) ≡ []
+  no_rows zero = refl
+  no_rows (suc n) = no_rows n
 
   emptied : (k : ℕ) (t : Task) → slice_get now k ≡ Some t → t.parcels.items ≡ []
   emptied k t at =
-      let below = below-get now k t at in
+      let below = below_get now k t at in
       let all = r.all in
       let many = r.many in
-      let d = get-below r.ds k (omega arith) in
+      let d = get_below r.ds k (omega arith) in
       let placed = r.places k d.0 d.1 in
       ap (λ (x : Task). x.parcels.items) (some_is t placed.task (sym at ∙ placed.at)) ∙ placed.emptied
 
   count : length new.items ≡ length old
-  count = same-length now new.items same ∙ r.all
+  count = same_length now new.items same ∙ r.all
 
   abbrev settled : Settled
   settled = record { tasks = new; gained = p }
 
-  back-at : (k : ℕ) (d : Done) → slice_get r.ds k ≡ Some d → IsBack settled d
-  back-at k d at =
+  back_at : (k : ℕ) (d : Done) → slice_get r.ds k ≡ Some d → IsBack settled d
+  back_at k d at =
       let placed = r.places k d at in
-      let below = below-get r.ds k d at in
+      let below = below_get r.ds k d at in
       let many = r.many in
       let long = count in
-      let found = get-below new.items k (omega arith) in
+      let found = get_below new.items k (omega arith) in
       let id : found.0.id ≡ placed.task.id = some_is found.0.id placed.task.id
       (sym (get-map (λ (t : Task). t.id) new.items k found.0 found.1) ∙ ap (λ (l : List HostId). slice_get l k) same.ids ∙ get-map (λ (t : Task). t.id) now k placed.task placed.at) in
       let host : found.0.host ≡ placed.task.host = some_is found.0.host placed.task.host
@@ -227,44 +227,44 @@ module _ (net : Net) (end : ℕ) (old now : List Task) (a : Alone) (r : AreRunIn
       }
 
   backs : All (IsBack settled) (all_done works)
-  backs = subst (All (IsBack settled)) (sym done-are)
-      (λ k d below. (let found = get-below r.ds k below in subst (IsBack settled) (sym (get_or-is r.ds k found.0 d found.1)) (back-at k found.0 found.1)))
+  backs = subst (All (IsBack settled)) (sym done_are)
+      (λ k d below. (let found = get_below r.ds k below in subst (IsBack settled) (sym (get_or_is r.ds k found.0 d found.1)) (back_at k found.0 found.1)))
 
-  has-settled : HasSettled (length old) works rows settled
-  has-settled = record {
+  has_settled : HasSettled (length old) works rows settled
+  has_settled = record {
     tasks_count = count;
     outputs_count = ap (λ (v : Vec (Vec Output Global) Global). length v.items) outputs_are ∙ ap length r.outputs ∙ length-map r.ds (λ (d : Done). d.outputs) ∙ r.many;
     hosts = backs;
-    home = λ n to at. theirs n (subst (All (λ (q : Parcel). home n (parcel_event q) ≡ q.to.index)) spilled-are to) (none-away n now emptied);
-    packets = subst (λ (l : List Parcel). IsPermutation (row_arrivals (rows_of new.items)) (map parcel_event l ++ row_arrivals rows)) (sym spilled-are)
-        (subst (λ (l : List Event). IsPermutation (row_arrivals (rows_of new.items)) (map parcel_event a.spill.items ++ l)) (none-wait now emptied ∙ sym (no-rows (length old))) moved);
-    lines = λ all is. sorted all (r.lines ∙ sym (ap lines_done done-are) ∙ is);
-    took = took_are ∙ ap (λ (l : List HostId). l ∷ replicate others []) r.took ∙ ap (λ (l : List (List HostId)). ids_of r.ds ∷ l) (sym (took-idle others idle refl));
+    home = λ n to at. theirs n (subst (All (λ (q : Parcel). home n (parcel_event q) ≡ q.to.index)) spilled_are to) (none_away n now emptied);
+    packets = subst (λ (l : List Parcel). IsPermutation (row_arrivals (rows_of new.items)) (map parcel_event l ++ row_arrivals rows)) (sym spilled_are)
+        (subst (λ (l : List Event). IsPermutation (row_arrivals (rows_of new.items)) (map parcel_event a.spill.items ++ l)) (none_wait now emptied ∙ sym (no_rows (length old))) moved);
+    lines = λ all is. sorted all (r.lines ∙ sym (ap lines_done done_are) ∙ is);
+    took = took_are ∙ ap (λ (l : List HostId). l ∷ replicate others []) r.took ∙ ap (λ (l : List (List HostId)). ids_of r.ds ∷ l) (sym (took_idle others idle refl));
   }
 
-  pub in-place : (workers : ℕ) → workers ≡ suc others → IsRoundInPlace net end workers old new p
-  in-place workers is = record {
+  pub in_place_is : (workers : ℕ) → workers ≡ suc others → IsRoundInPlace net end workers old new p
+  in_place_is workers is = record {
     works = works;
     rows = rows;
     many = ap suc (length-replicate others idle) ∙ sym is;
-    round = λ rec are. alone-round net end old rec first (replicate others idle) rows (r.run rec are) idle-are rows-empty;
-    settled = has-settled;
+    round = λ rec are. alone_round net end old rec first (replicate others idle) rows (r.run rec are) idle_are rows-empty;
+    settled = has_settled;
   }
 
 -- as the code has it
-pub whole-round : (net : Net) (end workers : ℕ) (old : Vec Task Global) (opened : List Task) → opened ≡ old.items → (now : List Task) (a : Alone) → AreRunInPlace net end opened (length opened) now a → length old.items ≤ 65536
+pub whole_round : (net : Net) (end workers : ℕ) (old : Vec Task Global) (opened : List Task) → opened ≡ old.items → (now : List Task) (a : Alone) → AreRunInPlace net end opened (length opened) now a → length old.items ≤ 65536
     → (again : List Task) → again ≡ (with_items old now).items → (final : List Task) → IsSameHosts again final
     → IsPermutation (row_arrivals (rows_of final)) (map parcel_event a.spill.items ++ row_arrivals (rows_of again))
     → ((n : Net) → All (λ (q : Parcel). home n (parcel_event q) ≡ q.to.index) a.spill.items → AreAtHome n (rows_of again) → AreAtHome n (rows_of final))
     → (p : Gained) → p.outputs ≡ a.outputs → ((all : List (order.Logged Line)) → a.lines.items ≡ map kept_line all → p.lines.items ≡ map kept_line (in_order all))
     → 0 < workers → lists_of p.took.items ≡ a.took.items ∷ replicate (workers - 1) [] → IsRoundInPlace net end workers old.items (with_items (with_items old now) final) p
-whole-round net end workers old opened opened_is now a ran few again again_is final same moved theirs p outputs sorted some took =
+whole_round net end workers old opened opened_is now a ran few again again_is final same moved theirs p outputs sorted some took =
     let r : AreRunInPlace net end old.items (length old.items) now a = subst (λ (l : List Task). AreRunInPlace net end l (length l) now a) opened_is ran in
     let many : length now ≡ old.len = r.all ∙ sym old.ok.0 in
     let again_now : again ≡ now = again_is ∙ with_items_is old now many in
     let same_now : IsSameHosts now final = subst (λ (l : List Task). IsSameHosts l final) again_now same in
-    let last : (with_items (with_items old now) final).items ≡ final = with_items_is (with_items old now) final (same-length now final same_now ∙ many) in
-    in-place net end old.items now a r few (workers - 1) (with_items (with_items old now) final) p
+    let last : (with_items (with_items old now) final).items ≡ final = with_items_is (with_items old now) final (same_length now final same_now ∙ many) in
+    in_place_is net end old.items now a r few (workers - 1) (with_items (with_items old now) final) p
     (subst (IsSameHosts now) (sym last) same_now)
     (subst (λ (l : List Task). IsPermutation (row_arrivals (rows_of l)) (map parcel_event a.spill.items ++ row_arrivals (rows_of now))) (sym last)
     (subst (λ (l : List Task). IsPermutation (row_arrivals (rows_of final)) (map parcel_event a.spill.items ++ row_arrivals (rows_of l))) again_now moved))

@@ -15,7 +15,7 @@ use Rattle.steal_workers.specs.Gathers.{joined, AreOwnMarked, IsGathered}
 use Rattle.steal_workers.specs.SeatViews.{SeatView, AreSameSeats}
 use Rattle.steal_workers.specs.inside.TookBack.{numbers_of}
 use Rattle.steal_workers.specs.WholeDeals.{common_deal, IsWholeDeal, IsNewDeal}
-use Rattle.steal_workers.proofs.SameSeats.{same_seats-whole, same_deal}
+use Rattle.steal_workers.proofs.SameSeats.{same_seats_whole, same_deal}
 use Rattle.host_link.specs.declared.net.Net.{Net}
 use Rattle.host_state.specs.HostRecord.{HostRecord}
 use Rattle.round_lookahead.specs.declared.workers.bench.Bench.{Bench}
@@ -27,25 +27,25 @@ use Rattle.round_lookahead.specs.Rounds.{IsRound}
 use Rattle.round_lookahead.specs.Tasks.{AreTasks, AreTasksOf}
 use Rattle.round_lookahead.specs.Works.{numbers, parcels_made}
 use Rattle.round_lookahead.proofs.Spreads.{AreSpread, into, back}
-use Rattle.round_lookahead.proofs.RoundSteps.{boxed_weight, entry_parcel, same-seats, same-carriers, are-marked, AreFresh, AllWork, all-work}
+use Rattle.round_lookahead.proofs.RoundSteps.{boxed_weight, entry_parcel, same_seats, same_carriers, are_marked, AreFresh, AllWork, all_work}
 
 -- what holds of all seats holds at all benches
-at-benches : (P : SeatView Task → Type 0) (bs : List Bench) → All P (map (λ (b : Bench). b.seat) bs) → All (λ (b : Bench). P b.seat) bs
-at-benches P [] all = All-nil _
-at-benches P (b ∷ bs) all =
-    All-cons (λ (b : Bench). P b.seat) b bs (All-head P b.seat (map (λ (b : Bench). b.seat) bs) all) (at-benches P bs (All-tail P b.seat (map (λ (b : Bench). b.seat) bs) all))
+at_benches : (P : SeatView Task → Type 0) (bs : List Bench) → All P (map (λ (b : Bench). b.seat) bs) → All (λ (b : Bench). P b.seat) bs
+at_benches P [] all = All-nil _
+at_benches P (b ∷ bs) all =
+    All-cons (λ (b : Bench). P b.seat) b bs (All-head P b.seat (map (λ (b : Bench). b.seat) bs) all) (at_benches P bs (All-tail P b.seat (map (λ (b : Bench). b.seat) bs) all))
 
 module _ (net : Net) (end : ℕ) (tasks : List Task) (workers : ℕ) (seats : List (SeatView Task)) (boards : BoardsView) (carriers : List (CarrierView Boxed)) (olds : List Bench)
     (new : IsNewDeal tasks workers seats) (open_are : AreOpen (length tasks) workers boards carriers) (at : AreBenches seats carriers olds) where
   of_deal : All (λ (b : Bench). b.seat.deal.tasks ≡ tasks) olds
   of_deal =
-      at-benches (λ (s : SeatView Task). s.deal.tasks ≡ tasks) olds
+      at_benches (λ (s : SeatView Task). s.deal.tasks ≡ tasks) olds
       (subst (All (λ (s : SeatView Task). s.deal.tasks ≡ tasks)) (sym at.seats_are)
       (λ k e within. ap (λ (d : Deal Task). d.tasks) ((new.whole).one_deal k e within) ∙ new.tasks_dealt))
 
   no_numbers : All (λ (b : Bench). b.seat.numbers ≡ []) olds
   no_numbers =
-      at-benches (λ (s : SeatView Task). s.numbers ≡ []) olds
+      at_benches (λ (s : SeatView Task). s.numbers ≡ []) olds
       (subst (All (λ (s : SeatView Task). s.numbers ≡ [])) (sym at.seats_are) (λ k e within. (new.fresh k e within).0))
 
   unused : All (λ (b : Bench). IsUnusedOf boards.id b.carrier) olds
@@ -60,87 +60,87 @@ module _ (net : Net) (end : ℕ) (tasks : List Task) (workers : ℕ) (seats : Li
   module _ (news : List Bench) (have : HaveWorked net end olds news) (seats' : List (SeatView Task)) (carriers' : List (CarrierView Boxed)) (works : List Worked)
       (parts : AreParts news seats' carriers' works) where
     same : AreSameSeats (map (λ (b : Bench). b.seat) olds) (map (λ (b : Bench). b.seat) news)
-    same = same-seats net end olds news have
+    same = same_seats net end olds news have
 
     pub whole : IsWholeDeal seats'
     whole =
         subst IsWholeDeal (sym parts.seats_are)
-        (same_seats-whole (map (λ (b : Bench). b.seat) olds) (map (λ (b : Bench). b.seat) news) same (subst IsWholeDeal (sym at.seats_are) new.whole))
+        (same_seats_whole (map (λ (b : Bench). b.seat) olds) (map (λ (b : Bench). b.seat) news) same (subst IsWholeDeal (sym at.seats_are) new.whole))
 
-    carriers-same : All (λ (c : CarrierView Boxed). c.boards ≡ boards.id) (map (λ (b : Bench). b.carrier) news) × (length (map (λ (b : Bench). b.carrier) news) ≡ length (map (λ (b : Bench). b.seat) olds))
-    carriers-same = same-carriers net end boards.id olds news have unused
+    carriers_same : All (λ (c : CarrierView Boxed). c.boards ≡ boards.id) (map (λ (b : Bench). b.carrier) news) × (length (map (λ (b : Bench). b.carrier) news) ≡ length (map (λ (b : Bench). b.seat) olds))
+    carriers_same = same_carriers net end boards.id olds news have unused
 
-    pub all-carriers : AreAllOf boards carriers'
-    all-carriers = record {
-      theirs = subst (All (λ (c : CarrierView Boxed). c.boards ≡ boards.id)) (sym parts.carriers_are) carriers-same.0;
-      count = ap length parts.carriers_are ∙ carriers-same.1 ∙ ap length at.seats_are ∙ new.count ∙ sym open_are.seats_are;
+    pub all_carriers : AreAllOf boards carriers'
+    all_carriers = record {
+      theirs = subst (All (λ (c : CarrierView Boxed). c.boards ≡ boards.id)) (sym parts.carriers_are) carriers_same.0;
+      count = ap length parts.carriers_are ∙ carriers_same.1 ∙ ap length at.seats_are ∙ new.count ∙ sym open_are.seats_are;
     }
 
-    length-some : (ws : List Worked) → length (map Some ws) ≡ length ws
-    length-some [] = refl
-    length-some (w ∷ ws) = ap suc (length-some ws)
+    length_some : (ws : List Worked) → length (map Some ws) ≡ length ws
+    length_some [] = refl
+    length_some (w ∷ ws) = ap suc (length_some ws)
 
-    length-worked : (bs : List Bench) → length (map (λ (b : Bench). b.worked) bs) ≡ length (map (λ (b : Bench). b.carrier) bs)
-    length-worked [] = refl
-    length-worked (b ∷ bs) = ap suc (length-worked bs)
+    length_worked : (bs : List Bench) → length (map (λ (b : Bench). b.worked) bs) ≡ length (map (λ (b : Bench). b.carrier) bs)
+    length_worked [] = refl
+    length_worked (b ∷ bs) = ap suc (length_worked bs)
 
-    pub works-count : length works ≡ workers
-    works-count = sym (length-some works) ∙ ap length parts.works_are ∙ length-worked news ∙ carriers-same.1 ∙ ap length at.seats_are ∙ new.count
+    pub works_count : length works ≡ workers
+    works_count = sym (length_some works) ∙ ap length parts.works_are ∙ length_worked news ∙ carriers_same.1 ∙ ap length at.seats_are ∙ new.count
 
     marked : AreOwnMarked seats'
-    marked = subst AreOwnMarked (sym parts.seats_are) (are-marked net end olds news works have parts.works_are)
+    marked = subst AreOwnMarked (sym parts.seats_are) (are_marked net end olds news works have parts.works_are)
 
-    deal-tasks : (common_deal seats').tasks ≡ tasks
-    deal-tasks =
+    deal_tasks : (common_deal seats').tasks ≡ tasks
+    deal_tasks =
         ap (λ (s : List (SeatView Task)). (common_deal s).tasks) parts.seats_are
         ∙ ap (λ (d : Deal Task). d.tasks) (same_deal (map (λ (b : Bench). b.seat) olds) (map (λ (b : Bench). b.seat) news) same)
         ∙ ap (λ (s : List (SeatView Task)). (common_deal s).tasks) at.seats_are ∙ new.tasks_dealt
 
     module _ (left : List (Numbered Task)) (gathered : IsGathered seats' left) (rows : List (Vec Boxed Global)) (drained : IsDrained boards.hosts (all_entries carriers') rows)
         (kept : AreKept (all_entries carriers') rows) where
-      pub rows-count : length rows ≡ length tasks
-      rows-count = drained.count ∙ open_are.hosts_are
+      pub rows_count : length rows ≡ length tasks
+      rows_count = drained.count ∙ open_are.hosts_are
 
       module _ (rec : ℕ → HostRecord) (are : AreTasks net tasks rec) where
-        fresh-from : (n : ℕ) (bs : List Bench) → ((k : ℕ) (e : Bench) → k < length bs → (get_or bs k e).worker ≡ n + k) → All (λ (b : Bench). b.seat.deal.tasks ≡ tasks) bs
+        fresh_from : (n : ℕ) (bs : List Bench) → ((k : ℕ) (e : Bench) → k < length bs → (get_or bs k e).worker ≡ n + k) → All (λ (b : Bench). b.seat.deal.tasks ≡ tasks) bs
             → All (λ (b : Bench). b.seat.numbers ≡ []) bs → AreFresh net end tasks rec are n bs
-        fresh-from n [] workers_are of none = tt
-        fresh-from n (b ∷ bs) workers_are of none = (
+        fresh_from n [] workers_are of none = tt
+        fresh_from n (b ∷ bs) workers_are of none = (
           record { worker_is = (let w = workers_are 0 b (omega arith) in omega arith); tasks_are = All-head (λ (b : Bench). b.seat.deal.tasks ≡ tasks) b bs of; none = All-head (λ (b : Bench). b.seat.numbers ≡ []) b bs none },
-          fresh-from (suc n) bs (λ k e within. (let w = workers_are (suc k) e (omega arith) in omega arith)) (All-tail (λ (b : Bench). b.seat.deal.tasks ≡ tasks) b bs of) (All-tail (λ (b : Bench). b.seat.numbers ≡ []) b bs none),
+          fresh_from (suc n) bs (λ k e within. (let w = workers_are (suc k) e (omega arith) in omega arith)) (All-tail (λ (b : Bench). b.seat.deal.tasks ≡ tasks) b bs of) (All-tail (λ (b : Bench). b.seat.numbers ≡ []) b bs none),
         )
 
         all : AllWork net end tasks rec are 0 news works
-        all = all-work net end tasks rec are 0 olds news works (fresh-from 0 olds (λ k e within. (let w = at.workers_are k e within in omega arith)) of_deal no_numbers) have parts.works_are
+        all = all_work net end tasks rec are 0 olds news works (fresh_from 0 olds (λ k e within. (let w = at.workers_are k e within in omega arith)) of_deal no_numbers) have parts.works_are
 
-        entries-are : all_entries carriers' ≡ all_entries (map (λ (b : Bench). b.carrier) news)
-        entries-are = ap all_entries parts.carriers_are
+        entries_are : all_entries carriers' ≡ all_entries (map (λ (b : Bench). b.carrier) news)
+        entries_are = ap all_entries parts.carriers_are
 
-        numbers-is : joined (map (λ (seat : SeatView Task). seat.numbers) seats') ++ numbers_of left ≡ numbers (joined all.jobs)
-        numbers-is =
+        numbers_is : joined (map (λ (seat : SeatView Task). seat.numbers) seats') ++ numbers_of left ≡ numbers (joined all.jobs)
+        numbers_is =
             ap (λ (l : List (Numbered Task)). joined (map (λ (seat : SeatView Task). seat.numbers) seats') ++ numbers_of l) (gathered.none_left marked)
             ∙ append-nil (joined (map (λ (seat : SeatView Task). seat.numbers) seats'))
             ∙ ap (λ (s : List (SeatView Task)). joined (map (λ (seat : SeatView Task). seat.numbers) s)) parts.seats_are ∙ sym all.numbers_are
 
         spread : AreSpread (parcels_made net (joined all.jobs)) (all_entries carriers') (flat_map (λ (w : Worked). w.spill.items) works)
-        spread = subst (λ (es : List (Entry Boxed)). AreSpread (parcels_made net (joined all.jobs)) es (flat_map (λ (w : Worked). w.spill.items) works)) (sym entries-are) all.spread
+        spread = subst (λ (es : List (Entry Boxed)). AreSpread (parcels_made net (joined all.jobs)) es (flat_map (λ (w : Worked). w.spill.items) works)) (sym entries_are) all.spread
 
-        pub is-round : IsRound net end tasks rec works rows
-        is-round = record {
+        pub is_round : IsRound net end tasks rec works rows
+        is_round = record {
           jobs = all.jobs;
           done = all.done;
           each_once =
-              subst (λ (ts : List Task). IsPermutation (numbers (joined all.jobs)) (numbers_below (length ts))) deal-tasks
-              (subst (λ (l : List ℕ). IsPermutation l (numbers_below (length (common_deal seats').tasks))) numbers-is gathered.each_once);
+              subst (λ (ts : List Task). IsPermutation (numbers (joined all.jobs)) (numbers_below (length ts))) deal_tasks
+              (subst (λ (l : List ℕ). IsPermutation l (numbers_below (length (common_deal seats').tasks))) numbers_is gathered.each_once);
           parcels = λ h.
               (let k = kept (boxed_weight h) in
               let m = subst (λ (es : List (Entry Boxed)). weigh h (parcels_made net (joined all.jobs)) + weigh (back_weight (boxed_weight h)) es ≡ weigh (λ (w : Worked). weigh h w.spill.items) works + weigh (entry_parcel h) es)
-              (sym entries-are) (all.weighs h) in
+              (sym entries_are) (all.weighs h) in
               omega arith);
           rows_are = record {
-            count = rows-count;
+            count = rows_count;
             theirs = rows_hold (λ host (b : Boxed). b.value.to.index ≡ host) boards.hosts (all_entries carriers') rows drained
-                (subst (All (λ (e : Entry Boxed). e.parcel.value.to.index ≡ e.host)) (sym entries-are) all.theirs);
+                (subst (All (λ (e : Entry Boxed). e.parcel.value.to.index ≡ e.host)) (sym entries_are) all.theirs);
           };
           into = into boards.hosts (parcels_made net (joined all.jobs)) (all_entries carriers') rows works drained spread;
           back = back boards.hosts (parcels_made net (joined all.jobs)) (all_entries carriers') rows works drained spread;

@@ -6,13 +6,13 @@ use Rattle.std.proofs.lemmas.List.{nil_from_length}
 use Rattle.std.proofs.lemmas.List.Sorted.{IsPermutation-refl, IsPermutation-trans, IsPermutation-append, IsPermutation-append_right, length_permutation}
 use Rattle.sim_base.specs.declared.event.Event.{Event}
 use Rattle.list_weights.specs.Weights.{weigh, numbers_below}
-use Rattle.list_weights.proofs.Permutations.{weigh-permutation, same_weights}
-use Rattle.list_weights.proofs.Weights.{weigh-append}
+use Rattle.list_weights.proofs.Permutations.{weigh_permutation, same_weights}
+use Rattle.list_weights.proofs.Weights.{weigh_append}
 use Rattle.world_order.specs.Model.{Model}
 use Rattle.world_order.specs.Round.{events_at}
 use Rattle.world_order.specs.WholeTurns.{RunsTo, Job}
-use Rattle.world_order.proofs.Homes.{some_is, get-below}
-use Rattle.world_order.proofs.Members.{IsIn, Each, IsIn-either, IsIn-permutation, split_at}
+use Rattle.world_order.proofs.Homes.{some_is, get_below}
+use Rattle.world_order.proofs.Members.{IsIn, Each, IsIn_either, IsIn_permutation, split_at}
 use Rattle.world_order.proofs.Parts.{second_first}
 use Rattle.round_lookahead.proofs.WholeRounds.{NumbersApart}
 
@@ -23,24 +23,24 @@ flat_map-append f [] ys = refl
 flat_map-append f (x ∷ xs) ys = ap (λ (l : List _). f x ++ l) (flat_map-append f xs ys) ∙ sym (append_assoc (f x) (flat_map f xs) (flat_map f ys))
 
 -- what is left of numbers in two orders where one is taken out
-others-permutation : (x : ℕ) (xs front back : List ℕ) → IsPermutation (x ∷ xs) (front ++ (x ∷ back)) → IsPermutation xs (front ++ back)
-others-permutation x xs front back p = same_weights xs (front ++ back) (λ h.
-    let all : weigh h (front ++ (x ∷ back)) ≡ h x + weigh h xs = weigh-permutation h (x ∷ xs) (front ++ (x ∷ back)) p in
-    let split : weigh h (front ++ (x ∷ back)) ≡ weigh h front + (h x + weigh h back) = weigh-append h front (x ∷ back) in
-    let rest : weigh h (front ++ back) ≡ weigh h front + weigh h back = weigh-append h front back in
+others_permutation : (x : ℕ) (xs front back : List ℕ) → IsPermutation (x ∷ xs) (front ++ (x ∷ back)) → IsPermutation xs (front ++ back)
+others_permutation x xs front back p = same_weights xs (front ++ back) (λ h.
+    let all : weigh h (front ++ (x ∷ back)) ≡ h x + weigh h xs = weigh_permutation h (x ∷ xs) (front ++ (x ∷ back)) p in
+    let split : weigh h (front ++ (x ∷ back)) ≡ weigh h front + (h x + weigh h back) = weigh_append h front (x ∷ back) in
+    let rest : weigh h (front ++ back) ≡ weigh h front + weigh h back = weigh_append h front back in
     omega arith)
 
-pub parts-permutation : {Y : Type 0} (f : ℕ → List Y) (xs ys : List ℕ) → IsPermutation xs ys → IsPermutation (flat_map f xs) (flat_map f ys)
-parts-permutation f [] ys p =
+pub parts_permutation : {Y : Type 0} (f : ℕ → List Y) (xs ys : List ℕ) → IsPermutation xs ys → IsPermutation (flat_map f xs) (flat_map f ys)
+parts_permutation f [] ys p =
     let none : ys ≡ [] = nil_from_length ys (let e = length_permutation [] ys p in omega arith) in
     subst (λ (l : List ℕ). IsPermutation (flat_map f []) (flat_map f l)) (sym none) (IsPermutation-refl [])
-parts-permutation f (x ∷ xs) ys p =
-    let s = split_at x ys (IsIn-permutation x (x ∷ xs) ys p (inl refl)) in
+parts_permutation f (x ∷ xs) ys p =
+    let s = split_at x ys (IsIn_permutation x (x ∷ xs) ys p (inl refl)) in
     let front = s.0 in
     let back = s.1 in
-    let q : IsPermutation xs (front ++ back) = others-permutation x xs front back (subst (IsPermutation (x ∷ xs)) s.2 p) in
+    let q : IsPermutation xs (front ++ back) = others_permutation x xs front back (subst (IsPermutation (x ∷ xs)) s.2 p) in
     let rest : IsPermutation (flat_map f xs) (flat_map f front ++ flat_map f back) =
-    subst (IsPermutation (flat_map f xs)) (flat_map-append f front back) (parts-permutation f xs (front ++ back) q) in
+    subst (IsPermutation (flat_map f xs)) (flat_map-append f front back) (parts_permutation f xs (front ++ back) q) in
     subst (IsPermutation (f x ++ flat_map f xs)) (sym (ap (flat_map f) s.2 ∙ flat_map-append f front (x ∷ back)))
     (IsPermutation-trans (f x ++ flat_map f xs) (f x ++ (flat_map f front ++ flat_map f back)) (flat_map f front ++ (f x ++ flat_map f back))
     (IsPermutation-append_right (f x) (flat_map f xs) (flat_map f front ++ flat_map f back) rest)
@@ -68,7 +68,7 @@ module _ {X Y : Type 0} (f : X → List Y) where
   first_parts : (xs : List X) (n : ℕ) → n ≤ length xs → flat_map (part_at xs) (numbers_below n) ++ flat_map f (drop n xs) ≡ flat_map f xs
   first_parts xs zero within = refl
   first_parts xs (suc n) within =
-      let here = get-below xs n (omega arith) in
+      let here = get_below xs n (omega arith) in
       let before = first_parts xs n (omega arith) in
       let more : flat_map (part_at xs) (numbers_below n ++ n ∷ []) ≡ flat_map (part_at xs) (numbers_below n) ++ f here.0 =
       flat_map-append (part_at xs) (numbers_below n) (n ∷ [])
@@ -95,16 +95,16 @@ module _ {X : Type 0} (p : X → Bool) where
   leave_if x xs ys true is rest = absurd (cc)
   leave_if x xs ys false is rest = rest
 
-  filter-all : (xs : List X) → Each (λ (x : X). p x ≡ true) xs → filter p xs ≡ xs
-  filter-all [] each = refl
-  filter-all (x ∷ xs) each = keep_if x xs xs (p x) (each x (inl refl)) (filter-all xs (λ y h. each y (inr h)))
+  filter_all : (xs : List X) → Each (λ (x : X). p x ≡ true) xs → filter p xs ≡ xs
+  filter_all [] each = refl
+  filter_all (x ∷ xs) each = keep_if x xs xs (p x) (each x (inl refl)) (filter_all xs (λ y h. each y (inr h)))
 
-  filter-none : (xs : List X) → Each (λ (x : X). p x ≡ false) xs → filter p xs ≡ []
-  filter-none [] each = refl
-  filter-none (x ∷ xs) each = leave_if x xs [] (p x) (each x (inl refl)) (filter-none xs (λ y h. each y (inr h)))
+  filter_none : (xs : List X) → Each (λ (x : X). p x ≡ false) xs → filter p xs ≡ []
+  filter_none [] each = refl
+  filter_none (x ∷ xs) each = leave_if x xs [] (p x) (each x (inl refl)) (filter_none xs (λ y h. each y (inr h)))
 
-not-equal : (a b : ℕ) → a ≢ b → (a == b) ≡ false
-not-equal a b other = by_value (a == b) refl
+not_equal : (a b : ℕ) → a ≢ b → (a == b) ≡ false
+not_equal a b other = by_value (a == b) refl
   where
     by_value : (v : Bool) → (a == b) ≡ v → v ≡ false
     by_value true is = absurd (other (eqb-true a b is))
@@ -138,7 +138,7 @@ module _ {H L : Type 0} (m : Model H L) (end : ℕ) (host : ℕ → H) (held : �
   home_in (j ∷ js) (s ∷ ss) from e h = ⊎_elim
       (λ (here : IsIn e s). (j, inl refl, from.0.own e here))
       (λ (rest : IsIn e (all_of ss)). let r = home_in js ss from.1 e rest in (r.0, inr r.1, r.2))
-      (IsIn-either e s (all_of ss) h)
+      (IsIn_either e s (all_of ss) h)
 
   -- the job's host has just what it started from
   pub started : (jobs : List (Job H L)) (starts : List (List Event)) → NumbersApart jobs → StartFrom jobs starts
@@ -146,16 +146,16 @@ module _ {H L : Type 0} (m : Model H L) (end : ℕ) (host : ℕ → H) (held : �
   started [] starts apart from j h = absurd h
   started (j ∷ js) [] apart from i h = absurd from
   started (j ∷ js) (s ∷ ss) apart from i (inl same) =
-      let mine : events_at m j.number s ≡ s = filter-all (λ (e : Event). m.home e == j.number) s (λ e h. eq-eqb (m.home e) j.number (from.0.own e h)) in
-      let none : events_at m j.number (all_of ss) ≡ [] = filter-none (λ (e : Event). m.home e == j.number) (all_of ss) (λ e h.
-      (let r = home_in js ss from.1 e h in not-equal (m.home e) j.number (λ is. apart.0 r.0 r.1 (sym r.2 ∙ is)))) in
+      let mine : events_at m j.number s ≡ s = filter_all (λ (e : Event). m.home e == j.number) s (λ e h. eq-eqb (m.home e) j.number (from.0.own e h)) in
+      let none : events_at m j.number (all_of ss) ≡ [] = filter_none (λ (e : Event). m.home e == j.number) (all_of ss) (λ e h.
+      (let r = home_in js ss from.1 e h in not_equal (m.home e) j.number (λ is. apart.0 r.0 r.1 (sym r.2 ∙ is)))) in
       let is : events_at m j.number (s ++ all_of ss) ≡ s =
       filter-append (λ (e : Event). m.home e == j.number) s (all_of ss) ∙ (λ k. mine k ++ none k) ∙ append-nil s in
       subst (λ (x : Job H L). RunsTo m x.number end (host x.number) (events_at m x.number (s ++ all_of ss)) x.ran) (sym same)
       (subst (λ (q : List Event). RunsTo m j.number end (host j.number) q j.ran) (sym is) from.0.runs)
   started (j ∷ js) (s ∷ ss) apart from i (inr h) =
-      let none : events_at m i.number s ≡ [] = filter-none (λ (e : Event). m.home e == i.number) s (λ e g.
-      not-equal (m.home e) i.number (λ is. apart.0 i h (sym is ∙ from.0.own e g))) in
+      let none : events_at m i.number s ≡ [] = filter_none (λ (e : Event). m.home e == i.number) s (λ e g.
+      not_equal (m.home e) i.number (λ is. apart.0 i h (sym is ∙ from.0.own e g))) in
       let is : events_at m i.number (s ++ all_of ss) ≡ events_at m i.number (all_of ss) =
       filter-append (λ (e : Event). m.home e == i.number) s (all_of ss) ∙ ap (λ (l : List Event). l ++ events_at m i.number (all_of ss)) none in
       subst (λ (q : List Event). RunsTo m i.number end (host i.number) q i.ran) (sym is) (started js ss apart.1 from.1 i h)
@@ -167,21 +167,21 @@ module _ {H L : Type 0} (m : Model H L) (end : ℕ) (host : ℕ → H) (held : �
   in_parts (j ∷ js) (s ∷ ss) from = IsPermutation-append s (held j.number) (all_of ss) (flat_map held (map (λ (i : Job H L). i.number) js)) from.0.moved (in_parts js ss from.1)
 
   -- all that they started from is all that is held, where each host is taken once
-  pub started-all : (jobs : List (Job H L)) (starts : List (List Event)) (n : ℕ) → StartFrom jobs starts → IsPermutation (map (λ (j : Job H L). j.number) jobs) (numbers_below n)
+  pub started_all : (jobs : List (Job H L)) (starts : List (List Event)) (n : ℕ) → StartFrom jobs starts → IsPermutation (map (λ (j : Job H L). j.number) jobs) (numbers_below n)
       → IsPermutation (all_of starts) (flat_map held (numbers_below n))
-  started-all jobs starts n from once =
+  started_all jobs starts n from once =
       IsPermutation-trans (all_of starts) (flat_map held (map (λ (j : Job H L). j.number) jobs)) (flat_map held (numbers_below n))
       (in_parts jobs starts from)
-      (parts-permutation held (map (λ (j : Job H L). j.number) jobs) (numbers_below n) once)
+      (parts_permutation held (map (λ (j : Job H L). j.number) jobs) (numbers_below n) once)
 
 -- ---- each number once
 
-below-number : (n k : ℕ) → IsIn k (numbers_below n) → k < n
-below-number zero k h = absurd h
-below-number (suc n) k h = ⊎_elim
-    (λ (l : IsIn k (numbers_below n)). (let b = below-number n k l in omega arith))
+below_number : (n k : ℕ) → IsIn k (numbers_below n) → k < n
+below_number zero k h = absurd h
+below_number (suc n) k h = ⊎_elim
+    (λ (l : IsIn k (numbers_below n)). (let b = below_number n k l in omega arith))
     (λ (r : IsIn k (n ∷ [])). last r)
-    (IsIn-either k (numbers_below n) (n ∷ []) h)
+    (IsIn_either k (numbers_below n) (n ∷ []) h)
   where
     last : IsIn k (n ∷ []) → k < suc n
     last (inl same) = omega arith

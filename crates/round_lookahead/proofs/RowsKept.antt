@@ -199,6 +199,6 @@ module _ (net : Net) where
   waking_all h = waking_from 0 (min (length h.processes) 64) h
 
   -- an event at its time
-  pub row-kept : (e : Event) (h : HostRecord) → Kept h (has_acted net e h)
+  pub row_kept : (e : Event) (h : HostRecord) → Kept h (has_acted net e h)
   unfolding has_acted
-  row-kept e h = waking_all (acts net e.what (at_time e.key.due h)) ∙ acting e.what (at_time e.key.due h)
+  row_kept e h = waking_all (acts net e.what (at_time e.key.due h)) ∙ acting e.what (at_time e.key.due h)

@@ -11,13 +11,13 @@ use Rattle.host_link.specs.Home.{home}
 use Rattle.host_link.specs.Parcels.{parcel_event}
 use Rattle.host_state.specs.Running.{kept_line}
 use Rattle.list_weights.specs.Weights.{weigh, numbers_below}
-use Rattle.list_weights.proofs.Permutations.{weigh-permutation}
+use Rattle.list_weights.proofs.Permutations.{weigh_permutation}
 use Rattle.list_weights.proofs.Weights.{is_number, is_itself}
 use Rattle.world_order.specs.Round.{in_order}
 use Rattle.world_order.specs.World as order
 use Rattle.world_order.proofs.Fires.{get-map}
-use Rattle.world_order.proofs.Homes.{some_is, get-below}
-use Rattle.world_order.proofs.Members.{IsIn, IsIn-permutation, Each, Each-from_All, All-from_Each}
+use Rattle.world_order.proofs.Homes.{some_is, get_below}
+use Rattle.world_order.proofs.Members.{IsIn, IsIn_permutation, Each, Each_from_All, All_from_Each}
 use Rattle.round_lookahead.specs.declared.workers.task.Task.{Task}
 use Rattle.round_lookahead.specs.declared.workers.worked.Done.{Done}
 use Rattle.round_lookahead.specs.declared.workers.worked.Worked.{Worked}
@@ -28,8 +28,8 @@ use Rattle.round_lookahead.specs.inside.Arrivals.{Boxed}
 use Rattle.round_lookahead.specs.inside.Backs.{back_of, with_done, all_done, all_spilled, lines_done, took_by, lists_of, row_arrivals, AreAtHome}
 use Rattle.round_lookahead.specs.inside.Retasks.{AreRetasked}
 use Rattle.round_lookahead.specs.inside.Settles.{done_numbers, CanSettle, IsBack, HasSettled}
-use Rattle.round_lookahead.proofs.BackSteps.{IdsApart, in-slot, length-with_done}
-use Rattle.round_lookahead.proofs.RoundJobs.{below-number, number-below, there-once, once-below}
+use Rattle.round_lookahead.proofs.BackSteps.{IdsApart, in_slot, length_with_done}
+use Rattle.round_lookahead.proofs.RoundJobs.{below_number, number_below, there_once, once_below}
 
 -- ---- lists
 
@@ -37,36 +37,36 @@ length-replicate : {X : Type 0} (n : ℕ) (x : X) → length (replicate n x) ≡
 length-replicate zero x = refl
 length-replicate (suc n) x = ap suc (length-replicate n x)
 
-pub get_or-is : {X : Type 0} (xs : List X) (k : ℕ) (x d : X) → slice_get xs k ≡ Some x → get_or xs k d ≡ x
-get_or-is [] k x d at = absurd (let e : None ≡ Some x = at in cc)
-get_or-is (y ∷ ys) zero x d at = some_is y x at
-get_or-is (y ∷ ys) (suc k) x d at = get_or-is ys k x d at
+pub get_or_is : {X : Type 0} (xs : List X) (k : ℕ) (x d : X) → slice_get xs k ≡ Some x → get_or xs k d ≡ x
+get_or_is [] k x d at = absurd (let e : None ≡ Some x = at in cc)
+get_or_is (y ∷ ys) zero x d at = some_is y x at
+get_or_is (y ∷ ys) (suc k) x d at = get_or_is ys k x d at
 
-unmap-some : {X : Type 0} (xs : List X) (k : ℕ) (x : X) → slice_get (map Some xs) k ≡ Some (Some x) → slice_get xs k ≡ Some x
-unmap-some [] k x at = absurd (let e : None ≡ Some (Some x) = at in cc)
-unmap-some (y ∷ ys) zero x at = some_is (Some y) (Some x) at
-unmap-some (y ∷ ys) (suc k) x at = unmap-some ys k x at
+unmap_some : {X : Type 0} (xs : List X) (k : ℕ) (x : X) → slice_get (map Some xs) k ≡ Some (Some x) → slice_get xs k ≡ Some x
+unmap_some [] k x at = absurd (let e : None ≡ Some (Some x) = at in cc)
+unmap_some (y ∷ ys) zero x at = some_is (Some y) (Some x) at
+unmap_some (y ∷ ys) (suc k) x at = unmap_some ys k x at
 
-number-in : (ds : List Done) (d : Done) → IsIn d ds → IsIn d.id.index (done_numbers ds)
-number-in [] d h = absurd h
-number-in (e ∷ es) d (inl same) = inl (ap (λ (x : Done). x.id.index) same)
-number-in (e ∷ es) d (inr h) = inr (number-in es d h)
+number_in : (ds : List Done) (d : Done) → IsIn d ds → IsIn d.id.index (done_numbers ds)
+number_in [] d h = absurd h
+number_in (e ∷ es) d (inl same) = inl (ap (λ (x : Done). x.id.index) same)
+number_in (e ∷ es) d (inr h) = inr (number_in es d h)
 
-pub done-of : (ds : List Done) (k : ℕ) → IsIn k (done_numbers ds) → (d : Done) × IsIn d ds × (d.id.index ≡ k)
-done-of [] k h = absurd h
-done-of (d ∷ ds) k (inl same) = (d, inl refl, sym same)
-done-of (d ∷ ds) k (inr h) = let r = done-of ds k h in (r.0, inr r.1, r.2)
+pub done_of : (ds : List Done) (k : ℕ) → IsIn k (done_numbers ds) → (d : Done) × IsIn d ds × (d.id.index ≡ k)
+done_of [] k h = absurd h
+done_of (d ∷ ds) k (inl same) = (d, inl refl, sym same)
+done_of (d ∷ ds) k (inr h) = let r = done_of ds k h in (r.0, inr r.1, r.2)
 
-apart-once : (ds : List Done) → ((k : ℕ) → weigh (is_number k) (done_numbers ds) ≤ 1) → IdsApart ds
-apart-once [] once = tt
-apart-once (d ∷ ds) once = (
+apart_once : (ds : List Done) → ((k : ℕ) → weigh (is_number k) (done_numbers ds) ≤ 1) → IdsApart ds
+apart_once [] once = tt
+apart_once (d ∷ ds) once = (
   λ e h same.
       let k : ℕ = d.id.index in
       let here : is_number k k ≡ 1 = is_itself k in
-      let there = there-once k (done_numbers ds) (subst (λ (n : ℕ). IsIn n (done_numbers ds)) same (number-in ds e h)) in
+      let there = there_once k (done_numbers ds) (subst (λ (n : ℕ). IsIn n (done_numbers ds)) same (number_in ds e h)) in
       let most = once k in
       absurd (omega arith),
-  apart-once ds (λ k. (let most = once k in omega arith)),
+  apart_once ds (λ k. (let most = once k in omega arith)),
 )
 
 -- ---- slots
@@ -79,77 +79,77 @@ module _ (count : ℕ) (works : List Worked) (rows : List (Vec Boxed Global)) (c
   full = with_done ds (replicate count None)
 
   below : Each (λ (d : Done). d.id.index < count) ds
-  below d h = below-number count d.id.index (IsIn-permutation d.id.index (done_numbers ds) (numbers_below count) can.once (number-in ds d h))
+  below d h = below_number count d.id.index (IsIn_permutation d.id.index (done_numbers ds) (numbers_below count) can.once (number_in ds d h))
 
-  slot-of : Each (λ (d : Done). slice_get full d.id.index ≡ Some (Some (back_of d))) ds
-  slot-of = in-slot ds (replicate count None)
-      (apart-once ds (λ k. (let same = weigh-permutation (is_number k) (done_numbers ds) (numbers_below count) can.once in let most = once-below count k in omega arith)))
+  slot_of : Each (λ (d : Done). slice_get full d.id.index ≡ Some (Some (back_of d))) ds
+  slot_of = in_slot ds (replicate count None)
+      (apart_once ds (λ k. (let same = weigh_permutation (is_number k) (done_numbers ds) (numbers_below count) can.once in let most = once_below count k in omega arith)))
       (λ d h. (let long : length (replicate count (let none : Option Back = None in none)) ≡ count = length-replicate count None in let b = below d h in omega arith))
 
-  pub works-below : All (λ (w : Worked). All (λ (d : Done). d.id.index < count) w.done.items) works
-  works-below = All-from_Each (λ (w : Worked). All (λ (d : Done). d.id.index < count) w.done.items) works (of_works works below)
+  pub works_below : All (λ (w : Worked). All (λ (d : Done). d.id.index < count) w.done.items) works
+  works_below = All_from_Each (λ (w : Worked). All (λ (d : Done). d.id.index < count) w.done.items) works (of_works works below)
     where
       of_works : (ws : List Worked) → Each (λ (d : Done). d.id.index < count) (all_done ws) → Each (λ (w : Worked). All (λ (d : Done). d.id.index < count) w.done.items) ws
       of_works [] each w h = absurd h
       of_works (v ∷ vs) each w (inl same) = subst (λ (x : Worked). All (λ (d : Done). d.id.index < count) x.done.items) (sym same)
-          (All-from_Each (λ (d : Done). d.id.index < count) v.done.items (λ d g. each d (Rattle.world_order.proofs.Members.IsIn-left d v.done.items (all_done vs) g)))
-      of_works (v ∷ vs) each w (inr h) = of_works vs (λ d g. each d (Rattle.world_order.proofs.Members.IsIn-right d v.done.items (all_done vs) g)) w h
+          (All_from_Each (λ (d : Done). d.id.index < count) v.done.items (λ d g. each d (Rattle.world_order.proofs.Members.IsIn_left d v.done.items (all_done vs) g)))
+      of_works (v ∷ vs) each w (inr h) = of_works vs (λ d g. each d (Rattle.world_order.proofs.Members.IsIn_right d v.done.items (all_done vs) g)) w h
 
-  length-full : length full ≡ count
-  length-full = length-with_done ds (replicate count None) ∙ length-replicate count None
+  length_full : length full ≡ count
+  length_full = length_with_done ds (replicate count None) ∙ length-replicate count None
 
-  pub all-some : (slots : List (Option Back)) → slots ≡ full → All (λ (s : Option Back). IsSome s) slots
-  all-some slots is k s less =
-      let long = length-full in
+  pub all_some : (slots : List (Option Back)) → slots ≡ full → All (λ (s : Option Back). IsSome s) slots
+  all_some slots is k s less =
+      let long = length_full in
       let same : length slots ≡ length full = ap length is in
-      let d = done-of ds k (IsIn-permutation k (numbers_below count) (done_numbers ds) (IsPermutation-sym (done_numbers ds) (numbers_below count) can.once) (number-below count k (omega arith))) in
-      let at : slice_get slots k ≡ Some (Some (back_of d.0)) = ap (λ (l : List (Option Back)). slice_get l k) is ∙ ap (slice_get full) (sym d.2) ∙ slot-of d.0 d.1 in
-      subst (λ (o : Option Back). IsSome o) (sym (get_or-is slots k (Some (back_of d.0)) s at)) refl
+      let d = done_of ds k (IsIn_permutation k (numbers_below count) (done_numbers ds) (IsPermutation-sym (done_numbers ds) (numbers_below count) can.once) (number_below count k (omega arith))) in
+      let at : slice_get slots k ≡ Some (Some (back_of d.0)) = ap (λ (l : List (Option Back)). slice_get l k) is ∙ ap (slice_get full) (sym d.2) ∙ slot_of d.0 d.1 in
+      subst (λ (o : Option Back). IsSome o) (sym (get_or_is slots k (Some (back_of d.0)) s at)) refl
 
   module _ (slots : List (Option Back)) (slots_are : slots ≡ full) (backs : List Back) (backs_are : map Some backs ≡ slots) where
-    pub length-backs : length backs ≡ count
-    length-backs = sym (length-map backs (λ (b : Back). Some b)) ∙ ap length backs_are ∙ ap length slots_are ∙ length-full
+    pub length_backs : length backs ≡ count
+    length_backs = sym (length-map backs (λ (b : Back). Some b)) ∙ ap length backs_are ∙ ap length slots_are ∙ length_full
 
-    back-of : Each (λ (d : Done). slice_get backs d.id.index ≡ Some (back_of d)) ds
-    back-of d h = unmap-some backs d.id.index (back_of d) (ap (λ (l : List (Option Back)). slice_get l d.id.index) (backs_are ∙ slots_are) ∙ slot-of d h)
+    back_of_is : Each (λ (d : Done). slice_get backs d.id.index ≡ Some (back_of d)) ds
+    back_of_is d h = unmap_some backs d.id.index (back_of d) (ap (λ (l : List (Option Back)). slice_get l d.id.index) (backs_are ∙ slots_are) ∙ slot_of d h)
 
     module _ (new : List (Vec Boxed Global)) (r : Retasked) (retasked : AreRetasked backs new r) (s : Settled) (tasks_are : s.tasks ≡ r.tasks) (outputs_are : s.gained.outputs ≡ r.outputs) where
-      length-tasks : length s.tasks.items ≡ count
-      length-tasks =
+      length_tasks : length s.tasks.items ≡ count
+      length_tasks =
           ap (λ (v : Vec Task Global). length v.items) tasks_are ∙ sym (length-map r.tasks.items (λ (t : Task). t.host)) ∙ ap length retasked.hosts
-          ∙ length-map backs (λ (b : Back). b.host) ∙ length-backs
+          ∙ length-map backs (λ (b : Back). b.host) ∙ length_backs
 
-      outputs-is : s.gained.outputs.items ≡ map (λ (b : Back). b.outputs) backs
-      outputs-is = ap (λ (v : Vec (Vec Output Global) Global). v.items) outputs_are ∙ retasked.outputs
+      outputs_is : s.gained.outputs.items ≡ map (λ (b : Back). b.outputs) backs
+      outputs_is = ap (λ (v : Vec (Vec Output Global) Global). v.items) outputs_are ∙ retasked.outputs
 
-      tasks-is : {Y : Type 0} (f : Task → Y) (g : Back → Y) → map f r.tasks.items ≡ map g backs → (k : ℕ) (t : Task) (b : Back) → slice_get s.tasks.items k ≡ Some t → slice_get backs k ≡ Some b → f t ≡ g b
-      tasks-is f g same k t b at there =
+      tasks_is : {Y : Type 0} (f : Task → Y) (g : Back → Y) → map f r.tasks.items ≡ map g backs → (k : ℕ) (t : Task) (b : Back) → slice_get s.tasks.items k ≡ Some t → slice_get backs k ≡ Some b → f t ≡ g b
+      tasks_is f g same k t b at there =
           some_is (f t) (g b)
           (sym (get-map f s.tasks.items k t at) ∙ ap (λ (v : Vec Task Global). slice_get (map f v.items) k) tasks_are ∙ ap (λ (l : List _). slice_get l k) same ∙ get-map g backs k b there)
 
-      is-back : Each (IsBack s) ds
-      is-back d h =
+      is_back : Each (IsBack s) ds
+      is_back d h =
           let k : ℕ = d.id.index in
-          let long = length-tasks in
+          let long = length_tasks in
           let b = below d h in
-          let found = get-below s.tasks.items k (omega arith) in
+          let found = get_below s.tasks.items k (omega arith) in
           record {
             task = found.0;
             at = found.1;
-            id = tasks-is (λ (t : Task). t.id) (λ (x : Back). x.id) retasked.ids k found.0 (back_of d) found.1 (back-of d h);
-            host = tasks-is (λ (t : Task). t.host) (λ (x : Back). x.host) retasked.hosts k found.0 (back_of d) found.1 (back-of d h);
-            outputs = ap (λ (l : List (Vec Output Global)). slice_get l k) outputs-is ∙ get-map (λ (x : Back). x.outputs) backs k (back_of d) (back-of d h);
+            id = tasks_is (λ (t : Task). t.id) (λ (x : Back). x.id) retasked.ids k found.0 (back_of d) found.1 (back_of_is d h);
+            host = tasks_is (λ (t : Task). t.host) (λ (x : Back). x.host) retasked.hosts k found.0 (back_of d) found.1 (back_of_is d h);
+            outputs = ap (λ (l : List (Vec Output Global)). slice_get l k) outputs_is ∙ get-map (λ (x : Back). x.outputs) backs k (back_of d) (back_of_is d h);
           }
 
-      pub has-settled : (spill : List Parcel) → spill ≡ all_spilled works → IsPermutation (row_arrivals new) (map parcel_event spill ++ row_arrivals rows)
+      pub has_settled : (spill : List Parcel) → spill ≡ all_spilled works → IsPermutation (row_arrivals new) (map parcel_event spill ++ row_arrivals rows)
           → ((net : Net) → All (λ (p : Parcel). home net (parcel_event p) ≡ p.to.index) spill → AreAtHome net rows → AreAtHome net new)
           → ((all : List (order.Logged Line)) → lines_done ds ≡ map kept_line all → s.gained.lines.items ≡ map kept_line (in_order all)) → lists_of s.gained.took.items ≡ took_by works → HasSettled count works rows s
-      has-settled spill is moved theirs lines took =
+      has_settled spill is moved theirs lines took =
           let parcels : map (λ (t : Task). t.parcels) s.tasks.items ≡ new = ap (λ (v : Vec Task Global). map (λ (t : Task). t.parcels) v.items) tasks_are ∙ retasked.parcels in
           record {
-            tasks_count = length-tasks;
-            outputs_count = ap length outputs-is ∙ length-map backs (λ (b : Back). b.outputs) ∙ length-backs;
-            hosts = All-from_Each (IsBack s) ds is-back;
+            tasks_count = length_tasks;
+            outputs_count = ap length outputs_is ∙ length-map backs (λ (b : Back). b.outputs) ∙ length_backs;
+            hosts = All_from_Each (IsBack s) ds is_back;
             home = λ net to at. subst (AreAtHome net) (sym parcels) (theirs net (subst (All (λ (p : Parcel). home net (parcel_event p) ≡ p.to.index)) (sym is) to) at);
             packets = subst (λ (l : List (Vec Boxed Global)). IsPermutation (row_arrivals l) (map parcel_event (all_spilled works) ++ row_arrivals rows)) (sym parcels)
                 (subst (λ (ps : List Parcel). IsPermutation (row_arrivals new) (map parcel_event ps ++ row_arrivals rows)) is moved);

@@ -14,8 +14,8 @@ use Rattle.world_order.specs.EventOrder.{same_key}
 use Rattle.world_order.specs.Round.{in_order}
 use Rattle.world_order.specs.World.{Logged}
 use Rattle.world_order.proofs.Keys.{key_before}
-use Rattle.world_order.proofs.Logs.{lines_with, with_first, InOrder, NotBefore, not_before-through, lines_with-in_order, order-in_order, same_log}
-use Rattle.world_order.proofs.Members.{Each-cons}
+use Rattle.world_order.proofs.Logs.{lines_with, with_first, InOrder, NotBefore, not_before_through_is, lines_with_in_order, order_in_order, same_log}
+use Rattle.world_order.proofs.Members.{Each_cons}
 
 -- keys of which neither comes before the other are the same
 tie_by : (o : Ordering) → (not (is_lt o) && not (is_lt (ordering_reverse o))) ≡ is_eq o
@@ -53,12 +53,12 @@ module _ {X L : Type 0} (key : X → Key) (line : X → L) where
   not_before x [] first order = λ l h. absurd h
   not_before x (y ∷ ys) first order =
       let here : is_lt (key_order (key y) (key x)) ≡ false = first (omega arith) in
-      Each-cons (λ (l : Logged L). key_before l.key (key x) ≡ false) (line_of y) (map line_of ys) here (not_before-through (key x) (key y) (map line_of ys) order.0 here)
+      Each_cons (λ (l : Logged L). key_before l.key (key x) ≡ false) (line_of y) (map line_of ys) here (not_before_through_is (key x) (key y) (map line_of ys) order.0 here)
 
-  sorted-in_order : (ys : List X) → IsSortedByKey key key_order ys → InOrder (map line_of ys)
-  sorted-in_order [] sorted = tt
-  sorted-in_order (x ∷ ys) sorted =
-      let rest : InOrder (map line_of ys) = sorted-in_order ys (λ k d from below.
+  sorted_in_order : (ys : List X) → IsSortedByKey key key_order ys → InOrder (map line_of ys)
+  sorted_in_order [] sorted = tt
+  sorted_in_order (x ∷ ys) sorted =
+      let rest : InOrder (map line_of ys) = sorted_in_order ys (λ k d from below.
       (let next : suc k + 1 ≡ suc (k + 1) = omega arith in
       subst (λ (n : ℕ). lt (get_or (x ∷ ys) n d) (get_or (x ∷ ys) (suc k) d) ≡ false) next (sorted (suc k) d (omega arith) (omega arith)))) in
       let one : 0 + 1 ≡ suc 0 = omega arith in (
@@ -80,8 +80,8 @@ module _ {X L : Type 0} (key : X → Key) (line : X → L) (with_key : Key → X
       ∙ ap (map line) (subst (λ (j : Key). filter (λ y. same_key j (key y)) ys ≡ filter (λ y. same_key j (key y)) (x ∷ xs)) (keyed k x) is)
       ∙ sym (with_same key line k (x ∷ xs))
 
-  pub sorted-log : (xs ys : List X) → IsPermutation xs ys → IsSortedByKey key key_order ys → IsStableByKey key key_order xs ys
+  pub sorted_log : (xs ys : List X) → IsPermutation xs ys → IsSortedByKey key key_order ys → IsStableByKey key key_order xs ys
       → map (line_of key line) ys ≡ in_order (map (line_of key line) xs)
-  sorted-log xs ys moved sorted stable =
-      same_log (map (line_of key line) ys) (in_order (map (line_of key line) xs)) (sorted-in_order key line ys sorted) (order-in_order (map (line_of key line) xs))
-      (λ k. same_lines xs ys moved stable k ∙ sym (lines_with-in_order k (map (line_of key line) xs)))
+  sorted_log xs ys moved sorted stable =
+      same_log (map (line_of key line) ys) (in_order (map (line_of key line) xs)) (sorted_in_order key line ys sorted) (order_in_order (map (line_of key line) xs))
+      (λ k. same_lines xs ys moved stable k ∙ sym (lines_with_in_order k (map (line_of key line) xs)))

@@ -15,20 +15,20 @@ use Rattle.world_order.specs.WholeTurns.{RunsTo, Job, job_steps, after_job, Work
 use Rattle.world_order.specs.World.{World, Logged, IsResult}
 use Rattle.world_order.specs.declared.step.Step.TheVariants.{Close}
 use Rattle.world_order.proofs.Fires.{get-map}
-use Rattle.world_order.proofs.Homes.{some_is, get-set_same, get-set_other, get-below, below-get}
-use Rattle.world_order.proofs.Jobs.{whole-round}
-use Rattle.world_order.proofs.Members.{IsIn, Contains-from_IsIn, Each, Each-cons}
-use Rattle.world_order.proofs.Openings.{member_opened, hosts_opened, opened-packets}
-use Rattle.world_order.proofs.Orders.{closed-model}
-use Rattle.world_order.proofs.Parts.{same_order, second_first, part-same, part-more}
+use Rattle.world_order.proofs.Homes.{some_is, get_set_same, get_set_other, get_below, below_get}
+use Rattle.world_order.proofs.Jobs.{whole_round}
+use Rattle.world_order.proofs.Members.{IsIn, Contains_from_IsIn, Each, Each_cons}
+use Rattle.world_order.proofs.Openings.{member_opened, hosts_opened, opened_packets}
+use Rattle.world_order.proofs.Orders.{closed_model}
+use Rattle.world_order.proofs.Parts.{same_order, second_first, part_same, part-more}
 use Rattle.world_order.proofs.RoundStates.{carried_of}
 
 -- ---- lists of jobs
 
-get-replicate : {X : Type 0} (n k : ℕ) (x : X) → k < n → slice_get (replicate n x) k ≡ Some x
-get-replicate zero k x below = absurd (omega arith)
-get-replicate (suc n) zero x below = refl
-get-replicate (suc n) (suc k) x below = get-replicate n k x (omega arith)
+get_replicate : {X : Type 0} (n k : ℕ) (x : X) → k < n → slice_get (replicate n x) k ≡ Some x
+get_replicate zero k x below = absurd (omega arith)
+get_replicate (suc n) zero x below = refl
+get_replicate (suc n) (suc k) x below = get_replicate n k x (omega arith)
 
 module _ {H L : Type 0} where
   -- no host is taken twice
@@ -36,10 +36,10 @@ module _ {H L : Type 0} where
   NumbersApart [] = Unit {0}
   NumbersApart (j ∷ js) = Each (λ (i : Job H L). i.number ≢ j.number) js × NumbersApart js
 
-  pub job-of : (jobs : List (Job H L)) (number : ℕ) → IsIn number (map (λ (j : Job H L). j.number) jobs) → (j : Job H L) × IsIn j jobs × (j.number ≡ number)
-  job-of [] number h = absurd h
-  job-of (j ∷ js) number (inl same) = (j, inl refl, sym same)
-  job-of (j ∷ js) number (inr h) = let r = job-of js number h in (r.0, inr r.1, r.2)
+  pub job_of : (jobs : List (Job H L)) (number : ℕ) → IsIn number (map (λ (j : Job H L). j.number) jobs) → (j : Job H L) × IsIn j jobs × (j.number ≡ number)
+  job_of [] number h = absurd h
+  job_of (j ∷ js) number (inl same) = (j, inl refl, sym same)
+  job_of (j ∷ js) number (inr h) = let r = job_of js number h in (r.0, inr r.1, r.2)
 
   -- what jobs leave, in their order
   abbrev pub packets_in : List (Job H L) → List Event
@@ -88,25 +88,25 @@ module _ {H L : Type 0} (m : Model H L) where
     pub lines : last.lines ≡ r.lines ++ lines_in jobs
 
   module _ (r : Round H L) (job : Job H L) (x : Member H) (worker : Worker) (there : slice_get r.workers job.worker ≡ Some worker) where
-    carried-more : IsPermutation (carried_of (after_job job x worker r)) (job.ran.packets ++ carried_of r)
-    carried-more =
+    carried_more : IsPermutation (carried_of (after_job job x worker r)) (job.ran.packets ++ carried_of r)
+    carried_more =
         let packets : List Event = job.ran.packets in
         let new : Worker = record worker { spill = worker.spill ++ packets } in
         part-more (λ (v : Worker). v.hand ++ v.spill) r.workers job.worker worker new packets there
         (subst (λ (l : List Event). IsPermutation l (packets ++ (worker.hand ++ worker.spill))) (append_assoc worker.hand worker.spill packets)
         (IsPermutation-append_comm (worker.hand ++ worker.spill) packets))
 
-  carried-all : (packets more carried last next : List Event) → IsPermutation last (more ++ next) → IsPermutation next (packets ++ carried) → IsPermutation last ((packets ++ more) ++ carried)
-  carried-all packets more carried last next after here =
+  carried_all : (packets more carried last next : List Event) → IsPermutation last (more ++ next) → IsPermutation next (packets ++ carried) → IsPermutation last ((packets ++ more) ++ carried)
+  carried_all packets more carried last next after here =
       subst (IsPermutation last) (sym (append_assoc packets more carried))
       (IsPermutation-trans last (more ++ next) (packets ++ (more ++ carried)) after
       (IsPermutation-trans (more ++ next) (more ++ (packets ++ carried)) (packets ++ (more ++ carried))
       (IsPermutation-append_right more next (packets ++ carried) here)
       (second_first more packets carried)))
 
-  works-last : (workers : ℕ) (jobs : List (Job H L)) (r : Round H L) → Each (λ (j : Job H L). j.worker < workers) jobs → NumbersApart jobs → AreIdle workers r → Each (Runs r) jobs
+  works_last : (workers : ℕ) (jobs : List (Job H L)) (r : Round H L) → Each (λ (j : Job H L). j.worker < workers) jobs → NumbersApart jobs → AreIdle workers r → Each (Runs r) jobs
       → (last : Round H L) × IsLast jobs r last
-  works-last workers [] r below apart idle each = (
+  works_last workers [] r below apart idle each = (
     r,
     record {
       leads = are_done r refl;
@@ -118,31 +118,31 @@ module _ {H L : Type 0} (m : Model H L) where
       lines = sym (append-nil r.lines);
     },
   )
-  works-last workers (job ∷ jobs) r below apart idle each =
+  works_last workers (job ∷ jobs) r below apart idle each =
       let w = idle job.worker (below job (inl refl)) in
       let h : Runs r job = each job (inl refl) in
       let new : Member H = record (h.member) { host = job.ran.host; queue = job.ran.queue; stage = Done } in
       let worker : Worker = record (w.0) { spill = (w.0).spill ++ job.ran.packets } in
       let r1 : Round H L = after_job job h.member w.0 r in
       let idle1 : AreIdle workers r1 = λ k less. ⊎_elim
-      (λ (same : k ≡ job.worker). (worker, ap (slice_get (slice_set r.workers job.worker worker)) same ∙ get-set_same r.workers job.worker w.0 worker w.1, w.2))
-      (λ (other : k ≢ job.worker). let v = idle k less in (v.0, get-set_other r.workers job.worker k worker other ∙ v.1, v.2))
+      (λ (same : k ≡ job.worker). (worker, ap (slice_get (slice_set r.workers job.worker worker)) same ∙ get_set_same r.workers job.worker w.0 worker w.1, w.2))
+      (λ (other : k ≢ job.worker). let v = idle k less in (v.0, get_set_other r.workers job.worker k worker other ∙ v.1, v.2))
       (cases_eq k job.worker) in
       let each1 : Each (Runs r1) jobs = λ j in_jobs.
       (let v : Runs r j = each j (inr in_jobs) in
-      record { member = v.member; at = get-set_other r.members job.number j.number new (apart.0 j in_jobs) ∙ v.at; waits = v.waits; runs = v.runs }) in
-      let more = works-last workers jobs r1 (λ j in_jobs. below j (inr in_jobs)) apart.1 idle1 each1 in
+      record { member = v.member; at = get_set_other r.members job.number j.number new (apart.0 j in_jobs) ∙ v.at; waits = v.waits; runs = v.runs }) in
+      let more = works_last workers jobs r1 (λ j in_jobs. below j (inr in_jobs)) apart.1 idle1 each1 in
       let last : Round H L = more.0 in
       let is : IsLast jobs r1 last = more.1 in (
         last,
         record {
           leads = works r job jobs h.member w.0 h.at h.waits w.1 w.2 h.runs is.leads;
           count = is.count ∙ length-set r.members job.number new;
-          others = λ i other. is.others i (λ j in_jobs. other j (inr in_jobs)) ∙ get-set_other r.members job.number i new (λ same. other job (inl refl) (sym same));
-          done = Each-cons (HasRun last) job jobs
-              (record { member = new; at = is.others job.number apart.0 ∙ get-set_same r.members job.number h.member new h.at; host = refl; queue = refl }) is.done;
-          places = is.places ∙ part-same (λ (x : Member H). placed x.places) r.members job.number h.member new h.at refl;
-          carried = carried-all job.ran.packets (packets_in jobs) (carried_of r) (carried_of last) (carried_of r1) is.carried (carried-more r job h.member w.0 w.1);
+          others = λ i other. is.others i (λ j in_jobs. other j (inr in_jobs)) ∙ get_set_other r.members job.number i new (λ same. other job (inl refl) (sym same));
+          done = Each_cons (HasRun last) job jobs
+              (record { member = new; at = is.others job.number apart.0 ∙ get_set_same r.members job.number h.member new h.at; host = refl; queue = refl }) is.done;
+          places = is.places ∙ part_same (λ (x : Member H). placed x.places) r.members job.number h.member new h.at refl;
+          carried = carried_all job.ran.packets (packets_in jobs) (carried_of r) (carried_of last) (carried_of r1) is.carried (carried_more r job h.member w.0 w.1);
           lines = is.lines ∙ append_assoc r.lines job.ran.lines (lines_in jobs);
         },
       )
@@ -161,15 +161,15 @@ module _ {H L : Type 0} (m : Model H L) where
     abbrev pub JobRuns : Job H L → Type 0
     JobRuns job = (host : H) → slice_get w.hosts job.number ≡ Some host → RunsTo m job.number end host (events_at m job.number w.events) job.ran
 
-    pub length-opened : length (opened_from m w.events 0 w.hosts) ≡ length w.hosts
-    length-opened = sym (length-map (opened_from m w.events 0 w.hosts) (λ (x : Member H). x.host)) ∙ ap length (hosts_opened m w.events 0 w.hosts)
+    pub length_opened : length (opened_from m w.events 0 w.hosts) ≡ length w.hosts
+    length_opened = sym (length-map (opened_from m w.events 0 w.hosts) (λ (x : Member H). x.host)) ∙ ap length (hosts_opened m w.events 0 w.hosts)
 
-    runs-opened : (job : Job H L) → JobRuns job → job.number < length w.hosts → Runs (opened m end workers w) job
-    runs-opened job run below =
+    runs_opened : (job : Job H L) → JobRuns job → job.number < length w.hosts → Runs (opened m end workers w) job
+    runs_opened job run below =
         let k : ℕ = job.number in
         let members : List (Member H) = opened_from m w.events 0 w.hosts in
-        let long = length-opened in
-        let found = get-below members k (omega arith) in
+        let long = length_opened in
+        let found = get_below members k (omega arith) in
         let x : Member H = found.0 in
         let is = member_opened m w.events 0 w.hosts k x found.1 in
         let host_at : slice_get w.hosts k ≡ Some x.host =
@@ -182,11 +182,11 @@ module _ {H L : Type 0} (m : Model H L) where
           runs = subst (λ (q : List Event). RunsTo m k end x.host q job.ran) (sym queue) (run x.host host_at);
         }
 
-    pub whole-last : (jobs : List (Job H L)) → AreJobs workers (length w.hosts) jobs → Each JobRuns jobs → (last : Round H L) × IsLast jobs (opened m end workers w) last
-    whole-last jobs are each =
-        works-last workers jobs (opened m end workers w) are.workers_of are.apart
-        (λ k below. (record { hand = []; spill = [] }, get-replicate workers k (record { hand = []; spill = [] }) below, refl))
-        (λ j h. runs-opened j (each j h) (are.hosts_of j h))
+    pub whole_last : (jobs : List (Job H L)) → AreJobs workers (length w.hosts) jobs → Each JobRuns jobs → (last : Round H L) × IsLast jobs (opened m end workers w) last
+    whole_last jobs are each =
+        works_last workers jobs (opened m end workers w) are.workers_of are.apart
+        (λ k below. (record { hand = []; spill = [] }, get_replicate workers k (record { hand = []; spill = [] }) below, refl))
+        (λ j h. runs_opened j (each j h) (are.hosts_of j h))
 
 -- ---- what the round leaves
 
@@ -196,67 +196,67 @@ module _ {H L : Type 0} (sim : Simulation H L) (stop least workers : ℕ) (w : W
   start = opened sim.model (end_of sim stop least) workers w
 
   pub found : (last : Round H L) × IsLast sim.model jobs start last
-  found = whole-last sim.model (end_of sim stop least) workers w jobs are each
+  found = whole_last sim.model (end_of sim stop least) workers w jobs are each
 
   -- its steps are allowed, and close it
-  steps-close : after_all sim.model (flat_map job_steps jobs ++ Close ∷ []) (Going start) ≡ Some (Closed (world_of found.0))
-  steps-close =
+  steps_close : after_all sim.model (flat_map job_steps jobs ++ Close ∷ []) (Going start) ≡ Some (Closed (world_of found.0))
+  steps_close =
       let is = found.1 in
-      whole-round sim.model (end_of sim stop least) workers w found.0 jobs is.leads
-      (λ i below. Contains-from_IsIn i (map (λ (j : Job H L). j.number) jobs) (are.named i below))
+      whole_round sim.model (end_of sim stop least) workers w found.0 jobs is.leads
+      (λ i below. Contains_from_IsIn i (map (λ (j : Job H L). j.number) jobs) (are.named i below))
 
   -- the world after the model's turns
-  pub left-model : (model : World H L) × IsResult sim.model (end_of sim stop least) model w × Leaves (end_of sim stop least) w model (world_of found.0)
-  left-model = closed-model sim stop least workers w (world_of found.0) (flat_map job_steps jobs ++ Close ∷ []) settled from steps-close
+  pub left_model : (model : World H L) × IsResult sim.model (end_of sim stop least) model w × Leaves (end_of sim stop least) w model (world_of found.0)
+  left_model = closed_model sim stop least workers w (world_of found.0) (flat_map job_steps jobs ++ Close ∷ []) settled from steps_close
 
-  has-run : (k : ℕ) → k < length w.hosts → (j : Job H L) × IsIn j jobs × (j.number ≡ k) × HasRun sim.model found.0 j
-  has-run k below =
+  has_run : (k : ℕ) → k < length w.hosts → (j : Job H L) × IsIn j jobs × (j.number ≡ k) × HasRun sim.model found.0 j
+  has_run k below =
       let is = found.1 in
-      let j = job-of jobs k (are.named k below) in
+      let j = job_of jobs k (are.named k below) in
       (j.0, j.1, j.2, is.done j.0 j.1)
 
-  pub left-count : length left-model.0.hosts ≡ length w.hosts
-  left-count =
+  pub left_count : length left_model.0.hosts ≡ length w.hosts
+  left_count =
       let is = found.1 in
-      ap length (sym left-model.2.hosts) ∙ length-map found.0.members (λ (x : Member H). x.host) ∙ is.count ∙ length-opened sim.model (end_of sim stop least) workers w
+      ap length (sym left_model.2.hosts) ∙ length-map found.0.members (λ (x : Member H). x.host) ∙ is.count ∙ length_opened sim.model (end_of sim stop least) workers w
 
   -- each host is what a job leaves
-  pub left-host : (job : Job H L) → IsIn job jobs → slice_get left-model.0.hosts job.number ≡ Some job.ran.host
-  left-host job there =
+  pub left_host : (job : Job H L) → IsIn job jobs → slice_get left_model.0.hosts job.number ≡ Some job.ran.host
+  left_host job there =
       let done : HasRun sim.model found.0 job = found.1.done job there in
-      ap (λ (hosts : List H). slice_get hosts job.number) (sym left-model.2.hosts) ∙ get-map (λ (x : Member H). x.host) found.0.members job.number done.member done.at ∙ ap Some done.host
+      ap (λ (hosts : List H). slice_get hosts job.number) (sym left_model.2.hosts) ∙ get-map (λ (x : Member H). x.host) found.0.members job.number done.member done.at ∙ ap Some done.host
 
-  pub left-log : left-model.0.log ≡ w.log ++ in_order (lines_in jobs)
-  left-log =
+  pub left_log : left_model.0.log ≡ w.log ++ in_order (lines_in jobs)
+  left_log =
       let is = found.1 in
-      sym left-model.2.log ∙ ap (λ (ls : List (Logged L)). w.log ++ in_order ls) is.lines
+      sym left_model.2.log ∙ ap (λ (ls : List (Logged L)). w.log ++ in_order ls) is.lines
 
   -- the queues that they leave, whatever the order in each, and all packets are the events
-  pub left-events : {X : Type 0} (f : X → List Event) (xs : List X) → length xs ≡ length w.hosts
-      → ((job : Job H L) → IsIn job jobs → (x : X) → slice_get xs job.number ≡ Some x → IsPermutation (f x) job.ran.queue) → IsPermutation (flat_map f xs ++ packets_in jobs) left-model.0.events
-  left-events f xs long queues =
+  pub left_events : {X : Type 0} (f : X → List Event) (xs : List X) → length xs ≡ length w.hosts
+      → ((job : Job H L) → IsIn job jobs → (x : X) → slice_get xs job.number ≡ Some x → IsPermutation (f x) job.ran.queue) → IsPermutation (flat_map f xs ++ packets_in jobs) left_model.0.events
+  left_events f xs long queues =
       let is = found.1 in
       let last = found.0 in
       let packets : List Event = packets_in jobs in
-      let count : length last.members ≡ length w.hosts = is.count ∙ length-opened sim.model (end_of sim stop least) workers w in
+      let count : length last.members ≡ length w.hosts = is.count ∙ length_opened sim.model (end_of sim stop least) workers w in
       let parts : IsPermutation (flat_map f xs) (flat_map (λ (x : Member H). x.queue) last.members) =
       same_parts f (λ (x : Member H). x.queue) xs last.members (long ∙ sym count)
       (λ k x y here there.
-      let below = below-get xs k x here in
-      let j = has-run k (omega arith) in
+      let below = below_get xs k x here in
+      let j = has_run k (omega arith) in
       let at_j : slice_get xs j.0.number ≡ Some x = ap (slice_get xs) j.2 ∙ here in
       let same : y.queue ≡ j.0.ran.queue = ap (λ (z : Member H). z.queue) (some_is y j.3.member (sym there ∙ sym (ap (slice_get last.members) j.2) ∙ j.3.at)) ∙ j.3.queue in
       subst (IsPermutation (f x)) (sym same) (queues j.0 j.1 x at_j)) in
       let laid : List Event = flat_map (λ (x : Member H). placed x.places) last.members in
       let none : laid ++ carried_of start ≡ [] =
-      ap (λ (l : List Event). l ++ carried_of start) is.places ∙ opened-packets sim.model (end_of sim stop least) workers w settled.apart in
+      ap (λ (l : List Event). l ++ carried_of start) is.places ∙ opened_packets sim.model (end_of sim stop least) workers w settled.apart in
       let moved : IsPermutation (laid ++ carried_of last) packets =
       IsPermutation-trans (laid ++ carried_of last) (laid ++ (packets ++ carried_of start)) packets
       (IsPermutation-append_right laid (carried_of last) (packets ++ carried_of start) is.carried)
       (IsPermutation-trans (laid ++ (packets ++ carried_of start)) (packets ++ (laid ++ carried_of start)) packets
       (second_first laid packets (carried_of start))
       (same_order (packets ++ (laid ++ carried_of start)) packets (ap (λ (l : List Event). packets ++ l) none ∙ append-nil packets))) in
-      IsPermutation-trans (flat_map f xs ++ packets) (events_of last) left-model.0.events
+      IsPermutation-trans (flat_map f xs ++ packets) (events_of last) left_model.0.events
       (IsPermutation-append (flat_map f xs) (flat_map (λ (x : Member H). x.queue) last.members) packets (laid ++ carried_of last) parts
       (IsPermutation-sym (laid ++ carried_of last) packets moved))
-      left-model.2.events
+      left_model.2.events

@@ -22,13 +22,13 @@ use Rattle.host_state.specs.HostStands.{Stands}
 use Rattle.host_link.specs.Parcels.{parcel_event}
 use Rattle.host_link.specs.Logs.{lines_of, kept_lines}
 use Rattle.host_state.specs.Running.{kept_line}
-use Rattle.host_state.proofs.Gaining.{names-later}
+use Rattle.host_state.proofs.Gaining.{names_later}
 use Rattle.world_order.specs.Round.{in_order}
 use Rattle.world_order.specs.Window.{window_end}
 use Rattle.world_order.specs.WholeTurns.{Turn, turn_of}
 use Rattle.world_order.proofs.Fires.{get-map}
-use Rattle.world_order.proofs.Homes.{some_is, get-below, below-get}
-use Rattle.world_order.proofs.Members.{IsIn, IsIn-left, IsIn-either, IsIn-permutation, Each, Each-from_All, All-from_Each}
+use Rattle.world_order.proofs.Homes.{some_is, get_below, below_get}
+use Rattle.world_order.proofs.Members.{IsIn, IsIn_left, IsIn_either, IsIn_permutation, Each, Each_from_All, All_from_Each}
 use Rattle.world_order.proofs.Parts.{second_first}
 use Rattle.round_lookahead.specs.declared.workers.task.Task.{Task}
 use Rattle.round_lookahead.specs.declared.workers.worked.Done.{Done}
@@ -48,61 +48,61 @@ use Rattle.round_lookahead.specs.inside.Settles.{done_numbers, CanSettle, IsBack
 use Rattle.round_lookahead.specs.Tasks.{waiting, AreTasks}
 use Rattle.round_lookahead.specs.Works.{HostJob, AreDone}
 use Rattle.round_lookahead.specs.WorldStands.{HostWorld, nanos_of, StandsAt, WorldStands}
-use Rattle.round_lookahead.proofs.Extending.{result-extends}
-use Rattle.round_lookahead.proofs.CountSteps.{lines-gained}
-use Rattle.round_lookahead.proofs.DueSteps.{any-in, in-any}
+use Rattle.round_lookahead.proofs.Extending.{result_extends}
+use Rattle.round_lookahead.proofs.CountSteps.{lines_gained}
+use Rattle.round_lookahead.proofs.DueSteps.{any_in, in_any}
 use Rattle.round_lookahead.proofs.RoundJobs as round_jobs
-use Rattle.round_lookahead.proofs.RunSteps.{IsRunBy, AreRun, job-done, done-job, run-lines}
-use Rattle.round_lookahead.proofs.SettleSteps.{done-of, get_or-is}
+use Rattle.round_lookahead.proofs.RunSteps.{IsRunBy, AreRun, job_done, done_job, run_lines}
+use Rattle.round_lookahead.proofs.SettleSteps.{done_of, get_or_is}
 use Rattle.round_lookahead.proofs.WholeRounds.{packets_in, lines_in}
-use Rattle.round_lookahead.proofs.WorldSteps.{settled-between, rec, rec-is, rec-tasks, of-map, in-part, map-both}
+use Rattle.round_lookahead.proofs.WorldSteps.{settled_between, rec, rec_is, rec_tasks, of_map, in_part, map_both}
 use Rattle.round_lookahead.proofs.WorldRounds as rounds
 
 -- ---- lists
 
 -- each of two parts
-split-parts : {X : Type 0} (f g : X → List Event) (xs : List X) → IsPermutation (flat_map (λ x. f x ++ g x) xs) (flat_map f xs ++ flat_map g xs)
-split-parts f g [] = IsPermutation-refl []
-split-parts f g (x ∷ xs) =
+split_parts : {X : Type 0} (f g : X → List Event) (xs : List X) → IsPermutation (flat_map (λ x. f x ++ g x) xs) (flat_map f xs ++ flat_map g xs)
+split_parts f g [] = IsPermutation-refl []
+split_parts f g (x ∷ xs) =
     IsPermutation-trans ((f x ++ g x) ++ flat_map (λ y. f y ++ g y) xs) ((f x ++ g x) ++ (flat_map f xs ++ flat_map g xs)) ((f x ++ flat_map f xs) ++ (g x ++ flat_map g xs))
-    (IsPermutation-append_right (f x ++ g x) (flat_map (λ y. f y ++ g y) xs) (flat_map f xs ++ flat_map g xs) (split-parts f g xs))
+    (IsPermutation-append_right (f x ++ g x) (flat_map (λ y. f y ++ g y) xs) (flat_map f xs ++ flat_map g xs) (split_parts f g xs))
     (subst (λ (l : List Event). IsPermutation l ((f x ++ flat_map f xs) ++ (g x ++ flat_map g xs))) (sym (append_assoc (f x) (g x) (flat_map f xs ++ flat_map g xs)))
     (subst (IsPermutation (f x ++ (g x ++ (flat_map f xs ++ flat_map g xs)))) (sym (append_assoc (f x) (flat_map f xs) (g x ++ flat_map g xs)))
     (IsPermutation-append_right (f x) (g x ++ (flat_map f xs ++ flat_map g xs)) (flat_map f xs ++ (g x ++ flat_map g xs)) (second_first (g x) (flat_map f xs) (flat_map g xs)))))
 
-rows-of : (ts : List Task) → row_arrivals (map (λ (t : Task). t.parcels) ts) ≡ flat_map (λ (t : Task). arrivals t.parcels.items) ts
-rows-of [] = refl
-rows-of (t ∷ ts) = ap (λ (l : List Event). arrivals t.parcels.items ++ l) (rows-of ts)
+rows_of : (ts : List Task) → row_arrivals (map (λ (t : Task). t.parcels) ts) ≡ flat_map (λ (t : Task). arrivals t.parcels.items) ts
+rows_of [] = refl
+rows_of (t ∷ ts) = ap (λ (l : List Event). arrivals t.parcels.items ++ l) (rows_of ts)
 
 -- ---- who took which host
 
-turns-ids : (worker : ℕ) (js : List HostJob) (d : List Done) (net : Net) (end : ℕ) (tasks : List Task) (records : ℕ → HostRecord) → AreDone net end worker tasks records js d
+turns_ids : (worker : ℕ) (js : List HostJob) (d : List Done) (net : Net) (end : ℕ) (tasks : List Task) (records : ℕ → HostRecord) → AreDone net end worker tasks records js d
     → map (λ (h : HostId). let t : Turn = record { worker = worker; number = h.index } in t) (ids_of d) ≡ map turn_of js
-turns-ids worker [] [] net end tasks records a = refl
-turns-ids worker [] (d ∷ ds) net end tasks records a = absurd a
-turns-ids worker (j ∷ js) [] net end tasks records a = absurd a
-turns-ids worker (j ∷ js) (d ∷ ds) net end tasks records a =
-    λ i. record { worker = sym a.0.by_worker i; number = a.0.run.id i } ∷ turns-ids worker js ds net end tasks records a.1 i
+turns_ids worker [] [] net end tasks records a = refl
+turns_ids worker [] (d ∷ ds) net end tasks records a = absurd a
+turns_ids worker (j ∷ js) [] net end tasks records a = absurd a
+turns_ids worker (j ∷ js) (d ∷ ds) net end tasks records a =
+    λ i. record { worker = sym a.0.by_worker i; number = a.0.run.id i } ∷ turns_ids worker js ds net end tasks records a.1 i
 
-heads-of : {X : Type 0} (x y : X) (xs ys : List X) → x ∷ xs ≡ y ∷ ys → (x ≡ y) × (xs ≡ ys)
-heads-of x y xs ys e = (cc, cc)
+heads_of : {X : Type 0} (x y : X) (xs ys : List X) → x ∷ xs ≡ y ∷ ys → (x ≡ y) × (xs ≡ ys)
+heads_of x y xs ys e = (cc, cc)
 
-turns-of : (net : Net) (end : ℕ) (tasks : List Task) (records : ℕ → HostRecord) (worker : ℕ) (jobs : List (List HostJob)) (works : List Worked) (took : List (Vec HostId Global))
+turns_of : (net : Net) (end : ℕ) (tasks : List Task) (records : ℕ → HostRecord) (worker : ℕ) (jobs : List (List HostJob)) (works : List Worked) (took : List (Vec HostId Global))
     → AreWorks net end tasks records worker jobs works → lists_of took ≡ took_by works → turns_from worker took ≡ map turn_of (joined jobs)
-turns-of net end tasks records worker [] [] [] a is = refl
-turns-of net end tasks records worker [] [] (t ∷ ts) a is = absurd (cc)
-turns-of net end tasks records worker [] (w ∷ ws) took a is = absurd a
-turns-of net end tasks records worker (js ∷ jss) [] took a is = absurd a
-turns-of net end tasks records worker (js ∷ jss) (w ∷ ws) [] a is = absurd (cc)
-turns-of net end tasks records worker (js ∷ jss) (w ∷ ws) (t ∷ ts) a is =
-    let h = heads-of t.items (ids_of w.done.items) (lists_of ts) (took_by ws) is in
-    let here = ap (map (λ (x : HostId). let u : Turn = record { worker = worker; number = x.index } in u)) h.0 ∙ turns-ids worker js w.done.items net end tasks records a.0 in
-    let rest = turns-of net end tasks records (suc worker) jss ws ts a.1 h.1 in
-    (λ i. here i ++ rest i) ∙ sym (map-both turn_of js (joined jss))
+turns_of net end tasks records worker [] [] [] a is = refl
+turns_of net end tasks records worker [] [] (t ∷ ts) a is = absurd (cc)
+turns_of net end tasks records worker [] (w ∷ ws) took a is = absurd a
+turns_of net end tasks records worker (js ∷ jss) [] took a is = absurd a
+turns_of net end tasks records worker (js ∷ jss) (w ∷ ws) [] a is = absurd (cc)
+turns_of net end tasks records worker (js ∷ jss) (w ∷ ws) (t ∷ ts) a is =
+    let h = heads_of t.items (ids_of w.done.items) (lists_of ts) (took_by ws) is in
+    let here = ap (map (λ (x : HostId). let u : Turn = record { worker = worker; number = x.index } in u)) h.0 ∙ turns_ids worker js w.done.items net end tasks records a.0 in
+    let rest = turns_of net end tasks records (suc worker) jss ws ts a.1 h.1 in
+    (λ i. here i ++ rest i) ∙ sym (map_both turn_of js (joined jss))
 
-turn-numbers : (js : List HostJob) → map (λ (t : Turn). t.number) (map turn_of js) ≡ round_jobs.numbers js
-turn-numbers [] = refl
-turn-numbers (j ∷ js) = ap (λ (l : List ℕ). j.number ∷ l) (turn-numbers js)
+turn_numbers : (js : List HostJob) → map (λ (t : Turn). t.number) (map turn_of js) ≡ round_jobs.numbers js
+turn_numbers [] = refl
+turn_numbers (j ∷ js) = ap (λ (l : List ℕ). j.number ∷ l) (turn_numbers js)
 
 module _ (c : World) (w : HostWorld) (stands : WorldStands c w) (least : Time) (due : IsLeastDue (flat_map waiting c.tasks.items) (Some least)) (workers : ℕ)
     (works : List Worked) (rows : List (Vec Boxed Global)) (many : length works ≡ workers)
@@ -127,8 +127,8 @@ module _ (c : World) (w : HostWorld) (stands : WorldStands c w) (least : Time) (
   abbrev new : World
   new = record c { tasks = s.tasks; counts = n; load = load }
 
-  are-run : AreRun c.net end c.tasks.items (rec c w stands) jobs ds
-  are-run = rounds.are-run c w stands least due workers works rows many round
+  are_run : AreRun c.net end c.tasks.items (rec c w stands) jobs ds
+  are_run = rounds.are_run c w stands least due workers works rows many round
 
   -- the host of a number, and its job
   pub record At (k : ℕ) : Type 0 where
@@ -140,149 +140,149 @@ module _ (c : World) (w : HostWorld) (stands : WorldStands c w) (least : Time) (
     pub run : IsRunBy c.net end c.tasks.items (rec c w stands) job done
     pub same : job.number ≡ k
 
-  of-done : (d : Done) → IsIn d ds → At d.id.index
-  of-done d h =
-      let j = job-done c.net end c.tasks.items (rec c w stands) jobs ds are-run d h in
-      record { done = d; back = Each-from_All (IsBack s) ds so.hosts d h; number = refl; job = j.0; in_jobs = j.1; run = j.2; same = sym j.2.run.id }
+  of_done : (d : Done) → IsIn d ds → At d.id.index
+  of_done d h =
+      let j = job_done c.net end c.tasks.items (rec c w stands) jobs ds are_run d h in
+      record { done = d; back = Each_from_All (IsBack s) ds so.hosts d h; number = refl; job = j.0; in_jobs = j.1; run = j.2; same = sym j.2.run.id }
 
-  at-number : (k : ℕ) → k < length c.tasks.items → At k
-  at-number k below =
-      let d = done-of ds k (IsIn-permutation k (numbers_below (length c.tasks.items)) (done_numbers ds)
-      (IsPermutation-sym (done_numbers ds) (numbers_below (length c.tasks.items)) (rounds.can-settle c w stands least due workers works rows many round).once)
-      (round_jobs.number-below (length c.tasks.items) k below)) in
-      subst At d.2 (of-done d.0 d.1)
+  at_number : (k : ℕ) → k < length c.tasks.items → At k
+  at_number k below =
+      let d = done_of ds k (IsIn_permutation k (numbers_below (length c.tasks.items)) (done_numbers ds)
+      (IsPermutation-sym (done_numbers ds) (numbers_below (length c.tasks.items)) (rounds.can_settle c w stands least due workers works rows many round).once)
+      (round_jobs.number_below (length c.tasks.items) k below)) in
+      subst At d.2 (of_done d.0 d.1)
 
-  next-host : (k : ℕ) (a : At k) → slice_get next.hosts k ≡ Some a.job.ran.host
-  next-host k a = ap (slice_get next.hosts) (sym a.same) ∙ rounds.next-host c w stands least due workers works rows many round a.job a.in_jobs
+  next_host : (k : ℕ) (a : At k) → slice_get next.hosts k ≡ Some a.job.ran.host
+  next_host k a = ap (slice_get next.hosts) (sym a.same) ∙ rounds.next_host c w stands least due workers works rows many round a.job a.in_jobs
 
-  task-at : (k : ℕ) (a : At k) → slice_get ts k ≡ Some a.back.task
-  task-at k a = ap (slice_get ts) (sym a.number) ∙ a.back.at
+  task_at : (k : ℕ) (a : At k) → slice_get ts k ≡ Some a.back.task
+  task_at k a = ap (slice_get ts) (sym a.number) ∙ a.back.at
 
-  rows-home : AreAtHome c.net (map (λ (t : Task). t.parcels) ts)
-  rows-home = so.home c.net
-      (All-from_Each (λ (p : Parcel). home c.net (parcel_event p) ≡ p.to.index) (all_spilled works)
-      (λ p h. rounds.laid-home c w stands least due workers works rows many round p (rounds.in-spill c w stands least due workers works rows many round p h)))
-      (λ i row below. All-from_Each (λ (b : Boxed). home c.net (parcel_event b.value) ≡ i) (get_or rows i row).items
+  rows_home : AreAtHome c.net (map (λ (t : Task). t.parcels) ts)
+  rows_home = so.home c.net
+      (All_from_Each (λ (p : Parcel). home c.net (parcel_event p) ≡ p.to.index) (all_spilled works)
+      (λ p h. rounds.laid_home c w stands least due workers works rows many round p (rounds.in_spill c w stands least due workers works rows many round p h)))
+      (λ i row below. All_from_Each (λ (b : Boxed). home c.net (parcel_event b.value) ≡ i) (get_or rows i row).items
       (λ b h.
-      let found = get-below rows i below in
-      let same : get_or rows i row ≡ found.0 = get_or-is rows i found.0 row found.1 in
-      let mine : IsIn b.value (map (λ (x : Boxed). x.value) (get_or rows i row).items) = Rattle.round_lookahead.proofs.WorldSteps.in-map (λ (x : Boxed). x.value) (get_or rows i row).items b h in
-      let there : IsIn b.value (all_parcels rows works) = IsIn-left b.value (flat_map (λ (r : Vec Boxed Global). map (λ (x : Boxed). x.value) r.items) rows) (all_spilled works)
-      (in-part (λ (r : Vec Boxed Global). map (λ (x : Boxed). x.value) r.items) rows i found.0 b.value found.1
+      let found = get_below rows i below in
+      let same : get_or rows i row ≡ found.0 = get_or_is rows i found.0 row found.1 in
+      let mine : IsIn b.value (map (λ (x : Boxed). x.value) (get_or rows i row).items) = Rattle.round_lookahead.proofs.WorldSteps.in_map (λ (x : Boxed). x.value) (get_or rows i row).items b h in
+      let there : IsIn b.value (all_parcels rows works) = IsIn_left b.value (flat_map (λ (r : Vec Boxed Global). map (λ (x : Boxed). x.value) r.items) rows) (all_spilled works)
+      (in_part (λ (r : Vec Boxed Global). map (λ (x : Boxed). x.value) r.items) rows i found.0 b.value found.1
       (subst (λ (r : Vec Boxed Global). IsIn b.value (map (λ (x : Boxed). x.value) r.items)) same mine)) in
-      rounds.laid-home c w stands least due workers works rows many round b.value there
-      ∙ Each-from_All (λ (x : Boxed). x.value.to.index ≡ i) (get_or rows i row).items (round.rows_are.theirs i row below) b h))
+      rounds.laid_home c w stands least due workers works rows many round b.value there
+      ∙ Each_from_All (λ (x : Boxed). x.value.to.index ≡ i) (get_or rows i row).items (round.rows_are.theirs i row below) b h))
 
   -- all that waits at a host fires there
-  waits-home : (k : ℕ) (a : At k) → Each (λ (e : Event). home c.net e ≡ k) (waiting a.back.task)
-  waits-home k a e h = ⊎_elim
+  waits_home : (k : ℕ) (a : At k) → Each (λ (e : Event). home c.net e ≡ k) (waiting a.back.task)
+  waits_home k a e h = ⊎_elim
       (λ (q : IsIn e a.back.task.host.value.queue).
       let d : IsIn e a.done.host.value.queue = subst (λ (x : Box Host Global). IsIn e x.value.queue) a.back.host q in
-      let host_good = (rounds.next-settled c w stands least due workers works rows many round).hosts a.job.number a.job.ran.host
-      (rounds.next-host c w stands least due workers works rows many round a.job a.in_jobs) in
-      Each-from_All (λ (x : Event). home c.net x ≡ a.job.ran.host.link.number) a.done.host.value.queue a.run.run.owns.home e d ∙ host_good.number ∙ a.same)
+      let host_good = (rounds.next_settled c w stands least due workers works rows many round).hosts a.job.number a.job.ran.host
+      (rounds.next_host c w stands least due workers works rows many round a.job a.in_jobs) in
+      Each_from_All (λ (x : Event). home c.net x ≡ a.job.ran.host.link.number) a.done.host.value.queue a.run.run.owns.home e d ∙ host_good.number ∙ a.same)
       (λ (p : IsIn e (arrivals a.back.task.parcels.items)).
-      let b = of-map (λ (x : Boxed). parcel_event x.value) a.back.task.parcels.items e p in
-      let below = below-get ts k a.back.task (task-at k a) in
+      let b = of_map (λ (x : Boxed). parcel_event x.value) a.back.task.parcels.items e p in
+      let below = below_get ts k a.back.task (task_at k a) in
       let long = length-map ts (λ (t : Task). t.parcels) in
       let row : get_or (map (λ (t : Task). t.parcels) ts) k a.back.task.parcels ≡ a.back.task.parcels =
-      get_or-is (map (λ (t : Task). t.parcels) ts) k a.back.task.parcels a.back.task.parcels (get-map (λ (t : Task). t.parcels) ts k a.back.task (task-at k a)) in
+      get_or_is (map (λ (t : Task). t.parcels) ts) k a.back.task.parcels a.back.task.parcels (get-map (λ (t : Task). t.parcels) ts k a.back.task (task_at k a)) in
       let all : All (λ (x : Boxed). home c.net (parcel_event x.value) ≡ k) a.back.task.parcels.items =
-      subst (λ (r : Vec Boxed Global). All (λ (x : Boxed). home c.net (parcel_event x.value) ≡ k) r.items) row (rows-home k a.back.task.parcels (omega arith)) in
-      ap (home c.net) b.2 ∙ Each-from_All (λ (x : Boxed). home c.net (parcel_event x.value) ≡ k) a.back.task.parcels.items all b.0 b.1)
-      (IsIn-either e a.back.task.host.value.queue (arrivals a.back.task.parcels.items) h)
+      subst (λ (r : Vec Boxed Global). All (λ (x : Boxed). home c.net (parcel_event x.value) ≡ k) r.items) row (rows_home k a.back.task.parcels (omega arith)) in
+      ap (home c.net) b.2 ∙ Each_from_All (λ (x : Boxed). home c.net (parcel_event x.value) ≡ k) a.back.task.parcels.items all b.0 b.1)
+      (IsIn_either e a.back.task.host.value.queue (arrivals a.back.task.parcels.items) h)
 
-  stands-at : (k : ℕ) (t : Task) (h : HostRecord) → slice_get ts k ≡ Some t → slice_get next.hosts k ≡ Some h → StandsAt c.net k t h
-  stands-at k t h at there =
-      let below = below-get ts k t at in
+  stands_at : (k : ℕ) (t : Task) (h : HostRecord) → slice_get ts k ≡ Some t → slice_get next.hosts k ≡ Some h → StandsAt c.net k t h
+  stands_at k t h at there =
+      let below = below_get ts k t at in
       let long = so.tasks_count in
-      let a = at-number k (omega arith) in
-      let task : a.back.task ≡ t = some_is a.back.task t (sym (task-at k a) ∙ at) in
-      let host : a.job.ran.host ≡ h = some_is a.job.ran.host h (sym (next-host k a) ∙ there) in
+      let a = at_number k (omega arith) in
+      let task : a.back.task ≡ t = some_is a.back.task t (sym (task_at k a) ∙ at) in
+      let host : a.job.ran.host ≡ h = some_is a.job.ran.host h (sym (next_host k a) ∙ there) in
       subst (λ (x : Task). StandsAt c.net k x h) task
       (record {
         id = ap (λ (i : HostId). i.index) a.back.id ∙ a.number;
         stands = subst (Stands a.back.task.host.value) host (subst (λ (x : Box Host Global). Stands x.value a.job.ran.host) (sym a.back.host) a.run.run.stands);
-        home = All-from_Each (λ (e : Event). home c.net e ≡ k) (waiting a.back.task) (waits-home k a);
+        home = All_from_Each (λ (e : Event). home c.net e ≡ k) (waiting a.back.task) (waits_home k a);
       })
 
-  events-are : IsPermutation (flat_map waiting ts) next.events
-  events-are =
+  events_are : IsPermutation (flat_map waiting ts) next.events
+  events_are =
       let queues : List Event = flat_map (λ (t : Task). t.host.value.queue) ts in
       let arrived : List Event = flat_map (λ (t : Task). arrivals t.parcels.items) ts in
       let laid : List Event = map parcel_event (all_spilled works) ++ row_arrivals rows in
       let packets : IsPermutation arrived (packets_in jobs) =
-      IsPermutation-trans arrived laid (packets_in jobs) (subst (λ (l : List Event). IsPermutation l laid) (rows-of ts) so.packets) (rounds.laid-packets c w stands least due workers works rows many round) in
+      IsPermutation-trans arrived laid (packets_in jobs) (subst (λ (l : List Event). IsPermutation l laid) (rows_of ts) so.packets) (rounds.laid_packets c w stands least due workers works rows many round) in
       IsPermutation-trans (flat_map waiting ts) (queues ++ arrived) next.events
-      (split-parts (λ (t : Task). t.host.value.queue) (λ (t : Task). arrivals t.parcels.items) ts)
+      (split_parts (λ (t : Task). t.host.value.queue) (λ (t : Task). arrivals t.parcels.items) ts)
       (IsPermutation-trans (queues ++ arrived) (queues ++ packets_in jobs) next.events
       (IsPermutation-append_right queues arrived (packets_in jobs) packets)
-      (rounds.next-events c w stands least due workers works rows many round ts (so.tasks_count ∙ stands.count)
+      (rounds.next_events c w stands least due workers works rows many round ts (so.tasks_count ∙ stands.count)
       (λ j h t at.
-      let d = done-job c.net end c.tasks.items (rec c w stands) jobs ds are-run j h in
-      let a : IsBack s d.0 = Each-from_All (IsBack s) ds so.hosts d.0 d.1 in
+      let d = done_job c.net end c.tasks.items (rec c w stands) jobs ds are_run j h in
+      let a : IsBack s d.0 = Each_from_All (IsBack s) ds so.hosts d.0 d.1 in
       let same : a.task ≡ t = some_is a.task t (sym a.at ∙ ap (slice_get ts) d.2.run.id ∙ at) in
       subst (λ (x : Task). IsPermutation x.host.value.queue j.ran.queue) same (subst (λ (x : Box Host Global). IsPermutation x.value.queue j.ran.queue) (sym a.host) d.2.run.queue))))
 
   pub gained : IsGained w next s.gained
   gained = record {
-    lines = ap (map kept_line) (rounds.next-log c w stands least due workers works rows many round) ∙ map-both kept_line w.log (in_order (lines_in jobs))
-        ∙ ap (λ (l : List Logged). map kept_line w.log ++ l) (sym (so.lines (lines_in jobs) (run-lines c.net end c.tasks.items (rec c w stands) jobs ds are-run)));
+    lines = ap (map kept_line) (rounds.next_log c w stands least due workers works rows many round) ∙ map_both kept_line w.log (in_order (lines_in jobs))
+        ∙ ap (λ (l : List Logged). map kept_line w.log ++ l) (sym (so.lines (lines_in jobs) (run_lines c.net end c.tasks.items (rec c w stands) jobs ds are_run)));
     count = so.outputs_count ∙ stands.count;
     outputs = λ k before after got at there here.
-        let below = below-get w.hosts k before at in
+        let below = below_get w.hosts k before at in
         let count = stands.count in
-        let a = at-number k (omega arith) in
-        let now : a.job.ran.host ≡ after = some_is a.job.ran.host after (sym (next-host k a) ∙ there) in
-        let was : before ≡ rec c w stands a.job.number = rec-is c w stands k before at ∙ ap (rec c w stands) (sym a.same) in
+        let a = at_number k (omega arith) in
+        let now : a.job.ran.host ≡ after = some_is a.job.ran.host after (sym (next_host k a) ∙ there) in
+        let was : before ≡ rec c w stands a.job.number = rec_is c w stands k before at ∙ ap (rec c w stands) (sym a.same) in
         let outs : a.done.outputs ≡ got = some_is a.done.outputs got (sym a.back.outputs ∙ ap (slice_get s.gained.outputs.items) a.number ∙ here) in
         ap (λ (x : HostRecord). x.written) (sym now) ∙ a.run.run.written
         ∙ ap (λ (x : HostRecord). x.written ++ a.done.outputs.items) (sym was) ∙ ap (λ (v : Vec Output Global). before.written ++ v.items) outs;
   }
 
-  pub stands-new : WorldStands new next
-  stands-new = record {
+  pub stands_new : WorldStands new next
+  stands_new = record {
     rounds = stands.rounds;
-    count = so.tasks_count ∙ stands.count ∙ sym (rounds.next-count c w stands least due workers works rows many round);
-    listed = stands.listed ∙ sym (names-later w next (result-extends c.net end next w (rounds.next-result c w stands least due workers works rows many round)));
-    hosts = stands-at;
-    events = events-are;
-    counts = counted (lines_of w.log) stands.counts ∙ ap counts_of (sym (lines-gained w.log next.log s.gained.lines.items gained.lines));
-    between = settled-between c.net (nanos_of c.lookahead) stands.rounds next (rounds.next-settled c w stands least due workers works rows many round);
+    count = so.tasks_count ∙ stands.count ∙ sym (rounds.next_count c w stands least due workers works rows many round);
+    listed = stands.listed ∙ sym (names_later w next (result_extends c.net end next w (rounds.next_result c w stands least due workers works rows many round)));
+    hosts = stands_at;
+    events = events_are;
+    counts = counted (lines_of w.log) stands.counts ∙ ap counts_of (sym (lines_gained w.log next.log s.gained.lines.items gained.lines));
+    between = settled_between c.net (nanos_of c.lookahead) stands.rounds next (rounds.next_settled c w stands least due workers works rows many round);
   }
 
-  turns-are : turns_from 0 s.gained.took.items ≡ map turn_of jobs
-  turns-are = turns-of c.net end c.tasks.items (rec c w stands) 0 round.jobs works s.gained.took.items round.done so.took
+  turns_are : turns_from 0 s.gained.took.items ≡ map turn_of jobs
+  turns_are = turns_of c.net end c.tasks.items (rec c w stands) 0 round.jobs works s.gained.took.items round.done so.took
 
   pub taken : IsTaken c.net end workers w next s.gained.took.items
   taken =
-      let t = rounds.steps-taken c w stands least due workers works rows many round in
+      let t = rounds.steps_taken c w stands least due workers works rows many round in
       record {
         workers_are = sym (length-map s.gained.took.items (λ (v : Vec HostId Global). v.items)) ∙ ap length so.took ∙ length-map works (λ (x : Worked). ids_of x.done.items) ∙ many;
-        once = subst (λ (ns : List ℕ). IsPermutation ns (numbers_below (length w.hosts))) (sym (ap (map (λ (u : Turn). u.number)) turns-are ∙ turn-numbers jobs))
+        once = subst (λ (ns : List ℕ). IsPermutation ns (numbers_below (length w.hosts))) (sym (ap (map (λ (u : Turn). u.number)) turns_are ∙ turn_numbers jobs))
             (rounds.once c w stands least due workers works rows many round);
         jobs = t.0;
-        turns = t.2 ∙ sym turns-are;
+        turns = t.2 ∙ sym turns_are;
         closed = t.1;
         allowed = t.3;
         same = t.4;
       }
 
-  has-turns : HasTurns c new workers w next s.gained.took.items
-  has-turns =
-      let some = any-in (λ (e : Event). e.key.due ≡ least) (flat_map waiting c.tasks.items) due.0 in
+  has_turns : HasTurns c new workers w next s.gained.took.items
+  has_turns =
+      let some = any_in (λ (e : Event). e.key.due ≡ least) (flat_map waiting c.tasks.items) due.0 in
       record {
         least = least.nanos;
         from = rounds.from c w stands least due workers works rows many round;
-        due = in-any (λ (e : Event). e.key.due.nanos ≡ least.nanos) w.events some.0 (IsIn-permutation some.0 (flat_map waiting c.tasks.items) w.events stands.events some.1) (ap (λ (t : Time). t.nanos) some.2);
-        result = rounds.next-result c w stands least due workers works rows many round;
-        over = rounds.next-over c w stands least due workers works rows many round;
-        stands = stands-new;
+        due = in_any (λ (e : Event). e.key.due.nanos ≡ least.nanos) w.events some.0 (IsIn_permutation some.0 (flat_map waiting c.tasks.items) w.events stands.events some.1) (ap (λ (t : Time). t.nanos) some.2);
+        result = rounds.next_result c w stands least due workers works rows many round;
+        over = rounds.next_over c w stands least due workers works rows many round;
+        stands = stands_new;
         taken = taken;
       }
 
-  pub has-round : HasGained c new workers w next s.gained
-  has-round = record { turns = has-turns; gained = gained }
+  pub has_round : HasGained c new workers w next s.gained
+  has_round = record { turns = has_turns; gained = gained }
 
 -- ---- as the code has it
 
@@ -290,25 +290,25 @@ module _ (c : World) (w : HostWorld) (stands : WorldStands c w) (least : Time) (
     (works : List Worked) (rows : List (Vec Boxed Global)) (many : length works ≡ workers) (ts : Vec Task Global) (ts_are : ts ≡ c.tasks)
     (until : ℕ) (until_is : until ≡ window_end (nanos_of c.lookahead) c.net.stop.nanos least.nanos)
     (left : (r : ℕ → HostRecord) → AreTasks c.net ts.items r → IsRound c.net until ts.items r works rows) (count : ℕ) (count_is : count ≡ length c.tasks.items) where
-  the-round : IsRound c.net (window_end (nanos_of c.lookahead) c.net.stop.nanos least.nanos) c.tasks.items (rec c w stands) works rows
-  the-round =
+  the_round : IsRound c.net (window_end (nanos_of c.lookahead) c.net.stop.nanos least.nanos) c.tasks.items (rec c w stands) works rows
+  the_round =
       subst (λ (n : ℕ). IsRound c.net n c.tasks.items (rec c w stands) works rows) until_is
-      (subst (λ (v : Vec Task Global). (r : ℕ → HostRecord) → AreTasks c.net v.items r → IsRound c.net until v.items r works rows) ts_are left (rec c w stands) (rec-tasks c w stands))
+      (subst (λ (v : Vec Task Global). (r : ℕ → HostRecord) → AreTasks c.net v.items r → IsRound c.net until v.items r works rows) ts_are left (rec c w stands) (rec_tasks c w stands))
 
   pub settles : CanSettle count works rows
-  settles = subst (λ (n : ℕ). CanSettle n works rows) (sym count_is) (rounds.can-settle c w stands least due workers works rows many the-round)
+  settles = subst (λ (n : ℕ). CanSettle n works rows) (sym count_is) (rounds.can_settle c w stands least due workers works rows many the_round)
 
-  pub goes-on : (s : Settled) → HasSettled count works rows s → (n : Counts) → ((log : List Line) → c.counts ≡ counts_of log → n ≡ counts_of (log ++ kept_lines s.gained.lines.items))
+  pub goes_on : (s : Settled) → HasSettled count works rows s → (n : Counts) → ((log : List Line) → c.counts ≡ counts_of log → n ≡ counts_of (log ++ kept_lines s.gained.lines.items))
       → (load : Load) → (v : HostWorld) × HasGained c (record c { tasks = s.tasks; counts = n; load = load }) workers w v s.gained
-  goes-on s so n counted load = (
-    rounds.next c w stands least due workers works rows many the-round,
-    has-round c w stands least due workers works rows many the-round s (subst (λ (k : ℕ). HasSettled k works rows s) count_is so) n counted load,
+  goes_on s so n counted load = (
+    rounds.next c w stands least due workers works rows many the_round,
+    has_round c w stands least due workers works rows many the_round s (subst (λ (k : ℕ). HasSettled k works rows s) count_is so) n counted load,
   )
 
 -- a round in which each host is run in its place
-pub goes-on-here : (c : World) (w : HostWorld) → WorldStands c w → (least : Time) → IsLeastDue (flat_map waiting c.tasks.items) (Some least) → (workers : ℕ) (new : Vec Task Global)
+pub goes_on_here : (c : World) (w : HostWorld) → WorldStands c w → (least : Time) → IsLeastDue (flat_map waiting c.tasks.items) (Some least) → (workers : ℕ) (new : Vec Task Global)
     (until : ℕ) → until ≡ window_end (nanos_of c.lookahead) c.net.stop.nanos least.nanos → (p : Gained) → IsRoundInPlace c.net until workers c.tasks.items new p
     → (n : Counts) → ((log : List Line) → c.counts ≡ counts_of log → n ≡ counts_of (log ++ kept_lines p.lines.items))
     → (load : Load) → (v : HostWorld) × HasGained c (record c { tasks = new; counts = n; load = load }) workers w v p
-goes-on-here c w stands least due workers new until until_is p h n counted load =
-    goes-on c w stands least due workers h.works h.rows h.many c.tasks refl until until_is h.round (length c.tasks.items) refl (record { tasks = new; gained = p }) h.settled n counted load
+goes_on_here c w stands least due workers new until until_is p h n counted load =
+    goes_on c w stands least due workers h.works h.rows h.many c.tasks refl until until_is h.round (length c.tasks.items) refl (record { tasks = new; gained = p }) h.settled n counted load

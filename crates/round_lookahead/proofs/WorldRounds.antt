@@ -24,8 +24,8 @@ use Rattle.world_order.specs.Settled.{IsSettled, AreDueFrom}
 use Rattle.world_order.specs.Window.{window_end}
 use Rattle.world_order.specs.World as order
 use Rattle.world_order.specs.WholeTurns.{turn_of, job_steps}
-use Rattle.world_order.proofs.Apart.{copies-append, AreApart-permutation, apart_right, same_members}
-use Rattle.world_order.proofs.Members.{IsIn, IsIn-left, IsIn-right, IsIn-either, IsIn-permutation, IsIn-from_Contains, Each, Each-from_All, All-from_Each}
+use Rattle.world_order.proofs.Apart.{copies_append, AreApart_permutation, apart_right, same_members}
+use Rattle.world_order.proofs.Members.{IsIn, IsIn_left, IsIn_right, IsIn_either, IsIn_permutation, IsIn_from_Contains, Each, Each_from_All, All_from_Each}
 use Rattle.round_lookahead.specs.declared.workers.task.Task.{Task}
 use Rattle.round_lookahead.specs.declared.workers.worked.Done.{Done}
 use Rattle.round_lookahead.specs.declared.workers.worked.Worked.{Worked}
@@ -39,9 +39,9 @@ use Rattle.round_lookahead.specs.Works.{HostJob, parcels_made}
 use Rattle.round_lookahead.specs.WorldStands.{HostWorld, nanos_of, WorldStands}
 use Rattle.round_lookahead.proofs.RoundJobs as round_jobs
 use Rattle.round_lookahead.proofs.RoundOrders.{StartFrom, all_parts}
-use Rattle.round_lookahead.proofs.RunSteps.{AreRun, works-run, workers-below, done-number, run-packets, run-starts, held}
+use Rattle.round_lookahead.proofs.RunSteps.{AreRun, works_run, workers_below, done_number, run_packets, run_starts, held}
 use Rattle.round_lookahead.proofs.WholeRounds.{packets_in, lines_in}
-use Rattle.round_lookahead.proofs.WorldSteps.{simulation, between-settled, in-map, of-map, host-at, rec, rec-is, made-to, key_weight, copies-weight, copies-rows, weigh-flat, map-both, unboxed-arrivals}
+use Rattle.round_lookahead.proofs.WorldSteps.{simulation, between_settled, in_map, of_map, host_at, rec, rec_is, made_to, key_weight, copies_weight, copies_rows, weigh_flat, map_both, unboxed_arrivals}
 
 module _ (c : World) (w : HostWorld) (stands : WorldStands c w) (least : Time) (due : IsLeastDue (flat_map waiting c.tasks.items) (Some least)) (workers : ℕ)
     (works : List Worked) (rows : List (Vec Boxed Global)) (many : length works ≡ workers)
@@ -61,66 +61,66 @@ module _ (c : World) (w : HostWorld) (stands : WorldStands c w) (least : Time) (
   abbrev ds : List Done
   ds = all_done works
 
-  pub are-run : AreRun c.net end tasks (rec c w stands) jobs ds
-  are-run = works-run c.net end tasks (rec c w stands) 0 round.jobs works round.done
+  pub are_run : AreRun c.net end tasks (rec c w stands) jobs ds
+  are_run = works_run c.net end tasks (rec c w stands) 0 round.jobs works round.done
 
   settled : IsSettled sim w
-  settled = between-settled c.net (nanos_of c.lookahead) stands.rounds w stands.between
+  settled = between_settled c.net (nanos_of c.lookahead) stands.rounds w stands.between
 
   pub from : AreDueFrom least.nanos w.events
   from = All-permutation (λ (e : Event). least.nanos ≤ e.key.due.nanos) (flat_map waiting tasks) w.events stands.events due.1
 
   of : Each (λ (j : HostJob). j.worker < workers) jobs
-  of j h = (let b = workers-below c.net end tasks (rec c w stands) 0 round.jobs works round.done j h in omega arith)
+  of j h = (let b = workers_below c.net end tasks (rec c w stands) 0 round.jobs works round.done j h in omega arith)
 
   pub once : IsPermutation (round_jobs.numbers jobs) (numbers_below (length w.hosts))
   once = subst (λ (n : ℕ). IsPermutation (round_jobs.numbers jobs) (numbers_below n)) stands.count round.each_once
 
-  held-all : IsPermutation (flat_map (held c.net end tasks (rec c w stands)) (numbers_below (length w.hosts))) w.events
-  held-all =
+  held_all : IsPermutation (flat_map (held c.net end tasks (rec c w stands)) (numbers_below (length w.hosts))) w.events
+  held_all =
       subst (λ (l : List Event). IsPermutation l w.events)
       (sym (ap (λ (n : ℕ). flat_map (held c.net end tasks (rec c w stands)) (numbers_below n)) (sym stands.count) ∙ all_parts waiting tasks)) stands.events
 
   starts : (ss : List (List Event)) × StartFrom (model c.net) end (rec c w stands) (held c.net end tasks (rec c w stands)) jobs ss
-  starts = run-starts c.net end tasks (rec c w stands)
-      (λ k t at. (let h = host-at c w stands k t at in Each-from_All (λ (e : Event). home c.net e ≡ k) (waiting t) (stands.hosts k t h.0 at h.1).home)) jobs ds are-run
+  starts = run_starts c.net end tasks (rec c w stands)
+      (λ k t at. (let h = host_at c w stands k t at in Each_from_All (λ (e : Event). home c.net e ≡ k) (waiting t) (stands.hosts k t h.0 at h.1).home)) jobs ds are_run
 
   pub next : HostWorld
-  next = round_jobs.next-world sim c.net.stop.nanos least.nanos workers w settled from jobs of once (rec c w stands) (rec-is c w stands) (held c.net end tasks (rec c w stands)) held-all starts.0 starts.1
+  next = round_jobs.next_world sim c.net.stop.nanos least.nanos workers w settled from jobs of once (rec c w stands) (rec_is c w stands) (held c.net end tasks (rec c w stands)) held_all starts.0 starts.1
 
-  pub next-result : order.IsResult (model c.net) end next w
+  pub next_result : order.IsResult (model c.net) end next w
   unfolding next
-  next-result = round_jobs.next-result sim c.net.stop.nanos least.nanos workers w settled from jobs of once (rec c w stands) (rec-is c w stands) (held c.net end tasks (rec c w stands)) held-all starts.0 starts.1
+  next_result = round_jobs.next_result sim c.net.stop.nanos least.nanos workers w settled from jobs of once (rec c w stands) (rec_is c w stands) (held c.net end tasks (rec c w stands)) held_all starts.0 starts.1
 
-  pub next-settled : IsSettled sim next
+  pub next_settled : IsSettled sim next
   unfolding next
-  next-settled = round_jobs.next-settled sim c.net.stop.nanos least.nanos workers w settled from jobs of once (rec c w stands) (rec-is c w stands) (held c.net end tasks (rec c w stands)) held-all starts.0 starts.1
+  next_settled = round_jobs.next_settled sim c.net.stop.nanos least.nanos workers w settled from jobs of once (rec c w stands) (rec_is c w stands) (held c.net end tasks (rec c w stands)) held_all starts.0 starts.1
 
-  pub next-count : length next.hosts ≡ length w.hosts
+  pub next_count : length next.hosts ≡ length w.hosts
   unfolding next
-  next-count = round_jobs.next-count sim c.net.stop.nanos least.nanos workers w settled from jobs of once (rec c w stands) (rec-is c w stands) (held c.net end tasks (rec c w stands)) held-all starts.0 starts.1
+  next_count = round_jobs.next_count sim c.net.stop.nanos least.nanos workers w settled from jobs of once (rec c w stands) (rec_is c w stands) (held c.net end tasks (rec c w stands)) held_all starts.0 starts.1
 
-  pub next-host : (j : HostJob) → IsIn j jobs → slice_get next.hosts j.number ≡ Some j.ran.host
+  pub next_host : (j : HostJob) → IsIn j jobs → slice_get next.hosts j.number ≡ Some j.ran.host
   unfolding next
-  next-host = round_jobs.next-host sim c.net.stop.nanos least.nanos workers w settled from jobs of once (rec c w stands) (rec-is c w stands) (held c.net end tasks (rec c w stands)) held-all starts.0 starts.1
+  next_host = round_jobs.next_host sim c.net.stop.nanos least.nanos workers w settled from jobs of once (rec c w stands) (rec_is c w stands) (held c.net end tasks (rec c w stands)) held_all starts.0 starts.1
 
-  pub next-log : next.log ≡ w.log ++ in_order (lines_in jobs)
+  pub next_log : next.log ≡ w.log ++ in_order (lines_in jobs)
   unfolding next
-  next-log = round_jobs.next-log sim c.net.stop.nanos least.nanos workers w settled from jobs of once (rec c w stands) (rec-is c w stands) (held c.net end tasks (rec c w stands)) held-all starts.0 starts.1
+  next_log = round_jobs.next_log sim c.net.stop.nanos least.nanos workers w settled from jobs of once (rec c w stands) (rec_is c w stands) (held c.net end tasks (rec c w stands)) held_all starts.0 starts.1
 
-  pub next-events : (ts : List Task) → length ts ≡ length w.hosts → ((j : HostJob) → IsIn j jobs → (t : Task) → slice_get ts j.number ≡ Some t → IsPermutation t.host.value.queue j.ran.queue)
+  pub next_events : (ts : List Task) → length ts ≡ length w.hosts → ((j : HostJob) → IsIn j jobs → (t : Task) → slice_get ts j.number ≡ Some t → IsPermutation t.host.value.queue j.ran.queue)
       → IsPermutation (flat_map (λ (t : Task). t.host.value.queue) ts ++ packets_in jobs) next.events
   unfolding next
-  next-events ts = round_jobs.next-events sim c.net.stop.nanos least.nanos workers w settled from jobs of once (rec c w stands) (rec-is c w stands) (held c.net end tasks (rec c w stands)) held-all starts.0 starts.1
+  next_events ts = round_jobs.next_events sim c.net.stop.nanos least.nanos workers w settled from jobs of once (rec c w stands) (rec_is c w stands) (held c.net end tasks (rec c w stands)) held_all starts.0 starts.1
       (λ (t : Task). t.host.value.queue) ts
 
-  next-queues : IsPermutation (flat_map (λ (j : HostJob). j.ran.queue) jobs ++ packets_in jobs) next.events
+  next_queues : IsPermutation (flat_map (λ (j : HostJob). j.ran.queue) jobs ++ packets_in jobs) next.events
   unfolding next
-  next-queues = round_jobs.next-queues sim c.net.stop.nanos least.nanos workers w settled from jobs of once (rec c w stands) (rec-is c w stands) (held c.net end tasks (rec c w stands)) held-all starts.0 starts.1
+  next_queues = round_jobs.next_queues sim c.net.stop.nanos least.nanos workers w settled from jobs of once (rec c w stands) (rec_is c w stands) (held c.net end tasks (rec c w stands)) held_all starts.0 starts.1
 
-  pub next-over : AreDueFrom end next.events
+  pub next_over : AreDueFrom end next.events
   unfolding next
-  next-over = round_jobs.next-over sim c.net.stop.nanos least.nanos workers w settled from jobs of once (rec c w stands) (rec-is c w stands) (held c.net end tasks (rec c w stands)) held-all starts.0 starts.1
+  next_over = round_jobs.next_over sim c.net.stop.nanos least.nanos workers w settled from jobs of once (rec c w stands) (rec_is c w stands) (held c.net end tasks (rec c w stands)) held_all starts.0 starts.1
 
   -- ---- packets
 
@@ -130,78 +130,78 @@ module _ (c : World) (w : HostWorld) (stands : WorldStands c w) (least : Time) (
   abbrev laid : List Event
   laid = map parcel_event (all_spilled works) ++ row_arrivals rows
 
-  packets-are : map parcel_event made ≡ packets_in jobs
-  packets-are = run-packets c.net end tasks (rec c w stands) jobs ds are-run
+  packets_are : map parcel_event made ≡ packets_in jobs
+  packets_are = run_packets c.net end tasks (rec c w stands) jobs ds are_run
 
-  parcels-are : map parcel_event (all_parcels rows works) ≡ row_arrivals rows ++ map parcel_event (all_spilled works)
-  parcels-are =
-      map-both parcel_event (flat_map (λ (r : Vec Boxed Global). map (λ (b : Boxed). b.value) r.items) rows) (all_spilled works)
-      ∙ ap (λ (l : List Event). l ++ map parcel_event (all_spilled works)) (unboxed-arrivals rows)
+  parcels_are : map parcel_event (all_parcels rows works) ≡ row_arrivals rows ++ map parcel_event (all_spilled works)
+  parcels_are =
+      map_both parcel_event (flat_map (λ (r : Vec Boxed Global). map (λ (b : Boxed). b.value) r.items) rows) (all_spilled works)
+      ∙ ap (λ (l : List Event). l ++ map parcel_event (all_spilled works)) (unboxed_arrivals rows)
 
-  packets-apart : AreApart (packets_in jobs)
-  packets-apart =
+  packets_apart : AreApart (packets_in jobs)
+  packets_apart =
       apart_right (flat_map (λ (j : HostJob). j.ran.queue) jobs) (packets_in jobs)
-      (AreApart-permutation next.events (flat_map (λ (j : HostJob). j.ran.queue) jobs ++ packets_in jobs)
-      (IsPermutation-sym (flat_map (λ (j : HostJob). j.ran.queue) jobs ++ packets_in jobs) next.events next-queues) next-settled.apart)
+      (AreApart_permutation next.events (flat_map (λ (j : HostJob). j.ran.queue) jobs ++ packets_in jobs)
+      (IsPermutation-sym (flat_map (λ (j : HostJob). j.ran.queue) jobs ++ packets_in jobs) next.events next_queues) next_settled.apart)
 
-  laid-apart : AreApart laid
-  laid-apart k =
-      let both = copies-append k (map parcel_event (all_spilled works)) (row_arrivals rows) in
+  laid_apart : AreApart laid
+  laid_apart k =
+      let both = copies_append k (map parcel_event (all_spilled works)) (row_arrivals rows) in
       let spilled : copies k (map parcel_event (all_spilled works)) ≡ weigh (λ (v : Worked). weigh (key_weight k) v.spill.items) works =
-      copies-weight k (all_spilled works) ∙ weigh-flat (key_weight k) (λ (v : Worked). v.spill.items) works in
-      let rowed = copies-rows k rows in
+      copies_weight k (all_spilled works) ∙ weigh_flat (key_weight k) (λ (v : Worked). v.spill.items) works in
+      let rowed = copies_rows k rows in
       let same = round.parcels (key_weight k) in
-      let all : copies k (packets_in jobs) ≡ weigh (key_weight k) made = ap (copies k) (sym packets-are) ∙ copies-weight k made in
-      let most = packets-apart k in
+      let all : copies k (packets_in jobs) ≡ weigh (key_weight k) made = ap (copies k) (sym packets_are) ∙ copies_weight k made in
+      let most = packets_apart k in
       omega arith
 
-  either-way : (e : Event) (a b : List Event) → IsIn e (a ++ b) → IsIn e (b ++ a)
-  either-way e a b h = ⊎_elim (λ (l : IsIn e a). IsIn-right e b a l) (λ (r : IsIn e b). IsIn-left e b a r) (IsIn-either e a b h)
+  either_way : (e : Event) (a b : List Event) → IsIn e (a ++ b) → IsIn e (b ++ a)
+  either_way e a b h = ⊎_elim (λ (l : IsIn e a). IsIn_right e b a l) (λ (r : IsIn e b). IsIn_left e b a r) (IsIn_either e a b h)
 
-  into-packets : (e : Event) → IsIn e laid → IsIn e (packets_in jobs)
-  into-packets e h =
-      let p = of-map parcel_event (all_parcels rows works) e (subst (IsIn e) (sym parcels-are) (either-way e (map parcel_event (all_spilled works)) (row_arrivals rows) h)) in
-      let q : IsIn p.0 made = IsIn-from_Contains p.0 made (Each-from_All (λ (x : Parcel). Contains made x) (all_parcels rows works) round.into p.0 p.1) in
-      subst (λ (x : Event). IsIn x (packets_in jobs)) (sym p.2) (subst (IsIn (parcel_event p.0)) packets-are (in-map parcel_event made p.0 q))
+  into_packets : (e : Event) → IsIn e laid → IsIn e (packets_in jobs)
+  into_packets e h =
+      let p = of_map parcel_event (all_parcels rows works) e (subst (IsIn e) (sym parcels_are) (either_way e (map parcel_event (all_spilled works)) (row_arrivals rows) h)) in
+      let q : IsIn p.0 made = IsIn_from_Contains p.0 made (Each_from_All (λ (x : Parcel). Contains made x) (all_parcels rows works) round.into p.0 p.1) in
+      subst (λ (x : Event). IsIn x (packets_in jobs)) (sym p.2) (subst (IsIn (parcel_event p.0)) packets_are (in_map parcel_event made p.0 q))
 
-  back-packets : (e : Event) → IsIn e (packets_in jobs) → IsIn e laid
-  back-packets e h =
-      let p = of-map parcel_event made e (subst (IsIn e) (sym packets-are) h) in
-      let q : IsIn p.0 (all_parcels rows works) = IsIn-from_Contains p.0 (all_parcels rows works) (Each-from_All (λ (x : Parcel). Contains (all_parcels rows works) x) made round.back p.0 p.1) in
-      either-way e (row_arrivals rows) (map parcel_event (all_spilled works))
-      (subst (λ (x : Event). IsIn x (row_arrivals rows ++ map parcel_event (all_spilled works))) (sym p.2) (subst (IsIn (parcel_event p.0)) parcels-are (in-map parcel_event (all_parcels rows works) p.0 q)))
+  back_packets : (e : Event) → IsIn e (packets_in jobs) → IsIn e laid
+  back_packets e h =
+      let p = of_map parcel_event made e (subst (IsIn e) (sym packets_are) h) in
+      let q : IsIn p.0 (all_parcels rows works) = IsIn_from_Contains p.0 (all_parcels rows works) (Each_from_All (λ (x : Parcel). Contains (all_parcels rows works) x) made round.back p.0 p.1) in
+      either_way e (row_arrivals rows) (map parcel_event (all_spilled works))
+      (subst (λ (x : Event). IsIn x (row_arrivals rows ++ map parcel_event (all_spilled works))) (sym p.2) (subst (IsIn (parcel_event p.0)) parcels_are (in_map parcel_event (all_parcels rows works) p.0 q)))
 
-  pub laid-packets : IsPermutation laid (packets_in jobs)
-  laid-packets = same_members laid (packets_in jobs) laid-apart packets-apart into-packets back-packets
+  pub laid_packets : IsPermutation laid (packets_in jobs)
+  laid_packets = same_members laid (packets_in jobs) laid_apart packets_apart into_packets back_packets
 
   -- each parcel that lies somewhere is for the host at which it fires
-  pub laid-home : Each (λ (p : Parcel). home c.net (parcel_event p) ≡ p.to.index) (all_parcels rows works)
-  laid-home p h = sym (made-to c.net jobs p (IsIn-from_Contains p made (Each-from_All (λ (x : Parcel). Contains made x) (all_parcels rows works) round.into p h)))
+  pub laid_home : Each (λ (p : Parcel). home c.net (parcel_event p) ≡ p.to.index) (all_parcels rows works)
+  laid_home p h = sym (made_to c.net jobs p (IsIn_from_Contains p made (Each_from_All (λ (x : Parcel). Contains made x) (all_parcels rows works) round.into p h)))
 
-  laid-below : Each (λ (p : Parcel). p.to.index < length tasks) (all_parcels rows works)
-  laid-below p h =
-      let q : IsIn p made = IsIn-from_Contains p made (Each-from_All (λ (x : Parcel). Contains made x) (all_parcels rows works) round.into p h) in
+  laid_below : Each (λ (p : Parcel). p.to.index < length tasks) (all_parcels rows works)
+  laid_below p h =
+      let q : IsIn p made = IsIn_from_Contains p made (Each_from_All (λ (x : Parcel). Contains made x) (all_parcels rows works) round.into p h) in
       let e : Event = parcel_event p in
-      let there : IsIn e next.events = IsIn-permutation e (flat_map (λ (j : HostJob). j.ran.queue) jobs ++ packets_in jobs) next.events next-queues
-      (IsIn-right e (flat_map (λ (j : HostJob). j.ran.queue) jobs) (packets_in jobs) (subst (IsIn e) packets-are (in-map parcel_event made p q))) in
-      let good : IsEventOf c.net e = Each-from_All (IsEventOf c.net) next.events next-settled.events e there in
-      let within = hosts.home-within c.net e good in
-      let to = made-to c.net jobs p q in
+      let there : IsIn e next.events = IsIn_permutation e (flat_map (λ (j : HostJob). j.ran.queue) jobs ++ packets_in jobs) next.events next_queues
+      (IsIn_right e (flat_map (λ (j : HostJob). j.ran.queue) jobs) (packets_in jobs) (subst (IsIn e) packets_are (in_map parcel_event made p q))) in
+      let good : IsEventOf c.net e = Each_from_All (IsEventOf c.net) next.events next_settled.events e there in
+      let within = hosts.home_within c.net e good in
+      let to = made_to c.net jobs p q in
       let count = stands.count in
       let whole = stands.between.count in
       omega arith
 
-  pub in-spill : (p : Parcel) → IsIn p (all_spilled works) → IsIn p (all_parcels rows works)
-  in-spill p h = IsIn-right p (flat_map (λ (r : Vec Boxed Global). map (λ (b : Boxed). b.value) r.items) rows) (all_spilled works) h
+  pub in_spill : (p : Parcel) → IsIn p (all_spilled works) → IsIn p (all_parcels rows works)
+  in_spill p h = IsIn_right p (flat_map (λ (r : Vec Boxed Global). map (λ (b : Boxed). b.value) r.items) rows) (all_spilled works) h
 
-  pub can-settle : CanSettle (length tasks) works rows
-  can-settle = record {
-    once = subst (λ (ns : List ℕ). IsPermutation ns (numbers_below (length tasks))) (sym (done-number c.net end tasks (rec c w stands) jobs ds are-run)) round.each_once;
+  pub can_settle : CanSettle (length tasks) works rows
+  can_settle = record {
+    once = subst (λ (ns : List ℕ). IsPermutation ns (numbers_below (length tasks))) (sym (done_number c.net end tasks (rec c w stands) jobs ds are_run)) round.each_once;
     rows_count = round.rows_are.count;
-    to = All-from_Each (λ (p : Parcel). p.to.index < length tasks) (all_spilled works) (λ p h. laid-below p (in-spill p h));
+    to = All_from_Each (λ (p : Parcel). p.to.index < length tasks) (all_spilled works) (λ p h. laid_below p (in_spill p h));
   }
 
-  pub steps-taken : (js : List HostJob) × (closed : HostWorld) × (map turn_of js ≡ map turn_of jobs)
+  pub steps_taken : (js : List HostJob) × (closed : HostWorld) × (map turn_of js ≡ map turn_of jobs)
       × (after_all (model c.net) (flat_map job_steps js ++ Close ∷ []) (Going (opened (model c.net) end workers w)) ≡ Some (Closed closed)) × IsSameWorld next (after_round w closed)
   unfolding next
-  steps-taken = round_jobs.steps-taken sim c.net.stop.nanos least.nanos workers w settled from jobs of once (rec c w stands) (rec-is c w stands) (held c.net end tasks (rec c w stands)) held-all starts.0 starts.1
+  steps_taken = round_jobs.steps_taken sim c.net.stop.nanos least.nanos workers w settled from jobs of once (rec c w stands) (rec_is c w stands) (held c.net end tasks (rec c w stands)) held_all starts.0 starts.1

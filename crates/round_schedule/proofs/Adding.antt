@@ -14,18 +14,18 @@ pub record IsAdding (first : Host) (whole : List Event) (c : Host) (left : List 
   pub moved : IsPermutation (c.queue ++ left) (first.queue ++ whole)
   pub body : IsSameBody first c
 
-pub adding-start : (first : Host) (whole left : List Event) → whole ≡ left → IsAdding first whole first left
-adding-start first whole left same = record { moved = subst (λ (l : List Event). IsPermutation (first.queue ++ l) (first.queue ++ whole)) same (IsPermutation-refl _); body = λ h s. s }
+pub adding_start : (first : Host) (whole left : List Event) → whole ≡ left → IsAdding first whole first left
+adding_start first whole left same = record { moved = subst (λ (l : List Event). IsPermutation (first.queue ++ l) (first.queue ++ whole)) same (IsPermutation-refl _); body = λ h s. s }
 
 module _ (first : Host) (whole : List Event) (c : Host) (left rest : List Event) (e : Event) (going : IsAdding first whole c left) (left_is : left ≡ e ∷ rest) where
-  pub adding-new : AreApart (first.queue ++ whole) → has_key e.key c.queue ≡ false
-  adding-new apart = new_key_on c.queue left rest e (first.queue ++ whole) left_is going.moved apart
+  pub adding_new : AreApart (first.queue ++ whole) → has_key e.key c.queue ≡ false
+  adding_new apart = new_key_on c.queue left rest e (first.queue ++ whole) left_is going.moved apart
 
-  pub adding-next : (d : Host) → d.queue ≡ with_event e c.queue → IsSameBody c d → IsAdding first whole d rest
-  adding-next d queue_is body = record {
+  pub adding_next : (d : Host) → d.queue ≡ with_event e c.queue → IsSameBody c d → IsAdding first whole d rest
+  adding_next d queue_is body = record {
     moved = queued_on c.queue d.queue left rest e (first.queue ++ whole) queue_is left_is going.moved;
     body = λ h s. body h (going.body h s);
   }
 
-pub adding-end : (first : Host) (whole : List Event) (c : Host) (left : List Event) → left ≡ [] → IsAdding first whole c left → AddsAll whole first c
-adding-end first whole c left none going = record { queue = queued_all c.queue left (first.queue ++ whole) none going.moved; body = going.body }
+pub adding_end : (first : Host) (whole : List Event) (c : Host) (left : List Event) → left ≡ [] → IsAdding first whole c left → AddsAll whole first c
+adding_end first whole c left none going = record { queue = queued_all c.queue left (first.queue ++ whole) none going.moved; body = going.body }

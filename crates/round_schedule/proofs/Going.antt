@@ -12,7 +12,7 @@ use Rattle.world_order.specs.World.{World}
 use Rattle.world_order.specs.declared.round_window.Window.{Window}
 use Rattle.world_order.specs.declared.step.Step.{Step}
 use Rattle.world_order.proofs.Homes.{some_is}
-use Rattle.world_order.proofs.Jobs.{after_all-append}
+use Rattle.world_order.proofs.Jobs.{after_all_append}
 use Rattle.world_order.proofs.Parts.{from_then}
 use Rattle.round_schedule.specs.Reaching.{State, Going, IsReached, MayGo, Goes, May, Does, round_on}
 use Rattle.round_schedule.specs.Standing.{GoingStands, RoundStands}
@@ -49,7 +49,7 @@ reached-more net window w s t step reached is = record {
   opened = reached.opened;
   workers = reached.workers;
   steps = reached.steps ++ step ∷ [];
-  leads = after_all-append (model net) reached.steps (step ∷ []) (round_on net window reached.workers w) s reached.leads ∙ one_step net step s t is;
+  leads = after_all_append (model net) reached.steps (step ∷ []) (round_on net window reached.workers w) s reached.leads ∙ one_step net step s t is;
 }
 
 -- ---- one step
@@ -75,16 +75,16 @@ may_by net step c w (order.Going r) t stands reached is = record {
 may_by net step c w (order.Closed v) t stands reached is = absurd (closed_none net step v t is)
 
 -- the step may be taken
-pub may-step : (net : Net) (step : Step) (c : Round) → MayGo net (step ∷ []) c → May net (after_step (model net) step) c
-may-step net step c may = may_by net step c may.world may.state may.last may.stands may.reached (one_only net step may.state may.last may.leads)
+pub may_step : (net : Net) (step : Step) (c : Round) → MayGo net (step ∷ []) c → May net (after_step (model net) step) c
+may_step net step c may = may_by net step c may.world may.state may.last may.stands may.reached (one_only net step may.state may.last may.leads)
 
 goes_by : (net : Net) (step : Step) (c d : Round) (w : World HostRecord Line) (s t : State) → Does net (after_step (model net) step) c d → RoundStands net w c s → after (model net) step s ≡ Some t → RoundStands net w d t
 goes_by net step c d w (order.Going r) t does stands is = does.stands w r t stands (going_step net step r t is)
 goes_by net step c d w (order.Closed v) t does stands is = absurd (closed_none net step v t is)
 
 -- the step was taken
-pub step-goes : (net : Net) (step : Step) (c d : Round) → Does net (after_step (model net) step) c d → Goes net (step ∷ []) c d
-step-goes net step c d does w s t stands is = goes_by net step c d w s t does stands (one_only net step s t is)
+pub step_goes : (net : Net) (step : Step) (c d : Round) → Does net (after_step (model net) step) c d → Goes net (step ∷ []) c d
+step_goes net step c d does w s t stands is = goes_by net step c d w s t does stands (one_only net step s t is)
 
 -- ---- several steps
 
@@ -95,15 +95,15 @@ pub record IsOnWay (net : Net) (steps left : List Step) (first c : Round) : Type
   pub stands : (w : World HostRecord Line) (s t : State) → RoundStands net w first s → after_all (model net) steps s ≡ Some t
       → (u : State) × RoundStands net w c u × (after_all (model net) left u ≡ Some t)
 
-pub on_way-start : (net : Net) (steps : List Step) (c : Round) → MayGo net steps c → IsOnWay net steps steps c c
-on_way-start net steps c may = record { may = may; window = refl; stands = λ w s t stands is. (s, stands, is) }
+pub on_way_start : (net : Net) (steps : List Step) (c : Round) → MayGo net steps c → IsOnWay net steps steps c c
+on_way_start net steps c may = record { may = may; window = refl; stands = λ w s t stands is. (s, stands, is) }
 
 module _ (net : Net) (steps : List Step) (first c d : Round) (step : Step) (rest : List Step) (way : IsOnWay net steps (step ∷ rest) first c) where
   next : (u : State) × (after (model net) step way.may.state ≡ Some u) × (after_all (model net) rest u ≡ Some way.may.last)
   next = first_then net step rest way.may.state way.may.last way.may.leads
 
-  pub may-next : MayGo net (step ∷ []) c
-  may-next = record {
+  pub may_next : MayGo net (step ∷ []) c
+  may_next = record {
     world = way.may.world;
     state = way.may.state;
     stands = way.may.stands;
@@ -112,8 +112,8 @@ module _ (net : Net) (steps : List Step) (first c d : Round) (step : Step) (rest
     leads = one_step net step way.may.state next.0 next.1;
   }
 
-  pub on_way-next : Goes net (step ∷ []) c d → d.window ≡ c.window → IsOnWay net steps rest first d
-  on_way-next goes window = record {
+  pub on_way_next : Goes net (step ∷ []) c d → d.window ≡ c.window → IsOnWay net steps rest first d
+  on_way_next goes window = record {
     may = record {
       world = way.may.world;
       state = next.0;
@@ -129,8 +129,8 @@ module _ (net : Net) (steps : List Step) (first c d : Round) (step : Step) (rest
         (a.0, goes w u a.0 here (one_step net step u a.0 a.1), a.2);
   }
 
-pub on_way-end : (net : Net) (steps : List Step) (first c : Round) → IsOnWay net steps [] first c → Goes net steps first c
-on_way-end net steps first c way w s t stands is =
+pub on_way_end : (net : Net) (steps : List Step) (first c : Round) → IsOnWay net steps [] first c → Goes net steps first c
+on_way_end net steps first c way w s t stands is =
     let (u, here, leads) = way.stands w s t stands is in
     subst (RoundStands net w c) (no_steps net u t leads) here
 
@@ -141,14 +141,14 @@ left_at [] i d below = absurd (omega arith)
 left_at (s ∷ steps) zero d below = refl
 left_at (s ∷ steps) (suc i) d below = left_at steps i d (omega arith)
 
-pub steps-left : (steps : List Step) (i : ℕ) (d : Step) → i < length steps → drop i steps ≡ get_or steps i d ∷ drop (i + 1) steps
-steps-left steps i d below = left_at steps i d below ∙ ap (λ (j : ℕ). get_or steps i d ∷ drop j steps) (let e : suc i ≡ i + 1 = omega arith in e)
+pub steps_left : (steps : List Step) (i : ℕ) (d : Step) → i < length steps → drop i steps ≡ get_or steps i d ∷ drop (i + 1) steps
+steps_left steps i d below = left_at steps i d below ∙ ap (λ (j : ℕ). get_or steps i d ∷ drop j steps) (let e : suc i ≡ i + 1 = omega arith in e)
 
-pub no-steps_left : (steps : List Step) (i : ℕ) → length steps ≤ i → drop i steps ≡ []
-no-steps_left [] zero all = refl
-no-steps_left [] (suc i) all = refl
-no-steps_left (s ∷ steps) zero all = absurd (omega arith)
-no-steps_left (s ∷ steps) (suc i) all = no-steps_left steps i (omega arith)
+pub no_steps_left : (steps : List Step) (i : ℕ) → length steps ≤ i → drop i steps ≡ []
+no_steps_left [] zero all = refl
+no_steps_left [] (suc i) all = refl
+no_steps_left (s ∷ steps) zero all = absurd (omega arith)
+no_steps_left (s ∷ steps) (suc i) all = no_steps_left steps i (omega arith)
 
 -- what a call gives where it answers Ok
 pub on_ok : {T E : Type 0} (r : Result T E) (P Q : Type 0) → (P → Q) → OnOk r P → OnOk r Q

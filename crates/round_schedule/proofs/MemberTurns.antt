@@ -12,7 +12,7 @@ use Rattle.host_state.specs.Fire.{fire, wrote}
 use Rattle.host_state.specs.HostRecord.{HostRecord}
 use Rattle.host_state.specs.HostStands.{Stands, IsSameBody, Fires}
 use Rattle.host_link.specs.Outbox.{IsEmpty, own_events, parcels_of, logged}
-use Rattle.host_state.proofs.Queues.{first-taken}
+use Rattle.host_state.proofs.Queues.{first_taken}
 use Rattle.world_order.specs.EventOrder.{AreApart, take_least}
 use Rattle.world_order.proofs.Homes.{some_is}
 use Rattle.round_schedule.specs.inside.Turning.{AddsAll, MayTurn, Turned, Turns}
@@ -21,7 +21,7 @@ use Rattle.round_schedule.specs.declared.member.Member.{Member}
 
 module _ (net : Net) (old : Member) (mid : Host) (event : Event) (may : MayTurn net old) (taken : old.host.queue ≡ event ∷ mid.queue) (least : All (IsBefore event) mid.queue) where
   found : take_least old.host.queue ≡ Some (event, mid.queue)
-  found = ap take_least taken ∙ first-taken event mid.queue least
+  found = ap take_least taken ∙ first_taken event mid.queue least
 
   same : ◌≡◌ {A = Event × List Event} (may.event, may.rest) (event, mid.queue)
   same = some_is (may.event, may.rest) (event, mid.queue) (sym may.taken ∙ found)
@@ -32,8 +32,8 @@ module _ (net : Net) (old : Member) (mid : Host) (event : Event) (may : MayTurn 
   rest_is : may.rest ≡ mid.queue
   rest_is = ap (λ (p : Event × List Event). p.1) same
 
-  pub turn-due : event.key.due.nanos < net.stop.nanos
-  turn-due = subst (λ (e : Event). e.key.due.nanos < net.stop.nanos) event_is may.due
+  pub turn_due : event.key.due.nanos < net.stop.nanos
+  turn_due = subst (λ (e : Event). e.key.due.nanos < net.stop.nanos) event_is may.due
 
   module _ (new : Host) (before after : Outbox) (body : IsSameBody old.host mid) (empty : IsEmpty before)
       (fires : (h : HostRecord) → Stands mid h → h.link.time.nanos ≤ event.key.due.nanos → Fires net event h mid new before after) where
@@ -43,8 +43,8 @@ module _ (net : Net) (old : Member) (mid : Host) (event : Event) (may : MayTurn 
     own_is : (h : HostRecord) → Stands old.host h → after.own.items ≡ own_events net h.link.number (fire net h event).made
     own_is h s = (fired h s).leaves.own ∙ ap (λ (l : List Event). l ++ own_events net h.link.number (fire net h event).made) empty.own
 
-    pub turn-apart : AreApart (new.queue ++ after.own.items)
-    turn-apart =
+    pub turn_apart : AreApart (new.queue ++ after.own.items)
+    turn_apart =
         subst AreApart
         (ap (λ (l : List Event). l ++ own_events net may.host.link.number (fire net may.host may.event).made) (rest_is ∙ sym (fired may.host may.stands).queue)
         ∙ ap (λ (e : Event). new.queue ++ own_events net may.host.link.number (fire net may.host e).made) event_is

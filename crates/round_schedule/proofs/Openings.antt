@@ -18,10 +18,10 @@ use Rattle.world_order.specs.EventOrder.{AreApart}
 use Rattle.world_order.specs.Round as order
 use Rattle.world_order.specs.World.{World}
 use Rattle.world_order.specs.declared.round_window.Window.{Window}
-use Rattle.world_order.proofs.Apart.{AreApart-permutation, apart_left, same_members}
-use Rattle.world_order.proofs.Fires.{in-part, part-in}
-use Rattle.world_order.proofs.Homes.{some_is, get-below, below-get}
-use Rattle.world_order.proofs.Members.{IsIn, IsIn-permutation, IsIn-filter, IsIn-filter_from, Each-from_All}
+use Rattle.world_order.proofs.Apart.{AreApart_permutation, apart_left, same_members}
+use Rattle.world_order.proofs.Fires.{in_part, part_in}
+use Rattle.world_order.proofs.Homes.{some_is, get_below, below_get}
+use Rattle.world_order.proofs.Members.{IsIn, IsIn_permutation, IsIn_filter, IsIn_filter_from, Each_from_All}
 use Rattle.world_order.proofs.Openings.{filter_apart}
 use Rattle.world_order.proofs.Parts.{part, others}
 use Rattle.round_schedule.specs.Opening.{MayOpen}
@@ -30,7 +30,7 @@ use Rattle.round_schedule.specs.Standing.{EachStands, HostsStand, ParcelsStand, 
 use Rattle.round_schedule.specs.declared.member.Member.{Member}
 use Rattle.round_schedule.specs.declared.member.Worker.{Worker}
 use Rattle.round_schedule.specs.declared.round.Round.{Round}
-use Rattle.round_schedule.proofs.Pairs.{pair-back}
+use Rattle.round_schedule.proofs.Pairs.{pair_back}
 
 abbrev Member' : Type 0
 Member' = order.Member HostRecord
@@ -89,23 +89,23 @@ module _ (net : Net) (hosts : List Host) (w : World HostRecord Line) (stand : Ho
   module _ (i : ℕ) (c : Host) (at : slice_get hosts i ≡ Some c) where
     into : (x : Event) → IsIn x c.queue → IsIn x (order.events_at (model net) i w.events)
     into x h =
-        let there : IsIn x w.events = IsIn-permutation x (flat_map queue_of hosts) w.events stand.events (in-part queue_of hosts i c x at h) in
-        IsIn-filter (λ (e : Event). home net e == i) x w.events there
-        ((Decides-eqb (home net x) i).1 (Each-from_All (λ (e : Event). home net e ≡ i) c.queue (stand.home i c at) x h))
+        let there : IsIn x w.events = IsIn_permutation x (flat_map queue_of hosts) w.events stand.events (in_part queue_of hosts i c x at h) in
+        IsIn_filter (λ (e : Event). home net e == i) x w.events there
+        ((Decides-eqb (home net x) i).1 (Each_from_All (λ (e : Event). home net e ≡ i) c.queue (stand.home i c at) x h))
 
     back : (x : Event) → IsIn x (order.events_at (model net) i w.events) → IsIn x c.queue
     back x h =
-        let there = IsIn-filter_from (λ (e : Event). home net e == i) x w.events h in
-        let m = part-in queue_of hosts x (IsIn-permutation x w.events (flat_map queue_of hosts) (IsPermutation-sym (flat_map queue_of hosts) w.events stand.events) there.0) in
-        let number : m.0 ≡ i = sym (Each-from_All (λ (e : Event). home net e ≡ m.0) m.1.queue (stand.home m.0 m.1 m.2) x m.3) ∙ (Decides-eqb (home net x) i).0 there.1 in
+        let there = IsIn_filter_from (λ (e : Event). home net e == i) x w.events h in
+        let m = part_in queue_of hosts x (IsIn_permutation x w.events (flat_map queue_of hosts) (IsPermutation-sym (flat_map queue_of hosts) w.events stand.events) there.0) in
+        let number : m.0 ≡ i = sym (Each_from_All (λ (e : Event). home net e ≡ m.0) m.1.queue (stand.home m.0 m.1 m.2) x m.3) ∙ (Decides-eqb (home net x) i).0 there.1 in
         let same : m.1 ≡ c = some_is m.1 c (sym m.2 ∙ ap (slice_get hosts) number ∙ at) in
         subst (λ (d : Host). IsIn x d.queue) same m.3
 
-    pub own-events : IsPermutation c.queue (order.events_at (model net) i w.events)
-    own-events =
-        let all : AreApart (flat_map queue_of hosts) = AreApart-permutation w.events (flat_map queue_of hosts) (IsPermutation-sym (flat_map queue_of hosts) w.events stand.events) apart in
+    pub own_events : IsPermutation c.queue (order.events_at (model net) i w.events)
+    own_events =
+        let all : AreApart (flat_map queue_of hosts) = AreApart_permutation w.events (flat_map queue_of hosts) (IsPermutation-sym (flat_map queue_of hosts) w.events stand.events) apart in
         same_members c.queue (order.events_at (model net) i w.events)
-        (apart_left c.queue (others queue_of hosts i) (AreApart-permutation (flat_map queue_of hosts) (c.queue ++ others queue_of hosts i) (part queue_of hosts i c at) all))
+        (apart_left c.queue (others queue_of hosts i) (AreApart_permutation (flat_map queue_of hosts) (c.queue ++ others queue_of hosts i) (part queue_of hosts i c at) all))
         (filter_apart (λ (e : Event). home net e == i) w.events apart) into back
 
 -- ---- the whole
@@ -114,22 +114,22 @@ module _ (net : Net) (window : Window) (hosts : List Host) (workers : ℕ) (may 
     (idle : AreIdle workers c.workers.items) (window_is : c.window ≡ window) (lines_is : c.lines.items ≡ []) (unclosed : c.closed ≡ false) where
   module _ (w : World HostRecord Line) (stand : HostsStand net hosts w) where
     apart : AreApart w.events
-    apart = AreApart-permutation may.world.events w.events
+    apart = AreApart_permutation may.world.events w.events
         (IsPermutation-trans may.world.events _ w.events (IsPermutation-sym _ may.world.events may.stand.events) stand.events) may.may.between.apart
 
     member_opened : (i : ℕ) (m : Member) (x : Member') → slice_get c.members.items i ≡ Some m → slice_get (order.opened_from (model net) w.events 0 w.hosts) i ≡ Some x → MemberStands net w i m x
     member_opened i m x at there =
         let (h, h_at, x_is) = opened_at net w.events 0 w.hosts i x there in
-        let below = below-get c.members.items i m at in
+        let below = below_get c.members.items i m at in
         let count = waiting_all.count in
-        let (host, host_at) = get-below hosts i (omega arith) in
+        let (host, host_at) = get_below hosts i (omega arith) in
         let waits : IsWaiting host m = waiting_all.each i host m host_at at in
         let stands : Stands host h = stand.hosts.each i host h host_at h_at in
         let number : i ≡ 0 + i = omega arith in
         subst (MemberStands net w i m) (ap (λ (n : ℕ). waiting net w.events n h) number ∙ x_is)
         (record {
           host = subst (λ (d : Host). Stands d h) (sym waits.host) stands;
-          queue = subst (λ (d : Host). IsPermutation d.queue (order.events_at (model net) i w.events)) (sym waits.host) (own-events net hosts w stand apart i host host_at);
+          queue = subst (λ (d : Host). IsPermutation d.queue (order.events_at (model net) i w.events)) (sym waits.host) (own_events net hosts w stand apart i host host_at);
           home = subst (λ (d : Host). All (λ (e : Event). home net e ≡ i) d.queue) (sym waits.host) (stand.home i host host_at);
           stage = ap stage_of waits.stage;
           places = free_stand net 16 m.places.items waits.places;
@@ -159,8 +159,8 @@ module _ (net : Net) (window : Window) (hosts : List Host) (workers : ℕ) (may 
 
 -- ---- lists that grow side by side
 
-pub pair-none : {C X : Type 0} (R : ℕ → C → X → Type 0) → EachStands R [] []
-pair-none R = record { count = refl; each = λ i c x at there. absurd (let e : None ≡ Some c = at in cc) }
+pub pair_none : {C X : Type 0} (R : ℕ → C → X → Type 0) → EachStands R [] []
+pair_none R = record { count = refl; each = λ i c x at there. absurd (let e : None ≡ Some c = at in cc) }
 
 last_of : {X : Type 0} (xs : List X) (y : X) (i : ℕ) (x : X) → slice_get (xs ++ y ∷ []) i ≡ Some x → (slice_get xs i ≡ Some x) ⊎ ((i ≡ length xs) × (y ≡ x))
 last_of [] y zero x at = inr (refl, some_is y x at)
@@ -171,12 +171,12 @@ last_of (z ∷ zs) y (suc i) x at = ⊎_elim (λ h. inl h) (λ h. inr (ap suc h.
 module _ {C X : Type 0} (R : C → X → Type 0) (cs : List C) (xs : List X) (c : C) (x : X) (pairs : EachStands (λ i. R) cs xs) (last : R c x) where
   more_by : (i : ℕ) (d : C) (y : X) → (slice_get cs i ≡ Some d) ⊎ ((i ≡ length cs) × (c ≡ d)) → (slice_get xs i ≡ Some y) ⊎ ((i ≡ length xs) × (x ≡ y)) → R d y
   more_by i d y (inl at) (inl there) = pairs.each i d y at there
-  more_by i d y (inl at) (inr there) = absurd (let b = below-get cs i d at in let n = pairs.count in let s = there.0 in omega arith)
-  more_by i d y (inr at) (inl there) = absurd (let b = below-get xs i y there in let n = pairs.count in let s = at.0 in omega arith)
+  more_by i d y (inl at) (inr there) = absurd (let b = below_get cs i d at in let n = pairs.count in let s = there.0 in omega arith)
+  more_by i d y (inr at) (inl there) = absurd (let b = below_get xs i y there in let n = pairs.count in let s = at.0 in omega arith)
   more_by i d y (inr at) (inr there) = subst (λ (e : C). R e y) at.1 (subst (R c) there.1 last)
 
-  pub pair-more : EachStands (λ i. R) (cs ++ c ∷ []) (xs ++ x ∷ [])
-  pair-more = record {
+  pub pair_more : EachStands (λ i. R) (cs ++ c ∷ []) (xs ++ x ∷ [])
+  pair_more = record {
     count = length-append cs (c ∷ []) ∙ ap (λ (n : ℕ). n + 1) pairs.count ∙ sym (length-append xs (x ∷ []));
     each = λ i d y at there. more_by i d y (last_of cs c i d at) (last_of xs x i y there);
   }

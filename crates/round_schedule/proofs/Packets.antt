@@ -17,7 +17,7 @@ use Rattle.host_link.specs.Outbox.{own_events, parcels_of, posted, logged}
 use Rattle.host_link.specs.Parcels.{parcel_event}
 use Rattle.world_order.specs.Round.{events_at}
 use Rattle.world_order.specs.World as order
-use Rattle.world_order.proofs.Members.{IsIn, Each, Each-from_All, All-from_Each, Each-append, Each-cons}
+use Rattle.world_order.proofs.Members.{IsIn, Each, Each_from_All, All_from_Each, Each-append, Each_cons}
 use Rattle.round_schedule.specs.Standing.{ParcelsStand, line_of, lines_of}
 
 -- ---- its own events
@@ -26,9 +26,9 @@ own_by : (b : Bool) (e : Event) (xs ys : List Event) → xs ≡ ys → (if b the
 own_by true e xs ys same = ap (λ (l : List Event). e ∷ l) same
 own_by false e xs ys same = same
 
-pub own-at : (net : Net) (n : ℕ) (es : List Event) → own_events net n es ≡ events_at (model net) n es
-own-at net n [] = refl
-own-at net n (e ∷ es) = own_by (home net e == n) e (own_events net n es) (events_at (model net) n es) (own-at net n es)
+pub own_at : (net : Net) (n : ℕ) (es : List Event) → own_events net n es ≡ events_at (model net) n es
+own_at net n [] = refl
+own_at net n (e ∷ es) = own_by (home net e == n) e (own_events net n es) (events_at (model net) n es) (own_at net n es)
 
 -- ---- packets for others
 
@@ -54,7 +54,7 @@ packet_of net number source key what.Down rest own away = absurd (let e : (sourc
 -- it is for the host at which it fires
 posted_for : (net : Net) (source : ℕ) (key : Key) (w : What) (rest : List Parcel) → key.source.index ≡ source → Each (IsFor net) rest → Each (IsFor net) (posted (home_of net source w) key w rest)
 posted_for net source key (what.Packet packet) rest same more =
-    Each-cons (IsFor net) (record { key = key; to = record { index = home_of net source (what.Packet packet) }; packet = packet }) rest
+    Each_cons (IsFor net) (record { key = key; to = record { index = home_of net source (what.Packet packet) }; packet = packet }) rest
     (ap (λ (s : ℕ). home_of net s (what.Packet packet)) (sym same)) more
 posted_for net source key (what.Start p) rest same more = more
 posted_for net source key (what.Go p) rest same more = more
@@ -83,14 +83,14 @@ all_for net n [] = λ x h. absurd h
 all_for net n (e ∷ es) = for_by net e (parcels_of net n es) (home net e == n) (all_for net n es)
 
 -- the parcels of what a host made are its packets for others
-pub parcels-sent : (net : Net) (n : ℕ) (es : List Event) → Each (λ (g : Event). g.key.source.index ≡ n) es → ParcelsStand net (parcels_of net n es) (sent net n es)
-parcels-sent net n es own = record { events = packets_of net n es own; home = All-from_Each (IsFor net) (parcels_of net n es) (all_for net n es) }
+pub parcels_sent : (net : Net) (n : ℕ) (es : List Event) → Each (λ (g : Event). g.key.source.index ≡ n) es → ParcelsStand net (parcels_of net n es) (sent net n es)
+parcels_sent net n es own = record { events = packets_of net n es own; home = All_from_Each (IsFor net) (parcels_of net n es) (all_for net n es) }
 
-pub parcels-append : (net : Net) (ps qs : List Parcel) (es fs : List Event) → ParcelsStand net ps es → ParcelsStand net qs fs → ParcelsStand net (ps ++ qs) (es ++ fs)
-parcels-append net ps qs es fs first second = record {
+pub parcels_append : (net : Net) (ps qs : List Parcel) (es fs : List Event) → ParcelsStand net ps es → ParcelsStand net qs fs → ParcelsStand net (ps ++ qs) (es ++ fs)
+parcels_append net ps qs es fs first second = record {
   events = map-append parcel_event ps qs ∙ ap (λ (l : List Event). l ++ map parcel_event qs) first.events ∙ ap (λ (l : List Event). es ++ l) second.events;
-  home = All-from_Each (IsFor net) (ps ++ qs)
-      (Each-append (IsFor net) ps qs (Each-from_All (IsFor net) ps first.home) (Each-from_All (IsFor net) qs second.home));
+  home = All_from_Each (IsFor net) (ps ++ qs)
+      (Each-append (IsFor net) ps qs (Each_from_All (IsFor net) ps first.home) (Each_from_All (IsFor net) qs second.home));
 }
 
 -- ---- lines
@@ -99,5 +99,5 @@ lines_logged : (key : Key) (ls : List Line) → lines_of (map (logged key) ls) �
 lines_logged key [] = refl
 lines_logged key (l ∷ ls) = ap (λ (k : List (order.Logged Line)). line_of (logged key l) ∷ k) (lines_logged key ls)
 
-pub lines-more : (old : List HostLogged) (key : Key) (ls : List Line) → lines_of (old ++ map (logged key) ls) ≡ lines_of old ++ order.logged key ls
-lines-more old key ls = map-append line_of old (map (logged key) ls) ∙ ap (λ (l : List (order.Logged Line)). lines_of old ++ l) (lines_logged key ls)
+pub lines_more : (old : List HostLogged) (key : Key) (ls : List Line) → lines_of (old ++ map (logged key) ls) ≡ lines_of old ++ order.logged key ls
+lines_more old key ls = map-append line_of old (map (logged key) ls) ∙ ap (λ (l : List (order.Logged Line)). lines_of old ++ l) (lines_logged key ls)

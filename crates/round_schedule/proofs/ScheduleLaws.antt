@@ -61,8 +61,8 @@ module _ (net : Net) (window : Window) (w : World HostRecord Line) (workers : �
   left after v = subst (Left after v) end_is
       (λ result leads. close_law sim net.stop.nanos window.from.nanos workers w (settled_of net window w opened) opened.due steps v leads after result)
 
-pub leaves-world : (net : Net) (w after v : World HostRecord Line) (c : Round) → Leaves c.window.end.nanos w after v → RoundStands net w c (order.Closed v) → LeavesWorld net w c after
-leaves-world net w after v c leaves stands = record {
+pub leaves_world : (net : Net) (w after v : World HostRecord Line) (c : Round) → Leaves c.window.end.nanos w after v → RoundStands net w c (order.Closed v) → LeavesWorld net w c after
+leaves_world net w after v c leaves stands = record {
   hosts = record {
     hosts = subst (λ (hs : List HostRecord). EachStands (λ i (d : Host) (h : HostRecord). Stands d h) (map (λ (m : Member). m.host) c.members.items) hs) leaves.hosts stands.hosts.hosts;
     events = IsPermutation-trans _ v.events after.events stands.hosts.events leaves.events;

@@ -10,7 +10,7 @@ use Rattle.host_link.specs.Home.{home}
 use Rattle.host_state.specs.HostRecord.{HostRecord}
 use Rattle.host_state.specs.HostStands.{Stands}
 use Rattle.host_link.specs.Link.{LinkState}
-use Rattle.host_state.proofs.Simulations.{simulation, home-within}
+use Rattle.host_state.proofs.Simulations.{simulation, home_within}
 use Rattle.net_iface.specs.Lane.{AllFit}
 use Rattle.world_order.specs.EventOrder.{AreApart}
 use Rattle.world_order.specs.Premises.{Simulation}
@@ -20,15 +20,15 @@ use Rattle.world_order.specs.Settled.{IsSettled}
 use Rattle.world_order.specs.World.{World}
 use Rattle.world_order.specs.declared.round_window.Window.{Window}
 use Rattle.world_order.specs.declared.step.Step.{Step}
-use Rattle.world_order.proofs.Apart.{AreApart-permutation, apart_left}
-use Rattle.world_order.proofs.Fires.{in-part, get-map}
-use Rattle.world_order.proofs.Members.{IsIn, IsIn-left, Each, Each-from_All, All-from_Each}
-use Rattle.world_order.proofs.Openings.{opened-good, opened-alike}
+use Rattle.world_order.proofs.Apart.{AreApart_permutation, apart_left}
+use Rattle.world_order.proofs.Fires.{in_part, get-map}
+use Rattle.world_order.proofs.Members.{IsIn, IsIn_left, Each, Each_from_All, All_from_Each}
+use Rattle.world_order.proofs.Openings.{opened_good, opened_alike}
 use Rattle.world_order.proofs.Parts.{part, others}
 use Rattle.world_order.proofs.RoundStates.{round_scene, queues_of, IsGood}
 use Rattle.world_order.proofs.Runs.{Runs, rests, turns}
-use Rattle.world_order.proofs.Scenes.{Scene, IsAlike, IsSound, IsWithin, sound-turned}
-use Rattle.world_order.proofs.Schedules.{Reached, reached, sound-alike}
+use Rattle.world_order.proofs.Scenes.{Scene, IsAlike, IsSound, IsWithin, sound_turned}
+use Rattle.world_order.proofs.Schedules.{Reached, reached, sound_alike}
 use Rattle.world_order.proofs.Worlds.{scene_of, sound_of, within_window}
 use Rattle.round_schedule.specs.Opening.{MayOpenOn}
 use Rattle.round_schedule.specs.Reaching.{State, Going, IsReached}
@@ -36,11 +36,11 @@ use Rattle.round_schedule.specs.Standing.{MemberStands}
 use Rattle.round_schedule.specs.declared.member.Member.{Member}
 
 -- what holds of a scene holds after turns
-runs-sound : {H L : Type 0} (sim : Simulation H L) (start end : ℕ) (within : IsWithin sim.lookahead start end) (r : Scene H L) (es : List Event) (s : Scene H L)
+runs_sound : {H L : Type 0} (sim : Simulation H L) (start end : ℕ) (within : IsWithin sim.lookahead start end) (r : Scene H L) (es : List Event) (s : Scene H L)
     → Runs sim.model end r es s → IsSound sim start end s → IsSound sim start end r
-runs-sound sim start end within r es s (rests s' alike) sound = sound-alike sim start end s r alike sound
-runs-sound sim start end within r es s (turns s' e more may rest) sound =
-    runs-sound sim start end within r more _ rest (sound-turned sim start end within e s sound may)
+runs_sound sim start end within r es s (rests s' alike) sound = sound_alike sim start end s r alike sound
+runs_sound sim start end within r es s (turns s' e more may rest) sound =
+    runs_sound sim start end within r more _ rest (sound_turned sim start end within e s sound may)
 
 -- hosts of a world between rounds are those of a simulation
 module _ (net : Net) (window : Window) (w : World HostRecord Line) (opened : MayOpenOn net window w) where
@@ -68,7 +68,7 @@ module _ (net : Net) (window : Window) (w : World HostRecord Line) (opened : May
   end = window.end.nanos
 
   homes : Each (λ (e : Event). home net e < length w.hosts) w.events
-  homes e h = let b = home-within net e (Each-from_All (IsEventOf net) w.events opened.between.events e h) in let c = opened.between.count in omega arith
+  homes e h = let b = home_within net e (Each_from_All (IsEventOf net) w.events opened.between.events e h) in let c = opened.between.count in omega arith
 
   module _ (workers : ℕ) where
     abbrev start : Going
@@ -76,11 +76,11 @@ module _ (net : Net) (window : Window) (w : World HostRecord Line) (opened : May
 
     sound_start : IsSound sim_of from end (round_scene w.log start)
     sound_start =
-        sound-alike sim_of from end (scene_of w) (round_scene w.log start) (opened-alike (model net) end workers w settled_of.apart homes) (sound_of sim_of from end w settled_of opened.due)
+        sound_alike sim_of from end (scene_of w) (round_scene w.log start) (opened_alike (model net) end workers w settled_of.apart homes) (sound_of sim_of from end w settled_of opened.due)
 
     found : (steps : List Step) (s : State) → after_all (model net) steps (order.Going start) ≡ Some s
         → Reached (model net) end w.log start (fired_in (model net) steps (order.Going start)) (made_in (model net) steps (order.Going start)) s
-    found steps s leads = reached sim_of from end within_of w.log steps start s leads (opened-good (model net) end workers w settled_of.apart) sound_start
+    found steps s leads = reached sim_of from end within_of w.log steps start s leads (opened_good (model net) end workers w settled_of.apart) sound_start
 
 -- a round that was reached is sound
 pub record SoundRound (net : Net) (window : Window) (w : World HostRecord Line) (r : Going) : Type 0 where
@@ -88,22 +88,22 @@ pub record SoundRound (net : Net) (window : Window) (w : World HostRecord Line) 
   pub good : IsGood (model net) window.end.nanos r
   pub sound : IsSound (sim_of net window w opened) window.from.nanos window.end.nanos (round_scene w.log r)
 
-pub reached-sound : (net : Net) (window : Window) (w : World HostRecord Line) (r : Going) → IsReached net window w (order.Going r) → SoundRound net window w r
-reached-sound net window w r reached =
+pub reached_sound : (net : Net) (window : Window) (w : World HostRecord Line) (r : Going) → IsReached net window w (order.Going r) → SoundRound net window w r
+reached_sound net window w r reached =
     let f = found net window w reached.opened reached.workers reached.steps (order.Going r) reached.leads in
     let sim = sim_of net window w reached.opened in
     record {
       opened = reached.opened;
       good = subst (IsGood (model net) window.end.nanos) f.ends f.good;
       sound = subst (λ (u : Going). IsSound sim window.from.nanos window.end.nanos (round_scene w.log u)) f.ends
-          (runs-sound sim window.from.nanos window.end.nanos (within_of net window w reached.opened) (round_scene w.log f.last) _ _ f.run
+          (runs_sound sim window.from.nanos window.end.nanos (within_of net window w reached.opened) (round_scene w.log f.last) _ _ f.run
           (sound_start net window w reached.opened reached.workers));
     }
 
 -- ---- each host
 
-good-same : (net : Net) (i : ℕ) (h g : HostRecord) → h.link ≡ g.link → IsHostOf net i h → IsHostOf net i g
-good-same net i h g same good = record {
+good_same : (net : Net) (i : ℕ) (h g : HostRecord) → h.link ≡ g.link → IsHostOf net i h → IsHostOf net i g
+good_same net i h g same good = record {
   number = subst (λ (l : LinkState). l.number ≡ i) same good.number;
   within = good.within;
   limited = subst (λ (l : LinkState). l.next ≤ 2 ^ 64 - 1) same good.limited;
@@ -129,26 +129,26 @@ module _ (net : Net) (window : Window) (w : World HostRecord Line) (r : Going) (
   host_at = get-map (λ (y : order.Member HostRecord). y.host) r.members i x at
 
   there : (e : Event) → IsIn e x.queue → IsIn e (order.events_of r)
-  there e h = IsIn-left e (queues_of r) (order.packets_of r) (in-part queue_of r.members i x e at h)
+  there e h = IsIn_left e (queues_of r) (order.packets_of r) (in_part queue_of r.members i x e at h)
 
-  pub apart-here : AreApart x.queue
-  apart-here =
+  pub apart_here : AreApart x.queue
+  apart_here =
       apart_left x.queue (others queue_of r.members i)
-      (AreApart-permutation (queues_of r) (x.queue ++ others queue_of r.members i) (part queue_of r.members i x at)
+      (AreApart_permutation (queues_of r) (x.queue ++ others queue_of r.members i) (part queue_of r.members i x at)
       (apart_left (queues_of r) (order.packets_of r) sound.good.apart))
 
   -- the host that stands for a member of a round that was reached
-  pub sound-host : (c : Host) → Stands c x.host → IsPermutation c.queue x.queue → SoundHost net i c
-  sound-host c stands moved =
+  pub sound_host_is : (c : Host) → Stands c x.host → IsPermutation c.queue x.queue → SoundHost net i c
+  sound_host_is c stands moved =
       let back = IsPermutation-sym c.queue x.queue moved in
       let link : (h : HostRecord) → Stands c h → x.host.link ≡ h.link = λ h s. sym stands.body.link ∙ s.body.link in
       record {
-        apart = AreApart-permutation x.queue c.queue back apart-here;
-        events = All-permutation (IsEventOf net) x.queue c.queue back (All-from_Each (IsEventOf net) x.queue (λ e h. sound.sound.events e (there e h)));
-        home = All-permutation (λ (e : Event). home net e ≡ i) x.queue c.queue back (All-from_Each (λ (e : Event). home net e ≡ i) x.queue (sound.good.members i x at).home);
-        good = λ h s. good-same net i x.host h (link h s) (sound.sound.hosts i x.host host_at);
+        apart = AreApart_permutation x.queue c.queue back apart_here;
+        events = All-permutation (IsEventOf net) x.queue c.queue back (All_from_Each (IsEventOf net) x.queue (λ e h. sound.sound.events e (there e h)));
+        home = All-permutation (λ (e : Event). home net e ≡ i) x.queue c.queue back (All_from_Each (λ (e : Event). home net e ≡ i) x.queue (sound.good.members i x at).home);
+        good = λ h s. good_same net i x.host h (link h s) (sound.sound.hosts i x.host host_at);
         clock = λ h s. All-permutation (λ (e : Event). h.link.time.nanos ≤ e.key.due.nanos) x.queue c.queue back
-            (All-from_Each (λ (e : Event). h.link.time.nanos ≤ e.key.due.nanos) x.queue
+            (All_from_Each (λ (e : Event). h.link.time.nanos ≤ e.key.due.nanos) x.queue
             (λ e is. subst (λ (l : LinkState). l.time.nanos ≤ e.key.due.nanos) (link h s)
             (sound.sound.own_clock e x.host (there e is) (ap (slice_get (map (λ (y : order.Member HostRecord). y.host) r.members)) ((sound.good.members i x at).home e is) ∙ host_at))));
       }

@@ -14,7 +14,7 @@ use Rattle.host_link.specs.Home.{home}
 use Rattle.host_state.specs.HostRecord.{HostRecord}
 use Rattle.host_state.specs.HostStands.{Stands}
 use Rattle.host_link.specs.Outbox.{own_events, parcels_of, logged}
-use Rattle.host_state.proofs.Simulations.{fires-before_stop, firings_fit}
+use Rattle.host_state.proofs.Simulations.{fires_before_stop_is, firings_fit}
 use Rattle.world_order.specs.EventOrder.{AreApart, take_least}
 use Rattle.world_order.specs.Model.{Fired}
 use Rattle.world_order.specs.Premises.{IsFit}
@@ -22,13 +22,13 @@ use Rattle.world_order.specs.Round as order
 use Rattle.world_order.specs.Steps as steps
 use Rattle.world_order.specs.World as order_world
 use Rattle.world_order.specs.World.{World}
-use Rattle.world_order.proofs.Apart.{AreApart-permutation}
-use Rattle.world_order.proofs.Fires.{IsReady, ready-is}
-use Rattle.world_order.proofs.Firings.{numbered-source}
-use Rattle.world_order.proofs.Homes.{some_is, below-get, get-set_same}
-use Rattle.world_order.proofs.Least.{take_least-there, take_least-IsPermutation}
-use Rattle.world_order.proofs.Members.{IsIn, Each, Each-from_All, All-from_Each, Each-append, IsIn-permutation, IsIn-filter_from}
-use Rattle.world_order.proofs.Orders.{take_least-permutation, window-upto}
+use Rattle.world_order.proofs.Apart.{AreApart_permutation}
+use Rattle.world_order.proofs.Fires.{IsReady, ready_is}
+use Rattle.world_order.proofs.Firings.{numbered_source}
+use Rattle.world_order.proofs.Homes.{some_is, below_get, get_set_same}
+use Rattle.world_order.proofs.Least.{take_least_there, take_least_IsPermutation}
+use Rattle.world_order.proofs.Members.{IsIn, Each, Each_from_All, All_from_Each, Each-append, IsIn_permutation, IsIn_filter_from}
+use Rattle.world_order.proofs.Orders.{take_least_permutation, window_upto}
 use Rattle.world_order.proofs.Parts.{same_order, from_then, from_map, from_given}
 use Rattle.round_schedule.specs.inside.Guards as guards
 use Rattle.round_schedule.specs.inside.Kinds.{fires}
@@ -39,11 +39,11 @@ use Rattle.round_schedule.specs.declared.firing.HandedOut.{HandedOut}
 use Rattle.round_schedule.specs.declared.member.Member.{Member}
 use Rattle.round_schedule.specs.declared.member.Worker.{Worker}
 use Rattle.round_schedule.specs.declared.round.Round.{Round}
-use Rattle.round_schedule.proofs.Guarding.{held-same}
+use Rattle.round_schedule.proofs.Guarding.{held_same}
 use Rattle.round_schedule.proofs.Keeping.{IsSameRest, changed}
-use Rattle.round_schedule.proofs.Packets.{own-at, sent, parcels-sent, parcels-append, lines-more}
-use Rattle.round_schedule.proofs.Pairs.{pair-of, pair-set}
-use Rattle.round_schedule.proofs.Sound.{SoundRound, SoundHost, reached-sound, sound-host, apart-here}
+use Rattle.round_schedule.proofs.Packets.{own_at, sent, parcels_sent, parcels_append, lines_more}
+use Rattle.round_schedule.proofs.Pairs.{pair_of, pair_set}
+use Rattle.round_schedule.proofs.Sound.{SoundRound, SoundHost, reached_sound, sound_host_is, apart_here}
 
 abbrev Member' : Type 0
 Member' = order.Member HostRecord
@@ -64,8 +64,8 @@ pub record FindsHost (net : Net) (worker : ℕ) (w : World HostRecord Line) (c :
   pub hand_stands : WorkerStands net hand ready.worker
   pub u_is : steps.after_fire (model net) worker r ready (fires_before_stop net ready.member.host ready.event) ≡ u
 
-held-ready : (worker : ℕ) (r : Going) (t : steps.Ready HostRecord) → steps.ready worker r ≡ Some t → steps.held worker r.members ≡ Some t.number
-held-ready worker r t is =
+held_ready : (worker : ℕ) (r : Going) (t : steps.Ready HostRecord) → steps.ready worker r ≡ Some t → steps.held worker r.members ≡ Some t.number
+held_ready worker r t is =
     let a = from_then (steps.held worker r.members) _ t is in
     let b = from_then (slice_get r.members a.0) _ t a.2 in
     let c = from_then (slice_get r.workers worker) _ t b.2 in
@@ -73,19 +73,19 @@ held-ready worker r t is =
     let e = from_given (nat_lt d.0.0.key.due.nanos r.end) _ t d.2 in
     a.1 ∙ ap (λ (x : steps.Ready HostRecord). Some x.number) e.1
 
-pub finds-host : (net : Net) (worker : ℕ) (w : World HostRecord Line) (c : Round) (r u : Going) → GoingStands net w c r → steps.fire_host (model net) worker r ≡ Some u → FindsHost net worker w c r u
-finds-host net worker w c r u stands is =
+pub finds_host : (net : Net) (worker : ℕ) (w : World HostRecord Line) (c : Round) (r u : Going) → GoingStands net w c r → steps.fire_host (model net) worker r ≡ Some u → FindsHost net worker w c r u
+finds_host net worker w c r u stands is =
     let a = from_then (steps.ready worker r) _ u is in
     let t = a.0 in
-    let found = ready-is worker r t a.1 in
-    let (m, at, both) = pair-of (MemberStands net w) c.members.items r.members stands.members t.number t.member found.member_at in
-    let (k, k_at, k_stands) = pair-of (λ i. WorkerStands net) c.workers.items r.workers stands.workers worker t.worker found.worker_at in
-    record { ready = t; is = found; held = held-ready worker r t a.1; member = m; member_at = at; both = both; hand = k; hand_at = k_at; hand_stands = k_stands; u_is = some_is _ u a.2 }
+    let found = ready_is worker r t a.1 in
+    let (m, at, both) = pair_of (MemberStands net w) c.members.items r.members stands.members t.number t.member found.member_at in
+    let (k, k_at, k_stands) = pair_of (λ i. WorkerStands net) c.workers.items r.workers stands.workers worker t.worker found.worker_at in
+    record { ready = t; is = found; held = held_ready worker r t a.1; member = m; member_at = at; both = both; hand = k; hand_at = k_at; hand_stands = k_stands; u_is = some_is _ u a.2 }
 
 -- an event that is due before the end of a round is due before the stop
 due_stop : (net : Net) (c : Round) (r : Going) (w v : World HostRecord Line) (u : Going) (e : Event) → GoingStands net w c r → SoundRound net c.window v u → e.key.due.nanos < r.end → e.key.due.nanos < net.stop.nanos
 due_stop net c r w v u e stands sound due =
-    let upto = window-upto sound.opened.window.lookahead net.stop.nanos c.window.from.nanos in
+    let upto = window_upto sound.opened.window.lookahead net.stop.nanos c.window.from.nanos in
     let end_is = sound.opened.window.end in
     let same = stands.end in
     omega arith
@@ -95,36 +95,36 @@ module _ (net : Net) (worker : ℕ) (c : Round) (may : May net (fires net worker
   led = from_map (steps.fire_host (model net) worker may.round) order.Going may.next may.leads
 
   pub finds : FindsHost net worker may.world c may.round led.0
-  finds = finds-host net worker may.world c may.round led.0 may.stands led.1
+  finds = finds_host net worker may.world c may.round led.0 may.stands led.1
 
-  pub fire-held : guards.held worker c ≡ Some finds.ready.number
-  fire-held = held-same net may.world c may.round may.stands worker ∙ finds.held
+  pub fire_held : guards.held worker c ≡ Some finds.ready.number
+  fire_held = held_same net may.world c may.round may.stands worker ∙ finds.held
 
   sound : SoundRound net c.window may.world may.round
-  sound = reached-sound net c.window may.world may.round may.reached
+  sound = reached_sound net c.window may.world may.round may.reached
 
   abbrev number : ℕ
   number = finds.ready.number
 
   sound_host : SoundHost net number finds.member.host
-  sound_host = sound-host net c.window may.world may.round sound number finds.ready.member finds.is.member_at finds.member.host finds.both.host finds.both.queue
+  sound_host = sound_host_is net c.window may.world may.round sound number finds.ready.member finds.is.member_at finds.member.host finds.both.host finds.both.queue
 
-  pub fire-below : (n : ℕ) → guards.held worker c ≡ Some n → n < length c.members.items
-  fire-below n held = subst (λ (i : ℕ). i < length c.members.items) (some_is number n (sym fire-held ∙ held)) (below-get c.members.items number finds.member finds.member_at)
+  pub fire_below : (n : ℕ) → guards.held worker c ≡ Some n → n < length c.members.items
+  fire_below n held = subst (λ (i : ℕ). i < length c.members.items) (some_is number n (sym fire_held ∙ held)) (below_get c.members.items number finds.member finds.member_at)
 
   -- the host that the code found
   module _ (n : ℕ) (m : Member) (held : guards.held worker c ≡ Some n) (at : slice_get c.members.items n ≡ Some m) where
     number_is : number ≡ n
-    number_is = some_is number n (sym fire-held ∙ held)
+    number_is = some_is number n (sym fire_held ∙ held)
 
     member_is : finds.member ≡ m
     member_is = some_is finds.member m (sym finds.member_at ∙ ap (slice_get c.members.items) number_is ∙ at)
 
-    pub fire-sound : SoundHost net n m.host
-    fire-sound = subst (λ (i : ℕ). SoundHost net i m.host) number_is (subst (λ (x : Member). SoundHost net number x.host) member_is sound_host)
+    pub fire_sound : SoundHost net n m.host
+    fire_sound = subst (λ (i : ℕ). SoundHost net i m.host) number_is (subst (λ (x : Member). SoundHost net number x.host) member_is sound_host)
 
-  pub fire-worker : (k : Worker) × (slice_get c.workers.items worker ≡ Some k)
-  fire-worker = (finds.hand, finds.hand_at)
+  pub fire_worker : (k : Worker) × (slice_get c.workers.items worker ≡ Some k)
+  fire_worker = (finds.hand, finds.hand_at)
 
   -- ---- it may fire
 
@@ -141,25 +141,25 @@ module _ (net : Net) (worker : ℕ) (c : Round) (may : May net (fires net worker
   back = IsPermutation-sym finds.member.host.queue finds.ready.member.queue finds.both.queue
 
   least : (rest : List Event) × (take_least finds.member.host.queue ≡ Some (e, rest)) × IsPermutation finds.ready.rest rest
-  least = take_least-permutation finds.ready.member.queue finds.member.host.queue e finds.ready.rest finds.is.taken back
-      (apart-here net c.window may.world may.round sound number finds.ready.member finds.is.member_at)
+  least = take_least_permutation finds.ready.member.queue finds.member.host.queue e finds.ready.rest finds.is.taken back
+      (apart_here net c.window may.world may.round sound number finds.ready.member finds.is.member_at)
 
   abbrev after : Going
   after = steps.after_fire (model net) worker may.round finds.ready (fires_before_stop net h e)
 
   sound_after : SoundRound net c.window may.world after
-  sound_after = reached-sound net c.window may.world after (subst (IsReached net c.window may.world) (sym led.2 ∙ ap order.Going (sym finds.u_is)) may.reaches)
+  sound_after = reached_sound net c.window may.world after (subst (IsReached net c.window may.world) (sym led.2 ∙ ap order.Going (sym finds.u_is)) may.reaches)
 
   abbrev later : Member'
   later = record (finds.ready.member) { host = (fires_before_stop net h e).host; queue = finds.ready.rest ++ order.events_at (model net) number (fires_before_stop net h e).made }
 
   apart_after : AreApart (finds.ready.rest ++ order.events_at (model net) number (fires_before_stop net h e).made)
-  apart_after = apart-here net c.window may.world after sound_after number later (get-set_same may.round.members number finds.ready.member later finds.is.member_at)
+  apart_after = apart_here net c.window may.world after sound_after number later (get_set_same may.round.members number finds.ready.member later finds.is.member_at)
 
   own_is : order.events_at (model net) number (fires_before_stop net h e).made ≡ own_events net h.link.number (fire net h e).made
   own_is =
-      ap (λ (f : Firing). order.events_at (model net) number f.made) (fires-before_stop net h e stops)
-      ∙ sym (own-at net number (fire net h e).made)
+      ap (λ (f : Firing). order.events_at (model net) number f.made) (fires_before_stop_is net h e stops)
+      ∙ sym (own_at net number (fire net h e).made)
       ∙ ap (λ (i : ℕ). own_events net i (fire net h e).made) (sym (sound_host.good h finds.both.host).number)
 
   may_turn : MayTurn net finds.member
@@ -171,14 +171,14 @@ module _ (net : Net) (worker : ℕ) (c : Round) (may : May net (fires net worker
     due = stops;
     host = h;
     stands = finds.both.host;
-    clock = λ g s. Each-from_All (λ (x : Event). g.link.time.nanos ≤ x.key.due.nanos) finds.member.host.queue (sound_host.clock g s) e (take_least-there finds.member.host.queue (e, least.0) least.1);
-    apart = AreApart-permutation (finds.ready.rest ++ order.events_at (model net) number (fires_before_stop net h e).made) (least.0 ++ own_events net h.link.number (fire net h e).made)
+    clock = λ g s. Each_from_All (λ (x : Event). g.link.time.nanos ≤ x.key.due.nanos) finds.member.host.queue (sound_host.clock g s) e (take_least_there finds.member.host.queue (e, least.0) least.1);
+    apart = AreApart_permutation (finds.ready.rest ++ order.events_at (model net) number (fires_before_stop net h e).made) (least.0 ++ own_events net h.link.number (fire net h e).made)
         (IsPermutation-append finds.ready.rest least.0 (order.events_at (model net) number (fires_before_stop net h e).made) (own_events net h.link.number (fire net h e).made) least.2 (same_order _ _ own_is))
         apart_after;
   }
 
-  pub fire-may_turn : (n : ℕ) (m : Member) → guards.held worker c ≡ Some n → slice_get c.members.items n ≡ Some m → MayTurn net m
-  fire-may_turn n m held at = subst (MayTurn net) (member_is n m held at) may_turn
+  pub fire_may_turn : (n : ℕ) (m : Member) → guards.held worker c ≡ Some n → slice_get c.members.items n ≡ Some m → MayTurn net m
+  fire_may_turn n m held at = subst (MayTurn net) (member_is n m held at) may_turn
 
   -- ---- what it leaves
 
@@ -186,11 +186,11 @@ module _ (net : Net) (worker : ℕ) (c : Round) (may : May net (fires net worker
       (k_at : slice_get c.workers.items worker ≡ Some k) (same : IsSameRest c d) (members_is : d.members.items ≡ slice_set c.members.items n m') (workers_is : d.workers.items ≡ slice_set c.workers.items worker k')
       (hand_is : k'.hand.items ≡ k.hand.items ++ out.parcels.items) (spill_is : k'.spill ≡ k.spill) (lines_is : d.lines.items ≡ c.lines.items ++ out.lines.items) where
     host_sound : SoundHost net n m.host
-    host_sound = fire-sound n m held at
+    host_sound = fire_sound n m held at
 
     module _ (w : World HostRecord Line) (r u : Going) (stands : GoingStands net w c r) (leads : steps.fire_host (model net) worker r ≡ Some u) where
       f : FindsHost net worker w c r u
-      f = finds-host net worker w c r u stands leads
+      f = finds_host net worker w c r u stands leads
 
       abbrev g : HostRecord
       g = f.ready.member.host
@@ -199,7 +199,7 @@ module _ (net : Net) (worker : ℕ) (c : Round) (may : May net (fires net worker
       x = f.ready.event
 
       place : f.ready.number ≡ n
-      place = some_is f.ready.number n (sym f.held ∙ sym (held-same net w c r stands worker) ∙ held)
+      place = some_is f.ready.number n (sym f.held ∙ sym (held_same net w c r stands worker) ∙ held)
 
       m_is : f.member ≡ m
       m_is = some_is f.member m (sym f.member_at ∙ ap (slice_get c.members.items) place ∙ at)
@@ -217,7 +217,7 @@ module _ (net : Net) (worker : ℕ) (c : Round) (may : May net (fires net worker
       turned = turns.turned g both.host
 
       first : (others : List Event) × (take_least f.ready.member.queue ≡ Some (turned.event, others)) × IsPermutation turned.rest others
-      first = take_least-permutation m.host.queue f.ready.member.queue turned.event turned.rest turned.taken both.queue host_sound.apart
+      first = take_least_permutation m.host.queue f.ready.member.queue turned.event turned.rest turned.taken both.queue host_sound.apart
 
       taken_is : ◌≡◌ {A = Event × List Event} (turned.event, first.0) (x, f.ready.rest)
       taken_is = some_is (turned.event, first.0) (x, f.ready.rest) (sym first.1 ∙ f.is.taken)
@@ -238,7 +238,7 @@ module _ (net : Net) (worker : ℕ) (c : Round) (may : May net (fires net worker
       good = host_sound.good g both.host
 
       held_event : (P : Event → Type 0) → All P m.host.queue → P x
-      held_event P all = subst P event_is (Each-from_All P m.host.queue all turned.event (take_least-there m.host.queue (turned.event, turned.rest) turned.taken))
+      held_event P all = subst P event_is (Each_from_All P m.host.queue all turned.event (take_least_there m.host.queue (turned.event, turned.rest) turned.taken))
 
       home_is : home net x ≡ n
       home_is = held_event (λ (y : Event). home net y ≡ n) host_sound.home
@@ -248,19 +248,19 @@ module _ (net : Net) (worker : ℕ) (c : Round) (may : May net (fires net worker
 
       fits : IsFit (model net) (Some 0) (2 ^ 64 - 1) (IsHostOf net) (IsEventOf net) g x F
       fits =
-          subst (λ (y : Firing). IsFit (model net) (Some 0) (2 ^ 64 - 1) (IsHostOf net) (IsEventOf net) g x y) (fires-before_stop net g x stop_due)
+          subst (λ (y : Firing). IsFit (model net) (Some 0) (2 ^ 64 - 1) (IsHostOf net) (IsEventOf net) g x y) (fires_before_stop_is net g x stop_due)
           (firings_fit net (Some 0) (λ i j latency reliability apart route. omega arith) (omega arith) sound.opened.window.stop g x
           (subst (λ (i : ℕ). IsHostOf net i g) (sym home_is) good) (held_event (IsEventOf net) host_sound.events)
           (held_event (λ (y : Event). g.link.time.nanos ≤ y.key.due.nanos) (host_sound.clock g both.host)))
 
       sources : Each (λ (y : Event). y.key.source.index ≡ n) F.made
-      sources y is = numbered-source (home net x) g.link.next F.made fits.numbered y is ∙ home_is
+      sources y is = numbered_source (home net x) g.link.next F.made fits.numbered y is ∙ home_is
 
       number_same : g.link.number ≡ f.ready.number
       number_same = good.number ∙ sym place
 
       own_same : own_events net g.link.number F.made ≡ order.events_at (model net) f.ready.number F.made
-      own_same = ap (λ (i : ℕ). own_events net i F.made) number_same ∙ own-at net f.ready.number F.made
+      own_same = ap (λ (i : ℕ). own_events net i F.made) number_same ∙ own_at net f.ready.number F.made
 
       abbrev new_member : Member'
       new_member = record (f.ready.member) { host = F.host; queue = f.ready.rest ++ order.events_at (model net) f.ready.number F.made }
@@ -269,20 +269,20 @@ module _ (net : Net) (worker : ℕ) (c : Round) (may : May net (fires net worker
       new_worker = record (f.ready.worker) { hand = f.ready.worker.hand ++ sent net f.ready.number F.made }
 
       rest_home : Each (λ (y : Event). home net y ≡ f.ready.number) turned.rest
-      rest_home y is = Each-from_All (λ (z : Event). home net z ≡ f.ready.number) m.host.queue both.home y
-          (IsIn-permutation y (turned.event ∷ turned.rest) m.host.queue
-          (IsPermutation-sym m.host.queue (turned.event ∷ turned.rest) (take_least-IsPermutation m.host.queue (turned.event, turned.rest) turned.taken)) (inr is))
+      rest_home y is = Each_from_All (λ (z : Event). home net z ≡ f.ready.number) m.host.queue both.home y
+          (IsIn_permutation y (turned.event ∷ turned.rest) m.host.queue
+          (IsPermutation-sym m.host.queue (turned.event ∷ turned.rest) (take_least_IsPermutation m.host.queue (turned.event, turned.rest) turned.taken)) (inr is))
 
       own_home : Each (λ (y : Event). home net y ≡ f.ready.number) (own_events net g.link.number F.made)
       own_home y is =
-          let there = IsIn-filter_from (λ (z : Event). home net z == f.ready.number) y F.made (subst (λ (l : List Event). IsIn y l) own_same is) in
+          let there = IsIn_filter_from (λ (z : Event). home net z == f.ready.number) y F.made (subst (λ (l : List Event). IsIn y l) own_same is) in
           (Decides-eqb (home net y) f.ready.number).0 there.1
 
       at_home : All (λ (y : Event). home net y ≡ f.ready.number) m'.host.queue
       at_home =
           All-permutation (λ (y : Event). home net y ≡ f.ready.number) (turned.rest ++ own_events net g.link.number F.made) m'.host.queue
           (IsPermutation-sym m'.host.queue (turned.rest ++ own_events net g.link.number F.made) by.queue)
-          (All-from_Each (λ (y : Event). home net y ≡ f.ready.number) (turned.rest ++ own_events net g.link.number F.made)
+          (All_from_Each (λ (y : Event). home net y ≡ f.ready.number) (turned.rest ++ own_events net g.link.number F.made)
           (Each-append (λ (y : Event). home net y ≡ f.ready.number) turned.rest (own_events net g.link.number F.made) rest_home own_home))
 
       member_stands : MemberStands net w f.ready.number m' new_member
@@ -303,8 +303,8 @@ module _ (net : Net) (worker : ℕ) (c : Round) (may : May net (fires net worker
       worker_stands : WorkerStands net k' new_worker
       worker_stands = record {
         hand = subst (λ (l : List Parcel). ParcelsStand net l new_worker.hand) (sym (hand_is ∙ ap (λ (l : List Parcel). k.hand.items ++ l) parcels_is))
-            (parcels-append net k.hand.items (parcels_of net f.ready.number F.made) f.ready.worker.hand (sent net f.ready.number F.made) carried.hand
-            (parcels-sent net f.ready.number F.made (λ y is. sources y is ∙ sym place)));
+            (parcels_append net k.hand.items (parcels_of net f.ready.number F.made) f.ready.worker.hand (sent net f.ready.number F.made) carried.hand
+            (parcels_sent net f.ready.number F.made (λ y is. sources y is ∙ sym place)));
         spill = subst (λ (v : Vec Parcel Global). ParcelsStand net v.items f.ready.worker.spill) (sym spill_is) carried.spill;
       }
 
@@ -312,22 +312,22 @@ module _ (net : Net) (worker : ℕ) (c : Round) (may : May net (fires net worker
       going = changed net w c d r stands same (slice_set r.members f.ready.number new_member) (slice_set r.workers worker new_worker) (steps.after_fire (model net) worker r f.ready F).lines
           (subst (λ (l : List Member). EachStands (MemberStands net w) l (slice_set r.members f.ready.number new_member))
           (ap (λ (i : ℕ). slice_set c.members.items i m') place ∙ sym members_is)
-          (pair-set (MemberStands net w) c.members.items r.members stands.members f.ready.number m m' f.ready.member new_member
+          (pair_set (MemberStands net w) c.members.items r.members stands.members f.ready.number m m' f.ready.member new_member
           (ap (slice_get c.members.items) place ∙ at) f.is.member_at member_stands))
           (subst (λ (l : List Worker). EachStands (λ i. WorkerStands net) l (slice_set r.workers worker new_worker)) (sym workers_is)
-          (pair-set (λ i. WorkerStands net) c.workers.items r.workers stands.workers worker k k' f.ready.worker new_worker k_at f.is.worker_at worker_stands))
-          (ap lines_of (lines_is ∙ ap (λ (l : List HostLogged). c.lines.items ++ l) by.lines) ∙ lines-more c.lines.items x.key F.lines
+          (pair_set (λ i. WorkerStands net) c.workers.items r.workers stands.workers worker k k' f.ready.worker new_worker k_at f.is.worker_at worker_stands))
+          (ap lines_of (lines_is ∙ ap (λ (l : List HostLogged). c.lines.items ++ l) by.lines) ∙ lines_more c.lines.items x.key F.lines
           ∙ ap (λ (l : List (order_world.Logged Line)). l ++ order_world.logged x.key F.lines) stands.lines)
 
-      pub fired-going : GoingStands net w d u
-      fired-going =
+      pub fired_going : GoingStands net w d u
+      fired_going =
           subst (GoingStands net w d) f.u_is
-          (subst (λ (y : Firing). GoingStands net w d (steps.after_fire (model net) worker r f.ready y)) (sym (fires-before_stop net g x stop_due)) going)
+          (subst (λ (y : Firing). GoingStands net w d (steps.after_fire (model net) worker r f.ready y)) (sym (fires_before_stop_is net g x stop_due)) going)
 
     pub fired : Does net (fires net worker) c d
     fired = record {
       window = same.window;
       stands = λ w r t stands is.
           let a = from_map (steps.fire_host (model net) worker r) order.Going t is in
-          subst (RoundStands net w d) a.2 (fired-going w r a.0 stands a.1);
+          subst (RoundStands net w d) a.2 (fired_going w r a.0 stands a.1);
     }

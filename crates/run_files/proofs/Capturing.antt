@@ -18,12 +18,12 @@ use Rattle.run_files.specs.declared.capture.Captured.{Captured}
 use Rattle.run_files.specs.declared.listed.HostListing.{HostListing}
 use Rattle.host_link.specs.declared.line.Line.{Line}
 use Rattle.host_link.specs.declared.line.Logged.{Logged}
-use Rattle.run_files.proofs.Listings.{with_bytes-append}
+use Rattle.run_files.proofs.Listings.{with_bytes_append}
 
 -- ---- one host
 
-more-records : (size : ℕ) (p : Line → Bool) (ls : List Line) (l : Line) → records_of size (filter p (ls ++ l ∷ [])) ≡ line_behind (p l) size l (records_of size (filter p ls))
-more-records size p ls l =
+more_records : (size : ℕ) (p : Line → Bool) (ls : List Line) (l : Line) → records_of size (filter p (ls ++ l ∷ [])) ≡ line_behind (p l) size l (records_of size (filter p ls))
+more_records size p ls l =
     ap (flat_map (line_record size)) (filter-append p ls (l ∷ [])) ∙ flat_map-append (line_record size) (filter p ls) (filter p (l ∷ [])) ∙ last (p l) where
       records : List ℕ
       records = records_of size (filter p ls)
@@ -36,154 +36,154 @@ module _ (number : ℕ) (own : Ip) (ls : List Line) (l : Line) where
   before : Option ℕ → Captured
   before o = captured_by number own ls o
 
-  some-line : (size : ℕ) (b : Bool) → is_at number l ≡ b → captured_by number own (ls ++ l ∷ []) (Some size) ≡ (if b then line_by own l (captured_by number own ls (Some size)) (Some size) else captured_by number own ls (Some size))
-  some-line size b at = go b at where
+  some_line : (size : ℕ) (b : Bool) → is_at number l ≡ b → captured_by number own (ls ++ l ∷ []) (Some size) ≡ (if b then line_by own l (captured_by number own ls (Some size)) (Some size) else captured_by number own ls (Some size))
+  some_line size b at = go b at where
     eth0 : (b : Bool) → is_at number l ≡ b → records_of size (eth0_of number own (ls ++ l ∷ [])) ≡ line_behind (b && is_on_eth0 own l) size l (records_of size (eth0_of number own ls))
-    eth0 b at = more-records size (λ (line : Line). is_at number line && is_on_eth0 own line) ls l ∙ ap (λ (t : Bool). line_behind (t && is_on_eth0 own l) size l (records_of size (eth0_of number own ls))) at
+    eth0 b at = more_records size (λ (line : Line). is_at number line && is_on_eth0 own line) ls l ∙ ap (λ (t : Bool). line_behind (t && is_on_eth0 own l) size l (records_of size (eth0_of number own ls))) at
 
     lo : (b : Bool) → is_at number l ≡ b → records_of size (lo_of number own (ls ++ l ∷ [])) ≡ line_behind (b && is_on_lo own l) size l (records_of size (lo_of number own ls))
-    lo b at = more-records size (λ (line : Line). is_at number line && is_on_lo own line) ls l ∙ ap (λ (t : Bool). line_behind (t && is_on_lo own l) size l (records_of size (lo_of number own ls))) at
+    lo b at = more_records size (λ (line : Line). is_at number line && is_on_lo own line) ls l ∙ ap (λ (t : Bool). line_behind (t && is_on_lo own l) size l (records_of size (lo_of number own ls))) at
 
     go : (b : Bool) → is_at number l ≡ b → captured_by number own (ls ++ l ∷ []) (Some size) ≡ (if b then line_by own l (captured_by number own ls (Some size)) (Some size) else captured_by number own ls (Some size))
     go true at = let e = eth0 true at in let f = lo true at in λ i. record { eth0 = e i; lo = f i }
     go false at = let e = eth0 false at in let f = lo false at in λ i. record { eth0 = e i; lo = f i }
 
-  line-by : (o : Option ℕ) (b : Bool) → is_at number l ≡ b → captured_by number own (ls ++ l ∷ []) o ≡ (if b then line_by own l (captured_by number own ls o) o else captured_by number own ls o)
-  line-by None true at = refl
-  line-by None false at = refl
-  line-by (Some size) b at = some-line size b at
+  line_by_is : (o : Option ℕ) (b : Bool) → is_at number l ≡ b → captured_by number own (ls ++ l ∷ []) o ≡ (if b then line_by own l (captured_by number own ls o) o else captured_by number own ls o)
+  line_by_is None true at = refl
+  line_by_is None false at = refl
+  line_by_is (Some size) b at = some_line size b at
 
 -- a line of the host, and one of another host
-line-here : (number : ℕ) (host : HostNames) (ls : List Line) (l : Line) → l.host.index ≡ number → captured number host (ls ++ l ∷ []) ≡ with_line host l (captured number host ls)
-line-here number host ls l here = line-by number host.address ls l host.capture true (eq-eqb l.host.index number here)
+line_here : (number : ℕ) (host : HostNames) (ls : List Line) (l : Line) → l.host.index ≡ number → captured number host (ls ++ l ∷ []) ≡ with_line host l (captured number host ls)
+line_here number host ls l here = line_by_is number host.address ls l host.capture true (eq-eqb l.host.index number here)
 
-line-elsewhere : (number : ℕ) (host : HostNames) (ls : List Line) (l : Line) → l.host.index ≢ number → captured number host (ls ++ l ∷ []) ≡ captured number host ls
-line-elsewhere number host ls l other = line-by number host.address ls l host.capture false (ne_eqb l.host.index number other)
+line_elsewhere : (number : ℕ) (host : HostNames) (ls : List Line) (l : Line) → l.host.index ≢ number → captured number host (ls ++ l ∷ []) ≡ captured number host ls
+line_elsewhere number host ls l other = line_by_is number host.address ls l host.capture false (ne_eqb l.host.index number other)
 
 -- ---- all hosts
 
-pub length-captured : (number : ℕ) (hosts : List HostNames) (ls : List Line) → length (captured_from number hosts ls) ≡ length hosts
-length-captured number [] ls = refl
-length-captured number (host ∷ hosts) ls = ap suc (length-captured (number + 1) hosts ls)
+pub length_captured : (number : ℕ) (hosts : List HostNames) (ls : List Line) → length (captured_from number hosts ls) ≡ length hosts
+length_captured number [] ls = refl
+length_captured number (host ∷ hosts) ls = ap suc (length_captured (number + 1) hosts ls)
 
-nothing-by : (number : ℕ) (own : Ip) (o : Option ℕ) → captured_by number own [] o ≡ record { eth0 = []; lo = [] }
-nothing-by number own None = refl
-nothing-by number own (Some size) = refl
+nothing_by : (number : ℕ) (own : Ip) (o : Option ℕ) → captured_by number own [] o ≡ record { eth0 = []; lo = [] }
+nothing_by number own None = refl
+nothing_by number own (Some size) = refl
 
 abbrev pub nothing : Captured
 nothing = record { eth0 = []; lo = [] }
 
 -- where no line is
-pub nothing-captured : (number : ℕ) (hosts : List HostNames) → captured_from number hosts [] ≡ replicate (length hosts) nothing
-nothing-captured number [] = refl
-nothing-captured number (host ∷ hosts) =
-    ap (λ (c : Captured). c ∷ captured_from (number + 1) hosts []) (nothing-by number host.address host.capture) ∙ ap (λ (cs : List Captured). nothing ∷ cs) (nothing-captured (number + 1) hosts)
+pub nothing_captured : (number : ℕ) (hosts : List HostNames) → captured_from number hosts [] ≡ replicate (length hosts) nothing
+nothing_captured number [] = refl
+nothing_captured number (host ∷ hosts) =
+    ap (λ (c : Captured). c ∷ captured_from (number + 1) hosts []) (nothing_by number host.address host.capture) ∙ ap (λ (cs : List Captured). nothing ∷ cs) (nothing_captured (number + 1) hosts)
 
 -- a line of none of these hosts
-pub line-unseen : (number : ℕ) (hosts : List HostNames) (ls : List Line) (l : Line) → ((k : ℕ) → k < length hosts → l.host.index ≢ number + k) → captured_from number hosts (ls ++ l ∷ []) ≡ captured_from number hosts ls
-line-unseen number [] ls l other = refl
-line-unseen number (host ∷ hosts) ls l other =
-    ap (λ (c : Captured). c ∷ captured_from (number + 1) hosts (ls ++ l ∷ [])) (line-elsewhere number host ls l (λ same. other 0 (omega arith) (omega arith)))
-    ∙ ap (λ (cs : List Captured). captured number host ls ∷ cs) (line-unseen (number + 1) hosts ls l (λ k below same. other (suc k) (omega arith) (omega arith)))
+pub line_unseen : (number : ℕ) (hosts : List HostNames) (ls : List Line) (l : Line) → ((k : ℕ) → k < length hosts → l.host.index ≢ number + k) → captured_from number hosts (ls ++ l ∷ []) ≡ captured_from number hosts ls
+line_unseen number [] ls l other = refl
+line_unseen number (host ∷ hosts) ls l other =
+    ap (λ (c : Captured). c ∷ captured_from (number + 1) hosts (ls ++ l ∷ [])) (line_elsewhere number host ls l (λ same. other 0 (omega arith) (omega arith)))
+    ∙ ap (λ (cs : List Captured). captured number host ls ∷ cs) (line_unseen (number + 1) hosts ls l (λ k below same. other (suc k) (omega arith) (omega arith)))
 
-pub line-past : (hosts : List HostNames) (ls : List Line) (l : Line) → length hosts ≤ l.host.index → captured_from 0 hosts (ls ++ l ∷ []) ≡ captured_from 0 hosts ls
-line-past hosts ls l past = line-unseen 0 hosts ls l (λ k below same. omega arith)
+pub line_past : (hosts : List HostNames) (ls : List Line) (l : Line) → length hosts ≤ l.host.index → captured_from 0 hosts (ls ++ l ∷ []) ≡ captured_from 0 hosts ls
+line_past hosts ls l past = line_unseen 0 hosts ls l (λ k below same. omega arith)
 
-pub captured-at : (number : ℕ) (hosts : List HostNames) (ls : List Line) (k : ℕ) (host : HostNames) (c : Captured) → slice_get hosts k ≡ Some host → slice_get (captured_from number hosts ls) k ≡ Some c → c ≡ captured (number + k) host ls
-captured-at number [] ls k host c at is = absurd (let e : None ≡ Some host = at in cc)
-captured-at number (h ∷ hosts) ls zero host c at is =
+pub captured_at : (number : ℕ) (hosts : List HostNames) (ls : List Line) (k : ℕ) (host : HostNames) (c : Captured) → slice_get hosts k ≡ Some host → slice_get (captured_from number hosts ls) k ≡ Some c → c ≡ captured (number + k) host ls
+captured_at number [] ls k host c at is = absurd (let e : None ≡ Some host = at in cc)
+captured_at number (h ∷ hosts) ls zero host c at is =
     let first : captured number h ls ≡ c = (let e : Some (captured number h ls) ≡ Some c = is in cc) in
     let same : h ≡ host = (let e : Some h ≡ Some host = at in cc) in
     sym first ∙ ap (λ (x : HostNames). captured number x ls) same ∙ ap (λ (n : ℕ). captured n host ls) (let e : number ≡ number + 0 = omega arith in e)
-captured-at number (h ∷ hosts) ls (suc k) host c at is =
-    captured-at (number + 1) hosts ls k host c at is ∙ ap (λ (n : ℕ). captured n host ls) (let e : number + 1 + k ≡ number + suc k = omega arith in e)
+captured_at number (h ∷ hosts) ls (suc k) host c at is =
+    captured_at (number + 1) hosts ls k host c at is ∙ ap (λ (n : ℕ). captured n host ls) (let e : number + 1 + k ≡ number + suc k = omega arith in e)
 
 -- the line of a host, put behind those that it has
-pub line-set : (number : ℕ) (hosts : List HostNames) (ls : List Line) (l : Line) (k : ℕ) (host : HostNames) → slice_get hosts k ≡ Some host → l.host.index ≡ number + k
+pub line_set : (number : ℕ) (hosts : List HostNames) (ls : List Line) (l : Line) (k : ℕ) (host : HostNames) → slice_get hosts k ≡ Some host → l.host.index ≡ number + k
     → set (captured_from number hosts ls) k (with_line host l (captured (number + k) host ls)) ≡ captured_from number hosts (ls ++ l ∷ [])
-line-set number [] ls l k host at is = absurd (let e : None ≡ Some host = at in cc)
-line-set number (h ∷ hosts) ls l zero host at is =
+line_set number [] ls l k host at is = absurd (let e : None ≡ Some host = at in cc)
+line_set number (h ∷ hosts) ls l zero host at is =
     let same : h ≡ host = (let e : Some h ≡ Some host = at in cc) in
     let here : l.host.index ≡ number = omega arith in
     let zero-more : number + 0 ≡ number = omega arith in
     ap (λ (n : ℕ). with_line host l (captured n host ls) ∷ captured_from (number + 1) hosts ls) zero-more
     ∙ ap (λ (x : HostNames). with_line x l (captured number x ls) ∷ captured_from (number + 1) hosts ls) (sym same)
-    ∙ ap (λ (c : Captured). c ∷ captured_from (number + 1) hosts ls) (sym (line-here number h ls l here))
-    ∙ ap (λ (cs : List Captured). captured number h (ls ++ l ∷ []) ∷ cs) (sym (line-unseen (number + 1) hosts ls l (λ j below later. omega arith)))
-line-set number (h ∷ hosts) ls l (suc k) host at is =
+    ∙ ap (λ (c : Captured). c ∷ captured_from (number + 1) hosts ls) (sym (line_here number h ls l here))
+    ∙ ap (λ (cs : List Captured). captured number h (ls ++ l ∷ []) ∷ cs) (sym (line_unseen (number + 1) hosts ls l (λ j below later. omega arith)))
+line_set number (h ∷ hosts) ls l (suc k) host at is =
     let next : number + suc k ≡ number + 1 + k = omega arith in
     ap (λ (n : ℕ). captured number h ls ∷ set (captured_from (number + 1) hosts ls) k (with_line host l (captured n host ls))) next
-    ∙ ap (λ (cs : List Captured). captured number h ls ∷ cs) (line-set (number + 1) hosts ls l k host at (omega arith))
-    ∙ ap (λ (c : Captured). c ∷ captured_from (number + 1) hosts (ls ++ l ∷ [])) (sym (line-elsewhere number h ls l (λ same. omega arith)))
+    ∙ ap (λ (cs : List Captured). captured number h ls ∷ cs) (line_set (number + 1) hosts ls l k host at (omega arith))
+    ∙ ap (λ (c : Captured). c ∷ captured_from (number + 1) hosts (ls ++ l ∷ [])) (sym (line_elsewhere number h ls l (λ same. omega arith)))
 
 -- ---- hosts that capture nothing
 
-nothing-there : (front : ℕ → List ℕ) (name : List ℕ) (c : Captured) (o : Option ℕ) → is_there o ≡ false → files_by front name c o ≡ []
-nothing-there front name c None none = refl
-nothing-there front name c (Some size) none = absurd (cc)
+nothing_there : (front : ℕ → List ℕ) (name : List ℕ) (c : Captured) (o : Option ℕ) → is_there o ≡ false → files_by front name c o ≡ []
+nothing_there front name c None none = refl
+nothing_there front name c (Some size) none = absurd (cc)
 
-pub none-captures : (front : ℕ → List ℕ) (hosts : List HostListing) (cs : List Captured) → list_any (λ (host : HostListing). has_captures (said host)) hosts ≡ false → by_host (host_captures front) (map said hosts) cs ≡ []
-none-captures front [] cs none = refl
-none-captures front (host ∷ hosts) [] none = refl
-none-captures front (host ∷ hosts) (c ∷ cs) none = go (has_captures (said host)) refl none (λ e. none-captures front hosts cs e) where
+pub none_captures : (front : ℕ → List ℕ) (hosts : List HostListing) (cs : List Captured) → list_any (λ (host : HostListing). has_captures (said host)) hosts ≡ false → by_host (host_captures front) (map said hosts) cs ≡ []
+none_captures front [] cs none = refl
+none_captures front (host ∷ hosts) [] none = refl
+none_captures front (host ∷ hosts) (c ∷ cs) none = go (has_captures (said host)) refl none (λ e. none_captures front hosts cs e) where
   go : (b : Bool) → has_captures (said host) ≡ b → (b || list_any (λ (h : HostListing). has_captures (said h)) hosts) ≡ false → (list_any (λ (h : HostListing). has_captures (said h)) hosts ≡ false → by_host (host_captures front) (map said hosts) cs ≡ [])
       → host_captures front (said host) c ++ by_host (host_captures front) (map said hosts) cs ≡ []
   go true is e later = absurd (cc)
-  go false is e later = ap (λ (ps : List Put). ps ++ by_host (host_captures front) (map said hosts) cs) (nothing-there front host.name c host.capture is) ∙ later e
+  go false is e later = ap (λ (ps : List Put). ps ++ by_host (host_captures front) (map said hosts) cs) (nothing_there front host.name c host.capture is) ∙ later e
 
 -- ---- pieces
 
 -- those of one host more
-pub captured-step : (f : HostNames → Captured → List Put) (host : HostListing) (hosts : List HostListing) (c : Captured) (cs : List Captured) (old new whole : List Put)
+pub captured_step : (f : HostNames → Captured → List Put) (host : HostListing) (hosts : List HostListing) (c : Captured) (cs : List Captured) (old new whole : List Put)
     → new ≡ old ++ with_bytes (f (said host) c) → old ++ with_bytes (by_host f (map said (host ∷ hosts)) (c ∷ cs)) ≡ whole → new ++ with_bytes (by_host f (map said hosts) cs) ≡ whole
-captured-step f host hosts c cs old new whole is so_far =
+captured_step f host hosts c cs old new whole is so_far =
     let rest = by_host f (map said hosts) cs in
     ap (λ (l : List Put). l ++ with_bytes rest) is ∙ append_assoc old (with_bytes (f (said host) c)) (with_bytes rest)
-    ∙ ap (λ (l : List Put). old ++ l) (sym (with_bytes-append (f (said host) c) rest)) ∙ so_far
+    ∙ ap (λ (l : List Put). old ++ l) (sym (with_bytes_append (f (said host) c) rest)) ∙ so_far
 
-captured-none : (f : HostNames → Captured → List Put) (hosts : List HostListing) (cs : List Captured) → (length hosts ≡ 0) ⊎ (length cs ≡ 0) → by_host f (map said hosts) cs ≡ []
-captured-none f [] cs none = refl
-captured-none f (host ∷ hosts) [] none = refl
-captured-none f (host ∷ hosts) (c ∷ cs) (inl none) = absurd (omega arith)
-captured-none f (host ∷ hosts) (c ∷ cs) (inr none) = absurd (omega arith)
+captured_none : (f : HostNames → Captured → List Put) (hosts : List HostListing) (cs : List Captured) → (length hosts ≡ 0) ⊎ (length cs ≡ 0) → by_host f (map said hosts) cs ≡ []
+captured_none f [] cs none = refl
+captured_none f (host ∷ hosts) [] none = refl
+captured_none f (host ∷ hosts) (c ∷ cs) (inl none) = absurd (omega arith)
+captured_none f (host ∷ hosts) (c ∷ cs) (inr none) = absurd (omega arith)
 
-pub captured-end : (f : HostNames → Captured → List Put) (hosts : List HostListing) (cs : List Captured) (puts whole : List Put) → (length hosts ≡ 0) ⊎ (length cs ≡ 0)
+pub captured_end : (f : HostNames → Captured → List Put) (hosts : List HostListing) (cs : List Captured) (puts whole : List Put) → (length hosts ≡ 0) ⊎ (length cs ≡ 0)
     → puts ++ with_bytes (by_host f (map said hosts) cs) ≡ whole → puts ≡ whole
-captured-end f hosts cs puts whole none so_far = sym (append-nil puts) ∙ ap (λ (l : List Put). puts ++ with_bytes l) (sym (captured-none f hosts cs none)) ∙ so_far
+captured_end f hosts cs puts whole none so_far = sym (append-nil puts) ∙ ap (λ (l : List Put). puts ++ with_bytes l) (sym (captured_none f hosts cs none)) ∙ so_far
 
 -- ---- one line of all
 
-at-listed : (hosts : List HostListing) (i : ℕ) (host : HostListing) → i < length hosts → host ≡ get_or hosts i host → slice_get (map said hosts) i ≡ Some (said host)
-at-listed [] i host below is = absurd (omega arith)
-at-listed (h ∷ hosts) zero host below is = ap (λ (x : HostListing). Some (said x)) (sym is)
-at-listed (h ∷ hosts) (suc i) host below is = at-listed hosts i host (omega arith) is
+at_listed : (hosts : List HostListing) (i : ℕ) (host : HostListing) → i < length hosts → host ≡ get_or hosts i host → slice_get (map said hosts) i ≡ Some (said host)
+at_listed [] i host below is = absurd (omega arith)
+at_listed (h ∷ hosts) zero host below is = ap (λ (x : HostListing). Some (said x)) (sym is)
+at_listed (h ∷ hosts) (suc i) host below is = at_listed hosts i host (omega arith) is
 
-pub line-put : (hosts : List HostListing) (ls : List Line) (l : Line) (old : List Captured) (host : HostListing) (c new : Captured) → old ≡ captured_from 0 (map said hosts) ls
+pub line_put : (hosts : List HostListing) (ls : List Line) (l : Line) (old : List Captured) (host : HostListing) (c new : Captured) → old ≡ captured_from 0 (map said hosts) ls
     → l.host.index < length hosts → host ≡ get_or hosts l.host.index host → l.host.index < length old → c ≡ get_or old l.host.index c → new ≡ with_line (said host) l c
     → set old l.host.index new ≡ captured_from 0 (map said hosts) (ls ++ l ∷ [])
-line-put hosts ls l old host c new old_is below host_is there c_is new_is =
+line_put hosts ls l old host c new old_is below host_is there c_is new_is =
     let i = l.host.index in
-    let at = at-listed hosts i host below host_is in
+    let at = at_listed hosts i host below host_is in
     let found : slice_get old i ≡ Some c = slice_get_read old (length old) i c refl there c_is in
-    let same : c ≡ captured (0 + i) (said host) ls = captured-at 0 (map said hosts) ls i (said host) c at (subst (λ (o : List Captured). slice_get o i ≡ Some c) old_is found) in
+    let same : c ≡ captured (0 + i) (said host) ls = captured_at 0 (map said hosts) ls i (said host) c at (subst (λ (o : List Captured). slice_get o i ≡ Some c) old_is found) in
     let here : l.host.index ≡ 0 + i = omega arith in
     ap (λ (x : Captured). set old i x) (new_is ∙ ap (with_line (said host) l) same)
     ∙ ap (λ (o : List Captured). set o i (with_line (said host) l (captured (0 + i) (said host) ls))) old_is
-    ∙ line-set 0 (map said hosts) ls l i (said host) at here
+    ∙ line_set 0 (map said hosts) ls l i (said host) at here
 
-pub line-beyond : (hosts : List HostListing) (ls : List Line) (l : Line) (old : List Captured) → old ≡ captured_from 0 (map said hosts) ls → length hosts ≤ l.host.index → old ≡ captured_from 0 (map said hosts) (ls ++ l ∷ [])
-line-beyond hosts ls l old old_is past = old_is ∙ sym (line-past (map said hosts) ls l (let e = length-map hosts said in omega arith))
+pub line_beyond : (hosts : List HostListing) (ls : List Line) (l : Line) (old : List Captured) → old ≡ captured_from 0 (map said hosts) ls → length hosts ≤ l.host.index → old ≡ captured_from 0 (map said hosts) (ls ++ l ∷ [])
+line_beyond hosts ls l old old_is past = old_is ∙ sym (line_past (map said hosts) ls l (let e = length-map hosts said in omega arith))
 
 -- hosts and what they captured are as many
-pub line-unheld : (hosts : List HostListing) (ls : List Line) (l : Line) (old : List Captured) → old ≡ captured_from 0 (map said hosts) ls → length old ≤ l.host.index → old ≡ captured_from 0 (map said hosts) (ls ++ l ∷ [])
-line-unheld hosts ls l old old_is past =
-    let count : length old ≡ length hosts = ap length old_is ∙ length-captured 0 (map said hosts) ls ∙ length-map hosts said in
-    line-beyond hosts ls l old old_is (omega arith)
+pub line_unheld : (hosts : List HostListing) (ls : List Line) (l : Line) (old : List Captured) → old ≡ captured_from 0 (map said hosts) ls → length old ≤ l.host.index → old ≡ captured_from 0 (map said hosts) (ls ++ l ∷ [])
+line_unheld hosts ls l old old_is past =
+    let count : length old ≡ length hosts = ap length old_is ∙ length_captured 0 (map said hosts) ls ∙ length-map hosts said in
+    line_beyond hosts ls l old old_is (omega arith)
 
-line-next : (lines : List Logged) (i : ℕ) (line : Logged) → i < length lines → line ≡ get_or lines i line → kept_lines (take i lines) ++ (line.line ∷ []) ≡ kept_lines (take (suc i) lines)
-line-next [] i line below is = absurd (omega arith)
-line-next (x ∷ xs) zero line below is = ap (λ (y : Logged). y.line ∷ []) is
-line-next (x ∷ xs) (suc i) line below is = ap (λ (ls : List Line). x.line ∷ ls) (line-next xs i line (omega arith) is)
+line_next : (lines : List Logged) (i : ℕ) (line : Logged) → i < length lines → line ≡ get_or lines i line → kept_lines (take i lines) ++ (line.line ∷ []) ≡ kept_lines (take (suc i) lines)
+line_next [] i line below is = absurd (omega arith)
+line_next (x ∷ xs) zero line below is = ap (λ (y : Logged). y.line ∷ []) is
+line_next (x ∷ xs) (suc i) line below is = ap (λ (ls : List Line). x.line ∷ ls) (line_next xs i line (omega arith) is)
 
-pub lines-more : (lines : List Logged) (i : ℕ) (line : Logged) → i < length lines → line ≡ get_or lines i line → kept_lines (take i lines) ++ (line.line ∷ []) ≡ kept_lines (take (i + 1) lines)
-lines-more lines i line below is = line-next lines i line below is ∙ ap (λ (j : ℕ). kept_lines (take j lines)) (let e : suc i ≡ i + 1 = omega arith in e)
+pub lines_more : (lines : List Logged) (i : ℕ) (line : Logged) → i < length lines → line ≡ get_or lines i line → kept_lines (take i lines) ++ (line.line ∷ []) ≡ kept_lines (take (i + 1) lines)
+lines_more lines i line below is = line_next lines i line below is ∙ ap (λ (j : ℕ). kept_lines (take j lines)) (let e : suc i ≡ i + 1 = omega arith in e)

@@ -38,8 +38,8 @@ split_last c text (Some x) h low =
     (λ t. Some (h.3 t, second t)) ∙ sym (ap (option_map (λ k. (take k text, drop (k + 1) text))) found)
 
 -- the part behind the last slash
-pub program-split : (path : List ℕ) (r : Option (Bor (List ℕ) × Bor (List ℕ)))
+pub program_split : (path : List ℕ) (r : Option (Bor (List ℕ) × Bor (List ℕ)))
     → MatchOption r (RFindsChar 47 path None) (λ x. (i : ℕ) × (j : ℕ) × RFindsChar 47 path (Some (i, j)) × (x.0.now ≡ take i path) × (x.1.now ≡ drop j path) × (i ≤ j) × (length x.0.now ≡ i) × (length x.1.now + j ≡ length path))
     → last_part path (option_map (λ x. (x.0.now, x.1.now)) r) ≡ program_of path
 unfolding program_of
-program-split path r h = ap (last_part path) (split_last 47 path r h (omega arith))
+program_split path r h = ap (last_part path) (split_last 47 path r h (omega arith))

@@ -32,7 +32,7 @@ use Rattle.run_fits.proofs.Records.{MayBeWhole, TurnFits, begin_fits, closes_fit
 use Rattle.run_fits.specs.Bytes.{AreBytes}
 use Rattle.run_fits.specs.Packets.{AreWhole, WantFits, WantsFit}
 use Rattle.run_fits.specs.Sockets.{FitsIp, ListenFits, MayFit, SocketsFit, TcbFits, TcpFits}
-use Rattle.sim_base.specs.AddressLaws.{first_free_port-IsLeastFree}
+use Rattle.sim_base.specs.AddressLaws.{first_free_port_IsLeastFree}
 use Rattle.sim_base.specs.Addresses.{any, at_free_port, at_port, is_same_ip, least_free_port, loopback, with_port}
 use Rattle.sim_base.specs.Refusals.{or_refuse, ◌>>=◌}
 use Rattle.sim_base.specs.declared.address.Addr.{Addr}
@@ -153,7 +153,7 @@ heard_acted now k own other h gone s w fits both =
 free_fits : (bound : List Addr) (ip : Ip) (found : Option ℕ) → least_free_port bound ≡ found → FitsIp ip → MayFit (option_map (at_port ip) found)
 free_fits bound ip None e fits = tt
 free_fits bound ip (Some port) e fits =
-    let within = (first_free_port-IsLeastFree bound 10000 55536 port e).within in (fits, omega (arith, within))
+    let within = (first_free_port_IsLeastFree bound 10000 55536 port e).within in (fits, omega (arith, within))
 
 pub free_end : (bound : List Addr) (ip : Ip) → FitsIp ip → MayFit (at_free_port bound ip)
 free_end bound ip fits = free_fits bound ip (least_free_port bound) refl fits

@@ -12,18 +12,18 @@ twice : (b : Bool) (x y : List ℕ) (f : Option (List ℕ)) → cond b (Some (un
 twice true x y f = ap Some (append_assoc (unwrap_or f []) x y)
 twice false x y f = refl
 
-pub add_to_file-append : (name x y : List ℕ) (files : Held) → add_to_file name y (add_to_file name x files) ≡ add_to_file name (x ++ y) files
-add_to_file-append name x y files = λ i other. twice (bytes_eq name other) x y (files other) i
+pub add_to_file_append : (name x y : List ℕ) (files : Held) → add_to_file name y (add_to_file name x files) ≡ add_to_file name (x ++ y) files
+add_to_file_append name x y files = λ i other. twice (bytes_eq name other) x y (files other) i
 
 -- two pieces, one after the other, are the two as one
-pub add-append : (p : Place) (x y : List ℕ) (c : Content) → add p y (add p x c) ≡ add p (x ++ y) c
-add-append place.Out x y c = ap (λ (out : List ℕ). record c { out = out }) (append_assoc c.out x y)
-add-append place.Err x y c = ap (λ (err : List ℕ). record c { err = err }) (append_assoc c.err x y)
-add-append (place.File name) x y c = ap (λ (files : Held). record c { files = files }) (add_to_file-append name x y c.files)
+pub add_append : (p : Place) (x y : List ℕ) (c : Content) → add p y (add p x c) ≡ add p (x ++ y) c
+add_append place.Out x y c = ap (λ (out : List ℕ). record c { out = out }) (append_assoc c.out x y)
+add_append place.Err x y c = ap (λ (err : List ℕ). record c { err = err }) (append_assoc c.err x y)
+add_append (place.File name) x y c = ap (λ (files : Held). record c { files = files }) (add_to_file_append name x y c.files)
 
-pub add-append_told : (p : Place) (x y : List ℕ) (o : Option Content) → option_map (add p y) (option_map (add p x) o) ≡ option_map (add p (x ++ y)) o
-add-append_told p x y None = refl
-add-append_told p x y (Some c) = ap Some (add-append p x y c)
+pub add_append_told : (p : Place) (x y : List ℕ) (o : Option Content) → option_map (add p y) (option_map (add p x) o) ≡ option_map (add p (x ++ y)) o
+add_append_told p x y None = refl
+add_append_told p x y (Some c) = ap Some (add_append p x y c)
 
 -- the front of the piece was put, and the rest is left
 pub record HasPut (p : Place) (piece rest : List ℕ) (old now : Option Content) : Type 0 where
@@ -49,13 +49,13 @@ front_more p piece count n old now new (inl h) e =
     ∙ ap (λ xs. option_map (add p xs) old) (from_start piece n count h.0)
 front_more p piece count n old now new (inr h) e =
     e ∙ ap (λ o. option_map (add p (take n (drop count piece))) o) h
-    ∙ add-append_told p (take count piece) (take n (drop count piece)) old
+    ∙ add_append_told p (take count piece) (take n (drop count piece)) old
     ∙ ap (λ xs. option_map (add p xs) old) (sym (take-add count n piece))
 
 -- a piece of the rest was put
-pub HasPut-more : (p : Place) (piece rest : List ℕ) (n : ℕ) (old now new : Option Content) → n ≤ length rest
+pub HasPut_more : (p : Place) (piece rest : List ℕ) (n : ℕ) (old now new : Option Content) → n ≤ length rest
     → new ≡ option_map (add p (take n rest)) now → HasPut p piece rest old now → HasPut p piece (drop n rest) old new
-HasPut-more p piece rest n old now new within e h = record {
+HasPut_more p piece rest n old now new within e h = record {
   count = h.count + n;
   within = omega (arith, h.within, ap length h.left, length-drop h.count piece);
   left = ap (drop n) h.left ∙ drop-drop h.count n piece;

@@ -16,11 +16,11 @@ told_both {P} {Q} {R} (Some files) name f p q = of_file (files name) p q where
   of_file (Some bytes) p q = f bytes p q
 
 -- a piece more
-pub HasRead-more : (held : Option Held) (name : List ℕ) (filled n : ℕ) (old into new : List ℕ) → filled ≤ length old → n ≤ length into
+pub HasRead_more : (held : Option Held) (name : List ℕ) (filled n : ℕ) (old into new : List ℕ) → filled ≤ length old → n ≤ length into
     → take (filled + n) new ≡ take filled old ++ take n into
     → IfSome held (λ files. IfSome (files name) (λ bytes. IsPiece bytes filled n into))
     → HasRead held name filled old → HasRead held name (filled + n) new
-HasRead-more held name filled n old into new room within front piece h = record { told = told_both held name more h.told piece } where
+HasRead_more held name filled n old into new room within front piece h = record { told = told_both held name more h.told piece } where
   more : (bytes : List ℕ) → (filled ≤ length bytes) × (take filled old ≡ take filled bytes) → IsPiece bytes filled n into
       → (filled + n ≤ length bytes) × (take (filled + n) new ≡ take (filled + n) bytes)
   more bytes before p = (
@@ -29,9 +29,9 @@ HasRead-more held name filled n old into new room within front piece h = record 
   )
 
 -- the front of a buffer whose middle was read
-pub take-filled : (filled n : ℕ) (old into rest : List ℕ) → filled ≤ length old → n ≤ length into
+pub take_filled : (filled n : ℕ) (old into rest : List ℕ) → filled ≤ length old → n ≤ length into
     → take (filled + n) (take filled old ++ (into ++ rest)) ≡ take filled old ++ take n into
-take-filled filled n old into rest room within =
+take_filled filled n old into rest room within =
     let size : length (take filled old) ≡ filled = grind (arith, common_steps) in
     ap (λ k. take (k + n) (take filled old ++ (into ++ rest))) (sym size)
     ∙ take-append-add (take filled old) (into ++ rest) n

@@ -11,8 +11,8 @@ use Rattle.yaml_merge.specs.Sources.{pairs_of, sources}
 use Rattle.yaml_merge.specs.Merge.{is_merge_key, may_merge, has, keys_of, new_pairs, below, item_count, item_place, merged_rows, merged}
 use Rattle.yaml_merge.specs.declared.plain.Pair.{Pair}
 use Rattle.yaml_merge.specs.declared.fault.MergeFault.{MergeFault}
-use Rattle.run_plan.proofs.NameCounts.{one_if, is_one, is_one-same, copies, copies-append, copies-absent, has-append, has-last}
-use Rattle.run_plan.proofs.TreeKeys.{IsOnce, IsOfOneKind, AreOnce, keys, keys-with_pairs, once-with_pairs}
+use Rattle.run_plan.proofs.NameCounts.{one_if, is_one, is_one_same, copies, copies_append, copies_absent, has_append, has_last}
+use Rattle.run_plan.proofs.TreeKeys.{IsOnce, IsOfOneKind, AreOnce, keys, keys_with_pairs, once_with_pairs}
 
 abbrev merge_key : List ℕ
 merge_key = codes "<<"
@@ -44,7 +44,7 @@ module _ (name : List ℕ) where
   -- a taken key isn't new
   none_new : (taken : List (List ℕ)) (ps : List Pair) → has name taken ≡ true → copies name (keys (new_pairs taken ps)) ≡ 0
   none_new taken [] h = refl
-  none_new taken (p ∷ ps) h = by (has p.key taken) refl (pointwise ◌==◌ name p.key) refl (none_new taken ps h) (none_new (taken ++ p.key ∷ []) ps (has-append name taken p.key h))
+  none_new taken (p ∷ ps) h = by (has p.key taken) refl (pointwise ◌==◌ name p.key) refl (none_new taken ps h) (none_new (taken ++ p.key ∷ []) ps (has_append name taken p.key h))
     where
       by : (t : Bool) → has p.key taken ≡ t → (u : Bool) → pointwise ◌==◌ name p.key ≡ u → copies name (keys (new_pairs taken ps)) ≡ 0 → copies name (keys (new_pairs (taken ++ p.key ∷ []) ps)) ≡ 0
           → copies name (keys (if t then new_pairs taken ps else p ∷ new_pairs (taken ++ p.key ∷ []) ps)) ≡ 0
@@ -62,7 +62,7 @@ module _ (name : List ℕ) where
       by true u q there more = there
       by false true q there more =
           let same = same_text name p.key (sym q) in
-          omega (arith, is_one-same name p.key same, none_new (taken ++ p.key ∷ []) ps (has-last name taken p.key same))
+          omega (arith, is_one_same name p.key same, none_new (taken ++ p.key ∷ []) ps (has_last name taken p.key same))
       by false false q there more = let none : is_one name p.key ≡ 0 = ap one_if q in omega (arith, none, more)
 
   -- ---- merged rows
@@ -93,17 +93,17 @@ module _ (name : List ℕ) where
   count_merged : (own : Bool) (whole before b : Said) (line : ℕ) (key : List ℕ) (value v : Said) → has name (keys_of whole) ≡ own → is_merge_key key ≡ true → copies name (keys_of b) ≤ most own before
       → copies name (keys_of b ++ keys (new_pairs (keys_of whole) (sources v))) ≤ most own (with_pair before line key value)
   count_merged true whole before b line key value v own is few =
-      omega (arith, few, copies-append name (keys_of b) (keys (new_pairs (keys_of whole) (sources v))), none_new (keys_of whole) (sources v) own, copies-append name (keys_of before) (key ∷ []))
+      omega (arith, few, copies_append name (keys_of b) (keys (new_pairs (keys_of whole) (sources v))), none_new (keys_of whole) (sources v) own, copies_append name (keys_of before) (key ∷ []))
   count_merged false whole before b line key value v own is few =
-      omega (arith, few, copies-append name (keys_of b) (keys (new_pairs (keys_of whole) (sources v))), one_new (keys_of whole) (sources v), copies-append merge_key (keys_of before) (key ∷ []), is_one-same merge_key key (sym (same_text key merge_key (sym is))))
+      omega (arith, few, copies_append name (keys_of b) (keys (new_pairs (keys_of whole) (sources v))), one_new (keys_of whole) (sources v), copies_append merge_key (keys_of before) (key ∷ []), is_one_same merge_key key (sym (same_text key merge_key (sym is))))
 
   -- another pair stays
   count_kept : (own : Bool) (whole before b : Said) (line : ℕ) (key : List ℕ) (value : Said) (rest : List (List ℕ)) → has name (keys_of whole) ≡ own → keys_of before ++ (key ∷ rest) ≡ keys_of whole
       → copies name (keys_of b) ≤ most own before → copies name (keys_of b ++ key ∷ []) ≤ most own (with_pair before line key value)
-  count_kept true whole before b line key value rest own parts few = omega (arith, few, copies-append name (keys_of b) (key ∷ []), copies-append name (keys_of before) (key ∷ []))
+  count_kept true whole before b line key value rest own parts few = omega (arith, few, copies_append name (keys_of b) (key ∷ []), copies_append name (keys_of before) (key ∷ []))
   count_kept false whole before b line key value rest own parts few =
-      let none : copies name (keys_of before ++ (key ∷ rest)) ≡ 0 = ap (copies name) parts ∙ copies-absent name (keys_of whole) own in
-      omega (arith, few, none, copies-append name (keys_of before) (key ∷ rest), copies-append name (keys_of b) (key ∷ []), copies-append merge_key (keys_of before) (key ∷ []))
+      let none : copies name (keys_of before ++ (key ∷ rest)) ≡ 0 = ap (copies name) parts ∙ copies_absent name (keys_of whole) own in
+      omega (arith, few, none, copies_append name (keys_of before) (key ∷ rest), copies_append name (keys_of b) (key ∷ []), copies_append merge_key (keys_of before) (key ∷ []))
 
   module _ (own : Bool) (whole before b : Said) (line : ℕ) (key : List ℕ) (value : Said) (rest : List (List ℕ)) (is_own : has name (keys_of whole) ≡ own) (parts : keys_of before ++ (key ∷ rest) ≡ keys_of whole)
       (few : most own (with_pair before line key value) ≤ 1) (h : Keeps own before b) where
@@ -116,8 +116,8 @@ module _ (name : List ℕ) where
         let new = new_pairs (keys_of whole) (sources v) in
         let count = count_merged own whole before b line key value v is_own is h.count in
         record {
-          once = once-with_pairs name b new h.once (new_once (keys_of whole) (sources v) (sources_once v once)) (omega (arith, count, few));
-          count = subst (λ (ks : List (List ℕ)). copies name ks ≤ most own (with_pair before line key value)) (sym (keys-with_pairs b new)) count;
+          once = once_with_pairs name b new h.once (new_once (keys_of whole) (sources v) (sources_once v once)) (omega (arith, count, few));
+          count = subst (λ (ks : List (List ℕ)). copies name ks ≤ most own (with_pair before line key value)) (sym (keys_with_pairs b new)) count;
         })
     pair_keeps read true false is k = tt
     pair_keeps read false m is k =

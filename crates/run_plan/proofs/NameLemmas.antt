@@ -10,7 +10,7 @@ use Rattle.shd_config.specs.declared.config.Config.{Config}
 use Rattle.shd_config.specs.declared.config.HostConfig.{HostConfig}
 use Rattle.shd_config.specs.declared.fault.ConfigFault.{ConfigFault}
 use Rattle.shd_config.specs.declared.overrides.Overrides.{Overrides}
-use Rattle.text_trees.proofs.TextTrees.{text-plain}
+use Rattle.text_trees.proofs.TextTrees.{text_plain}
 use Rattle.yaml_marks.specs.Lines.{lines_of}
 use Rattle.yaml_tree.specs.Tree.{is_empty_document}
 use Rattle.run_plan.specs.Configured.{configured}
@@ -22,7 +22,7 @@ use Rattle.run_plan.specs.declared.fault.ReadStop.{ReadStop}
 use Rattle.run_plan.specs.declared.host_row.HostRow.{HostRow}
 use Rattle.run_plan.proofs.ConfigNames.{config_names}
 use Rattle.run_plan.proofs.ConfiguredLemmas.{configured_is}
-use Rattle.run_plan.proofs.NameCounts.{one_if, copies, copies-permutation, some_is, one_place}
+use Rattle.run_plan.proofs.NameCounts.{one_if, copies, copies_permutation, some_is, one_place}
 use Rattle.run_plan.proofs.RowLengthLemmas.{rows_moved}
 
 -- ---- places and counts
@@ -66,7 +66,7 @@ rows_apart name graph hosts rows h far =
     apart (map (λ (r : HostRow). r.config.name) rows)
     (λ n. let few = once n (map (λ (x : HostConfig). x.name) hosts) far in
     let same : copies n (map (λ (r : HostRow). r.config.name) rows) ≡ copies n (map (λ (x : HostConfig). x.name) hosts) =
-    ap (copies n) (sym (names_of_rows rows)) ∙ copies-permutation (λ (x : HostConfig). x.name) n hosts (map (λ (r : HostRow). r.config) rows) (rows_moved name graph hosts rows h) in
+    ap (copies n) (sym (names_of_rows rows)) ∙ copies_permutation (λ (x : HostConfig). x.name) n hosts (map (λ (r : HostRow). r.config) rows) (rows_moved name graph hosts rows h) in
     omega (arith, few, same))
 
 -- ---- configurations
@@ -77,7 +77,7 @@ config_apart file text o (Err stop) told = tt
 config_apart file text o (Ok c) told =
     let is = configured_is file text o c told in
     apart (map (λ (x : HostConfig). x.name) c.hosts)
-    (λ n. subst (λ (read : Result Config ConfigFault). IfOk read (λ (d : Config). copies n (map (λ (x : HostConfig). x.name) d.hosts) ≤ 1)) is.2 (config_names n o (is_empty_document (lines_of text)) is.0 (text-plain text is.0 is.1)))
+    (λ n. subst (λ (read : Result Config ConfigFault). IfOk read (λ (d : Config). copies n (map (λ (x : HostConfig). x.name) d.hosts) ≤ 1)) is.2 (config_names n o (is_empty_document (lines_of text)) is.0 (text_plain text is.0 is.1)))
 
 -- ---- a self-load
 

@@ -40,9 +40,9 @@ addresses_count given from (None ∷ hosts) (a ∷ addresses) h = ap suc (addres
 
 -- ---- the hosts of the rows
 
-length-given : (hosts : List HostConfig) → length (map (λ (h : HostConfig). h.ip_addr) hosts) ≡ length hosts
-length-given [] = refl
-length-given (h ∷ hs) = ap suc (length-given hs)
+length_given : (hosts : List HostConfig) → length (map (λ (h : HostConfig). h.ip_addr) hosts) ≡ length hosts
+length_given [] = refl
+length_given (h ∷ hs) = ap suc (length_given hs)
 
 hosts_of_rows : (programs : List (List ℕ)) (hosts : List HostConfig) (rates : List Rates) (addresses : List Ip) → length rates ≡ length hosts → length addresses ≡ length hosts
     → map (λ (r : HostRow). r.config) (rows_of programs hosts rates addresses) ≡ hosts
@@ -57,6 +57,6 @@ unfolding host_rows
 rows_moved name graph hosts rows (ordered, order, (rates, r, (addresses, a, e))) =
     let same : rows_of (programs_of hosts) ordered rates addresses ≡ rows = cc in
     let many : length rates ≡ length ordered = subst (λ (read : Result (List Rates) Fault). IfOk read (λ all. length all ≡ length ordered)) r (rates_count name graph.nodes [] ordered) in
-    let more : length addresses ≡ length ordered = addresses_count _ first_address (map (λ (h : HostConfig). h.ip_addr) ordered) addresses a ∙ length-given ordered in
+    let more : length addresses ≡ length ordered = addresses_count _ first_address (map (λ (h : HostConfig). h.ip_addr) ordered) addresses a ∙ length_given ordered in
     subst (IsPermutation hosts)
     (sym (ap (map (λ (row : HostRow). row.config)) (sym same) ∙ hosts_of_rows (programs_of hosts) ordered rates addresses many more)) order.same

@@ -8,7 +8,7 @@ use Rattle.yaml_merge.specs.Merge.{keys_of}
 use Rattle.yaml_merge.specs.Plainness.{are_items, are_pairs, IsPlain}
 use Rattle.yaml_merge.specs.inside.Rows.{with_pairs}
 use Rattle.yaml_merge.specs.declared.plain.Pair.{Pair}
-use Rattle.run_plan.proofs.NameCounts.{one_if, one_if-le, is_one, copies, copies-append}
+use Rattle.run_plan.proofs.NameCounts.{one_if, one_if_le, is_one, copies, copies_append}
 
 -- the name stands at most once among the keys of each mapping
 abbrev pub IsOnce : List ℕ → Said → Type 0
@@ -40,17 +40,17 @@ keys ps = map (λ (p : Pair). p.key) ps
 
 -- ---- pairs behind a mapping
 
-pub keys-with_pairs : (s : Said) (ps : List Pair) → keys_of (with_pairs s ps) ≡ keys_of s ++ keys ps
-keys-with_pairs s [] = sym (append-nil (keys_of s))
-keys-with_pairs s (p ∷ ps) = keys-with_pairs (with_pair s p.line p.key p.value) ps ∙ append_assoc (keys_of s) (p.key ∷ []) (keys ps)
+pub keys_with_pairs : (s : Said) (ps : List Pair) → keys_of (with_pairs s ps) ≡ keys_of s ++ keys ps
+keys_with_pairs s [] = sym (append-nil (keys_of s))
+keys_with_pairs s (p ∷ ps) = keys_with_pairs (with_pair s p.line p.key p.value) ps ∙ append_assoc (keys_of s) (p.key ∷ []) (keys ps)
 
 first_fits : (name key : List ℕ) (ks more : List (List ℕ)) → copies name (ks ++ key ∷ more) ≤ 1 → copies name (ks ++ key ∷ []) ≤ 1
-first_fits name key ks more few = omega (arith, few, copies-append name ks (key ∷ more), copies-append name ks (key ∷ []))
+first_fits name key ks more few = omega (arith, few, copies_append name ks (key ∷ more), copies_append name ks (key ∷ []))
 
-pub once-with_pairs : (name : List ℕ) (s : Said) (ps : List Pair) → IsOnce name s → AreOnce name ps → copies name (keys_of s ++ keys ps) ≤ 1 → IsOnce name (with_pairs s ps)
-once-with_pairs name s [] h k few = h
-once-with_pairs name s (p ∷ ps) h k few =
-    once-with_pairs name (with_pair s p.line p.key p.value) ps (first_fits name p.key (keys_of s) (keys ps) few, h, k.0) k.1
+pub once_with_pairs : (name : List ℕ) (s : Said) (ps : List Pair) → IsOnce name s → AreOnce name ps → copies name (keys_of s ++ keys ps) ≤ 1 → IsOnce name (with_pairs s ps)
+once_with_pairs name s [] h k few = h
+once_with_pairs name s (p ∷ ps) h k few =
+    once_with_pairs name (with_pair s p.line p.key p.value) ps (first_fits name p.key (keys_of s) (keys ps) few, h, k.0) k.1
     (subst (λ (ks : List (List ℕ)). copies name ks ≤ 1) (sym (append_assoc (keys_of s) (p.key ∷ []) (keys ps))) few)
 
 -- ---- a plain tree
@@ -78,7 +78,7 @@ no_copy : (key : List ℕ) (s : Said) → are_pairs s ≡ true → has_key key s
 no_copy key (with_pair before line other value) p h =
     let k = neither (has_key key before) (pointwise ◌==◌ key other) h in
     let none : is_one key other ≡ 0 = ap one_if k.1 in
-    omega (arith, copies-append key (keys_of before) (other ∷ []), no_copy key before p k.0, none)
+    omega (arith, copies_append key (keys_of before) (other ∷ []), no_copy key before p k.0, none)
 no_copy key _ p h = refl
 
 pub keys_once : (name : List ℕ) (s : Said) → IsOnce name s → copies name (keys_of s) ≤ 1
@@ -91,8 +91,8 @@ one_more name key ks few none = by (pointwise ◌==◌ name key) refl
     by : (t : Bool) → pointwise ◌==◌ name key ≡ t → copies name (ks ++ key ∷ []) ≤ 1
     by true e =
         let absent : copies name ks ≡ 0 = ap (λ (n : List ℕ). copies n ks) (same_text name key (sym e)) ∙ none in
-        omega (arith, absent, copies-append name ks (key ∷ []), one_if-le (pointwise ◌==◌ name key))
-    by false e = let other : is_one name key ≡ 0 = ap one_if e in omega (arith, few, copies-append name ks (key ∷ []), other)
+        omega (arith, absent, copies_append name ks (key ∷ []), one_if_le (pointwise ◌==◌ name key))
+    by false e = let other : is_one name key ≡ 0 = ap one_if e in omega (arith, few, copies_append name ks (key ∷ []), other)
 
 pub plain_once : (name : List ℕ) (s : Said) → IsPlain s → IsOnce name s
 plain_once name (null line) p = tt

@@ -12,7 +12,7 @@ use Rattle.tcp_streams.specs.Heard.{IsFront}
 use Rattle.tcp_streams.specs.Sound.{IsSound}
 use Rattle.tcp_streams.specs.Stream as streams
 use Rattle.tcp_streams.specs.Stream.{is_at, IsOnce, IsSimple, record_at, written_by, read_by, end_seen_by, IsFaithful}
-use Rattle.tcp_streams.proofs.Members.{IsIn-from_Contains, sole}
+use Rattle.tcp_streams.proofs.Members.{IsIn_from_Contains, sole}
 use Rattle.out_text.specs.declared.streams.Fate.TheVariants.{Counted, Reused, Long}
 use Rattle.host_sockets.specs.declared.streams.HostStream.{HostStream}
 use Rattle.stream_pairs.specs.Directions.{most_counted, is_long, fate_between, unused}
@@ -108,7 +108,7 @@ module _ (from to : Addr) (records : List Tcb) (s o : HostStream) (writer : IsOn
       record {
         once = once;
         short = λ y c at.
-            let same = sole (is_at own peer) records only.tcb y once (IsIn-from_Contains only.tcb records only.among) (IsIn-from_Contains y records c) only.ends at in
+            let same = sole (is_at own peer) records only.tcb y once (IsIn_from_Contains only.tcb records only.among) (IsIn_from_Contains y records c) only.ends at in
             subst (λ (z : Tcb). length z.written < 2 ^ 30) same (written_short own peer x only short);
       }
 

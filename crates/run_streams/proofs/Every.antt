@@ -2,7 +2,7 @@
 use Rattle.std.proofs.Common.{◌≡◌, ◌≢◌, Bool, true, false, cond, arith, ◌⊎◌, inl, inr, ⊎_elim, ℕ, zero, suc, List, [], ◌∷◌, ◌++◌, map, filter_map, flat_map, set, Contains, Option, Some, None, slice_get, refl, sym, ap, subst}
 use Rattle.std.specs.List.{filter}
 use Rattle.std.proofs.lemmas.List.Elements.{Contains-append_left, Contains-append_right, Contains-append_cases}
-use Rattle.tcp_streams.proofs.Members.{IsIn, IsIn-from_Contains, Contains-from_IsIn, Contains-here, Contains-there, Contains-cases}
+use Rattle.tcp_streams.proofs.Members.{IsIn, IsIn_from_Contains, Contains_from_IsIn, Contains_here, Contains_there, Contains_cases}
 
 module _ {X : Type 0} where
   abbrev pub Every : (X → Type 0) → List X → Type 0
@@ -19,18 +19,18 @@ module _ {X : Type 0} where
   every_in P (y ∷ ys) x h (inr k) = every_in P ys x h.1 k
 
   pub every_member : (P : X → Type 0) (xs : List X) (x : X) → Every P xs → Contains xs x → P x
-  every_member P xs x h c = every_in P xs x h (IsIn-from_Contains x xs c)
+  every_member P xs x h c = every_in P xs x h (IsIn_from_Contains x xs c)
 
   pub every_with : (P Q : X → Type 0) (xs : List X) → ((x : X) → Contains xs x → P x → Q x) → Every P xs → Every Q xs
   every_with P Q [] f h = tt
   every_with P Q (x ∷ xs) f h =
-      (f x (Contains-here x xs) h.0, every_with P Q xs (λ y c k. f y (Contains-there x y xs c) k) h.1)
+      (f x (Contains_here x xs) h.0, every_with P Q xs (λ y c k. f y (Contains_there x y xs c) k) h.1)
 
 -- what holds of each member
 module _ {X : Type 0} where
   pub every_here : (P : X → Type 0) (xs : List X) → ((x : X) → Contains xs x → P x) → Every P xs
   every_here P [] f = tt
-  every_here P (x ∷ xs) f = (f x (Contains-here x xs), every_here P xs (λ y c. f y (Contains-there x y xs c)))
+  every_here P (x ∷ xs) f = (f x (Contains_here x xs), every_here P xs (λ y c. f y (Contains_there x y xs c)))
 
 -- one more element, if there is one
 module _ {Y : Type 0} where
@@ -40,15 +40,15 @@ module _ {Y : Type 0} where
 
   given_now : (o : Option Y) (y : Y) (ys : List Y) → o ≡ Some y → Contains (first_more o ys) y
   given_now None y ys e = cc
-  given_now (Some z) y ys e = let same : z ≡ y = cc in subst (λ (x : Y). Contains (z ∷ ys) x) same (Contains-here z ys)
+  given_now (Some z) y ys e = let same : z ≡ y = cc in subst (λ (x : Y). Contains (z ∷ ys) x) same (Contains_here z ys)
 
   given_later : (o : Option Y) (y : Y) (ys : List Y) → Contains ys y → Contains (first_more o ys) y
   given_later None y ys c = c
-  given_later (Some z) y ys c = Contains-there z y ys c
+  given_later (Some z) y ys c = Contains_there z y ys c
 
   given_cases : (o : Option Y) (y : Y) (ys : List Y) → Contains (first_more o ys) y → (o ≡ Some y) ⊎ Contains ys y
   given_cases None y ys c = inr c
-  given_cases (Some z) y ys c = ⊎_elim (λ e. inl (ap (λ (x : Y). Some x) (sym e))) (λ k. inr k) (Contains-cases z y ys c)
+  given_cases (Some z) y ys c = ⊎_elim (λ e. inl (ap (λ (x : Y). Some x) (sym e))) (λ k. inr k) (Contains_cases z y ys c)
 
 -- members of what lists give
 module _ {X Y : Type 0} where
@@ -58,7 +58,7 @@ module _ {X Y : Type 0} where
   mapped_in f (y ∷ ys) x (inr h) = inr (mapped_in f ys x h)
 
   pub mapped : (f : X → Y) (xs : List X) (x : X) → Contains xs x → Contains (map f xs) (f x)
-  mapped f xs x c = Contains-from_IsIn (f x) (map f xs) (mapped_in f xs x (IsIn-from_Contains x xs c))
+  mapped f xs x c = Contains_from_IsIn (f x) (map f xs) (mapped_in f xs x (IsIn_from_Contains x xs c))
 
   every_mapped_in : (P : Y → Type 0) (f : X → Y) (xs : List X) (y : Y) → Every (λ (x : X). P (f x)) xs → IsIn y (map f xs) → P y
   every_mapped_in P f [] y h k = absurd k
@@ -66,7 +66,7 @@ module _ {X Y : Type 0} where
   every_mapped_in P f (x ∷ xs) y h (inr k) = every_mapped_in P f xs y h.1 k
 
   pub every_mapped : (P : Y → Type 0) (f : X → Y) (xs : List X) (y : Y) → Every (λ (x : X). P (f x)) xs → Contains (map f xs) y → P y
-  every_mapped P f xs y h c = every_mapped_in P f xs y h (IsIn-from_Contains y (map f xs) c)
+  every_mapped P f xs y h c = every_mapped_in P f xs y h (IsIn_from_Contains y (map f xs) c)
 
   given_in : (f : X → Option Y) (xs : List X) (x : X) (y : Y) → IsIn x xs → f x ≡ Some y → Contains (filter_map f xs) y
   given_in f [] x y h e = absurd h
@@ -75,10 +75,10 @@ module _ {X Y : Type 0} where
   given_in f (z ∷ zs) x y (inr h) e = given_later (f z) y (filter_map f zs) (given_in f zs x y h e)
 
   pub given : (f : X → Option Y) (xs : List X) (x : X) (y : Y) → Contains xs x → f x ≡ Some y → Contains (filter_map f xs) y
-  given f xs x y c e = given_in f xs x y (IsIn-from_Contains x xs c) e
+  given f xs x y c e = given_in f xs x y (IsIn_from_Contains x xs c) e
 
   pub every_given : (P : X → Type 0) (Q : Y → Type 0) (f : X → Option Y) (xs : List X) (y : Y) → ((x : X) → P x → f x ≡ Some y → Q y) → Every P xs → Contains (filter_map f xs) y → Q y
-  every_given P Q f [] y from h c = absurd (IsIn-from_Contains y [] c)
+  every_given P Q f [] y from h c = absurd (IsIn_from_Contains y [] c)
   every_given P Q f (x ∷ xs) y from h c =
       ⊎_elim (λ e. from x h.0 e) (λ k. every_given P Q f xs y from h.1 k) (given_cases (f x) y (filter_map f xs) c)
 
@@ -102,11 +102,11 @@ module _ {X Y : Type 0} where
 -- members that pass a test
 module _ {X : Type 0} (test : X → Bool) where
   kept_now : (b : Bool) (x : X) (xs : List X) → b ≡ true → Contains (cond b (x ∷ xs) xs) x
-  kept_now true x xs e = Contains-here x xs
+  kept_now true x xs e = Contains_here x xs
   kept_now false x xs e = cc
 
   kept_later : (b : Bool) (x y : X) (xs : List X) → Contains xs y → Contains (cond b (x ∷ xs) xs) y
-  kept_later true x y xs c = Contains-there x y xs c
+  kept_later true x y xs c = Contains_there x y xs c
   kept_later false x y xs c = c
 
   filtered_in : (xs : List X) (x : X) → IsIn x xs → test x ≡ true → Contains (filter test xs) x
@@ -116,7 +116,7 @@ module _ {X : Type 0} (test : X → Bool) where
   filtered_in (y ∷ ys) x (inr h) t = kept_later (test y) y x (filter test ys) (filtered_in ys x h t)
 
   pub filtered : (xs : List X) (x : X) → Contains xs x → test x ≡ true → Contains (filter test xs) x
-  filtered xs x c t = filtered_in xs x (IsIn-from_Contains x xs c) t
+  filtered xs x c t = filtered_in xs x (IsIn_from_Contains x xs c) t
 
   every_cond : (P : X → Type 0) (b : Bool) (x : X) (xs : List X) → (b ≡ true → P x) → Every P xs → Every P (cond b (x ∷ xs) xs)
   every_cond P true x xs here each = (here refl, each)

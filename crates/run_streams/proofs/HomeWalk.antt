@@ -28,7 +28,7 @@ use Rattle.rv32_machine.specs.declared.outcome.TurnEnd.TheVariants as end
 use Rattle.rv32_machine.specs.Table.{state}
 use Rattle.rv32_machine.specs.Turn.{turn}
 use Rattle.tcp_laws.proofs.Tests.{by_test}
-use Rattle.tcp_streams.proofs.Members.{IsIn-from_Contains, Contains-here}
+use Rattle.tcp_streams.proofs.Members.{IsIn_from_Contains, Contains_here}
 use Rattle.sock_udp.specs.Socket.{UdpState, arrive}
 use Rattle.host_wants.specs.declared.outlet.Want.{Want}
 use Rattle.host_wants.specs.Wanted.{Wanted}
@@ -157,7 +157,7 @@ module _ (net : Net) (own : Ip) (n : ℕ) (cause : What) (outside : is_same_ip o
       record { address = k.address; here = after.0; fit = after.1; link = k.link }
 
   parted : (h : HostRecord) (parts : PartsRecord) → Moves net.known.book [] (sockets_in h.parts) (sockets_in parts) → K h → K (with_parts parts h)
-  parted h parts moves k = parted_from [] h parts (λ p c. absurd (IsIn-from_Contains p [] c)) moves k
+  parted h parts moves k = parted_from [] h parts (λ p c. absurd (IsIn_from_Contains p [] c)) moves k
 
   settled : (h : HostRecord) → K h → K (settles net h)
   unfolding settles
@@ -191,8 +191,8 @@ module _ (net : Net) (own : Ip) (n : ℕ) (cause : What) (outside : is_same_ip o
       let left : HostRecord = with_parts r.1 logged in
       settled left
       (parted_from (packet ∷ []) logged r.1
-      (λ p c. ⊎_elim (λ e. subst (λ (q : Packet). IsEnd own q.to q.from) (sym e) given.ends) (λ none. absurd none) (IsIn-from_Contains p (packet ∷ []) c))
-      (arrives_moves net.known.book (packet ∷ []) h.link.time packet h.parts (Contains-here packet []))
+      (λ p c. ⊎_elim (λ e. subst (λ (q : Packet). IsEnd own q.to q.from) (sym e) given.ends) (λ none. absurd none) (IsIn_from_Contains p (packet ∷ []) c))
+      (arrives_moves net.known.book (packet ∷ []) h.link.time packet h.parts (Contains_here packet []))
       (linked h m k (home_logs net own n cause r.0 packet h.link (given.tells ∙ sym (arrived own cause h.link.time packet h.parts)) k.link)))
 
   all_handed : (packets : List Packet) (h : HostRecord) → Every Given packets → K h → K (are_handed_over net packets h)

@@ -12,7 +12,7 @@ use Rattle.sim_base.specs.declared.event.What.TheVariants as what
 use Rattle.sim_base.specs.declared.packet.Packet.{Packet}
 use Rattle.net_iface.specs.declared.lane.Waiting.{Waiting}
 use Rattle.tcp_laws.proofs.Tests.{by_test}
-use Rattle.tcp_streams.proofs.Members.{Contains-here}
+use Rattle.tcp_streams.proofs.Members.{Contains_here}
 use Rattle.host_link.specs.declared.line.Line.{Line}
 use Rattle.host_link.specs.declared.net.Net.{Net}
 use Rattle.host_rows.specs.declared.row.Row.{Row}
@@ -254,7 +254,7 @@ module _ (net : Net) (rows : List Row) (are : AreHosts net rows) where
   fires_stay : (w : World) (e : Event) (rest : List Event) (o : Option HostRecord) → slice_get w.hosts (home net e) ≡ o → IsPermutation w.events (e ∷ rest) → nat_lt e.key.due.nanos net.stop.nanos ≡ true → AllStay net rows w → AllStay net rows (after_firing w e rest (fires_at (model net) w.hosts e o))
   fires_stay w e rest None at taken due all = nobody w e rest taken all
   fires_stay w e rest (Some h) at taken due all =
-      let there : Contains w.events e = Contains-permutation (e ∷ rest) w.events e (IsPermutation-sym w.events (e ∷ rest) taken) (Contains-here e rest) in
+      let there : Contains w.events e = Contains-permutation (e ∷ rest) w.events e (IsPermutation-sym w.events (e ∷ rest) taken) (Contains_here e rest) in
       subst (λ (f : Fired HostRecord Line). AllStay net rows (after_firing w e rest (with_host w.hosts (home net e) f))) (sym (fires_so net h e due)) (somebody w e rest h at there taken all)
 
   turn_stays : (w v : World) → next (model net) net.stop.nanos w ≡ Some v → AllStay net rows w → AllStay net rows v

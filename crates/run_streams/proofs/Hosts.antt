@@ -8,7 +8,7 @@ use Rattle.sim_base.specs.declared.packet.Packet.{Packet}
 use Rattle.sim_base.specs.declared.time.Time.{Time}
 use Rattle.sock_tcp.specs.connection.Tcb.{Tcb}
 use Rattle.tcp_streams.specs.Net as streams
-use Rattle.tcp_streams.proofs.Members.{IsIn-from_Contains, Contains-here, Contains-there}
+use Rattle.tcp_streams.proofs.Members.{IsIn_from_Contains, Contains_here, Contains_there}
 use Rattle.host_wants.specs.declared.outlet.Want.{Want}
 use Rattle.host_wants.specs.declared.outlet.Want.TheVariants as wanted
 use Rattle.host_wants.specs.Wanted.{Wanted}
@@ -121,7 +121,7 @@ module _ (net : Net) (scope : Addr → Addr → Bool) (own : Ip) (n : ℕ) (othe
   each_wanted : (wants : List Want) (S : Packet → Type 0) → ((p : Packet) → Contains (filter_map packet_in wants) p → S p) → Every (FitsWant net S own n) wants
   each_wanted [] S f = tt
   each_wanted (wanted.Send packet ∷ wants) S f =
-      (f packet (Contains-here packet (filter_map packet_in wants)), each_wanted wants S (λ p c. f p (Contains-there packet p (filter_map packet_in wants) c)))
+      (f packet (Contains_here packet (filter_map packet_in wants)), each_wanted wants S (λ p c. f p (Contains_there packet p (filter_map packet_in wants) c)))
   each_wanted (wanted.Alarm object serial due ∷ wants) S f = (tt, each_wanted wants S f)
 
   pub wire_moves : (h : HostRecord) (v : Wire) (ws : List Want) → ((p : Packet) → Contains (filter_map packet_in ws) p → Contains (packets_of h.parts.shared.outlet) p) → IsGood own n h → ((S : Packet → Type 0) → Carries S own n h.link → ((p : Packet) → Contains (packets_of h.parts.shared.outlet) p → S p) → Wired net S own n ws v) → H h (with_wire v h)
@@ -154,7 +154,7 @@ module _ (net : Net) (scope : Addr → Addr → Bool) (own : Ip) (n : ℕ) (othe
   pub settled : (h : HostRecord) → IsGood own n h → H h (settles net h)
   unfolding settles
   settled h good =
-      wire_moves h (does_wants net h.row.address (wire_of h)) [] (λ p c. absurd (IsIn-from_Contains p [] c)) good
+      wire_moves h (does_wants net h.row.address (wire_of h)) [] (λ p c. absurd (IsIn_from_Contains p [] c)) good
       (λ S c f.
       subst (λ (a : Ip). Wired net S own n [] (does_wants net a (wire_of h))) (sym good.address)
       (wants_done net S own n (wire_of h) (each_wanted h.parts.shared.outlet.wants S f) c))

@@ -16,7 +16,7 @@ use Rattle.tcp_streams.specs.Net.{empty_net, IsVoid, Comes, AreSteps, last_net}
 use Rattle.tcp_streams.specs.Net.Step.{goes_on}
 use Rattle.tcp_streams.specs.Frame.{inside}
 use Rattle.tcp_streams.specs.Stream.{IsSimple, stream_of, IsFaithful}
-use Rattle.tcp_streams.proofs.Members.{Contains-here, Contains-there, IsIn-from_Contains}
+use Rattle.tcp_streams.proofs.Members.{Contains_here, Contains_there, IsIn_from_Contains}
 use Rattle.tcp_streams.proofs.Ends.{same_number}
 use Rattle.tcp_streams.proofs.Frames.{joined, comes_outside}
 use Rattle.tcp_streams.proofs.Promise.{streams}
@@ -36,7 +36,7 @@ use Rattle.socket_streams.specs.Records.{packets_of}
 use Rattle.socket_streams.specs.Inside.{IsInside, StaysInside}
 use Rattle.socket_streams.specs.Leads.{Leads}
 use Rattle.socket_streams.proofs.Chains.{both, goes}
-use Rattle.socket_streams.proofs.Shares.{same-permutation}
+use Rattle.socket_streams.proofs.Shares.{same_permutation}
 use Rattle.run_streams.specs.Nets.{carried_by, carried, packets_carried, link_packets, host_packets, host_records, host_net}
 use Rattle.run_streams.specs.Run.{IsReached, AreOutside, ArePlaced}
 use Rattle.run_streams.specs.Run.IsReached.{begins, turns}
@@ -207,7 +207,7 @@ others_do net i h events more from housed =
 
 pub rest_there : (w : World) (e : Event) (rest : List Event) → IsPermutation w.events (e ∷ rest) → (x : Event) → Contains rest x → Contains w.events x
 rest_there w e rest taken x c =
-    Contains-permutation (e ∷ rest) w.events x (IsPermutation-sym w.events (e ∷ rest) taken) (Contains-there e x rest c)
+    Contains-permutation (e ∷ rest) w.events x (IsPermutation-sym w.events (e ∷ rest) taken) (Contains_there e x rest c)
 
 rest_roams : (w : World) (e : Event) (rest : List Event) → IsPermutation w.events (e ∷ rest) → Every (λ (x : Event). RoamsIn x.what) w.events → Every (λ (x : Event). RoamsIn x.what) rest
 rest_roams w e rest taken each =
@@ -243,7 +243,7 @@ fires_at_home net w e rest h taken roams housed =
     let i = home net e in
     let own = housed.own in
     let flying = packets_at net i w.events in
-    let there : Contains w.events e = Contains-permutation (e ∷ rest) w.events e (IsPermutation-sym w.events (e ∷ rest) taken) (Contains-here e rest) in
+    let there : Contains w.events e = Contains-permutation (e ∷ rest) w.events e (IsPermutation-sym w.events (e ∷ rest) taken) (Contains_here e rest) in
     let here : (i == i) ≡ true = same_as_itself i in
     let m = fires_move net inside own i [] flying e h
     (λ p is. given carried (events_at (model net) i w.events) e p (filtered (comes_here net i) w.events e there here) is)
@@ -253,7 +253,7 @@ fires_at_home net w e rest h taken roams housed =
     let out = packets_of h.parts.shared.outlet in
     let left = packets_of after.parts.shared.outlet in
     let enters = goes inside own (host_net net i h w.events) (part_of [] flying h)
-    (same-permutation (host_records h ++ []) (host_records h) (append-nil (host_records h)))
+    (same_permutation (host_records h ++ []) (host_records h) (append-nil (host_records h)))
     (λ p c.
     inl (⊎_elim
     (λ a.
@@ -270,7 +270,7 @@ fires_at_home net w e rest h taken roams housed =
     (λ a. Contains-append_right (flying ++ link_packets after.link) left p a)
     (Contains-append_cases (link_packets after.link) left p c) in
     let leaves = goes inside own (part_of [] flying after) (host_net net i f.host (rest ++ f.made))
-    (same-permutation (host_records f.host) (host_records after ++ []) (sym (append-nil (host_records after))))
+    (same_permutation (host_records f.host) (host_records after ++ []) (sym (append-nil (host_records after))))
     (λ p c.
     inl (⊎_elim
     (λ a. fits p (fired_packets net e h p a))
@@ -362,8 +362,8 @@ row_housed net i row events at outside none =
       last = refl;
       stays = record {
         outside = outside;
-        sound = λ r c. absurd (IsIn-from_Contains r [] c);
-        ends = λ r c. absurd (IsIn-from_Contains r [] c);
+        sound = λ r c. absurd (IsIn_from_Contains r [] c);
+        ends = λ r c. absurd (IsIn_from_Contains r [] c);
         packets = λ p c. absurd (never p c);
       };
     }

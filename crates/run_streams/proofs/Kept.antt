@@ -12,8 +12,8 @@ use Rattle.sim_base.specs.declared.address.Addr.{Addr}
 use Rattle.sock_tcp.specs.connection.Carried.{carried_of}
 use Rattle.sock_tcp.specs.connection.Tcb.{Tcb}
 use Rattle.tcp_streams.specs.Stream.{is_at}
-use Rattle.tcp_streams.proofs.Ends.{and_left, and_right, same_end, is_same-refl}
-use Rattle.tcp_streams.proofs.Members.{IsIn, IsIn-from_Contains}
+use Rattle.tcp_streams.proofs.Ends.{and_left, and_right, same_end, is_same_refl}
+use Rattle.tcp_streams.proofs.Members.{IsIn, IsIn_from_Contains}
 use Rattle.host_sockets.specs.declared.streams.HostStream.{HostStream}
 use Rattle.host_sockets.specs.Records.{records_of}
 use Rattle.host_sockets.specs.Sockets.{SocketsRecord}
@@ -90,7 +90,7 @@ passed_over false x o never = refl
 
 ends_of_itself : (s : HostStream) → is_of s.own s.peer s ≡ true
 ends_of_itself s =
-    ap (λ (b : Bool). b && is_same s.peer s.peer) (is_same-refl s.own) ∙ is_same-refl s.peer
+    ap (λ (b : Bool). b && is_same s.peer s.peer) (is_same_refl s.own) ∙ is_same_refl s.peer
 
 found_in : (xs : List HostStream) (s : HostStream) → IsStrictlySortedBy pair_order xs → IsIn s xs → find (is_of s.own s.peer) xs ≡ Some s
 unfolding IsStrictlySortedBy
@@ -141,7 +141,7 @@ only_of own peer t s e once =
 pub only_kept : (t : SocketsRecord) (s : HostStream) → Contains (streams_of t) s → s.reused ≡ false → IsOnly s.own s.peer (records_of t) s
 unfolding streams_of
 only_kept t s c once =
-    only_of s.own s.peer t s (found_in (streams_of t) s (rises_by (records_of t)) (IsIn-from_Contains s (streams_of t) c)) once
+    only_of s.own s.peer t s (found_in (streams_of t) s (rises_by (records_of t)) (IsIn_from_Contains s (streams_of t) c)) once
 
 pub only_found : (own peer : Addr) (t : SocketsRecord) (s : HostStream) → find (is_between own peer) (streams_of t) ≡ Some s → s.reused ≡ false → IsOnly own peer (records_of t) s
 only_found own peer t s e once =

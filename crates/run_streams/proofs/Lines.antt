@@ -11,7 +11,7 @@ use Rattle.tcp_streams.specs.Frame.{everywhere}
 use Rattle.tcp_streams.specs.Sound.{IsSound}
 use Rattle.tcp_streams.specs.Stream.{is_at}
 use Rattle.tcp_streams.proofs.Ends.{ends_of}
-use Rattle.tcp_streams.proofs.Members.{IsIn-from_Contains, found}
+use Rattle.tcp_streams.proofs.Members.{IsIn_from_Contains, found}
 use Rattle.tcp_streams.proofs.Promise.{net_sound}
 use Rattle.out_text.specs.declared.streams.Fate.TheVariants.{Counted}
 use Rattle.out_text.specs.declared.streams.Stream.{Stream}
@@ -146,5 +146,5 @@ module _ (net : Net) (rows : List Row) (w : World) (are : AreHosts net rows) (re
       let there : Contains (flat_map of_host w.hosts) x =
       subst (λ (xs : List Stream). Contains xs x) (flat_map-map (λ (k : Kept). map (direction all k) k.streams) kept_by w.hosts) c in
       let host = flat_gives of_host w.hosts x there in
-      let from = mapped_from (direction all (kept_by host.element)) (streams_of host.element.parts.sockets) x (IsIn-from_Contains x (of_host host.element) host.is) in
+      let from = mapped_from (direction all (kept_by host.element)) (streams_of host.element.parts.sockets) x (IsIn_from_Contains x (of_host host.element) host.is) in
       direction_holds host.place host.element from.0 x n m ended host.there from.1.0 from.1.1 e

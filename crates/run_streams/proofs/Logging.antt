@@ -3,7 +3,7 @@ use Rattle.std.proofs.Common.{◌≡◌, List, [], ◌∷◌, Contains, Option, 
 use Rattle.std.specs.List.Sorted.{IsPermutation}
 use Rattle.std.proofs.lemmas.List.Sorted.{Contains-permutation, IsPermutation-sym}
 use Rattle.sim_base.specs.declared.event.Event.{Event}
-use Rattle.tcp_streams.proofs.Members.{Contains-here, Contains-there}
+use Rattle.tcp_streams.proofs.Members.{Contains_here, Contains_there}
 use Rattle.host_link.specs.declared.line.Line.{Line}
 use Rattle.host_link.specs.declared.net.Net.{Net}
 use Rattle.host_rows.specs.declared.row.Row.{Row}
@@ -36,12 +36,12 @@ module _ (net : Net) (rows : List Row) (are : AreHosts net rows) where
     lines_were : (lines : List Line) → ((line : Line) → Contains lines line → Contains (fire net h e).lines line) → Told (logged e.key lines)
     lines_were [] from = tt
     lines_were (line ∷ lines) from =
-        (line_was line (from line (Contains-here line lines)), lines_were lines (λ x c. from x (Contains-there line x lines c)))
+        (line_was line (from line (Contains_here line lines)), lines_were lines (λ x c. from x (Contains_there line x lines c)))
 
   fires_told : (w : World) (e : Event) (rest : List Event) (o : Option HostRecord) → slice_get w.hosts (home net e) ≡ o → IsPermutation w.events (e ∷ rest) → nat_lt e.key.due.nanos net.stop.nanos ≡ true → IsReached net (opening_world rows) w → Told w.log → Told (after_firing w e rest (fires_at (model net) w.hosts e o)).log
   fires_told w e rest None at taken due reached told = every_append (WasLogged net rows) w.log [] told tt
   fires_told w e rest (Some h) at taken due reached told =
-      let there : Contains w.events e = Contains-permutation (e ∷ rest) w.events e (IsPermutation-sym w.events (e ∷ rest) taken) (Contains-here e rest) in
+      let there : Contains w.events e = Contains-permutation (e ∷ rest) w.events e (IsPermutation-sym w.events (e ∷ rest) taken) (Contains_here e rest) in
       subst (λ (f : Fired HostRecord Line). Told (after_firing w e rest (with_host w.hosts (home net e) f)).log) (sym (fires_so net h e due))
       (every_append (WasLogged net rows) w.log (logged e.key (fire net h e).lines) told (lines_were w e h reached there at (fire net h e).lines (λ line c. c)))
 

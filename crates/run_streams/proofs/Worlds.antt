@@ -15,7 +15,7 @@ use Rattle.tcp_streams.specs.Net.{empty_net, AreSteps, last_net}
 use Rattle.tcp_streams.specs.Net.Step.{goes_on}
 use Rattle.tcp_streams.specs.Frame.{everywhere}
 use Rattle.tcp_streams.specs.Stream.{IsSimple, stream_of, IsFaithful}
-use Rattle.tcp_streams.proofs.Members.{Contains-here, Contains-there, IsIn-from_Contains}
+use Rattle.tcp_streams.proofs.Members.{Contains_here, Contains_there, IsIn_from_Contains}
 use Rattle.tcp_streams.proofs.Frames.{joined}
 use Rattle.tcp_streams.proofs.Promise.{streams}
 use Rattle.host_wants.specs.Wanted.{nothing_wanted}
@@ -35,12 +35,12 @@ use Rattle.host_state.specs.World.{World, opening_world}
 use Rattle.world_order.specs.EventOrder.{take_least}
 use Rattle.world_order.specs.Model.{Fired, with_host, fires_at, fires}
 use Rattle.world_order.specs.World.{after_firing, by_least, next}
-use Rattle.world_order.proofs.Least.{take_least-IsPermutation}
+use Rattle.world_order.proofs.Least.{take_least_IsPermutation}
 use Rattle.socket_laws.specs.Histories.{SocketsAct, sockets_after}
 use Rattle.socket_streams.specs.Records.{packets_of}
 use Rattle.socket_streams.proofs.Acts.{none_plain}
 use Rattle.socket_streams.proofs.Chains.{both, goes}
-use Rattle.socket_streams.proofs.Shares.{same-permutation, share_of, AllHold, set_hold}
+use Rattle.socket_streams.proofs.Shares.{same_permutation, share_of, AllHold, set_hold}
 use Rattle.call_streams.specs.Parts.{sockets_in}
 use Rattle.run_streams.specs.Nets.{carried, waiting_in, packets_carried, link_packets, host_packets, host_records, world_records, world_net}
 use Rattle.run_streams.specs.Run.{IsReached}
@@ -106,7 +106,7 @@ row_packets net row p c =
     let l : LinkState = (opening row).host.link in
     ⊎_elim
     (λ a. link_member Never row.address row.host.index l p (record { number = link.number; up = link.up; down = link.down; made = tt }) a)
-    (λ a. absurd (IsIn-from_Contains p [] a))
+    (λ a. absurd (IsIn_from_Contains p [] a))
     (Contains-append_cases (link_packets l) [] p c)
 
 -- none of some events carries a packet
@@ -121,7 +121,7 @@ row_events net row p c =
     (Contains-append_right (waiting_in l.up) (waiting_in l.down ++ packets_carried l.made) p (Contains-append_right (waiting_in l.down) (packets_carried l.made) p c))
 
 pub rows_events : (net : Net) (rows : List Row) → CarryNone (flat_map (λ (row : Row). (opening row).made) rows)
-rows_events net [] p c = absurd (IsIn-from_Contains p [] c)
+rows_events net [] p c = absurd (IsIn_from_Contains p [] c)
 rows_events net (row ∷ rows) p c =
     let made = (opening row).made in
     let more = flat_map (λ (r : Row). (opening r).made) rows in
@@ -138,7 +138,7 @@ rows_records [] = refl
 rows_records (row ∷ rows) = rows_records rows
 
 rows_packets : (net : Net) (rows : List Row) (p : Packet) → Contains (flat_map host_packets (map (λ (row : Row). (opening row).host) rows)) p → ⊥
-rows_packets net [] p c = absurd (IsIn-from_Contains p [] c)
+rows_packets net [] p c = absurd (IsIn_from_Contains p [] c)
 rows_packets net (row ∷ rows) p c =
     ⊎_elim (λ a. row_packets net row p a) (λ a. rows_packets net rows p a)
     (Contains-append_cases (host_packets (opening row).host) (flat_map host_packets (map (λ (r : Row). (opening r).host) rows)) p c)
@@ -161,7 +161,7 @@ turn_if net w v e rest false due taken k = cc
 turn_by : (net : Net) (w v : World) (o : Option (Event × List Event)) → take_least w.events ≡ o → by_least (model net) net.stop.nanos w o ≡ Some v → IsTurn net w v
 turn_by net w v None e k = cc
 turn_by net w v (Some (first, rest)) e k =
-    turn_if net w v first rest (nat_lt first.key.due.nanos net.stop.nanos) refl (take_least-IsPermutation w.events (first, rest) e) k
+    turn_if net w v first rest (nat_lt first.key.due.nanos net.stop.nanos) refl (take_least_IsPermutation w.events (first, rest) e) k
 
 pub turn_of : (net : Net) (w v : World) → next (model net) net.stop.nanos w ≡ Some v → IsTurn net w v
 unfolding next
@@ -181,7 +181,7 @@ rest_carried w e rest p taken c =
     every_given (λ (x : Event). Contains w.events x) (λ (q : Packet). Contains (packets_carried w.events) q) carried rest p
     (λ x there is. given carried w.events x p there is)
     (every_here (λ (x : Event). Contains w.events x) rest
-    (λ x k. Contains-permutation (e ∷ rest) w.events x (IsPermutation-sym w.events (e ∷ rest) taken) (Contains-there e x rest k)))
+    (λ x k. Contains-permutation (e ∷ rest) w.events x (IsPermutation-sym w.events (e ∷ rest) taken) (Contains_there e x rest k)))
     c
 
 pub made_member : (l : LinkState) (p : Packet) → Contains (packets_carried l.made) p → Contains (link_packets l) p
@@ -215,7 +215,7 @@ somebody net w e rest h at taken known =
     let share = share_of host_records w.hosts (home net e) h at in
     let all = flat_map host_packets w.hosts in
     let flying = all ++ packets_carried w.events in
-    let there : Contains w.events e = Contains-permutation (e ∷ rest) w.events e (IsPermutation-sym w.events (e ∷ rest) taken) (Contains-here e rest) in
+    let there : Contains w.events e = Contains-permutation (e ∷ rest) w.events e (IsPermutation-sym w.events (e ∷ rest) taken) (Contains_here e rest) in
     let m = fires_move net everywhere k.own k.n share.rest flying e h
     (λ p is. Contains-append_right all (packets_carried w.events) p (given carried w.events e p there is))
     k.good in
@@ -300,7 +300,7 @@ opening_led net rows =
       known = rows_hold (IsKnown net) rows (row_known net);
       nets = world_net w ∷ [];
       steps = (
-        goes_on (same-permutation (world_records w) [] (rows_records rows))
+        goes_on (same_permutation (world_records w) [] (rows_records rows))
             (λ p c.
             absurd (⊎_elim (λ a. rows_packets net rows p a) (λ a. rows_events net rows p a)
             (Contains-append_cases (flat_map host_packets w.hosts) (packets_carried w.events) p c))),

@@ -109,14 +109,14 @@ unfolding insn
 kept s = fetched_kept (load right.Execute instruction_size s.memory s.cpu.pc) s
 
 -- an instruction that traps leaves the state as it was
-pub insn-trap : (s : State) (g : Signal) → (insn s).outcome ≡ outcome.Trap g → (insn s).state ≡ s
+pub insn_trap : (s : State) (g : Signal) → (insn s).outcome ≡ outcome.Trap g → (insn s).state ≡ s
 unfolding IsKept LeavesBy
-insn-trap s g is = let P : Outcome → Type 0 = λ o. LeavesBy o s (insn s).state in subst P is (kept s)
+insn_trap s g is = let P : Outcome → Type 0 = λ o. LeavesBy o s (insn s).state in subst P is (kept s)
 
 -- an instruction that calls leaves the state as it was, but for pc, which stands behind it, and the reservation, which ends
-pub insn-call : (s : State) → (insn s).outcome ≡ outcome.Call → (insn s).state ≡ record s { cpu = advanced (with_reservation None s.cpu) }
+pub insn_call : (s : State) → (insn s).outcome ≡ outcome.Call → (insn s).state ≡ record s { cpu = advanced (with_reservation None s.cpu) }
 unfolding IsKept LeavesBy
-insn-call s is = let P : Outcome → Type 0 = λ o. LeavesBy o s (insn s).state in subst P is (kept s)
+insn_call s is = let P : Outcome → Type 0 = λ o. LeavesBy o s (insn s).state in subst P is (kept s)
 
 -- ---- the reservation
 
@@ -166,22 +166,22 @@ modify_untouched s amo word None = refl
 modify_untouched s amo word (Some old) = modified_untouched s word old (store word_size s.memory (source1 word s) (modified amo old (source2 word s)))
 
 -- LR.W, SC.W and ECALL alone touch the reservation
-pub effect-reservation : (i : Insn) (word : ℕ) (s : State) → i ≢ LrW → i ≢ ScW → i ≢ Ecall → (effect i word s).state.cpu.reservation ≡ s.cpu.reservation
+pub effect_reservation : (i : Insn) (word : ℕ) (s : State) → i ≢ LrW → i ≢ ScW → i ≢ Ecall → (effect i word s).state.cpu.reservation ≡ s.cpu.reservation
 unfolding IsUntouched
-effect-reservation (Immediate operation) word s a b c = set_untouched word _ s.cpu
-effect-reservation Lui word s a b c = set_untouched word _ s.cpu
-effect-reservation Auipc word s a b c = set_untouched word _ s.cpu
-effect-reservation (Register operation) word s a b c = set_untouched word _ s.cpu
-effect-reservation Jal word s a b c = jump_untouched s (sets word (following s.cpu) s.cpu) (is_aligned (sum s.cpu.pc (j_immediate word))) _ (set_untouched word _ s.cpu)
-effect-reservation Jalr word s a b c =
+effect_reservation (Immediate operation) word s a b c = set_untouched word _ s.cpu
+effect_reservation Lui word s a b c = set_untouched word _ s.cpu
+effect_reservation Auipc word s a b c = set_untouched word _ s.cpu
+effect_reservation (Register operation) word s a b c = set_untouched word _ s.cpu
+effect_reservation Jal word s a b c = jump_untouched s (sets word (following s.cpu) s.cpu) (is_aligned (sum s.cpu.pc (j_immediate word))) _ (set_untouched word _ s.cpu)
+effect_reservation Jalr word s a b c =
     jump_untouched s (sets word (following s.cpu) s.cpu) (is_aligned (sum (source1 word s) (i_immediate word) / 2 * 2)) _ (set_untouched word _ s.cpu)
-effect-reservation (Branch branch) word s a b c = branch_untouched s (is_taken branch (source1 word s) (source2 word s)) (sum s.cpu.pc (b_immediate word))
-effect-reservation (Load kind) word s a b c = load_untouched s word _
-effect-reservation (Store kind) word s a b c = store_untouched s _
-effect-reservation Fence word s a b c = refl
-effect-reservation FenceI word s a b c = refl
-effect-reservation Ecall word s a b c = absurd (c refl)
-effect-reservation Ebreak word s a b c = refl
-effect-reservation LrW word s a b c = absurd (a refl)
-effect-reservation ScW word s a b c = absurd (b refl)
-effect-reservation (Amo amo) word s a b c = aligned_untouched s (is_aligned (source1 word s)) _ (modify_untouched s amo word (load right.Read word_size s.memory (source1 word s)))
+effect_reservation (Branch branch) word s a b c = branch_untouched s (is_taken branch (source1 word s) (source2 word s)) (sum s.cpu.pc (b_immediate word))
+effect_reservation (Load kind) word s a b c = load_untouched s word _
+effect_reservation (Store kind) word s a b c = store_untouched s _
+effect_reservation Fence word s a b c = refl
+effect_reservation FenceI word s a b c = refl
+effect_reservation Ecall word s a b c = absurd (c refl)
+effect_reservation Ebreak word s a b c = refl
+effect_reservation LrW word s a b c = absurd (a refl)
+effect_reservation ScW word s a b c = absurd (b refl)
+effect_reservation (Amo amo) word s a b c = aligned_untouched s (is_aligned (source1 word s)) _ (modify_untouched s amo word (load right.Read word_size s.memory (source1 word s)))

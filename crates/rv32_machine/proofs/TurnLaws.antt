@@ -3,7 +3,7 @@ use Rattle.std.proofs.Common.{◌≡◌, ℕ, zero, suc, ◌-◌, ◌<◌, ◌�
 use Rattle.std.proofs.lemmas.Bool.{cases_lt}
 use Rattle.sim_base.specs.declared.signal.Signal.{Signal}
 use Rattle.rv32_machine.specs.Table.{State, insn}
-use Rattle.rv32_machine.proofs.TableLaws.{insn-trap}
+use Rattle.rv32_machine.proofs.TableLaws.{insn_trap}
 use Rattle.rv32_machine.specs.Turn.{Turn, turn, turn_from, one_more, end_of, state_after, outcome_of, GoesOn, IsTurn}
 use Rattle.rv32_machine.specs.declared.outcome.Outcome.{Outcome}
 use Rattle.rv32_machine.specs.declared.outcome.Outcome.TheVariants as outcome
@@ -11,37 +11,37 @@ use Rattle.rv32_machine.specs.declared.outcome.TurnEnd.{TurnEnd}
 use Rattle.rv32_machine.specs.declared.outcome.TurnEnd.TheVariants as end
 
 -- the first of n + 1 instructions may be taken apart
-state_after-suc : (n : ℕ) (s : State) → state_after (suc n) s ≡ state_after n (insn s).state
+state_after_suc : (n : ℕ) (s : State) → state_after (suc n) s ≡ state_after n (insn s).state
 unfolding state_after
-state_after-suc zero s = refl
-state_after-suc (suc n) s = ap (λ (t : State). (insn t).state) (state_after-suc n s)
+state_after_suc zero s = refl
+state_after_suc (suc n) s = ap (λ (t : State). (insn t).state) (state_after_suc n s)
 
-outcome_of-suc : (k : ℕ) (s : State) → 1 ≤ k → outcome_of (suc k) s ≡ outcome_of k (insn s).state
+outcome_of_suc : (k : ℕ) (s : State) → 1 ≤ k → outcome_of (suc k) s ≡ outcome_of k (insn s).state
 unfolding outcome_of
-outcome_of-suc k s one =
+outcome_of_suc k s one =
     let before : suc k - 1 ≡ suc (k - 1) = omega arith in
-    ap (λ (n : ℕ). (insn (state_after n s)).outcome) before ∙ ap (λ (t : State). (insn t).outcome) (state_after-suc (k - 1) s)
+    ap (λ (n : ℕ). (insn (state_after n s)).outcome) before ∙ ap (λ (t : State). (insn t).outcome) (state_after_suc (k - 1) s)
 
-outcome_of-one : (s : State) → outcome_of 1 s ≡ (insn s).outcome
+outcome_of_one : (s : State) → outcome_of 1 s ≡ (insn s).outcome
 unfolding outcome_of state_after
-outcome_of-one s = refl
+outcome_of_one s = refl
 
 goes_on_more : (n : ℕ) (s : State) → (insn s).outcome ≡ outcome.Next → GoesOn n (insn s).state → GoesOn (suc n) s
 goes_on_more n s first rest zero one within = absurd (omega arith)
-goes_on_more n s first rest (suc zero) one within = outcome_of-one s ∙ first
-goes_on_more n s first rest (suc (suc j)) one within = outcome_of-suc (suc j) s (omega arith) ∙ rest (suc j) (omega arith) (omega arith)
+goes_on_more n s first rest (suc zero) one within = outcome_of_one s ∙ first
+goes_on_more n s first rest (suc (suc j)) one within = outcome_of_suc (suc j) s (omega arith) ∙ rest (suc j) (omega arith) (omega arith)
 
 -- a turn with one more instruction in front, which neither calls nor traps
 one_more_is : (n : ℕ) (s : State) (t : Turn) → (insn s).outcome ≡ outcome.Next → IsTurn n (insn s).state t → IsTurn (suc n) s (one_more t)
 one_more_is n s t first rest = record {
-  state = rest.state ∙ sym (state_after-suc t.ran s);
+  state = rest.state ∙ sym (state_after_suc t.ran s);
   end = elim rest.end [
     | inl (within, ended) ↦ inl (
       omega arith,
       record {
         counted = omega arith;
         before = more (goes_on_more (t.ran - 1) s first ended.before) ended.counted;
-        ends = ap end_of (outcome_of-suc t.ran s ended.counted) ∙ ended.ends;
+        ends = ap end_of (outcome_of_suc t.ran s ended.counted) ∙ ended.ends;
       },
     )
     | inr (all, on, spent) ↦ inr (ap suc all, goes_on_more n s first on, spent)
@@ -62,7 +62,7 @@ one_only_is n s o e is ends = record {
     record {
       counted = omega arith;
       before = λ j one within. absurd (omega arith);
-      ends = ap end_of (outcome_of-one s ∙ is) ∙ ends;
+      ends = ap end_of (outcome_of_one s ∙ is) ∙ ends;
     },
   );
 }
@@ -151,12 +151,12 @@ last_traps : (n : ℕ) (s : State) (g : Signal) → 1 ≤ n → outcome_of n s �
 unfolding state_after outcome_of
 last_traps n s g counted is =
     let one : n ≡ suc (n - 1) = omega arith in
-    ap (λ (k : ℕ). state_after k s) one ∙ insn-trap (state_after (n - 1) s) g is
+    ap (λ (k : ℕ). state_after k s) one ∙ insn_trap (state_after (n - 1) s) g is
 
 -- a turn that a trap ends leaves the state as it was before the instruction that trapped
-pub turn-trap : (budget : ℕ) (s : State) (g : Signal) → (turn budget s).end ≡ end.Trap g →
+pub turn_trap : (budget : ℕ) (s : State) (g : Signal) → (turn budget s).end ≡ end.Trap g →
     (turn budget s).state ≡ state_after ((turn budget s).ran - 1) s
-turn-trap budget s g trap = elim (turn_is budget s).end [
+turn_trap budget s g trap = elim (turn_is budget s).end [
   | inl (within, ended) ↦
       (turn_is budget s).state ∙ last_traps (turn budget s).ran s g ended.counted (trap_of _ g (ended.ends ∙ ap Some trap))
   | inr (all, on, spent) ↦ let both : end.Spent ≡ end.Trap g = sym spent ∙ trap in cc

@@ -19,7 +19,7 @@ use Rattle.run_plan.specs.declared.planned.Run.{Run}
 use Rattle.opened_run.specs.Opened.{Opens, HasOpened}
 use Rattle.plan_rows.specs.Rows.{net_of, rows_of, cut_lookahead}
 use Rattle.opened_run.specs.declared.opened.Opened.{Opened}
-use Rattle.world_order.proofs.Members.{All-from_Each}
+use Rattle.world_order.proofs.Members.{All_from_Each}
 use Rattle.world_order.specs.Window.{window_end}
 use Rattle.world_order.specs.World.{World}
 use Rattle.world_order.specs.declared.round_window.Window.{Window}
@@ -36,9 +36,9 @@ host_rows : (net : Net) (rows : List Row) → AreRows net rows → AreHostRows n
 host_rows net rows are = record { count = are.count; places = are.places; fit = are.fit }
 
 -- on the opening world, with the window that begins at 0
-may_open-on : OpenBetween → (opened : Opened) (window : Window) → HasOpened opened → window.from.nanos ≡ 0 → window.end.nanos ≡ window_end (nanos_of opened.lookahead) opened.net.stop.nanos 0
+may_open_on : OpenBetween → (opened : Opened) (window : Window) → HasOpened opened → window.from.nanos ≡ 0 → window.end.nanos ≡ window_end (nanos_of opened.lookahead) opened.net.stop.nanos 0
     → MayOpenOn opened.net window (opening_world opened.rows.items)
-may_open-on openings opened window has from_is end_is = record {
+may_open_on openings opened window has from_is end_is = record {
   window = record {
     stop = has.rows.stop;
     lookahead = nanos_of opened.lookahead;
@@ -47,15 +47,15 @@ may_open-on openings opened window has from_is end_is = record {
     end = end_is ∙ ap (window_end (nanos_of opened.lookahead) opened.net.stop.nanos) (sym from_is);
   };
   between = between opened.net (opening_world opened.rows.items) (openings opened.net opened.rows.items (host_rows opened.net opened.rows.items has.rows));
-  due = All-from_Each (λ (e : Event). window.from.nanos ≤ e.key.due.nanos) (opening_world opened.rows.items).events (λ e h. omega (arith, from_is));
+  due = All_from_Each (λ (e : Event). window.from.nanos ≤ e.key.due.nanos) (opening_world opened.rows.items).events (λ e h. omega (arith, from_is));
 }
 
-pub may-open : OpenBetween → (opened : Opened) (window : Window) (hosts : List Host) → HasOpened opened → HostsStand opened.net hosts (opening_world opened.rows.items) → window.from.nanos ≡ 0
+pub may_open : OpenBetween → (opened : Opened) (window : Window) (hosts : List Host) → HasOpened opened → HostsStand opened.net hosts (opening_world opened.rows.items) → window.from.nanos ≡ 0
     → window.end.nanos ≡ window_end (nanos_of opened.lookahead) opened.net.stop.nanos 0 → MayOpen opened.net window hosts
-may-open openings opened window hosts has stand from_is end_is = record {
+may_open openings opened window hosts has stand from_is end_is = record {
   world = opening_world opened.rows.items;
   stand = stand;
-  may = may_open-on openings opened window has from_is end_is;
+  may = may_open_on openings opened window has from_is end_is;
 }
 
 -- the same in the words of the run
@@ -71,15 +71,15 @@ in_run run opened net rows window round net_is rows_are window_is same may stand
       (subst (λ (l : List Row). RoundStands net (opening_world l) round (round_on net window 2 (opening_world l))) rows_are stands));
 }
 
-pub has-begun : OpenBetween → (run : Run) (opened : Opened) (window : Window) (hosts : List Host) (round : Round) → Opens run opened → HasOpened opened → HostsStand opened.net hosts (opening_world opened.rows.items)
+pub has_begun : OpenBetween → (run : Run) (opened : Opened) (window : Window) (hosts : List Host) (round : Round) → Opens run opened → HasOpened opened → HostsStand opened.net hosts (opening_world opened.rows.items)
     → window.from ≡ record { nanos = 0 } → window.end.nanos ≡ window_end (nanos_of opened.lookahead) opened.net.stop.nanos 0 → round.window ≡ window
     → ((w : World HostRecord Line) → HostsStand opened.net hosts w → RoundStands opened.net w round (round_on opened.net window 2 w)) → HasBegun run round opened.net
-has-begun openings run opened window hosts round opens has stand from_is end_is same stands =
+has_begun openings run opened window hosts round opens has stand from_is end_is same stands =
     in_run run opened opened.net opened.rows.items window round opens.net opens.rows
     (let there : window.end.nanos ≡ (first_window run).end.nanos = end_is ∙ ap (λ (o : Option Time). window_end (nanos_of o) opened.net.stop.nanos 0) opens.lookahead
     ∙ ap (λ (n : Net). window_end (nanos_of (cut_lookahead run.plan.lookahead)) n.stop.nanos 0) opens.net in
     window_of window (first_window run) from_is there)
-    same (may_open-on openings opened window has (ap (λ (t : Time). t.nanos) from_is) end_is) (stands (opening_world opened.rows.items) stand)
+    same (may_open_on openings opened window has (ap (λ (t : Time). t.nanos) from_is) end_is) (stands (opening_world opened.rows.items) stand)
   where
     window_of : (v u : Window) → v.from ≡ u.from → v.end.nanos ≡ u.end.nanos → v ≡ u
     window_of v u from_is end_is = λ i. record { from = from_is i; end = record { nanos = end_is i } }

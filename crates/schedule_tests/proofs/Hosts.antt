@@ -11,13 +11,13 @@ use Rattle.host_link.specs.Home.{home}
 use Rattle.host_state.specs.HostRecord.{HostRecord}
 use Rattle.host_state.specs.HostStands.{Begins, Stands}
 use Rattle.host_state.specs.Opening.{opening}
-use Rattle.host_state.proofs.Openings.{opens-fit}
-use Rattle.world_order.proofs.Homes.{some_is, get-below, below-get}
-use Rattle.world_order.proofs.Members.{IsIn-permutation, Each-from_All, All-from_Each}
+use Rattle.host_state.proofs.Openings.{opens_fit}
+use Rattle.world_order.proofs.Homes.{some_is, get_below, below_get}
+use Rattle.world_order.proofs.Members.{IsIn_permutation, Each_from_All, All_from_Each}
 use Rattle.host_state.specs.World.{AreRows, opening_world}
-use Rattle.round_lookahead.proofs.WorldOpenings.{opened-queue}
+use Rattle.round_lookahead.proofs.WorldOpenings.{opened_queue}
 use Rattle.round_schedule.specs.Standing.{EachStands, HostsStand}
-use Rattle.round_schedule.proofs.Openings.{pair-none, pair-more}
+use Rattle.round_schedule.proofs.Openings.{pair_none, pair_more}
 
 abbrev Begun : List Row → List Host → Type 0
 Begun rows hosts = EachStands (λ i. Begins) rows hosts
@@ -30,15 +30,15 @@ pub record IsOpening (rows left : List Row) (hosts : List Host) : Type 0 where
   pub rows_are : rows ≡ done ++ left
   pub begun : Begun done hosts
 
-pub opening-start : (rows left : List Row) (hosts : List Host) → rows ≡ left → hosts ≡ [] → IsOpening rows left hosts
-opening-start rows left hosts same none = record { done = []; rows_are = same; begun = subst (Begun []) (sym none) (pair-none (λ i. Begins)) }
+pub opening_start : (rows left : List Row) (hosts : List Host) → rows ≡ left → hosts ≡ [] → IsOpening rows left hosts
+opening_start rows left hosts same none = record { done = []; rows_are = same; begun = subst (Begun []) (sym none) (pair_none (λ i. Begins)) }
 
-pub opening-next : (rows left rest : List Row) (hosts new : List Host) (row : Row) (host : Host) → left ≡ row ∷ rest → IsOpening rows left hosts → Begins row host → new ≡ hosts ++ host ∷ []
+pub opening_next : (rows left rest : List Row) (hosts new : List Host) (row : Row) (host : Host) → left ≡ row ∷ rest → IsOpening rows left hosts → Begins row host → new ≡ hosts ++ host ∷ []
     → IsOpening rows rest new
-opening-next rows left rest hosts new row host left_is going begins new_is = record {
+opening_next rows left rest hosts new row host left_is going begins new_is = record {
   done = going.done ++ row ∷ [];
   rows_are = going.rows_are ∙ ap (λ (l : List Row). going.done ++ l) left_is ∙ sym (append_assoc going.done (row ∷ []) rest);
-  begun = subst (Begun (going.done ++ row ∷ [])) (sym new_is) (pair-more Begins going.done hosts row host going.begun begins);
+  begun = subst (Begun (going.done ++ row ∷ [])) (sym new_is) (pair_more Begins going.done hosts row host going.begun begins);
 }
 
 -- a row that is left is one of the rows
@@ -46,8 +46,8 @@ row_at : (done : List Row) (row : Row) (rest : List Row) → slice_get (done ++ 
 row_at [] row rest = refl
 row_at (r ∷ done) row rest = row_at done row rest
 
-pub row-fits : (net : Net) (rows left rest : List Row) (row : Row) (hosts : List Host) → AreRows net rows → left ≡ row ∷ rest → IsOpening rows left hosts → FitsNet net row
-row-fits net rows left rest row hosts are left_is going =
+pub row_fits : (net : Net) (rows left rest : List Row) (row : Row) (hosts : List Host) → AreRows net rows → left ≡ row ∷ rest → IsOpening rows left hosts → FitsNet net row
+row_fits net rows left rest row hosts are left_is going =
     are.fit (length going.done) row (ap (λ (l : List Row). slice_get l (length going.done)) (going.rows_are ∙ ap (λ (l : List Row). going.done ++ l) left_is) ∙ row_at going.done row rest)
 
 -- ---- all hosts
@@ -73,16 +73,16 @@ events_are net [] (c ∷ hosts) fit begun = absurd (let n = begun.count in omega
 events_are net (row ∷ rows) [] fit begun = absurd (let n = begun.count in omega arith)
 events_are net (row ∷ rows) (c ∷ hosts) fit begun =
     IsPermutation-append c.queue (opening row).made (flat_map (λ (c : Host). c.queue) hosts) (flat_map (λ (row : Row). (opening row).made) rows)
-    (opened-queue net row (fit 0 row refl) c (begun.each 0 row c refl refl))
+    (opened_queue net row (fit 0 row refl) c (begun.each 0 row c refl refl))
     (events_are net rows hosts (λ i r at. fit (suc i) r at) (rest_begun row rows c hosts begun))
 
 module _ (net : Net) (rows : List Row) (hosts : List Host) (are : AreRows net rows) (begun : Begun rows hosts) where
   -- the row of a host
   row_of : (i : ℕ) (c : Host) → slice_get hosts i ≡ Some c → (row : Row) × (slice_get rows i ≡ Some row) × Begins row c
   row_of i c there =
-      let below = below-get hosts i c there in
+      let below = below_get hosts i c there in
       let n = begun.count in
-      let (row, at) = get-below rows i (omega arith) in
+      let (row, at) = get_below rows i (omega arith) in
       (row, at, begun.each i row c at there)
 
   own : (i : ℕ) (c : Host) → slice_get hosts i ≡ Some c → All (λ (e : Event). home net e ≡ i) c.queue
@@ -90,21 +90,21 @@ module _ (net : Net) (rows : List Row) (hosts : List Host) (are : AreRows net ro
       let (row, at, begins) = row_of i c there in
       let fits = are.fit i row at in
       subst (λ (k : ℕ). All (λ (e : Event). home net e ≡ k) c.queue) (are.places i row at)
-      (All-from_Each (λ (e : Event). home net e ≡ row.host.index) c.queue
-      (λ e h. Each-from_All (λ (x : Event). home net x ≡ row.host.index) (opening row).made (opens-fit net row fits).own e
-      (IsIn-permutation e c.queue (opening row).made (opened-queue net row fits c begins) h)))
+      (All_from_Each (λ (e : Event). home net e ≡ row.host.index) c.queue
+      (λ e h. Each_from_All (λ (x : Event). home net x ≡ row.host.index) (opening row).made (opens_fit net row fits).own e
+      (IsIn_permutation e c.queue (opening row).made (opened_queue net row fits c begins) h)))
 
   stands_at : (i : ℕ) (c : Host) (h : HostRecord) → slice_get hosts i ≡ Some c → slice_get (map (λ (row : Row). (opening row).host) rows) i ≡ Some h → Stands c h
   stands_at i c h there at = let (row, here, begins) = row_of i c there in subst (Stands c) (at_row rows i row h here at) begins.host
 
-  pub hosts-stand : HostsStand net hosts (opening_world rows)
-  hosts-stand = record {
+  pub hosts_stand : HostsStand net hosts (opening_world rows)
+  hosts_stand = record {
     hosts = record { count = sym begun.count ∙ sym (length_map (λ (row : Row). (opening row).host) rows); each = stands_at };
     events = events_are net rows hosts are.fit begun;
     home = own;
   }
 
-pub opening-end : (net : Net) (rows left : List Row) (hosts : List Host) → AreRows net rows → left ≡ [] → IsOpening rows left hosts → HostsStand net hosts (opening_world rows)
-opening-end net rows left hosts are none going =
+pub opening_end : (net : Net) (rows left : List Row) (hosts : List Host) → AreRows net rows → left ≡ [] → IsOpening rows left hosts → HostsStand net hosts (opening_world rows)
+opening_end net rows left hosts are none going =
     let all : rows ≡ going.done = going.rows_are ∙ ap (λ (l : List Row). going.done ++ l) none ∙ append-nil going.done in
-    hosts-stand net rows hosts are (subst (λ (l : List Row). Begun l hosts) (sym all) going.begun)
+    hosts_stand net rows hosts are (subst (λ (l : List Row). Begun l hosts) (sym all) going.begun)

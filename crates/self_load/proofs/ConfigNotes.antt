@@ -9,7 +9,7 @@ use Rattle.shd_config.specs.declared.config.HostConfig.{HostConfig}
 use Rattle.shown_config.specs.Same.{no_overrides}
 use Rattle.shown_config.proofs.words.Words.Word.{quote}
 use Rattle.shown_config.proofs.blocks.Blocks.{Block, block_said, after_block, block_pairs, pair_at}
-use Rattle.shown_config.proofs.blocks.BlockSaid.{block-pairs}
+use Rattle.shown_config.proofs.blocks.BlockSaid.{block_pairs_is}
 use Rattle.shown_config.proofs.blocks.BlockText.{tree_of_block}
 use Rattle.shown_config.proofs.config.ConfigBlock.{host_block, hosts_block, config_block}
 use Rattle.run_plan.specs.SelfLoad.{ring_host, self_load_config}
@@ -38,7 +38,7 @@ few_nodes n few = omega (arith, hosts_size n n 0 14 (mapping 14), few)
 
 -- the pairs of a key with a block below it
 block_held : (n : ℕ) (key : List ℕ) (b : Block) → held (record { line = n; key = key; value = block_said (1 + n) (mapping (1 + n)) b }) ≡ block_pairs (1 + n) b
-block_held n key b = ap (λ o. unwrap_or o []) (block-pairs (1 + n) b)
+block_held n key b = ap (λ o. unwrap_or o []) (block_pairs_is (1 + n) b)
 
 host_is_silent : (n i line : ℕ) (front : List ℕ) → flat_map (host_notes front) (block_pairs line (host_block (ring_host n i))) ≡ []
 unfolding key_of

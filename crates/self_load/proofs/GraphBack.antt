@@ -10,7 +10,7 @@ use Rattle.std.specs.List.{list_all}
 use Rattle.gml_graph.specs.Outline.{outline}
 use Rattle.gml_graph.specs.Grammar.{Pairs, height, rows_of}
 use Rattle.gml_graph.specs.Gml.{graph}
-use Rattle.gml_graph.proofs.GrammarLaws.{Spells-outline}
+use Rattle.gml_graph.proofs.GrammarLaws.{Spells_outline}
 use Rattle.run_plan.specs.SelfLoad.{next_host, self_load_graph}
 use Rattle.self_load.specs.GraphText.{node_line, latency_words, edge_line, graph_text}
 use Rattle.self_load.proofs.AsciiTexts.{ascii}
@@ -75,7 +75,7 @@ unfolding graph
 graph_back n some few =
     let nested : height (ring_pairs n) ≤ 16 = omega (arith, nodes_height n 3 0 (ring_edges n (3 + n) 0 n) (edges_height n n (3 + n) 0)) in
     let rows : outline (graph_text n) ≡ Ok (rows_of 0 (ring_pairs n)) =
-    Spells-outline (graph_text n) (rows_of 0 (ring_pairs n)) (record { pairs = ring_pairs n; as_tokens = sym (ring_tokens n some few); nested = nested; as_rows = refl }) in
+    Spells_outline (graph_text n) (rows_of 0 (ring_pairs n)) (record { pairs = ring_pairs n; as_tokens = sym (ring_tokens n some few); nested = nested; as_rows = refl }) in
     rw (text_utf8 n some few, rows) (ring_read n few)
 
 -- the same of what was written, if anything

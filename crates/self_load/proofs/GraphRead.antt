@@ -28,11 +28,11 @@ or_true : (a : Bool) → (a || true) ≡ true
 or_true true = refl
 or_true false = refl
 
-natural-whole : (n : ℕ) → natural (whole n) ≡ Some n
-natural-whole n = rw (or_true (n == 0)) refl
+natural_whole : (n : ℕ) → natural (whole n) ≡ Some n
+natural_whole n = rw (or_true (n == 0)) refl
 
-id-whole : (n : ℕ) → n ≤ 4096 → id_of (values.Number (whole n)) ≡ Some n
-id-whole n h = rw (natural-whole n, lt-ltb n (2 ^ 32) (omega arith)) refl
+id_whole : (n : ℕ) → n ≤ 4096 → id_of (values.Number (whole n)) ≡ Some n
+id_whole n h = rw (natural_whole n, lt-ltb n (2 ^ 32) (omega arith)) refl
 
 -- ---- nodes
 
@@ -52,7 +52,7 @@ one_node : (line i : ℕ) → i < 4096 → add_node (nodes_to i) (list_block lin
 unfolding add_node node_of node_row
 one_node line i h =
     let few : nat_le 4096 (length (nodes_to i)) ≡ false = lt-leb 4096 _ (let e = length-map-range_with_len ring_node 0 i in omega (arith, e)) in
-    rw (few, id-whole i (omega arith), none_knows 0 i i (omega arith)) refl
+    rw (few, id_whole i (omega arith), none_knows 0 i i (omega arith)) refl
 
 all_nodes : (k line i : ℕ) → i + k ≤ 4096 → through add_node (nodes_to i) (node_blocks line i k) ≡ Ok (nodes_to (i + k))
 all_nodes zero line i h = ap (λ (n : ℕ). Ok (nodes_to n)) (let e : i ≡ i + zero = omega arith in e)
@@ -63,9 +63,9 @@ all_nodes (suc k) line i h =
     ∙ all_nodes k (line + 1) (i + 1) (omega arith)
     ∙ ap (λ (n : ℕ). Ok (nodes_to n)) (let e : i + 1 + k ≡ i + suc k = omega arith in e)
 
-ring_nodes-read : (n : ℕ) → n ≤ 4096 → nodes_of (rows_of 1 (inner_pairs n)) ≡ Ok (nodes_to n)
+ring_nodes_read : (n : ℕ) → n ≤ 4096 → nodes_of (rows_of 1 (inner_pairs n)) ≡ Ok (nodes_to n)
 unfolding nodes_of
-ring_nodes-read n h =
+ring_nodes_read n h =
     ap (through add_node []) (ring_node_blocks n) ∙ all_nodes n 3 0 (omega arith) ∙ ap (λ (m : ℕ). Ok (nodes_to m)) (let e : 0 + n ≡ n = omega arith in e)
 
 -- ---- edges
@@ -105,7 +105,7 @@ unfolding add_edge edge_of edge_row finished_edge
 one_edge n line i h few =
     let next : next_host n i < n = omega arith in
     let room : nat_le 65536 (length (edges_to n i)) ≡ false = lt-leb 65536 _ (let e = length-map-range_with_len (ring_edge n) 0 i in omega (arith, e)) in
-    rw (room, id-whole i (omega arith), some_knows n i h, id-whole (next_host n i) (omega arith), some_knows n (next_host n i) next, milliseconds (i % 7) line (omega arith), part (i % 4 == 3), share (i % 4 == 3)) refl
+    rw (room, id_whole i (omega arith), some_knows n i h, id_whole (next_host n i) (omega arith), some_knows n (next_host n i) next, milliseconds (i % 7) line (omega arith), part (i % 4 == 3), share (i % 4 == 3)) refl
 
 all_edges : (n k line i : ℕ) → i + k ≤ n → n ≤ 4096 → through (add_edge (nodes_to n)) (edges_to n i) (edge_blocks n line i k) ≡ Ok (edges_to n (i + k))
 all_edges n zero line i h few = ap (λ (m : ℕ). Ok (edges_to n m)) (let e : i ≡ i + zero = omega arith in e)
@@ -116,17 +116,17 @@ all_edges n (suc k) line i h few =
     ∙ all_edges n k (line + 1) (i + 1) (omega arith) few
     ∙ ap (λ (m : ℕ). Ok (edges_to n m)) (let e : i + 1 + k ≡ i + suc k = omega arith in e)
 
-ring_edges-read : (n : ℕ) → n ≤ 4096 → edges_of (nodes_to n) (rows_of 1 (inner_pairs n)) ≡ Ok (edges_to n n)
+ring_edges_read : (n : ℕ) → n ≤ 4096 → edges_of (nodes_to n) (rows_of 1 (inner_pairs n)) ≡ Ok (edges_to n n)
 unfolding edges_of
-ring_edges-read n h =
+ring_edges_read n h =
     ap (through (add_edge (nodes_to n)) []) (ring_edge_blocks n) ∙ all_edges n n (3 + n) 0 (omega arith) h ∙ ap (λ (m : ℕ). Ok (edges_to n m)) (let e : 0 + n ≡ n = omega arith in e)
 
 -- ---- the whole
 
-directed-read : (n : ℕ) → is_directed (rows_of 1 (inner_pairs n)) ≡ Ok true
+directed_read : (n : ℕ) → is_directed (rows_of 1 (inner_pairs n)) ≡ Ok true
 unfolding is_directed
-directed-read n = rw (no_directed n) refl
+directed_read n = rw (no_directed n) refl
 
 pub ring_read : (n : ℕ) → n ≤ 4096 → graph_of (rows_of 0 (ring_pairs n)) ≡ Ok (self_load_graph n)
 unfolding graph_of self_load_graph
-ring_read n h = rw (ring_graph_rows n, directed-read n, ring_nodes-read n h, ring_edges-read n h) refl
+ring_read n h = rw (ring_graph_rows n, directed_read n, ring_nodes_read n h, ring_edges_read n h) refl

@@ -46,18 +46,18 @@ decimal-digits n h =
     let k = decimal_is_IsNumeral n small in
     record { are = all_digits (decimal n) k.0.1; some = k.0.0; few = length-decimal-le 4 n (omega arith) (omega arith) small; value = digits_value n small }
 
-prefix-digits : (ds : List ℕ) → list_all is_ascii_digit ds ≡ true → prefix_len is_ascii_digit ds ≡ length ds
-prefix-digits [] h = refl
-prefix-digits (c ∷ cs) h =
+prefix_digits : (ds : List ℕ) → list_all is_ascii_digit ds ≡ true → prefix_len is_ascii_digit ds ≡ length ds
+prefix_digits [] h = refl
+prefix_digits (c ∷ cs) h =
     let p = and_parts (is_ascii_digit c) (list_all is_ascii_digit cs) h in
-    let more = prefix-digits cs p.1 in
+    let more = prefix_digits cs p.1 in
     rw p.0 (omega (arith, more))
 
-digits-all : (ds : List ℕ) → list_all is_ascii_digit ds ≡ true → number.digits ds ≡ ds
-digits-all ds h = ap (λ k. take k ds) (prefix-digits ds h) ∙ ap (take (length ds)) (sym (append-nil ds)) ∙ take_at ds [] (length ds) refl
+digits_all : (ds : List ℕ) → list_all is_ascii_digit ds ≡ true → number.digits ds ≡ ds
+digits_all ds h = ap (λ k. take k ds) (prefix_digits ds h) ∙ ap (take (length ds)) (sym (append-nil ds)) ∙ take_at ds [] (length ds) refl
 
-after-all : (ds : List ℕ) → list_all is_ascii_digit ds ≡ true → number.after_digits ds ≡ []
-after-all ds h = ap (λ k. drop k ds) (prefix-digits ds h) ∙ ap (drop (length ds)) (sym (append-nil ds)) ∙ drop_at ds [] (length ds) refl
+after_all : (ds : List ℕ) → list_all is_ascii_digit ds ≡ true → number.after_digits ds ≡ []
+after_all ds h = ap (λ k. drop k ds) (prefix_digits ds h) ∙ ap (drop (length ds)) (sym (append-nil ds)) ∙ drop_at ds [] (length ds) refl
 
 no_sign : (c : ℕ) → is_ascii_digit c ≡ true → number.is_sign c ≡ false
 no_sign c h = grind (arith, nat_tests)
@@ -83,14 +83,14 @@ no_key (c ∷ cs) h = rw (no_letter c (and_parts (is_ascii_digit c) _ h).0) refl
 fits : (count : ℕ) → 0 < count → count ≤ 36 → number.fits (count + 0) ≡ true
 fits count some few = and_from (nat_lt 0 (count + 0)) _ (lt-ltb 0 (count + 0) (omega arith)) (le-leb (count + 0) 36 (omega arith))
 
-number-read : (n : ℕ) (ds : List ℕ) → IsDigits n ds → number.decimal ds ≡ Some (whole n)
+number_read : (n : ℕ) (ds : List ℕ) → IsDigits n ds → number.decimal ds ≡ Some (whole n)
 unfolding number.decimal
-number-read n ds d =
-    rw (unsigned ds d.are, positive ds d.are, digits-all ds d.are, after-all ds d.are, fits (length ds) d.some (omega (arith, d.few)), d.value) refl
+number_read n ds d =
+    rw (unsigned ds d.are, positive ds d.are, digits_all ds d.are, after_all ds d.are, fits (length ds) d.some (omega (arith, d.few)), d.value) refl
 
-word-read : (n : ℕ) (ds : List ℕ) → IsDigits n ds → word_token ds ≡ Number (whole n)
+word_read : (n : ℕ) (ds : List ℕ) → IsDigits n ds → word_token ds ≡ Number (whole n)
 unfolding word_token
-word-read n ds d = rw (no_key ds d.are, number-read n ds d) refl
+word_read n ds d = rw (no_key ds d.are, number_read n ds d) refl
 
 -- where the word stands in a text
 digit_inside : (c : ℕ) (rest : List ℕ) → is_ascii_digit c ≡ true → ends_word c rest ≡ false
@@ -113,10 +113,10 @@ begun c line rest h =
     let none : brackets line c ≡ [] = grind (arith, nat_tests) in
     rw (none, place, digit_line c line h) refl
 
-digits-read : (ds rest : List ℕ) (line : ℕ) → 0 < length ds → list_all is_ascii_digit ds ≡ true
+digits_read : (ds rest : List ℕ) (line : ℕ) → 0 < length ds → list_all is_ascii_digit ds ≡ true
     → tokens_from (between false) line (ds ++ (32 ∷ rest)) ≡ lexeme line (word_token ds) ∷ tokens_from (between false) line rest
-digits-read [] rest line some h = absurd (omega (arith, some))
-digits-read (c ∷ cs) rest line some h =
+digits_read [] rest line some h = absurd (omega (arith, some))
+digits_read (c ∷ cs) rest line some h =
     let p = and_parts (is_ascii_digit c) (list_all is_ascii_digit cs) h in
     begun c line (cs ++ (32 ∷ rest)) p.0 ∙ inside (c ∷ []) cs rest line p.1
 
@@ -125,4 +125,4 @@ pub number_front : (n line : ℕ) (rest : List ℕ) → n < 10000
     → tokens_from (between false) line (decimal n ++ (32 ∷ rest)) ≡ lexeme line (Number (whole n)) ∷ tokens_from (between false) line rest
 number_front n line rest h =
     let d = decimal-digits n h in
-    digits-read (decimal n) rest line d.some d.are ∙ ap (λ t. lexeme line t ∷ tokens_from (between false) line rest) (word-read n (decimal n) d)
+    digits_read (decimal n) rest line d.some d.are ∙ ap (λ t. lexeme line t ∷ tokens_from (between false) line rest) (word_read n (decimal n) d)

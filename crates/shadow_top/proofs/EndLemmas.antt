@@ -33,14 +33,14 @@ use Rattle.round_lookahead.specs.declared.world.counts.Counts.{Counts}
 use Rattle.round_lookahead.specs.declared.world.world_state.World as rounds
 use Rattle.shadow_top.specs.inside.Ending.{TellsAll, PutsEnd}
 use Rattle.shadow_top.specs.inside.Rounds.{StandsAt}
-use Rattle.shadow_top.proofs.GrowLemmas.{AreBetween, Grows-refl, Grows-with_pieces, between-part}
-use Rattle.shadow_top.proofs.RoundLemmas.{AreFronts, at-count}
+use Rattle.shadow_top.proofs.GrowLemmas.{AreBetween, Grows-refl, Grows_with_pieces, between_part}
+use Rattle.shadow_top.proofs.RoundLemmas.{AreFronts, at_count}
 
 -- an element that is there, and what f makes of it
-get-below : {X : Type 0} (xs : List X) (i : ℕ) → i < length xs → (x : X) × (slice_get xs i ≡ Some x)
-get-below [] i below = absurd (omega arith)
-get-below (y ∷ ys) zero below = (y, refl)
-get-below (y ∷ ys) (suc i) below = get-below ys i (omega arith)
+get_below : {X : Type 0} (xs : List X) (i : ℕ) → i < length xs → (x : X) × (slice_get xs i ≡ Some x)
+get_below [] i below = absurd (omega arith)
+get_below (y ∷ ys) zero below = (y, refl)
+get_below (y ∷ ys) (suc i) below = get_below ys i (omega arith)
 
 get-map : {X Y : Type 0} (f : X → Y) (xs : List X) (i : ℕ) (x : X) → slice_get xs i ≡ Some x → slice_get (map f xs) i ≡ Some (f x)
 get-map f [] i x at = absurd (let e : None ≡ Some x = at in cc)
@@ -48,46 +48,46 @@ get-map f (y ∷ ys) zero x at = ap (option_map f) at
 get-map f (y ∷ ys) (suc i) x at = get-map f ys i x at
 
 -- one more at the end
-pub at-more : {A : Type 0} (xs : List A) (x y : A) (i : ℕ) → slice_get (xs ++ x ∷ []) i ≡ Some y → (slice_get xs i ≡ Some y) ⊎ ((i ≡ length xs) × (x ≡ y))
-at-more [] x y zero at = inr (refl, (let e : Some x ≡ Some y = at in cc))
-at-more [] x y (suc i) at = absurd (let e : None ≡ Some y = at in cc)
-at-more (z ∷ zs) x y zero at = inl at
-at-more (z ∷ zs) x y (suc i) at = ⊎_elim (λ (l : slice_get zs i ≡ Some y). inl l) (λ (r : (i ≡ length zs) × (x ≡ y)). inr (ap suc r.0, r.1)) (at-more zs x y i at)
+pub at_more : {A : Type 0} (xs : List A) (x y : A) (i : ℕ) → slice_get (xs ++ x ∷ []) i ≡ Some y → (slice_get xs i ≡ Some y) ⊎ ((i ≡ length xs) × (x ≡ y))
+at_more [] x y zero at = inr (refl, (let e : Some x ≡ Some y = at in cc))
+at_more [] x y (suc i) at = absurd (let e : None ≡ Some y = at in cc)
+at_more (z ∷ zs) x y zero at = inl at
+at_more (z ∷ zs) x y (suc i) at = ⊎_elim (λ (l : slice_get zs i ≡ Some y). inl l) (λ (r : (i ≡ length zs) × (x ≡ y)). inr (ap suc r.0, r.1)) (at_more zs x y i at)
 
-pub none-there : {A P : Type 0} (xs : List A) (i : ℕ) (x : A) → xs ≡ [] → slice_get xs i ≡ Some x → P
-none-there [] i x none at = absurd (let e : None ≡ Some x = at in cc)
-none-there (y ∷ ys) i x none at = absurd (cc)
+pub none_there : {A P : Type 0} (xs : List A) (i : ℕ) (x : A) → xs ≡ [] → slice_get xs i ≡ Some x → P
+none_there [] i x none at = absurd (let e : None ≡ Some x = at in cc)
+none_there (y ∷ ys) i x none at = absurd (cc)
 
-pub one-more : {A : Type 0} (old new : List A) (x : A) (n : ℕ) → new ≡ old ++ x ∷ [] → length old ≡ n → length new ≡ n + 1
-one-more old new x n is count = ap length is ∙ length_push old x ∙ ap (λ (k : ℕ). k + 1) count
+pub one_more : {A : Type 0} (old new : List A) (x : A) (n : ℕ) → new ≡ old ++ x ∷ [] → length old ≡ n → length new ≡ n + 1
+one_more old new x n is count = ap length is ∙ length_push old x ∙ ap (λ (k : ℕ). k + 1) count
 
 -- ---- the states of a host
 
 -- one more process
-pub states-more : (old new : List State) (state : State) (n : ℕ) (h : HostRecord) → new ≡ old ++ state ∷ [] → length old ≡ n
+pub states_more : (old new : List State) (state : State) (n : ℕ) (h : HostRecord) → new ≡ old ++ state ∷ [] → length old ≡ n
     → ((p : ℕ) (s : State) → slice_get old p ≡ Some s → s ≡ process_state p h) → state ≡ process_state n h → (p : ℕ) (s : State) → slice_get new p ≡ Some s → s ≡ process_state p h
-states-more old new state n h is count each here p s at =
+states_more old new state n h is count each here p s at =
     ⊎_elim
     (λ (l : slice_get old p ≡ Some s). each p s l)
     (λ (r : (p ≡ length old) × (state ≡ s)). sym r.1 ∙ here ∙ ap (λ (k : ℕ). process_state k h) (sym (r.0 ∙ count)))
-    (at-more old state s p (sym (ap (λ (l : List State). slice_get l p) is) ∙ at))
+    (at_more old state s p (sym (ap (λ (l : List State). slice_get l p) is) ∙ at))
 
 -- ---- the states of all hosts
 
-pub tasks-count : (c : rounds.World) (w : World) → WorldStands c w → length c.tasks.items ≡ length (names_of c.listing)
-tasks-count c w at = at.count ∙ sym (at-count c w at)
+pub tasks_count : (c : rounds.World) (w : World) → WorldStands c w → length c.tasks.items ≡ length (names_of c.listing)
+tasks_count c w at = at.count ∙ sym (at_count c w at)
 
-pub few-hosts : (c : rounds.World) (w : World) → WorldStands c w → length (names_of c.listing) ≤ 65536
-few-hosts c w at =
-    let listed = at-count c w at in
+pub few_hosts : (c : rounds.World) (w : World) → WorldStands c w → length (names_of c.listing) ≤ 65536
+few_hosts c w at =
+    let listed = at_count c w at in
     let count = at.between.count in
     let few = at.rounds.few in
     omega arith
 
 -- a host has no more processes than ids
-pub few-processes : (names : List HostNames) (i count : ℕ) → i < length names → All HasIds names → ((n : HostNames) → slice_get names i ≡ Some n → count ≡ length n.processes) → count ≤ 2 ^ 32
-few-processes names i count below ids counted =
-    let n = get-below names i below in
+pub few_processes : (names : List HostNames) (i count : ℕ) → i < length names → All HasIds names → ((n : HostNames) → slice_get names i ≡ Some n → count ≡ length n.processes) → count ≤ 2 ^ 32
+few_processes names i count below ids counted =
+    let n = get_below names i below in
     let has : HasIds n.0 = subst HasIds (get_or_from_slice_get names i n.0 n.0 n.1) (ids i n.0 below) in
     let few : first_id + length n.0.processes ≤ 2 ^ 32 = has in
     let is = counted n.0 n.1 in
@@ -107,30 +107,30 @@ all-more c w at old new v n count is long each counted here k h states there tol
     let listed_there : slice_get (names_of c.listing) n ≡ Some (listed h.row) =
     ap (λ (ns : List HostNames). slice_get ns n) at.listed ∙ get-map (λ (x : HostRecord). listed x.row) w.hosts n h at_n in
     subst (λ (s : Vec State Global). TellsStates h s.items) r.1 (here h at at_n (counted (listed h.row) listed_there ∙ length-map h.row.processes listed_process))))
-    (at-more old v states k (sym (ap (λ (l : List (Vec State Global)). slice_get l k) is) ∙ told))
+    (at_more old v states k (sym (ap (λ (l : List (Vec State Global)). slice_get l k) is) ∙ told))
 
 -- ---- the summary
 
-pub no-summary : (w : World) (load : Bool) → load ≡ false → (let none : Option Summary = None in none) ≡ summary_in load w
-no-summary w load is = sym (ap (λ (b : Bool). summary_in b w) is)
+pub no_summary : (w : World) (load : Bool) → load ≡ false → (let none : Option Summary = None in none) ≡ summary_in load w
+no_summary w load is = sym (ap (λ (b : Bool). summary_in b w) is)
 
 -- lines are counted by their acts, whatever name they tell
 abbrev counts_one : Bool → ℕ → ℕ
 counts_one told n = n + (if told then 1 else 0)
 
-counted-from : (is_one : Act → Bool) (hs : List HostRecord) (ls : List Line) (n : ℕ)
+counted_from : (is_one : Act → Bool) (hs : List HostRecord) (ls : List Line) (n : ℕ)
     → fold (λ (m : ℕ) (line : LogLine). counts_one (is_one line.act) m) n (map (named hs) ls) ≡ fold (λ (m : ℕ) (line : Line). counts_one (is_one line.act) m) n ls
-counted-from is_one hs [] n = refl
-counted-from is_one hs (l ∷ ls) n = counted-from is_one hs ls (counts_one (is_one l.act) n)
+counted_from is_one hs [] n = refl
+counted_from is_one hs (l ∷ ls) n = counted_from is_one hs ls (counts_one (is_one l.act) n)
 
 counted : (is_one : Act → Bool) (w : World) → acts_counted is_one (named_log w) ≡ lines.acts_counted is_one (lines_of w.log)
-counted is_one w = ap (λ (n : ℕ). min n max_u64) (counted-from is_one w.hosts (lines_of w.log) 0)
+counted is_one w = ap (λ (n : ℕ). min n max_u64) (counted_from is_one w.hosts (lines_of w.log) 0)
 
 abbrev with_counts : ℕ → Counts → Summary
 with_counts hosts c = record { hosts = hosts; sent = c.sent; lost = c.lost; received = c.received }
 
-pub summary-told : (w : World) (load : Bool) (hosts : ℕ) (c : Counts) → load ≡ true → hosts ≡ length w.hosts → c ≡ counts_of (lines_of w.log) → Some (with_counts hosts c) ≡ summary_in load w
-summary-told w load hosts c load_is many is =
+pub summary_told : (w : World) (load : Bool) (hosts : ℕ) (c : Counts) → load ≡ true → hosts ≡ length w.hosts → c ≡ counts_of (lines_of w.log) → Some (with_counts hosts c) ≡ summary_in load w
+summary_told w load hosts c load_is many is =
     let sent = counted is_send w in
     let lost = counted is_lost w in
     let received = counted is_recv w in
@@ -163,17 +163,17 @@ abbrev pub HaveStatus : Type 0
 HaveStatus = (w : World) (states : List (List State)) → AreTold w states → status_by (unmet_of_hosts (names_in w) states) ≡ status_of w
 
 -- a world extends itself
-later-refl : (hs : List HostRecord) → AreLater hs hs
-later-refl [] = tt
-later-refl (h ∷ hs) = (record { row = refl; more = []; written = sym (append-nil h.written) }, later-refl hs)
+later_refl : (hs : List HostRecord) → AreLater hs hs
+later_refl [] = tt
+later_refl (h ∷ hs) = (record { row = refl; more = []; written = sym (append-nil h.written) }, later_refl hs)
 
-extends-refl : (w : World) → Extends w w
-extends-refl w = record { hosts = later-refl w.hosts; more = []; log = sym (append-nil w.log) }
+extends_refl : (w : World) → Extends w w
+extends_refl w = record { hosts = later_refl w.hosts; more = []; log = sym (append-nil w.log) }
 
 -- no memory for the states
-pub end-without : AreFronts → (load : Bool) (w : World) (old mid : Option Content) (error : WriteError) → StandsAt w old mid
+pub end_without : AreFronts → (load : Bool) (w : World) (old mid : Option Content) (error : WriteError) → StandsAt w old mid
     → PutsEnd load w old mid (let r : Result ℕ WriteError = Err error in r)
-end-without fronts load w old mid error stands = λ begun is. fronts (names_in w) begun mid w w load (stands begun is) (extends-refl w)
+end_without fronts load w old mid error stands = λ begun is. fronts (names_in w) begun mid w w load (stands begun is) (extends_refl w)
 
 module _ (ends : End) (counts : HaveStatus) (parts : AreBetween) (load : Bool) (w : World) (old mid new : Option Content) (told : List (Vec State Global)) (all : TellsAll w told) (stands : StandsAt w old mid) (summary : Option Summary) (is : summary ≡ summary_in load w) where
   abbrev states : List (List State)
@@ -195,27 +195,27 @@ module _ (ends : End) (counts : HaveStatus) (parts : AreBetween) (load : Bool) (
   rest = all_rest names states (summary_in load w)
 
   -- the rest was put in part
-  in-part : (begun : Content) → IsUnderway names begun mid w → PutsFront rest mid new → Between begun new (with_pieces (run_pieces load w) begun)
-  in-part begun u front =
+  in_part : (begun : Content) → IsUnderway names begun mid w → PutsFront rest mid new → Between begun new (with_pieces (run_pieces load w) begun)
+  in_part begun u front =
       let whole : Content = with_pieces (run_pieces load w) begun in
       let stood : Content = with_pieces u.puts begun in
       let is_whole : Some (with_pieces rest stood) ≡ Some whole = sym (ap (option_map (with_pieces rest)) u.now_is) ∙ ends names begun mid w states load u are_told in
-      between-part parts rest begun stood whole new (Grows-with_pieces parts u.puts begun) (subst (λ (o : Option Content). PutsFront rest o new) u.now_is front)
-      (record { now = whole; now_is = is_whole; grown = Grows-with_pieces parts (run_pieces load w) begun; rest = Grows-refl whole })
+      between_part parts rest begun stood whole new (Grows_with_pieces parts u.puts begun) (subst (λ (o : Option Content). PutsFront rest o new) u.now_is front)
+      (record { now = whole; now_is = is_whole; grown = Grows_with_pieces parts (run_pieces load w) begun; rest = Grows-refl whole })
 
-  pub end-told : (r : Result ℕ WriteError) → IfOk r (λ s. s ≡ status_by (unmet_of_hosts names states)) → OnOk r (new ≡ option_map (with_pieces (all_rest names states summary)) mid)
+  pub end_told : (r : Result ℕ WriteError) → IfOk r (λ s. s ≡ status_by (unmet_of_hosts names states)) → OnOk r (new ≡ option_map (with_pieces (all_rest names states summary)) mid)
       → OnErr r (PutsFront (all_rest names states summary) mid new) → PutsEnd load w old new r
-  end-told (Ok status) status_is put front = (
+  end_told (Ok status) status_is put front = (
     λ begun e. put ∙ ap (λ (s : Option Summary). option_map (with_pieces (all_rest names states s)) mid) is ∙ ends names begun mid w states load (stands begun e) are_told,
     status_is ∙ counts w states are_told,
   )
-  end-told (Err error) status_is put front = λ begun e.
-      in-part begun (stands begun e) (subst (λ (s : Option Summary). PutsFront (all_rest names states s) mid new) is front)
+  end_told (Err error) status_is put front = λ begun e.
+      in_part begun (stands begun e) (subst (λ (s : Option Summary). PutsFront (all_rest names states s) mid new) is front)
 
   -- the same, by what the code lists
-  pub end-told_by : (listing : Listing) → names_of listing ≡ names_in w → (r : Result ℕ WriteError) → IfOk r (λ s. s ≡ status_by (unmet_of_hosts (names_of listing) states))
+  pub end_told_by : (listing : Listing) → names_of listing ≡ names_in w → (r : Result ℕ WriteError) → IfOk r (λ s. s ≡ status_by (unmet_of_hosts (names_of listing) states))
       → OnOk r (new ≡ option_map (with_pieces (all_rest (names_of listing) states summary)) mid) → OnErr r (PutsFront (all_rest (names_of listing) states summary) mid new) → PutsEnd load w old new r
-  end-told_by listing same r status_is put front =
-      end-told r (subst (λ (ns : List HostNames). IfOk r (λ s. s ≡ status_by (unmet_of_hosts ns states))) same status_is)
+  end_told_by listing same r status_is put front =
+      end_told r (subst (λ (ns : List HostNames). IfOk r (λ s. s ≡ status_by (unmet_of_hosts ns states))) same status_is)
       (subst (λ (ns : List HostNames). OnOk r (new ≡ option_map (with_pieces (all_rest ns states summary)) mid)) same put)
       (subst (λ (ns : List HostNames). OnErr r (PutsFront (all_rest ns states summary) mid new)) same front)

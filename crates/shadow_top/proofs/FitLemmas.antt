@@ -13,24 +13,24 @@ use Rattle.shadow_top.specs.Input.{Input, IsFirstFault, IsToShow, IsToRun, IsToL
 use Rattle.shadow_top.specs.Shown.{IsRunTo}
 use Rattle.shadow_top.proofs.OneShown.{OnePlan, OneResult, one_run, one_world, not_to_run, show_or_run, list_or_run}
 
-pub fit-append : (xs ys : List Line) → AllFit xs → AllFit ys → AllFit (xs ++ ys)
-fit-append [] ys h k = k
-fit-append (x ∷ xs) ys h k = (h.0, fit-append xs ys h.1 k)
+pub fit_append : (xs ys : List Line) → AllFit xs → AllFit ys → AllFit (xs ++ ys)
+fit_append [] ys h k = k
+fit_append (x ∷ xs) ys h k = (h.0, fit_append xs ys h.1 k)
 
 -- ---- of an input that is not run there are none
 
 module _ (plans : OnePlan) (i : Input) where
-  pub refused-fit : (fault : Fault) → IsFirstFault i fault → LogFits i
-  refused-fit fault first = λ run w asked result. absurd (not_to_run plans i fault run first asked)
+  pub refused_fit : (fault : Fault) → IsFirstFault i fault → LogFits i
+  refused_fit fault first = λ run w asked result. absurd (not_to_run plans i fault run first asked)
 
-  pub config-fit : (config : Config) → IsToShow i config → LogFits i
-  config-fit config shows = λ run w asked result. absurd (show_or_run plans i config run shows asked)
+  pub config_fit : (config : Config) → IsToShow i config → LogFits i
+  config_fit config shows = λ run w asked result. absurd (show_or_run plans i config run shows asked)
 
-  pub list-fit : (capture : Capture) → IsToList i capture → LogFits i
-  list-fit capture lists = λ run w asked result. absurd (list_or_run plans i capture run lists asked)
+  pub list_fit : (capture : Capture) → IsToList i capture → LogFits i
+  list_fit capture lists = λ run w asked result. absurd (list_or_run plans i capture run lists asked)
 
 -- an input has one run, and that one result
-pub run-fit : OnePlan → OneResult → (i : Input) (run : Run) (w : World) → IsToRun i run → IsRunTo run w → AllFit (lines_of w.log) → LogFits i
-run-fit plans results i run w asked result fit = λ other v also ends.
+pub run_fit : OnePlan → OneResult → (i : Input) (run : Run) (w : World) → IsToRun i run → IsRunTo run w → AllFit (lines_of w.log) → LogFits i
+run_fit plans results i run w asked result fit = λ other v also ends.
     (let same = one_run plans i run other asked.asked also.asked in
     subst (λ (x : World). AllFit (lines_of x.log)) (one_world results other w v (subst (λ (r : Run). IsRunTo r w) same result) ends) fit)

@@ -10,9 +10,9 @@ use Rattle.host_rows.specs.declared.row.Row.{Row}
 use Rattle.net_run.specs.Grown.{HaveOwnFiles}
 use Rattle.run_plan.specs.Names.{AreApart}
 
-pub opening-names : (rows : List Row) → names_in (opening_world rows) ≡ map listed rows
-opening-names [] = refl
-opening-names (row ∷ rows) = ap (λ (l : List HostNames). listed row ∷ l) (opening-names rows)
+pub opening_names : (rows : List Row) → names_in (opening_world rows) ≡ map listed rows
+opening_names [] = refl
+opening_names (row ∷ rows) = ap (λ (l : List HostNames). listed row ∷ l) (opening_names rows)
 
 differ : (x : List ℕ) (ys : List (List ℕ)) → ((i : ℕ) → slice_get ys i ≡ Some x → ⊥) → AllByRecursion (λ (y : List ℕ). bytes_eq x y ≡ false) ys
 differ x [] none = tt
@@ -30,5 +30,5 @@ distinct (x ∷ xs) apart = (
 )
 
 -- hosts of which no two have one name have files of their own
-pub own-files : (hosts : List HostNames) → AreApart (map (λ (h : HostNames). h.name) hosts) → All HasIds hosts → HaveOwnFiles hosts
-own-files hosts apart ids = record { names = distinct (map (λ (h : HostNames). h.name) hosts) apart; ids = ids }
+pub own_files : (hosts : List HostNames) → AreApart (map (λ (h : HostNames). h.name) hosts) → All HasIds hosts → HaveOwnFiles hosts
+own_files hosts apart ids = record { names = distinct (map (λ (h : HostNames). h.name) hosts) apart; ids = ids }

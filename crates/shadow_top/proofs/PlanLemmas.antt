@@ -50,16 +50,16 @@ ran_by run opened c new (Err error) opens free (w, result, some) =
     inr (free, w, run_to run opened w opens result, subst (λ (ps : List Put). Between (begun (directory_of run) c) new (with_pieces ps (begun (directory_of run) c))) (same_pieces run opened w opens) some)
 
 -- whether the directory is there, by whether it was made
-from-not : (made there : Bool) → made ≡ not there → there ≡ not made
-from-not made true is = ap not (sym is)
-from-not made false is = ap not (sym is)
+from_not : (made there : Bool) → made ≡ not there → there ≡ not made
+from_not made true is = ap not (sym is)
+from_not made false is = ap not (sym is)
 
 module _ (run : Run) (opened : Opened) (directory : List ℕ) (opens : Opens run opened) (same : directory ≡ opened.directory) where
   named : directory ≡ directory_of run
   named = same ∙ opens.directory
 
   there_by : (made : Bool) (c : Content) → made ≡ not (c.there directory) → c.there (directory_of run) ≡ not made
-  there_by made c is = ap (λ (d : List ℕ). c.there d) (sym named) ∙ from-not made (c.there directory) is
+  there_by made c is = ap (λ (d : List ℕ). c.there d) (sym named) ∙ from_not made (c.there directory) is
 
   -- the directory was made, and the run
   pub plan_ran : (old mid new : Option Content) (r : Result ℕ WriteError) → IfSome old (λ c. true ≡ not (c.there directory)) → mid ≡ option_map (begun directory) old

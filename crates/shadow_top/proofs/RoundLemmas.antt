@@ -30,8 +30,8 @@ use Rattle.round_lookahead.specs.WorldStands.{WorldStands}
 use Rattle.round_lookahead.specs.declared.world.pieces.Pieces.{Pieces}
 use Rattle.round_lookahead.specs.declared.world.world_state.World as rounds
 use Rattle.shadow_top.specs.inside.Rounds.{gained_by, PutsSomeGained, PutsRound, StandsAt, HasAllRounds, PutsInPart}
-use Rattle.shadow_top.proofs.FitLemmas.{fit-append}
-use Rattle.shadow_top.proofs.GrowLemmas.{AreBetween, Grows-refl, Grows-with_pieces, between-part}
+use Rattle.shadow_top.proofs.FitLemmas.{fit_append}
+use Rattle.shadow_top.proofs.GrowLemmas.{AreBetween, Grows-refl, Grows_with_pieces, between_part}
 
 -- ---- what is told of runs
 
@@ -61,14 +61,14 @@ AreFronts = (names : List HostNames) (begun : Content) (now : Option Content) (w
 -- ---- one round
 
 -- what a round gained was put, or some of it
-pub round-told : (c d : rounds.World) (workers : ℕ) (w v : World) (p : Pieces) (old new : Option Content) → HasRound c d workers w v p → (r : Result (Unit {0}) WriteError)
+pub round_told : (c d : rounds.World) (workers : ℕ) (w v : World) (p : Pieces) (old new : Option Content) → HasRound c d workers w v p → (r : Result (Unit {0}) WriteError)
     → OnOk r (new ≡ option_map (with_pieces (gained_by p)) old) → OnErr r (PutsFront (gained_by p) old new) → PutsRound c d workers w old new r
-round-told c d workers w v p old new round (Ok done) put front = (v, p, round, put)
-round-told c d workers w v p old new round (Err error) put front = inr (v, p, round, front)
+round_told c d workers w v p old new round (Ok done) put front = (v, p, round, put)
+round_told c d workers w v p old new round (Err error) put front = inr (v, p, round, front)
 
 -- the listing has all hosts
-pub at-count : (c : rounds.World) (w : World) → WorldStands c w → length (names_of c.listing) ≡ length w.hosts
-at-count c w at = ap length at.listed ∙ length-map w.hosts (λ (h : HostRecord). listed h.row)
+pub at_count : (c : rounds.World) (w : World) → WorldStands c w → length (names_of c.listing) ≡ length w.hosts
+at_count c w at = ap length at.listed ∙ length-map w.hosts (λ (h : HostRecord). listed h.row)
 
 -- ---- so far
 
@@ -81,16 +81,16 @@ pub record HasCome (c d : rounds.World) (start : World) (old now : Option Conten
   pub stands : StandsAt world old now
   pub fit : AllFit (lines_of start.log) → AllFit (lines_of world.log)
 
-pub come-start : (c : rounds.World) (w : World) (old now : Option Content) → HasReached c.net w w → WorldStands c w → StandsAt w old now → HasCome c c w old now
-come-start c w old now reached at stands = record { world = w; net = refl; at = at; reached = reached; stands = stands; fit = λ h. h }
+pub come_start : (c : rounds.World) (w : World) (old now : Option Content) → HasReached c.net w w → WorldStands c w → StandsAt w old now → HasCome c c w old now
+come_start c w old now reached at stands = record { world = w; net = refl; at = at; reached = reached; stands = stands; fit = λ h. h }
 
 module _ (c d : rounds.World) (start : World) (old mid : Option Content) (come : HasCome c d start old mid) where
   reached_here : HasReached d.net start come.world
   reached_here = subst (λ (n : Net). HasReached n start come.world) (sym come.net) come.reached
 
   -- no event is due any more
-  pub come-end : Finish → All (λ (e : Event). d.net.stop.nanos ≤ e.key.due.nanos) (flat_map waiting d.tasks.items) → HasAllRounds c d start old mid
-  come-end finish late = record {
+  pub come_end : Finish → All (λ (e : Event). d.net.stop.nanos ≤ e.key.due.nanos) (flat_map waiting d.tasks.items) → HasAllRounds c d start old mid
+  come_end finish late = record {
     world = come.world;
     result = subst (λ (n : Net). IsResult n come.world start) come.net (finish start come.world d come.at reached_here late);
     at = come.at;
@@ -100,8 +100,8 @@ module _ (c d : rounds.World) (start : World) (old mid : Option Content) (come :
 
   module _ (extended : AreExtended) (fronts : AreFronts) where
     -- what stands is a front of what the result shows
-    come-part : PutsInPart c start old mid
-    come-part =
+    come_part : PutsInPart c start old mid
+    come_part =
         let (r, result, later) = extended start come.world d come.at reached_here in
         (r, subst (λ (n : Net). IsResult n r start) come.net result, λ begun is load. fronts (names_in come.world) begun mid come.world r load (come.stands begun is) later)
 
@@ -116,8 +116,8 @@ module _ (c d : rounds.World) (start : World) (old mid : Option Content) (come :
     underway_next begun is = grow (names_in come.world) begun mid come.world v round.files.outputs round.files.lines (come.stands begun is) round.files.gained
 
     -- what a round gained was put
-    pub come-further : new ≡ option_map (with_pieces (gained_by p)) mid → HasCome c e start old new
-    come-further put = record {
+    pub come_further : new ≡ option_map (with_pieces (gained_by p)) mid → HasCome c e start old new
+    come_further put = record {
       world = v;
       net = same ∙ come.net;
       at = round.turns.stands;
@@ -126,13 +126,13 @@ module _ (c d : rounds.World) (start : World) (old mid : Option Content) (come :
           (let next = underway_next begun is in
           subst (λ (names : List HostNames). IsUnderway names begun new v) next.names_are
           (subst (λ (o : Option Content). IsUnderway (names_in come.world) begun o v) (sym (put ∙ ap (λ (l : List Put). option_map (with_pieces l) mid) round.files.files_are)) next));
-      fit = λ h. subst AllFit (sym round.files.gained.log) (fit-append (lines_of come.world.log) round.files.lines (come.fit h) round.files.fit);
+      fit = λ h. subst AllFit (sym round.files.gained.log) (fit_append (lines_of come.world.log) round.files.lines (come.fit h) round.files.fit);
     }
 
     module _ (extended : AreExtended) (fronts : AreFronts) (parts : AreBetween) where
       -- or some of it
-      come-part_further : PutsFront (gained_by p) mid new → PutsInPart c start old new
-      come-part_further front =
+      come_part_further : PutsFront (gained_by p) mid new → PutsInPart c start old new
+      come_part_further front =
           let (r, result, later) = extended start v e round.turns.stands (subst (λ (n : Net). HasReached n start v) (sym same) reached_next) in (
             r,
             subst (λ (n : Net). IsResult n r start) (same ∙ come.net) result,
@@ -141,19 +141,19 @@ module _ (c d : rounds.World) (start : World) (old mid : Option Content) (come :
                 let stood : Content = with_pieces u.puts begun in
                 let whole : Content = with_pieces (run_pieces load r) begun in
                 let all : Between begun (option_map (with_pieces gained) mid) whole = fronts (names_in come.world) begun (option_map (with_pieces gained) mid) v r load (underway_next begun is) later in
-                between-part parts gained begun stood whole new (Grows-with_pieces parts u.puts begun)
+                between_part parts gained begun stood whole new (Grows_with_pieces parts u.puts begun)
                 (subst (λ (l : List Put). PutsFront l (Some stood) new) round.files.files_are (subst (λ (o : Option Content). PutsFront (gained_by p) o new) u.now_is front))
                 (subst (λ (o : Option Content). Between begun (option_map (with_pieces gained) o) whole) u.now_is all)),
           )
 
   module _ (lead : LeadOn) (grow : Grow) (extended : AreExtended) (fronts : AreFronts) (parts : AreBetween) (e : rounds.World) (workers : ℕ) (new : Option Content) (same : e.net ≡ d.net) where
     -- a round stopped
-    pub come-stopped : PutsSomeGained d e workers come.world mid new → PutsInPart c start old new
-    come-stopped some =
+    pub come_stopped : PutsSomeGained d e workers come.world mid new → PutsInPart c start old new
+    come_stopped some =
         ⊎_elim
-        (λ (none : new ≡ mid). subst (PutsInPart c start old) (sym none) (come-part extended fronts))
+        (λ (none : new ≡ mid). subst (PutsInPart c start old) (sym none) (come_part extended fronts))
         (λ (round : (v : World) × (p : Pieces) × HasRound d e workers come.world v p × PutsFront (gained_by p) mid new).
-        come-part_further lead grow e workers round.0 round.1 same round.2 new extended fronts parts round.3)
+        come_part_further lead grow e workers round.0 round.1 same round.2 new extended fronts parts round.3)
         some
 
 -- ---- the beginning
@@ -166,21 +166,21 @@ module _ (c : rounds.World) (rows : List Row) (at : WorldStands c (opening_world
   own_names = subst HaveOwnFiles at.listed own
 
   -- the heads of captures were put
-  pub heads-put : (old new : Option Content) → new ≡ option_map (with_pieces (all_heads (names_of c.listing))) old → StandsAt (opening_world rows) old new
-  heads-put old new put = λ begun is.
+  pub heads_put : (old new : Option Content) → new ≡ option_map (with_pieces (all_heads (names_of c.listing))) old → StandsAt (opening_world rows) old new
+  heads_put old new put = λ begun is.
       subst (λ (o : Option Content). IsUnderway names begun o (opening_world rows))
       (sym (put ∙ ap (λ (hosts : List HostNames). option_map (with_pieces (all_heads hosts)) old) at.listed ∙ ap (option_map (with_pieces (all_heads names))) is))
       (begin rows begun own_names)
 
   module _ (reached : HasReached c.net (opening_world rows) (opening_world rows)) (extended : AreExtended) (fronts : AreFronts) (parts : AreBetween) where
     -- or some of them
-    pub heads-stopped : (old new : Option Content) → PutsFront (all_heads (names_of c.listing)) old new → PutsInPart c (opening_world rows) old new
-    heads-stopped old new front =
+    pub heads_stopped : (old new : Option Content) → PutsFront (all_heads (names_of c.listing)) old new → PutsInPart c (opening_world rows) old new
+    heads_stopped old new front =
         let (r, result, later) = extended (opening_world rows) (opening_world rows) c at reached in (
           r,
           result,
           λ begun is load.
-              between-part parts (all_heads names) begun begun (with_pieces (run_pieces load r) begun) new (Grows-refl begun)
+              between_part parts (all_heads names) begun begun (with_pieces (run_pieces load r) begun) new (Grows-refl begun)
               (subst (λ (o : Option Content). PutsFront (all_heads names) o new) is (subst (λ (hosts : List HostNames). PutsFront (all_heads hosts) old new) at.listed front))
               (fronts names begun (Some (with_pieces (all_heads names) begun)) (opening_world rows) r load (begin rows begun own_names) later),
         )

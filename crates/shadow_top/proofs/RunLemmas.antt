@@ -22,10 +22,10 @@ use Rattle.shadow_top.specs.inside.Rounds.{HasAllRounds, PutsInPart}
 use Rattle.shadow_top.specs.inside.Steps.{RunsNoted, RunsOpened}
 use Rattle.opened_run.specs.declared.opened.Opened.{Opened}
 use Rattle.shadow_top.proofs.EndLemmas.{small}
-use Rattle.shadow_top.proofs.GrowLemmas.{AreBetween, with_append, Grows-refl, Grows-with_pieces}
-use Rattle.shadow_top.proofs.NameLemmas.{opening-names, own-files}
-use Rattle.shadow_top.proofs.OpenedLemmas.{has-rounds, host-rows}
-use Rattle.shadow_top.proofs.PartLemmas.{between-after, between-first, between-more}
+use Rattle.shadow_top.proofs.GrowLemmas.{AreBetween, with_append, Grows-refl, Grows_with_pieces}
+use Rattle.shadow_top.proofs.NameLemmas.{opening_names, own_files}
+use Rattle.shadow_top.proofs.OpenedLemmas.{has_rounds, host_rows_is}
+use Rattle.shadow_top.proofs.PartLemmas.{between_after, between_first, between_more}
 
 -- what is told of results: there is one from each world between rounds, as from the one in which all hosts begin
 abbrev pub HaveResults : Type 0
@@ -37,7 +37,7 @@ OpenBetween = (net : Net) (rows : List Row) → AreHostRows net rows → IsBetwe
 -- a run has a result
 ran_exists : HaveResults → OpenBetween → (opened : Opened) → HasOpened opened → (w : World) × IsResult opened.net w (opening_world opened.rows.items)
 ran_exists results between opened has =
-    let r = results opened.net (nanos_of opened.lookahead) (opening_world opened.rows.items) (has-rounds opened has) (between opened.net opened.rows.items (host-rows opened has)) in (r.0, r.1)
+    let r = results opened.net (nanos_of opened.lookahead) (opening_world opened.rows.items) (has_rounds opened has) (between opened.net opened.rows.items (host_rows_is opened has)) in (r.0, r.1)
 
 -- no memory for the run: nothing was put
 pub not_run : HaveResults → OpenBetween → AreBetween → (opened : Opened) (old : Option Content) (error : WriteError) → HasOpened opened
@@ -45,7 +45,7 @@ pub not_run : HaveResults → OpenBetween → AreBetween → (opened : Opened) (
 not_run results between parts opened None error has = tt
 not_run results between parts opened (Some c) error has =
     let (w, result) = ran_exists results between opened has in
-    (w, result, record { now = c; now_is = refl; grown = Grows-refl c; rest = Grows-with_pieces parts (all_pieces opened.is_self_load opened.streams w) c })
+    (w, result, record { now = c; now_is = refl; grown = Grows-refl c; rest = Grows_with_pieces parts (all_pieces opened.is_self_load opened.streams w) c })
 
 -- ---- the beginning
 
@@ -58,8 +58,8 @@ pub begins_own : (opened : Opened) (c : rounds.World) → HasOpened opened → W
 begins_own opened c has stands ids =
     let rows : List Row = opened.rows.items in
     let names : List HostNames = names_in (opening_world rows) in
-    let apart : map (λ (h : HostNames). h.name) names ≡ map (λ (row : Row). row.name) rows = ap (map (λ (h : HostNames). h.name)) (opening-names rows) ∙ names_listed rows in
-    subst HaveOwnFiles (sym stands.listed) (own-files names (subst AreApart (sym apart) has.names) (subst (All HasIds) stands.listed ids))
+    let apart : map (λ (h : HostNames). h.name) names ≡ map (λ (row : Row). row.name) rows = ap (map (λ (h : HostNames). h.name)) (opening_names rows) ∙ names_listed rows in
+    subst HaveOwnFiles (sym stands.listed) (own_files names (subst AreApart (sym apart) has.names) (subst (All HasIds) stands.listed ids))
 
 -- ---- rounds and the end
 
@@ -78,7 +78,7 @@ module _ (parts : AreBetween) (opened : Opened) (c : rounds.World) (same : c.net
       → IfSome o (λ begun. (w : World) × IsResult opened.net w start × Between begun new (with_pieces (all_pieces opened.is_self_load opened.streams w) begun))
   part_of new part None is = tt
   part_of new (w, result, stands) (Some begun) is =
-      (w, result_of w result, between-more parts (run_pieces opened.is_self_load w) (stream_puts opened.streams w) begun new (stands begun (sym is) opened.is_self_load))
+      (w, result_of w result, between_more parts (run_pieces opened.is_self_load w) (stream_puts opened.streams w) begun new (stands begun (sym is) opened.is_self_load))
 
   -- a round stopped
   pub rounds_stopped : (new : Option Content) (error : WriteError) → PutsInPart c start old new → IfSome old (λ begun. RunsNoted opened begun new (let r : Result ℕ WriteError = Err error in r))
@@ -100,7 +100,7 @@ module _ (parts : AreBetween) (opened : Opened) (c : rounds.World) (same : c.net
 noted_here : AreBetween → (opened : Opened) (c : Content) (new : Option Content) (r : Result ℕ WriteError) → RunsNoted opened (with_pieces (note_puts opened.notes) c) new r → RunsOpened opened c new r
 noted_here parts opened c new (Ok status) (w, result, told) =
     (w, result, told.0 ∙ ap Some (sym (with_append (note_puts opened.notes) (all_pieces opened.is_self_load opened.streams w) c)), told.1, told.2)
-noted_here parts opened c new (Err error) (w, result, part) = (w, result, between-after parts (note_puts opened.notes) (all_pieces opened.is_self_load opened.streams w) c new part)
+noted_here parts opened c new (Err error) (w, result, part) = (w, result, between_after parts (note_puts opened.notes) (all_pieces opened.is_self_load opened.streams w) c new part)
 
 -- the notes were put, and the run was made
 pub noted : AreBetween → (opened : Opened) (old mid new : Option Content) (r : Result ℕ WriteError) → mid ≡ option_map (with_pieces (note_puts opened.notes)) old
@@ -114,4 +114,4 @@ pub notes_stopped : HaveResults → OpenBetween → AreBetween → (opened : Ope
 notes_stopped results between parts opened None new error has some = tt
 notes_stopped results between parts opened (Some c) new error has some =
     let (w, result) = ran_exists results between opened has in
-    (w, result, between-first parts (note_puts opened.notes) (all_pieces opened.is_self_load opened.streams w) c new some)
+    (w, result, between_first parts (note_puts opened.notes) (all_pieces opened.is_self_load opened.streams w) c new some)

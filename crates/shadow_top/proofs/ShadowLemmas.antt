@@ -36,9 +36,9 @@ use Rattle.shadow_top.specs.declared.stop.Answer.{Answer}
 use Rattle.shadow_top.specs.declared.stop.Answer.TheVariants.{Status, Exists}
 use Rattle.shadow_top.specs.declared.stop.Stop.{Stop}
 use Rattle.shadow_top.specs.declared.stop.Stop.TheVariants.{Refused, ReadFailed, WriteFailed, NoMemory}
-use Rattle.shadow_top.proofs.FitLemmas.{refused-fit, config-fit, list-fit, run-fit}
+use Rattle.shadow_top.proofs.FitLemmas.{refused_fit, config_fit, list_fit, run_fit}
 use Rattle.shadow_top.proofs.OneShown.{OnePlan, OneResult}
-use Rattle.shadow_top.proofs.PartLemmas.{part-begun, part-line, part-text}
+use Rattle.shadow_top.proofs.PartLemmas.{part_begun, part_line, part_text}
 
 -- ---- what is shown
 
@@ -71,13 +71,13 @@ shows one i old whole new status is shown_is fit =
 -- a front of the line of a refusal
 pub part_of_line : (i : Input) (old : Content) (fault : Fault) (new : Option Content) → IsFirstFault i fault → AddsFront place.Err (line_of fault) (Some old) new → ShowsPart i old new
 part_of_line i old fault new first front =
-    let (now, now_is, part) = part-line old (line_of fault) new front in
+    let (now, now_is, part) = part_line old (line_of fault) new front in
     inr (record { now = now; whole = add place.Err (line_of fault) old; status = 2; new_is = now_is; shown = refused_shown i old fault first; part = part })
 
 -- a front of a configuration
 pub part_of_config : (i : Input) (old : Content) (config : Config) (new : Option Content) → IsToShow i config → AddsFront place.Out (shown config) (Some old) new → ShowsPart i old new
 part_of_config i old config new asked front =
-    let (now, now_is, part) = part-text old (shown config) new front in
+    let (now, now_is, part) = part_text old (shown config) new front in
     inr (record { now = now; whole = add place.Out (shown config) old; status = 0; new_is = now_is; shown = config_shown i old config asked; part = part })
 
 -- a front of the lines of a capture
@@ -86,7 +86,7 @@ part_of_list i old capture new asked told =
     ⊎_elim
     (λ (same : new ≡ Some old). inl same)
     (λ (some : (lines : List ℕ) × AreLinesOf capture.records lines × AddsFront place.Out lines (Some old) new).
-    let (now, now_is, part) = part-text old some.0 new some.2 in
+    let (now, now_is, part) = part_text old some.0 new some.2 in
     inr (record { now = now; whole = add place.Out some.0 old; status = 0; new_is = now_is; shown = list_shown i old capture some.0 asked some.1; part = part }))
     told
 
@@ -100,7 +100,7 @@ part_of_pieces i old run w new asked result b =
       status = status_of w;
       new_is = b.now_is;
       shown = run_shown i old run w asked result;
-      part = part-begun (directory_of run) old b.now _ b.grown b.rest;
+      part = part_begun (directory_of run) old b.now _ b.grown b.rest;
     })
 
 -- ---- the steps of a run
@@ -124,7 +124,7 @@ runs_in_part i c new write.NoMemory part = part
 shows_by : AreOne → (i : Input) (c : Content) (new : Option Content) (config : Config) (r : Result Answer WriteError) → IsToShow i config → ShowsConfig config c new r → Runs i c new (ended r)
 shows_by one i c new config (Ok answer) asked (new_is, answer_is) =
     subst (λ (a : Answer). Runs i c new (ended (Ok a))) (sym answer_is)
-    (shows one i c (add place.Out (shown config) c) new 0 new_is (config_shown i c config asked) (config-fit one.1 i config asked))
+    (shows one i c (add place.Out (shown config) c) new 0 new_is (config_shown i c config asked) (config_fit one.1 i config asked))
 shows_by one i c new config (Err error) asked front = runs_in_part i c new error (part_of_config i c config new asked front)
 
 runs_shown : AreOne → (words : List (List ℕ)) (held : Option Held) (old new : Option Content) (config : Config) (r : Result Answer WriteError)
@@ -139,7 +139,7 @@ runs_shown one words (Some h) (Some c) new config r asked told = shows_by one (i
 lists_by : AreOne → (i : Input) (c : Content) (new : Option Content) (capture : Capture) (r : Result Answer WriteError) → IsToList i capture → ListsCapture capture c new r → Runs i c new (ended r)
 lists_by one i c new capture (Ok answer) asked (lines, are, new_is, answer_is) =
     subst (λ (a : Answer). Runs i c new (ended (Ok a))) (sym answer_is)
-    (shows one i c (add place.Out lines c) new 0 new_is (list_shown i c capture lines asked are) (list-fit one.1 i capture asked))
+    (shows one i c (add place.Out lines c) new 0 new_is (list_shown i c capture lines asked are) (list_fit one.1 i capture asked))
 lists_by one i c new capture (Err error) asked front = runs_in_part i c new error (part_of_list i c capture new asked front)
 
 runs_listed : AreOne → (words : List (List ℕ)) (held : Option Held) (old new : Option Content) (capture : Capture) (r : Result Answer WriteError)
@@ -164,7 +164,7 @@ runs_by one i c new run (Ok (Status status)) asked there (free, w, result, new_i
     let to_run : IsToRun i run = record { asked = asked; free = ap (λ (t : List ℕ → Bool). t (directory_of run)) there ∙ free } in
     shows one i c (with_pieces (pieces_of run w) (begun (directory_of run) c)) new status new_is
     (subst (IsShown i c (with_pieces (pieces_of run w) (begun (directory_of run) c))) (sym status_is) (run_shown i c run w to_run result))
-    (run-fit one.1 one.2 i run w to_run result fit)
+    (run_fit one.1 one.2 i run w to_run result fit)
 runs_by one i c new run (Ok (Exists directory)) asked there (is_there, directory_is, new_is) =
     (inr (record { run = run; asked = asked; there = ap (λ (t : List ℕ → Bool). t (directory_of run)) there ∙ is_there; fault_is = ap (λ (d : List ℕ). refusal.Exists d) directory_is }), new_is)
 runs_by one i c new run (Err error) asked there told = runs_in_part i c new error (in_part i c new run asked there told)
@@ -227,7 +227,7 @@ refused_line one words held old mid new r r' w m w' status fault did reads fault
     (told_map {P = λ i c. IsFirstFault i fault × (mid ≡ Some c)} {Q = λ i c. Shows i c new status} words held old
     (λ i c h. shows one i c (add place.Err (line_of fault) c) new status (all.1 ∙ ap (option_map (add place.Err (line_of fault))) h.1)
     (subst (IsShown i c (add place.Err (line_of fault) c)) (sym all.0) (refused_shown i c fault h.0))
-    (refused-fit one.1 i fault h.0)) did))
+    (refused_fit one.1 i fault h.0)) did))
     (λ (rest : ((status ≡ 4) × AddsFront place.Err (line_of fault) mid new × Rose m.faults w'.faults × EndsByError m.errors w') ⊎ ((status ≡ 5) × AddsFront place.Err (line_of fault) mid new × (w'.faults ≡ m.faults) × StopsAtError m.errors w')).
     ⊎_elim
     (λ (failed : (status ≡ 4) × AddsFront place.Err (line_of fault) mid new × Rose m.faults w'.faults × EndsByError m.errors w').
@@ -244,7 +244,7 @@ refused_line one words held old mid new r r' w m w' status fault did reads fault
 -- a line that was meant for a read that failed
 part_of_failure : (i : Input) (old : Content) (file : List ℕ) (new : Option Content) → IsReached i file → AddsFront place.Err (read_failed_line file) (Some old) new → TellsPart i old new
 part_of_failure i old file new reached front =
-    let (now, now_is, part) = part-line old (read_failed_line file) new front in
+    let (now, now_is, part) = part_line old (read_failed_line file) new front in
     record { now = now; file = file; new_is = now_is; reached = reached; part = part }
 
 failed_line : (words : List (List ℕ)) (held : Option Held) (old mid new : Option Content) (r r' : ℕ) (w m w' : Tally) (status : ℕ) (file : List ℕ)

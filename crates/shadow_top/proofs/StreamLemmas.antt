@@ -16,12 +16,12 @@ use Rattle.round_lookahead.specs.WorldStands.{WorldStands}
 use Rattle.round_lookahead.specs.declared.world.world_state.World as rounds
 use Rattle.shadow_top.specs.inside.Ending.{PutsEnd, PutsAll}
 use Rattle.shadow_top.proofs.GrowLemmas.{AreBetween, with_append}
-use Rattle.shadow_top.proofs.PartLemmas.{between-after, between-more}
+use Rattle.shadow_top.proofs.PartLemmas.{between_after, between_more}
 
 -- what is told of a world's connections, by what the code lists
-pub lines-are : (c : rounds.World) (w : World) → WorldStands c w → (listing : Listing) (streams es : List Stream) → listing ≡ c.listing → es ≡ streams → streams ≡ streams_in w
+pub lines_are : (c : rounds.World) (w : World) → WorldStands c w → (listing : Listing) (streams es : List Stream) → listing ≡ c.listing → es ≡ streams → streams ≡ streams_in w
     → told_puts (names_of listing) es ≡ stream_puts true w
-lines-are c w at listing streams es is same told =
+lines_are c w at listing streams es is same told =
     ap (λ (l : Listing). told_puts (names_of l) es) is ∙ ap (λ (ns : List HostNames). told_puts ns es) at.listed ∙ ap (λ (l : List Stream). told_puts (names_in w) l) (same ∙ told)
 
 module _ (load streams : Bool) (w : World) (old mid new : Option Content) where
@@ -32,17 +32,17 @@ module _ (load streams : Bool) (w : World) (old mid new : Option Content) where
   lines = stream_puts streams w
 
   -- both were put
-  pub all-told : (status : ℕ) → PutsEnd load w old mid (let r : Result ℕ WriteError = Ok status in r) → new ≡ option_map (with_pieces lines) mid
+  pub all_told : (status : ℕ) → PutsEnd load w old mid (let r : Result ℕ WriteError = Ok status in r) → new ≡ option_map (with_pieces lines) mid
       → PutsAll load streams w old new (let r : Result ℕ WriteError = Ok status in r)
-  all-told status told put = (λ begun is. put ∙ ap (option_map (with_pieces lines)) (told.0 begun is) ∙ ap Some (sym (with_append rest lines begun)), told.1)
+  all_told status told put = (λ begun is. put ∙ ap (option_map (with_pieces lines)) (told.0 begun is) ∙ ap Some (sym (with_append rest lines begun)), told.1)
 
   -- a front of what stands before them
-  pub all-stopped : AreBetween → (error : WriteError) → PutsEnd load w old new (let r : Result ℕ WriteError = Err error in r)
+  pub all_stopped : AreBetween → (error : WriteError) → PutsEnd load w old new (let r : Result ℕ WriteError = Err error in r)
       → PutsAll load streams w old new (let r : Result ℕ WriteError = Err error in r)
-  all-stopped parts error told = λ begun is. between-more parts rest lines begun new (told begun is)
+  all_stopped parts error told = λ begun is. between_more parts rest lines begun new (told begun is)
 
   -- a front of them
-  pub all-in_part : AreBetween → (status : ℕ) (error : WriteError) → PutsEnd load w old mid (let r : Result ℕ WriteError = Ok status in r) → PutsFront lines mid new
+  pub all_in_part : AreBetween → (status : ℕ) (error : WriteError) → PutsEnd load w old mid (let r : Result ℕ WriteError = Ok status in r) → PutsFront lines mid new
       → PutsAll load streams w old new (let r : Result ℕ WriteError = Err error in r)
-  all-in_part parts status error told front = λ begun is.
-      between-after parts rest lines begun new (parts lines (with_pieces rest begun) new (subst (λ (o : Option Content). PutsFront lines o new) (told.0 begun is) front))
+  all_in_part parts status error told front = λ begun is.
+      between_after parts rest lines begun new (parts lines (with_pieces rest begun) new (subst (λ (o : Option Content). PutsFront lines o new) (told.0 begun is) front))

@@ -11,41 +11,41 @@ use Rattle.sim_base.specs.Addresses.{has_port, first_free_port}
 abbrev later : List Addr → ℕ → ℕ → Option ℕ
 later bound port count = find (λ candidate. not (has_port bound candidate)) (range_with_len (port + 1) count)
 
-pub first_free_port-free : (bound : List Addr) (port count : ℕ) → has_port bound port ≡ false → 0 < count → first_free_port bound port count ≡ Some port
+pub first_free_port_free : (bound : List Addr) (port count : ℕ) → has_port bound port ≡ false → 0 < count → first_free_port bound port count ≡ Some port
 unfolding first_free_port
-first_free_port-free bound port zero free some = absurd (omega arith)
-first_free_port-free bound port (suc count) free some = ap (λ b. cond (not b) (Some port) (later bound port count)) free
+first_free_port_free bound port zero free some = absurd (omega arith)
+first_free_port_free bound port (suc count) free some = ap (λ b. cond (not b) (Some port) (later bound port count)) free
 
-pub first_free_port-taken : (bound : List Addr) (port count : ℕ) → has_port bound port ≡ true → 0 < count
+pub first_free_port_taken : (bound : List Addr) (port count : ℕ) → has_port bound port ≡ true → 0 < count
     → first_free_port bound port count ≡ first_free_port bound (port + 1) (count - 1)
 unfolding first_free_port
-first_free_port-taken bound port zero taken some = absurd (omega arith)
-first_free_port-taken bound port (suc count) taken some =
+first_free_port_taken bound port zero taken some = absurd (omega arith)
+first_free_port_taken bound port (suc count) taken some =
     let less : count ≡ suc count - 1 = omega arith in
     ap (λ b. cond (not b) (Some port) (later bound port count)) taken ∙ ap (later bound port) less
 
-pub first_free_port-none : (bound : List Addr) (port count : ℕ) → count ≡ 0 → first_free_port bound port count ≡ None
+pub first_free_port_none : (bound : List Addr) (port count : ℕ) → count ≡ 0 → first_free_port bound port count ≡ None
 unfolding first_free_port
-first_free_port-none bound port zero none = refl
-first_free_port-none bound port (suc count) none = absurd (omega arith)
+first_free_port_none bound port zero none = refl
+first_free_port_none bound port (suc count) none = absurd (omega arith)
 
 -- the port that no socket has, if it is one
-pub first_free_port-told : {E : Type 0} (bound : List Addr) (port : ℕ) (told : Result ℕ E) → has_port bound port ≡ false → OkIff told (port < 65536) port
+pub first_free_port_told : {E : Type 0} (bound : List Addr) (port : ℕ) (told : Result ℕ E) → has_port bound port ≡ false → OkIff told (port < 65536) port
     → result_ok told ≡ first_free_port bound port (65536 - port)
-first_free_port-told bound port (Ok found) free is_port =
-    ap Some is_port.1 ∙ sym (first_free_port-free bound port (65536 - port) free (omega (arith, is_port.0)))
-first_free_port-told bound port (Err e) free is_none = sym (first_free_port-none bound port (65536 - port) (elim (cases_lt port 65536) [ inl less ↦ absurd (is_none less) | inr more ↦ omega (arith, more) ]))
+first_free_port_told bound port (Ok found) free is_port =
+    ap Some is_port.1 ∙ sym (first_free_port_free bound port (65536 - port) free (omega (arith, is_port.0)))
+first_free_port_told bound port (Err e) free is_none = sym (first_free_port_none bound port (65536 - port) (elim (cases_lt port 65536) [ inl less ↦ absurd (is_none less) | inr more ↦ omega (arith, more) ]))
 
 -- a port that a socket has is passed
-pub first_free_port-passed : (bound : List Addr) (i port : ℕ) (d : Addr) → i < length bound → (get_or bound i d).port ≡ port → port < 65536
+pub first_free_port_passed : (bound : List Addr) (i port : ℕ) (d : Addr) → i < length bound → (get_or bound i d).port ≡ port → port < 65536
     → first_free_port bound (port + 1) (65536 - (port + 1)) ≡ first_free_port bound port (65536 - port)
-first_free_port-passed bound i port d here same is_port =
+first_free_port_passed bound i port d here same is_port =
     let taken : has_port bound port ≡ true = list_any_at (λ at. at.port == port) bound i d here (eq-eqb _ _ same) in
     let less : 65536 - (port + 1) ≡ 65536 - port - 1 = omega arith in
-    ap (first_free_port bound (port + 1)) less ∙ sym (first_free_port-taken bound port (65536 - port) taken (omega arith))
+    ap (first_free_port bound (port + 1)) less ∙ sym (first_free_port_taken bound port (65536 - port) taken (omega arith))
 
 -- a port that no socket has so far, nor the next one
-pub has_port-not_so_far : (bound : List Addr) (i port : ℕ) (d : Addr) → i < length bound → has_port (take i bound) port ≡ false → (get_or bound i d).port ≢ port
+pub has_port_not_so_far : (bound : List Addr) (i port : ℕ) (d : Addr) → i < length bound → has_port (take i bound) port ≡ false → (get_or bound i d).port ≢ port
     → has_port (take (i + 1) bound) port ≡ false
-has_port-not_so_far bound i port d here before differs =
+has_port_not_so_far bound i port d here before differs =
     list_any_more (λ at. at.port == port) bound i d here ∙ ap (λ b. b || ((get_or bound i d).port == port)) before ∙ ne_eqb _ _ differs

@@ -45,19 +45,19 @@ told bound first zero = λ port from within. absurd (omega arith)
 told bound first (suc count) = told_step bound first count _ (has_port bound first) refl (told bound (first + 1) count)
 
 -- a port that is found is the least free one
-pub first_free_port-IsLeastFree : (bound : List Addr) (first count port : ℕ) → first_free_port bound first count ≡ Some port → IsLeastFree bound first count port
-first_free_port-IsLeastFree bound first count port found = subst (Told bound first count) found (told bound first count)
+pub first_free_port_IsLeastFree : (bound : List Addr) (first count port : ℕ) → first_free_port bound first count ≡ Some port → IsLeastFree bound first count port
+first_free_port_IsLeastFree bound first count port found = subst (Told bound first count) found (told bound first count)
 
 -- and where none is found, none is free
-pub first_free_port-AllAreHad : (bound : List Addr) (first count : ℕ) → first_free_port bound first count ≡ None → AllAreHad bound first count
-first_free_port-AllAreHad bound first count none = subst (Told bound first count) none (told bound first count)
+pub first_free_port_AllAreHad : (bound : List Addr) (first count : ℕ) → first_free_port bound first count ≡ None → AllAreHad bound first count
+first_free_port_AllAreHad bound first count none = subst (Told bound first count) none (told bound first count)
 
 not_met : (ip : Ip) (port : ℕ) (other : Addr) → (other.port == port) ≡ false → meets (at_port ip port) other ≡ false
 not_met ip port other differs = let apart : (port == other.port) ≡ false = grind (arith, nat_tests) in and_left (port == other.port) _ apart
 
 -- a socket at a port that no other has meets none of them
-pub has_port-meets : (ip : Ip) (port : ℕ) (bound : List Addr) → has_port bound port ≡ false → list_any (meets (at_port ip port)) bound ≡ false
-has_port-meets ip port [] free = refl
-has_port-meets ip port (other ∷ others) free =
+pub has_port_meets : (ip : Ip) (port : ℕ) (bound : List Addr) → has_port bound port ≡ false → list_any (meets (at_port ip port)) bound ≡ false
+has_port_meets ip port [] free = refl
+has_port_meets ip port (other ∷ others) free =
     let parts = or_parts _ _ free in
-    or_from _ _ (not_met ip port other parts.0) (has_port-meets ip port others parts.1)
+    or_from _ _ (not_met ip port other parts.0) (has_port_meets ip port others parts.1)

@@ -35,11 +35,11 @@ max_datagram = 1472
 abbrev pub max_segment : ℕ
 max_segment = 1460
 
-max_datagram-fills : ipv4_header + (udp_header + max_datagram) ≡ max_packet
-max_datagram-fills = refl
+max_datagram_fills : ipv4_header + (udp_header + max_datagram) ≡ max_packet
+max_datagram_fills = refl
 
-max_segment-fills : ipv4_header + (tcp_header + max_segment) ≡ max_packet
-max_segment-fills = refl
+max_segment_fills : ipv4_header + (tcp_header + max_segment) ≡ max_packet
+max_segment_fills = refl
 
 -- the flags of a segment (RFC 9293, section 3.1)
 abbrev pub fin_flag : ℕ

@@ -6,7 +6,7 @@ use Rattle.std.proofs.lemmas.Bool.Decides.{nat_tests}
 use Rattle.std.proofs.lemmas.List.Folds.{list_any-append}
 use Rattle.sim_base.specs.declared.address.Addr.{Addr}
 use Rattle.sim_base.specs.Addresses.{any, is_same_ip, meets, is_taken, least_free_port, at_port, at_free_port}
-use Rattle.sim_base.specs.AddressLaws.{first_free_port-IsLeastFree, has_port-meets}
+use Rattle.sim_base.specs.AddressLaws.{first_free_port_IsLeastFree, has_port_meets}
 use Rattle.std.specs.Prelude.{option_map}
 use Rattle.host_sockets.specs.Sockets.{put_at}
 use Rattle.host_sockets.specs.TcpSocket.{bound_end}
@@ -117,7 +117,7 @@ chosen : (ends : List Addr) (at : Addr) (found : Option ℕ) → least_free_port
 chosen ends at None e is = cc
 chosen ends at (Some port) e is =
     let same : at_port any port ≡ at = cc in
-    ap (is_taken ends) (sym same) ∙ has_port-meets any port ends (first_free_port-IsLeastFree ends 10000 55536 port e).free
+    ap (is_taken ends) (sym same) ∙ has_port_meets any port ends (first_free_port_IsLeastFree ends 10000 55536 port e).free
 
-pub free_port-is_taken : (ends : List Addr) (at : Addr) → at_free_port ends any ≡ Some at → is_taken ends at ≡ false
-free_port-is_taken ends at is = chosen ends at (least_free_port ends) refl is
+pub free_port_is_taken : (ends : List Addr) (at : Addr) → at_free_port ends any ≡ Some at → is_taken ends at ≡ false
+free_port_is_taken ends at is = chosen ends at (least_free_port ends) refl is

@@ -6,7 +6,7 @@ use Rattle.sim_base.specs.declared.address.Addr.{Addr}
 use Rattle.sim_base.specs.declared.time.Time.{Time}
 use Rattle.sim_base.specs.Addresses.{meets}
 use Rattle.sock_udp.specs.Socket.{UdpState, is_bound_for, is_open_to, takes}
-use Rattle.sock_udp.specs.SocketLaws.{takes-meets}
+use Rattle.sock_udp.specs.SocketLaws.{takes_meets}
 use Rattle.socket_laws.specs.Apart.{end_of, AreApart}
 use Rattle.socket_laws.specs.Histories.{SocketsAct, sockets_of}
 use Rattle.host_sockets.specs.Udp.{local_in}
@@ -22,7 +22,7 @@ by_places slots from to i j u v apart there first other second (inl same) = same
 by_places slots from to i j u v apart there first other second (inr ne) =
     let a = bound_for u.local to (and_parts _ (is_open_to u.peer from) first).0 in
     let b = bound_for v.local to (and_parts _ (is_open_to v.peer from) second).0 in
-    let meet : meets a.0 b.0 ≡ true = takes-meets from to a.0 b.0 u v a.1 b.1 first second in
+    let meet : meets a.0 b.0 ≡ true = takes_meets from to a.0 b.0 u v a.1 b.1 first second in
     let apart : meets a.0 b.0 ≡ false = apart i j a.0 b.0 ne (ap (end_of local_in) there ∙ a.1) (ap (end_of local_in) other ∙ b.1) in
     absurd (false≢true (sym apart ∙ meet))
 

@@ -26,7 +26,7 @@ use Rattle.host_sockets.specs.Binding.{bind_begun, bind_asked, end_to_use, liste
 use Rattle.host_sockets.specs.Closing.{unheld, closes_in, closed, closes_tcp}
 use Rattle.host_sockets.specs.Udp.{local_in}
 use Rattle.socket_laws.specs.Apart.{AreApart, tcp_end, BoundApart}
-use Rattle.socket_laws.proofs.Apart.{Loses, apart_loses, loses_set, loses_put, IsFree, apart_set, first_of_ends, free_among, free_port-is_taken}
+use Rattle.socket_laws.proofs.Apart.{Loses, apart_loses, loses_set, loses_put, IsFree, apart_set, first_of_ends, free_among, free_port_is_taken}
 
 -- the host has its address, and what is bound afterwards was bound so before
 pub record Kept (t t' : SocketsRecord) : Type 0 where
@@ -176,7 +176,7 @@ uses t k s (Some b) at new there is e bound h =
     let same : b ≡ at = cc in
     apart_loses tcp_end t.tcp _ h.tcp (loses_set tcp_end t.tcp k s new there (λ a f. let here : s.bound ≡ Some at = is ∙ ap (λ (x : Addr). Some x) same in here ∙ (sym bound ∙ f)))
 uses t k s None at new there is e bound h =
-    apart_set tcp_end t.tcp k new at h.tcp (all_free t k at (free_port-is_taken (tcp_ends t) at (found (at_free_port (tcp_ends t) any) e))) bound
+    apart_set tcp_end t.tcp k new at h.tcp (all_free t k at (free_port_is_taken (tcp_ends t) at (found (at_free_port (tcp_ends t) any) e))) bound
   where
     found : (o : Option Addr) → or_refuse o (refusal.Errno Eaddrnotavail) ≡ Ok at → o ≡ Some at
     found None e = cc

@@ -10,7 +10,7 @@ use Rattle.sim_base.specs.Packet.{max_datagram}
 use Rattle.sim_base.specs.Refusals.{◌>>=◌, ◌>>◌, refuse_if, or_refuse}
 use Rattle.sock_udp.specs.declared.datagram.Datagram.{Datagram}
 use Rattle.sock_udp.specs.Socket.{UdpState, new_socket, arrive, bind, connect, send, or_else, reach, address_to_bind, address_to_use, address_to_connect, address_and_destination, packet_between, limit}
-use Rattle.sock_udp.specs.SocketLaws.{address_to_bind-is_taken, address_to_use-is_taken}
+use Rattle.sock_udp.specs.SocketLaws.{address_to_bind_is_taken, address_to_use_is_taken}
 use Rattle.host_wants.specs.declared.error.Refusal.{Refusal}
 use Rattle.host_wants.specs.Refusals.{by_errno}
 use Rattle.host_sockets.specs.TcpSocket.{bound_end}
@@ -92,7 +92,7 @@ udp_free t k at e = free_among local_in udp_end at (λ slot none b is. end_alone
 -- where it is bound that sends or connects
 fits_used : (hosts : List Ip) (k : ℕ) (t : SocketsRecord) (u u' : UdpState) (at : Addr) (o : Option Addr) → BoundApart t → slice_get t.udp k ≡ Some (Some u) → u.local ≡ o → address_to_use (udp_around hosts t) u ≡ Ok at → u'.local ≡ Some at → Fits k t u'
 fits_used hosts k t u u' at None h there is used bound =
-    apart_set local_in t.udp k (Some u') at h.udp (udp_free t k at (address_to_use-is_taken (udp_around hosts t) at u is used)) bound
+    apart_set local_in t.udp k (Some u') at h.udp (udp_free t k at (address_to_use_is_taken (udp_around hosts t) at u is used)) bound
 fits_used hosts k t u u' at (Some b) h there is used bound =
     let given : or_refuse (or_else (Some b) (at_free_port (udp_ends t) any)) Eaddrnotavail ≡ Ok at =
     subst (λ (o : Option Addr). or_refuse (or_else o (at_free_port (udp_ends t) any)) Eaddrnotavail ≡ Ok at) is used in
@@ -105,7 +105,7 @@ bind_fits : (hosts : List Ip) (k : ℕ) (to : Addr) (t : SocketsRecord) (u u' : 
 bind_fits hosts k to t u u' h e =
     let given = bind_ok (address_to_bind (udp_around hosts t) to u) (λ (at : Addr). Ok (let after : UdpState = record u { local = Some at } in after)) u' e in
     let made : (let after : UdpState = record u { local = Some given.0 } in after) ≡ u' = ok_same _ u' given.1.1 in
-    apart_set local_in t.udp k (Some u') given.0 h.udp (udp_free t k given.0 (address_to_bind-is_taken (udp_around hosts t) to given.0 u given.1.0)) (ap (λ (v : UdpState). v.local) (sym made))
+    apart_set local_in t.udp k (Some u') given.0 h.udp (udp_free t k given.0 (address_to_bind_is_taken (udp_around hosts t) to given.0 u given.1.0)) (ap (λ (v : UdpState). v.local) (sym made))
   where
     ok_same : (v w : UdpState) → (let r : Result UdpState Errno = Ok v in r ≡ Ok w) → v ≡ w
     ok_same v w e = cc

@@ -13,7 +13,7 @@ use Rattle.sock_tcp.specs.connection.Arrival.{takes_packet}
 use Rattle.sock_tcp.specs.connection.Process.{answered, expires}
 use Rattle.sock_tcp.specs.listener.Listen.{Listen, Heard, fresh_listen, is_elsewhere, place_past, places_past, without, replaced, waits, settled, nothing_heard, record_acts, kept_acts, record_made, makes_record, asked, load_header, new_heard, hears, hears_timer, accepted_at, accepted_from, accepts}
 use Rattle.tcp_laws.proofs.Tests.{by_test}
-use Rattle.sock_tcp.proofs.Connections.Places.{slice_get-set}
+use Rattle.sock_tcp.proofs.Connections.Places.{slice_get_set}
 use Rattle.socket_laws.specs.Waiting.{ListenAct, after_accept, listen_acted, listen_after, listen_of}
 use Rattle.socket_laws.specs.Waiting.ListenAct.{segment, expiry, accept, backlog}
 use Rattle.socket_laws.proofs.Waiting.{Waiting, packet_waits, packet_stays, expiry_waits, expiry_stays, answer_waits}
@@ -93,7 +93,7 @@ whole_set records place r old at stays other whole =
     (λ same.
     let found : Some old ≡ Some whole.0 = sym at ∙ (ap (λ n. slice_get records n) same ∙ whole.1.0) in
     let is : old ≡ whole.0 = cc in
-    (r, (ap (λ n. slice_get (set records place r) n) (sym same) ∙ slice_get-set records place old r at, stays (ap (λ (x : Tcb). x.control.was_established) is ∙ whole.1.1))))
+    (r, (ap (λ n. slice_get (set records place r) n) (sym same) ∙ slice_get_set records place old r at, stays (ap (λ (x : Tcb). x.control.was_established) is ∙ whole.1.1))))
     (λ apart. (whole.0, (is_kept_at records place other r apart ∙ whole.1.0, whole.1.1)))
     (either place other)
 
@@ -159,7 +159,7 @@ unfolding settled
 keeps_settled l place r old h at w stays =
     let k = keeps_replaced l place r old h at w stays in
     by_test Keeps r.control.was_established _ _
-    (λ e. by_test Keeps old.control.was_established _ _ (λ b. k) (λ b. keeps_waits (replaced place r l) place k (r, (slice_get-set l.records place old r at, e))))
+    (λ e. by_test Keeps old.control.was_established _ _ (λ b. k) (λ b. keeps_waits (replaced place r l) place k (r, (slice_get_set l.records place old r at, e))))
     (λ e. by_test Keeps (is_over r.control.state) _ _ (λ b. keeps_without (replaced place r l) place k) (λ b. k))
 
 abbrev Minds : (Turn → Turn) → Type 0

@@ -30,9 +30,9 @@ at q s = is_eq (pair_order q s)
 asked : Addr → Addr → HostStream
 asked own peer = record { own = own; peer = peer; reused = false; written = 0; read = 0; ended = false }
 
-of-at : (own peer : Addr) (s : HostStream) → is_of own peer s ≡ at (asked own peer) s
+of_at : (own peer : Addr) (s : HostStream) → is_of own peer s ≡ at (asked own peer) s
 unfolding at asked
-of-at own peer s = both_tied _ _ _ _ (addr_ties own s.own) (addr_ties peer s.peer)
+of_at own peer s = both_tied _ _ _ _ (addr_ties own s.own) (addr_ties peer s.peer)
 
 equal_of : (o : Ordering) → is_eq o ≡ true → o ≡ Equal
 equal_of Less e = cc
@@ -176,7 +176,7 @@ among_records : (own peer : Addr) (rs : List Tcb) → filter (among (asked own p
 unfolding among
 among_records own peer [] = refl
 among_records own peer (r ∷ rs) =
-    kept (among (asked own peer) (carried_of r)) (is_between own peer r) (sym (of-at own peer (stream_of (carried_of r))))
+    kept (among (asked own peer) (carried_of r)) (is_between own peer r) (sym (of_at own peer (stream_of (carried_of r))))
     ∙ ap (λ cs. chosen (is_between own peer r) cs) (among_records own peer rs)
     ∙ out (is_between own peer r)
   where
@@ -203,7 +203,7 @@ find_same p q (x ∷ xs) e = ap (λ b. cond b (Some x) (find p xs)) (e x) ∙ ap
 pub told_by : (own peer : Addr) (rs : List Tcb) → find (is_of own peer) (fold with_carried [] (map carried_of rs)) ≡ told_of (filter (is_between own peer) rs)
 unfolding Rising IsStrictlySortedBy
 told_by own peer rs =
-    find_same (is_of own peer) (at (asked own peer)) (fold with_carried [] (map carried_of rs)) (of-at own peer)
+    find_same (is_of own peer) (at (asked own peer)) (fold with_carried [] (map carried_of rs)) (of_at own peer)
     ∙ (told_all (asked own peer) (map carried_of rs) [] tt
     ∙ (ap (joined None) (among_records own peer rs) ∙ by_records (filter (is_between own peer) rs)))
 

@@ -18,7 +18,7 @@ use Rattle.tcp_laws.specs.Sending.{AreOf}
 use Rattle.tcp_streams.specs.Net.{Net, IsVoid, MayAct, AsksFrom, Follows, Step, AreSteps, last_net}
 use Rattle.tcp_streams.specs.Net.Step.{acts, begins, goes_on}
 use Rattle.tcp_streams.specs.Sound.{IsSound}
-use Rattle.tcp_streams.proofs.Members.{IsIn-from_Contains, Contains-here, Contains-there, Contains-cases}
+use Rattle.tcp_streams.proofs.Members.{IsIn_from_Contains, Contains_here, Contains_there, Contains_cases}
 use Rattle.tcp_streams.proofs.Ends.{and_right}
 use Rattle.tcp_streams.proofs.Soundness.{acted_sound, acted_honest, acted_grows, begun_sound, begun_honest}
 use Rattle.tcp_streams.proofs.Steps.{moved, one_of}
@@ -60,7 +60,7 @@ inside_as own a b c d e k h =
 
 sent_inside : (own : Ip) (r : Tcb) (packets : List Packet) (p : Packet) → IsInside own r.control.local r.control.peer → AreOf r packets → Contains packets p → IsInside own p.from p.to
 sent_inside own r packets p h of c =
-    let sent = one_of r packets p of (IsIn-from_Contains p packets c) in
+    let sent = one_of r packets p of (IsIn_from_Contains p packets c) in
     inside_as own r.control.local r.control.peer p.from p.to sent.from sent.to h
 
 -- what a record that joins others leaves inside
@@ -71,12 +71,12 @@ joins own m n r rest sent h same from sound ends of flown = record {
       ⊎_elim
       (λ e. subst IsSound (sym e) sound)
       (λ k. h.sound x (from x k))
-      (Contains-cases r x rest (Contains-permutation n.records (r ∷ rest) x same c));
+      (Contains_cases r x rest (Contains-permutation n.records (r ∷ rest) x same c));
   ends = λ x c.
       ⊎_elim
       (λ e. subst (λ (y : Tcb). IsInside own y.control.local y.control.peer) (sym e) ends)
       (λ k. h.ends x (from x k))
-      (Contains-cases r x rest (Contains-permutation n.records (r ∷ rest) x same c));
+      (Contains_cases r x rest (Contains-permutation n.records (r ∷ rest) x same c));
   packets = λ p c. ⊎_elim (λ k. h.packets p k) (λ k. inr (sent_inside own r sent p ends of k)) (flown p c);
 }
 
@@ -86,12 +86,12 @@ acts_among scope own m n r rest act was may is flown =
     one scope own m n
     (acts r rest act was may is (λ p c. ⊎_elim (λ k. inl k) (λ k. inr (inl k)) (flown p c)))
     (λ h.
-    let here = moved m.records (r ∷ rest) r was (Contains-here r rest) in
+    let here = moved m.records (r ∷ rest) r was (Contains_here r rest) in
     let sound = h.sound r here in
     let grows = acted_grows act r sound in
     let t = acted act r in
     joins own m n t.tcb rest t.sent h is
-    (λ x k. moved m.records (r ∷ rest) x was (Contains-there r x rest k))
+    (λ x k. moved m.records (r ∷ rest) x was (Contains_there r x rest k))
     (acted_sound act r sound)
     (inside_as own r.control.local r.control.peer t.tcb.control.local t.tcb.control.peer grows.local grows.peer (h.ends r here))
     (acted_honest act r sound)

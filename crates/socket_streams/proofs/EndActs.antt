@@ -24,7 +24,7 @@ use Rattle.sock_tcp.specs.listener.Listen as listener
 use Rattle.sock_tcp.specs.listener.Listen.{Listen, Heard, fresh_listen, without, replaced, settled, nothing_heard, kept_acts, record_made, makes_record, asked, load_header, new_heard, takes_word, hears, hears_timer, hears_close, accepted_at, accepted_from, accepts}
 use Rattle.sock_tcp.specs.listener.Dropped.{dropped_by, dropped}
 use Rattle.tcp_laws.proofs.Tests.{by_test}
-use Rattle.tcp_streams.proofs.Members.{IsIn, IsIn-from_Contains, Contains-here, Contains-there}
+use Rattle.tcp_streams.proofs.Members.{IsIn, IsIn_from_Contains, Contains_here, Contains_there}
 use Rattle.host_fds.specs.declared.rises.Rises.{Rises}
 use Rattle.host_wants.specs.declared.error.Refusal.{Refusal}
 use Rattle.host_wants.specs.declared.error.Refusal.TheVariants as refusal
@@ -54,7 +54,7 @@ use Rattle.sock_tcp.specs.segment.Header.{header_of}
 use Rattle.sock_tcp.specs.segment.Number.{wire}
 use Rattle.sock_tcp.specs.segment.Refusal.{sent_back, header_refusal, load_refusal, refusal_of}
 use Rattle.sock_tcp.specs.connection.Resets.{reset_of, resets_of}
-use Rattle.socket_streams.proofs.Wants.{sends-packets, starts-packets, timer_starts-packets}
+use Rattle.socket_streams.proofs.Wants.{sends_packets, starts_packets, timer_starts_packets}
 use Rattle.socket_streams.proofs.Senders.{AllGo, Is, Sends, packet_sends, expiry_sends, write_sends, read_sends, shut_sends, close_sends, error_sends, opened_sends, answered_sends}
 
 -- what a list of records keeps of some property of each
@@ -72,11 +72,11 @@ module _ {X : Type 0} (P : X → Type 0) where
   each_in (y ∷ ys) x h (inr k) = each_in ys x h.1 k
 
   pub each_member : (xs : List X) (x : X) → Each xs → Contains xs x → P x
-  each_member xs x h c = each_in xs x h (IsIn-from_Contains x xs c)
+  each_member xs x h c = each_in xs x h (IsIn_from_Contains x xs c)
 
   pub each_here : (xs : List X) → ((x : X) → Contains xs x → P x) → Each xs
   each_here [] f = tt
-  each_here (x ∷ xs) f = (f x (Contains-here x xs), each_here xs (λ y c. f y (Contains-there x y xs c)))
+  each_here (x ∷ xs) f = (f x (Contains_here x xs), each_here xs (λ y c. f y (Contains_there x y xs c)))
 
   each_at : (xs : List X) (k : ℕ) (x : X) → Each xs → slice_get xs k ≡ Some x → P x
   each_at [] k x h e = cc
@@ -167,13 +167,13 @@ module _ (P : Addr → Addr → Type 0) (W : Packet → Type 0) (carries : (p : 
 
   wants_more : (sent : List Packet) (w : Wanted) → AllByRecursion W sent → Wants w → Wants (sends sent w)
   wants_more sent w each h =
-      subst (λ (xs : List Packet). AllByRecursion W xs) (sym (sends-packets sent w)) (each_append W (packets_of w) sent h each)
+      subst (λ (xs : List Packet). AllByRecursion W xs) (sym (sends_packets sent w)) (each_append W (packets_of w) sent h each)
 
   starts_wants : (now : Time) (k : ℕ) (o : Option Time) (s : TcpSocket) (w : Wanted) → Wants w → Wants (starts now k o s w).1
-  starts_wants now k o s w h = subst (λ (xs : List Packet). AllByRecursion W xs) (sym (starts-packets now k o s w)) h
+  starts_wants now k o s w h = subst (λ (xs : List Packet). AllByRecursion W xs) (sym (starts_packets now k o s w)) h
 
   timer_wants : (now : Time) (k : ℕ) (a b : Addr) (o : Option Time) (timers : List KeptTimer) (w : Wanted) → Wants w → Wants (timer_starts now k a b o timers w).1
-  timer_wants now k a b o timers w h = subst (λ (xs : List Packet). AllByRecursion W xs) (sym (timer_starts-packets now k a b o timers w)) h
+  timer_wants now k a b o timers w h = subst (λ (xs : List Packet). AllByRecursion W xs) (sym (timer_starts_packets now k a b o timers w)) h
 
   -- ---- the record of a socket
 

@@ -20,7 +20,7 @@ use Rattle.socket_streams.specs.Records.{packets_of, net_with, net_of}
 use Rattle.socket_streams.specs.Leads.{Leads}
 use Rattle.socket_streams.specs.May.{IsPlain, ArePlain}
 use Rattle.socket_streams.proofs.Chains.{both, goes}
-use Rattle.socket_streams.proofs.Shares.{swap_parts, to_front, share_of, pushed-flat_map, set_hold, push_hold, there_is}
+use Rattle.socket_streams.proofs.Shares.{swap_parts, to_front, share_of, pushed_flat_map, set_hold, push_hold, there_is}
 use Rattle.socket_streams.proofs.Turns.{Does}
 
 -- what is reached from the sockets of a host and what is wanted, beside others
@@ -129,7 +129,7 @@ put_records s sockets =
     IsPermutation-sym (flat_map records_at sockets) share.rest (subst (λ (xs : List Tcb). IsPermutation (flat_map records_at sockets) (xs ++ share.rest)) none share.here) in
     IsPermutation-trans (flat_map records_at (set sockets place s)) (records_at s ++ share.rest) (records_at s ++ flat_map records_at sockets) (share.put s)
     (IsPermutation-append_right (records_at s) share.rest (flat_map records_at sockets) rest))
-    (λ e. pushed-flat_map records_at sockets s)
+    (λ e. pushed_flat_map records_at sockets s)
 
 pub put_plain : (own : Ip) (s : TcpSocket) (t : SocketsRecord) → IsPlain own s → ArePlain own t → ArePlain own (put_tcp s t)
 put_plain own s t here plain = record {

@@ -22,7 +22,7 @@ use Rattle.tcp_laws.specs.Acts.Start.{passive}
 use Rattle.tcp_laws.specs.Acts.Act.{arrival, expiry}
 use Rattle.tcp_laws.proofs.Tests.{by_test}
 use Rattle.tcp_streams.specs.Net.{MayAct, AsksFrom}
-use Rattle.tcp_streams.proofs.Members.{IsIn-from_Contains, found}
+use Rattle.tcp_streams.proofs.Members.{IsIn_from_Contains, found}
 use Rattle.tcp_streams.proofs.Ends.{and_left, and_right, same_end}
 use Rattle.sock_tcp.specs.listener.Dropped.{dropped_by, dropped}
 use Rattle.socket_streams.specs.Records.{net_with}
@@ -42,7 +42,7 @@ LeadsBeside scope own l heard gone others flying after =
 nothing : (scope : Addr → Addr → Bool) (own : Ip) (l : Listen) (others : List Tcb) (flying after : List Packet) → Flown flying [] after → LeadsBeside scope own l (nothing_heard l) [] others flying after
 nothing scope own l others flying after flown =
     goes scope own (net_with (l.records ++ others) flying) (net_with (l.records ++ others) after) (IsPermutation-refl (l.records ++ others))
-    (λ p c. ⊎_elim (λ k. inl k) (λ k. absurd (IsIn-from_Contains p [] k)) (flown p c))
+    (λ p c. ⊎_elim (λ k. inl k) (λ k. absurd (IsIn_from_Contains p [] k)) (flown p c))
 
 -- the record at a place, and what is left after its act
 stays : (r : Tcb) (rest : List Tcb) (l : Listen) → IsPermutation l.records (r ∷ rest) → IsPermutation (l.records ++ []) (r ∷ rest)

@@ -5,7 +5,7 @@ use Rattle.sim_base.specs.declared.address.Ip.{Ip}
 use Rattle.sim_base.specs.declared.packet.Packet.{Packet}
 use Rattle.sim_base.specs.declared.time.Time.{Time}
 use Rattle.tcp_streams.specs.Net.{IsVoid}
-use Rattle.tcp_streams.proofs.Members.{IsIn-from_Contains}
+use Rattle.tcp_streams.proofs.Members.{IsIn_from_Contains}
 use Rattle.host_wants.specs.declared.error.Refusal.{Refusal}
 use Rattle.host_wants.specs.Wanted.{Wanted, sends}
 use Rattle.host_sockets.specs.Sockets.{SocketsRecord}
@@ -13,7 +13,7 @@ use Rattle.socket_laws.specs.Histories.{SocketsAct, left_by, sockets_acted, sock
 use Rattle.socket_laws.specs.Histories.SocketsAct.{elsewhere}
 use Rattle.socket_streams.specs.Records.{packets_of}
 use Rattle.socket_streams.specs.May.{MayFly, MayDo, MayAll, HasSent, IsTold, AreTold, Moves}
-use Rattle.socket_streams.proofs.Wants.{sends-packets}
+use Rattle.socket_streams.proofs.Wants.{sends_packets}
 
 module _ (hosts : List Ip) (flying : List Packet) where
   pub moves_none : (x : SocketsRecord × Wanted) → Moves hosts flying x x
@@ -71,13 +71,13 @@ module _ (hosts : List Ip) (flying : List Packet) where
       (λ p c.
       ⊎_elim
       (λ b. inl (Contains-append_right flying (packets_of w) p b))
-      (λ s. ⊎_elim (λ same. inr (subst (λ (y : Packet). IsVoid y.load) (sym same) void)) (λ none. absurd none) (IsIn-from_Contains p (q ∷ []) s))
-      (Contains-append_cases (packets_of w) (q ∷ []) p (subst (λ (xs : List Packet). Contains xs p) (sends-packets (q ∷ []) w) c)))
+      (λ s. ⊎_elim (λ same. inr (subst (λ (y : Packet). IsVoid y.load) (sym same) void)) (λ none. absurd none) (IsIn_from_Contains p (q ∷ []) s))
+      (Contains-append_cases (packets_of w) (q ∷ []) p (subst (λ (xs : List Packet). Contains xs p) (sends_packets (q ∷ []) w) c)))
       (λ p c.
       ⊎_elim
       (λ b. inl b)
-      (λ s. ⊎_elim (λ same. inr (subst (HasSent hosts t) (sym same) sent)) (λ none. absurd none) (IsIn-from_Contains p (q ∷ []) s))
-      (Contains-append_cases (packets_of w) (q ∷ []) p (subst (λ (xs : List Packet). Contains xs p) (sends-packets (q ∷ []) w) c)))
+      (λ s. ⊎_elim (λ same. inr (subst (HasSent hosts t) (sym same) sent)) (λ none. absurd none) (IsIn_from_Contains p (q ∷ []) s))
+      (Contains-append_cases (packets_of w) (q ∷ []) p (subst (λ (xs : List Packet). Contains xs p) (sends_packets (q ∷ []) w) c)))
 
   -- what a row leaves that wasn't refused
   pub moves_alone : {A : Type 0} (row : Result (A × SocketsRecord) Refusal) (b : A × SocketsRecord) (t : SocketsRecord) (w : Wanted) → row ≡ Ok b → Moves hosts flying (t, w) (left_by row t, w) → Moves hosts flying (t, w) (b.1, w)

@@ -24,7 +24,7 @@ use Rattle.sock_tcp.specs.connection.Process.{shuts, error_taken}
 use Rattle.sock_tcp.specs.listener.Listen.{Listen, fresh_listen}
 use Rattle.tcp_laws.specs.Acts.Act.{write, read, flow, shut, error_read}
 use Rattle.tcp_streams.specs.Net.{IsVoid}
-use Rattle.tcp_streams.proofs.Members.{IsIn-from_Contains}
+use Rattle.tcp_streams.proofs.Members.{IsIn_from_Contains}
 use Rattle.tcp_streams.proofs.Voids.{refusal_void}
 use Rattle.host_wants.specs.declared.error.Refusal.{Refusal}
 use Rattle.host_wants.specs.declared.error.Refusal.TheVariants as refusal
@@ -311,7 +311,7 @@ module _ (scope : Addr → Addr → Bool) (own : Ip) (others : List Tcb) (flying
         (λ x c.
         ⊎_elim
         (λ b. inl b)
-        (λ s. ⊎_elim (λ same. inr (subst (λ (y : Packet). IsVoid y.load) (sym same) (refusal_void p q e))) (λ none. absurd none) (IsIn-from_Contains x (q ∷ []) s))
+        (λ s. ⊎_elim (λ same. inr (subst (λ (y : Packet). IsVoid y.load) (sym same) (refusal_void p q e))) (λ none. absurd none) (IsIn_from_Contains x (q ∷ []) s))
         (sends_flown flying (q ∷ []) w x c));
   }
 

@@ -16,8 +16,8 @@ module _ {Y : Type 0} where
   to_front xs ys part rest p =
       IsPermutation-trans (xs ++ ys) (xs ++ (part ++ rest)) (part ++ (xs ++ rest)) (IsPermutation-append_right xs ys (part ++ rest) p) (swap_parts xs part rest)
 
-  pub same-permutation : (xs ys : List Y) → xs ≡ ys → IsPermutation xs ys
-  same-permutation xs ys e = subst (λ (us : List Y). IsPermutation xs us) e (IsPermutation-refl xs)
+  pub same_permutation : (xs ys : List Y) → xs ≡ ys → IsPermutation xs ys
+  same_permutation xs ys e = subst (λ (us : List Y). IsPermutation xs us) e (IsPermutation-refl xs)
 
 module _ {X Y : Type 0} (f : X → List Y) where
   -- the others' shares, whatever stands at its place
@@ -44,9 +44,9 @@ module _ {X Y : Type 0} (f : X → List Y) where
       }
 
   -- one more element at the end
-  pub pushed-flat_map : (xs : List X) (y : X) → IsPermutation (flat_map f (xs ++ y ∷ [])) (f y ++ flat_map f xs)
-  pushed-flat_map [] y = IsPermutation-refl (f y ++ [])
-  pushed-flat_map (a ∷ xs) y = to_front (f a) (flat_map f (xs ++ y ∷ [])) (f y) (flat_map f xs) (pushed-flat_map xs y)
+  pub pushed_flat_map : (xs : List X) (y : X) → IsPermutation (flat_map f (xs ++ y ∷ [])) (f y ++ flat_map f xs)
+  pushed_flat_map [] y = IsPermutation-refl (f y ++ [])
+  pushed_flat_map (a ∷ xs) y = to_front (f a) (flat_map f (xs ++ y ∷ [])) (f y) (flat_map f xs) (pushed_flat_map xs y)
 
 module _ {X : Type 0} (P : X → Type 0) where
   -- what holds of each element

@@ -27,7 +27,7 @@ use Rattle.socket_streams.specs.Leads.{Leads}
 use Rattle.socket_streams.specs.May.{IsPlain}
 use Rattle.socket_streams.proofs.Chains.{goes}
 use Rattle.socket_streams.proofs.Listening.{Flown, LeadsBeside, pair_ends, hears_leads, timer_leads}
-use Rattle.socket_streams.proofs.Shares.{same-permutation}
+use Rattle.socket_streams.proofs.Shares.{same_permutation}
 use Rattle.socket_streams.proofs.Wants.{sends_flown, timer_starts_flown}
 use Rattle.socket_streams.proofs.Turns.{Does, act_leads, rests_does, record_does}
 
@@ -54,14 +54,14 @@ heard_does scope own flying now k a b l h gone s w from e plain same leads =
     }
 
 -- the word that is drawn for a new record sends nothing
-word-packets : (p : Packet) (l : Listen) (w : Wanted) → packets_of (word_drawn p l w) ≡ packets_of w
-word-packets p l w = by_test (λ (x : Wanted). packets_of x ≡ packets_of w) _ (draws_word w).1 w (λ e. refl) (λ e. refl)
+word_packets : (p : Packet) (l : Listen) (w : Wanted) → packets_of (word_drawn p l w) ≡ packets_of w
+word_packets p l w = by_test (λ (x : Wanted). packets_of x ≡ packets_of w) _ (draws_word w).1 w (λ e. refl) (λ e. refl)
 
 hears_does_in : (scope : Addr → Addr → Bool) (own : Ip) (flying : List Packet) (now : Time) (p : Packet) (k : ℕ) (o : Option Listen) (s : TcpSocket) (w : Wanted) → s.listen ≡ o → Contains (flying ++ packets_of w) p → IsPlain own s → Does scope own flying s w (hears_in now p k o s w)
 hears_does_in scope own flying now p k None s w e c plain = rests_does scope own flying s w plain
 hears_does_in scope own flying now p k (Some l) s w e c plain =
     let word = (draws_word w).0 in
-    heard_does scope own flying now k p.to p.from l (hears p word l) (dropped (takes_packet p) p.to p.from l) s w (word_drawn p l w) e plain (word-packets p l w)
+    heard_does scope own flying now k p.to p.from l (hears p word l) (dropped (takes_packet p) p.to p.from l) s w (word_drawn p l w) e plain (word_packets p l w)
     (λ others after flown. hears_leads scope own l p word others (flying ++ packets_of w) after c flown)
 
 pub hears_does : (scope : Addr → Addr → Bool) (own : Ip) (flying : List Packet) (now : Time) (p : Packet) (k : ℕ) (s : TcpSocket) (w : Wanted) → Contains (flying ++ packets_of w) p → IsPlain own s → Does scope own flying s w (listener_hears now p k s w)
@@ -120,7 +120,7 @@ closes_does_in scope own flying now k (Some l) s w e plain =
       plain = record { listens = λ m q. cc; here = λ at q. cc };
       leads = λ others.
           goes scope own (net_with (records_at s ++ others) (flying ++ packets_of w)) (net_with (l.records ++ others) (flying ++ packets_of (sends resets w)))
-          (same-permutation (l.records ++ others) (records_at s ++ others) (ap (λ (xs : List Tcb). xs ++ others) was))
+          (same_permutation (l.records ++ others) (records_at s ++ others) (ap (λ (xs : List Tcb). xs ++ others) was))
           (λ p c. ⊎_elim (λ b. inl b) (λ r. inr (resets_void l.records p r)) (sends_flown flying resets w p c));
     }
 

@@ -24,7 +24,7 @@ use Rattle.socket_streams.specs.Leads.{Leads}
 use Rattle.socket_streams.specs.May.{IsPlain}
 use Rattle.socket_streams.proofs.Chains.{both, goes, acts_among, begins_among}
 use Rattle.socket_streams.proofs.Listening.{Flown}
-use Rattle.socket_streams.proofs.Shares.{same-permutation}
+use Rattle.socket_streams.proofs.Shares.{same_permutation}
 use Rattle.socket_streams.proofs.Wants.{starts_flown}
 
 -- a turn of a record, whatever stands beside it
@@ -55,7 +55,7 @@ rests_does scope own flying s w plain = record {
   plain = record { listens = plain.listens; here = plain.here };
   leads = λ others.
       goes scope own (net_with (records_at s ++ others) (flying ++ packets_of w)) (net_with ((records_at s ++ []) ++ others) (flying ++ packets_of w))
-      (same-permutation ((records_at s ++ []) ++ others) (records_at s ++ others) (ap (λ (xs : List Tcb). xs ++ others) (append-nil (records_at s))))
+      (same_permutation ((records_at s ++ []) ++ others) (records_at s ++ others) (ap (λ (xs : List Tcb). xs ++ others) (append-nil (records_at s))))
       (λ p c. inl c);
 }
 

@@ -19,21 +19,21 @@ all_packets : (sent : List Packet) → filter_map packet_in (map Send sent) ≡ 
 all_packets [] = refl
 all_packets (p ∷ sent) = ap (λ (xs : List Packet). p ∷ xs) (all_packets sent)
 
-pub sends-packets : (sent : List Packet) (w : Wanted) → packets_of (sends sent w) ≡ packets_of w ++ sent
-sends-packets sent w =
+pub sends_packets : (sent : List Packet) (w : Wanted) → packets_of (sends sent w) ≡ packets_of w ++ sent
+sends_packets sent w =
     filter_map-append packet_in w.wants (map Send sent) ∙ ap (λ (xs : List Packet). packets_of w ++ xs) (all_packets sent)
 
-pub alarm-packets : (object : ObjectId) (due : Time) (w : Wanted) → packets_of (wants_alarm object due w).1 ≡ packets_of w
-alarm-packets object due w =
+pub alarm_packets : (object : ObjectId) (due : Time) (w : Wanted) → packets_of (wants_alarm object due w).1 ≡ packets_of w
+alarm_packets object due w =
     filter_map-append packet_in w.wants (Alarm object (next_serial w) due ∷ []) ∙ append-nil (packets_of w)
 
-pub starts-packets : (now : Time) (k : ℕ) (o : Option Time) (s : TcpSocket) (w : Wanted) → packets_of (starts now k o s w).1 ≡ packets_of w
-starts-packets now k None s w = refl
-starts-packets now k (Some length) s w = alarm-packets (object_of k) (due_after now length) w
+pub starts_packets : (now : Time) (k : ℕ) (o : Option Time) (s : TcpSocket) (w : Wanted) → packets_of (starts now k o s w).1 ≡ packets_of w
+starts_packets now k None s w = refl
+starts_packets now k (Some length) s w = alarm_packets (object_of k) (due_after now length) w
 
-pub timer_starts-packets : (now : Time) (k : ℕ) (a b : Addr) (o : Option Time) (timers : List KeptTimer) (w : Wanted) → packets_of (timer_starts now k a b o timers w).1 ≡ packets_of w
-timer_starts-packets now k a b None timers w = refl
-timer_starts-packets now k a b (Some length) timers w = alarm-packets (object_of k) (due_after now length) w
+pub timer_starts_packets : (now : Time) (k : ℕ) (a b : Addr) (o : Option Time) (timers : List KeptTimer) (w : Wanted) → packets_of (timer_starts now k a b o timers w).1 ≡ packets_of w
+timer_starts_packets now k a b None timers w = refl
+timer_starts_packets now k a b (Some length) timers w = alarm_packets (object_of k) (due_after now length) w
 
 -- beside packets that were on their way already
 flown_by : (flying sent : List Packet) (w after : Wanted) → packets_of after ≡ packets_of w ++ sent → Flown (flying ++ packets_of w) sent (flying ++ packets_of after)
@@ -48,12 +48,12 @@ flown_by flying sent w after e p c =
     (Contains-append_cases flying (packets_of after) p c)
 
 pub sends_flown : (flying sent : List Packet) (w : Wanted) → Flown (flying ++ packets_of w) sent (flying ++ packets_of (sends sent w))
-sends_flown flying sent w = flown_by flying sent w (sends sent w) (sends-packets sent w)
+sends_flown flying sent w = flown_by flying sent w (sends sent w) (sends_packets sent w)
 
 pub starts_flown : (flying sent : List Packet) (now : Time) (k : ℕ) (o : Option Time) (s : TcpSocket) (w : Wanted) → Flown (flying ++ packets_of w) sent (flying ++ packets_of (starts now k o s (sends sent w)).1)
 starts_flown flying sent now k o s w =
-    flown_by flying sent w (starts now k o s (sends sent w)).1 (starts-packets now k o s (sends sent w) ∙ sends-packets sent w)
+    flown_by flying sent w (starts now k o s (sends sent w)).1 (starts_packets now k o s (sends sent w) ∙ sends_packets sent w)
 
 pub timer_starts_flown : (flying sent : List Packet) (now : Time) (k : ℕ) (a b : Addr) (o : Option Time) (timers : List KeptTimer) (w : Wanted) → Flown (flying ++ packets_of w) sent (flying ++ packets_of (timer_starts now k a b o timers (sends sent w)).1)
 timer_starts_flown flying sent now k a b o timers w =
-    flown_by flying sent w (timer_starts now k a b o timers (sends sent w)).1 (timer_starts-packets now k a b o timers (sends sent w) ∙ sends-packets sent w)
+    flown_by flying sent w (timer_starts now k a b o timers (sends sent w)).1 (timer_starts_packets now k a b o timers (sends sent w) ∙ sends_packets sent w)

@@ -10,8 +10,8 @@ use Rattle.list_weights.specs.Weights.{weigh}
 use Rattle.steal_workers.specs.inside.Items.{marks, number_weight, Stands, MarksLast}
 use Rattle.steal_workers.specs.OneDeque.{hand, after_take, Took}
 use Rattle.steal_workers.specs.inside.TookBack.{kept, numbers_of}
-use Rattle.list_weights.proofs.Weights.{weigh-append, weigh-ones}
-use Rattle.steal_workers.proofs.Steps.{marks-append}
+use Rattle.list_weights.proofs.Weights.{weigh_append, weigh_ones}
+use Rattle.steal_workers.proofs.Steps.{marks_append}
 
 module _ {T : Type 0} where
   -- what was taken since v0, into a list that began as old
@@ -48,14 +48,14 @@ module _ {T : Type 0} where
             let before = m.2 h in
             let e : weigh (number_weight h) w.taken ≡ weigh (number_weight h) (v.taken ++ item ∷ []) = ap (weigh (number_weight h)) taken in
             let n : weigh h (numbers_of (m.0 ++ kept item)) ≡ weigh h (numbers_of m.0 ++ numbers_of (kept item)) = ap (weigh h) (map-append (λ (entry : Numbered T). entry.number) m.0 (kept item)) in
-            omega (arith, weigh-append (number_weight h) v.taken (item ∷ []), weigh-append h (numbers_of m.0) (numbers_of (kept item)), kept_weight h item)),
+            omega (arith, weigh_append (number_weight h) v.taken (item ∷ []), weigh_append h (numbers_of m.0) (numbers_of (kept item)), kept_weight h item)),
         All-append (λ (entry : Numbered T). Stands v0.dealt (Task entry.number entry.task)) m.0 (kept item) m.3
             (kept_stands v0.dealt item (subst (λ (l : List (Item T)). Stands l item) dealt (took.1 item (0, refl)))),
         (λ some_mark.
             let had = m.4 some_mark in
             let is_mark : item ≡ Mark = took.2 item (0, refl) (subst MarksLast (sym dealt) last) had.0 in
             let e : marks w.taken ≡ marks (v.taken ++ item ∷ []) = ap marks taken in
-            ((let a = marks-append v.taken (item ∷ []) in let had_mark = had.0 in omega arith), (λ i. had.1 i ++ kept (is_mark i)))),
+            ((let a = marks_append v.taken (item ∷ []) in let had_mark = had.0 in omega arith), (λ i. had.1 i ++ kept (is_mark i)))),
       )
 
   -- there is room for one more
@@ -66,9 +66,9 @@ module _ {T : Type 0} where
       let same : weigh (number_weight (λ _. 1)) w.dealt ≡ weigh (number_weight (λ _. 1)) v.dealt = ap (λ (u : Hand T). weigh (number_weight (λ _. 1)) u.dealt) took.0 in
       let dealt : weigh (number_weight (λ _. 1)) v.dealt ≡ weigh (number_weight (λ _. 1)) v0.dealt = ap (λ (u : Hand T). weigh (number_weight (λ _. 1)) u.dealt) is in
       let taken : weigh (number_weight (λ _. 1)) w.taken ≡ weigh (number_weight (λ _. 1)) (v.taken ++ item ∷ []) = ap (λ (u : Hand T). weigh (number_weight (λ _. 1)) u.taken) took.0 in
-      let a = weigh-append (number_weight (λ _. 1)) v.taken (item ∷ []) in
+      let a = weigh_append (number_weight (λ _. 1)) v.taken (item ∷ []) in
       let so_far = m.2 (λ _. 1) in
-      let count : weigh (λ (n : ℕ). 1) (numbers_of m.0) ≡ length (numbers_of m.0) = weigh-ones (numbers_of m.0) in
+      let count : weigh (λ (n : ℕ). 1) (numbers_of m.0) ≡ length (numbers_of m.0) = weigh_ones (numbers_of m.0) in
       let long : length now ≡ length (old ++ m.0) = ap length m.1 in
       omega (arith, length-append old m.0, length-map m.0 (λ (entry : Numbered T). entry.number))
 
@@ -78,6 +78,6 @@ module _ {T : Type 0} where
       let same : length w.dealt ≡ length v.dealt = ap (λ (u : Hand T). length u.dealt) took.0 in
       let below = took.3 (λ _. 1) in (
         omega (arith, length-append v.taken (item ∷ [])),
-        omega (arith, weigh-ones w.taken, weigh-ones w.dealt),
+        omega (arith, weigh_ones w.taken, weigh_ones w.dealt),
         same,
       )

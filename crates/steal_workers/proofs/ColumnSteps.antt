@@ -24,8 +24,8 @@ use Rattle.steal_workers.specs.OneDeque.{hand}
 use Rattle.steal_workers.specs.inside.Handles.{is_own}
 use Rattle.steal_workers.specs.inside.Decks.{IsThiefOf, mark_list}
 use Rattle.steal_workers.specs.inside.Columns.{IsFresh, IsColumn}
-use Rattle.list_weights.proofs.Places.{EachAt-push}
-use Rattle.steal_workers.proofs.Steps.{marks-append}
+use Rattle.list_weights.proofs.Places.{EachAt_push}
+use Rattle.steal_workers.proofs.Steps.{marks_append}
 
 pub eq_same : (a b c d : ℕ) → (a ≡ b → c ≡ d) → (c ≡ d → a ≡ b) → (a == b) ≡ (c == d)
 eq_same a b c d f g = dite (ℕ_discrete a b)
@@ -46,13 +46,13 @@ module _ {X : Type 0} where
       (λ (e : i ≡ a). subst (F i) (sym (ap (λ n. get_or once n d) e ∙ get_or-set_same xs a (get_or xs b d) d wa)) (at_a ne e))
       (λ (no : i ≢ a). subst (F i) (sym (get_or-set_other xs a i (get_or xs b d) d no)) (else ne no)))))
 
-pub marks-mark_list : (T : Type 0) (n : ℕ) → marks (mark_list {T = T} n) ≡ n
-marks-mark_list T zero = refl
-marks-mark_list T (suc n) = omega (arith, marks-append (mark_list {T = T} n) (Mark ∷ []), marks-mark_list T n)
+pub marks_mark_list : (T : Type 0) (n : ℕ) → marks (mark_list {T = T} n) ≡ n
+marks_mark_list T zero = refl
+marks_mark_list T (suc n) = omega (arith, marks_append (mark_list {T = T} n) (Mark ∷ []), marks_mark_list T n)
 
 module _ {T : Type 0} where
   pub marks_closed : (queue : List (Item T)) (n : ℕ) → marks queue ≡ 0 → marks (queue ++ mark_list n) ≡ n
-  marks_closed queue n none = omega (arith, marks-append queue (mark_list n), marks-mark_list T n)
+  marks_closed queue n none = omega (arith, marks_append queue (mark_list n), marks_mark_list T n)
 
   nothing_taken : (v : Hand T) → v.taken ≡ [] → (h : Item T → ℕ) → weigh h v.taken ≤ weigh h v.dealt
   nothing_taken v none h = let nothing : weigh h v.taken ≡ 0 = ap (weigh h) none in omega arith
@@ -81,7 +81,7 @@ module _ {T : Type 0} where
   pub own_last : (F : Share T → Type 0) (xs : List (Share T)) (y : Share T) (m : ℕ) → length xs ≡ m → EachAt (λ i share. F share × (is_own share.handle ≡ false)) xs
       → F y → is_own y.handle ≡ true → (i : ℕ) (e : Share T) → i < m + 1 → F (get_or (xs ++ y ∷ []) i e) × (is_own (get_or (xs ++ y ∷ []) i e).handle ≡ (i == m))
   own_last F xs y m long each fresh own i e within =
-      EachAt-push (λ j share. F share × (is_own share.handle ≡ (j == m))) xs y
+      EachAt_push (λ j share. F share × (is_own share.handle ≡ (j == m))) xs y
       (λ j d w. ((each j d w).0, (each j d w).1 ∙ sym (ne_eqb j m (λ s. absurd (omega arith)))))
       (fresh, own ∙ sym (eq-eqb (length xs) m long)) i e (omega (arith, length-append xs (y ∷ [])))
 

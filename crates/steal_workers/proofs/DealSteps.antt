@@ -21,7 +21,7 @@ use Rattle.steal_workers.specs.inside.Decks.{AreFilling, mark_list, queue_of}
 use Rattle.steal_workers.specs.inside.Columns.{IsRow, closed, deck_deque}
 use Rattle.steal_workers.specs.inside.Unused.{unused_view}
 use Rattle.steal_workers.specs.inside.Layouts.{AreFresh, AreFilled, AreSeated, planned}
-use Rattle.list_weights.proofs.Weights.{weigh-append}
+use Rattle.list_weights.proofs.Weights.{weigh_append}
 use Rattle.steal_workers.proofs.DeckSteps.{last_turn}
 use Rattle.steal_workers.proofs.ColumnSteps.{marks_closed}
 
@@ -37,13 +37,13 @@ abbrev up_from : ℕ → ℕ → List ℕ
 up_from a zero = []
 up_from a (suc n) = a ∷ up_from (suc a) n
 
-up_from-snoc : (a n : ℕ) → up_from a (suc n) ≡ up_from a n ++ (a + n) ∷ []
-up_from-snoc a zero = ap (λ k. k ∷ []) (let e : a ≡ a + 0 = omega arith in e)
-up_from-snoc a (suc n) = ap (λ l. a ∷ l) (up_from-snoc (suc a) n ∙ ap (λ k. up_from (suc a) n ++ k ∷ []) (let e : suc a + n ≡ a + suc n = omega arith in e))
+up_from_snoc : (a n : ℕ) → up_from a (suc n) ≡ up_from a n ++ (a + n) ∷ []
+up_from_snoc a zero = ap (λ k. k ∷ []) (let e : a ≡ a + 0 = omega arith in e)
+up_from_snoc a (suc n) = ap (λ l. a ∷ l) (up_from_snoc (suc a) n ∙ ap (λ k. up_from (suc a) n ++ k ∷ []) (let e : suc a + n ≡ a + suc n = omega arith in e))
 
-up_from-below : (n : ℕ) → up_from 0 n ≡ numbers_below n
-up_from-below zero = refl
-up_from-below (suc n) = up_from-snoc 0 n ∙ (λ i. up_from-below n i ++ (let e : 0 + n ≡ n = omega arith in e i) ∷ [])
+up_from_below : (n : ℕ) → up_from 0 n ≡ numbers_below n
+up_from_below zero = refl
+up_from_below (suc n) = up_from_snoc 0 n ∙ (λ i. up_from_below n i ++ (let e : 0 + n ≡ n = omega arith in e i) ∷ [])
 
 module _ {T : Type 0} where
   nothing_dealt : (h : ℕ → ℕ) (decks : List (Deck T)) → ((d : ℕ) (e : Deck T) → d < length decks → queue_of (get_or decks d e) ≡ []) → weigh (λ queue. weigh (number_weight h) queue) (map queue_of decks) ≡ 0
@@ -116,7 +116,7 @@ module _ {T : Type 0} where
   closed_weight : (h : ℕ → ℕ) (n : ℕ) (decks : List (Deck T)) → weigh (λ queue. weigh (number_weight h) queue) (map (closed n) decks) ≡ weigh (λ queue. weigh (number_weight h) queue) (map queue_of decks)
   closed_weight h n [] = refl
   closed_weight h n (x ∷ xs) =
-      let here = weigh-append (number_weight h) (queue_of x) (mark_list n) in
+      let here = weigh_append (number_weight h) (queue_of x) (mark_list n) in
       let none = marks_weigh_nothing h (mark_list n) (all_marks T n) in
       omega (arith, closed_weight h n xs)
 
@@ -165,7 +165,7 @@ module _ {T : Type 0} where
   pub new_deal : (deal : Deal T) (n : ℕ) (seats : List (SeatView T)) → 0 < n → length seats ≡ n → seat_count deal ≡ n → AreSeated deal seats → IsNewDeal deal.tasks n seats
   new_deal deal n seats some_seats long count h =
       let common = common_is deal seats (omega arith) h in
-      let places = places_up 0 seats (λ d e w. (h d e w).1 ∙ (let k : d ≡ 0 + d = omega arith in k)) ∙ up_from-below (length seats) in
+      let places = places_up 0 seats (λ d e w. (h d e w).1 ∙ (let k : d ≡ 0 + d = omega arith in k)) ∙ up_from_below (length seats) in
       let all : length seats ≡ seat_count (common_deal seats) = long ∙ sym (ap (λ (d : Deal T). seat_count d) common ∙ count) in
       record {
         count = long;

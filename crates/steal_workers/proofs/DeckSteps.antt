@@ -23,8 +23,8 @@ use Rattle.list_weights.specs.Weights.{weigh, numbers_below}
 use Rattle.steal_workers.specs.inside.Items.{marks, number_weight}
 use Rattle.steal_workers.specs.OneDeque.{after_push}
 use Rattle.steal_workers.specs.inside.Decks.{IsThiefOf, queue_of, IsFilling, AreFilling, HasMore}
-use Rattle.list_weights.proofs.Weights.{weigh-append, weigh-set}
-use Rattle.steal_workers.proofs.Steps.{marks-append}
+use Rattle.list_weights.proofs.Weights.{weigh_append, weigh_set}
+use Rattle.steal_workers.proofs.Steps.{marks_append}
 
 module _ {X : Type 0} where
   pub each_at_set : (F : ℕ → X → Type 0) (xs : List X) (d : ℕ) (y : X) → F d y → ((j : ℕ) (e : X) → j ≢ d → j < length xs → F j (get_or xs j e)) → EachAt F (set xs d y)
@@ -86,7 +86,7 @@ module _ {T : Type 0} where
   grows n room k old new task f more =
       let view : worker_view new.deque ≡ after_push (worker_view old.deque) (Task k task ∷ []) = more.view in
       let queue : queue_of new ≡ queue_of old ++ Task k task ∷ [] = ap (λ (v : Hand T). v.dealt) view in
-      let same = marks-append (queue_of old) (Task k task ∷ []) in
+      let same = marks_append (queue_of old) (Task k task ∷ []) in
       let all : marks (queue_of new) ≡ marks (queue_of old ++ Task k task ∷ []) = ap marks queue in
       let share : (worker_view new.deque).share ≡ (worker_view old.deque).share + (0 + 0) = ap (λ (v : Hand T). v.share) view in
       record {
@@ -144,9 +144,9 @@ module _ {T : Type 0} where
             let before : weigh w qs ≡ weigh h (numbers_below k) = f.once h in
             let now : weigh w (map queue_of (set decks d new)) ≡ weigh w (set qs d (queue_of new)) = ap (weigh w) split in
             let there : get_elem? qs d ≡ some (queue_of old) = at_index qs d (queue_of old) inside (sym (get_or-map queue_of decks d e (queue_of old) within)) in
-            let change = weigh-set w qs d (queue_of old) (queue_of new) there in
-            let one : w (queue_of new) ≡ w (queue_of old) + (h k + 0) = ap w queue ∙ weigh-append (number_weight h) (queue_of old) (Task k task ∷ []) in
-            let last = weigh-append h (numbers_below k) (k ∷ []) in
+            let change = weigh_set w qs d (queue_of old) (queue_of new) there in
+            let one : w (queue_of new) ≡ w (queue_of old) + (h k + 0) = ap w queue ∙ weigh_append (number_weight h) (queue_of old) (Task k task ∷ []) in
+            let last = weigh_append h (numbers_below k) (k ∷ []) in
             omega arith;
       }
 

@@ -24,9 +24,9 @@ use Rattle.steal_workers.specs.inside.Backs.{own_weight, IsWholeColumn, IsBack}
 use Rattle.steal_workers.specs.inside.TookBack.{numbers_of, Drains}
 use Rattle.steal_workers.specs.Gathers.{joined, IsShareAt, IsStack, PopsEach, IsGathered, AreOwnMarked, share_taken, stack_taken, all_taken, places}
 use Rattle.steal_workers.specs.inside.Emptying.{IsEmptying, queue_weights, seat_weights}
-use Rattle.list_weights.proofs.Weights.{weigh-append, weigh_part, weigh-ones, weigh_once, length-numbers_below}
-use Rattle.list_weights.proofs.Permutations.{weigh-permutation, same_weights}
-use Rattle.steal_workers.proofs.GatherSteps.{weigh-joined, weigh-map}
+use Rattle.list_weights.proofs.Weights.{weigh_append, weigh_part, weigh_ones, weigh_once, length_numbers_below}
+use Rattle.list_weights.proofs.Permutations.{weigh_permutation, same_weights}
+use Rattle.steal_workers.proofs.GatherSteps.{weigh_joined, weigh_map}
 
 get_of_at : {X : Type 0} (xs : List X) (i : ℕ) (x e : X) → get_elem? xs i ≡ some x → (get_or xs i e ≡ x) × (i < length xs)
 get_of_at [] i x e at = absurd (some-ne-none x (sym at))
@@ -89,10 +89,10 @@ module _ {T : Type 0} where
       let column_count = popped.count in
       omega arith
 
-  queue_weights-more : (h : ℕ → ℕ) (queues : List (List (Item T))) (d : ℕ) → d < length queues → queue_weights h (take (d + 1) queues) ≡ queue_weights h (take d queues) + weigh (number_weight h) (get_or queues d [])
-  queue_weights-more h queues d within =
+  queue_weights_more : (h : ℕ → ℕ) (queues : List (List (Item T))) (d : ℕ) → d < length queues → queue_weights h (take (d + 1) queues) ≡ queue_weights h (take d queues) + weigh (number_weight h) (get_or queues d [])
+  queue_weights_more h queues d within =
       let e : queue_weights h (take (d + 1) queues) ≡ queue_weights h (take d queues ++ get_or queues d [] ∷ []) = ap (queue_weights h) (take_more queues d [] within) in
-      omega (arith, weigh-append (λ queue. weigh (number_weight h) queue) (take d queues) (get_or queues d [] ∷ []))
+      omega (arith, weigh_append (λ queue. weigh (number_weight h) queue) (take d queues) (get_or queues d [] ∷ []))
 
   pub drain_room : (seats : List (SeatView T)) (d : ℕ) (old new : List (Stack T)) (left : List (Numbered T)) (column : List (Share T)) (v : Hand T) → IsEmptying seats (d + 1) old left
       → d < length old → PopsEach (AreOwnMarked seats) (common_deal seats) d old new column → IsBack column v → length left + weigh (number_weight (λ _. 1)) v.dealt ≤ length (common_deal seats).tasks
@@ -102,7 +102,7 @@ module _ {T : Type 0} where
       let all : weigh (number_weight (λ _. 1)) v.dealt ≡ weigh (number_weight (λ _. 1)) (get_or queues d []) = ap (weigh (number_weight (λ _. 1))) same in
       let counts = e.counts.0 in
       let count = e.counts.1 in
-      let more = queue_weights-more (λ _. 1) queues d (omega arith) in
+      let more = queue_weights_more (λ _. 1) queues d (omega arith) in
       let room = e.room in
       omega arith
 
@@ -129,9 +129,9 @@ module _ {T : Type 0} where
             let hand_taken : weigh (number_weight h) v.taken ≡ weigh (share_taken (number_weight h)) column = back.taken (number_weight h) in
             let rest = drains.all h in
             let queue_taken : weigh (number_weight h) v.dealt ≡ weigh (number_weight h) queue = ap (weigh (number_weight h)) same in
-            let more = queue_weights-more h deal.queues d inside in
+            let more = queue_weights_more h deal.queues d inside in
             let joins : weigh h (numbers_of after) ≡ weigh h (numbers_of left ++ numbers_of drains.more) = ap (weigh h) (ap numbers_of drains.joins ∙ map-append (λ (entry : Numbered T). entry.number) left drains.more) in
-            omega (arith, weigh-append h (numbers_of left) (numbers_of drains.more));
+            omega (arith, weigh_append h (numbers_of left) (numbers_of drains.more));
         numbered = subst (All (λ (entry : Numbered T). slice_get deal.tasks entry.number ≡ Some entry.task)) (sym drains.joins)
             (All-append (λ (entry : Numbered T). slice_get deal.tasks entry.number ≡ Some entry.task) left drains.more e.numbered
             (λ k x w. dealt.numbered d (get_or drains.more k x).number (get_or drains.more k x).task
@@ -143,10 +143,10 @@ module _ {T : Type 0} where
             drains.joins ∙ (λ i. e.none_left p i ++ nothing i);
         room =
             let before = e.room in
-            let more = queue_weights-more (λ _. 1) deal.queues d inside in
+            let more = queue_weights_more (λ _. 1) deal.queues d inside in
             let rest = drains.all (λ _. 1) in
             let queue_taken : weigh (number_weight (λ _. 1)) v.dealt ≡ weigh (number_weight (λ _. 1)) queue = ap (weigh (number_weight (λ _. 1))) same in
-            let ones : weigh (λ (n : ℕ). 1) (numbers_of drains.more) ≡ length (numbers_of drains.more) = weigh-ones (numbers_of drains.more) in
+            let ones : weigh (λ (n : ℕ). 1) (numbers_of drains.more) ≡ length (numbers_of drains.more) = weigh_ones (numbers_of drains.more) in
             let joins : length after ≡ length (left ++ drains.more) = ap length drains.joins in
             omega (arith, length-append left drains.more, length-map drains.more (λ (entry : Numbered T). entry.number));
       }
@@ -155,7 +155,7 @@ module _ {T : Type 0} where
   start_counts : (seats : List (SeatView T)) → IsWholeDeal seats → length seats ≡ seat_count (common_deal seats)
   start_counts seats whole =
       sym (length-map seats (λ (s : SeatView T). s.place)) ∙ sym (length_permutation (map (λ (s : SeatView T). s.place) seats) (numbers_below (seat_count (common_deal seats))) whole.each_once)
-      ∙ length-numbers_below (seat_count (common_deal seats))
+      ∙ length_numbers_below (seat_count (common_deal seats))
 
   pub start : (seats : List (SeatView T)) (stacks : List (Stack T)) → IsWholeDeal seats → All (IsStack (AreOwnMarked seats) (common_deal seats) (seat_count (common_deal seats))) stacks
       → places stacks ≡ map (λ (s : SeatView T). s.place) seats → ((h : ℕ → ℕ) → all_taken (number_weight h) stacks ≡ seat_weights h seats)
@@ -170,14 +170,14 @@ module _ {T : Type 0} where
       let whole_queues : take (length stacks) deal.queues ≡ deal.queues = ap (λ n. take n deal.queues) (all ∙ sym facts.1) ∙ take_all (length deal.queues) deal.queues (omega arith) in
       record {
         once = λ d w. ap (weigh (λ p. only (d == p) 1)) place
-            ∙ sym (weigh-permutation (λ p. only (d == p) 1) (map (λ (s : SeatView T). s.place) seats) (numbers_below (seat_count deal)) whole.each_once)
+            ∙ sym (weigh_permutation (λ p. only (d == p) 1) (map (λ (s : SeatView T). s.place) seats) (numbers_below (seat_count deal)) whole.each_once)
             ∙ weigh_once d 1 (seat_count deal) (omega arith);
         stacks_left = subst (λ n. All (IsStack (AreOwnMarked seats) deal n) stacks) (sym all) each;
         counts = (all, facts.1);
         taken = λ h. (let n = numbers h in let q : queue_weights h (take (length stacks) deal.queues) ≡ queue_weights h deal.queues = ap (queue_weights h) whole_queues in let o = facts.0 h in omega arith);
         numbered = All-nil (λ (entry : Numbered T). slice_get deal.tasks entry.number ≡ Some entry.task);
         none_left = λ p. refl;
-        room = (let q : queue_weights (λ _. 1) (take (length stacks) deal.queues) ≡ queue_weights (λ _. 1) deal.queues = ap (queue_weights (λ _. 1)) whole_queues in let o = facts.0 (λ _. 1) in omega (arith, weigh-ones (numbers_below (length deal.tasks)), length-numbers_below (length deal.tasks)));
+        room = (let q : queue_weights (λ _. 1) (take (length stacks) deal.queues) ≡ queue_weights (λ _. 1) deal.queues = ap (queue_weights (λ _. 1)) whole_queues in let o = facts.0 (λ _. 1) in omega (arith, weigh_ones (numbers_below (length deal.tasks)), length_numbers_below (length deal.tasks)));
       }
     where
       go : (xs : List (SeatView T)) → (0 < length xs → IsDealt (common_deal xs).queues (common_deal xs).tasks × (length (common_deal xs).queues ≡ seat_count (common_deal xs)))
@@ -204,9 +204,9 @@ module _ {T : Type 0} where
         let none = nothing_held (AreOwnMarked seats) (common_deal seats) (number_weight h) stacks e.stacks_left in
         omega (
           arith,
-          weigh-append h (joined (map (λ (s : SeatView T). s.numbers) seats)) (numbers_of left),
-          weigh-joined h (map (λ (s : SeatView T). s.numbers) seats),
-          weigh-map (λ (s : SeatView T). s.numbers) (weigh h) seats,
+          weigh_append h (joined (map (λ (s : SeatView T). s.numbers) seats)) (numbers_of left),
+          weigh_joined h (map (λ (s : SeatView T). s.numbers) seats),
+          weigh_map (λ (s : SeatView T). s.numbers) (weigh h) seats,
         ));
     numbered = e.numbered;
     none_left = e.none_left;

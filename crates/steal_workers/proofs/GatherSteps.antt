@@ -12,7 +12,7 @@ use Rattle.steal_workers.specs.inside.Handles.{is_own}
 use Rattle.steal_workers.specs.Deals.{Deal}
 use Rattle.steal_workers.specs.inside.Backs.{own_weight}
 use Rattle.steal_workers.specs.Gathers.{joined, IsShareAt, IsStack, PopsEach, share_taken, stack_taken, all_taken, places}
-use Rattle.list_weights.proofs.Weights.{weigh-append, weigh-set}
+use Rattle.list_weights.proofs.Weights.{weigh_append, weigh_set}
 
 module _ {X : Type 0} where
   -- weights of lists that are alike, member by member
@@ -25,13 +25,13 @@ module _ {X : Type 0} where
       let rest = weigh_alike f g xs ys (omega arith) (λ i e k w. alike (suc i) e k (omega arith)) in
       omega arith
 
-pub weigh-joined : {X : Type 0} (h : X → ℕ) (xss : List (List X)) → weigh h (joined xss) ≡ weigh (weigh h) xss
-weigh-joined h [] = refl
-weigh-joined h (xs ∷ rest) = omega (arith, weigh-append h xs (joined rest), weigh-joined h rest)
+pub weigh_joined : {X : Type 0} (h : X → ℕ) (xss : List (List X)) → weigh h (joined xss) ≡ weigh (weigh h) xss
+weigh_joined h [] = refl
+weigh_joined h (xs ∷ rest) = omega (arith, weigh_append h xs (joined rest), weigh_joined h rest)
 
-pub weigh-map : {X Y : Type 0} (f : X → Y) (h : Y → ℕ) (xs : List X) → weigh h (map f xs) ≡ weigh (λ x. h (f x)) xs
-weigh-map f h [] = refl
-weigh-map f h (x ∷ xs) = omega (arith, weigh-map f h xs)
+pub weigh_map : {X Y : Type 0} (f : X → Y) (h : Y → ℕ) (xs : List X) → weigh h (map f xs) ≡ weigh (λ x. h (f x)) xs
+weigh_map f h [] = refl
+weigh_map f h (x ∷ xs) = omega (arith, weigh_map f h xs)
 
 not_own : (b : Bool) → only b 1 ≡ 0 → b ≡ false
 not_own true e = absurd (omega arith)
@@ -75,14 +75,14 @@ module _ {T : Type 0} where
   pub stack_taken_less : (h : Item T → ℕ) (old new : Stack T) (share : Share T) → old.shares.items ≡ new.shares.items ++ share ∷ [] → stack_taken h old ≡ stack_taken h new + share_taken h share
   stack_taken_less h old new share is =
       let e : stack_taken h old ≡ weigh (share_taken h) (new.shares.items ++ share ∷ []) = ap (weigh (share_taken h)) is in
-      omega (arith, weigh-append (share_taken h) new.shares.items (share ∷ []))
+      omega (arith, weigh_append (share_taken h) new.shares.items (share ∷ []))
 
   pub all_taken_less : (h : Item T → ℕ) (stacks : List (Stack T)) (s : ℕ) (e new : Stack T) (share : Share T) → s < length stacks → (get_or stacks s e).shares.items ≡ new.shares.items ++ share ∷ []
       → all_taken h (set stacks s new) + share_taken h share ≡ all_taken h stacks
   all_taken_less h stacks s e new share within is =
       let old : Stack T = get_or stacks s e in
       let there : get_elem? stacks s ≡ some old = at_index stacks s old within (get_or_default stacks s e old within) in
-      let change = weigh-set (stack_taken h) stacks s old new there in
+      let change = weigh_set (stack_taken h) stacks s old new there in
       let less = stack_taken_less h old new share is in
       omega arith
 

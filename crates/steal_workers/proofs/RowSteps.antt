@@ -11,7 +11,7 @@ use Rattle.steal_workers.specs.declared.share.Share.{Share}
 use Rattle.steal_workers.specs.inside.Handles.{deque_of, is_own}
 use Rattle.steal_workers.specs.inside.Shares.{IsShare, dealt_to, taken_from}
 use Rattle.steal_workers.specs.inside.Columns.{IsFresh, IsColumn, AreColumns, IsRow, closed, deck_deque}
-use Rattle.list_weights.proofs.Places.{EachAt-push}
+use Rattle.list_weights.proofs.Places.{EachAt_push}
 use Rattle.steal_workers.proofs.DeckSteps.{each_at_set}
 use Rattle.steal_workers.proofs.ColumnSteps.{eq_same}
 
@@ -72,6 +72,6 @@ module _ {T : Type 0} where
             ∙ sym (take_more deques d (deck_deque k) (omega (arith, length-map decks (deck_deque {T = T}))));
         queues = map_push dealt_to shares share ∙ (λ i. row.queues i ++ ((fresh.0.dealt ∙ sym (get_or-map (closed n) decks d k [] inside)) i ∷ []))
             ∙ sym (take_more queues d [] (omega (arith, length-map decks (closed {T = T} n))));
-        each = EachAt-push (λ j (s : Share T). IsShare s × (taken_from s ≡ []) × (s.marked ≡ false) × (is_own s.handle ≡ (j == place))) shares share row.each
+        each = EachAt_push (λ j (s : Share T). IsShare s × (taken_from s ≡ []) × (s.marked ≡ false) × (is_own s.handle ≡ (j == place))) shares share row.each
             (fresh.0.sound, fresh.0.taken, fresh.0.unmarked, fresh.1 ∙ eq_same place d (length shares) place (λ q. let c = row.count in omega arith) (λ q. let c = row.count in omega arith));
       }

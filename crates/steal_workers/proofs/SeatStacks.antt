@@ -11,7 +11,7 @@ use Rattle.steal_workers.specs.SeatViews.{SeatView, seat_count, HasMark}
 use Rattle.steal_workers.specs.WholeDeals.{common_deal, IsWholeDeal}
 use Rattle.steal_workers.specs.Gathers.{IsStack, AreOwnMarked, places, all_taken, stack_taken}
 use Rattle.steal_workers.specs.inside.Emptying.{seat_weights}
-use Rattle.list_weights.proofs.Weights.{weigh-append}
+use Rattle.list_weights.proofs.Weights.{weigh_append}
 
 module _ {T : Type 0} where
   stack_weaker : (P Q : Type 0) (deal : Deal T) (m : ℕ) (stack : Stack T) → (Q → P) → IsStack P deal m stack → IsStack Q deal m stack
@@ -39,7 +39,7 @@ module _ {T : Type 0} where
       let one : P stack = subst (λ (d : Deal T). IsStack (AreOwnMarked seats) d (seat_count d) stack) deal (stack_weaker (HasMark seat seat.place) (AreOwnMarked seats) seat.deal (seat_count seat.deal) stack mark made.1) in
       record {
         same_places = map_push (λ (s : Stack T). s.place) stacks stack ∙ (λ i. h.same_places i ++ made.0 i ∷ []) ∙ sym (map_push (λ (s : SeatView T). s.place) done seat);
-        numbers = λ f. (let b = h.numbers f in let n : weigh f seat.numbers ≡ stack_taken (number_weight f) stack = numbers f in omega (arith, weigh-append (stack_taken (number_weight f)) stacks (stack ∷ []), weigh-append (λ (s : SeatView T). weigh f s.numbers) done (seat ∷ [])));
+        numbers = λ f. (let b = h.numbers f in let n : weigh f seat.numbers ≡ stack_taken (number_weight f) stack = numbers f in omega (arith, weigh_append (stack_taken (number_weight f)) stacks (stack ∷ []), weigh_append (λ (s : SeatView T). weigh f s.numbers) done (seat ∷ [])));
         each = All-append P stacks (stack ∷ []) h.each (All-cons P stack [] one (All-nil P));
       }
 

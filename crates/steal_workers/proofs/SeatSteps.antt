@@ -14,7 +14,7 @@ use Rattle.steal_workers.specs.Deals.{IsDealt}
 use Rattle.steal_workers.specs.SeatViews.{IsSameSeat, seat_count}
 use Rattle.steal_workers.specs.Seats.{seat_view, IsSound}
 use Rattle.steal_workers.specs.Answers.{Answers}
-use Rattle.list_weights.proofs.Weights.{weigh-append}
+use Rattle.list_weights.proofs.Weights.{weigh_append}
 use Rattle.steal_workers.proofs.ShareLists.{moves_sound, moves_map, moves_length, moves_marked}
 
 module _ {T : Type 0} where
@@ -53,7 +53,7 @@ module _ {T : Type 0} where
       let e = taken h in
       let b = before h in
       let now : weigh h trail ≡ weigh h (numbers ++ number ∷ []) = ap (weigh h) is in
-      omega (arith, weigh-append h numbers (number ∷ []))
+      omega (arith, weigh_append h numbers (number ∷ []))
 
   pub place_within : (s : Inside T) → IsSound s → s.place < seat_count (seat_view s).deal
   place_within s sound = (let within = sound.place in omega (arith, length-map s.shares.items (λ (share : Share T). deque_of share.handle)))

@@ -10,7 +10,7 @@ use Rattle.steal_workers.specs.declared.share.Share.{Share}
 use Rattle.steal_workers.specs.declared.share.Finding.TheVariants.{Task}
 use Rattle.steal_workers.specs.inside.Items.{Stands}
 use Rattle.steal_workers.specs.inside.Shares.{IsShare, Follows, Finds, Moves, dealt_to, is_marked, taken_weight, taken_weights, Found, TookNone}
-use Rattle.list_weights.proofs.Weights.{weigh-set}
+use Rattle.list_weights.proofs.Weights.{weigh_set}
 use Rattle.steal_workers.proofs.ShareSteps.{stays}
 
 module _ {T : Type 0} where
@@ -65,12 +65,12 @@ module _ {T : Type 0} where
   moves_set (x ∷ xs) zero e s sound within p = (p, stays_all xs (All-tail IsShare x xs sound))
   moves_set (x ∷ xs) (suc d) e s sound within p = (stays x (All-head IsShare x xs sound), moves_set xs d e s (All-tail IsShare x xs sound) (omega arith) p)
 
-  weights-set : (h : ℕ → ℕ) (xs : List (Share T)) (d : ℕ) (e s : Share T) → d < length xs → taken_weights h (set xs d s) + taken_weight h (get_or xs d e) ≡ taken_weights h xs + taken_weight h s
-  weights-set h xs d e s within = let r : Share T = get_or xs d e in weigh-set (taken_weight h) xs d r s (at_index xs d r within (get_or_default xs d e r within))
+  weights_set : (h : ℕ → ℕ) (xs : List (Share T)) (d : ℕ) (e s : Share T) → d < length xs → taken_weights h (set xs d s) + taken_weight h (get_or xs d e) ≡ taken_weights h xs + taken_weight h s
+  weights_set h xs d e s within = let r : Share T = get_or xs d e in weigh_set (taken_weight h) xs d r s (at_index xs d r within (get_or_default xs d e r within))
 
   -- one share's step is a step of all
   pub none_set : (xs : List (Share T)) (d : ℕ) (e s : Share T) → d < length xs → ((h : ℕ → ℕ) → taken_weight h s ≡ taken_weight h (get_or xs d e)) → TookNone xs (set xs d s)
-  none_set xs d e s within same h = let w = weights-set h xs d e s within in let k = same h in omega arith
+  none_set xs d e s within same h = let w = weights_set h xs d e s within in let k = same h in omega arith
 
   marked_set : (xs : List (Share T)) (d : ℕ) (s : Share T) → d < length xs → get_or (map is_marked (set xs d s)) d false ≡ s.marked
   marked_set [] d s within = absurd (omega arith)
@@ -82,7 +82,7 @@ module _ {T : Type 0} where
 
   pub found_set : (xs : List (Share T)) (d : ℕ) (e s : Share T) (number : ℕ) (task : T) → d < length xs → Finds (get_or xs d e) (Task number task) s → Found xs (set xs d s) number task
   found_set xs d e s number task within step = record {
-    taken = λ h. let w = weights-set h xs d e s within in let k = step.2 h in omega arith;
+    taken = λ h. let w = weights_set h xs d e s within in let k = step.2 h in omega arith;
     dealt = (d, within, subst (λ (l : List (Item T)). Stands l (task_item number task)) (sym (get_or-map dealt_to xs d e [] within)) step.1);
     lacks = (d, (let l = length-set xs d s in omega arith), marked_set xs d s within ∙ step.0);
   }

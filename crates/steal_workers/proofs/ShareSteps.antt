@@ -10,7 +10,7 @@ use Rattle.steal_workers.specs.inside.Items.{marks, mark_weight, number_weight, 
 use Rattle.steal_workers.specs.OneDeque.{Took}
 use Rattle.steal_workers.specs.inside.Handles.{hand_of, is_own, CanTake, IsSameHandle}
 use Rattle.steal_workers.specs.inside.Shares.{IsShare, Follows, Finds, finding_of, is_mark, dealt_to, taken_from, taken_weight}
-use Rattle.list_weights.proofs.Weights.{weigh-append}
+use Rattle.list_weights.proofs.Weights.{weigh_append}
 
 module _ {T : Type 0} where
   pub can_take : (s : Share T) → IsShare s → s.marked ≡ false → CanTake s.handle
@@ -56,7 +56,7 @@ module _ {T : Type 0} where
           sound = (
             same.0,
             ap (λ (v : Hand T). v.share) took.0 ∙ sound.1,
-            (let count = sound.2 in omega (arith, weigh-append mark_weight (taken_from old) (item ∷ []), taken_mark item)),
+            (let count = sound.2 in omega (arith, weigh_append mark_weight (taken_from old) (item ∷ []), taken_mark item)),
             took.3,
           );
           same_deque = same.1;
@@ -65,5 +65,5 @@ module _ {T : Type 0} where
           mark_stays = λ m. absurd (true≢false (sym m ∙ unmarked));
         },
         steps old new item now (took.1 item (0, refl))
-            (λ h. ap (λ (v : Hand T). weigh (number_weight h) v.taken) took.0 ∙ weigh-append (number_weight h) (taken_from old) (item ∷ [])),
+            (λ h. ap (λ (v : Hand T). weigh (number_weight h) v.taken) took.0 ∙ weigh_append (number_weight h) (taken_from old) (item ∷ [])),
       )

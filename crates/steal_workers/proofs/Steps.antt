@@ -10,7 +10,7 @@ use Rattle.steal_workers.specs.declared.hand.Hand.{Hand}
 use Rattle.list_weights.specs.Weights.{weigh}
 use Rattle.steal_workers.specs.inside.Items.{marks, mark_weight, IsAllMarks, MarksLast}
 use Rattle.steal_workers.specs.OneDeque.{hand, Fits, IsOneDeque, after_push, after_take, less_one_share, one_share, taken_back, Took}
-use Rattle.list_weights.proofs.Weights.{weigh-append, weigh-set, weigh_part, weigh_two, weigh_alone}
+use Rattle.list_weights.proofs.Weights.{weigh_append, weigh_set, weigh_part, weigh_two, weigh_alone}
 use Rattle.steal_workers.proofs.Weights.{weigh_level, at_behind}
 
 module _ {T : Type 0} where
@@ -24,27 +24,27 @@ module _ {T : Type 0} where
   share : Hand T → ℕ
   share v = v.share
 
-  pub marks-append : (xs ys : List (Item T)) → marks (xs ++ ys) ≡ marks xs + marks ys
-  marks-append xs ys = weigh-append mark_weight xs ys
+  pub marks_append : (xs ys : List (Item T)) → marks (xs ++ ys) ≡ marks xs + marks ys
+  marks_append xs ys = weigh_append mark_weight xs ys
 
-  marks-le-length : (xs : List (Item T)) → marks xs ≤ length xs
-  marks-le-length [] = omega arith
-  marks-le-length (Task k t ∷ xs) = omega (arith, marks-le-length xs)
-  marks-le-length (Mark ∷ xs) = omega (arith, marks-le-length xs)
+  marks_le_length : (xs : List (Item T)) → marks xs ≤ length xs
+  marks_le_length [] = omega arith
+  marks_le_length (Task k t ∷ xs) = omega (arith, marks_le_length xs)
+  marks_le_length (Mark ∷ xs) = omega (arith, marks_le_length xs)
 
-  IsAllMarks-behind : (xs ys : List (Item T)) → IsAllMarks (xs ++ ys) → IsAllMarks ys
-  IsAllMarks-behind [] ys h = h
-  IsAllMarks-behind (x ∷ xs) ys h = IsAllMarks-behind xs ys h.1
+  IsAllMarks_behind : (xs ys : List (Item T)) → IsAllMarks (xs ++ ys) → IsAllMarks ys
+  IsAllMarks_behind [] ys h = h
+  IsAllMarks_behind (x ∷ xs) ys h = IsAllMarks_behind xs ys h.1
 
-  IsAllMarks-at : (xs : List (Item T)) (i : ℕ) (x : Item T) → IsAllMarks xs → get_elem? xs i ≡ some x → x ≡ Mark
-  IsAllMarks-at [] i x h e = absurd (some-ne-none x (sym e))
-  IsAllMarks-at (y ∷ ys) zero x h e = sym (some-injective y x e) ∙ h.0
-  IsAllMarks-at (y ∷ ys) (suc i) x h e = IsAllMarks-at ys i x h.1 e
+  IsAllMarks_at : (xs : List (Item T)) (i : ℕ) (x : Item T) → IsAllMarks xs → get_elem? xs i ≡ some x → x ≡ Mark
+  IsAllMarks_at [] i x h e = absurd (some-ne-none x (sym e))
+  IsAllMarks_at (y ∷ ys) zero x h e = sym (some-injective y x e) ∙ h.0
+  IsAllMarks_at (y ∷ ys) (suc i) x h e = IsAllMarks_at ys i x h.1 e
 
   marks_behind : (xs ys : List (Item T)) → MarksLast (xs ++ ys) → 0 < marks xs → IsAllMarks ys
   marks_behind [] ys h some_mark = absurd (omega arith)
   marks_behind (Task k t ∷ xs) ys h some_mark = marks_behind xs ys h (omega arith)
-  marks_behind (Mark ∷ xs) ys h some_mark = IsAllMarks-behind xs ys h
+  marks_behind (Mark ∷ xs) ys h some_mark = IsAllMarks_behind xs ys h
 
   pub begins : IsOneDeque {T = T} [] (hand true 0 [] [] ∷ [])
   begins = (
@@ -70,8 +70,8 @@ module _ {T : Type 0} where
       let known : v.dealt ≡ h.2 = (mine.deals deals).1 in
       let same : marks v.dealt ≡ marks h.2 = ap marks known in
       let total : weigh (λ (u : Hand T). u.share) views ≡ marks h.2 = h.4 in
-      let here = weigh-set (λ (u : Hand T). u.share) views port v w at in
-      let more = marks-append h.2 (x ∷ []) in (
+      let here = weigh_set (λ (u : Hand T). u.share) views port v w at in
+      let more = marks_append h.2 (x ∷ []) in (
         w,
         (
           h.0,
@@ -79,7 +79,7 @@ module _ {T : Type 0} where
           h.2 ++ x ∷ [],
           ap (λ l. l ++ x ∷ []) h.3 ∙ append_assoc h.1 items (x ∷ []),
           omega arith,
-          (λ g. let once = h.5 g in let s = weigh-set (λ (u : Hand T). weigh g u.taken) views port v w at in omega arith),
+          (λ g. let once = h.5 g in let s = weigh_set (λ (u : Hand T). weigh g u.taken) views port v w at in omega arith),
           each_set (Fits h.0 (h.2 ++ x ∷ [])) views port w
               (record {
                 deals = λ _. ((mine.deals deals).0, ap (λ l. l ++ x ∷ []) known);
@@ -104,7 +104,7 @@ module _ {T : Type 0} where
       let w : Hand T = after_take v xs in
       let mine = h.6 port v at in
       let known : v.dealt ≡ h.2 = mine.knows some_share in
-      let here = weigh-set (λ (u : Hand T). u.share) views port v w at in
+      let here = weigh_set (λ (u : Hand T). u.share) views port v w at in
       let total : weigh (λ (u : Hand T). u.share) views ≡ marks h.2 = h.4 in
       let part = weigh_part (λ (u : Hand T). marks u.taken) views port v at in
       let all = h.5 mark_weight in (
@@ -115,28 +115,28 @@ module _ {T : Type 0} where
           h.2,
           h.3 ∙ sym (append_assoc h.1 xs items),
           omega arith,
-          (λ g. let once = h.5 g in let s = weigh-set (λ (u : Hand T). weigh g u.taken) views port v w at in
-              let a = weigh-append g v.taken xs in let b = weigh-append g h.1 xs in omega arith),
+          (λ g. let once = h.5 g in let s = weigh_set (λ (u : Hand T). weigh g u.taken) views port v w at in
+              let a = weigh_append g v.taken xs in let b = weigh_append g h.1 xs in omega arith),
           each_set (Fits h.0 h.2) views port w (record { deals = mine.deals; knows = mine.knows; idle = λ none. absurd (omega arith); within = room })
               (λ j u other e. h.6 j u e),
         ),
         (
           refl,
           (λ item s. (length h.1 + s.0, subst (λ (l : List (Item T)). get_elem? l (length h.1 + s.0) ≡ some item) (sym (known ∙ h.3)) (at_behind h.1 (xs ++ items) s.0 item (at_longer xs items s.0 item s.1)))),
-          (λ item s last some_mark. IsAllMarks-at (xs ++ items) s.0 item
+          (λ item s last some_mark. IsAllMarks_at (xs ++ items) s.0 item
               (marks_behind h.1 (xs ++ items) (subst MarksLast (known ∙ h.3) last) (let p : marks v.taken ≤ weigh (λ (u : Hand T). marks u.taken) views = part in omega arith))
               (at_longer xs items s.0 item s.1)),
           (λ g.
               let once = h.5 g in
               let taken = weigh_part (λ (u : Hand T). weigh g u.taken) views port v at in
               let cut : weigh g v.dealt ≡ weigh g (h.1 ++ (xs ++ items)) = ap (weigh g) (known ∙ h.3) in
-              omega (arith, weigh-append g v.taken xs, weigh-append g h.1 (xs ++ items), weigh-append g xs items)),
+              omega (arith, weigh_append g v.taken xs, weigh_append g h.1 (xs ++ items), weigh_append g xs items)),
         ),
       )
 
   pub takes : (port : ℕ) (v : Hand T) → marks v.taken < v.share → Takes IsOneDeque port v 1 (Took v)
   takes port v lacks xs items views nonempty short h at =
-      takes_if port v xs items views (omega arith) (omega (arith, marks-append v.taken xs, marks-le-length xs)) h at
+      takes_if port v xs items views (omega arith) (omega (arith, marks_append v.taken xs, marks_le_length xs)) h at
 
   -- who has all shares has taken all that is out
   all_out : (port : ℕ) (v : Hand T) (items : List (Item T)) (views : List (Hand T)) → v.deals ≡ true → v.share ≡ marks v.dealt
@@ -153,14 +153,14 @@ module _ {T : Type 0} where
       let same : marks v.dealt ≡ marks h.2 = ap marks known in
       let cut : marks h.2 ≡ marks (h.1 ++ (xs ++ items)) = ap marks h.3 in
       let out = all_out port v (xs ++ items) views deals all h at mark_weight in
-      takes_if port v xs items views some_share (omega (arith, marks-append v.taken xs, marks-append h.1 (xs ++ items), marks-append xs items)) h at
+      takes_if port v xs items views some_share (omega (arith, marks_append v.taken xs, marks_append h.1 (xs ++ items), marks_append xs items)) h at
 
   pub finds : (port : ℕ) (v : Hand T) → Finds IsOneDeque port v (v.share ≤ marks v.taken)
   finds port v views h at =
       let cut : marks h.2 ≡ marks (h.1 ++ []) = ap marks h.3 in
       let out = h.5 mark_weight in
       let total : weigh (λ (u : Hand T). u.share) views ≡ marks h.2 = h.4 in
-      weigh_level (λ (u : Hand T). marks u.taken) (λ (u : Hand T). u.share) views port v at (omega (arith, marks-append h.1 [])) (λ j u e. (h.6 j u e).within)
+      weigh_level (λ (u : Hand T). marks u.taken) (λ (u : Hand T). u.share) views port v at (omega (arith, marks_append h.1 [])) (λ j u e. (h.6 j u e).within)
 
   pub finds_few : (port : ℕ) (v : Hand T) → FindsFew IsOneDeque 0 port v (v.share ≤ marks v.taken)
   finds_few port v [] views few h at = finds port v views h at
@@ -178,8 +178,8 @@ module _ {T : Type 0} where
       let mine = h.6 port v at in
       let known : v.dealt ≡ h.2 = (mine.deals deals).1 in
       let vs : List (Hand T) = set views port l in
-      let here = weigh-set (λ (u : Hand T). u.share) views port v l at in
-      let more = weigh-append (λ (u : Hand T). u.share) vs (r ∷ []) in
+      let here = weigh_set (λ (u : Hand T). u.share) views port v l at in
+      let more = weigh_append (λ (u : Hand T). u.share) vs (r ∷ []) in
       let total : weigh (λ (u : Hand T). u.share) views ≡ marks h.2 = h.4 in
       let none : marks v.taken ≡ 0 = ap marks fresh in
       let old : Each (Fits h.0 h.2) vs = each_set (Fits h.0 h.2) views port l
@@ -190,8 +190,8 @@ module _ {T : Type 0} where
         h.2,
         h.3,
         omega arith,
-        (λ g. let once = h.5 g in let s = weigh-set (λ (u : Hand T). weigh g u.taken) views port v l at in
-            let a = weigh-append (λ (u : Hand T). weigh g u.taken) vs (r ∷ []) in omega arith),
+        (λ g. let once = h.5 g in let s = weigh_set (λ (u : Hand T). weigh g u.taken) views port v l at in
+            let a = weigh_append (λ (u : Hand T). weigh g u.taken) vs (r ∷ []) in omega arith),
         λ j u e. ⊎_elim (λ (x : get_elem? vs j ≡ some u). old j u x)
             (λ (is : r ≡ u). subst (Fits h.0 h.2 j) is (record { deals = λ p. absurd (true≢false (sym p)); knows = λ _. known; idle = λ p. absurd (omega arith); within = omega arith }))
             (at_snoc vs r u j e),
@@ -207,8 +207,8 @@ module _ {T : Type 0} where
       let was : get_elem? views other ≡ some u = ⊎_elim (λ (x : (other ≡ port) × (both ≡ u)). absurd (two x.0)) (λ (x : (other ≢ port) × (get_elem? views other ≡ some u)). x.1) (at_set views port other both u at') in
       let theirs = h.6 other u was in
       let total : weigh (λ (u : Hand T). u.share) views ≡ marks h.2 = h.4 in
-      let a = weigh-set (λ (u : Hand T). u.share) views port v both at in
-      let b = weigh-set (λ (u : Hand T). u.share) vs other u spent at' in
+      let a = weigh_set (λ (u : Hand T). u.share) views port v both at in
+      let b = weigh_set (λ (u : Hand T). u.share) vs other u spent at' in
       let within = mine.within in
       let within' = theirs.within in (
         h.0,
@@ -217,16 +217,16 @@ module _ {T : Type 0} where
         h.3,
         omega arith,
         (λ g. let once = h.5 g in
-            let s = weigh-set (λ (u : Hand T). weigh g u.taken) views port v both at in
-            let t = weigh-set (λ (u : Hand T). weigh g u.taken) vs other u spent at' in
-            let p = weigh-append g v.taken u.taken in omega arith),
+            let s = weigh_set (λ (u : Hand T). weigh g u.taken) views port v both at in
+            let t = weigh_set (λ (u : Hand T). weigh g u.taken) vs other u spent at' in
+            let p = weigh_append g v.taken u.taken in omega arith),
         each_set (Fits h.0 h.2) vs other spent (record { deals = λ p. absurd (true≢false (sym p)); knows = λ p. absurd (omega arith); idle = λ _. refl; within = omega arith })
             (λ j y apart e. each_set (Fits h.0 h.2) views port both
             (record {
               deals = mine.deals;
               knows = λ _. known;
               idle = λ none. ap (λ l. l ++ u.taken) (mine.idle (omega arith)) ∙ theirs.idle (omega arith);
-              within = omega (arith, marks-append v.taken u.taken);
+              within = omega (arith, marks_append v.taken u.taken);
             })
             (λ k z _ f. h.6 k z f) j y e),
       )

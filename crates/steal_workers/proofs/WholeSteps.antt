@@ -12,7 +12,7 @@ use Rattle.steal_workers.specs.inside.Handles.{deque_of, hand_of, is_own}
 use Rattle.steal_workers.specs.inside.Shares.{IsShare, dealt_to, taken_from}
 use Rattle.steal_workers.specs.inside.Backs.{own_weight, IsWholeColumn, IsBack}
 use Rattle.steal_workers.specs.Gathers.{share_taken}
-use Rattle.list_weights.proofs.Permutations.{weigh-permutation}
+use Rattle.list_weights.proofs.Permutations.{weigh_permutation}
 use Rattle.steal_workers.proofs.GatherSteps.{others}
 
 module _ {T : Type 0} where
@@ -29,7 +29,7 @@ module _ {T : Type 0} where
   owner_out xs rest x place whole one within is own removed =
       let moved : IsPermutation xs (x ∷ rest) = subst (λ (l : List (Share T)). IsPermutation xs (x ∷ l)) (sym removed) (IsPermutation-swap_remove xs place x within is) in
       let mine : own_weight x ≡ 1 = ap (λ b. only b 1) own in
-      let all = weigh-permutation own_weight xs (x ∷ rest) moved in
+      let all = weigh_permutation own_weight xs (x ∷ rest) moved in
       let here = whole.2 place x within in
       let same : deque_of x.handle ≡ whole.0 = ap (λ (s : Share T). deque_of s.handle) is ∙ here.1 in
       let each = All-tail (λ (s : Share T). IsShare s × (deque_of s.handle ≡ whole.0) × (dealt_to s ≡ whole.1)) x rest
@@ -37,7 +37,7 @@ module _ {T : Type 0} where
       record {
         sound = subst IsShare (sym is) here.0;
         others_left = λ k e w. ((each k e w).0, (each k e w).1 ∙ sym same, others rest (omega arith) k e w);
-        taken = λ h. (let m = weigh-permutation (share_taken h) xs (x ∷ rest) moved in omega arith);
+        taken = λ h. (let m = weigh_permutation (share_taken h) xs (x ∷ rest) moved in omega arith);
         count = (let l = length_permutation xs (x ∷ rest) moved in omega arith);
         dealt = λ items h. ap dealt_to is ∙ h place x within;
       }

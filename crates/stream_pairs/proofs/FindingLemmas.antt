@@ -13,15 +13,15 @@ use Rattle.stream_pairs.specs.declared.entries.Pair.{Pair}
 use Rattle.host_sockets.specs.declared.streams.HostStream.{HostStream}
 
 -- the first of those from a place on
-pub find-drop : {X : Type 0} (p : X → Bool) (xs : List X) (i : ℕ) (d : X) → i < length xs → find p (drop i xs) ≡ cond (p (get_or xs i d)) (Some (get_or xs i d)) (find p (drop (i + 1) xs))
-find-drop p [] i d below = absurd (omega arith)
-find-drop p (x ∷ xs) zero d below = refl
-find-drop p (x ∷ xs) (suc i) d below =
+pub find_drop : {X : Type 0} (p : X → Bool) (xs : List X) (i : ℕ) (d : X) → i < length xs → find p (drop i xs) ≡ cond (p (get_or xs i d)) (Some (get_or xs i d)) (find p (drop (i + 1) xs))
+find_drop p [] i d below = absurd (omega arith)
+find_drop p (x ∷ xs) zero d below = refl
+find_drop p (x ∷ xs) (suc i) d below =
     let more : suc i + 1 ≡ suc (i + 1) = omega arith in
-    find-drop p xs i d (omega (arith, below)) ∙ ap (λ (k : ℕ). cond (p (get_or xs i d)) (Some (get_or xs i d)) (find p (drop k (x ∷ xs)))) (sym more)
+    find_drop p xs i d (omega (arith, below)) ∙ ap (λ (k : ℕ). cond (p (get_or xs i d)) (Some (get_or xs i d)) (find p (drop k (x ∷ xs)))) (sym more)
 
-pub find-all : {X : Type 0} (p : X → Bool) (xs : List X) (i : ℕ) → i ≡ 0 → find p (drop i xs) ≡ find p xs
-find-all p xs i none = ap (λ (k : ℕ). find p (drop k xs)) none
+pub find_all : {X : Type 0} (p : X → Bool) (xs : List X) (i : ℕ) → i ≡ 0 → find p (drop i xs) ≡ find p xs
+find_all p xs i none = ap (λ (k : ℕ). find p (drop k xs)) none
 
 -- ---- by addresses
 
@@ -52,11 +52,11 @@ module _ (all : List Kept) (k : Kept) (s : HostStream) where
   abbrev by : Bool → Option Kept
   by within = cond within (Some k) (find (has s.peer.ip) all)
 
-  pub within-place : (place : ℕ) → is_within s ≡ true → slice_get all place ≡ Some k → option_and_then (slice_get all) (Some place) ≡ other_host all k s
-  within-place place within at = at ∙ sym (ap by within)
+  pub within_place : (place : ℕ) → is_within s ≡ true → slice_get all place ≡ Some k → option_and_then (slice_get all) (Some place) ≡ other_host all k s
+  within_place place within at = at ∙ sym (ap by within)
 
-  pub found-place : (book : List Ip) (o : Option ℕ) → is_within s ≡ false → book ≡ addresses all → o ≡ host_at book s.peer.ip → option_and_then (slice_get all) o ≡ other_host all k s
-  found-place book o outside book_is is =
+  pub found_place : (book : List Ip) (o : Option ℕ) → is_within s ≡ false → book ≡ addresses all → o ≡ host_at book s.peer.ip → option_and_then (slice_get all) o ≡ other_host all k s
+  found_place book o outside book_is is =
       ap (option_and_then (slice_get all)) (is ∙ ap (λ (b : List Ip). host_at b s.peer.ip) book_is) ∙ found_at s.peer.ip all ∙ sym (ap by outside)
 
 -- ---- what a host keeps
@@ -70,11 +70,11 @@ abbrev pair : Addr → Addr → Pair
 pair own peer = record { own = own; peer = peer }
 
 module _ {S : Type 0} (book : List Ip) (entries : List (HashMap Pair HostStream S)) (all : List Kept) (indexes : Indexes book entries all) (place : ℕ) (own peer : Addr) where
-  pub kept-found : (e : HashMap Pair HostStream S) → place < length entries → e ≡ get_or entries place e → kept_at own peer (slice_get all place) ≡ unwrap_or (get same_pair e (pair own peer)) (unused own peer)
-  kept-found e within is =
+  pub kept_found : (e : HashMap Pair HostStream S) → place < length entries → e ≡ get_or entries place e → kept_at own peer (slice_get all place) ≡ unwrap_or (get same_pair e (pair own peer)) (unused own peer)
+  kept_found e within is =
       let at : slice_get entries place ≡ Some e = slice_get-get_or entries place e within ∙ ap (λ (x : HashMap Pair HostStream S). Some x) (sym is) in
       let (k, here) = there all place (let same = indexes.count in omega arith) in
       ap (kept_at own peer) here ∙ ap (λ (o : Option HostStream). unwrap_or o (unused own peer)) (sym (indexes.each place k e here at (pair own peer)))
 
-  pub kept-nowhere : length entries ≤ place → kept_at own peer (slice_get all place) ≡ unused own peer
-  kept-nowhere past = ap (kept_at own peer) (slice_get_past all place (let same = indexes.count in omega arith))
+  pub kept_nowhere : length entries ≤ place → kept_at own peer (slice_get all place) ≡ unused own peer
+  kept_nowhere past = ap (kept_at own peer) (slice_get_past all place (let same = indexes.count in omega arith))

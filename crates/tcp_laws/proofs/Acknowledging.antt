@@ -217,29 +217,29 @@ holds_advances f r0 by window t s b sent h =
 abbrev pub SameNumbers : Tcb → Turn → Type 0
 SameNumbers r t = (t.tcb.una ≡ r.una) × (t.tcb.highest ≡ r.highest) × (t.sent ≡ [])
 
-numbers-restarts : (r : Tcb) (t : Turn) → SameNumbers r t → SameNumbers r (restarts t)
+numbers_restarts : (r : Tcb) (t : Turn) → SameNumbers r t → SameNumbers r (restarts t)
 unfolding restarts
-numbers-restarts r t h = h
+numbers_restarts r t h = h
 
-numbers-judged : (r : Tcb) (t : Turn) → SameNumbers r t → SameNumbers r (judged t)
+numbers_judged : (r : Tcb) (t : Turn) → SameNumbers r t → SameNumbers r (judged t)
 unfolding judged
-numbers-judged r t h =
+numbers_judged r t h =
     by_test (SameNumbers r) (needs_timer t.tcb) _ _
     (λ e. by_test (SameNumbers r) t.tcb.control.timer _ _ (λ k. h) (λ k. h))
     (λ e. h)
 
-numbers-advanced : (window : ℕ) (t : Turn) → t.sent ≡ [] → SameNumbers t.tcb (changed (advanced 0 window) t)
+numbers_advanced : (window : ℕ) (t : Turn) → t.sent ≡ [] → SameNumbers t.tcb (changed (advanced 0 window) t)
 unfolding advanced
-numbers-advanced window t e = (omega arith, refl, e)
+numbers_advanced window t e = (omega arith, refl, e)
 
-pub numbers-advances : (window : ℕ) (t : Turn) → t.sent ≡ [] → SameNumbers t.tcb (advances 0 window t)
+pub numbers_advances : (window : ℕ) (t : Turn) → t.sent ≡ [] → SameNumbers t.tcb (advances 0 window t)
 unfolding advances
-numbers-advances window t e =
+numbers_advances window t e =
     let u = changed (advanced 0 window) t in
     let test = restarts_timer 0 window t.tcb.control in
-    let k = numbers-advanced window t e in
-    numbers-judged t.tcb (if test then restarts u else u)
-    (by_test (SameNumbers t.tcb) test (restarts u) u (λ m. numbers-restarts t.tcb u k) (λ m. k))
+    let k = numbers_advanced window t e in
+    numbers_judged t.tcb (if test then restarts u else u)
+    (by_test (SameNumbers t.tcb) test (restarts u) u (λ m. numbers_restarts t.tcb u k) (λ m. k))
 
 -- a duplicate
 abbrev pub duplicate_of_turn : Turn → CongestionEvent

@@ -35,7 +35,7 @@ use Rattle.tcp_laws.proofs.Holds.{Kept, kept_of, kept_after, kept_again, Holds, 
 use Rattle.tcp_laws.proofs.Sending.{and_left, same_number, opening_una, holds_sends_ack, holds_sends_syn_ack, holds_sends_refusal, holds_judged, holds_sends_one, holds_output}
 use Rattle.tcp_laws.proofs.Ends.{holds_ends, holds_vanishes, holds_shuts, holds_closes, holds_flows, holds_error_taken, holds_writes}
 use Rattle.tcp_laws.proofs.Receiving.{holds_receives, holds_reads}
-use Rattle.tcp_laws.proofs.Acknowledging.{opening_received, holds_establishes, holds_connects, holds_advances, numbers-advances, holds_hears_duplicate}
+use Rattle.tcp_laws.proofs.Acknowledging.{opening_received, holds_establishes, holds_connects, holds_advances, numbers_advances, holds_hears_duplicate}
 
 -- in which states these verdicts come, and how much is acknowledged at most
 abbrev pub Comes : TcpState → ℕ → Verdict → Type 0
@@ -123,7 +123,7 @@ nothing_acknowledged by count h r e =
 heard_twice : (r : Tcb) (window : ℕ) → Holds (kept_of r) r (begin r) → is_synchronized r.control.state ≡ true → r.una ≤ r.highest → Follows r (hears_duplicate (advances 0 window (begin r))) (duplicates r.una r.highest ∷ [])
 heard_twice r window h s b =
     let t = advances 0 window (begin r) in
-    let n = numbers-advances window (begin r) refl in
+    let n = numbers_advances window (begin r) refl in
     let k = holds_hears_duplicate (kept_after (acknowledges 0) (kept_of r)) r t n.2 (holds_advances (kept_of r) r 0 window (begin r) s (omega arith) refl h) in
     subst (λ (m : ℕ). Holds (kept_by (duplicates r.una m ∷ []) r) r (hears_duplicate t)) n.1
     (subst (λ (m : ℕ). Holds (kept_by (duplicates m t.tcb.highest ∷ []) r) r (hears_duplicate t)) n.0 k)

@@ -18,7 +18,7 @@ use Rattle.sock_tcp.specs.connection.Segment.{sends_ack, sends_reset}
 use Rattle.tcp_laws.specs.Received.{FitsTaken}
 use Rattle.sock_tcp.proofs.Connections.ProcessCalls.{phase_writing_ended, phase_longer}
 use Rattle.tcp_laws.proofs.Tests.{by_test}
-use Rattle.tcp_laws.proofs.Segments.{AreSent-grows}
+use Rattle.tcp_laws.proofs.Segments.{AreSent_grows}
 use Rattle.tcp_laws.proofs.Holds.{Kept, kept_of, Holds}
 use Rattle.tcp_laws.proofs.Sending.{holds_sends_ack, holds_sends_reset, holds_judged, holds_output}
 
@@ -119,7 +119,7 @@ holds_writing_ended f r0 t o h =
         written = h.grown.written;
         ended = λ e. (refl, (h.grown.ended e).1);
       };
-      sent = AreSent-grows r.control.local r.control.peer r.iss r.written r.written [] r.control.fin_wanted true t.sent (sym (append-nil r.written)) (λ e. (refl, refl)) h.sent;
+      sent = AreSent_grows r.control.local r.control.peer r.iss r.written r.written [] r.control.fin_wanted true t.sent (sym (append-nil r.written)) (λ e. (refl, refl)) h.sent;
       flight = h.flight;
       given = h.given;
       fits = h.fits;

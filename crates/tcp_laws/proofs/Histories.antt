@@ -20,9 +20,9 @@ use Rattle.tcp_laws.proofs.Acting.{flight_by, kept_acting, acts_keep}
 use Rattle.tcp_laws.proofs.Windows.{events_bounded, act_near}
 
 -- the first number on the wire
-wire-zero : (iss : ℕ) → iss < 2 ^ 32 → wire iss 0 ≡ iss
+wire_zero : (iss : ℕ) → iss < 2 ^ 32 → wire iss 0 ≡ iss
 unfolding wire
-wire-zero iss h = omega arith
+wire_zero iss h = omega arith
 
 -- a record that has just begun
 abbrev IsBegun : Turn → Type 0
@@ -48,7 +48,7 @@ opened_holds local peer iss b =
         seen = λ e. absurd (cc);
       };
       grown = Grows-refl r;
-      sent = (subst (λ (n : ℕ). SentBy r (without_ack r.control syn_flag n)) (wire-zero iss b) (syn_sent r 0 refl), tt);
+      sent = (subst (λ (n : ℕ). SentBy r (without_ack r.control syn_flag n)) (wire_zero iss b) (syn_sent r 0 refl), tt);
       flight = refl;
       given = refl;
       fits = inl (no_text_either r syn_flag iss, tt);

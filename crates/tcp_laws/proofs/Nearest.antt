@@ -20,15 +20,15 @@ above n m h = grind (arith, nat_tests)
 abbrev chosen : ℕ → Distance
 chosen a = if nat_lt a (2 ^ 31) then Ahead a else Behind (2 ^ 32 - a)
 
-pub distance-ahead : (start e o : ℕ) → e ≤ o → o < e + 2 ^ 31 → distance (wire start e) (wire start o) ≡ Ahead (o - e)
+pub distance_ahead : (start e o : ℕ) → e ≤ o → o < e + 2 ^ 31 → distance (wire start e) (wire start o) ≡ Ahead (o - e)
 unfolding distance wire
-distance-ahead start e o a b =
+distance_ahead start e o a b =
     ap chosen (ahead_by start e o a b)
     ∙ ap (λ (t : Bool). if t then Ahead (o - e) else Behind (2 ^ 32 - (o - e))) (below (o - e) (2 ^ 31) (omega arith))
 
-pub distance-behind : (start e o : ℕ) → o < e → e ≤ o + 2 ^ 31 → distance (wire start e) (wire start o) ≡ Behind (e - o)
+pub distance_behind : (start e o : ℕ) → o < e → e ≤ o + 2 ^ 31 → distance (wire start e) (wire start o) ≡ Behind (e - o)
 unfolding distance wire
-distance-behind start e o a b =
+distance_behind start e o a b =
     let far : ℕ = 2 ^ 32 - (e - o) in
     let back : 2 ^ 32 - far ≡ e - o = omega arith in
     ap chosen (behind_by start e o a b)

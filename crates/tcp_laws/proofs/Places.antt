@@ -10,8 +10,8 @@ pub nothing_at : (place : ℕ) (whole : List ℕ) → IsAt place [] whole
 nothing_at place whole = record { behind = drop place whole; is = refl }
 
 -- the first part of it
-pub IsAt-take : (place n : ℕ) (text whole : List ℕ) → IsAt place text whole → IsAt place (take n text) whole
-IsAt-take place n text whole h = record {
+pub IsAt_take : (place n : ℕ) (text whole : List ℕ) → IsAt place text whole → IsAt place (take n text) whole
+IsAt_take place n text whole h = record {
   behind = drop n text ++ h.behind;
   is = h.is ∙ (ap (λ xs. xs ++ h.behind) (sym (take-append-drop n text)) ∙ append_assoc (take n text) (drop n text) h.behind);
 }
@@ -20,8 +20,8 @@ IsAt-take place n text whole h = record {
 past : (front back : List ℕ) → drop (length front) (front ++ back) ≡ back
 past front back = ap (λ n. drop n (front ++ back)) (omega arith) ∙ drop-append-add front back 0
 
-pub IsAt-drop : (place n : ℕ) (text whole : List ℕ) → IsAt place text whole → IsAt (place + length (take n text)) (drop n text) whole
-IsAt-drop place n text whole h =
+pub IsAt_drop : (place n : ℕ) (text whole : List ℕ) → IsAt place text whole → IsAt (place + length (take n text)) (drop n text) whole
+IsAt_drop place n text whole h =
     let front = take n text in
     let back = drop n text in
     record {
@@ -32,14 +32,14 @@ IsAt-drop place n text whole h =
     }
 
 -- what was written stands behind the SYN
-drop-stream : (n : ℕ) (written : List ℕ) → 1 ≤ n → drop n (stream written) ≡ drop (n - 1) written
-drop-stream zero written h = absurd (omega arith)
-drop-stream (suc k) written h = let e : k ≡ suc k - 1 = omega arith in ap (λ m. drop m written) e
+drop_stream : (n : ℕ) (written : List ℕ) → 1 ≤ n → drop n (stream written) ≡ drop (n - 1) written
+drop_stream zero written h = absurd (omega arith)
+drop_stream (suc k) written h = let e : k ≡ suc k - 1 = omega arith in ap (λ m. drop m written) e
 
-pub IsAt-written : (n : ℕ) (written : List ℕ) → 1 ≤ n → IsAt n (drop (n - 1) written) (stream written)
-IsAt-written n written h = record {
+pub IsAt_written : (n : ℕ) (written : List ℕ) → 1 ≤ n → IsAt n (drop (n - 1) written) (stream written)
+IsAt_written n written h = record {
   behind = [];
-  is = drop-stream n written h ∙ sym (append-nil (drop (n - 1) written));
+  is = drop_stream n written h ∙ sym (append-nil (drop (n - 1) written));
 }
 
 -- as a list grows
@@ -56,6 +56,6 @@ text_within place text whole more b h = record {
   is = drop-append-le place whole more b ∙ (ap (λ xs. xs ++ more) h.is ∙ append_assoc text h.behind more);
 }
 
-pub IsAt-append : (place : ℕ) (text whole more : List ℕ) → IsAt place text whole → IsAt place text (whole ++ more)
-IsAt-append place text whole more h =
+pub IsAt_append : (place : ℕ) (text whole more : List ℕ) → IsAt place text whole → IsAt place text (whole ++ more)
+IsAt_append place text whole more h =
     ⊎_elim (λ b. text_past place text whole more b h) (λ b. text_within place text whole more b h) (cases_lt (length whole) place)

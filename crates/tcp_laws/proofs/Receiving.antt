@@ -20,7 +20,7 @@ use Rattle.sock_tcp.specs.connection.StandsFor.{FitsPhase}
 use Rattle.sock_tcp.specs.connection.Process.{bytes_read, reads}
 use Rattle.sock_tcp.specs.connection.Arrival.{fitting_text, keeps, discards, takes, receives_text, fin_is_due, fin_received, receives_fin, wants_ack, answers, waits_again, concludes, receives}
 use Rattle.tcp_laws.specs.Received.{Counted, FitsTaken}
-use Rattle.sock_tcp.proofs.Segments.States.{phase_of-after_peer_fin}
+use Rattle.sock_tcp.proofs.Segments.States.{phase_of_after_peer_fin}
 use Rattle.tcp_laws.proofs.Tests.{by_test}
 use Rattle.tcp_laws.proofs.Holds.{Kept, kept_of, Holds}
 use Rattle.tcp_laws.proofs.Sending.{and_left, and_right, holds_sends_ack, holds_sends_reset, holds_restarts, holds_output}
@@ -153,7 +153,7 @@ holds_fin f r0 t s h =
         unacknowledged = h.order.unacknowledged;
         next = h.order.next;
         last = h.order.last;
-        phase = subst (λ (p : Phase). FitsPhase p c.fin_wanted r.una r.nxt r.highest (data_end r)) (sym (phase_of-after_peer_fin c.state)) h.order.phase;
+        phase = subst (λ (p : Phase). FitsPhase p c.fin_wanted r.una r.nxt r.highest (data_end r)) (sym (phase_of_after_peer_fin c.state)) h.order.phase;
       };
       heard = record {
         nothing = λ e. absurd (omega arith);

@@ -17,26 +17,26 @@ use Rattle.sock_tcp.specs.connection.Segment.{with_ack}
 use Rattle.sock_tcp.specs.connection.Output.{cut, pieces, text_segments}
 use Rattle.tcp_laws.specs.Sending.{IsAt, stream, Carries, LoadCarries, Sent, AreSent, AreOf}
 use Rattle.tcp_laws.specs.Window.{LoadWithin, AreWithin, LoadAgain, FitWindow}
-use Rattle.tcp_laws.proofs.Places.{nothing_at, IsAt-take, IsAt-drop, IsAt-append}
+use Rattle.tcp_laws.proofs.Places.{nothing_at, IsAt_take, IsAt_drop, IsAt_append}
 
 -- one more segment, and more of them
-AreSent-push : (own other : Addr) (iss : ℕ) (written : List ℕ) (wanted : Bool) (packets : List Packet) (p : Packet) → AreSent own other iss written wanted packets → Sent own other iss written wanted p → AreSent own other iss written wanted (packets ++ p ∷ [])
-AreSent-push own other iss written wanted [] p h s = (s, tt)
-AreSent-push own other iss written wanted (q ∷ packets) p h s =
-    (h.0, AreSent-push own other iss written wanted packets p h.1 s)
+AreSent_push : (own other : Addr) (iss : ℕ) (written : List ℕ) (wanted : Bool) (packets : List Packet) (p : Packet) → AreSent own other iss written wanted packets → Sent own other iss written wanted p → AreSent own other iss written wanted (packets ++ p ∷ [])
+AreSent_push own other iss written wanted [] p h s = (s, tt)
+AreSent_push own other iss written wanted (q ∷ packets) p h s =
+    (h.0, AreSent_push own other iss written wanted packets p h.1 s)
 
-AreSent-append : (own other : Addr) (iss : ℕ) (written : List ℕ) (wanted : Bool) (packets more : List Packet) → AreSent own other iss written wanted packets → AreSent own other iss written wanted more → AreSent own other iss written wanted (packets ++ more)
-AreSent-append own other iss written wanted [] more h s = s
-AreSent-append own other iss written wanted (q ∷ packets) more h s =
-    (h.0, AreSent-append own other iss written wanted packets more h.1 s)
+AreSent_append : (own other : Addr) (iss : ℕ) (written : List ℕ) (wanted : Bool) (packets more : List Packet) → AreSent own other iss written wanted packets → AreSent own other iss written wanted more → AreSent own other iss written wanted (packets ++ more)
+AreSent_append own other iss written wanted [] more h s = s
+AreSent_append own other iss written wanted (q ∷ packets) more h s =
+    (h.0, AreSent_append own other iss written wanted packets more h.1 s)
 
 -- as what was written grows, and writing ends
 part_grows : (written bytes more text : List ℕ) (place : ℕ) → bytes ≡ written ++ more → IsAt place text (stream written) → IsAt place text (stream bytes)
 part_grows written bytes more text place e p =
-    subst (λ (xs : List ℕ). IsAt place text (stream xs)) (sym e) (IsAt-append place text (stream written) more p)
+    subst (λ (xs : List ℕ). IsAt place text (stream xs)) (sym e) (IsAt_append place text (stream written) more p)
 
-pub Carries-grows : (iss : ℕ) (written bytes more : List ℕ) (before after : Bool) (h : Header) (text : List ℕ) → bytes ≡ written ++ more → (before ≡ true → (after ≡ true) × (more ≡ [])) → Carries iss written before h text → Carries iss bytes after h text
-Carries-grows iss written bytes more before after h text e k c =
+pub Carries_grows : (iss : ℕ) (written bytes more : List ℕ) (before after : Bool) (h : Header) (text : List ℕ) → bytes ≡ written ++ more → (before ≡ true → (after ≡ true) × (more ≡ [])) → Carries iss written before h text → Carries iss bytes after h text
+Carries_grows iss written bytes more before after h text e k c =
     let long : length bytes ≡ length written + length more = ap length e ∙ length-append written more in
     record {
       offset = c.offset;
@@ -51,21 +51,21 @@ Carries-grows iss written bytes more before after h text e k c =
           (now.0, omega (arith, was.1, long, none));
     }
 
-pub LoadCarries-grows : (iss : ℕ) (written bytes more : List ℕ) (before after : Bool) (load : Load) → bytes ≡ written ++ more → (before ≡ true → (after ≡ true) × (more ≡ [])) → LoadCarries iss written before load → LoadCarries iss bytes after load
-LoadCarries-grows iss written bytes more before after (Udp text) e k c = c
-LoadCarries-grows iss written bytes more before after (Tcp flags seq ack window text) e k (inl r) = inl r
-LoadCarries-grows iss written bytes more before after (Tcp flags seq ack window text) e k (inr c) =
-    inr (Carries-grows iss written bytes more before after (header_of flags seq ack window) text e k c)
+pub LoadCarries_grows : (iss : ℕ) (written bytes more : List ℕ) (before after : Bool) (load : Load) → bytes ≡ written ++ more → (before ≡ true → (after ≡ true) × (more ≡ [])) → LoadCarries iss written before load → LoadCarries iss bytes after load
+LoadCarries_grows iss written bytes more before after (Udp text) e k c = c
+LoadCarries_grows iss written bytes more before after (Tcp flags seq ack window text) e k (inl r) = inl r
+LoadCarries_grows iss written bytes more before after (Tcp flags seq ack window text) e k (inr c) =
+    inr (Carries_grows iss written bytes more before after (header_of flags seq ack window) text e k c)
 
-pub AreSent-grows : (own other : Addr) (iss : ℕ) (written bytes more : List ℕ) (before after : Bool) (packets : List Packet) → bytes ≡ written ++ more → (before ≡ true → (after ≡ true) × (more ≡ [])) → AreSent own other iss written before packets → AreSent own other iss bytes after packets
-AreSent-grows own other iss written bytes more before after [] e k h = tt
-AreSent-grows own other iss written bytes more before after (p ∷ packets) e k h = (
+pub AreSent_grows : (own other : Addr) (iss : ℕ) (written bytes more : List ℕ) (before after : Bool) (packets : List Packet) → bytes ≡ written ++ more → (before ≡ true → (after ≡ true) × (more ≡ [])) → AreSent own other iss written before packets → AreSent own other iss bytes after packets
+AreSent_grows own other iss written bytes more before after [] e k h = tt
+AreSent_grows own other iss written bytes more before after (p ∷ packets) e k h = (
   record {
     from = h.0.from;
     to = h.0.to;
-    load = LoadCarries-grows iss written bytes more before after p.load e k h.0.load;
+    load = LoadCarries_grows iss written bytes more before after p.load e k h.0.load;
   },
-  AreSent-grows own other iss written bytes more before after packets e k h.1,
+  AreSent_grows own other iss written bytes more before after packets e k h.1,
 )
 
 abbrev pub SentBy : Tcb → Packet → Type 0
@@ -73,11 +73,11 @@ SentBy r p = Sent r.control.local r.control.peer r.iss r.written r.control.fin_w
 
 pub sent_push : (r : Tcb) (packets : List Packet) (p : Packet) → AreOf r packets → SentBy r p → AreOf r (packets ++ p ∷ [])
 sent_push r packets p h s =
-    AreSent-push r.control.local r.control.peer r.iss r.written r.control.fin_wanted packets p h s
+    AreSent_push r.control.local r.control.peer r.iss r.written r.control.fin_wanted packets p h s
 
 pub sent_append : (r : Tcb) (packets more : List Packet) → AreOf r packets → AreOf r more → AreOf r (packets ++ more)
 sent_append r packets more h s =
-    AreSent-append r.control.local r.control.peer r.iss r.written r.control.fin_wanted packets more h s
+    AreSent_append r.control.local r.control.peer r.iss r.written r.control.fin_wanted packets more h s
 
 -- an ACK
 pub ack_sent : (r : Tcb) (offset : ℕ) → offset ≤ 2 + length r.written → SentBy r (with_ack r ack_flag offset [])
@@ -178,11 +178,11 @@ cut_sent c iss written ack window size (suc count) offset (x ∷ text) b at =
           seq = refl;
           within = omega arith;
           syn = λ e. absurd (cc);
-          part = IsAt-take offset size whole (stream written) at;
+          part = IsAt_take offset size whole (stream written) at;
           fin = λ e. absurd (cc);
         });
       },
-      cut_sent c iss written ack window size count (offset + length (take size whole)) (drop size whole) (omega (arith, lengths, b)) (IsAt-drop offset size whole (stream written) at),
+      cut_sent c iss written ack window size count (offset + length (take size whole)) (drop size whole) (omega (arith, lengths, b)) (IsAt_drop offset size whole (stream written) at),
     )
 
 pub pieces_sent : (c : Control) (iss : ℕ) (written : List ℕ) (ack window offset : ℕ) (text : List ℕ) → offset + length text ≤ 2 + length written → IsAt offset text (stream written) → AreSent c.local c.peer iss written c.fin_wanted (text_segments c iss offset ack window (pieces text))
@@ -191,28 +191,28 @@ pieces_sent c iss written ack window offset text b at =
     cut_sent c iss written ack window 1460 (length text) offset text b at
 
 -- segments without text, and those before the end of a window
-AreWithin-push : (iss una window : ℕ) (packets : List Packet) (p : Packet) → AreWithin iss una window packets → LoadWithin iss una window p.load → AreWithin iss una window (packets ++ p ∷ [])
-AreWithin-push iss una window [] p h s = (s, tt)
-AreWithin-push iss una window (q ∷ packets) p h s =
-    (h.0, AreWithin-push iss una window packets p h.1 s)
+AreWithin_push : (iss una window : ℕ) (packets : List Packet) (p : Packet) → AreWithin iss una window packets → LoadWithin iss una window p.load → AreWithin iss una window (packets ++ p ∷ [])
+AreWithin_push iss una window [] p h s = (s, tt)
+AreWithin_push iss una window (q ∷ packets) p h s =
+    (h.0, AreWithin_push iss una window packets p h.1 s)
 
-AreWithin-append : (iss una window : ℕ) (packets more : List Packet) → AreWithin iss una window packets → AreWithin iss una window more → AreWithin iss una window (packets ++ more)
-AreWithin-append iss una window [] more h s = s
-AreWithin-append iss una window (q ∷ packets) more h s =
-    (h.0, AreWithin-append iss una window packets more h.1 s)
+AreWithin_append : (iss una window : ℕ) (packets more : List Packet) → AreWithin iss una window packets → AreWithin iss una window more → AreWithin iss una window (packets ++ more)
+AreWithin_append iss una window [] more h s = s
+AreWithin_append iss una window (q ∷ packets) more h s =
+    (h.0, AreWithin_append iss una window packets more h.1 s)
 
 abbrev pub WithinOf : Tcb → Packet → Type 0
 WithinOf r p = LoadWithin r.iss r.una (send_window r.control) p.load
 
 pub within_push : (again : Bool) (r : Tcb) (packets : List Packet) (p : Packet) → FitWindow again r packets → WithinOf r p → FitWindow again r (packets ++ p ∷ [])
-within_push again r packets p (inl h) s = inl (AreWithin-push r.iss r.una (send_window r.control) packets p h s)
+within_push again r packets p (inl h) s = inl (AreWithin_push r.iss r.una (send_window r.control) packets p h s)
 within_push again r [] p (inr h) s = absurd h.1
-within_push again r (q ∷ packets) p (inr h) s = inr (h.0, (h.1.0, AreWithin-push r.iss r.una (send_window r.control) packets p h.1.1 s))
+within_push again r (q ∷ packets) p (inr h) s = inr (h.0, (h.1.0, AreWithin_push r.iss r.una (send_window r.control) packets p h.1.1 s))
 
 pub within_append : (again : Bool) (r : Tcb) (packets more : List Packet) → FitWindow again r packets → AreWithin r.iss r.una (send_window r.control) more → FitWindow again r (packets ++ more)
-within_append again r packets more (inl h) s = inl (AreWithin-append r.iss r.una (send_window r.control) packets more h s)
+within_append again r packets more (inl h) s = inl (AreWithin_append r.iss r.una (send_window r.control) packets more h s)
 within_append again r [] more (inr h) s = absurd h.1
-within_append again r (q ∷ packets) more (inr h) s = inr (h.0, (h.1.0, AreWithin-append r.iss r.una (send_window r.control) packets more h.1.1 s))
+within_append again r (q ∷ packets) more (inr h) s = inr (h.0, (h.1.0, AreWithin_append r.iss r.una (send_window r.control) packets more h.1.1 s))
 
 pub no_text : (r : Tcb) (flags offset : ℕ) → WithinOf r (with_ack r flags offset [])
 unfolding with_ack

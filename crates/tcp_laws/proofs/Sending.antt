@@ -15,9 +15,9 @@ use Rattle.sock_tcp.specs.connection.Timer.{needs_timer, timer_set, judged, rest
 use Rattle.sock_tcp.specs.connection.Output.{pieces, text_segments, send_limit, to_send, sends_text, fin_is_next, moves_next, sends_fin, follows, output}
 use Rattle.sock_tcp.specs.connection.Retransmission.{unacknowledged, probe_length, sends_again_text, sends_again, sends_syn, sends_syn_again, sends_one}
 use Rattle.tcp_laws.specs.Sending.{IsAt, stream}
-use Rattle.sock_tcp.proofs.Connections.Phases.{bounds, opening_of, FitsPhase-next, FitsPhase-fin, FitsPhase-highest}
+use Rattle.sock_tcp.proofs.Connections.Phases.{bounds, opening_of, FitsPhase_next, FitsPhase_fin, FitsPhase_highest}
 use Rattle.tcp_laws.proofs.Tests.{by_test}
-use Rattle.tcp_laws.proofs.Places.{IsAt-take, IsAt-written}
+use Rattle.tcp_laws.proofs.Places.{IsAt_take, IsAt_written}
 use Rattle.tcp_laws.proofs.Segments.{sent_push, sent_append, within_push, within_append, WithinOf, no_text, no_text_either, text_again, pieces_within, SentBy, ack_sent, syn_ack_sent, fin_sent, syn_sent, reset_sent, text_sent, pieces_sent}
 use Rattle.tcp_laws.specs.Window.{LoadAgain, FitWindow}
 use Rattle.tcp_laws.proofs.Holds.{Kept, kept_again, Holds, holds_again, Sending, sending_of}
@@ -81,7 +81,7 @@ sending_bounds : (f : Kept) (r0 : Tcb) (t : Turn) → is_sending t.tcb.control.s
 sending_bounds f r0 t s h = bounds (phase_of t.tcb.control.state) _ _ _ _ _ s h.order.unacknowledged h.order.phase
 
 text_at : (n k : ℕ) (written : List ℕ) → 1 ≤ n → IsAt n (take k (drop (n - 1) written)) (stream written)
-text_at n k written b = IsAt-take n k (drop (n - 1) written) (stream written) (IsAt-written n written b)
+text_at n k written b = IsAt_take n k (drop (n - 1) written) (stream written) (IsAt_written n written b)
 
 text_within : (n k : ℕ) (written : List ℕ) → n ≤ 2 + length written → 1 ≤ n → n + length (take k (drop (n - 1) written)) ≤ 2 + length written
 text_within n k written b o =
@@ -113,7 +113,7 @@ sending_sends_text f r0 t s h =
         unacknowledged = omega (arith, h.order.unacknowledged);
         next = omega (arith, h.order.next, limit);
         last = h.order.last;
-        phase = FitsPhase-next (phase_of r.control.state) _ _ _ _ _ (max r.nxt (send_limit r)) s (omega (arith, limit)) h.order.phase;
+        phase = FitsPhase_next (phase_of r.control.state) _ _ _ _ _ (max r.nxt (send_limit r)) s (omega (arith, limit)) h.order.phase;
       };
       heard = h.heard;
       grown = h.grown;
@@ -126,9 +126,9 @@ sending_sends_text f r0 t s h =
       buffered = h.buffered;
     }
 
-control-sends_text : (t : Turn) → (sends_text t).tcb.control ≡ t.tcb.control
+control_sends_text : (t : Turn) → (sends_text t).tcb.control ≡ t.tcb.control
 unfolding sends_text
-control-sends_text t = refl
+control_sends_text t = refl
 
 -- the FIN
 pub and_left : (a b : Bool) → (a && b) ≡ true → a ≡ true
@@ -154,7 +154,7 @@ sending_fin f r0 t s at w h =
         unacknowledged = omega (arith, h.order.unacknowledged);
         next = omega (arith, at, one);
         last = h.order.last;
-        phase = FitsPhase-fin (phase_of r.control.state) _ _ _ _ _ (r.nxt + 1) s w (omega (arith, at)) h.order.phase;
+        phase = FitsPhase_fin (phase_of r.control.state) _ _ _ _ _ (r.nxt + 1) s w (omega (arith, at)) h.order.phase;
       };
       heard = h.heard;
       grown = h.grown;
@@ -172,9 +172,9 @@ sending_sends_fin f r0 t s h =
     (λ e. sending_fin f r0 t s (same_number t.tcb.nxt (data_end t.tcb) (and_left (t.tcb.nxt == data_end t.tcb) t.tcb.control.fin_wanted e)) (and_right (t.tcb.nxt == data_end t.tcb) t.tcb.control.fin_wanted e) h)
     (λ e. h)
 
-control-sends_fin : (t : Turn) → (sends_fin t).tcb.control ≡ t.tcb.control
+control_sends_fin : (t : Turn) → (sends_fin t).tcb.control ≡ t.tcb.control
 unfolding sends_fin
-control-sends_fin t =
+control_sends_fin t =
     by_test (λ (x : Turn). x.tcb.control ≡ t.tcb.control) (fin_is_next t.tcb) _ _ (λ e. refl) (λ e. refl)
 
 -- the highest follows
@@ -187,7 +187,7 @@ holds_follows f r0 t s h =
         unacknowledged = h.order.unacknowledged;
         next = omega arith;
         last = omega (arith, h.order.next, h.order.last);
-        phase = FitsPhase-highest (phase_of r.control.state) _ _ _ _ _ s h.order.phase;
+        phase = FitsPhase_highest (phase_of r.control.state) _ _ _ _ _ s h.order.phase;
       };
       heard = h.heard;
       grown = h.grown;
@@ -207,8 +207,8 @@ holds_output f r0 t h =
     by_test (Holds f r0) (is_sending t.tcb.control.state) _ _
     (λ s.
     let text = sends_text t in
-    let s1 = still t text (control-sends_text t) s in
-    let s2 = still text (sends_fin text) (control-sends_fin text) s1 in
+    let s1 = still t text (control_sends_text t) s in
+    let s2 = still text (sends_fin text) (control_sends_fin text) s1 in
     holds_follows f r0 (sends_fin text) s2 (sending_sends_fin f r0 text s1 (sending_sends_text f r0 t s (sending_of f r0 t h))))
     (λ s. h)
 
@@ -233,7 +233,7 @@ sending_sends_again_text f r0 t s none h =
         unacknowledged = omega arith;
         next = omega (arith, within);
         last = h.order.last;
-        phase = FitsPhase-next (phase_of r.control.state) _ _ _ _ _ (r.una + length text) s (omega (arith, within)) h.order.phase;
+        phase = FitsPhase_next (phase_of r.control.state) _ _ _ _ _ (r.una + length text) s (omega (arith, within)) h.order.phase;
       };
       heard = h.heard;
       grown = h.grown;
@@ -253,7 +253,7 @@ sending_goes_back f r0 t s h =
         unacknowledged = omega arith;
         next = omega (arith, from.1);
         last = h.order.last;
-        phase = FitsPhase-next (phase_of r.control.state) _ _ _ _ _ r.una s (omega (arith, from.1)) h.order.phase;
+        phase = FitsPhase_next (phase_of r.control.state) _ _ _ _ _ r.una s (omega (arith, from.1)) h.order.phase;
       };
       heard = h.heard;
       grown = h.grown;
@@ -272,16 +272,16 @@ sending_sends_again f r0 t s none h =
     (λ e. sending_sends_again_text f r0 t s none h)
     (λ e. sending_sends_fin g r0 (changed (moves_next t.tcb.una) t) s (sending_goes_back g r0 t s h))
 
-control-sends_again_text : (t : Turn) → (sends_again_text t).tcb.control ≡ t.tcb.control
+control_sends_again_text : (t : Turn) → (sends_again_text t).tcb.control ≡ t.tcb.control
 unfolding sends_again_text
-control-sends_again_text t = refl
+control_sends_again_text t = refl
 
-control-sends_again : (t : Turn) → (sends_again t).tcb.control ≡ t.tcb.control
+control_sends_again : (t : Turn) → (sends_again t).tcb.control ≡ t.tcb.control
 unfolding sends_again
-control-sends_again t =
+control_sends_again t =
     by_test (λ (x : Turn). x.tcb.control ≡ t.tcb.control) (nat_lt t.tcb.una (data_end t.tcb)) _ _
-    (λ e. control-sends_again_text t)
-    (λ e. control-sends_fin (changed (moves_next t.tcb.una) t))
+    (λ e. control_sends_again_text t)
+    (λ e. control_sends_fin (changed (moves_next t.tcb.una) t))
 
 pub opening_una : (f : Kept) (r0 : Tcb) (t : Turn) → is_opening t.tcb.control.state ≡ true → Holds f r0 t → t.tcb.una ≡ 0
 opening_una f r0 t o h = (opening_of t.tcb.control.state _ _ _ _ _ o h.order.phase).1
@@ -305,5 +305,5 @@ holds_sends_one f r0 t none h =
     (λ o. holds_sends_syn_again g r0 t (opening_una f r0 t o h) k)
     (λ o.
     by_test (Holds g r0) (is_sending t.tcb.control.state) _ _
-    (λ s. holds_follows g r0 (sends_again t) (still t (sends_again t) (control-sends_again t) s) (sending_sends_again f r0 t s none (sending_of g r0 t k)))
+    (λ s. holds_follows g r0 (sends_again t) (still t (sends_again t) (control_sends_again t) s) (sending_sends_again f r0 t s none (sending_of g r0 t k)))
     (λ s. k))

@@ -33,8 +33,8 @@ same_end a b e =
     let p = same_number a.port b.port (and_right (is_same_ip a.ip b.ip) (a.port == b.port) e) in
     ap (λ n. addr_of n a.port) i ∙ ap (λ n. addr_of b.ip.bits n) p
 
-pub is_same-refl : (a : Addr) → is_same a a ≡ true
-is_same-refl a =
+pub is_same_refl : (a : Addr) → is_same a a ≡ true
+is_same_refl a =
     both (is_same_ip a.ip a.ip) (a.port == a.port) (same_as_itself a.ip.bits) (same_as_itself a.port)
 
 -- a record is at its own ends alone
@@ -44,8 +44,8 @@ ends_of own other r e = (
   same_end r.control.peer other (and_right (is_same r.control.local own) (is_same r.control.peer other) e),
 )
 
-pub is_at-ends : (own other : Addr) (r : Tcb) → r.control.local ≡ own → r.control.peer ≡ other → is_at own other r ≡ true
-is_at-ends own other r a b =
+pub is_at_ends : (own other : Addr) (r : Tcb) → r.control.local ≡ own → r.control.peer ≡ other → is_at own other r ≡ true
+is_at_ends own other r a b =
     both (is_same r.control.local own) (is_same r.control.peer other)
-    (ap (λ x. is_same r.control.local x) (sym a) ∙ is_same-refl r.control.local)
-    (ap (λ x. is_same r.control.peer x) (sym b) ∙ is_same-refl r.control.peer)
+    (ap (λ x. is_same r.control.local x) (sym a) ∙ is_same_refl r.control.local)
+    (ap (λ x. is_same r.control.peer x) (sym b) ∙ is_same_refl r.control.peer)

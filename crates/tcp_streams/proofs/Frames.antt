@@ -66,9 +66,9 @@ abbrev pub all_of : Net → List Net → (Net → Net) → Net → List Net
 all_of m [] f after = after ∷ []
 all_of m (n ∷ nets) f after = f n ∷ all_of n nets f after
 
-last-all : (m : Net) (nets : List Net) (f : Net → Net) (first after : Net) → last_net first (all_of m nets f after) ≡ after
-last-all m [] f first after = refl
-last-all m (n ∷ nets) f first after = last-all n nets f (f n) after
+last_all : (m : Net) (nets : List Net) (f : Net → Net) (first after : Net) → last_net first (all_of m nets f after) ≡ after
+last_all m [] f first after = refl
+last_all m (n ∷ nets) f first after = last_all n nets f (f n) after
 
 wider_steps : (scope : Addr → Addr → Bool) (others : List Tcb) (packets : List Packet) (m : Net) (nets : List Net) (after : Net) → AreSteps scope m nets → Step scope (wider others packets (last_net m nets)) after → AreSteps scope (wider others packets m) (all_of m nets (wider others packets) after)
 wider_steps scope others packets m [] after steps last = (last, tt)
@@ -101,7 +101,7 @@ part_steps scope part nets others before after h steps k =
     let last = leaves scope (last_net part nets) others before after k in (
       f part ∷ all_of part nets f after,
       (enters scope part others before h, wider_steps scope others before.flying part nets after steps last),
-      last-all part nets f (f part) after,
+      last_all part nets f (f part) after,
     )
 
 -- what comes to every two ends tells nothing, and so comes to any

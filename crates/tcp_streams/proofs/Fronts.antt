@@ -4,18 +4,18 @@ use Rattle.std.proofs.lemmas.List.{length-take, length-drop, take-append-drop, d
 use Rattle.std.proofs.Math.Seq.{drop-append_seam}
 use Rattle.std.proofs.lemmas.Bool.{cases_lt}
 use Rattle.tcp_laws.specs.Sending.{IsAt, stream}
-use Rattle.tcp_laws.proofs.Places.{nothing_at, IsAt-drop}
+use Rattle.tcp_laws.proofs.Places.{nothing_at, IsAt_drop}
 use Rattle.tcp_streams.specs.Heard.{IsFront}
 
 pub nothing_front : (whole : List ℕ) → IsFront [] whole
 nothing_front whole = record { behind = whole; is = refl }
 
-pub IsFront-append : (front whole more : List ℕ) → IsFront front whole → IsFront front (whole ++ more)
-IsFront-append front whole more h =
+pub IsFront_append : (front whole more : List ℕ) → IsFront front whole → IsFront front (whole ++ more)
+IsFront_append front whole more h =
     record { behind = h.behind ++ more; is = ap (λ xs. xs ++ more) h.is ∙ append_assoc front h.behind more }
 
-pub IsFront-take : (n : ℕ) (front whole : List ℕ) → IsFront front whole → IsFront (take n front) whole
-IsFront-take n front whole h = record {
+pub IsFront_take : (n : ℕ) (front whole : List ℕ) → IsFront front whole → IsFront (take n front) whole
+IsFront_take n front whole h = record {
   behind = drop n front ++ h.behind;
   is = h.is ∙ (ap (λ xs. xs ++ h.behind) (sym (take-append-drop n front)) ∙ append_assoc (take n front) (drop n front) h.behind);
 }
@@ -31,13 +31,13 @@ whole_front front whole h e =
     sym (h.is ∙ (ap (λ xs. front ++ xs) (empty_of h.behind (omega (arith, long, e))) ∙ append-nil front))
 
 -- what follows a front at its end makes it longer: the SYN has the first place
-drop-stream : (n m : ℕ) (whole : List ℕ) → m ≡ suc n → drop m (stream whole) ≡ drop n whole
-drop-stream n m whole e = ap (λ k. drop k (stream whole)) e
+drop_stream : (n m : ℕ) (whole : List ℕ) → m ≡ suc n → drop m (stream whole) ≡ drop n whole
+drop_stream n m whole e = ap (λ k. drop k (stream whole)) e
 
-pub IsFront-more : (front text whole : List ℕ) → IsFront front whole → IsAt (1 + length front) text (stream whole) → IsFront (front ++ text) whole
-IsFront-more front text whole h p =
+pub IsFront_more : (front text whole : List ℕ) → IsFront front whole → IsAt (1 + length front) text (stream whole) → IsFront (front ++ text) whole
+IsFront_more front text whole h p =
     let seam : drop (length front) whole ≡ h.behind = ap (drop (length front)) h.is ∙ drop-append_seam front h.behind in
-    let shift : drop (1 + length front) (stream whole) ≡ drop (length front) whole = drop-stream (length front) (1 + length front) whole (omega arith) in
+    let shift : drop (1 + length front) (stream whole) ≡ drop (length front) whole = drop_stream (length front) (1 + length front) whole (omega arith) in
     let back : h.behind ≡ text ++ p.behind = sym seam ∙ (sym shift ∙ p.is) in
     record {
       behind = p.behind;
@@ -45,19 +45,19 @@ IsFront-more front text whole h p =
     }
 
 -- a text behind its first bytes
-pub IsAt-past : (place n : ℕ) (text whole : List ℕ) → IsAt place text whole → IsAt (place + n) (drop n text) whole
-IsAt-past place n text whole h =
+pub IsAt_past : (place n : ℕ) (text whole : List ℕ) → IsAt place text whole → IsAt (place + n) (drop n text) whole
+IsAt_past place n text whole h =
     ⊎_elim
     (λ b.
     let none : drop n text ≡ [] = drop_all n text (omega arith) in
     subst (λ (xs : List ℕ). IsAt (place + n) xs whole) (sym none) (nothing_at (place + n) whole))
     (λ b.
     let cut : length (take n text) ≡ n = omega (arith, length-take n text) in
-    subst (λ (k : ℕ). IsAt (place + k) (drop n text) whole) cut (IsAt-drop place n text whole h))
+    subst (λ (k : ℕ). IsAt (place + k) (drop n text) whole) cut (IsAt_drop place n text whole h))
     (cases_lt (length text) n)
 
 -- and where a text stands, the whole is long enough
-pub IsAt-long : (place : ℕ) (text whole : List ℕ) → place ≤ length whole → IsAt place text whole → place + length text ≤ length whole
-IsAt-long place text whole b h =
+pub IsAt_long : (place : ℕ) (text whole : List ℕ) → place ≤ length whole → IsAt place text whole → place + length text ≤ length whole
+IsAt_long place text whole b h =
     let long : length (drop place whole) ≡ length text + length h.behind = ap length h.is ∙ length-append text h.behind in
     omega (arith, long, length-drop place whole)

@@ -24,13 +24,13 @@ use Rattle.tcp_laws.specs.Acts.Act.{arrival}
 use Rattle.tcp_laws.specs.Received.{IsCounted}
 use Rattle.tcp_laws.specs.Sending.{IsAt, stream, Carries, LoadCarries}
 use Rattle.tcp_laws.proofs.Tests.{by_test}
-use Rattle.tcp_laws.proofs.Places.{IsAt-take}
+use Rattle.tcp_laws.proofs.Places.{IsAt_take}
 use Rattle.tcp_streams.specs.Heard.{IsFront, HearsFrom}
 use Rattle.tcp_streams.proofs.Fronts.{empty_of, nothing_front}
 use Rattle.tcp_streams.proofs.Verdicts.{Says, verdict_says}
-use Rattle.tcp_streams.proofs.Ears.{Ear, ear, HearsAs, judged-ear, sends_ack-ear, sends_syn_ack-ear, sends_reset-ear, sends_refusal-ear, ends-ear, vanishes-ear, output-ear, establishes-ear, advances-ear, notices-ear, concluded-ear}
+use Rattle.tcp_streams.proofs.Ears.{Ear, ear, HearsAs, judged_ear, sends_ack_ear, sends_syn_ack_ear, sends_reset_ear, sends_refusal_ear, ends_ear, vanishes_ear, output_ear, establishes_ear, advances_ear, notices_ear, concluded_ear}
 use Rattle.tcp_streams.proofs.Ends.{and_left, and_right, same_number}
-use Rattle.tcp_streams.proofs.Stages.{IsOpen, open_stage, half_open, unopened, open_advanced, state-advances, state-notices}
+use Rattle.tcp_streams.proofs.Stages.{IsOpen, open_stage, half_open, unopened, open_advanced, state_advances, state_notices}
 use Rattle.tcp_streams.proofs.Texts.{Hearing, fresh_there, hearing_keeps, hearing_discards, hearing_fin}
 
 -- or nothing yet
@@ -89,7 +89,7 @@ listened_takes w bytes t s l p =
     (λ e.
     by_test (Listened w) t.tcb.control.closed _ _
     (λ k. record {
-      knows = as_ear w (ear t.tcb) (vanishes (sends_reset t)) (vanishes-ear (sends_reset t) ∙ sends_reset-ear t) l.knows;
+      knows = as_ear w (ear t.tcb) (vanishes (sends_reset t)) (vanishes_ear (sends_reset t) ∙ sends_reset_ear t) l.knows;
       unclosed = over_open t;
     })
     (λ k.
@@ -108,7 +108,7 @@ listened_receives_text w h text t told l =
     (λ s.
     let o = l.unclosed s in
     let there = fresh_there w (ear t.tcb) h text told.0 (heard_of w (ear t.tcb) o.1 l.knows) told.1 in
-    listened_takes w (fitting_text h text t.tcb) t s l (IsAt-take t.tcb.rcv (own_window t.tcb) _ (stream w.written) there))
+    listened_takes w (fitting_text h text t.tcb) t s l (IsAt_take t.tcb.rcv (own_window t.tcb) _ (stream w.written) there))
     (λ s. listened_as_is w t l)
 
 listens_fin : (w : Tcb) (h : Header) (text : List ℕ) (t : Turn) → IsTold w h text → Listened w t → Listens w (receives_fin h text t)
@@ -129,7 +129,7 @@ unfolding receives
 listens_receives w h text t told l =
     let u = receives_fin h text (receives_text h text t) in
     let act = concludes (wants_ack h text t.tcb) h.fin in
-    as_ear w (ear u.tcb) (unless_over act u) (concluded-ear (wants_ack h text t.tcb) h.fin u) (listens_fin w h text (receives_text h text t) told (listened_receives_text w h text t told l))
+    as_ear w (ear u.tcb) (unless_over act u) (concluded_ear (wants_ack h text t.tcb) h.fin u) (listens_fin w h text (receives_text h text t) told (listened_receives_text w h text t told l))
 
 -- the SYN of the other record
 listens_connects : (w : Tcb) (h : Header) (text : List ℕ) (r : Tcb) → IsTold w h text → h.syn ≡ true → is_syn_sent r.control.state ≡ true → IsCounted r → Listens w (connects h (begin r))
@@ -142,7 +142,7 @@ listens_connects w h text r told syn s counted =
     let e = ear (peer_known h.seq r) in
     let first : h.seq ≡ wire w.iss 0 = told.1.seq ∙ ap (wire w.iss) (told.1.syn syn) in
     let zero : one_if r.control.fin_taken ≡ 0 = ap one_if nothing.1 in
-    as_ear w e (output (sends_ack u)) (output-ear (sends_ack u) ∙ (sends_ack-ear u ∙ establishes-ear h.window (changed (peer_known h.seq) t)))
+    as_ear w e (output (sends_ack u)) (output_ear (sends_ack u) ∙ (sends_ack_ear u ∙ establishes_ear h.window (changed (peer_known h.seq) t)))
     (inr (record {
       first = first;
       expected = omega (arith, nothing.0, zero);
@@ -175,31 +175,31 @@ told_of w h text short k told =
 listens_acts_on : (w : Tcb) (v : Verdict) (h : Header) (text : List ℕ) (r : Tcb) → length w.written < 2 ^ 30 → IsCounted r → Says r.control.state h v → Told w h text → Knows w (ear r) → Listens w (acts_on v h text (begin r))
 listens_acts_on w Dropped h text r short c says told k = k
 listens_acts_on w Acknowledged h text r short c says told k =
-    as_ear w (ear r) (sends_ack (begin r)) (sends_ack-ear (begin r)) k
+    as_ear w (ear r) (sends_ack (begin r)) (sends_ack_ear (begin r)) k
 listens_acts_on w SynAcknowledged h text r short c says told k =
-    as_ear w (ear r) (sends_syn_ack (begin r)) (sends_syn_ack-ear (begin r)) k
+    as_ear w (ear r) (sends_syn_ack (begin r)) (sends_syn_ack_ear (begin r)) k
 listens_acts_on w Refused h text r short c says told k =
-    as_ear w (ear r) (sends_refusal h.ack (begin r)) (sends_refusal-ear h.ack (begin r)) k
+    as_ear w (ear r) (sends_refusal h.ack (begin r)) (sends_refusal_ear h.ack (begin r)) k
 listens_acts_on w ConnectRefused h text r short c says told k =
-    as_ear w (ear r) (ends Econnrefused (begin r)) (ends-ear Econnrefused (begin r)) k
+    as_ear w (ear r) (ends Econnrefused (begin r)) (ends_ear Econnrefused (begin r)) k
 listens_acts_on w Reset h text r short c says told k =
-    as_ear w (ear r) (ends Econnreset (begin r)) (ends-ear Econnreset (begin r)) k
+    as_ear w (ear r) (ends Econnreset (begin r)) (ends_ear Econnreset (begin r)) k
 listens_acts_on w Gone h text r short c says told k =
-    as_ear w (ear r) (vanishes (begin r)) (vanishes-ear (begin r)) k
+    as_ear w (ear r) (vanishes (begin r)) (vanishes_ear (begin r)) k
 listens_acts_on w Connects h text r short c says told k =
     listens_connects w h text r (told_of w h text short says.2 told) says.1 says.0 c
 listens_acts_on w Establishes h text r short c says told k =
     let t = establishes h.window (begin r) in
-    let same = establishes-ear h.window (begin r) in
+    let same = establishes_ear h.window (begin r) in
     let o = half_open r.control.state r.control.fin_taken r.rcv says.0 c.stage in
     listens_receives w h text t (told_of w h text short says.1 told) (listening_as w r t same (opens_here (ear r) t same o) c.kept k)
 listens_acts_on w (Advances by) h text r short c says told k =
     let u = advances by h.window (begin r) in
     let d = is_duplicate by h (length text) r in
     let t = notices d u in
-    let same : HearsAs (ear r) t = notices-ear d u ∙ advances-ear by h.window (begin r) in
+    let same : HearsAs (ear r) t = notices_ear d u ∙ advances_ear by h.window (begin r) in
     let state : t.tcb.control.state ≡ state_advanced (own_fin_acknowledged by r) r.control.state =
-    state-notices d u ∙ state-advances by h.window (begin r) in
+    state_notices d u ∙ state_advances by h.window (begin r) in
     let unclosed : IsOpen t = λ s.
     let before = open_advanced (own_fin_acknowledged by r) r.control.state (sym (ap takes_text state) ∙ s) in
     opens_here (ear r) t same (open_stage r.control.state r.control.fin_taken r.rcv before c.stage) s in
@@ -216,7 +216,7 @@ listens_takes_load w (Tcp flags seq ack window text) r short c told k =
     let v = verdict r h in
     let u = acts_on v h text (begin r) in
     let says = verdict_says r.control.state (r.highest - r.una) (wire r.irs r.rcv) (wire r.iss r.una) h in
-    as_ear w (ear u.tcb) (judged u) (judged-ear u) (listens_acts_on w v h text r short c says told k)
+    as_ear w (ear u.tcb) (judged u) (judged_ear u) (listens_acts_on w v h text r short c says told k)
 
 listens_takes_packet : (w : Tcb) (p : Packet) (r : Tcb) → length w.written < 2 ^ 30 → IsCounted r → LoadCarries w.iss w.written w.control.fin_wanted p.load → Knows w (ear r) → Listens w (takes_packet p (begin r))
 unfolding takes_packet

@@ -18,23 +18,23 @@ module _ {X : Type 0} where
   at_place x (y ∷ ys) zero below is = inl (sym is)
   at_place x (y ∷ ys) (suc k) below is = inr (at_place x ys k (omega arith) is)
 
-  pub IsIn-from_Contains : (x : X) (xs : List X) → Contains xs x → IsIn x xs
-  IsIn-from_Contains x xs c = at_place x xs c.0 c.1 c.2
+  pub IsIn_from_Contains : (x : X) (xs : List X) → Contains xs x → IsIn x xs
+  IsIn_from_Contains x xs c = at_place x xs c.0 c.1 c.2
 
-  pub Contains-here : (x : X) (xs : List X) → Contains (x ∷ xs) x
-  Contains-here x xs = (0, omega arith, refl)
+  pub Contains_here : (x : X) (xs : List X) → Contains (x ∷ xs) x
+  Contains_here x xs = (0, omega arith, refl)
 
-  pub Contains-there : (x y : X) (xs : List X) → Contains xs y → Contains (x ∷ xs) y
-  Contains-there x y xs c = (suc c.0, (let l : c.0 < length xs = c.1 in omega arith), c.2)
+  pub Contains_there : (x y : X) (xs : List X) → Contains xs y → Contains (x ∷ xs) y
+  Contains_there x y xs c = (suc c.0, (let l : c.0 < length xs = c.1 in omega arith), c.2)
 
-  pub Contains-from_IsIn : (x : X) (xs : List X) → IsIn x xs → Contains xs x
-  Contains-from_IsIn x [] h = absurd h
-  Contains-from_IsIn x (y ∷ ys) (inl e) = (0, (omega arith), sym e)
-  Contains-from_IsIn x (y ∷ ys) (inr h) = Contains-there y x ys (Contains-from_IsIn x ys h)
+  pub Contains_from_IsIn : (x : X) (xs : List X) → IsIn x xs → Contains xs x
+  Contains_from_IsIn x [] h = absurd h
+  Contains_from_IsIn x (y ∷ ys) (inl e) = (0, (omega arith), sym e)
+  Contains_from_IsIn x (y ∷ ys) (inr h) = Contains_there y x ys (Contains_from_IsIn x ys h)
 
-  pub Contains-cases : (x y : X) (xs : List X) → Contains (x ∷ xs) y → (y ≡ x) ⊎ Contains xs y
-  Contains-cases x y xs c =
-      ⊎_elim (λ (e : y ≡ x). inl e) (λ (h : IsIn y xs). inr (Contains-from_IsIn y xs h)) (IsIn-from_Contains y (x ∷ xs) c)
+  pub Contains_cases : (x y : X) (xs : List X) → Contains (x ∷ xs) y → (y ≡ x) ⊎ Contains xs y
+  Contains_cases x y xs c =
+      ⊎_elim (λ (e : y ≡ x). inl e) (λ (h : IsIn y xs). inr (Contains_from_IsIn y xs h)) (IsIn_from_Contains y (x ∷ xs) c)
 
   -- the first that passes a test
   pub found : (test : X → Bool) (xs : List X) (x : X) → find test xs ≡ Some x → IsIn x xs × (test x ≡ true)

@@ -20,9 +20,9 @@ use Rattle.tcp_streams.specs.Net.{Net, IsVoid, Comes, MayAct, AsksFrom, Follows,
 use Rattle.tcp_streams.specs.Sound.{IsSound}
 use Rattle.tcp_streams.specs.Heard.{IsFront, Hears, HearsFrom, IsPeer, IsHeard, HasSender, AreHonest}
 use Rattle.tcp_streams.specs.Stream.{is_at, IsOnce}
-use Rattle.tcp_streams.proofs.Fronts.{nothing_front, IsFront-append}
-use Rattle.tcp_streams.proofs.Members.{IsIn-from_Contains, sole}
-use Rattle.tcp_streams.proofs.Ends.{and_left, and_right, ends_of, is_at-ends}
+use Rattle.tcp_streams.proofs.Fronts.{nothing_front, IsFront_append}
+use Rattle.tcp_streams.proofs.Members.{IsIn_from_Contains, sole}
+use Rattle.tcp_streams.proofs.Ends.{and_left, and_right, ends_of, is_at_ends}
 use Rattle.tcp_streams.proofs.Quiet.{Told, told, IsQuiet, quiet}
 use Rattle.tcp_streams.proofs.Hearing.{hears_segment}
 use Rattle.tcp_streams.proofs.Soundness.{acted_grows}
@@ -32,7 +32,7 @@ use Rattle.tcp_streams.proofs.Steps.Origin.{stays, acted_by, begun_as}
 -- as the other record grows
 front_grows : (front whole longer more : List ℕ) → longer ≡ whole ++ more → IsFront front whole → IsFront front longer
 front_grows front whole longer more e h =
-    subst (λ (xs : List ℕ). IsFront front xs) (sym e) (IsFront-append front whole more h)
+    subst (λ (xs : List ℕ). IsFront front xs) (sym e) (IsFront_append front whole more h)
 
 hears_grows : (w after r : Tcb) → GrowsTo w after → HearsFrom w r → HearsFrom after r
 hears_grows w after r g h =
@@ -80,14 +80,14 @@ heard_quietly records r after g same h =
 -- the only record at the other end
 peer_at : (own other : Addr) (w r : Tcb) → IsPeer w r → is_at own other r ≡ true → is_at other own w ≡ true
 peer_at own other w r p at =
-    let e = ends_of own other r at in is_at-ends other own w (p.0 ∙ e.1) (p.1 ∙ e.0)
+    let e = ends_of own other r at in is_at_ends other own w (p.0 ∙ e.1) (p.1 ∙ e.0)
 
 knows : (own other : Addr) (records : List Tcb) (r w : Tcb) → is_at own other r ≡ true → IsOnce other own records → Contains records w → IsPeer w r → IsHeard records r → (r.rcv ≡ 0) ⊎ HearsFrom w r
 knows own other records r w at once c p h =
     ⊎_elim
     (λ z. inl z)
     (λ k.
-    let same = sole (is_at other own) records k.writer w once.once (IsIn-from_Contains k.writer records k.among) (IsIn-from_Contains w records c) (peer_at own other k.writer r k.peer at) (peer_at own other w r p at) in
+    let same = sole (is_at other own) records k.writer w once.once (IsIn_from_Contains k.writer records k.among) (IsIn_from_Contains w records c) (peer_at own other k.writer r k.peer at) (peer_at own other w r p at) in
     inr (subst (λ (x : Tcb). HearsFrom x r) same k.hears))
     h
 
@@ -197,7 +197,7 @@ HeardAt own other records =
 
 same_at : (own other : Addr) (r after : Tcb) → GrowsTo r after → is_at own other after ≡ true → is_at own other r ≡ true
 same_at own other r after g at =
-    let e = ends_of own other after at in is_at-ends own other r (sym g.local ∙ e.0) (sym g.peer ∙ e.1)
+    let e = ends_of own other after at in is_at_ends own other r (sym g.local ∙ e.0) (sym g.peer ∙ e.1)
 
 heard_from : (scope : Addr → Addr → Bool) (own other : Addr) (m : Net) (r : Tcb) → scope other own ≡ true → AllSound m.records → AreHonest scope m → IsOnce other own m.records → HeardAt own other m.records → is_at own other r ≡ true → Origin m r → IsHeard m.records r
 heard_from scope own other m r in_scope sound honest once heard at (stays c) = heard r c at

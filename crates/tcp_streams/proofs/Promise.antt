@@ -7,21 +7,21 @@ use Rattle.tcp_streams.specs.Net.{Net, empty_net, AreSteps, last_net}
 use Rattle.tcp_streams.specs.Sound.{IsSound}
 use Rattle.tcp_streams.specs.Heard.{IsFront, HearsFrom, IsHeard, AreHonest}
 use Rattle.tcp_streams.specs.Stream.{is_at, IsOnce, IsSimple, record_at, written_by, read_by, end_seen_by, stream_of, IsFaithful}
-use Rattle.tcp_streams.proofs.Fronts.{empty_of, nothing_front, IsFront-take, whole_front}
-use Rattle.tcp_streams.proofs.Members.{IsIn-from_Contains, Contains-from_IsIn, found, missing, sole}
-use Rattle.tcp_streams.proofs.Ends.{ends_of, is_at-ends}
+use Rattle.tcp_streams.proofs.Fronts.{empty_of, nothing_front, IsFront_take, whole_front}
+use Rattle.tcp_streams.proofs.Members.{IsIn_from_Contains, Contains_from_IsIn, found, missing, sole}
+use Rattle.tcp_streams.proofs.Ends.{ends_of, is_at_ends}
 use Rattle.tcp_streams.proofs.Steps.{AllSound}
 use Rattle.tcp_streams.proofs.Nets.{HeardAt, steps_sound, steps_honest, steps_heard}
 
 -- the empty net
 empty_sound : AllSound empty_net.records
-empty_sound r c = absurd (IsIn-from_Contains r [] c)
+empty_sound r c = absurd (IsIn_from_Contains r [] c)
 
 empty_honest : (scope : Addr → Addr → Bool) → AreHonest scope empty_net
-empty_honest scope p c = absurd (IsIn-from_Contains p [] c)
+empty_honest scope p c = absurd (IsIn_from_Contains p [] c)
 
 empty_heard : (own other : Addr) → HeardAt own other empty_net.records
-empty_heard own other r c at = absurd (IsIn-from_Contains r [] c)
+empty_heard own other r c at = absurd (IsIn_from_Contains r [] c)
 
 -- of every net
 pub net_sound : (scope : Addr → Addr → Bool) (nets : List Net) → AreSteps scope empty_net nets → AllSound (last_net empty_net nets).records
@@ -56,7 +56,7 @@ silent r written s z =
 
 heard_whole : (w r : Tcb) → IsSound r → HearsFrom w r → Reads r w.written
 heard_whole w r s h = record {
-  front = IsFront-take r.read r.received w.written h.front;
+  front = IsFront_take r.read r.received w.written h.front;
   whole = λ e.
       let seen = s.counted.seen e in
       let ended = h.ended seen.0 in
@@ -67,10 +67,10 @@ heard_whole w r s h = record {
 -- the record at the writing end is the one that was heard
 written_at : (from to : Addr) (records : List Tcb) (w : Tcb) (o : Option Tcb) → record_at from to records ≡ o → IsOnce from to records → Contains records w → is_at from to w ≡ true → written_by o ≡ w.written
 written_at from to records w None e once c at =
-    absurd (missing (is_at from to) records w e (IsIn-from_Contains w records c) at)
+    absurd (missing (is_at from to) records w e (IsIn_from_Contains w records c) at)
 written_at from to records w (Some x) e once c at =
     let f = found (is_at from to) records x e in
-    ap (λ (y : Tcb). y.written) (sole (is_at from to) records x w once.once f.0 (IsIn-from_Contains w records c) f.1 at)
+    ap (λ (y : Tcb). y.written) (sole (is_at from to) records x w once.once f.0 (IsIn_from_Contains w records c) f.1 at)
 
 reads_as : (r : Tcb) (a b : List ℕ) → a ≡ b → Reads r a → Reads r b
 reads_as r a b e h = subst (Reads r) e h
@@ -81,7 +81,7 @@ reads_of from to records r once s at h =
     (λ z. silent r (written_by (record_at from to records)) s z)
     (λ w.
     let e = ends_of to from r at in
-    let there = is_at-ends from to w.writer (w.peer.0 ∙ e.1) (w.peer.1 ∙ e.0) in
+    let there = is_at_ends from to w.writer (w.peer.0 ∙ e.1) (w.peer.1 ∙ e.0) in
     let same = written_at from to records w.writer (record_at from to records) refl once w.among there in
     reads_as r w.writer.written (written_by (record_at from to records)) (sym same) (heard_whole w.writer r s w.hears))
     h
@@ -100,7 +100,7 @@ faithful from to records None e once sound heard =
     record { front = nothing_front (written_by (record_at from to records)); whole = λ t. absurd (cc) }
 faithful from to records (Some r) e once sound heard =
     let f = found (is_at to from) records r e in
-    let c = Contains-from_IsIn r records f.0 in
+    let c = Contains_from_IsIn r records f.0 in
     let k = reads_of from to records r once (sound r c) f.1 (heard r c f.1) in
     record { front = k.front; whole = λ seen. k.whole (found_by_read r.control.saw_end r.control.had_error seen) }
 

@@ -24,7 +24,7 @@ use Rattle.tcp_laws.specs.Acts.{Act, acted}
 use Rattle.tcp_laws.specs.Acts.Act.{arrival, write, read, flow, shut, close, expiry, error_read}
 use Rattle.tcp_laws.proofs.Tests.{by_test}
 use Rattle.tcp_streams.specs.Sound.{Receives, ReceivesOn}
-use Rattle.tcp_streams.proofs.Ears.{Ear, ear, HearsAs, judged-ear, sends_ack-ear, sends_syn_ack-ear, sends_reset-ear, sends_refusal-ear, ends-ear, vanishes-ear, output-ear, establishes-ear, advances-ear, notices-ear, concluded-ear, writes-ear, flows-ear, ends_writing-ear, closes-ear, error_taken-ear, expires-ear}
+use Rattle.tcp_streams.proofs.Ears.{Ear, ear, HearsAs, judged_ear, sends_ack_ear, sends_syn_ack_ear, sends_reset_ear, sends_refusal_ear, ends_ear, vanishes_ear, output_ear, establishes_ear, advances_ear, notices_ear, concluded_ear, writes_ear, flows_ear, ends_writing_ear, closes_ear, error_taken_ear, expires_ear}
 
 abbrev pub HearsOn : Tcb → Ear → Type 0
 HearsOn r e = Receives r e.received e.read e.discarded e.ended e.taken e.saw
@@ -81,7 +81,7 @@ goes_takes r bytes t h =
     (λ e. h)
     (λ e.
     by_test (Goes r) t.tcb.control.closed _ _
-    (λ k. as_ear r (ear t.tcb) (vanishes (sends_reset t)) (vanishes-ear (sends_reset t) ∙ sends_reset-ear t) h)
+    (λ k. as_ear r (ear t.tcb) (vanishes (sends_reset t)) (vanishes_ear (sends_reset t) ∙ sends_reset_ear t) h)
     (λ k.
     by_test (Goes r) t.tcb.control.reading_ended _ _
     (λ m. goes_discards r (length bytes) t h)
@@ -112,30 +112,30 @@ goes_receives : (r : Tcb) (h : Header) (text : List ℕ) (t : Turn) → Goes r t
 unfolding receives
 goes_receives r h text t k =
     let u = receives_fin h text (receives_text h text t) in
-    as_ear r (ear u.tcb) (unless_over (concludes (wants_ack h text t.tcb) h.fin) u) (concluded-ear (wants_ack h text t.tcb) h.fin u) (goes_receives_fin r h text (receives_text h text t) (goes_receives_text r h text t k))
+    as_ear r (ear u.tcb) (unless_over (concludes (wants_ack h text t.tcb) h.fin) u) (concluded_ear (wants_ack h text t.tcb) h.fin u) (goes_receives_fin r h text (receives_text h text t) (goes_receives_text r h text t k))
 
 -- a segment
 goes_connects : (r : Tcb) (h : Header) (t : Turn) → Goes r t → Goes r (connects h t)
 unfolding connects peer_known
 goes_connects r h t k =
     let u = establishes h.window (changed (peer_known h.seq) t) in
-    as_ear r (ear (peer_known h.seq t.tcb)) (output (sends_ack u)) (output-ear (sends_ack u) ∙ (sends_ack-ear u ∙ establishes-ear h.window (changed (peer_known h.seq) t))) k
+    as_ear r (ear (peer_known h.seq t.tcb)) (output (sends_ack u)) (output_ear (sends_ack u) ∙ (sends_ack_ear u ∙ establishes_ear h.window (changed (peer_known h.seq) t))) k
 
 goes_acts_on : (r : Tcb) (v : Verdict) (h : Header) (text : List ℕ) (t : Turn) → Goes r t → Goes r (acts_on v h text t)
 goes_acts_on r Dropped h text t k = k
-goes_acts_on r Acknowledged h text t k = as_ear r (ear t.tcb) (sends_ack t) (sends_ack-ear t) k
-goes_acts_on r SynAcknowledged h text t k = as_ear r (ear t.tcb) (sends_syn_ack t) (sends_syn_ack-ear t) k
-goes_acts_on r Refused h text t k = as_ear r (ear t.tcb) (sends_refusal h.ack t) (sends_refusal-ear h.ack t) k
-goes_acts_on r ConnectRefused h text t k = as_ear r (ear t.tcb) (ends Econnrefused t) (ends-ear Econnrefused t) k
-goes_acts_on r Reset h text t k = as_ear r (ear t.tcb) (ends Econnreset t) (ends-ear Econnreset t) k
-goes_acts_on r Gone h text t k = as_ear r (ear t.tcb) (vanishes t) (vanishes-ear t) k
+goes_acts_on r Acknowledged h text t k = as_ear r (ear t.tcb) (sends_ack t) (sends_ack_ear t) k
+goes_acts_on r SynAcknowledged h text t k = as_ear r (ear t.tcb) (sends_syn_ack t) (sends_syn_ack_ear t) k
+goes_acts_on r Refused h text t k = as_ear r (ear t.tcb) (sends_refusal h.ack t) (sends_refusal_ear h.ack t) k
+goes_acts_on r ConnectRefused h text t k = as_ear r (ear t.tcb) (ends Econnrefused t) (ends_ear Econnrefused t) k
+goes_acts_on r Reset h text t k = as_ear r (ear t.tcb) (ends Econnreset t) (ends_ear Econnreset t) k
+goes_acts_on r Gone h text t k = as_ear r (ear t.tcb) (vanishes t) (vanishes_ear t) k
 goes_acts_on r Connects h text t k = goes_connects r h t k
 goes_acts_on r Establishes h text t k =
-    goes_receives r h text (establishes h.window t) (as_ear r (ear t.tcb) (establishes h.window t) (establishes-ear h.window t) k)
+    goes_receives r h text (establishes h.window t) (as_ear r (ear t.tcb) (establishes h.window t) (establishes_ear h.window t) k)
 goes_acts_on r (Advances by) h text t k =
     let u = advances by h.window t in
     let d = is_duplicate by h (length text) t.tcb in
-    goes_receives r h text (notices d u) (as_ear r (ear t.tcb) (notices d u) (notices-ear d u ∙ advances-ear by h.window t) k)
+    goes_receives r h text (notices d u) (as_ear r (ear t.tcb) (notices d u) (notices_ear d u ∙ advances_ear by h.window t) k)
 goes_acts_on r Continues h text t k = goes_receives r h text t k
 
 goes_takes_load : (r : Tcb) (load : Load) (t : Turn) → Goes r t → Goes r (takes_load load t)
@@ -144,7 +144,7 @@ goes_takes_load r (Udp text) t k = k
 goes_takes_load r (Tcp flags seq ack window text) t k =
     let h = header_of flags seq ack window in
     let u = acts_on (verdict t.tcb h) h text t in
-    as_ear r (ear u.tcb) (judged u) (judged-ear u) (goes_acts_on r (verdict t.tcb h) h text t k)
+    as_ear r (ear u.tcb) (judged u) (judged_ear u) (goes_acts_on r (verdict t.tcb h) h text t k)
 
 goes_takes_packet : (r : Tcb) (p : Packet) (t : Turn) → Goes r t → Goes r (takes_packet p t)
 unfolding takes_packet
@@ -180,7 +180,7 @@ goes_ends_reading r t k = record {
 }
 
 goes_ends_writing : (r : Tcb) (t : Turn) → Goes r t → Goes r (ends_writing t)
-goes_ends_writing r t k = as_ear r (ear t.tcb) (ends_writing t) (ends_writing-ear t) k
+goes_ends_writing r t k = as_ear r (ear t.tcb) (ends_writing t) (ends_writing_ear t) k
 
 goes_shuts_end : (r : Tcb) (end : Shut) (t : Turn) → Goes r t → Goes r (shuts_end end t)
 goes_shuts_end r Reading t k = goes_ends_reading r t k
@@ -190,14 +190,14 @@ goes_shuts_end r Both t k = goes_ends_writing r (ends_reading t) (goes_ends_read
 goes_shuts : (r : Tcb) (end : Shut) (t : Turn) → Goes r t → Goes r (shuts end t)
 unfolding shuts
 goes_shuts r end t k =
-    as_ear r (ear (shuts_end end t).tcb) (judged (shuts_end end t)) (judged-ear (shuts_end end t)) (goes_shuts_end r end t k)
+    as_ear r (ear (shuts_end end t).tcb) (judged (shuts_end end t)) (judged_ear (shuts_end end t)) (goes_shuts_end r end t k)
 
 pub receives_on : (act : Act) (r : Tcb) → ReceivesOn r (acted act r).tcb
 receives_on (arrival p) r = goes_takes_packet r p (begin r) (goes_begin r)
-receives_on (write bytes) r = as_ear r (ear r) (changed (writes bytes) (begin r)) (writes-ear bytes (begin r)) (goes_begin r)
+receives_on (write bytes) r = as_ear r (ear r) (changed (writes bytes) (begin r)) (writes_ear bytes (begin r)) (goes_begin r)
 receives_on (read count) r = goes_reads r count (begin r) (goes_begin r)
-receives_on flow r = as_ear r (ear r) (flows (begin r)) (flows-ear (begin r)) (goes_begin r)
+receives_on flow r = as_ear r (ear r) (flows (begin r)) (flows_ear (begin r)) (goes_begin r)
 receives_on (shut end) r = goes_shuts r end (begin r) (goes_begin r)
-receives_on close r = as_ear r (ear r) (closes (begin r)) (closes-ear (begin r)) (goes_begin r)
-receives_on expiry r = as_ear r (ear r) (expires (begin r)) (expires-ear (begin r)) (goes_begin r)
-receives_on error_read r = as_ear r (ear r) (changed error_taken (begin r)) (error_taken-ear (begin r)) (goes_begin r)
+receives_on close r = as_ear r (ear r) (closes (begin r)) (closes_ear (begin r)) (goes_begin r)
+receives_on expiry r = as_ear r (ear r) (expires (begin r)) (expires_ear (begin r)) (goes_begin r)
+receives_on error_read r = as_ear r (ear r) (changed error_taken (begin r)) (error_taken_ear (begin r)) (goes_begin r)

@@ -74,60 +74,60 @@ open_advanced true state t = still_open state t
 open_advanced false state t = t
 
 -- the state as it is where numbers are acknowledged
-state-judged : (t : Turn) → (judged t).tcb.control.state ≡ t.tcb.control.state
+state_judged : (t : Turn) → (judged t).tcb.control.state ≡ t.tcb.control.state
 unfolding judged
-state-judged t =
+state_judged t =
     let P : Turn → Type 0 = λ u. u.tcb.control.state ≡ t.tcb.control.state in
     by_test P (needs_timer t.tcb) _ _
     (λ e. by_test P t.tcb.control.timer _ _ (λ k. refl) (λ k. refl))
     (λ e. refl)
 
-pub state-advances : (by window : ℕ) (t : Turn) → (advances by window t).tcb.control.state ≡ state_advanced (own_fin_acknowledged by t.tcb) t.tcb.control.state
+pub state_advances : (by window : ℕ) (t : Turn) → (advances by window t).tcb.control.state ≡ state_advanced (own_fin_acknowledged by t.tcb) t.tcb.control.state
 unfolding advances advanced restarts restarted
-state-advances by window t =
-    state-judged _
+state_advances by window t =
+    state_judged _
     ∙ by_test (λ (u : Turn). u.tcb.control.state ≡ state_advanced (own_fin_acknowledged by t.tcb) t.tcb.control.state) (restarts_timer by window t.tcb.control) _ _ (λ e. refl) (λ e. refl)
 
-state-sends_fin : (t : Turn) → (sends_fin t).tcb.control.state ≡ t.tcb.control.state
+state_sends_fin : (t : Turn) → (sends_fin t).tcb.control.state ≡ t.tcb.control.state
 unfolding sends_fin
-state-sends_fin t =
+state_sends_fin t =
     by_test (λ (u : Turn). u.tcb.control.state ≡ t.tcb.control.state) (fin_is_next t.tcb) _ _ (λ e. refl) (λ e. refl)
 
-state-sends_again : (t : Turn) → (sends_again t).tcb.control.state ≡ t.tcb.control.state
+state_sends_again : (t : Turn) → (sends_again t).tcb.control.state ≡ t.tcb.control.state
 unfolding sends_again sends_again_text
-state-sends_again t =
+state_sends_again t =
     by_test (λ (u : Turn). u.tcb.control.state ≡ t.tcb.control.state) (nat_lt t.tcb.una (data_end t.tcb)) _ _
     (λ e. refl)
-    (λ e. state-sends_fin (changed (moves_next t.tcb.una) t))
+    (λ e. state_sends_fin (changed (moves_next t.tcb.una) t))
 
-state-sends_syn_again : (t : Turn) → (sends_syn_again t).tcb.control.state ≡ t.tcb.control.state
+state_sends_syn_again : (t : Turn) → (sends_syn_again t).tcb.control.state ≡ t.tcb.control.state
 unfolding sends_syn_again sends_syn sends_syn_ack
-state-sends_syn_again t =
+state_sends_syn_again t =
     by_test (λ (u : Turn). u.tcb.control.state ≡ t.tcb.control.state) (is_syn_sent t.tcb.control.state) _ _ (λ e. refl) (λ e. refl)
 
-state-follows : (t : Turn) → (follows t).tcb.control.state ≡ t.tcb.control.state
+state_follows : (t : Turn) → (follows t).tcb.control.state ≡ t.tcb.control.state
 unfolding follows
-state-follows t = refl
+state_follows t = refl
 
-state-sends_one : (t : Turn) → (sends_one t).tcb.control.state ≡ t.tcb.control.state
+state_sends_one : (t : Turn) → (sends_one t).tcb.control.state ≡ t.tcb.control.state
 unfolding sends_one
-state-sends_one t =
+state_sends_one t =
     let P : Turn → Type 0 = λ u. u.tcb.control.state ≡ t.tcb.control.state in
     by_test P (is_opening t.tcb.control.state) _ _
-    (λ e. state-sends_syn_again t)
+    (λ e. state_sends_syn_again t)
     (λ e.
     by_test P (is_sending t.tcb.control.state) _ _
-    (λ k. state-follows (sends_again t) ∙ state-sends_again t)
+    (λ k. state_follows (sends_again t) ∙ state_sends_again t)
     (λ k. refl))
 
-state-hears_duplicate : (t : Turn) → (hears_duplicate t).tcb.control.state ≡ t.tcb.control.state
+state_hears_duplicate : (t : Turn) → (hears_duplicate t).tcb.control.state ≡ t.tcb.control.state
 unfolding hears_duplicate
-state-hears_duplicate t =
+state_hears_duplicate t =
     by_test (λ (u : Turn). u.tcb.control.state ≡ t.tcb.control.state) (tells_loss t.tcb.una (flight_of t.tcb)) _ _
-    (λ e. state-sends_one (changed duplicate_heard t))
+    (λ e. state_sends_one (changed duplicate_heard t))
     (λ e. refl)
 
-pub state-notices : (duplicate : Bool) (t : Turn) → (notices duplicate t).tcb.control.state ≡ t.tcb.control.state
+pub state_notices : (duplicate : Bool) (t : Turn) → (notices duplicate t).tcb.control.state ≡ t.tcb.control.state
 unfolding notices
-state-notices duplicate t =
-    by_test (λ (u : Turn). u.tcb.control.state ≡ t.tcb.control.state) duplicate _ _ (λ e. state-hears_duplicate t) (λ e. refl)
+state_notices duplicate t =
+    by_test (λ (u : Turn). u.tcb.control.state ≡ t.tcb.control.state) duplicate _ _ (λ e. state_hears_duplicate t) (λ e. refl)

@@ -12,13 +12,13 @@ use Rattle.tcp_laws.specs.Acts.{Start, begun_by, IsStart, Act, acted}
 use Rattle.tcp_laws.specs.Growth.{GrowsTo}
 use Rattle.tcp_laws.specs.Sending.{LoadCarries, AreOf}
 use Rattle.tcp_laws.proofs.Holds.{Grows-refl}
-use Rattle.tcp_laws.proofs.Segments.{LoadCarries-grows}
+use Rattle.tcp_laws.proofs.Segments.{LoadCarries_grows}
 use Rattle.tcp_streams.specs.Net.{Net, Flies, MayAct, Follows, Step}
 use Rattle.tcp_streams.specs.Net.Step.{acts, begins, goes_on}
 use Rattle.tcp_streams.specs.Sound.{IsSound}
 use Rattle.tcp_streams.specs.Heard.{SentBy, HasSender, AreHonest}
 use Rattle.tcp_streams.specs.Stream.{is_at, IsOnce}
-use Rattle.tcp_streams.proofs.Members.{IsIn, IsIn-from_Contains, Contains-here, Contains-there, Contains-cases}
+use Rattle.tcp_streams.proofs.Members.{IsIn, IsIn_from_Contains, Contains_here, Contains_there, Contains_cases}
 use Rattle.tcp_streams.proofs.Soundness.{acted_sound, acted_honest, acted_grows, begun_sound, begun_honest}
 
 -- each record is still there, grown
@@ -45,14 +45,14 @@ moved xs ys r p c = Contains-permutation ys xs r (IsPermutation-sym xs ys p) c
 pub origin : (scope : Addr → Addr → Bool) (m n : Net) (r : Tcb) → Step scope m n → Contains n.records r → Origin m r
 origin scope m n r (acts before rest act p may q flies) c =
     ⊎_elim
-    (λ e. acted_by before act (moved m.records (before ∷ rest) before p (Contains-here before rest)) may e)
-    (λ k. stays (moved m.records (before ∷ rest) r p (Contains-there before r rest k)))
-    (Contains-cases (acted act before).tcb r rest (Contains-permutation n.records ((acted act before).tcb ∷ rest) r q c))
+    (λ e. acted_by before act (moved m.records (before ∷ rest) before p (Contains_here before rest)) may e)
+    (λ k. stays (moved m.records (before ∷ rest) r p (Contains_there before r rest k)))
+    (Contains_cases (acted act before).tcb r rest (Contains-permutation n.records ((acted act before).tcb ∷ rest) r q c))
 origin scope m n r (begins start b follows q flies) c =
     ⊎_elim
     (λ e. begun_as start b follows e)
     (λ k. stays k)
-    (Contains-cases (begun_by start).tcb r m.records (Contains-permutation n.records ((begun_by start).tcb ∷ m.records) r q c))
+    (Contains_cases (begun_by start).tcb r m.records (Contains-permutation n.records ((begun_by start).tcb ∷ m.records) r q c))
 origin scope m n r (goes_on q flies) c = stays (Contains-permutation n.records m.records r q c)
 
 -- sound records
@@ -69,18 +69,18 @@ pub step_evolves : (scope : Addr → Addr → Bool) (m n : Net) → Step scope m
 step_evolves scope m n (acts before rest act p may q flies) all r c =
     ⊎_elim
     (λ e.
-    let among = moved n.records ((acted act before).tcb ∷ rest) (acted act before).tcb q (Contains-here (acted act before).tcb rest) in
-    let sound = all before (moved m.records (before ∷ rest) before p (Contains-here before rest)) in
+    let among = moved n.records ((acted act before).tcb ∷ rest) (acted act before).tcb q (Contains_here (acted act before).tcb rest) in
+    let sound = all before (moved m.records (before ∷ rest) before p (Contains_here before rest)) in
     subst (λ (x : Tcb). Successor n.records x) (sym e) (record { after = (acted act before).tcb; among = among; grows = acted_grows act before sound }))
     (λ k. record {
       after = r;
-      among = moved n.records ((acted act before).tcb ∷ rest) r q (Contains-there (acted act before).tcb r rest k);
+      among = moved n.records ((acted act before).tcb ∷ rest) r q (Contains_there (acted act before).tcb r rest k);
       grows = Grows-refl r;
     })
-    (Contains-cases before r rest (Contains-permutation m.records (before ∷ rest) r p c))
+    (Contains_cases before r rest (Contains-permutation m.records (before ∷ rest) r p c))
 step_evolves scope m n (begins start b follows q flies) all r c = record {
   after = r;
-  among = moved n.records ((begun_by start).tcb ∷ m.records) r q (Contains-there (begun_by start).tcb r m.records c);
+  among = moved n.records ((begun_by start).tcb ∷ m.records) r q (Contains_there (begun_by start).tcb r m.records c);
   grows = Grows-refl r;
 }
 step_evolves scope m n (goes_on q flies) all r c =
@@ -99,7 +99,7 @@ sent_grows : (r after : Tcb) (p : Packet) → GrowsTo r after → SentBy r p →
 sent_grows r after p g s = record {
   from = s.from ∙ sym g.local;
   to = s.to ∙ sym g.peer;
-  load = subst (λ (iss : ℕ). LoadCarriesBy iss after p) (sym g.iss) (LoadCarries-grows r.iss r.written after.written g.more r.control.fin_wanted after.control.fin_wanted p.load g.written g.ended s.load);
+  load = subst (λ (iss : ℕ). LoadCarriesBy iss after p) (sym g.iss) (LoadCarries_grows r.iss r.written after.written g.more r.control.fin_wanted after.control.fin_wanted p.load g.written g.ended s.load);
 }
 
 still_sent : (before after : List Tcb) (p : Packet) → Evolves before after → HasSender before p → HasSender after p
@@ -114,7 +114,7 @@ flown scope m n sent r among of evolves flies honest p c =
     (λ before. ⊎_elim (λ k. inl k) (λ s. inr (still_sent m.records n.records p evolves s)) (honest p before))
     (λ new.
     ⊎_elim
-    (λ now. inr (record { sender = r; among = among; sent = one_of r sent p of (IsIn-from_Contains p sent now) }))
+    (λ now. inr (record { sender = r; among = among; sent = one_of r sent p of (IsIn_from_Contains p sent now) }))
     (λ k. inl k)
     new)
     (flies p c)
@@ -123,19 +123,19 @@ came : (scope : Addr → Addr → Bool) (m n : Net) → Evolves m.records n.reco
 came scope m n evolves flies honest p c =
     ⊎_elim
     (λ before. ⊎_elim (λ k. inl k) (λ s. inr (still_sent m.records n.records p evolves s)) (honest p before))
-    (λ new. ⊎_elim (λ none. absurd (IsIn-from_Contains p [] none)) (λ k. inl k) new)
+    (λ new. ⊎_elim (λ none. absurd (IsIn_from_Contains p [] none)) (λ k. inl k) new)
     (flies p c)
 
 pub step_honest : (scope : Addr → Addr → Bool) (m n : Net) → Step scope m n → AllSound m.records → AreHonest scope m → AreHonest scope n
 step_honest scope m n (acts before rest act p may q flies) all honest =
     let after = (acted act before).tcb in
-    let sound = all before (moved m.records (before ∷ rest) before p (Contains-here before rest)) in
+    let sound = all before (moved m.records (before ∷ rest) before p (Contains_here before rest)) in
     let evolves = step_evolves scope m n (acts before rest act p may q flies) all in
-    flown scope m n (acted act before).sent after (moved n.records (after ∷ rest) after q (Contains-here after rest)) (acted_honest act before sound) evolves flies honest
+    flown scope m n (acted act before).sent after (moved n.records (after ∷ rest) after q (Contains_here after rest)) (acted_honest act before sound) evolves flies honest
 step_honest scope m n (begins start b follows q flies) all honest =
     let after = (begun_by start).tcb in
     let evolves = step_evolves scope m n (begins start b follows q flies) all in
-    flown scope m n (begun_by start).sent after (moved n.records (after ∷ m.records) after q (Contains-here after m.records)) (begun_honest start b) evolves flies honest
+    flown scope m n (begun_by start).sent after (moved n.records (after ∷ m.records) after q (Contains_here after m.records)) (begun_honest start b) evolves flies honest
 step_honest scope m n (goes_on q flies) all honest =
     let evolves = step_evolves scope m n (goes_on q flies) all in
     came scope m n evolves flies honest
@@ -152,22 +152,22 @@ same_places own other r after g =
 count-cons : (test : Tcb → Bool) (x : Tcb) (xs : List Tcb) → count_by test (x ∷ xs) ≡ cond (test x) 1 0 + count_by test xs
 count-cons test x xs = sum_by-cons (λ (y : Tcb). cond (test y) 1 0) x xs
 
-count-permutation : (test : Tcb → Bool) (xs ys : List Tcb) → IsPermutation xs ys → count_by test ys ≡ count_by test xs
-count-permutation test xs ys p = sum_by-IsPermutation (λ (y : Tcb). cond (test y) 1 0) xs ys p
+count_permutation : (test : Tcb → Bool) (xs ys : List Tcb) → IsPermutation xs ys → count_by test ys ≡ count_by test xs
+count_permutation test xs ys p = sum_by-IsPermutation (λ (y : Tcb). cond (test y) 1 0) xs ys p
 
 pub step_counts : (scope : Addr → Addr → Bool) (m n : Net) (own other : Addr) → Step scope m n → AllSound m.records → count_by (is_at own other) m.records ≤ count_by (is_at own other) n.records
 step_counts scope m n own other (acts before rest act p may q flies) all =
     let test = is_at own other in
     let after = (acted act before).tcb in
-    let sound = all before (moved m.records (before ∷ rest) before p (Contains-here before rest)) in
+    let sound = all before (moved m.records (before ∷ rest) before p (Contains_here before rest)) in
     let same : cond {A = ℕ} (test after) 1 0 ≡ cond (test before) 1 0 = ap (λ b. cond {A = ℕ} b 1 0) (same_places own other before after (acted_grows act before sound)) in
-    omega (arith, same, count-cons test before rest, count-cons test after rest, count-permutation test m.records (before ∷ rest) p, count-permutation test n.records (after ∷ rest) q)
+    omega (arith, same, count-cons test before rest, count-cons test after rest, count_permutation test m.records (before ∷ rest) p, count_permutation test n.records (after ∷ rest) q)
 step_counts scope m n own other (begins start b follows q flies) all =
     let test = is_at own other in
     let after = (begun_by start).tcb in
-    omega (arith, count-cons test after m.records, count-permutation test n.records (after ∷ m.records) q)
+    omega (arith, count-cons test after m.records, count_permutation test n.records (after ∷ m.records) q)
 step_counts scope m n own other (goes_on q flies) all =
-    omega (arith, count-permutation (is_at own other) n.records m.records q)
+    omega (arith, count_permutation (is_at own other) n.records m.records q)
 
 -- so that what an end had at most once afterwards it had so before
 pub once_before : (own other : Addr) (before after : List Tcb) → Evolves before after → count_by (is_at own other) before ≤ count_by (is_at own other) after → IsOnce own other after → IsOnce own other before

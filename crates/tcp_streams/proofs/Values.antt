@@ -23,7 +23,7 @@ use Rattle.tcp_streams.specs.Net.{Net, empty_net, Flies, AreSteps, last_net}
 use Rattle.tcp_streams.specs.Net.Step.{acts, begins}
 use Rattle.tcp_streams.specs.Frame.{everywhere}
 use Rattle.tcp_streams.specs.Stream.{stream_of}
-use Rattle.tcp_streams.proofs.Members.{Contains-here, IsIn-from_Contains}
+use Rattle.tcp_streams.proofs.Members.{Contains_here, IsIn_from_Contains}
 
 abbrev client : Addr
 client = record { ip = record { bits = 1 }; port = 10000 }
@@ -135,10 +135,10 @@ now : (before sent : List Packet) → Flies everywhere before sent sent
 now before sent p c = inr (inl c)
 
 nothing : (before sent : List Packet) → Flies everywhere before sent []
-nothing before sent p c = absurd (IsIn-from_Contains p [] c)
+nothing before sent p c = absurd (IsIn_from_Contains p [] c)
 
 alone : (p : Packet) (packets : List Packet) → packets ≡ p ∷ [] → Contains packets p
-alone p packets e = subst (λ (xs : List Packet). Contains xs p) (sym e) (Contains-here p [])
+alone p packets e = subst (λ (xs : List Packet). Contains xs p) (sym e) (Contains_here p [])
 
 same : (r s : Tcb) → IsPermutation (r ∷ s ∷ []) (r ∷ s ∷ [])
 same r s = IsPermutation-refl (r ∷ s ∷ [])

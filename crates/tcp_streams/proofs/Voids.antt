@@ -12,7 +12,7 @@ use Rattle.sock_tcp.specs.connection.Tcb.{Tcb}
 use Rattle.sock_tcp.specs.connection.Resets.{reset_of, resets_of}
 use Rattle.tcp_laws.proofs.Tests.{by_test}
 use Rattle.tcp_streams.specs.Net.{IsVoid}
-use Rattle.tcp_streams.proofs.Members.{IsIn, IsIn-from_Contains}
+use Rattle.tcp_streams.proofs.Members.{IsIn, IsIn_from_Contains}
 
 -- RSTs tell nothing
 reset_void : (r : Tcb) (p : Packet) → IsIn p (reset_of r) → IsVoid p.load
@@ -24,10 +24,10 @@ reset_void r p c =
     c
 
 pub resets_void : (records : List Tcb) (p : Packet) → Contains (resets_of records) p → IsVoid p.load
-resets_void [] p c = absurd (IsIn-from_Contains p [] c)
+resets_void [] p c = absurd (IsIn_from_Contains p [] c)
 resets_void (r ∷ records) p c =
     ⊎_elim
-    (λ k. reset_void r p (IsIn-from_Contains p (reset_of r) k))
+    (λ k. reset_void r p (IsIn_from_Contains p (reset_of r) k))
     (λ k. resets_void records p k)
     (Contains-append_cases (reset_of r) (resets_of records) p c)
 

@@ -16,9 +16,9 @@ one_byte b h = IsUtf8-from_ascii (b ∷ []) (IsAscii-cons b [] h IsAscii-nil)
 abbrev pub is_high : ℕ → Bool
 is_high b = nat_le 128 b
 
-pub encode-high : (c : ℕ) → 128 ≤ c → list_all is_high (encode_utf8 c) ≡ true
+pub encode_high : (c : ℕ) → 128 ≤ c → list_all is_high (encode_utf8 c) ≡ true
 unfolding encode
-encode-high c h = by (nat_lt c 128) (nat_lt c 2048) (nat_lt c 65536) refl
+encode_high c h = by (nat_lt c 128) (nat_lt c 2048) (nat_lt c 65536) refl
   where
     is : (b : ℕ) → 128 ≤ b → nat_le 128 b ≡ true
     is b k = le-leb 128 b k
@@ -39,9 +39,9 @@ pub record High (bytes : List ℕ) : Type 0 where
   pub parts : bytes ≡ first ∷ rest
   pub high : 128 ≤ first
 
-pub length-some : (c : ℕ) → 1 ≤ length (encode_utf8 c)
-length-some c = (let e = length-encode c in let k = (len_utf8_bounds c).0 in omega (arith, e, k))
+pub length_some : (c : ℕ) → 1 ≤ length (encode_utf8 c)
+length_some c = (let e = length-encode c in let k = (len_utf8_bounds c).0 in omega (arith, e, k))
 
-pub high-of : (bytes : List ℕ) → 1 ≤ length bytes → list_all is_high bytes ≡ true → High bytes
-high-of [] h k = absurd (omega (arith, h))
-high-of (b ∷ bytes) h k = record { first = b; rest = bytes; parts = refl; high = leb-true 128 b (and_parts (nat_le 128 b) _ k).0 }
+pub high_of : (bytes : List ℕ) → 1 ≤ length bytes → list_all is_high bytes ≡ true → High bytes
+high_of [] h k = absurd (omega (arith, h))
+high_of (b ∷ bytes) h k = record { first = b; rest = bytes; parts = refl; high = leb-true 128 b (and_parts (nat_le 128 b) _ k).0 }

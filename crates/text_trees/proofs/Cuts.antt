@@ -9,28 +9,28 @@ use Rattle.yaml_marks.specs.Scalars.{is_space, without_spaces}
 use Rattle.yaml_marks.specs.Literals.{is_feed, without_feeds}
 
 -- behind an ASCII byte
-pub utf8-tail : (b : ℕ) (bytes : List ℕ) → b < 128 → IsUtf8 (b ∷ bytes) → IsUtf8 bytes
-utf8-tail b bytes h u = IsUtf8-past_char (b ∷ bytes) bytes b u (ap (λ l. l ++ bytes) (sym (encode_ascii b h)))
+pub utf8_tail : (b : ℕ) (bytes : List ℕ) → b < 128 → IsUtf8 (b ∷ bytes) → IsUtf8 bytes
+utf8_tail b bytes h u = IsUtf8-past_char (b ∷ bytes) bytes b u (ap (λ l. l ++ bytes) (sym (encode_ascii b h)))
 
 -- before an ASCII byte, or at the end
-pub utf8-cut : (bytes : List ℕ) (n : ℕ) → IsUtf8 bytes → (n < length bytes → get_or bytes n 0 < 128) → IsUtf8 (take n bytes) × IsUtf8 (drop n bytes)
-utf8-cut bytes n u h = ⊎_elim
+pub utf8_cut : (bytes : List ℕ) (n : ℕ) → IsUtf8 bytes → (n < length bytes → get_or bytes n 0 < 128) → IsUtf8 (take n bytes) × IsUtf8 (drop n bytes)
+utf8_cut bytes n u h = ⊎_elim
     (λ lt. (let b = IsCharBoundary-before_ascii bytes n lt (h lt) in (IsUtf8-take bytes n u b, IsUtf8-drop bytes n u b)))
     (λ le. (subst IsUtf8 (sym (take_all n bytes le)) u, subst IsUtf8 (sym (drop_of_length-le bytes {i = n} le)) IsUtf8-nil))
     (cases_lt n (length bytes))
 
 -- behind the ASCII bytes of a class
-pub utf8-behind : (p : ℕ → Bool) → ((b : ℕ) → p b ≡ true → b < 128) → (bytes : List ℕ) → IsUtf8 bytes → IsUtf8 (drop (prefix_len p bytes) bytes)
-utf8-behind p f [] u = u
-utf8-behind p f (b ∷ bytes) u = by (p b) refl (utf8-behind p f bytes)
+pub utf8_behind : (p : ℕ → Bool) → ((b : ℕ) → p b ≡ true → b < 128) → (bytes : List ℕ) → IsUtf8 bytes → IsUtf8 (drop (prefix_len p bytes) bytes)
+utf8_behind p f [] u = u
+utf8_behind p f (b ∷ bytes) u = by (p b) refl (utf8_behind p f bytes)
   where
     by : (t : Bool) → p b ≡ t → (IsUtf8 bytes → IsUtf8 (drop (prefix_len p bytes) bytes)) → IsUtf8 (drop (cond t (1 + prefix_len p bytes) 0) (b ∷ bytes))
-    by true e more = subst (λ (n : ℕ). IsUtf8 (drop n (b ∷ bytes))) (sym (one-add (prefix_len p bytes))) (more (utf8-tail b bytes (f b e) u))
+    by true e more = subst (λ (n : ℕ). IsUtf8 (drop n (b ∷ bytes))) (sym (one-add (prefix_len p bytes))) (more (utf8_tail b bytes (f b e) u))
     by false e more = u
 
 -- without the last ASCII bytes of a class
-utf8-without : (p : ℕ → Bool) → ((b : ℕ) → p b ≡ true → b < 128) → (bytes : List ℕ) → IsUtf8 bytes → IsUtf8 (take (length bytes - suffix_len p bytes) bytes)
-utf8-without p f bytes u = (utf8-cut bytes (length bytes - suffix_len p bytes) u at).0
+utf8_without : (p : ℕ → Bool) → ((b : ℕ) → p b ≡ true → b < 128) → (bytes : List ℕ) → IsUtf8 bytes → IsUtf8 (take (length bytes - suffix_len p bytes) bytes)
+utf8_without p f bytes u = (utf8_cut bytes (length bytes - suffix_len p bytes) u at).0
   where
     at : length bytes - suffix_len p bytes < length bytes → get_or bytes (length bytes - suffix_len p bytes) 0 < 128
     at lt =
@@ -41,17 +41,17 @@ utf8-without p f bytes u = (utf8-cut bytes (length bytes - suffix_len p bytes) u
         let passes = prefix_len_passes p (reverse bytes) k 0 (omega (arith, lt)) in
         f (get_or bytes (length bytes - suffix_len p bytes) 0) (ap p (sym (there ∙ ap (λ n. get_or bytes n 0) same)) ∙ passes)
 
-space-ascii : (b : ℕ) → is_space b ≡ true → b < 128
-space-ascii b h = let e = eqb-true b 32 h in omega (arith, e)
+space_ascii : (b : ℕ) → is_space b ≡ true → b < 128
+space_ascii b h = let e = eqb-true b 32 h in omega (arith, e)
 
-feed-ascii : (b : ℕ) → is_feed b ≡ true → b < 128
-feed-ascii b h = let e = eqb-true b 10 h in omega (arith, e)
+feed_ascii : (b : ℕ) → is_feed b ≡ true → b < 128
+feed_ascii b h = let e = eqb-true b 10 h in omega (arith, e)
 
-pub spaces-utf8 : (bytes : List ℕ) → IsUtf8 bytes → IsUtf8 (drop (prefix_len is_space bytes) bytes)
-spaces-utf8 bytes u = utf8-behind is_space space-ascii bytes u
+pub spaces_utf8 : (bytes : List ℕ) → IsUtf8 bytes → IsUtf8 (drop (prefix_len is_space bytes) bytes)
+spaces_utf8 bytes u = utf8_behind is_space space_ascii bytes u
 
-pub without_spaces-utf8 : (bytes : List ℕ) → IsUtf8 bytes → IsUtf8 (without_spaces bytes)
-without_spaces-utf8 bytes u = utf8-without is_space space-ascii bytes u
+pub without_spaces_utf8 : (bytes : List ℕ) → IsUtf8 bytes → IsUtf8 (without_spaces bytes)
+without_spaces_utf8 bytes u = utf8_without is_space space_ascii bytes u
 
-pub without_feeds-utf8 : (bytes : List ℕ) → IsUtf8 bytes → IsUtf8 (without_feeds bytes)
-without_feeds-utf8 bytes u = utf8-without is_feed feed-ascii bytes u
+pub without_feeds_utf8 : (bytes : List ℕ) → IsUtf8 bytes → IsUtf8 (without_feeds bytes)
+without_feeds_utf8 bytes u = utf8_without is_feed feed_ascii bytes u

@@ -31,48 +31,48 @@ AreSound names = AllByRecursion (λ n. IsSound n.1) names
 abbrev pub IsSoundMeaning : Meaning → Type 0
 IsSoundMeaning m = IsSound m.0 × AreSound m.1
 
-pub copied-sound : (line : ℕ) (n : List ℕ) (names : Names) → AreSound names → IsSound (copied line n names)
-copied-sound line n [] h = tt
-copied-sound line n (e ∷ names) h = by (pointwise ◌==◌ n e.0) (copied-sound line n names h.1)
+pub copied_sound : (line : ℕ) (n : List ℕ) (names : Names) → AreSound names → IsSound (copied line n names)
+copied_sound line n [] h = tt
+copied_sound line n (e ∷ names) h = by (pointwise ◌==◌ n e.0) (copied_sound line n names h.1)
   where
     by : (t : Bool) → IsSound (copied line n names) → IsSound (unwrap_or (cond t (Some e.1) (lookup (pointwise ◌==◌ n) names)) (unknown line))
     by true more = h.0
     by false more = more
 
-pub scalar-sound : (line : ℕ) (value : Option (List ℕ)) → IfSome value IsUtf8 → IsSound (scalar_said line value)
-scalar-sound line None h = tt
-scalar-sound line (Some bytes) h = h
+pub scalar_sound : (line : ℕ) (value : Option (List ℕ)) → IfSome value IsUtf8 → IsSound (scalar_said line value)
+scalar_sound line None h = tt
+scalar_sound line (Some bytes) h = h
 
-are_items-from_line : (n : ℕ) (tree : Said) → are_items (from_line n tree) ≡ are_items tree
-are_items-from_line n (null line) = refl
-are_items-from_line n (text line bytes) = refl
-are_items-from_line n (unknown line) = refl
-are_items-from_line n (sequence line) = refl
-are_items-from_line n (mapping line) = refl
-are_items-from_line n (with_item before value) = are_items-from_line n before
-are_items-from_line n (with_pair before line key value) = refl
+are_items_from_line : (n : ℕ) (tree : Said) → are_items (from_line n tree) ≡ are_items tree
+are_items_from_line n (null line) = refl
+are_items_from_line n (text line bytes) = refl
+are_items_from_line n (unknown line) = refl
+are_items_from_line n (sequence line) = refl
+are_items_from_line n (mapping line) = refl
+are_items_from_line n (with_item before value) = are_items_from_line n before
+are_items_from_line n (with_pair before line key value) = refl
 
-are_pairs-from_line : (n : ℕ) (tree : Said) → are_pairs (from_line n tree) ≡ are_pairs tree
-are_pairs-from_line n (null line) = refl
-are_pairs-from_line n (text line bytes) = refl
-are_pairs-from_line n (unknown line) = refl
-are_pairs-from_line n (sequence line) = refl
-are_pairs-from_line n (mapping line) = refl
-are_pairs-from_line n (with_item before value) = refl
-are_pairs-from_line n (with_pair before line key value) = are_pairs-from_line n before
+are_pairs_from_line : (n : ℕ) (tree : Said) → are_pairs (from_line n tree) ≡ are_pairs tree
+are_pairs_from_line n (null line) = refl
+are_pairs_from_line n (text line bytes) = refl
+are_pairs_from_line n (unknown line) = refl
+are_pairs_from_line n (sequence line) = refl
+are_pairs_from_line n (mapping line) = refl
+are_pairs_from_line n (with_item before value) = refl
+are_pairs_from_line n (with_pair before line key value) = are_pairs_from_line n before
 
 -- whichever line a tree begins on
-from_line-sound : (n : ℕ) (tree : Said) → IsSound tree → IsSound (from_line n tree)
-from_line-sound n (null line) h = h
-from_line-sound n (text line bytes) h = h
-from_line-sound n (unknown line) h = h
-from_line-sound n (sequence line) h = h
-from_line-sound n (mapping line) h = h
-from_line-sound n (with_item before value) h = (are_items-from_line n before ∙ h.0, from_line-sound n before h.1, h.2)
-from_line-sound n (with_pair before line key value) h = (are_pairs-from_line n before ∙ h.0, h.1, from_line-sound n before h.2, h.3)
+from_line_sound : (n : ℕ) (tree : Said) → IsSound tree → IsSound (from_line n tree)
+from_line_sound n (null line) h = h
+from_line_sound n (text line bytes) h = h
+from_line_sound n (unknown line) h = h
+from_line_sound n (sequence line) h = h
+from_line_sound n (mapping line) h = h
+from_line_sound n (with_item before value) h = (are_items_from_line n before ∙ h.0, from_line_sound n before h.1, h.2)
+from_line_sound n (with_pair before line key value) h = (are_pairs_from_line n before ∙ h.0, h.1, from_line_sound n before h.2, h.3)
 
-pub given-sound : (line : ℕ) (n : List ℕ) (m : Meaning) → IsSoundMeaning m → IsSoundMeaning (given line n m)
-given-sound line n m h = let node = from_line-sound line m.0 h.0 in (node, (node, h.1))
+pub given_sound : (line : ℕ) (n : List ℕ) (m : Meaning) → IsSoundMeaning m → IsSoundMeaning (given line n m)
+given_sound line n m h = let node = from_line_sound line m.0 h.0 in (node, (node, h.1))
 
 -- ---- flow forms
 
@@ -84,82 +84,82 @@ AreRowsOf Curly tree = are_pairs tree ≡ true
 abbrev pub AreGood : List Piece → Type 0
 AreGood pieces = AllByRecursion IsGoodPiece pieces
 
-good-front : (xs ys : List Piece) → AreGood (xs ++ ys) → AreGood xs
-good-front [] ys h = tt
-good-front (x ∷ xs) ys h = (h.0, good-front xs ys h.1)
+good_front : (xs ys : List Piece) → AreGood (xs ++ ys) → AreGood xs
+good_front [] ys h = tt
+good_front (x ∷ xs) ys h = (h.0, good_front xs ys h.1)
 
-good-back : (xs ys : List Piece) → AreGood (xs ++ ys) → AreGood ys
-good-back [] ys h = h
-good-back (x ∷ xs) ys h = good-back xs ys h.1
+good_back : (xs ys : List Piece) → AreGood (xs ++ ys) → AreGood ys
+good_back [] ys h = h
+good_back (x ∷ xs) ys h = good_back xs ys h.1
 
-word-sound : (line : ℕ) (piece : Piece) (names : Names) → is_cell_word piece ≡ true → IsGoodPiece piece → AreSound names → IsSound (word_said line piece names)
-word-sound line (CellScalar value) names e g h = scalar-sound line value g
-word-sound line (CellCopy n) names e g h = copied-sound line n names h
-word-sound line (Opening bracket) names e g h = tt
-word-sound line (Closing bracket) names e g h = tt
-word-sound line Comma names e g h = tt
-word-sound line (CellKey bytes) names e g h = tt
-word-sound line (CellName n) names e g h = tt
-word-sound line (OddPiece why) names e g h = tt
+word_sound : (line : ℕ) (piece : Piece) (names : Names) → is_cell_word piece ≡ true → IsGoodPiece piece → AreSound names → IsSound (word_said line piece names)
+word_sound line (CellScalar value) names e g h = scalar_sound line value g
+word_sound line (CellCopy n) names e g h = copied_sound line n names h
+word_sound line (Opening bracket) names e g h = tt
+word_sound line (Closing bracket) names e g h = tt
+word_sound line Comma names e g h = tt
+word_sound line (CellKey bytes) names e g h = tt
+word_sound line (CellName n) names e g h = tt
+word_sound line (OddPiece why) names e g h = tt
 
-key-utf8 : (piece : Piece) → is_cell_key piece ≡ true → IsGoodPiece piece → IsUtf8 (piece_text piece)
-key-utf8 (CellKey bytes) e g = g
-key-utf8 (Opening bracket) e g = absurd (true≢false (sym e))
-key-utf8 (Closing bracket) e g = absurd (true≢false (sym e))
-key-utf8 Comma e g = absurd (true≢false (sym e))
-key-utf8 (CellScalar value) e g = absurd (true≢false (sym e))
-key-utf8 (CellName n) e g = absurd (true≢false (sym e))
-key-utf8 (CellCopy n) e g = absurd (true≢false (sym e))
-key-utf8 (OddPiece why) e g = absurd (true≢false (sym e))
+key_utf8 : (piece : Piece) → is_cell_key piece ≡ true → IsGoodPiece piece → IsUtf8 (piece_text piece)
+key_utf8 (CellKey bytes) e g = g
+key_utf8 (Opening bracket) e g = absurd (true≢false (sym e))
+key_utf8 (Closing bracket) e g = absurd (true≢false (sym e))
+key_utf8 Comma e g = absurd (true≢false (sym e))
+key_utf8 (CellScalar value) e g = absurd (true≢false (sym e))
+key_utf8 (CellName n) e g = absurd (true≢false (sym e))
+key_utf8 (CellCopy n) e g = absurd (true≢false (sym e))
+key_utf8 (OddPiece why) e g = absurd (true≢false (sym e))
 
 abbrev AreSoundRows : Bracket → Meaning → Type 0
 AreSoundRows bracket m = AreRowsOf bracket m.0 × IsSoundMeaning m
 
-begun-form : (bracket : Bracket) (line : ℕ) (names : Names) → AreSound names → AreSoundRows bracket (begun_form bracket line, names)
-begun-form Square line names h = (refl, (tt, h))
-begun-form Curly line names h = (refl, (tt, h))
+begun_form_is : (bracket : Bracket) (line : ℕ) (names : Names) → AreSound names → AreSoundRows bracket (begun_form bracket line, names)
+begun_form_is Square line names h = (refl, (tt, h))
+begun_form_is Curly line names h = (refl, (tt, h))
 
 -- a bracket is of one kind
 square_or_curly : Curly ≡ Square → ⊥
 square_or_curly e = cc
 
 mutual
-  flow-value : (f : Flow) (line : ℕ) (none : Said) (names : Names) → IsValue f → AreGood (spelling f) → IsSound none → AreSound names → IsSoundMeaning (flow_said line none names f)
-  flow-value absent line none names v g n h = absurd v
-  flow-value (word piece) line none names v g n h = (word-sound line piece names v g.0 h, h)
-  flow-value (called piece absent) line none names v g n h = given-sound line (piece_text piece) (none, names) (n, h)
-  flow-value (called piece (word other)) line none names v g n h = given-sound line (piece_text piece) (flow_said line none names (word other)) (flow-value (word other) line none names v.2 g.1 n h)
-  flow-value (called piece (called other value)) line none names v g n h = given-sound line (piece_text piece) (flow_said line none names (called other value)) (flow-value (called other value) line none names v.2 g.1 n h)
-  flow-value (called piece (item before value)) line none names v g n h = absurd v.2
-  flow-value (called piece (pair before key value)) line none names v g n h = absurd v.2
-  flow-value (called piece (form bracket cells last)) line none names v g n h = given-sound line (piece_text piece) (flow_said line none names (form bracket cells last)) (flow-value (form bracket cells last) line none names v.2 g.1 n h)
-  flow-value (item before value) line none names v g n h = absurd v
-  flow-value (pair before key value) line none names v g n h = absurd v
-  flow-value (form bracket cells last) line none names v g n h = (flow-cells cells bracket line names v.0 (good-front (spelling cells) _ g.1) h).1
+  flow_value : (f : Flow) (line : ℕ) (none : Said) (names : Names) → IsValue f → AreGood (spelling f) → IsSound none → AreSound names → IsSoundMeaning (flow_said line none names f)
+  flow_value absent line none names v g n h = absurd v
+  flow_value (word piece) line none names v g n h = (word_sound line piece names v g.0 h, h)
+  flow_value (called piece absent) line none names v g n h = given_sound line (piece_text piece) (none, names) (n, h)
+  flow_value (called piece (word other)) line none names v g n h = given_sound line (piece_text piece) (flow_said line none names (word other)) (flow_value (word other) line none names v.2 g.1 n h)
+  flow_value (called piece (called other value)) line none names v g n h = given_sound line (piece_text piece) (flow_said line none names (called other value)) (flow_value (called other value) line none names v.2 g.1 n h)
+  flow_value (called piece (item before value)) line none names v g n h = absurd v.2
+  flow_value (called piece (pair before key value)) line none names v g n h = absurd v.2
+  flow_value (called piece (form bracket cells last)) line none names v g n h = given_sound line (piece_text piece) (flow_said line none names (form bracket cells last)) (flow_value (form bracket cells last) line none names v.2 g.1 n h)
+  flow_value (item before value) line none names v g n h = absurd v
+  flow_value (pair before key value) line none names v g n h = absurd v
+  flow_value (form bracket cells last) line none names v g n h = (flow_cells cells bracket line names v.0 (good_front (spelling cells) _ g.1) h).1
 
-  flow-cells : (f : Flow) (bracket : Bracket) (line : ℕ) (names : Names) → AreCells bracket f → AreGood (spelling f) → AreSound names → AreSoundRows bracket (flow_said line (begun_form bracket line) names f)
-  flow-cells absent bracket line names v g h = begun-form bracket line names h
-  flow-cells (word piece) bracket line names v g h = absurd v
-  flow-cells (called piece value) bracket line names v g h = absurd v
-  flow-cells (item before value) Square line names v g h =
-      let b = flow-cells before Square line names v.1 (good-front (spelling before) _ g) h in
+  flow_cells : (f : Flow) (bracket : Bracket) (line : ℕ) (names : Names) → AreCells bracket f → AreGood (spelling f) → AreSound names → AreSoundRows bracket (flow_said line (begun_form bracket line) names f)
+  flow_cells absent bracket line names v g h = begun_form_is bracket line names h
+  flow_cells (word piece) bracket line names v g h = absurd v
+  flow_cells (called piece value) bracket line names v g h = absurd v
+  flow_cells (item before value) Square line names v g h =
+      let b = flow_cells before Square line names v.1 (good_front (spelling before) _ g) h in
       let m = flow_said line (sequence line) names before in
-      let x = flow-value value line (null line) m.1 v.2 (good-back (comma_if _) (spelling value) (good-back (spelling before) _ g)) tt b.1.1 in
+      let x = flow_value value line (null line) m.1 v.2 (good_back (comma_if _) (spelling value) (good_back (spelling before) _ g)) tt b.1.1 in
       (b.0, ((b.0, b.1.0, x.0), x.1))
-  flow-cells (item before value) Curly line names v g h = absurd (square_or_curly v.0)
-  flow-cells (pair before key value) Square line names v g h = absurd (square_or_curly (sym v.0))
-  flow-cells (pair before key value) Curly line names v g h =
-      let b = flow-cells before Curly line names v.2 (good-front (spelling before) _ g) h in
+  flow_cells (item before value) Curly line names v g h = absurd (square_or_curly v.0)
+  flow_cells (pair before key value) Square line names v g h = absurd (square_or_curly (sym v.0))
+  flow_cells (pair before key value) Curly line names v g h =
+      let b = flow_cells before Curly line names v.2 (good_front (spelling before) _ g) h in
       let m = flow_said line (mapping line) names before in
-      let k = good-back (comma_if _) (key ∷ spelling value) (good-back (spelling before) _ g) in
-      let x = flow-value value line (null line) m.1 v.3 k.1 tt b.1.1 in
-      (b.0, ((b.0, key-utf8 key v.1 k.0, b.1.0, x.0), x.1))
-  flow-cells (form other cells last) bracket line names v g h = absurd v
+      let k = good_back (comma_if _) (key ∷ spelling value) (good_back (spelling before) _ g) in
+      let x = flow_value value line (null line) m.1 v.3 k.1 tt b.1.1 in
+      (b.0, ((b.0, key_utf8 key v.1 k.0, b.1.0, x.0), x.1))
+  flow_cells (form other cells last) bracket line names v g h = absurd v
 
-pub form-sound : (f : Flow) (line : ℕ) (none : Said) (names : Names) → IsForm f → AreGood (spelling f) → IsSound none → AreSound names → IsSoundMeaning (flow_said line none names f)
-form-sound absent line none names v g n h = absurd v
-form-sound (word piece) line none names v g n h = absurd v
-form-sound (called piece value) line none names v g n h = absurd v
-form-sound (item before value) line none names v g n h = absurd v
-form-sound (pair before key value) line none names v g n h = absurd v
-form-sound (form bracket cells last) line none names v g n h = flow-value (form bracket cells last) line none names v g n h
+pub form_sound : (f : Flow) (line : ℕ) (none : Said) (names : Names) → IsForm f → AreGood (spelling f) → IsSound none → AreSound names → IsSoundMeaning (flow_said line none names f)
+form_sound absent line none names v g n h = absurd v
+form_sound (word piece) line none names v g n h = absurd v
+form_sound (called piece value) line none names v g n h = absurd v
+form_sound (item before value) line none names v g n h = absurd v
+form_sound (pair before key value) line none names v g n h = absurd v
+form_sound (form bracket cells last) line none names v g n h = flow_value (form bracket cells last) line none names v g n h

@@ -11,85 +11,85 @@ use Rattle.yaml_marks.specs.Tokens.{column_behind}
 use Rattle.yaml_marks.specs.Scalars.{is_space, is_nothing}
 use Rattle.yaml_marks.specs.declared.chomp.Chomp.{Chomp}
 use Rattle.yaml_marks.specs.declared.chomp.Chomp.TheVariants.{Clip, Strip, Keep}
-use Rattle.text_trees.proofs.Cuts.{utf8-tail, without_feeds-utf8}
-use Rattle.text_trees.proofs.Characters.{one_byte, is_high, High, high-of, length-some, encode-high}
+use Rattle.text_trees.proofs.Cuts.{utf8_tail, without_feeds_utf8}
+use Rattle.text_trees.proofs.Characters.{one_byte, is_high, High, high_of, length_some, encode_high}
 use Rattle.text_trees.proofs.GoodBlocks.{StandsIn}
 
 -- ---- lines
 
-byte-lines : (b : ℕ) (lines : List (List ℕ)) → b < 128 → AllByRecursion IsUtf8 lines → AllByRecursion IsUtf8 (byte_before b lines)
-byte-lines b [] lt h = (one_byte b lt, tt)
-byte-lines b (line ∷ lines) lt h = (IsUtf8-append (b ∷ []) line (one_byte b lt) h.0, h.1)
+byte_lines : (b : ℕ) (lines : List (List ℕ)) → b < 128 → AllByRecursion IsUtf8 lines → AllByRecursion IsUtf8 (byte_before b lines)
+byte_lines b [] lt h = (one_byte b lt, tt)
+byte_lines b (line ∷ lines) lt h = (IsUtf8-append (b ∷ []) line (one_byte b lt) h.0, h.1)
 
 -- more bytes before the first line
 bytes_before : List ℕ → List (List ℕ) → List (List ℕ)
 bytes_before [] lines = lines
 bytes_before (b ∷ bytes) lines = byte_before b (bytes_before bytes lines)
 
-bytes_before-line : (bytes line : List ℕ) (lines : List (List ℕ)) → bytes_before bytes (line ∷ lines) ≡ (bytes ++ line) ∷ lines
+bytes_before_line : (bytes line : List ℕ) (lines : List (List ℕ)) → bytes_before bytes (line ∷ lines) ≡ (bytes ++ line) ∷ lines
 unfolding bytes_before
-bytes_before-line [] line lines = refl
-bytes_before-line (b ∷ bytes) line lines = ap (byte_before b) (bytes_before-line bytes line lines)
+bytes_before_line [] line lines = refl
+bytes_before_line (b ∷ bytes) line lines = ap (byte_before b) (bytes_before_line bytes line lines)
 
-bytes_before-none : (b : ℕ) (bytes : List ℕ) → bytes_before (b ∷ bytes) [] ≡ (b ∷ bytes) ∷ []
+bytes_before_none : (b : ℕ) (bytes : List ℕ) → bytes_before (b ∷ bytes) [] ≡ (b ∷ bytes) ∷ []
 unfolding bytes_before
-bytes_before-none b [] = refl
-bytes_before-none b (c ∷ bytes) = ap (byte_before b) (bytes_before-none c bytes)
+bytes_before_none b [] = refl
+bytes_before_none b (c ∷ bytes) = ap (byte_before b) (bytes_before_none c bytes)
 
-high-lines : (bytes rest : List ℕ) → list_all is_high bytes ≡ true → split_lines (bytes ++ rest) ≡ bytes_before bytes (split_lines rest)
+high_lines : (bytes rest : List ℕ) → list_all is_high bytes ≡ true → split_lines (bytes ++ rest) ≡ bytes_before bytes (split_lines rest)
 unfolding split_lines bytes_before
-high-lines [] rest h = refl
-high-lines (b ∷ bytes) rest h =
+high_lines [] rest h = refl
+high_lines (b ∷ bytes) rest h =
     let k = and_parts (nat_le 128 b) _ h in
     let big = leb-true 128 b k.0 in
-    rw (ne_eqb b 10 (λ e. absurd (omega (arith, e, big))), ne_eqb b 13 (λ e. absurd (omega (arith, e, big)))) (ap (byte_before b) (high-lines bytes rest k.1))
+    rw (ne_eqb b 10 (λ e. absurd (omega (arith, e, big))), ne_eqb b 13 (λ e. absurd (omega (arith, e, big)))) (ap (byte_before b) (high_lines bytes rest k.1))
 
-front-lines : (bytes : List ℕ) (lines : List (List ℕ)) → High bytes → IsUtf8 bytes → AllByRecursion IsUtf8 lines → AllByRecursion IsUtf8 (bytes_before bytes lines)
-front-lines bytes [] o u h = subst (AllByRecursion IsUtf8) (sym (ap (λ l. bytes_before l []) o.parts ∙ bytes_before-none o.first o.rest ∙ ap (λ l. l ∷ []) (sym o.parts))) (u, tt)
-front-lines bytes (line ∷ lines) o u h = subst (AllByRecursion IsUtf8) (sym (bytes_before-line bytes line lines)) (IsUtf8-append bytes line u h.0, h.1)
+front_lines : (bytes : List ℕ) (lines : List (List ℕ)) → High bytes → IsUtf8 bytes → AllByRecursion IsUtf8 lines → AllByRecursion IsUtf8 (bytes_before bytes lines)
+front_lines bytes [] o u h = subst (AllByRecursion IsUtf8) (sym (ap (λ l. bytes_before l []) o.parts ∙ bytes_before_none o.first o.rest ∙ ap (λ l. l ∷ []) (sym o.parts))) (u, tt)
+front_lines bytes (line ∷ lines) o u h = subst (AllByRecursion IsUtf8) (sym (bytes_before_line bytes line lines)) (IsUtf8-append bytes line u h.0, h.1)
 
-ascii-lines : (c : ℕ) (rest : List ℕ) → c < 128 → AllByRecursion IsUtf8 (split_lines rest) → AllByRecursion IsUtf8 (split_lines (c ∷ rest))
+ascii_lines : (c : ℕ) (rest : List ℕ) → c < 128 → AllByRecursion IsUtf8 (split_lines rest) → AllByRecursion IsUtf8 (split_lines (c ∷ rest))
 unfolding split_lines
-ascii-lines c rest lt h = by (c == 10) ((c == 13) && begins_with 10 rest)
+ascii_lines c rest lt h = by (c == 10) ((c == 13) && begins_with 10 rest)
   where
     by : (t u : Bool) → AllByRecursion IsUtf8 (if t then [] ∷ split_lines rest else (if u then split_lines rest else byte_before c (split_lines rest)))
     by true u = (IsUtf8-nil, h)
     by false true = h
-    by false false = byte-lines c (split_lines rest) lt h
+    by false false = byte_lines c (split_lines rest) lt h
 
-split-good : (cs : List ℕ) → scalars cs ≡ true → AllByRecursion IsUtf8 (split_lines (encode_utf8_all cs))
+split_good : (cs : List ℕ) → scalars cs ≡ true → AllByRecursion IsUtf8 (split_lines (encode_utf8_all cs))
 unfolding split_lines
-split-good [] s = tt
-split-good (c ∷ cs) s =
+split_good [] s = tt
+split_good (c ∷ cs) s =
     let k = and_parts (scalar c) (scalars cs) s in
-    let more = split-good cs k.1 in
-    ⊎_elim (λ lt. subst (λ (l : List ℕ). AllByRecursion IsUtf8 (split_lines (l ++ encode_utf8_all cs))) (sym (encode_ascii c lt)) (ascii-lines c (encode_utf8_all cs) lt more))
-    (λ ge. subst (AllByRecursion IsUtf8) (sym (high-lines (encode_utf8 c) (encode_utf8_all cs) (encode-high c ge)))
-    (front-lines (encode_utf8 c) (split_lines (encode_utf8_all cs)) (high-of (encode_utf8 c) (length-some c) (encode-high c ge)) (IsUtf8-encode c k.0) more))
+    let more = split_good cs k.1 in
+    ⊎_elim (λ lt. subst (λ (l : List ℕ). AllByRecursion IsUtf8 (split_lines (l ++ encode_utf8_all cs))) (sym (encode_ascii c lt)) (ascii_lines c (encode_utf8_all cs) lt more))
+    (λ ge. subst (AllByRecursion IsUtf8) (sym (high_lines (encode_utf8 c) (encode_utf8_all cs) (encode_high c ge)))
+    (front_lines (encode_utf8 c) (split_lines (encode_utf8_all cs)) (high_of (encode_utf8 c) (length_some c) (encode_high c ge)) (IsUtf8-encode c k.0) more))
     (cases_lt c 128)
 
 -- the text behind a byte order mark
-mark-parts : (text : List ℕ) → starts_with nat_eq text byte_order_mark ≡ true → text ≡ byte_order_mark ++ drop 3 text
-mark-parts [] h = absurd (true≢false (sym h))
-mark-parts (a ∷ []) h = absurd (true≢false (sym (and_parts (nat_eq 0xEF a) false h).1))
-mark-parts (a ∷ b ∷ []) h = absurd (true≢false (sym (and_parts (nat_eq 0xBB b) false (and_parts (nat_eq 0xEF a) _ h).1).1))
-mark-parts (a ∷ b ∷ c ∷ text) h =
+mark_parts : (text : List ℕ) → starts_with nat_eq text byte_order_mark ≡ true → text ≡ byte_order_mark ++ drop 3 text
+mark_parts [] h = absurd (true≢false (sym h))
+mark_parts (a ∷ []) h = absurd (true≢false (sym (and_parts (nat_eq 0xEF a) false h).1))
+mark_parts (a ∷ b ∷ []) h = absurd (true≢false (sym (and_parts (nat_eq 0xBB b) false (and_parts (nat_eq 0xEF a) _ h).1).1))
+mark_parts (a ∷ b ∷ c ∷ text) h =
     let p = and_parts (nat_eq 0xEF a) _ h in
     let q = and_parts (nat_eq 0xBB b) _ p.1 in
     λ i. sym (eqb-true 0xEF a p.0) i ∷ sym (eqb-true 0xBB b q.0) i ∷ sym (eqb-true 0xBF c (and_parts (nat_eq 0xBF c) _ q.1).0) i ∷ text
 
-mark-utf8 : (text : List ℕ) → IsUtf8 text → IsUtf8 (without_mark text)
+mark_utf8 : (text : List ℕ) → IsUtf8 text → IsUtf8 (without_mark text)
 unfolding encode
-mark-utf8 text u = by (starts_with nat_eq text byte_order_mark) refl
+mark_utf8 text u = by (starts_with nat_eq text byte_order_mark) refl
   where
     by : (t : Bool) → starts_with nat_eq text byte_order_mark ≡ t → IsUtf8 (if t then drop 3 text else text)
-    by true e = IsUtf8-past_char text (drop 3 text) 0xFEFF u (mark-parts text e)
+    by true e = IsUtf8-past_char text (drop 3 text) 0xFEFF u (mark_parts text e)
     by false e = u
 
-pub lines-utf8 : (text : List ℕ) → IsUtf8 text → AllByRecursion IsUtf8 (lines_of text)
-lines-utf8 text u =
-    let v = mark-utf8 text u in
-    subst (λ (l : List ℕ). AllByRecursion IsUtf8 (split_lines l)) (encodes-chars (without_mark text) v) (split-good (chars (without_mark text)) (scalars-chars (without_mark text) v))
+pub lines_utf8 : (text : List ℕ) → IsUtf8 text → AllByRecursion IsUtf8 (lines_of text)
+lines_utf8 text u =
+    let v = mark_utf8 text u in
+    subst (λ (l : List ℕ). AllByRecursion IsUtf8 (split_lines l)) (encodes-chars (without_mark text) v) (split_good (chars (without_mark text)) (scalars-chars (without_mark text) v))
 
 -- ---- literal blocks
 
@@ -101,76 +101,76 @@ StandFrom column (line ∷ lines) = IsUtf8 line × StandsIn column line × Stand
 abbrev IsFrom : ℕ → List ℕ → Type 0
 IsFrom n line = IsUtf8 line × ((is_blank line ≡ true) ⊎ (n ≤ indent line))
 
-known-stand : (n : ℕ) (lines : List (List ℕ)) → StandFrom (Some n) lines → AllByRecursion (IsFrom n) lines
-known-stand n [] h = tt
-known-stand n (line ∷ lines) h = ((h.0, h.1), known-stand n lines h.2)
+known_stand : (n : ℕ) (lines : List (List ℕ)) → StandFrom (Some n) lines → AllByRecursion (IsFrom n) lines
+known_stand n [] h = tt
+known_stand n (line ∷ lines) h = ((h.0, h.1), known_stand n lines h.2)
 
-all-stand : (n : ℕ) (lines : List (List ℕ)) → block_column lines ≡ Some n → StandFrom None lines → AllByRecursion (IsFrom n) lines
-all-stand n [] e h = tt
-all-stand n (line ∷ lines) e h = by (is_blank line) refl e h.2 (all-stand n lines)
+all_stand : (n : ℕ) (lines : List (List ℕ)) → block_column lines ≡ Some n → StandFrom None lines → AllByRecursion (IsFrom n) lines
+all_stand n [] e h = tt
+all_stand n (line ∷ lines) e h = by (is_blank line) refl e h.2 (all_stand n lines)
   where
     by : (t : Bool) → is_blank line ≡ t → (if t then block_column lines else Some (indent line)) ≡ Some n → StandFrom (if t then None else Some (indent line)) lines → (block_column lines ≡ Some n → StandFrom None lines → AllByRecursion (IsFrom n) lines)
         → IsFrom n line × AllByRecursion (IsFrom n) lines
     by true b q s more = ((h.0, inl b), more q s)
     by false b q s more =
         let same : indent line ≡ n = same_Some (indent line) n q in
-        ((h.0, inr (omega (arith, same))), known-stand n lines (subst (λ (k : ℕ). StandFrom (Some k) lines) same s))
+        ((h.0, inr (omega (arith, same))), known_stand n lines (subst (λ (k : ℕ). StandFrom (Some k) lines) same s))
 
 -- behind some of the spaces that a line begins with
-indent-utf8 : (n : ℕ) (line : List ℕ) → IsUtf8 line → n ≤ indent line → IsUtf8 (drop n line)
-indent-utf8 zero line u h = u
-indent-utf8 (suc n) [] u h = u
-indent-utf8 (suc n) (b ∷ bytes) u h = by (b == 32) refl h (indent-utf8 n bytes)
+indent_utf8 : (n : ℕ) (line : List ℕ) → IsUtf8 line → n ≤ indent line → IsUtf8 (drop n line)
+indent_utf8 zero line u h = u
+indent_utf8 (suc n) [] u h = u
+indent_utf8 (suc n) (b ∷ bytes) u h = by (b == 32) refl h (indent_utf8 n bytes)
   where
     by : (t : Bool) → (b == 32) ≡ t → suc n ≤ (if t then 1 + prefix_len is_space bytes else 0) → (IsUtf8 bytes → n ≤ indent bytes → IsUtf8 (drop n bytes)) → IsUtf8 (drop n bytes)
-    by true e k more = let q = eqb-true b 32 e in more (utf8-tail b bytes (omega (arith, q)) u) (omega (arith, k))
+    by true e k more = let q = eqb-true b 32 e in more (utf8_tail b bytes (omega (arith, q)) u) (omega (arith, k))
     by false e k more = absurd (omega (arith, k))
 
 -- a blank line is spaces
-blank-indent : (line : List ℕ) → is_blank line ≡ true → length line ≤ indent line
-blank-indent [] h = omega arith
-blank-indent (b ∷ bytes) h = by (b == 32) h (blank-indent bytes)
+blank_indent : (line : List ℕ) → is_blank line ≡ true → length line ≤ indent line
+blank_indent [] h = omega arith
+blank_indent (b ∷ bytes) h = by (b == 32) h (blank_indent bytes)
   where
     by : (t : Bool) → is_nothing (drop (if t then 1 + prefix_len is_space bytes else 0) (b ∷ bytes)) ≡ true → (is_blank bytes ≡ true → length bytes ≤ indent bytes) → suc (length bytes) ≤ (if t then 1 + prefix_len is_space bytes else 0)
     by true k more = let rest = more (subst (λ (n : ℕ). is_nothing (drop n (b ∷ bytes)) ≡ true) (one-add (prefix_len is_space bytes)) k) in omega (arith, rest)
     by false k more = absurd (true≢false (sym k))
 
-from-utf8 : (n : ℕ) (line : List ℕ) → IsFrom n line → IsUtf8 (drop n line)
-from-utf8 n line h = ⊎_elim blank (λ le. indent-utf8 n line h.0 le) h.1
+from_utf8 : (n : ℕ) (line : List ℕ) → IsFrom n line → IsUtf8 (drop n line)
+from_utf8 n line h = ⊎_elim blank (λ le. indent_utf8 n line h.0 le) h.1
   where
     blank : is_blank line ≡ true → IsUtf8 (drop n line)
-    blank b = ⊎_elim (λ lt. (let most = blank-indent line b in indent-utf8 n line h.0 (omega (arith, lt, most)))) (λ le. subst IsUtf8 (sym (drop_of_length-le line {i = n} le)) IsUtf8-nil) (cases_lt n (length line))
+    blank b = ⊎_elim (λ lt. (let most = blank_indent line b in indent_utf8 n line h.0 (omega (arith, lt, most)))) (λ le. subst IsUtf8 (sym (drop_of_length-le line {i = n} le)) IsUtf8-nil) (cases_lt n (length line))
 
 feed : IsUtf8 (10 ∷ [])
 feed = one_byte 10 (omega arith)
 
-joined-utf8 : (column : Option ℕ) (lines : List (List ℕ)) → AllByRecursion (λ line. IsUtf8 (line_from column line)) lines → IsUtf8 (joined column lines)
-joined-utf8 column [] h = IsUtf8-nil
-joined-utf8 column (line ∷ lines) h = IsUtf8-append (line_from column line) (10 ∷ joined column lines) h.0 (IsUtf8-append (10 ∷ []) (joined column lines) feed (joined-utf8 column lines h.1))
+joined_utf8 : (column : Option ℕ) (lines : List (List ℕ)) → AllByRecursion (λ line. IsUtf8 (line_from column line)) lines → IsUtf8 (joined column lines)
+joined_utf8 column [] h = IsUtf8-nil
+joined_utf8 column (line ∷ lines) h = IsUtf8-append (line_from column line) (10 ∷ joined column lines) h.0 (IsUtf8-append (10 ∷ []) (joined column lines) feed (joined_utf8 column lines h.1))
 
-none-utf8 : (lines : List (List ℕ)) → AllByRecursion (λ line. IsUtf8 (line_from None line)) lines
-none-utf8 [] = tt
-none-utf8 (line ∷ lines) = (IsUtf8-nil, none-utf8 lines)
+none_utf8 : (lines : List (List ℕ)) → AllByRecursion (λ line. IsUtf8 (line_from None line)) lines
+none_utf8 [] = tt
+none_utf8 (line ∷ lines) = (IsUtf8-nil, none_utf8 lines)
 
-some-utf8 : (n : ℕ) (lines : List (List ℕ)) → AllByRecursion (IsFrom n) lines → AllByRecursion (λ line. IsUtf8 (line_from (Some n) line)) lines
-some-utf8 n [] h = tt
-some-utf8 n (line ∷ lines) h = (from-utf8 n line h.0, some-utf8 n lines h.1)
+some_utf8 : (n : ℕ) (lines : List (List ℕ)) → AllByRecursion (IsFrom n) lines → AllByRecursion (λ line. IsUtf8 (line_from (Some n) line)) lines
+some_utf8 n [] h = tt
+some_utf8 n (line ∷ lines) h = (from_utf8 n line h.0, some_utf8 n lines h.1)
 
-fed-utf8 : (bytes : List ℕ) → IsUtf8 bytes → IsUtf8 (with_feed bytes)
-fed-utf8 bytes u = by (is_nothing bytes)
+fed_utf8 : (bytes : List ℕ) → IsUtf8 bytes → IsUtf8 (with_feed bytes)
+fed_utf8 bytes u = by (is_nothing bytes)
   where
     by : (t : Bool) → IsUtf8 (if t then [] else bytes ++ (10 ∷ []))
     by true = IsUtf8-nil
     by false = IsUtf8-append bytes (10 ∷ []) u feed
 
-chomped-utf8 : (chomp : Chomp) (bytes : List ℕ) → IsUtf8 bytes → IsUtf8 (chomped chomp bytes)
-chomped-utf8 Clip bytes u = fed-utf8 (without_feeds bytes) (without_feeds-utf8 bytes u)
-chomped-utf8 Strip bytes u = without_feeds-utf8 bytes u
-chomped-utf8 Keep bytes u = u
+chomped_utf8 : (chomp : Chomp) (bytes : List ℕ) → IsUtf8 bytes → IsUtf8 (chomped chomp bytes)
+chomped_utf8 Clip bytes u = fed_utf8 (without_feeds bytes) (without_feeds_utf8 bytes u)
+chomped_utf8 Strip bytes u = without_feeds_utf8 bytes u
+chomped_utf8 Keep bytes u = u
 
-pub block-utf8 : (chomp : Chomp) (lines : List (List ℕ)) → StandFrom None lines → IsUtf8 (block_text chomp lines)
-block-utf8 chomp lines h = chomped-utf8 chomp (joined (block_column lines) lines) (joined-utf8 (block_column lines) lines (by (block_column lines) refl))
+pub block_utf8 : (chomp : Chomp) (lines : List (List ℕ)) → StandFrom None lines → IsUtf8 (block_text chomp lines)
+block_utf8 chomp lines h = chomped_utf8 chomp (joined (block_column lines) lines) (joined_utf8 (block_column lines) lines (by (block_column lines) refl))
   where
     by : (o : Option ℕ) → block_column lines ≡ o → AllByRecursion (λ line. IsUtf8 (line_from o line)) lines
-    by None e = none-utf8 lines
-    by (Some n) e = some-utf8 n lines (all-stand n lines e h)
+    by None e = none_utf8 lines
+    by (Some n) e = some_utf8 n lines (all_stand n lines e h)

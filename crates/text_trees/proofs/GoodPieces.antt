@@ -13,46 +13,46 @@ use Rattle.yaml_marks.specs.declared.piece.Piece.{Piece}
 use Rattle.yaml_marks.specs.declared.piece.Piece.TheVariants.{Opening, Closing, Comma, CellKey, CellScalar, CellName, CellCopy}
 use Rattle.yaml_marks.specs.declared.scan.Scan.{Scan}
 use Rattle.yaml_marks.specs.declared.scan.Scan.TheVariants.{Plain, Quoted, Refused}
-use Rattle.text_trees.proofs.Cuts.{utf8-tail, utf8-behind, spaces-utf8}
-use Rattle.text_trees.proofs.Scans.{IsGoodCell, cell_scan-good}
-use Rattle.text_trees.proofs.Escapes.{double_len-at, IsQuoteAt}
+use Rattle.text_trees.proofs.Cuts.{utf8_tail, utf8_behind, spaces_utf8}
+use Rattle.text_trees.proofs.Scans.{IsGoodCell, cell_scan_good}
+use Rattle.text_trees.proofs.Escapes.{double_len_at, IsQuoteAt}
 
 abbrev pub IsGoodPiece : Piece → Type 0
 IsGoodPiece (CellKey text) = IsUtf8 text
 IsGoodPiece (CellScalar text) = IfSome text IsUtf8
 IsGoodPiece _ = Unit {0}
 
-pub plain_value-good : (text : List ℕ) → IsUtf8 text → IfSome (plain_value text) IsUtf8
-plain_value-good text u = by (is_null text)
+pub plain_value_good : (text : List ℕ) → IsUtf8 text → IfSome (plain_value text) IsUtf8
+plain_value_good text u = by (is_null text)
   where
     by : (t : Bool) → IfSome (if t then None else Some text) IsUtf8
     by true = tt
     by false = u
 
-pub name-ascii : (b : ℕ) → is_name_byte b ≡ true → b < 128
-name-ascii b h = grind (arith, nat_tests)
+pub name_ascii : (b : ℕ) → is_name_byte b ≡ true → b < 128
+name_ascii b h = grind (arith, nat_tests)
 
 -- a step over UTF-8
 abbrev IsGoodStep : List ℕ → CellStep → Type 0
 IsGoodStep bytes step = IfSome step.piece IsGoodPiece × IsUtf8 (drop step.skip bytes)
 
 -- bytes that begin with one of ASCII
-pub begun-utf8 : (b : ℕ) (bytes : List ℕ) → b < 128 → begins_with b bytes ≡ true → IsUtf8 bytes → IsUtf8 (drop 1 bytes)
-begun-utf8 b [] lt h u = u
-begun-utf8 b (c ∷ bytes) lt h u = let e = eqb-true c b h in utf8-tail c bytes (omega (arith, e, lt)) u
+pub begun_utf8 : (b : ℕ) (bytes : List ℕ) → b < 128 → begins_with b bytes ≡ true → IsUtf8 bytes → IsUtf8 (drop 1 bytes)
+begun_utf8 b [] lt h u = u
+begun_utf8 b (c ∷ bytes) lt h u = let e = eqb-true c b h in utf8_tail c bytes (omega (arith, e, lt)) u
 
 -- behind a colon, spaces before it aside
-pub colon-utf8 : (rest : List ℕ) → at_colon rest ≡ true → IsUtf8 rest → IsUtf8 (drop 1 (after_spaces rest))
-colon-utf8 rest h u = begun-utf8 58 (after_spaces rest) (omega arith) (and_parts (begins_with 58 (after_spaces rest)) _ h).0 (spaces-utf8 rest u)
+pub colon_utf8 : (rest : List ℕ) → at_colon rest ≡ true → IsUtf8 rest → IsUtf8 (drop 1 (after_spaces rest))
+colon_utf8 rest h u = begun_utf8 58 (after_spaces rest) (omega arith) (and_parts (begins_with 58 (after_spaces rest)) _ h).0 (spaces_utf8 rest u)
 
 -- a byte less of a list without its first byte
 drop_less : (b n : ℕ) (bytes : List ℕ) → 1 ≤ n → drop (n - 1) bytes ≡ drop n (b ∷ bytes)
 drop_less b zero bytes h = absurd (omega (arith, h))
 drop_less b (suc n) bytes h = ap (λ k. drop k bytes) (let e : suc n - 1 ≡ n = omega arith in e)
 
-word-good : (b : ℕ) (bytes text : List ℕ) (value : Option (List ℕ)) (len : ℕ) → IsUtf8 (b ∷ bytes) → IsUtf8 text → IfSome value IsUtf8 → IsUtf8 (drop len (b ∷ bytes)) → (1 ≤ len) ⊎ (b < 128)
+word_good : (b : ℕ) (bytes text : List ℕ) (value : Option (List ℕ)) (len : ℕ) → IsUtf8 (b ∷ bytes) → IsUtf8 text → IfSome value IsUtf8 → IsUtf8 (drop len (b ∷ bytes)) → (1 ≤ len) ⊎ (b < 128)
     → IsGoodStep bytes (word_step text value (b ∷ bytes) len)
-word-good b bytes text value len u t v r s = by (at_colon rest) refl
+word_good b bytes text value len u t v r s = by (at_colon rest) refl
   where
     rest : List ℕ
     rest = drop len (b ∷ bytes)
@@ -60,22 +60,22 @@ word-good b bytes text value len u t v r s = by (at_colon rest) refl
     colon : at_colon rest ≡ true → IsUtf8 (drop (len + (prefix_len is_space rest + 1) - 1) bytes)
     colon e =
         subst IsUtf8 (sym (drop_less b (len + (prefix_len is_space rest + 1)) bytes (omega arith) ∙ sym (drop-drop (prefix_len is_space rest + 1) len (b ∷ bytes)) ∙ sym (drop-drop 1 (prefix_len is_space rest) rest)))
-        (colon-utf8 rest e r)
+        (colon_utf8 rest e r)
 
     plain : (1 ≤ len) ⊎ (b < 128) → IsUtf8 (drop (len - 1) bytes)
     plain (inl some) = subst IsUtf8 (sym (drop_less b len bytes some)) r
     plain (inr low) = zero_or len r
       where
         zero_or : (n : ℕ) → IsUtf8 (drop n (b ∷ bytes)) → IsUtf8 (drop (n - 1) bytes)
-        zero_or zero k = utf8-tail b bytes low u
+        zero_or zero k = utf8_tail b bytes low u
         zero_or (suc n) k = subst IsUtf8 (sym (drop_less b (suc n) bytes (omega arith))) k
 
     by : (c : Bool) → at_colon rest ≡ c → IsGoodStep bytes (record { piece = Some (if c then CellKey text else CellScalar value); skip = (if c then len + (prefix_len is_space rest + 1) else len) - 1 })
     by true e = (t, colon e)
     by false e = (v, plain s)
 
-refused-good : (b : ℕ) (bytes : List ℕ) → IsUtf8 bytes → IsUtf8 (drop (refused_len b bytes) bytes)
-refused-good b bytes u = by (b == 34) (b == 39)
+refused_good : (b : ℕ) (bytes : List ℕ) → IsUtf8 bytes → IsUtf8 (drop (refused_len b bytes) bytes)
+refused_good b bytes u = by (b == 34) (b == 39)
   where
     none : IsUtf8 (drop (length bytes) bytes)
     none = subst IsUtf8 (sym (drop_of_length-le bytes {i = length bytes} (omega arith))) IsUtf8-nil
@@ -85,23 +85,23 @@ refused-good b bytes u = by (b == 34) (b == 39)
     closed (Some n) h = subst (λ (k : ℕ). IsUtf8 (drop k bytes)) (let e : n + 1 ≡ 1 + n = omega arith in e) (IsUtf8-drop bytes (n + 1) u (IsCharBoundary-after_ascii bytes n u h.0 (omega (arith, h.1))))
 
     by : (t q : Bool) → IsUtf8 (drop (if t then closed_len bytes (double_len false bytes) else (if q then length bytes else 0)) bytes)
-    by true q = closed (double_len false bytes) (double_len-at false bytes)
+    by true q = closed (double_len false bytes) (double_len_at false bytes)
     by false true = none
     by false false = u
 
 scan-good : (b : ℕ) (bytes : List ℕ) (scan : Scan) → IsUtf8 (b ∷ bytes) → IsGoodCell b bytes scan → IsGoodStep bytes (scan_step b bytes scan)
-scan-good b bytes (Plain text len) u h = word-good b bytes text (plain_value text) len u h.0 (plain_value-good text h.0) h.1 h.2
-scan-good b bytes (Quoted text len) u h = word-good b bytes text (Some text) len u h.0 h.0 h.1 h.2
-scan-good b bytes (Refused why) u h = (tt, refused-good b bytes (utf8-tail b bytes h u))
+scan-good b bytes (Plain text len) u h = word_good b bytes text (plain_value text) len u h.0 (plain_value_good text h.0) h.1 h.2
+scan-good b bytes (Quoted text len) u h = word_good b bytes text (Some text) len u h.0 h.0 h.1 h.2
+scan-good b bytes (Refused why) u h = (tt, refused_good b bytes (utf8_tail b bytes h u))
 
-step-good : (b : ℕ) (bytes : List ℕ) → IsUtf8 (b ∷ bytes) → IsGoodStep bytes (step_at b bytes)
-step-good b bytes u =
+step_good : (b : ℕ) (bytes : List ℕ) → IsUtf8 (b ∷ bytes) → IsGoodStep bytes (step_at b bytes)
+step_good b bytes u =
     by (b == 32) (b == 91) (b == 93) (b == 123) (b == 125) (b == 44) ((b == 38) && has_name at_cell_gap bytes) ((b == 42) && has_name at_cell_gap bytes)
     (λ e. low 32 (omega arith) e) (λ e. low 91 (omega arith) e) (λ e. low 93 (omega arith) e) (λ e. low 123 (omega arith) e) (λ e. low 125 (omega arith) e) (λ e. low 44 (omega arith) e)
     (λ e. low 38 (omega arith) (and_parts (b == 38) _ e).0) (λ e. low 42 (omega arith) (and_parts (b == 42) _ e).0)
   where
     low : (c : ℕ) → c < 128 → (b == c) ≡ true → IsUtf8 bytes
-    low c lt e = let q = eqb-true b c e in utf8-tail b bytes (omega (arith, q, lt)) u
+    low c lt e = let q = eqb-true b c e in utf8_tail b bytes (omega (arith, q, lt)) u
 
     spaced : (t : Bool) → IsUtf8 bytes → IsUtf8 (drop (if t then length bytes else 0) bytes)
     spaced true v = subst IsUtf8 (sym (drop_of_length-le bytes {i = length bytes} (omega arith))) IsUtf8-nil
@@ -117,24 +117,24 @@ step-good b bytes u =
     by false false false true t v w x a c d e f g h i = (tt, e refl)
     by false false false false true v w x a c d e f g h i = (tt, f refl)
     by false false false false false true w x a c d e f g h i = (tt, g refl)
-    by false false false false false false true x a c d e f g h i = (tt, utf8-behind is_name_byte name-ascii bytes (h refl))
-    by false false false false false false false true a c d e f g h i = (tt, utf8-behind is_name_byte name-ascii bytes (i refl))
-    by false false false false false false false false a c d e f g h i = scan-good b bytes (cell_scan b bytes) u (cell_scan-good b bytes u)
+    by false false false false false false true x a c d e f g h i = (tt, utf8_behind is_name_byte name_ascii bytes (h refl))
+    by false false false false false false false true a c d e f g h i = (tt, utf8_behind is_name_byte name_ascii bytes (i refl))
+    by false false false false false false false false a c d e f g h i = scan-good b bytes (cell_scan b bytes) u (cell_scan_good b bytes u)
 
-put-good : (piece : Option Piece) (last : Bool) (pieces : List Piece) → IfSome piece IsGoodPiece → AllByRecursion IsGoodPiece pieces → AllByRecursion IsGoodPiece (put_piece piece (if last then [] else pieces))
-put-good None true pieces h k = tt
-put-good None false pieces h k = k
-put-good (Some piece) true pieces h k = (h, tt)
-put-good (Some piece) false pieces h k = (h, k)
+put_good : (piece : Option Piece) (last : Bool) (pieces : List Piece) → IfSome piece IsGoodPiece → AllByRecursion IsGoodPiece pieces → AllByRecursion IsGoodPiece (put_piece piece (if last then [] else pieces))
+put_good None true pieces h k = tt
+put_good None false pieces h k = k
+put_good (Some piece) true pieces h k = (h, tt)
+put_good (Some piece) false pieces h k = (h, k)
 
-found-good : (bytes : List ℕ) (skip n : ℕ) → IsUtf8 (drop skip bytes) → AllByRecursion IsGoodPiece (found_at skip n bytes).pieces
+found_good : (bytes : List ℕ) (skip n : ℕ) → IsUtf8 (drop skip bytes) → AllByRecursion IsGoodPiece (found_at skip n bytes).pieces
 unfolding found_at
-found-good [] skip n u = tt
-found-good (b ∷ bytes) zero n u =
+found_good [] skip n u = tt
+found_good (b ∷ bytes) zero n u =
     let step = step_at b bytes in
-    let good = step-good b bytes u in
-    put-good step.piece (is_last step.piece n) (found_at step.skip (open_after step.piece n) bytes).pieces good.0 (found-good bytes step.skip (open_after step.piece n) good.1)
-found-good (b ∷ bytes) (suc skip) n u = found-good bytes skip n u
+    let good = step_good b bytes u in
+    put_good step.piece (is_last step.piece n) (found_at step.skip (open_after step.piece n) bytes).pieces good.0 (found_good bytes step.skip (open_after step.piece n) good.1)
+found_good (b ∷ bytes) (suc skip) n u = found_good bytes skip n u
 
-pub flow-good : (bytes : List ℕ) → IsUtf8 bytes → AllByRecursion IsGoodPiece (flow_at bytes).pieces
-flow-good bytes u = found-good bytes 0 0 u
+pub flow_good : (bytes : List ℕ) → IsUtf8 bytes → AllByRecursion IsGoodPiece (flow_at bytes).pieces
+flow_good bytes u = found_good bytes 0 0 u

@@ -12,9 +12,9 @@ use Rattle.yaml_marks.specs.declared.token.Token.{Token}
 use Rattle.yaml_marks.specs.declared.token.Token.TheVariants.{Dash, Key, Scalar, Name, Copy, Body, Form}
 use Rattle.yaml_marks.specs.declared.scan.Scan.{Scan}
 use Rattle.yaml_marks.specs.declared.scan.Scan.TheVariants.{Plain, Quoted, Refused}
-use Rattle.text_trees.proofs.Cuts.{utf8-tail, utf8-behind, spaces-utf8}
-use Rattle.text_trees.proofs.Scans.{IsGoodScan, scalar_at-good}
-use Rattle.text_trees.proofs.GoodPieces.{IsGoodPiece, plain_value-good, name-ascii, colon-utf8, flow-good}
+use Rattle.text_trees.proofs.Cuts.{utf8_tail, utf8_behind, spaces_utf8}
+use Rattle.text_trees.proofs.Scans.{IsGoodScan, scalar_at_good}
+use Rattle.text_trees.proofs.GoodPieces.{IsGoodPiece, plain_value_good, name_ascii, colon_utf8, flow_good}
 
 -- a token, but a line of a literal block, whose texts are UTF-8
 abbrev pub IsGoodToken : Token → Type 0
@@ -29,116 +29,116 @@ AreGood ms = AllByRecursion IsGoodToken ms
 
 -- ---- values
 
-behind_value-good : (line : ℕ) (rest : List ℕ) → AreGood (behind_value line rest)
-behind_value-good line rest = by (at_end rest)
+behind_value_good : (line : ℕ) (rest : List ℕ) → AreGood (behind_value line rest)
+behind_value_good line rest = by (at_end rest)
   where
     by : (t : Bool) → AreGood (if t then [] else refused line 0 (why_behind (after_spaces rest)))
     by true = tt
     by false = (tt, tt)
 
-copy-good : (line column : ℕ) (bytes : List ℕ) → AreGood (copy_tokens line column bytes)
-copy-good line column bytes = by (has_name at_gap bytes)
+copy_good : (line column : ℕ) (bytes : List ℕ) → AreGood (copy_tokens line column bytes)
+copy_good line column bytes = by (has_name at_gap bytes)
   where
     by : (t : Bool) → AreGood (if t then Copy line column (name_at bytes) ∷ behind_value line (after_name bytes) else refused line column odd.Syntax)
-    by true = (tt, behind_value-good line (after_name bytes))
+    by true = (tt, behind_value_good line (after_name bytes))
     by false = (tt, tt)
 
-bar-good : (line column : ℕ) (bytes : List ℕ) → AreGood (bar_tokens line column bytes)
-bar-good line column bytes = (tt, by (is_digit_first rest))
+bar_good : (line column : ℕ) (bytes : List ℕ) → AreGood (bar_tokens line column bytes)
+bar_good line column bytes = (tt, by (is_digit_first rest))
   where
     rest : List ℕ
     rest = drop (chomp_len (chomp_at bytes)) bytes
 
     by : (t : Bool) → AreGood (if t then refused line 0 odd.Unsupported else behind_value line rest)
     by true = (tt, tt)
-    by false = behind_value-good line rest
+    by false = behind_value_good line rest
 
-indicated-good : (line column b : ℕ) (bytes : List ℕ) → IsUtf8 (b ∷ bytes) → AreGood (indicated line column b bytes)
-indicated-good line column b bytes u = by (is_bracket b) (b == 42) (b == 124)
+indicated_good : (line column b : ℕ) (bytes : List ℕ) → IsUtf8 (b ∷ bytes) → AreGood (indicated line column b bytes)
+indicated_good line column b bytes u = by (is_bracket b) (b == 42) (b == 124)
   where
     by : (p q r : Bool) → AreGood (if p then flow_tokens line column (b ∷ bytes) else (if q then copy_tokens line column bytes else (if r then bar_tokens line column bytes else refused line column odd.Syntax)))
-    by true q r = (flow-good (b ∷ bytes) u, behind_value-good line (drop (flow_at (b ∷ bytes)).len (b ∷ bytes)))
-    by false true r = copy-good line column bytes
-    by false false true = bar-good line column bytes
+    by true q r = (flow_good (b ∷ bytes) u, behind_value_good line (drop (flow_at (b ∷ bytes)).len (b ∷ bytes)))
+    by false true r = copy_good line column bytes
+    by false false true = bar_good line column bytes
     by false false false = (tt, tt)
 
-value_of-good : (line column : ℕ) (bytes : List ℕ) (scan : Scan) → IsGoodScan bytes scan → AreGood (value_tokens_of line column bytes scan)
-value_of-good line column bytes (Plain text len) h = (plain_value-good text h.0, behind_value-good line (drop len bytes))
-value_of-good line column bytes (Quoted text len) h = (h.0, behind_value-good line (drop len bytes))
-value_of-good line column bytes (Refused why) h = (tt, tt)
+value_of_good : (line column : ℕ) (bytes : List ℕ) (scan : Scan) → IsGoodScan bytes scan → AreGood (value_tokens_of line column bytes scan)
+value_of_good line column bytes (Plain text len) h = (plain_value_good text h.0, behind_value_good line (drop len bytes))
+value_of_good line column bytes (Quoted text len) h = (h.0, behind_value_good line (drop len bytes))
+value_of_good line column bytes (Refused why) h = (tt, tt)
 
-bare-good : (line column : ℕ) (bytes : List ℕ) → IsUtf8 bytes → AreGood (bare_value line column bytes)
-bare-good line column [] u = tt
-bare-good line column (b ∷ bytes) u = by (b == 35) (is_node_indicator b)
+bare_good : (line column : ℕ) (bytes : List ℕ) → IsUtf8 bytes → AreGood (bare_value line column bytes)
+bare_good line column [] u = tt
+bare_good line column (b ∷ bytes) u = by (b == 35) (is_node_indicator b)
   where
     by : (p q : Bool) → AreGood (if p then [] else (if q then indicated line column b bytes else value_tokens_of line column (b ∷ bytes) (scalar_at (b ∷ bytes))))
     by true q = tt
-    by false true = indicated-good line column b bytes u
-    by false false = value_of-good line column (b ∷ bytes) (scalar_at (b ∷ bytes)) (scalar_at-good b bytes u)
+    by false true = indicated_good line column b bytes u
+    by false false = value_of_good line column (b ∷ bytes) (scalar_at (b ∷ bytes)) (scalar_at_good b bytes u)
 
-name-tail : (b : ℕ) (bytes : List ℕ) → is_name_indicator b bytes ≡ true → IsUtf8 (b ∷ bytes) → IsUtf8 (after_spaces (after_name bytes))
-name-tail b bytes h u =
+name_tail : (b : ℕ) (bytes : List ℕ) → is_name_indicator b bytes ≡ true → IsUtf8 (b ∷ bytes) → IsUtf8 (after_spaces (after_name bytes))
+name_tail b bytes h u =
     let e = eqb-true b 38 (and_parts (b == 38) (has_name at_gap bytes) h).0 in
-    spaces-utf8 (after_name bytes) (utf8-behind is_name_byte name-ascii bytes (utf8-tail b bytes (omega (arith, e)) u))
+    spaces_utf8 (after_name bytes) (utf8_behind is_name_byte name_ascii bytes (utf8_tail b bytes (omega (arith, e)) u))
 
-named-good : (line column : ℕ) (bytes : List ℕ) → IsUtf8 bytes → AreGood (named_value line column bytes)
-named-good line column [] u = tt
-named-good line column (b ∷ bytes) u = by (is_name_indicator b bytes) refl
+named_good : (line column : ℕ) (bytes : List ℕ) → IsUtf8 bytes → AreGood (named_value line column bytes)
+named_good line column [] u = tt
+named_good line column (b ∷ bytes) u = by (is_name_indicator b bytes) refl
   where
     by : (t : Bool) → is_name_indicator b bytes ≡ t → AreGood (if t then Name line column (name_at bytes) ∷ behind_spaces (bare_value line) (column + (1 + name_len bytes)) (after_name bytes) else bare_value line column (b ∷ bytes))
-    by true e = (tt, bare-good line _ (after_spaces (after_name bytes)) (name-tail b bytes e u))
-    by false e = bare-good line column (b ∷ bytes) u
+    by true e = (tt, bare_good line _ (after_spaces (after_name bytes)) (name_tail b bytes e u))
+    by false e = bare_good line column (b ∷ bytes) u
 
-value-good : (line column : ℕ) (bytes : List ℕ) → IsUtf8 bytes → AreGood (value_tokens line column bytes)
-value-good line column bytes u = named-good line (column + prefix_len is_space bytes) (after_spaces bytes) (spaces-utf8 bytes u)
+value_good : (line column : ℕ) (bytes : List ℕ) → IsUtf8 bytes → AreGood (value_tokens line column bytes)
+value_good line column bytes u = named_good line (column + prefix_len is_space bytes) (after_spaces bytes) (spaces_utf8 bytes u)
 
 -- ---- nodes
 
-lone-good : (line column : ℕ) (value : Option (List ℕ)) (rest : List ℕ) → IfSome value IsUtf8 → AreGood (lone_tokens line column value rest)
-lone-good line column value rest v = by (at_end rest)
+lone_good : (line column : ℕ) (value : Option (List ℕ)) (rest : List ℕ) → IfSome value IsUtf8 → AreGood (lone_tokens line column value rest)
+lone_good line column value rest v = by (at_end rest)
   where
     by : (t : Bool) → AreGood (if t then Scalar line column value ∷ [] else refused line column (unkeyed (why_behind (after_spaces rest))))
     by true = (v, tt)
     by false = (tt, tt)
 
-row-good : (line column : ℕ) (text : List ℕ) (value : Option (List ℕ)) (bytes : List ℕ) (len : ℕ) → IsUtf8 text → IfSome value IsUtf8 → IsUtf8 (drop len bytes) → AreGood (row_tokens line column text value bytes len)
-row-good line column text value bytes len t v r = by (at_colon (drop len bytes)) refl
+row_good : (line column : ℕ) (text : List ℕ) (value : Option (List ℕ)) (bytes : List ℕ) (len : ℕ) → IsUtf8 text → IfSome value IsUtf8 → IsUtf8 (drop len bytes) → AreGood (row_tokens line column text value bytes len)
+row_good line column text value bytes len t v r = by (at_colon (drop len bytes)) refl
   where
     by : (c : Bool) → at_colon (drop len bytes) ≡ c → AreGood (if c then pair_tokens line column text bytes len else lone_tokens line column value (drop len bytes))
-    by true e = (t, value-good line _ (drop 1 (after_spaces (drop len bytes))) (colon-utf8 (drop len bytes) e r))
-    by false e = lone-good line column value (drop len bytes) v
+    by true e = (t, value_good line _ (drop 1 (after_spaces (drop len bytes))) (colon_utf8 (drop len bytes) e r))
+    by false e = lone_good line column value (drop len bytes) v
 
-row_of-good : (line column : ℕ) (bytes : List ℕ) (scan : Scan) → IsGoodScan bytes scan → AreGood (row_tokens_of line column bytes scan)
-row_of-good line column bytes (Plain text len) h = row-good line column text (plain_value text) bytes len h.0 (plain_value-good text h.0) h.1
-row_of-good line column bytes (Quoted text len) h = row-good line column text (Some text) bytes len h.0 h.0 h.1
-row_of-good line column bytes (Refused why) h = (tt, tt)
+row_of_good : (line column : ℕ) (bytes : List ℕ) (scan : Scan) → IsGoodScan bytes scan → AreGood (row_tokens_of line column bytes scan)
+row_of_good line column bytes (Plain text len) h = row_good line column text (plain_value text) bytes len h.0 (plain_value_good text h.0) h.1
+row_of_good line column bytes (Quoted text len) h = row_good line column text (Some text) bytes len h.0 h.0 h.1
+row_of_good line column bytes (Refused why) h = (tt, tt)
 
-last-good : (line column b : ℕ) (bytes : List ℕ) → IsUtf8 (b ∷ bytes) → AreGood (last_tokens line column b bytes)
-last-good line column b bytes u = by (b == 35) (is_node_indicator b)
+last_good : (line column b : ℕ) (bytes : List ℕ) → IsUtf8 (b ∷ bytes) → AreGood (last_tokens line column b bytes)
+last_good line column b bytes u = by (b == 35) (is_node_indicator b)
   where
     by : (p q : Bool) → AreGood (if p then [] else (if q then indicated line column b bytes else row_tokens_of line column (b ∷ bytes) (scalar_at (b ∷ bytes))))
     by true q = tt
-    by false true = indicated-good line column b bytes u
-    by false false = row_of-good line column (b ∷ bytes) (scalar_at (b ∷ bytes)) (scalar_at-good b bytes u)
+    by false true = indicated_good line column b bytes u
+    by false false = row_of_good line column (b ∷ bytes) (scalar_at (b ∷ bytes)) (scalar_at_good b bytes u)
 
-last_node-good : (line column : ℕ) (bytes : List ℕ) → IsUtf8 bytes → AreGood (last_node line column bytes)
-last_node-good line column [] u = tt
-last_node-good line column (b ∷ bytes) u = last-good line column b bytes u
+last_node_good : (line column : ℕ) (bytes : List ℕ) → IsUtf8 bytes → AreGood (last_node line column bytes)
+last_node_good line column [] u = tt
+last_node_good line column (b ∷ bytes) u = last_good line column b bytes u
 
-named_node-good : (line column b : ℕ) (bytes : List ℕ) → IsUtf8 (b ∷ bytes) → AreGood (named_node line column b bytes)
-named_node-good line column b bytes u = by (is_name_indicator b bytes) refl
+named_node_good : (line column b : ℕ) (bytes : List ℕ) → IsUtf8 (b ∷ bytes) → AreGood (named_node line column b bytes)
+named_node_good line column b bytes u = by (is_name_indicator b bytes) refl
   where
     by : (t : Bool) → is_name_indicator b bytes ≡ t → AreGood (if t then Name line column (name_at bytes) ∷ behind_spaces (last_node line) (column + (1 + name_len bytes)) (after_name bytes) else last_tokens line column b bytes)
-    by true e = (tt, last_node-good line _ (after_spaces (after_name bytes)) (name-tail b bytes e u))
-    by false e = last-good line column b bytes u
+    by true e = (tt, last_node_good line _ (after_spaces (after_name bytes)) (name_tail b bytes e u))
+    by false e = last_good line column b bytes u
 
-pub node-good : (line column : ℕ) (bytes : List ℕ) → IsUtf8 bytes → AreGood (node_tokens line column bytes)
+pub node_good : (line column : ℕ) (bytes : List ℕ) → IsUtf8 bytes → AreGood (node_tokens line column bytes)
 unfolding node_tokens
-node-good line column [] u = tt
-node-good line column (b ∷ bytes) u = by (is_space b) (is_dash b bytes) (λ e. (let q = eqb-true b 32 e in omega (arith, q))) (λ e. (let q = eqb-true b 45 (and_parts (b == 45) (at_gap bytes) e).0 in omega (arith, q))) (λ v. node-good line (1 + column) bytes v)
+node_good line column [] u = tt
+node_good line column (b ∷ bytes) u = by (is_space b) (is_dash b bytes) (λ e. (let q = eqb-true b 32 e in omega (arith, q))) (λ e. (let q = eqb-true b 45 (and_parts (b == 45) (at_gap bytes) e).0 in omega (arith, q))) (λ v. node_good line (1 + column) bytes v)
   where
     by : (p q : Bool) → (p ≡ true → b < 128) → (q ≡ true → b < 128) → (IsUtf8 bytes → AreGood (node_tokens line (1 + column) bytes))
         → AreGood (if p then node_tokens line (1 + column) bytes else (if q then Dash line column ∷ node_tokens line (1 + column) bytes else named_node line column b bytes))
-    by true q f g more = more (utf8-tail b bytes (f refl) u)
-    by false true f g more = (tt, more (utf8-tail b bytes (g refl) u))
-    by false false f g more = named_node-good line column b bytes u
+    by true q f g more = more (utf8_tail b bytes (f refl) u)
+    by false true f g more = (tt, more (utf8_tail b bytes (g refl) u))
+    by false false f g more = named_node_good line column b bytes u

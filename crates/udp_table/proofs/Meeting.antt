@@ -9,7 +9,7 @@ use Rattle.sim_base.specs.declared.address.Ip.{Ip}
 use Rattle.sim_base.specs.declared.errno.Errno.{Errno}
 use Rattle.sim_base.specs.declared.errno.Errno.TheVariants.{Eaddrinuse, Eaddrnotavail}
 use Rattle.sim_base.specs.Addresses.{any, is_same_ip, meets, is_taken, has_port, at_port, least_free_port}
-use Rattle.sim_base.specs.AddressLaws.{first_free_port-IsLeastFree, has_port-meets}
+use Rattle.sim_base.specs.AddressLaws.{first_free_port_IsLeastFree, has_port_meets}
 use Rattle.sim_base.specs.Refusals.{◌>>=◌, ◌>>◌, refuse_if, or_refuse}
 use Rattle.sock_udp.specs.Socket.{end_left}
 use Rattle.udp_table.specs.declared.ends.UdpEnds.{UdpEnds}
@@ -141,7 +141,7 @@ asked others at b free is same =
 pub free_left : (others : List Addr) (at : Addr) (port : ℕ) → at.port ≡ 0 → Some port ≡ least_free_port others → Ok (at_port at.ip port) ≡ end_left others at
 free_left others at port none free =
     sym (asked others at true (Some port) (eq-eqb at.port 0 none) free
-    ∙ ap (by_taken (at_port at.ip port)) (has_port-meets at.ip port others (first_free_port-IsLeastFree others 10000 55536 port (sym free)).free))
+    ∙ ap (by_taken (at_port at.ip port)) (has_port_meets at.ip port others (first_free_port_IsLeastFree others 10000 55536 port (sym free)).free))
 
 pub none_left : (others : List Addr) (at : Addr) → at.port ≡ 0 → None ≡ least_free_port others → Err Eaddrnotavail ≡ end_left others at
 none_left others at none free = sym (asked others at true None (eq-eqb at.port 0 none) free)

@@ -5,27 +5,27 @@ use Rattle.sim_base.specs.declared.event.Event.{Event}
 use Rattle.world_order.specs.Model.{Model, fires, fires_at, with_host}
 
 module _ {X : Type 0} where
-  pub get-set_same : (xs : List X) (i : ℕ) (x v : X) → slice_get xs i ≡ Some x → slice_get (slice_set xs i v) i ≡ Some v
-  get-set_same [] i x v is = absurd (let e : None ≡ Some x = is in cc)
-  get-set_same (y ∷ ys) zero x v is = refl
-  get-set_same (y ∷ ys) (suc i) x v is = get-set_same ys i x v is
+  pub get_set_same : (xs : List X) (i : ℕ) (x v : X) → slice_get xs i ≡ Some x → slice_get (slice_set xs i v) i ≡ Some v
+  get_set_same [] i x v is = absurd (let e : None ≡ Some x = is in cc)
+  get_set_same (y ∷ ys) zero x v is = refl
+  get_set_same (y ∷ ys) (suc i) x v is = get_set_same ys i x v is
 
-  pub get-set_other : (xs : List X) (i j : ℕ) (v : X) → j ≢ i → slice_get (slice_set xs i v) j ≡ slice_get xs j
-  get-set_other [] i j v other = refl
-  get-set_other (y ∷ ys) zero zero v other = absurd (other refl)
-  get-set_other (y ∷ ys) zero (suc j) v other = refl
-  get-set_other (y ∷ ys) (suc i) zero v other = refl
-  get-set_other (y ∷ ys) (suc i) (suc j) v other = get-set_other ys i j v (λ e. other (ap suc e))
+  pub get_set_other : (xs : List X) (i j : ℕ) (v : X) → j ≢ i → slice_get (slice_set xs i v) j ≡ slice_get xs j
+  get_set_other [] i j v other = refl
+  get_set_other (y ∷ ys) zero zero v other = absurd (other refl)
+  get_set_other (y ∷ ys) zero (suc j) v other = refl
+  get_set_other (y ∷ ys) (suc i) zero v other = refl
+  get_set_other (y ∷ ys) (suc i) (suc j) v other = get_set_other ys i j v (λ e. other (ap suc e))
 
-  pub get-below : (xs : List X) (i : ℕ) → i < length xs → (x : X) × (slice_get xs i ≡ Some x)
-  get-below [] i below = absurd (omega arith)
-  get-below (y ∷ ys) zero below = (y, refl)
-  get-below (y ∷ ys) (suc i) below = get-below ys i (omega arith)
+  pub get_below : (xs : List X) (i : ℕ) → i < length xs → (x : X) × (slice_get xs i ≡ Some x)
+  get_below [] i below = absurd (omega arith)
+  get_below (y ∷ ys) zero below = (y, refl)
+  get_below (y ∷ ys) (suc i) below = get_below ys i (omega arith)
 
-  pub below-get : (xs : List X) (i : ℕ) (x : X) → slice_get xs i ≡ Some x → i < length xs
-  below-get [] i x is = absurd (let e : None ≡ Some x = is in cc)
-  below-get (y ∷ ys) zero x is = omega arith
-  below-get (y ∷ ys) (suc i) x is = let r = below-get ys i x is in omega arith
+  pub below_get : (xs : List X) (i : ℕ) (x : X) → slice_get xs i ≡ Some x → i < length xs
+  below_get [] i x is = absurd (let e : None ≡ Some x = is in cc)
+  below_get (y ∷ ys) zero x is = omega arith
+  below_get (y ∷ ys) (suc i) x is = let r = below_get ys i x is in omega arith
 
 pub some_is : {X : Type 0} (x y : X) → Some x ≡ Some y → x ≡ y
 some_is x y e = cc
@@ -33,24 +33,24 @@ some_is x y e = cc
 module _ {H L : Type 0} where
   -- ---- one firing
 
-  pub fires-is : (m : Model H L) (hosts : List H) (e : Event) (host : H) → slice_get hosts (m.home e) ≡ Some host
+  pub fires_is : (m : Model H L) (hosts : List H) (e : Event) (host : H) → slice_get hosts (m.home e) ≡ Some host
       → fires m hosts e ≡ with_host hosts (m.home e) (m.fire (m.home e) host e)
-  fires-is m hosts e host is = ap (fires_at m hosts e) is
+  fires_is m hosts e host is = ap (fires_at m hosts e) is
 
   length_at : (m : Model H L) (hosts : List H) (e : Event) (o : Option H) → length (fires_at m hosts e o).hosts ≡ length hosts
   length_at m hosts e None = refl
   length_at m hosts e (Some host) = length-set hosts (m.home e) (m.fire (m.home e) host e).host
 
-  pub length-fires : (m : Model H L) (hosts : List H) (e : Event) → length (fires m hosts e).hosts ≡ length hosts
-  length-fires m hosts e = length_at m hosts e (slice_get hosts (m.home e))
+  pub length_fires : (m : Model H L) (hosts : List H) (e : Event) → length (fires m hosts e).hosts ≡ length hosts
+  length_fires m hosts e = length_at m hosts e (slice_get hosts (m.home e))
 
   other_at : (m : Model H L) (hosts : List H) (e : Event) (j : ℕ) (o : Option H) → j ≢ m.home e → slice_get (fires_at m hosts e o).hosts j ≡ slice_get hosts j
   other_at m hosts e j None other = refl
-  other_at m hosts e j (Some host) other = get-set_other hosts (m.home e) j _ other
+  other_at m hosts e j (Some host) other = get_set_other hosts (m.home e) j _ other
 
   -- the other hosts stay as they are
-  pub fires-other : (m : Model H L) (hosts : List H) (e : Event) (j : ℕ) → j ≢ m.home e → slice_get (fires m hosts e).hosts j ≡ slice_get hosts j
-  fires-other m hosts e j other = other_at m hosts e j (slice_get hosts (m.home e)) other
+  pub fires_other : (m : Model H L) (hosts : List H) (e : Event) (j : ℕ) → j ≢ m.home e → slice_get (fires m hosts e).hosts j ≡ slice_get hosts j
+  fires_other m hosts e j other = other_at m hosts e j (slice_get hosts (m.home e)) other
 
   -- ---- two firings at two homes
 
@@ -77,9 +77,9 @@ module _ {H L : Type 0} where
   hosts_either m hosts e f (Some h) (Some q) differ = set_comm hosts (m.home e) (m.home f) _ _ differ
 
   -- the same hosts in either order
-  pub fires-either : (m : Model H L) (hosts : List H) (e f : Event) → m.home e ≢ m.home f
+  pub fires_either : (m : Model H L) (hosts : List H) (e f : Event) → m.home e ≢ m.home f
       → (fires m (fires m hosts e).hosts f).hosts ≡ (fires m (fires m hosts f).hosts e).hosts
-  fires-either m hosts e f differ =
-      ap (λ (p : Option H). (fires_at m (fires m hosts e).hosts f p).hosts) (fires-other m hosts e (m.home f) (λ same. differ (sym same)))
+  fires_either m hosts e f differ =
+      ap (λ (p : Option H). (fires_at m (fires m hosts e).hosts f p).hosts) (fires_other m hosts e (m.home f) (λ same. differ (sym same)))
       ∙ hosts_either m hosts e f (slice_get hosts (m.home e)) (slice_get hosts (m.home f)) differ
-      ∙ ap (λ (o : Option H). (fires_at m (fires m hosts f).hosts e o).hosts) (sym (fires-other m hosts f (m.home e) differ))
+      ∙ ap (λ (o : Option H). (fires_at m (fires m hosts f).hosts e o).hosts) (sym (fires_other m hosts f (m.home e) differ))

@@ -14,8 +14,8 @@ use Rattle.world_order.specs.World.{World, logged}
 use Rattle.world_order.specs.declared.step.Spot.TheVariants.{Spill}
 use Rattle.world_order.specs.declared.step.Step.{Step}
 use Rattle.world_order.specs.declared.step.Step.TheVariants.{Take, Fire, Put, Back, Close}
-use Rattle.world_order.proofs.Homes.{some_is, get-set_same, get-set_other, below-get}
-use Rattle.world_order.proofs.Members.{IsIn, IsIn-from_Contains}
+use Rattle.world_order.proofs.Homes.{some_is, get_set_same, get_set_other, below_get}
+use Rattle.world_order.proofs.Members.{IsIn, IsIn_from_Contains}
 
 set_itself : {X : Type 0} (xs : List X) (i : ℕ) (x : X) → slice_get xs i ≡ Some x → slice_set xs i x ≡ xs
 set_itself [] i x at = refl
@@ -26,9 +26,9 @@ all_from : {X : Type 0} (p : X → Bool) (x : X) (xs : List X) → p x ≡ true 
 all_from p x xs here rest = ap (λ (b : Bool). b && list_all p xs) here ∙ rest
 
 -- what each passes all pass
-all-from : {X : Type 0} (p : X → Bool) (xs : List X) → ((i : ℕ) (x : X) → slice_get xs i ≡ Some x → p x ≡ true) → list_all p xs ≡ true
-all-from p [] each = refl
-all-from p (x ∷ xs) each = all_from p x xs (each 0 x refl) (all-from p xs (λ i y at. each (suc i) y at))
+all_from_is : {X : Type 0} (p : X → Bool) (xs : List X) → ((i : ℕ) (x : X) → slice_get xs i ≡ Some x → p x ≡ true) → list_all p xs ≡ true
+all_from_is p [] each = refl
+all_from_is p (x ∷ xs) each = all_from p x xs (each 0 x refl) (all_from_is p xs (λ i y at. each (suc i) y at))
 
 -- ---- who is in hand
 
@@ -46,61 +46,61 @@ module _ {H : Type 0} where
   held_step w s t xs ys same more = λ k. if is_held w (same k) then Some 0 else option_map suc (more k)
 
   -- a host that stays in its stage
-  held-same : (w : ℕ) (xs : List (Member H)) (i : ℕ) (x y : Member H) → slice_get xs i ≡ Some x → y.stage ≡ x.stage → held w (slice_set xs i y) ≡ held w xs
-  held-same w [] i x y at same = refl
-  held-same w (z ∷ zs) zero x y at same = held_step w y.stage z.stage zs zs (same ∙ ap (λ (u : Member H). u.stage) (sym (some_is z x at))) refl
-  held-same w (z ∷ zs) (suc i) x y at same = held_step w z.stage z.stage (slice_set zs i y) zs refl (held-same w zs i x y at same)
+  held_same : (w : ℕ) (xs : List (Member H)) (i : ℕ) (x y : Member H) → slice_get xs i ≡ Some x → y.stage ≡ x.stage → held w (slice_set xs i y) ≡ held w xs
+  held_same w [] i x y at same = refl
+  held_same w (z ∷ zs) zero x y at same = held_step w y.stage z.stage zs zs (same ∙ ap (λ (u : Member H). u.stage) (sym (some_is z x at))) refl
+  held_same w (z ∷ zs) (suc i) x y at same = held_step w z.stage z.stage (slice_set zs i y) zs refl (held_same w zs i x y at same)
 
   held_by : (w : ℕ) (s : Stage) (xs : List (Member H)) → is_held w s ≡ false → held w xs ≡ None → (if is_held w s then Some 0 else option_map suc (held w xs)) ≡ None
   held_by w s xs is none = ap (λ (b : Bool). if b then Some 0 else option_map suc (held w xs)) is ∙ ap (option_map suc) none
 
   -- a host that is put down, or taken by another
-  held-none : (w : ℕ) (xs : List (Member H)) (i : ℕ) (y : Member H) → held w xs ≡ None → is_held w y.stage ≡ false → held w (slice_set xs i y) ≡ None
-  held-none w [] i y none is = none
-  held-none w (z ∷ zs) zero y none is = held_by w y.stage zs is (none_by (is_held w z.stage) (held w zs) none).1
-  held-none w (z ∷ zs) (suc i) y none is =
+  held_none : (w : ℕ) (xs : List (Member H)) (i : ℕ) (y : Member H) → held w xs ≡ None → is_held w y.stage ≡ false → held w (slice_set xs i y) ≡ None
+  held_none w [] i y none is = none
+  held_none w (z ∷ zs) zero y none is = held_by w y.stage zs is (none_by (is_held w z.stage) (held w zs) none).1
+  held_none w (z ∷ zs) (suc i) y none is =
       let n = none_by (is_held w z.stage) (held w zs) none in
-      held_by w z.stage (slice_set zs i y) n.0 (held-none w zs i y n.1 is)
+      held_by w z.stage (slice_set zs i y) n.0 (held_none w zs i y n.1 is)
 
   -- a host that is taken
-  held-taken : (w : ℕ) (xs : List (Member H)) (i : ℕ) (x y : Member H) → held w xs ≡ None → slice_get xs i ≡ Some x → is_held w y.stage ≡ true → held w (slice_set xs i y) ≡ Some i
-  held-taken w [] i x y none at is = absurd (let e : None ≡ Some x = at in cc)
-  held-taken w (z ∷ zs) zero x y none at is = ap (λ (b : Bool). if b then Some 0 else option_map suc (held w zs)) is
-  held-taken w (z ∷ zs) (suc i) x y none at is =
+  held_taken : (w : ℕ) (xs : List (Member H)) (i : ℕ) (x y : Member H) → held w xs ≡ None → slice_get xs i ≡ Some x → is_held w y.stage ≡ true → held w (slice_set xs i y) ≡ Some i
+  held_taken w [] i x y none at is = absurd (let e : None ≡ Some x = at in cc)
+  held_taken w (z ∷ zs) zero x y none at is = ap (λ (b : Bool). if b then Some 0 else option_map suc (held w zs)) is
+  held_taken w (z ∷ zs) (suc i) x y none at is =
       let n = none_by (is_held w z.stage) (held w zs) none in
-      taken_by w z.stage (held w (slice_set zs i y)) i n.0 (held-taken w zs i x y n.1 at is)
+      taken_by w z.stage (held w (slice_set zs i y)) i n.0 (held_taken w zs i x y n.1 at is)
 
 -- ---- where `do` leads
 
-then-is : {A B : Type 0} (o : Option A) (f : A → Option B) (a : A) → o ≡ Some a → option_and_then f o ≡ f a
-then-is o f a is = ap (option_and_then f) is
+then_is : {A B : Type 0} (o : Option A) (f : A → Option B) (a : A) → o ≡ Some a → option_and_then f o ≡ f a
+then_is o f a is = ap (option_and_then f) is
 
-given-is : {A : Type 0} (guard : Bool) (a : A) → guard ≡ true → given guard a ≡ Some a
-given-is guard a is = ap (λ (b : Bool). given b a) is
+given_is : {A : Type 0} (guard : Bool) (a : A) → guard ≡ true → given guard a ≡ Some a
+given_is guard a is = ap (λ (b : Bool). given b a) is
 
 module _ {H L : Type 0} (m : Model H L) where
   -- one list of steps after another
-  pub after_all-append : (steps more : List Step) (s t : State H L) → after_all m steps s ≡ Some t → after_all m (steps ++ more) s ≡ after_all m more t
+  pub after_all_append : (steps more : List Step) (s t : State H L) → after_all m steps s ≡ Some t → after_all m (steps ++ more) s ≡ after_all m more t
   unfolding after_all
-  after_all-append [] more s t is = ap (after_all m more) (some_is s t is)
-  after_all-append (step ∷ steps) more s t is = by_next (after m step s) is (λ u rest. after_all-append steps more u t rest)
+  after_all_append [] more s t is = ap (after_all m more) (some_is s t is)
+  after_all_append (step ∷ steps) more s t is = by_next (after m step s) is (λ u rest. after_all_append steps more u t rest)
     where
       by_next : (o : Option (State H L)) → option_and_then (after_all m steps) o ≡ Some t → ((u : State H L) → after_all m steps u ≡ Some t → after_all m (steps ++ more) u ≡ after_all m more t)
           → option_and_then (after_all m (steps ++ more)) o ≡ after_all m more t
       by_next None is rest = absurd (let e : None ≡ Some t = is in cc)
       by_next (Some u) is rest = rest u is
 
-  pub after_all-cons : (step : Step) (steps : List Step) (s t : State H L) → after m step s ≡ Some t → after_all m (step ∷ steps) s ≡ after_all m steps t
+  pub after_all_cons : (step : Step) (steps : List Step) (s t : State H L) → after m step s ≡ Some t → after_all m (step ∷ steps) s ≡ after_all m steps t
   unfolding after_all
-  after_all-cons step steps s t is = ap (option_and_then (after_all m steps)) is
+  after_all_cons step steps s t is = ap (option_and_then (after_all m steps)) is
 
-  after-going : (step : Step) (r : Round H L) → after m step (Going r) ≡ after_step m step r
+  after_going : (step : Step) (r : Round H L) → after m step (Going r) ≡ after_step m step r
   unfolding after
-  after-going step r = refl
+  after_going step r = refl
 
-  none-all : (s : State H L) → after_all m [] s ≡ Some s
+  none_all : (s : State H L) → after_all m [] s ≡ Some s
   unfolding after_all
-  none-all s = refl
+  none_all s = refl
 
   -- ---- Take
 
@@ -109,8 +109,8 @@ module _ {H L : Type 0} (m : Model H L) where
   take_is w number r x worker at waits there none =
       let u : Round H L = with_member number (record x { stage = InHand w }) r in
       let guard : (is_waiting x.stage && is_none (held w r.members)) ≡ true = ap (λ (b : Bool). b && is_none (held w r.members)) waits ∙ ap (λ (o : Option ℕ). is_none o) none in
-      let taken : take_host w number r ≡ Some u = then-is (slice_get r.workers w) _ worker there ∙ then-is (slice_get r.members number) _ x at ∙ given-is (is_waiting x.stage && is_none (held w r.members)) u guard in
-      after-going (Take w (record { index = number })) r ∙ ap goes taken
+      let taken : take_host w number r ≡ Some u = then_is (slice_get r.workers w) _ worker there ∙ then_is (slice_get r.members number) _ x at ∙ given_is (is_waiting x.stage && is_none (held w r.members)) u guard in
+      after_going (Take w (record { index = number })) r ∙ ap goes taken
 
   -- ---- Fire
 
@@ -120,9 +120,9 @@ module _ {H L : Type 0} (m : Model H L) where
   fire_is w r t hand at there taken due =
       let due_is : nat_lt t.event.key.due.nanos r.end ≡ true = search rules in
       let ready_is : ready w r ≡ Some t =
-      then-is (held w r.members) _ t.number hand ∙ then-is (slice_get r.members t.number) _ t.member at ∙ then-is (slice_get r.workers w) _ t.worker there
-      ∙ then-is (take_least t.member.queue) _ (t.event, t.rest) taken ∙ given-is (nat_lt t.event.key.due.nanos r.end) t due_is in
-      after-going (Fire w) r ∙ ap goes (then-is (ready w r) _ t ready_is)
+      then_is (held w r.members) _ t.number hand ∙ then_is (slice_get r.members t.number) _ t.member at ∙ then_is (slice_get r.workers w) _ t.worker there
+      ∙ then_is (take_least t.member.queue) _ (t.event, t.rest) taken ∙ given_is (nat_lt t.event.key.due.nanos r.end) t due_is in
+      after_going (Fire w) r ∙ ap goes (then_is (ready w r) _ t ready_is)
 
   -- the round when a host in hand has been run up to the end
   abbrev ran_round : ℕ → ℕ → Member H → Worker → Ran H L → Round H L → Round H L
@@ -160,7 +160,7 @@ module _ {H L : Type 0} (m : Model H L) where
       ap (λ (h : List Event). slice_set r.workers w (record worker { hand = h })) (append-nil worker.hand) ∙ set_itself r.workers w worker there in
       let lines : r.lines ++ [] ≡ r.lines = append-nil r.lines in
       let same : r ≡ ran_round w number x worker (unfired host queue) r = (λ k. record { end = r.end; members = sym members k; workers = sym workers k; lines = sym lines k }) in
-      none-all (Going r) ∙ ap (λ (u : Round H L). Some (Going u)) same
+      none_all (Going r) ∙ ap (λ (u : Round H L). Some (Going u)) same
   fires_all w number end host queue ran r x worker end_is host_is queue_is hand at there (fires_on host' queue' e rest more taken due later) =
       let t : Ready H = record { number = number; member = x; worker = worker; event = e; rest = rest } in
       let f : Fired H L = m.fire number x.host e in
@@ -173,8 +173,8 @@ module _ {H L : Type 0} (m : Model H L) where
       let others : after_all m (replicate (length more.fired) (Fire w)) (Going r') ≡ Some (Going (ran_round w number x' worker' more r')) =
       fires_all w number end (m.fire number host e).host (rest ++ events_at m number (m.fire number host e).made) more r' x' worker' end_is
       (ap (λ (g : Fired H L). g.host) f_is) (ap (λ (g : Fired H L). rest ++ events_at m number g.made) f_is)
-      (held-same w r.members number x x' at refl ∙ hand) (get-set_same r.members number x x' at) (get-set_same r.workers w worker worker' there) later in
-      after_all-cons (Fire w) (replicate (length more.fired) (Fire w)) (Going r) (Going r') first ∙ others
+      (held_same w r.members number x x' at refl ∙ hand) (get_set_same r.members number x x' at) (get_set_same r.workers w worker worker' there) later in
+      after_all_cons (Fire w) (replicate (length more.fired) (Fire w)) (Going r) (Going r') first ∙ others
       ∙ ap (λ (u : Round H L). Some (Going u)) (ran_more w number r x worker e rest more f ∙ ap (λ (g : Fired H L). ran_round w number x worker (fired_first m number e g more) r) f_is)
 
   none_due_left : (number end : ℕ) (host : H) (queue : List Event) (ran : Ran H L) → RunsTo m number end host queue ran → has_due end ran.queue ≡ false
@@ -187,8 +187,8 @@ module _ {H L : Type 0} (m : Model H L) where
   put_is : (w : ℕ) (r : Round H L) (worker : Worker) (packet : Event) (rest : List Event) → slice_get r.workers w ≡ Some worker → worker.hand ≡ packet ∷ rest
       → after m (Put w Spill) (Going r) ≡ Some (Going (put_spill w worker packet rest r))
   put_is w r worker packet rest there hand =
-      let put : put_packet m w Spill r ≡ Some (put_spill w worker packet rest r) = then-is (slice_get r.workers w) _ worker there ∙ then-is (first worker.hand) _ (packet, rest) (ap first hand) in
-      after-going (Put w Spill) r ∙ ap goes put
+      let put : put_packet m w Spill r ≡ Some (put_spill w worker packet rest r) = then_is (slice_get r.workers w) _ worker there ∙ then_is (first worker.hand) _ (packet, rest) (ap first hand) in
+      after_going (Put w Spill) r ∙ ap goes put
 
   puts_all : (w : ℕ) (packets : List Event) (r : Round H L) (worker : Worker) → slice_get r.workers w ≡ Some worker → worker.hand ≡ packets
       → after_all m (replicate (length packets) (Put w Spill)) (Going r) ≡ Some (Going (with_worker w (record { hand = []; spill = worker.spill ++ packets }) r))
@@ -196,13 +196,13 @@ module _ {H L : Type 0} (m : Model H L) where
       let same : slice_set r.workers w (record { hand = []; spill = worker.spill ++ [] }) ≡ r.workers =
       ap (λ (h : List Event). slice_set r.workers w (record { hand = h; spill = worker.spill ++ [] })) (sym hand)
       ∙ ap (λ (s : List Event). slice_set r.workers w (record worker { spill = s })) (append-nil worker.spill) ∙ set_itself r.workers w worker there in
-      none-all (Going r) ∙ ap (λ (ws : List Worker). Some (Going (record r { workers = ws }))) (sym same)
+      none_all (Going r) ∙ ap (λ (ws : List Worker). Some (Going (record r { workers = ws }))) (sym same)
   puts_all w (packet ∷ packets) r worker there hand =
       let worker' : Worker = record { hand = packets; spill = worker.spill ++ packet ∷ [] } in
       let r' : Round H L = put_spill w worker packet packets r in
-      let others = puts_all w packets r' worker' (get-set_same r.workers w worker worker' there) refl in
+      let others = puts_all w packets r' worker' (get_set_same r.workers w worker worker' there) refl in
       let last : Worker = record { hand = []; spill = (worker.spill ++ packet ∷ []) ++ packets } in
-      after_all-cons (Put w Spill) (replicate (length packets) (Put w Spill)) (Going r) (Going r') (put_is w r worker packet packets there hand) ∙ others
+      after_all_cons (Put w Spill) (replicate (length packets) (Put w Spill)) (Going r) (Going r') (put_is w r worker packet packets there hand) ∙ others
       ∙ ap (λ (ws : List Worker). Some (Going (record r { workers = ws })))
       (set-set r.workers w worker' last ∙ ap (λ (s : List Event). slice_set r.workers w (record { hand = []; spill = s })) (append_assoc worker.spill (packet ∷ []) packets))
 
@@ -214,35 +214,35 @@ module _ {H L : Type 0} (m : Model H L) where
       let u : Round H L = with_member number (record x { stage = Done }) r in
       let guard : (not (has_due r.end x.queue) && is_empty worker.hand) ≡ true = ap (λ (b : Bool). not b && is_empty worker.hand) none ∙ ap (λ (h : List Event). is_empty h) empty in
       let back : give_back w r ≡ Some u =
-      then-is (held w r.members) _ number hand ∙ then-is (slice_get r.members number) _ x at ∙ then-is (slice_get r.workers w) _ worker there
-      ∙ given-is (not (has_due r.end x.queue) && is_empty worker.hand) u guard in
-      after-going (Back w) r ∙ ap goes back
+      then_is (held w r.members) _ number hand ∙ then_is (slice_get r.members number) _ x at ∙ then_is (slice_get r.workers w) _ worker there
+      ∙ given_is (not (has_due r.end x.queue) && is_empty worker.hand) u guard in
+      after_going (Back w) r ∙ ap goes back
 
   -- ---- a host in one go
 
   in_hand : (w : ℕ) → is_held w (InHand w) ≡ true
   in_hand w = eq-eqb w w refl
 
-  pub job-leads : (r : Round H L) (job : Job H L) (x : Member H) (worker : Worker) → slice_get r.members job.number ≡ Some x → is_waiting x.stage ≡ true → slice_get r.workers job.worker ≡ Some worker
+  pub job_leads : (r : Round H L) (job : Job H L) (x : Member H) (worker : Worker) → slice_get r.members job.number ≡ Some x → is_waiting x.stage ≡ true → slice_get r.workers job.worker ≡ Some worker
       → worker.hand ≡ [] → held job.worker r.members ≡ None → RunsTo m job.number r.end x.host x.queue job.ran
       → after_all m (job_steps job) (Going r) ≡ Some (Going (after_job job x worker r))
-  job-leads r job x worker at waits there empty none runs =
+  job_leads r job x worker at waits there empty none runs =
       let w : ℕ = job.worker in
       let number : ℕ = job.number in
       let ran : Ran H L = job.ran in
       let x1 : Member H = record x { stage = InHand w } in
       let r1 : Round H L = with_member number x1 r in
-      let at1 : slice_get r1.members number ≡ Some x1 = get-set_same r.members number x x1 at in
-      let hand1 : held w r1.members ≡ Some number = held-taken w r.members number x x1 none at (in_hand w) in
+      let at1 : slice_get r1.members number ≡ Some x1 = get_set_same r.members number x x1 at in
+      let hand1 : held w r1.members ≡ Some number = held_taken w r.members number x x1 none at (in_hand w) in
       let x2 : Member H = record x1 { host = ran.host; queue = ran.queue } in
       let worker2 : Worker = record worker { hand = worker.hand ++ ran.packets } in
       let r2 : Round H L = ran_round w number x1 worker ran r1 in
-      let at2 : slice_get r2.members number ≡ Some x2 = get-set_same r1.members number x1 x2 at1 in
-      let hand2 : held w r2.members ≡ Some number = held-same w r1.members number x1 x2 at1 refl ∙ hand1 in
-      let there2 : slice_get r2.workers w ≡ Some worker2 = get-set_same r.workers w worker worker2 there in
+      let at2 : slice_get r2.members number ≡ Some x2 = get_set_same r1.members number x1 x2 at1 in
+      let hand2 : held w r2.members ≡ Some number = held_same w r1.members number x1 x2 at1 refl ∙ hand1 in
+      let there2 : slice_get r2.workers w ≡ Some worker2 = get_set_same r.workers w worker worker2 there in
       let worker3 : Worker = record { hand = []; spill = worker.spill ++ ran.packets } in
       let r3 : Round H L = with_worker w worker3 r2 in
-      let there3 : slice_get r3.workers w ≡ Some worker3 = get-set_same r2.workers w worker2 worker3 there2 in
+      let there3 : slice_get r3.workers w ≡ Some worker3 = get_set_same r2.workers w worker2 worker3 there2 in
       let x4 : Member H = record x2 { stage = Done } in
       let r4 : Round H L = with_member number x4 r3 in
       let takes : after m (Take w (record { index = number })) (Going r) ≡ Some (Going r1) = take_is w number r x worker at waits there none in
@@ -257,11 +257,11 @@ module _ {H L : Type 0} (m : Model H L) where
       let workers : r4.workers ≡ slice_set r.workers w (record worker { spill = worker.spill ++ ran.packets }) =
       set-set r.workers w worker2 worker3 ∙ ap (λ (h : List Event). slice_set r.workers w (record { hand = h; spill = worker.spill ++ ran.packets })) (sym empty) in
       let same : r4 ≡ after_job job x worker r = (λ k. record { end = r.end; members = members k; workers = workers k; lines = r.lines ++ ran.lines }) in
-      after_all-cons (Take w (record { index = number })) _ (Going r) (Going r1) takes
-      ∙ after_all-append (replicate (length ran.fired) (Fire w)) (replicate (length ran.packets) (Put w Spill) ++ Back w ∷ []) (Going r1) (Going r2) fires
-      ∙ after_all-append (replicate (length ran.packets) (Put w Spill)) (Back w ∷ []) (Going r2) (Going r3) puts
-      ∙ after_all-cons (Back w) [] (Going r3) (Going r4) backs
-      ∙ none-all (Going r4)
+      after_all_cons (Take w (record { index = number })) _ (Going r) (Going r1) takes
+      ∙ after_all_append (replicate (length ran.fired) (Fire w)) (replicate (length ran.packets) (Put w Spill) ++ Back w ∷ []) (Going r1) (Going r2) fires
+      ∙ after_all_append (replicate (length ran.packets) (Put w Spill)) (Back w ∷ []) (Going r2) (Going r3) puts
+      ∙ after_all_cons (Back w) [] (Going r3) (Going r4) backs
+      ∙ none_all (Going r4)
       ∙ ap (λ (u : Round H L). Some (Going u)) same
 
   -- ---- a round of such runs
@@ -269,12 +269,12 @@ module _ {H L : Type 0} (m : Model H L) where
   abbrev NoneHeld : Round H L → Type 0
   NoneHeld r = (w : ℕ) → held w r.members ≡ None
 
-  works-lead : (last : Round H L) (jobs : List (Job H L)) (r : Round H L) → NoneHeld r → WorksTo m last jobs r → after_all m (flat_map job_steps jobs) (Going r) ≡ Some (Going last)
-  works-lead last jobs r idle (are_done r' same) = none-all (Going r) ∙ ap (λ (u : Round H L). Some (Going u)) same
-  works-lead last jobs r idle (works r' job more x worker at waits there empty runs later) =
+  works_lead : (last : Round H L) (jobs : List (Job H L)) (r : Round H L) → NoneHeld r → WorksTo m last jobs r → after_all m (flat_map job_steps jobs) (Going r) ≡ Some (Going last)
+  works_lead last jobs r idle (are_done r' same) = none_all (Going r) ∙ ap (λ (u : Round H L). Some (Going u)) same
+  works_lead last jobs r idle (works r' job more x worker at waits there empty runs later) =
       let r1 : Round H L = after_job job x worker r in
-      after_all-append (job_steps job) (flat_map job_steps more) (Going r) (Going r1) (job-leads r job x worker at waits there empty (idle job.worker) runs)
-      ∙ works-lead last more r1 (λ w. held-none w r.members job.number (record x { host = job.ran.host; queue = job.ran.queue; stage = Done }) (idle w) refl) later
+      after_all_append (job_steps job) (flat_map job_steps more) (Going r) (Going r1) (job_leads r job x worker at waits there empty (idle job.worker) runs)
+      ∙ works_lead last more r1 (λ w. held_none w r.members job.number (record x { host = job.ran.host; queue = job.ran.queue; stage = Done }) (idle w) refl) later
 
   -- who was run is done
   abbrev IsDone : Round H L → ℕ → Type 0
@@ -284,13 +284,13 @@ module _ {H L : Type 0} (m : Model H L) where
     done_here : i ≡ job.number → IsDone (after_job job x worker r) i
     done_here same y there =
         let new : Member H = record x { host = job.ran.host; queue = job.ran.queue; stage = Done } in
-        let is : new ≡ y = some_is new y (sym (ap (slice_get (slice_set r.members job.number new)) same ∙ get-set_same r.members job.number x new at) ∙ there) in
+        let is : new ≡ y = some_is new y (sym (ap (slice_get (slice_set r.members job.number new)) same ∙ get_set_same r.members job.number x new at) ∙ there) in
         ap (λ (z : Member H). is_done z.stage) (sym is)
 
     done_still : IsDone r i → IsDone (after_job job x worker r) i
     done_still done y there = ⊎_elim
         (λ (same : i ≡ job.number). done_here same y there)
-        (λ (other : i ≢ job.number). done y (sym (get-set_other r.members job.number i (record x { host = job.ran.host; queue = job.ran.queue; stage = Done }) other) ∙ there))
+        (λ (other : i ≢ job.number). done y (sym (get_set_other r.members job.number i (record x { host = job.ran.host; queue = job.ran.queue; stage = Done }) other) ∙ there))
         (cases_eq i job.number)
 
   done_at_last : (last : Round H L) (jobs : List (Job H L)) (r : Round H L) (i : ℕ) → WorksTo m last jobs r → IsIn i (map (λ (job : Job H L). job.number) jobs) ⊎ IsDone r i → IsDone last i
@@ -319,18 +319,18 @@ module _ {H L : Type 0} (m : Model H L) where
   length_last last jobs r (works r' job more x worker at waits there empty runs later) =
       length_last last more (after_job job x worker r) later ∙ length-set r.members job.number (record x { host = job.ran.host; queue = job.ran.queue; stage = Done })
 
-  pub whole-round : (end workers : ℕ) (w : World H L) (last : Round H L) (jobs : List (Job H L)) → WorksTo m last jobs (opened m end workers w)
+  pub whole_round : (end workers : ℕ) (w : World H L) (last : Round H L) (jobs : List (Job H L)) → WorksTo m last jobs (opened m end workers w)
       → ((i : ℕ) → i < length w.hosts → Contains (map (λ (job : Job H L). job.number) jobs) i)
       → after_all m (flat_map job_steps jobs ++ Close ∷ []) (Going (opened m end workers w)) ≡ Some (Closed (world_of last))
-  whole-round end workers w last jobs leads named =
+  whole_round end workers w last jobs leads named =
       let r : Round H L = opened m end workers w in
-      let done : list_all (λ (x : Member H). is_done x.stage) last.members ≡ true = all-from (λ (x : Member H). is_done x.stage) last.members
+      let done : list_all (λ (x : Member H). is_done x.stage) last.members ≡ true = all_from_is (λ (x : Member H). is_done x.stage) last.members
       (λ i x there.
-      let below = below-get last.members i x there in
+      let below = below_get last.members i x there in
       let long = length_last last jobs r leads in
       let opened_long = length_opened w.events 0 w.hosts in
-      done_at_last last jobs r i leads (inl (IsIn-from_Contains i (map (λ (job : Job H L). job.number) jobs) (named i (omega arith)))) x there) in
+      done_at_last last jobs r i leads (inl (IsIn_from_Contains i (map (λ (job : Job H L). job.number) jobs) (named i (omega arith)))) x there) in
       let closes : after m Close (Going last) ≡ Some (Closed (world_of last)) =
-      after-going Close last ∙ ap (option_map Closed) (given-is (list_all (λ (x : Member H). is_done x.stage) last.members) (world_of last) done) in
-      after_all-append (flat_map job_steps jobs) (Close ∷ []) (Going r) (Going last) (works-lead last jobs r (λ n. idle_opened n w.events 0 w.hosts) leads)
-      ∙ after_all-cons Close [] (Going last) (Closed (world_of last)) closes ∙ none-all (Closed (world_of last))
+      after_going Close last ∙ ap (option_map Closed) (given_is (list_all (λ (x : Member H). is_done x.stage) last.members) (world_of last) done) in
+      after_all_append (flat_map job_steps jobs) (Close ∷ []) (Going r) (Going last) (works_lead last jobs r (λ n. idle_opened n w.events 0 w.hosts) leads)
+      ∙ after_all_cons Close [] (Going last) (Closed (world_of last)) closes ∙ none_all (Closed (world_of last))

@@ -37,8 +37,8 @@ kinds Local Local is = refl
 
 -- ---- the same key
 
-pub same_key-is : (a b : Key) → same_key a b ≡ true → a ≡ b
-same_key-is a b is =
+pub same_key_is : (a b : Key) → same_key a b ≡ true → a ≡ b
+same_key_is a b is =
     let parts : (eqb a.due.nanos b.due.nanos && (sameb the_type a.kind b.kind && (eqb a.source.index b.source.index && eqb a.number b.number))) ≡ true = key_ties a b ∙ is in
     let one = both _ _ parts in
     let two = both _ _ one.1 in
@@ -54,26 +54,26 @@ itself Less is = absurd (let e : Less ≡ Greater = is in cc)
 itself Equal is = refl
 itself Greater is = absurd (let e : Greater ≡ Less = is in cc)
 
-pub same_key-refl : (a : Key) → same_key a a ≡ true
-same_key-refl a = itself (key_order a a) (key_order_total.antisymm a a)
+pub same_key_refl : (a : Key) → same_key a a ≡ true
+same_key_refl a = itself (key_order a a) (key_order_total.antisymm a a)
 
-pub same_key-of : (a b : Key) → a ≡ b → same_key a b ≡ true
-same_key-of a b is = subst (λ (k : Key). same_key a k ≡ true) is (same_key-refl a)
+pub same_key_of : (a b : Key) → a ≡ b → same_key a b ≡ true
+same_key_of a b is = subst (λ (k : Key). same_key a k ≡ true) is (same_key_refl a)
 
 by_test : (a b : Key) (t : Bool) → same_key a b ≡ t → (a ≡ b) ⊎ (a ≢ b)
-by_test a b true is = inl (same_key-is a b is)
-by_test a b false is = inr (λ e. true≢false (sym (same_key-of a b e) ∙ is))
+by_test a b true is = inl (same_key_is a b is)
+by_test a b false is = inr (λ e. true≢false (sym (same_key_of a b e) ∙ is))
 
 -- two keys are the same or not
 pub key_cases : (a b : Key) → (a ≡ b) ⊎ (a ≢ b)
 key_cases a b = by_test a b (same_key a b) refl
 
 other_test : (a b : Key) (t : Bool) → same_key a b ≡ t → a ≢ b → same_key a b ≡ false
-other_test a b true is differ = absurd (differ (same_key-is a b is))
+other_test a b true is differ = absurd (differ (same_key_is a b is))
 other_test a b false is differ = is
 
-pub same_key-other : (a b : Key) → a ≢ b → same_key a b ≡ false
-same_key-other a b differ = other_test a b (same_key a b) refl differ
+pub same_key_other : (a b : Key) → a ≢ b → same_key a b ≡ false
+same_key_other a b differ = other_test a b (same_key a b) refl differ
 
 -- ---- the order
 
@@ -117,7 +117,7 @@ neither Greater first second = absurd (cc)
 
 pub same_place : (a b : Key) → key_before a b ≡ false → key_before b a ≡ false → a ≡ b
 same_place a b first second =
-    same_key-is a b (neither (key_order a b) first (ap is_lt (sym (key_order_total.antisymm b a)) ∙ second))
+    same_key_is a b (neither (key_order a b) first (ap is_lt (sym (key_order_total.antisymm b a)) ∙ second))
 
 -- a key that is due earlier comes before
 is_first : (o rest : Ordering) → o ≡ Less → is_lt (ordering_then o rest) ≡ true

@@ -12,7 +12,7 @@ use Rattle.world_order.specs.World.{World}
 use Rattle.world_order.proofs.Apart.{one_of_key, apart_append}
 use Rattle.world_order.proofs.Homes.{some_is}
 use Rattle.world_order.proofs.Logs.{lines_with}
-use Rattle.world_order.proofs.Members.{IsIn, Each, IsIn-left, IsIn-right, IsIn-either, IsIn-filter, IsIn-filter_from}
+use Rattle.world_order.proofs.Members.{IsIn, Each, IsIn_left, IsIn_right, IsIn_either, IsIn_filter, IsIn_filter_from}
 use Rattle.world_order.proofs.RoundStates.{round_scene, queues_of, carried_of, IsGood}
 use Rattle.world_order.proofs.Scenes.{IsAlike}
 use Rattle.world_order.proofs.Worlds.{scene_of}
@@ -53,9 +53,9 @@ module _ {H L : Type 0} (m : Model H L) (events : List Event) where
       → IsIn e (flat_map (λ (x : Member H). x.queue) (opened_from m events number hosts))
   in_opened number [] e h from below = absurd (omega arith)
   in_opened number (host ∷ hosts) e h from below = ⊎_elim
-      (λ (same : m.home e ≡ number). IsIn-left e (events_at m number events) (flat_map (λ (x : Member H). x.queue) (opened_from m events (suc number) hosts))
-      (IsIn-filter (λ (f : Event). m.home f == number) e events h (eq-eqb (m.home e) number same)))
-      (λ (other : m.home e ≢ number). IsIn-right e (events_at m number events) (flat_map (λ (x : Member H). x.queue) (opened_from m events (suc number) hosts))
+      (λ (same : m.home e ≡ number). IsIn_left e (events_at m number events) (flat_map (λ (x : Member H). x.queue) (opened_from m events (suc number) hosts))
+      (IsIn_filter (λ (f : Event). m.home f == number) e events h (eq-eqb (m.home e) number same)))
+      (λ (other : m.home e ≢ number). IsIn_right e (events_at m number events) (flat_map (λ (x : Member H). x.queue) (opened_from m events (suc number) hosts))
       (in_opened (suc number) hosts e h (omega arith) (omega arith)))
       (cases_eq (m.home e) number)
 
@@ -64,14 +64,14 @@ module _ {H L : Type 0} (m : Model H L) (events : List Event) where
   of_opened number [] e h = absurd h
   of_opened number (host ∷ hosts) e h = ⊎_elim
       (λ (here : IsIn e (events_at m number events)).
-      let p = IsIn-filter_from (λ (f : Event). m.home f == number) e events here in
+      let p = IsIn_filter_from (λ (f : Event). m.home f == number) e events here in
       let home : m.home e ≡ number = eqb-true (m.home e) number p.1 in
       (p.0, (let le : number ≤ m.home e = omega arith in le)))
       (λ (rest : IsIn e (flat_map (λ (x : Member H). x.queue) (opened_from m events (suc number) hosts))).
       let p = of_opened (suc number) hosts e rest in
       let from = p.1 in
       (p.0, (let le : number ≤ m.home e = omega arith in le)))
-      (IsIn-either e (events_at m number events) (flat_map (λ (x : Member H). x.queue) (opened_from m events (suc number) hosts)) h)
+      (IsIn_either e (events_at m number events) (flat_map (λ (x : Member H). x.queue) (opened_from m events (suc number) hosts)) h)
 
 -- ---- no two events have the same key
 
@@ -80,12 +80,12 @@ count_by_test : (p : Event → Bool) (k : Key) (e : Event) (es : List Event) (b 
 count_by_test p k e es true less = omega arith
 count_by_test p k e es false less = omega arith
 
-copies-filter : (p : Event → Bool) (k : Key) (es : List Event) → copies k (filter p es) ≤ copies k es
-copies-filter p k [] = omega arith
-copies-filter p k (e ∷ es) = count_by_test p k e es (p e) (copies-filter p k es)
+copies_filter : (p : Event → Bool) (k : Key) (es : List Event) → copies k (filter p es) ≤ copies k es
+copies_filter p k [] = omega arith
+copies_filter p k (e ∷ es) = count_by_test p k e es (p e) (copies_filter p k es)
 
 pub filter_apart : (p : Event → Bool) (es : List Event) → AreApart es → AreApart (filter p es)
-filter_apart p es apart k = let c = copies-filter p k es in let a = apart k in omega arith
+filter_apart p es apart k = let c = copies_filter p k es in let a = apart k in omega arith
 
 module _ {H L : Type 0} (m : Model H L) (events : List Event) (apart : AreApart events) where
   apart_opened : (number : ℕ) (hosts : List H) → AreApart (flat_map (λ (x : Member H). x.queue) (opened_from m events number hosts))
@@ -95,7 +95,7 @@ module _ {H L : Type 0} (m : Model H L) (events : List Event) (apart : AreApart 
       (filter_apart (λ (f : Event). m.home f == number) events apart)
       (apart_opened (suc number) hosts)
       (λ x h y g same.
-      let p = IsIn-filter_from (λ (f : Event). m.home f == number) x events h in
+      let p = IsIn_filter_from (λ (f : Event). m.home f == number) x events h in
       let q = of_opened m events (suc number) hosts y g in
       let one : x ≡ y = one_of_key events apart x y p.0 q.0 same in
       let home : m.home x ≡ number = eqb-true (m.home x) number p.1 in
@@ -111,17 +111,17 @@ module _ {H L : Type 0} (m : Model H L) (end workers : ℕ) (w : World H L) (apa
   events_opened : events_of (opened m end workers w) ≡ queues_of (opened m end workers w)
   events_opened = ap (λ (ps : List Event). queues_of (opened m end workers w) ++ ps) packets_opened ∙ append-nil (queues_of (opened m end workers w))
 
-  pub opened-packets : packets_of (opened m end workers w) ≡ []
-  opened-packets = packets_opened
+  pub opened_packets : packets_of (opened m end workers w) ≡ []
+  opened_packets = packets_opened
 
-  pub opened-good : IsGood m end (opened m end workers w)
-  opened-good = record {
+  pub opened_good : IsGood m end (opened m end workers w)
+  opened_good = record {
     end_is = refl;
     members = λ i x at.
         let is = member_opened m w.events 0 w.hosts i x at in
         record {
           home = λ e h.
-              let p = IsIn-filter_from (λ (f : Event). m.home f == (0 + i)) e w.events (subst (IsIn e) is.0 h) in
+              let p = IsIn_filter_from (λ (f : Event). m.home f == (0 + i)) e w.events (subst (IsIn e) is.0 h) in
               let home : m.home e ≡ 0 + i = eqb-true (m.home e) (0 + i) p.1 in
               (let r : m.home e ≡ i = omega arith in r);
           done = λ d. absurd (let e : is_done Waits ≡ true = ap is_done (sym is.1) ∙ d in cc);
@@ -130,8 +130,8 @@ module _ {H L : Type 0} (m : Model H L) (end workers : ℕ) (w : World H L) (apa
     apart = subst AreApart (sym events_opened) (apart_opened m w.events apart 0 w.hosts);
   }
 
-  pub opened-alike : Each (λ (e : Event). m.home e < length w.hosts) w.events → IsAlike (scene_of w) (round_scene w.log (opened m end workers w))
-  opened-alike homes = record {
+  pub opened_alike : Each (λ (e : Event). m.home e < length w.hosts) w.events → IsAlike (scene_of w) (round_scene w.log (opened m end workers w))
+  opened_alike homes = record {
     hosts = sym (hosts_opened m w.events 0 w.hosts);
     into = λ x h. subst (IsIn x) (sym events_opened) (in_opened m w.events 0 w.hosts x h (omega arith) (let l = homes x h in omega arith));
     back = λ x h. (of_opened m w.events 0 w.hosts x (subst (IsIn x) events_opened h)).0;

@@ -2,7 +2,7 @@
 use Rattle.std.proofs.Common.{◌≡◌, ℕ, zero, suc, List, [], ◌∷◌, ◌++◌, Option, Some, None, option_map, option_and_then, flat_map, Bool, true, false, slice_get, slice_set, refl, sym, ap, subst, ◌∙◌, append_assoc, IsPermutation}
 use Rattle.std.proofs.lemmas.List.Sorted.{IsPermutation-refl, IsPermutation-sym, IsPermutation-trans, IsPermutation-append_left, IsPermutation-append_right, IsPermutation-append_comm}
 use Rattle.world_order.specs.Steps.{given}
-use Rattle.world_order.proofs.Homes.{some_is, get-set_same}
+use Rattle.world_order.proofs.Homes.{some_is, get_set_same}
 
 -- ---- the same members in another order
 
@@ -36,27 +36,27 @@ module _ {X Y : Type 0} (f : X → List Y) where
       (IsPermutation-append_right (f y) (flat_map f ys) (f x ++ others ys i) (part ys i x is))
       (second_first (f y) (f x) (others ys i))
 
-  others-set : (xs : List X) (i : ℕ) (y : X) → others (slice_set xs i y) i ≡ others xs i
-  others-set [] i y = refl
-  others-set (x ∷ xs) zero y = refl
-  others-set (x ∷ xs) (suc i) y = ap (λ (l : List Y). f x ++ l) (others-set xs i y)
+  others_set : (xs : List X) (i : ℕ) (y : X) → others (slice_set xs i y) i ≡ others xs i
+  others_set [] i y = refl
+  others_set (x ∷ xs) zero y = refl
+  others_set (x ∷ xs) (suc i) y = ap (λ (l : List Y). f x ++ l) (others_set xs i y)
 
-  pub part-set : (xs : List X) (i : ℕ) (x y : X) → slice_get xs i ≡ Some x → IsPermutation (flat_map f (slice_set xs i y)) (f y ++ others xs i)
-  part-set xs i x y is = subst (λ (l : List Y). IsPermutation (flat_map f (slice_set xs i y)) (f y ++ l)) (others-set xs i y)
-      (part (slice_set xs i y) i y (get-set_same xs i x y is))
+  pub part_set : (xs : List X) (i : ℕ) (x y : X) → slice_get xs i ≡ Some x → IsPermutation (flat_map f (slice_set xs i y)) (f y ++ others xs i)
+  part_set xs i x y is = subst (λ (l : List Y). IsPermutation (flat_map f (slice_set xs i y)) (f y ++ l)) (others_set xs i y)
+      (part (slice_set xs i y) i y (get_set_same xs i x y is))
 
   -- a part that has the same changes nothing
-  pub part-same : (xs : List X) (i : ℕ) (x y : X) → slice_get xs i ≡ Some x → f y ≡ f x → flat_map f (slice_set xs i y) ≡ flat_map f xs
-  part-same [] i x y is same = refl
-  part-same (z ∷ zs) zero x y is same = ap (λ (l : List Y). l ++ flat_map f zs) (same ∙ ap f (sym (some_is z x is)))
-  part-same (z ∷ zs) (suc i) x y is same = ap (λ (l : List Y). f z ++ l) (part-same zs i x y is same)
+  pub part_same : (xs : List X) (i : ℕ) (x y : X) → slice_get xs i ≡ Some x → f y ≡ f x → flat_map f (slice_set xs i y) ≡ flat_map f xs
+  part_same [] i x y is same = refl
+  part_same (z ∷ zs) zero x y is same = ap (λ (l : List Y). l ++ flat_map f zs) (same ∙ ap f (sym (some_is z x is)))
+  part_same (z ∷ zs) (suc i) x y is same = ap (λ (l : List Y). f z ++ l) (part_same zs i x y is same)
 
   -- a part that has more
   pub part-more : (xs : List X) (i : ℕ) (x y : X) (more : List Y) → slice_get xs i ≡ Some x → IsPermutation (f y) (more ++ f x)
       → IsPermutation (flat_map f (slice_set xs i y)) (more ++ flat_map f xs)
   part-more xs i x y more is p =
       IsPermutation-trans (flat_map f (slice_set xs i y)) (f y ++ others xs i) (more ++ flat_map f xs)
-      (part-set xs i x y is)
+      (part_set xs i x y is)
       (IsPermutation-trans (f y ++ others xs i) ((more ++ f x) ++ others xs i) (more ++ flat_map f xs)
       (IsPermutation-append_left (others xs i) (f y) (more ++ f x) p)
       (IsPermutation-trans ((more ++ f x) ++ others xs i) (more ++ (f x ++ others xs i)) (more ++ flat_map f xs)
@@ -64,16 +64,16 @@ module _ {X Y : Type 0} (f : X → List Y) where
       (IsPermutation-append_right more (f x ++ others xs i) (flat_map f xs) (IsPermutation-sym (flat_map f xs) (f x ++ others xs i) (part xs i x is)))))
 
   -- a part that has less
-  pub part-less : (xs : List X) (i : ℕ) (x y : X) (less : List Y) → slice_get xs i ≡ Some x → IsPermutation (f x) (less ++ f y)
+  pub part_less : (xs : List X) (i : ℕ) (x y : X) (less : List Y) → slice_get xs i ≡ Some x → IsPermutation (f x) (less ++ f y)
       → IsPermutation (flat_map f xs) (less ++ flat_map f (slice_set xs i y))
-  part-less xs i x y less is p =
+  part_less xs i x y less is p =
       IsPermutation-trans (flat_map f xs) (f x ++ others xs i) (less ++ flat_map f (slice_set xs i y))
       (part xs i x is)
       (IsPermutation-trans (f x ++ others xs i) ((less ++ f y) ++ others xs i) (less ++ flat_map f (slice_set xs i y))
       (IsPermutation-append_left (others xs i) (f x) (less ++ f y) p)
       (IsPermutation-trans ((less ++ f y) ++ others xs i) (less ++ (f y ++ others xs i)) (less ++ flat_map f (slice_set xs i y))
       (same_order ((less ++ f y) ++ others xs i) (less ++ (f y ++ others xs i)) (append_assoc less (f y) (others xs i)))
-      (IsPermutation-append_right less (f y ++ others xs i) (flat_map f (slice_set xs i y)) (IsPermutation-sym (flat_map f (slice_set xs i y)) (f y ++ others xs i) (part-set xs i x y is)))))
+      (IsPermutation-append_right less (f y ++ others xs i) (flat_map f (slice_set xs i y)) (IsPermutation-sym (flat_map f (slice_set xs i y)) (f y ++ others xs i) (part_set xs i x y is)))))
 
 -- ---- where a step in `do` notation leads somewhere
 

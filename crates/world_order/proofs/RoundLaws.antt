@@ -14,16 +14,16 @@ use Rattle.world_order.specs.Window.{window_end}
 use Rattle.world_order.specs.World.{World, Logged, IsResult, fired_by}
 use Rattle.world_order.specs.declared.step.Step.{Step}
 use Rattle.world_order.proofs.Apart.{same_members}
-use Rattle.world_order.proofs.Fires.{part-in}
+use Rattle.world_order.proofs.Fires.{part_in}
 use Rattle.world_order.proofs.Homes.{some_is}
-use Rattle.world_order.proofs.Logs.{lines_with, lines_with-append, lines_with-in_order, order-in_order, same_log}
-use Rattle.world_order.proofs.Members.{IsIn, Each, All-from_Each, Each-from_All, IsIn-either}
-use Rattle.world_order.proofs.Openings.{opened-good, opened-alike, opened-packets}
-use Rattle.world_order.proofs.Results.{settled-result}
+use Rattle.world_order.proofs.Logs.{lines_with, lines_with_append, lines_with_in_order, order_in_order, same_log}
+use Rattle.world_order.proofs.Members.{IsIn, Each, All_from_Each, Each_from_All, IsIn_either}
+use Rattle.world_order.proofs.Openings.{opened_good, opened_alike, opened_packets}
+use Rattle.world_order.proofs.Results.{settled_result}
 use Rattle.world_order.proofs.RoundStates.{round_scene, queues_of}
-use Rattle.world_order.proofs.Runs.{Runs, runs-alike, IsOver, run_first, over_rest}
+use Rattle.world_order.proofs.Runs.{Runs, runs_alike, IsOver, run_first, over_rest}
 use Rattle.world_order.proofs.Scenes.{IsAlike, IsSound, IsWithin}
-use Rattle.world_order.proofs.Schedules.{Reached, reached, sound-alike}
+use Rattle.world_order.proofs.Schedules.{Reached, reached, sound_alike}
 use Rattle.world_order.proofs.Worlds.{scene_of, run_of, run_over, sound_of, within_window, grows}
 
 -- all of a list pass a test
@@ -34,9 +34,9 @@ module _ {X : Type 0} (p : X → Bool) where
   pass_by y x ys true is all zero at more = ap p (sym (some_is y x at)) ∙ is
   pass_by y x ys true is all (suc i) at more = more i all at
 
-  pub all-pass : (xs : List X) (x : X) (i : ℕ) → list_all p xs ≡ true → slice_get xs i ≡ Some x → p x ≡ true
-  all-pass [] x i all at = absurd (let e : None ≡ Some x = at in cc)
-  all-pass (y ∷ ys) x i all at = pass_by y x ys (p y) refl all i at (all-pass ys x)
+  pub all_pass : (xs : List X) (x : X) (i : ℕ) → list_all p xs ≡ true → slice_get xs i ≡ Some x → p x ≡ true
+  all_pass [] x i all at = absurd (let e : None ≡ Some x = at in cc)
+  all_pass (y ∷ ys) x i all at = pass_by y x ys (p y) refl all i at (all_pass ys x)
 
 module _ {H L : Type 0} (sim : Simulation H L) (stop least workers : ℕ) (w : World H L) (settled : IsSettled sim w) (from : AreDueFrom least w.events) where
   abbrev pub end_of : ℕ
@@ -49,21 +49,21 @@ module _ {H L : Type 0} (sim : Simulation H L) (stop least workers : ℕ) (w : W
   within = within_window sim.lookahead stop least
 
   homes : Each (λ (e : Event). sim.model.home e < length w.hosts) w.events
-  homes e h = let b = sim.homes e (Each-from_All sim.IsEvent w.events settled.events e h) in let c = settled.count in omega arith
+  homes e h = let b = sim.homes e (Each_from_All sim.IsEvent w.events settled.events e h) in let c = settled.count in omega arith
 
   alike : IsAlike (scene_of w) (round_scene w.log start_of)
-  alike = opened-alike sim.model end_of workers w settled.apart homes
+  alike = opened_alike sim.model end_of workers w settled.apart homes
 
   sound : IsSound sim least end_of (round_scene w.log start_of)
-  sound = sound-alike sim least end_of (scene_of w) (round_scene w.log start_of) alike (sound_of sim least end_of w settled from)
+  sound = sound_alike sim least end_of (scene_of w) (round_scene w.log start_of) alike (sound_of sim least end_of w settled from)
 
   module _ (steps : List Step) (s : State H L) (leads : after_all sim.model steps (Going start_of) ≡ Some s) where
     found : Reached sim.model end_of w.log start_of (fired_in sim.model steps (Going start_of)) (made_in sim.model steps (Going start_of)) s
-    found = reached sim least end_of within w.log steps start_of s leads (opened-good sim.model end_of workers w settled.apart) sound
+    found = reached sim least end_of within w.log steps start_of s leads (opened_good sim.model end_of workers w settled.apart) sound
 
     module _ (model : World H L) (result : IsResult sim.model end_of model w) where
       whole : Runs sim.model end_of (scene_of model) (fired_by sim.model end_of model w result) (round_scene w.log start_of)
-      whole = runs-alike sim.model end_of (scene_of model) (fired_by sim.model end_of model w result) (scene_of w) (round_scene w.log start_of) alike (run_of sim end_of model w result settled)
+      whole = runs_alike sim.model end_of (scene_of model) (fired_by sim.model end_of model w result) (scene_of w) (round_scene w.log start_of) alike (run_of sim end_of model w result settled)
 
       over : IsOver end_of (scene_of model)
       over = run_over sim.model end_of model w result
@@ -88,8 +88,8 @@ module _ {H L : Type 0} (sim : Simulation H L) (stop least workers : ℕ) (w : W
         let packets : List Event = made_in sim.model steps (Going start_of) in
         subst (λ (r : Round H L). AreLaid end_of r packets) f.ends
         (record {
-          once = subst (λ (l : List Event). IsPermutation (packets_of f.last) (l ++ packets)) (opened-packets sim.model end_of workers w settled.apart) f.once;
-          late = All-from_Each (λ (e : Event). end_of ≤ e.key.due.nanos) (packets_of f.last) f.good.late;
+          once = subst (λ (l : List Event). IsPermutation (packets_of f.last) (l ++ packets)) (opened_packets sim.model end_of workers w settled.apart) f.once;
+          late = All_from_Each (λ (e : Event). end_of ≤ e.key.due.nanos) (packets_of f.last) f.good.late;
           apart = f.good.apart;
         })
 
@@ -101,11 +101,11 @@ module _ {H L : Type 0} (sim : Simulation H L) (stop least workers : ℕ) (w : W
     closed_late : Each (λ (e : Event). end_of ≤ e.key.due.nanos) (events_of last_of)
     closed_late x h = ⊎_elim
         (λ (q : IsIn x (queues_of last_of)).
-        let m = part-in (λ (y : Member H). y.queue) last_of.members x q in
-        let done : is_done m.1.stage ≡ true = all-pass (λ (y : Member H). is_done y.stage) last_of.members m.1 m.0 (found steps (Closed v) leads).ends.1 m.2 in
+        let m = part_in (λ (y : Member H). y.queue) last_of.members x q in
+        let done : is_done m.1.stage ≡ true = all_pass (λ (y : Member H). is_done y.stage) last_of.members m.1 m.0 (found steps (Closed v) leads).ends.1 m.2 in
         ((found steps (Closed v) leads).good.members m.0 m.1 m.2).done done x m.3)
         (λ (p : IsIn x (packets_of last_of)). (found steps (Closed v) leads).good.late x p)
-        (IsIn-either x (queues_of last_of) (packets_of last_of) h)
+        (IsIn_either x (queues_of last_of) (packets_of last_of) h)
 
     module _ (model : World H L) (result : IsResult sim.model end_of model w) where
       same : IsAlike (round_scene w.log last_of) (scene_of model)
@@ -117,17 +117,17 @@ module _ {H L : Type 0} (sim : Simulation H L) (stop least workers : ℕ) (w : W
       log_is =
           let g = grows sim end_of model w result settled in
           let lines : (k : Key) → lines_with k (in_order last_of.lines) ≡ lines_with k g.added = λ k.
-          lines_with-in_order k last_of.lines
+          lines_with_in_order k last_of.lines
           ∙ append_cancel_left (lines_with k w.log) (lines_with k last_of.lines) (lines_with k g.added)
-          (same.lines k ∙ ap (lines_with k) g.log ∙ lines_with-append k w.log g.added) in
-          ap (λ (ls : List (Logged L)). w.log ++ ls) (same_log (in_order last_of.lines) g.added (order-in_order last_of.lines) g.order lines) ∙ sym g.log
+          (same.lines k ∙ ap (lines_with k) g.log ∙ lines_with_append k w.log g.added) in
+          ap (λ (ls : List (Logged L)). w.log ++ ls) (same_log (in_order last_of.lines) g.added (order_in_order last_of.lines) g.order lines) ∙ sym g.log
 
       last_leaves : Leaves end_of w model (world_of last_of)
       last_leaves = record {
         hosts = same.hosts;
-        events = same_members (events_of last_of) model.events (found steps (Closed v) leads).good.apart (settled-result sim end_of model w settled result).apart same.into same.back;
+        events = same_members (events_of last_of) model.events (found steps (Closed v) leads).good.apart (settled_result sim end_of model w settled result).apart same.into same.back;
         log = log_is;
-        over = All-from_Each (λ (e : Event). end_of ≤ e.key.due.nanos) (events_of last_of) closed_late;
+        over = All_from_Each (λ (e : Event). end_of ≤ e.key.due.nanos) (events_of last_of) closed_late;
       }
 
       pub close_law : Leaves end_of w model v

@@ -11,11 +11,11 @@ use Rattle.world_order.specs.Steps.{is_waiting, is_done, is_held, is_empty, has_
 use Rattle.world_order.specs.World.{Logged}
 use Rattle.world_order.specs.declared.step.Spot.{Spot}
 use Rattle.world_order.specs.declared.step.Spot.TheVariants.{Place, Spill}
-use Rattle.world_order.proofs.Apart.{AreApart-permutation}
-use Rattle.world_order.proofs.Homes.{some_is, get-set_same, get-set_other}
+use Rattle.world_order.proofs.Apart.{AreApart_permutation}
+use Rattle.world_order.proofs.Homes.{some_is, get_set_same, get_set_other}
 use Rattle.world_order.proofs.Logs.{lines_with}
-use Rattle.world_order.proofs.Members.{IsIn, Each, IsIn-permutation}
-use Rattle.world_order.proofs.Parts.{same_order, second_first, part-same, part-more, part-less, from_then, from_map, from_given}
+use Rattle.world_order.proofs.Members.{IsIn, Each, IsIn_permutation}
+use Rattle.world_order.proofs.Parts.{same_order, second_first, part_same, part-more, part_less, from_then, from_map, from_given}
 use Rattle.world_order.proofs.Scenes.{Scene, IsAlike}
 
 both_true : (a b : Bool) → (a && b) ≡ true → (a ≡ true) × (b ≡ true)
@@ -42,15 +42,15 @@ pub each_set : {X : Type 0} (P : ℕ → X → Type 0) (xs : List X) (i : ℕ) (
     → (j : ℕ) (z : X) → slice_get (slice_set xs i y) j ≡ Some z → P j z
 each_set P xs i x y is here others j z at = ⊎_elim
     (λ (same : j ≡ i).
-    let there : y ≡ z = some_is y z (sym (ap (slice_get (slice_set xs i y)) same ∙ get-set_same xs i x y is) ∙ at) in
+    let there : y ≡ z = some_is y z (sym (ap (slice_get (slice_set xs i y)) same ∙ get_set_same xs i x y is) ∙ at) in
     subst (P j) there (subst (λ (k : ℕ). P k y) (sym same) here))
-    (λ (other : j ≢ i). others j z (sym (get-set_other xs i j y other) ∙ at))
+    (λ (other : j ≢ i). others j z (sym (get_set_other xs i j y other) ∙ at))
     (cases_eq j i)
 
-pub map-same : {X Y : Type 0} (f : X → Y) (xs : List X) (i : ℕ) (x y : X) → slice_get xs i ≡ Some x → f y ≡ f x → map f (slice_set xs i y) ≡ map f xs
-map-same f [] i x y is same = refl
-map-same f (z ∷ zs) zero x y is same = ap (λ (l : List _). l) (λ k. (same ∙ ap f (sym (some_is z x is))) k ∷ map f zs)
-map-same f (z ∷ zs) (suc i) x y is same = λ k. f z ∷ map-same f zs i x y is same k
+pub map_same : {X Y : Type 0} (f : X → Y) (xs : List X) (i : ℕ) (x y : X) → slice_get xs i ≡ Some x → f y ≡ f x → map f (slice_set xs i y) ≡ map f xs
+map_same f [] i x y is same = refl
+map_same f (z ∷ zs) zero x y is same = ap (λ (l : List _). l) (λ k. (same ∙ ap f (sym (some_is z x is))) k ∷ map f zs)
+map_same f (z ∷ zs) (suc i) x y is same = λ k. f z ∷ map_same f zs i x y is same k
 
 module _ {H : Type 0} where
   -- the host in hand is in this worker's hand
@@ -65,9 +65,9 @@ module _ {H : Type 0} where
       let m = from_map (held w ys) suc i at in
       more m.0 m.1 (subst (λ (j : ℕ). slice_get (y ∷ ys) j ≡ Some x) (sym m.2) get)
 
-  pub held-stage : (w : ℕ) (xs : List (Member H)) (x : Member H) (i : ℕ) → held w xs ≡ Some i → slice_get xs i ≡ Some x → is_held w x.stage ≡ true
-  held-stage w [] x i at get = absurd (let e : None ≡ Some i = at in cc)
-  held-stage w (y ∷ ys) x i at get = held_by w y x ys i (is_held w y.stage) refl (held-stage w ys x) at get
+  pub held_stage : (w : ℕ) (xs : List (Member H)) (x : Member H) (i : ℕ) → held w xs ≡ Some i → slice_get xs i ≡ Some x → is_held w x.stage ≡ true
+  held_stage w [] x i at get = absurd (let e : None ≡ Some i = at in cc)
+  held_stage w (y ∷ ys) x i at get = held_by w y x ys i (is_held w y.stage) refl (held_stage w ys x) at get
 
 pub held_not_done : (w : ℕ) (s : Stage) → is_held w s ≡ true → is_done s ≡ true → ⊥
 held_not_done w Waits is done = absurd (cc)
@@ -127,23 +127,23 @@ module _ {H L : Type 0} where
     pub packets : IsPermutation (packets_of r) (packets_of u)
     pub lines : u.lines ≡ r.lines
 
-  pub quiet-events : (r u : Round H L) → IsQuiet r u → IsPermutation (events_of r) (events_of u)
-  quiet-events r u q = IsPermutation-append (queues_of r) (queues_of u) (packets_of r) (packets_of u) (same_order (queues_of r) (queues_of u) (sym q.queues)) q.packets
+  pub quiet_events : (r u : Round H L) → IsQuiet r u → IsPermutation (events_of r) (events_of u)
+  quiet_events r u q = IsPermutation-append (queues_of r) (queues_of u) (packets_of r) (packets_of u) (same_order (queues_of r) (queues_of u) (sym q.queues)) q.packets
 
-  pub quiet-alike : (front : List (Logged L)) (r u : Round H L) → IsQuiet r u → IsAlike (round_scene front r) (round_scene front u)
-  quiet-alike front r u q = record {
+  pub quiet_alike : (front : List (Logged L)) (r u : Round H L) → IsQuiet r u → IsAlike (round_scene front r) (round_scene front u)
+  quiet_alike front r u q = record {
     hosts = sym q.hosts;
-    into = λ x h. IsIn-permutation x (events_of r) (events_of u) (quiet-events r u q) h;
-    back = λ x h. IsIn-permutation x (events_of u) (events_of r) (IsPermutation-sym (events_of r) (events_of u) (quiet-events r u q)) h;
+    into = λ x h. IsIn_permutation x (events_of r) (events_of u) (quiet_events r u q) h;
+    back = λ x h. IsIn_permutation x (events_of u) (events_of r) (IsPermutation-sym (events_of r) (events_of u) (quiet_events r u q)) h;
     lines = λ k. ap (λ (ls : List (Logged L)). lines_with k front ++ lines_with k ls) (sym q.lines);
   }
 
-  pub quiet-good : (m : Model H L) (end : ℕ) (r u : Round H L) → IsQuiet r u → IsGood m end r → ((i : ℕ) (x : Member H) → slice_get u.members i ≡ Some x → IsMember m end i x) → IsGood m end u
-  quiet-good m end r u q good members = record {
+  pub quiet_good : (m : Model H L) (end : ℕ) (r u : Round H L) → IsQuiet r u → IsGood m end r → ((i : ℕ) (x : Member H) → slice_get u.members i ≡ Some x → IsMember m end i x) → IsGood m end u
+  quiet_good m end r u q good members = record {
     end_is = q.end_is ∙ good.end_is;
     members = members;
-    late = λ x h. good.late x (IsIn-permutation x (packets_of u) (packets_of r) (IsPermutation-sym (packets_of r) (packets_of u) q.packets) h);
-    apart = AreApart-permutation (events_of r) (events_of u) (quiet-events r u q) good.apart;
+    late = λ x h. good.late x (IsIn_permutation x (packets_of u) (packets_of r) (IsPermutation-sym (packets_of r) (packets_of u) q.packets) h);
+    apart = AreApart_permutation (events_of r) (events_of u) (quiet_events r u q) good.apart;
   }
 
   -- a step that fires nothing leaves the round like it was, and good
@@ -158,22 +158,22 @@ module _ {H L : Type 0} where
       let u : Round H L = with_member number y r in
       let q : IsQuiet r u = record {
         end_is = refl;
-        hosts = map-same (λ (x : Member H). x.host) r.members number x y at refl;
-        queues = part-same (λ (x : Member H). x.queue) r.members number x y at refl;
-        packets = same_order (packets_of r) (packets_of u) (ap (λ (ps : List Event). ps ++ carried_of r) (sym (part-same (λ (x : Member H). placed x.places) r.members number x y at refl)));
+        hosts = map_same (λ (x : Member H). x.host) r.members number x y at refl;
+        queues = part_same (λ (x : Member H). x.queue) r.members number x y at refl;
+        packets = same_order (packets_of r) (packets_of u) (ap (λ (ps : List Event). ps ++ carried_of r) (sym (part_same (λ (x : Member H). placed x.places) r.members number x y at refl)));
         lines = refl;
       } in
-      (q, quiet-good m end r u q good (each_set (IsMember m end) r.members number x y at (record { home = (good.members number x at).home; done = done }) good.members))
+      (q, quiet_good m end r u q good (each_set (IsMember m end) r.members number x y at (record { home = (good.members number x at).home; done = done }) good.members))
 
-  pub take-keeps : (m : Model H L) (end w number : ℕ) (r u : Round H L) → IsGood m end r → take_host w number r ≡ Some u → Keeps m end r u
-  take-keeps m end w number r u good is =
+  pub take_keeps : (m : Model H L) (end w number : ℕ) (r u : Round H L) → IsGood m end r → take_host w number r ≡ Some u → Keeps m end r u
+  take_keeps m end w number r u good is =
       let a = from_then (slice_get r.workers w) _ u is in
       let b = from_then (slice_get r.members number) _ u a.2 in
       let c = from_given (is_waiting b.0.stage && is_none (held w r.members)) _ u b.2 in
       subst (Keeps m end r) c.1 (stage_keeps m end r number b.0 (InHand w) b.1 good (λ d. absurd (cc)))
 
-  pub back-keeps : (m : Model H L) (end w : ℕ) (r u : Round H L) → IsGood m end r → give_back w r ≡ Some u → Keeps m end r u
-  back-keeps m end w r u good is =
+  pub back_keeps : (m : Model H L) (end w : ℕ) (r u : Round H L) → IsGood m end r → give_back w r ≡ Some u → Keeps m end r u
+  back_keeps m end w r u good is =
       let a = from_then (held w r.members) _ u is in
       let b = from_then (slice_get r.members a.0) _ u a.2 in
       let c = from_then (slice_get r.workers w) _ u b.2 in
@@ -184,9 +184,9 @@ module _ {H L : Type 0} where
 
   -- ---- a packet is put
 
-  spill-keeps : (m : Model H L) (end w : ℕ) (r : Round H L) (worker : Worker) (packet : Event) (rest : List Event) → IsGood m end r → slice_get r.workers w ≡ Some worker
+  spill_keeps : (m : Model H L) (end w : ℕ) (r : Round H L) (worker : Worker) (packet : Event) (rest : List Event) → IsGood m end r → slice_get r.workers w ≡ Some worker
       → worker.hand ≡ packet ∷ rest → Keeps m end r (put_spill w worker packet rest r)
-  spill-keeps m end w r worker packet rest good at hand =
+  spill_keeps m end w r worker packet rest good at hand =
       let new : Worker = record { hand = rest; spill = worker.spill ++ packet ∷ [] } in
       let u : Round H L = put_spill w worker packet rest r in
       let moved : IsPermutation (worker.hand ++ worker.spill) (rest ++ (worker.spill ++ packet ∷ [])) =
@@ -199,22 +199,22 @@ module _ {H L : Type 0} where
         hosts = refl;
         queues = refl;
         packets = IsPermutation-append_right (places_of r) (carried_of r) (carried_of u)
-            (part-less (λ (worker : Worker). worker.hand ++ worker.spill) r.workers w worker new [] at moved);
+            (part_less (λ (worker : Worker). worker.hand ++ worker.spill) r.workers w worker new [] at moved);
         lines = refl;
       } in
-      (q, quiet-good m end r u q good good.members)
+      (q, quiet_good m end r u q good good.members)
 
-  place-keeps : (m : Model H L) (end w number place : ℕ) (r : Round H L) (worker : Worker) (x : Member H) (packet : Event) (rest : List Event) → IsGood m end r
+  place_keeps : (m : Model H L) (end w number place : ℕ) (r : Round H L) (worker : Worker) (x : Member H) (packet : Event) (rest : List Event) → IsGood m end r
       → slice_get r.workers w ≡ Some worker → slice_get r.members number ≡ Some x → slice_get x.places place ≡ Some None
       → worker.hand ≡ packet ∷ rest → Keeps m end r (put_place w worker packet rest number place x r)
-  place-keeps m end w number place r worker x packet rest good at there free hand =
+  place_keeps m end w number place r worker x packet rest good at there free hand =
       let y : Member H = record x { places = slice_set x.places place (Some packet) } in
       let new : Worker = record worker { hand = rest } in
       let u : Round H L = put_place w worker packet rest number place x r in
       let more : IsPermutation (places_of u) (packet ∷ places_of r) =
       part-more (λ (x : Member H). placed x.places) r.members number x y (packet ∷ []) there (placed_more x.places place packet free) in
       let less : IsPermutation (carried_of r) (packet ∷ carried_of u) =
-      part-less (λ (worker : Worker). worker.hand ++ worker.spill) r.workers w worker new (packet ∷ []) at
+      part_less (λ (worker : Worker). worker.hand ++ worker.spill) r.workers w worker new (packet ∷ []) at
       (same_order (worker.hand ++ worker.spill) (packet ∷ (rest ++ worker.spill)) (ap (λ (h : List Event). h ++ worker.spill) hand)) in
       let moved : IsPermutation (packets_of r) (packets_of u) =
       IsPermutation-trans (places_of r ++ carried_of r) (places_of r ++ (packet ∷ carried_of u)) (places_of u ++ carried_of u)
@@ -224,26 +224,26 @@ module _ {H L : Type 0} where
       (IsPermutation-append_left (carried_of u) (packet ∷ places_of r) (places_of u) (IsPermutation-sym (places_of u) (packet ∷ places_of r) more))) in
       let q : IsQuiet r u = record {
         end_is = refl;
-        hosts = map-same (λ (x : Member H). x.host) r.members number x y there refl;
-        queues = part-same (λ (x : Member H). x.queue) r.members number x y there refl;
+        hosts = map_same (λ (x : Member H). x.host) r.members number x y there refl;
+        queues = part_same (λ (x : Member H). x.queue) r.members number x y there refl;
         packets = moved;
         lines = refl;
       } in
-      (q, quiet-good m end r u q good (each_set (IsMember m end) r.members number x y there (record { home = (good.members number x there).home; done = (good.members number x there).done }) good.members))
+      (q, quiet_good m end r u q good (each_set (IsMember m end) r.members number x y there (record { home = (good.members number x there).home; done = (good.members number x there).done }) good.members))
 
-  put_at-keeps : (m : Model H L) (end w : ℕ) (spot : Spot) (r u : Round H L) (worker : Worker) (packet : Event) (rest : List Event) → IsGood m end r → slice_get r.workers w ≡ Some worker
+  put_at_keeps : (m : Model H L) (end w : ℕ) (spot : Spot) (r u : Round H L) (worker : Worker) (packet : Event) (rest : List Event) → IsGood m end r → slice_get r.workers w ≡ Some worker
       → worker.hand ≡ packet ∷ rest → put_at m w worker packet rest spot r ≡ Some u → Keeps m end r u
-  put_at-keeps m end w Spill r u worker packet rest good at hand is =
-      subst (Keeps m end r) (some_is (put_spill w worker packet rest r) u is) (spill-keeps m end w r worker packet rest good at hand)
-  put_at-keeps m end w (Place place) r u worker packet rest good at hand is =
+  put_at_keeps m end w Spill r u worker packet rest good at hand is =
+      subst (Keeps m end r) (some_is (put_spill w worker packet rest r) u is) (spill_keeps m end w r worker packet rest good at hand)
+  put_at_keeps m end w (Place place) r u worker packet rest good at hand is =
       let a = from_then (slice_get r.members (m.home packet)) _ u is in
       let b = from_then (slice_get a.0.places place) _ u a.2 in
       let c = from_given (is_none b.0) _ u b.2 in
       let free : slice_get a.0.places place ≡ Some None = b.1 ∙ ap Some (none_kept b.0 c.0) in
-      subst (Keeps m end r) c.1 (place-keeps m end w (m.home packet) place r worker a.0 packet rest good at a.1 free hand)
+      subst (Keeps m end r) c.1 (place_keeps m end w (m.home packet) place r worker a.0 packet rest good at a.1 free hand)
 
-  pub put-keeps : (m : Model H L) (end w : ℕ) (spot : Spot) (r u : Round H L) → IsGood m end r → put_packet m w spot r ≡ Some u → Keeps m end r u
-  put-keeps m end w spot r u good is =
+  pub put_keeps : (m : Model H L) (end w : ℕ) (spot : Spot) (r u : Round H L) → IsGood m end r → put_packet m w spot r ≡ Some u → Keeps m end r u
+  put_keeps m end w spot r u good is =
       let a = from_then (slice_get r.workers w) _ u is in
       let b = from_then (first a.0.hand) _ u a.2 in
-      put_at-keeps m end w spot r u a.0 b.0.0 b.0.1 good a.1 (hand_first a.0 b.0 b.1) b.2
+      put_at_keeps m end w spot r u a.0 b.0.0 b.0.1 good a.1 (hand_first a.0 b.0 b.1) b.2

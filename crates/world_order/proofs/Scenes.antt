@@ -8,10 +8,10 @@ use Rattle.world_order.specs.EventOrder.{same_key, is_before}
 use Rattle.world_order.specs.Model.{Model, fires}
 use Rattle.world_order.specs.Premises.{IsFar, Simulation}
 use Rattle.world_order.specs.Settled.{next_at}
-use Rattle.world_order.proofs.Firings.{Known, known, numbered-apart, below_kept, below_made, made_anew, hosts_kept}
+use Rattle.world_order.proofs.Firings.{Known, known, numbered_apart, below_kept, below_made, made_anew, hosts_kept}
 use Rattle.world_order.proofs.Apart.{one_of_key}
-use Rattle.world_order.proofs.Homes.{length-fires, fires-other, fires-either, made_same, lines_same, some_is}
-use Rattle.world_order.proofs.Keys.{due_from, one_way, same_key-is, same_place}
+use Rattle.world_order.proofs.Homes.{length_fires, fires_other, fires_either, made_same, lines_same, some_is}
+use Rattle.world_order.proofs.Keys.{due_from, one_way, same_key_is, same_place}
 use Rattle.world_order.proofs.Members.{IsIn}
 
 -- the lines of a key among those of another
@@ -35,14 +35,14 @@ module _ {H L : Type 0} where
     pub back : (x : Event) → t.holds x → s.holds x
     pub lines : (k : Key) → s.lines k ≡ t.lines k
 
-  pub alike-refl : (s : Scene H L) → IsAlike s s
-  alike-refl s = record { hosts = refl; into = λ x h. h; back = λ x h. h; lines = λ k. refl }
+  pub alike_refl : (s : Scene H L) → IsAlike s s
+  alike_refl s = record { hosts = refl; into = λ x h. h; back = λ x h. h; lines = λ k. refl }
 
-  pub alike-sym : (s t : Scene H L) → IsAlike s t → IsAlike t s
-  alike-sym s t a = record { hosts = sym a.hosts; into = a.back; back = a.into; lines = λ k. sym (a.lines k) }
+  pub alike_sym : (s t : Scene H L) → IsAlike s t → IsAlike t s
+  alike_sym s t a = record { hosts = sym a.hosts; into = a.back; back = a.into; lines = λ k. sym (a.lines k) }
 
-  pub alike-trans : (s t u : Scene H L) → IsAlike s t → IsAlike t u → IsAlike s u
-  alike-trans s t u a b = record {
+  pub alike_trans : (s t u : Scene H L) → IsAlike s t → IsAlike t u → IsAlike s u
+  alike_trans s t u a b = record {
     hosts = a.hosts ∙ b.hosts;
     into = λ x h. b.into x (a.into x h);
     back = λ x h. a.back x (b.back x h);
@@ -63,11 +63,11 @@ module _ {H L : Type 0} where
     lines = λ k. s.lines k ++ own_lines k e.key (fires m s.hosts e).lines;
   }
 
-  pub may-alike : (m : Model H L) (end : ℕ) (e : Event) (s t : Scene H L) → IsAlike s t → MayFire m end e s → MayFire m end e t
-  may-alike m end e s t a may = record { there = a.into e may.there; due = may.due; first = λ x h same. may.first x (a.back x h) same }
+  pub may_alike : (m : Model H L) (end : ℕ) (e : Event) (s t : Scene H L) → IsAlike s t → MayFire m end e s → MayFire m end e t
+  may_alike m end e s t a may = record { there = a.into e may.there; due = may.due; first = λ x h same. may.first x (a.back x h) same }
 
-  pub turned-alike : (m : Model H L) (e : Event) (s t : Scene H L) → IsAlike s t → IsAlike (turned m e s) (turned m e t)
-  turned-alike m e s t a =
+  pub turned_alike : (m : Model H L) (e : Event) (s t : Scene H L) → IsAlike s t → IsAlike (turned m e s) (turned m e t)
+  turned_alike m e s t a =
       let made : (fires m s.hosts e).made ≡ (fires m t.hosts e).made = ap (λ (hosts : List H). (fires m hosts e).made) a.hosts in
       record {
         hosts = ap (λ (hosts : List H). (fires m hosts e).hosts) a.hosts;
@@ -117,7 +117,7 @@ module _ {H L : Type 0} where
       one_after x y (inl a) (inr b) same = absurd (made_anew sim s.hosts e (fire_known e s sound may) x y (sound.below x a.0) b same)
       one_after x y (inr a) (inl b) same = absurd (made_anew sim s.hosts e (fire_known e s sound may) y x (sound.below y b.0) a (sym same))
       one_after x y (inr a) (inr b) same =
-          one_of_key (fires sim.model s.hosts e).made (numbered-apart _ _ _ (fire_known e s sound may).numbered) x y a b same
+          one_of_key (fires sim.model s.hosts e).made (numbered_apart _ _ _ (fire_known e s sound may).numbered) x y a b same
 
       below_after : (x : Event) → (turned sim.model e s).holds x → x.key.number < next_at sim.model (turned sim.model e s).hosts x.key.source.index
       below_after x (inl a) = below_kept sim s.hosts e (fire_known e s sound may) x (sound.below x a.0)
@@ -144,9 +144,9 @@ module _ {H L : Type 0} where
 
       clock_elsewhere : (x : Event) (host : H) → (turned sim.model e s).holds x → slice_get (turned sim.model e s).hosts (sim.model.home x) ≡ Some host
           → sim.model.home x ≢ sim.model.home e → sim.model.clock host ≤ x.key.due.nanos
-      clock_elsewhere x host (inl a) is other = sound.own_clock x host a.0 (sym (fires-other sim.model s.hosts e (sim.model.home x) other) ∙ is)
+      clock_elsewhere x host (inl a) is other = sound.own_clock x host a.0 (sym (fires_other sim.model s.hosts e (sim.model.home x) other) ∙ is)
       clock_elsewhere x host (inr b) is other =
-          let c = sound.clocks e may.there may.due (sim.model.home x) host (sym (fires-other sim.model s.hosts e (sim.model.home x) other) ∙ is) in
+          let c = sound.clocks e may.there may.due (sim.model.home x) host (sym (fires_other sim.model s.hosts e (sim.model.home x) other) ∙ is) in
           let l = made_late e s sound may x b other in
           omega arith
 
@@ -154,9 +154,9 @@ module _ {H L : Type 0} where
       from_after x (inl a) = sound.from x a.0
       from_after x (inr b) = let l = (fire_known e s sound may).later x b in let f = sound.from e may.there in omega arith
 
-      pub sound-turned : IsSound sim start end (turned sim.model e s)
-      sound-turned = record {
-        count = length-fires sim.model s.hosts e ∙ sound.count;
+      pub sound_turned : IsSound sim start end (turned sim.model e s)
+      sound_turned = record {
+        count = length_fires sim.model s.hosts e ∙ sound.count;
         one = one_after;
         below = below_after;
         events = events_after;
@@ -198,10 +198,10 @@ module _ {H L : Type 0} where
 
       -- what the one makes, the other doesn't change
       made_kept : (fires sim.model (turned sim.model e s).hosts f).made ≡ (fires sim.model s.hosts f).made
-      made_kept = made_same sim.model (turned sim.model e s).hosts s.hosts f (fires-other sim.model s.hosts e (sim.model.home f) (λ same. differ (sym same)))
+      made_kept = made_same sim.model (turned sim.model e s).hosts s.hosts f (fires_other sim.model s.hosts e (sim.model.home f) (λ same. differ (sym same)))
 
       lines_kept : (fires sim.model (turned sim.model e s).hosts f).lines ≡ (fires sim.model s.hosts f).lines
-      lines_kept = lines_same sim.model (turned sim.model e s).hosts s.hosts f (fires-other sim.model s.hosts e (sim.model.home f) (λ same. differ (sym same)))
+      lines_kept = lines_same sim.model (turned sim.model e s).hosts s.hosts f (fires_other sim.model s.hosts e (sim.model.home f) (λ same. differ (sym same)))
 
     module _ (e f : Event) (s : Scene H L) (sound : IsSound sim start end s) (may : MayFire sim.model end e s) (other : MayFire sim.model end f s)
         (differ : sim.model.home e ≢ sim.model.home f) where
@@ -215,7 +215,7 @@ module _ {H L : Type 0} where
 
     two_lines : (key other k : Key) (a b : List L) → key ≢ other → (t u : Bool) → same_key k key ≡ t → same_key k other ≡ u
         → (if t then a else []) ++ (if u then b else []) ≡ (if u then b else []) ++ (if t then a else [])
-    two_lines key other k a b differ true true is is' = absurd (differ (sym (same_key-is k key is) ∙ same_key-is k other is'))
+    two_lines key other k a b differ true true is is' = absurd (differ (sym (same_key_is k key is) ∙ same_key_is k other is'))
     two_lines key other k a b differ true false is is' = append-nil a
     two_lines key other k a b differ false true is is' = sym (append-nil b)
     two_lines key other k a b differ false false is is' = refl
@@ -228,7 +228,7 @@ module _ {H L : Type 0} where
         let le : Key → List L = λ k. own_lines k e.key (fires sim.model s.hosts e).lines in
         let lf : Key → List L = λ k. own_lines k f.key (fires sim.model s.hosts f).lines in
         record {
-          hosts = fires-either sim.model s.hosts e f differ;
+          hosts = fires_either sim.model s.hosts e f differ;
           into = in_other_order e f s sound may other differ;
           back = in_other_order f e s sound other may differ';
           lines = λ k.

@@ -12,17 +12,17 @@ use Rattle.world_order.specs.Steps.{is_done, after, after_step, Ready, ready, fi
 use Rattle.world_order.specs.World.{World, Logged}
 use Rattle.world_order.specs.declared.step.Step.{Step}
 use Rattle.world_order.specs.declared.step.Step.TheVariants.{Take, Fire, Put, Back, Close}
-use Rattle.world_order.proofs.Fires.{IsReady, ready-is, ready_may, fire-alike, fire-good, packets_more}
+use Rattle.world_order.proofs.Fires.{IsReady, ready_is, ready_may, fire_alike, fire_good, packets_more}
 use Rattle.world_order.proofs.Homes.{some_is}
 use Rattle.world_order.proofs.Parts.{same_order, from_then, from_map, from_given}
-use Rattle.world_order.proofs.RoundStates.{round_scene, IsGood, Keeps, quiet-alike, take-keeps, put-keeps, back-keeps}
-use Rattle.world_order.proofs.Runs.{Runs, rests, turns, runs-alike}
-use Rattle.world_order.proofs.Scenes.{Scene, IsAlike, alike-refl, alike-sym, MayFire, turned, IsSound, IsWithin, sound-turned}
+use Rattle.world_order.proofs.RoundStates.{round_scene, IsGood, Keeps, quiet_alike, take_keeps, put_keeps, back_keeps}
+use Rattle.world_order.proofs.Runs.{Runs, rests, turns, runs_alike}
+use Rattle.world_order.proofs.Scenes.{Scene, IsAlike, alike_refl, alike_sym, MayFire, turned, IsSound, IsWithin, sound_turned}
 
 module _ {H L : Type 0} where
   -- what holds of a scene holds of one alike
-  pub sound-alike : (sim : Simulation H L) (start end : ℕ) (s t : Scene H L) → IsAlike s t → IsSound sim start end s → IsSound sim start end t
-  sound-alike sim start end s t a sound = record {
+  pub sound_alike : (sim : Simulation H L) (start end : ℕ) (s t : Scene H L) → IsAlike s t → IsSound sim start end s → IsSound sim start end t
+  sound_alike sim start end s t a sound = record {
     count = ap length (sym a.hosts) ∙ sound.count;
     one = λ x y h g same. sound.one x y (a.back x h) (a.back y g) same;
     below = λ x h. subst (λ (hosts : List H). x.key.number < next_at sim.model hosts x.key.source.index) a.hosts (sound.below x (a.back x h));
@@ -58,11 +58,11 @@ module _ {H L : Type 0} where
     quiet_step : (r u : Round H L) (s : State H L) (fires packets : List Event) → IsSound sim start end (round_scene front r) → Keeps sim.model end r u → Follows u s fires packets
         → Reached sim.model end front r fires packets s
     quiet_step r u s fires packets sound kept more =
-        let alike = quiet-alike front r u kept.0 in
-        let m = more kept.1 (sound-alike sim start end (round_scene front r) (round_scene front u) alike sound) in
+        let alike = quiet_alike front r u kept.0 in
+        let m = more kept.1 (sound_alike sim start end (round_scene front r) (round_scene front u) alike sound) in
         record {
           last = m.last;
-          run = runs-alike sim.model end (round_scene front m.last) fires (round_scene front u) (round_scene front r) (alike-sym (round_scene front r) (round_scene front u) alike) m.run;
+          run = runs_alike sim.model end (round_scene front m.last) fires (round_scene front u) (round_scene front r) (alike_sym (round_scene front r) (round_scene front u) alike) m.run;
           good = m.good;
           once = IsPermutation-trans (packets_of m.last) (packets_of u ++ packets) (packets_of r ++ packets) m.once
               (IsPermutation-append_left packets (packets_of u) (packets_of r) (IsPermutation-sym (packets_of r) (packets_of u) kept.0.packets));
@@ -76,16 +76,16 @@ module _ {H L : Type 0} where
         let f = sim.model.fire t.number t.member.host t.event in
         let u : Round H L = after_fire sim.model w r t f in
         let may : MayFire sim.model end t.event (round_scene front r) = ready_may sim start end within front w r t good sound is in
-        let alike : IsAlike (turned sim.model t.event (round_scene front r)) (round_scene front u) = fire-alike sim start end within front w r t good sound is f refl in
-        let turned_sound : IsSound sim start end (turned sim.model t.event (round_scene front r)) = sound-turned sim start end within t.event (round_scene front r) sound may in
-        let m = more (fire-good sim start end within front w r t good sound is f refl)
-        (sound-alike sim start end (turned sim.model t.event (round_scene front r)) (round_scene front u) alike turned_sound) in
+        let alike : IsAlike (turned sim.model t.event (round_scene front r)) (round_scene front u) = fire_alike sim start end within front w r t good sound is f refl in
+        let turned_sound : IsSound sim start end (turned sim.model t.event (round_scene front r)) = sound_turned sim start end within t.event (round_scene front r) sound may in
+        let m = more (fire_good sim start end within front w r t good sound is f refl)
+        (sound_alike sim start end (turned sim.model t.event (round_scene front r)) (round_scene front u) alike turned_sound) in
         let made : List Event = packets_made sim.model t in
         record {
           last = m.last;
           run = turns (round_scene front r) t.event fires may
-              (runs-alike sim.model end (round_scene front m.last) fires (round_scene front u) (turned sim.model t.event (round_scene front r))
-              (alike-sym (turned sim.model t.event (round_scene front r)) (round_scene front u) alike) m.run);
+              (runs_alike sim.model end (round_scene front m.last) fires (round_scene front u) (turned sim.model t.event (round_scene front r))
+              (alike_sym (turned sim.model t.event (round_scene front r)) (round_scene front u) alike) m.run);
           good = m.good;
           once = IsPermutation-trans (packets_of m.last) (packets_of u ++ packets) (packets_of r ++ (made ++ packets)) m.once
               (IsPermutation-trans (packets_of u ++ packets) ((packets_of r ++ made) ++ packets) (packets_of r ++ (made ++ packets))
@@ -105,7 +105,7 @@ module _ {H L : Type 0} where
         let c = none_closed sim.model steps v s (ap (after_all sim.model steps) next_is ∙ rest) in
         let base : Reached sim.model end front r [] [] s = record {
           last = r;
-          run = rests (round_scene front r) (alike-refl (round_scene front r));
+          run = rests (round_scene front r) (alike_refl (round_scene front r));
           good = good;
           once = same_order (packets_of r) (packets_of r ++ []) (sym (append-nil (packets_of r)));
           ends = subst (EndsAt r) c.0 (world, done);
@@ -129,17 +129,17 @@ module _ {H L : Type 0} where
     any_step (Take w host) steps r next s good sound is more rest =
         let a = from_map (take_host w host.index r) Going next is in
         subst (λ (n : State H L). Reached sim.model end front r (fired_in sim.model steps n) (made_in sim.model steps n) s) a.2
-        (quiet_step r a.0 s (fired_in sim.model steps (Going a.0)) (made_in sim.model steps (Going a.0)) sound (take-keeps sim.model end w host.index r a.0 good a.1)
+        (quiet_step r a.0 s (fired_in sim.model steps (Going a.0)) (made_in sim.model steps (Going a.0)) sound (take_keeps sim.model end w host.index r a.0 good a.1)
         (more a.0 (ap (after_all sim.model steps) a.2 ∙ rest)))
     any_step (Put w spot) steps r next s good sound is more rest =
         let a = from_map (put_packet sim.model w spot r) Going next is in
         subst (λ (n : State H L). Reached sim.model end front r (fired_in sim.model steps n) (made_in sim.model steps n) s) a.2
-        (quiet_step r a.0 s (fired_in sim.model steps (Going a.0)) (made_in sim.model steps (Going a.0)) sound (put-keeps sim.model end w spot r a.0 good a.1)
+        (quiet_step r a.0 s (fired_in sim.model steps (Going a.0)) (made_in sim.model steps (Going a.0)) sound (put_keeps sim.model end w spot r a.0 good a.1)
         (more a.0 (ap (after_all sim.model steps) a.2 ∙ rest)))
     any_step (Back w) steps r next s good sound is more rest =
         let a = from_map (give_back w r) Going next is in
         subst (λ (n : State H L). Reached sim.model end front r (fired_in sim.model steps n) (made_in sim.model steps n) s) a.2
-        (quiet_step r a.0 s (fired_in sim.model steps (Going a.0)) (made_in sim.model steps (Going a.0)) sound (back-keeps sim.model end w r a.0 good a.1)
+        (quiet_step r a.0 s (fired_in sim.model steps (Going a.0)) (made_in sim.model steps (Going a.0)) sound (back_keeps sim.model end w r a.0 good a.1)
         (more a.0 (ap (after_all sim.model steps) a.2 ∙ rest)))
     any_step (Fire w) steps r next s good sound is more rest =
         let a = from_map (fire_host sim.model w r) Going next is in
@@ -147,7 +147,7 @@ module _ {H L : Type 0} where
         let u : Round H L = after_fire sim.model w r b.0 (sim.model.fire b.0.number b.0.member.host b.0.event) in
         let next_is : Going u ≡ next = ap Going b.2 ∙ a.2 in
         let reached : Reached sim.model end front r (b.0.event ∷ fired_in sim.model steps (Going u)) (packets_made sim.model b.0 ++ made_in sim.model steps (Going u)) s =
-        fire_step w r b.0 s (fired_in sim.model steps (Going u)) (made_in sim.model steps (Going u)) good sound (ready-is w r b.0 b.1)
+        fire_step w r b.0 s (fired_in sim.model steps (Going u)) (made_in sim.model steps (Going u)) good sound (ready_is w r b.0 b.1)
         (more u (ap (after_all sim.model steps) next_is ∙ rest)) in
         subst (λ (o : Option (Ready H)). Reached sim.model end front r (option_to_list (option_map (λ (t : Ready H). t.event) o) ++ fired_in sim.model steps next) (made_by sim.model o ++ made_in sim.model steps next) s) (sym b.1)
         (subst (λ (n : State H L). Reached sim.model end front r (b.0.event ∷ fired_in sim.model steps n) (packets_made sim.model b.0 ++ made_in sim.model steps n) s) next_is reached)
@@ -171,7 +171,7 @@ module _ {H L : Type 0} where
     unfolding after_all fired_in made_in
     no_step r s is good = record {
       last = r;
-      run = rests (round_scene front r) (alike-refl (round_scene front r));
+      run = rests (round_scene front r) (alike_refl (round_scene front r));
       good = good;
       once = same_order (packets_of r) (packets_of r ++ []) (sym (append-nil (packets_of r)));
       ends = subst (EndsAt r) (some_is (Going r) s is) refl;

@@ -17,18 +17,18 @@ from_place pieces i = ap (λ n. take n (drop i pieces)) (sym (length-drop i piec
 
 -- ---- whether a bracket is closed
 
-closing-step : (n : ℕ) (b : Bool) → ((n == 0) || b) ≡ cond (nat_le (n + 1) 1) true b
-closing-step n b = grind (arith, nat_tests)
+closing_step : (n : ℕ) (b : Bool) → ((n == 0) || b) ≡ cond (nat_le (n + 1) 1) true b
+closing_step n b = grind (arith, nat_tests)
 
-closes-step : (piece : Piece) (pieces : List Piece) (n : ℕ) → closes_at n (piece ∷ pieces) ≡ cond (is_last (Some piece) (n + 1)) true (closes_at (open_after (Some piece) (n + 1) - 1) pieces)
-closes-step (Opening bracket) pieces n = ap (λ k. closes_at k pieces) (omega arith)
-closes-step (Closing bracket) pieces n = closing-step n (closes_at (n - 1) pieces) ∙ ap (λ k. cond (nat_le (n + 1) 1) true (closes_at k pieces)) (omega arith)
-closes-step Comma pieces n = ap (λ k. closes_at k pieces) (omega arith)
-closes-step (CellKey text) pieces n = ap (λ k. closes_at k pieces) (omega arith)
-closes-step (CellScalar text) pieces n = ap (λ k. closes_at k pieces) (omega arith)
-closes-step (CellName text) pieces n = ap (λ k. closes_at k pieces) (omega arith)
-closes-step (CellCopy text) pieces n = ap (λ k. closes_at k pieces) (omega arith)
-closes-step (OddPiece why) pieces n = ap (λ k. closes_at k pieces) (omega arith)
+closes_step : (piece : Piece) (pieces : List Piece) (n : ℕ) → closes_at n (piece ∷ pieces) ≡ cond (is_last (Some piece) (n + 1)) true (closes_at (open_after (Some piece) (n + 1) - 1) pieces)
+closes_step (Opening bracket) pieces n = ap (λ k. closes_at k pieces) (omega arith)
+closes_step (Closing bracket) pieces n = closing_step n (closes_at (n - 1) pieces) ∙ ap (λ k. cond (nat_le (n + 1) 1) true (closes_at k pieces)) (omega arith)
+closes_step Comma pieces n = ap (λ k. closes_at k pieces) (omega arith)
+closes_step (CellKey text) pieces n = ap (λ k. closes_at k pieces) (omega arith)
+closes_step (CellScalar text) pieces n = ap (λ k. closes_at k pieces) (omega arith)
+closes_step (CellName text) pieces n = ap (λ k. closes_at k pieces) (omega arith)
+closes_step (CellCopy text) pieces n = ap (λ k. closes_at k pieces) (omega arith)
+closes_step (OddPiece why) pieces n = ap (λ k. closes_at k pieces) (omega arith)
 
 -- so many brackets are open behind some pieces, the first one counted
 pub record LooksOn (pieces : List Piece) (i opened : ℕ) : Type 0 where
@@ -39,31 +39,31 @@ pub record LooksOn (pieces : List Piece) (i opened : ℕ) : Type 0 where
 pub looks_first : (pieces : List Piece) → LooksOn pieces 0 1
 looks_first pieces = record { is_open = omega arith; fits = omega arith; goes_on = refl }
 
-closing-more : (n : ℕ) → nat_le n 1 ≡ false → 0 < n - 1
-closing-more n e = grind (arith, nat_tests)
+closing_more : (n : ℕ) → nat_le n 1 ≡ false → 0 < n - 1
+closing_more n e = grind (arith, nat_tests)
 
-open-more : (piece : Piece) (n : ℕ) → 0 < n → is_last (Some piece) n ≡ false → (0 < open_after (Some piece) n) × (open_after (Some piece) n ≤ n + 1)
-open-more (Opening bracket) n some e = (omega arith, omega arith)
-open-more (Closing bracket) n some e = (closing-more n e, omega arith)
-open-more Comma n some e = (some, omega arith)
-open-more (CellKey text) n some e = (some, omega arith)
-open-more (CellScalar text) n some e = (some, omega arith)
-open-more (CellName text) n some e = (some, omega arith)
-open-more (CellCopy text) n some e = (some, omega arith)
-open-more (OddPiece why) n some e = (some, omega arith)
+open_more : (piece : Piece) (n : ℕ) → 0 < n → is_last (Some piece) n ≡ false → (0 < open_after (Some piece) n) × (open_after (Some piece) n ≤ n + 1)
+open_more (Opening bracket) n some e = (omega arith, omega arith)
+open_more (Closing bracket) n some e = (closing_more n e, omega arith)
+open_more Comma n some e = (some, omega arith)
+open_more (CellKey text) n some e = (some, omega arith)
+open_more (CellScalar text) n some e = (some, omega arith)
+open_more (CellName text) n some e = (some, omega arith)
+open_more (CellCopy text) n some e = (some, omega arith)
+open_more (OddPiece why) n some e = (some, omega arith)
 
-closes-drop : (pieces : List Piece) (i opened : ℕ) (piece : Piece) → LooksOn pieces i opened → i < length pieces → piece ≡ get_or pieces i piece → closes_at 0 pieces ≡ cond (is_last (Some piece) opened) true (closes_at (open_after (Some piece) opened - 1) (drop (i + 1) pieces))
-closes-drop pieces i opened piece h within is = sym h.goes_on ∙ ap (closes_at (opened - 1)) (here pieces i piece within is) ∙ closes-step piece (drop (i + 1) pieces) (opened - 1) ∙ ap (λ n. cond (is_last (Some piece) n) true (closes_at (open_after (Some piece) n - 1) (drop (i + 1) pieces))) (let e = h.is_open in omega arith)
+closes_drop : (pieces : List Piece) (i opened : ℕ) (piece : Piece) → LooksOn pieces i opened → i < length pieces → piece ≡ get_or pieces i piece → closes_at 0 pieces ≡ cond (is_last (Some piece) opened) true (closes_at (open_after (Some piece) opened - 1) (drop (i + 1) pieces))
+closes_drop pieces i opened piece h within is = sym h.goes_on ∙ ap (closes_at (opened - 1)) (here pieces i piece within is) ∙ closes_step piece (drop (i + 1) pieces) (opened - 1) ∙ ap (λ n. cond (is_last (Some piece) n) true (closes_at (open_after (Some piece) n - 1) (drop (i + 1) pieces))) (let e = h.is_open in omega arith)
 
 pub looks_on : (pieces : List Piece) (i opened : ℕ) (piece : Piece) → LooksOn pieces i opened → i < length pieces → piece ≡ get_or pieces i piece → is_last (Some piece) opened ≡ false → LooksOn pieces (i + 1) (open_after (Some piece) opened)
-looks_on pieces i opened piece h within is last = let more = open-more piece opened h.is_open last in record {
+looks_on pieces i opened piece h within is last = let more = open_more piece opened h.is_open last in record {
   is_open = more.0;
   fits = let k = h.fits in let m = more.1 in omega arith;
-  goes_on = sym (closes-drop pieces i opened piece h within is ∙ cond-false (is_last (Some piece) opened) _ _ last);
+  goes_on = sym (closes_drop pieces i opened piece h within is ∙ cond-false (is_last (Some piece) opened) _ _ last);
 }
 
 pub closes_here : (pieces : List Piece) (i opened : ℕ) (piece : Piece) → LooksOn pieces i opened → i < length pieces → piece ≡ get_or pieces i piece → is_last (Some piece) opened ≡ true → closes_at 0 pieces ≡ true
-closes_here pieces i opened piece h within is last = closes-drop pieces i opened piece h within is ∙ cond-true (is_last (Some piece) opened) _ _ last
+closes_here pieces i opened piece h within is last = closes_drop pieces i opened piece h within is ∙ cond-true (is_last (Some piece) opened) _ _ last
 
 pub never_closes : (pieces : List Piece) (i opened : ℕ) → LooksOn pieces i opened → length pieces ≤ i → closes_at 0 pieces ≡ false
 never_closes pieces i opened h over = sym h.goes_on ∙ at_drop_all (closes_at (opened - 1)) pieces i over

@@ -7,34 +7,34 @@ use Rattle.std.specs.List.{prefix_len}
 use Rattle.sim_base.specs.Ascii.{carriage_return, line_feed}
 use Rattle.yaml_marks.specs.Lines.{byte_before, is_inside, without_return, split_lines}
 
-without_return-end : (xs : List ℕ) → without_return (xs ++ (carriage_return ∷ [])) ≡ xs
+without_return_end : (xs : List ℕ) → without_return (xs ++ (carriage_return ∷ [])) ≡ xs
 unfolding without_return
-without_return-end [] = refl
-without_return-end (b ∷ []) = refl
-without_return-end (b ∷ c ∷ xs) = ap (λ l. b ∷ l) (without_return-end (c ∷ xs))
+without_return_end [] = refl
+without_return_end (b ∷ []) = refl
+without_return_end (b ∷ c ∷ xs) = ap (λ l. b ∷ l) (without_return_end (c ∷ xs))
 
-without_return-other : (xs : List ℕ) (y : ℕ) → (y ≡ carriage_return → ⊥) → without_return (xs ++ (y ∷ [])) ≡ xs ++ (y ∷ [])
+without_return_other : (xs : List ℕ) (y : ℕ) → (y ≡ carriage_return → ⊥) → without_return (xs ++ (y ∷ [])) ≡ xs ++ (y ∷ [])
 unfolding without_return
-without_return-other [] y n = cond-false (y == carriage_return) _ _ (ne_eqb y carriage_return n)
-without_return-other (b ∷ []) y n = ap (λ l. b ∷ l) (cond-false (y == carriage_return) _ _ (ne_eqb y carriage_return n))
-without_return-other (b ∷ c ∷ xs) y n = ap (λ l. b ∷ l) (without_return-other (c ∷ xs) y n)
+without_return_other [] y n = cond-false (y == carriage_return) _ _ (ne_eqb y carriage_return n)
+without_return_other (b ∷ []) y n = ap (λ l. b ∷ l) (cond-false (y == carriage_return) _ _ (ne_eqb y carriage_return n))
+without_return_other (b ∷ c ∷ xs) y n = ap (λ l. b ∷ l) (without_return_other (c ∷ xs) y n)
 
 pub return_taken : (line front : List ℕ) → line ≡ front ++ (carriage_return ∷ []) → front ≡ without_return line
-return_taken line front e = sym (ap without_return e ∙ without_return-end front)
+return_taken line front e = sym (ap without_return e ∙ without_return_end front)
 
 pub return_absent : (line front : List ℕ) (y : ℕ) → line ≡ front ++ (y ∷ []) → (y ≡ carriage_return → ⊥) → line ≡ without_return line
-return_absent line front y e n = e ∙ sym (ap without_return e ∙ without_return-other front y n)
+return_absent line front y e n = e ∙ sym (ap without_return e ∙ without_return_other front y n)
 
 pub return_of_nothing : (line : List ℕ) → length line ≡ 0 → line ≡ without_return line
 unfolding without_return
 return_of_nothing [] e = refl
 return_of_nothing (b ∷ line) e = absurd (omega (arith, e))
 
-pub length-without_return : (xs : List ℕ) → length (without_return xs) ≤ length xs
+pub length_without_return : (xs : List ℕ) → length (without_return xs) ≤ length xs
 unfolding without_return
-length-without_return [] = omega arith
-length-without_return (b ∷ []) = elim (b == carriage_return) as (λ q. length (cond q [] (b ∷ [])) ≤ 1) [ true ↦ omega arith | false ↦ omega arith ]
-length-without_return (b ∷ c ∷ xs) = let more = length-without_return (c ∷ xs) in omega arith
+length_without_return [] = omega arith
+length_without_return (b ∷ []) = elim (b == carriage_return) as (λ q. length (cond q [] (b ∷ [])) ≤ 1) [ true ↦ omega arith | false ↦ omega arith ]
+length_without_return (b ∷ c ∷ xs) = let more = length_without_return (c ∷ xs) in omega arith
 
 and_false : (a : Bool) → (a && false) ≡ false
 and_false true = refl

@@ -11,66 +11,66 @@ use Rattle.yaml_marks.specs.inside.Packed.{bare, texts_of, with_text, with_texts
 -- ---- what is read again
 
 -- a piece has its text again
-first-text : (piece : Piece) → with_text (bare piece) (texts_of piece) ≡ piece
-first-text (Opening bracket) = refl
-first-text (Closing bracket) = refl
-first-text Comma = refl
-first-text (CellKey text) = refl
-first-text (CellScalar text) = refl
-first-text (CellName text) = refl
-first-text (CellCopy text) = refl
-first-text (OddPiece why) = refl
+first_text : (piece : Piece) → with_text (bare piece) (texts_of piece) ≡ piece
+first_text (Opening bracket) = refl
+first_text (Closing bracket) = refl
+first_text Comma = refl
+first_text (CellKey text) = refl
+first_text (CellScalar text) = refl
+first_text (CellName text) = refl
+first_text (CellCopy text) = refl
+first_text (OddPiece why) = refl
 
-texts-more : (pieces : List Piece) (texts more : List (Option (List ℕ))) (piece : Piece) → length texts ≡ text_count pieces → with_texts (pieces ++ piece ∷ []) (texts ++ more) ≡ with_texts pieces texts ++ with_text piece more ∷ []
-texts-more [] [] more piece h = refl
-texts-more [] (text ∷ texts) more piece h = absurd (omega (arith, h))
-texts-more (Opening bracket ∷ pieces) texts more piece h = ap (λ l. Opening bracket ∷ l) (texts-more pieces texts more piece (omega (arith, h)))
-texts-more (Closing bracket ∷ pieces) texts more piece h = ap (λ l. Closing bracket ∷ l) (texts-more pieces texts more piece (omega (arith, h)))
-texts-more (Comma ∷ pieces) texts more piece h = ap (λ l. Comma ∷ l) (texts-more pieces texts more piece (omega (arith, h)))
-texts-more (CellKey old ∷ pieces) [] more piece h = absurd (omega (arith, h))
-texts-more (CellKey old ∷ pieces) (text ∷ texts) more piece h = ap (λ l. CellKey (bytes_in text) ∷ l) (texts-more pieces texts more piece (omega (arith, h)))
-texts-more (CellScalar old ∷ pieces) [] more piece h = absurd (omega (arith, h))
-texts-more (CellScalar old ∷ pieces) (text ∷ texts) more piece h = ap (λ l. CellScalar text ∷ l) (texts-more pieces texts more piece (omega (arith, h)))
-texts-more (CellName old ∷ pieces) [] more piece h = absurd (omega (arith, h))
-texts-more (CellName old ∷ pieces) (text ∷ texts) more piece h = ap (λ l. CellName (bytes_in text) ∷ l) (texts-more pieces texts more piece (omega (arith, h)))
-texts-more (CellCopy old ∷ pieces) [] more piece h = absurd (omega (arith, h))
-texts-more (CellCopy old ∷ pieces) (text ∷ texts) more piece h = ap (λ l. CellCopy (bytes_in text) ∷ l) (texts-more pieces texts more piece (omega (arith, h)))
-texts-more (OddPiece why ∷ pieces) texts more piece h = ap (λ l. OddPiece why ∷ l) (texts-more pieces texts more piece (omega (arith, h)))
+texts_more : (pieces : List Piece) (texts more : List (Option (List ℕ))) (piece : Piece) → length texts ≡ text_count pieces → with_texts (pieces ++ piece ∷ []) (texts ++ more) ≡ with_texts pieces texts ++ with_text piece more ∷ []
+texts_more [] [] more piece h = refl
+texts_more [] (text ∷ texts) more piece h = absurd (omega (arith, h))
+texts_more (Opening bracket ∷ pieces) texts more piece h = ap (λ l. Opening bracket ∷ l) (texts_more pieces texts more piece (omega (arith, h)))
+texts_more (Closing bracket ∷ pieces) texts more piece h = ap (λ l. Closing bracket ∷ l) (texts_more pieces texts more piece (omega (arith, h)))
+texts_more (Comma ∷ pieces) texts more piece h = ap (λ l. Comma ∷ l) (texts_more pieces texts more piece (omega (arith, h)))
+texts_more (CellKey old ∷ pieces) [] more piece h = absurd (omega (arith, h))
+texts_more (CellKey old ∷ pieces) (text ∷ texts) more piece h = ap (λ l. CellKey (bytes_in text) ∷ l) (texts_more pieces texts more piece (omega (arith, h)))
+texts_more (CellScalar old ∷ pieces) [] more piece h = absurd (omega (arith, h))
+texts_more (CellScalar old ∷ pieces) (text ∷ texts) more piece h = ap (λ l. CellScalar text ∷ l) (texts_more pieces texts more piece (omega (arith, h)))
+texts_more (CellName old ∷ pieces) [] more piece h = absurd (omega (arith, h))
+texts_more (CellName old ∷ pieces) (text ∷ texts) more piece h = ap (λ l. CellName (bytes_in text) ∷ l) (texts_more pieces texts more piece (omega (arith, h)))
+texts_more (CellCopy old ∷ pieces) [] more piece h = absurd (omega (arith, h))
+texts_more (CellCopy old ∷ pieces) (text ∷ texts) more piece h = ap (λ l. CellCopy (bytes_in text) ∷ l) (texts_more pieces texts more piece (omega (arith, h)))
+texts_more (OddPiece why ∷ pieces) texts more piece h = ap (λ l. OddPiece why ∷ l) (texts_more pieces texts more piece (omega (arith, h)))
 
 -- a piece more is read again behind the others
 pub one_more : (pieces : List Piece) (texts : List (Option (List ℕ))) (piece : Piece) → IsPacked pieces texts → with_texts (pieces ++ bare piece ∷ []) (texts ++ texts_of piece) ≡ with_texts pieces texts ++ piece ∷ []
-one_more pieces texts piece h = texts-more pieces texts (texts_of piece) (bare piece) h.counted ∙ ap (λ p. with_texts pieces texts ++ p ∷ []) (first-text piece)
+one_more pieces texts piece h = texts_more pieces texts (texts_of piece) (bare piece) h.counted ∙ ap (λ p. with_texts pieces texts ++ p ∷ []) (first_text piece)
 
 -- ---- what is kept
 
-bare-bare : (piece : Piece) → bare (bare piece) ≡ bare piece
-bare-bare (Opening bracket) = refl
-bare-bare (Closing bracket) = refl
-bare-bare Comma = refl
-bare-bare (CellKey text) = refl
-bare-bare (CellScalar text) = refl
-bare-bare (CellName text) = refl
-bare-bare (CellCopy text) = refl
-bare-bare (OddPiece why) = refl
+bare_bare : (piece : Piece) → bare (bare piece) ≡ bare piece
+bare_bare (Opening bracket) = refl
+bare_bare (Closing bracket) = refl
+bare_bare Comma = refl
+bare_bare (CellKey text) = refl
+bare_bare (CellScalar text) = refl
+bare_bare (CellName text) = refl
+bare_bare (CellCopy text) = refl
+bare_bare (OddPiece why) = refl
 
-texts-bare : (piece : Piece) → length (texts_of (bare piece)) ≡ length (texts_of piece)
-texts-bare (Opening bracket) = refl
-texts-bare (Closing bracket) = refl
-texts-bare Comma = refl
-texts-bare (CellKey text) = refl
-texts-bare (CellScalar text) = refl
-texts-bare (CellName text) = refl
-texts-bare (CellCopy text) = refl
-texts-bare (OddPiece why) = refl
+texts_bare : (piece : Piece) → length (texts_of (bare piece)) ≡ length (texts_of piece)
+texts_bare (Opening bracket) = refl
+texts_bare (Closing bracket) = refl
+texts_bare Comma = refl
+texts_bare (CellKey text) = refl
+texts_bare (CellScalar text) = refl
+texts_bare (CellName text) = refl
+texts_bare (CellCopy text) = refl
+texts_bare (OddPiece why) = refl
 
-count-more : (pieces : List Piece) (piece : Piece) → text_count (pieces ++ piece ∷ []) ≡ text_count pieces + length (texts_of piece)
-count-more [] piece = omega arith
-count-more (p ∷ pieces) piece = let more = count-more pieces piece in omega (arith, more)
+count_more : (pieces : List Piece) (piece : Piece) → text_count (pieces ++ piece ∷ []) ≡ text_count pieces + length (texts_of piece)
+count_more [] piece = omega arith
+count_more (p ∷ pieces) piece = let more = count_more pieces piece in omega (arith, more)
 
 pub packed_more : (pieces : List Piece) (texts : List (Option (List ℕ))) (piece : Piece) → IsPacked pieces texts → IsPacked (pieces ++ bare piece ∷ []) (texts ++ texts_of piece)
 packed_more pieces texts piece h = record {
-  are_bare = map-append bare pieces (bare piece ∷ []) ∙ ap (λ l. l ++ bare (bare piece) ∷ []) h.are_bare ∙ ap (λ p. pieces ++ p ∷ []) (bare-bare piece);
-  counted = let more = count-more pieces (bare piece) in let same = texts-bare piece in let before = h.counted in grind (arith, length-append);
+  are_bare = map-append bare pieces (bare piece ∷ []) ∙ ap (λ l. l ++ bare (bare piece) ∷ []) h.are_bare ∙ ap (λ p. pieces ++ p ∷ []) (bare_bare piece);
+  counted = let more = count_more pieces (bare piece) in let same = texts_bare piece in let before = h.counted in grind (arith, length-append);
 }
 
 pub packed_as : (pieces : List Piece) (texts : List (Option (List ℕ))) (piece kind : Piece) (text : List (Option (List ℕ))) (all : List Piece) (all_texts : List (Option (List ℕ))) → IsPacked pieces texts → kind ≡ bare piece → text ≡ texts_of piece →
@@ -85,37 +85,37 @@ packed_none = record { are_bare = refl; counted = refl }
 
 -- ---- the pieces without their texts
 
-bare-text : (piece : Piece) (texts : List (Option (List ℕ))) → bare (with_text piece texts) ≡ bare piece
-bare-text (Opening bracket) texts = refl
-bare-text (Closing bracket) texts = refl
-bare-text Comma texts = refl
-bare-text (CellKey text) texts = refl
-bare-text (CellScalar text) texts = refl
-bare-text (CellName text) texts = refl
-bare-text (CellCopy text) texts = refl
-bare-text (OddPiece why) texts = refl
+bare_text : (piece : Piece) (texts : List (Option (List ℕ))) → bare (with_text piece texts) ≡ bare piece
+bare_text (Opening bracket) texts = refl
+bare_text (Closing bracket) texts = refl
+bare_text Comma texts = refl
+bare_text (CellKey text) texts = refl
+bare_text (CellScalar text) texts = refl
+bare_text (CellName text) texts = refl
+bare_text (CellCopy text) texts = refl
+bare_text (OddPiece why) texts = refl
 
-bare-texts : (pieces : List Piece) (texts : List (Option (List ℕ))) → map bare (with_texts pieces texts) ≡ map bare pieces
-bare-texts [] texts = refl
-bare-texts (piece ∷ pieces) texts = ap (λ p. p ∷ map bare (with_texts pieces (drop (length (texts_of piece)) texts))) (bare-text piece texts)
-    ∙ ap (λ l. bare piece ∷ l) (bare-texts pieces (drop (length (texts_of piece)) texts))
+bare_texts : (pieces : List Piece) (texts : List (Option (List ℕ))) → map bare (with_texts pieces texts) ≡ map bare pieces
+bare_texts [] texts = refl
+bare_texts (piece ∷ pieces) texts = ap (λ p. p ∷ map bare (with_texts pieces (drop (length (texts_of piece)) texts))) (bare_text piece texts)
+    ∙ ap (λ l. bare piece ∷ l) (bare_texts pieces (drop (length (texts_of piece)) texts))
 
 pub kept_bare : (pieces : List Piece) (texts : List (Option (List ℕ))) → IsPacked pieces texts → pieces ≡ map bare (with_texts pieces texts)
-kept_bare pieces texts h = sym (bare-texts pieces texts ∙ h.are_bare)
+kept_bare pieces texts h = sym (bare_texts pieces texts ∙ h.are_bare)
 
 -- ---- brackets are no texts
 
-pub closes-bare : (n : ℕ) (pieces : List Piece) → closes_at n (map bare pieces) ≡ closes_at n pieces
-closes-bare n [] = refl
-closes-bare n (Opening bracket ∷ pieces) = closes-bare (n + 1) pieces
-closes-bare n (Closing bracket ∷ pieces) = ap (λ b. (n == 0) || b) (closes-bare (n - 1) pieces)
-closes-bare n (Comma ∷ pieces) = closes-bare n pieces
-closes-bare n (CellKey text ∷ pieces) = closes-bare n pieces
-closes-bare n (CellScalar text ∷ pieces) = closes-bare n pieces
-closes-bare n (CellName text ∷ pieces) = closes-bare n pieces
-closes-bare n (CellCopy text ∷ pieces) = closes-bare n pieces
-closes-bare n (OddPiece why ∷ pieces) = closes-bare n pieces
+pub closes_bare : (n : ℕ) (pieces : List Piece) → closes_at n (map bare pieces) ≡ closes_at n pieces
+closes_bare n [] = refl
+closes_bare n (Opening bracket ∷ pieces) = closes_bare (n + 1) pieces
+closes_bare n (Closing bracket ∷ pieces) = ap (λ b. (n == 0) || b) (closes_bare (n - 1) pieces)
+closes_bare n (Comma ∷ pieces) = closes_bare n pieces
+closes_bare n (CellKey text ∷ pieces) = closes_bare n pieces
+closes_bare n (CellScalar text ∷ pieces) = closes_bare n pieces
+closes_bare n (CellName text ∷ pieces) = closes_bare n pieces
+closes_bare n (CellCopy text ∷ pieces) = closes_bare n pieces
+closes_bare n (OddPiece why ∷ pieces) = closes_bare n pieces
 
 pub bare_bracket : (pieces : List Piece) → why_bracket (map bare pieces) ≡ why_bracket pieces
 bare_bracket [] = refl
-bare_bracket (piece ∷ pieces) = ap (λ b. if b then odd.Syntax else odd.Unsupported) (closes-bare 0 pieces)
+bare_bracket (piece ∷ pieces) = ap (λ b. if b then odd.Syntax else odd.Unsupported) (closes_bare 0 pieces)

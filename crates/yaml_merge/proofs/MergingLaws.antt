@@ -18,19 +18,19 @@ use Rattle.yaml_merge.specs.declared.fault.MergeFault.{MergeFault}
 use Rattle.yaml_merge.specs.declared.fault.MergeError.{MergeError}
 use Rattle.yaml_merge.specs.declared.fault.MergeError.TheVariants as errors
 use Rattle.yaml_tree.proofs.KnownLaws.{same_bytes}
-use Rattle.yaml_merge.proofs.SaidAtLaws.{said_at-found, said_at-none, is_mapping-value_said, may_merge-value_said, keys_of-entries}
+use Rattle.yaml_merge.proofs.SaidAtLaws.{said_at_found, said_at_none, is_mapping_value_said, may_merge_value_said, keys_of_entries}
 
 pub mapping_found : (depth : ℕ) (nodes : List Node) (n : ℕ) (x : Node) → Some x ≡ node_at depth nodes n → is_mapping (said_at depth nodes n) ≡ is_mapping_value x.value
-mapping_found depth nodes n x e = ap is_mapping (said_at-found depth nodes n x (sym e)) ∙ is_mapping-value_said (said_at (depth - 1) nodes) x.line x.value
+mapping_found depth nodes n x e = ap is_mapping (said_at_found depth nodes n x (sym e)) ∙ is_mapping_value_said (said_at (depth - 1) nodes) x.line x.value
 
 pub mapping_lost : (depth : ℕ) (nodes : List Node) (n : ℕ) → None ≡ node_at depth nodes n → is_mapping (said_at depth nodes n) ≡ false
-mapping_lost depth nodes n e = ap is_mapping (said_at-none depth nodes n (sym e))
+mapping_lost depth nodes n e = ap is_mapping (said_at_none depth nodes n (sym e))
 
 pub merge_found : (depth : ℕ) (nodes : List Node) (n : ℕ) (x : Node) → Some x ≡ node_at depth nodes n → may_merge (said_at depth nodes n) ≡ may_merge_value (said_at (depth - 1) nodes) x.value
-merge_found depth nodes n x e = ap may_merge (said_at-found depth nodes n x (sym e)) ∙ may_merge-value_said (said_at (depth - 1) nodes) x.line x.value
+merge_found depth nodes n x e = ap may_merge (said_at_found depth nodes n x (sym e)) ∙ may_merge_value_said (said_at (depth - 1) nodes) x.line x.value
 
 pub merge_lost : (depth : ℕ) (nodes : List Node) (n : ℕ) → None ≡ node_at depth nodes n → may_merge (said_at depth nodes n) ≡ false
-merge_lost depth nodes n e = ap may_merge (said_at-none depth nodes n (sym e))
+merge_lost depth nodes n e = ap may_merge (said_at_none depth nodes n (sym e))
 
 -- ---- keys
 
@@ -42,16 +42,16 @@ append-nil : {A : Type 0} (xs : List A) → xs ++ [] ≡ xs
 append-nil [] = refl
 append-nil (x ∷ xs) = ap (λ t. x ∷ t) (append-nil xs)
 
-has-push : (key k : List ℕ) (ks : List (List ℕ)) → has key (ks ++ k ∷ []) ≡ (has key ks || pointwise ◌==◌ key k)
-has-push key k [] = sym (or_false (pointwise ◌==◌ key k))
-has-push key k (x ∷ ks) = ap (λ t. pointwise ◌==◌ key x || t) (has-push key k ks) ∙ or_assoc (pointwise ◌==◌ key x) (has key ks) (pointwise ◌==◌ key k)
+has_push : (key k : List ℕ) (ks : List (List ℕ)) → has key (ks ++ k ∷ []) ≡ (has key ks || pointwise ◌==◌ key k)
+has_push key k [] = sym (or_false (pointwise ◌==◌ key k))
+has_push key k (x ∷ ks) = ap (λ t. pointwise ◌==◌ key x || t) (has_push key k ks) ∙ or_assoc (pointwise ◌==◌ key x) (has key ks) (pointwise ◌==◌ key k)
   where
     or_assoc : (a b c : Bool) → (a || (b || c)) ≡ ((a || b) || c)
     or_assoc true b c = refl
     or_assoc false b c = refl
 
-has-with_key : (key k : List ℕ) (ks : List (List ℕ)) → has key (with_key ks k) ≡ (has key ks || pointwise ◌==◌ key k)
-has-with_key key k ks = by (has k ks) refl
+has_with_key : (key k : List ℕ) (ks : List (List ℕ)) → has key (with_key ks k) ≡ (has key ks || pointwise ◌==◌ key k)
+has_with_key key k ks = by (has k ks) refl
   where
     found : has k ks ≡ true → (c : Bool) → pointwise ◌==◌ key k ≡ c → has key ks ≡ (has key ks || c)
     found e true q = let h : has key ks ≡ true = ap (λ t. has t ks) (same_bytes key k q) ∙ e in h ∙ sym (ap (λ t. t || true) h)
@@ -59,39 +59,39 @@ has-with_key key k ks = by (has k ks) refl
 
     by : (b : Bool) → has k ks ≡ b → has key (cond b ks (ks ++ k ∷ [])) ≡ (has key ks || pointwise ◌==◌ key k)
     by true e = found e (pointwise ◌==◌ key k) refl
-    by false e = has-push key k ks
+    by false e = has_push key k ks
 
 -- a key is among those that are taken where it is among the keys
-pub has-taken : (key : List ℕ) (es : List (List ℕ × Child)) (ks all : List (List ℕ)) → ((k : List ℕ) → has k ks ≡ has k all) → has key (taken_of ks es) ≡ has key (all ++ map (λ e. valid_text e.0) es)
-has-taken key [] ks all h = h key ∙ ap (has key) (sym (append-nil all))
-has-taken key (e ∷ es) ks all h =
+pub has_taken : (key : List ℕ) (es : List (List ℕ × Child)) (ks all : List (List ℕ)) → ((k : List ℕ) → has k ks ≡ has k all) → has key (taken_of ks es) ≡ has key (all ++ map (λ e. valid_text e.0) es)
+has_taken key [] ks all h = h key ∙ ap (has key) (sym (append-nil all))
+has_taken key (e ∷ es) ks all h =
     let k = valid_text e.0 in
-    has-taken key es (with_key ks k) (all ++ k ∷ []) (λ x. has-with_key x k ks ∙ (ap (λ t. t || pointwise ◌==◌ x k) (h x) ∙ sym (has-push x k all)))
+    has_taken key es (with_key ks k) (all ++ k ∷ []) (λ x. has_with_key x k ks ∙ (ap (λ t. t || pointwise ◌==◌ x k) (h x) ∙ sym (has_push x k all)))
     ∙ ap (has key) (append_assoc all (k ∷ []) (map (λ e. valid_text e.0) es))
 
 -- new pairs depend on which keys are taken alone
-pub new_pairs-same : (ps : List Pair) (a b : List (List ℕ)) → ((k : List ℕ) → has k a ≡ has k b) → new_pairs a ps ≡ new_pairs b ps
-new_pairs-same [] a b h = refl
-new_pairs-same (p ∷ ps) a b h =
+pub new_pairs_same : (ps : List Pair) (a b : List (List ℕ)) → ((k : List ℕ) → has k a ≡ has k b) → new_pairs a ps ≡ new_pairs b ps
+new_pairs_same [] a b h = refl
+new_pairs_same (p ∷ ps) a b h =
     ap (λ t. cond t (new_pairs a ps) (p ∷ new_pairs (a ++ p.key ∷ []) ps)) (h p.key)
-    ∙ (λ j. cond (has p.key b) (new_pairs-same ps a b h j)
-    (p ∷ new_pairs-same ps (a ++ p.key ∷ []) (b ++ p.key ∷ []) (λ k. has-push k p.key a ∙ (ap (λ t. t || pointwise ◌==◌ k p.key) (h k) ∙ sym (has-push k p.key b))) j))
+    ∙ (λ j. cond (has p.key b) (new_pairs_same ps a b h j)
+    (p ∷ new_pairs_same ps (a ++ p.key ∷ []) (b ++ p.key ∷ []) (λ k. has_push k p.key a ∙ (ap (λ t. t || pointwise ◌==◌ k p.key) (h k) ∙ sym (has_push k p.key b))) j))
 
-pub new_pairs-taken : (at : ℕ → Said) (line : ℕ) (es : List (List ℕ × Child)) (ps : List Pair) → new_pairs (taken_of [] es) ps ≡ new_pairs (keys_of (with_entries at (mapping line) es)) ps
-new_pairs-taken at line es ps = new_pairs-same ps (taken_of [] es) (keys_of (with_entries at (mapping line) es)) (λ k. has-taken k es [] [] (λ _. refl) ∙ ap (has k) (sym (keys_of-entries at es (mapping line))))
+pub new_pairs_taken : (at : ℕ → Said) (line : ℕ) (es : List (List ℕ × Child)) (ps : List Pair) → new_pairs (taken_of [] es) ps ≡ new_pairs (keys_of (with_entries at (mapping line) es)) ps
+new_pairs_taken at line es ps = new_pairs_same ps (taken_of [] es) (keys_of (with_entries at (mapping line) es)) (λ k. has_taken k es [] [] (λ _. refl) ∙ ap (has k) (sym (keys_of_entries at es (mapping line))))
 
 -- ---- rows
 
-pub with_pairs-append : (ps qs : List Pair) (before : Said) → with_pairs before (ps ++ qs) ≡ with_pairs (with_pairs before ps) qs
-with_pairs-append [] qs before = refl
-with_pairs-append (p ∷ ps) qs before = with_pairs-append ps qs (with_pair before p.line p.key p.value)
+pub with_pairs_append : (ps qs : List Pair) (before : Said) → with_pairs before (ps ++ qs) ≡ with_pairs (with_pairs before ps) qs
+with_pairs_append [] qs before = refl
+with_pairs_append (p ∷ ps) qs before = with_pairs_append ps qs (with_pair before p.line p.key p.value)
 
-pub with_items-push : (xs : List Said) (x : Said) (before : Said) → with_items before (xs ++ x ∷ []) ≡ with_item (with_items before xs) x
-with_items-push [] x before = refl
-with_items-push (y ∷ xs) x before = with_items-push xs x (with_item before y)
+pub with_items_push : (xs : List Said) (x : Said) (before : Said) → with_items before (xs ++ x ∷ []) ≡ with_item (with_items before xs) x
+with_items_push [] x before = refl
+with_items_push (y ∷ xs) x before = with_items_push xs x (with_item before y)
 
-item_count-push : (b x : Said) → item_count (with_item b x) ≡ item_count b + 1
-item_count-push b x = refl
+item_count_push : (b x : Said) → item_count (with_item b x) ≡ item_count b + 1
+item_count_push b x = refl
 
 -- ---- the definition, row by row
 
@@ -123,21 +123,21 @@ entries_are at (e ∷ es) whole b =
     entries_are at es whole (with_pair b e.1.line (valid_text e.0) (at e.1.node))
     ∙ pair_step (merged_rows whole b) (λ m. with_merged whole m e.1.line (valid_text e.0) (at e.1.node) (merged_rows (at e.1.node) (at e.1.node))) (λ m. pairs_left whole at m es)
 
-pub merged-nodes : (at : ℕ → Said) (line : ℕ) (ns : List ℕ) → merged (with_nodes at (sequence line) ns) ≡ items_left at (sequence line) 0 ns
+pub merged_nodes : (at : ℕ → Said) (line : ℕ) (ns : List ℕ) → merged (with_nodes at (sequence line) ns) ≡ items_left at (sequence line) 0 ns
 unfolding merged
-merged-nodes at line ns = items_are at ns (with_nodes at (sequence line) ns) (sequence line)
+merged_nodes at line ns = items_are at ns (with_nodes at (sequence line) ns) (sequence line)
 
-pub merged-entries : (at : ℕ → Said) (line : ℕ) (es : List (List ℕ × Child)) → merged (with_entries at (mapping line) es) ≡ pairs_left (with_entries at (mapping line) es) at (mapping line) es
+pub merged_entries : (at : ℕ → Said) (line : ℕ) (es : List (List ℕ × Child)) → merged (with_entries at (mapping line) es) ≡ pairs_left (with_entries at (mapping line) es) at (mapping line) es
 unfolding merged
-merged-entries at line es = entries_are at es (with_entries at (mapping line) es) (mapping line)
+merged_entries at line es = entries_are at es (with_entries at (mapping line) es) (mapping line)
 
-pub merged-null : (line : ℕ) → merged (null line) ≡ Ok (null line)
+pub merged_null : (line : ℕ) → merged (null line) ≡ Ok (null line)
 unfolding merged
-merged-null line = refl
+merged_null line = refl
 
-pub merged-text : (line : ℕ) (bytes : List ℕ) → merged (text line bytes) ≡ Ok (text line bytes)
+pub merged_text : (line : ℕ) (bytes : List ℕ) → merged (text line bytes) ≡ Ok (text line bytes)
 unfolding merged
-merged-text line bytes = refl
+merged_text line bytes = refl
 
 -- ---- what is put
 
@@ -145,15 +145,15 @@ merged-text line bytes = refl
 pub put_merged : (at : ℕ → Said) (first line : ℕ) (es : List (List ℕ × Child)) (ps : List Pair) (key : List ℕ) (v : Said) → is_merge_key key ≡ true
     → with_pairs (mapping first) (ps ++ new_pairs (taken_of [] es) (sources v)) ≡ put_value (with_entries at (mapping first) es) (with_pairs (mapping first) ps) line key v
 put_merged at first line es ps key v e =
-    with_pairs-append ps (new_pairs (taken_of [] es) (sources v)) (mapping first)
-    ∙ ap (with_pairs (with_pairs (mapping first) ps)) (new_pairs-taken at first es (sources v))
+    with_pairs_append ps (new_pairs (taken_of [] es) (sources v)) (mapping first)
+    ∙ ap (with_pairs (with_pairs (mapping first) ps)) (new_pairs_taken at first es (sources v))
     ∙ sym (ap (λ t. cond t (with_pairs (with_pairs (mapping first) ps) (new_pairs (keys_of (with_entries at (mapping first) es)) (sources v))) (with_pair (with_pairs (mapping first) ps) line key v)) e)
 
 -- another pair is put as it is
 pub put_pair : (at : ℕ → Said) (first line : ℕ) (es : List (List ℕ × Child)) (ps : List Pair) (key : List ℕ) (v : Said) → is_merge_key key ≡ false
     → with_pairs (mapping first) (ps ++ (record { line = line; key = key; value = v }) ∷ []) ≡ put_value (with_entries at (mapping first) es) (with_pairs (mapping first) ps) line key v
 put_pair at first line es ps key v e =
-    with_pairs-append ps ((record { line = line; key = key; value = v }) ∷ []) (mapping first)
+    with_pairs_append ps ((record { line = line; key = key; value = v }) ∷ []) (mapping first)
     ∙ sym (ap (λ t. cond t (with_pairs (with_pairs (mapping first) ps) (new_pairs (keys_of (with_entries at (mapping first) es)) (sources v))) (with_pair (with_pairs (mapping first) ps) line key v)) e)
 
 -- ---- answers
@@ -191,8 +191,8 @@ items_go_on at line ns i k m items new x count full lt same pushed counted h e =
     let before = with_items (sequence line) items in
     let dropped : drop i ns ≡ get_or ns i 0 ∷ drop (i + 1) ns = rw (add-one, drop-cons ns i 0) refl in
     (λ j. items_left at (with_items (sequence line) (pushed j)) (counted j) (drop (i + 1) ns))
-    ∙ (ap (λ b. items_left at b (k + 1) (drop (i + 1) ns)) (with_items-push items x (sequence line))
+    ∙ (ap (λ b. items_left at b (k + 1) (drop (i + 1) ns)) (with_items_push items x (sequence line))
     ∙ (sym (ap (λ r. r >>= λ v. items_left at (with_item before v) (k + 1) (drop (i + 1) ns)) (ap (λ n. below (item_place n) (at (get_or ns i 0)) (merged (at (get_or ns i 0)))) (sym same) ∙ e))
     ∙ (sym (ap (items_left at before k) dropped) ∙ h)))
 
-pub ruleset merging = (merged-null, merged-text)
+pub ruleset merging = (merged_null, merged_text)

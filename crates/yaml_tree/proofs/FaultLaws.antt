@@ -19,8 +19,8 @@ use Rattle.yaml_tree.specs.declared.fault.FaultKind.{FaultKind}
 use Rattle.yaml_tree.specs.declared.fault.FaultKind.TheVariants.{NotUtf8, Syntax, Unsupported, Duplicate, Alias, TooDeep, TooManyNodes}
 use Rattle.yaml_marks.specs.declared.odd.Odd.TheVariants as odd
 use Rattle.yaml_tree.proofs.WrittenLaws.{FlowReader}
-use Rattle.yaml_tree.proofs.RuleLaws.{one_tree, misfit-no_tree, refused-no_tree}
-use Rattle.yaml_tree.proofs.ReadingLaws.{cut-over}
+use Rattle.yaml_tree.proofs.RuleLaws.{one_tree, misfit_no_tree, refused_no_tree}
+use Rattle.yaml_tree.proofs.ReadingLaws.{cut_over}
 use Rattle.yaml_tree.specs.Limits.{most_tree_levels, most_tree_nodes}
 
 -- ---- where a list is parted
@@ -55,98 +55,98 @@ decided_once P k l (inl a) (inr b) = absurd (b.1 a.1)
 decided_once P k l (inr a) (inl b) = absurd (a.1 b.1)
 decided_once P k l (inr a) (inr b) = a.0 ∙ sym b.0
 
-decided-piece : (front rest : List Piece) (kind : FaultKind) → IsPieceKind front (OddPiece odd.Indicator) rest kind → Decided (FlowMayBegin (front ++ (CellScalar None ∷ []))) kind
-decided-piece front rest Unsupported h = inl (refl, h)
-decided-piece front rest Syntax h = inr (refl, h)
-decided-piece front rest NotUtf8 h = absurd h
-decided-piece front rest Duplicate h = absurd h
-decided-piece front rest Alias h = absurd h
-decided-piece front rest TooDeep h = absurd h
-decided-piece front rest TooManyNodes h = absurd h
+decided_piece : (front rest : List Piece) (kind : FaultKind) → IsPieceKind front (OddPiece odd.Indicator) rest kind → Decided (FlowMayBegin (front ++ (CellScalar None ∷ []))) kind
+decided_piece front rest Unsupported h = inl (refl, h)
+decided_piece front rest Syntax h = inr (refl, h)
+decided_piece front rest NotUtf8 h = absurd h
+decided_piece front rest Duplicate h = absurd h
+decided_piece front rest Alias h = absurd h
+decided_piece front rest TooDeep h = absurd h
+decided_piece front rest TooManyNodes h = absurd h
 
-piece_kind-once : (front : List Piece) (piece : Piece) (rest : List Piece) (k l : FaultKind) → IsPieceKind front piece rest k → IsPieceKind front piece rest l → k ≡ l
-piece_kind-once front (Opening bracket) rest k l a b = a ∙ sym b
-piece_kind-once front (Closing bracket) rest k l a b = a ∙ sym b
-piece_kind-once front Comma rest k l a b = a ∙ sym b
-piece_kind-once front (CellKey bytes) rest k l a b = a ∙ sym b
-piece_kind-once front (CellScalar bytes) rest k l (inl a) (inl b) = a.1 ∙ sym b.1
-piece_kind-once front (CellScalar bytes) rest k l (inl a) (inr b) = absurd (b.0 a.0)
-piece_kind-once front (CellScalar bytes) rest k l (inr a) (inl b) = absurd (a.0 b.0)
-piece_kind-once front (CellScalar bytes) rest k l (inr a) (inr b) = a.1 ∙ sym b.1
-piece_kind-once front (OddPiece odd.Unkeyed) rest k l a b = a ∙ sym b
-piece_kind-once front (CellName name) rest k l a b = a ∙ sym b
-piece_kind-once front (CellCopy name) rest k l a b = a ∙ sym b
-piece_kind-once front (OddPiece odd.Syntax) rest k l a b = a ∙ sym b
-piece_kind-once front (OddPiece odd.Unsupported) rest k l a b = a ∙ sym b
-piece_kind-once front (OddPiece odd.Indicator) rest k l a b = decided_once _ k l (decided-piece front rest k a) (decided-piece front rest l b)
+piece_kind_once : (front : List Piece) (piece : Piece) (rest : List Piece) (k l : FaultKind) → IsPieceKind front piece rest k → IsPieceKind front piece rest l → k ≡ l
+piece_kind_once front (Opening bracket) rest k l a b = a ∙ sym b
+piece_kind_once front (Closing bracket) rest k l a b = a ∙ sym b
+piece_kind_once front Comma rest k l a b = a ∙ sym b
+piece_kind_once front (CellKey bytes) rest k l a b = a ∙ sym b
+piece_kind_once front (CellScalar bytes) rest k l (inl a) (inl b) = a.1 ∙ sym b.1
+piece_kind_once front (CellScalar bytes) rest k l (inl a) (inr b) = absurd (b.0 a.0)
+piece_kind_once front (CellScalar bytes) rest k l (inr a) (inl b) = absurd (a.0 b.0)
+piece_kind_once front (CellScalar bytes) rest k l (inr a) (inr b) = a.1 ∙ sym b.1
+piece_kind_once front (OddPiece odd.Unkeyed) rest k l a b = a ∙ sym b
+piece_kind_once front (CellName name) rest k l a b = a ∙ sym b
+piece_kind_once front (CellCopy name) rest k l a b = a ∙ sym b
+piece_kind_once front (OddPiece odd.Syntax) rest k l a b = a ∙ sym b
+piece_kind_once front (OddPiece odd.Unsupported) rest k l a b = a ∙ sym b
+piece_kind_once front (OddPiece odd.Indicator) rest k l a b = decided_once _ k l (decided_piece front rest k a) (decided_piece front rest l b)
 
-flow-begins_shorter : (xs : List Piece) (x : Piece) (more : List Piece) → FlowMayBegin (xs ++ (x ∷ more)) → FlowMayBegin (xs ++ (x ∷ []))
-flow-begins_shorter xs x more h = (more ++ h.0, h.1, subst (λ ps. SpellsFlow ps h.1) (regrouped xs x more h.0) h.2)
+flow_begins_shorter : (xs : List Piece) (x : Piece) (more : List Piece) → FlowMayBegin (xs ++ (x ∷ more)) → FlowMayBegin (xs ++ (x ∷ []))
+flow_begins_shorter xs x more h = (more ++ h.0, h.1, subst (λ ps. SpellsFlow ps h.1) (regrouped xs x more h.0) h.2)
 
 -- one piece is the first that can't stand
-first_misfit-once : (pieces : List Piece) (k l : FaultKind) → IsFirstMisfit pieces k → IsFirstMisfit pieces l → k ≡ l
-first_misfit-once pieces k l a b = by (parted a.front a.piece a.rest b.front b.piece b.rest (sym a.parts ∙ b.parts))
+first_misfit_once : (pieces : List Piece) (k l : FaultKind) → IsFirstMisfit pieces k → IsFirstMisfit pieces l → k ≡ l
+first_misfit_once pieces k l a b = by (parted a.front a.piece a.rest b.front b.piece b.rest (sym a.parts ∙ b.parts))
   where
     by : Parted a.front a.piece a.rest b.front b.piece b.rest → k ≡ l
-    by (inl h) = piece_kind-once a.front a.piece a.rest k l a.kind_is
+    by (inl h) = piece_kind_once a.front a.piece a.rest k l a.kind_is
         (subst (λ f. IsPieceKind f a.piece a.rest l) (sym h.0) (subst (λ p. IsPieceKind b.front p a.rest l) (sym h.1) (subst (λ r. IsPieceKind b.front b.piece r l) (sym h.2) b.kind_is)))
-    by (inr (inl h)) = absurd (a.ends (flow-begins_shorter a.front a.piece h.0 (subst FlowMayBegin h.1 b.begins)))
-    by (inr (inr h)) = absurd (b.ends (flow-begins_shorter b.front b.piece h.0 (subst FlowMayBegin h.1 a.begins)))
+    by (inr (inl h)) = absurd (a.ends (flow_begins_shorter a.front a.piece h.0 (subst FlowMayBegin h.1 b.begins)))
+    by (inr (inr h)) = absurd (b.ends (flow_begins_shorter b.front b.piece h.0 (subst FlowMayBegin h.1 a.begins)))
 
 -- pieces with one that can't stand don't begin a form
-misfit-begins_none : (pieces : List Piece) (k : FaultKind) → IsFirstMisfit pieces k → FlowMayBegin pieces → ⊥
-misfit-begins_none pieces k a begins = a.ends (flow-begins_shorter a.front a.piece a.rest (subst FlowMayBegin a.parts begins))
+misfit_begins_none : (pieces : List Piece) (k : FaultKind) → IsFirstMisfit pieces k → FlowMayBegin pieces → ⊥
+misfit_begins_none pieces k a begins = a.ends (flow_begins_shorter a.front a.piece a.rest (subst FlowMayBegin a.parts begins))
 
-flow_misfit-once : (pieces : List Piece) (k l : FaultKind) → IsFlowMisfit pieces k → IsFlowMisfit pieces l → k ≡ l
-flow_misfit-once pieces k l (inl a) (inl b) = first_misfit-once pieces k l a b
-flow_misfit-once pieces k l (inl a) (inr b) = absurd (misfit-begins_none pieces k a b.begins)
-flow_misfit-once pieces k l (inr a) (inl b) = absurd (misfit-begins_none pieces l b a.begins)
-flow_misfit-once pieces k l (inr a) (inr b) = a.kind_is ∙ sym b.kind_is
+flow_misfit_once : (pieces : List Piece) (k l : FaultKind) → IsFlowMisfit pieces k → IsFlowMisfit pieces l → k ≡ l
+flow_misfit_once pieces k l (inl a) (inl b) = first_misfit_once pieces k l a b
+flow_misfit_once pieces k l (inl a) (inr b) = absurd (misfit_begins_none pieces k a b.begins)
+flow_misfit_once pieces k l (inr a) (inl b) = absurd (misfit_begins_none pieces l b a.begins)
+flow_misfit_once pieces k l (inr a) (inr b) = a.kind_is ∙ sym b.kind_is
 
-decided-indicator : (front : List Token) (line column : ℕ) (kind : FaultKind) → IsKindAt front (OddToken line column odd.Indicator) kind → Decided (ValueMayBegin front line column) kind
-decided-indicator front line column Unsupported h = inl (refl, h)
-decided-indicator front line column Syntax h = inr (refl, h)
-decided-indicator front line column NotUtf8 h = absurd h
-decided-indicator front line column Duplicate h = absurd h
-decided-indicator front line column Alias h = absurd h
-decided-indicator front line column TooDeep h = absurd h
-decided-indicator front line column TooManyNodes h = absurd h
+decided_indicator : (front : List Token) (line column : ℕ) (kind : FaultKind) → IsKindAt front (OddToken line column odd.Indicator) kind → Decided (ValueMayBegin front line column) kind
+decided_indicator front line column Unsupported h = inl (refl, h)
+decided_indicator front line column Syntax h = inr (refl, h)
+decided_indicator front line column NotUtf8 h = absurd h
+decided_indicator front line column Duplicate h = absurd h
+decided_indicator front line column Alias h = absurd h
+decided_indicator front line column TooDeep h = absurd h
+decided_indicator front line column TooManyNodes h = absurd h
 
-decided-unkeyed : (front : List Token) (line column : ℕ) (kind : FaultKind) → IsKindAt front (OddToken line column odd.Unkeyed) kind → Decided (KeyMayBegin front line column) kind
-decided-unkeyed front line column Unsupported h = inl (refl, h)
-decided-unkeyed front line column Syntax h = inr (refl, h)
-decided-unkeyed front line column NotUtf8 h = absurd h
-decided-unkeyed front line column Duplicate h = absurd h
-decided-unkeyed front line column Alias h = absurd h
-decided-unkeyed front line column TooDeep h = absurd h
-decided-unkeyed front line column TooManyNodes h = absurd h
+decided_unkeyed : (front : List Token) (line column : ℕ) (kind : FaultKind) → IsKindAt front (OddToken line column odd.Unkeyed) kind → Decided (KeyMayBegin front line column) kind
+decided_unkeyed front line column Unsupported h = inl (refl, h)
+decided_unkeyed front line column Syntax h = inr (refl, h)
+decided_unkeyed front line column NotUtf8 h = absurd h
+decided_unkeyed front line column Duplicate h = absurd h
+decided_unkeyed front line column Alias h = absurd h
+decided_unkeyed front line column TooDeep h = absurd h
+decided_unkeyed front line column TooManyNodes h = absurd h
 
-kind-once : (front : List Token) (m : Token) (k l : FaultKind) → IsKindAt front m k → IsKindAt front m l → k ≡ l
-kind-once front (Dash line column) k l a b = a ∙ sym b
-kind-once front (Key line column bytes) k l a b = a ∙ sym b
-kind-once front (Scalar line column bytes) k l a b = a ∙ sym b
-kind-once front (Name line column bytes) k l a b = a ∙ sym b
-kind-once front (Copy line column bytes) k l a b = a ∙ sym b
-kind-once front (Bar line column chomp) k l a b = a ∙ sym b
-kind-once front (Body line column bytes) k l a b = a ∙ sym b
-kind-once front (OddToken line column odd.Syntax) k l a b = a ∙ sym b
-kind-once front (OddToken line column odd.Unsupported) k l a b = a ∙ sym b
-kind-once front (OddToken line column odd.Indicator) k l a b = decided_once _ k l (decided-indicator front line column k a) (decided-indicator front line column l b)
-kind-once front (OddToken line column odd.Unkeyed) k l a b = decided_once _ k l (decided-unkeyed front line column k a) (decided-unkeyed front line column l b)
-kind-once front (Form line column pieces) k l (inl a) (inl b) = flow_misfit-once pieces k l a.1 b.1
-kind-once front (Form line column pieces) k l (inl a) (inr b) = absurd (b.0 a.0)
-kind-once front (Form line column pieces) k l (inr a) (inl b) = absurd (a.0 b.0)
-kind-once front (Form line column pieces) k l (inr a) (inr b) = a.1 ∙ sym b.1
+kind_once : (front : List Token) (m : Token) (k l : FaultKind) → IsKindAt front m k → IsKindAt front m l → k ≡ l
+kind_once front (Dash line column) k l a b = a ∙ sym b
+kind_once front (Key line column bytes) k l a b = a ∙ sym b
+kind_once front (Scalar line column bytes) k l a b = a ∙ sym b
+kind_once front (Name line column bytes) k l a b = a ∙ sym b
+kind_once front (Copy line column bytes) k l a b = a ∙ sym b
+kind_once front (Bar line column chomp) k l a b = a ∙ sym b
+kind_once front (Body line column bytes) k l a b = a ∙ sym b
+kind_once front (OddToken line column odd.Syntax) k l a b = a ∙ sym b
+kind_once front (OddToken line column odd.Unsupported) k l a b = a ∙ sym b
+kind_once front (OddToken line column odd.Indicator) k l a b = decided_once _ k l (decided_indicator front line column k a) (decided_indicator front line column l b)
+kind_once front (OddToken line column odd.Unkeyed) k l a b = decided_once _ k l (decided_unkeyed front line column k a) (decided_unkeyed front line column l b)
+kind_once front (Form line column pieces) k l (inl a) (inl b) = flow_misfit_once pieces k l a.1 b.1
+kind_once front (Form line column pieces) k l (inl a) (inr b) = absurd (b.0 a.0)
+kind_once front (Form line column pieces) k l (inr a) (inl b) = absurd (a.0 b.0)
+kind_once front (Form line column pieces) k l (inr a) (inr b) = a.1 ∙ sym b.1
 
 begins_shorter : (xs : List Token) (x : Token) (more : List Token) → MayBegin (xs ++ (x ∷ more)) → MayBegin (xs ++ (x ∷ []))
 begins_shorter xs x more h = (more ++ h.0, h.1, subst (λ ms. Spells ms h.1) (regrouped xs x more h.0) h.2)
 
 -- one token is the first that can't stand
-misfit-once : (ms : List Token) (k l : FaultKind) → IsMisfit ms k → IsMisfit ms l → k ≡ l
-misfit-once ms k l a b = by (parted a.front a.token a.rest b.front b.token b.rest (sym a.parts ∙ b.parts))
+misfit_once : (ms : List Token) (k l : FaultKind) → IsMisfit ms k → IsMisfit ms l → k ≡ l
+misfit_once ms k l a b = by (parted a.front a.token a.rest b.front b.token b.rest (sym a.parts ∙ b.parts))
   where
     by : Parted a.front a.token a.rest b.front b.token b.rest → k ≡ l
-    by (inl h) = kind-once a.front a.token k l a.kind_is (subst (λ f. IsKindAt f a.token l) (sym h.0) (subst (λ m. IsKindAt b.front m l) (sym h.1) b.kind_is))
+    by (inl h) = kind_once a.front a.token k l a.kind_is (subst (λ f. IsKindAt f a.token l) (sym h.0) (subst (λ m. IsKindAt b.front m l) (sym h.1) b.kind_is))
     by (inr (inl h)) = absurd (a.ends (begins_shorter a.front a.token h.0 (subst MayBegin h.1 b.begins)))
     by (inr (inr h)) = absurd (b.ends (begins_shorter b.front b.token h.0 (subst MayBegin h.1 a.begins)))
 
@@ -162,22 +162,22 @@ told lines Syntax h = inl h
 told lines Unsupported h = inl h
 told lines Duplicate h = inr (h.0, h.1, cond-true (has_repeat h.0) _ _ h.2)
 told lines Alias h = inr (h.0, h.1, cond-false (has_repeat h.0) _ _ h.2 ∙ cond-true (has_unknown h.0) _ _ h.3)
-told lines TooDeep h = inr (h.0, h.1, cond-false (has_repeat h.0) _ _ h.2 ∙ cond-false (has_unknown h.0) _ _ h.3 ∙ cond-true (nat_lt most_tree_levels (cut most_tree_levels (levels h.0))) _ _ (cut-over most_tree_levels (levels h.0) ∙ lt-ltb most_tree_levels (levels h.0) h.4))
+told lines TooDeep h = inr (h.0, h.1, cond-false (has_repeat h.0) _ _ h.2 ∙ cond-false (has_unknown h.0) _ _ h.3 ∙ cond-true (nat_lt most_tree_levels (cut most_tree_levels (levels h.0))) _ _ (cut_over most_tree_levels (levels h.0) ∙ lt-ltb most_tree_levels (levels h.0) h.4))
 told lines TooManyNodes h = inr (
   h.0,
   h.1,
-  cond-false (has_repeat h.0) _ _ h.2 ∙ cond-false (has_unknown h.0) _ _ h.3 ∙ cond-false (nat_lt most_tree_levels (cut most_tree_levels (levels h.0))) _ _ (cut-over most_tree_levels (levels h.0) ∙ le-ltb most_tree_levels (levels h.0) h.4)
-      ∙ cond-true (nat_lt most_tree_nodes (cut most_tree_nodes (size h.0))) _ _ (cut-over most_tree_nodes (size h.0) ∙ lt-ltb most_tree_nodes (size h.0) h.5),
+  cond-false (has_repeat h.0) _ _ h.2 ∙ cond-false (has_unknown h.0) _ _ h.3 ∙ cond-false (nat_lt most_tree_levels (cut most_tree_levels (levels h.0))) _ _ (cut_over most_tree_levels (levels h.0) ∙ le-ltb most_tree_levels (levels h.0) h.4)
+      ∙ cond-true (nat_lt most_tree_nodes (cut most_tree_nodes (size h.0))) _ _ (cut_over most_tree_nodes (size h.0) ∙ lt-ltb most_tree_nodes (size h.0) h.5),
 )
 
-told-once : FlowReader → (lines : List (List ℕ)) (k l : FaultKind) → Told lines k → Told lines l → k ≡ l
-told-once r lines k l (inl a) (inl b) = misfit-once (tokens_of lines) k l a b
-told-once r lines k l (inl a) (inr b) = absurd (misfit-no_tree (tokens_of lines) k b.1.written a b.1.spelled)
-told-once r lines k l (inr a) (inl b) = absurd (misfit-no_tree (tokens_of lines) l a.1.written b a.1.spelled)
-told-once r lines k l (inr a) (inr b) = same_Some k l (sym a.2 ∙ ap (λ t. fault_of (measured t)) (one_tree r lines a.0 b.0 a.1 b.1) ∙ b.2)
+told_once : FlowReader → (lines : List (List ℕ)) (k l : FaultKind) → Told lines k → Told lines l → k ≡ l
+told_once r lines k l (inl a) (inl b) = misfit_once (tokens_of lines) k l a b
+told_once r lines k l (inl a) (inr b) = absurd (misfit_no_tree (tokens_of lines) k b.1.written a b.1.spelled)
+told_once r lines k l (inr a) (inl b) = absurd (misfit_no_tree (tokens_of lines) l a.1.written b a.1.spelled)
+told_once r lines k l (inr a) (inr b) = same_Some k l (sym a.2 ∙ ap (λ t. fault_of (measured t)) (one_tree r lines a.0 b.0 a.1 b.1) ∙ b.2)
 
 not_before : FlowReader → (lines : List (List ℕ)) (n m : ℕ) (k l : FaultKind) → IsFirstRefused lines n k → IsFirstRefused lines m l → n < m → ⊥
-not_before r lines n m k l a b less = let t = b.before n less in refused-no_tree r (take n lines) k t.0 a.refused t.1
+not_before r lines n m k l a b less = let t = b.before n less in refused_no_tree r (take n lines) k t.0 a.refused t.1
 
 same_line : FlowReader → (lines : List (List ℕ)) (n m : ℕ) (k l : FaultKind) → IsFirstRefused lines n k → IsFirstRefused lines m l → n ≡ m
 same_line r lines n m k l a b = elim (cases_order n m) [
@@ -188,9 +188,9 @@ same_line r lines n m k l a b = elim (cases_order n m) [
 abbrev SameFault : ℕ → FaultKind → ℕ → FaultKind → Type 0
 SameFault n k m l = (n ≡ m) × (k ≡ l)
 
-first-once : FlowReader → (lines : List (List ℕ)) (n m : ℕ) (k l : FaultKind) → IsFirstRefused lines n k → IsFirstRefused lines m l → SameFault n k m l
-first-once r lines n m k l a b = let same = same_line r lines n m k l a b in
-    (same, told-once r (take n lines) k l (told (take n lines) k a.refused) (told (take n lines) l (subst (λ i. IsRefused (take i lines) l) (sym same) b.refused)))
+first_once : FlowReader → (lines : List (List ℕ)) (n m : ℕ) (k l : FaultKind) → IsFirstRefused lines n k → IsFirstRefused lines m l → SameFault n k m l
+first_once r lines n m k l a b = let same = same_line r lines n m k l a b in
+    (same, told_once r (take n lines) k l (told (take n lines) k a.refused) (told (take n lines) l (subst (λ i. IsRefused (take i lines) l) (sym same) b.refused)))
 
 -- a text that isn't UTF-8, or one whose lines are refused
 abbrev FaultIs : List ℕ → ℕ → FaultKind → Type 0
@@ -212,4 +212,4 @@ one_fault r bytes n m k l a b = by (fault_is bytes n k a) (fault_is bytes m l b)
     by (inl p) (inl q) = (p.1.0 ∙ sym q.1.0, p.1.1 ∙ sym q.1.1)
     by (inl p) (inr q) = absurd (p.0 q.0)
     by (inr p) (inl q) = absurd (q.0 p.0)
-    by (inr p) (inr q) = first-once r (lines_of bytes) n m k l p.1 q.1
+    by (inr p) (inr q) = first_once r (lines_of bytes) n m k l p.1 q.1

@@ -20,7 +20,7 @@ use Rattle.yaml_tree.proofs.Shapes.CellPlace.{behind_key}
 use Rattle.yaml_tree.proofs.Shapes.Slot.{slot}
 use Rattle.yaml_tree.proofs.Shapes.Shape.{start, cell_next, value_next, named_next, end_next, done}
 use Rattle.yaml_tree.proofs.FlowJudged.{FlowJudged}
-use Rattle.yaml_tree.proofs.FlowLaws.{with_pieces-append, spelled_when_done, done_when_spelled, may_begin, is_begun}
+use Rattle.yaml_tree.proofs.FlowLaws.{with_pieces_append, spelled_when_done, done_when_spelled, may_begin, is_begun}
 
 -- ---- the outline of a form that is read so far
 
@@ -41,14 +41,14 @@ abbrev pub Steps : Piece → Shape → Option Shape → Bool → Type 0
 Steps piece old (Some new) takes = (takes ≡ true) × (behind piece (erased old) ≡ erased new)
 Steps piece old None takes = takes ≡ false
 
-outlined-closed : (bracket : Bracket) (value : Flow) (outer : List Slot) → outlined (bracket ∷ brackets_of outer) ≡ erased (closed value outer)
-outlined-closed bracket value [] = refl
-outlined-closed bracket value (slot place name ∷ outer) = refl
+outlined_closed : (bracket : Bracket) (value : Flow) (outer : List Slot) → outlined (bracket ∷ brackets_of outer) ≡ erased (closed value outer)
+outlined_closed bracket value [] = refl
+outlined_closed bracket value (slot place name ∷ outer) = refl
 
 end_steps : (piece : Piece) (bracket : Bracket) (cells : Flow) (outer : List Slot) → Steps piece (end_next bracket cells outer) (end_piece piece bracket cells outer) (takes_piece piece (erased (end_next bracket cells outer)))
 end_steps Comma bracket cells outer = (refl, refl)
-end_steps (Closing Square) Square cells outer = (refl, outlined-closed Square (form Square cells false) outer)
-end_steps (Closing Curly) Curly cells outer = (refl, outlined-closed Curly (form Curly cells false) outer)
+end_steps (Closing Square) Square cells outer = (refl, outlined_closed Square (form Square cells false) outer)
+end_steps (Closing Curly) Curly cells outer = (refl, outlined_closed Curly (form Curly cells false) outer)
 end_steps (Closing Square) Curly cells outer = refl
 end_steps (Closing Curly) Square cells outer = refl
 end_steps (Opening other) bracket cells outer = refl
@@ -59,8 +59,8 @@ end_steps (CellCopy text) bracket cells outer = refl
 end_steps (OddPiece why) bracket cells outer = refl
 
 named_closing : (other bracket : Bracket) (value : Flow) (place : CellPlace) (name : List ℕ) (outer : List Slot) → bracket_of place ≡ bracket → Steps (Closing other) (named_next place name outer) (closed_by other bracket value outer) (takes_piece (Closing other) (record { want = want.Named; brackets = bracket ∷ brackets_of outer }))
-named_closing Square Square value place name outer e = (refl, ap (λ b. outlined (b ∷ brackets_of outer)) e ∙ outlined-closed Square value outer)
-named_closing Curly Curly value place name outer e = (refl, ap (λ b. outlined (b ∷ brackets_of outer)) e ∙ outlined-closed Curly value outer)
+named_closing Square Square value place name outer e = (refl, ap (λ b. outlined (b ∷ brackets_of outer)) e ∙ outlined_closed Square value outer)
+named_closing Curly Curly value place name outer e = (refl, ap (λ b. outlined (b ∷ brackets_of outer)) e ∙ outlined_closed Curly value outer)
 named_closing Square Curly value place name outer e = refl
 named_closing Curly Square value place name outer e = refl
 
@@ -85,8 +85,8 @@ value_steps (CellKey text) cells key outer = refl
 value_steps (OddPiece why) cells key outer = refl
 
 cell_steps : (piece : Piece) (bracket : Bracket) (cells : Flow) (outer : List Slot) → Steps piece (cell_next bracket cells outer) (cell_piece piece bracket cells outer) (takes_piece piece (erased (cell_next bracket cells outer)))
-cell_steps (Closing Square) Square cells outer = (refl, outlined-closed Square (form Square cells (has_cells cells)) outer)
-cell_steps (Closing Curly) Curly cells outer = (refl, outlined-closed Curly (form Curly cells (has_cells cells)) outer)
+cell_steps (Closing Square) Square cells outer = (refl, outlined_closed Square (form Square cells (has_cells cells)) outer)
+cell_steps (Closing Curly) Curly cells outer = (refl, outlined_closed Curly (form Curly cells (has_cells cells)) outer)
 cell_steps (Closing Square) Curly cells outer = refl
 cell_steps (Closing Curly) Square cells outer = refl
 cell_steps (Opening other) Square cells outer = (refl, refl)
@@ -136,7 +136,7 @@ piece_steps piece (done value) = done_steps piece value
 
 -- a piece more behind what is read
 one_more : (front : List Piece) (piece : Piece) (shape : Shape) → with_pieces front start ≡ Some shape → with_pieces (front ++ (piece ∷ [])) start ≡ option_and_then (λ s. Some s) (with_piece piece shape)
-one_more front piece shape e = with_pieces-append front (piece ∷ []) start ∙ ap (option_and_then (with_pieces (piece ∷ []))) e
+one_more front piece shape e = with_pieces_append front (piece ∷ []) start ∙ ap (option_and_then (with_pieces (piece ∷ []))) e
 
 may_go_on : (front : List Piece) (piece : Piece) (shape new : Shape) → with_pieces front start ≡ Some shape → with_piece piece shape ≡ Some new → FlowMayBegin (front ++ (piece ∷ []))
 may_go_on front piece shape new e step = may_begin (front ++ (piece ∷ [])) new (one_more front piece shape e ∙ ap (option_and_then (λ s. Some s)) step)

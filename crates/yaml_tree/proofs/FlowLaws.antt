@@ -62,42 +62,42 @@ GoodShape (done value) = IsForm value
 
 -- ---- what is read is spelled so
 
-spelling-filled : (value : Flow) (place : CellPlace) (rest : List Piece) → spelling (filled value place) ++ rest ≡ before_value place (spelling value ++ rest)
-spelling-filled value (behind_items cells) rest = append_assoc (spelling cells) (comma_if (has_cells cells) ++ spelling value) rest ∙ ap (λ l. spelling cells ++ l) (append_assoc (comma_if (has_cells cells)) (spelling value) rest)
-spelling-filled value (behind_key cells key) rest = append_assoc (spelling cells) (comma_if (has_cells cells) ++ (CellKey key ∷ spelling value)) rest ∙ ap (λ l. spelling cells ++ l) (append_assoc (comma_if (has_cells cells)) (CellKey key ∷ spelling value) rest)
+spelling_filled : (value : Flow) (place : CellPlace) (rest : List Piece) → spelling (filled value place) ++ rest ≡ before_value place (spelling value ++ rest)
+spelling_filled value (behind_items cells) rest = append_assoc (spelling cells) (comma_if (has_cells cells) ++ spelling value) rest ∙ ap (λ l. spelling cells ++ l) (append_assoc (comma_if (has_cells cells)) (spelling value) rest)
+spelling_filled value (behind_key cells key) rest = append_assoc (spelling cells) (comma_if (has_cells cells) ++ (CellKey key ∷ spelling value)) rest ∙ ap (λ l. spelling cells ++ l) (append_assoc (comma_if (has_cells cells)) (CellKey key ∷ spelling value) rest)
 
-spelling-with_name : (name : Option (List ℕ)) (value : Flow) (rest : List Piece) → spelling (with_name name value) ++ rest ≡ before_named name (spelling value ++ rest)
-spelling-with_name None value rest = refl
-spelling-with_name (Some name) value rest = refl
+spelling_with_name : (name : Option (List ℕ)) (value : Flow) (rest : List Piece) → spelling (with_name name value) ++ rest ≡ before_named name (spelling value ++ rest)
+spelling_with_name None value rest = refl
+spelling_with_name (Some name) value rest = refl
 
-so_far-put_value : (value : Flow) (place : CellPlace) (outer : List Slot) (rest : List Piece) → so_far (put_value value place outer) rest ≡ before_inner outer (Opening (bracket_of place) ∷ before_value place (spelling value ++ rest))
-so_far-put_value value place outer rest = ap (λ l. before_inner outer (Opening (bracket_of place) ∷ l)) (spelling-filled value place rest)
+so_far_put_value : (value : Flow) (place : CellPlace) (outer : List Slot) (rest : List Piece) → so_far (put_value value place outer) rest ≡ before_inner outer (Opening (bracket_of place) ∷ before_value place (spelling value ++ rest))
+so_far_put_value value place outer rest = ap (λ l. before_inner outer (Opening (bracket_of place) ∷ l)) (spelling_filled value place rest)
 
-so_far-closed : (value : Flow) (outer : List Slot) (rest : List Piece) → so_far (closed value outer) rest ≡ before_inner outer (spelling value ++ rest)
-so_far-closed value [] rest = refl
-so_far-closed value (slot place name ∷ outer) rest = so_far-put_value (with_name name value) place outer rest ∙ ap (λ l. before_inner outer (Opening (bracket_of place) ∷ before_value place l)) (spelling-with_name name value rest)
+so_far_closed : (value : Flow) (outer : List Slot) (rest : List Piece) → so_far (closed value outer) rest ≡ before_inner outer (spelling value ++ rest)
+so_far_closed value [] rest = refl
+so_far_closed value (slot place name ∷ outer) rest = so_far_put_value (with_name name value) place outer rest ∙ ap (λ l. before_inner outer (Opening (bracket_of place) ∷ before_value place l)) (spelling_with_name name value rest)
 
-spelling-form : (bracket : Bracket) (cells : Flow) (last : Bool) (rest : List Piece) → spelling (form bracket cells last) ++ rest ≡ Opening bracket ∷ (spelling cells ++ (comma_if last ++ (Closing bracket ∷ rest)))
-spelling-form bracket cells last rest = ap (λ l. Opening bracket ∷ l) (append_assoc (spelling cells) (comma_if last ++ (Closing bracket ∷ [])) rest ∙ ap (λ l. spelling cells ++ l) (append_assoc (comma_if last) (Closing bracket ∷ []) rest))
+spelling_form : (bracket : Bracket) (cells : Flow) (last : Bool) (rest : List Piece) → spelling (form bracket cells last) ++ rest ≡ Opening bracket ∷ (spelling cells ++ (comma_if last ++ (Closing bracket ∷ rest)))
+spelling_form bracket cells last rest = ap (λ l. Opening bracket ∷ l) (append_assoc (spelling cells) (comma_if last ++ (Closing bracket ∷ [])) rest ∙ ap (λ l. spelling cells ++ l) (append_assoc (comma_if last) (Closing bracket ∷ []) rest))
 
-AreCells-filled : (value : Flow) (place : CellPlace) → GoodPlace place → IsValue value → AreCells (bracket_of place) (filled value place)
-AreCells-filled value (behind_items cells) good is = (refl, good, is)
-AreCells-filled value (behind_key cells key) good is = (refl, refl, good, is)
+AreCells_filled : (value : Flow) (place : CellPlace) → GoodPlace place → IsValue value → AreCells (bracket_of place) (filled value place)
+AreCells_filled value (behind_items cells) good is = (refl, good, is)
+AreCells_filled value (behind_key cells key) good is = (refl, refl, good, is)
 
-IsValue-named_form : (name : Option (List ℕ)) (bracket : Bracket) (cells : Flow) (last : Bool) → IsValue (form bracket cells last) → IsValue (with_name name (form bracket cells last))
-IsValue-named_form None bracket cells last is = is
-IsValue-named_form (Some name) bracket cells last is = (refl, refl, is)
+IsValue_named_form : (name : Option (List ℕ)) (bracket : Bracket) (cells : Flow) (last : Bool) → IsValue (form bracket cells last) → IsValue (with_name name (form bracket cells last))
+IsValue_named_form None bracket cells last is = is
+IsValue_named_form (Some name) bracket cells last is = (refl, refl, is)
 
-has_cells-filled : (value : Flow) (place : CellPlace) → has_cells (filled value place) ≡ true
-has_cells-filled value (behind_items cells) = refl
-has_cells-filled value (behind_key cells key) = refl
+has_cells_filled : (value : Flow) (place : CellPlace) → has_cells (filled value place) ≡ true
+has_cells_filled value (behind_items cells) = refl
+has_cells_filled value (behind_key cells key) = refl
 
 good_put_value : (value : Flow) (place : CellPlace) (outer : List Slot) → IsValue value → GoodPlace place → GoodSlots outer → GoodShape (put_value value place outer)
-good_put_value value place outer is at around = (AreCells-filled value place at is, has_cells-filled value place, around)
+good_put_value value place outer is at around = (AreCells_filled value place at is, has_cells_filled value place, around)
 
 good_closed : (bracket : Bracket) (cells : Flow) (last : Bool) (outer : List Slot) → IsValue (form bracket cells last) → GoodSlots outer → GoodShape (closed (form bracket cells last) outer)
 good_closed bracket cells last [] is good = is
-good_closed bracket cells last (slot place name ∷ outer) is good = good_put_value (with_name name (form bracket cells last)) place outer (IsValue-named_form name bracket cells last is) good.0 good.1
+good_closed bracket cells last (slot place name ∷ outer) is good = good_put_value (with_name name (form bracket cells last)) place outer (IsValue_named_form name bracket cells last is) good.0 good.1
 
 equal_brackets : (a b : Bracket) → same_bracket a b ≡ true → a ≡ b
 equal_brackets Square Square e = refl
@@ -110,7 +110,7 @@ abbrev pub GoesOn : Piece → Shape → Shape → Type 0
 GoesOn piece old new = GoodShape new × ((rest : List Piece) → so_far new rest ≡ so_far old (piece ∷ rest))
 
 close_goes_on : (bracket : Bracket) (cells : Flow) (last : Bool) (outer : List Slot) → IsValue (form bracket cells last) → GoodSlots outer → GoodShape (closed (form bracket cells last) outer) × ((rest : List Piece) → so_far (closed (form bracket cells last) outer) rest ≡ before_inner outer (Opening bracket ∷ (spelling cells ++ (comma_if last ++ (Closing bracket ∷ rest)))))
-close_goes_on bracket cells last outer is around = (good_closed bracket cells last outer is around, λ rest. so_far-closed (form bracket cells last) outer rest ∙ ap (before_inner outer) (spelling-form bracket cells last rest))
+close_goes_on bracket cells last outer is around = (good_closed bracket cells last outer is around, λ rest. so_far_closed (form bracket cells last) outer rest ∙ ap (before_inner outer) (spelling_form bracket cells last rest))
 
 end_goes_on : (piece : Piece) (bracket : Bracket) (cells : Flow) (outer : List Slot) (new : Shape) → end_piece piece bracket cells outer ≡ Some new → GoodShape (end_next bracket cells outer) → GoesOn piece (end_next bracket cells outer) new
 end_goes_on Comma bracket cells outer new e good = subst (GoesOn Comma (end_next bracket cells outer)) (same_Some _ _ e) ((good.0, good.2), λ rest. ap (λ b. before_inner outer (Opening bracket ∷ (spelling cells ++ (comma_if b ++ rest)))) good.1)
@@ -125,12 +125,12 @@ end_goes_on (CellCopy text) bracket cells outer new e good = absurd (none-some n
 end_goes_on (OddPiece why) bracket cells outer new e good = absurd (none-some new e)
 
 put_goes_on : (value : Flow) (place : CellPlace) (outer : List Slot) → IsValue value → GoodPlace place → GoodSlots outer → GoodShape (put_value value place outer) × ((rest : List Piece) → so_far (put_value value place outer) rest ≡ before_inner outer (Opening (bracket_of place) ∷ before_value place (spelling value ++ rest)))
-put_goes_on value place outer is at around = (good_put_value value place outer is at around, so_far-put_value value place outer)
+put_goes_on value place outer is at around = (good_put_value value place outer is at around, so_far_put_value value place outer)
 
 named_end_goes_on : (piece : Piece) (place : CellPlace) (name : List ℕ) (outer : List Slot) (new : Shape) → end_piece piece (bracket_of place) (filled (called (CellName name) absent) place) outer ≡ Some new → GoodPlace place → GoodSlots outer → GoesOn piece (named_next place name outer) new
 named_end_goes_on piece place name outer new e at around = let v = called (CellName name) absent in
     let g = end_goes_on piece (bracket_of place) (filled v place) outer new e (good_put_value v place outer refl at around) in
-    (g.0, λ rest. g.1 rest ∙ so_far-put_value v place outer (piece ∷ rest))
+    (g.0, λ rest. g.1 rest ∙ so_far_put_value v place outer (piece ∷ rest))
 
 named_goes_on : (piece : Piece) (place : CellPlace) (name : List ℕ) (outer : List Slot) (new : Shape) → named_piece piece place name outer ≡ Some new → GoodShape (named_next place name outer) → GoesOn piece (named_next place name outer) new
 named_goes_on (Opening bracket) place name outer new e good = subst (GoesOn (Opening bracket) (named_next place name outer)) (same_Some _ _ e) ((tt, (good.0, good.1)), λ rest. refl)
@@ -147,9 +147,9 @@ abbrev pub waiting : CellPlace → List Slot → Shape
 waiting (behind_items cells) outer = cell_next Square cells outer
 waiting (behind_key cells key) outer = value_next cells key outer
 
-so_far-waiting : (place : CellPlace) (outer : List Slot) (rest : List Piece) → so_far (waiting place outer) rest ≡ before_inner outer (Opening (bracket_of place) ∷ before_value place rest)
-so_far-waiting (behind_items cells) outer rest = refl
-so_far-waiting (behind_key cells key) outer rest = refl
+so_far_waiting : (place : CellPlace) (outer : List Slot) (rest : List Piece) → so_far (waiting place outer) rest ≡ before_inner outer (Opening (bracket_of place) ∷ before_value place rest)
+so_far_waiting (behind_items cells) outer rest = refl
+so_far_waiting (behind_key cells key) outer rest = refl
 
 -- a value, or its name, comes
 value_goes_on : (piece : Piece) (place : CellPlace) (outer : List Slot) (new : Shape) → value_piece piece place outer ≡ Some new → GoodPlace place → GoodSlots outer → GoodShape new × ((rest : List Piece) → so_far new rest ≡ before_inner outer (Opening (bracket_of place) ∷ before_value place (piece ∷ rest)))
@@ -265,26 +265,26 @@ form_ends bracket (pair before key value) false has outer rest = then_closing br
 form_ends bracket (form other cells also) true has outer rest = then_closing bracket (form bracket (form other cells also) true) outer rest
 form_ends bracket (form other cells also) false has outer rest = then_closing bracket (form bracket (form other cells also) false) outer rest
 
-ends-closing : (last : Bool) (bracket : Bracket) (rest : List Piece) → Ends (comma_if last ++ (Closing bracket ∷ rest))
-ends-closing true bracket rest = tt
-ends-closing false bracket rest = tt
+ends_closing : (last : Bool) (bracket : Bracket) (rest : List Piece) → Ends (comma_if last ++ (Closing bracket ∷ rest))
+ends_closing true bracket rest = tt
+ends_closing false bracket rest = tt
 
 -- a form behind its opening bracket
 form_read : (bracket : Bracket) (cells : Flow) (last : Bool) → CellsAreRead bracket cells → (last ≡ true → has_cells cells ≡ true) → (outer : List Slot) (rest : List Piece) → with_pieces ((spelling cells ++ (comma_if last ++ (Closing bracket ∷ []))) ++ rest) (cell_next bracket absent outer) ≡ with_pieces rest (closed (form bracket cells last) outer)
 form_read bracket cells last read has outer rest =
     ap (λ l. with_pieces l (cell_next bracket absent outer)) (append_assoc (spelling cells) (comma_if last ++ (Closing bracket ∷ [])) rest ∙ ap (λ l. spelling cells ++ l) (append_assoc (comma_if last) (Closing bracket ∷ []) rest))
-    ∙ read outer (comma_if last ++ (Closing bracket ∷ rest)) (ends-closing last bracket rest)
+    ∙ read outer (comma_if last ++ (Closing bracket ∷ rest)) (ends_closing last bracket rest)
     ∙ form_ends bracket cells last has outer rest
 
 item_read : (before value : Flow) → CellsAreRead Square before → ValueIsRead value → CellsAreRead Square (item before value)
 item_read before value read_before read_value outer rest ends =
-    ap (λ l. with_pieces l (cell_next Square absent outer)) (spelling-filled value (behind_items before) rest)
+    ap (λ l. with_pieces l (cell_next Square absent outer)) (spelling_filled value (behind_items before) rest)
     ∙ then_comma Square before read_before outer (spelling value ++ rest)
     ∙ read_value (behind_items before) outer rest ends
 
 pair_read : (before : Flow) (key : List ℕ) (value : Flow) → CellsAreRead Curly before → ValueIsRead value → CellsAreRead Curly (pair before (CellKey key) value)
 pair_read before key value read_before read_value outer rest ends =
-    ap (λ l. with_pieces l (cell_next Curly absent outer)) (spelling-filled value (behind_key before key) rest)
+    ap (λ l. with_pieces l (cell_next Curly absent outer)) (spelling_filled value (behind_key before key) rest)
     ∙ then_comma Curly before read_before outer (CellKey key ∷ (spelling value ++ rest))
     ∙ read_value (behind_key before key) outer rest ends
 
@@ -417,9 +417,9 @@ flow_reader = record {
 
 -- ---- what may begin a form
 
-pub with_pieces-append : (front pieces : List Piece) (old : Shape) → with_pieces (front ++ pieces) old ≡ option_and_then (with_pieces pieces) (with_pieces front old)
-with_pieces-append [] pieces old = refl
-with_pieces-append (piece ∷ front) pieces old = elim (with_piece piece old) as (λ o. option_and_then (with_pieces (front ++ pieces)) o ≡ option_and_then (with_pieces pieces) (option_and_then (with_pieces front) o)) [ None ↦ refl | Some new ↦ with_pieces-append front pieces new ]
+pub with_pieces_append : (front pieces : List Piece) (old : Shape) → with_pieces (front ++ pieces) old ≡ option_and_then (with_pieces pieces) (with_pieces front old)
+with_pieces_append [] pieces old = refl
+with_pieces_append (piece ∷ front) pieces old = elim (with_piece piece old) as (λ o. option_and_then (with_pieces (front ++ pieces)) o ≡ option_and_then (with_pieces pieces) (option_and_then (with_pieces front) o)) [ None ↦ refl | Some new ↦ with_pieces_append front pieces new ]
 
 -- pieces that take the shape to a whole form
 abbrev pub Finishes : Shape → Type 0
@@ -450,7 +450,7 @@ finish (done value) = ([], value, refl)
 
 pub may_begin : (front : List Piece) (shape : Shape) → with_pieces front start ≡ Some shape → FlowMayBegin front
 may_begin front shape e = let f = finish shape in
-    (f.0, f.1, spelled_when_done (front ++ f.0) f.1 (with_pieces-append front f.0 start ∙ ap (option_and_then (with_pieces f.0)) e ∙ f.2))
+    (f.0, f.1, spelled_when_done (front ++ f.0) f.1 (with_pieces_append front f.0 start ∙ ap (option_and_then (with_pieces f.0)) e ∙ f.2))
 
 pub is_begun : (front : List Piece) → FlowMayBegin front → (shape : Shape) × (with_pieces front start ≡ Some shape)
-is_begun front h = let c = chained (with_pieces h.0) (with_pieces front start) (done h.1) (sym (with_pieces-append front h.0 start) ∙ done_when_spelled (front ++ h.0) h.1 h.2) in (c.0, c.1)
+is_begun front h = let c = chained (with_pieces h.0) (with_pieces front start) (done h.1) (sym (with_pieces_append front h.0 start) ∙ done_when_spelled (front ++ h.0) h.1 h.2) in (c.0, c.1)

@@ -24,7 +24,7 @@ use Rattle.yaml_tree.specs.declared.node.Value.{Value}
 use Rattle.yaml_tree.specs.declared.node.Value.TheVariants.{Null}
 use Rattle.yaml_tree.specs.declared.stack.Open.{Open}
 use Rattle.yaml_tree.specs.declared.builder.Builder.{Builder}
-use Rattle.yaml_tree.proofs.KnownLaws.{slice_get-last, HoldsRows-more, NamesAre-more, named_are, with_part-item, with_part-pair, mapping_has_key, begins_on-from_line, HoldsRows-from_line, node_is}
+use Rattle.yaml_tree.proofs.KnownLaws.{slice_get-last, HoldsRows_more, NamesAre_more, named_are, with_part_item, with_part_pair, mapping_has_key, begins_on_from_line, HoldsRows_from_line, node_is}
 use Rattle.yaml_tree.proofs.Stands.{KnownIs, NameIs, NamesAre, named_by, rows_of}
 
 -- ---- a value that is put
@@ -43,37 +43,37 @@ record Puts (b : Builder) (meaning : Meaning) (after : Builder) : Type 0 where
   says : KnownIs (b.nodes ++ more) known (named_by b.name meaning).0
   names_are : NamesAre (b.nodes ++ more) entries (named_by b.name meaning).1
 
-name-put_in : (os : List Open) (known : Known) (b : Builder) → (put_in os known b).name ≡ b.name
-name-put_in [] known b = refl
-name-put_in (o ∷ os) known b = refl
+name_put_in : (os : List Open) (known : Known) (b : Builder) → (put_in os known b).name ≡ b.name
+name_put_in [] known b = refl
+name_put_in (o ∷ os) known b = refl
 
-name-put_known : (known : Known) (b : Builder) → (put_known known b).name ≡ b.name
+name_put_known : (known : Known) (b : Builder) → (put_known known b).name ≡ b.name
 unfolding put_known
-name-put_known known b = name-put_in b.cells known b
+name_put_known known b = name_put_in b.cells known b
 
 -- nothing is to do where no name waits
-flushed-unnamed : (line : ℕ) (b : Builder) → b.name ≡ None → flushed line b ≡ b
+flushed_unnamed : (line : ℕ) (b : Builder) → b.name ≡ None → flushed line b ≡ b
 unfolding flushed
-flushed-unnamed line b e = ap (λ n. if is_some n then cell_node line Null one_node b else b) e
+flushed_unnamed line b e = ap (λ n. if is_some n then cell_node line Null one_node b else b) e
 
-flushed-named : (line : ℕ) (n : GivenName) (b : Builder) → b.name ≡ Some n → flushed line b ≡ cell_node line Null one_node b
+flushed_named : (line : ℕ) (n : GivenName) (b : Builder) → b.name ≡ Some n → flushed line b ≡ cell_node line Null one_node b
 unfolding flushed
-flushed-named line n b e = ap (λ m. if is_some m then cell_node line Null one_node b else b) e
+flushed_named line n b e = ap (λ m. if is_some m then cell_node line Null one_node b else b) e
 
-name-flushed : (line : ℕ) (waits : Option GivenName) (b : Builder) → b.name ≡ waits → (flushed line b).name ≡ None
+name_flushed : (line : ℕ) (waits : Option GivenName) (b : Builder) → b.name ≡ waits → (flushed line b).name ≡ None
 unfolding cell_node with_node
-name-flushed line None b e = ap (λ x. x.name) (flushed-unnamed line b e) ∙ e
-name-flushed line (Some n) b e = ap (λ x. x.name) (flushed-named line n b e) ∙ name-put_known _ _
+name_flushed line None b e = ap (λ x. x.name) (flushed_unnamed line b e) ∙ e
+name_flushed line (Some n) b e = ap (λ x. x.name) (flushed_named line n b e) ∙ name_put_known _ _
 
-flushed-twice : (line : ℕ) (b : Builder) → flushed line (flushed line b) ≡ flushed line b
-flushed-twice line b = flushed-unnamed line (flushed line b) (name-flushed line b.name b refl)
+flushed_twice : (line : ℕ) (b : Builder) → flushed line (flushed line b) ≡ flushed line b
+flushed_twice line b = flushed_unnamed line (flushed line b) (name_flushed line b.name b refl)
 
-flushed-puts : (line : ℕ) (b : Builder) (meaning : Meaning) (after : Builder) → Puts b meaning after → Puts b meaning (flushed line after)
-flushed-puts line b meaning after p = record {
+flushed_puts : (line : ℕ) (b : Builder) (meaning : Meaning) (after : Builder) → Puts b meaning after → Puts b meaning (flushed line after)
+flushed_puts line b meaning after p = record {
   more = p.more;
   known = p.known;
   entries = p.entries;
-  is = ap (flushed line) p.is ∙ flushed-unnamed line (put_known p.known (behind p.more p.entries b)) (name-put_known _ _);
+  is = ap (flushed line) p.is ∙ flushed_unnamed line (put_known p.known (behind p.more p.entries b)) (name_put_known _ _);
   says = p.says;
   names_are = p.names_are;
 }
@@ -91,37 +91,37 @@ node_puts line value m tree names b e begins holds are =
       entries = named b.name (next_known m b) b.names;
       is = refl;
       says = is;
-      names_are = named_are (b.nodes ++ (node ∷ [])) b.names names b.name (next_known m b) tree (NamesAre-more b.nodes (node ∷ []) b.names names are) is;
+      names_are = named_are (b.nodes ++ (node ∷ [])) b.names names b.name (next_known m b) tree (NamesAre_more b.nodes (node ∷ []) b.names names are) is;
     }
 
-measured-scalar : (line : ℕ) (value : Option (List ℕ)) → one_node ≡ measured (scalar_said line value)
-measured-scalar line None = refl
-measured-scalar line (Some bytes) = refl
+measured_scalar : (line : ℕ) (value : Option (List ℕ)) → one_node ≡ measured (scalar_said line value)
+measured_scalar line None = refl
+measured_scalar line (Some bytes) = refl
 
-holds-scalar : (line : ℕ) (value : Option (List ℕ)) (nodes : List Node) (n l : ℕ) → IsNode nodes n l (scalar_value value) → HoldsSaid nodes (from_line l (scalar_said line value)) n
-holds-scalar line None nodes n l h = h
-holds-scalar line (Some bytes) nodes n l h = h
+holds_scalar : (line : ℕ) (value : Option (List ℕ)) (nodes : List Node) (n l : ℕ) → IsNode nodes n l (scalar_value value) → HoldsSaid nodes (from_line l (scalar_said line value)) n
+holds_scalar line None nodes n l h = h
+holds_scalar line (Some bytes) nodes n l h = h
 
-begins-scalar : (line : ℕ) (value : Option (List ℕ)) → line ≡ begins_on (scalar_said line value)
-begins-scalar line None = refl
-begins-scalar line (Some bytes) = refl
+begins_scalar : (line : ℕ) (value : Option (List ℕ)) → line ≡ begins_on (scalar_said line value)
+begins_scalar line None = refl
+begins_scalar line (Some bytes) = refl
 
-copy_found-puts : (line : ℕ) (found : Option Known) (tree : Option Said) (names : Names) (b : Builder) → b.name ≡ None → NameIs b.nodes found tree → NamesAre b.nodes b.names names → Puts b (unwrap_or tree (unknown line), names) (copy_found line found b)
-copy_found-puts line None None names b e is are = node_puts line Null unknown_node (unknown line) names b refl refl (λ nodes n l h. h) are
-copy_found-puts line (Some k) (Some tree) names b e is are = record {
+copy_found_puts : (line : ℕ) (found : Option Known) (tree : Option Said) (names : Names) (b : Builder) → b.name ≡ None → NameIs b.nodes found tree → NamesAre b.nodes b.names names → Puts b (unwrap_or tree (unknown line), names) (copy_found line found b)
+copy_found_puts line None None names b e is are = node_puts line Null unknown_node (unknown line) names b refl refl (λ nodes n l h. h) are
+copy_found_puts line (Some k) (Some tree) names b e is are = record {
   more = [];
   known = k;
   entries = b.names;
   is = λ j. put_known k (record b { nodes = sym (append-nil b.nodes) j; name = e j });
   says = subst (λ w. KnownIs (b.nodes ++ []) k (named_by w (tree, names)).0) (sym e) (subst (λ ns. KnownIs ns k tree) (sym (append-nil b.nodes)) is);
-  names_are = subst (λ w. NamesAre (b.nodes ++ []) b.names (named_by w (tree, names)).1) (sym e) (NamesAre-more b.nodes [] b.names names are);
+  names_are = subst (λ w. NamesAre (b.nodes ++ []) b.names (named_by w (tree, names)).1) (sym e) (NamesAre_more b.nodes [] b.names names are);
 }
-copy_found-puts line None (Some tree) names b e is are = absurd is
-copy_found-puts line (Some k) None names b e is are = absurd is
+copy_found_puts line None (Some tree) names b e is are = absurd is
+copy_found_puts line (Some k) None names b e is are = absurd is
 
 copy_puts : (line : ℕ) (n : List ℕ) (names : Names) (b : Builder) → b.name ≡ None → NamesAre b.nodes b.names names → Puts b (copied line n names, names) (cell_copy line n b)
 unfolding cell_copy
-copy_puts line n names b e are = copy_found-puts line (find_name b.names n) (lookup (pointwise ◌==◌ n) names) names b e (are n) are
+copy_puts line n names b e are = copy_found_puts line (find_name b.names n) (lookup (pointwise ◌==◌ n) names) names b e (are n) are
 
 -- ---- collections
 
@@ -131,8 +131,8 @@ holds_collection nodes (text line bytes) rows n l h is = absurd h
 holds_collection nodes (unknown line) rows n l h is = absurd h
 holds_collection nodes (sequence line) rows n l h is = subst (λ r. IsNode nodes n l (rows_value false r)) h is
 holds_collection nodes (mapping line) rows n l h is = subst (λ r. IsNode nodes n l (rows_value true r)) h is
-holds_collection nodes (with_item before value) rows n l h is = (h.0, h.1, HoldsRows-from_line nodes l before h.0 h.2, h.3, subst (λ x. IsNode nodes n x (rows_value false (with_row false 0 [] h.1 h.0))) (sym (begins_on-from_line l before)) (subst (λ r. IsNode nodes n l (rows_value false r)) h.4 is))
-holds_collection nodes (with_pair before line k value) rows n l h is = (h.0, h.1, HoldsRows-from_line nodes l before h.0 h.2, h.3, subst (λ x. IsNode nodes n x (rows_value true (with_row true line k h.1 h.0))) (sym (begins_on-from_line l before)) (subst (λ r. IsNode nodes n l (rows_value true r)) h.4 is))
+holds_collection nodes (with_item before value) rows n l h is = (h.0, h.1, HoldsRows_from_line nodes l before h.0 h.2, h.3, subst (λ x. IsNode nodes n x (rows_value false (with_row false 0 [] h.1 h.0))) (sym (begins_on_from_line l before)) (subst (λ r. IsNode nodes n l (rows_value false r)) h.4 is))
+holds_collection nodes (with_pair before line k value) rows n l h is = (h.0, h.1, HoldsRows_from_line nodes l before h.0 h.2, h.3, subst (λ x. IsNode nodes n x (rows_value true (with_row true line k h.1 h.0))) (sym (begins_on_from_line l before)) (subst (λ r. IsNode nodes n l (rows_value true r)) h.4 is))
 
 -- the rows of the innermost bracket say this, and its name waits for it
 record CellsAre (nodes : List Node) (o : Open) (bracket : Bracket) (waits : Option GivenName) (tree : Said) : Type 0 where
@@ -165,9 +165,9 @@ opened line bracket names b are = let o : Open = new_open 0 (is_curly bracket) l
   more = [];
   inner = o;
   entries = b.names;
-  is = flushed-unnamed line (cell_opened line bracket b) refl ∙ (λ j. record b { nodes = sym (append-nil b.nodes) j; name = None; cells = o ∷ b.cells });
+  is = flushed_unnamed line (cell_opened line bracket b) refl ∙ (λ j. record b { nodes = sym (append-nil b.nodes) j; name = None; cells = o ∷ b.cells });
   cells_are = no_cells (b.nodes ++ []) line bracket b.name;
-  names_are = NamesAre-more b.nodes [] b.names names are;
+  names_are = NamesAre_more b.nodes [] b.names names are;
 }
 
 item_row : (nodes more : List Node) (o : Open) (k : Known) (waits : Option GivenName) (before value : Said) → CellsAre nodes o Square waits before → KnownIs (nodes ++ more) k value → CellsAre (nodes ++ more) (finished o k) Square waits (with_item before value)
@@ -176,11 +176,11 @@ item_row nodes more o k waits before value h is = record {
   says_kind = refl;
   has_first = h.has_first;
   has_name = h.has_name;
-  has_measure = (λ j. with_part (h.has_measure j) (is.0 j)) ∙ with_part-item before value;
+  has_measure = (λ j. with_part (h.has_measure j) (is.0 j)) ∙ with_part_item before value;
   holds = (
     rows_of o,
     k.node,
-    HoldsRows-more nodes more before (rows_of o) h.holds,
+    HoldsRows_more nodes more before (rows_of o) h.holds,
     is.1,
     λ j. record { items = if h.has_kind j then o.items else o.items ++ k.node ∷ []; entries = if h.has_kind j then with_entry o.entries o.key (record { line = o.line; node = k.node }) else o.entries },
   );
@@ -194,11 +194,11 @@ pair_row nodes more o line key k waits before value h is =
       says_kind = refl;
       has_first = h.has_first;
       has_name = h.has_name;
-      has_measure = (λ j. with_part (with_repeat (again j) (h.has_measure j)) (is.0 j)) ∙ with_part-pair before line key value;
+      has_measure = (λ j. with_part (with_repeat (again j) (h.has_measure j)) (is.0 j)) ∙ with_part_pair before line key value;
       holds = (
         rows_of o,
         k.node,
-        HoldsRows-more nodes more before (rows_of o) h.holds,
+        HoldsRows_more nodes more before (rows_of o) h.holds,
         is.1,
         λ j. record { items = if h.has_kind j then o.items else o.items ++ k.node ∷ []; entries = if h.has_kind j then with_entry o.entries key (record { line = line; node = k.node }) else o.entries },
       );
@@ -229,7 +229,7 @@ closed_puts b bracket meaning after h =
     let first : ℕ = begins_at o.first_line o.name in
     let node : Node = record { line = first; value = collection o } in
     let at : IsNode (nodes ++ (node ∷ [])) (length nodes) first (rows_value (is_mapping meaning.0) (rows_of o)) = slice_get-last nodes node ∙ (λ j. Some (record { line = first; value = collection (record o { mapping = (are.has_kind ∙ sym are.says_kind) j }) })) in
-    let holds : HoldsSaid (nodes ++ (node ∷ [])) (from_line first meaning.0) (length nodes) = holds_collection (nodes ++ (node ∷ [])) meaning.0 (rows_of o) (length nodes) first (HoldsRows-more nodes (node ∷ []) meaning.0 (rows_of o) are.holds) at in
+    let holds : HoldsSaid (nodes ++ (node ∷ [])) (from_line first meaning.0) (length nodes) = holds_collection (nodes ++ (node ∷ [])) meaning.0 (rows_of o) (length nodes) first (HoldsRows_more nodes (node ∷ []) meaning.0 (rows_of o) are.holds) at in
     let is : KnownIs (nodes ++ (node ∷ [])) known (named_by o.name meaning).0 = node_is (nodes ++ (node ∷ [])) o.name o.first_line meaning known are.has_measure are.has_first holds in
     let same = append_assoc b.nodes h.more (node ∷ []) in
     record {
@@ -240,20 +240,20 @@ closed_puts b bracket meaning after h =
       says = subst (λ w. KnownIs (b.nodes ++ (h.more ++ (node ∷ []))) known (named_by w meaning).0) are.has_name (subst (λ ns. KnownIs ns known (named_by o.name meaning).0) same is);
       names_are = subst (λ w. NamesAre (b.nodes ++ (h.more ++ (node ∷ []))) (named o.name known h.entries) (named_by w meaning).1) are.has_name
           (subst (λ ns. NamesAre ns (named o.name known h.entries) (named_by o.name meaning).1) same
-          (named_are (nodes ++ (node ∷ [])) h.entries meaning.1 o.name known meaning.0 (NamesAre-more nodes (node ∷ []) h.entries meaning.1 h.names_are) is));
+          (named_are (nodes ++ (node ∷ [])) h.entries meaning.1 o.name known meaning.0 (NamesAre_more nodes (node ∷ []) h.entries meaning.1 h.names_are) is));
     }
 
 -- ---- pieces
 
-take_pieces-append : (line : ℕ) (xs ys : List Piece) (b : Builder) → take_pieces line (xs ++ ys) b ≡ take_pieces line ys (take_pieces line xs b)
+take_pieces_append : (line : ℕ) (xs ys : List Piece) (b : Builder) → take_pieces line (xs ++ ys) b ≡ take_pieces line ys (take_pieces line xs b)
 unfolding take_pieces
-take_pieces-append line [] ys b = refl
-take_pieces-append line (x ∷ xs) ys b = take_pieces-append line xs ys (take_piece line x b)
+take_pieces_append line [] ys b = refl
+take_pieces_append line (x ∷ xs) ys b = take_pieces_append line xs ys (take_piece line x b)
 
 -- a comma between cells, and none before the first
 comma_taken : (line : ℕ) (before : Flow) (b : Builder) → b.name ≡ None → take_pieces line (comma_if (not (is_absent before))) (take_pieces line (spelling before) b) ≡ flushed line (take_pieces line (spelling before) b)
 unfolding take_pieces take_piece
-comma_taken line absent b e = sym (flushed-unnamed line b e)
+comma_taken line absent b e = sym (flushed_unnamed line b e)
 comma_taken line (word piece) b e = refl
 comma_taken line (called piece value) b e = refl
 comma_taken line (item before value) b e = refl
@@ -261,18 +261,18 @@ comma_taken line (pair before key value) b e = refl
 comma_taken line (form bracket cells last) b e = refl
 
 behind_cells : (line : ℕ) (before : Flow) (pieces : List Piece) (b : Builder) → b.name ≡ None → take_pieces line (spelling before ++ (comma_if (not (is_absent before)) ++ pieces)) b ≡ take_pieces line pieces (flushed line (take_pieces line (spelling before) b))
-behind_cells line before pieces b e = take_pieces-append line (spelling before) (comma_if (not (is_absent before)) ++ pieces) b
-    ∙ take_pieces-append line (comma_if (not (is_absent before))) pieces (take_pieces line (spelling before) b)
+behind_cells line before pieces b e = take_pieces_append line (spelling before) (comma_if (not (is_absent before)) ++ pieces) b
+    ∙ take_pieces_append line (comma_if (not (is_absent before))) pieces (take_pieces line (spelling before) b)
     ∙ ap (take_pieces line pieces) (comma_taken line before b e)
 
 closing_taken : (line : ℕ) (bracket : Bracket) (last : Bool) (b : Builder) → take_pieces line (comma_if last ++ (Closing bracket ∷ [])) b ≡ cell_closed_on (flushed line b).cells (flushed line b)
 unfolding take_pieces take_piece cell_closed
 closing_taken line bracket false b = refl
-closing_taken line bracket true b = ap (λ a. cell_closed_on a.cells a) (flushed-twice line b)
+closing_taken line bracket true b = ap (λ a. cell_closed_on a.cells a) (flushed_twice line b)
 
 form_taken : (line : ℕ) (bracket : Bracket) (cells : Flow) (last : Bool) (b : Builder) → (let after = flushed line (take_pieces line (spelling cells) (cell_opened line bracket b)) in cell_closed_on after.cells after) ≡ take_pieces line (spelling (form bracket cells last)) b
 unfolding take_pieces take_piece
-form_taken line bracket cells last b = sym (take_pieces-append line (spelling cells) (comma_if last ++ (Closing bracket ∷ [])) (cell_opened line bracket b) ∙ closing_taken line bracket last (take_pieces line (spelling cells) (cell_opened line bracket b)))
+form_taken line bracket cells last b = sym (take_pieces_append line (spelling cells) (comma_if last ++ (Closing bracket ∷ [])) (cell_opened line bracket b) ∙ closing_taken line bracket last (take_pieces line (spelling cells) (cell_opened line bracket b)))
 
 -- ---- the induction
 
@@ -287,16 +287,16 @@ ValuePlayed line v names b = Puts b (flow_said line (null line) names v) (flushe
 
 nothing_played : (line : ℕ) (n : GivenName) (names : Names) (b : Builder) → b.name ≡ Some n → NamesAre b.nodes b.names names → ValuePlayed line absent names b
 unfolding take_pieces
-nothing_played line n names b e are = subst (Puts b (null line, names)) (sym (flushed-named line n b e)) (node_puts line Null one_node (null line) names b refl refl (λ nodes m l h. h) are)
+nothing_played line n names b e are = subst (Puts b (null line, names)) (sym (flushed_named line n b e)) (node_puts line Null one_node (null line) names b refl refl (λ nodes m l h. h) are)
 
 scalar_played : (line : ℕ) (value : Option (List ℕ)) (names : Names) (b : Builder) → NamesAre b.nodes b.names names → ValuePlayed line (word (CellScalar value)) names b
 unfolding take_pieces take_piece
-scalar_played line value names b are = flushed-puts line b (scalar_said line value, names) (cell_node line (scalar_value value) one_node b)
-    (node_puts line (scalar_value value) one_node (scalar_said line value) names b (measured-scalar line value) (begins-scalar line value) (holds-scalar line value) are)
+scalar_played line value names b are = flushed_puts line b (scalar_said line value, names) (cell_node line (scalar_value value) one_node b)
+    (node_puts line (scalar_value value) one_node (scalar_said line value) names b (measured_scalar line value) (begins_scalar line value) (holds_scalar line value) are)
 
 copy_played : (line : ℕ) (n : List ℕ) (names : Names) (b : Builder) → b.name ≡ None → NamesAre b.nodes b.names names → ValuePlayed line (word (CellCopy n)) names b
 unfolding take_pieces take_piece
-copy_played line n names b e are = flushed-puts line b (copied line n names, names) (cell_copy line n b) (copy_puts line n names b e are)
+copy_played line n names b e are = flushed_puts line b (copied line n names, names) (cell_copy line n b) (copy_puts line n names b e are)
 
 word_played : (line : ℕ) (waits : Option GivenName) (piece : Piece) (names : Names) (b : Builder) → b.name ≡ waits → Comes waits (word piece) → NamesAre b.nodes b.names names → ValuePlayed line (word piece) names b
 word_played line waits (CellScalar value) names b e h are = scalar_played line value names b are
@@ -384,7 +384,7 @@ mutual
   value_played line (Some n) (item before value) names b e h are = absurd h.1
   value_played line None (pair before key value) names b e h are = absurd h
   value_played line (Some n) (pair before key value) names b e h are = absurd h.1
-  value_played line waits (form bracket cells last) names b e h are = flushed-puts line b (flow_said line (null line) names (form bracket cells last)) (take_pieces line (spelling (form bracket cells last)) b)
+  value_played line waits (form bracket cells last) names b e h are = flushed_puts line b (flow_said line (null line) names (form bracket cells last)) (take_pieces line (spelling (form bracket cells last)) b)
       (form_played line bracket cells last names b (cells_played line bracket cells names b (are_cells waits bracket cells last h) are))
 
   cells_played : (line : ℕ) (bracket : Bracket) (cells : Flow) (names : Names) (b : Builder) → AreCells bracket cells → NamesAre b.nodes b.names names → CellsPlayed line bracket cells names b

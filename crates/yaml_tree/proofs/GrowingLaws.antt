@@ -7,7 +7,7 @@ use Rattle.std.proofs.lemmas.Bool.{false≢true}
 use Rattle.indexmap.specs.IndexMap.{insert_all}
 use Rattle.yaml_tree.specs.Entries.{has_key, with_entry}
 use Rattle.yaml_tree.specs.declared.entries.Child.{Child}
-use Rattle.yaml_tree.proofs.KnownLaws.{has_key-with_entry}
+use Rattle.yaml_tree.proofs.KnownLaws.{has_key_with_entry}
 
 -- one row more is one entry more
 pub one_row_more : (entries rows : List (List ℕ × Child)) (key : List ℕ) (child : Child) → insert_all (pointwise ◌==◌) entries (rows ++ (key, child) ∷ []) ≡ with_entry (insert_all (pointwise ◌==◌) entries rows) key child
@@ -23,14 +23,14 @@ nothing_more true = refl
 nothing_more false = refl
 
 -- a key has an entry where it had one, and where a row has it
-has_key-insert_all : (key : List ℕ) (entries rows : List (List ℕ × Child)) → has_key key (insert_all (pointwise ◌==◌) entries rows) ≡ (has_key key entries || list_any (λ row. pointwise ◌==◌ key row.0) rows)
-has_key-insert_all key entries [] = nothing_more (has_key key entries)
-has_key-insert_all key entries (row ∷ rows) = has_key-insert_all key (with_entry entries row.0 row.1) rows
-    ∙ (ap (λ t. t || list_any (λ other. pointwise ◌==◌ key other.0) rows) (has_key-with_entry key row.0 entries row.1)
+has_key_insert_all : (key : List ℕ) (entries rows : List (List ℕ × Child)) → has_key key (insert_all (pointwise ◌==◌) entries rows) ≡ (has_key key entries || list_any (λ row. pointwise ◌==◌ key row.0) rows)
+has_key_insert_all key entries [] = nothing_more (has_key key entries)
+has_key_insert_all key entries (row ∷ rows) = has_key_insert_all key (with_entry entries row.0 row.1) rows
+    ∙ (ap (λ t. t || list_any (λ other. pointwise ◌==◌ key other.0) rows) (has_key_with_entry key row.0 entries row.1)
     ∙ any_more (has_key key entries) (pointwise ◌==◌ key row.0) (list_any (λ other. pointwise ◌==◌ key other.0) rows))
 
 pub key_of_rows : (key : List ℕ) (rows : List (List ℕ × Child)) → has_key key (insert_all (pointwise ◌==◌) [] rows) ≡ list_any (λ row. pointwise ◌==◌ key row.0) rows
-key_of_rows key rows = has_key-insert_all key [] rows
+key_of_rows key rows = has_key_insert_all key [] rows
 
 -- some rows are some entries
 stays_filled : (entry : List ℕ × Child) (entries rows : List (List ℕ × Child)) → insert_all (pointwise ◌==◌) (entry ∷ entries) rows ≡ [] → ⊥

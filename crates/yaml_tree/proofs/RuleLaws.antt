@@ -15,8 +15,8 @@ use Rattle.yaml_tree.specs.Tree.{Says, IsTree, HasTree, IsMisfit, IsRefused, IsF
 use Rattle.yaml_tree.specs.declared.fault.FaultKind.{FaultKind}
 use Rattle.yaml_tree.specs.declared.fault.FaultKind.TheVariants.{NotUtf8, Syntax, Unsupported, Duplicate, Alias, TooDeep, TooManyNodes}
 use Rattle.yaml_tree.proofs.Lists.{chained}
-use Rattle.yaml_tree.proofs.WrittenLaws.{FlowReader, with_tokens, with_tokens-append, Spells-from_read, read-from_Spells, same_written}
-use Rattle.yaml_tree.proofs.SaidGrowth.{with_tokens-grows}
+use Rattle.yaml_tree.proofs.WrittenLaws.{FlowReader, with_tokens, with_tokens_append, Spells_from_read, read_from_Spells, same_written}
+use Rattle.yaml_tree.proofs.SaidGrowth.{with_tokens_grows}
 use Rattle.yaml_tree.specs.Limits.{most_tree_levels, most_tree_nodes}
 
 abbrev pub begun_after : Bool → List (List ℕ) → Bool
@@ -28,11 +28,11 @@ abbrev pub place_of_next : Bool → LinePlace → ℕ → List (List ℕ) → Li
 place_of_next begun place n [] = place
 place_of_next begun place n (line ∷ lines) = place_of_next (begun || has_content line) (next_place begun place n line) (1 + n) lines
 
-pub tokens_from-append : (begun : Bool) (place : LinePlace) (n : ℕ) (xs ys : List (List ℕ)) → tokens_from begun place n (xs ++ ys) ≡ tokens_from begun place n xs ++ tokens_from (begun_after begun xs) (place_of_next begun place n xs) (n + length xs) ys
+pub tokens_from_append : (begun : Bool) (place : LinePlace) (n : ℕ) (xs ys : List (List ℕ)) → tokens_from begun place n (xs ++ ys) ≡ tokens_from begun place n xs ++ tokens_from (begun_after begun xs) (place_of_next begun place n xs) (n + length xs) ys
 unfolding tokens_from
-tokens_from-append begun place n [] ys = let e : n ≡ n + 0 = omega arith in ap (λ k. tokens_from begun place k ys) e
-tokens_from-append begun place n (x ∷ xs) ys = let e : (1 + n) + length xs ≡ n + length (x ∷ xs) = omega arith in
-    ap (λ ms. line_tokens begun place n x ++ ms) (tokens_from-append (begun || has_content x) (next_place begun place n x) (1 + n) xs ys)
+tokens_from_append begun place n [] ys = let e : n ≡ n + 0 = omega arith in ap (λ k. tokens_from begun place k ys) e
+tokens_from_append begun place n (x ∷ xs) ys = let e : (1 + n) + length xs ≡ n + length (x ∷ xs) = omega arith in
+    ap (λ ms. line_tokens begun place n x ++ ms) (tokens_from_append (begun || has_content x) (next_place begun place n x) (1 + n) xs ys)
     ∙ sym (append_assoc (line_tokens begun place n x) (tokens_from (begun || has_content x) (next_place begun place n x) (1 + n) xs) _)
     ∙ ap (λ k. tokens_from begun place n (x ∷ xs) ++ tokens_from (begun_after begun (x ∷ xs)) (place_of_next begun place n (x ∷ xs)) k ys) e
 
@@ -48,17 +48,17 @@ first_lines r lines n t tree =
     let front : List (List ℕ) = take n lines in
     let w : Written = tree.says.written in
     let more : List Token = tokens_from (begun_after false front) (place_of_next false (Outside None) 1 front) (1 + length front) (drop n lines) in
-    let parts : tokens_of lines ≡ tokens_of front ++ more = ap tokens_of (sym (take-append-drop n lines)) ∙ tokens_from-append false (Outside None) 1 front (drop n lines) in
-    let read : option_and_then (with_tokens r more) (with_tokens r (tokens_of front) nothing) ≡ Some w = sym (with_tokens-append r (tokens_of front) more nothing) ∙ ap (λ ms. with_tokens r ms nothing) (sym parts) ∙ read-from_Spells r (tokens_of lines) w tree.says.spelled in
+    let parts : tokens_of lines ≡ tokens_of front ++ more = ap tokens_of (sym (take-append-drop n lines)) ∙ tokens_from_append false (Outside None) 1 front (drop n lines) in
+    let read : option_and_then (with_tokens r more) (with_tokens r (tokens_of front) nothing) ≡ Some w = sym (with_tokens_append r (tokens_of front) more nothing) ∙ ap (λ ms. with_tokens r ms nothing) (sym parts) ∙ read_from_Spells r (tokens_of lines) w tree.says.spelled in
     let c = chained (with_tokens r more) (with_tokens r (tokens_of front) nothing) w read in
-    let g = with_tokens-grows r more c.0 w c.2 1 [] in
+    let g = with_tokens_grows r more c.0 w c.2 1 [] in
     let same = tree.says.said in
     let lev = g.no_fewer_levels in let siz = g.no_smaller in
     let deep : levels (tree_of w) ≤ most_tree_levels = subst (λ x. levels x ≤ most_tree_levels) (sym same) tree.shallow in
     let big : size (tree_of w) ≤ most_tree_nodes = subst (λ x. size x ≤ most_tree_nodes) (sym same) tree.small in (
       tree_of c.0,
       record {
-        says = record { written = c.0; spelled = Spells-from_read r (tokens_of front) c.0 c.1; said = refl };
+        says = record { written = c.0; spelled = Spells_from_read r (tokens_of front) c.0 c.1; said = refl };
         distinct = is_false (has_repeat (tree_of c.0)) (has_repeat (tree_of w)) g.repeat_stays (ap has_repeat same ∙ tree.distinct);
         known = is_false (has_unknown (tree_of c.0)) (has_unknown (tree_of w)) g.unknown_stays (ap has_unknown same ∙ tree.known);
         shallow = omega (arith, lev, deep);
@@ -66,26 +66,26 @@ first_lines r lines n t tree =
       },
     )
 
-pub misfit-no_tree : (ms : List Token) (kind : FaultKind) (w : Written) → IsMisfit ms kind → Spells ms w → ⊥
-misfit-no_tree ms kind w h s = h.ends (h.rest, w, subst (λ ns. Spells ns w) (h.parts ∙ sym (append_assoc h.front (h.token ∷ []) h.rest)) s)
+pub misfit_no_tree : (ms : List Token) (kind : FaultKind) (w : Written) → IsMisfit ms kind → Spells ms w → ⊥
+misfit_no_tree ms kind w h s = h.ends (h.rest, w, subst (λ ns. Spells ns w) (h.parts ∙ sym (append_assoc h.front (h.token ∷ []) h.rest)) s)
 
-pub refused-no_tree : FlowReader → (lines : List (List ℕ)) (kind : FaultKind) (t : Said) → IsRefused lines kind → IsTree lines t → ⊥
-refused-no_tree r lines NotUtf8 t h tree = h
-refused-no_tree r lines Syntax t h tree = misfit-no_tree (tokens_of lines) Syntax tree.says.written h tree.says.spelled
-refused-no_tree r lines Unsupported t h tree = misfit-no_tree (tokens_of lines) Unsupported tree.says.written h tree.says.spelled
-refused-no_tree r lines Duplicate t h tree = let same = one_tree r lines h.0 t h.1 tree.says in false≢true (sym tree.distinct ∙ sym (ap has_repeat same) ∙ h.2)
-refused-no_tree r lines Alias t h tree = let same = one_tree r lines h.0 t h.1 tree.says in false≢true (sym tree.known ∙ sym (ap has_unknown same) ∙ h.3)
-refused-no_tree r lines TooDeep t h tree = let same = ap levels (one_tree r lines h.0 t h.1 tree.says) in let deep = tree.shallow in let over = h.4 in omega (arith, same, deep, over)
-refused-no_tree r lines TooManyNodes t h tree = let same = ap size (one_tree r lines h.0 t h.1 tree.says) in let big = tree.small in let over = h.5 in omega (arith, same, big, over)
+pub refused_no_tree : FlowReader → (lines : List (List ℕ)) (kind : FaultKind) (t : Said) → IsRefused lines kind → IsTree lines t → ⊥
+refused_no_tree r lines NotUtf8 t h tree = h
+refused_no_tree r lines Syntax t h tree = misfit_no_tree (tokens_of lines) Syntax tree.says.written h tree.says.spelled
+refused_no_tree r lines Unsupported t h tree = misfit_no_tree (tokens_of lines) Unsupported tree.says.written h tree.says.spelled
+refused_no_tree r lines Duplicate t h tree = let same = one_tree r lines h.0 t h.1 tree.says in false≢true (sym tree.distinct ∙ sym (ap has_repeat same) ∙ h.2)
+refused_no_tree r lines Alias t h tree = let same = one_tree r lines h.0 t h.1 tree.says in false≢true (sym tree.known ∙ sym (ap has_unknown same) ∙ h.3)
+refused_no_tree r lines TooDeep t h tree = let same = ap levels (one_tree r lines h.0 t h.1 tree.says) in let deep = tree.shallow in let over = h.4 in omega (arith, same, deep, over)
+refused_no_tree r lines TooManyNodes t h tree = let same = ap size (one_tree r lines h.0 t h.1 tree.says) in let big = tree.small in let over = h.5 in omega (arith, same, big, over)
 
-first-no_tree : FlowReader → (text : List ℕ) (line : ℕ) (kind : FaultKind) (t : Said) → IsFirstRefused (lines_of text) line kind → IsTree (lines_of text) t → ⊥
-first-no_tree r text line kind t h tree = let first = first_lines r (lines_of text) line t tree in refused-no_tree r (take line (lines_of text)) kind first.0 h.refused first.1
+first_no_tree : FlowReader → (text : List ℕ) (line : ℕ) (kind : FaultKind) (t : Said) → IsFirstRefused (lines_of text) line kind → IsTree (lines_of text) t → ⊥
+first_no_tree r text line kind t h tree = let first = first_lines r (lines_of text) line t tree in refused_no_tree r (take line (lines_of text)) kind first.0 h.refused first.1
 
 pub no_fault : FlowReader → (text : List ℕ) (t : Said) (line : ℕ) (kind : FaultKind) → IsTreeOf text t → IsFaultOf text line kind → ⊥
 no_fault r text t line NotUtf8 tree fault = fault.0 tree.0
-no_fault r text t line Syntax tree fault = first-no_tree r text line Syntax t fault.1 tree.1
-no_fault r text t line Unsupported tree fault = first-no_tree r text line Unsupported t fault.1 tree.1
-no_fault r text t line Duplicate tree fault = first-no_tree r text line Duplicate t fault.1 tree.1
-no_fault r text t line Alias tree fault = first-no_tree r text line Alias t fault.1 tree.1
-no_fault r text t line TooDeep tree fault = first-no_tree r text line TooDeep t fault.1 tree.1
-no_fault r text t line TooManyNodes tree fault = first-no_tree r text line TooManyNodes t fault.1 tree.1
+no_fault r text t line Syntax tree fault = first_no_tree r text line Syntax t fault.1 tree.1
+no_fault r text t line Unsupported tree fault = first_no_tree r text line Unsupported t fault.1 tree.1
+no_fault r text t line Duplicate tree fault = first_no_tree r text line Duplicate t fault.1 tree.1
+no_fault r text t line Alias tree fault = first_no_tree r text line Alias t fault.1 tree.1
+no_fault r text t line TooDeep tree fault = first_no_tree r text line TooDeep t fault.1 tree.1
+no_fault r text t line TooManyNodes tree fault = first_no_tree r text line TooManyNodes t fault.1 tree.1

@@ -6,7 +6,7 @@ use Rattle.yaml_marks.specs.declared.piece.Piece.{Piece}
 use Rattle.yaml_marks.specs.declared.piece.Piece.TheVariants.{Opening, Closing, Comma, CellKey, CellScalar, CellName, CellCopy, OddPiece}
 use Rattle.yaml_marks.specs.declared.odd.Odd.TheVariants as odd
 use Rattle.yaml_marks.specs.inside.Packed.{bare}
-use Rattle.yaml_marks.proofs.PackedLaws.{closes-bare}
+use Rattle.yaml_marks.proofs.PackedLaws.{closes_bare}
 use Rattle.yaml_tree.specs.declared.shape.Shape.{Shape}
 use Rattle.yaml_tree.specs.declared.shape.Want.TheVariants as want
 use Rattle.yaml_tree.specs.declared.fault.FaultKind.TheVariants.{Syntax, Unsupported}
@@ -16,72 +16,72 @@ use Rattle.yaml_tree.specs.inside.Outline.{takes_key, takes_piece, behind, piece
 
 -- ---- the fault of pieces
 
-pub fault-drop : (pieces : List Piece) (i : ℕ) (piece : Piece) (shape : Shape) → i < length pieces → piece ≡ get_or pieces i piece → fault_from (drop i pieces) shape ≡ cond (takes_piece piece shape) (fault_from (drop (i + 1) pieces) (behind piece shape)) (Some (piece_fault piece (drop (i + 1) pieces) shape))
+pub fault_drop : (pieces : List Piece) (i : ℕ) (piece : Piece) (shape : Shape) → i < length pieces → piece ≡ get_or pieces i piece → fault_from (drop i pieces) shape ≡ cond (takes_piece piece shape) (fault_from (drop (i + 1) pieces) (behind piece shape)) (Some (piece_fault piece (drop (i + 1) pieces) shape))
 unfolding fault_from
-fault-drop pieces i piece shape within is = ap (λ l. fault_from l shape) (here pieces i piece within is)
+fault_drop pieces i piece shape within is = ap (λ l. fault_from l shape) (here pieces i piece within is)
 
 pub faults_on : (pieces : List Piece) (i : ℕ) (piece : Piece) (shape : Shape) → fault_from (drop i pieces) shape ≡ flow_fault pieces → i < length pieces → piece ≡ get_or pieces i piece → takes_piece piece shape ≡ true → fault_from (drop (i + 1) pieces) (behind piece shape) ≡ flow_fault pieces
-faults_on pieces i piece shape h within is takes = sym (fault-drop pieces i piece shape within is ∙ cond-true (takes_piece piece shape) _ _ takes) ∙ h
+faults_on pieces i piece shape h within is takes = sym (fault_drop pieces i piece shape within is ∙ cond-true (takes_piece piece shape) _ _ takes) ∙ h
 
 pub faults_here : (pieces : List Piece) (i : ℕ) (piece : Piece) (shape : Shape) → fault_from (drop i pieces) shape ≡ flow_fault pieces → i < length pieces → piece ≡ get_or pieces i piece → takes_piece piece shape ≡ false → Some (piece_fault piece (drop (i + 1) pieces) shape) ≡ flow_fault pieces
-faults_here pieces i piece shape h within is takes = sym (fault-drop pieces i piece shape within is ∙ cond-false (takes_piece piece shape) _ _ takes) ∙ h
+faults_here pieces i piece shape h within is takes = sym (fault_drop pieces i piece shape within is ∙ cond-false (takes_piece piece shape) _ _ takes) ∙ h
 
 -- ---- no text tells a fault
 
-takes_piece-bare : (piece : Piece) (shape : Shape) → takes_piece (bare piece) shape ≡ takes_piece piece shape
-takes_piece-bare (Opening bracket) shape = refl
-takes_piece-bare (Closing bracket) shape = refl
-takes_piece-bare Comma shape = refl
-takes_piece-bare (CellKey text) shape = refl
-takes_piece-bare (CellScalar text) shape = refl
-takes_piece-bare (CellName text) shape = refl
-takes_piece-bare (CellCopy text) shape = refl
-takes_piece-bare (OddPiece why) shape = refl
+takes_piece_bare : (piece : Piece) (shape : Shape) → takes_piece (bare piece) shape ≡ takes_piece piece shape
+takes_piece_bare (Opening bracket) shape = refl
+takes_piece_bare (Closing bracket) shape = refl
+takes_piece_bare Comma shape = refl
+takes_piece_bare (CellKey text) shape = refl
+takes_piece_bare (CellScalar text) shape = refl
+takes_piece_bare (CellName text) shape = refl
+takes_piece_bare (CellCopy text) shape = refl
+takes_piece_bare (OddPiece why) shape = refl
 
-behind-bare : (piece : Piece) (shape : Shape) → behind (bare piece) shape ≡ behind piece shape
-behind-bare (Opening bracket) shape = refl
-behind-bare (Closing bracket) shape = refl
-behind-bare Comma shape = refl
-behind-bare (CellKey text) shape = refl
-behind-bare (CellScalar text) shape = refl
-behind-bare (CellName text) shape = refl
-behind-bare (CellCopy text) shape = refl
-behind-bare (OddPiece why) shape = refl
+behind_bare : (piece : Piece) (shape : Shape) → behind (bare piece) shape ≡ behind piece shape
+behind_bare (Opening bracket) shape = refl
+behind_bare (Closing bracket) shape = refl
+behind_bare Comma shape = refl
+behind_bare (CellKey text) shape = refl
+behind_bare (CellScalar text) shape = refl
+behind_bare (CellName text) shape = refl
+behind_bare (CellCopy text) shape = refl
+behind_bare (OddPiece why) shape = refl
 
-kind_behind_key-bare : (pieces : List Piece) → kind_behind_key (map bare pieces) ≡ kind_behind_key pieces
-kind_behind_key-bare [] = refl
-kind_behind_key-bare (Opening bracket ∷ pieces) = ap (λ b. if b then Syntax else Unsupported) (closes-bare 0 pieces)
-kind_behind_key-bare (Closing bracket ∷ pieces) = refl
-kind_behind_key-bare (Comma ∷ pieces) = refl
-kind_behind_key-bare (CellKey text ∷ pieces) = refl
-kind_behind_key-bare (CellScalar text ∷ pieces) = refl
-kind_behind_key-bare (CellName text ∷ pieces) = refl
-kind_behind_key-bare (CellCopy text ∷ pieces) = refl
-kind_behind_key-bare (OddPiece odd.Indicator ∷ pieces) = refl
-kind_behind_key-bare (OddPiece odd.Unkeyed ∷ pieces) = refl
-kind_behind_key-bare (OddPiece odd.Unsupported ∷ pieces) = refl
-kind_behind_key-bare (OddPiece odd.Syntax ∷ pieces) = refl
+kind_behind_key_bare : (pieces : List Piece) → kind_behind_key (map bare pieces) ≡ kind_behind_key pieces
+kind_behind_key_bare [] = refl
+kind_behind_key_bare (Opening bracket ∷ pieces) = ap (λ b. if b then Syntax else Unsupported) (closes_bare 0 pieces)
+kind_behind_key_bare (Closing bracket ∷ pieces) = refl
+kind_behind_key_bare (Comma ∷ pieces) = refl
+kind_behind_key_bare (CellKey text ∷ pieces) = refl
+kind_behind_key_bare (CellScalar text ∷ pieces) = refl
+kind_behind_key_bare (CellName text ∷ pieces) = refl
+kind_behind_key_bare (CellCopy text ∷ pieces) = refl
+kind_behind_key_bare (OddPiece odd.Indicator ∷ pieces) = refl
+kind_behind_key_bare (OddPiece odd.Unkeyed ∷ pieces) = refl
+kind_behind_key_bare (OddPiece odd.Unsupported ∷ pieces) = refl
+kind_behind_key_bare (OddPiece odd.Syntax ∷ pieces) = refl
 
-piece_fault-bare : (piece : Piece) (pieces : List Piece) (shape : Shape) → piece_fault (bare piece) (map bare pieces) shape ≡ piece_fault piece pieces shape
-piece_fault-bare (Opening bracket) pieces shape = ap (λ b. if b then Syntax else Unsupported) (closes-bare 0 pieces)
-piece_fault-bare (Closing bracket) pieces shape = refl
-piece_fault-bare Comma pieces shape = refl
-piece_fault-bare (CellKey text) pieces shape = refl
-piece_fault-bare (CellScalar text) pieces shape = ap (λ k. if takes_key shape.want shape.brackets then k else Syntax) (kind_behind_key-bare pieces)
-piece_fault-bare (CellName text) pieces shape = refl
-piece_fault-bare (CellCopy text) pieces shape = refl
-piece_fault-bare (OddPiece odd.Indicator) pieces shape = refl
-piece_fault-bare (OddPiece odd.Unkeyed) pieces shape = refl
-piece_fault-bare (OddPiece odd.Unsupported) pieces shape = refl
-piece_fault-bare (OddPiece odd.Syntax) pieces shape = refl
+piece_fault_bare : (piece : Piece) (pieces : List Piece) (shape : Shape) → piece_fault (bare piece) (map bare pieces) shape ≡ piece_fault piece pieces shape
+piece_fault_bare (Opening bracket) pieces shape = ap (λ b. if b then Syntax else Unsupported) (closes_bare 0 pieces)
+piece_fault_bare (Closing bracket) pieces shape = refl
+piece_fault_bare Comma pieces shape = refl
+piece_fault_bare (CellKey text) pieces shape = refl
+piece_fault_bare (CellScalar text) pieces shape = ap (λ k. if takes_key shape.want shape.brackets then k else Syntax) (kind_behind_key_bare pieces)
+piece_fault_bare (CellName text) pieces shape = refl
+piece_fault_bare (CellCopy text) pieces shape = refl
+piece_fault_bare (OddPiece odd.Indicator) pieces shape = refl
+piece_fault_bare (OddPiece odd.Unkeyed) pieces shape = refl
+piece_fault_bare (OddPiece odd.Unsupported) pieces shape = refl
+piece_fault_bare (OddPiece odd.Syntax) pieces shape = refl
 
-fault_from-bare : (pieces : List Piece) (shape : Shape) → fault_from (map bare pieces) shape ≡ fault_from pieces shape
+fault_from_bare : (pieces : List Piece) (shape : Shape) → fault_from (map bare pieces) shape ≡ fault_from pieces shape
 unfolding fault_from
-fault_from-bare [] shape = refl
-fault_from-bare (piece ∷ pieces) shape = ap (λ b. if b then fault_from (map bare pieces) (behind (bare piece) shape) else Some (piece_fault (bare piece) (map bare pieces) shape)) (takes_piece-bare piece shape)
-    ∙ ap (λ s. if takes_piece piece shape then fault_from (map bare pieces) s else Some (piece_fault (bare piece) (map bare pieces) shape)) (behind-bare piece shape)
-    ∙ ap (λ k. if takes_piece piece shape then fault_from (map bare pieces) (behind piece shape) else Some k) (piece_fault-bare piece pieces shape)
-    ∙ ap (λ f. if takes_piece piece shape then f else Some (piece_fault piece pieces shape)) (fault_from-bare pieces (behind piece shape))
+fault_from_bare [] shape = refl
+fault_from_bare (piece ∷ pieces) shape = ap (λ b. if b then fault_from (map bare pieces) (behind (bare piece) shape) else Some (piece_fault (bare piece) (map bare pieces) shape)) (takes_piece_bare piece shape)
+    ∙ ap (λ s. if takes_piece piece shape then fault_from (map bare pieces) s else Some (piece_fault (bare piece) (map bare pieces) shape)) (behind_bare piece shape)
+    ∙ ap (λ k. if takes_piece piece shape then fault_from (map bare pieces) (behind piece shape) else Some k) (piece_fault_bare piece pieces shape)
+    ∙ ap (λ f. if takes_piece piece shape then f else Some (piece_fault piece pieces shape)) (fault_from_bare pieces (behind piece shape))
 
 pub bare_flow_fault : (pieces : List Piece) → flow_fault (map bare pieces) ≡ flow_fault pieces
-bare_flow_fault pieces = fault_from-bare pieces (record { want = want.Form; brackets = [] })
+bare_flow_fault pieces = fault_from_bare pieces (record { want = want.Form; brackets = [] })

@@ -37,10 +37,10 @@ use Rattle.yaml_tree.specs.declared.builder.Builder.{Builder}
 use Rattle.yaml_tree.proofs.WrittenLaws.{FlowReader, begun_by, may_follow_name, with_token, head_deep}
 use Rattle.yaml_tree.proofs.FlowJudged.{FlowJudged, Judges}
 use Rattle.yaml_tree.proofs.FlowPlay.{Played, flow_played}
-use Rattle.yaml_tree.proofs.KnownLaws.{slice_get-last, measured-from_line}
+use Rattle.yaml_tree.proofs.KnownLaws.{slice_get-last, measured_from_line}
 use Rattle.yaml_tree.proofs.Stands.{KnownIs, NameIs, NamesAre, named_by, Frame, called, wrap, names_at, line_at, HasName, OpenIs, before_of, Chain, OpensAre, LiteralIs, ValueIs, StandsAt, IsShut, Between, StandsFor}
-use Rattle.yaml_tree.proofs.SimulationValues.{meaning_at, said-called, OpensAre-more, put_node-stands, Valued, NoneIs, none_is, valued-stands, row-measure, HasCome, AtMost, Settled, settled_on-stands, Ready, ended-ready}
-use Rattle.yaml_tree.proofs.SimulationHeads.{with_token-wrap, refused-wrap, called-begins, called-refuses, full-refuses, still_none, none-between, Taken, headed-taken}
+use Rattle.yaml_tree.proofs.SimulationValues.{meaning_at, said_called, OpensAre_more, put_node_stands, Valued, NoneIs, none_is, valued_stands, row_measure, HasCome, AtMost, Settled, settled_on_stands, Ready, ended_ready}
+use Rattle.yaml_tree.proofs.SimulationHeads.{with_token_wrap, refused_wrap, called_begins, called_refuses, full_refuses, still_none, none_between, Taken, headed_taken}
 
 -- ---- where a value may come
 
@@ -49,8 +49,8 @@ abbrev CanHold : FlowReader → ℕ → Builder → List Frame → Written → B
 CanHold r d b fs value true = (b.value ≡ None) × NoneIs b fs value × Chain d fs
 CanHold r d b fs value false = (m : Token) → is_head m ≡ false → is_body_line m ≡ false → depth m ≡ d → with_token r m (wrap fs value) ≡ None
 
-can_hold-means : (r : FlowReader) (d : ℕ) (b : Builder) (fs : List Frame) (value : Written) → Ready b fs value → CanHold r d b fs value (can_hold d b)
-can_hold-means r d b fs value ready = by b.value refl
+can_hold_means : (r : FlowReader) (d : ℕ) (b : Builder) (fs : List Frame) (value : Written) → Ready b fs value → CanHold r d b fs value (can_hold d b)
+can_hold_means r d b fs value ready = by b.value refl
   where
     shallow : (os : List Open) (gs : List Frame) → OpensAre b.nodes os gs → b.value ≡ None → NoneIs b fs value → ((m : Token) → is_head m ≡ false → with_token r m (wrap gs value) ≡ None → with_token r m (wrap fs value) ≡ None) → (Chain d gs → Chain d fs) → CanHold r d b fs value (is_shallower d os)
     shallow [] [] h e none out chain = (e, none, chain tt)
@@ -59,46 +59,46 @@ can_hold-means r d b fs value ready = by b.value refl
     shallow (o ∷ os) (g ∷ gs) h e none out chain = let same : o.depth ≡ depth g.head = h.0.has_depth in
         elim (nat_lt o.depth d) as (λ q. nat_lt o.depth d ≡ q → CanHold r d b fs value q) [
           | true ↦ λ q. (e, none, chain ((let lt : o.depth < d = ltb-true o.depth d q in omega (arith, lt, same)), h.1))
-          | false ↦ λ q. λ m head line deep. out m head (refused-wrap r m gs (called g.name (row g.before g.head value)) head (called-refuses r m g.name (row g.before g.head value)
+          | false ↦ λ q. λ m head line deep. out m head (refused_wrap r m gs (called g.name (row g.before g.head value)) head (called_refuses r m g.name (row g.before g.head value)
               (cond-false (nat_lt (depth g.head) (depth m)) _ _ (le-ltb _ _ (let le : d ≤ o.depth = ltb-false o.depth d q in omega (arith, le, same, deep)))
               ∙ ap (λ k. cond (k && (depth g.head == depth m)) (Some (row (row g.before g.head value) m nothing)) None) head)))
         ] refl
 
     by : (v : Option Known) → b.value ≡ v → CanHold r d b fs value (is_none v && is_shallower d b.open_rows)
-    by (Some k) e = λ m head line deep. refused-wrap r m fs value head (full-refuses r m d value deep line (subst (λ v. HasCome d v value) e (ready.come d)))
+    by (Some k) e = λ m head line deep. refused_wrap r m fs value head (full_refuses r m d value deep line (subst (λ v. HasCome d v value) e (ready.come d)))
     by None e = shallow b.open_rows fs ready.stands.opens e (none_is b fs value e ready.shut ready.stands) (λ m head h. h) (λ h. h)
 
 -- a token that begins a value where one may come
-value-begins : (r : FlowReader) (m : Token) (b : Builder) (fs : List Frame) (value new : Written) → may_follow_name m ≡ true → begun_by r m ≡ Some new → (none : NoneIs b fs value) → Chain (depth m) fs → with_token r m (wrap fs value) ≡ Some (wrap fs (called none.0 new))
-value-begins r m b fs value new follows begins none chain =
-    ap (λ v. with_token r m (wrap fs v)) none.2 ∙ with_token-wrap r m fs (called none.0 nothing) chain
-    ∙ ap (option_map (wrap fs)) (called-begins r m none.0 follows ∙ ap (option_map (called none.0)) begins)
+value_begins : (r : FlowReader) (m : Token) (b : Builder) (fs : List Frame) (value new : Written) → may_follow_name m ≡ true → begun_by r m ≡ Some new → (none : NoneIs b fs value) → Chain (depth m) fs → with_token r m (wrap fs value) ≡ Some (wrap fs (called none.0 new))
+value_begins r m b fs value new follows begins none chain =
+    ap (λ v. with_token r m (wrap fs v)) none.2 ∙ with_token_wrap r m fs (called none.0 nothing) chain
+    ∙ ap (option_map (wrap fs)) (called_begins r m none.0 follows ∙ ap (option_map (called none.0)) begins)
 
-shut-called : (name : Option Token) (value : Written) → IsShut value → IsShut (called name value)
-shut-called None value h = h
-shut-called (Some token) value h = h
+shut_called : (name : Option Token) (value : Written) → IsShut value → IsShut (called name value)
+shut_called None value h = h
+shut_called (Some token) value h = h
 
 -- ---- scalars
 
-scalar-holds : (nodes : List Node) (l line : ℕ) (text : Option (List ℕ)) (n : ℕ) → IsNode nodes n l (scalar_value text) → HoldsSaid nodes (from_line l (scalar_said line text)) n
-scalar-holds nodes l line None n h = h
-scalar-holds nodes l line (Some bytes) n h = h
+scalar_holds : (nodes : List Node) (l line : ℕ) (text : Option (List ℕ)) (n : ℕ) → IsNode nodes n l (scalar_value text) → HoldsSaid nodes (from_line l (scalar_said line text)) n
+scalar_holds nodes l line None n h = h
+scalar_holds nodes l line (Some bytes) n h = h
 
-scalar-begins : (line : ℕ) (text : Option (List ℕ)) → line ≡ begins_on (scalar_said line text)
-scalar-begins line None = refl
-scalar-begins line (Some bytes) = refl
+scalar_begins : (line : ℕ) (text : Option (List ℕ)) → line ≡ begins_on (scalar_said line text)
+scalar_begins line None = refl
+scalar_begins line (Some bytes) = refl
 
-scalar-measure : (line : ℕ) (text : Option (List ℕ)) → one_node ≡ measured (scalar_said line text)
-scalar-measure line None = refl
-scalar-measure line (Some bytes) = refl
+scalar_measure : (line : ℕ) (text : Option (List ℕ)) → one_node ≡ measured (scalar_said line text)
+scalar_measure line None = refl
+scalar_measure line (Some bytes) = refl
 
-put-between : (line : ℕ) (b : Builder) (text : Option (List ℕ)) (value : Written) → IsShut value → Between (put_node line (scalar_value text) one_node b).value value
+put_between : (line : ℕ) (b : Builder) (text : Option (List ℕ)) (value : Written) → IsShut value → Between (put_node line (scalar_value text) one_node b).value value
 unfolding put_node
-put-between line b text value h = h
+put_between line b text value h = h
 
-with_scalar-taken : (r : FlowReader) (line column : ℕ) (text : Option (List ℕ)) (b : Builder) (fs : List Frame) (value : Written) → Ready b fs value → Taken r (Scalar line column text) (wrap fs value) (with_scalar (1 + 2 * column) line text b)
+with_scalar_taken : (r : FlowReader) (line column : ℕ) (text : Option (List ℕ)) (b : Builder) (fs : List Frame) (value : Written) → Ready b fs value → Taken r (Scalar line column text) (wrap fs value) (with_scalar (1 + 2 * column) line text b)
 unfolding with_scalar
-with_scalar-taken r line column text b fs value ready = by (can_hold (1 + 2 * column) b) (can_hold-means r (1 + 2 * column) b fs value ready)
+with_scalar_taken r line column text b fs value ready = by (can_hold (1 + 2 * column) b) (can_hold_means r (1 + 2 * column) b fs value ready)
   where
     m : Token
     m = Scalar line column text
@@ -107,14 +107,14 @@ with_scalar-taken r line column text b fs value ready = by (can_hold (1 + 2 * co
     by false h = (h m refl refl refl, refl)
     by true h = let none = h.1 in (
       wrap fs (called none.0 (leaf m)),
-      value-begins r m b fs value (leaf m) refl refl none h.2,
+      value_begins r m b fs value (leaf m) refl refl none h.2,
       (
         fs,
         called none.0 (leaf m),
-        put_node-stands line (scalar_value text) one_node b fs none.0 (leaf m) ready.stands.flat ready.shut ready.stands.opens none.1 none.3 (scalar-measure line text) (scalar-begins line text)
-            (λ l. scalar-holds (b.nodes ++ (record { line = l; value = scalar_value text } ∷ [])) l line text (length b.nodes) (slice_get-last b.nodes _)),
+        put_node_stands line (scalar_value text) one_node b fs none.0 (leaf m) ready.stands.flat ready.shut ready.stands.opens none.1 none.3 (scalar_measure line text) (scalar_begins line text)
+            (λ l. scalar_holds (b.nodes ++ (record { line = l; value = scalar_value text } ∷ [])) l line text (length b.nodes) (slice_get-last b.nodes _)),
         refl,
-        put-between line b text (called none.0 (leaf m)) (shut-called none.0 (leaf m) tt),
+        put_between line b text (called none.0 (leaf m)) (shut_called none.0 (leaf m) tt),
       ),
     )
 
@@ -131,23 +131,23 @@ no_name None (Some token) h e = absurd h
 no_name (Some n) name h e = absurd (none-some n (sym e))
 
 -- behind a name no other name may come, and no copy
-names-refuse : (r : FlowReader) (m : Token) (waits : Option GivenName) (n : GivenName) (name : Option Token) → may_follow_name m ≡ false → HasName waits name → waits ≡ Some n → with_token r m (called name nothing) ≡ None
-names-refuse r m None n name follows h e = absurd (none-some n e)
-names-refuse r m (Some other) n None follows h e = absurd h
-names-refuse r m (Some other) n (Some token) follows h e = cond-false (may_follow_name m) _ _ follows
+names_refuse : (r : FlowReader) (m : Token) (waits : Option GivenName) (n : GivenName) (name : Option Token) → may_follow_name m ≡ false → HasName waits name → waits ≡ Some n → with_token r m (called name nothing) ≡ None
+names_refuse r m None n name follows h e = absurd (none-some n e)
+names_refuse r m (Some other) n None follows h e = absurd h
+names_refuse r m (Some other) n (Some token) follows h e = cond-false (may_follow_name m) _ _ follows
 
-can_name-means : (r : FlowReader) (m : Token) (b : Builder) (fs : List Frame) (value : Written) → is_head m ≡ false → is_body_line m ≡ false → may_follow_name m ≡ false → Ready b fs value → CanName r m b fs value (can_name (depth m) b)
-can_name-means r m b fs value head line follows ready = by b.name (can_hold (depth m) b) refl (can_hold-means r (depth m) b fs value ready)
+can_name_means : (r : FlowReader) (m : Token) (b : Builder) (fs : List Frame) (value : Written) → is_head m ≡ false → is_body_line m ≡ false → may_follow_name m ≡ false → Ready b fs value → CanName r m b fs value (can_name (depth m) b)
+can_name_means r m b fs value head line follows ready = by b.name (can_hold (depth m) b) refl (can_hold_means r (depth m) b fs value ready)
   where
     by : (waits : Option GivenName) (q : Bool) → b.name ≡ waits → CanHold r (depth m) b fs value q → CanName r m b fs value (is_none waits && q)
     by None true e h = (h.0, e, h.1.2 ∙ no_name b.name h.1.0 h.1.1 e, h.1.3, h.2)
     by None false e h = h m head line refl
-    by (Some n) true e h = ap (λ v. with_token r m (wrap fs v)) h.1.2 ∙ with_token-wrap r m fs (called h.1.0 nothing) h.2 ∙ ap (option_map (wrap fs)) (names-refuse r m b.name n h.1.0 follows h.1.1 e)
+    by (Some n) true e h = ap (λ v. with_token r m (wrap fs v)) h.1.2 ∙ with_token_wrap r m fs (called h.1.0 nothing) h.2 ∙ ap (option_map (wrap fs)) (names_refuse r m b.name n h.1.0 follows h.1.1 e)
     by (Some n) false e h = h m head line refl
 
-with_name-taken : (r : FlowReader) (line column : ℕ) (text : List ℕ) (b : Builder) (fs : List Frame) (value : Written) → Ready b fs value → Taken r (Name line column text) (wrap fs value) (with_name (1 + 2 * column) line text b)
+with_name_taken : (r : FlowReader) (line column : ℕ) (text : List ℕ) (b : Builder) (fs : List Frame) (value : Written) → Ready b fs value → Taken r (Name line column text) (wrap fs value) (with_name (1 + 2 * column) line text b)
 unfolding with_name
-with_name-taken r line column text b fs value ready = by (can_name (1 + 2 * column) b) (can_name-means r (Name line column text) b fs value refl refl refl ready)
+with_name_taken r line column text b fs value ready = by (can_name (1 + 2 * column) b) (can_name_means r (Name line column text) b fs value refl refl refl ready)
   where
     m : Token
     m = Name line column text
@@ -159,13 +159,13 @@ with_name-taken r line column text b fs value ready = by (can_name (1 + 2 * colu
     by false h = (h, refl)
     by true h = (
       wrap fs (named m nothing),
-      ap (λ v. with_token r m (wrap fs v)) h.2 ∙ with_token-wrap r m fs nothing h.4,
+      ap (λ v. with_token r m (wrap fs v)) h.2 ∙ with_token_wrap r m fs nothing h.4,
       (
         fs,
         named m nothing,
         record { flat = ready.stands.flat; opens = ready.stands.opens; is = still_none b next fs (named m nothing) h.0 ready.shut (Some m, (refl, refl, refl), refl, h.3) },
         refl,
-        none-between b.value (named m nothing) h.0,
+        none_between b.value (named m nothing) h.0,
       ),
     )
 
@@ -173,9 +173,9 @@ with_name-taken r line column text b fs value ready = by (can_name (1 + 2 * colu
 abbrev CopyStands : ℕ → Token → Builder → List Frame → Option Known → Type 0
 CopyStands line m b fs found = StandsAt (put_found line found b) fs (leaf m) × Between (put_found line found b).value (leaf m)
 
-copy-stands : (line column : ℕ) (text : List ℕ) (b : Builder) (fs : List Frame) (value : Written) → Ready b fs value → b.name ≡ None → NamesAre b.nodes b.names (names_at fs) → CopyStands line (Copy line column text) b fs (find_name b.names text)
+copy_stands : (line column : ℕ) (text : List ℕ) (b : Builder) (fs : List Frame) (value : Written) → Ready b fs value → b.name ≡ None → NamesAre b.nodes b.names (names_at fs) → CopyStands line (Copy line column text) b fs (find_name b.names text)
 unfolding put_node with_node
-copy-stands line column text b fs value ready e names = by (find_name b.names text) (lookup (pointwise ◌==◌ text) (names_at fs)) refl (names text)
+copy_stands line column text b fs value ready e names = by (find_name b.names text) (lookup (pointwise ◌==◌ text) (names_at fs)) refl (names text)
   where
     m : Token
     m = Copy line column text
@@ -186,33 +186,33 @@ copy-stands line column text b fs value ready e names = by (find_name b.names te
     by (Some k) (Some tree) q h = (record { flat = ready.stands.flat; opens = ready.stands.opens; is = (ready.shut, e, subst (KnownIs b.nodes k) (sym (ap (λ o. unwrap_or o (unknown line)) q)) h, names) }, tt)
     by None None q h =
         let lost = sym (ap (λ o. unwrap_or o (unknown line)) q) in (
-          put_node-stands line (scalar_value None) unknown_node b fs None (leaf m) ready.stands.flat ready.shut ready.stands.opens (subst (λ n. HasName n None) (sym e) tt) names
+          put_node_stands line (scalar_value None) unknown_node b fs None (leaf m) ready.stands.flat ready.shut ready.stands.opens (subst (λ n. HasName n None) (sym e) tt) names
               (ap measured lost)
               (ap begins_on lost)
               (λ l. subst (λ t. HoldsSaid (b.nodes ++ (record { line = l; value = scalar_value None } ∷ [])) (from_line l t) (length b.nodes)) lost (slice_get-last b.nodes _)),
           tt,
         )
 
-with_copy-taken : (r : FlowReader) (line column : ℕ) (text : List ℕ) (b : Builder) (fs : List Frame) (value : Written) → Ready b fs value → Taken r (Copy line column text) (wrap fs value) (with_copy (1 + 2 * column) line text b)
+with_copy_taken : (r : FlowReader) (line column : ℕ) (text : List ℕ) (b : Builder) (fs : List Frame) (value : Written) → Ready b fs value → Taken r (Copy line column text) (wrap fs value) (with_copy (1 + 2 * column) line text b)
 unfolding with_copy
-with_copy-taken r line column text b fs value ready = by (can_name (1 + 2 * column) b) (can_name-means r (Copy line column text) b fs value refl refl refl ready)
+with_copy_taken r line column text b fs value ready = by (can_name (1 + 2 * column) b) (can_name_means r (Copy line column text) b fs value refl refl refl ready)
   where
     m : Token
     m = Copy line column text
 
     by : (q : Bool) → CanName r m b fs value q → Taken r m (wrap fs value) (cond q (Ok (put_found line (find_name b.names text) b)) (Err Syntax))
     by false h = (h, refl)
-    by true h = let c = copy-stands line column text b fs value ready h.1 h.3 in (
+    by true h = let c = copy_stands line column text b fs value ready h.1 h.3 in (
       wrap fs (leaf m),
-      ap (λ v. with_token r m (wrap fs v)) h.2 ∙ with_token-wrap r m fs nothing h.4,
+      ap (λ v. with_token r m (wrap fs v)) h.2 ∙ with_token_wrap r m fs nothing h.4,
       (fs, leaf m, c.0, refl, c.1),
     )
 
 -- ---- literal blocks
 
-with_bar-taken : (r : FlowReader) (line column : ℕ) (chomp : Chomp) (b : Builder) (fs : List Frame) (value : Written) → Ready b fs value → Taken r (Bar line column chomp) (wrap fs value) (with_bar (1 + 2 * column) line chomp b)
+with_bar_taken : (r : FlowReader) (line column : ℕ) (chomp : Chomp) (b : Builder) (fs : List Frame) (value : Written) → Ready b fs value → Taken r (Bar line column chomp) (wrap fs value) (with_bar (1 + 2 * column) line chomp b)
 unfolding with_bar
-with_bar-taken r line column chomp b fs value ready = by (can_hold (1 + 2 * column) b) (can_hold-means r (1 + 2 * column) b fs value ready)
+with_bar_taken r line column chomp b fs value ready = by (can_hold (1 + 2 * column) b) (can_hold_means r (1 + 2 * column) b fs value ready)
   where
     m : Token
     m = Bar line column chomp
@@ -227,7 +227,7 @@ with_bar-taken r line column chomp b fs value ready = by (can_hold (1 + 2 * colu
     by false h = (h m refl refl refl, refl)
     by true h = let none = h.1 in let new : Written = called none.0 (literal m []) in (
       wrap fs new,
-      value-begins r m b fs value (literal m []) refl refl none h.2,
+      value_begins r m b fs value (literal m []) refl refl none h.2,
       (
         fs,
         new,
@@ -238,24 +238,24 @@ with_bar-taken r line column chomp b fs value ready = by (can_hold (1 + 2 * colu
               (none.0, none.1, m, [], record { is = refl; has_depth = refl; has_line = refl; has_chomp = refl; has_lines = refl }, h.2, refl, none.3);
         },
         refl,
-        none-between b.value new h.0,
+        none_between b.value new h.0,
       ),
     )
 
-bodies_of-more : (lines : List Token) (m : Token) → bodies_of (lines ++ (m ∷ [])) ≡ bodies_of lines ++ (body_of m ∷ [])
-bodies_of-more [] m = refl
-bodies_of-more (line ∷ lines) m = ap (λ l. body_of line ∷ l) (bodies_of-more lines m)
+bodies_of_more : (lines : List Token) (m : Token) → bodies_of (lines ++ (m ∷ [])) ≡ bodies_of lines ++ (body_of m ∷ [])
+bodies_of_more [] m = refl
+bodies_of_more (line ∷ lines) m = ap (λ l. body_of line ∷ l) (bodies_of_more lines m)
 
 -- a line more of the literal block at the end of the frames, where it is as deep
-line-goes : (r : FlowReader) (line column : ℕ) (bytes : List ℕ) (name : Option Token) (bar : Token) (lines : List Token) (q : Bool) → (1 + 2 * column == depth bar) ≡ q → with_token r (Body line column bytes) (called name (literal bar lines)) ≡ cond q (Some (called name (literal bar (lines ++ (Body line column bytes ∷ []))))) None
-line-goes r line column bytes None bar lines true e = cond-true (1 + 2 * column == depth bar) _ _ e
-line-goes r line column bytes None bar lines false e = cond-false (1 + 2 * column == depth bar) _ _ e
-line-goes r line column bytes (Some token) bar lines true e = ap (option_map (named token)) (cond-true (1 + 2 * column == depth bar) _ _ e)
-line-goes r line column bytes (Some token) bar lines false e = ap (option_map (named token)) (cond-false (1 + 2 * column == depth bar) _ _ e)
+line_goes : (r : FlowReader) (line column : ℕ) (bytes : List ℕ) (name : Option Token) (bar : Token) (lines : List Token) (q : Bool) → (1 + 2 * column == depth bar) ≡ q → with_token r (Body line column bytes) (called name (literal bar lines)) ≡ cond q (Some (called name (literal bar (lines ++ (Body line column bytes ∷ []))))) None
+line_goes r line column bytes None bar lines true e = cond-true (1 + 2 * column == depth bar) _ _ e
+line_goes r line column bytes None bar lines false e = cond-false (1 + 2 * column == depth bar) _ _ e
+line_goes r line column bytes (Some token) bar lines true e = ap (option_map (named token)) (cond-true (1 + 2 * column == depth bar) _ _ e)
+line_goes r line column bytes (Some token) bar lines false e = ap (option_map (named token)) (cond-false (1 + 2 * column == depth bar) _ _ e)
 
 -- a line of a literal block where none is open
 no_bar : (r : FlowReader) (line column : ℕ) (bytes : List ℕ) (b : Builder) (fs : List Frame) (value : Written) (v : Option Known) → b.value ≡ v → b.literal ≡ None → StandsAt b fs value → Between b.value value → with_token r (Body line column bytes) value ≡ None
-no_bar r line column bytes b fs value None e shut s between = let none = none_is b fs value e shut s in ap (with_token r (Body line column bytes)) none.2 ∙ called-refuses r (Body line column bytes) none.0 nothing refl
+no_bar r line column bytes b fs value None e shut s between = let none = none_is b fs value e shut s in ap (with_token r (Body line column bytes)) none.2 ∙ called_refuses r (Body line column bytes) none.0 nothing refl
 no_bar r line column bytes b fs value (Some k) e shut s between = refuses value (subst (λ v. Between v value) e between)
   where
     refuses : (w : Written) → IsShut w → with_token r (Body line column bytes) w ≡ None
@@ -263,18 +263,18 @@ no_bar r line column bytes b fs value (Some k) e shut s between = refuses value 
     refuses (leaf token) h = refl
     refuses (literal token lines) h = absurd h
     refuses (flowing token v) h = refl
-    refuses (named token w) h = called-refuses r (Body line column bytes) (Some token) w (refuses w h)
+    refuses (named token w) h = called_refuses r (Body line column bytes) (Some token) w (refuses w h)
     refuses (row before head w) h = absurd h
 
-with_line-taken : (r : FlowReader) (line column : ℕ) (bytes : List ℕ) (b : Builder) (fs : List Frame) (value : Written) → StandsAt b fs value → Between b.value value → Taken r (Body line column bytes) (wrap fs value) (with_line (1 + 2 * column) bytes b)
+with_line_taken : (r : FlowReader) (line column : ℕ) (bytes : List ℕ) (b : Builder) (fs : List Frame) (value : Written) → StandsAt b fs value → Between b.value value → Taken r (Body line column bytes) (wrap fs value) (with_line (1 + 2 * column) bytes b)
 unfolding with_line
-with_line-taken r line column bytes b fs value s between = by b.literal b.value refl refl
+with_line_taken r line column bytes b fs value s between = by b.literal b.value refl refl
   where
     m : Token
     m = Body line column bytes
 
     by : (open_literal : Option Literal) (v : Option Known) → b.literal ≡ open_literal → b.value ≡ v → Taken r m (wrap fs value) (with_line_of open_literal (1 + 2 * column) bytes b)
-    by None v e q = (refused-wrap r m fs value refl (no_bar r line column bytes b fs value v q e s between), refl)
+    by None v e q = (refused_wrap r m fs value refl (no_bar r line column bytes b fs value v q e s between), refl)
     by (Some l) (Some k) e q = absurd (none-some l (sym (subst (λ v. ValueIs v b.literal b fs value) q s.is).0 ∙ e))
     by (Some l) None e q =
         let i : ValueIs None (Some l) b fs value = subst (λ x. ValueIs None x b fs value) e (subst (λ v. ValueIs v b.literal b fs value) q s.is) in
@@ -285,8 +285,8 @@ with_line-taken r line column bytes b fs value s between = by b.literal b.value 
         elim (l.depth == 1 + 2 * column) as (λ t. (l.depth == 1 + 2 * column) ≡ t → Taken r m (wrap fs value) (cond t (Ok next) (Err Syntax))) [
           | true ↦ λ t. (let same : l.depth ≡ 1 + 2 * column = eqb-true l.depth (1 + 2 * column) t in let level : 1 + 2 * column ≡ depth i.2 = sym same ∙ is.has_depth in (
             wrap fs new,
-            ap (λ v. with_token r m (wrap fs v)) i.6 ∙ with_token-wrap r m fs (called i.0 (literal i.2 i.3)) (subst (λ d. Chain d fs) (sym level) i.5)
-                ∙ ap (option_map (wrap fs)) (line-goes r line column bytes i.0 i.2 i.3 true (eq-eqb (1 + 2 * column) (depth i.2) level)),
+            ap (λ v. with_token r m (wrap fs v)) i.6 ∙ with_token_wrap r m fs (called i.0 (literal i.2 i.3)) (subst (λ d. Chain d fs) (sym level) i.5)
+                ∙ ap (option_map (wrap fs)) (line_goes r line column bytes i.0 i.2 i.3 true (eq-eqb (1 + 2 * column) (depth i.2) level)),
             (
               fs,
               new,
@@ -294,13 +294,13 @@ with_line-taken r line column bytes b fs value s between = by b.literal b.value 
                 flat = s.flat;
                 opens = s.opens;
                 is = subst (λ v. ValueIs v (Some longer) next fs new) (sym q)
-                    (i.0, i.1, i.2, i.3 ++ (m ∷ []), record { is = is.is; has_depth = is.has_depth; has_line = is.has_line; has_chomp = is.has_chomp; has_lines = ap (λ x. x ++ (bytes ∷ [])) is.has_lines ∙ sym (bodies_of-more i.3 m) }, i.5, refl, i.7);
+                    (i.0, i.1, i.2, i.3 ++ (m ∷ []), record { is = is.is; has_depth = is.has_depth; has_line = is.has_line; has_chomp = is.has_chomp; has_lines = ap (λ x. x ++ (bytes ∷ [])) is.has_lines ∙ sym (bodies_of_more i.3 m) }, i.5, refl, i.7);
               },
               refl,
-              none-between b.value new q,
+              none_between b.value new q,
             ),
           ))
-          | false ↦ λ t. (refused-wrap r m fs value refl (ap (with_token r m) i.6 ∙ line-goes r line column bytes i.0 i.2 i.3 false (other l.depth (1 + 2 * column) (depth i.2) is.has_depth t)), refl)
+          | false ↦ λ t. (refused_wrap r m fs value refl (ap (with_token r m) i.6 ∙ line_goes r line column bytes i.0 i.2 i.3 false (other l.depth (1 + 2 * column) (depth i.2) is.has_depth t)), refl)
         ] refl
       where
         other : (a b c : ℕ) → a ≡ c → (a == b) ≡ false → (b == c) ≡ false
@@ -322,28 +322,28 @@ TakenAny r m w (Ok b) = (new : Written) × (with_token r m w ≡ Some new) × St
 TakenAny r m w (Err kind) = (with_token r m w ≡ None) × KindAfter r m w kind
 
 -- a form begins its own collection
-form-same : (f : Flow) (line : ℕ) (a b : Said) (names : Names) → IsForm f → flow_said line a names f ≡ flow_said line b names f
-form-same absent line a b names h = absurd h
-form-same (word piece) line a b names h = absurd h
-form-same (naming piece f) line a b names h = absurd h
-form-same (item before f) line a b names h = absurd h
-form-same (pair before piece f) line a b names h = absurd h
-form-same (form bracket cells last) line a b names h = refl
+form_same : (f : Flow) (line : ℕ) (a b : Said) (names : Names) → IsForm f → flow_said line a names f ≡ flow_said line b names f
+form_same absent line a b names h = absurd h
+form_same (word piece) line a b names h = absurd h
+form_same (naming piece f) line a b names h = absurd h
+form_same (item before f) line a b names h = absurd h
+form_same (pair before piece f) line a b names h = absurd h
+form_same (form bracket cells last) line a b names h = refl
 
-form-stands : (line column : ℕ) (pieces : List Piece) (f : Flow) (b : Builder) (fs : List Frame) (value : Written) → SpellsFlow pieces f → Ready b fs value → (none : NoneIs b fs value) → StandsFor (take_pieces line pieces b) (wrap fs (called none.0 (flowing (Form line column pieces) f)))
-form-stands line column pieces f b fs value spells ready none =
+form_stands : (line column : ℕ) (pieces : List Piece) (f : Flow) (b : Builder) (fs : List Frame) (value : Written) → SpellsFlow pieces f → Ready b fs value → (none : NoneIs b fs value) → StandsFor (take_pieces line pieces b) (wrap fs (called none.0 (flowing (Form line column pieces) f)))
+form_stands line column pieces f b fs value spells ready none =
     let p : Played line f b (names_at fs) (take_pieces line pieces b) = flow_played line pieces f b (names_at fs) spells ready.stands.flat none.3 in
     let m : Token = Form line column pieces in
     let new : Written = called none.0 (flowing m f) in
     let meaning : Meaning = flow_said line (null line) (names_at fs) f in
     let nodes : List Node = b.nodes ++ p.0 in
-    let e : meaning_at fs new ≡ named_by b.name meaning = said-called b.name none.0 (null (line_at fs)) (names_at fs) (flowing m f) none.1 ∙ ap (named_by b.name) (form-same f line (null (line_at fs)) (null line) (names_at fs) spells.1) in
+    let e : meaning_at fs new ≡ named_by b.name meaning = said_called b.name none.0 (null (line_at fs)) (names_at fs) (flowing m f) none.1 ∙ ap (named_by b.name) (form_same f line (null (line_at fs)) (null line) (names_at fs) spells.1) in
     subst (λ x. StandsFor x (wrap fs new)) (sym p.3) (
       fs,
       new,
       record {
         flat = ready.stands.flat;
-        opens = OpensAre-more b.nodes p.0 b.open_rows fs ready.stands.opens;
+        opens = OpensAre_more b.nodes p.0 b.open_rows fs ready.stands.opens;
         is = (
           ready.shut,
           refl,
@@ -352,20 +352,20 @@ form-stands line column pieces f b fs value spells ready none =
         );
       },
       refl,
-      shut-called none.0 (flowing m f) tt,
+      shut_called none.0 (flowing m f) tt,
     )
 
-misfit-no_form : (pieces : List Piece) (kind : FaultKind) (f : Flow) → IsFlowMisfit pieces kind → SpellsFlow pieces f → ⊥
-misfit-no_form pieces kind f (inl h) s = h.ends (h.rest, f, subst (λ ps. SpellsFlow ps f) (h.parts ∙ sym (append_assoc h.front (h.piece ∷ []) h.rest)) s)
-misfit-no_form pieces kind f (inr h) s = h.open_still f s
+misfit_no_form : (pieces : List Piece) (kind : FaultKind) (f : Flow) → IsFlowMisfit pieces kind → SpellsFlow pieces f → ⊥
+misfit_no_form pieces kind f (inl h) s = h.ends (h.rest, f, subst (λ ps. SpellsFlow ps f) (h.parts ∙ sym (append_assoc h.front (h.piece ∷ []) h.rest)) s)
+misfit_no_form pieces kind f (inr h) s = h.open_still f s
 
-misfit-unread : (r : FlowReader) (pieces : List Piece) (kind : FaultKind) → IsFlowMisfit pieces kind → (o : Option Flow) → r.read pieces ≡ o → r.read pieces ≡ None
-misfit-unread r pieces kind h None e = e
-misfit-unread r pieces kind h (Some f) e = absurd (misfit-no_form pieces kind f h (r.sound pieces f e))
+misfit_unread : (r : FlowReader) (pieces : List Piece) (kind : FaultKind) → IsFlowMisfit pieces kind → (o : Option Flow) → r.read pieces ≡ o → r.read pieces ≡ None
+misfit_unread r pieces kind h None e = e
+misfit_unread r pieces kind h (Some f) e = absurd (misfit_no_form pieces kind f h (r.sound pieces f e))
 
-with_form-taken : (r : FlowReader) → Judges → (line column : ℕ) (pieces : List Piece) (b : Builder) (fs : List Frame) (value : Written) → Ready b fs value → TakenAny r (Form line column pieces) (wrap fs value) (with_form (1 + 2 * column) line pieces b)
+with_form_taken : (r : FlowReader) → Judges → (line column : ℕ) (pieces : List Piece) (b : Builder) (fs : List Frame) (value : Written) → Ready b fs value → TakenAny r (Form line column pieces) (wrap fs value) (with_form (1 + 2 * column) line pieces b)
 unfolding with_form
-with_form-taken r judges line column pieces b fs value ready = by (can_hold (1 + 2 * column) b) (can_hold-means r (1 + 2 * column) b fs value ready)
+with_form_taken r judges line column pieces b fs value ready = by (can_hold (1 + 2 * column) b) (can_hold_means r (1 + 2 * column) b fs value ready)
   where
     m : Token
     m = Form line column pieces
@@ -376,13 +376,13 @@ with_form-taken r judges line column pieces b fs value ready = by (can_hold (1 +
     judged : (fault : Option FaultKind) → FlowJudged pieces fault → (none : NoneIs b fs value) → Chain (1 + 2 * column) fs → TakenAny r m (wrap fs value) (formed fault line pieces b)
     judged None j none chain = (
       wrap fs (called none.0 (flowing m j.0)),
-      value-begins r m b fs value (flowing m j.0) refl (ap (option_map (flowing m)) (r.complete pieces j.0 j.1)) none chain,
-      form-stands line column pieces j.0 b fs value j.1 ready none,
+      value_begins r m b fs value (flowing m j.0) refl (ap (option_map (flowing m)) (r.complete pieces j.0 j.1)) none chain,
+      form_stands line column pieces j.0 b fs value j.1 ready none,
     )
     judged (Some kind) j none chain = (
-      ap (λ v. with_token r m (wrap fs v)) none.2 ∙ with_token-wrap r m fs (called none.0 nothing) chain
-          ∙ ap (option_map (wrap fs)) (called-begins r m none.0 refl ∙ ap (λ o. option_map (called none.0) (option_map (flowing m) o)) (misfit-unread r pieces kind j (r.read pieces) refl)),
-      inl ((wrap fs (called none.0 (leaf scalar)), value-begins r scalar b fs value (leaf scalar) refl refl none chain), j),
+      ap (λ v. with_token r m (wrap fs v)) none.2 ∙ with_token_wrap r m fs (called none.0 nothing) chain
+          ∙ ap (option_map (wrap fs)) (called_begins r m none.0 refl ∙ ap (λ o. option_map (called none.0) (option_map (flowing m) o)) (misfit_unread r pieces kind j (r.read pieces) refl)),
+      inl ((wrap fs (called none.0 (leaf scalar)), value_begins r scalar b fs value (leaf scalar) refl refl none chain), j),
     )
 
     by : (q : Bool) → CanHold r (1 + 2 * column) b fs value q → TakenAny r m (wrap fs value) (cond q (formed (flow_fault pieces) line pieces b) (Err (kind_of (why_bracket pieces))))
@@ -391,73 +391,73 @@ with_form-taken r judges line column pieces b fs value ready = by (can_hold (1 +
 
 -- ---- any token
 
-odd-refused : (r : FlowReader) (line column : ℕ) (why : Odd) (w : Written) → with_token r (OddToken line column why) w ≡ None
-odd-refused r line column why nothing = refl
-odd-refused r line column why (leaf other) = refl
-odd-refused r line column why (literal head lines) = refl
-odd-refused r line column why (flowing other v) = refl
-odd-refused r line column why (named head w) = called-refuses r (OddToken line column why) (Some head) w (odd-refused r line column why w)
-odd-refused r line column why (row before head w) = cond-false (nat_lt (depth head) 0) _ _ (le-ltb _ _ (omega arith))
+odd_refused : (r : FlowReader) (line column : ℕ) (why : Odd) (w : Written) → with_token r (OddToken line column why) w ≡ None
+odd_refused r line column why nothing = refl
+odd_refused r line column why (leaf other) = refl
+odd_refused r line column why (literal head lines) = refl
+odd_refused r line column why (flowing other v) = refl
+odd_refused r line column why (named head w) = called_refuses r (OddToken line column why) (Some head) w (odd_refused r line column why w)
+odd_refused r line column why (row before head w) = cond-false (nat_lt (depth head) 0) _ _ (le-ltb _ _ (omega arith))
 
-indicator-kind : (r : FlowReader) (line column : ℕ) (b : Builder) (fs : List Frame) (value : Written) (q : Bool) → CanHold r (1 + 2 * column) b fs value q → KindAfter r (OddToken line column odd.Indicator) (wrap fs value) (cond q Unsupported Syntax)
-indicator-kind r line column b fs value true h = let m : Token = Scalar line column None in inl (refl, wrap fs (called h.1.0 (leaf m)), value-begins r m b fs value (leaf m) refl refl h.1 h.2)
-indicator-kind r line column b fs value false h = inr (refl, h (Scalar line column None) refl refl refl)
+indicator_kind : (r : FlowReader) (line column : ℕ) (b : Builder) (fs : List Frame) (value : Written) (q : Bool) → CanHold r (1 + 2 * column) b fs value q → KindAfter r (OddToken line column odd.Indicator) (wrap fs value) (cond q Unsupported Syntax)
+indicator_kind r line column b fs value true h = let m : Token = Scalar line column None in inl (refl, wrap fs (called h.1.0 (leaf m)), value_begins r m b fs value (leaf m) refl refl h.1 h.2)
+indicator_kind r line column b fs value false h = inr (refl, h (Scalar line column None) refl refl refl)
 
 -- a scalar without its colon, tried as a key
-unkeyed-taken : (r : FlowReader) (line column : ℕ) (w : Written) (step : Result Builder FaultKind) → Taken r (Key line column []) w step → TakenAny r (OddToken line column odd.Unkeyed) w (unkeyed step)
-unkeyed-taken r line column w (Ok b) h = (odd-refused r line column odd.Unkeyed w, inl (refl, h.0, h.1))
-unkeyed-taken r line column w (Err kind) h = (odd-refused r line column odd.Unkeyed w, inr (h.1, h.0))
+unkeyed_taken : (r : FlowReader) (line column : ℕ) (w : Written) (step : Result Builder FaultKind) → Taken r (Key line column []) w step → TakenAny r (OddToken line column odd.Unkeyed) w (unkeyed step)
+unkeyed_taken r line column w (Ok b) h = (odd_refused r line column odd.Unkeyed w, inl (refl, h.0, h.1))
+unkeyed_taken r line column w (Err kind) h = (odd_refused r line column odd.Unkeyed w, inr (h.1, h.0))
 
-odd-taken : (r : FlowReader) (line column : ℕ) (why : Odd) (b : Builder) (fs : List Frame) (value : Written) → Ready b fs value → TakenAny r (OddToken line column why) (wrap fs value) (refused (1 + 2 * column) line why b)
-odd-taken r line column odd.Indicator b fs value ready = (odd-refused r line column odd.Indicator (wrap fs value), indicator-kind r line column b fs value (can_hold (1 + 2 * column) b) (can_hold-means r (1 + 2 * column) b fs value ready))
-odd-taken r line column odd.Unkeyed b fs value ready = unkeyed-taken r line column (wrap fs value) (headed (1 + 2 * column) true line [] b) (headed-taken r (Key line column []) b fs value refl ready)
-odd-taken r line column odd.Unsupported b fs value ready = (odd-refused r line column odd.Unsupported (wrap fs value), refl)
-odd-taken r line column odd.Syntax b fs value ready = (odd-refused r line column odd.Syntax (wrap fs value), refl)
+odd_taken : (r : FlowReader) (line column : ℕ) (why : Odd) (b : Builder) (fs : List Frame) (value : Written) → Ready b fs value → TakenAny r (OddToken line column why) (wrap fs value) (refused (1 + 2 * column) line why b)
+odd_taken r line column odd.Indicator b fs value ready = (odd_refused r line column odd.Indicator (wrap fs value), indicator_kind r line column b fs value (can_hold (1 + 2 * column) b) (can_hold_means r (1 + 2 * column) b fs value ready))
+odd_taken r line column odd.Unkeyed b fs value ready = unkeyed_taken r line column (wrap fs value) (headed (1 + 2 * column) true line [] b) (headed_taken r (Key line column []) b fs value refl ready)
+odd_taken r line column odd.Unsupported b fs value ready = (odd_refused r line column odd.Unsupported (wrap fs value), refl)
+odd_taken r line column odd.Syntax b fs value ready = (odd_refused r line column odd.Syntax (wrap fs value), refl)
 
-any-from : (r : FlowReader) (m : Token) (w : Written) (step : Result Builder FaultKind) → ((kind : FaultKind) → kind ≡ Syntax → KindAfter r m w kind) → Taken r m w step → TakenAny r m w step
-any-from r m w (Ok b) k h = h
-any-from r m w (Err kind) k h = (h.0, k kind h.1)
+any_from : (r : FlowReader) (m : Token) (w : Written) (step : Result Builder FaultKind) → ((kind : FaultKind) → kind ≡ Syntax → KindAfter r m w kind) → Taken r m w step → TakenAny r m w step
+any_from r m w (Ok b) k h = h
+any_from r m w (Err kind) k h = (h.0, k kind h.1)
 
 taken_at : (r : FlowReader) → Judges → (m : Token) (b : Builder) (fs : List Frame) (value : Written) → StandsAt b fs value → Between b.value value → TakenAny r m (wrap fs value) (take_token m b)
 unfolding take_token
-taken_at r judges (Dash line column) b fs value s between = any-from r (Dash line column) (wrap fs value) _ (λ k e. e) (headed-taken r (Dash line column) (ended b) fs value refl (ended-ready b fs value s between))
-taken_at r judges (Key line column text) b fs value s between = any-from r (Key line column text) (wrap fs value) _ (λ k e. e) (headed-taken r (Key line column text) (ended b) fs value refl (ended-ready b fs value s between))
-taken_at r judges (Scalar line column text) b fs value s between = any-from r (Scalar line column text) (wrap fs value) _ (λ k e. e) (with_scalar-taken r line column text (ended b) fs value (ended-ready b fs value s between))
-taken_at r judges (Name line column text) b fs value s between = any-from r (Name line column text) (wrap fs value) _ (λ k e. e) (with_name-taken r line column text (ended b) fs value (ended-ready b fs value s between))
-taken_at r judges (Copy line column text) b fs value s between = any-from r (Copy line column text) (wrap fs value) _ (λ k e. e) (with_copy-taken r line column text (ended b) fs value (ended-ready b fs value s between))
-taken_at r judges (Bar line column chomp) b fs value s between = any-from r (Bar line column chomp) (wrap fs value) _ (λ k e. e) (with_bar-taken r line column chomp (ended b) fs value (ended-ready b fs value s between))
-taken_at r judges (Body line column bytes) b fs value s between = any-from r (Body line column bytes) (wrap fs value) _ (λ k e. e) (with_line-taken r line column bytes b fs value s between)
-taken_at r judges (Form line column pieces) b fs value s between = with_form-taken r judges line column pieces (ended b) fs value (ended-ready b fs value s between)
-taken_at r judges (OddToken line column why) b fs value s between = odd-taken r line column why (ended b) fs value (ended-ready b fs value s between)
+taken_at r judges (Dash line column) b fs value s between = any_from r (Dash line column) (wrap fs value) _ (λ k e. e) (headed_taken r (Dash line column) (ended b) fs value refl (ended_ready b fs value s between))
+taken_at r judges (Key line column text) b fs value s between = any_from r (Key line column text) (wrap fs value) _ (λ k e. e) (headed_taken r (Key line column text) (ended b) fs value refl (ended_ready b fs value s between))
+taken_at r judges (Scalar line column text) b fs value s between = any_from r (Scalar line column text) (wrap fs value) _ (λ k e. e) (with_scalar_taken r line column text (ended b) fs value (ended_ready b fs value s between))
+taken_at r judges (Name line column text) b fs value s between = any_from r (Name line column text) (wrap fs value) _ (λ k e. e) (with_name_taken r line column text (ended b) fs value (ended_ready b fs value s between))
+taken_at r judges (Copy line column text) b fs value s between = any_from r (Copy line column text) (wrap fs value) _ (λ k e. e) (with_copy_taken r line column text (ended b) fs value (ended_ready b fs value s between))
+taken_at r judges (Bar line column chomp) b fs value s between = any_from r (Bar line column chomp) (wrap fs value) _ (λ k e. e) (with_bar_taken r line column chomp (ended b) fs value (ended_ready b fs value s between))
+taken_at r judges (Body line column bytes) b fs value s between = any_from r (Body line column bytes) (wrap fs value) _ (λ k e. e) (with_line_taken r line column bytes b fs value s between)
+taken_at r judges (Form line column pieces) b fs value s between = with_form_taken r judges line column pieces (ended b) fs value (ended_ready b fs value s between)
+taken_at r judges (OddToken line column why) b fs value s between = odd_taken r line column why (ended b) fs value (ended_ready b fs value s between)
 
 -- each token that is taken is one that the tree so far takes
-pub take_token-taken : (r : FlowReader) → Judges → (m : Token) (b : Builder) (w : Written) → StandsFor b w → TakenAny r m w (take_token m b)
-take_token-taken r judges m b w h = subst (λ x. TakenAny r m x (take_token m b)) h.3 (taken_at r judges m b h.0 h.1 h.2 h.4)
+pub take_token_taken : (r : FlowReader) → Judges → (m : Token) (b : Builder) (w : Written) → StandsFor b w → TakenAny r m w (take_token m b)
+take_token_taken r judges m b w h = subst (λ x. TakenAny r m x (take_token m b)) h.3 (taken_at r judges m b h.0 h.1 h.2 h.4)
 
-pub fresh-stands : (alloc : Global) → StandsFor (fresh alloc) nothing
-fresh-stands alloc = ([], nothing, record { flat = refl; opens = tt; is = (None, tt, refl, λ n. tt) }, refl, tt)
+pub fresh_stands : (alloc : Global) → StandsFor (fresh alloc) nothing
+fresh_stands alloc = ([], nothing, record { flat = refl; opens = tt; is = (None, tt, refl, λ n. tt) }, refl, tt)
 
 -- ---- the measure of the tree so far
 
-measured-called : (name : Option Token) (none : Said) (names : Names) (value : Written) → measured (said none names (called name value)).0 ≡ measured (said none names value).0
-measured-called None none names value = refl
-measured-called (Some token) none names value = measured-from_line (line_of token) (said none names value).0
+measured_called : (name : Option Token) (none : Said) (names : Names) (value : Written) → measured (said none names (called name value)).0 ≡ measured (said none names value).0
+measured_called None none names value = refl
+measured_called (Some token) none names value = measured_from_line (line_of token) (said none names value).0
 
-measure-about : (nodes : List Node) (os : List Open) (fs : List Frame) (value : Written) (x : Measure) → OpensAre nodes os fs → x ≡ measured (meaning_at fs value).0 → measure_about os x ≡ measured (tree_of (wrap fs value))
-measure-about nodes [] [] value x h e = e
-measure-about nodes [] (f ∷ fs) value x h e = absurd h
-measure-about nodes (o ∷ os) [] value x h e = absurd h
-measure-about nodes (o ∷ os) (f ∷ fs) value x h e = let before : Said = before_of f (names_at fs) in let is : OpenIs nodes o f before = h.0 in
-    measure-about nodes os fs (called f.name (row f.before f.head value)) (with_part o.measure x) h.2
-    ((λ j. with_part (is.has_measure j) (e j)) ∙ row-measure f.head before (meaning_at (f ∷ fs) value) is.heads ∙ sym (measured-called f.name (null (line_at fs)) (names_at fs) (row f.before f.head value)))
+measure_about_is : (nodes : List Node) (os : List Open) (fs : List Frame) (value : Written) (x : Measure) → OpensAre nodes os fs → x ≡ measured (meaning_at fs value).0 → measure_about os x ≡ measured (tree_of (wrap fs value))
+measure_about_is nodes [] [] value x h e = e
+measure_about_is nodes [] (f ∷ fs) value x h e = absurd h
+measure_about_is nodes (o ∷ os) [] value x h e = absurd h
+measure_about_is nodes (o ∷ os) (f ∷ fs) value x h e = let before : Said = before_of f (names_at fs) in let is : OpenIs nodes o f before = h.0 in
+    measure_about_is nodes os fs (called f.name (row f.before f.head value)) (with_part o.measure x) h.2
+    ((λ j. with_part (is.has_measure j) (e j)) ∙ row_measure f.head before (meaning_at (f ∷ fs) value) is.heads ∙ sym (measured_called f.name (null (line_at fs)) (names_at fs) (row f.before f.head value)))
 
-value-measure : (b : Builder) (fs : List Frame) (value : Written) (v : Option Known) (l : Option Literal) → ValueIs v l b fs value → value_measure v ≡ measured (meaning_at fs value).0
-value-measure b fs value (Some k) l h = h.2.0
-value-measure b fs value None (Some l) h = sym (measured-called h.0 (null (line_at fs)) (names_at fs) (literal h.2 h.3)) ∙ ap (λ w. measured (meaning_at fs w).0) (sym h.6)
-value-measure b fs value None None h = sym (measured-called h.0 (null (line_at fs)) (names_at fs) nothing) ∙ ap (λ w. measured (meaning_at fs w).0) (sym h.2)
+value_measure_is : (b : Builder) (fs : List Frame) (value : Written) (v : Option Known) (l : Option Literal) → ValueIs v l b fs value → value_measure v ≡ measured (meaning_at fs value).0
+value_measure_is b fs value (Some k) l h = h.2.0
+value_measure_is b fs value None (Some l) h = sym (measured_called h.0 (null (line_at fs)) (names_at fs) (literal h.2 h.3)) ∙ ap (λ w. measured (meaning_at fs w).0) (sym h.6)
+value_measure_is b fs value None None h = sym (measured_called h.0 (null (line_at fs)) (names_at fs) nothing) ∙ ap (λ w. measured (meaning_at fs w).0) (sym h.2)
 
-pub measure-means : (b : Builder) (w : Written) → StandsFor b w → measure b ≡ measured (tree_of w)
-measure-means b w h = measure-about b.nodes b.open_rows h.0 h.1 (value_measure b.value) h.2.opens (value-measure b h.0 h.1 b.value b.literal h.2.is) ∙ ap (λ x. measured (tree_of x)) h.3
+pub measure_means : (b : Builder) (w : Written) → StandsFor b w → measure b ≡ measured (tree_of w)
+measure_means b w h = measure_about_is b.nodes b.open_rows h.0 h.1 (value_measure b.value) h.2.opens (value_measure_is b h.0 h.1 b.value b.literal h.2.is) ∙ ap (λ x. measured (tree_of x)) h.3
 
 -- ---- the whole tree
 
@@ -467,14 +467,14 @@ none_open nodes [] (f ∷ fs) h most = absurd h
 none_open nodes (o ∷ os) (f ∷ fs) h most = let deep = head_deep f.head h.0.heads in absurd (omega (arith, deep, most))
 
 -- once all that is open is closed, the root holds the tree
-pub whole-holds : (b : Builder) (w : Written) → StandsFor b w → HoldsSaid (whole b).nodes (tree_of w) (root_number b)
+pub whole_holds : (b : Builder) (w : Written) → StandsFor b w → HoldsSaid (whole b).nodes (tree_of w) (root_number b)
 unfolding whole
-whole-holds b w h =
-    let ready : Ready (ended b) h.0 h.1 = ended-ready b h.0 h.1 h.2 h.4 in
+whole_holds b w h =
+    let ready : Ready (ended b) h.0 h.1 = ended_ready b h.0 h.1 h.2 h.4 in
     let last : Builder = settled 0 (ended b) in
-    let st : Settled 0 last (wrap h.0 h.1) = settled_on-stands 0 (ended b).open_rows (ended b) h.0 h.1 refl ready.stands ready.shut (ready.come 0) in
+    let st : Settled 0 last (wrap h.0 h.1) = settled_on_stands 0 (ended b).open_rows (ended b) h.0 h.1 refl ready.stands ready.shut (ready.come 0) in
     let nil : st.frames ≡ [] = none_open last.nodes last.open_rows st.frames st.stands.opens st.shallow in
-    let v = valued-stands 1 last st.frames st.value (ap line_at (sym nil)) st.shut st.stands in
+    let v = valued_stands 1 last st.frames st.value (ap line_at (sym nil)) st.shut st.stands in
     let root : Valued (valued 1 last) st.frames st.value v.0 = v.1 in
     let come : ValueIs (Some v.0) (valued 1 last).literal (valued 1 last) st.frames st.value = subst (λ x. ValueIs x (valued 1 last).literal (valued 1 last) st.frames st.value) root.is root.stands.is in
     let tree : (meaning_at st.frames st.value).0 ≡ tree_of w = ap (λ fs. (meaning_at fs st.value).0) nil ∙ ap tree_of (ap (λ fs. wrap fs st.value) (sym nil) ∙ st.wraps ∙ h.3) in

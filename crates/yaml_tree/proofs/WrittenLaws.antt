@@ -58,16 +58,16 @@ with_tokens r (m ∷ ms) written = option_and_then (with_tokens r ms) (with_toke
 
 -- ---- what is read is spelled so
 
-tokens-begun_by : (r : FlowReader) (m : Token) (new : Written) → begun_by r m ≡ Some new → tokens new ≡ m ∷ []
-tokens-begun_by r (Dash line column) new e = ap tokens (sym (same_Some _ _ e))
-tokens-begun_by r (Key line column text) new e = ap tokens (sym (same_Some _ _ e))
-tokens-begun_by r (Scalar line column text) new e = ap tokens (sym (same_Some _ _ e))
-tokens-begun_by r (Name line column text) new e = ap tokens (sym (same_Some _ _ e))
-tokens-begun_by r (Copy line column text) new e = ap tokens (sym (same_Some _ _ e))
-tokens-begun_by r (Bar line column chomp) new e = ap tokens (sym (same_Some _ _ e))
-tokens-begun_by r (Body line column bytes) new e = absurd (none-some new e)
-tokens-begun_by r (Form line column pieces) new e = ap tokens (sym (mapped (flowing (Form line column pieces)) (r.read pieces) new e).2)
-tokens-begun_by r (OddToken line column why) new e = absurd (none-some new e)
+tokens_begun_by : (r : FlowReader) (m : Token) (new : Written) → begun_by r m ≡ Some new → tokens new ≡ m ∷ []
+tokens_begun_by r (Dash line column) new e = ap tokens (sym (same_Some _ _ e))
+tokens_begun_by r (Key line column text) new e = ap tokens (sym (same_Some _ _ e))
+tokens_begun_by r (Scalar line column text) new e = ap tokens (sym (same_Some _ _ e))
+tokens_begun_by r (Name line column text) new e = ap tokens (sym (same_Some _ _ e))
+tokens_begun_by r (Copy line column text) new e = ap tokens (sym (same_Some _ _ e))
+tokens_begun_by r (Bar line column chomp) new e = ap tokens (sym (same_Some _ _ e))
+tokens_begun_by r (Body line column bytes) new e = absurd (none-some new e)
+tokens_begun_by r (Form line column pieces) new e = ap tokens (sym (mapped (flowing (Form line column pieces)) (r.read pieces) new e).2)
+tokens_begun_by r (OddToken line column why) new e = absurd (none-some new e)
 
 -- what a token more leaves of a row
 pub row_cases : (r : FlowReader) (m head : Token) (before value new : Written) → with_token r m (row before head value) ≡ Some new → ((depth head < depth m) × (v : Written) × (with_token r m value ≡ Some v) × (row before head v ≡ new)) ⊎ ((is_head m ≡ true) × (depth head ≡ depth m) × (row (row before head value) m nothing ≡ new))
@@ -91,75 +91,75 @@ named_case r m head value new e = by (chosen (may_go_on value m) (option_map (na
     by (inl h) = let o = mapped (named head) (with_token r m value) new h.1 in (h.0, o.0, o.1, o.2)
     by (inr h) = absurd (none-some new h.1)
 
-pub tokens-with_token : (r : FlowReader) (m : Token) (old new : Written) → with_token r m old ≡ Some new → tokens new ≡ tokens old ++ (m ∷ [])
-tokens-with_token r m nothing new e = tokens-begun_by r m new e
-tokens-with_token r m (leaf other) new e = absurd (none-some new e)
-tokens-with_token r m (literal head lines) new e = ap tokens (sym (literal_case r m head lines new e).2)
-tokens-with_token r m (flowing other value) new e = absurd (none-some new e)
-tokens-with_token r m (named head value) new e = let c = named_case r m head value new e in ap tokens (sym c.3) ∙ ap (λ l. head ∷ l) (tokens-with_token r m value c.1 c.2)
-tokens-with_token r m (row before head value) new e = elim (row_cases r m head before value new e) [
-  | inl h ↦ ap tokens (sym h.3) ∙ ap (λ l. tokens before ++ (head ∷ l)) (tokens-with_token r m value h.1 h.2) ∙ sym (append_assoc (tokens before) (head ∷ tokens value) (m ∷ []))
+pub tokens_with_token : (r : FlowReader) (m : Token) (old new : Written) → with_token r m old ≡ Some new → tokens new ≡ tokens old ++ (m ∷ [])
+tokens_with_token r m nothing new e = tokens_begun_by r m new e
+tokens_with_token r m (leaf other) new e = absurd (none-some new e)
+tokens_with_token r m (literal head lines) new e = ap tokens (sym (literal_case r m head lines new e).2)
+tokens_with_token r m (flowing other value) new e = absurd (none-some new e)
+tokens_with_token r m (named head value) new e = let c = named_case r m head value new e in ap tokens (sym c.3) ∙ ap (λ l. head ∷ l) (tokens_with_token r m value c.1 c.2)
+tokens_with_token r m (row before head value) new e = elim (row_cases r m head before value new e) [
+  | inl h ↦ ap tokens (sym h.3) ∙ ap (λ l. tokens before ++ (head ∷ l)) (tokens_with_token r m value h.1 h.2) ∙ sym (append_assoc (tokens before) (head ∷ tokens value) (m ∷ []))
   | inr h ↦ ap tokens (sym h.2)
 ]
 
-StandsBelow-begun_by : (r : FlowReader) (outer : ℕ) (m : Token) (new : Written) → begun_by r m ≡ Some new → outer < depth m → StandsBelow outer new
-StandsBelow-begun_by r outer (Dash line column) new e lt = subst (StandsBelow outer) (same_Some _ _ e) (refl, lt, tt, tt, tt)
-StandsBelow-begun_by r outer (Key line column text) new e lt = subst (StandsBelow outer) (same_Some _ _ e) (refl, lt, tt, tt, tt)
-StandsBelow-begun_by r outer (Scalar line column text) new e lt = subst (StandsBelow outer) (same_Some _ _ e) (refl, lt)
-StandsBelow-begun_by r outer (Name line column text) new e lt = subst (StandsBelow outer) (same_Some _ _ e) (refl, lt, tt, tt)
-StandsBelow-begun_by r outer (Copy line column text) new e lt = subst (StandsBelow outer) (same_Some _ _ e) (refl, lt)
-StandsBelow-begun_by r outer (Bar line column chomp) new e lt = subst (StandsBelow outer) (same_Some _ _ e) (refl, lt, tt)
-StandsBelow-begun_by r outer (Body line column bytes) new e lt = absurd (none-some new e)
-StandsBelow-begun_by r outer (Form line column pieces) new e lt = let o = mapped (flowing (Form line column pieces)) (r.read pieces) new e in subst (StandsBelow outer) o.2 (lt, r.sound pieces o.0 o.1)
-StandsBelow-begun_by r outer (OddToken line column why) new e lt = absurd (none-some new e)
+StandsBelow_begun_by : (r : FlowReader) (outer : ℕ) (m : Token) (new : Written) → begun_by r m ≡ Some new → outer < depth m → StandsBelow outer new
+StandsBelow_begun_by r outer (Dash line column) new e lt = subst (StandsBelow outer) (same_Some _ _ e) (refl, lt, tt, tt, tt)
+StandsBelow_begun_by r outer (Key line column text) new e lt = subst (StandsBelow outer) (same_Some _ _ e) (refl, lt, tt, tt, tt)
+StandsBelow_begun_by r outer (Scalar line column text) new e lt = subst (StandsBelow outer) (same_Some _ _ e) (refl, lt)
+StandsBelow_begun_by r outer (Name line column text) new e lt = subst (StandsBelow outer) (same_Some _ _ e) (refl, lt, tt, tt)
+StandsBelow_begun_by r outer (Copy line column text) new e lt = subst (StandsBelow outer) (same_Some _ _ e) (refl, lt)
+StandsBelow_begun_by r outer (Bar line column chomp) new e lt = subst (StandsBelow outer) (same_Some _ _ e) (refl, lt, tt)
+StandsBelow_begun_by r outer (Body line column bytes) new e lt = absurd (none-some new e)
+StandsBelow_begun_by r outer (Form line column pieces) new e lt = let o = mapped (flowing (Form line column pieces)) (r.read pieces) new e in subst (StandsBelow outer) o.2 (lt, r.sound pieces o.0 o.1)
+StandsBelow_begun_by r outer (OddToken line column why) new e lt = absurd (none-some new e)
 
 -- one line more of a literal block
-AreBodies-more : (head m : Token) (lines : List Token) → AreBodies head lines → is_body_line m ≡ true → depth m ≡ depth head → AreBodies head (lines ++ (m ∷ []))
-AreBodies-more head m [] h b d = (b, d, tt)
-AreBodies-more head m (line ∷ lines) h b d = (h.0, h.1, AreBodies-more head m lines h.2 b d)
+AreBodies_more : (head m : Token) (lines : List Token) → AreBodies head lines → is_body_line m ≡ true → depth m ≡ depth head → AreBodies head (lines ++ (m ∷ []))
+AreBodies_more head m [] h b d = (b, d, tt)
+AreBodies_more head m (line ∷ lines) h b d = (h.0, h.1, AreBodies_more head m lines h.2 b d)
 
 -- a value behind a name begins with what may follow one, and stays one that may have a name
-MayBeNamed-begun_by : (r : FlowReader) (m : Token) (new : Written) → begun_by r m ≡ Some new → may_follow_name m ≡ true → MayBeNamed new
-MayBeNamed-begun_by r (Dash line column) new e f = subst MayBeNamed (same_Some _ _ e) tt
-MayBeNamed-begun_by r (Key line column text) new e f = subst MayBeNamed (same_Some _ _ e) tt
-MayBeNamed-begun_by r (Scalar line column text) new e f = subst MayBeNamed (same_Some _ _ e) refl
-MayBeNamed-begun_by r (Name line column text) new e f = absurd (false≢true f)
-MayBeNamed-begun_by r (Copy line column text) new e f = absurd (false≢true f)
-MayBeNamed-begun_by r (Bar line column chomp) new e f = subst MayBeNamed (same_Some _ _ e) tt
-MayBeNamed-begun_by r (Body line column bytes) new e f = absurd (none-some new e)
-MayBeNamed-begun_by r (Form line column pieces) new e f = subst MayBeNamed (mapped (flowing (Form line column pieces)) (r.read pieces) new e).2 tt
-MayBeNamed-begun_by r (OddToken line column why) new e f = absurd (none-some new e)
+MayBeNamed_begun_by : (r : FlowReader) (m : Token) (new : Written) → begun_by r m ≡ Some new → may_follow_name m ≡ true → MayBeNamed new
+MayBeNamed_begun_by r (Dash line column) new e f = subst MayBeNamed (same_Some _ _ e) tt
+MayBeNamed_begun_by r (Key line column text) new e f = subst MayBeNamed (same_Some _ _ e) tt
+MayBeNamed_begun_by r (Scalar line column text) new e f = subst MayBeNamed (same_Some _ _ e) refl
+MayBeNamed_begun_by r (Name line column text) new e f = absurd (false≢true f)
+MayBeNamed_begun_by r (Copy line column text) new e f = absurd (false≢true f)
+MayBeNamed_begun_by r (Bar line column chomp) new e f = subst MayBeNamed (same_Some _ _ e) tt
+MayBeNamed_begun_by r (Body line column bytes) new e f = absurd (none-some new e)
+MayBeNamed_begun_by r (Form line column pieces) new e f = subst MayBeNamed (mapped (flowing (Form line column pieces)) (r.read pieces) new e).2 tt
+MayBeNamed_begun_by r (OddToken line column why) new e f = absurd (none-some new e)
 
-MayBeNamed-with_token : (r : FlowReader) (m : Token) (old new : Written) → with_token r m old ≡ Some new → may_go_on old m ≡ true → MayBeNamed old → MayBeNamed new
-MayBeNamed-with_token r m nothing new e f h = MayBeNamed-begun_by r m new e f
-MayBeNamed-with_token r m (leaf other) new e f h = absurd (none-some new e)
-MayBeNamed-with_token r m (literal head lines) new e f h = subst MayBeNamed (literal_case r m head lines new e).2 tt
-MayBeNamed-with_token r m (flowing other value) new e f h = absurd (none-some new e)
-MayBeNamed-with_token r m (named head value) new e f h = absurd h
-MayBeNamed-with_token r m (row before head value) new e f h = elim (row_cases r m head before value new e) [ inl c ↦ subst MayBeNamed c.3 tt | inr c ↦ subst MayBeNamed c.2 tt ]
+MayBeNamed_with_token : (r : FlowReader) (m : Token) (old new : Written) → with_token r m old ≡ Some new → may_go_on old m ≡ true → MayBeNamed old → MayBeNamed new
+MayBeNamed_with_token r m nothing new e f h = MayBeNamed_begun_by r m new e f
+MayBeNamed_with_token r m (leaf other) new e f h = absurd (none-some new e)
+MayBeNamed_with_token r m (literal head lines) new e f h = subst MayBeNamed (literal_case r m head lines new e).2 tt
+MayBeNamed_with_token r m (flowing other value) new e f h = absurd (none-some new e)
+MayBeNamed_with_token r m (named head value) new e f h = absurd h
+MayBeNamed_with_token r m (row before head value) new e f h = elim (row_cases r m head before value new e) [ inl c ↦ subst MayBeNamed c.3 tt | inr c ↦ subst MayBeNamed c.2 tt ]
 
-pub StandsBelow-with_token : (r : FlowReader) (outer : ℕ) (m : Token) (old new : Written) → with_token r m old ≡ Some new → outer < depth m → StandsBelow outer old → StandsBelow outer new
-StandsBelow-with_token r outer m nothing new e lt stands = StandsBelow-begun_by r outer m new e lt
-StandsBelow-with_token r outer m (leaf other) new e lt stands = absurd (none-some new e)
-StandsBelow-with_token r outer m (literal head lines) new e lt stands = let c = literal_case r m head lines new e in
-    subst (StandsBelow outer) c.2 (stands.0, stands.1, AreBodies-more head m lines stands.2 c.0 c.1)
-StandsBelow-with_token r outer m (flowing other value) new e lt stands = absurd (none-some new e)
-StandsBelow-with_token r outer m (named head value) new e lt stands = let c = named_case r m head value new e in
-    subst (StandsBelow outer) c.3 (stands.0, stands.1, MayBeNamed-with_token r m value c.1 c.2 c.0 stands.2, StandsBelow-with_token r outer m value c.1 c.2 lt stands.3)
-StandsBelow-with_token r outer m (row before head value) new e lt stands = elim (row_cases r m head before value new e) [
-  | inl h ↦ subst (StandsBelow outer) h.3 (stands.0, stands.1, stands.2, stands.3, StandsBelow-with_token r (depth head) m value h.1 h.2 h.0 stands.4)
+pub StandsBelow_with_token : (r : FlowReader) (outer : ℕ) (m : Token) (old new : Written) → with_token r m old ≡ Some new → outer < depth m → StandsBelow outer old → StandsBelow outer new
+StandsBelow_with_token r outer m nothing new e lt stands = StandsBelow_begun_by r outer m new e lt
+StandsBelow_with_token r outer m (leaf other) new e lt stands = absurd (none-some new e)
+StandsBelow_with_token r outer m (literal head lines) new e lt stands = let c = literal_case r m head lines new e in
+    subst (StandsBelow outer) c.2 (stands.0, stands.1, AreBodies_more head m lines stands.2 c.0 c.1)
+StandsBelow_with_token r outer m (flowing other value) new e lt stands = absurd (none-some new e)
+StandsBelow_with_token r outer m (named head value) new e lt stands = let c = named_case r m head value new e in
+    subst (StandsBelow outer) c.3 (stands.0, stands.1, MayBeNamed_with_token r m value c.1 c.2 c.0 stands.2, StandsBelow_with_token r outer m value c.1 c.2 lt stands.3)
+StandsBelow_with_token r outer m (row before head value) new e lt stands = elim (row_cases r m head before value new e) [
+  | inl h ↦ subst (StandsBelow outer) h.3 (stands.0, stands.1, stands.2, stands.3, StandsBelow_with_token r (depth head) m value h.1 h.2 h.0 stands.4)
   | inr h ↦ subst (StandsBelow outer) h.2 (h.0, lt, h.1, stands, tt)
 ]
 
 -- ---- what is spelled so is read
 
-tokens-nil : (w : Written) → tokens w ≡ [] → w ≡ nothing
-tokens-nil nothing e = refl
-tokens-nil (leaf m) e = absurd (not_nil [] [] m e)
-tokens-nil (literal m lines) e = absurd (not_nil [] lines m e)
-tokens-nil (flowing m value) e = absurd (not_nil [] [] m e)
-tokens-nil (named m value) e = absurd (not_nil [] (tokens value) m e)
-tokens-nil (row before head value) e = absurd (not_nil (tokens before) (tokens value) head e)
+tokens_nil : (w : Written) → tokens w ≡ [] → w ≡ nothing
+tokens_nil nothing e = refl
+tokens_nil (leaf m) e = absurd (not_nil [] [] m e)
+tokens_nil (literal m lines) e = absurd (not_nil [] lines m e)
+tokens_nil (flowing m value) e = absurd (not_nil [] [] m e)
+tokens_nil (named m value) e = absurd (not_nil [] (tokens value) m e)
+tokens_nil (row before head value) e = absurd (not_nil (tokens before) (tokens value) head e)
 
 -- a row is read behind the rows before it
 row_again : (r : FlowReader) (before : Written) (m : Token) → is_head m ≡ true → SameRows before m → with_token r m before ≡ Some (row before m nothing)
@@ -223,9 +223,9 @@ flow_again r (Body line column bytes) value h = absurd h
 flow_again r (OddToken line column why) value h = absurd h
 
 -- the lines of a literal block before its last one
-AreBodies-split : (head m : Token) (lines : List Token) → AreBodies head (lines ++ (m ∷ [])) → AreBodies head lines × (is_body_line m ≡ true) × (depth m ≡ depth head)
-AreBodies-split head m [] h = (tt, h.0, h.1)
-AreBodies-split head m (line ∷ lines) h = let rest = AreBodies-split head m lines h.2 in ((h.0, h.1, rest.0), rest.1, rest.2)
+AreBodies_split : (head m : Token) (lines : List Token) → AreBodies head (lines ++ (m ∷ [])) → AreBodies head lines × (is_body_line m ≡ true) × (depth m ≡ depth head)
+AreBodies_split head m [] h = (tt, h.0, h.1)
+AreBodies_split head m (line ∷ lines) h = let rest = AreBodies_split head m lines h.2 in ((h.0, h.1, rest.0), rest.1, rest.2)
 
 body_again : (r : FlowReader) (m head : Token) (lines : List Token) → is_body_line m ≡ true → depth m ≡ depth head → with_token r m (literal head lines) ≡ Some (literal head (lines ++ (m ∷ [])))
 body_again r m head lines b d = cond-true (is_body_line m && (depth m == depth head)) _ _ (ap (λ k. k && (depth m == depth head)) b ∙ eq-eqb (depth m) (depth head) d)
@@ -234,19 +234,19 @@ body_again r m head lines b d = cond-true (is_body_line m && (depth m == depth h
 abbrev GoesOn : Written → Token → Type 0
 GoesOn old m = (may_go_on old m ≡ true) × MayBeNamed old
 
-goes_on-begun_by : (r : FlowReader) (m : Token) (new : Written) → begun_by r m ≡ Some new → MayBeNamed new → may_follow_name m ≡ true
-goes_on-begun_by r (Dash line column) new e h = refl
-goes_on-begun_by r (Key line column text) new e h = refl
-goes_on-begun_by r (Scalar line column text) new e h = refl
-goes_on-begun_by r (Name line column text) new e h = absurd (subst MayBeNamed (sym (same_Some _ _ e)) h)
-goes_on-begun_by r (Copy line column text) new e h = absurd (false≢true (sym (subst MayBeNamed (sym (same_Some _ _ e)) h)))
-goes_on-begun_by r (Bar line column chomp) new e h = refl
-goes_on-begun_by r (Body line column bytes) new e h = refl
-goes_on-begun_by r (Form line column pieces) new e h = refl
-goes_on-begun_by r (OddToken line column why) new e h = refl
+goes_on_begun_by : (r : FlowReader) (m : Token) (new : Written) → begun_by r m ≡ Some new → MayBeNamed new → may_follow_name m ≡ true
+goes_on_begun_by r (Dash line column) new e h = refl
+goes_on_begun_by r (Key line column text) new e h = refl
+goes_on_begun_by r (Scalar line column text) new e h = refl
+goes_on_begun_by r (Name line column text) new e h = absurd (subst MayBeNamed (sym (same_Some _ _ e)) h)
+goes_on_begun_by r (Copy line column text) new e h = absurd (false≢true (sym (subst MayBeNamed (sym (same_Some _ _ e)) h)))
+goes_on_begun_by r (Bar line column chomp) new e h = refl
+goes_on_begun_by r (Body line column bytes) new e h = refl
+goes_on_begun_by r (Form line column pieces) new e h = refl
+goes_on_begun_by r (OddToken line column why) new e h = refl
 
 goes_on : (r : FlowReader) (m : Token) (old new : Written) → with_token r m old ≡ Some new → MayBeNamed new → GoesOn old m
-goes_on r m nothing new e h = (goes_on-begun_by r m new e h, tt)
+goes_on r m nothing new e h = (goes_on_begun_by r m new e h, tt)
 goes_on r m (leaf other) new e h = absurd (none-some new e)
 goes_on r m (literal head lines) new e h = (refl, tt)
 goes_on r m (flowing other value) new e h = absurd (none-some new e)
@@ -257,13 +257,13 @@ goes_on r m (row before head value) new e h = (refl, tt)
 abbrev pub WithoutLast : FlowReader → ℕ → List Token → Token → Written → Type 0
 WithoutLast r outer ms m w = (old : Written) × (tokens old ≡ ms) × StandsBelow outer old × (with_token r m old ≡ Some w) × (outer < depth m)
 
-literal-without_last : (r : FlowReader) (outer : ℕ) (ms : List Token) (m head : Token) (lines : List Token) → StandsBelow outer (literal head lines) → head ∷ lines ≡ ms ++ (m ∷ []) → WithoutLast r outer ms m (literal head lines)
-literal-without_last r outer ms m head lines stands e = elim (nil_or_last lines) [
+literal_without_last : (r : FlowReader) (outer : ℕ) (ms : List Token) (m head : Token) (lines : List Token) → StandsBelow outer (literal head lines) → head ∷ lines ≡ ms ++ (m ∷ []) → WithoutLast r outer ms m (literal head lines)
+literal_without_last r outer ms m head lines stands e = elim (nil_or_last lines) [
   | inl none ↦ (let s = same_last [] ms head m (ap (λ l. head ∷ l) (sym none) ∙ e) in
       subst (λ u. WithoutLast r outer ms u (literal head lines)) s.1 (subst (λ ls. WithoutLast r outer ms head (literal head ls)) (sym none)
       (nothing, s.0, tt, bar_again r head stands.0, stands.1)))
   | inr h ↦ (let s = same_last (head ∷ h.0) ms h.1 m (ap (λ l. head ∷ l) (sym h.2) ∙ e) in
-      let b = AreBodies-split head h.1 h.0 (subst (AreBodies head) h.2 stands.2) in
+      let b = AreBodies_split head h.1 h.0 (subst (AreBodies head) h.2 stands.2) in
       subst (λ u. WithoutLast r outer ms u (literal head lines)) s.1 (subst (λ ls. WithoutLast r outer ms h.1 (literal head ls)) (sym h.2)
       (literal head h.0, s.0, (stands.0, stands.1, b.0), body_again r h.1 head h.0 b.1 b.2, subst (λ d. outer < d) (sym b.2) stands.1)))
 ]
@@ -272,12 +272,12 @@ pub without_last : (r : FlowReader) (outer : ℕ) (ms : List Token) (m : Token) 
 without_last r outer ms m nothing stands e = absurd (not_nil ms [] m (sym e))
 without_last r outer ms m (leaf other) stands e = let s = same_last [] ms other m e in
     subst (λ u. WithoutLast r outer ms u (leaf other)) s.1 (nothing, s.0, tt, leaf_again r other stands.0, stands.1)
-without_last r outer ms m (literal head lines) stands e = literal-without_last r outer ms m head lines stands e
+without_last r outer ms m (literal head lines) stands e = literal_without_last r outer ms m head lines stands e
 without_last r outer ms m (flowing other value) stands e = let s = same_last [] ms other m e in
     subst (λ u. WithoutLast r outer ms u (flowing other value)) s.1 (nothing, s.0, tt, flow_again r other value stands.1, stands.0)
 without_last r outer ms m (named head value) stands e =
     elim (nil_or_last (tokens value)) [
-      | inl none ↦ (let n = tokens-nil value none in
+      | inl none ↦ (let n = tokens_nil value none in
           let s = same_last [] ms head m (ap (λ l. head ∷ l) (sym none) ∙ e) in
           subst (λ u. WithoutLast r outer ms u (named head value)) s.1 (subst (λ v. WithoutLast r outer ms head (named head v)) (sym n)
           (nothing, s.0, tt, name_again r head stands.0, stands.1)))
@@ -293,7 +293,7 @@ without_last r outer ms m (named head value) stands e =
     ]
 without_last r outer ms m (row before head value) stands e =
     elim (nil_or_last (tokens value)) [
-      | inl none ↦ (let n = tokens-nil value none in
+      | inl none ↦ (let n = tokens_nil value none in
           let s = same_last (tokens before) ms head m (ap (λ l. tokens before ++ (head ∷ l)) (sym none) ∙ e) in
           subst (λ u. WithoutLast r outer ms u (row before head value)) s.1 (subst (λ v. WithoutLast r outer ms head (row before head v)) (sym n)
           (before, s.0, stands.3, row_again r before head stands.0 stands.2, stands.1)))
@@ -350,11 +350,11 @@ begins_deep r m (flowing other value) new e = absurd (none-some new e)
 begins_deep r m (named head value) new e = let c = named_case r m head value new e in begins_deep r m value c.1 c.2
 begins_deep r m (row before head value) new e = elim (row_cases r m head before value new e) [ inl h ↦ begins_deep r m value h.1 h.2 | inr h ↦ head_deep m h.0 ]
 
-pub spelled-with_tokens : (r : FlowReader) (ms : List Token) (old new : Written) → with_tokens r ms old ≡ Some new → StandsBelow 0 old → (tokens new ≡ tokens old ++ ms) × StandsBelow 0 new
-spelled-with_tokens r [] old new e stands = (ap tokens (sym (same_Some _ _ e)) ∙ sym (append-nil (tokens old)), subst (StandsBelow 0) (same_Some _ _ e) stands)
-spelled-with_tokens r (m ∷ ms) old new e stands = let c = chained (with_tokens r ms) (with_token r m old) new e in
-    let rest = spelled-with_tokens r ms c.0 new c.2 (StandsBelow-with_token r 0 m old c.0 c.1 (begins_deep r m old c.0 c.1) stands) in
-    (rest.0 ∙ ap (λ l. l ++ ms) (tokens-with_token r m old c.0 c.1) ∙ append_assoc (tokens old) (m ∷ []) ms, rest.1)
+pub spelled_with_tokens : (r : FlowReader) (ms : List Token) (old new : Written) → with_tokens r ms old ≡ Some new → StandsBelow 0 old → (tokens new ≡ tokens old ++ ms) × StandsBelow 0 new
+spelled_with_tokens r [] old new e stands = (ap tokens (sym (same_Some _ _ e)) ∙ sym (append-nil (tokens old)), subst (StandsBelow 0) (same_Some _ _ e) stands)
+spelled_with_tokens r (m ∷ ms) old new e stands = let c = chained (with_tokens r ms) (with_token r m old) new e in
+    let rest = spelled_with_tokens r ms c.0 new c.2 (StandsBelow_with_token r 0 m old c.0 c.1 (begins_deep r m old c.0 c.1) stands) in
+    (rest.0 ∙ ap (λ l. l ++ ms) (tokens_with_token r m old c.0 c.1) ∙ append_assoc (tokens old) (m ∷ []) ms, rest.1)
 
 abbrev pub Before : FlowReader → List Token → List Token → Written → Type 0
 Before r ns ms new = (old : Written) × (tokens old ≡ ns) × StandsBelow 0 old × (with_tokens r ms old ≡ Some new)
@@ -367,16 +367,16 @@ read_again r ns (m ∷ ms) new stands e =
     (w.0, w.1, w.2, ap (option_and_then (with_tokens r ms)) w.3 ∙ later.3)
 
 -- the tokens are read as what is written exactly where they are its own
-pub Spells-from_read : (r : FlowReader) (ms : List Token) (w : Written) → with_tokens r ms nothing ≡ Some w → Spells ms w
-Spells-from_read r ms w e = spelled-with_tokens r ms nothing w e tt
+pub Spells_from_read : (r : FlowReader) (ms : List Token) (w : Written) → with_tokens r ms nothing ≡ Some w → Spells ms w
+Spells_from_read r ms w e = spelled_with_tokens r ms nothing w e tt
 
-pub read-from_Spells : (r : FlowReader) (ms : List Token) (w : Written) → Spells ms w → with_tokens r ms nothing ≡ Some w
-read-from_Spells r ms w h = let b = read_again r [] ms w h.1 h.0 in ap (with_tokens r ms) (sym (tokens-nil b.0 b.1)) ∙ b.3
+pub read_from_Spells : (r : FlowReader) (ms : List Token) (w : Written) → Spells ms w → with_tokens r ms nothing ≡ Some w
+read_from_Spells r ms w h = let b = read_again r [] ms w h.1 h.0 in ap (with_tokens r ms) (sym (tokens_nil b.0 b.1)) ∙ b.3
 
 -- at most one tree as it is written
 pub same_written : (r : FlowReader) (ms : List Token) (w v : Written) → Spells ms w → Spells ms v → w ≡ v
-same_written r ms w v h k = same_Some w v (sym (read-from_Spells r ms w h) ∙ read-from_Spells r ms v k)
+same_written r ms w v h k = same_Some w v (sym (read_from_Spells r ms w h) ∙ read_from_Spells r ms v k)
 
-pub with_tokens-append : (r : FlowReader) (ns ms : List Token) (old : Written) → with_tokens r (ns ++ ms) old ≡ option_and_then (with_tokens r ms) (with_tokens r ns old)
-with_tokens-append r [] ms old = refl
-with_tokens-append r (n ∷ ns) ms old = elim (with_token r n old) as (λ o. option_and_then (with_tokens r (ns ++ ms)) o ≡ option_and_then (with_tokens r ms) (option_and_then (with_tokens r ns) o)) [ None ↦ refl | Some new ↦ with_tokens-append r ns ms new ]
+pub with_tokens_append : (r : FlowReader) (ns ms : List Token) (old : Written) → with_tokens r (ns ++ ms) old ≡ option_and_then (with_tokens r ms) (with_tokens r ns old)
+with_tokens_append r [] ms old = refl
+with_tokens_append r (n ∷ ns) ms old = elim (with_token r n old) as (λ o. option_and_then (with_tokens r (ns ++ ms)) o ≡ option_and_then (with_tokens r ms) (option_and_then (with_tokens r ns) o)) [ None ↦ refl | Some new ↦ with_tokens_append r ns ms new ]

@@ -8,8 +8,8 @@ root_size = 1024
 abbrev pub table_size : ℕ
 table_size = 1024
 
-sizes-fill : root_size * table_size ≡ 2 ^ 20
-sizes-fill = refl
+sizes_fill : root_size * table_size ≡ 2 ^ 20
+sizes_fill = refl
 
 -- the entry that says that there is no place
 abbrev pub no_place : ℕ

@@ -23,40 +23,40 @@ use Rattle.shown_config.proofs.blocks.BlockSaid.{HasRows}
 use Rattle.shown_config.proofs.blocks.Tidy.{is_among, IsNew, AreNewEntries, HasNewKeys, AreNewLeaves, IsNewItem, AreNewItems, HasNewRows}
 use Rattle.shown_config.proofs.blocks.BlockText.{IsBlock}
 use Rattle.shown_config.proofs.config.ConfigBlock.{general_block, graph_block, network_block, variable_words, state_cell, shutdown_leaves, process_item, processes_block, leaf_if, option_entries, options_cell, host_block, hosts_block, config_block}
-use Rattle.shown_config.proofs.config.ConfigWords.{name-other, config-spelled}
+use Rattle.shown_config.proofs.config.ConfigWords.{name_other, config_spelled}
 
 -- ---- rows
 
-if-rows : {A : Type 0} (key : List ℕ) (cell : A → Cell) (o : Option A) (rest : Block) → HasRows rest → HasRows (leaf_if key cell o rest)
-if-rows key cell None rest h = h
-if-rows key cell (Some x) rest h = h
+if_rows : {A : Type 0} (key : List ℕ) (cell : A → Cell) (o : Option A) (rest : Block) → HasRows rest → HasRows (leaf_if key cell o rest)
+if_rows key cell None rest h = h
+if_rows key cell (Some x) rest h = h
 
-processes-rows : (ps : List ProcessConfig) → HasRows (processes_block ps)
-processes-rows [] = tt
-processes-rows (p ∷ ps) = tt
+processes_rows : (ps : List ProcessConfig) → HasRows (processes_block ps)
+processes_rows [] = tt
+processes_rows (p ∷ ps) = tt
 
-host-rows : (h : HostConfig) → HasRows (host_block h)
-host-rows h =
-    if-rows (codes "ip_addr") _ h.ip_addr _ (if-rows (codes "bandwidth_up") _ h.bandwidth_up _ (if-rows (codes "bandwidth_down") _ h.bandwidth_down _
-    (if-rows (codes "host_options") _ (options_cell h) _ (processes-rows h.processes))))
+host_rows_is : (h : HostConfig) → HasRows (host_block h)
+host_rows_is h =
+    if_rows (codes "ip_addr") _ h.ip_addr _ (if_rows (codes "bandwidth_up") _ h.bandwidth_up _ (if_rows (codes "bandwidth_down") _ h.bandwidth_down _
+    (if_rows (codes "host_options") _ (options_cell h) _ (processes_rows h.processes))))
 
-graph-rows : (g : GraphSource) → (is_done (graph_block g) ≡ false) × HasRows (graph_block g)
-graph-rows sources.OneGbitSwitch = (refl, tt)
-graph-rows (sources.Inline text) = (refl, tt)
-graph-rows (sources.File name) = (refl, tt)
+graph_rows : (g : GraphSource) → (is_done (graph_block g) ≡ false) × HasRows (graph_block g)
+graph_rows sources.OneGbitSwitch = (refl, tt)
+graph_rows (sources.Inline text) = (refl, tt)
+graph_rows (sources.File name) = (refl, tt)
 
-hosts-rows : (hs : List HostConfig) → HasRows (hosts_block hs)
-hosts-rows [] = tt
-hosts-rows (h ∷ hs) = (refl, host-rows h, hosts-rows hs)
+hosts_rows : (hs : List HostConfig) → HasRows (hosts_block hs)
+hosts_rows [] = tt
+hosts_rows (h ∷ hs) = (refl, host_rows_is h, hosts_rows hs)
 
-hosts-some : (hs : List HostConfig) → 1 ≤ length hs → is_done (hosts_block hs) ≡ false
-hosts-some [] h = absurd (omega (arith, h))
-hosts-some (x ∷ hs) h = refl
+hosts_some : (hs : List HostConfig) → 1 ≤ length hs → is_done (hosts_block hs) ≡ false
+hosts_some [] h = absurd (omega (arith, h))
+hosts_some (x ∷ hs) h = refl
 
-config-rows : (c : Config) → IsPlain c → HasRows (config_block c)
-config-rows c h =
-    let g = graph-rows c.graph in
-    (refl, tt, (refl, (g.0, g.1, tt), (hosts-some c.hosts h.few.0, hosts-rows c.hosts, tt)))
+config_rows : (c : Config) → IsPlain c → HasRows (config_block c)
+config_rows c h =
+    let g = graph_rows c.graph in
+    (refl, tt, (refl, (g.0, g.1, tt), (hosts_some c.hosts h.few.0, hosts_rows c.hosts, tt)))
 
 -- ---- fewer keys
 
@@ -67,25 +67,25 @@ or_false : (a b : Bool) → (a || b) ≡ false → (a ≡ false) × (b ≡ false
 or_false true b h = absurd (true≢false h)
 or_false false b h = (refl, h)
 
-fewer-one : (k : List ℕ) (keys : List (List ℕ)) → Fewer (k ∷ keys) keys
-fewer-one k keys key h = (or_false (is_among key keys) _ h).0
+fewer_one : (k : List ℕ) (keys : List (List ℕ)) → Fewer (k ∷ keys) keys
+fewer_one k keys key h = (or_false (is_among key keys) _ h).0
 
-fewer-more : (k : List ℕ) (keys others : List (List ℕ)) → Fewer keys others → Fewer (k ∷ keys) (k ∷ others)
-fewer-more k keys others f key h = let q = or_false (is_among key keys) (pointwise ◌==◌ key k) h in rw (f key q.0, q.1) refl
+fewer_more : (k : List ℕ) (keys others : List (List ℕ)) → Fewer keys others → Fewer (k ∷ keys) (k ∷ others)
+fewer_more k keys others f key h = let q = or_false (is_among key keys) (pointwise ◌==◌ key k) h in rw (f key q.0, q.1) refl
 
-fewer-new : (key : List ℕ) (keys others : List (List ℕ)) → Fewer keys others → IsNew key keys → IsNew key others
-fewer-new key keys others f n = record { apart = f key n.apart; plain = n.plain }
+fewer_new : (key : List ℕ) (keys others : List (List ℕ)) → Fewer keys others → IsNew key keys → IsNew key others
+fewer_new key keys others f n = record { apart = f key n.apart; plain = n.plain }
 
-fewer-rows : (b : Block) (k : ℕ) (keys others : List (List ℕ)) → Fewer keys others → HasNewRows k keys b → HasNewRows k others b
-fewer-rows done k keys others f h = tt
-fewer-rows (leaf_then w c rest) k keys others f h = (fewer-new (says w) keys others f h.0, h.1, fewer-rows rest k (says w ∷ keys) (says w ∷ others) (fewer-more (says w) keys others f) h.2)
-fewer-rows (block_then w inner rest) k keys others f h = (fewer-new (says w) keys others f h.0, h.1, h.2, h.3, h.4, fewer-rows rest k (says w ∷ keys) (says w ∷ others) (fewer-more (says w) keys others f) h.5)
-fewer-rows (items_then w first more rest) k keys others f h = (fewer-new (says w) keys others f h.0, h.1, fewer-rows rest k (says w ∷ keys) (says w ∷ others) (fewer-more (says w) keys others f) h.2)
+fewer_rows : (b : Block) (k : ℕ) (keys others : List (List ℕ)) → Fewer keys others → HasNewRows k keys b → HasNewRows k others b
+fewer_rows done k keys others f h = tt
+fewer_rows (leaf_then w c rest) k keys others f h = (fewer_new (says w) keys others f h.0, h.1, fewer_rows rest k (says w ∷ keys) (says w ∷ others) (fewer_more (says w) keys others f) h.2)
+fewer_rows (block_then w inner rest) k keys others f h = (fewer_new (says w) keys others f h.0, h.1, h.2, h.3, h.4, fewer_rows rest k (says w ∷ keys) (says w ∷ others) (fewer_more (says w) keys others f) h.5)
+fewer_rows (items_then w first more rest) k keys others f h = (fewer_new (says w) keys others f h.0, h.1, fewer_rows rest k (says w ∷ keys) (says w ∷ others) (fewer_more (says w) keys others f) h.2)
 
 -- a key that may be there or not
-if-new : {A : Type 0} (key : List ℕ) (cell : A → Cell) (o : Option A) (rest : Block) (k : ℕ) (keys : List (List ℕ)) → IsNew key keys → ((x : A) → HasNewKeys (cell x)) → HasNewRows k (key ∷ keys) rest → HasNewRows k keys (leaf_if key cell o rest)
-if-new key cell None rest k keys n f h = fewer-rows rest k (key ∷ keys) keys (fewer-one key keys) h
-if-new key cell (Some x) rest k keys n f h = (n, f x, h)
+if_new : {A : Type 0} (key : List ℕ) (cell : A → Cell) (o : Option A) (rest : Block) (k : ℕ) (keys : List (List ℕ)) → IsNew key keys → ((x : A) → HasNewKeys (cell x)) → HasNewRows k (key ∷ keys) rest → HasNewRows k keys (leaf_if key cell o rest)
+if_new key cell None rest k keys n f h = fewer_rows rest k (key ∷ keys) keys (fewer_one key keys) h
+if_new key cell (Some x) rest k keys n f h = (n, f x, h)
 
 -- ---- names that are apart
 
@@ -93,45 +93,45 @@ if-new key cell (Some x) rest k keys n f h = (n, f x, h)
 abbrev AreOthers : List (List ℕ) → List (List ℕ) → Type 0
 AreOthers names keys = AllByRecursion (λ key. AllByRecursion (λ other. other ≢ key) names) keys
 
-other-bytes : (a b : List ℕ) → a ≢ b → pointwise ◌==◌ a b ≡ false
-other-bytes a b h = by (pointwise ◌==◌ a b) refl
+other_bytes : (a b : List ℕ) → a ≢ b → pointwise ◌==◌ a b ≡ false
+other_bytes a b h = by (pointwise ◌==◌ a b) refl
   where
     by : (t : Bool) → pointwise ◌==◌ a b ≡ t → t ≡ false
     by true e = absurd (h (same_bytes a b e))
     by false e = refl
 
-first-new : (name : List ℕ) (names keys : List (List ℕ)) → AreOthers (name ∷ names) keys → is_among name keys ≡ false
-first-new name names [] h = refl
-first-new name names (k ∷ keys) h = rw (first-new name names keys h.1, other-bytes name k h.0.0) refl
+first_new : (name : List ℕ) (names keys : List (List ℕ)) → AreOthers (name ∷ names) keys → is_among name keys ≡ false
+first_new name names [] h = refl
+first_new name names (k ∷ keys) h = rw (first_new name names keys h.1, other_bytes name k h.0.0) refl
 
-others-rest : (name : List ℕ) (names keys : List (List ℕ)) → AreOthers (name ∷ names) keys → AreOthers names keys
-others-rest name names [] h = tt
-others-rest name names (k ∷ keys) h = (h.0.1, others-rest name names keys h.1)
+others_rest : (name : List ℕ) (names keys : List (List ℕ)) → AreOthers (name ∷ names) keys → AreOthers names keys
+others_rest name names [] h = tt
+others_rest name names (k ∷ keys) h = (h.0.1, others_rest name names keys h.1)
 
-others-next : (name : List ℕ) (names keys : List (List ℕ)) → AreApart (name ∷ names) → AreOthers (name ∷ names) keys → AreOthers names (name ∷ keys)
-others-next name names keys a h = (recursion_from_All (λ other. other ≢ name) names a.0, others-rest name names keys h)
+others_next : (name : List ℕ) (names keys : List (List ℕ)) → AreApart (name ∷ names) → AreOthers (name ∷ names) keys → AreOthers names (name ∷ keys)
+others_next name names keys a h = (recursion_from_All (λ other. other ≢ name) names a.0, others_rest name names keys h)
 
 -- ---- hosts
 
-variables-new : (vs : List Variable) (keys : List (List ℕ)) → AllByRecursion IsPlainVariable vs → AreApart (map (λ v. v.name) vs) → AreOthers (map (λ v. v.name) vs) keys → AreNewEntries keys (map variable_words vs)
-variables-new [] keys h a o = tt
-variables-new (v ∷ vs) keys h a o = (
-  record { apart = first-new v.name (map (λ x. x.name) vs) keys o; plain = other-bytes v.name (codes "<<") h.0.other },
-  variables-new vs (v.name ∷ keys) h.1 a.1 (others-next v.name (map (λ x. x.name) vs) keys a o),
+variables_new : (vs : List Variable) (keys : List (List ℕ)) → AllByRecursion IsPlainVariable vs → AreApart (map (λ v. v.name) vs) → AreOthers (map (λ v. v.name) vs) keys → AreNewEntries keys (map variable_words vs)
+variables_new [] keys h a o = tt
+variables_new (v ∷ vs) keys h a o = (
+  record { apart = first_new v.name (map (λ x. x.name) vs) keys o; plain = other_bytes v.name (codes "<<") h.0.other },
+  variables_new vs (v.name ∷ keys) h.1 a.1 (others_next v.name (map (λ x. x.name) vs) keys a o),
 )
 
-state-new : (s : FinalState) → HasNewKeys (state_cell s)
-state-new (Exited status) = (record { apart = refl; plain = refl }, tt)
-state-new (Signaled s) = (record { apart = refl; plain = refl }, tt)
-state-new Running = tt
+state_new : (s : FinalState) → HasNewKeys (state_cell s)
+state_new (Exited status) = (record { apart = refl; plain = refl }, tt)
+state_new (Signaled s) = (record { apart = refl; plain = refl }, tt)
+state_new Running = tt
 
-shutdown-new : (o : Option Time) (signal : Cell) (state : FinalState) → HasNewKeys signal
+shutdown_new : (o : Option Time) (signal : Cell) (state : FinalState) → HasNewKeys signal
     → AreNewLeaves (codes "start_time" ∷ codes "environment" ∷ codes "args" ∷ codes "path" ∷ []) (shutdown_leaves o ((bare (codes "shutdown_signal"), signal) ∷ (bare (codes "expected_final_state"), state_cell state) ∷ []))
-shutdown-new None signal state h = (record { apart = refl; plain = refl }, h, (record { apart = refl; plain = refl }, state-new state, tt))
-shutdown-new (Some t) signal state h = (record { apart = refl; plain = refl }, tt, (record { apart = refl; plain = refl }, h, (record { apart = refl; plain = refl }, state-new state, tt)))
+shutdown_new None signal state h = (record { apart = refl; plain = refl }, h, (record { apart = refl; plain = refl }, state_new state, tt))
+shutdown_new (Some t) signal state h = (record { apart = refl; plain = refl }, tt, (record { apart = refl; plain = refl }, h, (record { apart = refl; plain = refl }, state_new state, tt)))
 
-process-new : (p : ProcessConfig) → IsPlainProcess p → IsNewItem (process_item p)
-process-new p h = (
+process_new : (p : ProcessConfig) → IsPlainProcess p → IsNewItem (process_item p)
+process_new p h = (
   record { apart = refl; plain = refl },
   tt,
   (
@@ -139,19 +139,19 @@ process-new p h = (
     tt,
     (
       record { apart = refl; plain = refl },
-      variables-new p.environment [] (recursion_from_All IsPlainVariable p.environment h.environment) h.apart tt,
+      variables_new p.environment [] (recursion_from_All IsPlainVariable p.environment h.environment) h.apart tt,
       (
         record { apart = refl; plain = refl },
         tt,
-        shutdown-new p.shutdown_time _ p.expected_final_state tt,
+        shutdown_new p.shutdown_time _ p.expected_final_state tt,
       ),
     ),
   ),
 )
 
-processes-new : (ps : List ProcessConfig) → AllByRecursion IsPlainProcess ps → AreNewItems (map process_item ps)
-processes-new [] h = tt
-processes-new (p ∷ ps) h = (process-new p h.0, processes-new ps h.1)
+processes_new : (ps : List ProcessConfig) → AllByRecursion IsPlainProcess ps → AreNewItems (map process_item ps)
+processes_new [] h = tt
+processes_new (p ∷ ps) h = (process_new p h.0, processes_new ps h.1)
 
 -- the keys that stand before the options of a host, the last one first, and with that of the options
 abbrev interface_keys : List (List ℕ)
@@ -160,45 +160,45 @@ interface_keys = codes "bandwidth_down" ∷ codes "bandwidth_up" ∷ codes "ip_a
 abbrev host_keys : List (List ℕ)
 host_keys = codes "host_options" ∷ interface_keys
 
-processes-rows_new : (k : ℕ) (ps : List ProcessConfig) → AllByRecursion IsPlainProcess ps → HasNewRows k host_keys (processes_block ps)
-processes-rows_new k [] h = (record { apart = refl; plain = refl }, tt, tt)
-processes-rows_new k (p ∷ ps) h = (record { apart = refl; plain = refl }, (process-new p h.0, processes-new ps h.1), tt)
+processes_rows_new : (k : ℕ) (ps : List ProcessConfig) → AllByRecursion IsPlainProcess ps → HasNewRows k host_keys (processes_block ps)
+processes_rows_new k [] h = (record { apart = refl; plain = refl }, tt, tt)
+processes_rows_new k (p ∷ ps) h = (record { apart = refl; plain = refl }, (process_new p h.0, processes_new ps h.1), tt)
 
-options-new : (enabled all : Bool) (size : ℕ) (rest : Block) (k : ℕ) → HasNewRows k host_keys rest → HasNewRows k interface_keys (leaf_if (codes "host_options") (λ cell. cell) (option_entries enabled all size) rest)
-options-new false true size rest k h = fewer-rows rest k host_keys interface_keys (fewer-one (codes "host_options") interface_keys) h
-options-new false false size rest k h = (record { apart = refl; plain = refl }, (record { apart = refl; plain = refl }, tt), h)
-options-new true true size rest k h = (record { apart = refl; plain = refl }, (record { apart = refl; plain = refl }, tt), h)
-options-new true false size rest k h = (record { apart = refl; plain = refl }, (record { apart = refl; plain = refl }, (record { apart = refl; plain = refl }, tt)), h)
+options_new : (enabled all : Bool) (size : ℕ) (rest : Block) (k : ℕ) → HasNewRows k host_keys rest → HasNewRows k interface_keys (leaf_if (codes "host_options") (λ cell. cell) (option_entries enabled all size) rest)
+options_new false true size rest k h = fewer_rows rest k host_keys interface_keys (fewer_one (codes "host_options") interface_keys) h
+options_new false false size rest k h = (record { apart = refl; plain = refl }, (record { apart = refl; plain = refl }, tt), h)
+options_new true true size rest k h = (record { apart = refl; plain = refl }, (record { apart = refl; plain = refl }, tt), h)
+options_new true false size rest k h = (record { apart = refl; plain = refl }, (record { apart = refl; plain = refl }, (record { apart = refl; plain = refl }, tt)), h)
 
-host-new : (k : ℕ) (h : HostConfig) → IsPlainHost h → HasNewRows k [] (host_block h)
-host-new k h p = (
+host_new : (k : ℕ) (h : HostConfig) → IsPlainHost h → HasNewRows k [] (host_block h)
+host_new k h p = (
   record { apart = refl; plain = refl },
   tt,
-  if-new (codes "ip_addr") _ h.ip_addr _ k _ (record { apart = refl; plain = refl }) (λ ip. tt)
-      (if-new (codes "bandwidth_up") _ h.bandwidth_up _ k _ (record { apart = refl; plain = refl }) (λ n. tt)
-      (if-new (codes "bandwidth_down") _ h.bandwidth_down _ k _ (record { apart = refl; plain = refl }) (λ n. tt)
-      (options-new h.pcap_enabled (h.pcap_capture_size == 65535) h.pcap_capture_size (processes_block h.processes) k
-      (processes-rows_new k h.processes (recursion_from_All IsPlainProcess h.processes p.processes))))),
+  if_new (codes "ip_addr") _ h.ip_addr _ k _ (record { apart = refl; plain = refl }) (λ ip. tt)
+      (if_new (codes "bandwidth_up") _ h.bandwidth_up _ k _ (record { apart = refl; plain = refl }) (λ n. tt)
+      (if_new (codes "bandwidth_down") _ h.bandwidth_down _ k _ (record { apart = refl; plain = refl }) (λ n. tt)
+      (options_new h.pcap_enabled (h.pcap_capture_size == 65535) h.pcap_capture_size (processes_block h.processes) k
+      (processes_rows_new k h.processes (recursion_from_All IsPlainProcess h.processes p.processes))))),
 )
 
-hosts-new : (hs : List HostConfig) (keys : List (List ℕ)) → AllByRecursion IsPlainHost hs → AreApart (map (λ h. h.name) hs) → AreOthers (map (λ h. h.name) hs) keys → HasNewRows 40 keys (hosts_block hs)
-hosts-new [] keys h a o = tt
-hosts-new (x ∷ hs) keys h a o = (
-  record { apart = first-new x.name (map (λ y. y.name) hs) keys o; plain = name-other x.name h.0.name },
+hosts_new : (hs : List HostConfig) (keys : List (List ℕ)) → AllByRecursion IsPlainHost hs → AreApart (map (λ h. h.name) hs) → AreOthers (map (λ h. h.name) hs) keys → HasNewRows 40 keys (hosts_block hs)
+hosts_new [] keys h a o = tt
+hosts_new (x ∷ hs) keys h a o = (
+  record { apart = first_new x.name (map (λ y. y.name) hs) keys o; plain = name_other x.name h.0.name },
   20,
   omega arith,
   omega arith,
-  host-new 20 x h.0,
-  hosts-new hs (x.name ∷ keys) h.1 a.1 (others-next x.name (map (λ y. y.name) hs) keys a o),
+  host_new 20 x h.0,
+  hosts_new hs (x.name ∷ keys) h.1 a.1 (others_next x.name (map (λ y. y.name) hs) keys a o),
 )
 
-graph-new : (k : ℕ) (g : GraphSource) → HasNewRows k [] (graph_block g)
-graph-new k sources.OneGbitSwitch = (record { apart = refl; plain = refl }, tt, tt)
-graph-new k (sources.Inline text) = (record { apart = refl; plain = refl }, tt, (record { apart = refl; plain = refl }, tt, tt))
-graph-new k (sources.File name) = (record { apart = refl; plain = refl }, tt, (record { apart = refl; plain = refl }, (record { apart = refl; plain = refl }, tt), tt))
+graph_new : (k : ℕ) (g : GraphSource) → HasNewRows k [] (graph_block g)
+graph_new k sources.OneGbitSwitch = (record { apart = refl; plain = refl }, tt, tt)
+graph_new k (sources.Inline text) = (record { apart = refl; plain = refl }, tt, (record { apart = refl; plain = refl }, tt, tt))
+graph_new k (sources.File name) = (record { apart = refl; plain = refl }, tt, (record { apart = refl; plain = refl }, (record { apart = refl; plain = refl }, tt), tt))
 
-general-new : (k : ℕ) (c : Config) → HasNewRows k [] (general_block c)
-general-new k c = (
+general_new : (k : ℕ) (c : Config) → HasNewRows k [] (general_block c)
+general_new k c = (
   record { apart = refl; plain = refl },
   tt,
   (
@@ -212,32 +212,32 @@ general-new k c = (
   ),
 )
 
-network-new : (c : Config) → HasNewRows 40 [] (network_block c)
-network-new c = (
+network_new : (c : Config) → HasNewRows 40 [] (network_block c)
+network_new c = (
   record { apart = refl; plain = refl },
   20,
   omega arith,
   omega arith,
-  graph-new 20 c.graph,
+  graph_new 20 c.graph,
   (record { apart = refl; plain = refl }, tt, (record { apart = refl; plain = refl }, tt, tt)),
 )
 
-config-new : (c : Config) → IsPlain c → HasNewRows 60 [] (config_block c)
-config-new c h = (
+config_new : (c : Config) → IsPlain c → HasNewRows 60 [] (config_block c)
+config_new c h = (
   record { apart = refl; plain = refl },
   40,
   omega arith,
   omega arith,
-  general-new 40 c,
+  general_new 40 c,
   (
     record { apart = refl; plain = refl },
     40,
     omega arith,
     omega arith,
-    network-new c,
-    (record { apart = refl; plain = refl }, 40, omega arith, omega arith, hosts-new c.hosts [] (recursion_from_All IsPlainHost c.hosts h.hosts) h.apart tt, tt),
+    network_new c,
+    (record { apart = refl; plain = refl }, 40, omega arith, omega arith, hosts_new c.hosts [] (recursion_from_All IsPlainHost c.hosts h.hosts) h.apart tt, tt),
   ),
 )
 
-pub config-is_block : (c : Config) → IsPlain c → IsBlock (config_block c)
-config-is_block c h = record { spelled = config-spelled c h; some = refl; rows = config-rows c h; apart = config-new c h }
+pub config_is_block : (c : Config) → IsPlain c → IsBlock (config_block c)
+config_is_block c h = record { spelled = config_spelled c h; some = refl; rows = config_rows c h; apart = config_new c h }

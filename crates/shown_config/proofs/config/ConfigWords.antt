@@ -36,7 +36,7 @@ use Rattle.shown_config.proofs.forms.Cells.{Cell, IsCell}
 use Rattle.shown_config.proofs.forms.Cells.Cell.{word}
 use Rattle.shown_config.proofs.blocks.Blocks.{Leaf, Block}
 use Rattle.shown_config.proofs.blocks.BlockTokens.{AreLeaves, IsItem, AreItems, IsSpelled}
-use Rattle.shown_config.proofs.words.Decimals.{decimal-bare, unit-bare, address-bare}
+use Rattle.shown_config.proofs.words.Decimals.{decimal_bare, unit_bare, address_bare}
 use Rattle.shown_config.proofs.config.ConfigBlock.{time_cell, general_block, graph_block, network_block, variable_words, state_cell, shutdown_leaves, process_item, processes_block, leaf_if, option_entries, rate_cell, host_block, hosts_block, config_block}
 
 -- ---- known words
@@ -56,187 +56,187 @@ known text h =
     let c = and_parts (not (is_space (last_byte text))) (not (is_null text)) b.1 in
     record { bytes = a.0; first = b.0; last = not_true _ c.0; other = not_true _ c.1 }
 
-signal-bare : (s : Signal) → IsBare (signal_name s)
+signal_bare : (s : Signal) → IsBare (signal_name s)
 unfolding is_bare_text
-signal-bare SigHup = known _ refl
-signal-bare SigInt = known _ refl
-signal-bare SigQuit = known _ refl
-signal-bare SigIll = known _ refl
-signal-bare SigTrap = known _ refl
-signal-bare SigAbrt = known _ refl
-signal-bare SigBus = known _ refl
-signal-bare SigFpe = known _ refl
-signal-bare SigKill = known _ refl
-signal-bare SigUsr1 = known _ refl
-signal-bare SigSegv = known _ refl
-signal-bare SigUsr2 = known _ refl
-signal-bare SigPipe = known _ refl
-signal-bare SigAlrm = known _ refl
-signal-bare SigTerm = known _ refl
-signal-bare SigXcpu = known _ refl
+signal_bare SigHup = known _ refl
+signal_bare SigInt = known _ refl
+signal_bare SigQuit = known _ refl
+signal_bare SigIll = known _ refl
+signal_bare SigTrap = known _ refl
+signal_bare SigAbrt = known _ refl
+signal_bare SigBus = known _ refl
+signal_bare SigFpe = known _ refl
+signal_bare SigKill = known _ refl
+signal_bare SigUsr1 = known _ refl
+signal_bare SigSegv = known _ refl
+signal_bare SigUsr2 = known _ refl
+signal_bare SigPipe = known _ refl
+signal_bare SigAlrm = known _ refl
+signal_bare SigTerm = known _ refl
+signal_bare SigXcpu = known _ refl
 
-truth-bare : (b : Bool) → IsBare (shown_truth b)
+truth_bare : (b : Bool) → IsBare (shown_truth b)
 unfolding is_bare_text
-truth-bare true = known _ refl
-truth-bare false = known _ refl
+truth_bare true = known _ refl
+truth_bare false = known _ refl
 
-rule-bare : (r : QueueRule) → IsBare (shown_rule r)
+rule_bare : (r : QueueRule) → IsBare (shown_rule r)
 unfolding is_bare_text
-rule-bare Fifo = known _ refl
-rule-bare Codel = known _ refl
+rule_bare Fifo = known _ refl
+rule_bare Codel = known _ refl
 
-time-bare : (t : Time) → t.nanos < 2 ^ 64 → IsCell (time_cell t)
-time-bare t h = unit-bare t.nanos (codes " ns") h refl (omega arith) refl
+time_bare : (t : Time) → t.nanos < 2 ^ 64 → IsCell (time_cell t)
+time_bare t h = unit_bare t.nanos (codes " ns") h refl (omega arith) refl
 
 -- ---- spelled
 
-general-spelled : (c : Config) → IsPlain c → IsSpelled (general_block c)
+general_spelled : (c : Config) → IsPlain c → IsSpelled (general_block c)
 unfolding is_bare_text
-general-spelled c h = (
+general_spelled c h = (
   known _ refl,
-  time-bare c.stop_time (omega (arith, h.stop)),
+  time_bare c.stop_time (omega (arith, h.stop)),
   (
     known _ refl,
-    decimal-bare c.seed (omega (arith, h.seed)),
+    decimal_bare c.seed (omega (arith, h.seed)),
     (
       known _ refl,
-      decimal-bare c.parallelism (omega (arith, h.parallelism)),
+      decimal_bare c.parallelism (omega (arith, h.parallelism)),
       (
         known _ refl,
-        time-bare c.bootstrap_end_time h.bootstrap,
+        time_bare c.bootstrap_end_time h.bootstrap,
         (known _ refl, h.directory, tt),
       ),
     ),
   ),
 )
 
-graph-spelled : (g : GraphSource) → IsPlainGraph g → IsSpelled (graph_block g)
+graph_spelled : (g : GraphSource) → IsPlainGraph g → IsSpelled (graph_block g)
 unfolding is_bare_text
-graph-spelled sources.OneGbitSwitch h = (known _ refl, known _ refl, tt)
-graph-spelled (sources.Inline text) h = (known _ refl, known _ refl, (known _ refl, h, tt))
-graph-spelled (sources.File name) h = (known _ refl, known _ refl, (known _ refl, (known _ refl, h, tt), tt))
+graph_spelled sources.OneGbitSwitch h = (known _ refl, known _ refl, tt)
+graph_spelled (sources.Inline text) h = (known _ refl, known _ refl, (known _ refl, h, tt))
+graph_spelled (sources.File name) h = (known _ refl, known _ refl, (known _ refl, (known _ refl, h, tt), tt))
 
-network-spelled : (c : Config) → IsPlain c → IsSpelled (network_block c)
+network_spelled : (c : Config) → IsPlain c → IsSpelled (network_block c)
 unfolding is_bare_text
-network-spelled c h = (known _ refl, graph-spelled c.graph h.graph, (known _ refl, truth-bare c.use_shortest_path, (known _ refl, rule-bare c.router_queue, tt)))
+network_spelled c h = (known _ refl, graph_spelled c.graph h.graph, (known _ refl, truth_bare c.use_shortest_path, (known _ refl, rule_bare c.router_queue, tt)))
 
-args-words : (args : List (List ℕ)) → AllByRecursion IsUtf8 args → AreWords (map quote args)
-args-words [] h = tt
-args-words (a ∷ args) h = (h.0, args-words args h.1)
+args_words : (args : List (List ℕ)) → AllByRecursion IsUtf8 args → AreWords (map quote args)
+args_words [] h = tt
+args_words (a ∷ args) h = (h.0, args_words args h.1)
 
-environment-words : (vs : List Variable) → AllByRecursion IsPlainVariable vs → AreEntries (map variable_words vs)
-environment-words [] h = tt
-environment-words (v ∷ vs) h = (h.0.name, h.0.value, environment-words vs h.1)
+environment_words : (vs : List Variable) → AllByRecursion IsPlainVariable vs → AreEntries (map variable_words vs)
+environment_words [] h = tt
+environment_words (v ∷ vs) h = (h.0.name, h.0.value, environment_words vs h.1)
 
-state-words : (s : FinalState) → IsPlainState s → IsCell (state_cell s)
+state_words : (s : FinalState) → IsPlainState s → IsCell (state_cell s)
 unfolding is_bare_text
-state-words (Exited status) h = (known _ refl, decimal-bare status (omega (arith, h)), tt)
-state-words (Signaled signal) h = (known _ refl, signal-bare signal, tt)
-state-words Running h = known _ refl
+state_words (Exited status) h = (known _ refl, decimal_bare status (omega (arith, h)), tt)
+state_words (Signaled signal) h = (known _ refl, signal_bare signal, tt)
+state_words Running h = known _ refl
 
-shutdown-words : (start : Time) (o : Option Time) (rest : List Leaf) → IfSome o (IsShutdown start) → AreLeaves rest → AreLeaves (shutdown_leaves o rest)
+shutdown_words : (start : Time) (o : Option Time) (rest : List Leaf) → IfSome o (IsShutdown start) → AreLeaves rest → AreLeaves (shutdown_leaves o rest)
 unfolding is_bare_text
-shutdown-words start None rest h k = k
-shutdown-words start (Some t) rest h k = (known _ refl, time-bare t h.1, k)
+shutdown_words start None rest h k = k
+shutdown_words start (Some t) rest h k = (known _ refl, time_bare t h.1, k)
 
-process-words : (p : ProcessConfig) → IsPlainProcess p → IsItem (process_item p)
+process_words : (p : ProcessConfig) → IsPlainProcess p → IsItem (process_item p)
 unfolding is_bare_text
-process-words p h = (
+process_words p h = (
   known _ refl,
   h.path,
   (
     known _ refl,
-    args-words p.args (recursion_from_All IsUtf8 p.args h.args),
+    args_words p.args (recursion_from_All IsUtf8 p.args h.args),
     (
       known _ refl,
-      environment-words p.environment (recursion_from_All IsPlainVariable p.environment h.environment),
+      environment_words p.environment (recursion_from_All IsPlainVariable p.environment h.environment),
       (
         known _ refl,
-        time-bare p.start_time h.start,
-        shutdown-words p.start_time p.shutdown_time _ h.shutdown (known _ refl, signal-bare p.shutdown_signal, (known _ refl, state-words p.expected_final_state h.state, tt)),
+        time_bare p.start_time h.start,
+        shutdown_words p.start_time p.shutdown_time _ h.shutdown (known _ refl, signal_bare p.shutdown_signal, (known _ refl, state_words p.expected_final_state h.state, tt)),
       ),
     ),
   ),
 )
 
-processes-words : (ps : List ProcessConfig) → AllByRecursion IsPlainProcess ps → AreItems (map process_item ps)
-processes-words [] h = tt
-processes-words (p ∷ ps) h = (process-words p h.0, processes-words ps h.1)
+processes_words : (ps : List ProcessConfig) → AllByRecursion IsPlainProcess ps → AreItems (map process_item ps)
+processes_words [] h = tt
+processes_words (p ∷ ps) h = (process_words p h.0, processes_words ps h.1)
 
-processes-spelled : (ps : List ProcessConfig) → AllByRecursion IsPlainProcess ps → IsSpelled (processes_block ps)
+processes_spelled : (ps : List ProcessConfig) → AllByRecursion IsPlainProcess ps → IsSpelled (processes_block ps)
 unfolding is_bare_text
-processes-spelled [] h = (known _ refl, tt, tt)
-processes-spelled (p ∷ ps) h = (known _ refl, process-words p h.0, processes-words ps h.1, tt)
+processes_spelled [] h = (known _ refl, tt, tt)
+processes_spelled (p ∷ ps) h = (known _ refl, process_words p h.0, processes_words ps h.1, tt)
 
-if-spelled : {A : Type 0} (P : A → Type 0) (key : List ℕ) (cell : A → Cell) (o : Option A) (rest : Block) → IsBare key → ((x : A) → P x → IsCell (cell x)) → IfSome o P → IsSpelled rest → IsSpelled (leaf_if key cell o rest)
-if-spelled P key cell None rest k f h r = r
-if-spelled P key cell (Some x) rest k f h r = (k, f x h, r)
+if_spelled : {A : Type 0} (P : A → Type 0) (key : List ℕ) (cell : A → Cell) (o : Option A) (rest : Block) → IsBare key → ((x : A) → P x → IsCell (cell x)) → IfSome o P → IsSpelled rest → IsSpelled (leaf_if key cell o rest)
+if_spelled P key cell None rest k f h r = r
+if_spelled P key cell (Some x) rest k f h r = (k, f x h, r)
 
-options-spelled : (enabled all : Bool) (size : ℕ) (rest : Block) → size ≤ 65535 → IsSpelled rest → IsSpelled (leaf_if (codes "host_options") (λ cell. cell) (option_entries enabled all size) rest)
+options_spelled : (enabled all : Bool) (size : ℕ) (rest : Block) → size ≤ 65535 → IsSpelled rest → IsSpelled (leaf_if (codes "host_options") (λ cell. cell) (option_entries enabled all size) rest)
 unfolding is_bare_text
-options-spelled false true size rest h k = k
-options-spelled false false size rest h k = (known _ refl, (known _ refl, unit-bare size (codes " B") (omega (arith, h)) refl (omega arith) refl, tt), k)
-options-spelled true true size rest h k = (known _ refl, (known _ refl, known _ refl, tt), k)
-options-spelled true false size rest h k = (known _ refl, (known _ refl, known _ refl, (known _ refl, unit-bare size (codes " B") (omega (arith, h)) refl (omega arith) refl, tt)), k)
+options_spelled false true size rest h k = k
+options_spelled false false size rest h k = (known _ refl, (known _ refl, unit_bare size (codes " B") (omega (arith, h)) refl (omega arith) refl, tt), k)
+options_spelled true true size rest h k = (known _ refl, (known _ refl, known _ refl, tt), k)
+options_spelled true false size rest h k = (known _ refl, (known _ refl, known _ refl, (known _ refl, unit_bare size (codes " B") (omega (arith, h)) refl (omega arith) refl, tt)), k)
 
-pub address-small : (ip : Ip) → may_be_host ip ≡ true → ip.bits < 2 ^ 32
-address-small ip h =
+pub address_small : (ip : Ip) → may_be_host ip ≡ true → ip.bits < 2 ^ 32
+address_small ip h =
     let a = and_parts (is_within 0x0100_0000 0xdfff_ffff ip.bits) (not (is_within 0x7f00_0000 0x7fff_ffff ip.bits)) h in
     let b = and_parts (nat_le 0x0100_0000 ip.bits) (nat_le ip.bits 0xdfff_ffff) a.0 in
     let le : ip.bits ≤ 0xdfff_ffff = leb-true ip.bits 0xdfff_ffff b.1 in
     omega arith
 
-rate-bare : (n : ℕ) → IsRate n → IsCell (rate_cell n)
-rate-bare n h = unit-bare n (codes " bit") h.1 refl (omega arith) refl
+rate_bare : (n : ℕ) → IsRate n → IsCell (rate_cell n)
+rate_bare n h = unit_bare n (codes " bit") h.1 refl (omega arith) refl
 
-host-spelled : (h : HostConfig) → IsPlainHost h → IsSpelled (host_block h)
+host_spelled : (h : HostConfig) → IsPlainHost h → IsSpelled (host_block h)
 unfolding is_bare_text
-host-spelled h p = (
+host_spelled h p = (
   known _ refl,
-  decimal-bare h.network_node_id (omega (arith, p.node)),
-  if-spelled (λ ip. may_be_host ip ≡ true) (codes "ip_addr") (λ ip. word (bare (shown_address ip))) h.ip_addr _ (known _ refl) (λ ip k. address-bare ip (address-small ip k)) p.address
-      (if-spelled IsRate (codes "bandwidth_up") rate_cell h.bandwidth_up _ (known _ refl) rate-bare p.up
-      (if-spelled IsRate (codes "bandwidth_down") rate_cell h.bandwidth_down _ (known _ refl) rate-bare p.down
-      (options-spelled h.pcap_enabled (h.pcap_capture_size == 65535) h.pcap_capture_size _ p.capture.1
-      (processes-spelled h.processes (recursion_from_All IsPlainProcess h.processes p.processes))))),
+  decimal_bare h.network_node_id (omega (arith, p.node)),
+  if_spelled (λ ip. may_be_host ip ≡ true) (codes "ip_addr") (λ ip. word (bare (shown_address ip))) h.ip_addr _ (known _ refl) (λ ip k. address_bare ip (address_small ip k)) p.address
+      (if_spelled IsRate (codes "bandwidth_up") rate_cell h.bandwidth_up _ (known _ refl) rate_bare p.up
+      (if_spelled IsRate (codes "bandwidth_down") rate_cell h.bandwidth_down _ (known _ refl) rate_bare p.down
+      (options_spelled h.pcap_enabled (h.pcap_capture_size == 65535) h.pcap_capture_size _ p.capture.1
+      (processes_spelled h.processes (recursion_from_All IsPlainProcess h.processes p.processes))))),
 )
 
 -- ---- names of hosts
 
-name_byte-ascii : (b : ℕ) → is_name_byte b ≡ true → b < 128
-name_byte-ascii b h = grind (arith, nat_tests)
+name_byte_ascii : (b : ℕ) → is_name_byte b ≡ true → b < 128
+name_byte_ascii b h = grind (arith, nat_tests)
 
-letter-ascii : (b : ℕ) → is_ascii_alphanumeric b ≡ true → b < 128
-letter-ascii b h = grind (arith, nat_tests)
+letter_ascii : (b : ℕ) → is_ascii_alphanumeric b ≡ true → b < 128
+letter_ascii b h = grind (arith, nat_tests)
 
-names-ascii : (bytes : List ℕ) → list_all is_name_byte bytes ≡ true → IsAscii bytes
-names-ascii [] h = IsAscii-nil
-names-ascii (b ∷ bytes) h = let k = and_parts (is_name_byte b) _ h in IsAscii-cons b bytes (name_byte-ascii b k.0) (names-ascii bytes k.1)
+names_ascii : (bytes : List ℕ) → list_all is_name_byte bytes ≡ true → IsAscii bytes
+names_ascii [] h = IsAscii-nil
+names_ascii (b ∷ bytes) h = let k = and_parts (is_name_byte b) _ h in IsAscii-cons b bytes (name_byte_ascii b k.0) (names_ascii bytes k.1)
 
-name-utf8 : (name : List ℕ) → is_name_of_host name ≡ true → IsUtf8 name
-name-utf8 [] h = absurd (true≢false (sym h))
-name-utf8 (b ∷ bytes) h =
+name_utf8 : (name : List ℕ) → is_name_of_host name ≡ true → IsUtf8 name
+name_utf8 [] h = absurd (true≢false (sym h))
+name_utf8 (b ∷ bytes) h =
     let k = and_parts (is_ascii_alphanumeric b && _) (list_all is_name_byte bytes) h in
-    IsUtf8-from_ascii (b ∷ bytes) (IsAscii-cons b bytes (letter-ascii b (and_parts (is_ascii_alphanumeric b) _ k.0).0) (names-ascii bytes k.1))
+    IsUtf8-from_ascii (b ∷ bytes) (IsAscii-cons b bytes (letter_ascii b (and_parts (is_ascii_alphanumeric b) _ k.0).0) (names_ascii bytes k.1))
 
-pub name-other : (name : List ℕ) → is_name_of_host name ≡ true → is_merge_key name ≡ false
-name-other [] h = absurd (true≢false (sym h))
-name-other (b ∷ bytes) h =
+pub name_other : (name : List ℕ) → is_name_of_host name ≡ true → is_merge_key name ≡ false
+name_other [] h = absurd (true≢false (sym h))
+name_other (b ∷ bytes) h =
     let k = and_parts (is_ascii_alphanumeric b && _) (list_all is_name_byte bytes) h in
     rw (is_other is_ascii_alphanumeric b 60 (and_parts (is_ascii_alphanumeric b) _ k.0).0 refl) refl
 
-hosts-spelled : (hs : List HostConfig) → AllByRecursion IsPlainHost hs → IsSpelled (hosts_block hs)
-hosts-spelled [] h = tt
-hosts-spelled (x ∷ hs) h = (name-utf8 x.name h.0.name, host-spelled x h.0, hosts-spelled hs h.1)
+hosts_spelled : (hs : List HostConfig) → AllByRecursion IsPlainHost hs → IsSpelled (hosts_block hs)
+hosts_spelled [] h = tt
+hosts_spelled (x ∷ hs) h = (name_utf8 x.name h.0.name, host_spelled x h.0, hosts_spelled hs h.1)
 
-pub config-spelled : (c : Config) → IsPlain c → IsSpelled (config_block c)
+pub config_spelled : (c : Config) → IsPlain c → IsSpelled (config_block c)
 unfolding is_bare_text
-config-spelled c h = (
+config_spelled c h = (
   known _ refl,
-  general-spelled c h,
+  general_spelled c h,
   (
     known _ refl,
-    network-spelled c h,
-    (known _ refl, hosts-spelled c.hosts (recursion_from_All IsPlainHost c.hosts h.hosts), tt),
+    network_spelled c h,
+    (known _ refl, hosts_spelled c.hosts (recursion_from_All IsPlainHost c.hosts h.hosts), tt),
   ),
 )

@@ -10,7 +10,7 @@ use Rattle.yaml_marks.specs.declared.piece.Piece.TheVariants.{Opening, Closing, 
 use Rattle.yaml_tree.specs.Flows.{Flow}
 use Rattle.yaml_tree.specs.Flows.Flow.{absent, word, item, pair, form}
 use Rattle.shd_config.specs.Shown.{listed}
-use Rattle.shown_config.proofs.words.Words.{Word, text_of, says, IsWord, StopsCell, Opened, opened, scan_of_word, cell_scan-word}
+use Rattle.shown_config.proofs.words.Words.{Word, text_of, says, IsWord, StopsCell, Opened, opened, scan_of_word, cell_scan_word}
 use Rattle.shown_config.proofs.words.Words.Word.{bare, quote}
 
 -- ---- what is found
@@ -31,20 +31,20 @@ skipped_len n [] rest = omega arith
 skipped_len n (b ∷ bytes) rest = let more = skipped_len n bytes rest in omega (arith, more)
 
 -- the step over a word
-step-scan : (w : Word) → IsWord w → (b : ℕ) (bytes : List ℕ) → scan_step b bytes (scan_of_word w) ≡ word_step (says w) (Some (says w)) (b ∷ bytes) (length (text_of w))
-step-scan (bare text) h b bytes = rw h.other refl
-step-scan (quote text) h b bytes = refl
+step_scan : (w : Word) → IsWord w → (b : ℕ) (bytes : List ℕ) → scan_step b bytes (scan_of_word w) ≡ word_step (says w) (Some (says w)) (b ∷ bytes) (length (text_of w))
+step_scan (bare text) h b bytes = rw h.other refl
+step_scan (quote text) h b bytes = refl
 
-step-word : (w : Word) (rest : List ℕ) (h : IsWord w) → StopsCell rest → (o : Opened (text_of w)) → step_at o.first (o.rest ++ rest) ≡ word_step (says w) (Some (says w)) (o.first ∷ (o.rest ++ rest)) (length (text_of w))
-step-word w rest h s o =
+step_word : (w : Word) (rest : List ℕ) (h : IsWord w) → StopsCell rest → (o : Opened (text_of w)) → step_at o.first (o.rest ++ rest) ≡ word_step (says w) (Some (says w)) (o.first ∷ (o.rest ++ rest)) (length (text_of w))
+step_word w rest h s o =
     rw (o.other 32 refl, o.other 91 refl, o.other 93 refl, o.other 123 refl, o.other 125 refl, o.other 44 refl, o.other 38 refl, o.other 42 refl)
-    (ap (scan_step o.first (o.rest ++ rest)) (cell_scan-word w rest o.first o.rest h s o.parts) ∙ step-scan w h o.first (o.rest ++ rest))
+    (ap (scan_step o.first (o.rest ++ rest)) (cell_scan_word w rest o.first o.rest h s o.parts) ∙ step_scan w h o.first (o.rest ++ rest))
 
 behind_word : (w : Word) (rest : List ℕ) (o : Opened (text_of w)) → drop (length (text_of w)) (o.first ∷ (o.rest ++ rest)) ≡ rest
 behind_word w rest o = ap (λ l. drop (length (text_of w)) (l ++ rest)) (sym o.parts) ∙ drop_at (text_of w) rest (length (text_of w)) refl
 
-length-rest : (w : Word) (o : Opened (text_of w)) → length (text_of w) ≡ suc (length o.rest)
-length-rest w o = ap length o.parts
+length_rest : (w : Word) (o : Opened (text_of w)) → length (text_of w) ≡ suc (length o.rest)
+length_rest w o = ap length o.parts
 
 -- the step over a word before these bytes
 abbrev stepped : List ℕ → ℕ → List ℕ → CellStep
@@ -53,58 +53,58 @@ stepped text len rest = record { piece = Some (if at_colon rest then CellKey tex
 abbrev after_step : CellStep → ℕ → List ℕ → Found
 after_step step n bytes = with_step step n (found_at step.skip (open_after step.piece n) bytes)
 
-found_at-word : (w : Word) (rest : List ℕ) (n : ℕ) → IsWord w → StopsCell rest → (o : Opened (text_of w)) → found_at 0 n (text_of w ++ rest) ≡ after_step (stepped (says w) (length (text_of w)) rest) n (o.rest ++ rest)
+found_at_word : (w : Word) (rest : List ℕ) (n : ℕ) → IsWord w → StopsCell rest → (o : Opened (text_of w)) → found_at 0 n (text_of w ++ rest) ≡ after_step (stepped (says w) (length (text_of w)) rest) n (o.rest ++ rest)
 unfolding found_at
-found_at-word w rest n h s o =
+found_at_word w rest n h s o =
     ap (λ l. found_at 0 n (l ++ rest)) o.parts
-    ∙ ap (λ step. after_step step n (o.rest ++ rest)) (step-word w rest h s o ∙ ap (stepped (says w) (length (text_of w))) (behind_word w rest o))
+    ∙ ap (λ step. after_step step n (o.rest ++ rest)) (step_word w rest h s o ∙ ap (stepped (says w) (length (text_of w))) (behind_word w rest o))
 
 -- a scalar
-scalar-finds : (w : Word) (rest : List ℕ) (n : ℕ) (pieces : List Piece) → IsWord w → StopsCell rest → at_colon rest ≡ false → Finds n rest pieces → Finds n (text_of w ++ rest) (CellScalar (Some (says w)) ∷ pieces)
-scalar-finds w rest n pieces h s c f = record {
+scalar_finds : (w : Word) (rest : List ℕ) (n : ℕ) (pieces : List Piece) → IsWord w → StopsCell rest → at_colon rest ≡ false → Finds n rest pieces → Finds n (text_of w ++ rest) (CellScalar (Some (says w)) ∷ pieces)
+scalar_finds w rest n pieces h s c f = record {
   are = ap (λ found. found.pieces) step ∙ ap (λ l. CellScalar (Some (says w)) ∷ l) (skipped n o.rest rest ∙ f.are);
-  whole = ap (λ found. found.len) step ∙ (let a = skipped_len n o.rest rest in let b = length-append (text_of w) rest in let d = length-rest w o in omega (arith, a, b, d, f.whole));
+  whole = ap (λ found. found.len) step ∙ (let a = skipped_len n o.rest rest in let b = length-append (text_of w) rest in let d = length_rest w o in omega (arith, a, b, d, f.whole));
 }
   where
     o : Opened (text_of w)
     o = opened w h
 
     skip : length (text_of w) - 1 ≡ length o.rest
-    skip = let e = length-rest w o in omega (arith, e)
+    skip = let e = length_rest w o in omega (arith, e)
 
     step : found_at 0 n (text_of w ++ rest) ≡ after_step (record { piece = Some (CellScalar (Some (says w))); skip = length o.rest }) n (o.rest ++ rest)
-    step = found_at-word w rest n h s o ∙ rw c (ap (λ k. after_step (record { piece = Some (CellScalar (Some (says w))); skip = k }) n (o.rest ++ rest)) skip)
+    step = found_at_word w rest n h s o ∙ rw c (ap (λ k. after_step (record { piece = Some (CellScalar (Some (says w))); skip = k }) n (o.rest ++ rest)) skip)
 
 -- a key
-key-finds : (w : Word) (rest : List ℕ) (n : ℕ) (pieces : List Piece) → IsWord w → Finds n (32 ∷ rest) pieces → Finds n (text_of w ++ (58 ∷ (32 ∷ rest))) (CellKey (says w) ∷ pieces)
+key_finds : (w : Word) (rest : List ℕ) (n : ℕ) (pieces : List Piece) → IsWord w → Finds n (32 ∷ rest) pieces → Finds n (text_of w ++ (58 ∷ (32 ∷ rest))) (CellKey (says w) ∷ pieces)
 unfolding cell_len
-key-finds w rest n pieces h f = record {
+key_finds w rest n pieces h f = record {
   are = ap (λ found. found.pieces) step ∙ ap (λ l. CellKey (says w) ∷ l) (skipped n (o.rest ++ (58 ∷ [])) (32 ∷ rest) ∙ f.are);
-  whole = ap (λ found. found.len) step ∙ (let a = skipped_len n (o.rest ++ (58 ∷ [])) (32 ∷ rest) in let b = length-append (text_of w) (58 ∷ (32 ∷ rest)) in let d = length-rest w o in let e = length-append o.rest (58 ∷ []) in omega (arith, a, b, d, e, f.whole));
+  whole = ap (λ found. found.len) step ∙ (let a = skipped_len n (o.rest ++ (58 ∷ [])) (32 ∷ rest) in let b = length-append (text_of w) (58 ∷ (32 ∷ rest)) in let d = length_rest w o in let e = length-append o.rest (58 ∷ []) in omega (arith, a, b, d, e, f.whole));
 }
   where
     o : Opened (text_of w)
     o = opened w h
 
     skip : (length (text_of w) + 1) - 1 ≡ length (o.rest ++ (58 ∷ []))
-    skip = let e = length-rest w o in let a = length-append o.rest (58 ∷ []) in omega (arith, e, a)
+    skip = let e = length_rest w o in let a = length-append o.rest (58 ∷ []) in omega (arith, e, a)
 
     step : found_at 0 n (text_of w ++ (58 ∷ (32 ∷ rest))) ≡ after_step (record { piece = Some (CellKey (says w)); skip = length (o.rest ++ (58 ∷ [])) }) n ((o.rest ++ (58 ∷ [])) ++ (32 ∷ rest))
     step =
-        found_at-word w (58 ∷ (32 ∷ rest)) n h (refl, refl) o
+        found_at_word w (58 ∷ (32 ∷ rest)) n h (refl, refl) o
         ∙ ap (λ k. after_step (record { piece = Some (CellKey (says w)); skip = k }) n (o.rest ++ (58 ∷ (32 ∷ rest)))) skip
         ∙ ap (after_step (record { piece = Some (CellKey (says w)); skip = length (o.rest ++ (58 ∷ [])) }) n) (sym (append_assoc o.rest (58 ∷ []) (32 ∷ rest)))
 
-space-finds : (rest : List ℕ) (n : ℕ) (pieces : List Piece) → begins_with 35 rest ≡ false → Finds n rest pieces → Finds n (32 ∷ rest) pieces
+space_finds : (rest : List ℕ) (n : ℕ) (pieces : List Piece) → begins_with 35 rest ≡ false → Finds n rest pieces → Finds n (32 ∷ rest) pieces
 unfolding found_at
-space-finds rest n pieces c f = record {
+space_finds rest n pieces c f = record {
   are = rw c f.are;
   whole = rw c (omega (arith, f.whole));
 }
 
-comma-finds : (rest : List ℕ) (n : ℕ) (pieces : List Piece) → Finds n rest pieces → Finds n (44 ∷ rest) (Comma ∷ pieces)
+comma_finds : (rest : List ℕ) (n : ℕ) (pieces : List Piece) → Finds n rest pieces → Finds n (44 ∷ rest) (Comma ∷ pieces)
 unfolding found_at
-comma-finds rest n pieces f = record { are = ap (λ l. Comma ∷ l) f.are; whole = omega (arith, f.whole) }
+comma_finds rest n pieces f = record { are = ap (λ l. Comma ∷ l) f.are; whole = omega (arith, f.whole) }
 
 no_comment : (w : Word) (rest : List ℕ) → IsWord w → begins_with 35 (text_of w ++ rest) ≡ false
 no_comment w rest h = let o = opened w h in ap (λ l. begins_with 35 (l ++ rest)) o.parts ∙ o.other 35 refl
@@ -134,30 +134,30 @@ item_pieces (w ∷ ws) = item_piece w ∷ more_items ws
 abbrev Ends : List ℕ → Type 0
 Ends rest = StopsCell rest × (at_colon rest ≡ false)
 
-square-ends : (ws : List Word) → Ends (flat_map (comma_before text_of) ws ++ (93 ∷ []))
+square_ends : (ws : List Word) → Ends (flat_map (comma_before text_of) ws ++ (93 ∷ []))
 unfolding cell_len
-square-ends [] = ((refl, refl), refl)
-square-ends (w ∷ ws) = ((refl, refl), refl)
+square_ends [] = ((refl, refl), refl)
+square_ends (w ∷ ws) = ((refl, refl), refl)
 
-item-finds : (w : Word) (ws : List Word) (pieces : List Piece) → IsWord w → Finds 1 (flat_map (comma_before text_of) ws ++ (93 ∷ [])) pieces → Finds 1 ((text_of w ++ flat_map (comma_before text_of) ws) ++ (93 ∷ [])) (item_piece w ∷ pieces)
-item-finds w ws pieces h f =
-    let e = square-ends ws in
+item_finds : (w : Word) (ws : List Word) (pieces : List Piece) → IsWord w → Finds 1 (flat_map (comma_before text_of) ws ++ (93 ∷ [])) pieces → Finds 1 ((text_of w ++ flat_map (comma_before text_of) ws) ++ (93 ∷ [])) (item_piece w ∷ pieces)
+item_finds w ws pieces h f =
+    let e = square_ends ws in
     subst (λ (l : List ℕ). Finds 1 l (item_piece w ∷ pieces)) (sym (append_assoc (text_of w) (flat_map (comma_before text_of) ws) (93 ∷ [])))
-    (scalar-finds w (flat_map (comma_before text_of) ws ++ (93 ∷ [])) 1 pieces h e.0 e.1 f)
+    (scalar_finds w (flat_map (comma_before text_of) ws ++ (93 ∷ [])) 1 pieces h e.0 e.1 f)
 
-more_items-find : (ws : List Word) → AreWords ws → Finds 1 (flat_map (comma_before text_of) ws ++ (93 ∷ [])) (more_items ws ++ (Closing Square ∷ []))
+more_items_find : (ws : List Word) → AreWords ws → Finds 1 (flat_map (comma_before text_of) ws ++ (93 ∷ [])) (more_items ws ++ (Closing Square ∷ []))
 unfolding found_at
-more_items-find [] h = record { are = refl; whole = refl }
-more_items-find (w ∷ ws) h =
+more_items_find [] h = record { are = refl; whole = refl }
+more_items_find (w ∷ ws) h =
     let rest = (text_of w ++ flat_map (comma_before text_of) ws) ++ (93 ∷ []) in
-    let found = item-finds w ws (more_items ws ++ (Closing Square ∷ [])) h.0 (more_items-find ws h.1) in
+    let found = item_finds w ws (more_items ws ++ (Closing Square ∷ [])) h.0 (more_items_find ws h.1) in
     let open_text = subst (λ (l : List ℕ). begins_with 35 l ≡ false) (sym (append_assoc (text_of w) (flat_map (comma_before text_of) ws) (93 ∷ []))) (no_comment w (flat_map (comma_before text_of) ws ++ (93 ∷ [])) h.0) in
-    comma-finds (32 ∷ rest) 1 _ (space-finds rest 1 _ open_text found)
+    comma_finds (32 ∷ rest) 1 _ (space_finds rest 1 _ open_text found)
 
-items-find : (ws : List Word) → AreWords ws → Finds 1 (listed text_of ws ++ (93 ∷ [])) (item_pieces ws ++ (Closing Square ∷ []))
+items_find : (ws : List Word) → AreWords ws → Finds 1 (listed text_of ws ++ (93 ∷ [])) (item_pieces ws ++ (Closing Square ∷ []))
 unfolding found_at
-items-find [] h = record { are = refl; whole = refl }
-items-find (w ∷ ws) h = item-finds w ws (more_items ws ++ (Closing Square ∷ [])) h.0 (more_items-find ws h.1)
+items_find [] h = record { are = refl; whole = refl }
+items_find (w ∷ ws) h = item_finds w ws (more_items ws ++ (Closing Square ∷ [])) h.0 (more_items_find ws h.1)
 
 -- the flow form of items behind those before
 abbrev pub items_flow : Flow → List Word → Flow
@@ -189,10 +189,10 @@ abbrev pub entry_pieces : List (Word × Word) → List Piece
 entry_pieces [] = []
 entry_pieces (p ∷ ps) = CellKey (says p.0) ∷ item_piece p.1 ∷ more_entries ps
 
-curly-ends : (ps : List (Word × Word)) → Ends (flat_map (comma_before entry_text) ps ++ (125 ∷ []))
+curly_ends : (ps : List (Word × Word)) → Ends (flat_map (comma_before entry_text) ps ++ (125 ∷ []))
 unfolding cell_len
-curly-ends [] = ((refl, refl), refl)
-curly-ends (p ∷ ps) = ((refl, refl), refl)
+curly_ends [] = ((refl, refl), refl)
+curly_ends (p ∷ ps) = ((refl, refl), refl)
 
 -- a text in two parts before a third
 entry_parts : (p : Word × Word) (rest end : List ℕ) → (entry_text p ++ rest) ++ end ≡ text_of p.0 ++ (58 ∷ (32 ∷ (text_of p.1 ++ (rest ++ end))))
@@ -200,27 +200,27 @@ entry_parts p rest end =
     append_assoc (entry_text p) rest end
     ∙ append_assoc (text_of p.0) (codes ": " ++ text_of p.1) (rest ++ end)
 
-entry-finds : (p : Word × Word) (ps : List (Word × Word)) (pieces : List Piece) → IsWord p.0 → IsWord p.1 → Finds 1 (flat_map (comma_before entry_text) ps ++ (125 ∷ [])) pieces
+entry_finds : (p : Word × Word) (ps : List (Word × Word)) (pieces : List Piece) → IsWord p.0 → IsWord p.1 → Finds 1 (flat_map (comma_before entry_text) ps ++ (125 ∷ [])) pieces
     → Finds 1 ((entry_text p ++ flat_map (comma_before entry_text) ps) ++ (125 ∷ [])) (CellKey (says p.0) ∷ item_piece p.1 ∷ pieces)
-entry-finds p ps pieces h k f =
-    let e = curly-ends ps in
+entry_finds p ps pieces h k f =
+    let e = curly_ends ps in
     let rest = flat_map (comma_before entry_text) ps ++ (125 ∷ []) in
     subst (λ (l : List ℕ). Finds 1 l (CellKey (says p.0) ∷ item_piece p.1 ∷ pieces)) (sym (entry_parts p (flat_map (comma_before entry_text) ps) (125 ∷ [])))
-    (key-finds p.0 (text_of p.1 ++ rest) 1 _ h (space-finds (text_of p.1 ++ rest) 1 _ (no_comment p.1 rest k) (scalar-finds p.1 rest 1 pieces k e.0 e.1 f)))
+    (key_finds p.0 (text_of p.1 ++ rest) 1 _ h (space_finds (text_of p.1 ++ rest) 1 _ (no_comment p.1 rest k) (scalar_finds p.1 rest 1 pieces k e.0 e.1 f)))
 
-more_entries-find : (ps : List (Word × Word)) → AreEntries ps → Finds 1 (flat_map (comma_before entry_text) ps ++ (125 ∷ [])) (more_entries ps ++ (Closing Curly ∷ []))
+more_entries_find : (ps : List (Word × Word)) → AreEntries ps → Finds 1 (flat_map (comma_before entry_text) ps ++ (125 ∷ [])) (more_entries ps ++ (Closing Curly ∷ []))
 unfolding found_at
-more_entries-find [] h = record { are = refl; whole = refl }
-more_entries-find (p ∷ ps) h =
+more_entries_find [] h = record { are = refl; whole = refl }
+more_entries_find (p ∷ ps) h =
     let rest = (entry_text p ++ flat_map (comma_before entry_text) ps) ++ (125 ∷ []) in
-    let found = entry-finds p ps (more_entries ps ++ (Closing Curly ∷ [])) h.0 h.1 (more_entries-find ps h.2) in
+    let found = entry_finds p ps (more_entries ps ++ (Closing Curly ∷ [])) h.0 h.1 (more_entries_find ps h.2) in
     let open_text = subst (λ (l : List ℕ). begins_with 35 l ≡ false) (sym (entry_parts p (flat_map (comma_before entry_text) ps) (125 ∷ []))) (no_comment p.0 (58 ∷ (32 ∷ (text_of p.1 ++ (flat_map (comma_before entry_text) ps ++ (125 ∷ []))))) h.0) in
-    comma-finds (32 ∷ rest) 1 _ (space-finds rest 1 _ open_text found)
+    comma_finds (32 ∷ rest) 1 _ (space_finds rest 1 _ open_text found)
 
-entries-find : (ps : List (Word × Word)) → AreEntries ps → Finds 1 (listed entry_text ps ++ (125 ∷ [])) (entry_pieces ps ++ (Closing Curly ∷ []))
+entries_find : (ps : List (Word × Word)) → AreEntries ps → Finds 1 (listed entry_text ps ++ (125 ∷ [])) (entry_pieces ps ++ (Closing Curly ∷ []))
 unfolding found_at
-entries-find [] h = record { are = refl; whole = refl }
-entries-find (p ∷ ps) h = entry-finds p ps (more_entries ps ++ (Closing Curly ∷ [])) h.0 h.1 (more_entries-find ps h.2)
+entries_find [] h = record { are = refl; whole = refl }
+entries_find (p ∷ ps) h = entry_finds p ps (more_entries ps ++ (Closing Curly ∷ [])) h.0 h.1 (more_entries_find ps h.2)
 
 abbrev pub entries_flow : Flow → List (Word × Word) → Flow
 entries_flow before [] = before
@@ -239,10 +239,10 @@ pub record IsFlowText (bytes : List ℕ) (pieces : List Piece) : Type 0 where
   pub are : (flow_at bytes).pieces ≡ pieces
   pub whole : (flow_at bytes).len ≡ length bytes
 
-pub list-flow : (ws : List Word) → AreWords ws → IsFlowText (list_text ws) (list_pieces ws)
+pub list_flow_is : (ws : List Word) → AreWords ws → IsFlowText (list_text ws) (list_pieces ws)
 unfolding found_at
-list-flow ws h = let f = items-find ws h in record { are = ap (λ l. Opening Square ∷ l) f.are; whole = omega (arith, f.whole) }
+list_flow_is ws h = let f = items_find ws h in record { are = ap (λ l. Opening Square ∷ l) f.are; whole = omega (arith, f.whole) }
 
-pub map-flow : (ps : List (Word × Word)) → AreEntries ps → IsFlowText (map_text ps) (map_pieces ps)
+pub map_flow_is : (ps : List (Word × Word)) → AreEntries ps → IsFlowText (map_text ps) (map_pieces ps)
 unfolding found_at
-map-flow ps h = let f = entries-find ps h in record { are = ap (λ l. Opening Curly ∷ l) f.are; whole = omega (arith, f.whole) }
+map_flow_is ps h = let f = entries_find ps h in record { are = ap (λ l. Opening Curly ∷ l) f.are; whole = omega (arith, f.whole) }

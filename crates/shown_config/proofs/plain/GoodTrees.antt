@@ -27,36 +27,36 @@ keys_in pairs = map (λ p. p.key) pairs
 
 -- ---- texts
 
-pub text-good : (tree : Said) → IsGood tree → IfSome (text_in tree) IsUtf8
-text-good (null line) h = tt
-text-good (text line bytes) h = h.plain
-text-good (unknown line) h = tt
-text-good (sequence line) h = tt
-text-good (mapping line) h = tt
-text-good (with_item before value) h = tt
-text-good (with_pair before line key value) h = tt
+pub text_good : (tree : Said) → IsGood tree → IfSome (text_in tree) IsUtf8
+text_good (null line) h = tt
+text_good (text line bytes) h = h.plain
+text_good (unknown line) h = tt
+text_good (sequence line) h = tt
+text_good (mapping line) h = tt
+text_good (with_item before value) h = tt
+text_good (with_pair before line key value) h = tt
 
 -- ---- lists that grow
 
-push-each : {A : Type 0} (P : A → Type 0) (xs : List A) (x : A) → AllByRecursion P xs → P x → AllByRecursion P (xs ++ x ∷ [])
-push-each P [] x h k = (k, tt)
-push-each P (y ∷ xs) x h k = (h.0, push-each P xs x h.1 k)
+push_each : {A : Type 0} (P : A → Type 0) (xs : List A) (x : A) → AllByRecursion P xs → P x → AllByRecursion P (xs ++ x ∷ [])
+push_each P [] x h k = (k, tt)
+push_each P (y ∷ xs) x h k = (h.0, push_each P xs x h.1 k)
 
 -- ---- items
 
-items-push : (o : Option (List Said)) (x : Said) → IfSome o (AllByRecursion IsGood) → IsGood x → IfSome (option_map (λ items. items ++ x ∷ []) o) (AllByRecursion IsGood)
-items-push None x h k = tt
-items-push (Some xs) x h k = push-each IsGood xs x h k
+items_push : (o : Option (List Said)) (x : Said) → IfSome o (AllByRecursion IsGood) → IsGood x → IfSome (option_map (λ items. items ++ x ∷ []) o) (AllByRecursion IsGood)
+items_push None x h k = tt
+items_push (Some xs) x h k = push_each IsGood xs x h k
 
-pub items-good : (tree : Said) → IsGood tree → IfSome (items_in tree) (AllByRecursion IsGood)
-items-good (null line) h = tt
-items-good (text line bytes) h = tt
-items-good (unknown line) h = tt
-items-good (sequence line) h = tt
-items-good (mapping line) h = tt
-items-good (with_item before value) h =
-    items-push (items_in before) value (items-good before (record { plain = h.plain.1; free = h.free.0 })) (record { plain = h.plain.2; free = h.free.1 })
-items-good (with_pair before line key value) h = tt
+pub items_good : (tree : Said) → IsGood tree → IfSome (items_in tree) (AllByRecursion IsGood)
+items_good (null line) h = tt
+items_good (text line bytes) h = tt
+items_good (unknown line) h = tt
+items_good (sequence line) h = tt
+items_good (mapping line) h = tt
+items_good (with_item before value) h =
+    items_push (items_in before) value (items_good before (record { plain = h.plain.1; free = h.free.0 })) (record { plain = h.plain.2; free = h.free.1 })
+items_good (with_pair before line key value) h = tt
 
 -- ---- pairs
 
@@ -76,37 +76,37 @@ pub record AreGoodPairs (tree : Said) (pairs : List Pair) : Type 0 where
   pub apart : AreApart (keys_in pairs)
   pub all : AreAll tree pairs
 
-apart-push : (names : List (List ℕ)) (name : List ℕ) → AreApart names → AllByRecursion (λ other. name ≢ other) names → AreApart (names ++ name ∷ [])
-apart-push [] name a h = (All-nil (λ other. other ≢ name), tt)
-apart-push (n ∷ names) name a h = (All-push (λ other. other ≢ n) names name a.0 h.0, apart-push names name a.1 h.1)
+apart_push : (names : List (List ℕ)) (name : List ℕ) → AreApart names → AllByRecursion (λ other. name ≢ other) names → AreApart (names ++ name ∷ [])
+apart_push [] name a h = (All-nil (λ other. other ≢ name), tt)
+apart_push (n ∷ names) name a h = (All-push (λ other. other ≢ n) names name a.0 h.0, apart_push names name a.1 h.1)
 
-keys-push : (pairs : List Pair) (p : Pair) → keys_in (pairs ++ p ∷ []) ≡ keys_in pairs ++ p.key ∷ []
-keys-push [] p = refl
-keys-push (q ∷ pairs) p = ap (λ l. q.key ∷ l) (keys-push pairs p)
+keys_push : (pairs : List Pair) (p : Pair) → keys_in (pairs ++ p ∷ []) ≡ keys_in pairs ++ p.key ∷ []
+keys_push [] p = refl
+keys_push (q ∷ pairs) p = ap (λ l. q.key ∷ l) (keys_push pairs p)
 
 or_false : (a b : Bool) → (a || b) ≡ false → (a ≡ false) × (b ≡ false)
 or_false true b h = absurd (true≢false h)
 or_false false b h = (refl, h)
 
-pairs-push : (o : Option (List Pair)) (before value : Said) (line : ℕ) (key : List ℕ) → IfSome o (AreGoodPairs before) → IsUtf8 key → is_merge_key key ≡ false → has_key key before ≡ false → IsGood value
+pairs_push : (o : Option (List Pair)) (before value : Said) (line : ℕ) (key : List ℕ) → IfSome o (AreGoodPairs before) → IsUtf8 key → is_merge_key key ≡ false → has_key key before ≡ false → IsGood value
     → IfSome (option_map (λ pairs. pairs ++ (record { line = line; key = key; value = value }) ∷ []) o) (AreGoodPairs (with_pair before line key value))
-pairs-push None before value line key h u m n g = tt
-pairs-push (Some pairs) before value line key h u m n g =
+pairs_push None before value line key h u m n g = tt
+pairs_push (Some pairs) before value line key h u m n g =
     let p : Pair = record { line = line; key = key; value = value } in
-    let e = sym (keys-push pairs p) in
+    let e = sym (keys_push pairs p) in
     record {
-      each = push-each IsGoodPair pairs p h.each (record { key = u; other = m; value = g });
-      apart = subst AreApart e (apart-push (keys_in pairs) key h.apart (h.all key n));
+      each = push_each IsGoodPair pairs p h.each (record { key = u; other = m; value = g });
+      apart = subst AreApart e (apart_push (keys_in pairs) key h.apart (h.all key n));
       all = λ k lacks. (let q = or_false (has_key k before) (pointwise ◌==◌ k key) lacks in
-          subst (AllByRecursion (λ other. k ≢ other)) e (push-each (λ other. k ≢ other) (keys_in pairs) key (h.all k q.0) (other_bytes k key q.1)));
+          subst (AllByRecursion (λ other. k ≢ other)) e (push_each (λ other. k ≢ other) (keys_in pairs) key (h.all k q.0) (other_bytes k key q.1)));
     }
 
-pub pairs-good : (tree : Said) → IsGood tree → IfSome (pairs_in tree) (AreGoodPairs tree)
-pairs-good (null line) h = tt
-pairs-good (text line bytes) h = tt
-pairs-good (unknown line) h = tt
-pairs-good (sequence line) h = tt
-pairs-good (mapping line) h = record { each = tt; apart = tt; all = λ key lacks. tt }
-pairs-good (with_item before value) h = tt
-pairs-good (with_pair before line key value) h =
-    pairs-push (pairs_in before) before value line key (pairs-good before (record { plain = h.plain.3; free = h.free.0 })) h.plain.1 h.free.1 h.plain.2 (record { plain = h.plain.4; free = h.free.2 })
+pub pairs_good : (tree : Said) → IsGood tree → IfSome (pairs_in tree) (AreGoodPairs tree)
+pairs_good (null line) h = tt
+pairs_good (text line bytes) h = tt
+pairs_good (unknown line) h = tt
+pairs_good (sequence line) h = tt
+pairs_good (mapping line) h = record { each = tt; apart = tt; all = λ key lacks. tt }
+pairs_good (with_item before value) h = tt
+pairs_good (with_pair before line key value) h =
+    pairs_push (pairs_in before) before value line key (pairs_good before (record { plain = h.plain.3; free = h.free.0 })) h.plain.1 h.free.1 h.plain.2 (record { plain = h.plain.4; free = h.free.2 })

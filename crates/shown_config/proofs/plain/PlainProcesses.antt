@@ -18,11 +18,11 @@ use Rattle.shd_config.specs.Values.{mapping_at, sequence_at, time_at, signal_at,
 use Rattle.shd_config.specs.Process.{arguments_at, environment_at, state_at, zero_time, start_in, is_behind, shutdown_at, new_process, process_key, process_row, finished_process, process_of, process_in, process_at, process_item, processes_at, texts_size}
 use Rattle.shown_config.specs.Plain.{AreApart, IsPlainVariable, IsPlainState, IsShutdown, IsPlainProcess}
 use Rattle.shown_config.proofs.reading.ReadSteps.{Read}
-use Rattle.shown_config.proofs.plain.Has.{then-has, then-any, checked-has, below-has, needed-has, optional-has, ranged-has, or_default-has, through-keeps, IsPushed, ArePushed, through-pushes, weaker, read-length, read-each}
+use Rattle.shown_config.proofs.plain.Has.{then_has, then_any, checked_has, below_has, needed_has, optional_has, ranged_has, or_default_has, through_keeps, IsPushed, ArePushed, through_pushes, weaker, read_length, read_each}
 use Rattle.shown_config.proofs.plain.GoodTrees.{IsGood, IsGoodPair, AreGoodPairs, keys_in}
-use Rattle.shown_config.proofs.plain.PlainValues.{mapping-has, sequence-has, IsSmall, time-has, text_with-has}
-use Rattle.shown_config.proofs.plain.PlainLists.{IsEnvironment, no_environment, arguments-has, environment-has, state-has}
-use Rattle.shown_config.proofs.plain.Starts.{IsKnown, start-known}
+use Rattle.shown_config.proofs.plain.PlainValues.{mapping_has, sequence_has, IsSmall, time_has, text_with_has}
+use Rattle.shown_config.proofs.plain.PlainLists.{IsEnvironment, no_environment, arguments_has, environment_has, state_has}
+use Rattle.shown_config.proofs.plain.Starts.{IsKnown, start_known}
 
 -- ---- a process
 
@@ -41,33 +41,33 @@ record IsDraft (start : Option Time) (d : ProcessDraft) : Type 0 where
   shutdown : IfSome d.shutdown_time (IsBehind start)
   pub state : IfSome d.expected_final_state IsPlainState
 
-shutdown-has : (start : Option Time) (p : Pair) → IfOk (shutdown_at start p) (IsBehind start)
-shutdown-has start p = then-has IsSmall (IsBehind start) (time_at p) _ (time-has p) (λ t k. ranged-has (IsBehind start) (is_behind start) p t (λ e. (e, k)))
+shutdown_has : (start : Option Time) (p : Pair) → IfOk (shutdown_at start p) (IsBehind start)
+shutdown_has start p = then_has IsSmall (IsBehind start) (time_at p) _ (time_has p) (λ t k. ranged_has (IsBehind start) (is_behind start) p t (λ e. (e, k)))
 
 module _ (start : Option Time) where
-  process_key-has : (key : Option Key) (d : ProcessDraft) (p : Pair) → IsDraft start d → IsGoodPair p → IfOk (process_key start key d p) (IsDraft start)
-  process_key-has (Some keys.Path) d p h g =
-      then-has IsProgram (IsDraft start) (text_with names_program p) _ (text_with-has names_program p g.value)
+  process_key_has : (key : Option Key) (d : ProcessDraft) (p : Pair) → IsDraft start d → IsGoodPair p → IfOk (process_key start key d p) (IsDraft start)
+  process_key_has (Some keys.Path) d p h g =
+      then_has IsProgram (IsDraft start) (text_with names_program p) _ (text_with_has names_program p g.value)
       (λ v k. record { path = k; args = h.args; environment = h.environment; begins = h.begins; shutdown = h.shutdown; state = h.state })
-  process_key-has (Some keys.Args) d p h g =
-      then-has (λ v. IfSome v (AllByRecursion IsUtf8)) (IsDraft start) (optional p (arguments_at p)) _ (optional-has (AllByRecursion IsUtf8) p (arguments_at p) (arguments-has p g.value))
-      (λ v k. record { path = h.path; args = or_default-has (AllByRecursion IsUtf8) v [] k tt; environment = h.environment; begins = h.begins; shutdown = h.shutdown; state = h.state })
-  process_key-has (Some keys.Environment) d p h g =
-      then-has (λ v. IfSome v IsEnvironment) (IsDraft start) (optional p (environment_at p)) _ (optional-has IsEnvironment p (environment_at p) (environment-has p g.value))
-      (λ v k. record { path = h.path; args = h.args; environment = or_default-has IsEnvironment v [] k no_environment; begins = h.begins; shutdown = h.shutdown; state = h.state })
-  process_key-has (Some keys.StartTime) d p h g =
-      then-has (λ v. IfSome v IsSmall) (IsDraft start) (optional p (time_at p)) _ (optional-has IsSmall p (time_at p) (time-has p))
+  process_key_has (Some keys.Args) d p h g =
+      then_has (λ v. IfSome v (AllByRecursion IsUtf8)) (IsDraft start) (optional p (arguments_at p)) _ (optional_has (AllByRecursion IsUtf8) p (arguments_at p) (arguments_has p g.value))
+      (λ v k. record { path = h.path; args = or_default_has (AllByRecursion IsUtf8) v [] k tt; environment = h.environment; begins = h.begins; shutdown = h.shutdown; state = h.state })
+  process_key_has (Some keys.Environment) d p h g =
+      then_has (λ v. IfSome v IsEnvironment) (IsDraft start) (optional p (environment_at p)) _ (optional_has IsEnvironment p (environment_at p) (environment_has p g.value))
+      (λ v k. record { path = h.path; args = h.args; environment = or_default_has IsEnvironment v [] k no_environment; begins = h.begins; shutdown = h.shutdown; state = h.state })
+  process_key_has (Some keys.StartTime) d p h g =
+      then_has (λ v. IfSome v IsSmall) (IsDraft start) (optional p (time_at p)) _ (optional_has IsSmall p (time_at p) (time_has p))
       (λ v k. record { path = h.path; args = h.args; environment = h.environment; begins = k; shutdown = h.shutdown; state = h.state })
-  process_key-has (Some keys.ShutdownTime) d p h g =
-      then-has (λ v. IfSome v (IsBehind start)) (IsDraft start) (optional p (shutdown_at start p)) _ (optional-has (IsBehind start) p (shutdown_at start p) (shutdown-has start p))
+  process_key_has (Some keys.ShutdownTime) d p h g =
+      then_has (λ v. IfSome v (IsBehind start)) (IsDraft start) (optional p (shutdown_at start p)) _ (optional_has (IsBehind start) p (shutdown_at start p) (shutdown_has start p))
       (λ v k. record { path = h.path; args = h.args; environment = h.environment; begins = h.begins; shutdown = k; state = h.state })
-  process_key-has (Some keys.ShutdownSignal) d p h g =
-      then-any (IsDraft start) (optional p (signal_at p)) _
+  process_key_has (Some keys.ShutdownSignal) d p h g =
+      then_any (IsDraft start) (optional p (signal_at p)) _
       (λ v. record { path = h.path; args = h.args; environment = h.environment; begins = h.begins; shutdown = h.shutdown; state = h.state })
-  process_key-has (Some keys.ExpectedFinalState) d p h g =
-      then-has (λ v. IfSome v IsPlainState) (IsDraft start) (optional p (state_at p)) _ (optional-has IsPlainState p (state_at p) (state-has p g.value))
+  process_key_has (Some keys.ExpectedFinalState) d p h g =
+      then_has (λ v. IfSome v IsPlainState) (IsDraft start) (optional p (state_at p)) _ (optional_has IsPlainState p (state_at p) (state_has p g.value))
       (λ v k. record { path = h.path; args = h.args; environment = h.environment; begins = h.begins; shutdown = h.shutdown; state = k })
-  process_key-has _ d p h g = tt
+  process_key_has _ d p h g = tt
 
 no_draft : (start : Option Time) → IsDraft start new_process
 no_draft start = record { path = tt; args = tt; environment = no_environment; begins = tt; shutdown = tt; state = tt }
@@ -80,58 +80,58 @@ behind : (start : Option Time) (first : Time) (o : Option Time) → start ≡ So
 behind start first None e h = tt
 behind start first (Some t) e h = (ltb-true first.nanos t.nanos (sym (ap (λ s. is_behind s t) e) ∙ h.0), h.1)
 
-finished-has : (start : Option Time) (line : ℕ) (d : ProcessDraft) → start ≡ Some (unwrap_or d.start_time zero_time) → IsDraft start d → IfOk (finished_process line d) IsPlainIfFew
-finished-has start line d e h =
-    then-has IsProgram IsPlainIfFew (needed (codes "path") line d.path) _ (needed-has IsProgram (codes "path") line d.path h.path)
+finished_has : (start : Option Time) (line : ℕ) (d : ProcessDraft) → start ≡ Some (unwrap_or d.start_time zero_time) → IsDraft start d → IfOk (finished_process line d) IsPlainIfFew
+finished_has start line d e h =
+    then_has IsProgram IsPlainIfFew (needed (codes "path") line d.path) _ (needed_has IsProgram (codes "path") line d.path h.path)
     (λ path k few. record {
       path = k.0;
       program = k.1;
       args = All-from_recursion IsUtf8 d.args h.args;
       environment = All-from_recursion IsPlainVariable d.environment h.environment.each;
       apart = h.environment.apart;
-      start = or_default-has IsSmall d.start_time zero_time h.begins (omega arith);
+      start = or_default_has IsSmall d.start_time zero_time h.begins (omega arith);
       shutdown = behind start (unwrap_or d.start_time zero_time) d.shutdown_time e h.shutdown;
-      state = or_default-has IsPlainState d.expected_final_state (Exited 0) h.state (omega arith);
+      state = or_default_has IsPlainState d.expected_final_state (Exited 0) h.state (omega arith);
       few = few;
     })
 
-both-have : {A : Type 0} (P Q : A → Type 0) (read : Read A) → IfOk read P → IfOk read Q → IfOk read (λ a. P a × Q a)
-both-have P Q (Ok a) h k = (h, k)
-both-have P Q (Err f) h k = tt
+both_have : {A : Type 0} (P Q : A → Type 0) (read : Read A) → IfOk read P → IfOk read Q → IfOk read (λ a. P a × Q a)
+both_have P Q (Ok a) h k = (h, k)
+both_have P Q (Err f) h k = tt
 
-process_of-has : (line : ℕ) (pairs : List Pair) → AllByRecursion IsGoodPair pairs → AreApart (keys_in pairs) → IfOk (process_of line pairs) IsPlainIfFew
+process_of_has : (line : ℕ) (pairs : List Pair) → AllByRecursion IsGoodPair pairs → AreApart (keys_in pairs) → IfOk (process_of line pairs) IsPlainIfFew
 unfolding process_of
-process_of-has line pairs h a =
+process_of_has line pairs h a =
     let start = start_in pairs in
-    then-has (λ d. IsDraft start d × IsKnown start pairs d) IsPlainIfFew (through (process_row start) new_process pairs) _
-    (both-have (IsDraft start) (IsKnown start pairs) (through (process_row start) new_process pairs)
-    (through-keeps (IsDraft start) IsGoodPair (process_row start) (λ d p k g. process_key-has start (key_of p.key) d p k g) new_process pairs (no_draft start) h)
-    (start-known start new_process pairs refl a))
-    (λ d k. finished-has start _ d k.1 k.0)
+    then_has (λ d. IsDraft start d × IsKnown start pairs d) IsPlainIfFew (through (process_row start) new_process pairs) _
+    (both_have (IsDraft start) (IsKnown start pairs) (through (process_row start) new_process pairs)
+    (through_keeps (IsDraft start) IsGoodPair (process_row start) (λ d p k g. process_key_has start (key_of p.key) d p k g) new_process pairs (no_draft start) h)
+    (start_known start new_process pairs refl a))
+    (λ d k. finished_has start _ d k.1 k.0)
 
-process-has : (p : Pair) → IsGood p.value → IfOk (process_at p) IsPlainProcess
+process_has : (p : Pair) → IsGood p.value → IfOk (process_at p) IsPlainProcess
 unfolding process_at process_in
-process-has p g =
-    then-has IsPlainIfFew IsPlainProcess (process_in p) _
-    (then-has (AreGoodPairs p.value) IsPlainIfFew (mapping_at p) _ (mapping-has p g) (λ pairs k. below-has IsPlainIfFew p (process_of p.line pairs) (process_of-has p.line pairs k.each k.apart)))
-    (λ c k. checked-has IsPlainProcess OutOfRange p (nat_le (texts_size c) 65536) _ (λ e. k (leb-true (texts_size c) 65536 e)))
+process_has p g =
+    then_has IsPlainIfFew IsPlainProcess (process_in p) _
+    (then_has (AreGoodPairs p.value) IsPlainIfFew (mapping_at p) _ (mapping_has p g) (λ pairs k. below_has IsPlainIfFew p (process_of p.line pairs) (process_of_has p.line pairs k.each k.apart)))
+    (λ c k. checked_has IsPlainProcess OutOfRange p (nat_le (texts_size c) 65536) _ (λ e. k (leb-true (texts_size c) 65536 e)))
 
 -- ---- processes
 
 abbrev pub ArePlainProcesses : List ProcessConfig → Type 0
 ArePlainProcesses ps = (length ps ≤ 64) × AllByRecursion IsPlainProcess ps
 
-process-pushed : (key : List ℕ) (before : List ProcessConfig) (value : Said) → IsGood value → IfOk (process_item key before value) (IsPushed (λ _. IsPlainProcess) value before)
-process-pushed key before value g =
-    then-has IsPlainProcess (IsPushed (λ _. IsPlainProcess) value before) (process_at (item key (length before) value)) _ (process-has (item key (length before) value) g)
+process_pushed : (key : List ℕ) (before : List ProcessConfig) (value : Said) → IsGood value → IfOk (process_item key before value) (IsPushed (λ _. IsPlainProcess) value before)
+process_pushed key before value g =
+    then_has IsPlainProcess (IsPushed (λ _. IsPlainProcess) value before) (process_at (item key (length before) value)) _ (process_has (item key (length before) value) g)
     (λ c k. record { last = c; read = k; is = refl })
 
-pub processes-has : (p : Pair) → IsGood p.value → IfOk (processes_at p) ArePlainProcesses
+pub processes_has : (p : Pair) → IsGood p.value → IfOk (processes_at p) ArePlainProcesses
 unfolding processes_at
-processes-has p g =
-    then-has (AllByRecursion IsGood) ArePlainProcesses (sequence_at p) _ (sequence-has p g)
-    (λ items h. checked-has ArePlainProcesses OutOfRange p (nat_le (length items) 64) _
+processes_has p g =
+    then_has (AllByRecursion IsGood) ArePlainProcesses (sequence_at p) _ (sequence_has p g)
+    (λ items h. checked_has ArePlainProcesses OutOfRange p (nat_le (length items) 64) _
     (λ e. weaker (ArePushed (λ _. IsPlainProcess) items []) ArePlainProcesses (through (process_item p.key) [] items)
-    (through-pushes (λ _. IsPlainProcess) IsGood (process_item p.key) (λ before value k. process-pushed p.key before value k) [] items h)
-    (λ all more. (let few = leb-true (length items) 64 e in let count = read-length (λ (_ : Said). IsPlainProcess) items more.more more.read in
-    subst ArePlainProcesses (sym more.are) (omega (arith, few, count), read-each (λ (_ : Said). IsPlainProcess) IsPlainProcess (λ a b r. r) items more.more more.read)))))
+    (through_pushes (λ _. IsPlainProcess) IsGood (process_item p.key) (λ before value k. process_pushed p.key before value k) [] items h)
+    (λ all more. (let few = leb-true (length items) 64 e in let count = read_length (λ (_ : Said). IsPlainProcess) items more.more more.read in
+    subst ArePlainProcesses (sym more.are) (omega (arith, few, count), read_each (λ (_ : Said). IsPlainProcess) IsPlainProcess (λ a b r. r) items more.more more.read)))))

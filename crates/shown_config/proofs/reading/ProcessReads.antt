@@ -27,70 +27,70 @@ use Rattle.shown_config.proofs.words.Words.Word.{bare, quote}
 use Rattle.shown_config.proofs.forms.Cells.{Cell}
 use Rattle.shown_config.proofs.forms.Cells.Cell.{word}
 use Rattle.shown_config.proofs.blocks.Blocks.{cell_said, leaves_pairs, item_said, items_said, after_item}
-use Rattle.shown_config.proofs.blocks.BlockSaid.{item-pairs, words_items, words-items, entries_pairs, entries-pairs, mappings, items-items}
+use Rattle.shown_config.proofs.blocks.BlockSaid.{item_pairs, words_items, words_items_is, entries_pairs, entries_pairs_is, mappings, items_items}
 use Rattle.shown_config.proofs.config.ConfigBlock.{args_cell, variable_words, environment_cell, state_cell, shutdown_leaves, process_item}
-use Rattle.shown_config.proofs.reading.ReadSteps.{then-ok, through-ok, mapping-ok, sequence-ok, checked-ok, ranged-ok, text_pair, number-ok, time-ok, text-ok, words-not_null, entries-not_null}
-use Rattle.shown_config.proofs.words.Decimals.{time-read}
+use Rattle.shown_config.proofs.reading.ReadSteps.{then_ok, through_ok, mapping_ok, sequence_ok, checked_ok, ranged_ok, text_pair, number_ok, time_ok, text_ok, words_not_null, entries_not_null}
+use Rattle.shown_config.proofs.words.Decimals.{time_read}
 
 -- ---- values
 
-signal-known : (s : Signal) → signal_of (signal_name s) ≡ Some s
-signal-known SigHup = refl
-signal-known SigInt = refl
-signal-known SigQuit = refl
-signal-known SigIll = refl
-signal-known SigTrap = refl
-signal-known SigAbrt = refl
-signal-known SigBus = refl
-signal-known SigFpe = refl
-signal-known SigKill = refl
-signal-known SigUsr1 = refl
-signal-known SigSegv = refl
-signal-known SigUsr2 = refl
-signal-known SigPipe = refl
-signal-known SigAlrm = refl
-signal-known SigTerm = refl
-signal-known SigXcpu = refl
+signal_known : (s : Signal) → signal_of (signal_name s) ≡ Some s
+signal_known SigHup = refl
+signal_known SigInt = refl
+signal_known SigQuit = refl
+signal_known SigIll = refl
+signal_known SigTrap = refl
+signal_known SigAbrt = refl
+signal_known SigBus = refl
+signal_known SigFpe = refl
+signal_known SigKill = refl
+signal_known SigUsr1 = refl
+signal_known SigSegv = refl
+signal_known SigUsr2 = refl
+signal_known SigPipe = refl
+signal_known SigAlrm = refl
+signal_known SigTerm = refl
+signal_known SigXcpu = refl
 
-signal-ok : (s : Signal) (line : ℕ) (key : List ℕ) → signal_at (text_pair line key (signal_name s)) ≡ Ok s
-signal-ok s line key = rw (signal-known s) refl
+signal_ok : (s : Signal) (line : ℕ) (key : List ℕ) → signal_at (text_pair line key (signal_name s)) ≡ Ok s
+signal_ok s line key = rw (signal_known s) refl
 
-args-through : (n : ℕ) (key : List ℕ) (before args : List (List ℕ)) → through (argument_row key) before (words_items n (map quote args)) ≡ Ok (before ++ args)
-args-through n key before [] = ap Ok (sym (append-nil before))
-args-through n key before (a ∷ args) = args-through n key (before ++ a ∷ []) args ∙ ap Ok (append_assoc before (a ∷ []) args)
+args_through : (n : ℕ) (key : List ℕ) (before args : List (List ℕ)) → through (argument_row key) before (words_items n (map quote args)) ≡ Ok (before ++ args)
+args_through n key before [] = ap Ok (sym (append-nil before))
+args_through n key before (a ∷ args) = args_through n key (before ++ a ∷ []) args ∙ ap Ok (append_assoc before (a ∷ []) args)
 
-args-reads : (n line : ℕ) (key : List ℕ) (args : List (List ℕ)) → arguments_at (record { line = line; key = key; value = cell_said n (args_cell args) }) ≡ Ok args
+args_reads : (n line : ℕ) (key : List ℕ) (args : List (List ℕ)) → arguments_at (record { line = line; key = key; value = cell_said n (args_cell args) }) ≡ Ok args
 unfolding arguments_at
-args-reads n line key args =
+args_reads n line key args =
     let p : Pair = record { line = line; key = key; value = cell_said n (args_cell args) } in
-    ap (arguments_in p) (words-items n (map quote args)) ∙ args-through n key [] args
+    ap (arguments_in p) (words_items_is n (map quote args)) ∙ args_through n key [] args
 
-variables-through : (n : ℕ) (before vs : List Variable) → through variable_row before (entries_pairs n (map variable_words vs)) ≡ Ok (before ++ vs)
-variables-through n before [] = ap Ok (sym (append-nil before))
-variables-through n before (v ∷ vs) = variables-through n (before ++ v ∷ []) vs ∙ ap Ok (append_assoc before (v ∷ []) vs)
+variables_through : (n : ℕ) (before vs : List Variable) → through variable_row before (entries_pairs n (map variable_words vs)) ≡ Ok (before ++ vs)
+variables_through n before [] = ap Ok (sym (append-nil before))
+variables_through n before (v ∷ vs) = variables_through n (before ++ v ∷ []) vs ∙ ap Ok (append_assoc before (v ∷ []) vs)
 
-environment-reads : (n line : ℕ) (key : List ℕ) (vs : List Variable) → environment_at (record { line = line; key = key; value = cell_said n (environment_cell vs) }) ≡ Ok vs
+environment_reads : (n line : ℕ) (key : List ℕ) (vs : List Variable) → environment_at (record { line = line; key = key; value = cell_said n (environment_cell vs) }) ≡ Ok vs
 unfolding environment_at
-environment-reads n line key vs =
+environment_reads n line key vs =
     let p : Pair = record { line = line; key = key; value = cell_said n (environment_cell vs) } in
-    then-ok (mapping_at p) (λ pairs. below p (through variable_row [] pairs)) (entries_pairs n (map variable_words vs)) (Ok vs) (mapping-ok p _ (entries-pairs n (map variable_words vs)))
-    (ap (below p) (variables-through n [] vs))
+    then_ok (mapping_at p) (λ pairs. below p (through variable_row [] pairs)) (entries_pairs n (map variable_words vs)) (Ok vs) (mapping_ok p _ (entries_pairs_is n (map variable_words vs)))
+    (ap (below p) (variables_through n [] vs))
 
-state-reads : (n line : ℕ) (key : List ℕ) (s : FinalState) → IsPlainState s → state_at (record { line = line; key = key; value = cell_said n (state_cell s) }) ≡ Ok s
+state_reads : (n line : ℕ) (key : List ℕ) (s : FinalState) → IsPlainState s → state_at (record { line = line; key = key; value = cell_said n (state_cell s) }) ≡ Ok s
 unfolding state_at state_of key_of
-state-reads n line key (Exited status) h = rw (number-ok 0 255 status n (codes "exited") (omega arith) h (omega arith)) refl
-state-reads n line key (Signaled signal) h = rw (signal-ok signal n (codes "signaled")) refl
-state-reads n line key Running h = refl
+state_reads n line key (Exited status) h = rw (number_ok 0 255 status n (codes "exited") (omega arith) h (omega arith)) refl
+state_reads n line key (Signaled signal) h = rw (signal_ok signal n (codes "signaled")) refl
+state_reads n line key Running h = refl
 
-state-not_null : (n : ℕ) (s : FinalState) → is_null (cell_said n (state_cell s)) ≡ false
-state-not_null n (Exited status) = refl
-state-not_null n (Signaled s) = refl
-state-not_null n Running = refl
+state_not_null : (n : ℕ) (s : FinalState) → is_null (cell_said n (state_cell s)) ≡ false
+state_not_null n (Exited status) = refl
+state_not_null n (Signaled s) = refl
+state_not_null n Running = refl
 
-shutdown-reads : (start t : Time) (line : ℕ) (key : List ℕ) → IsShutdown start t → shutdown_at (Some start) (text_pair line key (shown_time t)) ≡ Ok t
-shutdown-reads start t line key h =
+shutdown_reads : (start t : Time) (line : ℕ) (key : List ℕ) → IsShutdown start t → shutdown_at (Some start) (text_pair line key (shown_time t)) ≡ Ok t
+shutdown_reads start t line key h =
     let p = text_pair line key (shown_time t) in
-    then-ok (time_at p) (ranged (is_behind (Some start)) p) t (Ok t) (time-ok t line key h.1) (ranged-ok (is_behind (Some start)) p t (lt-ltb start.nanos t.nanos h.0))
+    then_ok (time_at p) (ranged (is_behind (Some start)) p) t (Ok t) (time_ok t line key h.1) (ranged_ok (is_behind (Some start)) p t (lt-ltb start.nanos t.nanos h.0))
 
 -- ---- a process
 
@@ -103,74 +103,74 @@ whole_draft p = record { path = Some p.path; args = p.args; environment = p.envi
 abbrev end_leaves : ProcessConfig → List (Word × Cell)
 end_leaves p = (bare (codes "shutdown_signal"), word (bare (signal_name p.shutdown_signal))) ∷ (bare (codes "expected_final_state"), state_cell p.expected_final_state) ∷ []
 
-end-reads : (n : ℕ) (p : ProcessConfig) (start : Option Time) → IsPlainProcess p → through (process_row start) (draft_with p p.shutdown_time) (leaves_pairs n (end_leaves p)) ≡ Ok (whole_draft p)
+end_reads : (n : ℕ) (p : ProcessConfig) (start : Option Time) → IsPlainProcess p → through (process_row start) (draft_with p p.shutdown_time) (leaves_pairs n (end_leaves p)) ≡ Ok (whole_draft p)
 unfolding key_of
-end-reads n p start h =
-    rw (signal-ok p.shutdown_signal n (codes "shutdown_signal"), state-not_null (1 + n) p.expected_final_state, state-reads (1 + n) (1 + n) (codes "expected_final_state") p.expected_final_state h.state) refl
+end_reads n p start h =
+    rw (signal_ok p.shutdown_signal n (codes "shutdown_signal"), state_not_null (1 + n) p.expected_final_state, state_reads (1 + n) (1 + n) (codes "expected_final_state") p.expected_final_state h.state) refl
 
-shutdown-through : (n : ℕ) (p : ProcessConfig) (o : Option Time) → p.shutdown_time ≡ o → IsPlainProcess p → through (process_row (Some p.start_time)) (draft_with p None) (leaves_pairs n (shutdown_leaves o (end_leaves p))) ≡ Ok (whole_draft p)
+shutdown_through : (n : ℕ) (p : ProcessConfig) (o : Option Time) → p.shutdown_time ≡ o → IsPlainProcess p → through (process_row (Some p.start_time)) (draft_with p None) (leaves_pairs n (shutdown_leaves o (end_leaves p))) ≡ Ok (whole_draft p)
 unfolding key_of
-shutdown-through n p None e h = ap (λ o. through (process_row (Some p.start_time)) (draft_with p o) (leaves_pairs n (end_leaves p))) (sym e) ∙ end-reads n p (Some p.start_time) h
-shutdown-through n p (Some t) e h =
-    rw (shutdown-reads p.start_time t n (codes "shutdown_time") (subst (λ (o : Option Time). IfSome o (IsShutdown p.start_time)) e h.shutdown))
-    (ap (λ o. through (process_row (Some p.start_time)) (draft_with p o) (leaves_pairs (1 + n) (end_leaves p))) (sym e) ∙ end-reads (1 + n) p (Some p.start_time) h)
+shutdown_through n p None e h = ap (λ o. through (process_row (Some p.start_time)) (draft_with p o) (leaves_pairs n (end_leaves p))) (sym e) ∙ end_reads n p (Some p.start_time) h
+shutdown_through n p (Some t) e h =
+    rw (shutdown_reads p.start_time t n (codes "shutdown_time") (subst (λ (o : Option Time). IfSome o (IsShutdown p.start_time)) e h.shutdown))
+    (ap (λ o. through (process_row (Some p.start_time)) (draft_with p o) (leaves_pairs (1 + n) (end_leaves p))) (sym e) ∙ end_reads (1 + n) p (Some p.start_time) h)
 
 -- the pairs of a process
 abbrev process_pairs : ℕ → ProcessConfig → List Pair
 process_pairs n p = text_pair n (codes "path") p.path ∷ leaves_pairs (1 + n) ((process_item p).1)
 
-start-known : (n : ℕ) (p : ProcessConfig) → IsPlainProcess p → start_in (process_pairs n p) ≡ Some p.start_time
+start_known : (n : ℕ) (p : ProcessConfig) → IsPlainProcess p → start_in (process_pairs n p) ≡ Some p.start_time
 unfolding key_of
-start-known n p h = time-read p.start_time h.start
+start_known n p h = time_read p.start_time h.start
 
-process-through : (n : ℕ) (p : ProcessConfig) → IsPlainProcess p → through (process_row (Some p.start_time)) new_process (process_pairs n p) ≡ Ok (whole_draft p)
+process_through : (n : ℕ) (p : ProcessConfig) → IsPlainProcess p → through (process_row (Some p.start_time)) new_process (process_pairs n p) ≡ Ok (whole_draft p)
 unfolding key_of
-process-through n p h =
+process_through n p h =
     rw (
-      text-ok names_program p.path (codes "path") n h.program,
-      words-not_null (1 + n) (sequence (1 + n)) (map quote p.args) refl,
-      args-reads (1 + n) (1 + n) (codes "args") p.args,
-      entries-not_null (1 + (1 + n)) (mapping (1 + (1 + n))) (map variable_words p.environment) refl,
-      environment-reads (1 + (1 + n)) (1 + (1 + n)) (codes "environment") p.environment,
-      time-ok p.start_time (1 + (1 + (1 + n))) (codes "start_time") h.start,
+      text_ok names_program p.path (codes "path") n h.program,
+      words_not_null (1 + n) (sequence (1 + n)) (map quote p.args) refl,
+      args_reads (1 + n) (1 + n) (codes "args") p.args,
+      entries_not_null (1 + (1 + n)) (mapping (1 + (1 + n))) (map variable_words p.environment) refl,
+      environment_reads (1 + (1 + n)) (1 + (1 + n)) (codes "environment") p.environment,
+      time_ok p.start_time (1 + (1 + (1 + n))) (codes "start_time") h.start,
     )
-    (shutdown-through (1 + (1 + (1 + (1 + n)))) p p.shutdown_time refl h)
+    (shutdown_through (1 + (1 + (1 + (1 + n)))) p p.shutdown_time refl h)
 
-process_of-reads : (n line : ℕ) (p : ProcessConfig) → IsPlainProcess p → process_of line (process_pairs n p) ≡ Ok p
+process_of_reads : (n line : ℕ) (p : ProcessConfig) → IsPlainProcess p → process_of line (process_pairs n p) ≡ Ok p
 unfolding process_of
-process_of-reads n line p h =
-    ap (λ s. through (process_row s) new_process (process_pairs n p) >>= finished_process (mapping_line line (process_pairs n p))) (start-known n p h)
-    ∙ ap (λ r. r >>= finished_process (mapping_line line (process_pairs n p))) (process-through n p h)
+process_of_reads n line p h =
+    ap (λ s. through (process_row s) new_process (process_pairs n p) >>= finished_process (mapping_line line (process_pairs n p))) (start_known n p h)
+    ∙ ap (λ r. r >>= finished_process (mapping_line line (process_pairs n p))) (process_through n p h)
 
-process-reads : (n line : ℕ) (key : List ℕ) (p : ProcessConfig) → IsPlainProcess p → process_at (record { line = line; key = key; value = item_said n (process_item p) }) ≡ Ok p
+process_reads : (n line : ℕ) (key : List ℕ) (p : ProcessConfig) → IsPlainProcess p → process_at (record { line = line; key = key; value = item_said n (process_item p) }) ≡ Ok p
 unfolding process_at process_in
-process-reads n line key p h =
+process_reads n line key p h =
     let q : Pair = record { line = line; key = key; value = item_said n (process_item p) } in
     let inside : process_in q ≡ Ok p =
-    then-ok (mapping_at q) (λ pairs. below q (process_of q.line pairs)) (process_pairs n p) (Ok p) (mapping-ok q _ (item-pairs n (process_item p)))
-    (ap (below q) (process_of-reads n line p h)) in
-    then-ok (process_in q) (λ c. checked OutOfRange q (nat_le (texts_size c) 65536) >>= λ _. Ok c) p (Ok p) inside
-    (then-ok (checked OutOfRange q (nat_le (texts_size p) 65536)) (λ _. Ok p) tt (Ok p) (checked-ok OutOfRange q _ (le-leb (texts_size p) 65536 h.few)) refl)
+    then_ok (mapping_at q) (λ pairs. below q (process_of q.line pairs)) (process_pairs n p) (Ok p) (mapping_ok q _ (item_pairs n (process_item p)))
+    (ap (below q) (process_of_reads n line p h)) in
+    then_ok (process_in q) (λ c. checked OutOfRange q (nat_le (texts_size c) 65536) >>= λ _. Ok c) p (Ok p) inside
+    (then_ok (checked OutOfRange q (nat_le (texts_size p) 65536)) (λ _. Ok p) tt (Ok p) (checked_ok OutOfRange q _ (le-leb (texts_size p) 65536 h.few)) refl)
 
 -- ---- processes
 
-processes-through : (n : ℕ) (key : List ℕ) (before ps : List ProcessConfig) → AllByRecursion IsPlainProcess ps → through (read_item key) before (mappings n (map process_item ps)) ≡ Ok (before ++ ps)
-processes-through n key before [] h = ap Ok (sym (append-nil before))
-processes-through n key before (p ∷ ps) h =
-    through-ok (read_item key) before (before ++ p ∷ []) (item_said n (process_item p)) (mappings (after_item n (process_item p)) (map process_item ps)) (Ok (before ++ (p ∷ ps)))
-    (ap (λ r. r >>= λ c. Ok (before ++ c ∷ [])) (process-reads n _ _ p h.0))
-    (processes-through (after_item n (process_item p)) key (before ++ p ∷ []) ps h.1 ∙ ap Ok (append_assoc before (p ∷ []) ps))
+processes_through : (n : ℕ) (key : List ℕ) (before ps : List ProcessConfig) → AllByRecursion IsPlainProcess ps → through (read_item key) before (mappings n (map process_item ps)) ≡ Ok (before ++ ps)
+processes_through n key before [] h = ap Ok (sym (append-nil before))
+processes_through n key before (p ∷ ps) h =
+    through_ok (read_item key) before (before ++ p ∷ []) (item_said n (process_item p)) (mappings (after_item n (process_item p)) (map process_item ps)) (Ok (before ++ (p ∷ ps)))
+    (ap (λ r. r >>= λ c. Ok (before ++ c ∷ [])) (process_reads n _ _ p h.0))
+    (processes_through (after_item n (process_item p)) key (before ++ p ∷ []) ps h.1 ∙ ap Ok (append_assoc before (p ∷ []) ps))
 
-length-mappings : (n : ℕ) (ps : List ProcessConfig) → length (mappings n (map process_item ps)) ≡ length ps
-length-mappings n [] = refl
-length-mappings n (p ∷ ps) = ap suc (length-mappings (after_item n (process_item p)) ps)
+length_mappings : (n : ℕ) (ps : List ProcessConfig) → length (mappings n (map process_item ps)) ≡ length ps
+length_mappings n [] = refl
+length_mappings n (p ∷ ps) = ap suc (length_mappings (after_item n (process_item p)) ps)
 
-pub processes-reads : (n line : ℕ) (key : List ℕ) (ps : List ProcessConfig) → length ps ≤ 64 → AllByRecursion IsPlainProcess ps → processes_at (record { line = line; key = key; value = items_said n (sequence n) (map process_item ps) }) ≡ Ok ps
+pub processes_reads : (n line : ℕ) (key : List ℕ) (ps : List ProcessConfig) → length ps ≤ 64 → AllByRecursion IsPlainProcess ps → processes_at (record { line = line; key = key; value = items_said n (sequence n) (map process_item ps) }) ≡ Ok ps
 unfolding processes_at
-processes-reads n line key ps few h =
+processes_reads n line key ps few h =
     let q : Pair = record { line = line; key = key; value = items_said n (sequence n) (map process_item ps) } in
     let found = mappings n (map process_item ps) in
-    then-ok (sequence_at q) (λ items. checked OutOfRange q (nat_le (length items) 64) >>= λ _. through (read_item key) [] items) found (Ok ps) (sequence-ok q found (items-items n (map process_item ps)))
-    (then-ok (checked OutOfRange q (nat_le (length found) 64)) (λ _. through (read_item key) [] found) tt (Ok ps)
-    (checked-ok OutOfRange q _ (le-leb (length found) 64 (let e = length-mappings n ps in omega (arith, e, few))))
-    (processes-through n key [] ps h))
+    then_ok (sequence_at q) (λ items. checked OutOfRange q (nat_le (length items) 64) >>= λ _. through (read_item key) [] items) found (Ok ps) (sequence_ok q found (items_items n (map process_item ps)))
+    (then_ok (checked OutOfRange q (nat_le (length found) 64)) (λ _. through (read_item key) [] found) tt (Ok ps)
+    (checked_ok OutOfRange q _ (le-leb (length found) 64 (let e = length_mappings n ps in omega (arith, e, few))))
+    (processes_through n key [] ps h))

@@ -10,7 +10,7 @@ use Rattle.yaml_tree.specs.Tree.{is_empty_document}
 use Rattle.yaml_merge.specs.Merge.{merged}
 use Rattle.yaml_merge.specs.Plain.{line_of}
 use Rattle.yaml_merge.specs.declared.plain.Pair.{Pair}
-use Rattle.yaml_merge.proofs.MergeLaws.{free-fixed}
+use Rattle.yaml_merge.proofs.MergeLaws.{free_fixed}
 use Rattle.shd_config.specs.Steps.{through, mapping_line}
 use Rattle.shd_config.specs.Keys.{key_of}
 use Rattle.shd_config.specs.Notes.{notes}
@@ -22,13 +22,13 @@ use Rattle.shd_config.specs.declared.reading.RootDraft.{RootDraft}
 use Rattle.shown_config.specs.Plain.{IsPlainHost, IsPlain}
 use Rattle.shown_config.specs.Same.{no_overrides, ReadsBack}
 use Rattle.shown_config.proofs.blocks.Blocks.{block_pairs, after_block}
-use Rattle.shown_config.proofs.blocks.BlockTokens.{block-has_tokens}
-use Rattle.shown_config.proofs.blocks.BlockText.{tree_of_block, block-is_tidy, block-lines, block-says, block-is_tree}
+use Rattle.shown_config.proofs.blocks.BlockTokens.{block_has_tokens}
+use Rattle.shown_config.proofs.blocks.BlockText.{tree_of_block, block_is_tidy, block_lines_is, block_says, block_is_tree}
 use Rattle.shown_config.proofs.config.ConfigBlock.{general_block, network_block, config_block}
-use Rattle.shown_config.proofs.config.ConfigText.{shown-text}
-use Rattle.shown_config.proofs.config.ConfigKeys.{config-is_block}
-use Rattle.shown_config.proofs.reading.GeneralReads.{general_value, general-reads, network_value, network-reads}
-use Rattle.shown_config.proofs.reading.HostReads.{hosts_read, hosts-reads, hosts-same}
+use Rattle.shown_config.proofs.config.ConfigText.{shown_text}
+use Rattle.shown_config.proofs.config.ConfigKeys.{config_is_block}
+use Rattle.shown_config.proofs.reading.GeneralReads.{general_value, general_reads, network_value, network_reads}
+use Rattle.shown_config.proofs.reading.HostReads.{hosts_read, hosts_reads, hosts_same}
 
 -- the line of `network`, and that of `hosts`
 abbrev network_line : Config → ℕ
@@ -43,26 +43,26 @@ root_pairs c = block_pairs 1 (config_block c)
 abbrev root_draft : Config → RootDraft
 root_draft c = record { general = Some (general_value c); network = Some (network_value c); hosts = Some (hosts_read (1 + hosts_line c) c.hosts); options = no_options }
 
-root-through : (c : Config) → IsPlain c → through (root_row no_overrides) new_root (root_pairs c) ≡ Ok (root_draft c)
+root_through : (c : Config) → IsPlain c → through (root_row no_overrides) new_root (root_pairs c) ≡ Ok (root_draft c)
 unfolding key_of
-root-through c h =
-    rw (general-reads 1 c h, network-reads (network_line c) c, hosts-reads (hosts_line c) c.hosts h.few.0 h.few.1 (recursion_from_All IsPlainHost c.hosts h.hosts)) refl
+root_through c h =
+    rw (general_reads 1 c h, network_reads (network_line c) c, hosts_reads (hosts_line c) c.hosts h.few.0 h.few.1 (recursion_from_All IsPlainHost c.hosts h.hosts)) refl
 
 -- what is read again
 abbrev again : Config → Config
 again c = record c { hosts = map (settled no_options) (hosts_read (1 + hosts_line c) c.hosts); notes = notes (root_pairs c) }
 
-root-reads : (c : Config) (line : ℕ) → IsPlain c → root_of no_overrides line (root_pairs c) ≡ Ok (again c)
+root_reads : (c : Config) (line : ℕ) → IsPlain c → root_of no_overrides line (root_pairs c) ≡ Ok (again c)
 unfolding root_of
-root-reads c line h = ap (λ r. r >>= finished_root no_overrides (notes (root_pairs c)) (mapping_line line (kept (root_pairs c)))) (root-through c h)
+root_reads c line h = ap (λ r. r >>= finished_root no_overrides (notes (root_pairs c)) (mapping_line line (kept (root_pairs c)))) (root_through c h)
 
-config-reads : (c : Config) → IsPlain c → config no_overrides false (tree_of_block (config_block c)) ≡ Ok (again c)
+config_reads : (c : Config) → IsPlain c → config no_overrides false (tree_of_block (config_block c)) ≡ Ok (again c)
 unfolding config merged
-config-reads c h =
+config_reads c h =
     let tree = tree_of_block (config_block c) in
-    let t = block-is_tidy (config_block c) (config-is_block c h) in
-    ap (λ r. wrong_merge r >>= merged_config no_overrides false) (free-fixed tree tree t.free)
-    ∙ root-reads c (line_of tree) h
+    let t = block_is_tidy (config_block c) (config_is_block c h) in
+    ap (λ r. wrong_merge r >>= merged_config no_overrides false) (free_fixed tree tree t.free)
+    ∙ root_reads c (line_of tree) h
 
 -- the text begins with a letter
 no-mark : (c : Config) → starts_with nat_eq (shown c) byte_order_mark ≡ false
@@ -70,20 +70,20 @@ unfolding shown
 no-mark c = refl
 
 -- its first token is a key
-not-empty : (c : Config) → IsPlain c → is_empty_document (lines_of (shown c)) ≡ false
-not-empty c h =
-    let b = config-is_block c h in
-    ap (list_all is_name) (ap tokens_of (block-lines (shown c) (config_block c) b (shown-text c) (no-mark c)) ∙ block-has_tokens false None 1 0 (config_block c) b.spelled)
+not_empty : (c : Config) → IsPlain c → is_empty_document (lines_of (shown c)) ≡ false
+not_empty c h =
+    let b = config_is_block c h in
+    ap (list_all is_name) (ap tokens_of (block_lines_is (shown c) (config_block c) b (shown_text c) (no-mark c)) ∙ block_has_tokens false None 1 0 (config_block c) b.spelled)
 
-pub reads-back : (c : Config) → IsPlain c → ReadsBack c
-reads-back c h =
-    let b = config-is_block c h in
+pub reads_back : (c : Config) → IsPlain c → ReadsBack c
+reads_back c h =
+    let b = config_is_block c h in
     record {
       tree = tree_of_block (config_block c);
-      says = block-says (shown c) (config_block c) b (shown-text c) (no-mark c);
-      is = block-is_tree (shown c) (config_block c) b (shown-text c) (no-mark c);
-      some = not-empty c h;
+      says = block_says (shown c) (config_block c) b (shown_text c) (no-mark c);
+      is = block_is_tree (shown c) (config_block c) b (shown_text c) (no-mark c);
+      some = not_empty c h;
       again = again c;
-      read = config-reads c h;
-      same = λ i. record c { hosts = hosts-same (1 + hosts_line c) c.hosts i; notes = [] };
+      read = config_reads c h;
+      same = λ i. record c { hosts = hosts_same (1 + hosts_line c) c.hosts i; notes = [] };
     }

@@ -18,7 +18,7 @@ use Rattle.shd_values.specs.Address.{is_point, octet, behind_point, address_of}
 use Rattle.yaml_marks.specs.Scalars.{is_space, is_null}
 use Rattle.shd_config.specs.Values.{time_of}
 use Rattle.shd_config.specs.Shown.{shown_time, shown_rate, shown_address}
-use Rattle.text_trees.proofs.Bytes.{all-append, all-weaker}
+use Rattle.text_trees.proofs.Bytes.{all-append, all_weaker}
 use Rattle.shown_config.proofs.words.Words.{is_bare, is_other, begins_with_letter, last_byte, IsBare}
 
 -- ---- digits
@@ -26,11 +26,11 @@ use Rattle.shown_config.proofs.words.Words.{is_bare, is_other, begins_with_lette
 digit : (c : ℕ) → digit_value c < 10 → is_ascii_digit c ≡ true
 digit c h = grind (arith, nat_tests)
 
-digit-bare : (c : ℕ) → is_ascii_digit c ≡ true → is_bare c ≡ true
-digit-bare c h = grind (arith, nat_tests)
+digit_bare : (c : ℕ) → is_ascii_digit c ≡ true → is_bare c ≡ true
+digit_bare c h = grind (arith, nat_tests)
 
-digit-letter : (c : ℕ) → is_ascii_digit c ≡ true → is_ascii_alphanumeric c ≡ true
-digit-letter c h = grind (arith, nat_tests)
+digit_letter : (c : ℕ) → is_ascii_digit c ≡ true → is_ascii_alphanumeric c ≡ true
+digit_letter c h = grind (arith, nat_tests)
 
 all_digits : (ds : List ℕ) → AllDigits 10 ds → list_all is_ascii_digit ds ≡ true
 all_digits [] h = refl
@@ -60,25 +60,25 @@ decimal-digits n h =
 -- ---- bare words
 
 -- what begins with a digit isn't null
-digit-other : (text : List ℕ) → begins_with_digit text ≡ true → is_null text ≡ false
-digit-other [] h = absurd (true≢false (sym h))
-digit-other (b ∷ bytes) h = rw (is_other is_ascii_digit b 126 h refl, is_other is_ascii_digit b 110 h refl) refl
+digit_other : (text : List ℕ) → begins_with_digit text ≡ true → is_null text ≡ false
+digit_other [] h = absurd (true≢false (sym h))
+digit_other (b ∷ bytes) h = rw (is_other is_ascii_digit b 126 h refl, is_other is_ascii_digit b 110 h refl) refl
 
-digit-first : (text : List ℕ) → begins_with_digit text ≡ true → begins_with_letter text ≡ true
-digit-first [] h = absurd (true≢false (sym h))
-digit-first (b ∷ bytes) h = digit-letter b h
+digit_first : (text : List ℕ) → begins_with_digit text ≡ true → begins_with_letter text ≡ true
+digit_first [] h = absurd (true≢false (sym h))
+digit_first (b ∷ bytes) h = digit_letter b h
 
-number-bare : (text : List ℕ) → list_all is_bare text ≡ true → begins_with_digit text ≡ true → is_space (last_byte text) ≡ false → IsBare text
-number-bare text h f l = record { bytes = h; first = digit-first text f; last = l; other = digit-other text f }
+number_bare : (text : List ℕ) → list_all is_bare text ≡ true → begins_with_digit text ≡ true → is_space (last_byte text) ≡ false → IsBare text
+number_bare text h f l = record { bytes = h; first = digit_first text f; last = l; other = digit_other text f }
 
-last_byte-append : (xs ys : List ℕ) → 0 < length ys → last_byte (xs ++ ys) ≡ last_byte ys
-last_byte-append xs ys h =
+last_byte_append : (xs ys : List ℕ) → 0 < length ys → last_byte (xs ++ ys) ≡ last_byte ys
+last_byte_append xs ys h =
     let e : length (xs ++ ys) - 1 ≡ length xs + (length ys - 1) = (let a = length-append xs ys in omega (arith, a)) in
     ap (λ n. get_or (xs ++ ys) n 0) e ∙ get_or-append-add xs ys (length ys - 1) 0
 
-begins-append : (xs ys : List ℕ) → begins_with_digit xs ≡ true → begins_with_digit (xs ++ ys) ≡ true
-begins-append [] ys h = absurd (true≢false (sym h))
-begins-append (x ∷ xs) ys h = h
+begins_append : (xs ys : List ℕ) → begins_with_digit xs ≡ true → begins_with_digit (xs ++ ys) ≡ true
+begins_append [] ys h = absurd (true≢false (sym h))
+begins_append (x ∷ xs) ys h = h
 
 last_of_digits : (ds : List ℕ) → 0 < length ds → list_all is_ascii_digit ds ≡ true → is_space (last_byte ds) ≡ false
 last_of_digits [] h k = absurd (omega (arith, h))
@@ -88,83 +88,83 @@ last_of_digits (c ∷ d ∷ ds) h k =
     ap (λ n. is_space (get_or (c ∷ d ∷ ds) n 0)) e ∙ (let f : length (d ∷ ds) - 1 ≡ length ds = omega arith in ap (λ n. is_space (get_or (d ∷ ds) n 0)) (sym f))
     ∙ last_of_digits (d ∷ ds) (omega arith) (and_parts (is_ascii_digit c) _ k).1
 
-pub decimal-bare : (n : ℕ) → n < 2 ^ 64 → IsBare (decimal n)
-decimal-bare n h = let d = decimal-digits n h in number-bare (decimal n) (all-weaker is_ascii_digit is_bare digit-bare (decimal n) d.are) d.first (last_of_digits (decimal n) d.some d.are)
+pub decimal_bare : (n : ℕ) → n < 2 ^ 64 → IsBare (decimal n)
+decimal_bare n h = let d = decimal-digits n h in number_bare (decimal n) (all_weaker is_ascii_digit is_bare digit_bare (decimal n) d.are) d.first (last_of_digits (decimal n) d.some d.are)
 
 -- a number with its unit
-pub unit-bare : (n : ℕ) (unit : List ℕ) → n < 2 ^ 64 → list_all is_bare unit ≡ true → 0 < length unit → is_space (last_byte unit) ≡ false → IsBare (decimal n ++ unit)
-unit-bare n unit h b s l =
+pub unit_bare : (n : ℕ) (unit : List ℕ) → n < 2 ^ 64 → list_all is_bare unit ≡ true → 0 < length unit → is_space (last_byte unit) ≡ false → IsBare (decimal n ++ unit)
+unit_bare n unit h b s l =
     let d = decimal-digits n h in
-    number-bare (decimal n ++ unit) (all-append is_bare (decimal n) unit (all-weaker is_ascii_digit is_bare digit-bare (decimal n) d.are) b) (begins-append (decimal n) unit d.first) (ap is_space (last_byte-append (decimal n) unit s) ∙ l)
+    number_bare (decimal n ++ unit) (all-append is_bare (decimal n) unit (all_weaker is_ascii_digit is_bare digit_bare (decimal n) d.are) b) (begins_append (decimal n) unit d.first) (ap is_space (last_byte_append (decimal n) unit s) ∙ l)
 
 -- ---- numbers
 
-prefix-digits : (ds rest : List ℕ) → list_all is_ascii_digit ds ≡ true → begins_with_digit rest ≡ false → prefix_len is_ascii_digit (ds ++ rest) ≡ length ds
-prefix-digits [] [] h k = refl
-prefix-digits [] (b ∷ bytes) h k = rw k refl
-prefix-digits (c ∷ cs) rest h k =
+prefix_digits : (ds rest : List ℕ) → list_all is_ascii_digit ds ≡ true → begins_with_digit rest ≡ false → prefix_len is_ascii_digit (ds ++ rest) ≡ length ds
+prefix_digits [] [] h k = refl
+prefix_digits [] (b ∷ bytes) h k = rw k refl
+prefix_digits (c ∷ cs) rest h k =
     let p = and_parts (is_ascii_digit c) (list_all is_ascii_digit cs) h in
-    let more = prefix-digits cs rest p.1 k in
+    let more = prefix_digits cs rest p.1 k in
     rw (p.0) (omega (arith, more))
 
-some-digits : (ds : List ℕ) → 0 < length ds → some_digits ds ≡ Some ds
-some-digits [] h = absurd (omega (arith, h))
-some-digits (c ∷ cs) h = refl
+some_digits_is : (ds : List ℕ) → 0 < length ds → some_digits ds ≡ Some ds
+some_digits_is [] h = absurd (omega (arith, h))
+some_digits_is (c ∷ cs) h = refl
 
 module _ (n : ℕ) (ds rest : List ℕ) (d : Digits n ds) (other : begins_with_digit rest ≡ false) where
   front : digits_of_text (ds ++ rest) ≡ ds
-  front = ap (λ k. take k (ds ++ rest)) (prefix-digits ds rest d.are other) ∙ take_at ds rest (length ds) refl
+  front = ap (λ k. take k (ds ++ rest)) (prefix_digits ds rest d.are other) ∙ take_at ds rest (length ds) refl
 
   back : drop (prefix_len is_ascii_digit (ds ++ rest)) (ds ++ rest) ≡ rest
-  back = ap (λ k. drop k (ds ++ rest)) (prefix-digits ds rest d.are other) ∙ drop_at ds rest (length ds) refl
+  back = ap (λ k. drop k (ds ++ rest)) (prefix_digits ds rest d.are other) ∙ drop_at ds rest (length ds) refl
 
   found : some_digits (digits_of_text (ds ++ rest)) ≡ Some ds
-  found = ap some_digits front ∙ some-digits ds d.some
+  found = ap some_digits front ∙ some_digits_is ds d.some
 
 in_64 : (n : ℕ) → n < 2 ^ 64 → in_64_bits n ≡ Some n
 in_64 n h = rw (lt-ltb n (2 ^ 64) h) refl
 
 -- what is read of digits, a space and a unit of the table that stands for one
-quantity-read : (same : List ℕ → List ℕ → Bool) (units : Units) (n b : ℕ) (unit : List ℕ) → n < 2 ^ 64 → (b == 32) ≡ false → factor_in same units (b ∷ unit) ≡ Some 1
+quantity_read : (same : List ℕ → List ℕ → Bool) (units : Units) (n b : ℕ) (unit : List ℕ) → n < 2 ^ 64 → (b == 32) ≡ false → factor_in same units (b ∷ unit) ≡ Some 1
     → quantity same units (decimal n ++ (32 ∷ (b ∷ unit))) ≡ Some n
-quantity-read same units n b unit h s f =
+quantity_read same units n b unit h s f =
     let d = decimal-digits n h in
     let rest = 32 ∷ (b ∷ unit) in
     let behind : unit_of_text (decimal n ++ rest) ≡ b ∷ unit = ap (λ l. drop (prefix_len (λ c. c == space) l) l) (back n (decimal n) rest d refl) ∙ rw s refl in
     rw (found n (decimal n) rest d refl, d.value, in_64 n h, behind, f, mul-one n, in_64 n h) refl
 
-pub time-read : (t : Time) → t.nanos < 2 ^ 64 → time_of (shown_time t) ≡ Some t
-time-read t h = rw (quantity-read bytes_eq time_units t.nanos 110 (codes "s") h refl refl) refl
+pub time_read : (t : Time) → t.nanos < 2 ^ 64 → time_of (shown_time t) ≡ Some t
+time_read t h = rw (quantity_read bytes_eq time_units t.nanos 110 (codes "s") h refl refl) refl
 
-pub rate-read : (n : ℕ) → n < 2 ^ 64 → rate_of_text (shown_rate n) ≡ Some n
-rate-read n h = quantity-read str_eq_ignore_ascii_case rate_units n 98 (codes "it") h refl refl
+pub rate_read : (n : ℕ) → n < 2 ^ 64 → rate_of_text (shown_rate n) ≡ Some n
+rate_read n h = quantity_read str_eq_ignore_ascii_case rate_units n 98 (codes "it") h refl refl
 
-digits-number : (n : ℕ) (rest : List ℕ) → n < 2 ^ 64 → begins_with_digit rest ≡ false → digits_number (decimal n ++ rest) ≡ Some n
-digits-number n rest h o =
+digits_number_is : (n : ℕ) (rest : List ℕ) → n < 2 ^ 64 → begins_with_digit rest ≡ false → digits_number (decimal n ++ rest) ≡ Some n
+digits_number_is n rest h o =
     let d = decimal-digits n h in
     let small : nat_lt n (2 ^ 128) ≡ true = lt-ltb n (2 ^ 128) (omega arith) in
     rw (found n (decimal n) rest d o, d.value, small) refl
 
-pub number-read : (n : ℕ) → n < 2 ^ 64 → number_of (decimal n) ≡ Some n
-number-read n h =
+pub number_read : (n : ℕ) → n < 2 ^ 64 → number_of (decimal n) ≡ Some n
+number_read n h =
     let d = decimal-digits n h in
-    let whole : prefix_len is_ascii_digit (decimal n) ≡ length (decimal n) = ap (prefix_len is_ascii_digit) (sym (append-nil (decimal n))) ∙ prefix-digits (decimal n) [] d.are refl in
+    let whole : prefix_len is_ascii_digit (decimal n) ≡ length (decimal n) = ap (prefix_len is_ascii_digit) (sym (append-nil (decimal n))) ∙ prefix_digits (decimal n) [] d.are refl in
     let none : nat_lt (prefix_len is_ascii_digit (decimal n)) (length (decimal n)) ≡ false = le-ltb _ _ (omega (arith, whole)) in
-    rw none (ap digits_number (sym (append-nil (decimal n))) ∙ digits-number n [] h refl)
+    rw none (ap digits_number (sym (append-nil (decimal n))) ∙ digits_number_is n [] h refl)
 
-pub size-read : (n : ℕ) → n < 2 ^ 64 → size_of (decimal n ++ codes " B") ≡ Some n
-size-read n h =
+pub size_read : (n : ℕ) → n < 2 ^ 64 → size_of (decimal n ++ codes " B") ≡ Some n
+size_read n h =
     let d = decimal-digits n h in
     let behind : unit_of_text (decimal n ++ codes " B") ≡ codes "B" = ap (λ l. drop (prefix_len (λ c. c == space) l) l) (back n (decimal n) (codes " B") d refl) in
     let small : nat_lt n (2 ^ 128) ≡ true = lt-ltb n (2 ^ 128) (omega arith) in
-    rw (digits-number n (codes " B") h refl, behind, mul-one n, small) refl
+    rw (digits_number_is n (codes " B") h refl, behind, mul-one n, small) refl
 
 -- ---- addresses
 
 -- no number of more digits than one begins with 0
-first-digit_of : (n : ℕ) → n < 2 ^ 64 → (nat_lt 1 (length (decimal n)) && slice_index (decimal n) 0 == 48) ≡ false
-first-digit_of zero h = rw (decimal_digit 0 (omega arith)) refl
-first-digit_of (suc n) h = rw (decimal-digits_of (suc n) (omega arith) h) (rw (by (digits_of 10 (suc n)) (first_digits_of 10 (suc n) (omega arith) (omega arith))) (and_false (nat_lt 1 _)))
+first_digit_of : (n : ℕ) → n < 2 ^ 64 → (nat_lt 1 (length (decimal n)) && slice_index (decimal n) 0 == 48) ≡ false
+first_digit_of zero h = rw (decimal_digit 0 (omega arith)) refl
+first_digit_of (suc n) h = rw (decimal-digits_of (suc n) (omega arith) h) (rw (by (digits_of 10 (suc n)) (first_digits_of 10 (suc n) (omega arith) (omega arith))) (and_false (nat_lt 1 _)))
   where
     and_false : (a : Bool) → (a && false) ≡ false
     and_false true = refl
@@ -174,27 +174,27 @@ first-digit_of (suc n) h = rw (decimal-digits_of (suc n) (omega arith) h) (rw (b
     by [] lt = absurd (omega (arith, lt))
     by (d ∷ ds) lt = ne_eqb (48 + d) 48 (λ e. absurd (omega (arith, e, lt)))
 
-octet-read : (n : ℕ) → n < 256 → octet (decimal n) ≡ Some n
-octet-read n h = rw (first-digit_of n (omega arith), number-read n (omega arith), lt-ltb n 256 h) refl
+octet_read : (n : ℕ) → n < 256 → octet (decimal n) ≡ Some n
+octet_read n h = rw (first_digit_of n (omega arith), number_read n (omega arith), lt-ltb n 256 h) refl
 
-digits-points : (ds rest : List ℕ) → list_all is_ascii_digit ds ≡ true → prefix_len (λ b. not (is_point b)) (ds ++ (46 ∷ rest)) ≡ length ds
-digits-points [] rest h = refl
-digits-points (c ∷ cs) rest h =
+digits_points : (ds rest : List ℕ) → list_all is_ascii_digit ds ≡ true → prefix_len (λ b. not (is_point b)) (ds ++ (46 ∷ rest)) ≡ length ds
+digits_points [] rest h = refl
+digits_points (c ∷ cs) rest h =
     let p = and_parts (is_ascii_digit c) (list_all is_ascii_digit cs) h in
-    let more = digits-points cs rest p.1 in
+    let more = digits_points cs rest p.1 in
     rw (is_other is_ascii_digit c 46 p.0 refl) (omega (arith, more))
 
-before-point : (n : ℕ) (rest : List ℕ) → n < 256 → before_first is_point (decimal n ++ (46 ∷ rest)) ≡ decimal n
-before-point n rest h = ap (λ k. take k (decimal n ++ (46 ∷ rest))) (digits-points (decimal n) rest (decimal-digits n (omega arith)).are) ∙ take_at (decimal n) (46 ∷ rest) (length (decimal n)) refl
+before_point : (n : ℕ) (rest : List ℕ) → n < 256 → before_first is_point (decimal n ++ (46 ∷ rest)) ≡ decimal n
+before_point n rest h = ap (λ k. take k (decimal n ++ (46 ∷ rest))) (digits_points (decimal n) rest (decimal-digits n (omega arith)).are) ∙ take_at (decimal n) (46 ∷ rest) (length (decimal n)) refl
 
-after-point : (n : ℕ) (rest : List ℕ) → n < 256 → behind_point (decimal n ++ (46 ∷ rest)) ≡ rest
-after-point n rest h =
-    ap (λ k. drop (k + 1) (decimal n ++ (46 ∷ rest))) (digits-points (decimal n) rest (decimal-digits n (omega arith)).are)
+after_point : (n : ℕ) (rest : List ℕ) → n < 256 → behind_point (decimal n ++ (46 ∷ rest)) ≡ rest
+after_point n rest h =
+    ap (λ k. drop (k + 1) (decimal n ++ (46 ∷ rest))) (digits_points (decimal n) rest (decimal-digits n (omega arith)).are)
     ∙ ap (drop (length (decimal n) + 1)) (sym (append_assoc (decimal n) (46 ∷ []) rest))
     ∙ drop_at (decimal n ++ (46 ∷ [])) rest (length (decimal n) + 1) (length-append (decimal n) (46 ∷ []))
 
-pub address-read : (ip : Ip) → ip.bits < 2 ^ 32 → address_of (shown_address ip) ≡ Some ip
-address-read ip h =
+pub address_read : (ip : Ip) → ip.bits < 2 ^ 32 → address_of (shown_address ip) ≡ Some ip
+address_read ip h =
     let a = ip.bits / 2 ^ 24 in
     let b = ip.bits / 2 ^ 16 % 256 in
     let c = ip.bits / 2 ^ 8 % 256 in
@@ -207,24 +207,24 @@ address-read ip h =
     let third = decimal c ++ (46 ∷ decimal d) in
     let second = decimal b ++ (46 ∷ third) in
     rw (
-      after-point a second small_a,
-      after-point b third small_b,
-      after-point c (decimal d) small_c,
-      before-point a second small_a,
-      before-point b third small_b,
-      before-point c (decimal d) small_c,
-      octet-read a small_a,
-      octet-read b small_b,
-      octet-read c small_c,
-      octet-read d small_d,
+      after_point a second small_a,
+      after_point b third small_b,
+      after_point c (decimal d) small_c,
+      before_point a second small_a,
+      before_point b third small_b,
+      before_point c (decimal d) small_c,
+      octet_read a small_a,
+      octet_read b small_b,
+      octet_read c small_c,
+      octet_read d small_d,
       whole,
     ) refl
 
-point-bare : (n : ℕ) (rest : List ℕ) → n < 256 → list_all is_bare rest ≡ true → list_all is_bare (decimal n ++ (46 ∷ rest)) ≡ true
-point-bare n rest h k = all-append is_bare (decimal n) (46 ∷ rest) (all-weaker is_ascii_digit is_bare digit-bare (decimal n) (decimal-digits n (omega arith)).are) k
+point_bare : (n : ℕ) (rest : List ℕ) → n < 256 → list_all is_bare rest ≡ true → list_all is_bare (decimal n ++ (46 ∷ rest)) ≡ true
+point_bare n rest h k = all-append is_bare (decimal n) (46 ∷ rest) (all_weaker is_ascii_digit is_bare digit_bare (decimal n) (decimal-digits n (omega arith)).are) k
 
-pub address-bare : (ip : Ip) → ip.bits < 2 ^ 32 → IsBare (shown_address ip)
-address-bare ip h =
+pub address_bare : (ip : Ip) → ip.bits < 2 ^ 32 → IsBare (shown_address ip)
+address_bare ip h =
     let a = ip.bits / 2 ^ 24 in
     let b = ip.bits / 2 ^ 16 % 256 in
     let c = ip.bits / 2 ^ 8 % 256 in
@@ -232,10 +232,10 @@ address-bare ip h =
     let last = decimal-digits d (omega arith) in
     let third = decimal c ++ (46 ∷ decimal d) in
     let second = decimal b ++ (46 ∷ third) in
-    let bytes = point-bare a second (omega arith) (point-bare b third (omega arith) (point-bare c (decimal d) (omega arith) (all-weaker is_ascii_digit is_bare digit-bare (decimal d) last.are))) in
-    let behind : (xs : List ℕ) (n : ℕ) → 0 < length xs → last_byte (decimal n ++ (46 ∷ xs)) ≡ last_byte xs = λ xs n lt. last_byte-append (decimal n) (46 ∷ xs) (omega arith) ∙ last_byte-append (46 ∷ []) xs lt in
-    number-bare (shown_address ip) bytes (begins-append (decimal a) (46 ∷ second) (decimal-digits a (omega arith)).first)
-    (ap is_space (behind second a (length-point b third) ∙ behind third b (length-point c (decimal d)) ∙ behind (decimal d) c last.some) ∙ last_of_digits (decimal d) last.some last.are)
+    let bytes = point_bare a second (omega arith) (point_bare b third (omega arith) (point_bare c (decimal d) (omega arith) (all_weaker is_ascii_digit is_bare digit_bare (decimal d) last.are))) in
+    let behind : (xs : List ℕ) (n : ℕ) → 0 < length xs → last_byte (decimal n ++ (46 ∷ xs)) ≡ last_byte xs = λ xs n lt. last_byte_append (decimal n) (46 ∷ xs) (omega arith) ∙ last_byte_append (46 ∷ []) xs lt in
+    number_bare (shown_address ip) bytes (begins_append (decimal a) (46 ∷ second) (decimal-digits a (omega arith)).first)
+    (ap is_space (behind second a (length_point b third) ∙ behind third b (length_point c (decimal d)) ∙ behind (decimal d) c last.some) ∙ last_of_digits (decimal d) last.some last.are)
   where
-    length-point : (n : ℕ) (rest : List ℕ) → 0 < length (decimal n ++ (46 ∷ rest))
-    length-point n rest = let e = length-append (decimal n) (46 ∷ rest) in omega (arith, e)
+    length_point : (n : ℕ) (rest : List ℕ) → 0 < length (decimal n ++ (46 ∷ rest))
+    length_point n rest = let e = length-append (decimal n) (46 ∷ rest) in omega (arith, e)

@@ -17,25 +17,25 @@ use Rattle.sock_tcp.specs.connection.Tcb.{Tcb, data_end}
 use Rattle.sock_tcp.specs.connection.Congestion.{still_counted}
 use Rattle.sock_tcp.specs.connection.Arrival.{own_fin_acknowledged, state_advanced, advanced}
 use Rattle.sock_tcp.specs.connection.StandsFor.{StandsFor, FitsPhase}
-use Rattle.sock_tcp.proofs.Segments.Numbers.{wire-wire}
+use Rattle.sock_tcp.proofs.Segments.Numbers.{wire_wire}
 
 cond-same : (b : Bool) (state : TcpState) → (if b then state else state) ≡ state
 cond-same true state = refl
 cond-same false state = refl
 
 -- only where the own FIN isn't acknowledged yet does its acknowledgement matter
-state-advanced : (state : TcpState) (a b : Bool) (wanted : Bool) (una nxt highest end : ℕ) → (una ≤ end → a ≡ b) → is_synchronized state ≡ true → FitsPhase (phase_of state) wanted una nxt highest end → state_advanced a state ≡ state_advanced b state
-state-advanced SynSent a b wanted una nxt highest end e s h = cc
-state-advanced SynReceived a b wanted una nxt highest end e s h = cc
-state-advanced Established a b wanted una nxt highest end e s h = cond-same a Established ∙ sym (cond-same b Established)
-state-advanced FinWait1 a b wanted una nxt highest end e s h = ap (λ x. state_advanced x FinWait1) (e h.2)
-state-advanced FinWait2 a b wanted una nxt highest end e s h = cond-same a FinWait2 ∙ sym (cond-same b FinWait2)
-state-advanced CloseWait a b wanted una nxt highest end e s h = cond-same a CloseWait ∙ sym (cond-same b CloseWait)
-state-advanced Closing a b wanted una nxt highest end e s h = ap (λ x. state_advanced x Closing) (e h.2)
-state-advanced LastAck a b wanted una nxt highest end e s h = ap (λ x. state_advanced x LastAck) (e h.2)
-state-advanced TimeWait a b wanted una nxt highest end e s h = cond-same a TimeWait ∙ sym (cond-same b TimeWait)
-state-advanced Ended a b wanted una nxt highest end e s h = cc
-state-advanced Vanished a b wanted una nxt highest end e s h = cc
+state_advanced_is : (state : TcpState) (a b : Bool) (wanted : Bool) (una nxt highest end : ℕ) → (una ≤ end → a ≡ b) → is_synchronized state ≡ true → FitsPhase (phase_of state) wanted una nxt highest end → state_advanced a state ≡ state_advanced b state
+state_advanced_is SynSent a b wanted una nxt highest end e s h = cc
+state_advanced_is SynReceived a b wanted una nxt highest end e s h = cc
+state_advanced_is Established a b wanted una nxt highest end e s h = cond-same a Established ∙ sym (cond-same b Established)
+state_advanced_is FinWait1 a b wanted una nxt highest end e s h = ap (λ x. state_advanced x FinWait1) (e h.2)
+state_advanced_is FinWait2 a b wanted una nxt highest end e s h = cond-same a FinWait2 ∙ sym (cond-same b FinWait2)
+state_advanced_is CloseWait a b wanted una nxt highest end e s h = cond-same a CloseWait ∙ sym (cond-same b CloseWait)
+state_advanced_is Closing a b wanted una nxt highest end e s h = ap (λ x. state_advanced x Closing) (e h.2)
+state_advanced_is LastAck a b wanted una nxt highest end e s h = ap (λ x. state_advanced x LastAck) (e h.2)
+state_advanced_is TimeWait a b wanted una nxt highest end e s h = cond-same a TimeWait ∙ sym (cond-same b TimeWait)
+state_advanced_is Ended a b wanted una nxt highest end e s h = cc
+state_advanced_is Vanished a b wanted una nxt highest end e s h = cc
 
 from_one : (state : TcpState) (wanted : Bool) (una nxt highest end : ℕ) → is_synchronized state ≡ true → FitsPhase (phase_of state) wanted una nxt highest end → 1 ≤ una
 from_one SynSent wanted una nxt highest end s h = cc
@@ -60,7 +60,7 @@ same_state c r by h s =
     let one : 1 ≤ r.una = from_one r.control.state _ _ _ _ _ t h.phase in
     let count : length c.send.items ≡ length r.written - (r.una - 1) = ap length h.send ∙ length-drop (r.una - 1) r.written in
     ap (λ k. state_advanced (by == length c.send.items + 1) k.state) h.control
-    ∙ state-advanced r.control.state _ _ _ _ _ _ _ (λ b. same_test by (length c.send.items) r.una (data_end r) (omega arith)) t h.phase
+    ∙ state_advanced_is r.control.state _ _ _ _ _ _ _ (λ b. same_test by (length c.send.items) r.una (data_end r) (omega arith)) t h.phase
 
 -- the offsets still fit the phase
 pub phase_advanced : (state : TcpState) (fin wanted : Bool) (una nxt highest end by : ℕ) → (fin ≡ false → una + by ≤ highest → highest ≤ end + 1 → una + by ≤ end) → una ≤ nxt → una + by ≤ highest → is_synchronized state ≡ true → FitsPhase (phase_of state) wanted una nxt highest end → FitsPhase (phase_of (state_advanced fin state)) wanted (una + by) (max nxt (una + by)) highest end
@@ -125,7 +125,7 @@ stands_advanced c c' r state by window h s b st e =
       control = e.control
           ∙ (ap (λ (k : Control). record k { state = state; window = window; congestion = acknowledged by k.congestion }) h.control
           ∙ ap (λ (x : TcpState). record r.control { state = x; window = window; congestion = acknowledged by r.control.congestion }) st);
-      una = e.una ∙ (ap (λ n. wire n by) h.una ∙ wire-wire r.iss r.una by);
+      una = e.una ∙ (ap (λ n. wire n by) h.una ∙ wire_wire r.iss r.una by);
       next = omega (arith, h.next, e.sent);
       highest = omega (arith, h.highest, e.highest);
       duplicates = e.duplicates ∙ counted_in_both (nat_lt 0 by) c.duplicates r.duplicates h.duplicates;

@@ -9,10 +9,10 @@ use Rattle.sock_tcp.specs.connection.StandsFor.{StandsFor, StandsAll}
 use Rattle.sock_tcp.proofs.Connections.Places.{same_length, record_at, stands_at}
 
 -- one record more
-carried_take-suc : (records : List Tcb) (place : ℕ) (r : Tcb) → slice_get records place ≡ Some r → map carried_of (take (suc place) records) ≡ map carried_of (take place records) ++ carried_of r ∷ []
-carried_take-suc [] place r e = cc
-carried_take-suc (x ∷ records) zero r e = let same : x ≡ r = cc in ap (λ (y : Tcb). carried_of y ∷ []) same
-carried_take-suc (x ∷ records) (suc place) r e = ap (λ xs. carried_of x ∷ xs) (carried_take-suc records place r e)
+carried_take_suc : (records : List Tcb) (place : ℕ) (r : Tcb) → slice_get records place ≡ Some r → map carried_of (take (suc place) records) ≡ map carried_of (take place records) ++ carried_of r ∷ []
+carried_take_suc [] place r e = cc
+carried_take_suc (x ∷ records) zero r e = let same : x ≡ r = cc in ap (λ (y : Tcb). carried_of y ∷ []) same
+carried_take_suc (x ∷ records) (suc place) r e = ap (λ xs. carried_of x ∷ xs) (carried_take_suc records place r e)
 
 pub carried_more : (conns : List Conn) (records : List Tcb) (place : ℕ) (conn : Conn) (carried : Carried) (first now next : List Carried) → StandsAll conns records → place < length conns → conn ≡ get_or conns place conn → now ≡ with_gone (take place records) first → ((r : Tcb) → StandsFor conn r → carried ≡ carried_of r) → next ≡ now ++ carried ∷ [] → next ≡ with_gone (take (place + 1) records) first
 carried_more conns records place conn carried first now next h b is so one more =
@@ -22,7 +22,7 @@ carried_more conns records place conn carried first now next h b is so one more 
     ∙ (ap (λ c. now ++ c ∷ []) (one found.0 s)
     ∙ (ap (λ xs. xs ++ carried_of found.0 ∷ []) so
     ∙ (append_assoc first (map carried_of (take place records)) (carried_of found.0 ∷ [])
-    ∙ (ap (λ xs. first ++ xs) (sym (carried_take-suc records place found.0 found.1))
+    ∙ (ap (λ xs. first ++ xs) (sym (carried_take_suc records place found.0 found.1))
     ∙ ap (λ n. with_gone (take n records) first) (sym (add-one place))))))
 
 pub carried_all : (conns : List Conn) (records : List Tcb) (place : ℕ) (first now : List Carried) → StandsAll conns records → length conns ≤ place → now ≡ with_gone (take place records) first → now ≡ with_gone records first

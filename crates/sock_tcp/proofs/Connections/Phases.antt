@@ -26,28 +26,28 @@ unacknowledged_ends c r h s =
     (omega arith, b.0)
 
 -- what is next to send moves within the text
-pub FitsPhase-next : (p : Phase) (wanted : Bool) (una nxt highest end next : ℕ) → is_sending_phase p ≡ true → next ≤ max nxt end → FitsPhase p wanted una nxt highest end → FitsPhase p wanted una next highest end
-FitsPhase-next Opening wanted una nxt highest end next s b h = cc
-FitsPhase-next Open wanted una nxt highest end next s b h = (h.0, h.1, omega arith, h.3)
-FitsPhase-next Ending wanted una nxt highest end next s b h = (h.0, h.1, h.2, omega arith, h.4)
-FitsPhase-next Finished wanted una nxt highest end next s b h = cc
-FitsPhase-next Over wanted una nxt highest end next s b h = cc
+pub FitsPhase_next : (p : Phase) (wanted : Bool) (una nxt highest end next : ℕ) → is_sending_phase p ≡ true → next ≤ max nxt end → FitsPhase p wanted una nxt highest end → FitsPhase p wanted una next highest end
+FitsPhase_next Opening wanted una nxt highest end next s b h = cc
+FitsPhase_next Open wanted una nxt highest end next s b h = (h.0, h.1, omega arith, h.3)
+FitsPhase_next Ending wanted una nxt highest end next s b h = (h.0, h.1, h.2, omega arith, h.4)
+FitsPhase_next Finished wanted una nxt highest end next s b h = cc
+FitsPhase_next Over wanted una nxt highest end next s b h = cc
 
 -- or behind the FIN
-pub FitsPhase-fin : (p : Phase) (wanted : Bool) (una nxt highest end next : ℕ) → is_sending_phase p ≡ true → wanted ≡ true → next ≤ end + 1 → FitsPhase p wanted una nxt highest end → FitsPhase p wanted una next highest end
-FitsPhase-fin Opening wanted una nxt highest end next s w b h = cc
-FitsPhase-fin Open wanted una nxt highest end next s w b h = cc
-FitsPhase-fin Ending wanted una nxt highest end next s w b h = (h.0, h.1, h.2, b, h.4)
-FitsPhase-fin Finished wanted una nxt highest end next s w b h = cc
-FitsPhase-fin Over wanted una nxt highest end next s w b h = cc
+pub FitsPhase_fin : (p : Phase) (wanted : Bool) (una nxt highest end next : ℕ) → is_sending_phase p ≡ true → wanted ≡ true → next ≤ end + 1 → FitsPhase p wanted una nxt highest end → FitsPhase p wanted una next highest end
+FitsPhase_fin Opening wanted una nxt highest end next s w b h = cc
+FitsPhase_fin Open wanted una nxt highest end next s w b h = cc
+FitsPhase_fin Ending wanted una nxt highest end next s w b h = (h.0, h.1, h.2, b, h.4)
+FitsPhase_fin Finished wanted una nxt highest end next s w b h = cc
+FitsPhase_fin Over wanted una nxt highest end next s w b h = cc
 
 -- the highest follows what is next
-pub FitsPhase-highest : (p : Phase) (wanted : Bool) (una nxt highest end : ℕ) → is_sending_phase p ≡ true → FitsPhase p wanted una nxt highest end → FitsPhase p wanted una nxt (max highest nxt) end
-FitsPhase-highest Opening wanted una nxt highest end s h = cc
-FitsPhase-highest Open wanted una nxt highest end s h = (h.0, h.1, h.2, omega arith)
-FitsPhase-highest Ending wanted una nxt highest end s h = (h.0, h.1, h.2, h.3, omega arith)
-FitsPhase-highest Finished wanted una nxt highest end s h = cc
-FitsPhase-highest Over wanted una nxt highest end s h = cc
+pub FitsPhase_highest : (p : Phase) (wanted : Bool) (una nxt highest end : ℕ) → is_sending_phase p ≡ true → FitsPhase p wanted una nxt highest end → FitsPhase p wanted una nxt (max highest nxt) end
+FitsPhase_highest Opening wanted una nxt highest end s h = cc
+FitsPhase_highest Open wanted una nxt highest end s h = (h.0, h.1, h.2, omega arith)
+FitsPhase_highest Ending wanted una nxt highest end s h = (h.0, h.1, h.2, h.3, omega arith)
+FitsPhase_highest Finished wanted una nxt highest end s h = cc
+FitsPhase_highest Over wanted una nxt highest end s h = cc
 
 pub opening_of : (state : TcpState) (wanted : Bool) (una nxt highest end : ℕ) → is_opening state ≡ true → FitsPhase (phase_of state) wanted una nxt highest end → (wanted ≡ false) × (una ≡ 0) × (nxt ≡ 1) × (highest ≡ 1)
 opening_of SynSent wanted una nxt highest end e h = h

@@ -62,10 +62,10 @@ stands_set (y ∷ conns) [] place c r h s = absurd h
 stands_set (y ∷ conns) (x ∷ records) zero c r h s = (s, h.1)
 stands_set (y ∷ conns) (x ∷ records) (suc place) c r h s = (h.0, stands_set conns records place c r h.1 s)
 
-pub slice_get-set : (records : List Tcb) (place : ℕ) (old r : Tcb) → slice_get records place ≡ Some old → slice_get (set records place r) place ≡ Some r
-slice_get-set [] place old r e = cc
-slice_get-set (x ∷ records) zero old r e = refl
-slice_get-set (x ∷ records) (suc place) old r e = slice_get-set records place old r e
+pub slice_get_set : (records : List Tcb) (place : ℕ) (old r : Tcb) → slice_get records place ≡ Some old → slice_get (set records place r) place ≡ Some r
+slice_get_set [] place old r e = cc
+slice_get_set (x ∷ records) zero old r e = refl
+slice_get_set (x ∷ records) (suc place) old r e = slice_get_set records place old r e
 
 pub stands_push : (conns : List Conn) (records : List Tcb) (c : Conn) (r : Tcb) → StandsAll conns records → StandsFor c r → StandsAll (conns ++ c ∷ []) (records ++ r ∷ [])
 stands_push [] [] c r h s = (s, tt)

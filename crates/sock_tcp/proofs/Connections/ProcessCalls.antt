@@ -98,24 +98,24 @@ within_written Ended false una nxt highest end t n o h = cc
 within_written Vanished true una nxt highest end t n o h = cc
 within_written Vanished false una nxt highest end t n o h = cc
 
-bytes_taken-open : (bytes : List ℕ) (r : Tcb) → takes_bytes r.control ≡ true → bytes_taken bytes r ≡ take (room r) bytes
+bytes_taken_open : (bytes : List ℕ) (r : Tcb) → takes_bytes r.control ≡ true → bytes_taken bytes r ≡ take (room r) bytes
 unfolding bytes_taken
-bytes_taken-open bytes r e = ap (λ b. if b then take (room r) bytes else []) e
+bytes_taken_open bytes r e = ap (λ b. if b then take (room r) bytes else []) e
 
-bytes_taken-ended : (bytes : List ℕ) (r : Tcb) → takes_bytes r.control ≡ false → bytes_taken bytes r ≡ []
+bytes_taken_ended : (bytes : List ℕ) (r : Tcb) → takes_bytes r.control ≡ false → bytes_taken bytes r ≡ []
 unfolding bytes_taken
-bytes_taken-ended bytes r e = ap (λ b. if b then take (room r) bytes else []) e
+bytes_taken_ended bytes r e = ap (λ b. if b then take (room r) bytes else []) e
 
 control_takes : (c : Conn) (r : Tcb) (b : Bool) → StandsFor c r → takes_bytes c.control ≡ b → takes_bytes r.control ≡ b
 control_takes c r b h e = sym (ap takes_bytes h.control) ∙ e
 
 pub written_count : (c : Conn) (r : Tcb) (bytes : List ℕ) → StandsFor c r → takes_bytes c.control ≡ true → min (length bytes) (65535 - length c.send.items) ≡ length (bytes_taken bytes r)
 written_count c r bytes h e =
-    let taken = ap length (bytes_taken-open bytes r (control_takes c r true h e)) in
+    let taken = ap length (bytes_taken_open bytes r (control_takes c r true h e)) in
     omega (arith, taken, length-take (room r) bytes, ap length h.send)
 
 pub written_none : (c : Conn) (r : Tcb) (bytes : List ℕ) → StandsFor c r → takes_bytes c.control ≡ false → 0 ≡ length (bytes_taken bytes r)
-written_none c r bytes h e = sym (ap length (bytes_taken-ended bytes r (control_takes c r false h e)))
+written_none c r bytes h e = sym (ap length (bytes_taken_ended bytes r (control_takes c r false h e)))
 
 fitting : (bytes : List ℕ) (room : ℕ) → take (min (length bytes) room) bytes ≡ take room bytes
 fitting bytes room =
@@ -156,7 +156,7 @@ stands_writes c c' r bytes h b e =
     let taken = bytes_taken bytes r in
     let within = within_written r.control.state r.control.fin_wanted r.una r.nxt r.highest (data_end r) t (omega (arith, h.next)) (omega arith) h.phase in
     let room_is : 65535 - length c.send.items ≡ room r = ap (λ n. 65535 - n) (ap length h.send) in
-    let more : take (min (length bytes) (65535 - length c.send.items)) bytes ≡ taken = fitting bytes (65535 - length c.send.items) ∙ (ap (λ n. take n bytes) room_is ∙ sym (bytes_taken-open bytes r t)) in
+    let more : take (min (length bytes) (65535 - length c.send.items)) bytes ≡ taken = fitting bytes (65535 - length c.send.items) ∙ (ap (λ n. take n bytes) room_is ∙ sym (bytes_taken_open bytes r t)) in
     let count : min (length bytes) (65535 - length c.send.items) ≡ length taken = written_count c r bytes h b in
     let longer : data_end r ≤ 1 + length (r.written ++ taken) = omega (arith, length-append r.written taken) in
     record {
@@ -178,7 +178,7 @@ pub stands_writes_none : (c : Conn) (r : Tcb) (bytes : List ℕ) → StandsFor c
 unfolding writes
 stands_writes_none c r bytes h b =
     let t = control_takes c r false h b in
-    let same : r.written ++ bytes_taken bytes r ≡ r.written = ap (λ xs. r.written ++ xs) (bytes_taken-ended bytes r t) ∙ append-nil r.written in
+    let same : r.written ++ bytes_taken bytes r ≡ r.written = ap (λ xs. r.written ++ xs) (bytes_taken_ended bytes r t) ∙ append-nil r.written in
     subst (λ (xs : List ℕ). StandsFor c (record r { written = xs })) (sym same) h
 
 -- what a read changes

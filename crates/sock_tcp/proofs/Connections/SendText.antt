@@ -11,8 +11,8 @@ use Rattle.sock_tcp.specs.connection.Segment.{with_ack}
 use Rattle.sock_tcp.specs.connection.Retransmission.{unacknowledged, probe_length, sends_again_text}
 use Rattle.sock_tcp.specs.connection.Output.{pieces, text_segments, send_limit, to_send, sends_text}
 use Rattle.sock_tcp.specs.connection.StandsFor.{StandsFor, Stands, FitsPhase}
-use Rattle.sock_tcp.proofs.Connections.Phases.{unacknowledged_ends, FitsPhase-next}
-use Rattle.sock_tcp.proofs.Connections.Pieces.{text_segments-wire, text_segments-none}
+use Rattle.sock_tcp.proofs.Connections.Phases.{unacknowledged_ends, FitsPhase_next}
+use Rattle.sock_tcp.proofs.Connections.Pieces.{text_segments_wire, text_segments_none}
 
 -- the window that the code tells
 pub own_window_stands : (c : Conn) (r : Tcb) → StandsFor c r → 65535 - length c.receive.items ≡ own_window r
@@ -61,7 +61,7 @@ same_segments c r limit h s e =
     ∙ (ap (λ k. text_segments r.control (wire r.iss r.una) c.sent k (65535 - length c.receive.items) (pieces (take (limit - c.sent) (drop c.sent c.send.items)))) h.rcv
     ∙ (ap (λ k. text_segments r.control (wire r.iss r.una) c.sent (wire r.irs r.rcv) k (pieces (take (limit - c.sent) (drop c.sent c.send.items)))) window
     ∙ (ap (λ k. text_segments r.control (wire r.iss r.una) c.sent (wire r.irs r.rcv) (own_window r) k) text
-    ∙ (text_segments-wire r.control r.iss r.una c.sent (wire r.irs r.rcv) (own_window r) (pieces (to_send r))
+    ∙ (text_segments_wire r.control r.iss r.una c.sent (wire r.irs r.rcv) (own_window r) (pieces (to_send r))
     ∙ ap (λ k. text_segments r.control r.iss k (wire r.irs r.rcv) (own_window r) (pieces (to_send r))) h.next)))))
 
 pub stands_sends_text : (c c' : Conn) (d d' : Draft) (limit : ℕ) (t : Turn) → Stands c d t → SendsTo c c' limit → is_sending c.control.state ≡ true → c.sent < limit → t.tcb.una + limit ≡ send_limit t.tcb → d'.segments.items ≡ d.segments.items ++ text_segments c.control c.una c.sent c.rcv (65535 - length c.receive.items) (pieces (take (limit - c.sent) (drop c.sent c.send.items))) → d'.started ≡ d.started → Stands c' d' (sends_text t)
@@ -83,7 +83,7 @@ stands_sends_text c c' d d' limit t h e sending b at segments started =
         send = ap (λ b. b.items) e.send ∙ h.conn.send;
         receive = ap (λ b. b.items) e.receive ∙ h.conn.receive;
         read = h.conn.read;
-        phase = FitsPhase-next (phase_of r.control.state) _ _ _ _ _ (max r.nxt (send_limit r)) s (omega arith) h.conn.phase;
+        phase = FitsPhase_next (phase_of r.control.state) _ _ _ _ _ (max r.nxt (send_limit r)) s (omega arith) h.conn.phase;
       };
       segments = segments ∙ (ap (λ xs. xs ++ code_segments c limit) h.segments ∙ ap (λ xs. t.sent ++ xs) (same_segments c r limit h.conn s at));
       started = started ∙ h.started;
@@ -110,7 +110,7 @@ stands_sends_no_text c d limit t h b at =
         read = h.conn.read;
         phase = subst (λ n. FitsPhase (phase_of r.control.state) r.control.fin_wanted r.una n r.highest (data_end r)) next h.conn.phase;
       };
-      segments = h.segments ∙ sym (ap (λ xs. t.sent ++ xs) (text_segments-none r.control r.iss r.nxt (wire r.irs r.rcv) (own_window r) (send_limit r - r.nxt) (drop (r.nxt - 1) r.written) none) ∙ append-nil t.sent);
+      segments = h.segments ∙ sym (ap (λ xs. t.sent ++ xs) (text_segments_none r.control r.iss r.nxt (wire r.irs r.rcv) (own_window r) (send_limit r - r.nxt) (drop (r.nxt - 1) r.written) none) ∙ append-nil t.sent);
       started = h.started;
     }
 
@@ -142,7 +142,7 @@ stands_sends_again_text c c' d d' count text p t h e sending counted text_is p_i
         send = ap (λ b. b.items) e.send ∙ h.conn.send;
         receive = ap (λ b. b.items) e.receive ∙ h.conn.receive;
         read = h.conn.read;
-        phase = FitsPhase-next (phase_of r.control.state) _ _ _ _ _ (r.una + length again) s (omega (arith, ends.0, length_is, within)) h.conn.phase;
+        phase = FitsPhase_next (phase_of r.control.state) _ _ _ _ _ (r.una + length again) s (omega (arith, ends.0, length_is, within)) h.conn.phase;
       };
       segments = segments ∙ (ap (λ xs. xs ++ p ∷ []) h.segments ∙ ap (λ q. t.sent ++ q ∷ []) (p_is ∙ (ap (λ n. with_ack r 16 n text) zero_is ∙ ap (λ xs. with_ack r 16 r.una xs) same)));
       started = started ∙ h.started;

@@ -17,7 +17,7 @@ use Rattle.sock_tcp.specs.connection.Tcb.{Tcb, Turn}
 use Rattle.sock_tcp.specs.listener.Dropped.{dropped_after, dropped_by, dropped}
 use Rattle.sock_tcp.specs.listener.Listen.{Listen, replaced, is_kept}
 use Rattle.sock_tcp.specs.listener.ListensFor.{ListensFor}
-use Rattle.sock_tcp.proofs.Connections.Places.{record_at, slice_get-set}
+use Rattle.sock_tcp.proofs.Connections.Places.{record_at, slice_get_set}
 use Rattle.sock_tcp.proofs.Listeners.ListenActs.{at_place, listens_replaced}
 
 dropped_if : (over established : Bool) (r : Tcb) → List Tcb
@@ -58,7 +58,7 @@ gone_record act k mid l place r conn conn' e before gone h at is follows local l
     let t : Turn = act (begin r) in
     let gives = follows r (at_place k l place r conn h at is) in
     let m = listens_replaced k mid l place conn' t.tcb h gives.conn local limit records queue in
-    settles (replaced place t.tcb l) m t.tcb (slice_get-set l.records place r t.tcb at)
+    settles (replaced place t.tcb l) m t.tcb (slice_get_set l.records place r t.tcb at)
 
 -- by an act on the record of two ends
 pub gone_kept : (act : Turn → Turn) (own other : Addr) (k : Listener) (l : Listen) (place : ℕ) (before gone : List Carried) → ListensFor k l → place < length k.records.items → place ≡ place_in own other l.records → ((r : Tcb) → slice_get l.records place ≡ Some r → gone ≡ with_gone (dropped_by act (Some r)) before) → gone ≡ with_gone (dropped act own other l) before

@@ -19,18 +19,18 @@ use Rattle.sock_tcp.specs.connection.Process.{answered}
 use Rattle.sock_tcp.specs.connection.StandsFor.{StandsFor, Gives, Follows, StandsAll}
 use Rattle.sock_tcp.specs.listener.Listen.{Listen, Heard, places_past, without, waits, replaced, settled, record_heard, nothing_heard, record_acts, kept_acts, load_header, header_makes, is_kept, makes_record, takes_word, record_made, asked}
 use Rattle.sock_tcp.specs.listener.ListensFor.{ListensFor, Tells}
-use Rattle.sock_tcp.proofs.Connections.Places.{same_length, record_at, stands_at, stands_set, stands_push, stands_remove, slice_get-set}
+use Rattle.sock_tcp.proofs.Connections.Places.{same_length, record_at, stands_at, stands_set, stands_push, stands_remove, slice_get_set}
 use Rattle.sock_tcp.proofs.Listeners.QueuePlaces.{below_set, below_push, below_removed}
 
 -- the branches of settling
-settled-established : (place : ℕ) (before : Bool) (r : Tcb) (l : Listen) → r.control.was_established ≡ true → settled place before r l ≡ (if before then l else waits place l)
+settled_established : (place : ℕ) (before : Bool) (r : Tcb) (l : Listen) → r.control.was_established ≡ true → settled place before r l ≡ (if before then l else waits place l)
 unfolding settled
-settled-established place before r l e =
+settled_established place before r l e =
     ap (λ b. if b then (if before then l else waits place l) else (if is_over r.control.state then without place l else l)) e
 
-settled-else : (place : ℕ) (before : Bool) (r : Tcb) (l : Listen) → r.control.was_established ≡ false → settled place before r l ≡ (if is_over r.control.state then without place l else l)
+settled_else : (place : ℕ) (before : Bool) (r : Tcb) (l : Listen) → r.control.was_established ≡ false → settled place before r l ≡ (if is_over r.control.state then without place l else l)
 unfolding settled
-settled-else place before r l e =
+settled_else place before r l e =
     ap (λ b. if b then (if before then l else waits place l) else (if is_over r.control.state then without place l else l)) e
 
 -- the connection that was read at a place
@@ -72,27 +72,27 @@ listens_waits k k' l place h b local limit records queue =
 pub settles_waits : (k k' : Listener) (l : Listen) (place : ℕ) (before : Bool) (r : Tcb) (control : Control) → ListensFor k l → control ≡ r.control → control.was_established ≡ true → before ≡ false → place < length k.records.items → k'.local ≡ k.local → k'.limit ≡ k.limit → k'.records.items ≡ k.records.items → k'.accept_queue.items ≡ k.accept_queue.items ++ place ∷ [] → ListensFor k' (settled place before r l)
 settles_waits k k' l place before r control h c e f b local limit records queue =
     let e' : r.control.was_established ≡ true = sym (ap (λ x. x.was_established) c) ∙ e in
-    let is : settled place before r l ≡ waits place l = settled-established place before r l e' ∙ ap (λ b. if b then l else waits place l) f in
+    let is : settled place before r l ≡ waits place l = settled_established place before r l e' ∙ ap (λ b. if b then l else waits place l) f in
     subst (λ (m : Listen). ListensFor k' m) (sym is) (listens_waits k k' l place h b local limit records queue)
 
 pub settles_before : (k : Listener) (l : Listen) (place : ℕ) (before : Bool) (r : Tcb) (control : Control) → ListensFor k l → control ≡ r.control → control.was_established ≡ true → before ≡ true → ListensFor k (settled place before r l)
 settles_before k l place before r control h c e f =
     let e' : r.control.was_established ≡ true = sym (ap (λ x. x.was_established) c) ∙ e in
-    let is : settled place before r l ≡ l = settled-established place before r l e' ∙ ap (λ b. if b then l else waits place l) f in
+    let is : settled place before r l ≡ l = settled_established place before r l e' ∙ ap (λ b. if b then l else waits place l) f in
     subst (λ (m : Listen). ListensFor k m) (sym is) h
 
 pub settles_gone : (k' : Listener) (l : Listen) (place : ℕ) (before : Bool) (r : Tcb) (control : Control) → control ≡ r.control → control.was_established ≡ false → is_over control.state ≡ true → ListensFor k' (without place l) → ListensFor k' (settled place before r l)
 settles_gone k' l place before r control c e o h =
     let e' : r.control.was_established ≡ false = sym (ap (λ x. x.was_established) c) ∙ e in
     let o' : is_over r.control.state ≡ true = sym (ap (λ x. is_over x.state) c) ∙ o in
-    let is : settled place before r l ≡ without place l = settled-else place before r l e' ∙ ap (λ b. if b then without place l else l) o' in
+    let is : settled place before r l ≡ without place l = settled_else place before r l e' ∙ ap (λ b. if b then without place l else l) o' in
     subst (λ (m : Listen). ListensFor k' m) (sym is) h
 
 pub settles_stays : (k : Listener) (l : Listen) (place : ℕ) (before : Bool) (r : Tcb) (control : Control) → ListensFor k l → control ≡ r.control → control.was_established ≡ false → is_over control.state ≡ false → ListensFor k (settled place before r l)
 settles_stays k l place before r control h c e o =
     let e' : r.control.was_established ≡ false = sym (ap (λ x. x.was_established) c) ∙ e in
     let o' : is_over r.control.state ≡ false = sym (ap (λ x. is_over x.state) c) ∙ o in
-    let is : settled place before r l ≡ l = settled-else place before r l e' ∙ ap (λ b. if b then without place l else l) o' in
+    let is : settled place before r l ≡ l = settled_else place before r l e' ∙ ap (λ b. if b then without place l else l) o' in
     subst (λ (m : Listen). ListensFor k m) (sym is) h
 
 -- a connection did an act
@@ -108,7 +108,7 @@ tells_record act k mid k' l place before r conn conn' e h at is was follows loca
     let t : Turn = act (begin r) in
     let gives = follows r (at_place k l place r conn h at is) in
     let m = listens_replaced k mid l place conn' t.tcb h gives.conn local limit records queue in
-    let after = settles (replaced place t.tcb l) m t.tcb (slice_get-set l.records place r t.tcb at) in
+    let after = settles (replaced place t.tcb l) m t.tcb (slice_get_set l.records place r t.tcb at) in
     record {
       listen = subst (λ (b : Bool). ListensFor k' (settled place b t.tcb (replaced place t.tcb l))) was after;
       segments = gives.segments;
@@ -140,13 +140,13 @@ tells_kept_none act own other k' l e otherwise n tells =
     subst (λ (x : Heard). Tells k' e x) (sym heard) tells
 
 -- whether a word is drawn
-pub takes_word-kept : (p : Packet) (l : Listen) → is_kept p.to p.from l ≡ true → takes_word p l ≡ false
+pub takes_word_kept : (p : Packet) (l : Listen) → is_kept p.to p.from l ≡ true → takes_word p l ≡ false
 unfolding takes_word
-takes_word-kept p l e = ap (λ b. not b && header_makes (load_header p.load) l) e
+takes_word_kept p l e = ap (λ b. not b && header_makes (load_header p.load) l) e
 
-pub takes_word-new : (p : Packet) (l : Listen) → is_kept p.to p.from l ≡ false → takes_word p l ≡ header_makes (load_header p.load) l
+pub takes_word_new : (p : Packet) (l : Listen) → is_kept p.to p.from l ≡ false → takes_word p l ≡ header_makes (load_header p.load) l
 unfolding takes_word
-takes_word-new p l e = ap (λ b. not b && header_makes (load_header p.load) l) e
+takes_word_new p l e = ap (λ b. not b && header_makes (load_header p.load) l) e
 
 -- a SYN that makes a record, and one that doesn't
 pub tells_made : (p : Packet) (header : Header) (word : ℕ) (k k' : Listener) (l : Listen) (conn : Conn) (e : Effects) → ListensFor k l → makes_record header l ≡ true → Gives conn e (answered p.to p.from (word % 2 ^ 32) header.seq) → k'.local ≡ k.local → k'.limit ≡ k.limit → k'.records.items ≡ k.records.items ++ conn ∷ [] → k'.accept_queue.items ≡ k.accept_queue.items → Tells k' e (asked p header word l)

@@ -5,14 +5,14 @@ use Rattle.std.proofs.Math.Nat.{mod-add-mod, add-mod-mod}
 use Rattle.sock_tcp.specs.segment.Number.{wire}
 
 -- an offset from an offset
-pub wire-wire : (start a b : ℕ) → wire (wire start a) b ≡ wire start (a + b)
+pub wire_wire : (start a b : ℕ) → wire (wire start a) b ≡ wire start (a + b)
 unfolding wire
-wire-wire start a b =
+wire_wire start a b =
     let e : start + a + b ≡ start + (a + b) = omega arith in
     mod-add-mod (start + a) (2 ^ 32) b ∙ ap (λ n. n % 2 ^ 32) e
 
 -- the sum that the code makes, as the definition has it
-pub ruleset wires = (wire-wire)
+pub ruleset wires = (wire_wire)
 
 -- a count that is cut before
 pub ruleset sums = (add-mod-mod)

@@ -47,17 +47,17 @@ comes_in_syn_sent (Advances by) state n h e = let no : false ≡ true = h.0 in c
 comes_in_syn_sent Continues state n h e = tt
 
 -- the peer's FIN and the end of writing
-pub phase_of-after_peer_fin : (state : TcpState) → phase_of (after_peer_fin state) ≡ phase_of state
-phase_of-after_peer_fin SynSent = refl
-phase_of-after_peer_fin SynReceived = refl
-phase_of-after_peer_fin Established = refl
-phase_of-after_peer_fin FinWait1 = refl
-phase_of-after_peer_fin FinWait2 = refl
-phase_of-after_peer_fin CloseWait = refl
-phase_of-after_peer_fin Closing = refl
-phase_of-after_peer_fin LastAck = refl
-phase_of-after_peer_fin TimeWait = refl
-phase_of-after_peer_fin Ended = refl
-phase_of-after_peer_fin Vanished = refl
+pub phase_of_after_peer_fin : (state : TcpState) → phase_of (after_peer_fin state) ≡ phase_of state
+phase_of_after_peer_fin SynSent = refl
+phase_of_after_peer_fin SynReceived = refl
+phase_of_after_peer_fin Established = refl
+phase_of_after_peer_fin FinWait1 = refl
+phase_of_after_peer_fin FinWait2 = refl
+phase_of_after_peer_fin CloseWait = refl
+phase_of_after_peer_fin Closing = refl
+phase_of_after_peer_fin LastAck = refl
+phase_of_after_peer_fin TimeWait = refl
+phase_of_after_peer_fin Ended = refl
+phase_of_after_peer_fin Vanished = refl
 
-pub ruleset phases = (phase_of-after_peer_fin)
+pub ruleset phases = (phase_of_after_peer_fin)

@@ -35,27 +35,27 @@ abbrev pub top : List Said → Said
 top [] = null 0
 top (tree ∷ stack) = tree
 
-pub with_codes-codes_of : (tree : Said) (rest : Codes) (stack : List Said) → with_codes (codes_of tree ++ rest) stack ≡ with_codes rest (tree ∷ stack)
-with_codes-codes_of (null line) rest stack = refl
-with_codes-codes_of (text line bytes) rest stack = refl
-with_codes-codes_of (unknown line) rest stack = refl
-with_codes-codes_of (sequence line) rest stack = refl
-with_codes-codes_of (mapping line) rest stack = refl
-with_codes-codes_of (with_item before value) rest stack =
+pub with_codes_codes_of : (tree : Said) (rest : Codes) (stack : List Said) → with_codes (codes_of tree ++ rest) stack ≡ with_codes rest (tree ∷ stack)
+with_codes_codes_of (null line) rest stack = refl
+with_codes_codes_of (text line bytes) rest stack = refl
+with_codes_codes_of (unknown line) rest stack = refl
+with_codes_codes_of (sequence line) rest stack = refl
+with_codes_codes_of (mapping line) rest stack = refl
+with_codes_codes_of (with_item before value) rest stack =
     ap (λ ms. with_codes ms stack) (append_assoc (codes_of before) (codes_of value ++ (5, (0, [])) ∷ []) rest ∙ ap (λ ms. codes_of before ++ ms) (append_assoc (codes_of value) ((5, (0, [])) ∷ []) rest))
-    ∙ with_codes-codes_of before (codes_of value ++ ((5, (0, [])) ∷ rest)) stack
-    ∙ with_codes-codes_of value ((5, (0, [])) ∷ rest) (before ∷ stack)
-with_codes-codes_of (with_pair before line key value) rest stack =
+    ∙ with_codes_codes_of before (codes_of value ++ ((5, (0, [])) ∷ rest)) stack
+    ∙ with_codes_codes_of value ((5, (0, [])) ∷ rest) (before ∷ stack)
+with_codes_codes_of (with_pair before line key value) rest stack =
     ap (λ ms. with_codes ms stack) (append_assoc (codes_of before) (codes_of value ++ (6, (line, key)) ∷ []) rest ∙ ap (λ ms. codes_of before ++ ms) (append_assoc (codes_of value) ((6, (line, key)) ∷ []) rest))
-    ∙ with_codes-codes_of before (codes_of value ++ ((6, (line, key)) ∷ rest)) stack
-    ∙ with_codes-codes_of value ((6, (line, key)) ∷ rest) (before ∷ stack)
+    ∙ with_codes_codes_of before (codes_of value ++ ((6, (line, key)) ∷ rest)) stack
+    ∙ with_codes_codes_of value ((6, (line, key)) ∷ rest) (before ∷ stack)
 
 append-nil : (ms : Codes) → ms ++ [] ≡ ms
 append-nil [] = refl
 append-nil (m ∷ ms) = ap (λ t. m ∷ t) (append-nil ms)
 
-pub top-codes_of : (tree : Said) → top (with_codes (codes_of tree) []) ≡ tree
-top-codes_of tree = ap (λ ms. top (with_codes ms [])) (sym (append-nil (codes_of tree))) ∙ ap top (with_codes-codes_of tree [] [])
+pub top_codes_of : (tree : Said) → top (with_codes (codes_of tree) []) ≡ tree
+top_codes_of tree = ap (λ ms. top (with_codes ms [])) (sym (append-nil (codes_of tree))) ∙ ap top (with_codes_codes_of tree [] [])
 
 abbrev pub coded_said : Coded Said
-coded_said = code_by Codes (coded_list (coded× coded_ℕ (coded× coded_ℕ (coded_list coded_ℕ)))) codes_of (λ ms. top (with_codes ms [])) top-codes_of
+coded_said = code_by Codes (coded_list (coded× coded_ℕ (coded× coded_ℕ (coded_list coded_ℕ)))) codes_of (λ ms. top (with_codes ms [])) top_codes_of

@@ -1,5 +1,5 @@
-use Rattle.sock_udp.specs.SocketLaws.{takes-meets}
+use Rattle.sock_udp.specs.SocketLaws.{takes_meets}
 use Rattle.base_laws.proofs.sockets.one_taker.Goals as goal
 
 pub returns : goal.returns
-returns c = takes-meets
+returns c = takes_meets

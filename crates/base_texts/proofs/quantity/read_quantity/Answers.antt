@@ -1,5 +1,5 @@
-use Rattle.base_texts.proofs.QuantityLemmas.{AllDigits-front}
+use Rattle.base_texts.proofs.QuantityLemmas.{AllDigits_front}
 use Rattle.base_texts.proofs.quantity.read_quantity.Goals as goal
 
 pub number-requires : goal.number-requires
-number-requires c = rw (c.split_at.ensures.front, c.digits_len.ensures.len) (AllDigits-front c.args.text.now)
+number-requires c = rw (c.split_at.ensures.front, c.digits_len.ensures.len) (AllDigits_front c.args.text.now)

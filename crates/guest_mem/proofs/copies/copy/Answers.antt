@@ -2,7 +2,7 @@ use Rattle.std.proofs.Common.{ℕ, List, [], ◌∷◌, ◌++◌, length, get_or
 use Rattle.elf_load.specs.declared.page.Page.{Page}
 use Rattle.guest_mem.specs.inside.PageStore.{shown}
 use Rattle.guest_mem.specs.inside.Pages.{GuestPage, IsRewritten, zero_page}
-use Rattle.guest_mem.proofs.SlotLemmas.{length-shown, image_zeros, image_written}
+use Rattle.guest_mem.proofs.SlotLemmas.{length_shown, image_zeros, image_written}
 use Rattle.guest_mem.proofs.copies.copy.Goals as goal
 
 pub returns-then-are_zeros-clause-copied : goal.returns-then-are_zeros-clause-copied
@@ -19,7 +19,7 @@ returns-clause-copied c =
     let place : ℕ = c.len-place.result in
     let part : List ℕ = c.as_slice-bytes.result.now in
     let pushed : IsRewritten more now place 0 part = subst (λ (ps : List GuestPage). IsRewritten ps now place 0 part) c.push.ensures.pushed c.write.ensures.written in
-    let at : IsRewritten more now (length old) 0 part = subst (λ (i : ℕ). IsRewritten more now i 0 part) (c.len-place.ensures ∙ sym (length-shown c.args.made.now)) pushed in
+    let at : IsRewritten more now (length old) 0 part = subst (λ (i : ℕ). IsRewritten more now i 0 part) (c.len-place.ensures ∙ sym (length_shown c.args.made.now)) pushed in
     image_written old now page (subst (λ (xs : List ℕ). IsRewritten more now (length old) 0 xs) c.as_slice-bytes.ensures.value at)
 
 pub returns-clause-room : goal.returns-clause-room

@@ -4,7 +4,7 @@ use Rattle.guest_mem.specs.Memory.{Memory}
 use Rattle.guest_mem.specs.Opening.{stack_base}
 use Rattle.guest_process.specs.Start.{rounded_down, fixed_words, word_bytes, filled}
 use Rattle.guest_process.specs.Stack.{IsWritable}
-use Rattle.guest_process.proofs.Stacks.{IsWritable-opening}
+use Rattle.guest_process.proofs.Stacks.{IsWritable_opening}
 use Rattle.guest_process.proofs.Texts.{words_few, bytes_count, made_started}
 use Rattle.guest_process.proofs.start.start_guest.Goals as goal
 
@@ -34,7 +34,7 @@ overflow_sub-texts_at c =
     omega (arith, texts, words, len, len2, c.round_down-texts_at.ensures)
 
 pub fill-requires-clause-stack : goal.fill-requires-clause-stack
-fill-requires-clause-stack c = subst (λ (m : Memory). IsWritable m stack_base 0xC0000000) (sym c.in_ok-memory.ensures) (IsWritable-opening _)
+fill-requires-clause-stack c = subst (λ (m : Memory). IsWritable m stack_base 0xC0000000) (sym c.in_ok-memory.ensures) (IsWritable_opening _)
 
 pub fill-requires-2-clause-above : goal.fill-requires-2-clause-above
 fill-requires-2-clause-above c =

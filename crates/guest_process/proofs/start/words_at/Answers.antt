@@ -1,6 +1,6 @@
 use Rattle.std.proofs.Common.{Fits, ℕ, ◌+◌, ◌<◌, ◌≤◌, ◌^◌, ◌++◌, List, length, ap, arith, length-append}
 use Rattle.guest_process.specs.Start.{texts_bytes}
-use Rattle.guest_process.proofs.Texts.{texts_count, texts_bytes-append}
+use Rattle.guest_process.proofs.Texts.{texts_count, texts_bytes_append}
 use Rattle.guest_process.proofs.start.words_at.Goals as goal
 
 -- texts are no more than their bytes
@@ -11,7 +11,7 @@ few at arguments environment low =
       low,
       texts_count arguments,
       texts_count environment,
-      ap length (texts_bytes-append arguments environment),
+      ap length (texts_bytes_append arguments environment),
       length-append (texts_bytes arguments) (texts_bytes environment),
     )
 

@@ -4,7 +4,7 @@ use Rattle.std.specs.Mem.Slots.{slots_items, slots_filled}
 use Rattle.std.specs.declared.alloc.Global.{Global}
 use Rattle.list_weights.specs.Places.{EachAt}
 use Rattle.host_inbox.specs.inside.Slots.{IsRoom, IsTakenTo, row_of}
-use Rattle.list_weights.proofs.Places.{EachAt-push}
+use Rattle.list_weights.proofs.Places.{EachAt_push}
 use Rattle.host_inbox.proofs.draining.drained_rows.Goals as goal
 
 pub loop-row-preserved : goal.loop-row-preserved
@@ -27,6 +27,6 @@ loop-row-preserved g c =
       room = (let p = push.capacity in let r = inv.room in omega arith);
       rooms = (All-pop (IsRoom {T = T}) c.loop-row.empty.items c.pop.new.self.items (Some c.in-Some.row) pop.items inv.rooms).0;
       each = subst (EachAt F) (sym push.items)
-          (EachAt-push F c.loop-row.rows.items c.drained_row.result inv.each
+          (EachAt_push F c.loop-row.rows.items c.drained_row.result inv.each
           (row.parcels ∙ ap (λ (s : List (Option T)). row_of s c.len-host.result) inv.items ∙ ap (row_of slots) host));
     }

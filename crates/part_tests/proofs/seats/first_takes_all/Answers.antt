@@ -3,7 +3,7 @@ use Rattle.std.proofs.Math.ListN.{length-set}
 use Rattle.std.proofs.Math.Seq.{take-append_seam}
 use Rattle.steal_workers.specs.SeatViews.{SeatView}
 use Rattle.steal_workers.specs.WholeDeals.{IsWholeDeal}
-use Rattle.steal_workers.proofs.SameSeats.{same_seats-refl, same_seats-step, same_seats-whole}
+use Rattle.steal_workers.proofs.SameSeats.{same_seats_refl, same_seats_step, same_seats_whole}
 use Rattle.part_tests.proofs.seats.first_takes_all.Goals as goal
 
 front : {X : Type 0} (n : ℕ) (xs rest : List X) → length xs ≡ n → take n (xs ++ rest) ≡ xs
@@ -15,8 +15,8 @@ left-requires g c =
     let after = c.find_none.new.seats in
     let first = c.take_all.new.seat in
     let lent = c.as_mut_slice.ensures.value in
-    let stepped = same_seats-step before.items before.items 0 c.index_mut.result.now first (same_seats-refl before.items) c.index_mut.ensures.value c.take_all.ensures in
-    let whole = subst (λ (l : List (SeatView ℕ)). IsWholeDeal l) (sym lent) (same_seats-whole before.items (set before.items 0 first) stepped c.in_ok-seats.ensures.whole) in
+    let stepped = same_seats_step before.items before.items 0 c.index_mut.result.now first (same_seats_refl before.items) c.index_mut.ensures.value c.take_all.ensures in
+    let whole = subst (λ (l : List (SeatView ℕ)). IsWholeDeal l) (sym lent) (same_seats_whole before.items (set before.items 0 first) stepped c.in_ok-seats.ensures.whole) in
     let long : length after ≡ vec_len before = c.find_none.ensures.0 ∙ ap length lent ∙ length-set before.items 0 first ∙ sym before.ok.0 in
     subst (λ (l : List (SeatView ℕ)). IsWholeDeal l) (sym (front (vec_len before) after (drop (length after) (set before.items 0 first)) long))
-    (same_seats-whole c.as_mut_slice.result.now after c.find_none.ensures whole)
+    (same_seats_whole c.as_mut_slice.result.now after c.find_none.ensures whole)

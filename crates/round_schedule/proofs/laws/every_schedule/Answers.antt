@@ -1,4 +1,4 @@
-use Rattle.round_schedule.proofs.ScheduleLaws.{front, laid, left, leaves-world}
+use Rattle.round_schedule.proofs.ScheduleLaws.{front, laid, left, leaves_world}
 use Rattle.round_schedule.proofs.laws.every_schedule.Goals as goal
 
 pub returns-clause-front : goal.returns-clause-front
@@ -9,4 +9,4 @@ returns-clause-packets c = λ net window w workers steps r opened leads. laid ne
 
 pub returns-clause-closed : goal.returns-clause-closed
 returns-clause-closed c = λ net w after v workers steps d opened result leads stands.
-    leaves-world net w after v d (left net d.window w workers steps opened after v result leads) stands
+    leaves_world net w after v d (left net d.window w workers steps opened after v result leads) stands

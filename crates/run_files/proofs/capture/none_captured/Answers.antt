@@ -3,7 +3,7 @@ use Rattle.std.specs.Prelude.{replicate}
 use Rattle.std.proofs.lemmas.List.{length-map}
 use Rattle.run_files.specs.Listed.{said}
 use Rattle.run_files.specs.declared.capture.Captured.{Captured}
-use Rattle.run_files.proofs.Capturing.{nothing, nothing-captured}
+use Rattle.run_files.proofs.Capturing.{nothing, nothing_captured}
 use Rattle.run_files.proofs.capture.none_captured.Goals as goal
 
 pub returns : goal.returns
@@ -12,4 +12,4 @@ returns c =
     let e = c.loop-test.false in
     let f = c.loop.auto.index-end in
     let all : c.loop.index ≡ length hosts = omega arith in
-    c.loop.invariant ∙ ap (λ (n : ℕ). replicate n nothing) (all ∙ sym (length-map hosts said)) ∙ sym (nothing-captured 0 (map said hosts))
+    c.loop.invariant ∙ ap (λ (n : ℕ). replicate n nothing) (all ∙ sym (length-map hosts said)) ∙ sym (nothing_captured 0 (map said hosts))

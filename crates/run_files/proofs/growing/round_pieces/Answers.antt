@@ -9,7 +9,7 @@ use Rattle.host_link.specs.Logs.{kept_lines}
 use Rattle.run_files.specs.declared.listed.HostListing.{HostListing}
 use Rattle.host_link.specs.declared.line.Line.{Line}
 use Rattle.host_link.specs.declared.line.Logged.{Logged}
-use Rattle.run_files.proofs.Listings.{with_bytes-append}
+use Rattle.run_files.proofs.Listings.{with_bytes_append}
 use Rattle.run_files.proofs.growing.round_pieces.Goals as goal
 
 -- the pieces of hosts, those of their captures, and those of the log
@@ -18,8 +18,8 @@ parts : (names : List HostNames) (outputs : List (List Output)) (lines : List Li
 parts names outputs lines =
     let captures = all_captures no_head names lines in
     append_assoc (with_bytes (hosts_grown names outputs)) (with_bytes captures) (with_bytes (log_grown names lines ∷ []))
-    ∙ ap (λ (l : List Put). with_bytes (hosts_grown names outputs) ++ l) (sym (with_bytes-append captures (log_grown names lines ∷ [])))
-    ∙ sym (with_bytes-append (hosts_grown names outputs) (captures ++ (log_grown names lines ∷ [])))
+    ∙ ap (λ (l : List Put). with_bytes (hosts_grown names outputs) ++ l) (sym (with_bytes_append captures (log_grown names lines ∷ [])))
+    ∙ sym (with_bytes_append (hosts_grown names outputs) (captures ++ (log_grown names lines ∷ [])))
 
 pub output_pieces-requires : goal.output_pieces-requires
 output_pieces-requires c = c.requires ∙ length-map c.args.listing.now.hosts.items said ∙ sym (ap length c.as_slice-hosts.ensures.value)

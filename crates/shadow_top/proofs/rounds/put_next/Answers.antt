@@ -3,7 +3,7 @@ use Rattle.std.proofs.lemmas.Result.{err_from_is_err_and}
 use Rattle.run_files.specs.Files.{put_of}
 use Rattle.run_files.specs.declared.piece.Piece.{Piece}
 use Rattle.net_run.specs.Pieces.{with_pieces, PutsFront}
-use Rattle.shadow_top.proofs.RoundLemmas.{round-told}
+use Rattle.shadow_top.proofs.RoundLemmas.{round_told}
 use Rattle.shadow_top.proofs.rounds.put_next.Goals as goal
 
 pub returns-in_err-pieces-clause-told : goal.returns-in_err-pieces-clause-told
@@ -15,6 +15,6 @@ returns-clause-told g c = λ w at.
     (let r = c.in_ok-pieces.ensures.round w at in
     let old = g.K.Sink.content c.args.sink.now in
     let new = g.K.Sink.content c.put_pieces.new.sink in
-    round-told c.args.world.now c.round.new.self c.args.workers w r.0 c.in_ok-pieces.pieces old new r.1 c.put_pieces.result
+    round_told c.args.world.now c.round.new.self c.args.workers w r.0 c.in_ok-pieces.pieces old new r.1 c.put_pieces.result
     (subst (λ (ps : List Piece). OnOk c.put_pieces.result (new ≡ option_map (with_pieces (map put_of ps)) old)) c.deref.ensures.value c.put_pieces.ensures.ok)
     (subst (λ (ps : List Piece). OnErr c.put_pieces.result (PutsFront (map put_of ps) old new)) c.deref.ensures.value c.put_pieces.ensures.err))

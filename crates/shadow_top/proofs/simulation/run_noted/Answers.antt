@@ -4,15 +4,15 @@ use Rattle.run_outside.specs.Sink.{Content}
 use Rattle.run_files.specs.Listed.{HasIds, names_of}
 use Rattle.host_state.specs.World.{opening_world}
 use Rattle.run_files.specs.declared.listed.Listing.{Listing}
-use Rattle.shadow_top.proofs.OpenedLemmas.{has-rounds, host-rows}
+use Rattle.shadow_top.proofs.OpenedLemmas.{has_rounds, host_rows_is}
 use Rattle.shadow_top.proofs.RunLemmas.{not_run, begins_own, rounds_stopped, run_ended, ended_small}
 use Rattle.shadow_top.proofs.simulation.run_noted.Goals as goal
 
 pub start-requires-clause-rows : goal.start-requires-clause-rows
-start-requires-clause-rows g c = host-rows c.args.opened c.requires
+start-requires-clause-rows g c = host_rows_is c.args.opened c.requires
 
 pub start-requires-clause-rounds : goal.start-requires-clause-rounds
-start-requires-clause-rounds g c = has-rounds c.args.opened c.requires
+start-requires-clause-rounds g c = has_rounds c.args.opened c.requires
 
 pub returns-in_err-world-clause-told : goal.returns-in_err-world-clause-told
 returns-in_err-world-clause-told g c =

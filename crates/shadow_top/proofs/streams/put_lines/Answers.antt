@@ -4,7 +4,7 @@ use Rattle.run_files.specs.Files.{Put}
 use Rattle.net_run.specs.Pieces.{with_pieces, PutsFront}
 use Rattle.net_run.specs.Streams.{stream_puts}
 use Rattle.shadow_top.proofs.GrowLemmas.{front_none}
-use Rattle.shadow_top.proofs.StreamLemmas.{lines-are}
+use Rattle.shadow_top.proofs.StreamLemmas.{lines_are}
 use Rattle.shadow_top.proofs.streams.put_lines.Goals as goal
 
 pub returns-in-Ok-clause-ok : goal.returns-in-Ok-clause-ok
@@ -12,14 +12,14 @@ returns-in-Ok-clause-ok g c = λ w at.
     (let old = g.K.Sink.content c.args.sink.now in
     let new = g.K.Sink.content c.put_streams.new.sink in
     subst (λ (ps : List Put). OnOk c.put_streams.result (new ≡ option_map (with_pieces ps) old))
-    (lines-are c.args.world.now w at c.listing.result.now c.in-Ok.streams.items c.as_slice.result.now c.listing.ensures c.as_slice.ensures.value (c.in-Ok.ensures w at)) c.put_streams.ensures.ok)
+    (lines_are c.args.world.now w at c.listing.result.now c.in-Ok.streams.items c.as_slice.result.now c.listing.ensures c.as_slice.ensures.value (c.in-Ok.ensures w at)) c.put_streams.ensures.ok)
 
 pub returns-in-Ok-clause-err : goal.returns-in-Ok-clause-err
 returns-in-Ok-clause-err g c = λ w at.
     (let old = g.K.Sink.content c.args.sink.now in
     let new = g.K.Sink.content c.put_streams.new.sink in
     subst (λ (ps : List Put). OnErr c.put_streams.result (PutsFront ps old new))
-    (lines-are c.args.world.now w at c.listing.result.now c.in-Ok.streams.items c.as_slice.result.now c.listing.ensures c.as_slice.ensures.value (c.in-Ok.ensures w at)) c.put_streams.ensures.err)
+    (lines_are c.args.world.now w at c.listing.result.now c.in-Ok.streams.items c.as_slice.result.now c.listing.ensures c.as_slice.ensures.value (c.in-Ok.ensures w at)) c.put_streams.ensures.err)
 
 pub returns-in-Err-clause-err : goal.returns-in-Err-clause-err
 returns-in-Err-clause-err g c = λ w at. front_none (stream_puts true w) (g.K.Sink.content c.args.sink.now)

@@ -1,5 +1,5 @@
-use Rattle.shown_config.proofs.plain.PlainHosts.{config-plain}
+use Rattle.shown_config.proofs.plain.PlainHosts.{config_plain}
 use Rattle.shown_config.proofs.laws.configurations_plain.Goals as goal
 
 pub returns : goal.returns
-returns c = config-plain
+returns c = config_plain

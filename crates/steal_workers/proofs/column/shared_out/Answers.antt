@@ -11,7 +11,7 @@ use Rattle.steal_workers.specs.OneDeque.{hand, less_one_share, one_share}
 use Rattle.steal_workers.specs.inside.Handles.{is_own}
 use Rattle.steal_workers.specs.inside.Decks.{IsThiefOf}
 use Rattle.steal_workers.specs.inside.Columns.{IsFresh}
-use Rattle.list_weights.proofs.Places.{EachAt-push}
+use Rattle.list_weights.proofs.Places.{EachAt_push}
 use Rattle.steal_workers.proofs.Steps.{forks}
 use Rattle.steal_workers.proofs.ColumnSteps.{fresh_other, fresh_own, own_last}
 use Rattle.steal_workers.proofs.column.shared_out.Goals as goal
@@ -43,7 +43,7 @@ loop-thief-preserved g c =
       count = (let n = inv.count in let p = c.push_reserved.ensures.len in omega arith);
       room = (let r = inv.room in let p = c.push_reserved.ensures.capacity in omega arith);
       each = subst (EachAt (λ (i : ℕ) (share : Share T). IsFresh deque queue share × (is_own share.handle ≡ false))) (sym c.push_reserved.ensures.items)
-          (EachAt-push (λ (i : ℕ) (share : Share T). IsFresh deque queue share × (is_own share.handle ≡ false)) c.loop-thief.shares.items _ inv.each
+          (EachAt_push (λ (i : ℕ) (share : Share T). IsFresh deque queue share × (is_own share.handle ≡ false)) c.loop-thief.shares.items _ inv.each
           (fresh_other deque queue c.in-Some.thief c.another-claim.result (All-head (IsThiefOf deque) c.in-Some.thief rest thieves) claim view, refl));
     }
 

@@ -6,7 +6,7 @@ use Rattle.list_weights.specs.Places.{EachAt}
 use Rattle.steal_workers.specs.declared.deck.Deck.{Deck}
 use Rattle.steal_workers.specs.declared.share.Share.{Share}
 use Rattle.steal_workers.specs.inside.Columns.{IsColumn, closed, deck_deque}
-use Rattle.list_weights.proofs.Places.{EachAt-push}
+use Rattle.list_weights.proofs.Places.{EachAt_push}
 use Rattle.steal_workers.proofs.DeckSteps.{taken_next}
 use Rattle.steal_workers.proofs.dealing.columns_of.Goals as goal
 
@@ -31,7 +31,7 @@ loop-deck-preserved g c =
       count = inv.count;
       room = (let r = inv.room in let p = c.push_reserved.ensures.capacity in omega arith);
       each = subst (EachAt F) (sym c.push_reserved.ensures.items)
-          (EachAt-push F c.loop-deck.columns.items c.column.result inv.each (
+          (EachAt_push F c.loop-deck.columns.items c.column.result inv.each (
             (λ e. subst (λ (deck : Deck g.row.T.Denot). IsColumn (deck_deque deck) (closed n deck) n place c.column.result.items) (sym (here e))
                 (subst (λ (p : ℕ × ℕ). IsColumn (deck_deque c.in-Some.deck) (closed p.0 c.in-Some.deck) p.0 p.1 c.column.result.items) (λ i. (count i, at i)) c.column.ensures.each)),
             c.column.ensures.count ∙ count,

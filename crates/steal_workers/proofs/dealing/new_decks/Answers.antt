@@ -2,7 +2,7 @@ use Rattle.std.proofs.Common.{◌≡◌, ℕ, [], length, sym, subst, arith}
 use Rattle.list_weights.specs.Places.{EachAt}
 use Rattle.steal_workers.specs.declared.deck.Deck.{Deck}
 use Rattle.steal_workers.specs.inside.Decks.{IsFilling, queue_of}
-use Rattle.list_weights.proofs.Places.{EachAt-push}
+use Rattle.list_weights.proofs.Places.{EachAt_push}
 use Rattle.steal_workers.proofs.dealing.new_decks.Goals as goal
 
 pub loop-init : goal.loop-init
@@ -20,7 +20,7 @@ loop-preserved g c =
       count = (let p = c.push_reserved.ensures.len in omega arith);
       room = (let r = c.loop.invariant.room in let p = c.push_reserved.ensures.capacity in omega arith);
       each = subst (EachAt F) (sym c.push_reserved.ensures.items)
-          (EachAt-push F c.loop.decks.items _ c.loop.invariant.each
+          (EachAt_push F c.loop.decks.items _ c.loop.invariant.each
           (c.in_ok-new.ensures.0 (length c.loop.decks.items) (let t = c.loop-test.true in omega (arith, c.loop.decks.ok.0)), c.in_ok-new.ensures.1));
     }
 

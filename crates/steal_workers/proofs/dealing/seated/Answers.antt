@@ -7,7 +7,7 @@ use Rattle.steal_workers.specs.SeatViews.{SeatView}
 use Rattle.steal_workers.specs.WholeDeals.{IsNewSeat}
 use Rattle.steal_workers.specs.inside.Columns.{AreColumns, IsRow}
 use Rattle.steal_workers.specs.inside.Layouts.{IsEmptyRow, planned}
-use Rattle.list_weights.proofs.Places.{EachAt-push}
+use Rattle.list_weights.proofs.Places.{EachAt_push}
 use Rattle.steal_workers.proofs.DealSteps.{seat_of_row}
 use Rattle.steal_workers.proofs.dealing.seated.Goals as goal
 
@@ -58,5 +58,5 @@ loop-empty-preserved g c =
       left = (let l = inv.left in let e = c.push_reserved.ensures.len in omega arith);
       room = (let r = inv.room in let e = c.push_reserved.ensures.capacity in omega arith);
       seats = subst (EachAt F) (sym c.push_reserved.ensures.items)
-          (EachAt-push F c.loop-empty.seats.items c.new.result inv.seats (seat.0, seat.1 ∙ at, seat.2));
+          (EachAt_push F c.loop-empty.seats.items c.new.result inv.seats (seat.0, seat.1 ∙ at, seat.2));
     }

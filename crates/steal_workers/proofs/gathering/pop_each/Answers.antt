@@ -8,8 +8,8 @@ use Rattle.list_weights.specs.Weights.{weigh}
 use Rattle.steal_workers.specs.Deals.{Deal}
 use Rattle.steal_workers.specs.WholeDeals.{common_deal}
 use Rattle.steal_workers.specs.Gathers.{IsStack, IsShareAt, AreOwnMarked, places, share_taken}
-use Rattle.list_weights.proofs.Places.{EachAt-push}
-use Rattle.list_weights.proofs.Weights.{weigh-append}
+use Rattle.list_weights.proofs.Places.{EachAt_push}
+use Rattle.list_weights.proofs.Weights.{weigh_append}
 use Rattle.steal_workers.proofs.DeckSteps.{each_at_set}
 use Rattle.steal_workers.proofs.GatherSteps.{stack_front, stack_top, all_taken_less}
 use Rattle.steal_workers.proofs.gathering.pop_each.Goals as goal
@@ -43,12 +43,12 @@ loop-seat-preserved g c =
           (λ j k ne w. let t = inv.stacks j k w in ((λ less. t.0 (omega arith)), λ more. t.1 (omega arith)));
       count = ap length c.push_reserved.ensures.items ∙ (let l = length-append c.loop-seat.column.items (share ∷ []) in omega arith);
       tops = subst (EachAt G) (sym c.push_reserved.ensures.items)
-          (EachAt-push G c.loop-seat.column.items share inv.tops (subst (λ (n : ℕ). IsShareAt P deal d n share) named (stack_top P deal d old new share whole popped)));
+          (EachAt_push G c.loop-seat.column.items share inv.tops (subst (λ (n : ℕ). IsShareAt P deal d n share) named (stack_top P deal d old new share whole popped)));
       taken = λ h.
           let before = inv.taken h in
           let less = all_taken_less h stacks s e new share within popped in
           let joins : weigh (share_taken h) c.push_reserved.new.self.items ≡ weigh (share_taken h) (c.loop-seat.column.items ++ share ∷ []) = ap (weigh (share_taken h)) c.push_reserved.ensures.items in
-          omega (arith, weigh-append (share_taken h) c.loop-seat.column.items (share ∷ []));
+          omega (arith, weigh_append (share_taken h) c.loop-seat.column.items (share ∷ []));
       capacity = c.push_reserved.ensures.capacity ∙ inv.capacity;
     }
 

@@ -10,7 +10,7 @@ use Rattle.list_weights.specs.Weights.{weigh}
 use Rattle.steal_workers.specs.inside.Handles.{deque_of, is_own}
 use Rattle.steal_workers.specs.inside.Shares.{IsShare}
 use Rattle.steal_workers.specs.Gathers.{share_taken}
-use Rattle.list_weights.proofs.Weights.{weigh-append}
+use Rattle.list_weights.proofs.Weights.{weigh_append}
 use Rattle.steal_workers.proofs.Steps.{merges}
 use Rattle.steal_workers.proofs.WholeSteps.{IsOwnerOut, owner_out, all_back}
 use Rattle.steal_workers.proofs.gathering.whole.Goals as goal
@@ -57,7 +57,7 @@ loop-share-preserved g c =
           let now : weigh h (worker_view c.absorb.new.self).taken ≡ weigh h ((worker_view c.loop-share.deque).taken ++ (view c.claim.result).taken) = ap (λ (v : Hand g.row.T.Denot). weigh h v.taken) rule in
           let theirs : weigh h (view c.claim.result).taken ≡ share_taken h c.in-Some.share = ap (λ (v : Hand g.row.T.Denot). weigh h v.taken) claimed in
           let column : weigh (share_taken h) c.loop-share.column.items ≡ weigh (share_taken h) (c.pop.new.self.items ++ c.in-Some.share ∷ []) = ap (weigh (share_taken h)) popped in
-          omega (arith, weigh-append h (worker_view c.loop-share.deque).taken (view c.claim.result).taken, weigh-append (share_taken h) c.pop.new.self.items (c.in-Some.share ∷ []));
+          omega (arith, weigh_append h (worker_view c.loop-share.deque).taken (view c.claim.result).taken, weigh_append (share_taken h) c.pop.new.self.items (c.in-Some.share ∷ []));
       rest = split.0;
       capacity = c.pop.ensures.capacity ∙ inv.capacity;
     }

@@ -1,9 +1,9 @@
 use Rattle.steal_workers.proofs.DealLaws.{place-within, nothing_left}
-use Rattle.steal_workers.proofs.SameSeats.{same_seats-whole}
+use Rattle.steal_workers.proofs.SameSeats.{same_seats_whole}
 use Rattle.steal_workers.proofs.laws.whole_deals.Goals as goal
 
 pub returns-clause-stays : goal.returns-clause-stays
-returns-clause-stays g c = same_seats-whole
+returns-clause-stays g c = same_seats_whole
 
 pub returns-clause-places : goal.returns-clause-places
 returns-clause-places g c = place-within

@@ -1,9 +1,9 @@
 use Rattle.std.proofs.Common.{arith}
-use Rattle.world_order.proofs.Orders.{window-upto}
+use Rattle.world_order.proofs.Orders.{window_upto}
 use Rattle.world_order.proofs.laws.window.Goals as goal
 
 pub returns-clause-no_later : goal.returns-clause-no_later
-returns-clause-no_later c = window-upto
+returns-clause-no_later c = window_upto
 
 pub returns-clause-lone : goal.returns-clause-lone
 returns-clause-lone c = λ stop least due. due

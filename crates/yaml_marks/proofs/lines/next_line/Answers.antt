@@ -1,6 +1,6 @@
 use Rattle.std.proofs.Common.{◌∷◌, ◌∙◌, sym, ap, length, take, arith}
 use Rattle.yaml_marks.specs.Lines.{split_lines, without_return}
-use Rattle.yaml_marks.proofs.LineLaws.{split_cut, split_whole, length-without_return}
+use Rattle.yaml_marks.proofs.LineLaws.{split_cut, split_whole, length_without_return}
 use Rattle.std.proofs.lemmas.List.{length-take-le}
 use Rattle.yaml_marks.proofs.lines.next_line.Goals as goal
 
@@ -20,4 +20,4 @@ returns-clause-line c =
     let within = c.line_len-n.ensures.within in
     let same = ap length (c.without_return-line.ensures ∙ ap without_return c.before-front.ensures) in
     let taken = length-take-le c.line_len-n.result c.args.text.now within in
-    (let short = length-without_return (take c.line_len-n.result c.args.text.now) in omega (arith, short, same, taken))
+    (let short = length_without_return (take c.line_len-n.result c.args.text.now) in omega (arith, short, same, taken))

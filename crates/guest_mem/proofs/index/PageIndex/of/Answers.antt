@@ -5,7 +5,7 @@ use Rattle.guest_mem.specs.inside.PageIndex.{Finds}
 use Rattle.guest_mem.specs.inside.Pages.{place_of}
 use Rattle.guest_mem.specs.inside.Slots.{entry_numbers}
 use Rattle.guest_mem.specs.declared.index.PageIndex.{PageIndex}
-use Rattle.guest_mem.proofs.PageLemmas.{pushed_known, pushed_new, numbers-more, length-numbers_so_far}
+use Rattle.guest_mem.proofs.PageLemmas.{pushed_known, pushed_new, numbers-more, length_numbers_so_far}
 use Rattle.guest_mem.proofs.index.PageIndex.of.Goals as goal
 use Rattle.guest_mem.proofs.index.PageIndex.of.Goals.{then-is_none+in_ok-set, else-is_none}
 
@@ -26,7 +26,7 @@ loop-place-preserved c =
     let place : ℕ = c.loop-place.place in
     let ns : List ℕ = entry_numbers (take place ps) in
     let all : entry_numbers (take (place + 1) ps) ≡ ns ++ page.number ∷ [] = numbers-more ps place page c.loop-place-test.true c.index-pages-place.is in
-    let long : length ns ≡ place = length-numbers_so_far ps place (omega arith) in
+    let long : length ns ≡ place = length_numbers_so_far ps place (omega arith) in
     let low : page.number < 2 ^ 20 = page.in_range in
     let was : place_of ns page.number ≡ c.find.result = sym (c.loop-place.invariant.found page.number low) ∙ sym c.find.ensures in
     let so_far : (index : PageIndex) → Finds index (ns ++ page.number ∷ []) → Finds index (entry_numbers (take (place + 1) ps)) =

@@ -2,7 +2,7 @@ use Rattle.std.proofs.Common.{◌≡◌, ℕ, ◌+◌, ◌-◌, ◌*◌, ◌≤�
 use Rattle.guest_mem.specs.declared.entry.Entry.{Entry}
 use Rattle.guest_mem.specs.inside.Pages.{GuestPage}
 use Rattle.guest_mem.specs.inside.Slots.{slot_bytes}
-use Rattle.guest_mem.proofs.SlotLemmas.{fits_shown, within_entries, get-shown, part-slot}
+use Rattle.guest_mem.proofs.SlotLemmas.{fits_shown, within_entries, get_shown, part_slot}
 use Rattle.guest_mem.proofs.pages.Pages.part.Goals as goal
 use Rattle.elf_load.specs.Room.{page_size}
 
@@ -24,6 +24,6 @@ returns-clause-value c = λ (d : GuestPage).
     let from : e.slot * page_size + c.args.offset ≡ page_size * e.slot + c.args.offset = omega arith in
     ap (λ (n : ℕ). take n (drop (e.slot * page_size + c.args.offset) c.deref.result.now)) exact
     ∙ ap (λ (xs : List ℕ). take c.args.len (drop (e.slot * page_size + c.args.offset) xs)) c.deref.ensures.value
-    ∙ ap (λ (n : ℕ). take c.args.len (drop n bytes)) from ∙ sym (part-slot bytes e.slot c.args.offset c.args.len c.requires.in_page)
+    ∙ ap (λ (n : ℕ). take c.args.len (drop n bytes)) from ∙ sym (part_slot bytes e.slot c.args.offset c.args.len c.requires.in_page)
     ∙ ap (λ (s : ℕ). take c.args.len (drop c.args.offset (slot_bytes bytes s))) slot
-    ∙ ap (λ (g : GuestPage). take c.args.len (drop c.args.offset g.bytes)) (sym (get-shown c.args.self.now c.args.place d e c.requires.place))
+    ∙ ap (λ (g : GuestPage). take c.args.len (drop c.args.offset g.bytes)) (sym (get_shown c.args.self.now c.args.place d e c.requires.place))

@@ -2,7 +2,7 @@ use Rattle.std.proofs.Common.{◌≡◌, ℕ, ◌+◌, ◌*◌, ◌<◌, ◌≤�
 use Rattle.guest_mem.specs.declared.entry.Entry.{Entry}
 use Rattle.guest_mem.specs.declared.pages.Pages.{Pages}
 use Rattle.guest_mem.specs.inside.Slots.{slots}
-use Rattle.guest_mem.proofs.SlotLemmas.{again, again_kept, fits_shown, get-slots}
+use Rattle.guest_mem.proofs.SlotLemmas.{again, again_kept, fits_shown, get_slots}
 use Rattle.guest_mem.proofs.pages.Pages.push_again.Goals as goal
 use Rattle.elf_load.specs.Room.{page_size}
 
@@ -20,7 +20,7 @@ invariant_of-self c =
     let e : Entry = c.index.result.now in
     let new : List ℕ = c.clear.new.bytes.items in
     let at : p.count < length p.entries.items = omega (arith, c.requires.behind, p.entries.ok.0) in
-    let is : get_or (slots p.entries.items) p.count 0 ≡ e.slot = get-slots p.entries.items p.count e at ∙ sym (ap (λ (x : Entry). x.slot) c.index.ensures) in
+    let is : get_or (slots p.entries.items) p.count 0 ≡ e.slot = get_slots p.entries.items p.count e at ∙ sym (ap (λ (x : Entry). x.slot) c.index.ensures) in
     let long : length new ≡ length p.bytes.items = omega (arith, c.clear.ensures.len, p.bytes.ok.0, c.clear.new.bytes.ok.0) in
     let outside : (k : ℕ) → (k < page_size * e.slot) ⊎ (page_size * e.slot + page_size ≤ k) → get_or new k 0 ≡ get_or p.bytes.items k 0 =
     λ k sides. c.clear.ensures.outside k (⊎_elim (λ (h : k < page_size * e.slot). inl (omega arith)) (λ (h : page_size * e.slot + page_size ≤ k). inr (omega arith)) sides) in
@@ -34,7 +34,7 @@ returns-clause-pushed c =
     let e : Entry = c.index.result.now in
     let new : List ℕ = c.clear.new.bytes.items in
     let at : p.count < length p.entries.items = omega (arith, c.requires.behind, p.entries.ok.0) in
-    let is : get_or (slots p.entries.items) p.count 0 ≡ e.slot = get-slots p.entries.items p.count e at ∙ sym (ap (λ (x : Entry). x.slot) c.index.ensures) in
+    let is : get_or (slots p.entries.items) p.count 0 ≡ e.slot = get_slots p.entries.items p.count e at ∙ sym (ap (λ (x : Entry). x.slot) c.index.ensures) in
     let long : length new ≡ length p.bytes.items = omega (arith, c.clear.ensures.len, p.bytes.ok.0, c.clear.new.bytes.ok.0) in
     let outside : (k : ℕ) → (k < page_size * e.slot) ⊎ (page_size * e.slot + page_size ≤ k) → get_or new k 0 ≡ get_or p.bytes.items k 0 =
     λ k sides. c.clear.ensures.outside k (⊎_elim (λ (h : k < page_size * e.slot). inl (omega arith)) (λ (h : page_size * e.slot + page_size ≤ k). inr (omega arith)) sides) in

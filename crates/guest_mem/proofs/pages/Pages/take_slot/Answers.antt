@@ -3,7 +3,7 @@ use Rattle.std.proofs.lemmas.List.{get_or_default}
 use Rattle.guest_mem.specs.declared.entry.Entry.{Entry}
 use Rattle.guest_mem.specs.declared.pages.Pages.{Pages}
 use Rattle.guest_mem.specs.inside.Slots.{slots}
-use Rattle.guest_mem.proofs.SlotLemmas.{taken-le, taken-lt, taken_same, taken_kept, slot-set, within_entries}
+use Rattle.guest_mem.proofs.SlotLemmas.{taken_le, taken_lt, taken_same, taken_kept, slot_set, within_entries}
 use Rattle.guest_mem.proofs.pages.Pages.take_slot.Goals as goal
 use Rattle.elf_load.specs.Room.{page_size}
 
@@ -11,12 +11,12 @@ pub unreachable-requires : goal.unreachable-requires
 unreachable-requires c =
     let p : Pages = c.args.self.now in
     let within : c.args.place < length (slots p.entries.items) = omega (arith, c.requires.place, p.sound.within) in
-    omega (arith, c.in_default.ensures.full, c.len-slot.ensures, p.sound.whole, p.sound.roomy, p.bytes.ok.0, taken-lt (slots p.entries.items) c.args.place within c.requires.none)
+    omega (arith, c.in_default.ensures.full, c.len-slot.ensures, p.sound.whole, p.sound.roomy, p.bytes.ok.0, taken_lt (slots p.entries.items) c.args.place within c.requires.none)
 
 pub overflow_cast-slot : goal.overflow_cast-slot
 overflow_cast-slot c =
     let p : Pages = c.args.self.now in
-    let low : c.len-slot.result / page_size < 65536 = omega (arith, c.len-slot.ensures, p.sound.whole, p.sound.few, p.bytes.ok.0, taken-le (slots p.entries.items)) in
+    let low : c.len-slot.result / page_size < 65536 = omega (arith, c.len-slot.ensures, p.sound.whole, p.sound.few, p.bytes.ok.0, taken_le (slots p.entries.items)) in
     record { fits = low }
 
 pub invariant_of-self : goal.invariant_of-self
@@ -50,4 +50,4 @@ returns-clause-same c =
     (ap (λ (x : Entry). x.rights) (c.index-2.ensures ∙ get_or_default p.entries.items c.args.place c.index-2.result.now e within)) slot below fresh)
 
 pub returns-clause-slot : goal.returns-clause-slot
-returns-clause-slot c = slot-set c.args.self.now.entries.items c.args.place _ (within_entries c.args.self.now c.args.place c.requires.place)
+returns-clause-slot c = slot_set c.args.self.now.entries.items c.args.place _ (within_entries c.args.self.now c.args.place c.requires.place)

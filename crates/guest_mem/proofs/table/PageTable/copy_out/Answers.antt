@@ -1,7 +1,7 @@
 use Rattle.std.proofs.Common.{◌≡◌, ℕ, ◌+◌, ◌-◌, ◌≤◌, ◌++◌, List, length, take, Some, sym, ap, ◌∙◌, arith}
 use Rattle.std.proofs.lemmas.Slice.{take-put_mid}
 use Rattle.elf_load.specs.Cells.{Cells}
-use Rattle.guest_mem.proofs.CellLemmas.{bytes_for-append, part_open, length-put_mid}
+use Rattle.guest_mem.proofs.CellLemmas.{bytes_for_append, part_open, length_put_mid}
 use Rattle.guest_mem.specs.inside.Pages.{mapped_cells}
 use Rattle.guest_mem.specs.inside.PageStore.{shown}
 use Rattle.guest_mem.proofs.table.PageTable.copy_out.Goals as goal
@@ -23,10 +23,10 @@ loop-done-preserved c =
     let exact : done + count - done ≡ count = omega arith in
     let part_long : length part ≡ count = ap (λ (xs : List ℕ). length xs) c.copy_from_slice.ensures.after ∙ c.in-Some.ensures.whole in
     rw exact record {
-      within = omega (arith, length-put_mid done count into part fits part_long);
-      in_range = omega (arith, length-put_mid done count into part fits part_long, c.loop-done.invariant.in_range);
+      within = omega (arith, length_put_mid done count into part fits part_long);
+      in_range = omega (arith, length_put_mid done count into part fits part_long, c.loop-done.invariant.in_range);
       read_so_far =
-          bytes_for-append c.args.right cells done count c.args.at (take done into) c.in-Some.bytes.now c.loop-done.invariant.read_so_far c.in-Some.ensures.found
+          bytes_for_append c.args.right cells done count c.args.at (take done into) c.in-Some.bytes.now c.loop-done.invariant.read_so_far c.in-Some.ensures.found
           ∙ ap (λ (xs : List ℕ). Some (take done into ++ xs)) (sym c.copy_from_slice.ensures.after)
           ∙ ap (λ (xs : List ℕ). Some xs) (sym (take-put_mid done count into part (done + count) (omega arith) (omega arith)));
     }

@@ -3,7 +3,7 @@ use Rattle.std.proofs.lemmas.List.{map-append, take-append-le}
 use Rattle.guest_mem.specs.inside.PageIndex.{place_in}
 use Rattle.guest_mem.specs.inside.PageStore.{shown}
 use Rattle.guest_mem.specs.inside.Pages.{GuestPage, AreKnown, mapped_cells, numbers, zero_pages}
-use Rattle.guest_mem.proofs.HeapLemmas.{table-with_zeros, place_of-above, cells-grown, zero_pages-are}
+use Rattle.guest_mem.proofs.HeapLemmas.{table_with_zeros, place_of_above, cells_grown, zero_pages_are}
 use Rattle.guest_mem.proofs.SlotLemmas.{length-numbers}
 use Rattle.guest_mem.proofs.table.PageTable.grow.Goals as goal
 
@@ -17,8 +17,8 @@ returns-clause-mapped c =
     c.push_zeros.ensures.pushed ∙ ap (λ (qs : List GuestPage). qs ++ zero_pages (t.heap + (c.len.result - t.fixed)) c.args.count) c.in_ok-reserve.ensures.same
     ∙ ap (λ (n : ℕ). ps ++ zero_pages (t.heap + (n - t.fixed)) c.args.count) c.len.ensures in
     ap mapped_cells is
-    ∙ cells-grown ps (zero_pages end c.args.count) end c.args.count (zero_pages-are end c.args.count)
-    (λ n above below. place_of-above (place_in t.index) (numbers ps) t.fixed t.heap t.sound n (omega arith) (omega (arith, c.requires.low)))
+    ∙ cells_grown ps (zero_pages end c.args.count) end c.args.count (zero_pages_are end c.args.count)
+    (λ n above below. place_of_above (place_in t.index) (numbers ps) t.fixed t.heap t.sound n (omega arith) (omega (arith, c.requires.low)))
 
 pub invariant_of-self-2 : goal.invariant_of-self-2
 invariant_of-self-2 c =
@@ -33,6 +33,6 @@ invariant_of-self-2 c =
     ap (λ (qs : List GuestPage). take t.fixed (numbers qs)) is ∙ ap (take t.fixed) (map-append (λ (p : GuestPage). p.number) ps (zero_pages end c.args.count))
     ∙ take-append-le t.fixed (numbers ps) (numbers (zero_pages end c.args.count)) t.sound.fixed_in in
     record {
-      sound = table-with_zeros (place_in t.index) ps (shown c.push_zeros.new.self) t.fixed t.heap c.args.count is t.sound (omega (arith, c.requires.low, same));
+      sound = table_with_zeros (place_in t.index) ps (shown c.push_zeros.new.self) t.fixed t.heap c.args.count is t.sound (omega (arith, c.requires.low, same));
       known_sound = subst (λ (ns : List ℕ). AreKnown (place_in t.index) ns t.known) (sym front) t.known_sound;
     }

@@ -1,7 +1,7 @@
 use Rattle.std.proofs.Common.{◌≡◌, ℕ, ◌+◌, ◌-◌, ◌^◌, ◌<◌, ◌≤◌, None, refl, arith}
 use Rattle.guest_mem.specs.Memory.{bytes_for}
-use Rattle.guest_mem.proofs.CellLemmas.{bytes_for-none, open_more, open_stops}
-use Rattle.guest_mem.proofs.PageLemmas.{byte_for-past}
+use Rattle.guest_mem.proofs.CellLemmas.{bytes_for_none, open_more, open_stops}
+use Rattle.guest_mem.proofs.PageLemmas.{byte_for_past}
 use Rattle.guest_mem.specs.inside.Pages.{mapped_cells}
 use Rattle.guest_mem.specs.inside.PageStore.{shown}
 use Rattle.guest_mem.proofs.SlotLemmas.{shown_below}
@@ -12,7 +12,7 @@ returns-then-len-from-clause-value c =
     let a : ℕ = c.args.at in
     let past : 2 ^ 32 - a < c.args.len = omega arith in
     let none : bytes_for c.args.right c.args.len (mapped_cells (shown c.args.self.now.pages)) a ≡ None =
-    bytes_for-none c.args.right (mapped_cells (shown c.args.self.now.pages)) c.args.len a (2 ^ 32 - a) past (byte_for-past c.args.right (shown c.args.self.now.pages) (a + (2 ^ 32 - a)) (shown_below c.args.self.now.pages) (omega arith)) in
+    bytes_for_none c.args.right (mapped_cells (shown c.args.self.now.pages)) c.args.len a (2 ^ 32 - a) past (byte_for_past c.args.right (shown c.args.self.now.pages) (a + (2 ^ 32 - a)) (shown_below c.args.self.now.pages) (omega arith)) in
     rw none refl
 
 pub returns-in_default-clause-value : goal.returns-in_default-clause-value

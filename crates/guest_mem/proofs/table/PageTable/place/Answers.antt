@@ -3,7 +3,7 @@ use Rattle.std.proofs.lemmas.Bool.{cases_lt}
 use Rattle.guest_mem.specs.Break.{room_pages}
 use Rattle.guest_mem.specs.inside.PageIndex.{place_in}
 use Rattle.guest_mem.specs.inside.Pages.{numbers}
-use Rattle.guest_mem.proofs.PageLemmas.{place_of-heap, place_of-fixed}
+use Rattle.guest_mem.proofs.PageLemmas.{place_of_heap, place_of_fixed}
 use Rattle.guest_mem.specs.inside.PageStore.{shown}
 use Rattle.guest_mem.proofs.SlotLemmas.{length-numbers}
 use Rattle.guest_mem.proofs.table.PageTable.place.Goals as goal
@@ -21,7 +21,7 @@ returns-then-after-len c =
     let ns : List ℕ = numbers (shown t.pages) in
     let count : c.len.result ≡ length ns = c.len.ensures ∙ sym (length-numbers t.pages) in
     let near : (c.args.number + (2 ^ 32 - t.heap)) % 2 ^ 32 < length ns - t.fixed = omega (arith, c.if-after-len.true) in
-    sym (place_of-heap (place_in t.index) ns t.fixed t.heap t.sound c.args.number _ (in_heap c.args.number t.heap (length ns - t.fixed) c.requires t.sound.bounded near) near)
+    sym (place_of_heap (place_in t.index) ns t.fixed t.heap t.sound c.args.number _ (in_heap c.args.number t.heap (length ns - t.fixed) c.requires t.sound.bounded near) near)
 
 pub returns-else-after-len : goal.returns-else-after-len
 returns-else-after-len c =
@@ -29,4 +29,4 @@ returns-else-after-len c =
     let ns : List ℕ = numbers (shown t.pages) in
     let count : c.len.result ≡ length ns = c.len.ensures ∙ sym (length-numbers t.pages) in
     let far : length ns - t.fixed ≤ (c.args.number + (2 ^ 32 - t.heap)) % 2 ^ 32 = omega (arith, c.if-after-len.false) in
-    c.find.ensures ∙ sym (place_of-fixed (place_in t.index) ns t.fixed t.heap t.sound c.args.number (not_in_heap c.args.number t.heap (length ns - t.fixed) c.requires t.sound.bounded far) c.requires)
+    c.find.ensures ∙ sym (place_of_fixed (place_in t.index) ns t.fixed t.heap t.sound c.args.number (not_in_heap c.args.number t.heap (length ns - t.fixed) c.requires t.sound.bounded far) c.requires)

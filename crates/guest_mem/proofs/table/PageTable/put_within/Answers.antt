@@ -4,8 +4,8 @@ use Rattle.guest_mem.specs.Memory.{permits}
 use Rattle.guest_mem.specs.inside.PageIndex.{place_in}
 use Rattle.guest_mem.specs.inside.PageStore.{shown}
 use Rattle.guest_mem.specs.inside.Pages.{GuestPage, AreKnown, IsPageTable, numbers, place_of, mapped_cells}
-use Rattle.guest_mem.proofs.PageLemmas.{place_of-in, within-some, within-denied, within-none, numbers-put, cells-put}
-use Rattle.guest_mem.proofs.SlotLemmas.{length-numbers, blank, length-shown_page, rewritten-set}
+use Rattle.guest_mem.proofs.PageLemmas.{place_of_in, within_some, within_denied, within_none, numbers_put, cells_put}
+use Rattle.guest_mem.proofs.SlotLemmas.{length-numbers, blank, length_shown_page, rewritten_set}
 use Rattle.guest_mem.proofs.table.PageTable.put_within.Goals as goal
 use Rattle.elf_load.specs.Room.{page_size}
 
@@ -13,19 +13,19 @@ pub returns-in_default-clause-bad : goal.returns-in_default-clause-bad
 returns-in_default-clause-bad c =
     let ps : List GuestPage = shown c.args.self.now.pages in
     let none : place_of (numbers ps) (c.args.at / page_size) ≡ None = sym c.in_default.ensures in
-    within-none Write ps c.args.at (length c.args.bytes.now) c.requires.some none
+    within_none Write ps c.args.at (length c.args.bytes.now) c.requires.some none
 
 pub rights-requires : goal.rights-requires
 rights-requires c =
     let ps : List GuestPage = shown c.args.self.now.pages in
     let found : place_of (numbers ps) (c.args.at / page_size) ≡ Some c.in-Some.place = sym c.in-Some.ensures in
-    omega (arith, (place_of-in (numbers ps) (c.args.at / page_size) c.in-Some.place found).0, length-numbers c.args.self.now.pages)
+    omega (arith, (place_of_in (numbers ps) (c.args.at / page_size) c.in-Some.place found).0, length-numbers c.args.self.now.pages)
 
 pub write-requires-clause-place : goal.write-requires-clause-place
 write-requires-clause-place c =
     let ps : List GuestPage = shown c.args.self.now.pages in
     let found : place_of (numbers ps) (c.args.at / page_size) ≡ Some c.in-Some.place = sym c.in-Some.ensures in
-    omega (arith, (place_of-in (numbers ps) (c.args.at / page_size) c.in-Some.place found).0, length-numbers c.args.self.now.pages)
+    omega (arith, (place_of_in (numbers ps) (c.args.at / page_size) c.in-Some.place found).0, length-numbers c.args.self.now.pages)
 
 pub returns-then-not-is_among-clause-bad : goal.returns-then-not-is_among-clause-bad
 returns-then-not-is_among-clause-bad c =
@@ -33,7 +33,7 @@ returns-then-not-is_among-clause-bad c =
     let page : GuestPage = blank in
     let found : place_of (numbers ps) (c.args.at / page_size) ≡ Some c.in-Some.place = sym c.in-Some.ensures in
     let may_not : permits Write (get_or ps c.in-Some.place page).rights ≡ false = ap (permits Write) (sym (c.rights.ensures page)) ∙ sym c.if-not-is_among.ensures in
-    within-denied Write ps c.args.at c.in-Some.place (length c.args.bytes.now) page c.requires.some found may_not
+    within_denied Write ps c.args.at c.in-Some.place (length c.args.bytes.now) page c.requires.some found may_not
 
 pub invariant_of-self : goal.invariant_of-self
 invariant_of-self c =
@@ -43,8 +43,8 @@ invariant_of-self c =
     let place : ℕ = c.in-Some.place in
     let d : GuestPage = blank in
     let found : place_of (numbers ps) (c.args.at / page_size) ≡ Some place = sym c.in-Some.ensures in
-    let is : now ≡ set ps place (get_or now place d) = rewritten-set ps now place (c.args.at % page_size) c.args.bytes.now d c.write.ensures.written in
-    let same : numbers now ≡ numbers ps = ap numbers is ∙ numbers-put ps (c.args.at / page_size) place (c.args.at % page_size) c.args.bytes.now (get_or now place d) d found (c.write.ensures.written.here d) in
+    let is : now ≡ set ps place (get_or now place d) = rewritten_set ps now place (c.args.at % page_size) c.args.bytes.now d c.write.ensures.written in
+    let same : numbers now ≡ numbers ps = ap numbers is ∙ numbers_put ps (c.args.at / page_size) place (c.args.at % page_size) c.args.bytes.now (get_or now place d) d found (c.write.ensures.written.here d) in
     record {
       sound = subst (λ (ns : List ℕ). IsPageTable (place_in t.index) ns t.fixed t.heap) (sym same) t.sound;
       known_sound = subst (λ (ns : List ℕ). AreKnown (place_in t.index) (take t.fixed ns) t.known) (sym same) t.known_sound;
@@ -58,8 +58,8 @@ returns-clause-put c =
     let place : ℕ = c.in-Some.place in
     let d : GuestPage = blank in
     let found : place_of (numbers ps) (c.args.at / page_size) ≡ Some place = sym c.in-Some.ensures in
-    let is : now ≡ set ps place (get_or now place d) = rewritten-set ps now place (c.args.at % page_size) c.args.bytes.now d c.write.ensures.written in
-    ap mapped_cells is ∙ cells-put ps c.args.at place c.args.bytes.now (get_or now place d) d found (c.write.ensures.written.here d)
+    let is : now ≡ set ps place (get_or now place d) = rewritten_set ps now place (c.args.at % page_size) c.args.bytes.now d c.write.ensures.written in
+    ap mapped_cells is ∙ cells_put ps c.args.at place c.args.bytes.now (get_or now place d) d found (c.write.ensures.written.here d)
 
 pub returns-clause-may : goal.returns-clause-may
 returns-clause-may c =
@@ -67,6 +67,6 @@ returns-clause-may c =
     let place : ℕ = c.in-Some.place in
     let page : GuestPage = blank in
     let found : place_of (numbers ps) (c.args.at / page_size) ≡ Some place = sym c.in-Some.ensures in
-    let within : place < c.args.self.now.pages.count = omega (arith, (place_of-in (numbers ps) (c.args.at / page_size) place found).0, length-numbers c.args.self.now.pages) in
+    let within : place < c.args.self.now.pages.count = omega (arith, (place_of_in (numbers ps) (c.args.at / page_size) place found).0, length-numbers c.args.self.now.pages) in
     let may : permits Write (get_or ps place page).rights ≡ true = ap (permits Write) (sym (c.rights.ensures page)) ∙ sym c.if-not-is_among.ensures in
-    rw (within-some Write ps c.args.at place (length c.args.bytes.now) page c.requires.in_page (length-shown_page c.args.self.now.pages place page within) found may) refl
+    rw (within_some Write ps c.args.at place (length c.args.bytes.now) page c.requires.in_page (length_shown_page c.args.self.now.pages place page within) found may) refl

@@ -4,7 +4,7 @@ use Rattle.std.specs.Str.{bytes_eq}
 use Rattle.std.proofs.lemmas.Map.Text.{btree_set_updates_text}
 use Rattle.run_outside.specs.Files.{no_files}
 use Rattle.memory_outside.specs.Files.{files_of}
-use Rattle.memory_outside.proofs.FilesLemmas.{files_of-empty}
+use Rattle.memory_outside.proofs.FilesLemmas.{files_of_empty}
 use Rattle.memory_outside.proofs.sink.MemSink.make_directory.Goals as goal
 
 cond-or : (b x : Bool) → cond b true x ≡ (b || x)
@@ -18,5 +18,5 @@ returns-clause-made c =
     λ d. btree_set_updates_text (string_bytes c.in_ok-name.name) old.directories c.insert.new.self true c.in_ok-insert.ensures.updates d
     ∙ cond-or (bytes_eq (string_bytes c.in_ok-name.name) d) (contains_text old.directories d)
     ∙ ap (λ name. bytes_eq name d || contains_text old.directories d) c.in_ok-name.ensures.ok in
-    let files : files_of c.new.result ≡ no_files = files_of-empty c.new.result c.new.ensures.empty in
+    let files : files_of c.new.result ≡ no_files = files_of_empty c.new.result c.new.ensures.empty in
     λ i. Some (record { there = λ d. there d i; out = old.out.items; err = old.err.items; files = files i })

@@ -1,6 +1,6 @@
 use Rattle.std.proofs.Common.{length, ap, arith}
 use Rattle.net_iface.specs.Lane.{LaneState}
-use Rattle.net_iface.proofs.LaneLemmas.{bytes_fit, IsLane-push}
+use Rattle.net_iface.proofs.LaneLemmas.{bytes_fit, IsLane_push}
 use Rattle.net_iface.proofs.lane.Lane.wait.Goals as goal
 
 pub overflow_add-self : goal.overflow_add-self
@@ -10,4 +10,4 @@ pub invariant_of-self-2 : goal.invariant_of-self-2
 invariant_of-self-2 c =
     rw c.in_ok-push_back.ensures.items
     (rw c.size-size.ensures
-    (IsLane-push c.self.inside.waiting.items (record { packet = c.args.packet; since = c.args.now }) c.self.inside.bytes c.self.invariant c.requires.size (omega (arith, c.requires.room, ap (λ (l : LaneState). length l.waiting) c.self.view_is))))
+    (IsLane_push c.self.inside.waiting.items (record { packet = c.args.packet; since = c.args.now }) c.self.inside.bytes c.self.invariant c.requires.size (omega (arith, c.requires.room, ap (λ (l : LaneState). length l.waiting) c.self.view_is))))

@@ -8,7 +8,7 @@ use Rattle.list_weights.specs.Places.{EachAt}
 use Rattle.round_lookahead.specs.declared.workers.bench.Bench.{Bench}
 use Rattle.round_lookahead.specs.declared.workers.task.Task.{Task}
 use Rattle.round_lookahead.specs.inside.Benches.{IsUnusedOf}
-use Rattle.round_lookahead.proofs.BenchSteps.{seats-more, workers-more}
+use Rattle.round_lookahead.proofs.BenchSteps.{seats_more, workers_more}
 use Rattle.round_lookahead.proofs.workers.round.benches_of.Goals as goal
 
 pub loop-seat-preserved : goal.loop-seat-preserved
@@ -21,7 +21,7 @@ loop-seat-preserved c =
     let joins : c.push_reserved.new.self.items ≡ old ++ one ∷ [] = c.push_reserved.ensures.items in
     let long = ap length step in
     record {
-      seats = ap (λ (l : List Bench). map (λ (b : Bench). b.seat) l ++ rest) joins ∙ ap (λ (l : List (SeatView Task)). l ++ rest) (seats-more old one)
+      seats = ap (λ (l : List Bench). map (λ (b : Bench). b.seat) l ++ rest) joins ∙ ap (λ (l : List (SeatView Task)). l ++ rest) (seats_more old one)
           ∙ append_assoc (map (λ (b : Bench). b.seat) old) (c.in-Some.seat ∷ []) rest ∙ ap (λ (l : List (SeatView Task)). map (λ (b : Bench). b.seat) old ++ l) (sym step) ∙ inv.seats;
       left = (let l = inv.left in let p = c.in-Some-pop.ensures.cases in omega arith);
       count = (let n = inv.count in let p = c.push_reserved.ensures.len in omega arith);
@@ -32,7 +32,7 @@ loop-seat-preserved c =
           let mine : IsUnusedOf id c.in-Some-pop.carrier = subst (λ o. IfSome o (IsUnusedOf id)) c.in-Some-pop.is q.1 in
           (q.0, subst (All (λ (b : Bench). IsUnusedOf id b.carrier)) (sym joins) (All-push (λ (b : Bench). IsUnusedOf id b.carrier) old one p.1 mine)));
       workers = subst (EachAt (λ k (b : Bench). b.worker ≡ k)) (sym joins)
-          (λ k e within. (let w = workers-more 0 old one (λ j d below. (let a = inv.workers j d below in omega arith)) (let l = c.len-worker.ensures in omega (arith, c.loop-seat.benches.ok.0)) k e within in omega arith));
+          (λ k e within. (let w = workers_more 0 old one (λ j d below. (let a = inv.workers j d below in omega arith)) (let l = c.len-worker.ensures in omega (arith, c.loop-seat.benches.ok.0)) k e within in omega arith));
     }
 
 pub returns : goal.returns

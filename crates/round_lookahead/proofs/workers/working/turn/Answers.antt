@@ -1,6 +1,6 @@
 use Rattle.std.proofs.Common.{◌≡◌, ℕ, ◌++◌, ◌∷◌, [], Some, slice_get, sym, subst, ◌∙◌}
 use Rattle.round_lookahead.specs.Tasks.{IsTask}
-use Rattle.round_lookahead.proofs.WorkSteps.{gained-more, no_more}
+use Rattle.round_lookahead.proofs.WorkSteps.{gained_more, no_more}
 use Rattle.round_lookahead.proofs.workers.working.turn.Goals as goal
 
 pub returns-in_ok-work_one-in-Task-clause-below : goal.returns-in_ok-work_one-in-Task-clause-below
@@ -22,7 +22,7 @@ returns-in_ok-work_one-in-Task-clause-worked g c = λ rec start tasks w.
     let step = c.in_ok-work_one-in-Task.ensures.worked all rec w.jobs (subst (λ (k : ℕ). slice_get all k ≡ Some task) (sym is.id) n.2) (subst (λ (k : ℕ). IsTask net k task (rec k)) (sym is.id) is) w.work in
     record {
       jobs = w.jobs ++ step.0 ∷ [];
-      gained = gained-more start c.args.seat.now.numbers c.next.new.self.numbers w.jobs step.0 n.0 (step.1 ∙ is.id) n.1 w.gained;
+      gained = gained_more start c.args.seat.now.numbers c.next.new.self.numbers w.jobs step.0 n.0 (step.1 ∙ is.id) n.1 w.gained;
       work = step.2;
     })
 

@@ -2,7 +2,7 @@ use Rattle.std.specs.Prelude.{MatchBool}
 use Rattle.std.proofs.Common.{◌≡◌, ◌+◌, ◌<◌, Bool, true, length, subst, ◌∙◌, arith, rules}
 use Rattle.steal_workers.specs.Deals.{Deal}
 use Rattle.steal_workers.specs.SeatViews.{HasMark}
-use Rattle.steal_workers.proofs.SameSeats.{same_seat-trans}
+use Rattle.steal_workers.proofs.SameSeats.{same_seat_trans}
 use Rattle.round_lookahead.specs.declared.workers.task.Task.{Task}
 use Rattle.round_lookahead.specs.Tasks.{AreTasks}
 use Rattle.round_lookahead.specs.Works.{IsWork}
@@ -22,7 +22,7 @@ loop-preserved g c =
     subst (λ (b : Bool). MatchBool b ((c.turn.new.shift.lost < 69632) × (length c.turn.new.seat.numbers + c.turn.new.shift.lost ≡ length c.loop.seat.numbers + c.loop.shift.lost + 1)) (HasMark c.turn.new.seat c.turn.new.seat.place))
     is c.in_ok-turn.ensures.more in
     record {
-      same = same_seat-trans c.args.seat.now c.loop.seat c.turn.new.seat inv.same c.turn.ensures.same;
+      same = same_seat_trans c.args.seat.now c.loop.seat c.turn.new.seat inv.same c.turn.ensures.same;
       boards = c.turn.ensures.boards ∙ inv.boards;
       puts = c.in_ok-turn.ensures.puts;
       few = more.0;

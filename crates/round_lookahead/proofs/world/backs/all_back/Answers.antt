@@ -1,7 +1,7 @@
 use Rattle.std.proofs.Common.{◌≡◌, ◌++◌, ◌∷◌, List, Option, Some, IsSome, map, sym, ap, ◌∙◌}
 use Rattle.std.specs.Vec.Iter.{into_iter_items}
 use Rattle.round_lookahead.specs.declared.world.backs.Back.{Back}
-use Rattle.round_lookahead.proofs.BackSteps.{rest-of, maps-more}
+use Rattle.round_lookahead.proofs.BackSteps.{rest_of, maps_more}
 use Rattle.round_lookahead.proofs.world.backs.all_back.Goals as goal
 
 pub loop-slot-preserved : goal.loop-slot-preserved
@@ -12,8 +12,8 @@ loop-slot-preserved c =
     let some : c.in-Some.slot ≡ Some c.in-Some-slot.back = c.in-Some-slot.is in
     let b : Back = c.in-Some-slot.back in
     record {
-      backs = maps-more (λ (x : Back). Some x) c.loop-slot.backs.items c.push.new.self.items b rest c.args.slots.items c.in_ok-push-in-Some-slot.ensures.items
+      backs = maps_more (λ (x : Back). Some x) c.loop-slot.backs.items c.push.new.self.items b rest c.args.slots.items c.in_ok-push-in-Some-slot.ensures.items
           (ap (λ (s : Option Back). map (λ (x : Back). Some x) c.loop-slot.backs.items ++ s ∷ rest) (sym some)
           ∙ ap (λ (l : List (Option Back)). map (λ (x : Back). Some x) c.loop-slot.backs.items ++ l) (sym is) ∙ c.loop-slot.invariant.backs);
-      some = rest-of (λ (s : Option Back). IsSome s) left rest c.in-Some.slot is c.loop-slot.invariant.some;
+      some = rest_of (λ (s : Option Back). IsSome s) left rest c.in-Some.slot is c.loop-slot.invariant.some;
     }

@@ -2,12 +2,12 @@ use Rattle.std.proofs.Common.{◌≡◌, ℕ, ◌<◌, ◌++◌, ◌∷◌, [], 
 use Rattle.std.specs.Vec.Iter.{into_iter_items}
 use Rattle.round_lookahead.specs.declared.workers.worked.Done.{Done}
 use Rattle.round_lookahead.specs.inside.Backs.{back_of, with_done, lines_done, ids_of}
-use Rattle.round_lookahead.proofs.BackSteps.{first-of, rest-of, completes}
+use Rattle.round_lookahead.proofs.BackSteps.{first_of, rest_of, completes}
 use Rattle.round_lookahead.proofs.world.backs.put_all_done.Goals as goal
 
 pub put_done-requires : goal.put_done-requires
 put_done-requires c =
-    first-of (λ (d : Done). d.id.index < length c.loop-done.slots.items) (into_iter_items c.loop-done.done-iterator) (into_iter_items c.next.new.self) c.in-Some.done
+    first_of (λ (d : Done). d.id.index < length c.loop-done.slots.items) (into_iter_items c.loop-done.done-iterator) (into_iter_items c.next.new.self) c.in-Some.done
     c.in-Some.ensures.steps.0 c.loop-done.invariant.below
 
 pub loop-done-preserved : goal.loop-done-preserved
@@ -26,5 +26,5 @@ loop-done-preserved c =
       took = completes old.took.items c.put_done.new.took.items (d.id ∷ []) (ids_of rest) (c.args.took.now.items ++ ids_of c.args.all.items) c.in_ok-put_done.ensures.took
           (ap (λ (ds : List Done). old.took.items ++ ids_of ds) (sym is) ∙ old.invariant.took);
       below = subst (λ (n : ℕ). All (λ (x : Done). x.id.index < n) rest) (sym long)
-          (rest-of (λ (x : Done). x.id.index < length old.slots.items) left rest d is old.invariant.below);
+          (rest_of (λ (x : Done). x.id.index < length old.slots.items) left rest d is old.invariant.below);
     }

@@ -5,8 +5,8 @@ use Rattle.round_lookahead.specs.inside.Backs.{row_arrivals}
 use Rattle.host_link.specs.Home.{home}
 use Rattle.host_link.specs.Parcels.{parcel_event}
 use Rattle.std.proofs.Common.{map, ◌++◌}
-use Rattle.round_lookahead.proofs.BackSteps.{first-of, rest-of}
-use Rattle.round_lookahead.proofs.DeliverySteps.{delivered-more}
+use Rattle.round_lookahead.proofs.BackSteps.{first_of, rest_of}
+use Rattle.round_lookahead.proofs.DeliverySteps.{delivered_more}
 use Rattle.round_lookahead.proofs.world.delivery.deliver.Goals as goal
 
 pub loop-parcel-preserved : goal.loop-parcel-preserved
@@ -20,9 +20,9 @@ loop-parcel-preserved c =
     record {
       count = count ∙ old.invariant.count;
       below = subst (λ (k : ℕ). All (λ (p : Parcel). p.to.index < k) rest) (sym count)
-          (rest-of (λ (p : Parcel). p.to.index < length old.rows.items) left rest c.in-Some.parcel is old.invariant.below);
-      events = delivered-more left rest c.in-Some.parcel (row_arrivals old.rows.items) (row_arrivals c.deliver_one.new.rows.items)
+          (rest_of (λ (p : Parcel). p.to.index < length old.rows.items) left rest c.in-Some.parcel is old.invariant.below);
+      events = delivered_more left rest c.in-Some.parcel (row_arrivals old.rows.items) (row_arrivals c.deliver_one.new.rows.items)
           (map parcel_event c.args.parcels.items ++ row_arrivals c.args.rows.now.items) is c.in_ok-deliver_one.ensures.events old.invariant.events;
       theirs = λ net to first. (let t = old.invariant.theirs net to first in let P : Parcel → Type 0 = λ p. home net (parcel_event p) ≡ p.to.index in
-          (c.in_ok-deliver_one.ensures.theirs net (first-of P left rest c.in-Some.parcel is t.1) t.0, rest-of P left rest c.in-Some.parcel is t.1));
+          (c.in_ok-deliver_one.ensures.theirs net (first_of P left rest c.in-Some.parcel is t.1) t.0, rest_of P left rest c.in-Some.parcel is t.1));
     }

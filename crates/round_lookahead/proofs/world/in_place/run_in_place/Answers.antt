@@ -2,8 +2,8 @@ use Rattle.std.proofs.Common.{◌≡◌, ◌<◌, ◌≤◌, ◌+◌, ℕ, suc, 
 use Rattle.std.proofs.lemmas.List.Elements.{All-append}
 use Rattle.sim_base.specs.declared.event.Parcel.{Parcel}
 use Rattle.round_lookahead.specs.Alone.{AreRunInPlace}
-use Rattle.round_lookahead.proofs.AloneSteps.{none-placed, kept-more, passed-more, may-run-here}
-use Rattle.round_lookahead.proofs.PlaceSteps.{get-or-at}
+use Rattle.round_lookahead.proofs.AloneSteps.{none_placed, kept_more, passed_more, may_run_here}
+use Rattle.round_lookahead.proofs.PlaceSteps.{get_or_at}
 use Rattle.round_lookahead.specs.declared.workers.task.Task.{Task}
 use Rattle.round_lookahead.proofs.world.in_place.run_in_place.Goals as goal
 use Rattle.round_lookahead.proofs.world.in_place.run_in_place.Goals.{then-is_busy+in_ok-out+in_ok-keep, else-is_busy+in_ok-pass}
@@ -14,15 +14,15 @@ loop-task-init g c =
     record {
       few = omega arith;
       to = λ k d below. absurd (omega (arith, below, ap (λ (l : List Parcel). length l) alone.spill));
-      run = none-placed c.args.net.now c.args.end.nanos c.args.tasks.now c.in_ok-alone.alone alone.outputs alone.lines alone.took alone.spill;
+      run = none_placed c.args.net.now c.args.end.nanos c.args.tasks.now c.in_ok-alone.alone alone.outputs alone.lines alone.took alone.spill;
     }
 
 pub run_here-requires-clause-task : goal.run_here-requires-clause-task
 run_here-requires-clause-task g c =
     let r = c.loop-task.invariant.run in
     let within : c.loop-task.task-index < length c.loop-task.tasks = omega (arith, c.loop-task-test.true, r.all) in
-    may-run-here c.args.net.now c.args.end.nanos c.args.tasks.now c.loop-task.tasks c.loop-task.task-index c.loop-task.alone
-    (get_or c.loop-task.tasks c.loop-task.task-index c.task-item.result) c.requires.tasks (get-or-at c.loop-task.tasks c.loop-task.task-index c.task-item.result within) r
+    may_run_here c.args.net.now c.args.end.nanos c.args.tasks.now c.loop-task.tasks c.loop-task.task-index c.loop-task.alone
+    (get_or c.loop-task.tasks c.loop-task.task-index c.task-item.result) c.requires.tasks (get_or_at c.loop-task.tasks c.loop-task.task-index c.task-item.result within) r
 
 pub loop-task-preserved : goal.loop-task-preserved
 loop-task-preserved g c =
@@ -31,7 +31,7 @@ loop-task-preserved g c =
     let within : i < length c.loop-task.tasks = omega (arith, c.loop-task-test.true, r.all) in
     let next : suc i ≡ i + 1 = omega arith in
     let t : Task = get_or c.loop-task.tasks i c.task-item.result in
-    let here = get-or-at c.loop-task.tasks i c.task-item.result within in
+    let here = get_or_at c.loop-task.tasks i c.task-item.result within in
     let few : i + 1 ≤ length c.args.tasks.now = omega (arith, c.loop-task-test.true) in
     elim c.if-is_busy.branch [
       | then-is_busy+in_ok-out+in_ok-keep w ↦
@@ -42,7 +42,7 @@ loop-task-preserved g c =
             to = subst (All (λ (p : Parcel). p.to.index < length c.args.net.now.known.book)) (sym kept.spill)
                 (All-append (λ (p : Parcel). p.to.index < length c.args.net.now.known.book) c.loop-task.alone.spill.items w.in_ok-out.out.parcels.items c.loop-task.invariant.to ran.to);
             run = subst (λ (n : ℕ). AreRunInPlace c.args.net.now c.args.end.nanos c.args.tasks.now n (slice_set c.loop-task.tasks i w.run_here.new.self) w.keep.new.self) next
-                (kept-more c.args.net.now c.args.end.nanos c.args.tasks.now c.loop-task.tasks i c.loop-task.alone t c.requires.tasks here r w.keep.new.self w.run_here.new.self w.in_ok-out.out
+                (kept_more c.args.net.now c.args.end.nanos c.args.tasks.now c.loop-task.tasks i c.loop-task.alone t c.requires.tasks here r w.keep.new.self w.run_here.new.self w.in_ok-out.out
                 ran.id ran.emptied ran.run kept);
           })
       | else-is_busy+in_ok-pass w ↦
@@ -52,7 +52,7 @@ loop-task-preserved g c =
             few = few;
             to = subst (All (λ (p : Parcel). p.to.index < length c.args.net.now.known.book)) (sym passed.spill) c.loop-task.invariant.to;
             run = subst (λ (n : ℕ). AreRunInPlace c.args.net.now c.args.end.nanos c.args.tasks.now n (slice_set c.loop-task.tasks i t) w.pass.new.self) next
-                (passed-more c.args.net.now c.args.end.nanos c.args.tasks.now c.loop-task.tasks i c.loop-task.alone t c.requires.tasks here r w.pass.new.self idle passed);
+                (passed_more c.args.net.now c.args.end.nanos c.args.tasks.now c.loop-task.tasks i c.loop-task.alone t c.requires.tasks here r w.pass.new.self idle passed);
           })
     ]
 

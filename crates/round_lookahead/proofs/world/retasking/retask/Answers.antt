@@ -3,7 +3,7 @@ use Rattle.std.specs.Vec.Iter.{into_iter_items}
 use Rattle.round_lookahead.specs.declared.workers.task.Task.{Task}
 use Rattle.round_lookahead.specs.declared.world.backs.Back.{Back}
 use Rattle.round_lookahead.specs.inside.Arrivals.{Boxed}
-use Rattle.round_lookahead.proofs.BackSteps.{completes, maps-more, seen-more}
+use Rattle.round_lookahead.proofs.BackSteps.{completes, maps_more, seen-more}
 use Rattle.round_lookahead.proofs.world.retasking.retask.Goals as goal
 
 pub loop-back-preserved : goal.loop-back-preserved
@@ -25,7 +25,7 @@ loop-back-preserved c =
       count = (let long = i.count in let a : length left ≡ length (b ∷ rest) = ap length left_is in let e : length rows ≡ length (row ∷ more) = ap length rows_are in omega arith);
       ids = seen-more (λ (x : Task). x.id) (λ (x : Back). x.id) old new t left rest b (map (λ (x : Back). x.id) c.args.backs.items) pushed left_is c.new.ensures.id i.ids;
       hosts = seen-more (λ (x : Task). x.host) (λ (x : Back). x.host) old new t left rest b (map (λ (x : Back). x.host) c.args.backs.items) pushed left_is c.new.ensures.host i.hosts;
-      parcels = maps-more (λ (x : Task). x.parcels) old new t more c.args.rows.items pushed
+      parcels = maps_more (λ (x : Task). x.parcels) old new t more c.args.rows.items pushed
           (ap (λ (v : Vec Boxed Global). map (λ (x : Task). x.parcels) old ++ v ∷ more) c.new.ensures.parcels
           ∙ ap (λ (l : List (Vec Boxed Global)). map (λ (x : Task). x.parcels) old ++ l) (sym rows_are) ∙ i.parcels);
       outputs = completes c.loop-back.retasked.outputs.items c.push-in-loop-back.new.self.items (b.outputs ∷ []) (map (λ (x : Back). x.outputs) rest) (map (λ (x : Back). x.outputs) c.args.backs.items)

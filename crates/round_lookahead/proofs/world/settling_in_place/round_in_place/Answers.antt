@@ -1,6 +1,6 @@
 use Rattle.std.proofs.Common.{◌≡◌, ◌<◌, ℕ, All, length, refl, subst, arith}
 use Rattle.sim_base.specs.declared.event.Parcel.{Parcel}
-use Rattle.round_lookahead.proofs.PlaceSteps.{whole-round}
+use Rattle.round_lookahead.proofs.PlaceSteps.{whole_round}
 use Rattle.round_lookahead.proofs.world.settling_in_place.round_in_place.Goals as goal
 
 pub wait_all-requires : goal.wait_all-requires
@@ -10,6 +10,6 @@ wait_all-requires g c =
 
 pub returns : goal.returns
 returns g c =
-    whole-round c.args.net.now c.args.end.nanos c.args.workers c.args.tasks.now c.as_mut_slice.result.now c.as_mut_slice.ensures.value c.run_in_place.new.tasks c.in_ok-outputs.field-0
+    whole_round c.args.net.now c.args.end.nanos c.args.workers c.args.tasks.now c.as_mut_slice.result.now c.as_mut_slice.ensures.value c.run_in_place.new.tasks c.in_ok-outputs.field-0
     c.in_ok-outputs.ensures.run c.requires.few c.as_mut_slice-2.result.now c.as_mut_slice-2.ensures.value c.wait_all.new.tasks c.in_ok-wait_all.ensures.hosts c.in_ok-wait_all.ensures.events
     c.in_ok-wait_all.ensures.theirs _ refl c.in_ok-merge.ensures c.requires.workers c.in_ok-took.ensures

@@ -5,9 +5,9 @@ use Rattle.host_link.specs.Home.{home}
 use Rattle.host_link.specs.Parcels.{parcel_event}
 use Rattle.round_lookahead.specs.inside.Backs.{row_arrivals}
 use Rattle.round_lookahead.specs.inside.Waits.{rows_of}
-use Rattle.round_lookahead.proofs.BackSteps.{first-of, rest-of}
-use Rattle.round_lookahead.proofs.DeliverySteps.{delivered-more}
-use Rattle.round_lookahead.proofs.PlaceSteps.{same-length}
+use Rattle.round_lookahead.proofs.BackSteps.{first_of, rest_of}
+use Rattle.round_lookahead.proofs.DeliverySteps.{delivered_more}
+use Rattle.round_lookahead.proofs.PlaceSteps.{same_length}
 use Rattle.round_lookahead.proofs.world.waiting.wait_all.Goals as goal
 
 pub loop-parcel-init : goal.loop-parcel-init
@@ -28,13 +28,13 @@ loop-parcel-preserved c =
     let is : left ≡ c.in-Some.parcel ∷ rest = c.in-Some.ensures.steps.0 in
     let old = c.loop-parcel in
     let one = c.in_ok-wait_one.ensures in
-    let count : length c.wait_one.new.tasks ≡ length old.tasks = same-length old.tasks c.wait_one.new.tasks one.hosts in
+    let count : length c.wait_one.new.tasks ≡ length old.tasks = same_length old.tasks c.wait_one.new.tasks one.hosts in
     record {
       hosts = record { ids = one.hosts.ids ∙ old.invariant.hosts.ids; hosts = one.hosts.hosts ∙ old.invariant.hosts.hosts };
       below = subst (λ (k : ℕ). All (λ (p : Parcel). p.to.index < k) rest) (sym count)
-          (rest-of (λ (p : Parcel). p.to.index < length old.tasks) left rest c.in-Some.parcel is old.invariant.below);
-      events = delivered-more left rest c.in-Some.parcel (row_arrivals (rows_of old.tasks)) (row_arrivals (rows_of c.wait_one.new.tasks))
+          (rest_of (λ (p : Parcel). p.to.index < length old.tasks) left rest c.in-Some.parcel is old.invariant.below);
+      events = delivered_more left rest c.in-Some.parcel (row_arrivals (rows_of old.tasks)) (row_arrivals (rows_of c.wait_one.new.tasks))
           (map parcel_event c.args.parcels.items ++ row_arrivals (rows_of c.args.tasks.now)) is one.events old.invariant.events;
       theirs = λ net to first. (let t = old.invariant.theirs net to first in let P : Parcel → Type 0 = λ p. home net (parcel_event p) ≡ p.to.index in
-          (one.theirs net (first-of P left rest c.in-Some.parcel is t.1) t.0, rest-of P left rest c.in-Some.parcel is t.1));
+          (one.theirs net (first_of P left rest c.in-Some.parcel is t.1) t.0, rest_of P left rest c.in-Some.parcel is t.1));
     }

@@ -3,7 +3,7 @@ use Rattle.sim_base.specs.Draws.{draw}
 use Rattle.sock_tcp.specs.connection.Arrival.{takes_packet}
 use Rattle.sock_tcp.specs.listener.Listen.{new_heard, load_header, hears}
 use Rattle.sock_tcp.proofs.Listeners.Dropping.{gone_kept, gone_none}
-use Rattle.sock_tcp.proofs.Listeners.ListenActs.{tells_kept, tells_kept_none, takes_word-kept, takes_word-new}
+use Rattle.sock_tcp.proofs.Listeners.ListenActs.{tells_kept, tells_kept_none, takes_word_kept, takes_word_new}
 use Rattle.sock_tcp.proofs.listener.Listener.arrive.Goals as goal
 
 pub returns-in-Some-clause-hears : goal.returns-in-Some-clause-hears
@@ -15,7 +15,7 @@ returns-in-Some-clause-hears c = λ l h.
 pub returns-in-Some-clause-draws : goal.returns-in-Some-clause-draws
 returns-in-Some-clause-draws c = λ l h.
     let old = c.args.draws.now in
-    sym (ap (λ t. if t then (draw old).1 else old) (takes_word-kept c.args.segment.now l (sym (c.in-Some.ensures.found l h))))
+    sym (ap (λ t. if t then (draw old).1 else old) (takes_word_kept c.args.segment.now l (sym (c.in-Some.ensures.found l h))))
 
 pub returns-clause-hears : goal.returns-clause-hears
 unfolding hears
@@ -27,7 +27,7 @@ pub returns-clause-draws : goal.returns-clause-draws
 returns-clause-draws c = λ l h.
     let old = c.args.draws.now in
     c.in_ok-heard.ensures.draws l h
-    ∙ sym (ap (λ t. if t then (draw old).1 else old) (takes_word-new c.args.segment.now l (sym (c.in_default.ensures.found l h))))
+    ∙ sym (ap (λ t. if t then (draw old).1 else old) (takes_word_new c.args.segment.now l (sym (c.in_default.ensures.found l h))))
 
 pub returns-in-Some-clause-gone : goal.returns-in-Some-clause-gone
 returns-in-Some-clause-gone c = λ l h.

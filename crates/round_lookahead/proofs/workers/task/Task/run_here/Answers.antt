@@ -2,7 +2,7 @@ use Rattle.std.proofs.Common.{◌++◌, refl, sym, subst, Vec, Global}
 use Rattle.world_order.specs.EventOrder.{AreApart}
 use Rattle.host_state.specs.declared.host.Host.{Host}
 use Rattle.round_lookahead.specs.inside.Arrivals.{Boxed, arrivals}
-use Rattle.round_lookahead.proofs.TaskRuns.{all-joined, stands-joined, may-run, to-within, run-of, made}
+use Rattle.round_lookahead.proofs.TaskRuns.{all_joined, stands_joined, may_run, to_within, run_of, made}
 use Rattle.round_lookahead.proofs.workers.task.Task.run_here.Goals as goal
 
 pub join_parcels-joined-requires : goal.join_parcels-joined-requires
@@ -19,9 +19,9 @@ run_until-ran-requires-clause-own c =
     let parcels = c.replace-parcels.result in
     let h = c.requires.task.0 in
     let is = c.requires.task.1 in
-    may-run c.args.net.now t again
-    (all-joined t start joined again parcels c.deref_mut.ensures.value c.replace-parcels.ensures.value c.deref_mut-2.ensures.value c.in_ok-joined.ensures.queue) t.id.index h is
-    (stands-joined t start joined again parcels c.deref_mut.ensures.value c.replace-parcels.ensures.value c.deref_mut-2.ensures.value c.in_ok-joined.ensures.body h is.stands)
+    may_run c.args.net.now t again
+    (all_joined t start joined again parcels c.deref_mut.ensures.value c.replace-parcels.ensures.value c.deref_mut-2.ensures.value c.in_ok-joined.ensures.queue) t.id.index h is
+    (stands_joined t start joined again parcels c.deref_mut.ensures.value c.replace-parcels.ensures.value c.deref_mut-2.ensures.value c.in_ok-joined.ensures.body h is.stands)
 
 pub returns-clause-to : goal.returns-clause-to
 returns-clause-to c =
@@ -32,10 +32,10 @@ returns-clause-to c =
     let parcels = c.replace-parcels.result in
     let h = c.requires.task.0 in
     let is = c.requires.task.1 in
-    to-within c.args.net.now t again
-    (all-joined t start joined again parcels c.deref_mut.ensures.value c.replace-parcels.ensures.value c.deref_mut-2.ensures.value c.in_ok-joined.ensures.queue) c.requires.stop c.args.end h t.id.index is
+    to_within c.args.net.now t again
+    (all_joined t start joined again parcels c.deref_mut.ensures.value c.replace-parcels.ensures.value c.deref_mut-2.ensures.value c.in_ok-joined.ensures.queue) c.requires.stop c.args.end h t.id.index is
     c.run_until-ran.new.self c.new-out.result c.run_until-ran.new.out
-    (c.in_ok-ran.ensures.ran h (stands-joined t start joined again parcels c.deref_mut.ensures.value c.replace-parcels.ensures.value c.deref_mut-2.ensures.value c.in_ok-joined.ensures.body h is.stands)) c.new-out.ensures
+    (c.in_ok-ran.ensures.ran h (stands_joined t start joined again parcels c.deref_mut.ensures.value c.replace-parcels.ensures.value c.deref_mut-2.ensures.value c.in_ok-joined.ensures.body h is.stands)) c.new-out.ensures
 
 pub returns-clause-run : goal.returns-clause-run
 returns-clause-run c = λ h is.
@@ -44,11 +44,11 @@ returns-clause-run c = λ h is.
     let joined = c.join_parcels-joined.new.host in
     let again = c.deref_mut-2.result.now in
     let parcels = c.replace-parcels.result in
-    let moved = all-joined t start joined again parcels c.deref_mut.ensures.value c.replace-parcels.ensures.value c.deref_mut-2.ensures.value c.in_ok-joined.ensures.queue in
-    let stands = stands-joined t start joined again parcels c.deref_mut.ensures.value c.replace-parcels.ensures.value c.deref_mut-2.ensures.value c.in_ok-joined.ensures.body h is.stands in
+    let moved = all_joined t start joined again parcels c.deref_mut.ensures.value c.replace-parcels.ensures.value c.deref_mut-2.ensures.value c.in_ok-joined.ensures.queue in
+    let stands = stands_joined t start joined again parcels c.deref_mut.ensures.value c.replace-parcels.ensures.value c.deref_mut-2.ensures.value c.in_ok-joined.ensures.body h is.stands in
     let ran = c.in_ok-ran.ensures.ran h stands in
     record {
       ran = ran.ran;
-      run = run-of c.args.net.now t again moved c.requires.stop c.args.end h t.id.index is c.run_until-ran.new.self c.new-out.result c.run_until-ran.new.out ran c.new-out.ensures c.in_ok-ran.ensures.own _ refl refl refl refl;
+      run = run_of c.args.net.now t again moved c.requires.stop c.args.end h t.id.index is c.run_until-ran.new.self c.new-out.result c.run_until-ran.new.out ran c.new-out.ensures c.in_ok-ran.ensures.own _ refl refl refl refl;
       made = made c.args.net.now t again moved c.requires.stop c.args.end h t.id.index is c.run_until-ran.new.self c.new-out.result c.run_until-ran.new.out ran c.run_until-ran.new.out.parcels.items c.new-out.ensures.parcels refl;
     })

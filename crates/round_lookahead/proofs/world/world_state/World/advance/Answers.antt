@@ -1,15 +1,15 @@
 use Rattle.std.proofs.Common.{◌≡◌, ℕ, ◌≤◌, length, sym, ap, subst, arith, Vec, Global}
-use Rattle.world_order.proofs.Orders.{window-upto}
+use Rattle.world_order.proofs.Orders.{window_upto}
 use Rattle.round_lookahead.specs.declared.workers.task.Task.{Task}
 use Rattle.round_lookahead.specs.Tasks.{AreTasksOf}
 use Rattle.round_lookahead.specs.WorldStands.{nanos_of}
-use Rattle.round_lookahead.proofs.WorldGains.{settles, goes-on, goes-on-here}
-use Rattle.round_lookahead.proofs.WorldSteps.{all-tasks}
+use Rattle.round_lookahead.proofs.WorldGains.{settles, goes_on, goes_on_here}
+use Rattle.round_lookahead.proofs.WorldSteps.{all_tasks}
 use Rattle.round_lookahead.proofs.world.world_state.World.advance.Goals as goal
 
 pub run_beside-requires-clause-until : goal.run_beside-requires-clause-until
 run_beside-requires-clause-until g c κs lives =
-    subst (λ (n : ℕ). n ≤ c.args.self.now.net.stop.nanos) (sym c.of-window.ensures.end) (window-upto (nanos_of c.args.self.now.lookahead) c.args.self.now.net.stop.nanos c.args.least.nanos)
+    subst (λ (n : ℕ). n ≤ c.args.self.now.net.stop.nanos) (sym c.of-window.ensures.end) (window_upto (nanos_of c.args.self.now.lookahead) c.args.self.now.net.stop.nanos c.args.least.nanos)
 
 pub run_beside-requires-clause-few : goal.run_beside-requires-clause-few
 run_beside-requires-clause-few g c κs lives =
@@ -23,7 +23,7 @@ run_beside-requires-clause-few g c κs lives =
 
 pub run_beside-requires-clause-tasks : goal.run_beside-requires-clause-tasks
 run_beside-requires-clause-tasks g c κs lives =
-    subst (λ (v : Vec Task Global). AreTasksOf c.args.self.now.net v.items) (sym c.replace-tasks.ensures.value) (all-tasks c.args.self.now c.requires.stands.0 c.requires.stands.1)
+    subst (λ (v : Vec Task Global). AreTasksOf c.args.self.now.net v.items) (sym c.replace-tasks.ensures.value) (all_tasks c.args.self.now c.requires.stands.0 c.requires.stands.1)
 
 pub settle-requires : goal.settle-requires
 settle-requires g c =
@@ -33,15 +33,15 @@ settle-requires g c =
 
 pub returns-clause-turns : goal.returns-clause-turns
 returns-clause-turns g c = λ w stands.
-    goes-on c.args.self.now w stands c.args.least c.requires.least c.args.workers c.in_ok-works.field-0.works.items c.in_ok-works.field-0.rows.items
+    goes_on c.args.self.now w stands c.args.least c.requires.least c.args.workers c.in_ok-works.field-0.works.items c.in_ok-works.field-0.rows.items
     c.in_ok-works.ensures.works c.replace-tasks.result c.replace-tasks.ensures.value c.of-window.result.end.nanos c.of-window.ensures.end c.in_ok-works.ensures.round
     c.len-count.result (let e = c.len-count.ensures in omega (arith, c.args.self.now.tasks.ok.0)) c.in_ok-tasks.field-0 c.in_ok-tasks.ensures
     c.count_round-2.new.self c.count_round-2.ensures c.note-2.new.self
 
 pub round_in_place-requires-clause-tasks : goal.round_in_place-requires-clause-tasks
-round_in_place-requires-clause-tasks g c = all-tasks c.args.self.now c.requires.stands.0 c.requires.stands.1
+round_in_place-requires-clause-tasks g c = all_tasks c.args.self.now c.requires.stands.0 c.requires.stands.1
 
 pub returns-then-threads-lt2-clause-turns : goal.returns-then-threads-lt2-clause-turns
 returns-then-threads-lt2-clause-turns g c = λ w stands.
-    goes-on-here c.args.self.now w stands c.args.least c.requires.least c.args.workers c.round_in_place.new.tasks c.of-window.result.end.nanos c.of-window.ensures.end
+    goes_on_here c.args.self.now w stands c.args.least c.requires.least c.args.workers c.round_in_place.new.tasks c.of-window.result.end.nanos c.of-window.ensures.end
     c.in_ok-ran.ran c.in_ok-ran.ensures c.count_round.new.self c.count_round.ensures c.note.new.self
