@@ -5,8 +5,6 @@ ghost use Rattle.elf_load.specs.Fault.{word_of};
 ghost use Rattle.elf_load.specs.declared.fault.LoadError.TheVariants.{Fault, NoMemory};
 
 use std::alloc::{AllocError, AllocFailed};
-use std::error::Error;
-use std::fmt;
 
 /// The fault of a file that is refused: the first in the order of the checks.
 #[derive(Clone, Copy, Debug, PartialEq, Eq)]
@@ -56,14 +54,6 @@ impl ElfFault {
     }
 }
 
-impl fmt::Display for ElfFault {
-    fn fmt<W: fmt::Write>(&self, f: &mut fmt::Formatter<W>) -> fmt::Result {
-        f.write_str(self.word())
-    }
-}
-
-impl Error for ElfFault {}
-
 /// Why a load gave no image.
 #[derive(Clone, Copy, Debug, PartialEq, Eq)]
 pub enum LoadError {
@@ -72,17 +62,6 @@ pub enum LoadError {
     /// Memory ran out.
     NoMemory,
 }
-
-impl fmt::Display for LoadError {
-    fn fmt<W: fmt::Write>(&self, f: &mut fmt::Formatter<W>) -> fmt::Result {
-        match self {
-            LoadError::Fault(fault) => f.write_str(fault.word()),
-            LoadError::NoMemory => f.write_str("out of memory"),
-        }
-    }
-}
-
-impl Error for LoadError {}
 
 impl From<ElfFault> for LoadError {
     ghost from_gives = { λ fault e. e ≡ Fault fault };

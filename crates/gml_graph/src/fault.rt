@@ -5,8 +5,6 @@ ghost use Rattle.gml_graph.specs.declared.fault.GmlError.TheVariants as errors;
 ghost use Rattle.gml_graph.specs.Fault.{word_of};
 
 use std::alloc::{AllocError, AllocFailed};
-use std::error::Error;
-use std::fmt;
 
 /// What is wrong with a text.
 #[derive(Clone, Copy, Debug)]
@@ -65,27 +63,6 @@ impl GmlKind {
         }
     }
 }
-
-impl fmt::Display for GmlKind {
-    fn fmt<W: fmt::Write>(&self, f: &mut fmt::Formatter<W>) -> fmt::Result {
-        f.write_str(self.word())
-    }
-}
-
-impl fmt::Display for GmlError {
-    fn fmt<W: fmt::Write>(&self, f: &mut fmt::Formatter<W>) -> fmt::Result {
-        match self {
-            GmlError::Fault(fault) => {
-                let line = fault.line;
-                let kind = fault.kind;
-                write!(f, "line {line}: {kind}")
-            }
-            GmlError::NoMemory => f.write_str("out of memory"),
-        }
-    }
-}
-
-impl Error for GmlError {}
 
 impl From<GmlFault> for GmlError {
     ghost from_gives = { λ f e. e ≡ errors.Fault f };

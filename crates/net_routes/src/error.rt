@@ -5,8 +5,6 @@ ghost use Rattle.net_routes.specs.declared.error.RouteError.TheVariants as error
 
 use sim_base::NoMemory;
 use std::alloc::{AllocError, AllocFailed};
-use std::error::Error;
-use std::fmt;
 
 /// Why there are no routes.
 #[derive(Clone, Copy, Debug, PartialEq, Eq)]
@@ -16,17 +14,6 @@ pub enum RouteError {
     /// There was no memory for the routes.
     NoMemory,
 }
-
-impl fmt::Display for RouteError {
-    fn fmt<W: fmt::Write>(&self, f: &mut fmt::Formatter<W>) -> fmt::Result {
-        match self {
-            RouteError::NoRoute { from, to } => write!(f, "no route from node {from} to node {to}"),
-            RouteError::NoMemory => f.write_str("out of memory"),
-        }
-    }
-}
-
-impl Error for RouteError {}
 
 impl From<NoMemory> for RouteError {
     ghost from_gives = { λ _ e. e ≡ errors.NoMemory };

@@ -6,8 +6,6 @@ ghost use Rattle.pcap_text.specs.declared.fault.PcapError.TheVariants as errors;
 
 use sim_base::NoMemory;
 use std::alloc::{AllocError, AllocFailed};
-use std::error::Error;
-use std::fmt;
 
 /// What is wrong with the bytes.
 #[derive(Clone, Copy, Debug, PartialEq, Eq)]
@@ -68,20 +66,6 @@ impl PcapKind {
         }
     }
 }
-
-impl fmt::Display for PcapError {
-    fn fmt<W: fmt::Write>(&self, f: &mut fmt::Formatter<W>) -> fmt::Result {
-        match self {
-            PcapError::Fault(fault) => {
-                let (kind, at) = (fault.kind.word(), fault.at);
-                write!(f, "{kind} at {at}")
-            }
-            PcapError::NoMemory => f.write_str("out of memory"),
-        }
-    }
-}
-
-impl Error for PcapError {}
 
 impl From<NoMemory> for PcapError {
     ghost from_gives = { λ _ e. e ≡ errors.NoMemory };

@@ -8,8 +8,6 @@ ghost use Rattle.run_outside.specs.declared.tally.Tally.{Tally};
 use base_texts::Name;
 use sim_base::NoMemory;
 use std::alloc::{AllocError, AllocFailed};
-use std::error::Error;
-use std::fmt;
 
 /// Where bytes are put.
 #[derive(Clone, PartialEq, Eq, Drop)]
@@ -58,17 +56,6 @@ pub trait Sink {
         ensures err { OnErr result (content self.new ≡ content self.old) }
         ensures count { CountsCall result (tally self.old) (tally self.new) };
 }
-
-impl fmt::Display for WriteError {
-    fn fmt<W: fmt::Write>(&self, f: &mut fmt::Formatter<W>) -> fmt::Result {
-        f.write_str(match self {
-            WriteError::Failed => "the write failed",
-            WriteError::NoMemory => "out of memory",
-        })
-    }
-}
-
-impl Error for WriteError {}
 
 impl From<NoMemory> for WriteError {
     ghost use Rattle.std.specs.Prelude.{◌≡◌};

@@ -6,8 +6,6 @@ ghost use Rattle.run_outside.specs.Source.{IsPiece, CountsReads};
 
 use sim_base::NoMemory;
 use std::alloc::{AllocError, AllocFailed};
-use std::error::Error;
-use std::fmt;
 
 /// Why a source gave nothing.
 #[derive(Clone, Copy, Debug, PartialEq, Eq)]
@@ -46,17 +44,6 @@ pub trait Source {
         ensures same { held self.new ≡ held self.old }
         ensures count { CountsReads result (faults self.old) (faults self.new) };
 }
-
-impl fmt::Display for ReadError {
-    fn fmt<W: fmt::Write>(&self, f: &mut fmt::Formatter<W>) -> fmt::Result {
-        f.write_str(match self {
-            ReadError::Failed => "the read failed",
-            ReadError::NoMemory => "out of memory",
-        })
-    }
-}
-
-impl Error for ReadError {}
 
 impl From<NoMemory> for ReadError {
     ghost use Rattle.std.specs.Prelude.{◌≡◌};

@@ -6,8 +6,6 @@ ghost use Rattle.shd_config.specs.Fault.{word_of};
 use base_texts::Text;
 use sim_base::NoMemory;
 use std::alloc::{AllocError, AllocFailed};
-use std::error::Error;
-use std::fmt;
 
 /// The kinds of fault.
 #[derive(Clone, Copy, Debug)]
@@ -57,20 +55,6 @@ impl ConfigKind {
         }
     }
 }
-
-impl fmt::Display for ConfigError {
-    fn fmt<W: fmt::Write>(&self, f: &mut fmt::Formatter<W>) -> fmt::Result {
-        match self {
-            ConfigError::Fault(fault) => {
-                let path = fault.path.as_str();
-                write!(f, "line {}: {path}: {}", fault.line, fault.kind.word())
-            }
-            ConfigError::NoMemory => f.write_str("out of memory"),
-        }
-    }
-}
-
-impl Error for ConfigError {}
 
 impl From<NoMemory> for ConfigError {
     ghost use Rattle.std.specs.Prelude.{◌≡◌};

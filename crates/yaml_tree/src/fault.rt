@@ -5,8 +5,6 @@ ghost use Rattle.yaml_tree.specs.Fault.{word_of};
 
 use sim_base::NoMemory;
 use std::alloc::{AllocError, AllocFailed};
-use std::error::Error;
-use std::fmt;
 
 /// The kinds of fault. Where a token of a line can't stand, the first such one is `Syntax` or
 /// `Unsupported`; where each can, the first that applies of the last four is told.
@@ -58,17 +56,6 @@ impl FaultKind {
         }
     }
 }
-
-impl fmt::Display for TreeError {
-    fn fmt<W: fmt::Write>(&self, f: &mut fmt::Formatter<W>) -> fmt::Result {
-        match self {
-            TreeError::Fault(fault) => write!(f, "line {}: {}", fault.line, fault.kind.word()),
-            TreeError::NoMemory => f.write_str("out of memory"),
-        }
-    }
-}
-
-impl Error for TreeError {}
 
 impl From<NoMemory> for TreeError {
     ghost use Rattle.yaml_tree.specs.declared.fault.TreeError.TheVariants as tree;
