@@ -18,7 +18,7 @@ use Rattle.shd_config.specs.Values.{is_some_text}
 use Rattle.shd_config.specs.Notes.{notes}
 use Rattle.shd_config.specs.Host.{settled, no_options}
 use Rattle.shd_config.specs.Config.{new_root, root_row, finished_root, root_of, merged_config, wrong_merge, config, kept}
-use Rattle.shd_config.specs.Shown.{shown}
+use Rattle.config_lines.specs.Shown.{shown}
 use Rattle.shd_config.specs.declared.config.Config.{Config}
 use Rattle.shd_config.specs.declared.general.General.{General}
 use Rattle.shd_config.specs.declared.overrides.Overrides.{Overrides}

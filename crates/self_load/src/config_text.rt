@@ -2,13 +2,14 @@
 
 ghost use Rattle.std.specs.Prelude.{◌≡◌, ◌≤◌, IfOk};
 ghost use Rattle.sim_base.specs.Limits.{most_ring_hosts};
-ghost use Rattle.shd_config.specs.Shown.{shown};
+ghost use Rattle.config_lines.specs.Shown.{shown};
 ghost use Rattle.shd_config.specs.declared.overrides.Overrides.{Overrides};
 ghost use Rattle.shown_config.specs.Same.{no_overrides};
 ghost use Rattle.run_plan.specs.SelfLoad.{self_load_config};
 ghost use Rattle.self_load.specs.Means.{SaysConfig};
 
 use base_texts::Text;
+use config_lines::show_into;
 use run_plan::self_load_config;
 use shd_config::Overrides;
 use sim_base::NoMemory;
@@ -28,7 +29,7 @@ fn shown_text(alloc: Global, hosts: u32) -> Result<Text, NoMemory>
     };
     let config = self_load_config(alloc, &overrides, hosts)?;
     let mut text = Text::new(alloc);
-    config.show(&mut text)?;
+    show_into(&config, &mut text)?;
     Ok(text)
 }
 

@@ -21,7 +21,7 @@ use Rattle.run_plan.specs.declared.fault.Fault.TheVariants.{Exists}
 use Rattle.run_plan.specs.declared.planned.Planned.{Planned}
 use Rattle.run_plan.specs.declared.planned.Planned.TheVariants as plan
 use Rattle.run_plan.specs.declared.planned.Run.{Run}
-use Rattle.shd_config.specs.Shown.{shown}
+use Rattle.config_lines.specs.Shown.{shown}
 use Rattle.shd_config.specs.declared.config.Config.{Config}
 use Rattle.shadow_top.specs.Captured.{line_with, AreLinesOf}
 use Rattle.shadow_top.specs.Input.{Input, IsPlanned, IsFirstFault, IsToShow, IsToList, IsToRun, directory_of}

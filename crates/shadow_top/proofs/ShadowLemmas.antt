@@ -22,7 +22,7 @@ use Rattle.run_plan.specs.declared.fault.ReadStop.TheVariants as read
 use Rattle.run_plan.specs.declared.planned.Planned.{Planned}
 use Rattle.run_plan.specs.declared.planned.Planned.TheVariants as plan
 use Rattle.run_plan.specs.declared.planned.Run.{Run}
-use Rattle.shd_config.specs.Shown.{shown}
+use Rattle.config_lines.specs.Shown.{shown}
 use Rattle.shd_config.specs.declared.config.Config.{Config}
 use Rattle.pcap_text.specs.declared.capture.Capture.{Capture}
 use Rattle.shadow_top.specs.Captured.{AreLinesOf}

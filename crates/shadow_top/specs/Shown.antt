@@ -12,7 +12,7 @@ use Rattle.run_plan.specs.declared.planned.Run.{Run}
 use Rattle.shadow_top.specs.Captured.{AreLinesOf}
 use Rattle.shadow_top.specs.Input.{Input, IsFirstFault, IsToShow, IsToRun, IsToList, directory_of}
 use Rattle.plan_rows.specs.Rows.{rows_of, net_of}
-use Rattle.shd_config.specs.Shown.{shown}
+use Rattle.config_lines.specs.Shown.{shown}
 use Rattle.shd_config.specs.declared.config.Config.{Config}
 use Rattle.pcap_text.specs.declared.capture.Capture.{Capture}
 

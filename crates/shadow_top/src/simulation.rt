@@ -20,6 +20,7 @@ use crate::laws::one_shown;
 use crate::rounds::put_run;
 use crate::stop::{Answer, Stop, ended};
 use base_texts::{Name, Text};
+use config_lines::show_into;
 use net_run::{parts_are_between, put_notes};
 use opened_run::{Opened, open};
 use out_text::FaultText;
@@ -89,7 +90,7 @@ fn show_config<K: Sink>(alloc: Global, sink: &mut K, config: &Config) -> Result<
     ensures count { CountsWrites result (K.tally sink.old) (K.tally sink.new) }
 {
     let mut text = Text::new(alloc);
-    config.show(&mut text)?;
+    show_into(config, &mut text)?;
     put_all(sink, &Place::Out, text.as_bytes())?;
     Ok(Answer::Status(0))
 }

@@ -10,5 +10,3 @@ pub mod Limits
 pub mod Host
 pub mod Notes
 pub mod Config
-pub mod Quoted
-pub mod Shown

@@ -1,5 +1,7 @@
 //! A configuration.
 
+ghost use Rattle.std.specs.Prelude.{◌≡◌};
+
 use crate::lists::{Hosts, Processes, Variables};
 use base_texts::{Name, Text};
 use host_rows::FinalState;
@@ -76,4 +78,13 @@ pub struct Config {
     pub hosts: Hosts,
     /// The paths of the keys that have no effect, in document order.
     pub notes: Texts,
+}
+
+impl Config {
+    /// The paths of the keys that have no effect, in document order.
+    pub fn notes(&self) -> &[Text]
+        ensures { result.now ≡ self.now.notes }
+    {
+        self.notes.as_slice()
+    }
 }

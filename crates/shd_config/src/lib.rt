@@ -1,5 +1,4 @@
-//! The configuration of a tree, or its first fault; the notes of a configuration, and the text that
-//! shows it.
+//! The configuration of a tree, or its first fault, and the notes of a configuration.
 #![tactic(auto)]
 
 mod config;
@@ -16,7 +15,6 @@ mod options;
 mod overrides;
 mod process;
 mod reading;
-mod show;
 mod state;
 mod steps;
 mod value;

@@ -91,7 +91,7 @@ impl Hosts {
     }
 
     /// The allocator that the list was made with.
-    pub(crate) fn allocator(&self) -> Global {
+    pub fn allocator(&self) -> Global {
         *self.items.allocator()
     }
 

@@ -5,7 +5,7 @@ use Rattle.yaml_marks.specs.Lines.{lines_of}
 use Rattle.yaml_tree.specs.Said.{Said, size}
 use Rattle.yaml_tree.specs.Tree.{Says, IsTreeOf, is_empty_document}
 use Rattle.shd_config.specs.Config.{config}
-use Rattle.shd_config.specs.Shown.{shown}
+use Rattle.config_lines.specs.Shown.{shown}
 use Rattle.shd_config.specs.Limits.{MayStop, IsSomeText}
 use Rattle.shd_config.specs.declared.config.Config.{Config}
 use Rattle.shd_config.specs.declared.config.HostConfig.{HostConfig}

@@ -17,7 +17,7 @@ use Rattle.run_plan.specs.Line.{line_of}
 use Rattle.run_plan.specs.declared.planned.Planned.{Planned}
 use Rattle.run_plan.specs.declared.planned.Planned.TheVariants as plan
 use Rattle.run_plan.specs.declared.planned.Run.{Run}
-use Rattle.shd_config.specs.Shown.{shown}
+use Rattle.config_lines.specs.Shown.{shown}
 use Rattle.shd_config.specs.declared.config.Config.{Config}
 use Rattle.shadow_top.specs.Captured.{AreLinesOf}
 use Rattle.shadow_top.specs.Contract.{Shows, ShowsPart, read_failed_line}

@@ -10,7 +10,7 @@ use Rattle.shd_config.specs.declared.config.Variable.{Variable}
 use Rattle.shd_config.specs.declared.config.ProcessConfig.{ProcessConfig}
 use Rattle.shd_config.specs.declared.config.HostConfig.{HostConfig}
 use Rattle.shd_config.specs.declared.config.Config.{Config}
-use Rattle.shd_config.specs.Shown.{shown_time, shown_rate, shown_truth, shown_address, shown_rule}
+use Rattle.config_lines.specs.Shown.{shown_time, shown_rate, shown_truth, shown_address, shown_rule}
 use Rattle.shown_config.proofs.words.Words.{Word}
 use Rattle.shown_config.proofs.words.Words.Word.{bare, quote}
 use Rattle.shown_config.proofs.forms.Cells.{Cell}

@@ -10,8 +10,8 @@ use Rattle.shd_config.specs.declared.config.Variable.{Variable}
 use Rattle.shd_config.specs.declared.config.ProcessConfig.{ProcessConfig}
 use Rattle.shd_config.specs.declared.config.HostConfig.{HostConfig}
 use Rattle.shd_config.specs.declared.config.Config.{Config}
-use Rattle.shd_config.specs.Quoted.{quoted}
-use Rattle.shd_config.specs.Shown.{shown_time, shown_rate, shown_truth, shown_address, shown_rule, shown_state, listed, shown_args, shown_environment, line, line_if, shown_general, shown_graph, shown_network, process_lines, end_lines, shown_end, shown_process, shown_processes, changed_options, shown_interface, shown_options, host_lines, shown_host, shown}
+use Rattle.config_lines.specs.Quoted.{quoted}
+use Rattle.config_lines.specs.Shown.{shown_time, shown_rate, shown_truth, shown_address, shown_rule, shown_state, listed, shown_args, shown_environment, line, line_if, shown_general, shown_graph, shown_network, process_lines, end_lines, shown_end, shown_process, shown_processes, changed_options, shown_interface, shown_options, host_lines, shown_host, shown}
 use Rattle.shown_config.proofs.words.Words.{text_of}
 use Rattle.shown_config.proofs.words.Words.Word.{bare, quote}
 use Rattle.shown_config.proofs.forms.Forms.{entry_text}

@@ -17,7 +17,7 @@ use Rattle.shd_values.specs.Word.{is_name_byte, is_name_of_host}
 use Rattle.yaml_marks.specs.Scalars.{is_space, is_null}
 use Rattle.yaml_merge.specs.Merge.{is_merge_key}
 use Rattle.shd_config.specs.Values.{is_within, may_be_host}
-use Rattle.shd_config.specs.Shown.{shown_truth, shown_address, shown_rule}
+use Rattle.config_lines.specs.Shown.{shown_truth, shown_address, shown_rule}
 use Rattle.shd_config.specs.declared.config.GraphSource.{GraphSource}
 use Rattle.shd_config.specs.declared.config.GraphSource.TheVariants as sources
 use Rattle.net_iface.specs.declared.lane.QueueRule.{QueueRule}

@@ -5,7 +5,7 @@ use Rattle.yaml_marks.specs.declared.piece.Bracket.TheVariants.{Square, Curly}
 use Rattle.yaml_marks.specs.declared.piece.Piece.TheVariants.{Opening, Closing, Comma, CellKey}
 use Rattle.yaml_tree.specs.Flows.{Flow, spelling, is_absent, AreCells, SpellsFlow}
 use Rattle.yaml_tree.specs.Flows.Flow.{absent, word, item, pair}
-use Rattle.shd_config.specs.Shown.{listed}
+use Rattle.config_lines.specs.Shown.{listed}
 use Rattle.text_trees.proofs.Bytes.{IsText, IsText_append, IsText_known}
 use Rattle.shown_config.proofs.words.Words.{Word, text_of, says, word_text}
 use Rattle.shown_config.proofs.forms.Forms.{AreEntries, AreWords, comma_before, entries_flow, entry_text, item_piece, items_flow, list_flow, list_pieces, list_text, map_flow, map_pieces, map_text, more_entries, more_items}

@@ -9,7 +9,7 @@ use Rattle.yaml_marks.specs.declared.piece.Piece.{Piece}
 use Rattle.yaml_marks.specs.declared.piece.Piece.TheVariants.{Opening, Closing, Comma, CellKey, CellScalar}
 use Rattle.yaml_tree.specs.Flows.{Flow}
 use Rattle.yaml_tree.specs.Flows.Flow.{absent, word, item, pair, form}
-use Rattle.shd_config.specs.Shown.{listed}
+use Rattle.config_lines.specs.Shown.{listed}
 use Rattle.shown_config.proofs.words.Words.{Word, text_of, says, IsWord, StopsCell, Opened, opened, scan_of_word, cell_scan_word}
 use Rattle.shown_config.proofs.words.Words.Word.{bare, quote}
 

@@ -13,7 +13,7 @@ use Rattle.shd_config.specs.Keys.{key_of}
 use Rattle.shd_config.specs.Values.{truth_at, is_some_text}
 use Rattle.shd_config.specs.General.{general_of, general_at}
 use Rattle.shd_config.specs.Network.{file_of, file_at, graph_of, graph_at, network_of, network_at}
-use Rattle.shd_config.specs.Shown.{shown_truth}
+use Rattle.config_lines.specs.Shown.{shown_truth}
 use Rattle.shown_config.specs.Plain.{IsPlain}
 use Rattle.shown_config.specs.Same.{no_overrides}
 use Rattle.shown_config.proofs.words.Words.Word.{bare}

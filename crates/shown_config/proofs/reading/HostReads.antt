@@ -18,7 +18,7 @@ use Rattle.shd_config.specs.Keys.{key_of}
 use Rattle.shd_config.specs.Values.{mapping_at, scalar_at, ranged, is_within, address_at, may_be_host}
 use Rattle.shd_config.specs.Process.{processes_at}
 use Rattle.shd_config.specs.Host.{no_options, options_at, new_host, host_row, finished_host, host_of, host_at, hosts_row, hosts_at, settled}
-use Rattle.shd_config.specs.Shown.{shown_address}
+use Rattle.config_lines.specs.Shown.{shown_address}
 use Rattle.shown_config.specs.Plain.{IsRate, IsPlainProcess, IsPlainHost}
 use Rattle.shown_config.specs.Same.{without_line}
 use Rattle.shown_config.proofs.words.Words.Word.{bare, quote}

@@ -20,7 +20,7 @@ use Rattle.shd_config.specs.Steps.{checked, below, through, mapping_line}
 use Rattle.shd_config.specs.Keys.{key_of}
 use Rattle.shd_config.specs.Values.{mapping_at, sequence_at, time_at, signal_at, ranged}
 use Rattle.shd_config.specs.Process.{argument_row, arguments_in, arguments_at, variable_row, environment_at, state_of, state_at, start_in, shutdown_at, is_behind, new_process, process_row, finished_process, process_of, process_in, process_at, process_item as read_item, processes_at, texts_size}
-use Rattle.shd_config.specs.Shown.{shown_time}
+use Rattle.config_lines.specs.Shown.{shown_time}
 use Rattle.shown_config.specs.Plain.{IsPlainState, IsShutdown, IsPlainProcess}
 use Rattle.shown_config.proofs.words.Words.{Word}
 use Rattle.shown_config.proofs.words.Words.Word.{bare, quote}

@@ -16,7 +16,7 @@ use Rattle.shd_config.specs.Keys.{key_of}
 use Rattle.shd_config.specs.Notes.{notes}
 use Rattle.shd_config.specs.Host.{settled, no_options}
 use Rattle.shd_config.specs.Config.{new_root, root_row, finished_root, root_of, merged_config, wrong_merge, config, kept}
-use Rattle.shd_config.specs.Shown.{shown}
+use Rattle.config_lines.specs.Shown.{shown}
 use Rattle.shd_config.specs.declared.config.Config.{Config}
 use Rattle.shd_config.specs.declared.reading.RootDraft.{RootDraft}
 use Rattle.shown_config.specs.Plain.{IsPlainHost, IsPlain}

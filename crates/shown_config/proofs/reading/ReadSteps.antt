@@ -15,7 +15,7 @@ use Rattle.shd_config.specs.declared.fault.ConfigKind.TheVariants.{WrongType, Ba
 use Rattle.shd_config.specs.declared.fault.ConfigFault.{ConfigFault}
 use Rattle.shd_config.specs.Steps.{valued, checked, through, optional}
 use Rattle.shd_config.specs.Values.{mapping_at, sequence_at, scalar_at, ranged, is_within, number_at, size_at, time_at, may_stop_at, stop_time_at, rate_at, text_with}
-use Rattle.shd_config.specs.Shown.{shown_time, shown_rate}
+use Rattle.config_lines.specs.Shown.{shown_time, shown_rate}
 use Rattle.shown_config.proofs.words.Words.{Word, says}
 use Rattle.shown_config.proofs.blocks.Blocks.{Item, with_words, with_entries, item_said, items_said, after_item}
 use Rattle.shown_config.proofs.words.Decimals.{time_read, rate_read, number_read, size_read}

@@ -13,7 +13,7 @@ use Rattle.yaml_marks.specs.Scalars.{is_space, plain_len, plain_ends, plain_text
 use Rattle.yaml_marks.specs.Pieces.{cell_len, cell_text, bare_cell, cell_scan}
 use Rattle.yaml_marks.specs.declared.scan.Scan.{Scan}
 use Rattle.yaml_marks.specs.declared.scan.Scan.TheVariants.{Plain, Quoted}
-use Rattle.shd_config.specs.Quoted.{quoted}
+use Rattle.config_lines.specs.Quoted.{quoted}
 use Rattle.text_trees.proofs.Bytes.{is_inner, all_weaker, IsText}
 use Rattle.shown_config.proofs.words.Quotes.{body, quoted_parts, double_scan_body, quoted_inner, quoted_utf8}
 

@@ -1,6 +1,6 @@
 use Rattle.std.proofs.Common.{◌≡◌, string_bytes, take, flat_map}
-use Rattle.shd_config.specs.Shown.{shown_host}
-use Rattle.shd_config.proofs.show.host.hosts_string.Given as goal
+use Rattle.config_lines.specs.Shown.{shown_host}
+use Rattle.config_lines.proofs.show.host.hosts_string.Given as goal
 
 -- what has been written so far
 abbrev pub invariant-loop-host : goal.invariant-loop-host

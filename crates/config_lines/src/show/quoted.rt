@@ -2,7 +2,7 @@
 
 ghost use Rattle.std.specs.Prelude.{◌≡◌, ◌<◌, ◌++◌, ◌==◌, ◌||◌, nat_lt, if◌then◌else◌, encode_utf8, string_bytes, IfOk, OnOk};
 ghost use Rattle.sim_base.specs.Ascii.{space, delete};
-ghost use Rattle.shd_config.specs.Quoted.{hex_digit, hex_escape, escaped, quoted};
+ghost use Rattle.config_lines.specs.Quoted.{hex_digit, hex_escape, escaped, quoted};
 
 use std::alloc::{AllocError, Global};
 

@@ -2,9 +2,9 @@
 
 ghost use Rattle.std.specs.Prelude.{◌≡◌, codes, string_bytes, option_map, IfOk};
 ghost use Rattle.std.specs.List.{flat_map};
-ghost use Rattle.shd_config.specs.Shown.{shown_address, shown_rate, line_if, changed_options, shown_interface, shown_options, host_lines, shown_host};
+ghost use Rattle.config_lines.specs.Shown.{shown_address, shown_rate, line_if, changed_options, shown_interface, shown_options, host_lines, shown_host};
 
-use crate::config::HostConfig;
+use shd_config::HostConfig;
 use crate::show::process::processes_string;
 use crate::show::quoted::quoted;
 use crate::show::value::{address_string, rate_string};

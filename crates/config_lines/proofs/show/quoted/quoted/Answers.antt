@@ -2,8 +2,8 @@ use Rattle.std.proofs.Common.{◌≡◌, ℕ, ◌++◌, List, [], ◌∷◌, map
 use Rattle.std.proofs.lemmas.Iterator.{YieldsList-from_chars}
 use Rattle.std.proofs.lemmas.Iterator.Consumers.{YieldsList-end}
 use Rattle.std.specs.Str.{chars}
-use Rattle.shd_config.specs.Quoted.{escaped, quoted}
-use Rattle.shd_config.proofs.show.quoted.quoted.Goals as goal
+use Rattle.config_lines.specs.Quoted.{escaped, quoted}
+use Rattle.config_lines.proofs.show.quoted.quoted.Goals as goal
 
 same_map : (xs : List ℕ) → map (λ x. x) xs ≡ xs
 same_map [] = refl

@@ -1,6 +1,6 @@
 use Rattle.std.proofs.Common.{◌≡◌, ◌++◌, string_bytes, take, codes, flat_map}
-use Rattle.shd_config.specs.Shown.{shown_variable}
-use Rattle.shd_config.proofs.show.process.more_variables.Given as goal
+use Rattle.config_lines.specs.Shown.{shown_variable}
+use Rattle.config_lines.proofs.show.process.more_variables.Given as goal
 
 -- what has been written so far
 abbrev pub invariant-loop-variable : goal.invariant-loop-variable

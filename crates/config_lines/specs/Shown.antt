@@ -15,7 +15,7 @@ use Rattle.shd_config.specs.declared.config.Variable.{Variable}
 use Rattle.shd_config.specs.declared.config.ProcessConfig.{ProcessConfig}
 use Rattle.shd_config.specs.declared.config.HostConfig.{HostConfig}
 use Rattle.shd_config.specs.declared.config.Config.{Config}
-use Rattle.shd_config.specs.Quoted.{quoted}
+use Rattle.config_lines.specs.Quoted.{quoted}
 use Rattle.shd_config.specs.Bounds.{default_capture}
 
 -- ---- values

@@ -1,6 +1,6 @@
 use Rattle.std.proofs.Common.{◌≡◌, ◌++◌, string_bytes, codes, flat_map}
-use Rattle.shd_config.specs.Quoted.{escaped}
-use Rattle.shd_config.proofs.show.quoted.quoted.Given as goal
+use Rattle.config_lines.specs.Quoted.{escaped}
+use Rattle.config_lines.proofs.show.quoted.quoted.Given as goal
 
 -- what has been written so far
 abbrev pub invariant-loop-character : goal.invariant-loop-character

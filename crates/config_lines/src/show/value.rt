@@ -1,7 +1,7 @@
 //! Times, rates and addresses as texts.
 
 ghost use Rattle.std.specs.Prelude.{◌≡◌, string_bytes, IfOk};
-ghost use Rattle.shd_config.specs.Shown.{shown_time, shown_rate, shown_address};
+ghost use Rattle.config_lines.specs.Shown.{shown_time, shown_rate, shown_address};
 
 use sim_base::{Ip, Time};
 use std::alloc::{AllocError, Global};

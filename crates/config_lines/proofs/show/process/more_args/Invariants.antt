@@ -1,6 +1,6 @@
 use Rattle.std.proofs.Common.{◌≡◌, ◌++◌, string_bytes, take, codes, flat_map}
-use Rattle.shd_config.specs.Quoted.{quoted}
-use Rattle.shd_config.proofs.show.process.more_args.Given as goal
+use Rattle.config_lines.specs.Quoted.{quoted}
+use Rattle.config_lines.proofs.show.process.more_args.Given as goal
 
 -- what has been written so far
 abbrev pub invariant-loop-arg : goal.invariant-loop-arg

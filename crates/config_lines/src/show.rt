@@ -1,14 +1,14 @@
 //! The text that shows a configuration.
 
 ghost use Rattle.std.specs.Prelude.{◌≡◌, ◌++◌, codes, string_bytes, IfOk, OnOk, OnErr};
-ghost use Rattle.shd_config.specs.Shown.{shown_general, shown_file, shown_graph, shown_truth, shown_rule, shown_network, shown};
+ghost use Rattle.config_lines.specs.Shown.{shown_general, shown_file, shown_graph, shown_truth, shown_rule, shown_network, shown};
 
 mod host;
 mod process;
 mod quoted;
 mod value;
 
-use crate::config::{Config, GraphSource};
+use shd_config::{Config, GraphSource};
 use net_iface::QueueRule;
 use base_texts::Text;
 use host::hosts_string;
@@ -89,21 +89,12 @@ fn config_string(alloc: Global, config: &Config) -> Result<String, AllocError>
     format!(in alloc; "{general}{network}hosts:\n{hosts}")
 }
 
-impl Config {
-    /// Adds the text that shows the configuration: every key that has an effect, with the defaults
-    /// worked in. On want of memory the text is as it was.
-    pub fn show(&self, into: &mut Text) -> Result<(), NoMemory>
-        ensures ok { OnOk result (into.new ≡ into.old ++ shown self.now) }
-        ensures err { OnErr result (into.new ≡ into.old) }
-    {
-        let text = config_string(self.hosts.allocator(), self)?;
-        into.push_str(text.as_str())
-    }
-
-    /// The paths of the keys that have no effect, in document order.
-    pub fn notes(&self) -> &[Text]
-        ensures { result.now ≡ self.now.notes }
-    {
-        self.notes.as_slice()
-    }
+/// Adds the text that shows a configuration: every key that has an effect, with the defaults worked in. On want of memory the text
+/// is as it was.
+pub fn show_into(config: &Config, into: &mut Text) -> Result<(), NoMemory>
+    ensures ok { OnOk result (into.new ≡ into.old ++ shown config.now) }
+    ensures err { OnErr result (into.new ≡ into.old) }
+{
+    let text = config_string(config.hosts.allocator(), config)?;
+    into.push_str(text.as_str())
 }
