@@ -3,8 +3,8 @@ use Rattle.std.proofs.Common.{◌≡◌, ℕ, ◌+◌, ◌-◌, ◌^◌, ◌≤�
 use Rattle.std.specs.List.{starts_with, list_all}
 use Rattle.std.proofs.lemmas.List.Elements.{recursion_from_All}
 use Rattle.sim_base.specs.Refusals.{◌>>=◌}
-use Rattle.yaml_marks.specs.Lines.{byte_order_mark, lines_of}
-use Rattle.yaml_marks.specs.Tokens.{tokens_of}
+use Rattle.yaml_tokens.specs.Lines.{byte_order_mark, lines_of}
+use Rattle.yaml_tokens.specs.Tokens.{tokens_of}
 use Rattle.yaml_tree.specs.Written.{is_name}
 use Rattle.yaml_tree.specs.Tree.{is_empty_document}
 use Rattle.yaml_merge.specs.Merge.{merged}

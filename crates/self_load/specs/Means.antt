@@ -1,6 +1,6 @@
 -- What the texts of a self-load mean.
 use Rattle.std.specs.Prelude.{◌≡◌, ℕ, List, [], ◌∷◌, map, codes, Ok}
-use Rattle.yaml_marks.specs.Lines.{lines_of}
+use Rattle.yaml_tokens.specs.Lines.{lines_of}
 use Rattle.yaml_tree.specs.Said.{Said}
 use Rattle.yaml_tree.specs.Tree.{IsTreeOf, is_empty_document}
 use Rattle.gml_graph.specs.Gml.{graph}

@@ -1,7 +1,7 @@
 -- When the text that shows a configuration gives it again.
 use Rattle.std.specs.Prelude.{◌≡◌, ◌<◌, ◌≤◌, ◌^◌, false, [], map, None, IfSome, Ok}
 use Rattle.std.specs.Str.{IsUtf8}
-use Rattle.yaml_marks.specs.Lines.{lines_of}
+use Rattle.yaml_tokens.specs.Lines.{lines_of}
 use Rattle.yaml_tree.specs.Said.{Said, size}
 use Rattle.yaml_tree.specs.Tree.{Says, IsTreeOf, is_empty_document}
 use Rattle.shd_config.specs.Config.{config}

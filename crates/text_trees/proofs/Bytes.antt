@@ -6,7 +6,7 @@ use Rattle.std.proofs.lemmas.Str.{IsUtf8-append, IsUtf8-from_ascii}
 use Rattle.std.proofs.lemmas.Str.Ascii.{IsAscii-nil, IsAscii-cons}
 use Rattle.std.specs.Str.{IsAscii}
 use Rattle.std.proofs.lemmas.List.Folds.{list_all-append}
-use Rattle.yaml_marks.specs.Scalars.{put_before}
+use Rattle.yaml_tokens.specs.Scalars.{put_before}
 
 -- neither a line feed nor a carriage return
 abbrev pub is_inner : ℕ → Bool

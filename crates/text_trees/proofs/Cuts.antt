@@ -5,8 +5,8 @@ use Rattle.std.proofs.lemmas.Bool.{cases_lt}
 use Rattle.std.proofs.lemmas.List.{get_or-reverse}
 use Rattle.std.proofs.lemmas.List.Sums.{prefix_len_passes, suffix_len-le-length}
 use Rattle.std.proofs.lemmas.Str.{IsUtf8-nil, IsUtf8-take, IsUtf8-drop, IsUtf8-past_char, IsCharBoundary-before_ascii, encode_ascii}
-use Rattle.yaml_marks.specs.Scalars.{is_space, without_spaces}
-use Rattle.yaml_marks.specs.Literals.{is_feed, without_feeds}
+use Rattle.yaml_tokens.specs.Scalars.{is_space, without_spaces}
+use Rattle.yaml_tokens.specs.Literals.{is_feed, without_feeds}
 
 -- behind an ASCII byte
 pub utf8_tail : (b : ℕ) (bytes : List ℕ) → b < 128 → IsUtf8 (b ∷ bytes) → IsUtf8 bytes

@@ -7,12 +7,12 @@ use Rattle.std.proofs.Math.Utf8.{scalar, scalars, encode}
 use Rattle.std.proofs.lemmas.Bool.{and_parts, cases_lt, cases_eq, ne_eqb, lt-leb}
 use Rattle.std.proofs.lemmas.Bool.Decides.{nat_tests}
 use Rattle.std.proofs.lemmas.Str.{IsUtf8-append, IsUtf8-encode, IsUtf8-nil, encode_ascii, encodes-chars, scalars-chars}
-use Rattle.yaml_marks.specs.inside.Escapes.{IsInRange}
-use Rattle.yaml_marks.specs.Scalars.{single_quoted, double_len, escaped_byte, hex_value, is_surrogate, put_before, number_step, escape_step, added_bytes, unescaped}
-use Rattle.yaml_marks.specs.declared.escapes.Escape.{Escape}
-use Rattle.yaml_marks.specs.declared.escapes.Escape.TheVariants.{Outside, Behind, Digits}
-use Rattle.yaml_marks.specs.declared.escapes.Added.{Added}
-use Rattle.yaml_marks.specs.declared.escapes.Added.TheVariants.{Nothing, Byte, Character}
+use Rattle.yaml_tokens.specs.inside.Escapes.{IsInRange}
+use Rattle.yaml_tokens.specs.Scalars.{single_quoted, double_len, escaped_byte, hex_value, is_surrogate, put_before, number_step, escape_step, added_bytes, unescaped}
+use Rattle.yaml_tokens.specs.declared.escapes.Escape.{Escape}
+use Rattle.yaml_tokens.specs.declared.escapes.Escape.TheVariants.{Outside, Behind, Digits}
+use Rattle.yaml_tokens.specs.declared.escapes.Added.{Added}
+use Rattle.yaml_tokens.specs.declared.escapes.Added.TheVariants.{Nothing, Byte, Character}
 use Rattle.text_trees.proofs.Itself.{is_itself, encode_itself, high_itself, unescaped_itself}
 use Rattle.text_trees.proofs.Characters.{some_map, one_byte, High, encode_high, length_some, high_of}
 use Rattle.text_trees.proofs.SingleQuotes.{IsGoodFound, single_good}

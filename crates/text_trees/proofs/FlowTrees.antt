@@ -3,13 +3,13 @@ use Rattle.std.proofs.Common.{◌≡◌, ℕ, Bool, true, false, ◌==◌, cond,
 use Rattle.std.specs.Cmp.Lexicographic.{pointwise}
 use Rattle.std.specs.List.{AllByRecursion}
 use Rattle.std.specs.Map.{lookup}
-use Rattle.yaml_marks.specs.declared.piece.Bracket.{Bracket}
-use Rattle.yaml_marks.specs.declared.piece.Bracket.TheVariants.{Square, Curly}
-use Rattle.yaml_marks.specs.declared.piece.Piece.{Piece}
-use Rattle.yaml_marks.specs.declared.piece.Piece.TheVariants.{Opening, Closing, Comma, CellKey, CellScalar, CellName, CellCopy, OddPiece}
+use Rattle.yaml_tokens.specs.declared.piece.Bracket.{Bracket}
+use Rattle.yaml_tokens.specs.declared.piece.Bracket.TheVariants.{Square, Curly}
+use Rattle.yaml_tokens.specs.declared.piece.Piece.{Piece}
+use Rattle.yaml_tokens.specs.declared.piece.Piece.TheVariants.{Opening, Closing, Comma, CellKey, CellScalar, CellAnchor, CellAlias, OddPiece}
 use Rattle.yaml_tree.specs.Flows.{Flow, spelling, comma_if, is_cell_word, is_cell_key, IsValue, AreCells, IsForm}
 use Rattle.yaml_tree.specs.Flows.Flow.{absent, word, called, item, pair, form}
-use Rattle.yaml_tree.specs.Said.{Said, Names, Meaning, copied, from_line, given, flow_said, begun_form, word_said, piece_text, scalar_said}
+use Rattle.yaml_tree.specs.Said.{Said, Anchors, Meaning, copied, from_line, given, flow_said, begun_form, word_said, piece_text, scalar_said}
 use Rattle.yaml_tree.specs.Said.Said.{null, text, unknown, sequence, mapping, with_item, with_pair}
 use Rattle.yaml_merge.specs.Plainness.{are_items, are_pairs}
 use Rattle.text_trees.proofs.GoodPieces.{IsGoodPiece}
@@ -24,14 +24,14 @@ IsSound (mapping line) = Unit {0}
 IsSound (with_item before value) = (are_items before ≡ true) × IsSound before × IsSound value
 IsSound (with_pair before line key value) = (are_pairs before ≡ true) × IsUtf8 key × IsSound before × IsSound value
 
-abbrev pub AreSound : Names → Type 0
+abbrev pub AreSound : Anchors → Type 0
 AreSound names = AllByRecursion (λ n. IsSound n.1) names
 
 -- what is said, and the names behind it
 abbrev pub IsSoundMeaning : Meaning → Type 0
 IsSoundMeaning m = IsSound m.0 × AreSound m.1
 
-pub copied_sound : (line : ℕ) (n : List ℕ) (names : Names) → AreSound names → IsSound (copied line n names)
+pub copied_sound : (line : ℕ) (n : List ℕ) (names : Anchors) → AreSound names → IsSound (copied line n names)
 copied_sound line n [] h = tt
 copied_sound line n (e ∷ names) h = by (pointwise ◌==◌ n e.0) (copied_sound line n names h.1)
   where
@@ -92,14 +92,14 @@ good_back : (xs ys : List Piece) → AreGood (xs ++ ys) → AreGood ys
 good_back [] ys h = h
 good_back (x ∷ xs) ys h = good_back xs ys h.1
 
-word_sound : (line : ℕ) (piece : Piece) (names : Names) → is_cell_word piece ≡ true → IsGoodPiece piece → AreSound names → IsSound (word_said line piece names)
+word_sound : (line : ℕ) (piece : Piece) (names : Anchors) → is_cell_word piece ≡ true → IsGoodPiece piece → AreSound names → IsSound (word_said line piece names)
 word_sound line (CellScalar value) names e g h = scalar_sound line value g
-word_sound line (CellCopy n) names e g h = copied_sound line n names h
+word_sound line (CellAlias n) names e g h = copied_sound line n names h
 word_sound line (Opening bracket) names e g h = tt
 word_sound line (Closing bracket) names e g h = tt
 word_sound line Comma names e g h = tt
 word_sound line (CellKey bytes) names e g h = tt
-word_sound line (CellName n) names e g h = tt
+word_sound line (CellAnchor n) names e g h = tt
 word_sound line (OddPiece why) names e g h = tt
 
 key_utf8 : (piece : Piece) → is_cell_key piece ≡ true → IsGoodPiece piece → IsUtf8 (piece_text piece)
@@ -108,14 +108,14 @@ key_utf8 (Opening bracket) e g = absurd (true≢false (sym e))
 key_utf8 (Closing bracket) e g = absurd (true≢false (sym e))
 key_utf8 Comma e g = absurd (true≢false (sym e))
 key_utf8 (CellScalar value) e g = absurd (true≢false (sym e))
-key_utf8 (CellName n) e g = absurd (true≢false (sym e))
-key_utf8 (CellCopy n) e g = absurd (true≢false (sym e))
+key_utf8 (CellAnchor n) e g = absurd (true≢false (sym e))
+key_utf8 (CellAlias n) e g = absurd (true≢false (sym e))
 key_utf8 (OddPiece why) e g = absurd (true≢false (sym e))
 
 abbrev AreSoundRows : Bracket → Meaning → Type 0
 AreSoundRows bracket m = AreRowsOf bracket m.0 × IsSoundMeaning m
 
-begun_form_is : (bracket : Bracket) (line : ℕ) (names : Names) → AreSound names → AreSoundRows bracket (begun_form bracket line, names)
+begun_form_is : (bracket : Bracket) (line : ℕ) (names : Anchors) → AreSound names → AreSoundRows bracket (begun_form bracket line, names)
 begun_form_is Square line names h = (refl, (tt, h))
 begun_form_is Curly line names h = (refl, (tt, h))
 
@@ -124,7 +124,7 @@ square_or_curly : Curly ≡ Square → ⊥
 square_or_curly e = cc
 
 mutual
-  flow_value : (f : Flow) (line : ℕ) (none : Said) (names : Names) → IsValue f → AreGood (spelling f) → IsSound none → AreSound names → IsSoundMeaning (flow_said line none names f)
+  flow_value : (f : Flow) (line : ℕ) (none : Said) (names : Anchors) → IsValue f → AreGood (spelling f) → IsSound none → AreSound names → IsSoundMeaning (flow_said line none names f)
   flow_value absent line none names v g n h = absurd v
   flow_value (word piece) line none names v g n h = (word_sound line piece names v g.0 h, h)
   flow_value (called piece absent) line none names v g n h = given_sound line (piece_text piece) (none, names) (n, h)
@@ -137,7 +137,7 @@ mutual
   flow_value (pair before key value) line none names v g n h = absurd v
   flow_value (form bracket cells last) line none names v g n h = (flow_cells cells bracket line names v.0 (good_front (spelling cells) _ g.1) h).1
 
-  flow_cells : (f : Flow) (bracket : Bracket) (line : ℕ) (names : Names) → AreCells bracket f → AreGood (spelling f) → AreSound names → AreSoundRows bracket (flow_said line (begun_form bracket line) names f)
+  flow_cells : (f : Flow) (bracket : Bracket) (line : ℕ) (names : Anchors) → AreCells bracket f → AreGood (spelling f) → AreSound names → AreSoundRows bracket (flow_said line (begun_form bracket line) names f)
   flow_cells absent bracket line names v g h = begun_form_is bracket line names h
   flow_cells (word piece) bracket line names v g h = absurd v
   flow_cells (called piece value) bracket line names v g h = absurd v
@@ -156,7 +156,7 @@ mutual
       (b.0, ((b.0, key_utf8 key v.1 k.0, b.1.0, x.0), x.1))
   flow_cells (form other cells last) bracket line names v g h = absurd v
 
-pub form_sound : (f : Flow) (line : ℕ) (none : Said) (names : Names) → IsForm f → AreGood (spelling f) → IsSound none → AreSound names → IsSoundMeaning (flow_said line none names f)
+pub form_sound : (f : Flow) (line : ℕ) (none : Said) (names : Anchors) → IsForm f → AreGood (spelling f) → IsSound none → AreSound names → IsSoundMeaning (flow_said line none names f)
 form_sound absent line none names v g n h = absurd v
 form_sound (word piece) line none names v g n h = absurd v
 form_sound (called piece value) line none names v g n h = absurd v

@@ -2,15 +2,15 @@
 use Rattle.std.proofs.Common.{◌≡◌, ℕ, ◌+◌, ◌≤◌, Bool, true, false, ◌||◌, ◌&&◌, ◌==◌, if◌then◌else◌, List, [], ◌∷◌, ◌++◌, drop, Option, Some, None, IfSome, IsUtf8, refl, sym, ap, ◌∙◌, subst, inl, inr, ◌⊎◌, eqb-true, leb-true, true≢false, not, one-add}
 use Rattle.std.specs.List.{AllByRecursion, prefix_len}
 use Rattle.std.proofs.lemmas.Bool.{or_cases}
-use Rattle.yaml_marks.specs.Lines.{begins_with}
-use Rattle.yaml_marks.specs.Literals.{is_blank, indent}
-use Rattle.yaml_marks.specs.Scalars.{is_space, is_nothing, after_spaces}
-use Rattle.yaml_marks.specs.Tokens.{refused, named_node, is_dash, node_tokens, has_content, is_marker, is_late_marker, begins_document, head_of, stands_in, is_body, bar_column, column_behind, place_inside, place_behind, line_tokens, place_after, next_place, tokens_from, tokens_of}
-use Rattle.yaml_marks.specs.declared.odd.Odd.TheVariants as odd
-use Rattle.yaml_marks.specs.declared.token.Token.{Token}
-use Rattle.yaml_marks.specs.declared.token.Token.TheVariants.{Dash, Key, Scalar, Name, Copy, Bar, Body, Form, OddToken}
-use Rattle.yaml_marks.specs.declared.place.LinePlace.{LinePlace}
-use Rattle.yaml_marks.specs.declared.place.LinePlace.TheVariants.{Outside, Inside}
+use Rattle.yaml_tokens.specs.Lines.{begins_with}
+use Rattle.yaml_tokens.specs.Literals.{is_blank, indent}
+use Rattle.yaml_tokens.specs.Scalars.{is_space, is_nothing, after_spaces}
+use Rattle.yaml_tokens.specs.Tokens.{refused, named_node, is_dash, node_tokens, has_content, is_marker, is_late_marker, begins_document, head_of, stands_in, is_body, bar_column, column_behind, place_inside, place_behind, line_tokens, place_after, next_place, tokens_from, tokens_of}
+use Rattle.yaml_tokens.specs.declared.odd.Odd.TheVariants as odd
+use Rattle.yaml_tokens.specs.declared.token.Token.{Token}
+use Rattle.yaml_tokens.specs.declared.token.Token.TheVariants.{Dash, Key, Scalar, Anchor, Alias, Bar, Body, Form, OddToken}
+use Rattle.yaml_tokens.specs.declared.place.LinePlace.{LinePlace}
+use Rattle.yaml_tokens.specs.declared.place.LinePlace.TheVariants.{Outside, Inside}
 use Rattle.text_trees.proofs.GoodPieces.{IsGoodPiece}
 use Rattle.text_trees.proofs.GoodTokens.{AreGood, node_good}
 
@@ -29,8 +29,8 @@ AreGoodFrom column (Bar line at chomp ∷ ms) = AreGoodFrom None ms
 AreGoodFrom column (Dash line at ∷ ms) = AreGoodFrom column ms
 AreGoodFrom column (Key line at text ∷ ms) = IsUtf8 text × AreGoodFrom column ms
 AreGoodFrom column (Scalar line at text ∷ ms) = IfSome text IsUtf8 × AreGoodFrom column ms
-AreGoodFrom column (Name line at text ∷ ms) = AreGoodFrom column ms
-AreGoodFrom column (Copy line at text ∷ ms) = AreGoodFrom column ms
+AreGoodFrom column (Anchor line at text ∷ ms) = AreGoodFrom column ms
+AreGoodFrom column (Alias line at text ∷ ms) = AreGoodFrom column ms
 AreGoodFrom column (Form line at pieces ∷ ms) = AllByRecursion IsGoodPiece pieces × AreGoodFrom column ms
 AreGoodFrom column (OddToken line at why ∷ ms) = Unit {0}
 
@@ -46,8 +46,8 @@ good_then (Bar line at chomp ∷ ms) rest place column h f k = good_then ms rest
 good_then (Dash line at ∷ ms) rest place column h f k = good_then ms rest (Outside (Some at)) column h.1 tt k
 good_then (Key line at text ∷ ms) rest place column h f k = (h.0, good_then ms rest (Outside (Some at)) column h.1 tt k)
 good_then (Scalar line at text ∷ ms) rest place column h f k = (h.0, good_then ms rest place column h.1 f k)
-good_then (Name line at text ∷ ms) rest place column h f k = good_then ms rest place column h.1 f k
-good_then (Copy line at text ∷ ms) rest place column h f k = good_then ms rest place column h.1 f k
+good_then (Anchor line at text ∷ ms) rest place column h f k = good_then ms rest place column h.1 f k
+good_then (Alias line at text ∷ ms) rest place column h f k = good_then ms rest place column h.1 f k
 good_then (Form line at pieces ∷ ms) rest place column h f k = (h.0, good_then ms rest place column h.1 f k)
 good_then (OddToken line at why ∷ ms) rest place column h f k = tt
 

@@ -5,12 +5,12 @@ use Rattle.std.proofs.Math.Utf8.{scalar, scalars, encode}
 use Rattle.std.proofs.lemmas.Bool.{and_parts, cases_lt, ne_eqb}
 use Rattle.std.proofs.lemmas.Option.{same_Some}
 use Rattle.std.proofs.lemmas.Str.{IsUtf8-append, IsUtf8-encode, IsUtf8-nil, IsUtf8-past_char, encode_ascii, encodes-chars, scalars-chars}
-use Rattle.yaml_marks.specs.Lines.{begins_with, byte_before, split_lines, byte_order_mark, without_mark, lines_of}
-use Rattle.yaml_marks.specs.Literals.{is_blank, indent, block_column, line_from, joined, with_feed, without_feeds, chomped, block_text}
-use Rattle.yaml_marks.specs.Tokens.{column_behind}
-use Rattle.yaml_marks.specs.Scalars.{is_space, is_nothing}
-use Rattle.yaml_marks.specs.declared.chomp.Chomp.{Chomp}
-use Rattle.yaml_marks.specs.declared.chomp.Chomp.TheVariants.{Clip, Strip, Keep}
+use Rattle.yaml_tokens.specs.Lines.{begins_with, byte_before, split_lines, byte_order_mark, without_mark, lines_of}
+use Rattle.yaml_tokens.specs.Literals.{is_blank, indent, block_column, line_from, joined, with_feed, without_feeds, chomped, block_text}
+use Rattle.yaml_tokens.specs.Tokens.{column_behind}
+use Rattle.yaml_tokens.specs.Scalars.{is_space, is_nothing}
+use Rattle.yaml_tokens.specs.declared.chomp.Chomp.{Chomp}
+use Rattle.yaml_tokens.specs.declared.chomp.Chomp.TheVariants.{Clip, Strip, Keep}
 use Rattle.text_trees.proofs.Cuts.{utf8_tail, without_feeds_utf8}
 use Rattle.text_trees.proofs.Characters.{one_byte, is_high, High, high_of, length_some, encode_high}
 use Rattle.text_trees.proofs.GoodBlocks.{StandsIn}

@@ -4,15 +4,15 @@ use Rattle.std.specs.List.{AllByRecursion, prefix_len}
 use Rattle.std.proofs.lemmas.Bool.{and_parts}
 use Rattle.std.proofs.lemmas.Bool.Decides.{nat_tests}
 use Rattle.std.proofs.lemmas.Str.{IsUtf8-nil, IsUtf8-drop, IsCharBoundary-after_ascii}
-use Rattle.yaml_marks.specs.Lines.{begins_with}
-use Rattle.yaml_marks.specs.Names.{is_name_byte, name_len, name_at, has_name}
-use Rattle.yaml_marks.specs.Scalars.{is_space, after_spaces, at_colon, plain_value, is_null, double_len}
-use Rattle.yaml_marks.specs.Pieces.{cell_scan, closed_len, refused_len, CellStep, word_step, scan_step, at_cell_gap, one_byte, step_at, open_after, put_piece, is_last, found_at, flow_at}
-use Rattle.yaml_marks.specs.declared.piece.Bracket.TheVariants.{Square, Curly}
-use Rattle.yaml_marks.specs.declared.piece.Piece.{Piece}
-use Rattle.yaml_marks.specs.declared.piece.Piece.TheVariants.{Opening, Closing, Comma, CellKey, CellScalar, CellName, CellCopy}
-use Rattle.yaml_marks.specs.declared.scan.Scan.{Scan}
-use Rattle.yaml_marks.specs.declared.scan.Scan.TheVariants.{Plain, Quoted, Refused}
+use Rattle.yaml_tokens.specs.Lines.{begins_with}
+use Rattle.yaml_tokens.specs.Anchors.{is_name_byte, name_len, name_at, has_name}
+use Rattle.yaml_tokens.specs.Scalars.{is_space, after_spaces, at_colon, plain_value, is_null, double_len}
+use Rattle.yaml_tokens.specs.Pieces.{cell_scan, closed_len, refused_len, CellStep, word_step, scan_step, at_cell_gap, one_byte, step_at, open_after, put_piece, is_last, found_at, flow_at}
+use Rattle.yaml_tokens.specs.declared.piece.Bracket.TheVariants.{Square, Curly}
+use Rattle.yaml_tokens.specs.declared.piece.Piece.{Piece}
+use Rattle.yaml_tokens.specs.declared.piece.Piece.TheVariants.{Opening, Closing, Comma, CellKey, CellScalar, CellAnchor, CellAlias}
+use Rattle.yaml_tokens.specs.declared.scan.Scan.{Scan}
+use Rattle.yaml_tokens.specs.declared.scan.Scan.TheVariants.{Plain, Quoted, Refused}
 use Rattle.text_trees.proofs.Cuts.{utf8_tail, utf8_behind, spaces_utf8}
 use Rattle.text_trees.proofs.Scans.{IsGoodCell, cell_scan_good}
 use Rattle.text_trees.proofs.Escapes.{double_len_at, IsQuoteAt}
@@ -110,7 +110,7 @@ step_good b bytes u =
     by : (p q r s t v w x : Bool) → (p ≡ true → IsUtf8 bytes) → (q ≡ true → IsUtf8 bytes) → (r ≡ true → IsUtf8 bytes) → (s ≡ true → IsUtf8 bytes) → (t ≡ true → IsUtf8 bytes) → (v ≡ true → IsUtf8 bytes) → (w ≡ true → IsUtf8 bytes) → (x ≡ true → IsUtf8 bytes)
         → IsGoodStep bytes (if p then record { piece = None; skip = if begins_with 35 bytes then length bytes else 0 }
         else (if q then one_byte (Opening Square) else (if r then one_byte (Closing Square) else (if s then one_byte (Opening Curly) else (if t then one_byte (Closing Curly) else (if v then one_byte Comma
-        else (if w then record { piece = Some (CellName (name_at bytes)); skip = name_len bytes } else (if x then record { piece = Some (CellCopy (name_at bytes)); skip = name_len bytes } else scan_step b bytes (cell_scan b bytes)))))))))
+        else (if w then record { piece = Some (CellAnchor (name_at bytes)); skip = name_len bytes } else (if x then record { piece = Some (CellAlias (name_at bytes)); skip = name_len bytes } else scan_step b bytes (cell_scan b bytes)))))))))
     by true q r s t v w x a c d e f g h i = (tt, spaced (begins_with 35 bytes) (a refl))
     by false true r s t v w x a c d e f g h i = (tt, c refl)
     by false false true s t v w x a c d e f g h i = (tt, d refl)

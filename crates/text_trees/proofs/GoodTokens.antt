@@ -2,16 +2,16 @@
 use Rattle.std.proofs.Common.{◌≡◌, ℕ, ◌+◌, ◌<◌, Bool, true, false, ◌==◌, if◌then◌else◌, List, [], ◌∷◌, drop, Option, Some, IfSome, IsUtf8, refl, arith, eqb-true}
 use Rattle.std.specs.List.{AllByRecursion, prefix_len}
 use Rattle.std.proofs.lemmas.Bool.{and_parts}
-use Rattle.yaml_marks.specs.Names.{is_name_byte, name_len, name_at, after_name, has_name}
-use Rattle.yaml_marks.specs.Literals.{chomp_at, chomp_len, is_digit_first}
-use Rattle.yaml_marks.specs.Scalars.{is_space, at_gap, after_spaces, at_end, at_colon, scalar_at, plain_value}
-use Rattle.yaml_marks.specs.Pieces.{flow_at, is_bracket}
-use Rattle.yaml_marks.specs.Tokens.{refused, why_behind, behind_value, copy_tokens, bar_tokens, flow_tokens, is_node_indicator, indicated, unkeyed, lone_tokens, value_tokens_of, bare_value, behind_spaces, named_value, value_tokens, pair_tokens, row_tokens, row_tokens_of, last_tokens, is_name_indicator, last_node, named_node, is_dash, node_tokens}
-use Rattle.yaml_marks.specs.declared.odd.Odd.TheVariants as odd
-use Rattle.yaml_marks.specs.declared.token.Token.{Token}
-use Rattle.yaml_marks.specs.declared.token.Token.TheVariants.{Dash, Key, Scalar, Name, Copy, Body, Form}
-use Rattle.yaml_marks.specs.declared.scan.Scan.{Scan}
-use Rattle.yaml_marks.specs.declared.scan.Scan.TheVariants.{Plain, Quoted, Refused}
+use Rattle.yaml_tokens.specs.Anchors.{is_name_byte, name_len, name_at, after_name, has_name}
+use Rattle.yaml_tokens.specs.Literals.{chomp_at, chomp_len, is_digit_first}
+use Rattle.yaml_tokens.specs.Scalars.{is_space, at_gap, after_spaces, at_end, at_colon, scalar_at, plain_value}
+use Rattle.yaml_tokens.specs.Pieces.{flow_at, is_bracket}
+use Rattle.yaml_tokens.specs.Tokens.{refused, why_behind, behind_value, alias_tokens, bar_tokens, flow_tokens, is_node_indicator, indicated, unkeyed, lone_tokens, value_tokens_of, bare_value, behind_spaces, named_value, value_tokens, pair_tokens, row_tokens, row_tokens_of, last_tokens, is_name_indicator, last_node, named_node, is_dash, node_tokens}
+use Rattle.yaml_tokens.specs.declared.odd.Odd.TheVariants as odd
+use Rattle.yaml_tokens.specs.declared.token.Token.{Token}
+use Rattle.yaml_tokens.specs.declared.token.Token.TheVariants.{Dash, Key, Scalar, Anchor, Alias, Body, Form}
+use Rattle.yaml_tokens.specs.declared.scan.Scan.{Scan}
+use Rattle.yaml_tokens.specs.declared.scan.Scan.TheVariants.{Plain, Quoted, Refused}
 use Rattle.text_trees.proofs.Cuts.{utf8_tail, utf8_behind, spaces_utf8}
 use Rattle.text_trees.proofs.Scans.{IsGoodScan, scalar_at_good}
 use Rattle.text_trees.proofs.GoodPieces.{IsGoodPiece, plain_value_good, name_ascii, colon_utf8, flow_good}
@@ -36,10 +36,10 @@ behind_value_good line rest = by (at_end rest)
     by true = tt
     by false = (tt, tt)
 
-copy_good : (line column : ℕ) (bytes : List ℕ) → AreGood (copy_tokens line column bytes)
-copy_good line column bytes = by (has_name at_gap bytes)
+alias_good : (line column : ℕ) (bytes : List ℕ) → AreGood (alias_tokens line column bytes)
+alias_good line column bytes = by (has_name at_gap bytes)
   where
-    by : (t : Bool) → AreGood (if t then Copy line column (name_at bytes) ∷ behind_value line (after_name bytes) else refused line column odd.Syntax)
+    by : (t : Bool) → AreGood (if t then Alias line column (name_at bytes) ∷ behind_value line (after_name bytes) else refused line column odd.Syntax)
     by true = (tt, behind_value_good line (after_name bytes))
     by false = (tt, tt)
 
@@ -56,9 +56,9 @@ bar_good line column bytes = (tt, by (is_digit_first rest))
 indicated_good : (line column b : ℕ) (bytes : List ℕ) → IsUtf8 (b ∷ bytes) → AreGood (indicated line column b bytes)
 indicated_good line column b bytes u = by (is_bracket b) (b == 42) (b == 124)
   where
-    by : (p q r : Bool) → AreGood (if p then flow_tokens line column (b ∷ bytes) else (if q then copy_tokens line column bytes else (if r then bar_tokens line column bytes else refused line column odd.Syntax)))
+    by : (p q r : Bool) → AreGood (if p then flow_tokens line column (b ∷ bytes) else (if q then alias_tokens line column bytes else (if r then bar_tokens line column bytes else refused line column odd.Syntax)))
     by true q r = (flow_good (b ∷ bytes) u, behind_value_good line (drop (flow_at (b ∷ bytes)).len (b ∷ bytes)))
-    by false true r = copy_good line column bytes
+    by false true r = alias_good line column bytes
     by false false true = bar_good line column bytes
     by false false false = (tt, tt)
 
@@ -85,7 +85,7 @@ named_good : (line column : ℕ) (bytes : List ℕ) → IsUtf8 bytes → AreGood
 named_good line column [] u = tt
 named_good line column (b ∷ bytes) u = by (is_name_indicator b bytes) refl
   where
-    by : (t : Bool) → is_name_indicator b bytes ≡ t → AreGood (if t then Name line column (name_at bytes) ∷ behind_spaces (bare_value line) (column + (1 + name_len bytes)) (after_name bytes) else bare_value line column (b ∷ bytes))
+    by : (t : Bool) → is_name_indicator b bytes ≡ t → AreGood (if t then Anchor line column (name_at bytes) ∷ behind_spaces (bare_value line) (column + (1 + name_len bytes)) (after_name bytes) else bare_value line column (b ∷ bytes))
     by true e = (tt, bare_good line _ (after_spaces (after_name bytes)) (name_tail b bytes e u))
     by false e = bare_good line column (b ∷ bytes) u
 
@@ -128,7 +128,7 @@ last_node_good line column (b ∷ bytes) u = last_good line column b bytes u
 named_node_good : (line column b : ℕ) (bytes : List ℕ) → IsUtf8 (b ∷ bytes) → AreGood (named_node line column b bytes)
 named_node_good line column b bytes u = by (is_name_indicator b bytes) refl
   where
-    by : (t : Bool) → is_name_indicator b bytes ≡ t → AreGood (if t then Name line column (name_at bytes) ∷ behind_spaces (last_node line) (column + (1 + name_len bytes)) (after_name bytes) else last_tokens line column b bytes)
+    by : (t : Bool) → is_name_indicator b bytes ≡ t → AreGood (if t then Anchor line column (name_at bytes) ∷ behind_spaces (last_node line) (column + (1 + name_len bytes)) (after_name bytes) else last_tokens line column b bytes)
     by true e = (tt, last_node_good line _ (after_spaces (after_name bytes)) (name_tail b bytes e u))
     by false e = last_good line column b bytes u
 

@@ -4,8 +4,8 @@ use Rattle.std.specs.List.{list_all}
 use Rattle.std.proofs.Math.Utf8.{encode}
 use Rattle.std.proofs.lemmas.Bool.{and_parts, and_from}
 use Rattle.std.proofs.lemmas.Bool.Decides.{nat_tests}
-use Rattle.yaml_marks.specs.Scalars.{put_before, unescaped}
-use Rattle.yaml_marks.specs.declared.escapes.Escape.TheVariants.{Outside}
+use Rattle.yaml_tokens.specs.Scalars.{put_before, unescaped}
+use Rattle.yaml_tokens.specs.declared.escapes.Escape.TheVariants.{Outside}
 use Rattle.text_trees.proofs.Bytes.{is_inner, not_same, put_before_nil, put_before_append}
 
 -- a byte that stands for itself between quotes

@@ -2,13 +2,13 @@
 use Rattle.std.proofs.Common.{◌≡◌, ℕ, suc, ◌+◌, ◌<◌, ◌≤◌, Bool, true, false, ◌&&◌, ◌||◌, ◌==◌, if◌then◌else◌, List, [], ◌∷◌, length, get_or, take, drop, Option, Some, None, IfSome, IsUtf8, refl, sym, ap, subst, arith, one-add, inl, inr, ◌⊎◌, ⊎_elim, eqb-true}
 use Rattle.std.proofs.lemmas.Bool.{and_parts, or_cases, cases_lt, ne_eqb}
 use Rattle.std.proofs.lemmas.Str.{IsUtf8-drop, IsCharBoundary-after_ascii}
-use Rattle.yaml_marks.specs.Scalars.{at_gap, plain_ends, plain_len, plain_text, without_spaces, single_quoted, double_len, unescaped, single_scan, double_text, double_scan, bare_scan, scan_of, scalar_at, is_indicator, asks, is_unplain}
-use Rattle.yaml_marks.specs.Lines.{begins_with}
-use Rattle.yaml_marks.specs.Pieces.{cell_ends, cell_len, cell_text, is_separator, bare_cell, cell_scan, is_foreign_indicator, is_lone_indicator}
-use Rattle.yaml_marks.specs.declared.escapes.Escape.TheVariants.{Outside}
-use Rattle.yaml_marks.specs.declared.odd.Odd.TheVariants as odd
-use Rattle.yaml_marks.specs.declared.scan.Scan.{Scan}
-use Rattle.yaml_marks.specs.declared.scan.Scan.TheVariants.{Plain, Quoted, Refused}
+use Rattle.yaml_tokens.specs.Scalars.{at_gap, plain_ends, plain_len, plain_text, without_spaces, single_quoted, double_len, unescaped, single_scan, double_text, double_scan, bare_scan, scan_of, scalar_at, is_indicator, asks, is_unplain}
+use Rattle.yaml_tokens.specs.Lines.{begins_with}
+use Rattle.yaml_tokens.specs.Pieces.{cell_ends, cell_len, cell_text, is_separator, bare_cell, cell_scan, is_foreign_indicator, is_lone_indicator}
+use Rattle.yaml_tokens.specs.declared.escapes.Escape.TheVariants.{Outside}
+use Rattle.yaml_tokens.specs.declared.odd.Odd.TheVariants as odd
+use Rattle.yaml_tokens.specs.declared.scan.Scan.{Scan}
+use Rattle.yaml_tokens.specs.declared.scan.Scan.TheVariants.{Plain, Quoted, Refused}
 use Rattle.text_trees.proofs.Cuts.{utf8_tail, utf8_cut, without_spaces_utf8}
 use Rattle.text_trees.proofs.SingleQuotes.{IsGoodFound}
 use Rattle.text_trees.proofs.Escapes.{IsQuoteAt, double_len_at, text_single, text_unescaped}

@@ -5,7 +5,7 @@ use Rattle.std.specs.Char.{IsScalar}
 use Rattle.std.proofs.Math.Utf8.{scalar, scalars, encode}
 use Rattle.std.proofs.lemmas.Bool.{and_parts, and_from, cases_lt, ne_eqb}
 use Rattle.std.proofs.lemmas.Str.{IsUtf8-append, IsUtf8-encode, IsUtf8-nil, encode_ascii}
-use Rattle.yaml_marks.specs.Scalars.{holds_back, closes, single_part, with_part, single_quoted}
+use Rattle.yaml_tokens.specs.Scalars.{holds_back, closes, single_part, with_part, single_quoted}
 use Rattle.text_trees.proofs.Characters.{some_map, one_byte, is_high, encode_high, length_some, high_of}
 
 abbrev pub IsGoodFound : List ℕ → List ℕ × ℕ → Type 0

@@ -1,13 +1,13 @@
 -- The tree of a text is plain.
 use Rattle.std.proofs.Common.{◌≡◌, ℕ, Bool, true, false, ◌||◌, List, [], ◌∷◌, ◌++◌, Option, None, refl, sym, ◌∙◌, subst, arith, append_assoc, append-nil, true≢false}
-use Rattle.yaml_marks.specs.Lines.{lines_of}
-use Rattle.yaml_marks.specs.Tokens.{column_behind}
-use Rattle.yaml_marks.specs.declared.token.Token.{Token}
-use Rattle.yaml_marks.specs.declared.token.Token.TheVariants.{Dash, Key, Scalar, Name, Copy, Bar, Body, Form, OddToken}
+use Rattle.yaml_tokens.specs.Lines.{lines_of}
+use Rattle.yaml_tokens.specs.Tokens.{column_behind}
+use Rattle.yaml_tokens.specs.declared.token.Token.{Token}
+use Rattle.yaml_tokens.specs.declared.token.Token.TheVariants.{Dash, Key, Scalar, Anchor, Alias, Bar, Body, Form, OddToken}
 use Rattle.yaml_tree.specs.Flows.{Flow}
 use Rattle.yaml_tree.specs.Written.{Written, tokens, line_of, depth, is_head, is_leaf, is_bar, is_name, AreBodies, IsFlowOf, SameRows, StandsBelow}
 use Rattle.yaml_tree.specs.Written.Written.{nothing, leaf, literal, flowing, named, row}
-use Rattle.yaml_tree.specs.Said.{Said, Names, Meaning, flow_said, bodies_of, leaf_said, name_of, begun_block, row_behind, said, has_key, has_repeat, has_unknown}
+use Rattle.yaml_tree.specs.Said.{Said, Anchors, Meaning, flow_said, bodies_of, leaf_said, name_of, begun_block, row_behind, said, has_key, has_repeat, has_unknown}
 use Rattle.yaml_tree.specs.Said.Said.{null, text, unknown, sequence, mapping, with_item, with_pair}
 use Rattle.yaml_tree.specs.Tree.{IsTreeOf}
 use Rattle.yaml_merge.specs.Plainness.{are_items, are_pairs, IsPlain}
@@ -32,12 +32,12 @@ record IsRead (m : Meaning) (rest : List Token) : Type 0 where
   sound : IsSoundMeaning m
   left : LeftGood rest
 
-leaf_read : (token : Token) (names : Names) (rest : List Token) (column : Option ℕ) → is_leaf token ≡ true → AreGoodFrom column (token ∷ rest) → AreSound names → IsRead (leaf_said token names, names) rest
+leaf_read : (token : Token) (names : Anchors) (rest : List Token) (column : Option ℕ) → is_leaf token ≡ true → AreGoodFrom column (token ∷ rest) → AreSound names → IsRead (leaf_said token names, names) rest
 leaf_read (Scalar line at value) names rest column e g h = record { sound = (scalar_sound line value g.0, h); left = (column, g.1) }
-leaf_read (Copy line at n) names rest column e g h = record { sound = (copied_sound line n names h, h); left = (column, g) }
+leaf_read (Alias line at n) names rest column e g h = record { sound = (copied_sound line n names h, h); left = (column, g) }
 leaf_read (Dash line at) names rest column e g h = absurd (true≢false (sym e))
 leaf_read (Key line at key) names rest column e g h = absurd (true≢false (sym e))
-leaf_read (Name line at n) names rest column e g h = absurd (true≢false (sym e))
+leaf_read (Anchor line at n) names rest column e g h = absurd (true≢false (sym e))
 leaf_read (Bar line at chomp) names rest column e g h = absurd (true≢false (sym e))
 leaf_read (Body line at bytes) names rest column e g h = absurd (true≢false (sym e))
 leaf_read (Form line at pieces) names rest column e g h = absurd (true≢false (sym e))
@@ -50,42 +50,42 @@ bodies_stand bar (Body line at bytes ∷ lines) rest column b g = let more = bod
 bodies_stand bar (Dash line at ∷ lines) rest column b g = absurd (true≢false (sym b.0))
 bodies_stand bar (Key line at key ∷ lines) rest column b g = absurd (true≢false (sym b.0))
 bodies_stand bar (Scalar line at value ∷ lines) rest column b g = absurd (true≢false (sym b.0))
-bodies_stand bar (Name line at n ∷ lines) rest column b g = absurd (true≢false (sym b.0))
-bodies_stand bar (Copy line at n ∷ lines) rest column b g = absurd (true≢false (sym b.0))
+bodies_stand bar (Anchor line at n ∷ lines) rest column b g = absurd (true≢false (sym b.0))
+bodies_stand bar (Alias line at n ∷ lines) rest column b g = absurd (true≢false (sym b.0))
 bodies_stand bar (Bar line at chomp ∷ lines) rest column b g = absurd (true≢false (sym b.0))
 bodies_stand bar (Form line at pieces ∷ lines) rest column b g = absurd (true≢false (sym b.0))
 bodies_stand bar (OddToken line at why ∷ lines) rest column b g = absurd (true≢false (sym b.0))
 
-literal_read : (token : Token) (lines rest : List Token) (names : Names) (column : Option ℕ) → is_bar token ≡ true → AreBodies token lines → AreGoodFrom column (token ∷ (lines ++ rest)) → AreSound names
+literal_read : (token : Token) (lines rest : List Token) (names : Anchors) (column : Option ℕ) → is_bar token ≡ true → AreBodies token lines → AreGoodFrom column (token ∷ (lines ++ rest)) → AreSound names
     → IsRead (said (null 0) names (literal token lines)) rest
 literal_read (Bar line at chomp) lines rest names column e b g h = let k = bodies_stand (Bar line at chomp) lines rest None b g in record { sound = (block_utf8 chomp (bodies_of lines) k.0, h); left = k.1 }
 literal_read (Dash line at) lines rest names column e b g h = absurd (true≢false (sym e))
 literal_read (Key line at key) lines rest names column e b g h = absurd (true≢false (sym e))
 literal_read (Scalar line at value) lines rest names column e b g h = absurd (true≢false (sym e))
-literal_read (Name line at n) lines rest names column e b g h = absurd (true≢false (sym e))
-literal_read (Copy line at n) lines rest names column e b g h = absurd (true≢false (sym e))
+literal_read (Anchor line at n) lines rest names column e b g h = absurd (true≢false (sym e))
+literal_read (Alias line at n) lines rest names column e b g h = absurd (true≢false (sym e))
 literal_read (Body line at bytes) lines rest names column e b g h = absurd (true≢false (sym e))
 literal_read (Form line at pieces) lines rest names column e b g h = absurd (true≢false (sym e))
 literal_read (OddToken line at why) lines rest names column e b g h = absurd (true≢false (sym e))
 
-flow_read : (token : Token) (f : Flow) (none : Said) (rest : List Token) (names : Names) (column : Option ℕ) → IsFlowOf token f → AreGoodFrom column (token ∷ rest) → IsSound none → AreSound names
+flow_read : (token : Token) (f : Flow) (none : Said) (rest : List Token) (names : Anchors) (column : Option ℕ) → IsFlowOf token f → AreGoodFrom column (token ∷ rest) → IsSound none → AreSound names
     → IsRead (flow_said (line_of token) none names f) rest
 flow_read (Form line at pieces) f none rest names column s g n h = record { sound = form_sound f line none names s.1 (subst AreGood (sym s.0) g.0) n h; left = (column, g.1) }
 flow_read (Dash line at) f none rest names column s g n h = absurd s
 flow_read (Key line at key) f none rest names column s g n h = absurd s
 flow_read (Scalar line at value) f none rest names column s g n h = absurd s
-flow_read (Name line at n1) f none rest names column s g n h = absurd s
-flow_read (Copy line at n1) f none rest names column s g n h = absurd s
+flow_read (Anchor line at n1) f none rest names column s g n h = absurd s
+flow_read (Alias line at n1) f none rest names column s g n h = absurd s
 flow_read (Bar line at chomp) f none rest names column s g n h = absurd s
 flow_read (Body line at bytes) f none rest names column s g n h = absurd s
 flow_read (OddToken line at why) f none rest names column s g n h = absurd s
 
 name_left : (token : Token) (rest : List Token) (column : Option ℕ) → is_name token ≡ true → AreGoodFrom column (token ∷ rest) → AreGoodFrom column rest
-name_left (Name line at n) rest column e g = g
+name_left (Anchor line at n) rest column e g = g
 name_left (Dash line at) rest column e g = absurd (true≢false (sym e))
 name_left (Key line at key) rest column e g = absurd (true≢false (sym e))
 name_left (Scalar line at value) rest column e g = absurd (true≢false (sym e))
-name_left (Copy line at n) rest column e g = absurd (true≢false (sym e))
+name_left (Alias line at n) rest column e g = absurd (true≢false (sym e))
 name_left (Bar line at chomp) rest column e g = absurd (true≢false (sym e))
 name_left (Body line at bytes) rest column e g = absurd (true≢false (sym e))
 name_left (Form line at pieces) rest column e g = absurd (true≢false (sym e))
@@ -95,8 +95,8 @@ begun_rows : (head : Token) → is_head head ≡ true → AreRowsBehind head (be
 begun_rows (Dash line at) e = (refl, tt)
 begun_rows (Key line at key) e = (refl, tt)
 begun_rows (Scalar line at value) e = (tt, tt)
-begun_rows (Name line at n) e = (tt, tt)
-begun_rows (Copy line at n) e = (tt, tt)
+begun_rows (Anchor line at n) e = (tt, tt)
+begun_rows (Alias line at n) e = (tt, tt)
 begun_rows (Bar line at chomp) e = (tt, tt)
 begun_rows (Body line at bytes) e = (tt, tt)
 begun_rows (Form line at pieces) e = (tt, tt)
@@ -112,8 +112,8 @@ same_kind (Key line at key) (Dash other to) tree e f d h = absurd (omega (arith,
 same_kind (Key line at key) (Key other to second) tree e f d h = h
 same_kind (Key line at key) _ tree e f d h = tt
 same_kind (Scalar line at value) head tree e f d h = absurd (true≢false (sym e))
-same_kind (Name line at n) head tree e f d h = absurd (true≢false (sym e))
-same_kind (Copy line at n) head tree e f d h = absurd (true≢false (sym e))
+same_kind (Anchor line at n) head tree e f d h = absurd (true≢false (sym e))
+same_kind (Alias line at n) head tree e f d h = absurd (true≢false (sym e))
 same_kind (Bar line at chomp) head tree e f d h = absurd (true≢false (sym e))
 same_kind (Body line at bytes) head tree e f d h = absurd (true≢false (sym e))
 same_kind (Form line at pieces) head tree e f d h = absurd (true≢false (sym e))
@@ -126,7 +126,7 @@ row_kind (Key line at key) before m e h = h
 row_kind (Scalar line at value) before m e h = tt
 row_kind _ before m e h = tt
 
-rows_kind : (before : Written) (outer : ℕ) (head : Token) (names : Names) → SameRows before head → is_head head ≡ true → StandsBelow outer before → AreRowsBehind head (said (begun_block head) names before).0
+rows_kind : (before : Written) (outer : ℕ) (head : Token) (names : Anchors) → SameRows before head → is_head head ≡ true → StandsBelow outer before → AreRowsBehind head (said (begun_block head) names before).0
 rows_kind nothing outer head names s e b = (begun_rows head e).0
 rows_kind (leaf token) outer head names s e b = absurd s
 rows_kind (literal token lines) outer head names s e b = absurd s
@@ -140,20 +140,20 @@ rows_kind (row before first value) outer head names s e b =
 -- a head before good tokens
 record IsHead (head : Token) (rest : List Token) : Type 0 where
   left : LeftGood rest
-  put : (before value : Said) (names : Names) → AreRowsBehind head before → IsSound before → IsSound value → AreSound names → IsSoundMeaning (row_behind head before (value, names))
+  put : (before value : Said) (names : Anchors) → AreRowsBehind head before → IsSound before → IsSound value → AreSound names → IsSoundMeaning (row_behind head before (value, names))
 
 head_read : (head : Token) (rest : List Token) (column : Option ℕ) → is_head head ≡ true → AreGoodFrom column (head ∷ rest) → IsHead head rest
 head_read (Dash line at) rest column e g = record { left = (column, g); put = λ before value names k b v h. ((k, b, v), h) }
 head_read (Key line at key) rest column e g = record { left = (column, g.1); put = λ before value names k b v h. ((k, g.0, b, v), h) }
 head_read (Scalar line at value) rest column e g = absurd (true≢false (sym e))
-head_read (Name line at n) rest column e g = absurd (true≢false (sym e))
-head_read (Copy line at n) rest column e g = absurd (true≢false (sym e))
+head_read (Anchor line at n) rest column e g = absurd (true≢false (sym e))
+head_read (Alias line at n) rest column e g = absurd (true≢false (sym e))
 head_read (Bar line at chomp) rest column e g = absurd (true≢false (sym e))
 head_read (Body line at bytes) rest column e g = absurd (true≢false (sym e))
 head_read (Form line at pieces) rest column e g = absurd (true≢false (sym e))
 head_read (OddToken line at why) rest column e g = absurd (true≢false (sym e))
 
-said_read : (w : Written) (outer : ℕ) (none : Said) (names : Names) (rest : List Token) (column : Option ℕ) → StandsBelow outer w → AreGoodFrom column (tokens w ++ rest) → IsSound none → AreSound names → IsRead (said none names w) rest
+said_read : (w : Written) (outer : ℕ) (none : Said) (names : Anchors) (rest : List Token) (column : Option ℕ) → StandsBelow outer w → AreGoodFrom column (tokens w ++ rest) → IsSound none → AreSound names → IsRead (said none names w) rest
 said_read nothing outer none names rest column s g n h = record { sound = (n, h); left = (column, g) }
 said_read (leaf token) outer none names rest column s g n h = leaf_read token names rest column s.0 g h
 said_read (literal token lines) outer none names rest column s g n h = literal_read token lines rest names column s.0 s.2 g h

@@ -3,12 +3,12 @@ use Rattle.std.proofs.Common.{◌≡◌, ℕ, ◌<◌, Bool, true, false, cond, 
 use Rattle.std.proofs.lemmas.Bool.{cond-true, cond-false}
 use Rattle.sim_base.specs.Refusals.{◌>>=◌}
 use Rattle.yaml_tree.specs.inside.Stack.{PopsWhere, one_node}
-use Rattle.yaml_tree.specs.inside.Builder.{settled_on, closed, valued, put_node, with_node, take_piece, take_pieces, take_token, take_tokens, Steps}
+use Rattle.yaml_tree.specs.inside.Builder.{closed_deeper_on, closed, valued, put_node, with_node, take_piece, take_pieces, take_token, take_tokens, Steps}
 use Rattle.yaml_tree.specs.declared.node.Value.TheVariants.{Null}
 use Rattle.yaml_tree.specs.declared.stack.Open.{Open}
 use Rattle.yaml_tree.specs.declared.builder.Builder.{Builder}
-use Rattle.yaml_marks.specs.declared.token.Token.{Token}
-use Rattle.yaml_marks.specs.declared.piece.Piece.{Piece}
+use Rattle.yaml_tokens.specs.declared.token.Token.{Token}
+use Rattle.yaml_tokens.specs.declared.piece.Piece.{Piece}
 use Rattle.yaml_tree.specs.declared.fault.FaultKind.{FaultKind}
 use Rattle.yaml_tree.specs.declared.fault.Stop.{Stop}
 use Rattle.yaml_tree.specs.declared.fault.Stop.TheVariants as stop
@@ -26,21 +26,21 @@ pub open_rows_closed : (o : Open) (b : Builder) → (closed o b).open_rows ≡ b
 unfolding closed put_node with_node
 open_rows_closed o b = open_rows_valued o.line b
 
-settled_on_first : (depth : ℕ) (o : Open) (os : List Open) (b : Builder) → nat_lt depth o.depth ≡ true → settled_on depth (o ∷ os) b ≡ settled_on depth os (closed o (record b { open_rows = os }))
-unfolding settled_on
-settled_on_first depth o os b e = cond-true (nat_lt depth o.depth) _ _ e
+closed_deeper_on_first : (depth : ℕ) (o : Open) (os : List Open) (b : Builder) → nat_lt depth o.depth ≡ true → closed_deeper_on depth (o ∷ os) b ≡ closed_deeper_on depth os (closed o (record b { open_rows = os }))
+unfolding closed_deeper_on
+closed_deeper_on_first depth o os b e = cond-true (nat_lt depth o.depth) _ _ e
 
-pub settled_step : (depth : ℕ) (b after : Builder) (o : Open) (new : List Open) → PopsWhere (λ p. nat_lt depth p.depth) b.open_rows (Some o) new → after ≡ closed o (record b { open_rows = new }) → (settled_on depth after.open_rows after ≡ settled_on depth b.open_rows b) × (length after.open_rows < length b.open_rows)
-settled_step depth b after o new pops e =
+pub closed_deeper_step : (depth : ℕ) (b after : Builder) (o : Open) (new : List Open) → PopsWhere (λ p. nat_lt depth p.depth) b.open_rows (Some o) new → after ≡ closed o (record b { open_rows = new }) → (closed_deeper_on depth after.open_rows after ≡ closed_deeper_on depth b.open_rows b) × (length after.open_rows < length b.open_rows)
+closed_deeper_step depth b after o new pops e =
     let rest : after.open_rows ≡ new = ap (λ x. x.open_rows) e ∙ open_rows_closed o (record b { open_rows = new }) in
     let longer : length b.open_rows ≡ length (o ∷ new) = ap length pops.0 in
     let same : length after.open_rows ≡ length new = ap length rest in
-    (ap (λ os. settled_on depth os after) rest ∙ ap (settled_on depth new) e ∙ sym (settled_on_first depth o new b pops.1) ∙ ap (λ os. settled_on depth os b) (sym pops.0), omega arith)
+    (ap (λ os. closed_deeper_on depth os after) rest ∙ ap (closed_deeper_on depth new) e ∙ sym (closed_deeper_on_first depth o new b pops.1) ∙ ap (λ os. closed_deeper_on depth os b) (sym pops.0), omega arith)
 
-pub settled_on_end : (depth : ℕ) (old new : List Open) (b : Builder) → b.open_rows ≡ old → PopsWhere (λ p. nat_lt depth p.depth) old None new → record b { open_rows = new } ≡ settled_on depth old b
-unfolding settled_on
-settled_on_end depth [] new b at pops = ap (λ os. record b { open_rows = os }) (pops ∙ sym at)
-settled_on_end depth (o ∷ os) new b at pops = ap (λ os. record b { open_rows = os }) (pops.0 ∙ sym at) ∙ sym (cond-false (nat_lt depth o.depth) _ _ pops.1)
+pub closed_deeper_on_end : (depth : ℕ) (old new : List Open) (b : Builder) → b.open_rows ≡ old → PopsWhere (λ p. nat_lt depth p.depth) old None new → record b { open_rows = new } ≡ closed_deeper_on depth old b
+unfolding closed_deeper_on
+closed_deeper_on_end depth [] new b at pops = ap (λ os. record b { open_rows = os }) (pops ∙ sym at)
+closed_deeper_on_end depth (o ∷ os) new b at pops = ap (λ os. record b { open_rows = os }) (pops.0 ∙ sym at) ∙ sym (cond-false (nat_lt depth o.depth) _ _ pops.1)
 
 -- ---- pieces
 

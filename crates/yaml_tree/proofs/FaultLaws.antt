@@ -3,21 +3,21 @@ use Rattle.std.proofs.Common.{◌≡◌, ℕ, ◌<◌, List, [], ◌∷◌, ◌+
 use Rattle.std.proofs.lemmas.Option.{same_Some}
 use Rattle.std.proofs.lemmas.Bool.{cond-true, cond-false, lt-ltb, le-ltb, cases_order}
 use Rattle.std.specs.Str.{IsUtf8}
-use Rattle.yaml_marks.specs.Lines.{lines_of}
+use Rattle.yaml_tokens.specs.Lines.{lines_of}
 use Rattle.yaml_tree.specs.Flows.{SpellsFlow, FlowMayBegin, IsPieceKind, IsFirstMisfit, IsFlowMisfit}
-use Rattle.yaml_marks.specs.Tokens.{tokens_of}
+use Rattle.yaml_tokens.specs.Tokens.{tokens_of}
 use Rattle.yaml_tree.specs.Written.{Spells}
 use Rattle.yaml_tree.specs.Said.{Said, has_repeat, has_unknown, levels, size}
 use Rattle.yaml_tree.specs.inside.Stack.{cut, measured}
 use Rattle.yaml_tree.specs.Tree.{Says, MayBegin, ValueMayBegin, KeyMayBegin, IsKindAt, IsMisfit, IsRefused, IsFirstRefused, line_of_break, IsFaultOf}
 use Rattle.yaml_tree.specs.inside.Builder.{fault_of}
-use Rattle.yaml_marks.specs.declared.token.Token.{Token}
-use Rattle.yaml_marks.specs.declared.token.Token.TheVariants.{Dash, Key, Scalar, Name, Copy, Bar, Body, Form, OddToken}
-use Rattle.yaml_marks.specs.declared.piece.Piece.{Piece}
-use Rattle.yaml_marks.specs.declared.piece.Piece.TheVariants.{Opening, Closing, Comma, CellKey, CellScalar, CellName, CellCopy, OddPiece}
+use Rattle.yaml_tokens.specs.declared.token.Token.{Token}
+use Rattle.yaml_tokens.specs.declared.token.Token.TheVariants.{Dash, Key, Scalar, Anchor, Alias, Bar, Body, Form, OddToken}
+use Rattle.yaml_tokens.specs.declared.piece.Piece.{Piece}
+use Rattle.yaml_tokens.specs.declared.piece.Piece.TheVariants.{Opening, Closing, Comma, CellKey, CellScalar, CellAnchor, CellAlias, OddPiece}
 use Rattle.yaml_tree.specs.declared.fault.FaultKind.{FaultKind}
 use Rattle.yaml_tree.specs.declared.fault.FaultKind.TheVariants.{NotUtf8, Syntax, Unsupported, Duplicate, Alias, TooDeep, TooManyNodes}
-use Rattle.yaml_marks.specs.declared.odd.Odd.TheVariants as odd
+use Rattle.yaml_tokens.specs.declared.odd.Odd.TheVariants as odd
 use Rattle.yaml_tree.proofs.WrittenLaws.{FlowReader}
 use Rattle.yaml_tree.proofs.RuleLaws.{one_tree, misfit_no_tree, refused_no_tree}
 use Rattle.yaml_tree.proofs.ReadingLaws.{cut_over}
@@ -74,8 +74,8 @@ piece_kind_once front (CellScalar bytes) rest k l (inl a) (inr b) = absurd (b.0 
 piece_kind_once front (CellScalar bytes) rest k l (inr a) (inl b) = absurd (a.0 b.0)
 piece_kind_once front (CellScalar bytes) rest k l (inr a) (inr b) = a.1 ∙ sym b.1
 piece_kind_once front (OddPiece odd.Unkeyed) rest k l a b = a ∙ sym b
-piece_kind_once front (CellName name) rest k l a b = a ∙ sym b
-piece_kind_once front (CellCopy name) rest k l a b = a ∙ sym b
+piece_kind_once front (CellAnchor name) rest k l a b = a ∙ sym b
+piece_kind_once front (CellAlias name) rest k l a b = a ∙ sym b
 piece_kind_once front (OddPiece odd.Syntax) rest k l a b = a ∙ sym b
 piece_kind_once front (OddPiece odd.Unsupported) rest k l a b = a ∙ sym b
 piece_kind_once front (OddPiece odd.Indicator) rest k l a b = decided_once _ k l (decided_piece front rest k a) (decided_piece front rest l b)
@@ -125,8 +125,8 @@ kind_once : (front : List Token) (m : Token) (k l : FaultKind) → IsKindAt fron
 kind_once front (Dash line column) k l a b = a ∙ sym b
 kind_once front (Key line column bytes) k l a b = a ∙ sym b
 kind_once front (Scalar line column bytes) k l a b = a ∙ sym b
-kind_once front (Name line column bytes) k l a b = a ∙ sym b
-kind_once front (Copy line column bytes) k l a b = a ∙ sym b
+kind_once front (Anchor line column bytes) k l a b = a ∙ sym b
+kind_once front (Alias line column bytes) k l a b = a ∙ sym b
 kind_once front (Bar line column chomp) k l a b = a ∙ sym b
 kind_once front (Body line column bytes) k l a b = a ∙ sym b
 kind_once front (OddToken line column odd.Syntax) k l a b = a ∙ sym b

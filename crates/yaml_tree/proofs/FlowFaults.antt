@@ -4,14 +4,14 @@ use Rattle.std.proofs.lemmas.Option.{none-some, same_Some}
 use Rattle.std.proofs.lemmas.Bool.{false≢true}
 use Rattle.std.proofs.lemmas.List.{append-nil}
 use Rattle.std.specs.Option.{option_and_then}
-use Rattle.yaml_marks.specs.declared.piece.Bracket.{Bracket}
-use Rattle.yaml_marks.specs.declared.piece.Piece.{Piece}
-use Rattle.yaml_marks.specs.declared.piece.Bracket.TheVariants.{Square, Curly}
-use Rattle.yaml_marks.specs.declared.piece.Piece.TheVariants.{Opening, Closing, Comma, CellKey, CellScalar, CellName, CellCopy, OddPiece}
+use Rattle.yaml_tokens.specs.declared.piece.Bracket.{Bracket}
+use Rattle.yaml_tokens.specs.declared.piece.Piece.{Piece}
+use Rattle.yaml_tokens.specs.declared.piece.Bracket.TheVariants.{Square, Curly}
+use Rattle.yaml_tokens.specs.declared.piece.Piece.TheVariants.{Opening, Closing, Comma, CellKey, CellScalar, CellAnchor, CellAlias, OddPiece}
 use Rattle.yaml_tree.specs.declared.shape.Want.TheVariants as want
 use Rattle.yaml_tree.specs.declared.shape.Shape.{Shape as Outlined}
 use Rattle.yaml_tree.specs.declared.fault.FaultKind.TheVariants.{Syntax, Unsupported}
-use Rattle.yaml_marks.specs.declared.odd.Odd.TheVariants as odd
+use Rattle.yaml_tokens.specs.declared.odd.Odd.TheVariants as odd
 use Rattle.yaml_tree.specs.Flows.{Flow, has_cells, kind_behind_key, FlowMayBegin, IsPieceKind, IsFirstMisfit, IsFlowMisfit}
 use Rattle.yaml_tree.specs.inside.Outline.{closed as outlined, takes_piece, takes_value, takes_key, behind, piece_fault, is_done, fault_from, flow_fault}
 use Rattle.yaml_tree.proofs.Shapes.{CellPlace, Slot, Shape, bracket_of, closed, closed_by, end_piece, named_piece, value_piece, cell_piece, begun_form, with_piece, with_pieces, filled}
@@ -54,8 +54,8 @@ end_steps (Closing Curly) Square cells outer = refl
 end_steps (Opening other) bracket cells outer = refl
 end_steps (CellKey text) bracket cells outer = refl
 end_steps (CellScalar text) bracket cells outer = refl
-end_steps (CellName text) bracket cells outer = refl
-end_steps (CellCopy text) bracket cells outer = refl
+end_steps (CellAnchor text) bracket cells outer = refl
+end_steps (CellAlias text) bracket cells outer = refl
 end_steps (OddPiece why) bracket cells outer = refl
 
 named_closing : (other bracket : Bracket) (value : Flow) (place : CellPlace) (name : List ℕ) (outer : List Slot) → bracket_of place ≡ bracket → Steps (Closing other) (named_next place name outer) (closed_by other bracket value outer) (takes_piece (Closing other) (record { want = want.Named; brackets = bracket ∷ brackets_of outer }))
@@ -68,17 +68,17 @@ named_steps : (piece : Piece) (place : CellPlace) (name : List ℕ) (outer : Lis
 named_steps (Opening bracket) place name outer = (refl, refl)
 named_steps (CellScalar text) place name outer = (refl, refl)
 named_steps Comma place name outer = (refl, refl)
-named_steps (Closing other) place name outer = named_closing other (bracket_of place) (form (bracket_of place) (filled (called (CellName name) absent) place) false) place name outer refl
+named_steps (Closing other) place name outer = named_closing other (bracket_of place) (form (bracket_of place) (filled (called (CellAnchor name) absent) place) false) place name outer refl
 named_steps (CellKey text) place name outer = refl
-named_steps (CellName text) place name outer = refl
-named_steps (CellCopy text) place name outer = refl
+named_steps (CellAnchor text) place name outer = refl
+named_steps (CellAlias text) place name outer = refl
 named_steps (OddPiece why) place name outer = refl
 
 value_steps : (piece : Piece) (cells : Flow) (key : List ℕ) (outer : List Slot) → Steps piece (value_next cells key outer) (value_piece piece (behind_key cells key) outer) (takes_piece piece (erased (value_next cells key outer)))
 value_steps (Opening bracket) cells key outer = (refl, refl)
 value_steps (CellScalar text) cells key outer = (refl, refl)
-value_steps (CellName text) cells key outer = (refl, refl)
-value_steps (CellCopy text) cells key outer = (refl, refl)
+value_steps (CellAnchor text) cells key outer = (refl, refl)
+value_steps (CellAlias text) cells key outer = (refl, refl)
 value_steps Comma cells key outer = refl
 value_steps (Closing other) cells key outer = refl
 value_steps (CellKey text) cells key outer = refl
@@ -95,10 +95,10 @@ cell_steps (CellKey text) Square cells outer = refl
 cell_steps (CellKey text) Curly cells outer = (refl, refl)
 cell_steps (CellScalar text) Square cells outer = (refl, refl)
 cell_steps (CellScalar text) Curly cells outer = refl
-cell_steps (CellName text) Square cells outer = (refl, refl)
-cell_steps (CellName text) Curly cells outer = refl
-cell_steps (CellCopy text) Square cells outer = (refl, refl)
-cell_steps (CellCopy text) Curly cells outer = refl
+cell_steps (CellAnchor text) Square cells outer = (refl, refl)
+cell_steps (CellAnchor text) Curly cells outer = refl
+cell_steps (CellAlias text) Square cells outer = (refl, refl)
+cell_steps (CellAlias text) Curly cells outer = refl
 cell_steps Comma Square cells outer = refl
 cell_steps Comma Curly cells outer = refl
 cell_steps (OddPiece why) Square cells outer = refl
@@ -110,8 +110,8 @@ begun_steps (Closing bracket) = refl
 begun_steps Comma = refl
 begun_steps (CellKey text) = refl
 begun_steps (CellScalar text) = refl
-begun_steps (CellName text) = refl
-begun_steps (CellCopy text) = refl
+begun_steps (CellAnchor text) = refl
+begun_steps (CellAlias text) = refl
 begun_steps (OddPiece why) = refl
 
 done_steps : (piece : Piece) (value : Flow) → takes_piece piece (erased (done value)) ≡ false
@@ -120,8 +120,8 @@ done_steps (Closing bracket) value = refl
 done_steps Comma value = refl
 done_steps (CellKey text) value = refl
 done_steps (CellScalar text) value = refl
-done_steps (CellName text) value = refl
-done_steps (CellCopy text) value = refl
+done_steps (CellAnchor text) value = refl
+done_steps (CellAlias text) value = refl
 done_steps (OddPiece why) value = refl
 
 pub piece_steps : (piece : Piece) (old : Shape) → Steps piece old (with_piece piece old) (takes_piece piece (erased old))
@@ -170,8 +170,8 @@ kind_of front (Closing bracket) rest shape e = refl
 kind_of front Comma rest shape e = refl
 kind_of front (CellKey text) rest shape e = refl
 kind_of front (CellScalar text) rest shape e = scalar_kind front text rest shape e
-kind_of front (CellName text) rest shape e = refl
-kind_of front (CellCopy text) rest shape e = refl
+kind_of front (CellAnchor text) rest shape e = refl
+kind_of front (CellAlias text) rest shape e = refl
 kind_of front (OddPiece odd.Unkeyed) rest shape e = refl
 kind_of front (OddPiece odd.Syntax) rest shape e = refl
 kind_of front (OddPiece odd.Unsupported) rest shape e = refl

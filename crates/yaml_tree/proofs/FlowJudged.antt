@@ -2,7 +2,7 @@
 use Rattle.std.specs.Prelude.{List, Option, Some, None}
 use Rattle.yaml_tree.specs.Flows.{Flow, SpellsFlow, IsFlowMisfit}
 use Rattle.yaml_tree.specs.inside.Outline.{flow_fault}
-use Rattle.yaml_marks.specs.declared.piece.Piece.{Piece}
+use Rattle.yaml_tokens.specs.declared.piece.Piece.{Piece}
 use Rattle.yaml_tree.specs.declared.fault.FaultKind.{FaultKind}
 
 -- where no fault was found the pieces are a flow form's, and where one was they are none's, for this reason

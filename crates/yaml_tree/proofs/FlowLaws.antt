@@ -4,10 +4,10 @@ use Rattle.std.proofs.lemmas.Option.{none-some, same_Some, cond_some}
 use Rattle.std.proofs.lemmas.Bool.{false≢true}
 use Rattle.std.proofs.lemmas.List.{append-nil}
 use Rattle.std.specs.Option.{option_and_then}
-use Rattle.yaml_marks.specs.declared.piece.Bracket.{Bracket}
-use Rattle.yaml_marks.specs.declared.piece.Piece.{Piece}
-use Rattle.yaml_marks.specs.declared.piece.Bracket.TheVariants.{Square, Curly}
-use Rattle.yaml_marks.specs.declared.piece.Piece.TheVariants.{Opening, Closing, Comma, CellKey, CellScalar, CellName, CellCopy, OddPiece}
+use Rattle.yaml_tokens.specs.declared.piece.Bracket.{Bracket}
+use Rattle.yaml_tokens.specs.declared.piece.Piece.{Piece}
+use Rattle.yaml_tokens.specs.declared.piece.Bracket.TheVariants.{Square, Curly}
+use Rattle.yaml_tokens.specs.declared.piece.Piece.TheVariants.{Opening, Closing, Comma, CellKey, CellScalar, CellAnchor, CellAlias, OddPiece}
 use Rattle.yaml_tree.specs.Flows.{Flow, spelling, comma_if, has_cells, is_cell_word, is_cell_key, is_cell_name, may_be_called, IsValue, AreCells, IsForm, SpellsFlow, FlowMayBegin}
 use Rattle.yaml_tree.specs.Flows.Flow.{absent, word, called, item, pair, form}
 use Rattle.yaml_tree.proofs.Lists.{chained}
@@ -28,7 +28,7 @@ before_value (behind_key cells key) rest = before_cell cells (CellKey key ∷ re
 
 abbrev pub before_named : Option (List ℕ) → List Piece → List Piece
 before_named None rest = rest
-before_named (Some name) rest = CellName name ∷ rest
+before_named (Some name) rest = CellAnchor name ∷ rest
 
 abbrev pub before_inner : List Slot → List Piece → List Piece
 before_inner [] rest = rest
@@ -38,7 +38,7 @@ abbrev pub so_far : Shape → List Piece → List Piece
 so_far start rest = rest
 so_far (cell_next bracket cells outer) rest = before_inner outer (Opening bracket ∷ before_cell cells rest)
 so_far (value_next cells key outer) rest = before_inner outer (Opening Curly ∷ before_cell cells (CellKey key ∷ rest))
-so_far (named_next place name outer) rest = before_inner outer (Opening (bracket_of place) ∷ before_value place (CellName name ∷ rest))
+so_far (named_next place name outer) rest = before_inner outer (Opening (bracket_of place) ∷ before_value place (CellAnchor name ∷ rest))
 so_far (end_next bracket cells outer) rest = before_inner outer (Opening bracket ∷ (spelling cells ++ rest))
 so_far (done value) rest = spelling value ++ rest
 
@@ -120,26 +120,26 @@ end_goes_on (Closing other) bracket cells outer new e good = let c = cond_some (
 end_goes_on (Opening bracket) _ cells outer new e good = absurd (none-some new e)
 end_goes_on (CellKey text) bracket cells outer new e good = absurd (none-some new e)
 end_goes_on (CellScalar text) bracket cells outer new e good = absurd (none-some new e)
-end_goes_on (CellName text) bracket cells outer new e good = absurd (none-some new e)
-end_goes_on (CellCopy text) bracket cells outer new e good = absurd (none-some new e)
+end_goes_on (CellAnchor text) bracket cells outer new e good = absurd (none-some new e)
+end_goes_on (CellAlias text) bracket cells outer new e good = absurd (none-some new e)
 end_goes_on (OddPiece why) bracket cells outer new e good = absurd (none-some new e)
 
 put_goes_on : (value : Flow) (place : CellPlace) (outer : List Slot) → IsValue value → GoodPlace place → GoodSlots outer → GoodShape (put_value value place outer) × ((rest : List Piece) → so_far (put_value value place outer) rest ≡ before_inner outer (Opening (bracket_of place) ∷ before_value place (spelling value ++ rest)))
 put_goes_on value place outer is at around = (good_put_value value place outer is at around, so_far_put_value value place outer)
 
-named_end_goes_on : (piece : Piece) (place : CellPlace) (name : List ℕ) (outer : List Slot) (new : Shape) → end_piece piece (bracket_of place) (filled (called (CellName name) absent) place) outer ≡ Some new → GoodPlace place → GoodSlots outer → GoesOn piece (named_next place name outer) new
-named_end_goes_on piece place name outer new e at around = let v = called (CellName name) absent in
+named_end_goes_on : (piece : Piece) (place : CellPlace) (name : List ℕ) (outer : List Slot) (new : Shape) → end_piece piece (bracket_of place) (filled (called (CellAnchor name) absent) place) outer ≡ Some new → GoodPlace place → GoodSlots outer → GoesOn piece (named_next place name outer) new
+named_end_goes_on piece place name outer new e at around = let v = called (CellAnchor name) absent in
     let g = end_goes_on piece (bracket_of place) (filled v place) outer new e (good_put_value v place outer refl at around) in
     (g.0, λ rest. g.1 rest ∙ so_far_put_value v place outer (piece ∷ rest))
 
 named_goes_on : (piece : Piece) (place : CellPlace) (name : List ℕ) (outer : List Slot) (new : Shape) → named_piece piece place name outer ≡ Some new → GoodShape (named_next place name outer) → GoesOn piece (named_next place name outer) new
 named_goes_on (Opening bracket) place name outer new e good = subst (GoesOn (Opening bracket) (named_next place name outer)) (same_Some _ _ e) ((tt, (good.0, good.1)), λ rest. refl)
-named_goes_on (CellScalar text) place name outer new e good = subst (GoesOn (CellScalar text) (named_next place name outer)) (same_Some _ _ e) (put_goes_on (called (CellName name) (word (CellScalar text))) place outer (refl, refl, refl) good.0 good.1)
+named_goes_on (CellScalar text) place name outer new e good = subst (GoesOn (CellScalar text) (named_next place name outer)) (same_Some _ _ e) (put_goes_on (called (CellAnchor name) (word (CellScalar text))) place outer (refl, refl, refl) good.0 good.1)
 named_goes_on Comma place name outer new e good = named_end_goes_on Comma place name outer new e good.0 good.1
 named_goes_on (Closing other) place name outer new e good = named_end_goes_on (Closing other) place name outer new e good.0 good.1
 named_goes_on (CellKey text) place name outer new e good = absurd (none-some new e)
-named_goes_on (CellName text) place name outer new e good = absurd (none-some new e)
-named_goes_on (CellCopy text) place name outer new e good = absurd (none-some new e)
+named_goes_on (CellAnchor text) place name outer new e good = absurd (none-some new e)
+named_goes_on (CellAlias text) place name outer new e good = absurd (none-some new e)
 named_goes_on (OddPiece why) place name outer new e good = absurd (none-some new e)
 
 -- where a value comes
@@ -155,8 +155,8 @@ so_far_waiting (behind_key cells key) outer rest = refl
 value_goes_on : (piece : Piece) (place : CellPlace) (outer : List Slot) (new : Shape) → value_piece piece place outer ≡ Some new → GoodPlace place → GoodSlots outer → GoodShape new × ((rest : List Piece) → so_far new rest ≡ before_inner outer (Opening (bracket_of place) ∷ before_value place (piece ∷ rest)))
 value_goes_on (Opening bracket) place outer new e at around = subst (λ s. GoodShape s × ((rest : List Piece) → so_far s rest ≡ before_inner outer (Opening (bracket_of place) ∷ before_value place (Opening bracket ∷ rest)))) (same_Some _ _ e) ((tt, (at, around)), λ rest. refl)
 value_goes_on (CellScalar text) place outer new e at around = subst (λ s. GoodShape s × ((rest : List Piece) → so_far s rest ≡ before_inner outer (Opening (bracket_of place) ∷ before_value place (CellScalar text ∷ rest)))) (same_Some _ _ e) (put_goes_on (word (CellScalar text)) place outer refl at around)
-value_goes_on (CellName name) place outer new e at around = subst (λ s. GoodShape s × ((rest : List Piece) → so_far s rest ≡ before_inner outer (Opening (bracket_of place) ∷ before_value place (CellName name ∷ rest)))) (same_Some _ _ e) ((at, around), λ rest. refl)
-value_goes_on (CellCopy name) place outer new e at around = subst (λ s. GoodShape s × ((rest : List Piece) → so_far s rest ≡ before_inner outer (Opening (bracket_of place) ∷ before_value place (CellCopy name ∷ rest)))) (same_Some _ _ e) (put_goes_on (word (CellCopy name)) place outer refl at around)
+value_goes_on (CellAnchor name) place outer new e at around = subst (λ s. GoodShape s × ((rest : List Piece) → so_far s rest ≡ before_inner outer (Opening (bracket_of place) ∷ before_value place (CellAnchor name ∷ rest)))) (same_Some _ _ e) ((at, around), λ rest. refl)
+value_goes_on (CellAlias name) place outer new e at around = subst (λ s. GoodShape s × ((rest : List Piece) → so_far s rest ≡ before_inner outer (Opening (bracket_of place) ∷ before_value place (CellAlias name ∷ rest)))) (same_Some _ _ e) (put_goes_on (word (CellAlias name)) place outer refl at around)
 value_goes_on Comma place outer new e at around = absurd (none-some new e)
 value_goes_on (Closing other) place outer new e at around = absurd (none-some new e)
 value_goes_on (CellKey text) place outer new e at around = absurd (none-some new e)
@@ -168,8 +168,8 @@ key_goes_on (Opening bracket) cells outer new e are around = absurd (none-some n
 key_goes_on (Closing bracket) cells outer new e are around = absurd (none-some new e)
 key_goes_on Comma cells outer new e are around = absurd (none-some new e)
 key_goes_on (CellScalar text) cells outer new e are around = absurd (none-some new e)
-key_goes_on (CellName text) cells outer new e are around = absurd (none-some new e)
-key_goes_on (CellCopy text) cells outer new e are around = absurd (none-some new e)
+key_goes_on (CellAnchor text) cells outer new e are around = absurd (none-some new e)
+key_goes_on (CellAlias text) cells outer new e are around = absurd (none-some new e)
 key_goes_on (OddPiece why) cells outer new e are around = absurd (none-some new e)
 
 inner_goes_on : (piece : Piece) (bracket : Bracket) (cells : Flow) (outer : List Slot) (new : Shape) → inner_piece piece bracket cells outer ≡ Some new → GoodShape (cell_next bracket cells outer) → GoesOn piece (cell_next bracket cells outer) new
@@ -184,8 +184,8 @@ cell_goes_on (Opening other) bracket cells outer new e good = inner_goes_on (Ope
 cell_goes_on Comma bracket cells outer new e good = inner_goes_on Comma bracket cells outer new e good
 cell_goes_on (CellKey text) bracket cells outer new e good = inner_goes_on (CellKey text) bracket cells outer new e good
 cell_goes_on (CellScalar text) bracket cells outer new e good = inner_goes_on (CellScalar text) bracket cells outer new e good
-cell_goes_on (CellName text) bracket cells outer new e good = inner_goes_on (CellName text) bracket cells outer new e good
-cell_goes_on (CellCopy text) bracket cells outer new e good = inner_goes_on (CellCopy text) bracket cells outer new e good
+cell_goes_on (CellAnchor text) bracket cells outer new e good = inner_goes_on (CellAnchor text) bracket cells outer new e good
+cell_goes_on (CellAlias text) bracket cells outer new e good = inner_goes_on (CellAlias text) bracket cells outer new e good
 cell_goes_on (OddPiece why) bracket cells outer new e good = inner_goes_on (OddPiece why) bracket cells outer new e good
 
 begun_goes_on : (piece : Piece) (new : Shape) → begun_form piece ≡ Some new → GoesOn piece start new
@@ -194,8 +194,8 @@ begun_goes_on (Closing bracket) new e = absurd (none-some new e)
 begun_goes_on Comma new e = absurd (none-some new e)
 begun_goes_on (CellKey text) new e = absurd (none-some new e)
 begun_goes_on (CellScalar text) new e = absurd (none-some new e)
-begun_goes_on (CellName text) new e = absurd (none-some new e)
-begun_goes_on (CellCopy text) new e = absurd (none-some new e)
+begun_goes_on (CellAnchor text) new e = absurd (none-some new e)
+begun_goes_on (CellAlias text) new e = absurd (none-some new e)
 begun_goes_on (OddPiece why) new e = absurd (none-some new e)
 
 pub piece_goes_on : (piece : Piece) (old new : Shape) → with_piece piece old ≡ Some new → GoodShape old → GoesOn piece old new
@@ -291,24 +291,24 @@ pair_read before key value read_before read_value outer rest ends =
 word_read : (piece : Piece) → is_cell_word piece ≡ true → ValueIsRead (word piece)
 word_read (CellScalar text) is (behind_items cells) outer rest ends = refl
 word_read (CellScalar text) is (behind_key cells key) outer rest ends = refl
-word_read (CellCopy name) is (behind_items cells) outer rest ends = refl
-word_read (CellCopy name) is (behind_key cells key) outer rest ends = refl
+word_read (CellAlias name) is (behind_items cells) outer rest ends = refl
+word_read (CellAlias name) is (behind_key cells key) outer rest ends = refl
 word_read (Opening bracket) is place outer rest ends = absurd (false≢true is)
 word_read (Closing bracket) is place outer rest ends = absurd (false≢true is)
 word_read Comma is place outer rest ends = absurd (false≢true is)
 word_read (CellKey text) is place outer rest ends = absurd (false≢true is)
-word_read (CellName text) is place outer rest ends = absurd (false≢true is)
+word_read (CellAnchor text) is place outer rest ends = absurd (false≢true is)
 word_read (OddPiece why) is place outer rest ends = absurd (false≢true is)
 
 -- a value behind its name
 abbrev pub NamedIsRead : Flow → Type 0
-NamedIsRead value = (name : List ℕ) (place : CellPlace) (outer : List Slot) (rest : List Piece) → Ends rest → with_pieces (spelling value ++ rest) (named_next place name outer) ≡ with_pieces rest (put_value (called (CellName name) value) place outer)
+NamedIsRead value = (name : List ℕ) (place : CellPlace) (outer : List Slot) (rest : List Piece) → Ends rest → with_pieces (spelling value ++ rest) (named_next place name outer) ≡ with_pieces rest (put_value (called (CellAnchor name) value) place outer)
 
 called_read : (name : Piece) (value : Flow) → is_cell_name name ≡ true → NamedIsRead value → ValueIsRead (called name value)
-called_read (CellName name) value is read (behind_items cells) outer rest ends = read name (behind_items cells) outer rest ends
-called_read (CellName name) value is read (behind_key cells key) outer rest ends = read name (behind_key cells key) outer rest ends
+called_read (CellAnchor name) value is read (behind_items cells) outer rest ends = read name (behind_items cells) outer rest ends
+called_read (CellAnchor name) value is read (behind_key cells key) outer rest ends = read name (behind_key cells key) outer rest ends
 called_read (CellScalar text) value is read place outer rest ends = absurd (false≢true is)
-called_read (CellCopy text) value is read place outer rest ends = absurd (false≢true is)
+called_read (CellAlias text) value is read place outer rest ends = absurd (false≢true is)
 called_read (Opening bracket) value is read place outer rest ends = absurd (false≢true is)
 called_read (Closing bracket) value is read place outer rest ends = absurd (false≢true is)
 called_read Comma value is read place outer rest ends = absurd (false≢true is)
@@ -322,14 +322,14 @@ named_absent name place outer [] ends = absurd ends
 named_absent name place outer (Opening bracket ∷ rest) ends = absurd ends
 named_absent name place outer (CellKey text ∷ rest) ends = absurd ends
 named_absent name place outer (CellScalar text ∷ rest) ends = absurd ends
-named_absent name place outer (CellName text ∷ rest) ends = absurd ends
-named_absent name place outer (CellCopy text ∷ rest) ends = absurd ends
+named_absent name place outer (CellAnchor text ∷ rest) ends = absurd ends
+named_absent name place outer (CellAlias text ∷ rest) ends = absurd ends
 named_absent name place outer (OddPiece why ∷ rest) ends = absurd ends
 
 named_word : (piece : Piece) → may_be_called (word piece) ≡ true → NamedIsRead (word piece)
 named_word (CellScalar text) may name place outer rest ends = refl
-named_word (CellCopy text) may name place outer rest ends = absurd (false≢true may)
-named_word (CellName text) may name place outer rest ends = absurd (false≢true may)
+named_word (CellAlias text) may name place outer rest ends = absurd (false≢true may)
+named_word (CellAnchor text) may name place outer rest ends = absurd (false≢true may)
 named_word (Opening bracket) may name place outer rest ends = absurd (false≢true may)
 named_word (Closing bracket) may name place outer rest ends = absurd (false≢true may)
 named_word Comma may name place outer rest ends = absurd (false≢true may)
@@ -351,8 +351,8 @@ pair_of : (bracket : Bracket) (before : Flow) (key : Piece) (value : Flow) → b
 pair_of Square before key value is is_key read_before read_value = absurd (cc)
 pair_of Curly before (CellKey key) value is is_key read_before read_value = pair_read before key value read_before read_value
 pair_of Curly before (CellScalar text) value is is_key read_before read_value = absurd (false≢true is_key)
-pair_of Curly before (CellName text) value is is_key read_before read_value = absurd (false≢true is_key)
-pair_of Curly before (CellCopy text) value is is_key read_before read_value = absurd (false≢true is_key)
+pair_of Curly before (CellAnchor text) value is is_key read_before read_value = absurd (false≢true is_key)
+pair_of Curly before (CellAlias text) value is is_key read_before read_value = absurd (false≢true is_key)
 pair_of Curly before (Opening bracket) value is is_key read_before read_value = absurd (false≢true is_key)
 pair_of Curly before (Closing bracket) value is is_key read_before read_value = absurd (false≢true is_key)
 pair_of Curly before Comma value is is_key read_before read_value = absurd (false≢true is_key)
@@ -444,7 +444,7 @@ finish start = let f = finish_cell Square absent [] in (Opening Square ∷ f.0, 
 finish (cell_next bracket cells outer) = finish_cell bracket cells outer
 finish (value_next cells key outer) = let value = word (CellScalar None) in
     let f = finish_end outer Curly (filled value (behind_key cells key)) in (CellScalar None ∷ f.0, f.1, f.2)
-finish (named_next place name outer) = let f = finish_cell (bracket_of place) (filled (called (CellName name) absent) place) outer in (Comma ∷ f.0, f.1, f.2)
+finish (named_next place name outer) = let f = finish_cell (bracket_of place) (filled (called (CellAnchor name) absent) place) outer in (Comma ∷ f.0, f.1, f.2)
 finish (end_next bracket cells outer) = finish_end outer bracket cells
 finish (done value) = ([], value, refl)
 

@@ -5,19 +5,19 @@ use Rattle.std.proofs.lemmas.List.{append-nil}
 use Rattle.std.specs.Cmp.Lexicographic.{pointwise}
 use Rattle.std.specs.Map.{lookup}
 use Rattle.yaml_tree.specs.Entries.{with_entry}
-use Rattle.yaml_marks.specs.declared.piece.Bracket.{Bracket}
-use Rattle.yaml_marks.specs.declared.piece.Bracket.TheVariants.{Square, Curly}
-use Rattle.yaml_marks.specs.declared.piece.Piece.{Piece}
-use Rattle.yaml_marks.specs.declared.piece.Piece.TheVariants.{Closing, CellKey, CellScalar, CellName, CellCopy}
+use Rattle.yaml_tokens.specs.declared.piece.Bracket.{Bracket}
+use Rattle.yaml_tokens.specs.declared.piece.Bracket.TheVariants.{Square, Curly}
+use Rattle.yaml_tokens.specs.declared.piece.Piece.{Piece}
+use Rattle.yaml_tokens.specs.declared.piece.Piece.TheVariants.{Closing, CellKey, CellScalar, CellAnchor, CellAlias}
 use Rattle.yaml_tree.specs.Flows.{Flow, SpellsFlow, IsForm, IsValue, AreCells, spelling, comma_if, is_absent, is_cell_name, may_be_called}
 use Rattle.yaml_tree.specs.Flows.Flow.{absent, word, called, item, pair, form}
-use Rattle.yaml_tree.specs.Said.{Said, Names, Meaning, flow_said, scalar_said, copied, begun_form, item_behind, pair_behind, has_key, from_line, given}
+use Rattle.yaml_tree.specs.Said.{Said, Anchors, Meaning, flow_said, scalar_said, copied, begun_form, item_behind, pair_behind, has_key, from_line, given}
 use Rattle.yaml_tree.specs.Said.Said.{null, text, unknown, sequence, mapping, with_item, with_pair}
 use Rattle.yaml_tree.specs.Holds.{HoldsSaid, HoldsRows, Rows, IsNode, is_mapping, begins_on, scalar_value, with_row, rows_value}
 use Rattle.yaml_tree.specs.inside.Stack.{new_open, measured, one_node, unknown_node, with_part, with_repeat, finished, collection, has_row, with_next_row}
-use Rattle.yaml_tree.specs.inside.Builder.{find_name, named, begins_at, next_known, with_node, put_in, put_known, cell_node, flushed, is_curly, cell_opened, cell_closed, cell_closed_on, cell_key, cell_copy, copy_found, take_piece, take_pieces}
+use Rattle.yaml_tree.specs.inside.Builder.{find_name, named, begins_at, next_known, with_node, put_in, put_known, cell_node, flushed, is_curly, cell_opened, cell_closed, cell_closed_on, cell_key, cell_alias, alias_found, take_piece, take_pieces}
 use Rattle.yaml_tree.specs.declared.known.Measure.{Measure}
-use Rattle.yaml_tree.specs.declared.known.Known.{Known}
+use Rattle.yaml_tree.specs.declared.known.KnownNode.{KnownNode}
 use Rattle.yaml_tree.specs.declared.known.GivenName.{GivenName}
 use Rattle.yaml_tree.specs.declared.node.Node.{Node}
 use Rattle.yaml_tree.specs.declared.node.Value.{Value}
@@ -30,24 +30,24 @@ use Rattle.yaml_tree.proofs.Stands.{KnownIs, NameIs, NamesAre, named_by, rows_of
 -- ---- a value that is put
 
 -- the builder with these nodes more, and these names
-abbrev behind : List Node → List (List ℕ × Known) → Builder → Builder
+abbrev behind : List Node → List (List ℕ × KnownNode) → Builder → Builder
 behind more entries b = record b { nodes = b.nodes ++ more; names = entries; name = None }
 
 -- The builder has put a value into the innermost bracket, or as the whole form: its node holds what is said, and its
 -- names are those behind it, also the one that waited.
 record Puts (b : Builder) (meaning : Meaning) (after : Builder) : Type 0 where
   more : List Node
-  known : Known
-  entries : List (List ℕ × Known)
+  known : KnownNode
+  entries : List (List ℕ × KnownNode)
   is : after ≡ put_known known (behind more entries b)
   says : KnownIs (b.nodes ++ more) known (named_by b.name meaning).0
   names_are : NamesAre (b.nodes ++ more) entries (named_by b.name meaning).1
 
-name_put_in : (os : List Open) (known : Known) (b : Builder) → (put_in os known b).name ≡ b.name
+name_put_in : (os : List Open) (known : KnownNode) (b : Builder) → (put_in os known b).name ≡ b.name
 name_put_in [] known b = refl
 name_put_in (o ∷ os) known b = refl
 
-name_put_known : (known : Known) (b : Builder) → (put_known known b).name ≡ b.name
+name_put_known : (known : KnownNode) (b : Builder) → (put_known known b).name ≡ b.name
 unfolding put_known
 name_put_known known b = name_put_in b.cells known b
 
@@ -80,7 +80,7 @@ flushed_puts line b meaning after p = record {
 
 -- ---- words
 
-node_puts : (line : ℕ) (value : Value) (m : Measure) (tree : Said) (names : Names) (b : Builder) → m ≡ measured tree → line ≡ begins_on tree → ((nodes : List Node) (n l : ℕ) → IsNode nodes n l value → HoldsSaid nodes (from_line l tree) n) → NamesAre b.nodes b.names names → Puts b (tree, names) (cell_node line value m b)
+node_puts : (line : ℕ) (value : Value) (m : Measure) (tree : Said) (names : Anchors) (b : Builder) → m ≡ measured tree → line ≡ begins_on tree → ((nodes : List Node) (n l : ℕ) → IsNode nodes n l value → HoldsSaid nodes (from_line l tree) n) → NamesAre b.nodes b.names names → Puts b (tree, names) (cell_node line value m b)
 unfolding cell_node with_node
 node_puts line value m tree names b e begins holds are =
     let node : Node = record { line = begins_at line b.name; value = value } in
@@ -106,9 +106,9 @@ begins_scalar : (line : ℕ) (value : Option (List ℕ)) → line ≡ begins_on 
 begins_scalar line None = refl
 begins_scalar line (Some bytes) = refl
 
-copy_found_puts : (line : ℕ) (found : Option Known) (tree : Option Said) (names : Names) (b : Builder) → b.name ≡ None → NameIs b.nodes found tree → NamesAre b.nodes b.names names → Puts b (unwrap_or tree (unknown line), names) (copy_found line found b)
-copy_found_puts line None None names b e is are = node_puts line Null unknown_node (unknown line) names b refl refl (λ nodes n l h. h) are
-copy_found_puts line (Some k) (Some tree) names b e is are = record {
+alias_found_puts : (line : ℕ) (found : Option KnownNode) (tree : Option Said) (names : Anchors) (b : Builder) → b.name ≡ None → NameIs b.nodes found tree → NamesAre b.nodes b.names names → Puts b (unwrap_or tree (unknown line), names) (alias_found line found b)
+alias_found_puts line None None names b e is are = node_puts line Null unknown_node (unknown line) names b refl refl (λ nodes n l h. h) are
+alias_found_puts line (Some k) (Some tree) names b e is are = record {
   more = [];
   known = k;
   entries = b.names;
@@ -116,12 +116,12 @@ copy_found_puts line (Some k) (Some tree) names b e is are = record {
   says = subst (λ w. KnownIs (b.nodes ++ []) k (named_by w (tree, names)).0) (sym e) (subst (λ ns. KnownIs ns k tree) (sym (append-nil b.nodes)) is);
   names_are = subst (λ w. NamesAre (b.nodes ++ []) b.names (named_by w (tree, names)).1) (sym e) (NamesAre_more b.nodes [] b.names names are);
 }
-copy_found_puts line None (Some tree) names b e is are = absurd is
-copy_found_puts line (Some k) None names b e is are = absurd is
+alias_found_puts line None (Some tree) names b e is are = absurd is
+alias_found_puts line (Some k) None names b e is are = absurd is
 
-copy_puts : (line : ℕ) (n : List ℕ) (names : Names) (b : Builder) → b.name ≡ None → NamesAre b.nodes b.names names → Puts b (copied line n names, names) (cell_copy line n b)
-unfolding cell_copy
-copy_puts line n names b e are = copy_found_puts line (find_name b.names n) (lookup (pointwise ◌==◌ n) names) names b e (are n) are
+alias_puts : (line : ℕ) (n : List ℕ) (names : Anchors) (b : Builder) → b.name ≡ None → NamesAre b.nodes b.names names → Puts b (copied line n names, names) (cell_alias line n b)
+unfolding cell_alias
+alias_puts line n names b e are = alias_found_puts line (find_name b.names n) (lookup (pointwise ◌==◌ n) names) names b e (are n) are
 
 -- ---- collections
 
@@ -144,13 +144,13 @@ record CellsAre (nodes : List Node) (o : Open) (bracket : Bracket) (waits : Opti
   holds : HoldsRows nodes tree (rows_of o)
 
 -- the builder inside of this bracket
-abbrev inside : Open → List Node → List (List ℕ × Known) → Builder → Builder
+abbrev inside : Open → List Node → List (List ℕ × KnownNode) → Builder → Builder
 inside o more entries b = record b { nodes = b.nodes ++ more; names = entries; name = None; cells = o ∷ b.cells }
 
 record HasCells (b : Builder) (bracket : Bracket) (meaning : Meaning) (after : Builder) : Type 0 where
   more : List Node
   inner : Open
-  entries : List (List ℕ × Known)
+  entries : List (List ℕ × KnownNode)
   is : after ≡ inside inner more entries b
   cells_are : CellsAre (b.nodes ++ more) inner bracket b.name meaning.0
   names_are : NamesAre (b.nodes ++ more) entries meaning.1
@@ -159,7 +159,7 @@ no_cells : (nodes : List Node) (line : ℕ) (bracket : Bracket) (waits : Option 
 no_cells nodes line Square waits = record { has_kind = refl; says_kind = refl; has_first = refl; has_name = refl; has_measure = refl; holds = refl }
 no_cells nodes line Curly waits = record { has_kind = refl; says_kind = refl; has_first = refl; has_name = refl; has_measure = refl; holds = refl }
 
-opened : (line : ℕ) (bracket : Bracket) (names : Names) (b : Builder) → NamesAre b.nodes b.names names → HasCells b bracket (begun_form bracket line, names) (flushed line (cell_opened line bracket b))
+opened : (line : ℕ) (bracket : Bracket) (names : Anchors) (b : Builder) → NamesAre b.nodes b.names names → HasCells b bracket (begun_form bracket line, names) (flushed line (cell_opened line bracket b))
 unfolding cell_opened
 opened line bracket names b are = let o : Open = new_open 0 (is_curly bracket) line [] b.name in record {
   more = [];
@@ -170,7 +170,7 @@ opened line bracket names b are = let o : Open = new_open 0 (is_curly bracket) l
   names_are = NamesAre_more b.nodes [] b.names names are;
 }
 
-item_row : (nodes more : List Node) (o : Open) (k : Known) (waits : Option GivenName) (before value : Said) → CellsAre nodes o Square waits before → KnownIs (nodes ++ more) k value → CellsAre (nodes ++ more) (finished o k) Square waits (with_item before value)
+item_row : (nodes more : List Node) (o : Open) (k : KnownNode) (waits : Option GivenName) (before value : Said) → CellsAre nodes o Square waits before → KnownIs (nodes ++ more) k value → CellsAre (nodes ++ more) (finished o k) Square waits (with_item before value)
 item_row nodes more o k waits before value h is = record {
   has_kind = h.has_kind;
   says_kind = refl;
@@ -186,7 +186,7 @@ item_row nodes more o k waits before value h is = record {
   );
 }
 
-pair_row : (nodes more : List Node) (o : Open) (line : ℕ) (key : List ℕ) (k : Known) (waits : Option GivenName) (before value : Said) → CellsAre nodes o Curly waits before → KnownIs (nodes ++ more) k value → CellsAre (nodes ++ more) (finished (with_next_row line key o) k) Curly waits (with_pair before line key value)
+pair_row : (nodes more : List Node) (o : Open) (line : ℕ) (key : List ℕ) (k : KnownNode) (waits : Option GivenName) (before value : Said) → CellsAre nodes o Curly waits before → KnownIs (nodes ++ more) k value → CellsAre (nodes ++ more) (finished (with_next_row line key o) k) Curly waits (with_pair before line key value)
 pair_row nodes more o line key k waits before value h is =
     let again : has_row o key ≡ has_key key before = mapping_has_key nodes before (rows_of o) o.mapping key h.holds h.has_kind in
     record {
@@ -205,7 +205,7 @@ pair_row nodes more o line key k waits before value h is =
     }
 
 -- a value more in the bracket, whose open row this is
-row_more : (b : Builder) (bracket : Bracket) (o : Open) (more : List Node) (entries : List (List ℕ × Known)) (value : Meaning) (tree : Said) (after : Builder) → (p : Puts (inside o more entries b) value after) → CellsAre ((b.nodes ++ more) ++ p.more) (finished o p.known) bracket b.name tree → HasCells b bracket (tree, value.1) after
+row_more : (b : Builder) (bracket : Bracket) (o : Open) (more : List Node) (entries : List (List ℕ × KnownNode)) (value : Meaning) (tree : Said) (after : Builder) → (p : Puts (inside o more entries b) value after) → CellsAre ((b.nodes ++ more) ++ p.more) (finished o p.known) bracket b.name tree → HasCells b bracket (tree, value.1) after
 unfolding put_known
 row_more b bracket o more entries value tree after p are =
     let same = append_assoc b.nodes more p.more in
@@ -225,7 +225,7 @@ closed_puts b bracket meaning after h =
     let o : Open = h.inner in
     let are = h.cells_are in
     let nodes : List Node = b.nodes ++ h.more in
-    let known : Known = record { node = length nodes; measure = o.measure } in
+    let known : KnownNode = record { node = length nodes; measure = o.measure } in
     let first : ℕ = begins_at o.first_line o.name in
     let node : Node = record { line = first; value = collection o } in
     let at : IsNode (nodes ++ (node ∷ [])) (length nodes) first (rows_value (is_mapping meaning.0) (rows_of o)) = slice_get-last nodes node ∙ (λ j. Some (record { line = first; value = collection (record o { mapping = (are.has_kind ∙ sym are.says_kind) j }) })) in
@@ -276,32 +276,32 @@ form_taken line bracket cells last b = sym (take_pieces_append line (spelling ce
 
 -- ---- the induction
 
--- what may come: a value, and behind a name also nothing, but no copy or other name
+-- what may come: a value, and behind a name also nothing, but no alias or other name
 abbrev Comes : Option GivenName → Flow → Type 0
 Comes None v = IsValue v
 Comes (Some n) absent = Unit {0}
 Comes (Some n) v = (may_be_called v ≡ true) × IsValue v
 
-abbrev ValuePlayed : ℕ → Flow → Names → Builder → Type 0
+abbrev ValuePlayed : ℕ → Flow → Anchors → Builder → Type 0
 ValuePlayed line v names b = Puts b (flow_said line (null line) names v) (flushed line (take_pieces line (spelling v) b))
 
-nothing_played : (line : ℕ) (n : GivenName) (names : Names) (b : Builder) → b.name ≡ Some n → NamesAre b.nodes b.names names → ValuePlayed line absent names b
+nothing_played : (line : ℕ) (n : GivenName) (names : Anchors) (b : Builder) → b.name ≡ Some n → NamesAre b.nodes b.names names → ValuePlayed line absent names b
 unfolding take_pieces
 nothing_played line n names b e are = subst (Puts b (null line, names)) (sym (flushed_named line n b e)) (node_puts line Null one_node (null line) names b refl refl (λ nodes m l h. h) are)
 
-scalar_played : (line : ℕ) (value : Option (List ℕ)) (names : Names) (b : Builder) → NamesAre b.nodes b.names names → ValuePlayed line (word (CellScalar value)) names b
+scalar_played : (line : ℕ) (value : Option (List ℕ)) (names : Anchors) (b : Builder) → NamesAre b.nodes b.names names → ValuePlayed line (word (CellScalar value)) names b
 unfolding take_pieces take_piece
 scalar_played line value names b are = flushed_puts line b (scalar_said line value, names) (cell_node line (scalar_value value) one_node b)
     (node_puts line (scalar_value value) one_node (scalar_said line value) names b (measured_scalar line value) (begins_scalar line value) (holds_scalar line value) are)
 
-copy_played : (line : ℕ) (n : List ℕ) (names : Names) (b : Builder) → b.name ≡ None → NamesAre b.nodes b.names names → ValuePlayed line (word (CellCopy n)) names b
+alias_played : (line : ℕ) (n : List ℕ) (names : Anchors) (b : Builder) → b.name ≡ None → NamesAre b.nodes b.names names → ValuePlayed line (word (CellAlias n)) names b
 unfolding take_pieces take_piece
-copy_played line n names b e are = flushed_puts line b (copied line n names, names) (cell_copy line n b) (copy_puts line n names b e are)
+alias_played line n names b e are = flushed_puts line b (copied line n names, names) (cell_alias line n b) (alias_puts line n names b e are)
 
-word_played : (line : ℕ) (waits : Option GivenName) (piece : Piece) (names : Names) (b : Builder) → b.name ≡ waits → Comes waits (word piece) → NamesAre b.nodes b.names names → ValuePlayed line (word piece) names b
+word_played : (line : ℕ) (waits : Option GivenName) (piece : Piece) (names : Anchors) (b : Builder) → b.name ≡ waits → Comes waits (word piece) → NamesAre b.nodes b.names names → ValuePlayed line (word piece) names b
 word_played line waits (CellScalar value) names b e h are = scalar_played line value names b are
-word_played line None (CellCopy n) names b e h are = copy_played line n names b e are
-word_played line (Some m) (CellCopy n) names b e h are = absurd (false≢true h.0)
+word_played line None (CellAlias n) names b e h are = alias_played line n names b e are
+word_played line (Some m) (CellAlias n) names b e h are = absurd (false≢true h.0)
 word_played line None piece names b e h are = absurd (false≢true h)
 word_played line (Some m) piece names b e h are = absurd (false≢true h.1)
 
@@ -317,7 +317,7 @@ abbrev waiting : GivenName → Builder → Builder
 waiting n b = record b { name = Some n }
 
 -- behind a name its value takes it
-called_puts : (line : ℕ) (n : List ℕ) (value : Flow) (names : Names) (b : Builder) → b.name ≡ None → ValuePlayed line value names (waiting (record { line = line; text = n }) b) → ValuePlayed line (called (CellName n) value) names b
+called_puts : (line : ℕ) (n : List ℕ) (value : Flow) (names : Anchors) (b : Builder) → b.name ≡ None → ValuePlayed line value names (waiting (record { line = line; text = n }) b) → ValuePlayed line (called (CellAnchor n) value) names b
 unfolding take_pieces take_piece
 called_puts line n value names b e p = record {
   more = p.more;
@@ -328,24 +328,24 @@ called_puts line n value names b e p = record {
   names_are = subst (λ w. NamesAre (b.nodes ++ p.more) p.entries (named_by w (given line n (flow_said line (null line) names value))).1) (sym e) p.names_are;
 }
 
-called_played : (line : ℕ) (waits : Option GivenName) (name : Piece) (value : Flow) (names : Names) (b : Builder) → b.name ≡ waits → Comes waits (called name value) → ((n : GivenName) → Comes (Some n) value → ValuePlayed line value names (waiting n b)) → ValuePlayed line (called name value) names b
-called_played line None (CellName n) value names b e h played = let name : GivenName = record { line = line; text = n } in called_puts line n value names b e (played name (comes_called (CellName n) name value h).1)
+called_played : (line : ℕ) (waits : Option GivenName) (name : Piece) (value : Flow) (names : Anchors) (b : Builder) → b.name ≡ waits → Comes waits (called name value) → ((n : GivenName) → Comes (Some n) value → ValuePlayed line value names (waiting n b)) → ValuePlayed line (called name value) names b
+called_played line None (CellAnchor n) value names b e h played = let name : GivenName = record { line = line; text = n } in called_puts line n value names b e (played name (comes_called (CellAnchor n) name value h).1)
 called_played line None name value names b e h played = absurd (false≢true (comes_called name (record { line = line; text = [] }) value h).0)
 called_played line (Some m) name value names b e h played = absurd (false≢true h.0)
 
-abbrev CellsPlayed : ℕ → Bracket → Flow → Names → Builder → Type 0
+abbrev CellsPlayed : ℕ → Bracket → Flow → Anchors → Builder → Type 0
 CellsPlayed line bracket cells names b = HasCells b bracket (flow_said line (begun_form bracket line) names cells) (flushed line (take_pieces line (spelling cells) (cell_opened line bracket b)))
 
-no_cells_played : (line : ℕ) (bracket : Bracket) (names : Names) (b : Builder) → NamesAre b.nodes b.names names → CellsPlayed line bracket absent names b
+no_cells_played : (line : ℕ) (bracket : Bracket) (names : Anchors) (b : Builder) → NamesAre b.nodes b.names names → CellsPlayed line bracket absent names b
 unfolding take_pieces
 no_cells_played line bracket names b are = opened line bracket names b are
 
 -- the pieces behind the cells before are taken inside of the bracket
-inside_taken : (line : ℕ) (bracket : Bracket) (before : Flow) (pieces : List Piece) (names : Names) (b : Builder) → (h : CellsPlayed line bracket before names b) → take_pieces line pieces (inside h.inner h.more h.entries b) ≡ take_pieces line (spelling before ++ (comma_if (not (is_absent before)) ++ pieces)) (cell_opened line bracket b)
+inside_taken : (line : ℕ) (bracket : Bracket) (before : Flow) (pieces : List Piece) (names : Anchors) (b : Builder) → (h : CellsPlayed line bracket before names b) → take_pieces line pieces (inside h.inner h.more h.entries b) ≡ take_pieces line (spelling before ++ (comma_if (not (is_absent before)) ++ pieces)) (cell_opened line bracket b)
 unfolding cell_opened
 inside_taken line bracket before pieces names b h = sym (behind_cells line before pieces (cell_opened line bracket b) refl ∙ ap (take_pieces line pieces) h.is)
 
-item_played : (line : ℕ) (before value : Flow) (names : Names) (b : Builder) → (h : CellsPlayed line Square before names b) → ValuePlayed line value (flow_said line (begun_form Square line) names before).1 (inside h.inner h.more h.entries b) → CellsPlayed line Square (item before value) names b
+item_played : (line : ℕ) (before value : Flow) (names : Anchors) (b : Builder) → (h : CellsPlayed line Square before names b) → ValuePlayed line value (flow_said line (begun_form Square line) names before).1 (inside h.inner h.more h.entries b) → CellsPlayed line Square (item before value) names b
 item_played line before value names b h p =
     let old : Meaning = flow_said line (begun_form Square line) names before in
     let new : Meaning = flow_said line (null line) old.1 value in
@@ -353,11 +353,11 @@ item_played line before value names b h p =
     (row_more b Square h.inner h.more h.entries new (with_item old.0 new.0) (flushed line (take_pieces line (spelling value) (inside h.inner h.more h.entries b))) p
     (item_row (b.nodes ++ h.more) p.more h.inner p.known b.name old.0 new.0 h.cells_are p.says))
 
-key_taken : (line : ℕ) (key : List ℕ) (pieces : List Piece) (o : Open) (more : List Node) (entries : List (List ℕ × Known)) (b : Builder) → take_pieces line pieces (inside (with_next_row line key o) more entries b) ≡ take_pieces line (CellKey key ∷ pieces) (inside o more entries b)
+key_taken : (line : ℕ) (key : List ℕ) (pieces : List Piece) (o : Open) (more : List Node) (entries : List (List ℕ × KnownNode)) (b : Builder) → take_pieces line pieces (inside (with_next_row line key o) more entries b) ≡ take_pieces line (CellKey key ∷ pieces) (inside o more entries b)
 unfolding take_pieces take_piece cell_key
 key_taken line key pieces o more entries b = refl
 
-pair_played : (line : ℕ) (before : Flow) (key : List ℕ) (value : Flow) (names : Names) (b : Builder) → (h : CellsPlayed line Curly before names b) → ValuePlayed line value (flow_said line (begun_form Curly line) names before).1 (inside (with_next_row line key h.inner) h.more h.entries b) → CellsPlayed line Curly (pair before (CellKey key) value) names b
+pair_played : (line : ℕ) (before : Flow) (key : List ℕ) (value : Flow) (names : Anchors) (b : Builder) → (h : CellsPlayed line Curly before names b) → ValuePlayed line value (flow_said line (begun_form Curly line) names before).1 (inside (with_next_row line key h.inner) h.more h.entries b) → CellsPlayed line Curly (pair before (CellKey key) value) names b
 pair_played line before key value names b h p =
     let old : Meaning = flow_said line (begun_form Curly line) names before in
     let new : Meaning = flow_said line (null line) old.1 value in
@@ -366,7 +366,7 @@ pair_played line before key value names b h p =
     (row_more b Curly o h.more h.entries new (with_pair old.0 line key new.0) (flushed line (take_pieces line (spelling value) (inside o h.more h.entries b))) p
     (pair_row (b.nodes ++ h.more) p.more h.inner line key p.known b.name old.0 new.0 h.cells_are p.says))
 
-form_played : (line : ℕ) (bracket : Bracket) (cells : Flow) (last : Bool) (names : Names) (b : Builder) → CellsPlayed line bracket cells names b → Puts b (flow_said line (null line) names (form bracket cells last)) (take_pieces line (spelling (form bracket cells last)) b)
+form_played : (line : ℕ) (bracket : Bracket) (cells : Flow) (last : Bool) (names : Anchors) (b : Builder) → CellsPlayed line bracket cells names b → Puts b (flow_said line (null line) names (form bracket cells last)) (take_pieces line (spelling (form bracket cells last)) b)
 form_played line bracket cells last names b h = subst (Puts b (flow_said line (begun_form bracket line) names cells)) (form_taken line bracket cells last b)
     (closed_puts b bracket (flow_said line (begun_form bracket line) names cells) (flushed line (take_pieces line (spelling cells) (cell_opened line bracket b))) h)
 
@@ -375,7 +375,7 @@ are_cells None bracket cells last h = h.0
 are_cells (Some n) bracket cells last h = h.1.0
 
 mutual
-  value_played : (line : ℕ) (waits : Option GivenName) (v : Flow) (names : Names) (b : Builder) → b.name ≡ waits → Comes waits v → NamesAre b.nodes b.names names → ValuePlayed line v names b
+  value_played : (line : ℕ) (waits : Option GivenName) (v : Flow) (names : Anchors) (b : Builder) → b.name ≡ waits → Comes waits v → NamesAre b.nodes b.names names → ValuePlayed line v names b
   value_played line None absent names b e h are = absurd h
   value_played line (Some n) absent names b e h are = nothing_played line n names b e are
   value_played line waits (word piece) names b e h are = word_played line waits piece names b e h are
@@ -387,7 +387,7 @@ mutual
   value_played line waits (form bracket cells last) names b e h are = flushed_puts line b (flow_said line (null line) names (form bracket cells last)) (take_pieces line (spelling (form bracket cells last)) b)
       (form_played line bracket cells last names b (cells_played line bracket cells names b (are_cells waits bracket cells last h) are))
 
-  cells_played : (line : ℕ) (bracket : Bracket) (cells : Flow) (names : Names) (b : Builder) → AreCells bracket cells → NamesAre b.nodes b.names names → CellsPlayed line bracket cells names b
+  cells_played : (line : ℕ) (bracket : Bracket) (cells : Flow) (names : Anchors) (b : Builder) → AreCells bracket cells → NamesAre b.nodes b.names names → CellsPlayed line bracket cells names b
   cells_played line bracket absent names b h are = no_cells_played line bracket names b are
   cells_played line bracket (word piece) names b h are = absurd h
   cells_played line bracket (called name value) names b h are = absurd h
@@ -403,17 +403,17 @@ mutual
 -- ---- the form
 
 -- the builder afterwards: its value and its names are what the form says
-abbrev pub Played : ℕ → Flow → Builder → Names → Builder → Type 0
-Played line f b names after = (more : List Node) × (k : Known) × (entries : List (List ℕ × Known))
+abbrev pub Played : ℕ → Flow → Builder → Anchors → Builder → Type 0
+Played line f b names after = (more : List Node) × (k : KnownNode) × (entries : List (List ℕ × KnownNode))
     × (after ≡ record b { nodes = b.nodes ++ more; names = entries; value = Some k; name = None })
     × KnownIs (b.nodes ++ more) k (named_by b.name (flow_said line (null line) names f)).0
     × NamesAre (b.nodes ++ more) entries (named_by b.name (flow_said line (null line) names f)).1
 
-played : (line : ℕ) (f : Flow) (names : Names) (b : Builder) (after : Builder) → b.cells ≡ [] → Puts b (flow_said line (null line) names f) after → Played line f b names after
+played : (line : ℕ) (f : Flow) (names : Anchors) (b : Builder) (after : Builder) → b.cells ≡ [] → Puts b (flow_said line (null line) names f) after → Played line f b names after
 unfolding put_known
 played line f names b after flat p = (p.more, p.known, p.entries, p.is ∙ ap (λ os. put_in os p.known (behind p.more p.entries b)) flat, p.says, p.names_are)
 
-form_is_played : (line : ℕ) (f : Flow) (names : Names) (b : Builder) → IsForm f → b.cells ≡ [] → NamesAre b.nodes b.names names → Played line f b names (take_pieces line (spelling f) b)
+form_is_played : (line : ℕ) (f : Flow) (names : Anchors) (b : Builder) → IsForm f → b.cells ≡ [] → NamesAre b.nodes b.names names → Played line f b names (take_pieces line (spelling f) b)
 form_is_played line absent names b h flat are = absurd h
 form_is_played line (word piece) names b h flat are = absurd h
 form_is_played line (called name value) names b h flat are = absurd h
@@ -422,5 +422,5 @@ form_is_played line (pair before key value) names b h flat are = absurd h
 form_is_played line (form bracket cells last) names b h flat are = played line (form bracket cells last) names b (take_pieces line (spelling (form bracket cells last)) b) flat
     (form_played line bracket cells last names b (cells_played line bracket cells names b h.0 are))
 
-pub flow_played : (line : ℕ) (pieces : List Piece) (f : Flow) (b : Builder) (names : Names) → SpellsFlow pieces f → b.cells ≡ [] → NamesAre b.nodes b.names names → Played line f b names (take_pieces line pieces b)
+pub flow_played : (line : ℕ) (pieces : List Piece) (f : Flow) (b : Builder) (names : Anchors) → SpellsFlow pieces f → b.cells ≡ [] → NamesAre b.nodes b.names names → Played line f b names (take_pieces line pieces b)
 flow_played line pieces f b names s flat are = subst (λ ps. Played line f b names (take_pieces line ps b)) s.0 (form_is_played line f names b s.1 flat are)

@@ -1,4 +1,4 @@
--- Known nodes: more nodes behind leave what is held, a name is found once it is given, and the measures that are kept are
+-- KnownNode nodes: more nodes behind leave what is held, a name is found once it is given, and the measures that are kept are
 -- those of the trees.
 use Rattle.std.proofs.Common.{◌≡◌, ℕ, ◌+◌, ◌<◌, ◌≤◌, Bool, true, false, ◌&&◌, ◌||◌, cond, List, [], ◌∷◌, ◌++◌, Option, Some, None, slice_get, zero, suc, refl, sym, ap, ◌∙◌, subst, arith, ◌==◌, nat_le, max, min, is_some, length, eqb-true, eq-eqb}
 use Rattle.std.specs.Cmp.Lexicographic.{pointwise}
@@ -8,13 +8,13 @@ use Rattle.std.proofs.lemmas.Bool.{false≢true, leb-true, leb-false}
 use Rattle.indexmap.specs.IndexMap.{insert_entry}
 use Rattle.yaml_tree.specs.Entries as entries
 use Rattle.yaml_tree.specs.Entries.{with_entry}
-use Rattle.yaml_tree.specs.Said.{Said, Names, Meaning, from_line, has_key, has_repeat, has_unknown, levels, size}
+use Rattle.yaml_tree.specs.Said.{Said, Anchors, Meaning, from_line, has_key, has_repeat, has_unknown, levels, size}
 use Rattle.yaml_tree.specs.Said.Said.{null, text, unknown, sequence, mapping, with_item, with_pair}
 use Rattle.yaml_tree.specs.Holds.{HoldsSaid, HoldsRows, Rows, begins_on}
 use Rattle.yaml_tree.specs.inside.Stack.{cut, measured, one_node, unknown_node, no_row, with_part, with_repeat}
 use Rattle.yaml_tree.specs.inside.Builder.{find_name, named, begins_at}
 use Rattle.yaml_tree.specs.declared.entries.Child.{Child}
-use Rattle.yaml_tree.specs.declared.known.Known.{Known}
+use Rattle.yaml_tree.specs.declared.known.KnownNode.{KnownNode}
 use Rattle.yaml_tree.specs.declared.known.GivenName.{GivenName}
 use Rattle.yaml_tree.specs.declared.node.Node.{Node}
 use Rattle.yaml_tree.proofs.Lists.{both_true}
@@ -52,16 +52,16 @@ mutual
   HoldsRows_more nodes more (with_item before value) rows h = (h.0, h.1, HoldsRows_more nodes more before h.0 h.2, HoldsSaid_more nodes more value h.1 h.3, h.4)
   HoldsRows_more nodes more (with_pair before line key value) rows h = (h.0, h.1, HoldsRows_more nodes more before h.0 h.2, HoldsSaid_more nodes more value h.1 h.3, h.4)
 
-pub KnownIs_more : (nodes more : List Node) (k : Known) (tree : Said) → KnownIs nodes k tree → KnownIs (nodes ++ more) k tree
+pub KnownIs_more : (nodes more : List Node) (k : KnownNode) (tree : Said) → KnownIs nodes k tree → KnownIs (nodes ++ more) k tree
 KnownIs_more nodes more k tree h = (h.0, HoldsSaid_more nodes more tree k.node h.1)
 
-NameIs_more : (nodes more : List Node) (found : Option Known) (tree : Option Said) → NameIs nodes found tree → NameIs (nodes ++ more) found tree
+NameIs_more : (nodes more : List Node) (found : Option KnownNode) (tree : Option Said) → NameIs nodes found tree → NameIs (nodes ++ more) found tree
 NameIs_more nodes more None None h = tt
 NameIs_more nodes more (Some k) (Some tree) h = KnownIs_more nodes more k tree h
 NameIs_more nodes more None (Some tree) h = h
 NameIs_more nodes more (Some k) None h = h
 
-pub NamesAre_more : (nodes more : List Node) (entries : List (List ℕ × Known)) (names : Names) → NamesAre nodes entries names → NamesAre (nodes ++ more) entries names
+pub NamesAre_more : (nodes more : List Node) (entries : List (List ℕ × KnownNode)) (names : Anchors) → NamesAre nodes entries names → NamesAre (nodes ++ more) entries names
 NamesAre_more nodes more entries names h = λ n. NameIs_more nodes more (find_name entries n) (lookup (pointwise ◌==◌ n) names) (h n)
 
 -- ---- names
@@ -95,7 +95,7 @@ lookup_insert_entry wanted name x (e ∷ es) = elim (pointwise ◌==◌ name e.0
     later q false u a b = refl
 
 -- a node that a name waits for is found by it from now on
-pub named_are : (nodes : List Node) (entries : List (List ℕ × Known)) (names : Names) (waits : Option GivenName) (k : Known) (tree : Said) → NamesAre nodes entries names → KnownIs nodes k (named_by waits (tree, names)).0 → NamesAre nodes (named waits k entries) (named_by waits (tree, names)).1
+pub named_are : (nodes : List Node) (entries : List (List ℕ × KnownNode)) (names : Anchors) (waits : Option GivenName) (k : KnownNode) (tree : Said) → NamesAre nodes entries names → KnownIs nodes k (named_by waits (tree, names)).0 → NamesAre nodes (named waits k entries) (named_by waits (tree, names)).1
 named_are nodes entries names None k tree h known = h
 named_are nodes entries names (Some name) k tree h known = λ n. subst (λ found. NameIs nodes found (cond (pointwise ◌==◌ n name.text) (Some (from_line name.line tree)) (lookup (pointwise ◌==◌ n) names))) (sym (lookup_insert_entry n name.text k entries)) (by (pointwise ◌==◌ n name.text) n)
   where
@@ -258,6 +258,6 @@ pub begun_by_name : (waits : Option GivenName) (line : ℕ) (meaning : Meaning) 
 begun_by_name None line meaning e = sym (ap (λ l. from_line l meaning.0) e ∙ from_line_same meaning.0)
 begun_by_name (Some name) line meaning e = refl
 
-pub node_is : (nodes : List Node) (waits : Option GivenName) (line : ℕ) (meaning : Meaning) (k : Known) → k.measure ≡ measured meaning.0 → line ≡ begins_on meaning.0
+pub node_is : (nodes : List Node) (waits : Option GivenName) (line : ℕ) (meaning : Meaning) (k : KnownNode) → k.measure ≡ measured meaning.0 → line ≡ begins_on meaning.0
     → HoldsSaid nodes (from_line (begins_at line waits) meaning.0) k.node → KnownIs nodes k (named_by waits meaning).0
 node_is nodes waits line meaning k e begins holds = (e ∙ sym (measured_named_by waits meaning), subst (λ t. HoldsSaid nodes t k.node) (sym (begun_by_name waits line meaning begins)) holds)

@@ -1,13 +1,13 @@
 -- One line more of the loop over lines.
 use Rattle.std.proofs.Common.{◌≡◌, ℕ, ◌+◌, Bool, true, false, ◌&&◌, ◌||◌, List, [], ◌∷◌, Result, Ok, Err, length, refl, sym, ap, ◌∙◌, arith}
-use Rattle.yaml_marks.specs.Lines.{split_lines}
+use Rattle.yaml_tokens.specs.Lines.{split_lines}
 use Rattle.std.specs.List.{list_all}
 use Rattle.std.proofs.lemmas.List.Folds.{list_all-append}
 use Rattle.sim_base.specs.Refusals.{◌>>=◌}
-use Rattle.yaml_marks.specs.Tokens.{has_content, next_place, line_tokens, tokens_from}
+use Rattle.yaml_tokens.specs.Tokens.{has_content, next_place, line_tokens, tokens_from}
 use Rattle.yaml_tree.specs.Written.{is_name}
 use Rattle.yaml_tree.specs.inside.Builder.{read_line, at_line, read_lines, ReadsLine}
-use Rattle.yaml_marks.specs.declared.place.LinePlace.{LinePlace}
+use Rattle.yaml_tokens.specs.declared.place.LinePlace.{LinePlace}
 use Rattle.yaml_tree.specs.declared.builder.Builder.{Builder}
 use Rattle.yaml_tree.specs.declared.fault.YamlFault.{YamlFault}
 use Rattle.yaml_tree.specs.declared.fault.TreeError.{TreeError}

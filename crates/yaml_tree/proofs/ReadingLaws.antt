@@ -8,10 +8,10 @@ use Rattle.std.proofs.lemmas.Option.{none-some, slice_get_within}
 use Rattle.std.proofs.lemmas.Bool.{ltb-true, ltb-false, leb-false, lt-ltb, cases_lt}
 use Rattle.std.proofs.lemmas.List.{append-nil, length-drop, length-take-le, take_all, take_more, drop_more}
 use Rattle.sim_base.specs.Refusals.{◌>>=◌}
-use Rattle.yaml_marks.specs.Lines.{lines_of}
-use Rattle.yaml_marks.specs.Pieces.{why_bracket, closes_at}
+use Rattle.yaml_tokens.specs.Lines.{lines_of}
+use Rattle.yaml_tokens.specs.Pieces.{why_bracket, closes_at}
 use Rattle.yaml_tree.specs.Flows.{kind_behind_key, IsPieceKind, IsFlowMisfit}
-use Rattle.yaml_marks.specs.Tokens.{has_content, line_tokens, next_place, tokens_from, tokens_of}
+use Rattle.yaml_tokens.specs.Tokens.{has_content, line_tokens, next_place, tokens_from, tokens_of}
 use Rattle.yaml_tree.specs.Written.{Written, Spells}
 use Rattle.yaml_tree.specs.Written.Written.{nothing}
 use Rattle.yaml_tree.specs.Said.{Said, tree_of, has_repeat, has_unknown, levels, size}
@@ -22,17 +22,17 @@ use Rattle.yaml_tree.specs.Tree.{Says, IsTree, HasTree, MayBegin, ValueMayBegin,
 use Rattle.yaml_tree.specs.inside.Builder.{take_token, take_tokens, fault_of, judged_by, judged, read_line, read_lines, at_line, ReadsLine, fresh}
 use Rattle.yaml_tree.specs.Trees.{Holds, RootIsIn, IsReading, IsErrorOf, root_number}
 use Rattle.yaml_tree.specs.declared.builder.Builder.{Builder}
-use Rattle.yaml_marks.specs.declared.token.Token.{Token}
-use Rattle.yaml_marks.specs.declared.token.Token.TheVariants.{Dash, Key, Scalar, Name, Copy, Bar, Body, Form, OddToken}
+use Rattle.yaml_tokens.specs.declared.token.Token.{Token}
+use Rattle.yaml_tokens.specs.declared.token.Token.TheVariants.{Dash, Key, Scalar, Anchor, Alias, Bar, Body, Form, OddToken}
 use Rattle.yaml_tree.specs.declared.node.Node.{Node}
-use Rattle.yaml_marks.specs.declared.piece.Piece.{Piece}
-use Rattle.yaml_marks.specs.declared.piece.Piece.TheVariants.{Opening, Closing, Comma, CellKey, CellScalar, CellName, CellCopy, OddPiece}
-use Rattle.yaml_marks.specs.declared.place.LinePlace.{LinePlace}
-use Rattle.yaml_marks.specs.declared.place.LinePlace.TheVariants.{Outside}
+use Rattle.yaml_tokens.specs.declared.piece.Piece.{Piece}
+use Rattle.yaml_tokens.specs.declared.piece.Piece.TheVariants.{Opening, Closing, Comma, CellKey, CellScalar, CellAnchor, CellAlias, OddPiece}
+use Rattle.yaml_tokens.specs.declared.place.LinePlace.{LinePlace}
+use Rattle.yaml_tokens.specs.declared.place.LinePlace.TheVariants.{Outside}
 use Rattle.yaml_tree.specs.declared.fault.FaultKind.{FaultKind}
 use Rattle.yaml_tree.specs.declared.fault.FaultKind.TheVariants.{NotUtf8, Syntax, Unsupported, Duplicate, Alias, TooDeep, TooManyNodes}
-use Rattle.yaml_marks.specs.declared.odd.Odd.{Odd}
-use Rattle.yaml_marks.specs.declared.odd.Odd.TheVariants as odd
+use Rattle.yaml_tokens.specs.declared.odd.Odd.{Odd}
+use Rattle.yaml_tokens.specs.declared.odd.Odd.TheVariants as odd
 use Rattle.yaml_tree.specs.declared.fault.TreeError.{TreeError}
 use Rattle.yaml_tree.specs.declared.fault.TreeError.TheVariants as tree
 use Rattle.yaml_tree.specs.declared.fault.YamlFault.{YamlFault}
@@ -81,8 +81,8 @@ kind_at : (r : FlowReader) (front : List Token) (m : Token) (w : Written) (kind 
 kind_at r front (Dash line column) w kind e k = k
 kind_at r front (Key line column bytes) w kind e k = k
 kind_at r front (Scalar line column bytes) w kind e k = k
-kind_at r front (Name line column bytes) w kind e k = k
-kind_at r front (Copy line column bytes) w kind e k = k
+kind_at r front (Anchor line column bytes) w kind e k = k
+kind_at r front (Alias line column bytes) w kind e k = k
 kind_at r front (Bar line column chomp) w kind e k = k
 kind_at r front (Body line column bytes) w kind e k = k
 kind_at r front (Form line column pieces) w kind e k = elim k [
@@ -205,8 +205,8 @@ one_of_two_behind_key (Closing bracket ∷ rest) = inl refl
 one_of_two_behind_key (Comma ∷ rest) = inl refl
 one_of_two_behind_key (CellKey bytes ∷ rest) = inl refl
 one_of_two_behind_key (CellScalar bytes ∷ rest) = inl refl
-one_of_two_behind_key (CellName name ∷ rest) = inl refl
-one_of_two_behind_key (CellCopy name ∷ rest) = inl refl
+one_of_two_behind_key (CellAnchor name ∷ rest) = inl refl
+one_of_two_behind_key (CellAlias name ∷ rest) = inl refl
 one_of_two_behind_key (OddPiece odd.Indicator ∷ rest) = inl refl
 one_of_two_behind_key (OddPiece odd.Unkeyed ∷ rest) = inl refl
 one_of_two_behind_key (OddPiece odd.Unsupported ∷ rest) = inr refl
@@ -219,8 +219,8 @@ one_of_two_piece front Comma rest kind h = inl h
 one_of_two_piece front (CellKey bytes) rest kind h = inl h
 one_of_two_piece front (CellScalar bytes) rest kind (inl h) = subst IsOneOfTwo (sym h.1) (one_of_two_behind_key rest)
 one_of_two_piece front (CellScalar bytes) rest kind (inr h) = inl h.1
-one_of_two_piece front (CellName name) rest kind h = inl h
-one_of_two_piece front (CellCopy name) rest kind h = inl h
+one_of_two_piece front (CellAnchor name) rest kind h = inl h
+one_of_two_piece front (CellAlias name) rest kind h = inl h
 one_of_two_piece front (OddPiece odd.Syntax) rest kind h = inl h
 one_of_two_piece front (OddPiece odd.Unkeyed) rest kind h = inl h
 one_of_two_piece front (OddPiece odd.Unsupported) rest kind h = inr h
@@ -242,8 +242,8 @@ one_of_two : (front : List Token) (m : Token) (kind : FaultKind) → IsKindAt fr
 one_of_two front (Dash line column) kind h = inl h
 one_of_two front (Key line column bytes) kind h = inl h
 one_of_two front (Scalar line column bytes) kind h = inl h
-one_of_two front (Name line column bytes) kind h = inl h
-one_of_two front (Copy line column bytes) kind h = inl h
+one_of_two front (Anchor line column bytes) kind h = inl h
+one_of_two front (Alias line column bytes) kind h = inl h
 one_of_two front (Bar line column chomp) kind h = inl h
 one_of_two front (Body line column bytes) kind h = inl h
 one_of_two front (Form line column pieces) kind h = elim h [

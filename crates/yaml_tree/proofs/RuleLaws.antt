@@ -3,11 +3,11 @@ use Rattle.std.proofs.Common.{None, ◌≡◌, ℕ, ◌+◌, ◌≤◌, Bool, tr
 use Rattle.std.specs.Option.{option_and_then}
 use Rattle.std.proofs.lemmas.Bool.{false≢true}
 use Rattle.std.proofs.lemmas.List.{take-append-drop}
-use Rattle.yaml_marks.specs.Lines.{lines_of}
-use Rattle.yaml_marks.specs.declared.place.LinePlace.{LinePlace}
-use Rattle.yaml_marks.specs.declared.place.LinePlace.TheVariants.{Outside}
-use Rattle.yaml_marks.specs.declared.token.Token.{Token}
-use Rattle.yaml_marks.specs.Tokens.{has_content, line_tokens, next_place, tokens_from, tokens_of}
+use Rattle.yaml_tokens.specs.Lines.{lines_of}
+use Rattle.yaml_tokens.specs.declared.place.LinePlace.{LinePlace}
+use Rattle.yaml_tokens.specs.declared.place.LinePlace.TheVariants.{Outside}
+use Rattle.yaml_tokens.specs.declared.token.Token.{Token}
+use Rattle.yaml_tokens.specs.Tokens.{has_content, line_tokens, next_place, tokens_from, tokens_of}
 use Rattle.yaml_tree.specs.Written.{Written, Spells}
 use Rattle.yaml_tree.specs.Written.Written.{nothing}
 use Rattle.yaml_tree.specs.Said.{Said, tree_of, has_repeat, has_unknown, levels, size}

@@ -1,20 +1,20 @@
 -- Small texts of each rule, with the tree that they say, and their nearest neighbours that no rule admits.
 use Rattle.std.proofs.Common.{◌≡◌, ℕ, true, false, List, [], ◌∷◌, Some, None, codes, refl, arith}
-use Rattle.yaml_marks.specs.Lines.{lines_of, split_lines}
-use Rattle.yaml_marks.specs.Scalars.{plain_len, single_quoted, double_len, unescaped, bare_scan, scan_of, scalar_at}
-use Rattle.yaml_marks.specs.declared.chomp.Chomp.TheVariants.{Clip, Strip, Keep}
-use Rattle.yaml_marks.specs.Pieces.{cell_len, bare_cell, cell_scan, found_at, why_bracket}
-use Rattle.yaml_marks.specs.declared.piece.Bracket.TheVariants.{Square, Curly}
-use Rattle.yaml_marks.specs.declared.piece.Piece.TheVariants.{Opening, Closing, Comma, CellKey, CellScalar, CellName, CellCopy, OddPiece}
+use Rattle.yaml_tokens.specs.Lines.{lines_of, split_lines}
+use Rattle.yaml_tokens.specs.Scalars.{plain_len, single_quoted, double_len, unescaped, bare_scan, scan_of, scalar_at}
+use Rattle.yaml_tokens.specs.declared.chomp.Chomp.TheVariants.{Clip, Strip, Keep}
+use Rattle.yaml_tokens.specs.Pieces.{cell_len, bare_cell, cell_scan, found_at, why_bracket}
+use Rattle.yaml_tokens.specs.declared.piece.Bracket.TheVariants.{Square, Curly}
+use Rattle.yaml_tokens.specs.declared.piece.Piece.TheVariants.{Opening, Closing, Comma, CellKey, CellScalar, CellAnchor, CellAlias, OddPiece}
 use Rattle.yaml_tree.specs.Flows.Flow.{absent, word, called, item, pair, form}
-use Rattle.yaml_marks.specs.declared.token.Token.{Token}
-use Rattle.yaml_marks.specs.Tokens.{tokens_of, tokens_from, line_tokens, place_after, node_tokens}
-use Rattle.yaml_marks.specs.declared.token.Token.TheVariants.{Dash, Key, Scalar, Name, Copy, Bar, Body, Form, OddToken}
+use Rattle.yaml_tokens.specs.declared.token.Token.{Token}
+use Rattle.yaml_tokens.specs.Tokens.{tokens_of, tokens_from, line_tokens, place_after, node_tokens}
+use Rattle.yaml_tokens.specs.declared.token.Token.TheVariants.{Dash, Key, Scalar, Anchor, Alias, Bar, Body, Form, OddToken}
 use Rattle.yaml_tree.specs.Written.{Written, Spells}
 use Rattle.yaml_tree.specs.Written.Written.{nothing, leaf, literal, flowing, named, row}
 use Rattle.yaml_tree.specs.Said.{Said, tree_of, has_repeat, has_unknown, levels, size}
 use Rattle.yaml_tree.specs.Said.Said.{null, text, unknown, sequence, mapping, with_item, with_pair}
-use Rattle.yaml_marks.specs.declared.odd.Odd.TheVariants as odd
+use Rattle.yaml_tokens.specs.declared.odd.Odd.TheVariants as odd
 
 -- the tokens of a text
 abbrev tokens_in : List ℕ → List Token
@@ -225,104 +225,104 @@ open_bracket_behind_a_value : (tokens_in (codes "a: 1\n [b") ≡ Key 1 0 (codes 
 unfolding split_lines tokens_from line_tokens place_after node_tokens scalar_at scan_of bare_scan plain_len single_quoted double_len unescaped bare_cell cell_scan cell_len found_at
 open_bracket_behind_a_value = (refl, refl)
 
--- ---- rule 6: names and copies
+-- ---- rule 6: anchors and aliases
 
--- a copy of a scalar
-copy_of_a_scalar : Reads (codes "a: &x 1\nb: *x")
-    (row (row (nothing) (Key 1 0 (codes "a")) (named (Name 1 3 (codes "x")) (leaf (Scalar 1 6 (Some (codes "1")))))) (Key 2 0 (codes "b")) (leaf (Copy 2 3 (codes "x"))))
+-- an alias of a scalar
+alias_of_a_scalar : Reads (codes "a: &x 1\nb: *x")
+    (row (row (nothing) (Key 1 0 (codes "a")) (named (Anchor 1 3 (codes "x")) (leaf (Scalar 1 6 (Some (codes "1")))))) (Key 2 0 (codes "b")) (leaf (Alias 2 3 (codes "x"))))
     (with_pair (with_pair (mapping 1) 1 (codes "a") (text 1 (codes "1"))) 2 (codes "b") (text 1 (codes "1")))
 unfolding split_lines tokens_from line_tokens place_after node_tokens scalar_at scan_of bare_scan plain_len single_quoted double_len unescaped bare_cell cell_scan cell_len found_at
-copy_of_a_scalar = ((refl, (refl, omega arith, refl, (refl, omega arith, tt, tt, (refl, omega arith, refl, (refl, omega arith))), (refl, omega arith))), refl)
+alias_of_a_scalar = ((refl, (refl, omega arith, refl, (refl, omega arith, tt, tt, (refl, omega arith, refl, (refl, omega arith))), (refl, omega arith))), refl)
 
--- a name with nothing behind it names null, and a copy keeps its line
+-- a name with nothing behind it names null, and an alias keeps its line
 name_with_nothing_behind_it : Reads (codes "a: &x\nb: *x")
-    (row (row (nothing) (Key 1 0 (codes "a")) (named (Name 1 3 (codes "x")) (nothing))) (Key 2 0 (codes "b")) (leaf (Copy 2 3 (codes "x"))))
+    (row (row (nothing) (Key 1 0 (codes "a")) (named (Anchor 1 3 (codes "x")) (nothing))) (Key 2 0 (codes "b")) (leaf (Alias 2 3 (codes "x"))))
     (with_pair (with_pair (mapping 1) 1 (codes "a") (null 1)) 2 (codes "b") (null 1))
 unfolding split_lines tokens_from line_tokens place_after node_tokens scalar_at scan_of bare_scan plain_len single_quoted double_len unescaped bare_cell cell_scan cell_len found_at
 name_with_nothing_behind_it = ((refl, (refl, omega arith, refl, (refl, omega arith, tt, tt, (refl, omega arith, tt, tt)), (refl, omega arith))), refl)
 
 -- the name belongs to the mapping
 name_of_a_mapping : Reads (codes "- &x a: 1\n- *x")
-    (row (row (nothing) (Dash 1 0) (named (Name 1 2 (codes "x")) (row (nothing) (Key 1 5 (codes "a")) (leaf (Scalar 1 8 (Some (codes "1"))))))) (Dash 2 0) (leaf (Copy 2 2 (codes "x"))))
+    (row (row (nothing) (Dash 1 0) (named (Anchor 1 2 (codes "x")) (row (nothing) (Key 1 5 (codes "a")) (leaf (Scalar 1 8 (Some (codes "1"))))))) (Dash 2 0) (leaf (Alias 2 2 (codes "x"))))
     (with_item (with_item (sequence 1) (with_pair (mapping 1) 1 (codes "a") (text 1 (codes "1")))) (with_pair (mapping 1) 1 (codes "a") (text 1 (codes "1"))))
 unfolding split_lines tokens_from line_tokens place_after node_tokens scalar_at scan_of bare_scan plain_len single_quoted double_len unescaped bare_cell cell_scan cell_len found_at
 name_of_a_mapping = ((refl, (refl, omega arith, refl, (refl, omega arith, tt, tt, (refl, omega arith, tt, (refl, omega arith, tt, tt, (refl, omega arith)))), (refl, omega arith))), refl)
 
 -- at the root too; the mapping stands at its key's column
 name_of_the_root : Reads (codes "&x a: 1\n   b: 2")
-    (named (Name 1 0 (codes "x")) (row (row (nothing) (Key 1 3 (codes "a")) (leaf (Scalar 1 6 (Some (codes "1"))))) (Key 2 3 (codes "b")) (leaf (Scalar 2 6 (Some (codes "2"))))))
+    (named (Anchor 1 0 (codes "x")) (row (row (nothing) (Key 1 3 (codes "a")) (leaf (Scalar 1 6 (Some (codes "1"))))) (Key 2 3 (codes "b")) (leaf (Scalar 2 6 (Some (codes "2"))))))
     (with_pair (with_pair (mapping 1) 1 (codes "a") (text 1 (codes "1"))) 2 (codes "b") (text 2 (codes "2")))
 unfolding split_lines tokens_from line_tokens place_after node_tokens scalar_at scan_of bare_scan plain_len single_quoted double_len unescaped bare_cell cell_scan cell_len found_at
 name_of_the_root = ((refl, (refl, omega arith, tt, (refl, omega arith, refl, (refl, omega arith, tt, tt, (refl, omega arith)), (refl, omega arith)))), refl)
 
 -- a name on a line of its own, left of its value, which begins on the name's line
 name_left_of_its_value : Reads (codes "a:\n &x\n   b\nc: *x")
-    (row (row (nothing) (Key 1 0 (codes "a")) (named (Name 2 1 (codes "x")) (leaf (Scalar 3 3 (Some (codes "b")))))) (Key 4 0 (codes "c")) (leaf (Copy 4 3 (codes "x"))))
+    (row (row (nothing) (Key 1 0 (codes "a")) (named (Anchor 2 1 (codes "x")) (leaf (Scalar 3 3 (Some (codes "b")))))) (Key 4 0 (codes "c")) (leaf (Alias 4 3 (codes "x"))))
     (with_pair (with_pair (mapping 1) 1 (codes "a") (text 2 (codes "b"))) 4 (codes "c") (text 2 (codes "b")))
 unfolding split_lines tokens_from line_tokens place_after node_tokens scalar_at scan_of bare_scan plain_len single_quoted double_len unescaped bare_cell cell_scan cell_len found_at
 name_left_of_its_value = ((refl, (refl, omega arith, refl, (refl, omega arith, tt, tt, (refl, omega arith, refl, (refl, omega arith))), (refl, omega arith))), refl)
 
 -- and right of it
 name_right_of_its_value : Reads (codes "a:\n   &x\n - b\nc: *x")
-    (row (row (nothing) (Key 1 0 (codes "a")) (named (Name 2 3 (codes "x")) (row (nothing) (Dash 3 1) (leaf (Scalar 3 3 (Some (codes "b"))))))) (Key 4 0 (codes "c")) (leaf (Copy 4 3 (codes "x"))))
+    (row (row (nothing) (Key 1 0 (codes "a")) (named (Anchor 2 3 (codes "x")) (row (nothing) (Dash 3 1) (leaf (Scalar 3 3 (Some (codes "b"))))))) (Key 4 0 (codes "c")) (leaf (Alias 4 3 (codes "x"))))
     (with_pair (with_pair (mapping 1) 1 (codes "a") (with_item (sequence 2) (text 3 (codes "b")))) 4 (codes "c") (with_item (sequence 2) (text 3 (codes "b"))))
 unfolding split_lines tokens_from line_tokens place_after node_tokens scalar_at scan_of bare_scan plain_len single_quoted double_len unescaped bare_cell cell_scan cell_len found_at
 name_right_of_its_value = ((refl, (refl, omega arith, refl, (refl, omega arith, tt, tt, (refl, omega arith, tt, (refl, omega arith, tt, tt, (refl, omega arith)))), (refl, omega arith))), refl)
 
 -- a null that has a name begins on the name's line
 name_behind_a_blank_line : Reads (codes "\n&x")
-    (named (Name 2 0 (codes "x")) (nothing))
+    (named (Anchor 2 0 (codes "x")) (nothing))
     (null 2)
 unfolding split_lines tokens_from line_tokens place_after node_tokens scalar_at scan_of bare_scan plain_len single_quoted double_len unescaped bare_cell cell_scan cell_len found_at
 name_behind_a_blank_line = ((refl, (refl, omega arith, tt, tt)), refl)
 
 -- also below its dash
 name_below_its_dash : Reads (codes "-\n  &x")
-    (row (nothing) (Dash 1 0) (named (Name 2 2 (codes "x")) (nothing)))
+    (row (nothing) (Dash 1 0) (named (Anchor 2 2 (codes "x")) (nothing)))
     (with_item (sequence 1) (null 2))
 unfolding split_lines tokens_from line_tokens place_after node_tokens scalar_at scan_of bare_scan plain_len single_quoted double_len unescaped bare_cell cell_scan cell_len found_at
 name_below_its_dash = ((refl, (refl, omega arith, tt, tt, (refl, omega arith, tt, tt))), refl)
 
 -- a node is not known inside itself
-copy_inside_its_node : Reads (codes "a: &x\n  b: *x")
-    (row (nothing) (Key 1 0 (codes "a")) (named (Name 1 3 (codes "x")) (row (nothing) (Key 2 2 (codes "b")) (leaf (Copy 2 5 (codes "x"))))))
+alias_inside_its_node : Reads (codes "a: &x\n  b: *x")
+    (row (nothing) (Key 1 0 (codes "a")) (named (Anchor 1 3 (codes "x")) (row (nothing) (Key 2 2 (codes "b")) (leaf (Alias 2 5 (codes "x"))))))
     (with_pair (mapping 1) 1 (codes "a") (with_pair (mapping 1) 2 (codes "b") (unknown 2)))
 unfolding split_lines tokens_from line_tokens place_after node_tokens scalar_at scan_of bare_scan plain_len single_quoted double_len unescaped bare_cell cell_scan cell_len found_at
-copy_inside_its_node = ((refl, (refl, omega arith, tt, tt, (refl, omega arith, tt, (refl, omega arith, tt, tt, (refl, omega arith))))), refl)
+alias_inside_its_node = ((refl, (refl, omega arith, tt, tt, (refl, omega arith, tt, (refl, omega arith, tt, tt, (refl, omega arith))))), refl)
 
 -- of nodes of one name the one completed last counts
 last_complete_node : Reads (codes "- &x [&x 1]\n- *x")
-    (row (row (nothing) (Dash 1 0) (named (Name 1 2 (codes "x")) (flowing (Form 1 5 (Opening Square ∷ CellName (codes "x") ∷ CellScalar (Some (codes "1")) ∷ Closing Square ∷ [])) (form Square (item (absent) (called (CellName (codes "x")) (word (CellScalar (Some (codes "1")))))) false)))) (Dash 2 0) (leaf (Copy 2 2 (codes "x"))))
+    (row (row (nothing) (Dash 1 0) (named (Anchor 1 2 (codes "x")) (flowing (Form 1 5 (Opening Square ∷ CellAnchor (codes "x") ∷ CellScalar (Some (codes "1")) ∷ Closing Square ∷ [])) (form Square (item (absent) (called (CellAnchor (codes "x")) (word (CellScalar (Some (codes "1")))))) false)))) (Dash 2 0) (leaf (Alias 2 2 (codes "x"))))
     (with_item (with_item (sequence 1) (with_item (sequence 1) (text 1 (codes "1")))) (with_item (sequence 1) (text 1 (codes "1"))))
 unfolding split_lines tokens_from line_tokens place_after node_tokens scalar_at scan_of bare_scan plain_len single_quoted double_len unescaped bare_cell cell_scan cell_len found_at
 last_complete_node = ((refl, (refl, omega arith, refl, (refl, omega arith, tt, tt, (refl, omega arith, tt, (omega arith, (refl, ((refl, tt, (refl, refl, refl)), λ e. refl))))), (refl, omega arith))), refl)
 
--- names and copies in a form
+-- anchors and aliases in a form
 names_in_a_form : Reads (codes "[&x, *x, &y {a: *x}]")
-    (flowing (Form 1 0 (Opening Square ∷ CellName (codes "x") ∷ Comma ∷ CellCopy (codes "x") ∷ Comma ∷ CellName (codes "y") ∷ Opening Curly ∷ CellKey (codes "a") ∷ CellCopy (codes "x") ∷ Closing Curly ∷ Closing Square ∷ [])) (form Square (item (item (item (absent) (called (CellName (codes "x")) (absent))) (word (CellCopy (codes "x")))) (called (CellName (codes "y")) (form Curly (pair (absent) (CellKey (codes "a")) (word (CellCopy (codes "x")))) false))) false))
+    (flowing (Form 1 0 (Opening Square ∷ CellAnchor (codes "x") ∷ Comma ∷ CellAlias (codes "x") ∷ Comma ∷ CellAnchor (codes "y") ∷ Opening Curly ∷ CellKey (codes "a") ∷ CellAlias (codes "x") ∷ Closing Curly ∷ Closing Square ∷ [])) (form Square (item (item (item (absent) (called (CellAnchor (codes "x")) (absent))) (word (CellAlias (codes "x")))) (called (CellAnchor (codes "y")) (form Curly (pair (absent) (CellKey (codes "a")) (word (CellAlias (codes "x")))) false))) false))
     (with_item (with_item (with_item (sequence 1) (null 1)) (null 1)) (with_pair (mapping 1) 1 (codes "a") (null 1)))
 unfolding split_lines tokens_from line_tokens place_after node_tokens scalar_at scan_of bare_scan plain_len single_quoted double_len unescaped bare_cell cell_scan cell_len found_at
 names_in_a_form = ((refl, (omega arith, (refl, ((refl, (refl, (refl, tt, refl), refl), (refl, refl, ((refl, refl, tt, refl), λ e. refl))), λ e. refl)))), refl)
 
 -- a sequence begins on a line of its own, also behind a name
-dash_behind_a_name : tokens_in (codes "&x - b") ≡ Name 1 0 (codes "x") ∷ OddToken 1 3 odd.Syntax ∷ []
+dash_behind_a_name : tokens_in (codes "&x - b") ≡ Anchor 1 0 (codes "x") ∷ OddToken 1 3 odd.Syntax ∷ []
 unfolding split_lines tokens_from line_tokens place_after node_tokens scalar_at scan_of bare_scan plain_len single_quoted double_len unescaped bare_cell cell_scan cell_len found_at
 dash_behind_a_name = refl
 
 -- one name a value
-two_names : tokens_in (codes "a: &x &y 1") ≡ Key 1 0 (codes "a") ∷ Name 1 3 (codes "x") ∷ OddToken 1 6 odd.Syntax ∷ []
+two_names : tokens_in (codes "a: &x &y 1") ≡ Key 1 0 (codes "a") ∷ Anchor 1 3 (codes "x") ∷ OddToken 1 6 odd.Syntax ∷ []
 unfolding split_lines tokens_from line_tokens place_after node_tokens scalar_at scan_of bare_scan plain_len single_quoted double_len unescaped bare_cell cell_scan cell_len found_at
 two_names = refl
 
--- a copy has no name
-name_of_a_copy : tokens_in (codes "a: &x *y") ≡ Key 1 0 (codes "a") ∷ Name 1 3 (codes "x") ∷ Copy 1 6 (codes "y") ∷ []
+-- an alias has no name
+name_of_a_alias : tokens_in (codes "a: &x *y") ≡ Key 1 0 (codes "a") ∷ Anchor 1 3 (codes "x") ∷ Alias 1 6 (codes "y") ∷ []
 unfolding split_lines tokens_from line_tokens place_after node_tokens scalar_at scan_of bare_scan plain_len single_quoted double_len unescaped bare_cell cell_scan cell_len found_at
-name_of_a_copy = refl
+name_of_a_alias = refl
 
--- a copy is a whole value
-text_behind_a_copy : tokens_in (codes "a: *x y") ≡ Key 1 0 (codes "a") ∷ Copy 1 3 (codes "x") ∷ OddToken 1 0 odd.Syntax ∷ []
+-- an alias is a whole value
+text_behind_a_alias : tokens_in (codes "a: *x y") ≡ Key 1 0 (codes "a") ∷ Alias 1 3 (codes "x") ∷ OddToken 1 0 odd.Syntax ∷ []
 unfolding split_lines tokens_from line_tokens place_after node_tokens scalar_at scan_of bare_scan plain_len single_quoted double_len unescaped bare_cell cell_scan cell_len found_at
-text_behind_a_copy = refl
+text_behind_a_alias = refl
 
 -- another byte behind a name
 byte_behind_a_name : tokens_in (codes "a: &x# 1") ≡ Key 1 0 (codes "a") ∷ OddToken 1 3 odd.Syntax ∷ []
@@ -344,14 +344,14 @@ repeated_key = refl
 same_key_deeper : has_repeat (with_pair (mapping 1) 1 (codes "a") (with_pair (mapping 1) 1 (codes "a") (text 1 (codes "2")))) ≡ false
 same_key_deeper = refl
 
--- `a: &x [1, 1]` and `b: [*x, *x]`: copies count in full
-copies_count : size (with_pair (with_pair (mapping 1) 1 (codes "a") (with_item (with_item (sequence 1) (text 1 (codes "1"))) (text 1 (codes "1")))) 2 (codes "b") (with_item (with_item (sequence 2) (with_item (with_item (sequence 1) (text 1 (codes "1"))) (text 1 (codes "1")))) (with_item (with_item (sequence 1) (text 1 (codes "1"))) (text 1 (codes "1"))))) ≡ 11
-copies_count = refl
+-- `a: &x [1, 1]` and `b: [*x, *x]`: aliases count in full
+aliases_count : size (with_pair (with_pair (mapping 1) 1 (codes "a") (with_item (with_item (sequence 1) (text 1 (codes "1"))) (text 1 (codes "1")))) 2 (codes "b") (with_item (with_item (sequence 2) (with_item (with_item (sequence 1) (text 1 (codes "1"))) (text 1 (codes "1")))) (with_item (with_item (sequence 1) (text 1 (codes "1"))) (text 1 (codes "1"))))) ≡ 11
+aliases_count = refl
 
 -- and so do their levels
-copies_have_levels : levels (with_pair (with_pair (mapping 1) 1 (codes "a") (with_item (with_item (sequence 1) (text 1 (codes "1"))) (text 1 (codes "1")))) 2 (codes "b") (with_item (with_item (sequence 2) (with_item (with_item (sequence 1) (text 1 (codes "1"))) (text 1 (codes "1")))) (with_item (with_item (sequence 1) (text 1 (codes "1"))) (text 1 (codes "1"))))) ≡ 3
-copies_have_levels = refl
+aliases_have_levels : levels (with_pair (with_pair (mapping 1) 1 (codes "a") (with_item (with_item (sequence 1) (text 1 (codes "1"))) (text 1 (codes "1")))) 2 (codes "b") (with_item (with_item (sequence 2) (with_item (with_item (sequence 1) (text 1 (codes "1"))) (text 1 (codes "1")))) (with_item (with_item (sequence 1) (text 1 (codes "1"))) (text 1 (codes "1"))))) ≡ 3
+aliases_have_levels = refl
 
--- a copy that is not known
-unknown_copy : has_unknown (with_item (sequence 1) (unknown 1)) ≡ true
-unknown_copy = refl
+-- an alias that is not known
+unknown_alias : has_unknown (with_item (sequence 1) (unknown 1)) ≡ true
+unknown_alias = refl

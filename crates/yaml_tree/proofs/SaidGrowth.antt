@@ -1,13 +1,13 @@
--- What is said only grows with each token: a repeated key and an unknown copy stay, and neither levels nor nodes get
+-- What is said only grows with each token: a repeated key and an unknown alias stay, and neither levels nor nodes get
 -- fewer.
 use Rattle.std.proofs.Common.{◌≡◌, ℕ, ◌≤◌, ◌<◌, Bool, true, false, ◌||◌, List, [], ◌∷◌, Some, refl, sym, ◌∙◌, subst, arith, inl, inr}
 use Rattle.std.proofs.lemmas.Option.{none-some, same_Some}
 use Rattle.std.proofs.lemmas.Bool.{false≢true}
-use Rattle.yaml_marks.specs.declared.token.Token.{Token}
-use Rattle.yaml_marks.specs.declared.token.Token.TheVariants.{Dash, Key, Scalar, Name, Copy, Bar, Body, Form, OddToken}
+use Rattle.yaml_tokens.specs.declared.token.Token.{Token}
+use Rattle.yaml_tokens.specs.declared.token.Token.TheVariants.{Dash, Key, Scalar, Anchor, Alias, Bar, Body, Form, OddToken}
 use Rattle.yaml_tree.specs.Written.{Written, line_of}
 use Rattle.yaml_tree.specs.Written.Written.{nothing, leaf, literal, flowing, named, row}
-use Rattle.yaml_tree.specs.Said.{Said, Names, Meaning, said, from_line, begun_block, row_behind, has_repeat, has_unknown, has_key, levels, size}
+use Rattle.yaml_tree.specs.Said.{Said, Anchors, Meaning, said, from_line, begun_block, row_behind, has_repeat, has_unknown, has_key, levels, size}
 use Rattle.yaml_tree.specs.Said.Said.{null, text, unknown, sequence, mapping, with_item, with_pair}
 use Rattle.yaml_tree.proofs.Lists.{chained}
 use Rattle.yaml_tree.proofs.KnownLaws.{has_repeat_from_line, has_unknown_from_line, levels_from_line, size_from_line}
@@ -79,8 +79,8 @@ row_grows : (head : Token) (before : Said) (old new : Meaning) → Grows old.0 n
 row_grows (Key line column k) before old new g = pair_grows before line k old.0 new.0 g
 row_grows (Dash line column) before old new g = item_grows before old.0 new.0 g
 row_grows (Scalar line column value) before old new g = item_grows before old.0 new.0 g
-row_grows (Name line column n) before old new g = item_grows before old.0 new.0 g
-row_grows (Copy line column n) before old new g = item_grows before old.0 new.0 g
+row_grows (Anchor line column n) before old new g = item_grows before old.0 new.0 g
+row_grows (Alias line column n) before old new g = item_grows before old.0 new.0 g
 row_grows (Bar line column chomp) before old new g = item_grows before old.0 new.0 g
 row_grows (Body line column bytes) before old new g = item_grows before old.0 new.0 g
 row_grows (Form line column pieces) before old new g = item_grows before old.0 new.0 g
@@ -97,18 +97,18 @@ row_behind_grows : (head : Token) (before : Said) (meaning : Meaning) → Grows 
 row_behind_grows (Key line column k) before meaning = with_pair_grows before line k meaning.0
 row_behind_grows (Dash line column) before meaning = with_item_grows before meaning.0
 row_behind_grows (Scalar line column value) before meaning = with_item_grows before meaning.0
-row_behind_grows (Name line column n) before meaning = with_item_grows before meaning.0
-row_behind_grows (Copy line column n) before meaning = with_item_grows before meaning.0
+row_behind_grows (Anchor line column n) before meaning = with_item_grows before meaning.0
+row_behind_grows (Alias line column n) before meaning = with_item_grows before meaning.0
 row_behind_grows (Bar line column chomp) before meaning = with_item_grows before meaning.0
 row_behind_grows (Body line column bytes) before meaning = with_item_grows before meaning.0
 row_behind_grows (Form line column pieces) before meaning = with_item_grows before meaning.0
 row_behind_grows (OddToken line column why) before meaning = with_item_grows before meaning.0
 
 -- what is said where a value stands, on this line and behind these names
-abbrev pub SaidGrows : ℕ → Names → Written → Written → Type 0
+abbrev pub SaidGrows : ℕ → Anchors → Written → Written → Type 0
 SaidGrows line names old new = Grows (said (null line) names old).0 (said (null line) names new).0
 
-pub with_token_grows : (r : FlowReader) (m : Token) (old new : Written) → with_token r m old ≡ Some new → (line : ℕ) (names : Names) → SaidGrows line names old new
+pub with_token_grows : (r : FlowReader) (m : Token) (old new : Written) → with_token r m old ≡ Some new → (line : ℕ) (names : Anchors) → SaidGrows line names old new
 with_token_grows r m nothing new e line names = null_grows line (said (null line) names new).0
 with_token_grows r m (leaf other) new e line names = absurd (none-some new e)
 with_token_grows r m (literal head lines) new e line names = subst (SaidGrows line names (literal head lines)) (literal_case r m head lines new e).2 (text_grows (line_of head) _ _)
@@ -122,7 +122,7 @@ with_token_grows r m (row before head value) new e line names = elim (row_cases 
       (row_behind_grows m b.0 (said (null (line_of m)) b.1 nothing)))
 ]
 
-pub with_tokens_grows : (r : FlowReader) (ms : List Token) (old new : Written) → with_tokens r ms old ≡ Some new → (line : ℕ) (names : Names) → SaidGrows line names old new
+pub with_tokens_grows : (r : FlowReader) (ms : List Token) (old new : Written) → with_tokens r ms old ≡ Some new → (line : ℕ) (names : Anchors) → SaidGrows line names old new
 with_tokens_grows r [] old new e line names = subst (SaidGrows line names old) (same_Some _ _ e) (record { repeat_stays = λ h. h; unknown_stays = λ h. h; no_fewer_levels = omega arith; no_smaller = omega arith })
 with_tokens_grows r (m ∷ ms) old new e line names = let c = chained (with_tokens r ms) (with_token r m old) new e in
     let first = with_token_grows r m old c.0 c.1 line names in let rest = with_tokens_grows r ms c.0 new c.2 line names in

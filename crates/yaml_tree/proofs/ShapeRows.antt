@@ -1,7 +1,7 @@
 -- Flow forms that are read piece by piece, and the first pieces that can't stand.
 use Rattle.std.proofs.Common.{◌≡◌, true, false, [], ◌∷◌, Some, None, codes, refl}
-use Rattle.yaml_marks.specs.declared.piece.Bracket.TheVariants.{Square, Curly}
-use Rattle.yaml_marks.specs.declared.piece.Piece.TheVariants.{Opening, Closing, Comma, CellKey, CellScalar, CellName, CellCopy}
+use Rattle.yaml_tokens.specs.declared.piece.Bracket.TheVariants.{Square, Curly}
+use Rattle.yaml_tokens.specs.declared.piece.Piece.TheVariants.{Opening, Closing, Comma, CellKey, CellScalar, CellAnchor, CellAlias}
 use Rattle.yaml_tree.specs.Flows.{spelling}
 use Rattle.yaml_tree.specs.Flows.Flow.{absent, word, called, item, pair, form}
 use Rattle.yaml_tree.proofs.Shapes.{with_pieces}
@@ -20,7 +20,7 @@ nested_read : with_pieces (spelling (form Square (item (item (absent) (form Squa
 nested_read = refl
 
 -- `[&x, *x, &y {a: &z}]`
-names_read : with_pieces (spelling (form Square (item (item (item (absent) (called (CellName (codes "x")) (absent))) (word (CellCopy (codes "x")))) (called (CellName (codes "y")) (form Curly (pair (absent) (CellKey (codes "a")) (called (CellName (codes "z")) (absent))) false))) false)) start ≡ Some (done (form Square (item (item (item (absent) (called (CellName (codes "x")) (absent))) (word (CellCopy (codes "x")))) (called (CellName (codes "y")) (form Curly (pair (absent) (CellKey (codes "a")) (called (CellName (codes "z")) (absent))) false))) false))
+names_read : with_pieces (spelling (form Square (item (item (item (absent) (called (CellAnchor (codes "x")) (absent))) (word (CellAlias (codes "x")))) (called (CellAnchor (codes "y")) (form Curly (pair (absent) (CellKey (codes "a")) (called (CellAnchor (codes "z")) (absent))) false))) false)) start ≡ Some (done (form Square (item (item (item (absent) (called (CellAnchor (codes "x")) (absent))) (word (CellAlias (codes "x")))) (called (CellAnchor (codes "y")) (form Curly (pair (absent) (CellKey (codes "a")) (called (CellAnchor (codes "z")) (absent))) false))) false))
 names_read = refl
 
 -- `[a,,`
@@ -48,9 +48,9 @@ other_bracket : with_pieces (Opening Square ∷ CellScalar (Some (codes "a")) �
 other_bracket = refl
 
 -- `[&x &y`
-two_names : with_pieces (Opening Square ∷ CellName (codes "x") ∷ CellName (codes "y") ∷ []) start ≡ None
+two_names : with_pieces (Opening Square ∷ CellAnchor (codes "x") ∷ CellAnchor (codes "y") ∷ []) start ≡ None
 two_names = refl
 
 -- `[&x *y`
-named_copy : with_pieces (Opening Square ∷ CellName (codes "x") ∷ CellCopy (codes "y") ∷ []) start ≡ None
-named_copy = refl
+named_alias : with_pieces (Opening Square ∷ CellAnchor (codes "x") ∷ CellAlias (codes "y") ∷ []) start ≡ None
+named_alias = refl

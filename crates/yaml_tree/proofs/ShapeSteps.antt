@@ -2,16 +2,16 @@
 use Rattle.std.proofs.Common.{◌≡◌, ℕ, ◌+◌, ◌<◌, true, false, cond, List, [], ◌∷◌, Some, length, map, drop, get_or, refl, sym, ap, ◌∙◌}
 use Rattle.std.specs.Prelude.{if◌then◌else◌}
 use Rattle.std.proofs.lemmas.Bool.{cond-true, cond-false}
-use Rattle.yaml_marks.specs.declared.piece.Piece.{Piece}
-use Rattle.yaml_marks.specs.declared.piece.Piece.TheVariants.{Opening, Closing, Comma, CellKey, CellScalar, CellName, CellCopy, OddPiece}
-use Rattle.yaml_marks.specs.declared.odd.Odd.TheVariants as odd
-use Rattle.yaml_marks.specs.inside.Packed.{bare}
-use Rattle.yaml_marks.proofs.PackedLaws.{closes_bare}
+use Rattle.yaml_tokens.specs.declared.piece.Piece.{Piece}
+use Rattle.yaml_tokens.specs.declared.piece.Piece.TheVariants.{Opening, Closing, Comma, CellKey, CellScalar, CellAnchor, CellAlias, OddPiece}
+use Rattle.yaml_tokens.specs.declared.odd.Odd.TheVariants as odd
+use Rattle.yaml_tokens.specs.inside.Packed.{bare}
+use Rattle.yaml_tokens.proofs.PackedLaws.{closes_bare}
 use Rattle.yaml_tree.specs.declared.shape.Shape.{Shape}
 use Rattle.yaml_tree.specs.declared.shape.Want.TheVariants as want
 use Rattle.yaml_tree.specs.declared.fault.FaultKind.TheVariants.{Syntax, Unsupported}
 use Rattle.yaml_tree.specs.Flows.{kind_behind_key}
-use Rattle.yaml_marks.proofs.BracketSteps.{here}
+use Rattle.yaml_tokens.proofs.BracketSteps.{here}
 use Rattle.yaml_tree.specs.inside.Outline.{takes_key, takes_piece, behind, piece_fault, fault_from, flow_fault}
 
 -- ---- the fault of pieces
@@ -34,8 +34,8 @@ takes_piece_bare (Closing bracket) shape = refl
 takes_piece_bare Comma shape = refl
 takes_piece_bare (CellKey text) shape = refl
 takes_piece_bare (CellScalar text) shape = refl
-takes_piece_bare (CellName text) shape = refl
-takes_piece_bare (CellCopy text) shape = refl
+takes_piece_bare (CellAnchor text) shape = refl
+takes_piece_bare (CellAlias text) shape = refl
 takes_piece_bare (OddPiece why) shape = refl
 
 behind_bare : (piece : Piece) (shape : Shape) → behind (bare piece) shape ≡ behind piece shape
@@ -44,8 +44,8 @@ behind_bare (Closing bracket) shape = refl
 behind_bare Comma shape = refl
 behind_bare (CellKey text) shape = refl
 behind_bare (CellScalar text) shape = refl
-behind_bare (CellName text) shape = refl
-behind_bare (CellCopy text) shape = refl
+behind_bare (CellAnchor text) shape = refl
+behind_bare (CellAlias text) shape = refl
 behind_bare (OddPiece why) shape = refl
 
 kind_behind_key_bare : (pieces : List Piece) → kind_behind_key (map bare pieces) ≡ kind_behind_key pieces
@@ -55,8 +55,8 @@ kind_behind_key_bare (Closing bracket ∷ pieces) = refl
 kind_behind_key_bare (Comma ∷ pieces) = refl
 kind_behind_key_bare (CellKey text ∷ pieces) = refl
 kind_behind_key_bare (CellScalar text ∷ pieces) = refl
-kind_behind_key_bare (CellName text ∷ pieces) = refl
-kind_behind_key_bare (CellCopy text ∷ pieces) = refl
+kind_behind_key_bare (CellAnchor text ∷ pieces) = refl
+kind_behind_key_bare (CellAlias text ∷ pieces) = refl
 kind_behind_key_bare (OddPiece odd.Indicator ∷ pieces) = refl
 kind_behind_key_bare (OddPiece odd.Unkeyed ∷ pieces) = refl
 kind_behind_key_bare (OddPiece odd.Unsupported ∷ pieces) = refl
@@ -68,8 +68,8 @@ piece_fault_bare (Closing bracket) pieces shape = refl
 piece_fault_bare Comma pieces shape = refl
 piece_fault_bare (CellKey text) pieces shape = refl
 piece_fault_bare (CellScalar text) pieces shape = ap (λ k. if takes_key shape.want shape.brackets then k else Syntax) (kind_behind_key_bare pieces)
-piece_fault_bare (CellName text) pieces shape = refl
-piece_fault_bare (CellCopy text) pieces shape = refl
+piece_fault_bare (CellAnchor text) pieces shape = refl
+piece_fault_bare (CellAlias text) pieces shape = refl
 piece_fault_bare (OddPiece odd.Indicator) pieces shape = refl
 piece_fault_bare (OddPiece odd.Unkeyed) pieces shape = refl
 piece_fault_bare (OddPiece odd.Unsupported) pieces shape = refl

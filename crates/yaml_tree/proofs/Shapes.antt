@@ -2,10 +2,10 @@
 -- next.
 use Rattle.std.specs.Prelude.{ℕ, Bool, true, false, List, [], ◌∷◌, Option, Some, None, if◌then◌else◌}
 use Rattle.std.specs.Option.{option_and_then}
-use Rattle.yaml_marks.specs.declared.piece.Bracket.{Bracket}
-use Rattle.yaml_marks.specs.declared.piece.Piece.{Piece}
-use Rattle.yaml_marks.specs.declared.piece.Bracket.TheVariants.{Square, Curly}
-use Rattle.yaml_marks.specs.declared.piece.Piece.TheVariants.{Opening, Closing, Comma, CellKey, CellScalar, CellName, CellCopy}
+use Rattle.yaml_tokens.specs.declared.piece.Bracket.{Bracket}
+use Rattle.yaml_tokens.specs.declared.piece.Piece.{Piece}
+use Rattle.yaml_tokens.specs.declared.piece.Bracket.TheVariants.{Square, Curly}
+use Rattle.yaml_tokens.specs.declared.piece.Piece.TheVariants.{Opening, Closing, Comma, CellKey, CellScalar, CellAnchor, CellAlias}
 use Rattle.yaml_tree.specs.Flows.{Flow, has_cells}
 use Rattle.yaml_tree.specs.Flows.Flow.{absent, word, called, item, pair, form}
 
@@ -39,7 +39,7 @@ same_bracket _ _ = false
 
 abbrev pub with_name : Option (List ℕ) → Flow → Flow
 with_name None value = value
-with_name (Some name) value = called (CellName name) value
+with_name (Some name) value = called (CellAnchor name) value
 
 -- the cells with the value that has come
 abbrev pub filled : Flow → CellPlace → Flow
@@ -66,17 +66,17 @@ end_piece _ bracket cells outer = None
 -- a piece behind a name
 abbrev pub named_piece : Piece → CellPlace → List ℕ → List Slot → Option Shape
 named_piece (Opening bracket) place name outer = Some (cell_next bracket absent (slot place (Some name) ∷ outer))
-named_piece (CellScalar text) place name outer = Some (put_value (called (CellName name) (word (CellScalar text))) place outer)
-named_piece Comma place name outer = end_piece Comma (bracket_of place) (filled (called (CellName name) absent) place) outer
-named_piece (Closing other) place name outer = end_piece (Closing other) (bracket_of place) (filled (called (CellName name) absent) place) outer
+named_piece (CellScalar text) place name outer = Some (put_value (called (CellAnchor name) (word (CellScalar text))) place outer)
+named_piece Comma place name outer = end_piece Comma (bracket_of place) (filled (called (CellAnchor name) absent) place) outer
+named_piece (Closing other) place name outer = end_piece (Closing other) (bracket_of place) (filled (called (CellAnchor name) absent) place) outer
 named_piece _ place name outer = None
 
 -- a piece where a value comes
 abbrev pub value_piece : Piece → CellPlace → List Slot → Option Shape
 value_piece (Opening bracket) place outer = Some (cell_next bracket absent (slot place None ∷ outer))
 value_piece (CellScalar text) place outer = Some (put_value (word (CellScalar text)) place outer)
-value_piece (CellName name) place outer = Some (named_next place name outer)
-value_piece (CellCopy name) place outer = Some (put_value (word (CellCopy name)) place outer)
+value_piece (CellAnchor name) place outer = Some (named_next place name outer)
+value_piece (CellAlias name) place outer = Some (put_value (word (CellAlias name)) place outer)
 value_piece _ place outer = None
 
 abbrev pub key_piece : Piece → Flow → List Slot → Option Shape

@@ -6,30 +6,30 @@ use Rattle.std.proofs.lemmas.Bool.{ltb-true, ltb-false, cond-true, cond-false, f
 use Rattle.std.specs.Cmp.Lexicographic.{pointwise}
 use Rattle.std.specs.Map.{lookup}
 use Rattle.std.specs.declared.alloc.Global.{Global}
-use Rattle.yaml_marks.specs.Pieces.{why_bracket}
+use Rattle.yaml_tokens.specs.Pieces.{why_bracket}
 use Rattle.yaml_tree.specs.Flows.{Flow, IsForm, SpellsFlow, IsFlowMisfit}
 use Rattle.yaml_tree.specs.Flows.Flow.{absent, word, called as naming, item, pair, form}
 use Rattle.yaml_tree.specs.inside.Outline.{flow_fault}
 use Rattle.yaml_tree.specs.Written.{Written, depth, line_of, is_head, is_body_line}
 use Rattle.yaml_tree.specs.Written.Written.{nothing, leaf, literal, flowing, named, row}
-use Rattle.yaml_tree.specs.Said.{Said, Names, Meaning, said, from_line, scalar_said, flow_said, body_of, bodies_of, tree_of}
+use Rattle.yaml_tree.specs.Said.{Said, Anchors, Meaning, said, from_line, scalar_said, flow_said, body_of, bodies_of, tree_of}
 use Rattle.yaml_tree.specs.Said.Said.{null, unknown}
 use Rattle.yaml_tree.specs.Holds.{HoldsSaid, IsNode, begins_on, scalar_value}
 use Rattle.yaml_tree.specs.inside.Stack.{measured, one_node, unknown_node, with_part, measure_about}
 use Rattle.yaml_tree.specs.Tree.{kind_of}
 use Rattle.yaml_tree.specs.Trees.{root_number}
-use Rattle.yaml_tree.specs.inside.Builder.{fresh, find_name, with_node, put_node, valued, known_of, settled, is_shallower, can_hold, can_name, with_scalar, with_name, put_found, with_copy, new_literal, with_bar, with_line_of, with_line, ended, take_pieces, formed, with_form, headed, unkeyed, refused, take_token, value_measure, measure, whole}
-use Rattle.yaml_marks.specs.declared.piece.Piece.{Piece}
-use Rattle.yaml_marks.specs.declared.token.Token.{Token}
-use Rattle.yaml_marks.specs.declared.token.Token.TheVariants.{Dash, Key, Scalar, Name, Copy, Bar, Body, Form, OddToken}
-use Rattle.yaml_marks.specs.declared.chomp.Chomp.{Chomp}
+use Rattle.yaml_tree.specs.inside.Builder.{fresh, find_name, with_node, put_node, valued, known_of, closed_deeper, is_shallower, can_hold, can_name, with_scalar, with_name, put_found, with_alias, new_literal, with_bar, with_line_of, with_line, ended, take_pieces, formed, with_form, headed, unkeyed, refused, take_token, value_measure, measure, whole}
+use Rattle.yaml_tokens.specs.declared.piece.Piece.{Piece}
+use Rattle.yaml_tokens.specs.declared.token.Token.{Token}
+use Rattle.yaml_tokens.specs.declared.token.Token.TheVariants.{Dash, Key, Scalar, Anchor, Alias, Bar, Body, Form, OddToken}
+use Rattle.yaml_tokens.specs.declared.chomp.Chomp.{Chomp}
 use Rattle.yaml_tree.specs.declared.literal.Literal.{Literal}
-use Rattle.yaml_marks.specs.declared.odd.Odd.{Odd}
-use Rattle.yaml_marks.specs.declared.odd.Odd.TheVariants as odd
+use Rattle.yaml_tokens.specs.declared.odd.Odd.{Odd}
+use Rattle.yaml_tokens.specs.declared.odd.Odd.TheVariants as odd
 use Rattle.yaml_tree.specs.declared.fault.FaultKind.{FaultKind}
 use Rattle.yaml_tree.specs.declared.fault.FaultKind.TheVariants.{Syntax, Unsupported}
 use Rattle.yaml_tree.specs.declared.known.Measure.{Measure}
-use Rattle.yaml_tree.specs.declared.known.Known.{Known}
+use Rattle.yaml_tree.specs.declared.known.KnownNode.{KnownNode}
 use Rattle.yaml_tree.specs.declared.known.GivenName.{GivenName}
 use Rattle.yaml_tree.specs.declared.node.Node.{Node}
 use Rattle.yaml_tree.specs.declared.stack.Open.{Open}
@@ -39,7 +39,7 @@ use Rattle.yaml_tree.proofs.FlowJudged.{FlowJudged, Judges}
 use Rattle.yaml_tree.proofs.FlowPlay.{Played, flow_played}
 use Rattle.yaml_tree.proofs.KnownLaws.{slice_get-last, measured_from_line}
 use Rattle.yaml_tree.proofs.Stands.{KnownIs, NameIs, NamesAre, named_by, Frame, called, wrap, names_at, line_at, HasName, OpenIs, before_of, Chain, OpensAre, LiteralIs, ValueIs, StandsAt, IsShut, Between, StandsFor}
-use Rattle.yaml_tree.proofs.SimulationValues.{meaning_at, said_called, OpensAre_more, put_node_stands, Valued, NoneIs, none_is, valued_stands, row_measure, HasCome, AtMost, Settled, settled_on_stands, Ready, ended_ready}
+use Rattle.yaml_tree.proofs.SimulationValues.{meaning_at, said_called, OpensAre_more, put_node_stands, Valued, NoneIs, none_is, valued_stands, row_measure, HasCome, AtMost, ClosedDeeper, closed_deeper_on_stands, Ready, ended_ready}
 use Rattle.yaml_tree.proofs.SimulationHeads.{with_token_wrap, refused_wrap, called_begins, called_refuses, full_refuses, still_none, none_between, Taken, headed_taken}
 
 -- ---- where a value may come
@@ -64,7 +64,7 @@ can_hold_means r d b fs value ready = by b.value refl
               ∙ ap (λ k. cond (k && (depth g.head == depth m)) (Some (row (row g.before g.head value) m nothing)) None) head)))
         ] refl
 
-    by : (v : Option Known) → b.value ≡ v → CanHold r d b fs value (is_none v && is_shallower d b.open_rows)
+    by : (v : Option KnownNode) → b.value ≡ v → CanHold r d b fs value (is_none v && is_shallower d b.open_rows)
     by (Some k) e = λ m head line deep. refused_wrap r m fs value head (full_refuses r m d value deep line (subst (λ v. HasCome d v value) e (ready.come d)))
     by None e = shallow b.open_rows fs ready.stands.opens e (none_is b fs value e ready.shut ready.stands) (λ m head h. h) (λ h. h)
 
@@ -118,9 +118,9 @@ with_scalar_taken r line column text b fs value ready = by (can_hold (1 + 2 * co
       ),
     )
 
--- ---- names and copies
+-- ---- anchors and aliases
 
--- whether a name or a copy of this depth may come
+-- whether an anchor or an alias of this depth may come
 abbrev CanName : FlowReader → Token → Builder → List Frame → Written → Bool → Type 0
 CanName r m b fs value true = (b.value ≡ None) × (b.name ≡ None) × (value ≡ nothing) × NamesAre b.nodes b.names (names_at fs) × Chain (depth m) fs
 CanName r m b fs value false = with_token r m (wrap fs value) ≡ None
@@ -130,7 +130,7 @@ no_name None None h e = refl
 no_name None (Some token) h e = absurd h
 no_name (Some n) name h e = absurd (none-some n (sym e))
 
--- behind a name no other name may come, and no copy
+-- behind a name no other name may come, and no alias
 names_refuse : (r : FlowReader) (m : Token) (waits : Option GivenName) (n : GivenName) (name : Option Token) → may_follow_name m ≡ false → HasName waits name → waits ≡ Some n → with_token r m (called name nothing) ≡ None
 names_refuse r m None n name follows h e = absurd (none-some n e)
 names_refuse r m (Some other) n None follows h e = absurd h
@@ -145,12 +145,12 @@ can_name_means r m b fs value head line follows ready = by b.name (can_hold (dep
     by (Some n) true e h = ap (λ v. with_token r m (wrap fs v)) h.1.2 ∙ with_token_wrap r m fs (called h.1.0 nothing) h.2 ∙ ap (option_map (wrap fs)) (names_refuse r m b.name n h.1.0 follows h.1.1 e)
     by (Some n) false e h = h m head line refl
 
-with_name_taken : (r : FlowReader) (line column : ℕ) (text : List ℕ) (b : Builder) (fs : List Frame) (value : Written) → Ready b fs value → Taken r (Name line column text) (wrap fs value) (with_name (1 + 2 * column) line text b)
+with_name_taken : (r : FlowReader) (line column : ℕ) (text : List ℕ) (b : Builder) (fs : List Frame) (value : Written) → Ready b fs value → Taken r (Anchor line column text) (wrap fs value) (with_name (1 + 2 * column) line text b)
 unfolding with_name
-with_name_taken r line column text b fs value ready = by (can_name (1 + 2 * column) b) (can_name_means r (Name line column text) b fs value refl refl refl ready)
+with_name_taken r line column text b fs value ready = by (can_name (1 + 2 * column) b) (can_name_means r (Anchor line column text) b fs value refl refl refl ready)
   where
     m : Token
-    m = Name line column text
+    m = Anchor line column text
 
     next : Builder
     next = record b { name = Some (record { line = line; text = text }) }
@@ -169,18 +169,18 @@ with_name_taken r line column text b fs value ready = by (can_name (1 + 2 * colu
       ),
     )
 
--- what a copy stands for, once it has come
-abbrev CopyStands : ℕ → Token → Builder → List Frame → Option Known → Type 0
+-- what an alias stands for, once it has come
+abbrev CopyStands : ℕ → Token → Builder → List Frame → Option KnownNode → Type 0
 CopyStands line m b fs found = StandsAt (put_found line found b) fs (leaf m) × Between (put_found line found b).value (leaf m)
 
-copy_stands : (line column : ℕ) (text : List ℕ) (b : Builder) (fs : List Frame) (value : Written) → Ready b fs value → b.name ≡ None → NamesAre b.nodes b.names (names_at fs) → CopyStands line (Copy line column text) b fs (find_name b.names text)
+alias_stands : (line column : ℕ) (text : List ℕ) (b : Builder) (fs : List Frame) (value : Written) → Ready b fs value → b.name ≡ None → NamesAre b.nodes b.names (names_at fs) → CopyStands line (Alias line column text) b fs (find_name b.names text)
 unfolding put_node with_node
-copy_stands line column text b fs value ready e names = by (find_name b.names text) (lookup (pointwise ◌==◌ text) (names_at fs)) refl (names text)
+alias_stands line column text b fs value ready e names = by (find_name b.names text) (lookup (pointwise ◌==◌ text) (names_at fs)) refl (names text)
   where
     m : Token
-    m = Copy line column text
+    m = Alias line column text
 
-    by : (found : Option Known) (tree : Option Said) → lookup (pointwise ◌==◌ text) (names_at fs) ≡ tree → NameIs b.nodes found tree → CopyStands line m b fs found
+    by : (found : Option KnownNode) (tree : Option Said) → lookup (pointwise ◌==◌ text) (names_at fs) ≡ tree → NameIs b.nodes found tree → CopyStands line m b fs found
     by None (Some tree) q h = absurd h
     by (Some k) None q h = absurd h
     by (Some k) (Some tree) q h = (record { flat = ready.stands.flat; opens = ready.stands.opens; is = (ready.shut, e, subst (KnownIs b.nodes k) (sym (ap (λ o. unwrap_or o (unknown line)) q)) h, names) }, tt)
@@ -193,16 +193,16 @@ copy_stands line column text b fs value ready e names = by (find_name b.names te
           tt,
         )
 
-with_copy_taken : (r : FlowReader) (line column : ℕ) (text : List ℕ) (b : Builder) (fs : List Frame) (value : Written) → Ready b fs value → Taken r (Copy line column text) (wrap fs value) (with_copy (1 + 2 * column) line text b)
-unfolding with_copy
-with_copy_taken r line column text b fs value ready = by (can_name (1 + 2 * column) b) (can_name_means r (Copy line column text) b fs value refl refl refl ready)
+with_alias_taken : (r : FlowReader) (line column : ℕ) (text : List ℕ) (b : Builder) (fs : List Frame) (value : Written) → Ready b fs value → Taken r (Alias line column text) (wrap fs value) (with_alias (1 + 2 * column) line text b)
+unfolding with_alias
+with_alias_taken r line column text b fs value ready = by (can_name (1 + 2 * column) b) (can_name_means r (Alias line column text) b fs value refl refl refl ready)
   where
     m : Token
-    m = Copy line column text
+    m = Alias line column text
 
     by : (q : Bool) → CanName r m b fs value q → Taken r m (wrap fs value) (cond q (Ok (put_found line (find_name b.names text) b)) (Err Syntax))
     by false h = (h, refl)
-    by true h = let c = copy_stands line column text b fs value ready h.1 h.3 in (
+    by true h = let c = alias_stands line column text b fs value ready h.1 h.3 in (
       wrap fs (leaf m),
       ap (λ v. with_token r m (wrap fs v)) h.2 ∙ with_token_wrap r m fs nothing h.4,
       (fs, leaf m, c.0, refl, c.1),
@@ -254,7 +254,7 @@ line_goes r line column bytes (Some token) bar lines true e = ap (option_map (na
 line_goes r line column bytes (Some token) bar lines false e = ap (option_map (named token)) (cond-false (1 + 2 * column == depth bar) _ _ e)
 
 -- a line of a literal block where none is open
-no_bar : (r : FlowReader) (line column : ℕ) (bytes : List ℕ) (b : Builder) (fs : List Frame) (value : Written) (v : Option Known) → b.value ≡ v → b.literal ≡ None → StandsAt b fs value → Between b.value value → with_token r (Body line column bytes) value ≡ None
+no_bar : (r : FlowReader) (line column : ℕ) (bytes : List ℕ) (b : Builder) (fs : List Frame) (value : Written) (v : Option KnownNode) → b.value ≡ v → b.literal ≡ None → StandsAt b fs value → Between b.value value → with_token r (Body line column bytes) value ≡ None
 no_bar r line column bytes b fs value None e shut s between = let none = none_is b fs value e shut s in ap (with_token r (Body line column bytes)) none.2 ∙ called_refuses r (Body line column bytes) none.0 nothing refl
 no_bar r line column bytes b fs value (Some k) e shut s between = refuses value (subst (λ v. Between v value) e between)
   where
@@ -273,7 +273,7 @@ with_line_taken r line column bytes b fs value s between = by b.literal b.value 
     m : Token
     m = Body line column bytes
 
-    by : (open_literal : Option Literal) (v : Option Known) → b.literal ≡ open_literal → b.value ≡ v → Taken r m (wrap fs value) (with_line_of open_literal (1 + 2 * column) bytes b)
+    by : (open_literal : Option Literal) (v : Option KnownNode) → b.literal ≡ open_literal → b.value ≡ v → Taken r m (wrap fs value) (with_line_of open_literal (1 + 2 * column) bytes b)
     by None v e q = (refused_wrap r m fs value refl (no_bar r line column bytes b fs value v q e s between), refl)
     by (Some l) (Some k) e q = absurd (none-some l (sym (subst (λ v. ValueIs v b.literal b fs value) q s.is).0 ∙ e))
     by (Some l) None e q =
@@ -322,7 +322,7 @@ TakenAny r m w (Ok b) = (new : Written) × (with_token r m w ≡ Some new) × St
 TakenAny r m w (Err kind) = (with_token r m w ≡ None) × KindAfter r m w kind
 
 -- a form begins its own collection
-form_same : (f : Flow) (line : ℕ) (a b : Said) (names : Names) → IsForm f → flow_said line a names f ≡ flow_said line b names f
+form_same : (f : Flow) (line : ℕ) (a b : Said) (names : Anchors) → IsForm f → flow_said line a names f ≡ flow_said line b names f
 form_same absent line a b names h = absurd h
 form_same (word piece) line a b names h = absurd h
 form_same (naming piece f) line a b names h = absurd h
@@ -423,8 +423,8 @@ unfolding take_token
 taken_at r judges (Dash line column) b fs value s between = any_from r (Dash line column) (wrap fs value) _ (λ k e. e) (headed_taken r (Dash line column) (ended b) fs value refl (ended_ready b fs value s between))
 taken_at r judges (Key line column text) b fs value s between = any_from r (Key line column text) (wrap fs value) _ (λ k e. e) (headed_taken r (Key line column text) (ended b) fs value refl (ended_ready b fs value s between))
 taken_at r judges (Scalar line column text) b fs value s between = any_from r (Scalar line column text) (wrap fs value) _ (λ k e. e) (with_scalar_taken r line column text (ended b) fs value (ended_ready b fs value s between))
-taken_at r judges (Name line column text) b fs value s between = any_from r (Name line column text) (wrap fs value) _ (λ k e. e) (with_name_taken r line column text (ended b) fs value (ended_ready b fs value s between))
-taken_at r judges (Copy line column text) b fs value s between = any_from r (Copy line column text) (wrap fs value) _ (λ k e. e) (with_copy_taken r line column text (ended b) fs value (ended_ready b fs value s between))
+taken_at r judges (Anchor line column text) b fs value s between = any_from r (Anchor line column text) (wrap fs value) _ (λ k e. e) (with_name_taken r line column text (ended b) fs value (ended_ready b fs value s between))
+taken_at r judges (Alias line column text) b fs value s between = any_from r (Alias line column text) (wrap fs value) _ (λ k e. e) (with_alias_taken r line column text (ended b) fs value (ended_ready b fs value s between))
 taken_at r judges (Bar line column chomp) b fs value s between = any_from r (Bar line column chomp) (wrap fs value) _ (λ k e. e) (with_bar_taken r line column chomp (ended b) fs value (ended_ready b fs value s between))
 taken_at r judges (Body line column bytes) b fs value s between = any_from r (Body line column bytes) (wrap fs value) _ (λ k e. e) (with_line_taken r line column bytes b fs value s between)
 taken_at r judges (Form line column pieces) b fs value s between = with_form_taken r judges line column pieces (ended b) fs value (ended_ready b fs value s between)
@@ -439,7 +439,7 @@ fresh_stands alloc = ([], nothing, record { flat = refl; opens = tt; is = (None,
 
 -- ---- the measure of the tree so far
 
-measured_called : (name : Option Token) (none : Said) (names : Names) (value : Written) → measured (said none names (called name value)).0 ≡ measured (said none names value).0
+measured_called : (name : Option Token) (none : Said) (names : Anchors) (value : Written) → measured (said none names (called name value)).0 ≡ measured (said none names value).0
 measured_called None none names value = refl
 measured_called (Some token) none names value = measured_from_line (line_of token) (said none names value).0
 
@@ -451,7 +451,7 @@ measure_about_is nodes (o ∷ os) (f ∷ fs) value x h e = let before : Said = b
     measure_about_is nodes os fs (called f.name (row f.before f.head value)) (with_part o.measure x) h.2
     ((λ j. with_part (is.has_measure j) (e j)) ∙ row_measure f.head before (meaning_at (f ∷ fs) value) is.heads ∙ sym (measured_called f.name (null (line_at fs)) (names_at fs) (row f.before f.head value)))
 
-value_measure_is : (b : Builder) (fs : List Frame) (value : Written) (v : Option Known) (l : Option Literal) → ValueIs v l b fs value → value_measure v ≡ measured (meaning_at fs value).0
+value_measure_is : (b : Builder) (fs : List Frame) (value : Written) (v : Option KnownNode) (l : Option Literal) → ValueIs v l b fs value → value_measure v ≡ measured (meaning_at fs value).0
 value_measure_is b fs value (Some k) l h = h.2.0
 value_measure_is b fs value None (Some l) h = sym (measured_called h.0 (null (line_at fs)) (names_at fs) (literal h.2 h.3)) ∙ ap (λ w. measured (meaning_at fs w).0) (sym h.6)
 value_measure_is b fs value None None h = sym (measured_called h.0 (null (line_at fs)) (names_at fs) nothing) ∙ ap (λ w. measured (meaning_at fs w).0) (sym h.2)
@@ -471,8 +471,8 @@ pub whole_holds : (b : Builder) (w : Written) → StandsFor b w → HoldsSaid (w
 unfolding whole
 whole_holds b w h =
     let ready : Ready (ended b) h.0 h.1 = ended_ready b h.0 h.1 h.2 h.4 in
-    let last : Builder = settled 0 (ended b) in
-    let st : Settled 0 last (wrap h.0 h.1) = settled_on_stands 0 (ended b).open_rows (ended b) h.0 h.1 refl ready.stands ready.shut (ready.come 0) in
+    let last : Builder = closed_deeper 0 (ended b) in
+    let st : ClosedDeeper 0 last (wrap h.0 h.1) = closed_deeper_on_stands 0 (ended b).open_rows (ended b) h.0 h.1 refl ready.stands ready.shut (ready.come 0) in
     let nil : st.frames ≡ [] = none_open last.nodes last.open_rows st.frames st.stands.opens st.shallow in
     let v = valued_stands 1 last st.frames st.value (ap line_at (sym nil)) st.shut st.stands in
     let root : Valued (valued 1 last) st.frames st.value v.0 = v.1 in

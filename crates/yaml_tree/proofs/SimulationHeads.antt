@@ -8,12 +8,12 @@ use Rattle.yaml_tree.specs.Said.{Said, Meaning, begun_block, row_behind}
 use Rattle.yaml_tree.specs.Holds.{HoldsRows, no_rows, with_row, begins_on}
 use Rattle.yaml_tree.specs.Entries as entries
 use Rattle.yaml_tree.specs.inside.Stack.{new_open, measured, no_row, with_part, with_repeat, finished, has_row, with_next_row}
-use Rattle.yaml_tree.specs.inside.Builder.{valued, known_of, begun, next_row, headed_on, headed, settled}
-use Rattle.yaml_marks.specs.declared.token.Token.{Token}
-use Rattle.yaml_marks.specs.declared.token.Token.TheVariants.{Dash, Key, Scalar, Name, Copy, Bar, Body, Form, OddToken}
+use Rattle.yaml_tree.specs.inside.Builder.{valued, known_of, begun, next_row, headed_on, headed, closed_deeper}
+use Rattle.yaml_tokens.specs.declared.token.Token.{Token}
+use Rattle.yaml_tokens.specs.declared.token.Token.TheVariants.{Dash, Key, Scalar, Anchor, Alias, Bar, Body, Form, OddToken}
 use Rattle.yaml_tree.specs.declared.fault.FaultKind.{FaultKind}
 use Rattle.yaml_tree.specs.declared.fault.FaultKind.TheVariants.{Syntax}
-use Rattle.yaml_tree.specs.declared.known.Known.{Known}
+use Rattle.yaml_tree.specs.declared.known.KnownNode.{KnownNode}
 use Rattle.yaml_tree.specs.declared.node.Node.{Node}
 use Rattle.yaml_tree.specs.declared.stack.Open.{Open}
 use Rattle.yaml_tree.specs.declared.builder.Builder.{Builder}
@@ -21,7 +21,7 @@ use Rattle.yaml_tree.proofs.Lists.{is_same}
 use Rattle.yaml_tree.proofs.WrittenLaws.{FlowReader, begun_by, may_follow_name, may_go_on, with_token}
 use Rattle.yaml_tree.proofs.KnownLaws.{mapping_has_key}
 use Rattle.yaml_tree.proofs.Stands.{NamesAre, Frame, called, wrap, names_at, is_key, key_of, repeats, HasName, rows_of, OpenIs, before_of, Chain, OpensAre, ValueIs, StandsAt, Between, StandsFor}
-use Rattle.yaml_tree.proofs.SimulationValues.{meaning_at, Valued, NoneIs, none_is, valued_stands, valued_rows, row_behind_names, row_measure, rows_hold, IsFull, HasCome, AtMost, settled_on_stands, Ready}
+use Rattle.yaml_tree.proofs.SimulationValues.{meaning_at, Valued, NoneIs, none_is, valued_stands, valued_rows, row_behind_names, row_measure, rows_hold, IsFull, HasCome, AtMost, closed_deeper_on_stands, Ready}
 
 -- ---- tokens at the end of the frames
 
@@ -117,8 +117,8 @@ head_is : (r : FlowReader) (m : Token) → is_head m ≡ true → HeadIs r m
 head_is r (Dash line column) h = record { begins = refl; follows = refl; no_line = refl; has_first = refl; has_measure = refl; holds = λ nodes. refl }
 head_is r (Key line column text) h = record { begins = refl; follows = refl; no_line = refl; has_first = refl; has_measure = refl; holds = λ nodes. refl }
 head_is r (Scalar line column text) h = absurd (false≢true h)
-head_is r (Name line column text) h = absurd (false≢true h)
-head_is r (Copy line column text) h = absurd (false≢true h)
+head_is r (Anchor line column text) h = absurd (false≢true h)
+head_is r (Alias line column text) h = absurd (false≢true h)
 head_is r (Bar line column chomp) h = absurd (false≢true h)
 head_is r (Body line column bytes) h = absurd (false≢true h)
 head_is r (Form line column pieces) h = absurd (false≢true h)
@@ -133,7 +133,7 @@ Taken r m w (Err kind) = (with_token r m w ≡ None) × (kind ≡ Syntax)
 pub still_none : (b new : Builder) (fs : List Frame) (value : Written) → b.value ≡ None → b.literal ≡ None → NoneIs new fs value → ValueIs b.value b.literal new fs value
 still_none b new fs value e shut h = subst (λ v. ValueIs v b.literal new fs value) (sym e) (subst (λ l. ValueIs None l new fs value) (sym shut) h)
 
-pub none_between : (v : Option Known) (value : Written) → v ≡ None → Between v value
+pub none_between : (v : Option KnownNode) (value : Written) → v ≡ None → Between v value
 none_between v value e = subst (λ x. Between x value) (sym e) tt
 
 begun_taken : (r : FlowReader) (m : Token) (b : Builder) (fs : List Frame) (value : Written) → is_head m ≡ true → StandsAt b fs value → b.literal ≡ None → Chain (depth m) fs → HasCome (depth m) b.value value → Taken r m (wrap fs value) (begun (depth m) (is_key m) (line_of m) (key_of m) b)
@@ -146,7 +146,7 @@ begun_taken r m b fs value h s shut chain come = by b.value refl
     next : Builder
     next = record b { open_rows = new_open (depth m) (is_key m) (line_of m) (key_of m) b.name ∷ b.open_rows; name = None }
 
-    by : (v : Option Known) → b.value ≡ v → Taken r m (wrap fs value) (cond (is_some v) (Err Syntax) (Ok next))
+    by : (v : Option KnownNode) → b.value ≡ v → Taken r m (wrap fs value) (cond (is_some v) (Err Syntax) (Ok next))
     by (Some k) e = (with_token_wrap r m fs value chain ∙ ap (option_map (wrap fs)) (full_refuses r m (depth m) value refl head.no_line (subst (λ v. HasCome (depth m) v value) e come)), refl)
     by None e =
         let i = none_is b fs value e shut s in
@@ -175,15 +175,15 @@ same_kind (Dash line column) (Key line' column' text') ha hb e = absurd (omega a
 same_kind (Key line column text) (Dash line' column') ha hb e = absurd (omega arith)
 same_kind (Key line column text) (Key line' column' text') ha hb e = refl
 same_kind (Scalar line column text) b ha hb e = absurd (false≢true ha)
-same_kind (Name line column text) b ha hb e = absurd (false≢true ha)
-same_kind (Copy line column text) b ha hb e = absurd (false≢true ha)
+same_kind (Anchor line column text) b ha hb e = absurd (false≢true ha)
+same_kind (Alias line column text) b ha hb e = absurd (false≢true ha)
 same_kind (Bar line column chomp) b ha hb e = absurd (false≢true ha)
 same_kind (Body line column bytes) b ha hb e = absurd (false≢true ha)
 same_kind (Form line column pieces) b ha hb e = absurd (false≢true ha)
 same_kind (OddToken line column why) b ha hb e = absurd (false≢true ha)
 same_kind a (Scalar line column text) ha hb e = absurd (false≢true hb)
-same_kind a (Name line column text) ha hb e = absurd (false≢true hb)
-same_kind a (Copy line column text) ha hb e = absurd (false≢true hb)
+same_kind a (Anchor line column text) ha hb e = absurd (false≢true hb)
+same_kind a (Alias line column text) ha hb e = absurd (false≢true hb)
 same_kind a (Bar line column chomp) ha hb e = absurd (false≢true hb)
 same_kind a (Body line column bytes) ha hb e = absurd (false≢true hb)
 same_kind a (Form line column pieces) ha hb e = absurd (false≢true hb)
@@ -193,8 +193,8 @@ row_behind_begins : (head : Token) (before : Said) (meaning : Meaning) → begin
 row_behind_begins (Key line column text) before meaning = refl
 row_behind_begins (Dash line column) before meaning = refl
 row_behind_begins (Scalar line column text) before meaning = refl
-row_behind_begins (Name line column text) before meaning = refl
-row_behind_begins (Copy line column text) before meaning = refl
+row_behind_begins (Anchor line column text) before meaning = refl
+row_behind_begins (Alias line column text) before meaning = refl
 row_behind_begins (Bar line column chomp) before meaning = refl
 row_behind_begins (Body line column bytes) before meaning = refl
 row_behind_begins (Form line column pieces) before meaning = refl
@@ -205,18 +205,18 @@ has_row_is : (nodes : List Node) (tree : Said) (o : Open) (m : Token) → HoldsR
 has_row_is nodes tree o (Dash line column) h head e = ap (λ t. t && entries.has_key [] o.entries) e
 has_row_is nodes tree o (Key line column text) h head e = mapping_has_key nodes tree (rows_of o) o.mapping text h e
 has_row_is nodes tree o (Scalar line column text) h head e = absurd (false≢true head)
-has_row_is nodes tree o (Name line column text) h head e = absurd (false≢true head)
-has_row_is nodes tree o (Copy line column text) h head e = absurd (false≢true head)
+has_row_is nodes tree o (Anchor line column text) h head e = absurd (false≢true head)
+has_row_is nodes tree o (Alias line column text) h head e = absurd (false≢true head)
 has_row_is nodes tree o (Bar line column chomp) h head e = absurd (false≢true head)
 has_row_is nodes tree o (Body line column bytes) h head e = absurd (false≢true head)
 has_row_is nodes tree o (Form line column pieces) h head e = absurd (false≢true head)
 has_row_is nodes tree o (OddToken line column why) h head e = absurd (false≢true head)
 
 -- the row whose value is this node is finished, and the next one begins
-abbrev advancing : Open → Known → ℕ → List ℕ → Builder → Builder
+abbrev advancing : Open → KnownNode → ℕ → List ℕ → Builder → Builder
 advancing o k line key b = record b { open_rows = with_next_row line key (finished o k) ∷ b.open_rows; value = None }
 
-advancing_stands : (m : Token) (o : Open) (os : List Open) (b : Builder) (f : Frame) (fs : List Frame) (value : Written) (k : Known) → is_head m ≡ true → depth f.head ≡ depth m → Valued b (f ∷ fs) value k → b.open_rows ≡ o ∷ os
+advancing_stands : (m : Token) (o : Open) (os : List Open) (b : Builder) (f : Frame) (fs : List Frame) (value : Written) (k : KnownNode) → is_head m ≡ true → depth f.head ≡ depth m → Valued b (f ∷ fs) value k → b.open_rows ≡ o ∷ os
     → StandsAt (advancing o k (line_of m) (key_of m) (record b { open_rows = os })) (next_frame m f value ∷ fs) nothing
 advancing_stands m o os b f fs value k head level s e =
     let opens : OpensAre b.nodes (o ∷ os) (f ∷ fs) = subst (λ l. OpensAre b.nodes l (f ∷ fs)) e s.stands.opens in
@@ -286,6 +286,6 @@ headed_on_taken r m (o ∷ os) b (f ∷ fs) value head e s shut most come =
 pub headed_taken : (r : FlowReader) (m : Token) (b : Builder) (fs : List Frame) (value : Written) → is_head m ≡ true → Ready b fs value → Taken r m (wrap fs value) (headed (depth m) (is_key m) (line_of m) (key_of m) b)
 unfolding headed
 headed_taken r m b fs value head h =
-    let st = settled_on_stands (depth m) b.open_rows b fs value refl h.stands h.shut (h.come (depth m)) in
-    subst (λ w. Taken r m w (headed_on (depth m) (is_key m) (line_of m) (key_of m) (settled (depth m) b).open_rows (settled (depth m) b))) st.wraps
-    (headed_on_taken r m (settled (depth m) b).open_rows (settled (depth m) b) st.frames st.value head refl st.stands st.shut st.shallow st.come)
+    let st = closed_deeper_on_stands (depth m) b.open_rows b fs value refl h.stands h.shut (h.come (depth m)) in
+    subst (λ w. Taken r m w (headed_on (depth m) (is_key m) (line_of m) (key_of m) (closed_deeper (depth m) b).open_rows (closed_deeper (depth m) b))) st.wraps
+    (headed_on_taken r m (closed_deeper (depth m) b).open_rows (closed_deeper (depth m) b) st.frames st.value head refl st.stands st.shut st.shallow st.come)

@@ -3,20 +3,20 @@
 use Rattle.std.proofs.Common.{◌≡◌, ℕ, ◌<◌, ◌≤◌, Bool, true, false, ◌||◌, cond, List, [], ◌∷◌, ◌++◌, Option, Some, None, refl, sym, ap, ◌∙◌, subst, arith, nat_lt, length, is_some}
 use Rattle.std.proofs.lemmas.Option.{none-some}
 use Rattle.std.proofs.lemmas.Bool.{ltb-true, ltb-false, false≢true}
-use Rattle.yaml_marks.specs.Literals.{block_text}
-use Rattle.yaml_tree.specs.Said.{Said, Names, Meaning, said, from_line, given, row_behind, has_repeat}
+use Rattle.yaml_tokens.specs.Literals.{block_text}
+use Rattle.yaml_tree.specs.Said.{Said, Anchors, Meaning, said, from_line, given, row_behind, has_repeat}
 use Rattle.yaml_tree.specs.Said.Said.{null}
 use Rattle.yaml_tree.specs.Holds.{HoldsSaid, HoldsRows, Rows, IsNode, with_row, rows_value, begins_on}
 use Rattle.yaml_tree.specs.Written.{Written, depth, line_of, is_head}
 use Rattle.yaml_tree.specs.Written.Written.{nothing, leaf, literal, flowing, named, row}
 use Rattle.yaml_tree.specs.inside.Stack.{measured, one_node, with_part, with_repeat, finished, collection}
-use Rattle.yaml_tree.specs.inside.Builder.{begins_at, next_known, with_node, put_node, valued, known_of, closed, settled_on, ended, ended_of}
+use Rattle.yaml_tree.specs.inside.Builder.{begins_at, next_known, with_node, put_node, valued, known_of, closed, closed_deeper_on, ended, ended_of}
 use Rattle.yaml_tree.specs.inside.Builder as steps
-use Rattle.yaml_marks.specs.declared.token.Token.{Token}
-use Rattle.yaml_marks.specs.declared.token.Token.TheVariants.{Dash, Key, Scalar, Name, Copy, Bar, Body, Form, OddToken}
+use Rattle.yaml_tokens.specs.declared.token.Token.{Token}
+use Rattle.yaml_tokens.specs.declared.token.Token.TheVariants.{Dash, Key, Scalar, Anchor, Alias, Bar, Body, Form, OddToken}
 use Rattle.yaml_tree.specs.declared.literal.Literal.{Literal}
 use Rattle.yaml_tree.specs.declared.known.Measure.{Measure}
-use Rattle.yaml_tree.specs.declared.known.Known.{Known}
+use Rattle.yaml_tree.specs.declared.known.KnownNode.{KnownNode}
 use Rattle.yaml_tree.specs.declared.known.GivenName.{GivenName}
 use Rattle.yaml_tree.specs.declared.node.Node.{Node}
 use Rattle.yaml_tree.specs.declared.node.Value.{Value}
@@ -43,7 +43,7 @@ OpensAre_more nodes more (o ∷ os) (f ∷ fs) h = (OpenIs_more nodes more o f (
 abbrev pub meaning_at : List Frame → Written → Meaning
 meaning_at fs value = said (null (line_at fs)) (names_at fs) value
 
-pub said_called : (waits : Option GivenName) (name : Option Token) (none : Said) (names : Names) (value : Written) → HasName waits name → said none names (called name value) ≡ named_by waits (said none names value)
+pub said_called : (waits : Option GivenName) (name : Option Token) (none : Said) (names : Anchors) (value : Written) → HasName waits name → said none names (called name value) ≡ named_by waits (said none names value)
 said_called None None none names value h = refl
 said_called (Some n) (Some token) none names value h = λ j. given (sym h.1 j) (sym h.2 j) (said none names value)
 said_called None (Some token) none names value h = absurd h
@@ -57,7 +57,7 @@ pub put_node_stands : (line : ℕ) (v : Value) (m : Measure) (b : Builder) (fs :
 unfolding put_node with_node
 put_node_stands line v m b fs name value flat shut opens waits names is begins holds =
     let more : List Node = record { line = begins_at line b.name; value = v } ∷ [] in
-    let k : Known = next_known m b in
+    let k : KnownNode = next_known m b in
     let meaning : Meaning = meaning_at fs value in
     let e = said_called b.name name (null (line_at fs)) (names_at fs) value waits in
     let known : KnownIs (b.nodes ++ more) k (named_by b.name meaning).0 = node_is (b.nodes ++ more) b.name line meaning k is begins (holds (begins_at line b.name)) in
@@ -75,7 +75,7 @@ put_node_stands line v m b fs name value flat shut opens waits names is begins h
 -- ---- the value, or a null where none has come
 
 -- a value has come
-pub record Valued (b : Builder) (fs : List Frame) (value : Written) (k : Known) : Type 0 where
+pub record Valued (b : Builder) (fs : List Frame) (value : Written) (k : KnownNode) : Type 0 where
   pub stands : StandsAt b fs value
   pub is : b.value ≡ Some k
   pub shut : b.literal ≡ None
@@ -86,11 +86,11 @@ NoneIs b fs value = (name : Option Token) × HasName b.name name × (value ≡ c
 pub none_is : (b : Builder) (fs : List Frame) (value : Written) → b.value ≡ None → b.literal ≡ None → StandsAt b fs value → NoneIs b fs value
 none_is b fs value e shut s = subst (λ l. ValueIs None l b fs value) shut (subst (λ v. ValueIs v b.literal b fs value) e s.is)
 
-pub valued_stands : (line : ℕ) (b : Builder) (fs : List Frame) (value : Written) → line ≡ line_at fs → b.literal ≡ None → StandsAt b fs value → (k : Known) × Valued (valued line b) fs value k × ((valued line b).open_rows ≡ b.open_rows)
+pub valued_stands : (line : ℕ) (b : Builder) (fs : List Frame) (value : Written) → line ≡ line_at fs → b.literal ≡ None → StandsAt b fs value → (k : KnownNode) × Valued (valued line b) fs value k × ((valued line b).open_rows ≡ b.open_rows)
 unfolding valued put_node with_node
 valued_stands line b fs value same shut s = by b.value refl
   where
-    by : (v : Option Known) → b.value ≡ v → (k : Known) × Valued (cond (is_some v) b (put_node line Null one_node b)) fs value k × ((cond (is_some v) b (put_node line Null one_node b)).open_rows ≡ b.open_rows)
+    by : (v : Option KnownNode) → b.value ≡ v → (k : KnownNode) × Valued (cond (is_some v) b (put_node line Null one_node b)) fs value k × ((cond (is_some v) b (put_node line Null one_node b)).open_rows ≡ b.open_rows)
     by (Some k) e = (k, record { stands = s; is = e; shut = shut }, refl)
     by None e = let i = none_is b fs value e shut s in (
       next_known one_node b,
@@ -122,8 +122,8 @@ pub row_behind_names : (head : Token) (before : Said) (meaning : Meaning) → (r
 row_behind_names (Key line column text) before meaning = refl
 row_behind_names (Dash line column) before meaning = refl
 row_behind_names (Scalar line column text) before meaning = refl
-row_behind_names (Name line column text) before meaning = refl
-row_behind_names (Copy line column text) before meaning = refl
+row_behind_names (Anchor line column text) before meaning = refl
+row_behind_names (Alias line column text) before meaning = refl
 row_behind_names (Bar line column chomp) before meaning = refl
 row_behind_names (Body line column bytes) before meaning = refl
 row_behind_names (Form line column pieces) before meaning = refl
@@ -133,8 +133,8 @@ row_behind_begins : (head : Token) (before : Said) (meaning : Meaning) → begin
 row_behind_begins (Key line column text) before meaning = refl
 row_behind_begins (Dash line column) before meaning = refl
 row_behind_begins (Scalar line column text) before meaning = refl
-row_behind_begins (Name line column text) before meaning = refl
-row_behind_begins (Copy line column text) before meaning = refl
+row_behind_begins (Anchor line column text) before meaning = refl
+row_behind_begins (Alias line column text) before meaning = refl
 row_behind_begins (Bar line column chomp) before meaning = refl
 row_behind_begins (Body line column bytes) before meaning = refl
 row_behind_begins (Form line column pieces) before meaning = refl
@@ -145,8 +145,8 @@ pub row_measure : (head : Token) (before : Said) (meaning : Meaning) → is_head
 row_measure (Key line column text) before meaning h = with_part_pair before line text meaning.0
 row_measure (Dash line column) before meaning h = ap (λ q. with_part (record (measured before) { repeated = q }) (measured meaning.0)) (or_false (has_repeat before)) ∙ with_part_item before meaning.0
 row_measure (Scalar line column text) before meaning h = absurd (false≢true h)
-row_measure (Name line column text) before meaning h = absurd (false≢true h)
-row_measure (Copy line column text) before meaning h = absurd (false≢true h)
+row_measure (Anchor line column text) before meaning h = absurd (false≢true h)
+row_measure (Alias line column text) before meaning h = absurd (false≢true h)
 row_measure (Bar line column chomp) before meaning h = absurd (false≢true h)
 row_measure (Body line column bytes) before meaning h = absurd (false≢true h)
 row_measure (Form line column pieces) before meaning h = absurd (false≢true h)
@@ -161,8 +161,8 @@ row_holds : (nodes : List Node) (head : Token) (before : Said) (meaning : Meanin
 row_holds nodes (Key line column text) before meaning rows m n l h held value e = (rows, m, HoldsRows_from_line nodes l before rows held, value, subst (λ x. IsNode nodes n x (rows_value true (rows_with (Key line column text) m rows))) (sym (begins_on_from_line l before)) e)
 row_holds nodes (Dash line column) before meaning rows m n l h held value e = (rows, m, HoldsRows_from_line nodes l before rows held, value, subst (λ x. IsNode nodes n x (rows_value false (rows_with (Dash line column) m rows))) (sym (begins_on_from_line l before)) e)
 row_holds nodes (Scalar line column text) before meaning rows m n l h held value e = absurd (false≢true h)
-row_holds nodes (Name line column text) before meaning rows m n l h held value e = absurd (false≢true h)
-row_holds nodes (Copy line column text) before meaning rows m n l h held value e = absurd (false≢true h)
+row_holds nodes (Anchor line column text) before meaning rows m n l h held value e = absurd (false≢true h)
+row_holds nodes (Alias line column text) before meaning rows m n l h held value e = absurd (false≢true h)
 row_holds nodes (Bar line column chomp) before meaning rows m n l h held value e = absurd (false≢true h)
 row_holds nodes (Body line column bytes) before meaning rows m n l h held value e = absurd (false≢true h)
 row_holds nodes (Form line column pieces) before meaning rows m n l h held value e = absurd (false≢true h)
@@ -172,8 +172,8 @@ pub rows_hold : (nodes : List Node) (head : Token) (before : Said) (meaning : Me
 rows_hold nodes (Key line column text) before meaning rows m h held value = (rows, m, held, value, refl)
 rows_hold nodes (Dash line column) before meaning rows m h held value = (rows, m, held, value, refl)
 rows_hold nodes (Scalar line column text) before meaning rows m h held value = absurd (false≢true h)
-rows_hold nodes (Name line column text) before meaning rows m h held value = absurd (false≢true h)
-rows_hold nodes (Copy line column text) before meaning rows m h held value = absurd (false≢true h)
+rows_hold nodes (Anchor line column text) before meaning rows m h held value = absurd (false≢true h)
+rows_hold nodes (Alias line column text) before meaning rows m h held value = absurd (false≢true h)
 rows_hold nodes (Bar line column chomp) before meaning rows m h held value = absurd (false≢true h)
 rows_hold nodes (Body line column bytes) before meaning rows m h held value = absurd (false≢true h)
 rows_hold nodes (Form line column pieces) before meaning rows m h held value = absurd (false≢true h)
@@ -182,10 +182,10 @@ rows_hold nodes (OddToken line column why) before meaning rows m h held value = 
 -- ---- closing a collection
 
 -- the collection, its last row finished by a node, is the value
-abbrev closing : Open → Known → Builder → Builder
+abbrev closing : Open → KnownNode → Builder → Builder
 closing o k b = put_node o.first_line (collection (finished o k)) (with_part o.measure k.measure) (record b { name = o.name })
 
-closing_stands : (o : Open) (os : List Open) (b : Builder) (f : Frame) (fs : List Frame) (value : Written) (k : Known) → Valued b (f ∷ fs) value k → b.open_rows ≡ o ∷ os → StandsAt (closing o k (record b { open_rows = os })) fs (called f.name (row f.before f.head value))
+closing_stands : (o : Open) (os : List Open) (b : Builder) (f : Frame) (fs : List Frame) (value : Written) (k : KnownNode) → Valued b (f ∷ fs) value k → b.open_rows ≡ o ∷ os → StandsAt (closing o k (record b { open_rows = os })) fs (called f.name (row f.before f.head value))
 closing_stands o os b f fs value k s e =
     let opens : OpensAre b.nodes (o ∷ os) (f ∷ fs) = subst (λ l. OpensAre b.nodes l (f ∷ fs)) e s.stands.opens in
     let open_is : OpenIs b.nodes o f (before_of f (names_at fs)) = opens.0 in
@@ -225,7 +225,7 @@ full_called d None value h = h
 full_called d (Some token) value h = h
 
 -- the same, where one has come
-abbrev pub HasCome : ℕ → Option Known → Written → Type 0
+abbrev pub HasCome : ℕ → Option KnownNode → Written → Type 0
 HasCome d None value = Unit {0}
 HasCome d (Some k) value = IsFull d value
 
@@ -234,7 +234,7 @@ AtMost d [] = Unit {0}
 AtMost d (f ∷ fs) = depth f.head ≤ d
 
 -- the builder stands for this, with no literal block open and no collection that is deeper
-pub record Settled (d : ℕ) (b : Builder) (w : Written) : Type 0 where
+pub record ClosedDeeper (d : ℕ) (b : Builder) (w : Written) : Type 0 where
   pub frames : List Frame
   pub value : Written
   pub stands : StandsAt b frames value
@@ -263,18 +263,18 @@ closed_come : (d : ℕ) (o : Open) (b : Builder) (value : Written) → IsFull d 
 unfolding closed put_node with_node
 closed_come d o b value h = h
 
-pub settled_on_stands : (d : ℕ) (os : List Open) (b : Builder) (fs : List Frame) (value : Written) → b.open_rows ≡ os → StandsAt b fs value → b.literal ≡ None → HasCome d b.value value → Settled d (settled_on d os b) (wrap fs value)
-unfolding settled_on
-settled_on_stands d [] b [] value e s shut come = record { frames = []; value = value; stands = s; shut = shut; wraps = refl; shallow = tt; come = come }
-settled_on_stands d [] b (f ∷ fs) value e s shut come = absurd (subst (λ l. OpensAre b.nodes l (f ∷ fs)) e s.opens)
-settled_on_stands d (o ∷ os) b [] value e s shut come = absurd (subst (λ l. OpensAre b.nodes l []) e s.opens)
-settled_on_stands d (o ∷ os) b (f ∷ fs) value e s shut come =
+pub closed_deeper_on_stands : (d : ℕ) (os : List Open) (b : Builder) (fs : List Frame) (value : Written) → b.open_rows ≡ os → StandsAt b fs value → b.literal ≡ None → HasCome d b.value value → ClosedDeeper d (closed_deeper_on d os b) (wrap fs value)
+unfolding closed_deeper_on
+closed_deeper_on_stands d [] b [] value e s shut come = record { frames = []; value = value; stands = s; shut = shut; wraps = refl; shallow = tt; come = come }
+closed_deeper_on_stands d [] b (f ∷ fs) value e s shut come = absurd (subst (λ l. OpensAre b.nodes l (f ∷ fs)) e s.opens)
+closed_deeper_on_stands d (o ∷ os) b [] value e s shut come = absurd (subst (λ l. OpensAre b.nodes l []) e s.opens)
+closed_deeper_on_stands d (o ∷ os) b (f ∷ fs) value e s shut come =
     let opens : OpensAre b.nodes (o ∷ os) (f ∷ fs) = subst (λ l. OpensAre b.nodes l (f ∷ fs)) e s.opens in
     let same : o.depth ≡ depth f.head = opens.0.has_depth in
     let c : Builder = closed o (record b { open_rows = os }) in
     let new : Written = called f.name (row f.before f.head value) in
-    elim (nat_lt d o.depth) as (λ t. nat_lt d o.depth ≡ t → Settled d (cond t (settled_on d os c) b) (wrap (f ∷ fs) value)) [
-      | true ↦ λ q. settled_on_stands d os c fs new (closed_rows o os b) (closed_stands o os b f fs value shut s e) (closed_shut o (record b { open_rows = os }) shut)
+    elim (nat_lt d o.depth) as (λ t. nat_lt d o.depth ≡ t → ClosedDeeper d (cond t (closed_deeper_on d os c) b) (wrap (f ∷ fs) value)) [
+      | true ↦ λ q. closed_deeper_on_stands d os c fs new (closed_rows o os b) (closed_stands o os b f fs value shut s e) (closed_shut o (record b { open_rows = os }) shut)
           (closed_come d o (record b { open_rows = os }) new (full_called d f.name (row f.before f.head value) (let lt : d < o.depth = ltb-true d o.depth q in omega (arith, lt, same))))
       | false ↦ λ q. record { frames = f ∷ fs; value = value; stands = s; shut = shut; wraps = refl; shallow = (let le : o.depth ≤ d = ltb-false d o.depth q in omega (arith, le, same)); come = come }
     ] refl
@@ -299,11 +299,11 @@ pub ended_ready : (b : Builder) (fs : List Frame) (value : Written) → StandsAt
 unfolding ended put_node with_node
 ended_ready b fs value s between = by b.literal b.value refl refl
   where
-    come : (d : ℕ) (v : Option Known) → Between v value → HasCome d v value
+    come : (d : ℕ) (v : Option KnownNode) → Between v value → HasCome d v value
     come d None h = tt
     come d (Some k) h = full_shut d value h
 
-    by : (l : Option Literal) (v : Option Known) → b.literal ≡ l → b.value ≡ v → Ready (ended_of l b) fs value
+    by : (l : Option Literal) (v : Option KnownNode) → b.literal ≡ l → b.value ≡ v → Ready (ended_of l b) fs value
     by None v e q = record { stands = s; shut = e; come = λ d. come d b.value between }
     by (Some l) (Some k) e q = absurd (none-some l (sym (subst (λ v. ValueIs v b.literal b fs value) q s.is).0 ∙ e))
     by (Some l) None e q =

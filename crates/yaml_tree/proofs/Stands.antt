@@ -3,17 +3,17 @@
 use Rattle.std.proofs.Common.{◌≡◌, ℕ, ◌<◌, Bool, true, false, List, [], ◌∷◌, Option, Some, None, ◌==◌}
 use Rattle.std.specs.Cmp.Lexicographic.{pointwise}
 use Rattle.std.specs.Map.{lookup}
-use Rattle.yaml_tree.specs.Said.{Said, Names, Meaning, said, given, begun_block, name_of, bodies_of, chomp_of, has_key}
+use Rattle.yaml_tree.specs.Said.{Said, Anchors, Meaning, said, given, begun_block, name_of, bodies_of, chomp_of, has_key}
 use Rattle.yaml_tree.specs.Said.Said.{null}
 use Rattle.yaml_tree.specs.Holds.{HoldsSaid, HoldsRows, Rows, begins_on}
 use Rattle.yaml_tree.specs.Written.{Written, depth, line_of, is_head, is_name, is_bar}
 use Rattle.yaml_tree.specs.Written.Written.{nothing, leaf, literal, flowing, named, row}
 use Rattle.yaml_tree.specs.inside.Stack.{measured, with_repeat}
 use Rattle.yaml_tree.specs.inside.Builder.{find_name}
-use Rattle.yaml_marks.specs.declared.token.Token.{Token}
-use Rattle.yaml_marks.specs.declared.token.Token.TheVariants.{Key}
+use Rattle.yaml_tokens.specs.declared.token.Token.{Token}
+use Rattle.yaml_tokens.specs.declared.token.Token.TheVariants.{Key}
 use Rattle.yaml_tree.specs.declared.literal.Literal.{Literal}
-use Rattle.yaml_tree.specs.declared.known.Known.{Known}
+use Rattle.yaml_tree.specs.declared.known.KnownNode.{KnownNode}
 use Rattle.yaml_tree.specs.declared.known.GivenName.{GivenName}
 use Rattle.yaml_tree.specs.declared.node.Node.{Node}
 use Rattle.yaml_tree.specs.declared.stack.Open.{Open}
@@ -22,17 +22,17 @@ use Rattle.yaml_tree.specs.declared.builder.Builder.{Builder}
 -- ---- nodes and names
 
 -- the node holds the tree, and its measure is the tree's
-abbrev pub KnownIs : List Node → Known → Said → Type 0
+abbrev pub KnownIs : List Node → KnownNode → Said → Type 0
 KnownIs nodes k tree = (k.measure ≡ measured tree) × HoldsSaid nodes tree k.node
 
-abbrev pub NameIs : List Node → Option Known → Option Said → Type 0
+abbrev pub NameIs : List Node → Option KnownNode → Option Said → Type 0
 NameIs nodes None None = Unit {0}
 NameIs nodes (Some k) (Some tree) = KnownIs nodes k tree
 NameIs nodes None (Some tree) = ⊥
 NameIs nodes (Some k) None = ⊥
 
 -- each name finds the node of the tree that has it
-abbrev pub NamesAre : List Node → List (List ℕ × Known) → Names → Type 0
+abbrev pub NamesAre : List Node → List (List ℕ × KnownNode) → Anchors → Type 0
 NamesAre nodes entries names = (n : List ℕ) → NameIs nodes (find_name entries n) (lookup (pointwise ◌==◌ n) names)
 
 -- a meaning, named where a name waits for it
@@ -59,7 +59,7 @@ wrap [] value = value
 wrap (f ∷ fs) value = wrap fs (called f.name (row f.before f.head value))
 
 -- the names behind what stands before the next value
-abbrev pub names_at : List Frame → Names
+abbrev pub names_at : List Frame → Anchors
 names_at [] = []
 names_at (f ∷ fs) = (said (begun_block f.head) (names_at fs) f.before).1
 
@@ -102,7 +102,7 @@ pub record OpenIs (nodes : List Node) (o : Open) (f : Frame) (before : Said) : T
   pub holds : HoldsRows nodes before (rows_of o)
   pub heads : is_head f.head ≡ true
 
-abbrev pub before_of : Frame → Names → Said
+abbrev pub before_of : Frame → Anchors → Said
 before_of f names = (said (begun_block f.head) names f.before).0
 
 abbrev pub Chain : ℕ → List Frame → Type 0
@@ -125,7 +125,7 @@ pub record LiteralIs (l : Literal) (bar : Token) (lines : List Token) : Type 0 w
   pub has_chomp : l.chomp ≡ chomp_of bar
   pub has_lines : l.lines ≡ bodies_of lines
 
-abbrev pub ValueIs : Option Known → Option Literal → Builder → List Frame → Written → Type 0
+abbrev pub ValueIs : Option KnownNode → Option Literal → Builder → List Frame → Written → Type 0
 ValueIs (Some k) l b fs value = (l ≡ None) × (b.name ≡ None) × KnownIs b.nodes k (said (null (line_at fs)) (names_at fs) value).0 × NamesAre b.nodes b.names (said (null (line_at fs)) (names_at fs) value).1
 ValueIs None (Some l) b fs value = (name : Option Token) × HasName b.name name × (bar : Token) × (lines : List Token) × LiteralIs l bar lines × Chain (depth bar) fs × (value ≡ called name (literal bar lines)) × NamesAre b.nodes b.names (names_at fs)
 ValueIs None None b fs value = (name : Option Token) × HasName b.name name × (value ≡ called name nothing) × NamesAre b.nodes b.names (names_at fs)
@@ -144,7 +144,7 @@ IsShut (flowing token value) = Unit {0}
 IsShut (named token value) = IsShut value
 IsShut (row before head value) = ⊥
 
-abbrev pub Between : Option Known → Written → Type 0
+abbrev pub Between : Option KnownNode → Written → Type 0
 Between None value = Unit {0}
 Between (Some k) value = IsShut value
 

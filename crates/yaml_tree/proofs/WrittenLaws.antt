@@ -5,10 +5,10 @@ use Rattle.std.proofs.lemmas.Option.{none-some, same_Some, cond_some}
 use Rattle.std.proofs.lemmas.Bool.{ltb-true, cond-true, false≢true, lt-ltb, eqb-true}
 use Rattle.std.proofs.lemmas.List.{append-nil}
 use Rattle.std.specs.Option.{option_and_then}
-use Rattle.yaml_marks.specs.declared.piece.Piece.{Piece}
+use Rattle.yaml_tokens.specs.declared.piece.Piece.{Piece}
 use Rattle.yaml_tree.specs.Flows.{Flow, SpellsFlow}
-use Rattle.yaml_marks.specs.declared.token.Token.{Token}
-use Rattle.yaml_marks.specs.declared.token.Token.TheVariants.{Dash, Key, Scalar, Name, Copy, Bar, Body, Form, OddToken}
+use Rattle.yaml_tokens.specs.declared.token.Token.{Token}
+use Rattle.yaml_tokens.specs.declared.token.Token.TheVariants.{Dash, Key, Scalar, Anchor, Alias, Bar, Body, Form, OddToken}
 use Rattle.yaml_tree.specs.Written.{Written, tokens, depth, is_head, is_leaf, is_bar, is_name, is_body_line, MayBeNamed, AreBodies, IsFlowOf, SameRows, StandsBelow, Spells}
 use Rattle.yaml_tree.specs.Written.Written.{nothing, leaf, literal, flowing, named, row}
 use Rattle.yaml_tree.proofs.Lists.{both_true, chained, chosen, mapped, nil_or_last, not_nil, same_last, is_same}
@@ -24,8 +24,8 @@ abbrev pub begun_by : FlowReader → Token → Option Written
 begun_by r (Dash line column) = Some (row nothing (Dash line column) nothing)
 begun_by r (Key line column text) = Some (row nothing (Key line column text) nothing)
 begun_by r (Scalar line column text) = Some (leaf (Scalar line column text))
-begun_by r (Name line column text) = Some (named (Name line column text) nothing)
-begun_by r (Copy line column text) = Some (leaf (Copy line column text))
+begun_by r (Anchor line column text) = Some (named (Anchor line column text) nothing)
+begun_by r (Alias line column text) = Some (leaf (Alias line column text))
 begun_by r (Bar line column chomp) = Some (literal (Bar line column chomp) [])
 begun_by r (Body line column bytes) = None
 begun_by r (Form line column pieces) = option_map (flowing (Form line column pieces)) (r.read pieces)
@@ -33,8 +33,8 @@ begun_by r (OddToken line column why) = None
 
 -- what may stand first behind a name
 abbrev pub may_follow_name : Token → Bool
-may_follow_name (Name line column text) = false
-may_follow_name (Copy line column text) = false
+may_follow_name (Anchor line column text) = false
+may_follow_name (Alias line column text) = false
 may_follow_name _ = true
 
 -- a token more may go to the value behind a name
@@ -62,8 +62,8 @@ tokens_begun_by : (r : FlowReader) (m : Token) (new : Written) → begun_by r m 
 tokens_begun_by r (Dash line column) new e = ap tokens (sym (same_Some _ _ e))
 tokens_begun_by r (Key line column text) new e = ap tokens (sym (same_Some _ _ e))
 tokens_begun_by r (Scalar line column text) new e = ap tokens (sym (same_Some _ _ e))
-tokens_begun_by r (Name line column text) new e = ap tokens (sym (same_Some _ _ e))
-tokens_begun_by r (Copy line column text) new e = ap tokens (sym (same_Some _ _ e))
+tokens_begun_by r (Anchor line column text) new e = ap tokens (sym (same_Some _ _ e))
+tokens_begun_by r (Alias line column text) new e = ap tokens (sym (same_Some _ _ e))
 tokens_begun_by r (Bar line column chomp) new e = ap tokens (sym (same_Some _ _ e))
 tokens_begun_by r (Body line column bytes) new e = absurd (none-some new e)
 tokens_begun_by r (Form line column pieces) new e = ap tokens (sym (mapped (flowing (Form line column pieces)) (r.read pieces) new e).2)
@@ -106,8 +106,8 @@ StandsBelow_begun_by : (r : FlowReader) (outer : ℕ) (m : Token) (new : Written
 StandsBelow_begun_by r outer (Dash line column) new e lt = subst (StandsBelow outer) (same_Some _ _ e) (refl, lt, tt, tt, tt)
 StandsBelow_begun_by r outer (Key line column text) new e lt = subst (StandsBelow outer) (same_Some _ _ e) (refl, lt, tt, tt, tt)
 StandsBelow_begun_by r outer (Scalar line column text) new e lt = subst (StandsBelow outer) (same_Some _ _ e) (refl, lt)
-StandsBelow_begun_by r outer (Name line column text) new e lt = subst (StandsBelow outer) (same_Some _ _ e) (refl, lt, tt, tt)
-StandsBelow_begun_by r outer (Copy line column text) new e lt = subst (StandsBelow outer) (same_Some _ _ e) (refl, lt)
+StandsBelow_begun_by r outer (Anchor line column text) new e lt = subst (StandsBelow outer) (same_Some _ _ e) (refl, lt, tt, tt)
+StandsBelow_begun_by r outer (Alias line column text) new e lt = subst (StandsBelow outer) (same_Some _ _ e) (refl, lt)
 StandsBelow_begun_by r outer (Bar line column chomp) new e lt = subst (StandsBelow outer) (same_Some _ _ e) (refl, lt, tt)
 StandsBelow_begun_by r outer (Body line column bytes) new e lt = absurd (none-some new e)
 StandsBelow_begun_by r outer (Form line column pieces) new e lt = let o = mapped (flowing (Form line column pieces)) (r.read pieces) new e in subst (StandsBelow outer) o.2 (lt, r.sound pieces o.0 o.1)
@@ -123,8 +123,8 @@ MayBeNamed_begun_by : (r : FlowReader) (m : Token) (new : Written) → begun_by 
 MayBeNamed_begun_by r (Dash line column) new e f = subst MayBeNamed (same_Some _ _ e) tt
 MayBeNamed_begun_by r (Key line column text) new e f = subst MayBeNamed (same_Some _ _ e) tt
 MayBeNamed_begun_by r (Scalar line column text) new e f = subst MayBeNamed (same_Some _ _ e) refl
-MayBeNamed_begun_by r (Name line column text) new e f = absurd (false≢true f)
-MayBeNamed_begun_by r (Copy line column text) new e f = absurd (false≢true f)
+MayBeNamed_begun_by r (Anchor line column text) new e f = absurd (false≢true f)
+MayBeNamed_begun_by r (Alias line column text) new e f = absurd (false≢true f)
 MayBeNamed_begun_by r (Bar line column chomp) new e f = subst MayBeNamed (same_Some _ _ e) tt
 MayBeNamed_begun_by r (Body line column bytes) new e f = absurd (none-some new e)
 MayBeNamed_begun_by r (Form line column pieces) new e f = subst MayBeNamed (mapped (flowing (Form line column pieces)) (r.read pieces) new e).2 tt
@@ -166,8 +166,8 @@ row_again : (r : FlowReader) (before : Written) (m : Token) → is_head m ≡ tr
 row_again r nothing (Dash line column) h s = refl
 row_again r nothing (Key line column text) h s = refl
 row_again r nothing (Scalar line column text) h s = absurd (false≢true h)
-row_again r nothing (Name line column text) h s = absurd (false≢true h)
-row_again r nothing (Copy line column text) h s = absurd (false≢true h)
+row_again r nothing (Anchor line column text) h s = absurd (false≢true h)
+row_again r nothing (Alias line column text) h s = absurd (false≢true h)
 row_again r nothing (Bar line column chomp) h s = absurd (false≢true h)
 row_again r nothing (Body line column bytes) h s = absurd (false≢true h)
 row_again r nothing (Form line column pieces) h s = absurd (false≢true h)
@@ -180,10 +180,10 @@ row_again r (row before head value) m h s = is_same (depth head) (depth m) (is_h
 
 leaf_again : (r : FlowReader) (m : Token) → is_leaf m ≡ true → with_token r m nothing ≡ Some (leaf m)
 leaf_again r (Scalar line column text) h = refl
-leaf_again r (Copy line column text) h = refl
+leaf_again r (Alias line column text) h = refl
 leaf_again r (Dash line column) h = absurd (false≢true h)
 leaf_again r (Key line column text) h = absurd (false≢true h)
-leaf_again r (Name line column text) h = absurd (false≢true h)
+leaf_again r (Anchor line column text) h = absurd (false≢true h)
 leaf_again r (Bar line column chomp) h = absurd (false≢true h)
 leaf_again r (Body line column bytes) h = absurd (false≢true h)
 leaf_again r (Form line column pieces) h = absurd (false≢true h)
@@ -192,18 +192,18 @@ leaf_again r (OddToken line column why) h = absurd (false≢true h)
 bar_again : (r : FlowReader) (m : Token) → is_bar m ≡ true → with_token r m nothing ≡ Some (literal m [])
 bar_again r (Bar line column chomp) h = refl
 bar_again r (Scalar line column text) h = absurd (false≢true h)
-bar_again r (Copy line column text) h = absurd (false≢true h)
+bar_again r (Alias line column text) h = absurd (false≢true h)
 bar_again r (Dash line column) h = absurd (false≢true h)
 bar_again r (Key line column text) h = absurd (false≢true h)
-bar_again r (Name line column text) h = absurd (false≢true h)
+bar_again r (Anchor line column text) h = absurd (false≢true h)
 bar_again r (Body line column bytes) h = absurd (false≢true h)
 bar_again r (Form line column pieces) h = absurd (false≢true h)
 bar_again r (OddToken line column why) h = absurd (false≢true h)
 
 name_again : (r : FlowReader) (m : Token) → is_name m ≡ true → with_token r m nothing ≡ Some (named m nothing)
-name_again r (Name line column text) h = refl
+name_again r (Anchor line column text) h = refl
 name_again r (Scalar line column text) h = absurd (false≢true h)
-name_again r (Copy line column text) h = absurd (false≢true h)
+name_again r (Alias line column text) h = absurd (false≢true h)
 name_again r (Dash line column) h = absurd (false≢true h)
 name_again r (Key line column text) h = absurd (false≢true h)
 name_again r (Bar line column chomp) h = absurd (false≢true h)
@@ -213,9 +213,9 @@ name_again r (OddToken line column why) h = absurd (false≢true h)
 
 flow_again : (r : FlowReader) (m : Token) (value : Flow) → IsFlowOf m value → with_token r m nothing ≡ Some (flowing m value)
 flow_again r (Form line column pieces) value h = ap (option_map (flowing (Form line column pieces))) (r.complete pieces value h)
-flow_again r (Name line column text) value h = absurd h
+flow_again r (Anchor line column text) value h = absurd h
 flow_again r (Scalar line column text) value h = absurd h
-flow_again r (Copy line column text) value h = absurd h
+flow_again r (Alias line column text) value h = absurd h
 flow_again r (Dash line column) value h = absurd h
 flow_again r (Key line column text) value h = absurd h
 flow_again r (Bar line column chomp) value h = absurd h
@@ -238,8 +238,8 @@ goes_on_begun_by : (r : FlowReader) (m : Token) (new : Written) → begun_by r m
 goes_on_begun_by r (Dash line column) new e h = refl
 goes_on_begun_by r (Key line column text) new e h = refl
 goes_on_begun_by r (Scalar line column text) new e h = refl
-goes_on_begun_by r (Name line column text) new e h = absurd (subst MayBeNamed (sym (same_Some _ _ e)) h)
-goes_on_begun_by r (Copy line column text) new e h = absurd (false≢true (sym (subst MayBeNamed (sym (same_Some _ _ e)) h)))
+goes_on_begun_by r (Anchor line column text) new e h = absurd (subst MayBeNamed (sym (same_Some _ _ e)) h)
+goes_on_begun_by r (Alias line column text) new e h = absurd (false≢true (sym (subst MayBeNamed (sym (same_Some _ _ e)) h)))
 goes_on_begun_by r (Bar line column chomp) new e h = refl
 goes_on_begun_by r (Body line column bytes) new e h = refl
 goes_on_begun_by r (Form line column pieces) new e h = refl
@@ -313,8 +313,8 @@ begun_deep : (r : FlowReader) (m : Token) (new : Written) → begun_by r m ≡ S
 begun_deep r (Dash line column) new e = omega arith
 begun_deep r (Key line column text) new e = omega arith
 begun_deep r (Scalar line column text) new e = omega arith
-begun_deep r (Name line column text) new e = omega arith
-begun_deep r (Copy line column text) new e = omega arith
+begun_deep r (Anchor line column text) new e = omega arith
+begun_deep r (Alias line column text) new e = omega arith
 begun_deep r (Bar line column chomp) new e = omega arith
 begun_deep r (Body line column bytes) new e = omega arith
 begun_deep r (Form line column pieces) new e = omega arith
@@ -324,8 +324,8 @@ pub head_deep : (m : Token) → is_head m ≡ true → 0 < depth m
 head_deep (Dash line column) e = omega arith
 head_deep (Key line column text) e = omega arith
 head_deep (Scalar line column text) e = omega arith
-head_deep (Name line column text) e = omega arith
-head_deep (Copy line column text) e = omega arith
+head_deep (Anchor line column text) e = omega arith
+head_deep (Alias line column text) e = omega arith
 head_deep (Bar line column chomp) e = omega arith
 head_deep (Body line column bytes) e = omega arith
 head_deep (Form line column pieces) e = omega arith
@@ -335,8 +335,8 @@ body_deep : (m : Token) → is_body_line m ≡ true → 0 < depth m
 body_deep (Dash line column) e = omega arith
 body_deep (Key line column text) e = omega arith
 body_deep (Scalar line column text) e = omega arith
-body_deep (Name line column text) e = omega arith
-body_deep (Copy line column text) e = omega arith
+body_deep (Anchor line column text) e = omega arith
+body_deep (Alias line column text) e = omega arith
 body_deep (Bar line column chomp) e = omega arith
 body_deep (Body line column bytes) e = omega arith
 body_deep (Form line column pieces) e = omega arith

@@ -1,16 +1,16 @@
 -- Flow forms: how one is spelled by the pieces of its line, and the fault of pieces that spell none. The rule is
 -- that of flow collections in YAML 1.2 (7.4), in this project's own profile.
 use Rattle.std.specs.Prelude.{◌≡◌, ◌⊎◌, Bool, true, false, List, [], ◌∷◌, ◌++◌, None, if◌then◌else◌, not}
-use Rattle.yaml_marks.specs.Pieces.{closes_at}
-use Rattle.yaml_marks.specs.declared.piece.Bracket.{Bracket}
-use Rattle.yaml_marks.specs.declared.piece.Piece.{Piece}
-use Rattle.yaml_marks.specs.declared.piece.Bracket.TheVariants.{Square, Curly}
-use Rattle.yaml_marks.specs.declared.piece.Piece.TheVariants.{Opening, Closing, Comma, CellKey, CellScalar, CellName, CellCopy, OddPiece}
+use Rattle.yaml_tokens.specs.Pieces.{closes_at}
+use Rattle.yaml_tokens.specs.declared.piece.Bracket.{Bracket}
+use Rattle.yaml_tokens.specs.declared.piece.Piece.{Piece}
+use Rattle.yaml_tokens.specs.declared.piece.Bracket.TheVariants.{Square, Curly}
+use Rattle.yaml_tokens.specs.declared.piece.Piece.TheVariants.{Opening, Closing, Comma, CellKey, CellScalar, CellAnchor, CellAlias, OddPiece}
 use Rattle.yaml_tree.specs.declared.fault.FaultKind.{FaultKind}
 use Rattle.yaml_tree.specs.declared.fault.FaultKind.TheVariants.{Syntax, Unsupported}
-use Rattle.yaml_marks.specs.declared.odd.Odd.TheVariants as odd
+use Rattle.yaml_tokens.specs.declared.odd.Odd.TheVariants as odd
 
--- A flow form as it is written: no value; a scalar or a copy; a value behind its name; a last item, or a last key
+-- A flow form as it is written: no value; a scalar or an alias; a value behind its name; a last item, or a last key
 -- with its value, behind the earlier ones; brackets around items or keys, with or without a comma at the end.
 -- `absent` stands before the first item too.
 pub data Flow : Type 0 where
@@ -39,7 +39,7 @@ spelling (form bracket cells last) = Opening bracket ∷ (spelling cells ++ (com
 
 abbrev pub is_cell_word : Piece → Bool
 is_cell_word (CellScalar text) = true
-is_cell_word (CellCopy name) = true
+is_cell_word (CellAlias name) = true
 is_cell_word _ = false
 
 abbrev pub is_cell_key : Piece → Bool
@@ -47,10 +47,10 @@ is_cell_key (CellKey text) = true
 is_cell_key _ = false
 
 abbrev pub is_cell_name : Piece → Bool
-is_cell_name (CellName name) = true
+is_cell_name (CellAnchor name) = true
 is_cell_name _ = false
 
--- a name stands before a scalar, a form, or nothing: not before a copy or another name
+-- a name stands before a scalar, a form, or nothing: not before an alias or another name
 abbrev pub may_be_called : Flow → Bool
 may_be_called absent = true
 may_be_called (word (CellScalar text)) = true
@@ -61,7 +61,7 @@ abbrev pub has_cells : Flow → Bool
 has_cells cells = not (is_absent cells)
 
 abbrev mutual
-  -- a value: a scalar, a copy, a form, or a name with a value or nothing behind it
+  -- a value: a scalar, an alias, a form, or a name with a value or nothing behind it
   pub IsValue : Flow → Type 0
   IsValue absent = ⊥
   IsValue (word piece) = is_cell_word piece ≡ true

@@ -1,5 +1,5 @@
--- Which nodes by number hold a tree: each node with the line on which it begins. A copy may be held by the node that
--- it is a copy of. A copy of an unknown node is held by a null; no accepted tree has one.
+-- Which nodes by number hold a tree: each node with the line on which it begins. An alias may be held by the node that
+-- it is an alias of. An alias of an unknown node is held by a null; no accepted tree has one.
 use Rattle.std.specs.Prelude.{◌≡◌, ℕ, Bool, true, false, List, [], ◌∷◌, ◌++◌, Option, Some, None, if◌then◌else◌, slice_get}
 use Rattle.yaml_tree.specs.Entries.{with_entry}
 use Rattle.yaml_tree.specs.Said.{Said}

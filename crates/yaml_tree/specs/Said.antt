@@ -1,22 +1,22 @@
--- The tree that is written: each node with its line, and each copy in full.
+-- The tree that is written: each node with its line, and each alias in full.
 use Rattle.std.specs.Prelude.{ℕ, ◌+◌, Bool, true, false, ◌||◌, List, [], ◌∷◌, Option, Some, None, max, ◌==◌, unwrap_or}
 use Rattle.std.specs.Cmp.Lexicographic.{pointwise}
 use Rattle.std.specs.Map.{lookup}
-use Rattle.yaml_marks.specs.Literals.{block_text}
-use Rattle.yaml_marks.specs.declared.chomp.Chomp.{Chomp}
-use Rattle.yaml_marks.specs.declared.chomp.Chomp.TheVariants.{Clip}
-use Rattle.yaml_marks.specs.declared.piece.Bracket.{Bracket}
-use Rattle.yaml_marks.specs.declared.piece.Bracket.TheVariants.{Square, Curly}
-use Rattle.yaml_marks.specs.declared.piece.Piece.{Piece}
-use Rattle.yaml_marks.specs.declared.piece.Piece.TheVariants.{CellKey, CellScalar, CellName, CellCopy}
+use Rattle.yaml_tokens.specs.Literals.{block_text}
+use Rattle.yaml_tokens.specs.declared.chomp.Chomp.{Chomp}
+use Rattle.yaml_tokens.specs.declared.chomp.Chomp.TheVariants.{Clip}
+use Rattle.yaml_tokens.specs.declared.piece.Bracket.{Bracket}
+use Rattle.yaml_tokens.specs.declared.piece.Bracket.TheVariants.{Square, Curly}
+use Rattle.yaml_tokens.specs.declared.piece.Piece.{Piece}
+use Rattle.yaml_tokens.specs.declared.piece.Piece.TheVariants.{CellKey, CellScalar, CellAnchor, CellAlias}
 use Rattle.yaml_tree.specs.Flows.{Flow}
 use Rattle.yaml_tree.specs.Flows.Flow.{absent, word, called, item, pair, form}
-use Rattle.yaml_marks.specs.declared.token.Token.{Token}
-use Rattle.yaml_marks.specs.declared.token.Token.TheVariants.{Dash, Key, Scalar, Name, Copy, Bar, Body}
+use Rattle.yaml_tokens.specs.declared.token.Token.{Token}
+use Rattle.yaml_tokens.specs.declared.token.Token.TheVariants.{Dash, Key, Scalar, Anchor, Alias, Bar, Body}
 use Rattle.yaml_tree.specs.Written.{Written, line_of}
 use Rattle.yaml_tree.specs.Written.Written.{nothing, leaf, literal, flowing, named, row}
 
--- A tree: null; a text; a copy of a node that isn't known; or a collection, as its last item, or its last key with
+-- A tree: null; a text; an alias of a node that isn't known; or a collection, as its last item, or its last key with
 -- its value, behind the earlier ones. Each has the line on which it begins, and a key has its own.
 pub data Said : Type 0 where
   null : (line : ℕ) → Said
@@ -28,19 +28,19 @@ pub data Said : Type 0 where
   with_pair : Said → (line : ℕ) (key : List ℕ) → Said → Said
 
 -- the complete nodes that have names, the one completed last first
-abbrev pub Names : Type 0
-Names = List (List ℕ × Said)
+abbrev pub Anchors : Type 0
+Anchors = List (List ℕ × Said)
 
 -- what is said, and the names behind it
 abbrev pub Meaning : Type 0
-Meaning = Said × Names
+Meaning = Said × Anchors
 
 abbrev pub scalar_said : ℕ → Option (List ℕ) → Said
 scalar_said line None = null line
 scalar_said line (Some bytes) = text line bytes
 
--- a copy of the last complete node so named; it keeps its lines
-abbrev pub copied : ℕ → List ℕ → Names → Said
+-- an alias of the last complete node so named; it keeps its lines
+abbrev pub copied : ℕ → List ℕ → Anchors → Said
 copied line n names = unwrap_or (lookup (pointwise ◌==◌ n) names) (unknown line)
 
 -- the tree, where it begins on this line
@@ -69,19 +69,19 @@ abbrev pub begun_form : Bracket → ℕ → Said
 begun_form Square line = sequence line
 begun_form Curly line = mapping line
 
-abbrev pub word_said : ℕ → Piece → Names → Said
+abbrev pub word_said : ℕ → Piece → Anchors → Said
 word_said line (CellScalar value) names = scalar_said line value
-word_said line (CellCopy n) names = copied line n names
+word_said line (CellAlias n) names = copied line n names
 word_said line _ names = null line
 
 abbrev pub piece_text : Piece → List ℕ
 piece_text (CellKey bytes) = bytes
-piece_text (CellName bytes) = bytes
+piece_text (CellAnchor bytes) = bytes
 piece_text _ = []
 
 -- What a flow form on this line says, behind these names. The second argument is what no value, or the place before
 -- the first item, says.
-abbrev pub flow_said : ℕ → Said → Names → Flow → Meaning
+abbrev pub flow_said : ℕ → Said → Anchors → Flow → Meaning
 flow_said line none names absent = (none, names)
 flow_said line none names (word piece) = (word_said line piece names, names)
 flow_said line none names (called piece value) = given line (piece_text piece) (flow_said line none names value)
@@ -103,13 +103,13 @@ abbrev pub chomp_of : Token → Chomp
 chomp_of (Bar line column chomp) = chomp
 chomp_of _ = Clip
 
-abbrev pub leaf_said : Token → Names → Said
+abbrev pub leaf_said : Token → Anchors → Said
 leaf_said (Scalar line column value) names = scalar_said line value
-leaf_said (Copy line column n) names = copied line n names
+leaf_said (Alias line column n) names = copied line n names
 leaf_said token names = null (line_of token)
 
 abbrev pub name_of : Token → List ℕ
-name_of (Name line column n) = n
+name_of (Anchor line column n) = n
 name_of _ = []
 
 -- a collection that begins with this head
@@ -123,7 +123,7 @@ row_behind (Key line column k) before meaning = pair_behind line k before meanin
 row_behind token before meaning = item_behind before meaning
 
 -- What is said, behind these names. The first argument is what no value, or the place before the first row, says.
-abbrev pub said : Said → Names → Written → Meaning
+abbrev pub said : Said → Anchors → Written → Meaning
 said none names nothing = (none, names)
 said none names (leaf token) = (leaf_said token names, names)
 said none names (literal token lines) = (text (line_of token) (block_text (chomp_of token) (bodies_of lines)), names)
@@ -149,7 +149,7 @@ has_repeat (with_item before value) = has_repeat before || has_repeat value
 has_repeat (with_pair before line k value) = (has_repeat before || has_key k before) || has_repeat value
 has_repeat _ = false
 
--- whether a copy is of a name that is unknown or not complete
+-- whether an alias is of a name that is unknown or not complete
 abbrev pub has_unknown : Said → Bool
 has_unknown (unknown line) = true
 has_unknown (with_item before value) = has_unknown before || has_unknown value
@@ -166,7 +166,7 @@ levels (mapping line) = 1
 levels (with_item before value) = max (levels before) (1 + levels value)
 levels (with_pair before line k value) = max (levels before) (1 + levels value)
 
--- how many nodes: each scalar, each null and each collection; copies count in full
+-- how many nodes: each scalar, each null and each collection; aliases count in full
 abbrev pub size : Said → ℕ
 size (with_item before value) = size before + size value
 size (with_pair before line k value) = size before + size value

@@ -4,18 +4,18 @@ use Rattle.std.specs.List.{list_all}
 use Rattle.std.specs.Str.{IsUtf8}
 use Rattle.std.specs.Str.Lossy.{utf8_valid_len}
 use Rattle.sim_base.specs.Ascii.{line_feed}
-use Rattle.yaml_marks.specs.Lines.{lines_of}
-use Rattle.yaml_marks.specs.Pieces.{why_bracket}
+use Rattle.yaml_tokens.specs.Lines.{lines_of}
+use Rattle.yaml_tokens.specs.Pieces.{why_bracket}
 use Rattle.yaml_tree.specs.Flows.{IsFlowMisfit}
-use Rattle.yaml_marks.specs.Tokens.{tokens_of}
-use Rattle.yaml_marks.specs.declared.token.Token.{Token}
-use Rattle.yaml_marks.specs.declared.token.Token.TheVariants.{Key, Scalar, Form, OddToken}
+use Rattle.yaml_tokens.specs.Tokens.{tokens_of}
+use Rattle.yaml_tokens.specs.declared.token.Token.{Token}
+use Rattle.yaml_tokens.specs.declared.token.Token.TheVariants.{Key, Scalar, Form, OddToken}
 use Rattle.yaml_tree.specs.Written.{Written, Spells, is_name}
 use Rattle.yaml_tree.specs.Said.{Said, tree_of, has_repeat, has_unknown, levels, size}
 use Rattle.yaml_tree.specs.declared.fault.FaultKind.{FaultKind}
 use Rattle.yaml_tree.specs.declared.fault.FaultKind.TheVariants.{NotUtf8, Syntax, Unsupported, Duplicate, Alias, TooDeep, TooManyNodes}
-use Rattle.yaml_marks.specs.declared.odd.Odd.{Odd}
-use Rattle.yaml_marks.specs.declared.odd.Odd.TheVariants as odd
+use Rattle.yaml_tokens.specs.declared.odd.Odd.{Odd}
+use Rattle.yaml_tokens.specs.declared.odd.Odd.TheVariants as odd
 use Rattle.yaml_tree.specs.Limits.{most_tree_levels, most_tree_nodes}
 
 -- the lines say this tree by one of the six rules at each place
@@ -24,7 +24,7 @@ pub record Says (lines : List (List ℕ)) (tree : Said) : Type 0 where
   pub spelled : Spells (tokens_of lines) written
   pub said : tree_of written ≡ tree
 
--- the lines have this tree: they say it, no key is repeated, no copy is of an unknown node, and it is within the
+-- the lines have this tree: they say it, no key is repeated, no alias is of an unknown node, and it is within the
 -- limits
 pub record IsTree (lines : List (List ℕ)) (tree : Said) : Type 0 where
   pub says : Says lines tree
@@ -79,7 +79,7 @@ pub record IsMisfit (ms : List Token) (kind : FaultKind) : Type 0 where
   pub kind_is : IsKindAt front token kind
 
 -- The lines have no tree for this reason: they fit no rule, or what they say has a repeated key, or has none and a
--- copy of an unknown node, or neither and is too deep, or isn't too deep and has too many nodes.
+-- alias of an unknown node, or neither and is too deep, or isn't too deep and has too many nodes.
 abbrev pub IsRefused : List (List ℕ) → FaultKind → Type 0
 IsRefused lines NotUtf8 = ⊥
 IsRefused lines Syntax = IsMisfit (tokens_of lines) Syntax

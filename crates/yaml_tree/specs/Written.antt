@@ -1,11 +1,11 @@
 -- How a tree is written over columns: which tokens spell it, and which columns they may have. The rules are those of
 -- this project's own profile of YAML 1.2.
 use Rattle.std.specs.Prelude.{◌≡◌, ℕ, ◌+◌, ◌*◌, ◌<◌, Bool, true, false, List, [], ◌∷◌, ◌++◌}
-use Rattle.yaml_marks.specs.declared.token.Token.{Token}
-use Rattle.yaml_marks.specs.declared.token.Token.TheVariants.{Dash, Key, Scalar, Name, Copy, Bar, Body, Form, OddToken}
+use Rattle.yaml_tokens.specs.declared.token.Token.{Token}
+use Rattle.yaml_tokens.specs.declared.token.Token.TheVariants.{Dash, Key, Scalar, Anchor, Alias, Bar, Body, Form, OddToken}
 use Rattle.yaml_tree.specs.Flows.{Flow, SpellsFlow}
 
--- A tree as it is written: no value, which is null; a scalar (rule 3) or a copy (rule 6); a literal block, as its
+-- A tree as it is written: no value, which is null; a scalar (rule 3) or an alias (rule 6); a literal block, as its
 -- bar and its lines (rule 4); a flow form (rule 5); a value behind its name (rule 6); or a block collection, as its
 -- last row, a key (rule 1) or a dash (rule 2) with its value, behind its earlier rows. `nothing` stands before the
 -- first row.
@@ -30,8 +30,8 @@ abbrev pub line_of : Token → ℕ
 line_of (Dash line column) = line
 line_of (Key line column text) = line
 line_of (Scalar line column text) = line
-line_of (Name line column text) = line
-line_of (Copy line column text) = line
+line_of (Anchor line column text) = line
+line_of (Alias line column text) = line
 line_of (Bar line column chomp) = line
 line_of (Body line column bytes) = line
 line_of (Form line column pieces) = line
@@ -43,8 +43,8 @@ abbrev pub depth : Token → ℕ
 depth (Dash line column) = 2 + 2 * column
 depth (Key line column text) = 1 + 2 * column
 depth (Scalar line column text) = 1 + 2 * column
-depth (Name line column text) = 1 + 2 * column
-depth (Copy line column text) = 1 + 2 * column
+depth (Anchor line column text) = 1 + 2 * column
+depth (Alias line column text) = 1 + 2 * column
 depth (Bar line column chomp) = 1 + 2 * column
 depth (Body line column bytes) = 1 + 2 * column
 depth (Form line column pieces) = 1 + 2 * column
@@ -57,7 +57,7 @@ is_head _ = false
 
 abbrev pub is_leaf : Token → Bool
 is_leaf (Scalar line column text) = true
-is_leaf (Copy line column text) = true
+is_leaf (Alias line column text) = true
 is_leaf _ = false
 
 abbrev pub is_bar : Token → Bool
@@ -65,21 +65,21 @@ is_bar (Bar line column chomp) = true
 is_bar _ = false
 
 abbrev pub is_name : Token → Bool
-is_name (Name line column text) = true
+is_name (Anchor line column text) = true
 is_name _ = false
 
 abbrev pub is_body_line : Token → Bool
 is_body_line (Body line column bytes) = true
 is_body_line _ = false
 
-abbrev pub is_copy : Token → Bool
-is_copy (Copy line column text) = true
-is_copy _ = false
+abbrev pub is_alias : Token → Bool
+is_alias (Alias line column text) = true
+is_alias _ = false
 
--- a name stands before any value but a copy and another name
+-- a name stands before any value but an alias and another name
 abbrev pub MayBeNamed : Written → Type 0
 MayBeNamed nothing = Unit {0}
-MayBeNamed (leaf token) = is_copy token ≡ false
+MayBeNamed (leaf token) = is_alias token ≡ false
 MayBeNamed (literal token lines) = Unit {0}
 MayBeNamed (flowing token value) = Unit {0}
 MayBeNamed (named token value) = ⊥

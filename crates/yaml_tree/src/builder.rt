@@ -2,7 +2,7 @@
 
 ghost use Rattle.std.specs.Prelude.{◌≡◌, ◌+◌, ◌*◌, ◌∷◌, Some, None, OnOk, IfOk};
 ghost use Rattle.yaml_tree.specs.inside.Stack.{new_open, finished};
-ghost use Rattle.yaml_tree.specs.inside.Builder.{next_known, known_of, with_node, put_node, valued, closed, settled, begun, next_row, headed, can_hold, can_name, with_scalar, with_name, with_copy, put_found, with_bar, with_line, ended, with_form, odd_kind, refused, take_token, take_tokens, Steps, judged, whole};
+ghost use Rattle.yaml_tree.specs.inside.Builder.{next_known, known_of, with_node, put_node, valued, closed, closed_deeper, begun, next_row, headed, can_hold, can_name, with_scalar, with_name, with_alias, put_found, with_bar, with_line, ended, with_form, odd_kind, refused, take_token, take_tokens, Steps, judged, whole};
 ghost use Rattle.yaml_tree.specs.Trees.{root_number};
 ghost use Rattle.yaml_tree.specs.inside.Builder as machine;
 ghost use Rattle.yaml_tree.specs.Holds.{scalar_value};
@@ -10,7 +10,7 @@ ghost use Rattle.yaml_tree.specs.Tree.{kind_of};
 
 use crate::fault::{FaultKind, Stop};
 use crate::hashing::Hashing;
-use crate::known::{GivenName, Known, Measure, Names, begins_at};
+use crate::known::{Anchors, GivenName, KnownNode, Measure, begins_at};
 use crate::literal::{Literal, TextLines};
 use crate::made::MadeNodes;
 use crate::node::{Node, Value};
@@ -18,7 +18,7 @@ use crate::shape::flow_fault;
 use crate::stack::{Open, Stack};
 use sim_base::NoMemory;
 use std::alloc::Global;
-use yaml_marks::{Chomp, Odd, Pieces, Scalar, TextOrNull, Token, why_bracket};
+use yaml_tokens::{Chomp, Odd, Pieces, Scalar, TextOrNull, Token, why_bracket};
 
 /// The tree so far.
 #[derive(Drop)]
@@ -32,20 +32,20 @@ pub(crate) struct Builder {
     /// The flow collections that are open.
     pub cells: Stack,
     /// The value of the innermost open row, where it has come.
-    pub value: Option<Known>,
+    pub value: Option<KnownNode>,
     /// The name that waits for a node.
     pub name: Option<GivenName>,
     /// The literal block that is open.
     pub literal: Option<Literal>,
     /// The nodes that have names.
-    pub names: Names,
+    pub names: Anchors,
 }
 
 impl Builder {
     pub fn new(alloc: Global, hashing: Hashing) -> Builder
         ensures { result ≡ machine.fresh alloc }
     {
-        let names = Names::new(alloc, &hashing);
+        let names = Anchors::new(alloc, &hashing);
         Builder {
             alloc,
             hashing,
@@ -66,13 +66,13 @@ impl Builder {
         line: usize,
         value: Value,
         measure: Measure,
-    ) -> Result<Known, NoMemory>
+    ) -> Result<KnownNode, NoMemory>
         ensures { IfOk result (λ k. (k ≡ next_known measure self.old) × (self.new ≡ with_node line value measure self.old)) }
     {
         let Some(node) = self.nodes.next_number() else {
             return Err(NoMemory);
         };
-        let known = Known { node, measure };
+        let known = KnownNode { node, measure };
         let line = begins_at(line, &self.name);
         let may_stand = measure.fault().is_none();
         self.nodes.push(Node { line, value }, may_stand)?;
@@ -112,7 +112,7 @@ impl Builder {
 
     /// The value, which is a null on this line where none has come.
     #[tactic(auto, unfolding(crate::specs::inside::Builder::valued, crate::specs::inside::Builder::put_node))]
-    fn take_value(&mut self, line: usize) -> Result<Known, NoMemory>
+    fn take_value(&mut self, line: usize) -> Result<KnownNode, NoMemory>
         ensures { IfOk result (λ k. (self.new ≡ valued line self.old) × (self.new.value ≡ Some k)) }
     {
         match self.value {
@@ -147,8 +147,8 @@ impl Builder {
     }
 
     /// Closes the collections that are deeper.
-    pub fn settle(&mut self, depth: u128) -> Result<(), NoMemory>
-        ensures { OnOk result (self.new ≡ settled depth self.old) }
+    pub fn close_deeper(&mut self, depth: u128) -> Result<(), NoMemory>
+        ensures { OnOk result (self.new ≡ closed_deeper depth self.old) }
     {
         while let Some(last) = self.open_rows.pop_deeper(depth) {
             self.close(last)?;
@@ -193,7 +193,7 @@ impl Builder {
     fn head(&mut self, depth: u128, mapping: bool, line: usize, key: Scalar) -> Result<(), Stop>
         ensures { Steps result self.new (headed depth mapping line key self.old) }
     {
-        self.settle(depth)?;
+        self.close_deeper(depth)?;
         match self.open_rows.pop_at(depth) {
             Some(last) => {
                 self.next_row(last, line, key)?;
@@ -213,7 +213,7 @@ impl Builder {
         }
     }
 
-    /// Whether a name or a copy of this depth may come.
+    /// Whether an anchor or an alias of this depth may come.
     fn can_name(&self, depth: u128) -> bool
         ensures { result ≡ can_name depth self.now }
     {
@@ -244,8 +244,8 @@ impl Builder {
         Ok(())
     }
 
-    /// Takes what a copy's name found.
-    fn put_found(&mut self, line: usize, found: Option<Known>) -> Result<(), NoMemory>
+    /// Takes what an alias's name found.
+    fn put_found(&mut self, line: usize, found: Option<KnownNode>) -> Result<(), NoMemory>
         ensures { OnOk result (self.new ≡ put_found line found self.old) }
     {
         match found {
@@ -257,10 +257,10 @@ impl Builder {
         }
     }
 
-    /// Takes a copy.
-    #[tactic(auto, unfolding(crate::specs::inside::Builder::with_copy))]
-    fn copy(&mut self, depth: u128, line: usize, name: &Scalar) -> Result<(), Stop>
-        ensures { Steps result self.new (with_copy depth line name.now self.old) }
+    /// Takes an alias.
+    #[tactic(auto, unfolding(crate::specs::inside::Builder::with_alias))]
+    fn alias(&mut self, depth: u128, line: usize, name: &Scalar) -> Result<(), Stop>
+        ensures { Steps result self.new (with_alias depth line name.now self.old) }
     {
         if !self.can_name(depth) {
             return Err(Stop::Fault(FaultKind::Syntax));
@@ -386,16 +386,16 @@ impl Builder {
             }
             Token::Key { line, column, text } => self.head(key_depth(column), true, line, text),
             Token::Scalar { line, column, text } => self.scalar(key_depth(column), line, text),
-            Token::Name {
+            Token::Anchor {
                 line,
                 column,
                 name: text,
             } => self.give_name(key_depth(column), line, text),
-            Token::Copy {
+            Token::Alias {
                 line,
                 column,
                 name: text,
-            } => self.copy(key_depth(column), line, &text),
+            } => self.alias(key_depth(column), line, &text),
             Token::Bar {
                 line,
                 column,
@@ -417,7 +417,7 @@ impl Builder {
         ensures { IfOk result (λ n. (n ≡ root_number self.old) × (self.new ≡ whole self.old)) }
     {
         self.end_literal()?;
-        self.settle(0)?;
+        self.close_deeper(0)?;
         let root = self.take_value(1)?;
         Ok(root.node)
     }

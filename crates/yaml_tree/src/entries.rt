@@ -9,7 +9,7 @@ use crate::hashing::{Hashing, TextHashers};
 use indexmap::IndexMap;
 use std::alloc::{AllocError, Global};
 use std::marker::Model;
-use yaml_marks::Scalar;
+use yaml_tokens::Scalar;
 
 /// What a key names: the line of the key, and the number of its value's node.
 #[derive(Clone, Copy)]

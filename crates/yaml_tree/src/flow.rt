@@ -1,19 +1,19 @@
 //! Flow forms, piece by piece given to the builder.
 
 ghost use Rattle.std.specs.Prelude.{◌≡◌, Some, None, OnOk, IfOk};
-ghost use Rattle.yaml_tree.specs.inside.Builder.{put_known, cell_node, flushed, cell_opened, cell_closed, cell_key, copy_found, cell_copy, take_piece, take_pieces};
+ghost use Rattle.yaml_tree.specs.inside.Builder.{put_known, cell_node, flushed, cell_opened, cell_closed, cell_key, alias_found, cell_alias, take_piece, take_pieces};
 
 use crate::builder::{Builder, scalar_value};
-use crate::known::{GivenName, Known, Measure};
+use crate::known::{GivenName, KnownNode, Measure};
 use crate::node::Value;
 use crate::stack::Open;
 use sim_base::NoMemory;
-use yaml_marks::{Bracket, Piece, Pieces, Scalar};
+use yaml_tokens::{Bracket, Piece, Pieces, Scalar};
 
 impl Builder {
     /// Makes a value a cell of the innermost bracket, or the whole form.
     #[tactic(auto, unfolding(crate::specs::inside::Builder::put_known))]
-    fn put_known(&mut self, known: Known) -> Result<(), NoMemory>
+    fn put_known(&mut self, known: KnownNode) -> Result<(), NoMemory>
         ensures { OnOk result (self.new ≡ put_known known self.old) }
     {
         match self.cells.pop() {
@@ -86,8 +86,8 @@ impl Builder {
         }
     }
 
-    fn copy_found(&mut self, line: usize, found: Option<Known>) -> Result<(), NoMemory>
-        ensures { OnOk result (self.new ≡ copy_found line found self.old) }
+    fn alias_found(&mut self, line: usize, found: Option<KnownNode>) -> Result<(), NoMemory>
+        ensures { OnOk result (self.new ≡ alias_found line found self.old) }
     {
         match found {
             Some(known) => self.put_known(known),
@@ -95,12 +95,12 @@ impl Builder {
         }
     }
 
-    #[tactic(auto, unfolding(crate::specs::inside::Builder::cell_copy))]
-    fn copy_cell(&mut self, line: usize, name: &Scalar) -> Result<(), NoMemory>
-        ensures { OnOk result (self.new ≡ cell_copy line name.now self.old) }
+    #[tactic(auto, unfolding(crate::specs::inside::Builder::cell_alias))]
+    fn alias_cell(&mut self, line: usize, name: &Scalar) -> Result<(), NoMemory>
+        ensures { OnOk result (self.new ≡ cell_alias line name.now self.old) }
     {
         let found = self.names.find(name);
-        self.copy_found(line, found)
+        self.alias_found(line, found)
     }
 
     /// Takes a piece.
@@ -116,11 +116,11 @@ impl Builder {
             Piece::CellScalar(text) => {
                 self.cell_node(line, scalar_value(text), Measure::one_node())
             }
-            Piece::CellName(text) => {
+            Piece::CellAnchor(text) => {
                 self.name = Some(GivenName { line, text });
                 Ok(())
             }
-            Piece::CellCopy(name) => self.copy_cell(line, &name),
+            Piece::CellAlias(name) => self.alias_cell(line, &name),
             Piece::OddPiece(_) => Ok(()),
         }
     }

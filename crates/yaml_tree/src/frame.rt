@@ -11,7 +11,7 @@ use crate::numbers::Numbers;
 use crate::stack::Open;
 use sim_base::NoMemory;
 use std::alloc::Global;
-use yaml_marks::Scalar;
+use yaml_tokens::Scalar;
 
 /// A collection that is open. Few words are kept of one that has no row or few, since a line may
 /// open millions of them.

@@ -11,7 +11,7 @@ use crate::entries::{Child, Entries};
 use crate::hashing::Hashing;
 use std::alloc::{AllocError, Global};
 use std::marker::Model;
-use yaml_marks::Scalar;
+use yaml_tokens::Scalar;
 
 /// So many rows are kept without a table.
 const MOST_ROWS: usize = 8;

@@ -5,7 +5,7 @@ ghost use Rattle.std.specs.Cmp.Lexicographic.{pointwise};
 ghost use Rattle.indexmap.specs.IndexMap.{insert_entry};
 ghost use Rattle.yaml_tree.specs.inside.Stack.{cut, one_node, unknown_node, no_row, with_part, with_repeat};
 ghost use Rattle.yaml_tree.specs.inside.Builder.{find_name, begins_at, fault_of};
-ghost use Rattle.yaml_tree.specs.declared.known.Known.{Known};
+ghost use Rattle.yaml_tree.specs.declared.known.KnownNode.{KnownNode};
 
 use crate::fault::FaultKind;
 use crate::hashing::{Hashing, TextHashers};
@@ -13,7 +13,7 @@ use indexmap::IndexMap;
 use sim_base::NoMemory;
 use std::alloc::Global;
 use std::marker::Model;
-use yaml_marks::Scalar;
+use yaml_tokens::Scalar;
 
 /// The most nodes that a tree has.
 pub(crate) const MOST_NODES: u32 = 1_000_000;
@@ -22,7 +22,7 @@ pub(crate) const MOST_NODES: u32 = 1_000_000;
 pub(crate) const MOST_LEVELS: u8 = 64;
 
 /// What the limits ask of a tree: its nodes and its levels, each counted to one more than a tree
-/// has at most; whether a key stands twice in one mapping; and whether a copy is of an unknown
+/// has at most; whether a key stands twice in one mapping; and whether an alias is of an unknown
 /// node.
 #[derive(Clone, Copy, PartialEq, Eq)]
 pub(crate) struct Measure {
@@ -45,7 +45,7 @@ impl Measure {
         }
     }
 
-    /// A copy of an unknown node.
+    /// An alias of an unknown node.
     pub fn unknown_node() -> Measure
         ensures { result ≡ unknown_node }
     {
@@ -137,7 +137,7 @@ fn levels_above(levels: u8) -> u8
 
 /// A node that is whole, with the measure of its tree.
 #[derive(Clone, Copy)]
-pub(crate) struct Known {
+pub(crate) struct KnownNode {
     pub node: u32,
     pub measure: Measure,
 }
@@ -161,29 +161,29 @@ pub(crate) fn begins_at(line: usize, name: &Option<GivenName>) -> usize
 
 /// The nodes that have names, which contracts see as a list of pairs.
 #[derive(Drop)]
-pub(crate) struct Names {
-    map: IndexMap<Scalar, Known, TextHashers>,
+pub(crate) struct Anchors {
+    map: IndexMap<Scalar, KnownNode, TextHashers>,
 }
 
-impl Model for Names {
+impl Model for Anchors {
     ghost use Rattle.std.specs.Prelude.{List, ℕ};
-    ghost use Rattle.yaml_tree.specs.declared.known.Known.{Known};
+    ghost use Rattle.yaml_tree.specs.declared.known.KnownNode.{KnownNode};
 
-    ghost Value = { List (List ℕ × Known) };
+    ghost Value = { List (List ℕ × KnownNode) };
 
     ghost view = { λ n. n.map.entries };
 }
 
-impl Names {
-    pub fn new(alloc: Global, hashing: &Hashing) -> Names
+impl Anchors {
+    pub fn new(alloc: Global, hashing: &Hashing) -> Anchors
         ensures { result ≡ [] }
     {
-        Names {
+        Anchors {
             map: IndexMap::with_hasher(alloc, hashing.hashers()),
         }
     }
 
-    pub fn find(&self, name: &Scalar) -> Option<Known>
+    pub fn find(&self, name: &Scalar) -> Option<KnownNode>
         ensures { result ≡ find_name self.now name.now }
     {
         match self.map.get(name) {
@@ -192,7 +192,7 @@ impl Names {
         }
     }
 
-    pub fn insert(&mut self, name: Scalar, known: Known) -> Result<(), NoMemory>
+    pub fn insert(&mut self, name: Scalar, known: KnownNode) -> Result<(), NoMemory>
         ensures { OnOk result (self.new ≡ insert_entry (pointwise ◌==◌) self.old name known) }
     {
         self.map.insert(name, known)?;

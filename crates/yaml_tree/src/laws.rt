@@ -3,8 +3,8 @@
 //! has two faults.
 
 ghost use Rattle.std.specs.Prelude.{◌≡◌, ℕ, List, take};
-ghost use Rattle.yaml_marks.specs.declared.piece.Piece.{Piece};
-ghost use Rattle.yaml_marks.specs.declared.token.Token.{Token};
+ghost use Rattle.yaml_tokens.specs.declared.piece.Piece.{Piece};
+ghost use Rattle.yaml_tokens.specs.declared.token.Token.{Token};
 ghost use Rattle.yaml_tree.specs.Flows.{Flow, SpellsFlow};
 ghost use Rattle.yaml_tree.specs.Written.{Written, Spells};
 ghost use Rattle.yaml_tree.specs.Said.{Said};

@@ -29,4 +29,4 @@ pub use nodes::Nodes;
 pub use numbers::Numbers;
 pub use reading::read_tree;
 pub use tree::Tree;
-pub use yaml_marks::Scalar;
+pub use yaml_tokens::Scalar;

@@ -2,12 +2,12 @@
 
 ghost use Rattle.std.specs.Prelude.{◌≡◌, ◌≤◌, ◌++◌, ◌-◌, ◌∷◌, List, ℕ, [], length, OnOk, IfOk};
 ghost use Rattle.std.specs.List.{suffix_len};
-ghost use Rattle.yaml_marks.specs.Literals.{is_blank, indent, block_column, line_from, joined, is_feed, without_feeds, with_feed, chomped, block_text};
+ghost use Rattle.yaml_tokens.specs.Literals.{is_blank, indent, block_column, line_from, joined, is_feed, without_feeds, with_feed, chomped, block_text};
 
 use sim_base::NoMemory;
 use std::alloc::Global;
 use std::marker::Model;
-use yaml_marks::{Chomp, Scalar, is_blank, past, spaces};
+use yaml_tokens::{Chomp, Scalar, is_blank, past, spaces};
 
 /// Lines, which contracts see as a list.
 #[derive(Drop)]

@@ -2,7 +2,7 @@
 
 use crate::entries::Entries;
 use crate::numbers::Numbers;
-use yaml_marks::Scalar;
+use yaml_tokens::Scalar;
 
 /// What a node is.
 #[derive(Drop)]

@@ -1,11 +1,11 @@
 //! Reading a text, line by line.
 
 ghost use Rattle.std.specs.Prelude.{◌≡◌, ◌+◌, ◌<◌, ◌≤◌, ◌^◌, List, ℕ, Bool, None, Ok, Err, length, take, count_by, IfOk, IfErr, false, ◌==◌, ◌||◌};
-ghost use Rattle.yaml_marks.specs.Lines.{split_lines, lines_of};
+ghost use Rattle.yaml_tokens.specs.Lines.{split_lines, lines_of};
 ghost use Rattle.yaml_tree.specs.inside.Builder.{Steps, Reads, ReadsLine, take_tokens, take_line, read_line, at_line, read_lines, fresh};
 ghost use Rattle.yaml_tree.specs.Said.{Said};
-ghost use Rattle.yaml_marks.specs.Tokens.{has_content, place_after, line_tokens, next_place, tokens_of};
-ghost use Rattle.yaml_marks.specs.declared.place.LinePlace.TheVariants.{Outside};
+ghost use Rattle.yaml_tokens.specs.Tokens.{has_content, place_after, line_tokens, next_place, tokens_of};
+ghost use Rattle.yaml_tokens.specs.declared.place.LinePlace.TheVariants.{Outside};
 ghost use Rattle.yaml_tree.specs.Tree.{IsTreeOf, IsFaultOf, is_empty_document};
 ghost use Rattle.yaml_tree.specs.Written.{is_name};
 ghost use Rattle.std.specs.List.{list_all};
@@ -18,7 +18,7 @@ use crate::hashing::Hashing;
 use crate::tree::Tree;
 use sim_base::NoMemory;
 use std::alloc::Global;
-use yaml_marks::{
+use yaml_tokens::{
     LinePlace, Token, Tokens, has_content, line_tokens, next_line, next_place, without_mark,
 };
 
@@ -63,7 +63,7 @@ fn take_numbered(builder: &mut Builder, number: usize, tokens: Tokens) -> Result
 fn is_name(token: &Token) -> bool
     ensures { result ≡ is_name token.now }
 {
-    matches!(token, Token::Name { .. })
+    matches!(token, Token::Anchor { .. })
 }
 
 /// Whether there are no tokens but names.

@@ -3,14 +3,14 @@
 ghost use Rattle.std.specs.Prelude.{◌≡◌, ◌<◌, ◌∷◌, ◌↔◌, List, [], Some, IfOk, OnOk, IsTrue, length, drop};
 ghost use Rattle.yaml_tree.specs.inside.Outline.{is_bracket_of, takes_value, takes_form, takes_name, takes_key, takes_comma, takes_closing, takes_piece, closed, behind, piece_fault, fault_from, flow_fault};
 ghost use Rattle.yaml_tree.specs.Flows.{kind_behind_key};
-ghost use Rattle.yaml_marks.specs.declared.piece.Bracket.{Bracket};
+ghost use Rattle.yaml_tokens.specs.declared.piece.Bracket.{Bracket};
 ghost use Rattle.yaml_tree.specs.declared.shape.Want.TheVariants as want;
 
 use crate::fault::FaultKind;
 use sim_base::NoMemory;
 use std::alloc::Global;
 use std::marker::Model;
-use yaml_marks::{BarePiece, Bracket, Odd, PieceKind, Pieces, closes_at};
+use yaml_tokens::{BarePiece, Bracket, Odd, PieceKind, Pieces, closes_at};
 
 /// What may come next in a flow form.
 #[derive(Clone, Copy, PartialEq, Eq)]
@@ -37,7 +37,7 @@ pub struct Brackets {
 
 impl Model for Brackets {
     ghost use Rattle.std.specs.Prelude.{List, reverse};
-    ghost use Rattle.yaml_marks.specs.declared.piece.Bracket.{Bracket};
+    ghost use Rattle.yaml_tokens.specs.declared.piece.Bracket.{Bracket};
 
     ghost Value = { List Bracket };
 
@@ -119,7 +119,7 @@ impl Shape {
         self.want == Want::Form || self.takes_value()
     }
 
-    /// Whether a name, or a copy, may come.
+    /// Whether an anchor, or an alias, may come.
     fn takes_name(&self) -> bool
         ensures { result ≡ takes_name self.now.want self.now.brackets }
     {
@@ -160,7 +160,7 @@ impl Shape {
             PieceKind::Comma => self.takes_comma(),
             PieceKind::Key => self.takes_key(),
             PieceKind::Scalar => self.takes_value(),
-            PieceKind::Name | PieceKind::Copy => self.takes_name(),
+            PieceKind::Anchor | PieceKind::Alias => self.takes_name(),
             PieceKind::Odd(_) => false,
         }
     }
@@ -189,8 +189,8 @@ impl Shape {
             PieceKind::Closing(_) => self.close(),
             PieceKind::Comma => self.want = Want::Cell,
             PieceKind::Key => self.want = Want::Value,
-            PieceKind::Name => self.want = Want::Named,
-            PieceKind::Scalar | PieceKind::Copy => self.want = Want::End,
+            PieceKind::Anchor => self.want = Want::Named,
+            PieceKind::Scalar | PieceKind::Alias => self.want = Want::End,
             PieceKind::Odd(_) => {}
         }
         Ok(())

@@ -9,13 +9,13 @@ use crate::entries::Child;
 use crate::frame::Frame;
 use crate::growing::Growing;
 use crate::hashing::Hashing;
-use crate::known::{GivenName, Known, Measure};
+use crate::known::{GivenName, KnownNode, Measure};
 use crate::node::Value;
 use crate::numbers::Numbers;
 use sim_base::NoMemory;
 use std::alloc::Global;
 use std::marker::Model;
-use yaml_marks::Scalar;
+use yaml_tokens::Scalar;
 
 /// A collection that is still open: its finished rows, and the row whose value comes.
 #[derive(Drop)]
@@ -117,7 +117,7 @@ impl Open {
         self,
         alloc: Global,
         hashing: &Hashing,
-        value: Known,
+        value: KnownNode,
     ) -> Result<Open, NoMemory>
         ensures { IfOk result (λ o. o ≡ finished self value) }
     {

@@ -1,8 +1,8 @@
 -- What a block says, and its pairs.
 use Rattle.std.proofs.Common.{◌≡◌, ℕ, ◌+◌, false, List, [], ◌∷◌, ◌++◌, Option, Some, None, refl, sym, ap, ◌∙◌, append_assoc, append-nil, true≢false}
 use Rattle.std.specs.Option.{option_map}
-use Rattle.yaml_marks.specs.declared.token.Token.TheVariants.{Dash, Key}
-use Rattle.yaml_marks.specs.declared.piece.Piece.TheVariants.{CellKey, CellScalar}
+use Rattle.yaml_tokens.specs.declared.token.Token.TheVariants.{Dash, Key}
+use Rattle.yaml_tokens.specs.declared.piece.Piece.TheVariants.{CellKey, CellScalar}
 use Rattle.yaml_tree.specs.Flows.{Flow}
 use Rattle.yaml_tree.specs.Flows.{Flow as flows}
 use Rattle.yaml_tree.specs.Written.{Written}

@@ -4,8 +4,8 @@ use Rattle.std.specs.List.{list_all, starts_with}
 use Rattle.std.proofs.lemmas.Bool.{and_parts}
 use Rattle.std.proofs.lemmas.Str.{IsUtf8-append, IsUtf8-nil, IsUtf8-from_ascii}
 use Rattle.std.proofs.lemmas.Str.Ascii.{IsAscii-nil, IsAscii-cons}
-use Rattle.yaml_marks.specs.Lines.{byte_before, split_lines, byte_order_mark, lines_of}
-use Rattle.yaml_marks.specs.Tokens.{tokens_of}
+use Rattle.yaml_tokens.specs.Lines.{byte_before, split_lines, byte_order_mark, lines_of}
+use Rattle.yaml_tokens.specs.Tokens.{tokens_of}
 use Rattle.yaml_tree.specs.Written.{Spells}
 use Rattle.yaml_tree.specs.Written.Written.{nothing}
 use Rattle.yaml_tree.specs.Said.{Said, size}

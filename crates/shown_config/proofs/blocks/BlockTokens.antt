@@ -1,9 +1,9 @@
 -- The tokens of the lines of a block.
 use Rattle.std.proofs.Common.{◌≡◌, ℕ, ◌+◌, Bool, ◌||◌, List, [], ◌∷◌, ◌++◌, flat_map, Option, Some, refl, sym, ap, ◌∙◌, append_assoc, append-nil}
-use Rattle.yaml_marks.specs.Tokens.{has_content, place_behind, place_after, line_tokens, tokens_from}
-use Rattle.yaml_marks.specs.declared.token.Token.{Token}
-use Rattle.yaml_marks.specs.declared.token.Token.TheVariants.{Dash, Key}
-use Rattle.yaml_marks.specs.declared.place.LinePlace.TheVariants.{Outside}
+use Rattle.yaml_tokens.specs.Tokens.{has_content, place_behind, place_after, line_tokens, tokens_from}
+use Rattle.yaml_tokens.specs.declared.token.Token.{Token}
+use Rattle.yaml_tokens.specs.declared.token.Token.TheVariants.{Dash, Key}
+use Rattle.yaml_tokens.specs.declared.place.LinePlace.TheVariants.{Outside}
 use Rattle.shown_config.proofs.words.Words.{Word, says, IsWord}
 use Rattle.shown_config.proofs.forms.Cells as cells
 use Rattle.shown_config.proofs.forms.Cells.{Cell, IsCell}

@@ -1,7 +1,7 @@
 -- A block as it is written has the tokens of its lines, each where its rule admits it.
 use Rattle.std.proofs.Common.{◌≡◌, ℕ, ◌+◌, ◌*◌, ◌<◌, true, List, [], ◌∷◌, ◌++◌, refl, sym, ap, ◌∙◌, append_assoc, append-nil, arith}
-use Rattle.yaml_marks.specs.declared.token.Token.{Token}
-use Rattle.yaml_marks.specs.declared.token.Token.TheVariants.{Dash, Key}
+use Rattle.yaml_tokens.specs.declared.token.Token.{Token}
+use Rattle.yaml_tokens.specs.declared.token.Token.TheVariants.{Dash, Key}
 use Rattle.yaml_tree.specs.Written.{Written, tokens, depth, is_head, SameRows, StandsBelow, Spells}
 use Rattle.yaml_tree.specs.Written.Written.{nothing, leaf, literal, flowing, named, row}
 use Rattle.shown_config.proofs.words.Words.{Word, says}

@@ -2,8 +2,8 @@
 -- or below it a block or items; an item is a mapping of leaves behind a dash. The first argument is mostly the number of the
 -- first line, the second the column.
 use Rattle.std.proofs.Common.{ℕ, ◌+◌, Bool, true, false, List, [], ◌∷◌, ◌++◌, map, flat_map}
-use Rattle.yaml_marks.specs.declared.token.Token.{Token}
-use Rattle.yaml_marks.specs.declared.token.Token.TheVariants.{Dash, Key}
+use Rattle.yaml_tokens.specs.declared.token.Token.{Token}
+use Rattle.yaml_tokens.specs.declared.token.Token.TheVariants.{Dash, Key}
 use Rattle.yaml_tree.specs.Written.{Written}
 use Rattle.yaml_tree.specs.Written.Written.{nothing, leaf, flowing, row}
 use Rattle.yaml_tree.specs.Said.{Said}

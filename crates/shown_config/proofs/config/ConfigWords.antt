@@ -14,7 +14,7 @@ use Rattle.sim_base.specs.declared.signal.Signal.TheVariants.{SigHup, SigInt, Si
 use Rattle.sim_base.specs.declared.time.Time.{Time}
 use Rattle.sim_base.specs.declared.address.Ip.{Ip}
 use Rattle.shd_values.specs.Word.{is_name_byte, is_name_of_host}
-use Rattle.yaml_marks.specs.Scalars.{is_space, is_null}
+use Rattle.yaml_tokens.specs.Scalars.{is_space, is_null}
 use Rattle.yaml_merge.specs.Merge.{is_merge_key}
 use Rattle.shd_config.specs.Values.{is_within, may_be_host}
 use Rattle.config_lines.specs.Shown.{shown_truth, shown_address, shown_rule}

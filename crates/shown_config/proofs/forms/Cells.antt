@@ -1,11 +1,11 @@
 -- What stands behind a key on its line: a word, a list of words or a mapping of words.
 use Rattle.std.proofs.Common.{◌≡◌, ℕ, ◌+◌, false, ◌==◌, List, [], ◌∷◌, length, drop, Some, refl, sym, ap, ◌∙◌, arith, append-nil, drop_of_length-le}
-use Rattle.yaml_marks.specs.Scalars.{plain_len, scalar_at}
-use Rattle.yaml_marks.specs.Pieces.{flow_at}
-use Rattle.yaml_marks.specs.Tokens.{behind_value, flow_tokens, value_tokens_of, named_value, value_tokens}
-use Rattle.yaml_marks.specs.declared.piece.Piece.{Piece}
-use Rattle.yaml_marks.specs.declared.token.Token.{Token}
-use Rattle.yaml_marks.specs.declared.token.Token.TheVariants.{Scalar, Form}
+use Rattle.yaml_tokens.specs.Scalars.{plain_len, scalar_at}
+use Rattle.yaml_tokens.specs.Pieces.{flow_at}
+use Rattle.yaml_tokens.specs.Tokens.{behind_value, flow_tokens, value_tokens_of, named_value, value_tokens}
+use Rattle.yaml_tokens.specs.declared.piece.Piece.{Piece}
+use Rattle.yaml_tokens.specs.declared.token.Token.{Token}
+use Rattle.yaml_tokens.specs.declared.token.Token.TheVariants.{Scalar, Form}
 use Rattle.text_trees.proofs.Bytes.{IsText}
 use Rattle.shown_config.proofs.words.Words.{Word, text_of, says, IsWord, Opened, opened, scan_of_word, scalar_at_word, word_text}
 use Rattle.shown_config.proofs.words.Words.Word.{bare, quote}

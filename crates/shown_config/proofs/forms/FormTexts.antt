@@ -1,8 +1,8 @@
 -- Lists and mappings of words on one line are spelled by their pieces, and are UTF-8 inside of a line.
 use Rattle.std.proofs.Common.{◌≡◌, ℕ, false, List, [], ◌∷◌, ◌++◌, codes, flat_map, refl, sym, ap, ◌∙◌, append_assoc, append-nil, true≢false}
 use Rattle.std.proofs.lemmas.Str.{IsUtf8-nil}
-use Rattle.yaml_marks.specs.declared.piece.Bracket.TheVariants.{Square, Curly}
-use Rattle.yaml_marks.specs.declared.piece.Piece.TheVariants.{Opening, Closing, Comma, CellKey}
+use Rattle.yaml_tokens.specs.declared.piece.Bracket.TheVariants.{Square, Curly}
+use Rattle.yaml_tokens.specs.declared.piece.Piece.TheVariants.{Opening, Closing, Comma, CellKey}
 use Rattle.yaml_tree.specs.Flows.{Flow, spelling, is_absent, AreCells, SpellsFlow}
 use Rattle.yaml_tree.specs.Flows.Flow.{absent, word, item, pair}
 use Rattle.config_lines.specs.Shown.{listed}

@@ -1,12 +1,12 @@
 -- Lists and mappings of words on one line, between brackets, and the pieces that are found in them.
 use Rattle.std.proofs.Common.{◌≡◌, ℕ, suc, ◌+◌, ◌-◌, false, List, [], ◌∷◌, ◌++◌, length, drop, Some, codes, flat_map, refl, sym, ap, ◌∙◌, append_assoc, arith, length-append, drop_at, subst, if◌then◌else◌}
 use Rattle.std.specs.List.{prefix_len}
-use Rattle.yaml_marks.specs.Lines.{begins_with}
-use Rattle.yaml_marks.specs.Scalars.{is_space, at_colon}
-use Rattle.yaml_marks.specs.Pieces.{cell_len, word_step, scan_step, CellStep, step_at, open_after, Found, found_at, with_step, flow_at}
-use Rattle.yaml_marks.specs.declared.piece.Bracket.TheVariants.{Square, Curly}
-use Rattle.yaml_marks.specs.declared.piece.Piece.{Piece}
-use Rattle.yaml_marks.specs.declared.piece.Piece.TheVariants.{Opening, Closing, Comma, CellKey, CellScalar}
+use Rattle.yaml_tokens.specs.Lines.{begins_with}
+use Rattle.yaml_tokens.specs.Scalars.{is_space, at_colon}
+use Rattle.yaml_tokens.specs.Pieces.{cell_len, word_step, scan_step, CellStep, step_at, open_after, Found, found_at, with_step, flow_at}
+use Rattle.yaml_tokens.specs.declared.piece.Bracket.TheVariants.{Square, Curly}
+use Rattle.yaml_tokens.specs.declared.piece.Piece.{Piece}
+use Rattle.yaml_tokens.specs.declared.piece.Piece.TheVariants.{Opening, Closing, Comma, CellKey, CellScalar}
 use Rattle.yaml_tree.specs.Flows.{Flow}
 use Rattle.yaml_tree.specs.Flows.Flow.{absent, word, item, pair, form}
 use Rattle.config_lines.specs.Shown.{listed}

@@ -1,12 +1,12 @@
 -- The lines of rows and their tokens.
 use Rattle.std.proofs.Common.{◌≡◌, ℕ, zero, suc, ◌+◌, Bool, true, false, List, [], ◌∷◌, ◌++◌, length, drop, replicate, Option, Some, codes, refl, sym, ap, ◌∙◌, subst, arith, drop_at, zero-add}
 use Rattle.std.proofs.lemmas.Str.{IsUtf8-nil}
-use Rattle.yaml_marks.specs.Lines.{begins_with}
-use Rattle.yaml_marks.specs.Scalars.{at_gap, plain_len, scalar_at, plain_value}
-use Rattle.yaml_marks.specs.Tokens.{row_tokens, row_tokens_of, node_tokens, value_tokens, line_tokens}
-use Rattle.yaml_marks.specs.declared.token.Token.{Token}
-use Rattle.yaml_marks.specs.declared.token.Token.TheVariants.{Dash, Key}
-use Rattle.yaml_marks.specs.declared.place.LinePlace.TheVariants.{Outside}
+use Rattle.yaml_tokens.specs.Lines.{begins_with}
+use Rattle.yaml_tokens.specs.Scalars.{at_gap, plain_len, scalar_at, plain_value}
+use Rattle.yaml_tokens.specs.Tokens.{row_tokens, row_tokens_of, node_tokens, value_tokens, line_tokens}
+use Rattle.yaml_tokens.specs.declared.token.Token.{Token}
+use Rattle.yaml_tokens.specs.declared.token.Token.TheVariants.{Dash, Key}
+use Rattle.yaml_tokens.specs.declared.place.LinePlace.TheVariants.{Outside}
 use Rattle.text_trees.proofs.Bytes.{IsText, IsText_append, IsText_known}
 use Rattle.shown_config.proofs.words.Words.{Word, text_of, says, IsWord, StopsWord, Opened, opened, scan_of_word, scalar_at_word, word_text}
 use Rattle.shown_config.proofs.words.Words.Word.{bare, quote}

@@ -15,7 +15,7 @@ use Rattle.sim_base.specs.declared.time.Time.{Time}
 use Rattle.sim_base.specs.declared.address.Ip.{Ip}
 use Rattle.shd_values.specs.Number.{digits_number, number_of, size_of}
 use Rattle.shd_values.specs.Address.{is_point, octet, behind_point, address_of}
-use Rattle.yaml_marks.specs.Scalars.{is_space, is_null}
+use Rattle.yaml_tokens.specs.Scalars.{is_space, is_null}
 use Rattle.shd_config.specs.Values.{time_of}
 use Rattle.config_lines.specs.Shown.{shown_time, shown_rate, shown_address}
 use Rattle.text_trees.proofs.Bytes.{all-append, all_weaker}

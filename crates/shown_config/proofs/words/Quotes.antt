@@ -8,9 +8,9 @@ use Rattle.std.proofs.lemmas.Bool.Decides.{nat_tests}
 use Rattle.std.proofs.lemmas.Str.{IsUtf8-append, IsUtf8-encode, IsUtf8-nil, IsUtf8-from_ascii, encodes-chars, scalars-chars}
 use Rattle.std.proofs.lemmas.Str.Ascii.{IsAscii-nil, IsAscii-cons}
 use Rattle.sim_base.specs.Ascii.{digit_0, digit_9, capital_a, capital_f}
-use Rattle.yaml_marks.specs.Scalars.{put_before, unescaped, double_len, hex_value, is_surrogate, double_text, double_scan}
-use Rattle.yaml_marks.specs.declared.scan.Scan.TheVariants.{Quoted}
-use Rattle.yaml_marks.specs.declared.escapes.Escape.TheVariants.{Outside}
+use Rattle.yaml_tokens.specs.Scalars.{put_before, unescaped, double_len, hex_value, is_surrogate, double_text, double_scan}
+use Rattle.yaml_tokens.specs.declared.scan.Scan.TheVariants.{Quoted}
+use Rattle.yaml_tokens.specs.declared.escapes.Escape.TheVariants.{Outside}
 use Rattle.config_lines.specs.Quoted.{hex_digit, hex_escape, escaped, quoted}
 use Rattle.text_trees.proofs.Bytes.{is_inner, are_inner, all-append, all_weaker, is_known, IsText_known, put_before_nil, put_before_append, plus, plus_zero, plus_plus}
 use Rattle.text_trees.proofs.Itself.{is_itself, itself_inner, itself_open, unescaped_itself, encode_itself}

@@ -8,11 +8,11 @@ use Rattle.std.proofs.lemmas.List.Sums.{suffix_len_is}
 use Rattle.std.proofs.lemmas.Str.{IsUtf8-from_ascii}
 use Rattle.std.proofs.lemmas.Str.Ascii.{IsAscii-nil, IsAscii-cons}
 use Rattle.std.specs.Str.{IsAscii}
-use Rattle.yaml_marks.specs.Lines.{begins_with}
-use Rattle.yaml_marks.specs.Scalars.{is_space, plain_len, plain_ends, plain_text, is_null, without_spaces, bare_scan, scan_of, scalar_at}
-use Rattle.yaml_marks.specs.Pieces.{cell_len, cell_text, bare_cell, cell_scan}
-use Rattle.yaml_marks.specs.declared.scan.Scan.{Scan}
-use Rattle.yaml_marks.specs.declared.scan.Scan.TheVariants.{Plain, Quoted}
+use Rattle.yaml_tokens.specs.Lines.{begins_with}
+use Rattle.yaml_tokens.specs.Scalars.{is_space, plain_len, plain_ends, plain_text, is_null, without_spaces, bare_scan, scan_of, scalar_at}
+use Rattle.yaml_tokens.specs.Pieces.{cell_len, cell_text, bare_cell, cell_scan}
+use Rattle.yaml_tokens.specs.declared.scan.Scan.{Scan}
+use Rattle.yaml_tokens.specs.declared.scan.Scan.TheVariants.{Plain, Quoted}
 use Rattle.config_lines.specs.Quoted.{quoted}
 use Rattle.text_trees.proofs.Bytes.{is_inner, all_weaker, IsText}
 use Rattle.shown_config.proofs.words.Quotes.{body, quoted_parts, double_scan_body, quoted_inner, quoted_utf8}

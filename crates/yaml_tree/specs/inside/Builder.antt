@@ -3,24 +3,24 @@ use Rattle.std.specs.Prelude.{◌≡◌, ℕ, ◌+◌, ◌*◌, Bool, true, fals
 use Rattle.std.specs.Cmp.Lexicographic.{pointwise}
 use Rattle.std.specs.Map.{lookup}
 use Rattle.indexmap.specs.IndexMap.{insert_entry}
-use Rattle.yaml_marks.specs.Literals.{block_text}
-use Rattle.yaml_marks.specs.Pieces.{why_bracket}
-use Rattle.yaml_marks.specs.Tokens.{has_content, line_tokens, next_place}
+use Rattle.yaml_tokens.specs.Literals.{block_text}
+use Rattle.yaml_tokens.specs.Pieces.{why_bracket}
+use Rattle.yaml_tokens.specs.Tokens.{has_content, line_tokens, next_place}
 use Rattle.yaml_tree.specs.inside.Outline.{flow_fault}
 use Rattle.yaml_tree.specs.inside.Stack.{one_node, unknown_node, new_open, finished, collection, with_next_row, measure_about}
 use Rattle.yaml_tree.specs.Holds.{scalar_value}
 use Rattle.yaml_tree.specs.Tree.{kind_of}
-use Rattle.yaml_marks.specs.declared.piece.Bracket.{Bracket}
-use Rattle.yaml_marks.specs.declared.piece.Bracket.TheVariants.{Square, Curly}
-use Rattle.yaml_marks.specs.declared.piece.Piece.{Piece}
-use Rattle.yaml_marks.specs.declared.piece.Piece.TheVariants.{Opening, Closing, Comma, CellKey, CellScalar, CellName, CellCopy, OddPiece}
-use Rattle.yaml_marks.specs.declared.token.Token.{Token}
-use Rattle.yaml_marks.specs.declared.token.Token.TheVariants.{Dash, Key, Scalar, Name, Copy, Bar, Body, Form, OddToken}
-use Rattle.yaml_marks.specs.declared.chomp.Chomp.{Chomp}
+use Rattle.yaml_tokens.specs.declared.piece.Bracket.{Bracket}
+use Rattle.yaml_tokens.specs.declared.piece.Bracket.TheVariants.{Square, Curly}
+use Rattle.yaml_tokens.specs.declared.piece.Piece.{Piece}
+use Rattle.yaml_tokens.specs.declared.piece.Piece.TheVariants.{Opening, Closing, Comma, CellKey, CellScalar, CellAnchor, CellAlias, OddPiece}
+use Rattle.yaml_tokens.specs.declared.token.Token.{Token}
+use Rattle.yaml_tokens.specs.declared.token.Token.TheVariants.{Dash, Key, Scalar, Anchor, Alias, Bar, Body, Form, OddToken}
+use Rattle.yaml_tokens.specs.declared.chomp.Chomp.{Chomp}
 use Rattle.yaml_tree.specs.declared.literal.Literal.{Literal}
-use Rattle.yaml_marks.specs.declared.place.LinePlace.{LinePlace}
+use Rattle.yaml_tokens.specs.declared.place.LinePlace.{LinePlace}
 use Rattle.yaml_tree.specs.declared.known.Measure.{Measure}
-use Rattle.yaml_tree.specs.declared.known.Known.{Known}
+use Rattle.yaml_tree.specs.declared.known.KnownNode.{KnownNode}
 use Rattle.yaml_tree.specs.declared.known.GivenName.{GivenName}
 use Rattle.yaml_tree.specs.declared.node.Value.{Value}
 use Rattle.yaml_tree.specs.declared.node.Value.TheVariants.{Null, Text}
@@ -31,8 +31,8 @@ use Rattle.yaml_tree.specs.declared.fault.FaultKind.TheVariants.{Syntax, Unsuppo
 use Rattle.yaml_tree.specs.declared.fault.YamlFault.{YamlFault}
 use Rattle.yaml_tree.specs.declared.fault.TreeError.{TreeError}
 use Rattle.yaml_tree.specs.declared.fault.TreeError.TheVariants as tree
-use Rattle.yaml_marks.specs.declared.odd.Odd.{Odd}
-use Rattle.yaml_marks.specs.declared.odd.Odd.TheVariants as odd
+use Rattle.yaml_tokens.specs.declared.odd.Odd.{Odd}
+use Rattle.yaml_tokens.specs.declared.odd.Odd.TheVariants as odd
 use Rattle.yaml_tree.specs.declared.fault.Stop.{Stop}
 use Rattle.yaml_tree.specs.declared.fault.Stop.TheVariants as stop
 use Rattle.std.specs.declared.alloc.Global.{Global}
@@ -45,11 +45,11 @@ fresh alloc = record { alloc = alloc; hashing = tt; nodes = []; open_rows = []; 
 -- ---- nodes and names
 
 -- the node that has a name, if any
-abbrev pub find_name : List (List ℕ × Known) → List ℕ → Option Known
+abbrev pub find_name : List (List ℕ × KnownNode) → List ℕ → Option KnownNode
 find_name names name = lookup (pointwise ◌==◌ name) names
 
 -- a node that has a name is known by it from now on
-abbrev pub named : Option GivenName → Known → List (List ℕ × Known) → List (List ℕ × Known)
+abbrev pub named : Option GivenName → KnownNode → List (List ℕ × KnownNode) → List (List ℕ × KnownNode)
 named None known names = names
 named (Some name) known names = insert_entry (pointwise ◌==◌) names name.text known
 
@@ -58,7 +58,7 @@ abbrev pub begins_at : ℕ → Option GivenName → ℕ
 begins_at line None = line
 begins_at line (Some name) = name.line
 
-abbrev pub next_known : Measure → Builder → Known
+abbrev pub next_known : Measure → Builder → KnownNode
 next_known m b = record { node = length b.nodes; measure = m }
 
 -- a node more, which takes the name that waits for a node
@@ -73,7 +73,7 @@ put_node line value m b = record (with_node line value m b) { value = Some (next
 unfoldable pub valued : ℕ → Builder → Builder
 valued line b = if is_some b.value then b else put_node line Null one_node b
 
-abbrev pub known_of : Option Known → Known
+abbrev pub known_of : Option KnownNode → KnownNode
 known_of (Some known) = known
 known_of None = record { node = 0; measure = one_node }
 
@@ -85,12 +85,12 @@ closed o b = let v = valued o.line b in let rows = finished o (known_of v.value)
     put_node o.first_line (collection rows) rows.measure (record v { name = o.name })
 
 -- the collections that are deeper are closed
-unfoldable pub settled_on : ℕ → List Open → Builder → Builder
-settled_on depth [] b = b
-settled_on depth (o ∷ os) b = if nat_lt depth o.depth then settled_on depth os (closed o (record b { open_rows = os })) else b
+unfoldable pub closed_deeper_on : ℕ → List Open → Builder → Builder
+closed_deeper_on depth [] b = b
+closed_deeper_on depth (o ∷ os) b = if nat_lt depth o.depth then closed_deeper_on depth os (closed o (record b { open_rows = os })) else b
 
-abbrev pub settled : ℕ → Builder → Builder
-settled depth b = settled_on depth b.open_rows b
+abbrev pub closed_deeper : ℕ → Builder → Builder
+closed_deeper depth b = closed_deeper_on depth b.open_rows b
 
 unfoldable pub begun : ℕ → Bool → ℕ → List ℕ → Builder → Result Builder FaultKind
 begun depth mapping line key b = if is_some b.value then Err Syntax
@@ -105,7 +105,7 @@ headed_on depth mapping line key [] b = begun depth mapping line key b
 headed_on depth mapping line key (o ∷ os) b = if o.depth == depth then Ok (next_row o line key (record b { open_rows = os })) else begun depth mapping line key b
 
 unfoldable pub headed : ℕ → Bool → ℕ → List ℕ → Builder → Result Builder FaultKind
-headed depth mapping line key b = headed_on depth mapping line key (settled depth b).open_rows (settled depth b)
+headed depth mapping line key b = headed_on depth mapping line key (closed_deeper depth b).open_rows (closed_deeper depth b)
 
 -- ---- values
 
@@ -117,7 +117,7 @@ is_shallower depth (o ∷ _) = nat_lt o.depth depth
 abbrev pub can_hold : ℕ → Builder → Bool
 can_hold depth b = is_none b.value && is_shallower depth b.open_rows
 
--- whether a name or a copy of this depth may come
+-- whether an anchor or an alias of this depth may come
 abbrev pub can_name : ℕ → Builder → Bool
 can_name depth b = is_none b.name && can_hold depth b
 
@@ -127,12 +127,12 @@ with_scalar depth line text b = if can_hold depth b then Ok (put_node line (scal
 unfoldable pub with_name : ℕ → ℕ → List ℕ → Builder → Result Builder FaultKind
 with_name depth line name b = if can_name depth b then Ok (record b { name = Some (record { line = line; text = name }) }) else Err Syntax
 
-abbrev pub put_found : ℕ → Option Known → Builder → Builder
+abbrev pub put_found : ℕ → Option KnownNode → Builder → Builder
 put_found line (Some known) b = record b { value = Some known }
 put_found line None b = put_node line Null unknown_node b
 
-unfoldable pub with_copy : ℕ → ℕ → List ℕ → Builder → Result Builder FaultKind
-with_copy depth line name b = if can_name depth b then Ok (put_found line (find_name b.names name) b) else Err Syntax
+unfoldable pub with_alias : ℕ → ℕ → List ℕ → Builder → Result Builder FaultKind
+with_alias depth line name b = if can_name depth b then Ok (put_found line (find_name b.names name) b) else Err Syntax
 
 abbrev pub new_literal : ℕ → ℕ → Chomp → Literal
 new_literal depth line chomp = record { depth = depth; line = line; chomp = chomp; lines = [] }
@@ -159,11 +159,11 @@ ended b = ended_of b.literal b
 -- ---- flow forms
 
 -- the value is a cell of the innermost bracket, or the whole form
-abbrev pub put_in : List Open → Known → Builder → Builder
+abbrev pub put_in : List Open → KnownNode → Builder → Builder
 put_in [] known b = record b { value = Some known }
 put_in (o ∷ os) known b = record b { cells = finished o known ∷ os }
 
-unfoldable pub put_known : Known → Builder → Builder
+unfoldable pub put_known : KnownNode → Builder → Builder
 put_known known b = put_in b.cells known b
 
 unfoldable pub cell_node : ℕ → Value → Measure → Builder → Builder
@@ -194,12 +194,12 @@ cell_key_on (o ∷ os) line key b = record b { cells = with_next_row line key o 
 unfoldable pub cell_key : ℕ → List ℕ → Builder → Builder
 cell_key line key b = cell_key_on b.cells line key b
 
-abbrev pub copy_found : ℕ → Option Known → Builder → Builder
-copy_found line (Some known) b = put_known known b
-copy_found line None b = cell_node line Null unknown_node b
+abbrev pub alias_found : ℕ → Option KnownNode → Builder → Builder
+alias_found line (Some known) b = put_known known b
+alias_found line None b = cell_node line Null unknown_node b
 
-unfoldable pub cell_copy : ℕ → List ℕ → Builder → Builder
-cell_copy line name b = copy_found line (find_name b.names name) b
+unfoldable pub cell_alias : ℕ → List ℕ → Builder → Builder
+cell_alias line name b = alias_found line (find_name b.names name) b
 
 -- a piece more of a flow form on this line
 unfoldable pub take_piece : ℕ → Piece → Builder → Builder
@@ -208,8 +208,8 @@ take_piece line (Closing bracket) b = cell_closed line b
 take_piece line Comma b = flushed line b
 take_piece line (CellKey key) b = cell_key line key b
 take_piece line (CellScalar text) b = cell_node line (scalar_value text) one_node b
-take_piece line (CellName name) b = record b { name = Some (record { line = line; text = name }) }
-take_piece line (CellCopy name) b = cell_copy line name b
+take_piece line (CellAnchor name) b = record b { name = Some (record { line = line; text = name }) }
+take_piece line (CellAlias name) b = cell_alias line name b
 take_piece line (OddPiece why) b = b
 
 unfoldable pub take_pieces : ℕ → List Piece → Builder → Builder
@@ -254,8 +254,8 @@ unfoldable pub take_token : Token → Builder → Result Builder FaultKind
 take_token (Dash line column) b = headed (2 + 2 * column) false line [] (ended b)
 take_token (Key line column text) b = headed (1 + 2 * column) true line text (ended b)
 take_token (Scalar line column text) b = with_scalar (1 + 2 * column) line text (ended b)
-take_token (Name line column text) b = with_name (1 + 2 * column) line text (ended b)
-take_token (Copy line column text) b = with_copy (1 + 2 * column) line text (ended b)
+take_token (Anchor line column text) b = with_name (1 + 2 * column) line text (ended b)
+take_token (Alias line column text) b = with_alias (1 + 2 * column) line text (ended b)
 take_token (Bar line column chomp) b = with_bar (1 + 2 * column) line chomp (ended b)
 take_token (Body line column bytes) b = with_line (1 + 2 * column) bytes b
 take_token (Form line column pieces) b = with_form (1 + 2 * column) line pieces (ended b)
@@ -267,7 +267,7 @@ take_tokens (m ∷ ms) b = take_token m b >>= take_tokens ms
 
 -- ---- lines
 
-abbrev pub value_measure : Option Known → Measure
+abbrev pub value_measure : Option KnownNode → Measure
 value_measure (Some known) = known.measure
 value_measure None = one_node
 
@@ -318,4 +318,4 @@ ReadsLine (Err tree.NoMemory) new read = Unit {0}
 
 -- all that is open is closed, and the root is the value
 unfoldable pub whole : Builder → Builder
-whole b = valued 1 (settled 0 (ended b))
+whole b = valued 1 (closed_deeper 0 (ended b))

@@ -1,18 +1,18 @@
 -- Checking the pieces of a flow form from the left: what may come next, and the brackets that are open, the innermost
 -- first.
 use Rattle.std.specs.Prelude.{Bool, true, false, not, List, [], ◌∷◌, Option, Some, None, if◌then◌else◌}
-use Rattle.yaml_marks.specs.Pieces.{closes_at}
-use Rattle.yaml_marks.specs.declared.piece.Bracket.{Bracket}
-use Rattle.yaml_marks.specs.declared.piece.Bracket.TheVariants.{Square, Curly}
-use Rattle.yaml_marks.specs.declared.piece.Piece.{Piece}
-use Rattle.yaml_marks.specs.declared.piece.Piece.TheVariants.{Opening, Closing, Comma, CellKey, CellScalar, CellName, CellCopy, OddPiece}
+use Rattle.yaml_tokens.specs.Pieces.{closes_at}
+use Rattle.yaml_tokens.specs.declared.piece.Bracket.{Bracket}
+use Rattle.yaml_tokens.specs.declared.piece.Bracket.TheVariants.{Square, Curly}
+use Rattle.yaml_tokens.specs.declared.piece.Piece.{Piece}
+use Rattle.yaml_tokens.specs.declared.piece.Piece.TheVariants.{Opening, Closing, Comma, CellKey, CellScalar, CellAnchor, CellAlias, OddPiece}
 use Rattle.yaml_tree.specs.Flows.{kind_behind_key}
 use Rattle.yaml_tree.specs.declared.shape.Want.{Want}
 use Rattle.yaml_tree.specs.declared.shape.Want.TheVariants as want
 use Rattle.yaml_tree.specs.declared.shape.Shape.{Shape}
 use Rattle.yaml_tree.specs.declared.fault.FaultKind.{FaultKind}
 use Rattle.yaml_tree.specs.declared.fault.FaultKind.TheVariants.{Syntax, Unsupported}
-use Rattle.yaml_marks.specs.declared.odd.Odd.TheVariants as odd
+use Rattle.yaml_tokens.specs.declared.odd.Odd.TheVariants as odd
 
 abbrev pub in_square : List Bracket → Bool
 in_square [] = false
@@ -39,7 +39,7 @@ abbrev pub takes_form : Want → List Bracket → Bool
 takes_form want.Form brackets = true
 takes_form other brackets = takes_value other brackets
 
--- whether a name, or a copy, may come
+-- whether an anchor, or an alias, may come
 abbrev pub takes_name : Want → List Bracket → Bool
 takes_name want.Cell brackets = in_square brackets
 takes_name want.Value brackets = true
@@ -71,8 +71,8 @@ takes_piece (Closing bracket) shape = takes_closing bracket shape
 takes_piece Comma shape = takes_comma shape.want
 takes_piece (CellKey text) shape = takes_key shape.want shape.brackets
 takes_piece (CellScalar text) shape = takes_value shape.want shape.brackets
-takes_piece (CellName text) shape = takes_name shape.want shape.brackets
-takes_piece (CellCopy text) shape = takes_name shape.want shape.brackets
+takes_piece (CellAnchor text) shape = takes_name shape.want shape.brackets
+takes_piece (CellAlias text) shape = takes_name shape.want shape.brackets
 takes_piece (OddPiece why) shape = false
 
 abbrev pub closed : List Bracket → Shape
@@ -87,8 +87,8 @@ behind (Closing bracket) shape = closed shape.brackets
 behind Comma shape = record shape { want = want.Cell }
 behind (CellKey text) shape = record shape { want = want.Value }
 behind (CellScalar text) shape = record shape { want = want.End }
-behind (CellName text) shape = record shape { want = want.Named }
-behind (CellCopy text) shape = record shape { want = want.End }
+behind (CellAnchor text) shape = record shape { want = want.Named }
+behind (CellAlias text) shape = record shape { want = want.End }
 behind (OddPiece why) shape = shape
 
 -- the kind of fault of a piece that may not come; behind it stands the rest

@@ -5,7 +5,7 @@ use Rattle.yaml_tree.specs.Said.{Said, size, levels, has_repeat, has_unknown}
 use Rattle.yaml_tree.specs.declared.node.Value.{Value}
 use Rattle.yaml_tree.specs.declared.node.Value.TheVariants.{Sequence, Mapping}
 use Rattle.yaml_tree.specs.declared.known.Measure.{Measure}
-use Rattle.yaml_tree.specs.declared.known.Known.{Known}
+use Rattle.yaml_tree.specs.declared.known.KnownNode.{KnownNode}
 use Rattle.yaml_tree.specs.declared.known.GivenName.{GivenName}
 use Rattle.yaml_tree.specs.declared.stack.Open.{Open}
 use Rattle.yaml_tree.specs.Limits.{most_tree_levels, most_tree_nodes}
@@ -45,7 +45,7 @@ top_depth [] = None
 top_depth (o ∷ _) = Some o.depth
 
 -- the row whose value is this node is finished
-abbrev pub finished : Open → Known → Open
+abbrev pub finished : Open → KnownNode → Open
 finished o k = record o { items = if o.mapping then o.items else o.items ++ k.node ∷ []; entries = if o.mapping then with_entry o.entries o.key (record { line = o.line; node = k.node }) else o.entries; key = []; measure = with_part o.measure k.measure }
 
 abbrev pub collection : Open → Value

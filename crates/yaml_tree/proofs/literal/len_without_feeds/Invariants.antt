@@ -1,6 +1,6 @@
 use Rattle.std.proofs.Common.{◌≡◌, ◌+◌, ◌≤◌, take, length}
 use Rattle.std.specs.List.{suffix_len}
-use Rattle.yaml_marks.specs.Literals.{is_feed}
+use Rattle.yaml_tokens.specs.Literals.{is_feed}
 use Rattle.yaml_tree.proofs.literal.len_without_feeds.Given as goal
 
 abbrev pub invariant-loop-n : goal.invariant-loop-n

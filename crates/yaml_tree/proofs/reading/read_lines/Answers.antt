@@ -1,9 +1,9 @@
 use Rattle.std.proofs.Common.{◌≡◌, ◌+◌, ◌&&◌, Bool, false, ◌∙◌, ap, sym, arith}
 use Rattle.std.specs.List.{list_all}
-use Rattle.yaml_marks.specs.Lines.{split_lines}
-use Rattle.yaml_marks.specs.Tokens.{tokens_from}
+use Rattle.yaml_tokens.specs.Lines.{split_lines}
+use Rattle.yaml_tokens.specs.Tokens.{tokens_from}
 use Rattle.yaml_tree.specs.Written.{is_name}
-use Rattle.yaml_marks.specs.declared.place.LinePlace.{LinePlace}
+use Rattle.yaml_tokens.specs.declared.place.LinePlace.{LinePlace}
 use Rattle.std.proofs.lemmas.Bool.{eqb-true}
 use Rattle.std.proofs.lemmas.Result.{err_from_is_err_and}
 use Rattle.yaml_tree.proofs.ReadSteps.{lines_go_on, line_is_refused, lines_end, names_go_on, names_end}

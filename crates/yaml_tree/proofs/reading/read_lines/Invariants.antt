@@ -1,11 +1,11 @@
 use Rattle.std.proofs.Common.{◌≡◌, ◌+◌, ◌≤◌, ◌&&◌, length, false, None}
 use Rattle.std.specs.List.{list_all}
-use Rattle.yaml_marks.specs.Lines.{split_lines}
-use Rattle.yaml_marks.specs.Tokens.{tokens_from}
+use Rattle.yaml_tokens.specs.Lines.{split_lines}
+use Rattle.yaml_tokens.specs.Tokens.{tokens_from}
 use Rattle.yaml_tree.specs.inside.Builder.{read_lines}
 use Rattle.yaml_tree.specs.Tree.{is_empty_document}
 use Rattle.yaml_tree.specs.Written.{is_name}
-use Rattle.yaml_marks.specs.declared.place.LinePlace.TheVariants.{Outside}
+use Rattle.yaml_tokens.specs.declared.place.LinePlace.TheVariants.{Outside}
 use Rattle.yaml_tree.proofs.reading.read_lines.Given as goal
 
 abbrev pub invariant-loop-rest : goal.invariant-loop-rest

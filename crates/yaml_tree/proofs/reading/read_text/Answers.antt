@@ -1,8 +1,8 @@
 use Rattle.std.proofs.Common.{◌∙◌, sym, Bool, false, None}
 use Rattle.std.proofs.lemmas.Result.{err_from_is_err_and}
-use Rattle.yaml_marks.specs.Lines.{lines_of, split_lines}
+use Rattle.yaml_tokens.specs.Lines.{lines_of, split_lines}
 use Rattle.yaml_tree.specs.inside.Builder.{read_lines}
-use Rattle.yaml_marks.specs.declared.place.LinePlace.TheVariants.{Outside}
+use Rattle.yaml_tokens.specs.declared.place.LinePlace.TheVariants.{Outside}
 use Rattle.yaml_tree.proofs.ReadingLaws.{root_is_in, error_passes}
 use Rattle.yaml_tree.proofs.reading.read_text.Goals as goal
 

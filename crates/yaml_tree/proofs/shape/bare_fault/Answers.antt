@@ -1,6 +1,6 @@
 use Rattle.std.proofs.Common.{◌∙◌, sym, ap, Some, drop, ◌+◌}
 use Rattle.yaml_tree.specs.inside.Outline.{fault_from, piece_fault}
-use Rattle.yaml_marks.proofs.BracketSteps.{from_place}
+use Rattle.yaml_tokens.proofs.BracketSteps.{from_place}
 use Rattle.yaml_tree.proofs.ShapeSteps.{faults_here, faults_on}
 use Rattle.yaml_tree.proofs.shape.bare_fault.Goals as goal
 

@@ -1,6 +1,6 @@
 use Rattle.std.proofs.Common.{◌≡◌, ◌++◌}
 use Rattle.std.specs.Vec.Iter.{into_iter_items}
-use Rattle.yaml_marks.specs.Literals.{joined}
+use Rattle.yaml_tokens.specs.Literals.{joined}
 use Rattle.yaml_tree.proofs.literal.TextLines.into_joined.Given as goal
 
 -- what is written and what is left give the whole

@@ -1,7 +1,0 @@
-use Rattle.std.proofs.Common.{◌≡◌, drop, false}
-use Rattle.yaml_marks.specs.Scalars.{single_quoted}
-use Rattle.yaml_marks.proofs.ScanSteps.{behind_front}
-use Rattle.yaml_marks.proofs.scan.single_quoted.Given as goal
-
-abbrev pub invariant-loop-i : goal.invariant-loop-i
-invariant-loop-i l = behind_front l.text.items l.i (single_quoted l.held (drop l.i l.bytes)) ≡ single_quoted false l.bytes

@@ -1,8 +1,0 @@
-pub mod Lines
-pub mod Scalars
-pub mod Spelling
-pub mod Literals
-pub mod Names
-pub mod Pieces
-pub mod Tokens
-pub mod inside
