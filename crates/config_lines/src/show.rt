@@ -8,11 +8,11 @@ mod process;
 mod quoted;
 mod value;
 
-use shd_config::{Config, GraphSource};
-use net_iface::QueueRule;
 use base_texts::Text;
 use host::hosts_string;
+use net_iface::QueueRule;
 use quoted::quoted;
+use shd_config::{Config, GraphSource};
 use sim_base::NoMemory;
 use std::alloc::{AllocError, Global};
 use value::time_string;

@@ -12,7 +12,7 @@ use sim_base::{Errno, NoMemory};
 use std::alloc::Global;
 
 /// The id of the first process of a host.
-const FIRST_ID: u32 = 1000;
+pub const FIRST_ID: u32 = 1000;
 
 /// `getpid(2)`: the processes of a host have the ids 1000, 1001, .. in their order.
 pub fn getpid(process: u32) -> u32

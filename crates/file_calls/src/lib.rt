@@ -23,7 +23,7 @@ pub use descriptors::{Descriptor, look_up, lowest_free, open};
 pub use eventfd::eventfd2;
 pub use files::{Ends, fcntl, openat, pipe2};
 pub use flags::{MSG_DONTWAIT, MSG_NOSIGNAL, O_NONBLOCK, beside_message, beside_open, has};
-pub use guest::{brk, getpid, getrandom};
+pub use guest::{FIRST_ID, brk, getpid, getrandom};
 pub use known::Known;
 pub use outputs::Outputs;
 pub use task::{Output, Shared, Task, Why};

@@ -9,7 +9,7 @@ use Rattle.out_text.specs.declared.files.FileKind.{FileKind}
 use Rattle.out_text.specs.declared.files.FileKind.TheVariants as kind
 use Rattle.out_text.specs.Laws.{lacks}
 use Rattle.net_run.specs.Places.{is_place, is_touched}
-use Rattle.run_files.specs.Files.{first_id}
+use Rattle.file_calls.specs.Guest.{first_id}
 use Rattle.net_run.specs.Shown.{files_named}
 use Rattle.net_run.proofs.NameLemmas.{same_file}
 

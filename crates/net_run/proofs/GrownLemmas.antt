@@ -19,7 +19,8 @@ use Rattle.run_files.specs.Grown.{process_grown, host_grown, hosts_grown, all_gr
 use Rattle.host_state.specs.Gains.{Gains, names_in}
 use Rattle.net_run.specs.Grown.{grown_in, IsGrown, HaveOwnFiles}
 use Rattle.run_files.specs.Listed.{HostNames, listed, by_process}
-use Rattle.run_files.specs.Files.{Put, first_id, log_name}
+use Rattle.run_files.specs.Files.{Put, log_name}
+use Rattle.file_calls.specs.Guest.{first_id}
 use Rattle.net_run.specs.Heads.{all_heads}
 use Rattle.net_run.specs.Pieces.{with_pieces}
 use Rattle.net_run.specs.Places.{is_place, bytes_at, is_touched}

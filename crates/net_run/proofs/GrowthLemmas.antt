@@ -12,7 +12,8 @@ use Rattle.out_text.specs.declared.files.FileKind.{FileKind}
 use Rattle.out_text.specs.declared.files.FileKind.TheVariants as kind
 use Rattle.run_files.specs.Grown.{process_grown}
 use Rattle.run_files.specs.Listed.{by_process}
-use Rattle.run_files.specs.Files.{Put, first_id, written_to}
+use Rattle.run_files.specs.Files.{Put, written_to}
+use Rattle.file_calls.specs.Guest.{first_id}
 use Rattle.net_run.specs.Places.{is_place, is_touched}
 use Rattle.net_run.specs.Shown.{files_named}
 use Rattle.run_files.specs.declared.listed.ProcessListing.{ProcessListing}

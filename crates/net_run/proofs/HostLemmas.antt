@@ -18,7 +18,8 @@ use Rattle.run_files.specs.Grown.{process_grown, host_grown, hosts_grown}
 use Rattle.host_state.specs.Gains.{AreGained}
 use Rattle.net_run.specs.Grown.{HaveOwnFiles}
 use Rattle.run_files.specs.Listed.{HostNames, HasIds, listed, listed_process, by_process, by_host}
-use Rattle.run_files.specs.Files.{Put, first_id, program_of, written_to}
+use Rattle.run_files.specs.Files.{Put, program_of, written_to}
+use Rattle.file_calls.specs.Guest.{first_id}
 use Rattle.net_run.specs.Places.{is_touched}
 use Rattle.net_run.specs.Rest.{state_at, process_rest, host_rest, hosts_rest}
 use Rattle.net_run.specs.Shown.{files_named, files_from, host_files}

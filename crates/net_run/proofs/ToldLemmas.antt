@@ -19,7 +19,8 @@ use Rattle.out_text.specs.declared.log.LogLine.{LogLine}
 use Rattle.net_run.specs.Grown.{HaveOwnFiles}
 use Rattle.run_files.specs.Listed.{HostNames, HasIds, listed, listed_process, by_process, by_host}
 use Rattle.host_state.specs.Gains.{names_in}
-use Rattle.run_files.specs.Files.{Put, first_id, log_name}
+use Rattle.run_files.specs.Files.{Put, log_name}
+use Rattle.file_calls.specs.Guest.{first_id}
 use Rattle.net_run.specs.Rest as rest
 use Rattle.net_run.specs.Rest.{state_at, states_in, TellsStates, all_rest, rest_in, ending, summary_in, summary_rest}
 use Rattle.net_run.specs.Shown.{files_named, unmet_by, named, named_log, status_by, status_of}

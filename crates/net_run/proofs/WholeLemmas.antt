@@ -21,7 +21,8 @@ use Rattle.host_state.specs.Gains.{AreGained, names_in}
 use Rattle.run_files.specs.Grown.{listed_name, told_line, log_grown, hosts_grown, all_grown, grown_behind, host_grown}
 use Rattle.net_run.specs.Grown.{grown_in}
 use Rattle.run_files.specs.Listed.{HostNames, listed_process, by_process}
-use Rattle.run_files.specs.Files.{Put, first_id, program_of, log_name, expected_state}
+use Rattle.run_files.specs.Files.{Put, program_of, log_name, expected_state}
+use Rattle.file_calls.specs.Guest.{first_id}
 use Rattle.net_run.specs.Places.{is_place, bytes_at, is_touched}
 use Rattle.net_run.specs.Rest as rest
 use Rattle.net_run.specs.Rest.{ending, rest_in, states_in, summary_in, summary_rest}

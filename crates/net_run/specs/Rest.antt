@@ -10,7 +10,8 @@ use Rattle.out_text.specs.Summary.{summary_of, summary_line}
 use Rattle.out_text.specs.declared.summary.Summary.{Summary}
 use Rattle.run_files.specs.Listed.{HostNames, by_process, by_host}
 use Rattle.host_state.specs.Gains.{names_in}
-use Rattle.run_files.specs.Files.{Put, first_id, log_name}
+use Rattle.run_files.specs.Files.{Put, log_name}
+use Rattle.file_calls.specs.Guest.{first_id}
 use Rattle.net_run.specs.Shown.{files_named, unmet_by, named_log}
 use Rattle.net_run.specs.World.{World}
 use Rattle.run_files.specs.declared.listed.ProcessListing.{ProcessListing}

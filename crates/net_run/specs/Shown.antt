@@ -16,7 +16,8 @@ use Rattle.out_text.specs.declared.log.LogLine.{LogLine}
 use Rattle.out_text.specs.declared.summary.Summary.{Summary}
 use Rattle.pcap_text.specs.Writing.{head}
 use Rattle.run_files.specs.Captured.{all_captures}
-use Rattle.run_files.specs.Files.{Put, first_id, program_of, written_to, expected_state, log_name}
+use Rattle.run_files.specs.Files.{Put, program_of, written_to, expected_state, log_name}
+use Rattle.file_calls.specs.Guest.{first_id}
 use Rattle.host_state.specs.Gains.{names_in}
 use Rattle.host_link.specs.Logs.{lines_of}
 use Rattle.net_run.specs.Streams.{stream_puts}

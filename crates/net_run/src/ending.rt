@@ -4,7 +4,8 @@ ghost use Rattle.std.specs.Prelude.{◌≡◌, ◌+◌, ◌++◌, ◌∷◌, [],
 ghost use Rattle.run_outside.specs.Tally.{CountsWrites};
 ghost use Rattle.out_text.specs.Files.{state_line};
 ghost use Rattle.run_files.specs.Listed.{said, names_of};
-ghost use Rattle.run_files.specs.Files.{put_of, first_id};
+ghost use Rattle.run_files.specs.Files.{put_of};
+ghost use Rattle.file_calls.specs.Guest.{first_id};
 ghost use Rattle.net_run.specs.Pieces.{with_pieces, PutsFront};
 ghost use Rattle.net_run.specs.Rest as spec;
 ghost use Rattle.net_run.specs.Shown.{files_named, unmet_by, status_by};

@@ -17,10 +17,6 @@ Put = Place × List ℕ
 abbrev pub put_of : Piece → Put
 put_of piece = (piece.place, piece.bytes)
 
--- processes have the ids 1000, 1001, .. in the order of their host's list
-abbrev pub first_id : ℕ
-first_id = 1000
-
 abbrev pub last_part : List ℕ → Option (List ℕ × List ℕ) → List ℕ
 last_part path None = path
 last_part path (Some split) = split.1

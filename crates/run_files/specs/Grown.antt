@@ -5,7 +5,8 @@ use Rattle.run_outside.specs.declared.sink.Place.TheVariants as place
 use Rattle.file_calls.specs.declared.task.Output.{Output}
 use Rattle.file_calls.specs.Numbers.{stdout_fileno, stderr_fileno}
 use Rattle.run_files.specs.Captured.{all_captures, no_head}
-use Rattle.run_files.specs.Files.{Put, first_id, written_to, log_name}
+use Rattle.run_files.specs.Files.{Put, written_to, log_name}
+use Rattle.file_calls.specs.Guest.{first_id}
 use Rattle.run_files.specs.Listed.{HostNames, by_process, by_host}
 use Rattle.run_files.specs.declared.listed.ProcessListing.{ProcessListing}
 use Rattle.host_link.specs.declared.line.Line.{Line}

@@ -1,7 +1,8 @@
 -- What a listing tells of each host: its name and address, its capture size, and of its processes the programs and the expected final states.
 use Rattle.std.specs.Prelude.{ℕ, ◌+◌, ◌≤◌, ◌^◌, List, [], ◌∷◌, ◌++◌, length, map, Option}
 use Rattle.sim_base.specs.declared.address.Ip.{Ip}
-use Rattle.run_files.specs.Files.{Put, first_id, program_of, expected_state}
+use Rattle.run_files.specs.Files.{Put, program_of, expected_state}
+use Rattle.file_calls.specs.Guest.{first_id}
 use Rattle.host_rows.specs.declared.row.ProcessRow.{ProcessRow}
 use Rattle.host_rows.specs.declared.row.Row.{Row}
 use Rattle.run_files.specs.declared.listed.HostListing.{HostListing}

@@ -34,8 +34,8 @@ pub struct Listing {
     pub hosts: Vec<HostListing>,
 }
 
-/// More processes of a host have no ids.
-const MOST_PROCESSES: usize = 4_000_000_000;
+/// So many processes of a host have ids of 32 bits.
+const MOST_IDS: usize = 4_000_000_000;
 
 fn process_listing(alloc: Global, row: &ProcessRow) -> Result<ProcessListing, NoMemory>
     ensures { IfOk result (λ l. l ≡ spec.listed_process row.now) }
@@ -62,7 +62,7 @@ fn host_listing(alloc: Global, row: &Row) -> Result<HostListing, NoMemory>
 {
     let name = Name::from_str(alloc, row.name.as_str())?;
     let processes = process_listings(alloc, row.processes.as_slice())?;
-    if processes.len() > MOST_PROCESSES {
+    if processes.len() > MOST_IDS {
         return Err(NoMemory);
     }
     Ok(HostListing {

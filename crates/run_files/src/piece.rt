@@ -3,11 +3,12 @@
 ghost use Rattle.std.specs.Prelude.{◌≡◌, ◌+◌, IfOk};
 ghost use Rattle.run_outside.specs.declared.sink.Place.TheVariants as place;
 ghost use Rattle.out_text.specs.Files.{file_name, capture_name};
+ghost use Rattle.file_calls.specs.Guest.{first_id};
 ghost use Rattle.run_files.specs.Files as spec;
 ghost use Rattle.run_files.specs.Files.{put_of};
 
 use base_texts::{Name, Text};
-use file_calls::Output;
+use file_calls::{FIRST_ID, Output};
 use host_rows::FinalState;
 use out_text::FileKind;
 use run_outside::Place;
@@ -20,9 +21,6 @@ pub struct Piece {
     pub place: Place,
     pub bytes: Bytes,
 }
-
-/// The id of the first process of a host.
-const FIRST_ID: u32 = 1000;
 
 /// The part of a path behind its last slash.
 pub(crate) fn program(path: &str) -> &str
@@ -117,7 +115,7 @@ pub fn log_piece(alloc: Global, text: Text) -> Result<Piece, NoMemory>
 
 /// The number of a process and its id, by its place. More processes than have ids have no room.
 pub fn numbers(place: usize) -> Result<(u32, u32), NoMemory>
-    ensures { IfOk result (λ n. (n.0 ≡ place) × (n.1 ≡ spec.first_id + place)) }
+    ensures { IfOk result (λ n. (n.0 ≡ place) × (n.1 ≡ first_id + place)) }
 {
     if place < 4_000_000_000 {
         let process = place as u32;

@@ -22,7 +22,8 @@ use Rattle.net_run.specs.Grown.{IsUnderway}
 use Rattle.run_files.specs.Listed.{HostNames, HasIds, listed, listed_process, names_of}
 use Rattle.host_state.specs.Gains.{names_in}
 use Rattle.net_run.specs.Parts.{Between}
-use Rattle.run_files.specs.Files.{Put, first_id}
+use Rattle.run_files.specs.Files.{Put}
+use Rattle.file_calls.specs.Guest.{first_id}
 use Rattle.net_run.specs.Pieces.{with_pieces, PutsFront}
 use Rattle.net_run.specs.Rest.{all_rest, summary_in, unmet_of_hosts, TellsStates, AreTold}
 use Rattle.net_run.specs.Shown.{named, named_log, run_pieces, status_by, status_of}

@@ -216,7 +216,7 @@ pub fn read_hosts(alloc: Global, pair: &Pair) -> Result<HostsRead, ConfigError>
 }
 
 /// The bytes of a packet that are kept where no option says it.
-const CAPTURE_SIZE: u32 = 65_535;
+pub const CAPTURE_SIZE: u32 = 65_535;
 
 fn settle(all: HostOptions, host: HostRead) -> HostConfig
     ensures { result ≡ settled all host }

@@ -21,6 +21,7 @@ mod value;
 
 pub use config::{Config, GraphSource, HostConfig, ProcessConfig, Variable};
 pub use fault::{ConfigError, ConfigFault, ConfigKind};
+pub use host::CAPTURE_SIZE;
 pub use lists::{Hosts, Processes, Variables};
 pub use overrides::Overrides;
 pub use reading::config_of;

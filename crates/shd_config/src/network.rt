@@ -6,13 +6,13 @@ ghost use Rattle.shd_config.specs.Values.{scalar_at};
 ghost use Rattle.shd_config.specs.Network.{queue_rule, new_network, network_key, network_row, finished_network, network_of, network_at};
 
 use crate::config::GraphSource;
-use net_iface::QueueRule;
 use crate::fault::{ConfigError, ConfigKind};
 use crate::graph::read_graph;
 use crate::key::{Key, key_of};
 use crate::optional::optional_truth;
 use crate::steps::{below, mapping_line, needed, refused, valued};
 use crate::value::{read_mapping, read_text};
+use net_iface::QueueRule;
 use std::alloc::Global;
 use yaml_merge::Pair;
 

@@ -10,7 +10,6 @@ ghost use Rattle.shd_values.specs.Words.{words_of};
 ghost use Rattle.shd_config.specs.Process.{argument_row, arguments_in, arguments_at, variable_row, environment_at, zero_time, start_of, start_in, start_in_row, is_behind, shutdown_at, new_process, process_key, process_row, finished_process, process_of, texts_size, process_in, process_at, process_item, processes_at};
 
 use crate::config::{ProcessConfig, Variable};
-use host_rows::FinalState;
 use crate::fault::{ConfigError, ConfigKind};
 use crate::key::{Key, key_of};
 use crate::lists::{Processes, Variables};
@@ -19,8 +18,9 @@ use crate::state::optional_state;
 use crate::steps::{below, checked, fault, item_path, mapping_line, needed, refused, valued};
 use crate::value::{read_mapping, read_sequence, read_text, read_time};
 use base_texts::{Name, Text};
+use host_rows::FinalState;
 use shd_values::{Texts, has_program, read_words};
-use sim_base::{Signal, Time};
+use sim_base::{MOST_PROCESSES, Signal, Time};
 use std::alloc::Global;
 use yaml_merge::{Pair, Plain};
 
@@ -391,9 +391,6 @@ fn read_list(alloc: Global, key: &str, items: &[Plain]) -> Result<Vec<ProcessCon
     }
     Ok(processes)
 }
-
-/// The most processes of a host.
-const MOST_PROCESSES: usize = 64;
 
 #[tactic(auto, unfolding(crate::specs::Process::processes_at))]
 fn read_processes(alloc: Global, pair: &Pair) -> Result<Processes, ConfigError>

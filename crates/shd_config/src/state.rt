@@ -4,12 +4,12 @@ ghost use Rattle.std.specs.Prelude.{◌≡◌, is_some};
 ghost use Rattle.shd_config.specs.Steps.{Gives, optional, through};
 ghost use Rattle.shd_config.specs.Process.{new_state, state_alone, state_key, state_row, ended_state, state_of, running_state, state_at};
 
-use host_rows::FinalState;
 use crate::fault::{ConfigError, ConfigKind};
 use crate::key::{Key, key_of};
 use crate::optional::{optional_signal, optional_u8};
 use crate::steps::{below, checked, mapping_line, needed, refused, valued};
 use crate::value::read_text;
+use host_rows::FinalState;
 use sim_base::Signal;
 use std::alloc::Global;
 use yaml_merge::Pair;

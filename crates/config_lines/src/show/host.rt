@@ -4,10 +4,10 @@ ghost use Rattle.std.specs.Prelude.{◌≡◌, codes, string_bytes, option_map, 
 ghost use Rattle.std.specs.List.{flat_map};
 ghost use Rattle.config_lines.specs.Shown.{shown_address, shown_rate, line_if, changed_options, shown_interface, shown_options, host_lines, shown_host};
 
-use shd_config::HostConfig;
 use crate::show::process::processes_string;
 use crate::show::quoted::quoted;
 use crate::show::value::{address_string, rate_string};
+use shd_config::{CAPTURE_SIZE, HostConfig};
 use sim_base::Ip;
 use std::alloc::{AllocError, Global};
 
@@ -35,9 +35,6 @@ fn rate_line(alloc: Global, key: &str, rate: Option<u64>) -> Result<String, Allo
         None => Ok(String::new(alloc)),
     }
 }
-
-/// The bytes of a packet that are captured where no option says it.
-const CAPTURE_SIZE: u32 = 65_535;
 
 /// The options that aren't the built-in defaults, in flow form.
 fn options_string(alloc: Global, enabled: bool, size: u32) -> Result<Option<String>, AllocError>

@@ -5,11 +5,11 @@ ghost use Rattle.std.specs.List.{flat_map};
 ghost use Rattle.config_lines.specs.Quoted.{quoted};
 ghost use Rattle.config_lines.specs.Shown.{listed, shown_args, shown_variable, shown_environment, shown_state, shown_time, line_if, end_lines, shown_end, process_lines, shown_process, shown_processes};
 
-use shd_config::{ProcessConfig, Variable};
-use host_rows::FinalState;
 use crate::show::quoted::quoted;
 use crate::show::value::time_string;
 use base_texts::Text;
+use host_rows::FinalState;
+use shd_config::{ProcessConfig, Variable};
 use sim_base::Time;
 use std::alloc::{AllocError, Global};
 

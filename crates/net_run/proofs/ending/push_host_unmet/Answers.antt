@@ -1,6 +1,7 @@
 use Rattle.std.proofs.Common.{◌+◌, ◌++◌, map, ap, ◌∙◌}
 use Rattle.sim_base.specs.declared.state.State.{State}
-use Rattle.run_files.specs.Files.{put_of, first_id}
+use Rattle.run_files.specs.Files.{put_of}
+use Rattle.file_calls.specs.Guest.{first_id}
 use Rattle.net_run.specs.Rest.{unmet_of_process}
 use Rattle.net_run.specs.Shown.{unmet_by}
 use Rattle.run_files.proofs.Listings.{process_step}

@@ -1,0 +1,4 @@
+//! The limits of an experiment.
+
+/// How many processes a host may have.
+pub const MOST_PROCESSES: usize = 64;
