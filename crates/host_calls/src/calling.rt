@@ -252,7 +252,7 @@ pub(crate) fn end_task(
 }
 
 /// What a guest sees of what its call's row says.
-fn settle(
+fn answer_call(
     now: Time,
     process: u32,
     number: u32,
@@ -325,7 +325,7 @@ fn call_task(
         shared,
         sockets,
     );
-    settle(now, process, number, args, reaction, task, shared, sockets)
+    answer_call(now, process, number, args, reaction, task, shared, sockets)
 }
 
 fn call_place(

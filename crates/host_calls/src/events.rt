@@ -11,7 +11,7 @@ ghost use Rattle.host_calls.specs.Parts.{place as place_at};
 use crate::all::Parts;
 use crate::calling::end_task;
 use file_calls::{FIRST_TIMER, Shared, Task, ring};
-use host_sockets::Sockets;
+use host_sockets::{FIRST_OBJECT, Sockets};
 use sim_base::{Act, NoMemory, ObjectId, Packet, Time};
 
 /// A packet arrives: it is handed to the sockets. Answers what the packet log tells of it.
@@ -24,9 +24,6 @@ pub fn deliver(parts: &mut Parts, now: Time, packet: Packet) -> Result<Act, NoMe
         .deliver(&mut parts.shared.outlet, now, &packet)
 }
 
-/// The number from which on sockets are objects of alarms.
-const FIRST_SOCKET: u64 = 1 << 33;
-
 /// The alarm of an object: of a process's deadline, a timer or a TCP socket. A stale serial does
 /// nothing.
 pub fn alarm(parts: &mut Parts, now: Time, object: ObjectId, serial: u64) -> Result<(), NoMemory>
@@ -36,7 +33,7 @@ pub fn alarm(parts: &mut Parts, now: Time, object: ObjectId, serial: u64) -> Res
     if object.number < FIRST_TIMER {
         return Ok(());
     }
-    if object.number < FIRST_SOCKET {
+    if object.number < FIRST_OBJECT {
         let place = (object.number - FIRST_TIMER) as usize;
         ring(now, place, serial, &mut parts.shared)?;
         return Ok(());

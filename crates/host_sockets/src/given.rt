@@ -133,7 +133,7 @@ impl Given {
 
     /// Enters the socket at a place as it is now. Answers whether it did: it doesn't where memory is
     /// wanting.
-    pub(crate) fn settle(&mut self, socks: &[TcpSock], place: usize) -> bool
+    pub(crate) fn update(&mut self, socks: &[TcpSock], place: usize) -> bool
         requires { CountsOthers place self.old socks.now }
         ensures { result ≡ true → CountsAll self.new socks.now }
     {

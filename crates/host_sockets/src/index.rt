@@ -29,13 +29,13 @@ pub(crate) const NO_PLACE: usize = usize::MAX;
 
 /// Tables, if there are any, with the socket at the place `last` entered as it is now. That at the
 /// place `next` acts then.
-fn settled(tables: Option<Tables>, socks: &[TcpSock], last: usize, next: usize) -> Option<Tables>
+fn updated(tables: Option<Tables>, socks: &[TcpSock], last: usize, next: usize) -> Option<Tables>
     requires { (t : Tables) → tables ≡ Some t → FindsOthers last t socks.now }
     ensures { (t : Tables) → result ≡ Some t → FindsAll t socks.now }
 {
     match tables {
         Some(mut tables) => {
-            if tables.settle(socks, last) {
+            if tables.update(socks, last) {
                 tables.was = ends_at(socks, next);
                 Some(tables)
             } else {
@@ -54,7 +54,7 @@ fn told(room: Option<Room>, socks: &[TcpSock], last: usize) -> Option<Room>
 {
     match room {
         Some(mut room) => {
-            if room.settle(socks, last) {
+            if room.update(socks, last) {
                 Some(room)
             } else {
                 None
@@ -72,7 +72,7 @@ fn counted(given: Option<Given>, socks: &[TcpSock], last: usize) -> Option<Given
 {
     match given {
         Some(mut given) => {
-            if given.settle(socks, last) {
+            if given.update(socks, last) {
                 Some(given)
             } else {
                 None
@@ -113,7 +113,7 @@ impl Index {
         if self.last == place {
             return;
         }
-        self.tables = settled(self.tables.take(), socks, self.last, place);
+        self.tables = updated(self.tables.take(), socks, self.last, place);
         self.room = told(self.room.take(), socks, self.last);
         self.given = counted(self.given.take(), socks, self.last);
         self.last = place;

@@ -35,3 +35,4 @@ pub use reply::{Accepted, Reply};
 pub use sockets::Sockets;
 pub use streams::HostStream;
 pub use tcp_sock::{KeptTimer, TcpSock};
+pub use turned::FIRST_OBJECT;

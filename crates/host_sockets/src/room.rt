@@ -41,7 +41,7 @@ impl Room {
 
     /// Enters the socket at a place as it is now. Answers whether it did: it doesn't where memory is
     /// wanting.
-    pub(crate) fn settle(&mut self, socks: &[TcpSock], place: usize) -> bool
+    pub(crate) fn update(&mut self, socks: &[TcpSock], place: usize) -> bool
         requires { KnowsOthers place self.old socks.now }
         ensures { result ≡ true → KnowsAll self.new socks.now }
     {

@@ -188,7 +188,7 @@ impl Tables {
     }
 
     /// Enters the socket at a place as it is now. Answers whether it did.
-    pub(crate) fn settle(&mut self, socks: &[TcpSock], place: usize) -> bool
+    pub(crate) fn update(&mut self, socks: &[TcpSock], place: usize) -> bool
         requires { FindsOthers place self.old socks.now }
         ensures { result ≡ true → FindsAll self.new socks.now }
     {

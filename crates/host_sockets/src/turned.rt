@@ -11,7 +11,7 @@ use sim_base::{NoMemory, ObjectId, Time};
 use sock_tcp::{Carried, Control, Effects};
 
 /// Objects from here on are TCP sockets, by their numbers.
-const FIRST_OBJECT: u64 = 1 << 33;
+pub const FIRST_OBJECT: u64 = 1 << 33;
 
 /// The latest moment that an alarm is due.
 const LATEST: u64 = 1 << 62;

@@ -8,22 +8,17 @@ ghost use Rattle.file_calls.specs.declared.task.Output.{Output};
 ghost use Rattle.host_state.specs.Fire as spec;
 
 use crate::host::Body;
+use crate::slice::CALLS;
 use file_calls::Why;
 use guest_process::{Process, Running, Started, start_guest, texts_fit};
 use host_calls::{answers_now, start_task};
 use host_link::{Made, Net};
 use host_rows::Row;
-use sim_base::{Event, NoMemory, Signal, What};
+use sim_base::{Event, MOST_PROCESSES, NoMemory, Signal, What};
 use std::alloc::Global;
-
-/// How many calls are answered in a slice.
-const CALLS: u32 = 100;
 
 /// What an event counts for, beside the calls that it leads to, as a number of instructions.
 const EVENT_WORK: u64 = 100;
-
-/// How many processes a host may have.
-const MOST_PROCESSES: usize = 64;
 
 /// The start of a process, where there is one and its texts fit a stack.
 #[tactic(auto, unfolding(crate::specs::Fire::ready))]

@@ -17,7 +17,7 @@ use rv32_machine::{Cpu, TurnEnd};
 use sim_base::{NoMemory, Signal, State, What};
 
 /// How many calls are answered in a slice.
-const CALLS: u32 = 100;
+pub(crate) const CALLS: u32 = 100;
 
 /// How many nanoseconds a process pauses after them.
 const PAUSE: u64 = 100_000;

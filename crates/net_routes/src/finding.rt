@@ -210,7 +210,7 @@ fn find_rows<R: Threads + Sync>(
     while rows.len() < stops.len() {
         find_next(rt, alloc, net, nodes, stops, shortest, workers, &mut rows)?;
     }
-    rows.settle(alloc);
+    rows.shrink(alloc);
     Ok(rows)
 }
 

@@ -96,7 +96,7 @@ impl NumberedCosts {
     }
 
     /// Lets go of what only new costs would need.
-    pub fn settle(&mut self, alloc: Global)
+    pub fn shrink(&mut self, alloc: Global)
         ensures { self.new ≡ self.old }
     {
         self.numbers = HashMap::new(alloc);

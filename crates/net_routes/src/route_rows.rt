@@ -71,10 +71,10 @@ impl RouteRows {
     }
 
     /// Lets go of what only new rows would need.
-    pub fn settle(&mut self, alloc: Global)
+    pub fn shrink(&mut self, alloc: Global)
         ensures { self.new ≡ self.old }
     {
-        self.costs.settle(alloc);
+        self.costs.shrink(alloc);
     }
 
     /// The cost at the places of two nodes, if there is one.

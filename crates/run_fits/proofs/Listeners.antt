@@ -6,7 +6,7 @@ use Rattle.sock_tcp.specs.connection.Begin.{begin}
 use Rattle.sock_tcp.specs.connection.Pairs.{place_in}
 use Rattle.sock_tcp.specs.connection.Process.{answered, expires}
 use Rattle.sock_tcp.specs.connection.Tcb.{Turn, Tcb}
-use Rattle.sock_tcp.specs.listener.Listen.{accepts, asked, hears, record_acts, record_heard, replaced, settled, without, Listen, Heard, accepted_at, accepted_from, fresh_listen, hears_close, hears_timer, kept_acts, load_header, makes_record, new_heard, nothing_heard, record_made}
+use Rattle.sock_tcp.specs.listener.Listen.{accepts, asked, hears, record_acts, record_heard, replaced, requeued, without, Listen, Heard, accepted_at, accepted_from, fresh_listen, hears_close, hears_timer, kept_acts, load_header, makes_record, new_heard, nothing_heard, record_made}
 use Rattle.pcap_text.specs.Laws.{IsWhole}
 use Rattle.pcap_text.specs.Packets.{FitsAddr}
 use Rattle.run_fits.proofs.Bytes.{all_append, all_set, all_without, got}
@@ -29,16 +29,16 @@ pub without_fits : (place : ℕ) (l : Listen) → ListenFits l → ListenFits (w
 unfolding without
 without_fits place l h = (h.0, all_without TcbFits place l.records h.1)
 
-settled_fits : (place : ℕ) (before : Bool) (r : Tcb) (l : Listen) → ListenFits l → ListenFits (settled place before r l)
-unfolding settled
-settled_fits place before r l h =
+requeued_fits : (place : ℕ) (before : Bool) (r : Tcb) (l : Listen) → ListenFits l → ListenFits (requeued place before r l)
+unfolding requeued
+requeued_fits place before r l h =
     by_test ListenFits r.control.was_established _ _
     (λ e. by_test ListenFits before _ _ (λ k. h) (λ k. h))
     (λ e. by_test ListenFits (is_over r.control.state) _ _ (λ k. without_fits place l h) (λ k. h))
 
 heard_fits : (place : ℕ) (before : Bool) (t : Turn) (l : Listen) → TurnFits t → ListenFits l → HeardFits (record_heard place before t l)
 heard_fits place before t l k h =
-    (settled_fits place before t.tcb (replaced place t.tcb l) (h.0, all_set TcbFits l.records place t.tcb h.1 k.0), k.1)
+    (requeued_fits place before t.tcb (replaced place t.tcb l) (h.0, all_set TcbFits l.records place t.tcb h.1 k.0), k.1)
 
 acts_fits : (act : Turn → Turn) (place : ℕ) (found : Option Tcb) (l : Listen) (otherwise : Heard) → KeepsTurns act → IfSome found TcbFits → ListenFits l → HeardFits otherwise → HeardFits (record_acts act place found l otherwise)
 acts_fits act place None l otherwise keeps there h k = k

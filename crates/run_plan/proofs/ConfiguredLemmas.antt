@@ -1,7 +1,7 @@
 -- The configuration of a text.
 use Rattle.std.proofs.Common.{◌≡◌, List, ℕ, Bool, refl, subst, inl, inr}
 use Rattle.std.specs.Prelude.{Result, Ok, Err}
-use Rattle.yaml_marks.specs.Lines.{lines_of}
+use Rattle.yaml_tokens.specs.Lines.{lines_of}
 use Rattle.yaml_tree.specs.Said.{Said}
 use Rattle.yaml_tree.specs.Tree.{IsTreeOf, is_empty_document}
 use Rattle.shd_config.specs.Config.{config}

@@ -11,7 +11,7 @@ use Rattle.shd_config.specs.declared.config.HostConfig.{HostConfig}
 use Rattle.shd_config.specs.declared.fault.ConfigFault.{ConfigFault}
 use Rattle.shd_config.specs.declared.overrides.Overrides.{Overrides}
 use Rattle.text_trees.proofs.TextTrees.{text_plain}
-use Rattle.yaml_marks.specs.Lines.{lines_of}
+use Rattle.yaml_tokens.specs.Lines.{lines_of}
 use Rattle.yaml_tree.specs.Tree.{is_empty_document}
 use Rattle.run_plan.specs.Configured.{configured}
 use Rattle.run_plan.specs.HostRows.{host_rows}

@@ -4,7 +4,6 @@ use Rattle.std.specs.Ordering.{nat_cmp, is_lt}
 use Rattle.std.specs.Cmp.Lexicographic.{slice_cmp}
 use Rattle.std.proofs.lemmas.Cmp.{nat_list_cmp_total}
 use Rattle.std.proofs.lemmas.List.Sorted.{ranks_by}
-use Rattle.elf_load.specs.ProgramImage.{ProgramImage}
 use Rattle.command_line.specs.Asked.{asked}
 use Rattle.command_line.specs.declared.asked.Subject.{Subject}
 use Rattle.command_line.specs.declared.asked.Subject.TheVariants as subject
@@ -14,7 +13,6 @@ use Rattle.net_routes.specs.Needed.{IsNeeded}
 use Rattle.net_routes.specs.declared.table.Routes.{Routes}
 use Rattle.net_routes.proofs.RouteLaws.{no_lack, one_least_lack}
 use Rattle.net_routes.proofs.TableLemmas.{one_table}
-use Rattle.out_text.specs.Hosts.{hosts_text}
 use Rattle.run_outside.specs.Files.{Held}
 use Rattle.sim_base.specs.declared.address.Ip.{Ip}
 use Rattle.sim_base.specs.declared.time.Time.{Time}
@@ -23,7 +21,7 @@ use Rattle.yaml_tree.specs.Tree.{IsTreeOf, is_empty_document}
 use Rattle.yaml_tree.proofs.FlowLaws.{flow_reader}
 use Rattle.yaml_tree.proofs.RuleLaws.{one_tree, no_fault}
 use Rattle.yaml_tree.proofs.FaultLaws.{one_fault}
-use Rattle.yaml_marks.specs.Lines.{lines_of}
+use Rattle.yaml_tokens.specs.Lines.{lines_of}
 use Rattle.shd_config.specs.Config.{config}
 use Rattle.shd_config.specs.declared.config.Config.{Config}
 use Rattle.shd_config.specs.declared.config.GraphSource.{GraphSource}
@@ -37,7 +35,7 @@ use Rattle.run_plan.specs.File.{file, read, reads}
 use Rattle.run_plan.specs.HostRows.{AreInOrder, HaveAddresses, rows_of, host_rows}
 use Rattle.run_plan.specs.Network.{one_gbit_switch, graph_at, network}
 use Rattle.run_plan.specs.Reading.{Reading, gives, some_that, ◌>>=◌}
-use Rattle.run_plan.specs.Plan.{nodes_of, IsRouteFault, routed, nanos_of, line_of_host, settings_of, run_of, plan_of}
+use Rattle.run_plan.specs.Plan.{nodes_of, IsRouteFault, routed, nanos_of, run_of, plan_of}
 use Rattle.run_plan.specs.Planned.{or_words_fault, manner_of, runs, shown_or_run, file_planned, self_load_planned, capture_planned, planned_of, planned}
 use Rattle.run_plan.specs.Program.{program}
 use Rattle.run_plan.specs.Programs.{programs_of, images}
@@ -46,7 +44,6 @@ use Rattle.run_plan.specs.Ring.{ring_files}
 use Rattle.run_plan.specs.SelfLoad.{self_load_config, self_load_graph}
 use Rattle.run_plan.specs.declared.fault.Fault.{Fault}
 use Rattle.run_plan.specs.declared.fault.Fault.TheVariants as fault
-use Rattle.run_plan.specs.declared.host_row.HostRow.{HostRow}
 use Rattle.run_plan.specs.declared.plan.Plan.{Plan}
 use Rattle.run_plan.specs.declared.planned.Manner.{Manner}
 use Rattle.run_plan.specs.declared.planned.Planned.{Planned}

@@ -1,6 +1,6 @@
 -- The configuration of a text: its tree, and then what the tree says.
 use Rattle.std.specs.Prelude.{◌≡◌, ℕ, List, Result, Ok, Err}
-use Rattle.yaml_marks.specs.Lines.{lines_of}
+use Rattle.yaml_tokens.specs.Lines.{lines_of}
 use Rattle.yaml_tree.specs.Said.{Said}
 use Rattle.yaml_tree.specs.Tree.{IsTreeOf, IsFaultOf, is_empty_document}
 use Rattle.shd_config.specs.Config.{config}

@@ -47,26 +47,26 @@ fn given(alloc: Global, hosts: &[Option<Ip>]) -> Result<Vec<Ip>, NoMemory>
 
 /// The address of a host, and where the next open one is looked for.
 #[derive(Clone, Copy)]
-struct Settled {
+struct Addressed {
     address: Ip,
     next: u32,
 }
 
 /// The address of a host that may have been given one, where the next open one is looked for from
 /// an address on.
-fn settle(given: &Book, from: u32, host: Option<Ip>) -> Settled
+fn address_host(given: &Book, from: u32, host: Option<Ip>) -> Addressed
     requires { from + 3 * count_from given.now from + 3 < 2 ^ 32 }
     ensures address { NextAddress given.now from result.next host result.address }
     ensures room { result.next + 3 * count_from given.now result.next ≤ from + 3 * count_from given.now from + 3 }
 {
     match host {
-        Some(address) => Settled {
+        Some(address) => Addressed {
             address,
             next: from,
         },
         None => {
             let bits = least_open(given, from);
-            Settled {
+            Addressed {
                 address: Ip { bits },
                 next: bits + 1,
             }
@@ -82,7 +82,7 @@ fn with_open(alloc: Global, given: &Book, hosts: &[Option<Ip>]) -> Result<Vec<Ip
     let mut addresses = Vec::new(alloc);
     let mut next = FIRST;
     for host in hosts {
-        let settled = settle(given, next, *host);
+        let settled = address_host(given, next, *host);
         next = settled.next;
         addresses.push(settled.address)?;
     }

@@ -1,7 +1,7 @@
 //! The configuration of a text.
 
 ghost use Rattle.std.specs.Prelude.{◌≡◌, ◌≤◌, IfOk, IfErr};
-ghost use Rattle.yaml_marks.specs.Lines.{lines_of};
+ghost use Rattle.yaml_tokens.specs.Lines.{lines_of};
 ghost use Rattle.yaml_tree.specs.Limits.{most_tree_levels};
 ghost use Rattle.yaml_tree.specs.Said.{Said, levels};
 ghost use Rattle.yaml_tree.specs.Tree.{IsTreeOf, is_empty_document};

@@ -11,7 +11,9 @@ use base_texts::{Name, Text};
 use gml_graph::{Edge, Edges, Graph, Node, Nodes};
 use host_rows::FinalState;
 use net_iface::QueueRule;
-use shd_config::{Config, GraphSource, HostConfig, Hosts, Overrides, ProcessConfig, Processes, Variables};
+use shd_config::{
+    Config, GraphSource, HostConfig, Hosts, Overrides, ProcessConfig, Processes, Variables,
+};
 use shd_values::Texts;
 use sim_base::{NoMemory, Signal, Time};
 use std::alloc::Global;

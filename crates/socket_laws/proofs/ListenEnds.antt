@@ -112,8 +112,8 @@ without_local : (place : ℕ) (l : Listen) → (listener.without place l).local 
 unfolding listener.without
 without_local place l = refl
 
-settled_local : (place : ℕ) (before : Bool) (r : Tcb) (l : Listen) → (listener.settled place before r l).local ≡ l.local
-unfolding listener.settled
+settled_local : (place : ℕ) (before : Bool) (r : Tcb) (l : Listen) → (listener.requeued place before r l).local ≡ l.local
+unfolding listener.requeued
 settled_local place before r l =
     listen_by r.control.was_established _ _ l.local (listen_by before l (listener.waits place l) l.local refl refl)
     (listen_by (is_over r.control.state) (listener.without place l) l l.local (without_local place l) refl)

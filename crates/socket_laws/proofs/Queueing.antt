@@ -11,7 +11,7 @@ use Rattle.sock_tcp.specs.connection.Begin.{begin}
 use Rattle.sock_tcp.specs.connection.Pairs.{place_in}
 use Rattle.sock_tcp.specs.connection.Arrival.{takes_packet}
 use Rattle.sock_tcp.specs.connection.Process.{answered, expires}
-use Rattle.sock_tcp.specs.listener.Listen.{Listen, Heard, fresh_listen, is_elsewhere, place_past, places_past, without, replaced, waits, settled, nothing_heard, record_acts, kept_acts, record_made, makes_record, asked, load_header, new_heard, hears, hears_timer, accepted_at, accepted_from, accepts}
+use Rattle.sock_tcp.specs.listener.Listen.{Listen, Heard, fresh_listen, is_elsewhere, place_past, places_past, without, replaced, waits, requeued, nothing_heard, record_acts, kept_acts, record_made, makes_record, asked, load_header, new_heard, hears, hears_timer, accepted_at, accepted_from, accepts}
 use Rattle.tcp_laws.proofs.Tests.{by_test}
 use Rattle.sock_tcp.proofs.Connections.Places.{slice_get_set}
 use Rattle.socket_laws.specs.Waiting.{ListenAct, after_accept, listen_acted, listen_after, listen_of}
@@ -154,8 +154,8 @@ keeps_without l place h = record {
 }
 
 -- an act on a record
-keeps_settled : (l : Listen) (place : ℕ) (r old : Tcb) → Keeps l → slice_get l.records place ≡ Some old → Waiting r → (old.control.was_established ≡ true → r.control.was_established ≡ true) → Keeps (settled place old.control.was_established r (replaced place r l))
-unfolding settled
+keeps_settled : (l : Listen) (place : ℕ) (r old : Tcb) → Keeps l → slice_get l.records place ≡ Some old → Waiting r → (old.control.was_established ≡ true → r.control.was_established ≡ true) → Keeps (requeued place old.control.was_established r (replaced place r l))
+unfolding requeued
 keeps_settled l place r old h at w stays =
     let k = keeps_replaced l place r old h at w stays in
     by_test Keeps r.control.was_established _ _

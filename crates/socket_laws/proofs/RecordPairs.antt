@@ -17,7 +17,7 @@ use Rattle.sock_tcp.specs.connection.Tcb.{Tcb, Turn}
 use Rattle.sock_tcp.specs.connection.Timer.{timer_of}
 use Rattle.sock_tcp.specs.connection.Arrival.{takes_packet}
 use Rattle.sock_tcp.specs.connection.Process.{fresh_tcb, opened, answered, expires}
-use Rattle.sock_tcp.specs.listener.Listen.{Listen, Heard, without, replaced, settled, nothing_heard, record_acts, kept_acts, record_made, makes_record, asked, load_header, new_heard, hears, hears_timer, is_kept}
+use Rattle.sock_tcp.specs.listener.Listen.{Listen, Heard, without, replaced, requeued, nothing_heard, record_acts, kept_acts, record_made, makes_record, asked, load_header, new_heard, hears, hears_timer, is_kept}
 use Rattle.tcp_laws.proofs.Tests.{by_test}
 use Rattle.host_wants.specs.Wanted.{Wanted, sends}
 use Rattle.host_sockets.specs.TcpSocket.{TcpSocket, with_tcb, has_record, has_record_in, keeps_record, keeps_record_in}
@@ -87,9 +87,9 @@ without_count : (own other : Addr) (place : ℕ) (l : Listen) → count own othe
 unfolding without
 without_count own other place l = sum_remove (live own other) l.records place
 
-settled_count : (own other : Addr) (place : ℕ) (before : Bool) (r : Tcb) (l : Listen) → count own other (settled place before r l) ≤ count own other l
-unfolding settled
-settled_count own other place before r l =
+requeued_count : (own other : Addr) (place : ℕ) (before : Bool) (r : Tcb) (l : Listen) → count own other (requeued place before r l) ≤ count own other l
+unfolding requeued
+requeued_count own other place before r l =
     let P : Listen → Type 0 = λ m. count own other m ≤ count own other l in
     by_test P r.control.was_established _ _
     (λ e. by_test P before _ _ (λ b. omega arith) (λ b. omega arith))
@@ -101,7 +101,7 @@ acts_count own other act place (Some r) l otherwise n stays at none =
     let r' : Tcb = (act (begin r)).tcb in
     let less = stays_live own other r r' (stays r) in
     let set_count = sum_set (live own other) l.records place r r' 0 at (omega (arith, less)) in
-    let after = settled_count own other place r.control.was_established r' (replaced place r' l) in
+    let after = requeued_count own other place r.control.was_established r' (replaced place r' l) in
     omega (arith, set_count, after)
 
 not_kept : (place n : ℕ) → n ≤ place → nat_lt place n ≡ false

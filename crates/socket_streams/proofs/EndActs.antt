@@ -21,7 +21,7 @@ use Rattle.sock_tcp.specs.connection.Tcb.{Tcb, Turn, changed}
 use Rattle.sock_tcp.specs.connection.Timer.{timer_of}
 use Rattle.sock_tcp.specs.connection.Process.{opened, answered, writes, reads, flows, shuts, closes, expires, error_taken}
 use Rattle.sock_tcp.specs.listener.Listen as listener
-use Rattle.sock_tcp.specs.listener.Listen.{Listen, Heard, fresh_listen, without, replaced, settled, nothing_heard, kept_acts, record_made, makes_record, asked, load_header, new_heard, takes_word, hears, hears_timer, hears_close, accepted_at, accepted_from, accepts}
+use Rattle.sock_tcp.specs.listener.Listen.{Listen, Heard, fresh_listen, without, replaced, requeued, nothing_heard, kept_acts, record_made, makes_record, asked, load_header, new_heard, takes_word, hears, hears_timer, hears_close, accepted_at, accepted_from, accepts}
 use Rattle.sock_tcp.specs.listener.Dropped.{dropped_by, dropped}
 use Rattle.tcp_laws.proofs.Tests.{by_test}
 use Rattle.tcp_streams.proofs.Members.{IsIn, IsIn_from_Contains, Contains_here, Contains_there}
@@ -221,9 +221,9 @@ module _ (P : Addr → Addr → Type 0) (W : Packet → Type 0) (carries : (p : 
 
   -- ---- the records of a listener
 
-  settled_ends : (place : ℕ) (before : Bool) (r : Tcb) (l : Listen) → AllEnded l.records → AllEnded (settled place before r l).records
-  unfolding settled without
-  settled_ends place before r l h =
+  requeued_ends : (place : ℕ) (before : Bool) (r : Tcb) (l : Listen) → AllEnded l.records → AllEnded (requeued place before r l).records
+  unfolding requeued without
+  requeued_ends place before r l h =
       let Kept : Listen → Type 0 = λ m. AllEnded m.records in
       by_test Kept r.control.was_established _ _
       (λ e. by_test Kept before _ _ (λ b. h) (λ b. h))
@@ -240,7 +240,7 @@ module _ (P : Addr → Addr → Type 0) (W : Packet → Type 0) (carries : (p : 
       let was = each_at Ended l.records place r h at in
       let here = stays_ended r t (does r) was in (
         (
-          settled_ends place r.control.was_established t.tcb (replaced place t.tcb l) (each_set Ended l.records place t.tcb h here),
+          requeued_ends place r.control.was_established t.tcb (replaced place t.tcb l) (each_set Ended l.records place t.tcb h here),
           segments_carry r.control.local r.control.peer t.sent was (does r).sent,
         ),
         by_test AllEnded (is_over t.tcb.control.state && not t.tcb.control.was_established) _ _ (λ e. (here, tt)) (λ e. tt),

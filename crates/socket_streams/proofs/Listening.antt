@@ -16,7 +16,7 @@ use Rattle.sock_tcp.specs.connection.Tcb.{Tcb}
 use Rattle.sock_tcp.specs.connection.Pairs.{is_pair, place_in}
 use Rattle.sock_tcp.specs.connection.Process.{answered, expires}
 use Rattle.sock_tcp.specs.connection.Arrival.{takes_packet}
-use Rattle.sock_tcp.specs.listener.Listen.{Listen, Heard, settled, replaced, waits, without, record_heard, nothing_heard, record_acts, kept_acts, asks, has_room, makes_record, record_made, asked, load_header, new_heard, hears, hears_timer, accepted_at, accepted_from, accepts}
+use Rattle.sock_tcp.specs.listener.Listen.{Listen, Heard, requeued, replaced, waits, without, record_heard, nothing_heard, record_acts, kept_acts, asks, has_room, makes_record, record_made, asked, load_header, new_heard, hears, hears_timer, accepted_at, accepted_from, accepts}
 use Rattle.tcp_laws.specs.Acts.{Act, act_of, acted}
 use Rattle.tcp_laws.specs.Acts.Start.{passive}
 use Rattle.tcp_laws.specs.Acts.Act.{arrival, expiry}
@@ -67,11 +67,11 @@ leaves false true before place r l rest here gone = parts r rest (remove l.recor
 leaves false false before place r l rest here gone = stays r rest l here
 
 record_leads : (scope : Addr → Addr → Bool) (own : Ip) (l : Listen) (place : ℕ) (act : Act) (r : Tcb) (others : List Tcb) (flying after : List Packet) → slice_get l.records place ≡ Some r → MayAct flying r act → Flown flying (acted act r).sent after → LeadsBeside scope own l (record_heard place r.control.was_established (acted act r) l) (dropped_by (act_of act) (Some r)) others flying after
-unfolding settled
+unfolding requeued
 record_leads scope own l place act r others flying after e may flown =
     let o = others_of l.records place r e in
     let t = (acted act r).tcb in
-    let kept = (settled place r.control.was_established t (replaced place t l)).records in
+    let kept = (requeued place r.control.was_established t (replaced place t l)).records in
     let gone = dropped_by (act_of act) (Some r) in
     let left : IsPermutation (kept ++ gone) (t ∷ o.rest) =
     leaves t.control.was_established (is_over t.control.state) r.control.was_established place t (replaced place t l) o.rest (o.put t) (o.gone t) in

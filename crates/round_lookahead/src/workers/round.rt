@@ -28,7 +28,7 @@ pub(crate) struct RoundLeft {
 
 /// What was at the benches.
 #[derive(Drop)]
-struct Parts {
+struct BenchParts {
     seats: Vec<Seat<Task>>,
     carriers: Vec<Carrier<Box<Parcel>>>,
     works: Vec<Worked>,
@@ -91,7 +91,7 @@ fn fork_all<R: Threads + Sync, G: Gate + Sync>(
 }
 
 /// Takes the benches apart. Some worker may have found no memory.
-fn parts_of(alloc: Global, benches: Vec<Bench>) -> Result<Parts, NoMemory>
+fn parts_of(alloc: Global, benches: Vec<Bench>) -> Result<BenchParts, NoMemory>
     ensures { IfOk result (λ parts. AreParts benches.items parts.seats.items parts.carriers.items parts.works.items) }
 {
     let mut seats = Vec::new(alloc);
@@ -111,7 +111,7 @@ fn parts_of(alloc: Global, benches: Vec<Bench>) -> Result<Parts, NoMemory>
         carriers.push(carrier)?;
         works.push(worked)?;
     }
-    Ok(Parts {
+    Ok(BenchParts {
         seats,
         carriers,
         works,
@@ -146,7 +146,7 @@ pub(crate) fn run_beside<R: Threads + Sync, G: Gate + Sync>(
     let (boards, carriers) = Boards::open(alloc, hosts, workers)?;
     let mut benches = benches_of(alloc, seats, carriers)?;
     fork_all(rt, alloc, net, end, &boards, gate, threads, &mut benches);
-    let Parts {
+    let BenchParts {
         seats,
         carriers,
         works,

@@ -54,11 +54,11 @@ leaves_over r control before gone c e o is =
 
 -- by an act on the record at a place
 pub gone_record : (act : Turn → Turn) (k mid : Listener) (l : Listen) (place : ℕ) (r : Tcb) (conn conn' : Conn) (e : Effects) (before gone : List Carried) → ListensFor k l → slice_get l.records place ≡ Some r → conn ≡ get_or k.records.items place conn → Follows act conn conn' e → mid.local ≡ k.local → mid.limit ≡ k.limit → mid.records.items ≡ set k.records.items place conn' → mid.accept_queue.items ≡ k.accept_queue.items → ((m : Listen) → ListensFor mid m → (x : Tcb) → slice_get m.records place ≡ Some x → gone ≡ with_gone (dropped_after x) before) → gone ≡ with_gone (dropped_by act (Some r)) before
-gone_record act k mid l place r conn conn' e before gone h at is follows local limit records queue settles =
+gone_record act k mid l place r conn conn' e before gone h at is follows local limit records queue requeues =
     let t : Turn = act (begin r) in
     let gives = follows r (at_place k l place r conn h at is) in
     let m = listens_replaced k mid l place conn' t.tcb h gives.conn local limit records queue in
-    settles (replaced place t.tcb l) m t.tcb (slice_get_set l.records place r t.tcb at)
+    requeues (replaced place t.tcb l) m t.tcb (slice_get_set l.records place r t.tcb at)
 
 -- by an act on the record of two ends
 pub gone_kept : (act : Turn → Turn) (own other : Addr) (k : Listener) (l : Listen) (place : ℕ) (before gone : List Carried) → ListensFor k l → place < length k.records.items → place ≡ place_in own other l.records → ((r : Tcb) → slice_get l.records place ≡ Some r → gone ≡ with_gone (dropped_by act (Some r)) before) → gone ≡ with_gone (dropped act own other l) before

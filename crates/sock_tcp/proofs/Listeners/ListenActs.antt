@@ -17,20 +17,20 @@ use Rattle.sock_tcp.specs.connection.Begin.{begin}
 use Rattle.sock_tcp.specs.connection.Pairs.{place_in}
 use Rattle.sock_tcp.specs.connection.Process.{answered}
 use Rattle.sock_tcp.specs.connection.StandsFor.{StandsFor, Gives, Follows, StandsAll}
-use Rattle.sock_tcp.specs.listener.Listen.{Listen, Heard, places_past, without, waits, replaced, settled, record_heard, nothing_heard, record_acts, kept_acts, load_header, header_makes, is_kept, makes_record, takes_word, record_made, asked}
+use Rattle.sock_tcp.specs.listener.Listen.{Listen, Heard, places_past, without, waits, replaced, requeued, record_heard, nothing_heard, record_acts, kept_acts, load_header, header_makes, is_kept, makes_record, takes_word, record_made, asked}
 use Rattle.sock_tcp.specs.listener.ListensFor.{ListensFor, Tells}
 use Rattle.sock_tcp.proofs.Connections.Places.{same_length, record_at, stands_at, stands_set, stands_push, stands_remove, slice_get_set}
 use Rattle.sock_tcp.proofs.Listeners.QueuePlaces.{below_set, below_push, below_removed}
 
 -- the branches of settling
-settled_established : (place : ℕ) (before : Bool) (r : Tcb) (l : Listen) → r.control.was_established ≡ true → settled place before r l ≡ (if before then l else waits place l)
-unfolding settled
-settled_established place before r l e =
+requeued_established : (place : ℕ) (before : Bool) (r : Tcb) (l : Listen) → r.control.was_established ≡ true → requeued place before r l ≡ (if before then l else waits place l)
+unfolding requeued
+requeued_established place before r l e =
     ap (λ b. if b then (if before then l else waits place l) else (if is_over r.control.state then without place l else l)) e
 
-settled_else : (place : ℕ) (before : Bool) (r : Tcb) (l : Listen) → r.control.was_established ≡ false → settled place before r l ≡ (if is_over r.control.state then without place l else l)
-unfolding settled
-settled_else place before r l e =
+requeued_else : (place : ℕ) (before : Bool) (r : Tcb) (l : Listen) → r.control.was_established ≡ false → requeued place before r l ≡ (if is_over r.control.state then without place l else l)
+unfolding requeued
+requeued_else place before r l e =
     ap (λ b. if b then (if before then l else waits place l) else (if is_over r.control.state then without place l else l)) e
 
 -- the connection that was read at a place
@@ -69,30 +69,30 @@ listens_waits k k' l place h b local limit records queue =
     (All-push (λ at. at < length l.records) l.accept_queue place h.places (omega (arith, same_length k.records.items l.records h.records)))
 
 -- settling
-pub settles_waits : (k k' : Listener) (l : Listen) (place : ℕ) (before : Bool) (r : Tcb) (control : Control) → ListensFor k l → control ≡ r.control → control.was_established ≡ true → before ≡ false → place < length k.records.items → k'.local ≡ k.local → k'.limit ≡ k.limit → k'.records.items ≡ k.records.items → k'.accept_queue.items ≡ k.accept_queue.items ++ place ∷ [] → ListensFor k' (settled place before r l)
-settles_waits k k' l place before r control h c e f b local limit records queue =
+pub requeues_waits : (k k' : Listener) (l : Listen) (place : ℕ) (before : Bool) (r : Tcb) (control : Control) → ListensFor k l → control ≡ r.control → control.was_established ≡ true → before ≡ false → place < length k.records.items → k'.local ≡ k.local → k'.limit ≡ k.limit → k'.records.items ≡ k.records.items → k'.accept_queue.items ≡ k.accept_queue.items ++ place ∷ [] → ListensFor k' (requeued place before r l)
+requeues_waits k k' l place before r control h c e f b local limit records queue =
     let e' : r.control.was_established ≡ true = sym (ap (λ x. x.was_established) c) ∙ e in
-    let is : settled place before r l ≡ waits place l = settled_established place before r l e' ∙ ap (λ b. if b then l else waits place l) f in
+    let is : requeued place before r l ≡ waits place l = requeued_established place before r l e' ∙ ap (λ b. if b then l else waits place l) f in
     subst (λ (m : Listen). ListensFor k' m) (sym is) (listens_waits k k' l place h b local limit records queue)
 
-pub settles_before : (k : Listener) (l : Listen) (place : ℕ) (before : Bool) (r : Tcb) (control : Control) → ListensFor k l → control ≡ r.control → control.was_established ≡ true → before ≡ true → ListensFor k (settled place before r l)
-settles_before k l place before r control h c e f =
+pub requeues_before : (k : Listener) (l : Listen) (place : ℕ) (before : Bool) (r : Tcb) (control : Control) → ListensFor k l → control ≡ r.control → control.was_established ≡ true → before ≡ true → ListensFor k (requeued place before r l)
+requeues_before k l place before r control h c e f =
     let e' : r.control.was_established ≡ true = sym (ap (λ x. x.was_established) c) ∙ e in
-    let is : settled place before r l ≡ l = settled_established place before r l e' ∙ ap (λ b. if b then l else waits place l) f in
+    let is : requeued place before r l ≡ l = requeued_established place before r l e' ∙ ap (λ b. if b then l else waits place l) f in
     subst (λ (m : Listen). ListensFor k m) (sym is) h
 
-pub settles_gone : (k' : Listener) (l : Listen) (place : ℕ) (before : Bool) (r : Tcb) (control : Control) → control ≡ r.control → control.was_established ≡ false → is_over control.state ≡ true → ListensFor k' (without place l) → ListensFor k' (settled place before r l)
-settles_gone k' l place before r control c e o h =
+pub requeues_gone : (k' : Listener) (l : Listen) (place : ℕ) (before : Bool) (r : Tcb) (control : Control) → control ≡ r.control → control.was_established ≡ false → is_over control.state ≡ true → ListensFor k' (without place l) → ListensFor k' (requeued place before r l)
+requeues_gone k' l place before r control c e o h =
     let e' : r.control.was_established ≡ false = sym (ap (λ x. x.was_established) c) ∙ e in
     let o' : is_over r.control.state ≡ true = sym (ap (λ x. is_over x.state) c) ∙ o in
-    let is : settled place before r l ≡ without place l = settled_else place before r l e' ∙ ap (λ b. if b then without place l else l) o' in
+    let is : requeued place before r l ≡ without place l = requeued_else place before r l e' ∙ ap (λ b. if b then without place l else l) o' in
     subst (λ (m : Listen). ListensFor k' m) (sym is) h
 
-pub settles_stays : (k : Listener) (l : Listen) (place : ℕ) (before : Bool) (r : Tcb) (control : Control) → ListensFor k l → control ≡ r.control → control.was_established ≡ false → is_over control.state ≡ false → ListensFor k (settled place before r l)
-settles_stays k l place before r control h c e o =
+pub requeues_stays : (k : Listener) (l : Listen) (place : ℕ) (before : Bool) (r : Tcb) (control : Control) → ListensFor k l → control ≡ r.control → control.was_established ≡ false → is_over control.state ≡ false → ListensFor k (requeued place before r l)
+requeues_stays k l place before r control h c e o =
     let e' : r.control.was_established ≡ false = sym (ap (λ x. x.was_established) c) ∙ e in
     let o' : is_over r.control.state ≡ false = sym (ap (λ x. is_over x.state) c) ∙ o in
-    let is : settled place before r l ≡ l = settled_else place before r l e' ∙ ap (λ b. if b then without place l else l) o' in
+    let is : requeued place before r l ≡ l = requeued_else place before r l e' ∙ ap (λ b. if b then without place l else l) o' in
     subst (λ (m : Listen). ListensFor k m) (sym is) h
 
 -- a connection did an act
@@ -103,14 +103,14 @@ listens_replaced k k' l place conn r h s local limit records queue =
     (queue ∙ h.accept_queue)
     (below_set l.records place r l.accept_queue h.places)
 
-pub tells_record : (act : Turn → Turn) (k mid k' : Listener) (l : Listen) (place : ℕ) (before : Bool) (r : Tcb) (conn conn' : Conn) (e : Effects) → ListensFor k l → slice_get l.records place ≡ Some r → conn ≡ get_or k.records.items place conn → before ≡ r.control.was_established → Follows act conn conn' e → mid.local ≡ k.local → mid.limit ≡ k.limit → mid.records.items ≡ set k.records.items place conn' → mid.accept_queue.items ≡ k.accept_queue.items → ((m : Listen) → ListensFor mid m → (x : Tcb) → slice_get m.records place ≡ Some x → ListensFor k' (settled place before x m)) → Tells k' e (record_heard place r.control.was_established (act (begin r)) l)
-tells_record act k mid k' l place before r conn conn' e h at is was follows local limit records queue settles =
+pub tells_record : (act : Turn → Turn) (k mid k' : Listener) (l : Listen) (place : ℕ) (before : Bool) (r : Tcb) (conn conn' : Conn) (e : Effects) → ListensFor k l → slice_get l.records place ≡ Some r → conn ≡ get_or k.records.items place conn → before ≡ r.control.was_established → Follows act conn conn' e → mid.local ≡ k.local → mid.limit ≡ k.limit → mid.records.items ≡ set k.records.items place conn' → mid.accept_queue.items ≡ k.accept_queue.items → ((m : Listen) → ListensFor mid m → (x : Tcb) → slice_get m.records place ≡ Some x → ListensFor k' (requeued place before x m)) → Tells k' e (record_heard place r.control.was_established (act (begin r)) l)
+tells_record act k mid k' l place before r conn conn' e h at is was follows local limit records queue requeues =
     let t : Turn = act (begin r) in
     let gives = follows r (at_place k l place r conn h at is) in
     let m = listens_replaced k mid l place conn' t.tcb h gives.conn local limit records queue in
-    let after = settles (replaced place t.tcb l) m t.tcb (slice_get_set l.records place r t.tcb at) in
+    let after = requeues (replaced place t.tcb l) m t.tcb (slice_get_set l.records place r t.tcb at) in
     record {
-      listen = subst (λ (b : Bool). ListensFor k' (settled place b t.tcb (replaced place t.tcb l))) was after;
+      listen = subst (λ (b : Bool). ListensFor k' (requeued place b t.tcb (replaced place t.tcb l))) was after;
       segments = gives.segments;
       timer = gives.timer;
     }

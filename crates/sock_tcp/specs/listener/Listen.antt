@@ -70,8 +70,8 @@ waits place l = record l { accept_queue = l.accept_queue ++ place ∷ [] }
 
 -- after an act on the record at a place: one that became ESTABLISHED waits behind the others, and
 -- one of the SYN queue that is over leaves
-unfoldable pub settled : ℕ → Bool → Tcb → Listen → Listen
-settled place before r l =
+unfoldable pub requeued : ℕ → Bool → Tcb → Listen → Listen
+requeued place before r l =
     if r.control.was_established then (if before then l else waits place l)
     else if is_over r.control.state then without place l
     else l
@@ -79,7 +79,7 @@ settled place before r l =
 -- the record at a place does an act, if there is one
 abbrev pub record_heard : ℕ → Bool → Turn → Listen → Heard
 record_heard place before t l = record {
-  listen = settled place before t.tcb (replaced place t.tcb l);
+  listen = requeued place before t.tcb (replaced place t.tcb l);
   sent = t.sent;
   timer = timer_of t;
 }

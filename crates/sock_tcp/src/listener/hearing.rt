@@ -39,7 +39,7 @@ impl Listener {
         let before = self.records[place].control().was_established;
         let conn = &mut self.records[place];
         let effects = conn.arrive(segment)?;
-        self.settle(place, before, gone)?;
+        self.requeue(place, before, gone)?;
         Ok(effects)
     }
 
@@ -60,7 +60,7 @@ impl Listener {
         let before = self.records[place].control().was_established;
         let conn = &mut self.records[place];
         let effects = conn.timer()?;
-        self.settle(place, before, gone)?;
+        self.requeue(place, before, gone)?;
         Ok(effects)
     }
 }

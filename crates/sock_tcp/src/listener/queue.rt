@@ -28,7 +28,7 @@ impl Listener {
     ghost use Rattle.sock_tcp.specs.connection.Tcb.{Tcb};
     ghost use Rattle.sock_tcp.specs.connection.Carried.{with_gone};
     ghost use Rattle.sock_tcp.specs.connection.StandsFor.{StandsFor};
-    ghost use Rattle.sock_tcp.specs.listener.Listen.{Listen, places_past, without, settled, accepts};
+    ghost use Rattle.sock_tcp.specs.listener.Listen.{Listen, places_past, without, requeued, accepts};
     ghost use Rattle.sock_tcp.specs.listener.Dropped.{dropped_after};
     ghost use Rattle.sock_tcp.specs.listener.ListensFor.{ListensFor, Accepts};
 
@@ -69,16 +69,16 @@ impl Listener {
 
     /// After an act of the connection at a place: where it became ESTABLISHED by it, it waits behind
     /// the others, and one of the SYN queue that is over is let go.
-    pub(crate) fn settle(
+    pub(crate) fn requeue(
         &mut self,
         place: usize,
         before: bool,
         gone: &mut Vec<Carried>,
     ) -> Result<(), NoMemory>
         requires { place < length self.old.records.items }
-        ensures settled { OnOk result ((l : Listen) → ListensFor self.old l
+        ensures requeued { OnOk result ((l : Listen) → ListensFor self.old l
             → (r : Tcb) → slice_get l.records place ≡ Some r
-            → ListensFor self.new (settled place before r l)) }
+            → ListensFor self.new (requeued place before r l)) }
         ensures gone { OnOk result ((l : Listen) → ListensFor self.old l
             → (r : Tcb) → slice_get l.records place ≡ Some r → gone.new.items ≡ with_gone (dropped_after r) gone.old.items) }
     {

@@ -1,5 +1,5 @@
 use Rattle.host_sockets.proofs.PortsCounted.{counts_now}
-use Rattle.host_sockets.proofs.given.Given.settle.Goals as goal
+use Rattle.host_sockets.proofs.given.Given.update.Goals as goal
 
 pub returns-then-recount_both : goal.returns-then-recount_both
 returns-then-recount_both c = λ done.

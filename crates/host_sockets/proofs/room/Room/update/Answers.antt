@@ -2,7 +2,7 @@ use Rattle.std.proofs.Common.{sym, ◌∙◌}
 use Rattle.number_sets.specs.Sets.{has}
 use Rattle.number_sets.proofs.PortsCounted.{on_ok}
 use Rattle.host_sockets.proofs.RoomKnown.{knows_put, knows_out}
-use Rattle.host_sockets.proofs.room.Room.settle.Goals as goal
+use Rattle.host_sockets.proofs.room.Room.update.Goals as goal
 
 pub returns-then-is_free : goal.returns-then-is_free
 returns-then-is_free c = λ done.
