@@ -8,7 +8,7 @@ use sim_base::NoMemory;
 use std::alloc::{AllocError, AllocFailed};
 
 /// The kinds of fault.
-#[derive(Clone, Copy, Debug)]
+#[derive(Clone, Copy)]
 pub enum ConfigKind {
     /// A key that is needed is absent.
     Missing,
@@ -26,7 +26,7 @@ pub enum ConfigKind {
 
 /// A fault: the line (from 1) and the path of what is wrong, as `hosts.a.processes[0].path`. At the
 /// root the path is empty.
-#[derive(Debug, Drop)]
+#[derive(Drop)]
 pub struct ConfigFault {
     pub line: usize,
     pub path: Text,
@@ -34,7 +34,7 @@ pub struct ConfigFault {
 }
 
 /// Why no configuration was made.
-#[derive(Debug, Drop)]
+#[derive(Drop)]
 pub enum ConfigError {
     Fault(ConfigFault),
     NoMemory,

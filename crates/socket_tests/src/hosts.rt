@@ -98,12 +98,3 @@ fn a_host_has_so_many_ports(rt: HostRuntime) -> Result<(), Fail> {
     assert!(rt; none.local().is_none());
     Ok(())
 }
-
-#[test]
-fn errors_tell_their_number(rt: HostRuntime) -> Result<(), Fail> {
-    let refused = format!(in rt.alloc(); "{}", UdpError::Errno(Errno::Emsgsize))?;
-    assert_eq!(rt; refused.as_str(), "error 90");
-    let wants = format!(in rt.alloc(); "{}", UdpError::NoMemory)?;
-    assert_eq!(rt; wants.as_str(), "out of memory");
-    Ok(())
-}

@@ -8,7 +8,7 @@ use std::alloc::{AllocError, AllocFailed};
 
 /// The kinds of fault. Where a token of a line can't stand, the first such one is `Syntax` or
 /// `Unsupported`; where each can, the first that applies of the last four is told.
-#[derive(Clone, Copy, Debug)]
+#[derive(Clone, Copy)]
 pub enum FaultKind {
     /// The text isn't UTF-8.
     NotUtf8,
@@ -27,14 +27,14 @@ pub enum FaultKind {
 }
 
 /// A fault, with the line (from 1) up to which the text is no accepted text.
-#[derive(Clone, Copy, Debug)]
+#[derive(Clone, Copy)]
 pub struct YamlFault {
     pub line: usize,
     pub kind: FaultKind,
 }
 
 /// Why no tree was made.
-#[derive(Clone, Copy, Debug)]
+#[derive(Clone, Copy)]
 pub enum TreeError {
     Fault(YamlFault),
     NoMemory,

@@ -12,7 +12,7 @@ loop-at-preserved c =
     let count : ℕ → ℕ = λ k. 65536 - k in
     elim c.if-from-past.branch [
       | then-from-past w ↦
-          let passed = first_free_port_passed bound c.loop-at.at_index past _ here (sym c.from.ensures ∙ w.if-from-past.true) (omega arith) in
+          let passed = first_free_port_passed bound c.loop-at.at-index past _ here (sym c.from.ensures ∙ w.if-from-past.true) (omega arith) in
           record {
             first_free = ap (λ k. first_free_port bound k (count k)) w.past-is ∙ passed ∙ c.loop-at.invariant.first_free;
             no_less = omega arith;
@@ -26,7 +26,7 @@ loop-at-preserved c =
             within = omega arith;
             free = λ same.
                 let before = sym w.past-is ∙ same in
-                has_port_not_so_far bound c.loop-at.at_index c.args.port _ here (c.loop-at.invariant.free before)
+                has_port_not_so_far bound c.loop-at.at-index c.args.port _ here (c.loop-at.invariant.free before)
                 (λ e. w.if-from-past.false (c.from.ensures ∙ e ∙ sym before));
           }
     ]

@@ -7,5 +7,5 @@ invariant-loop-at l = record {
   first_free : first_free_port l.bound l.past (65536 - l.past) ≡ first_free_port l.bound l.port (65536 - l.port);
   no_less : l.port ≤ l.past;
   within : l.past ≤ 65536;
-  free : l.past ≡ l.port → has_port (take l.at_index l.bound) l.port ≡ false;
+  free : l.past ≡ l.port → has_port (take l.at-index l.bound) l.port ≡ false;
 }
