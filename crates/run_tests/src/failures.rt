@@ -1,10 +1,10 @@
 //! Runs in which calls of the outside fail, or move one byte each.
 
 use crate::inputs::{source, text, words};
-use memory_outside::MemSink;
+use memory_outside::{MemSink, MemSource};
 use run_outside::Sink;
 use shadow_top::{OpenGate, shadow};
-use std::process::Abort;
+use std::alloc::Global;
 use std::test::Fail;
 use std::thread::Threads;
 
@@ -95,71 +95,108 @@ const THERE: [(usize, usize, usize); 23] = [
 /// So many more calls than are made.
 const NEVER: u64 = 99;
 
+/// A source whose call with this number fails.
+fn failing_source(alloc: Global, read: u64) -> Result<MemSource, Fail> {
+    let mut source = source(alloc, TEXT)?;
+    source.fail_at(read)?;
+    Ok(source)
+}
+
+/// A sink whose call with this number fails. A directory that is there doesn't count.
+fn failing_sink(alloc: Global, write: u64, is_there: bool) -> Result<MemSink, Fail> {
+    let mut sink = MemSink::new(alloc);
+    let begun = is_there && sink.begin("shadow.data")?;
+    sink.fail_at(write.saturating_add(u64::from(begun)))?;
+    Ok(sink)
+}
+
 /// The run with a call of the source and one of the sink that fail, over a directory that is there or isn't.
 fn faulty(
-    rt: &(impl Abort + Threads + Sync + AllocGlobal),
+    rt: &(impl Threads + Sync + AllocGlobal),
     read: u64,
     write: u64,
     is_there: bool,
 ) -> Result<(u8, MemSink), Fail> {
     let alloc = rt.alloc();
-    let mut source = source(alloc, TEXT)?;
-    source.fail_at(read)?;
-    let mut sink = MemSink::new(alloc);
-    let mut write = write;
-    if is_there {
-        assert!(rt; sink.begin("shadow.data")?);
-        write = write.saturating_add(1);
-    }
-    sink.fail_at(write)?;
-    let status = shadow(rt, &words(alloc)?, 1, &mut source, &mut sink, &OpenGate);
+    let words = words(alloc)?;
+    let mut source = failing_source(alloc, read)?;
+    let mut sink = failing_sink(alloc, write, is_there)?;
+    let status = shadow(rt, &words, 1, &mut source, &mut sink, &OpenGate);
     Ok((status, sink))
 }
 
-/// All is there, and nothing else.
-fn is_whole(rt: &impl Abort, sink: &MemSink) {
-    assert_eq!(rt; sink.err(), ERR.as_bytes());
-    for (name, content) in FILES {
-        assert_eq!(rt; text(sink, name), content, "{name}");
-    }
-    assert_eq!(rt; sink.file_count(), FILES.len());
-    assert_eq!(rt; sink.out().len(), 0);
+/// Whether a line was told and no file was written, over a directory that is there or isn't.
+fn has_told(sink: &MemSink, line: &str, is_there: bool) -> bool {
+    sink.err() == line.as_bytes()
+        && sink.has_directory("shadow.data") == is_there
+        && sink.file_count() == 0
+}
+
+/// The status of such a run that tells a line and writes no file; none, where another line is told or a file is written.
+fn told(
+    rt: &(impl Threads + Sync + AllocGlobal),
+    read: u64,
+    write: u64,
+    is_there: bool,
+    line: &str,
+) -> Result<Option<u8>, Fail> {
+    let (status, sink) = faulty(rt, read, write, is_there)?;
+    Ok(has_told(&sink, line, is_there).then_some(status))
+}
+
+/// Of a run in which this call of the source fails: whether its line is told, and what follows where the line fails too.
+fn tells_read(
+    rt: &(impl Threads + Sync + AllocGlobal),
+    file: &str,
+    read: u64,
+    is_there: bool,
+) -> Result<bool, Fail> {
+    let line = format!(in rt.alloc(); "shadow: {file}: read failed\n")?;
+    let with_line = told(rt, read, NEVER, is_there, line.as_str())?;
+    let without = told(rt, read, 1, is_there, "")?;
+    Ok((with_line, without) == (Some(3), Some(4)))
 }
 
 #[test]
 fn tells_each_read_that_fails(rt: HostRuntime) -> Result<(), Fail> {
     for is_there in [false, true] {
         for (file, read) in READS.iter().zip(1..) {
-            let (status, sink) = faulty(&rt, read, NEVER, is_there)?;
-            let line = format!(in rt.alloc(); "shadow: {file}: read failed\n")?;
-            assert_eq!(rt; status, 3, "read {read}");
-            assert_eq!(rt; sink.err(), line.as_bytes());
-            assert_eq!(rt; sink.has_directory("shadow.data"), is_there);
-            assert_eq!(rt; sink.file_count(), 0);
-            // The line fails too.
-            let (status, sink) = faulty(&rt, read, 1, is_there)?;
-            assert_eq!(rt; status, 4, "read {read} and the line");
-            assert_eq!(rt; sink.err().len(), 0);
+            assert!(rt; tells_read(&rt, file, read, is_there)?, "read {read}");
         }
-    }
-    // The directory that is there, and the line that tells it; each of these calls fails in turn.
-    let (status, sink) = faulty(&rt, NEVER, 3, true)?;
-    assert_eq!(rt; status, 2);
-    assert_eq!(rt; sink.err(), b"shadow: shadow.data: exists\n".as_slice());
-    for write in 1..3 {
-        let (status, sink) = faulty(&rt, NEVER, write, true)?;
-        assert_eq!(rt; status, 4, "write {write} over a directory");
-        assert_eq!(rt; sink.err().len(), 0);
     }
     Ok(())
 }
 
+/// The directory that is there, and the line that tells it; each of these calls fails in turn.
+#[test]
+fn tells_a_directory_that_is_there(rt: HostRuntime) -> Result<(), Fail> {
+    let statuses = [
+        told(&rt, NEVER, 1, true, "")?,
+        told(&rt, NEVER, 2, true, "")?,
+        told(&rt, NEVER, 3, true, "shadow: shadow.data: exists\n")?,
+    ];
+    assert_eq!(rt; statuses, [Some(4), Some(4), Some(2)]);
+    Ok(())
+}
+
 /// Each place has a front of what it would hold.
-fn is_front(rt: &impl Abort, sink: &MemSink) {
-    assert!(rt; ERR.as_bytes().starts_with(sink.err()));
+fn is_front(sink: &MemSink) -> bool {
     for (name, content) in FILES {
-        assert!(rt; content.starts_with(text(sink, name)), "{name}");
+        if !content.starts_with(text(sink, name)) {
+            return false;
+        }
     }
+    ERR.as_bytes().starts_with(sink.err())
+}
+
+/// All is there, and nothing else.
+fn is_whole(sink: &MemSink) -> bool {
+    for (name, content) in FILES {
+        if text(sink, name) != content {
+            return false;
+        }
+    }
+    sink.err() == ERR.as_bytes() && sink.out().is_empty() && sink.file_count() == FILES.len()
 }
 
 /// How many processes have written to their standard output.
@@ -173,49 +210,59 @@ fn outputs(sink: &MemSink) -> usize {
     count
 }
 
+/// Whether no call was made behind this one, and fronts are there: so many files, outputs and lines of the log.
+fn is_left(sink: &MemSink, write: u64, there: (usize, usize, usize)) -> bool {
+    let lines = text(sink, "packets.log").lines().count();
+    sink.call_count() == write
+        && sink.has_directory("shadow.data") == (write > 1)
+        && (sink.file_count(), outputs(sink), lines) == there
+        && is_front(sink)
+}
+
 #[test]
 fn leaves_fronts_where_a_write_fails(rt: HostRuntime) -> Result<(), Fail> {
     for (there, write) in THERE.iter().zip(1..) {
         let (status, sink) = faulty(&rt, NEVER, write, false)?;
-        assert_eq!(rt; status, 4, "write {write}");
-        assert_eq!(rt; sink.call_count(), write, "write {write}");
-        assert_eq!(rt;
-            sink.has_directory("shadow.data"),
-            write > 1,
+        assert!(rt;
+            status == 4 && is_left(&sink, write, *there),
             "write {write}"
         );
-        let lines = text(&sink, "packets.log").lines().count();
-        assert_eq!(rt;
-            (sink.file_count(), outputs(&sink), lines),
-            *there,
-            "write {write}"
-        );
-        is_front(&rt, &sink);
     }
-    // Behind these calls of the sink, and six of the source, no call is made.
-    let (status, sink) = faulty(&rt, 7, 24, false)?;
-    assert_eq!(rt; status, 1);
-    is_whole(&rt, &sink);
     Ok(())
 }
 
+/// Behind these calls of the sink, and six of the source, no call is made.
 #[test]
-fn shows_the_same_byte_by_byte(rt: HostRuntime) -> Result<(), Fail> {
+fn makes_no_call_behind_the_last(rt: HostRuntime) -> Result<(), Fail> {
+    let (status, sink) = faulty(&rt, 7, 24, false)?;
+    assert!(rt; status == 1 && is_whole(&sink));
+    Ok(())
+}
+
+/// The run over a source and a sink that move one byte each time.
+fn byte_by_byte(rt: &(impl Threads + Sync + AllocGlobal)) -> Result<(u8, MemSink), Fail> {
     let alloc = rt.alloc();
+    let words = words(alloc)?;
     let mut source = source(alloc, TEXT)?;
     source.short(1);
     let mut sink = MemSink::new(alloc);
     sink.short(1);
-    let status = shadow(&rt, &words(alloc)?, 1, &mut source, &mut sink, &OpenGate);
-    assert_eq!(rt; status, 1);
-    is_whole(&rt, &sink);
-    // A command line without the program's name.
-    let mut sink = MemSink::new(alloc);
+    let status = shadow(rt, &words, 1, &mut source, &mut sink, &OpenGate);
+    Ok((status, sink))
+}
+
+#[test]
+fn shows_the_same_byte_by_byte(rt: HostRuntime) -> Result<(), Fail> {
+    let (status, sink) = byte_by_byte(&rt)?;
+    assert!(rt; status == 1 && is_whole(&sink));
+    Ok(())
+}
+
+#[test]
+fn refuses_a_command_line_without_the_programs_name(rt: HostRuntime) {
+    let mut source = MemSource::new(rt.alloc());
+    let mut sink = MemSink::new(rt.alloc());
     let status = shadow(&rt, &[], 1, &mut source, &mut sink, &OpenGate);
     assert_eq!(rt; status, 2);
-    assert_eq!(rt;
-        sink.err(),
-        b"shadow: usage: shadow [options] CONFIG\n".as_slice()
-    );
-    Ok(())
+    assert!(rt; has_told(&sink, "shadow: usage: shadow [options] CONFIG\n", false));
 }
