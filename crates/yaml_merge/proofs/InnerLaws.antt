@@ -1,5 +1,5 @@
 -- What is seen of an owned node is what it says.
-use Rattle.std.proofs.Common.{◌≡◌, ℕ, false, List, [], ◌∷◌, ◌++◌, Some, None, refl, sym, ap, ◌∙◌, append_assoc}
+use Rattle.std.proofs.Common.{◌≡◌, ℕ, false, List, [], ◌∷◌, ◌++◌, Some, None, refl, sym, ap, ◌∙◌, append_assoc, append-nil}
 use Rattle.std.specs.Option.{option_map}
 use Rattle.yaml_tree.specs.Said.{Said}
 use Rattle.yaml_tree.specs.Said.Said.{sequence, mapping, with_item, with_pair}
@@ -29,10 +29,6 @@ text_in_items (x ∷ xs) before h = text_in_items xs (with_item before x) refl
 pairs_in_items : (xs : List Said) (before : Said) → pairs_in before ≡ None → pairs_in (with_items before xs) ≡ None
 pairs_in_items [] before h = h
 pairs_in_items (x ∷ xs) before h = pairs_in_items xs (with_item before x) refl
-
-append-nil : {A : Type 0} (xs : List A) → xs ++ [] ≡ xs
-append-nil [] = refl
-append-nil (x ∷ xs) = ap (λ t. x ∷ t) (append-nil xs)
 
 items_in_items : (xs : List Said) (before : Said) (front : List Said) → items_in before ≡ Some front → items_in (with_items before xs) ≡ Some (front ++ xs)
 items_in_items [] before front h = h ∙ ap Some (sym (append-nil front))

@@ -1,5 +1,4 @@
 pub mod InnerLaws
-pub mod SaidAtLaws
-pub mod MergingLaws
 pub mod HeldLaws
+pub mod MergingLaws
 pub mod MergeLaws

@@ -1,174 +1,99 @@
--- What is found of a node is what it says.
-use Rattle.std.proofs.Common.{◌≡◌, ℕ, ◌+◌, ◌-◌, Bool, true, false, ◌||◌, cond, List, [], ◌∷◌, ◌++◌, Some, None, Result, Ok, Err, drop, map, length, ◌<◌, get_or, add-one, drop-cons, refl, sym, ap, ◌∙◌, append_assoc, ◌==◌}
+-- What is put and what is left, row by row.
+use Rattle.std.proofs.Common.{◌≡◌, ℕ, ◌+◌, ◌≤◌, Bool, true, false, not, ◌&&◌, ◌||◌, cond, List, [], ◌∷◌, ◌++◌, Some, is_some, Result, Ok, Err, drop, length, ◌<◌, get_or, refl, sym, ap, subst, ◌∙◌, append_assoc, ◌==◌}
 use Rattle.std.specs.Cmp.Lexicographic.{pointwise}
+use Rattle.std.specs.Map.{lookup}
 use Rattle.std.specs.Result.{IfOk}
+use Rattle.std.proofs.lemmas.Bool.{false≢true}
+use Rattle.std.proofs.lemmas.List.{drop_more, drop_all}
 use Rattle.sim_base.specs.Refusals.{◌>>=◌}
 use Rattle.yaml_tree.specs.Said.{Said}
-use Rattle.yaml_tree.specs.Said.Said.{null, text, sequence, mapping, with_item, with_pair}
-use Rattle.yaml_tree.specs.Holds.{is_mapping}
+use Rattle.yaml_tree.specs.Said.Said.{sequence, with_item, with_pair}
+use Rattle.yaml_tree.specs.Holds.{HoldsSaid}
+use Rattle.yaml_tree.specs.Entries.{has_key}
 use Rattle.yaml_tree.specs.declared.entries.Child.{Child}
 use Rattle.yaml_tree.specs.declared.node.Node.{Node}
-use Rattle.yaml_merge.specs.inside.SaidAt.{valid_text, with_nodes, with_entries, node_at, said_at, is_mapping_value, may_merge_value}
+use Rattle.yaml_merge.specs.inside.Held.{HoldsPlain, valid_text, keys_in, is_mapping_at}
 use Rattle.yaml_merge.specs.inside.Rows.{with_items, with_pairs}
 use Rattle.yaml_merge.specs.Sources.{sources}
-use Rattle.yaml_merge.specs.Merge.{may_merge, has, keys_of, new_pairs, is_merge_key, put_value, fault_below, below, item_count, item_place, with_merged, merged_rows, merged}
-use Rattle.yaml_merge.specs.inside.Merging.{IsFault, IsBelow, Fails, Gives, items_left, pairs_left, with_key, taken_of}
+use Rattle.yaml_merge.specs.Merge.{may_merge, has, keys_of, new_pairs, is_merge_key, put_value, fault_below, below, item_place, with_merged, merged}
+use Rattle.yaml_merge.specs.inside.Merging.{IsFault, IsBelow, Fails, LeadsTo, ItemsMergeTo, EntriesMergeTo, pairs_put, with_key}
 use Rattle.yaml_merge.specs.declared.plain.Pair.{Pair}
 use Rattle.yaml_merge.specs.declared.fault.MergeFault.{MergeFault}
 use Rattle.yaml_merge.specs.declared.fault.MergeError.{MergeError}
 use Rattle.yaml_merge.specs.declared.fault.MergeError.TheVariants as errors
-use Rattle.yaml_tree.proofs.KnownLaws.{same_bytes}
-use Rattle.yaml_merge.proofs.SaidAtLaws.{said_at_found, said_at_none, is_mapping_value_said, may_merge_value_said, keys_of_entries}
-
-pub mapping_found : (depth : ℕ) (nodes : List Node) (n : ℕ) (x : Node) → Some x ≡ node_at depth nodes n → is_mapping (said_at depth nodes n) ≡ is_mapping_value x.value
-mapping_found depth nodes n x e = ap is_mapping (said_at_found depth nodes n x (sym e)) ∙ is_mapping_value_said (said_at (depth - 1) nodes) x.line x.value
-
-pub mapping_lost : (depth : ℕ) (nodes : List Node) (n : ℕ) → None ≡ node_at depth nodes n → is_mapping (said_at depth nodes n) ≡ false
-mapping_lost depth nodes n e = ap is_mapping (said_at_none depth nodes n (sym e))
-
-pub merge_found : (depth : ℕ) (nodes : List Node) (n : ℕ) (x : Node) → Some x ≡ node_at depth nodes n → may_merge (said_at depth nodes n) ≡ may_merge_value (said_at (depth - 1) nodes) x.value
-merge_found depth nodes n x e = ap may_merge (said_at_found depth nodes n x (sym e)) ∙ may_merge_value_said (said_at (depth - 1) nodes) x.line x.value
-
-pub merge_lost : (depth : ℕ) (nodes : List Node) (n : ℕ) → None ≡ node_at depth nodes n → may_merge (said_at depth nodes n) ≡ false
-merge_lost depth nodes n e = ap may_merge (said_at_none depth nodes n (sym e))
+use Rattle.yaml_merge.proofs.HeldLaws.{is_mapping_held}
 
 -- ---- keys
 
-or_false : (b : Bool) → b ≡ (b || false)
-or_false true = refl
-or_false false = refl
-
-append-nil : {A : Type 0} (xs : List A) → xs ++ [] ≡ xs
-append-nil [] = refl
-append-nil (x ∷ xs) = ap (λ t. x ∷ t) (append-nil xs)
-
-has_push : (key k : List ℕ) (ks : List (List ℕ)) → has key (ks ++ k ∷ []) ≡ (has key ks || pointwise ◌==◌ key k)
-has_push key k [] = sym (or_false (pointwise ◌==◌ key k))
-has_push key k (x ∷ ks) = ap (λ t. pointwise ◌==◌ key x || t) (has_push key k ks) ∙ or_assoc (pointwise ◌==◌ key x) (has key ks) (pointwise ◌==◌ key k)
+-- a key is among those of a mapping and those that were taken
+pub has_either : (key : List ℕ) (es : List (List ℕ × Child)) (taken : List (List ℕ)) → has key (keys_in es ++ taken) ≡ (has_key key es || has key taken)
+has_either key [] taken = refl
+has_either key (e ∷ es) taken = by (pointwise ◌==◌ key e.0) (has_either key es taken)
   where
-    or_assoc : (a b c : Bool) → (a || (b || c)) ≡ ((a || b) || c)
-    or_assoc true b c = refl
-    or_assoc false b c = refl
+    by : (t : Bool) → has key (keys_in es ++ taken) ≡ (has_key key es || has key taken) → (t || has key (keys_in es ++ taken)) ≡ (is_some (cond t (Some e.1) (lookup (pointwise ◌==◌ key) es)) || has key taken)
+    by true h = refl
+    by false h = h
 
-has_with_key : (key k : List ℕ) (ks : List (List ℕ)) → has key (with_key ks k) ≡ (has key ks || pointwise ◌==◌ key k)
-has_with_key key k ks = by (has k ks) refl
+-- a key that the mapping doesn't have is taken behind its keys
+pub with_key_behind : (key : List ℕ) (own taken : List (List ℕ)) → has key (own ++ taken) ≡ has key taken → own ++ with_key taken key ≡ with_key (own ++ taken) key
+with_key_behind key own taken e = by (has key taken) ∙ sym (ap (λ t. cond t (own ++ taken) ((own ++ taken) ++ key ∷ [])) e)
   where
-    found : has k ks ≡ true → (c : Bool) → pointwise ◌==◌ key k ≡ c → has key ks ≡ (has key ks || c)
-    found e true q = let h : has key ks ≡ true = ap (λ t. has t ks) (same_bytes key k q) ∙ e in h ∙ sym (ap (λ t. t || true) h)
-    found e false q = or_false (has key ks)
+    by : (t : Bool) → own ++ cond t taken (taken ++ key ∷ []) ≡ cond t (own ++ taken) ((own ++ taken) ++ key ∷ [])
+    by true = refl
+    by false = sym (append_assoc own taken (key ∷ []))
 
-    by : (b : Bool) → has k ks ≡ b → has key (cond b ks (ks ++ k ∷ [])) ≡ (has key ks || pointwise ◌==◌ key k)
-    by true e = found e (pointwise ◌==◌ key k) refl
-    by false e = has_push key k ks
-
--- a key is among those that are taken where it is among the keys
-pub has_taken : (key : List ℕ) (es : List (List ℕ × Child)) (ks all : List (List ℕ)) → ((k : List ℕ) → has k ks ≡ has k all) → has key (taken_of ks es) ≡ has key (all ++ map (λ e. valid_text e.0) es)
-has_taken key [] ks all h = h key ∙ ap (has key) (sym (append-nil all))
-has_taken key (e ∷ es) ks all h =
-    let k = valid_text e.0 in
-    has_taken key es (with_key ks k) (all ++ k ∷ []) (λ x. has_with_key x k ks ∙ (ap (λ t. t || pointwise ◌==◌ x k) (h x) ∙ sym (has_push x k all)))
-    ∙ ap (has key) (append_assoc all (k ∷ []) (map (λ e. valid_text e.0) es))
-
--- new pairs depend on which keys are taken alone
-pub new_pairs_same : (ps : List Pair) (a b : List (List ℕ)) → ((k : List ℕ) → has k a ≡ has k b) → new_pairs a ps ≡ new_pairs b ps
-new_pairs_same [] a b h = refl
-new_pairs_same (p ∷ ps) a b h =
-    ap (λ t. cond t (new_pairs a ps) (p ∷ new_pairs (a ++ p.key ∷ []) ps)) (h p.key)
-    ∙ (λ j. cond (has p.key b) (new_pairs_same ps a b h j)
-    (p ∷ new_pairs_same ps (a ++ p.key ∷ []) (b ++ p.key ∷ []) (λ k. has_push k p.key a ∙ (ap (λ t. t || pointwise ◌==◌ k p.key) (h k) ∙ sym (has_push k p.key b))) j))
-
-pub new_pairs_taken : (at : ℕ → Said) (line : ℕ) (es : List (List ℕ × Child)) (ps : List Pair) → new_pairs (taken_of [] es) ps ≡ new_pairs (keys_of (with_entries at (mapping line) es)) ps
-new_pairs_taken at line es ps = new_pairs_same ps (taken_of [] es) (keys_of (with_entries at (mapping line) es)) (λ k. has_taken k es [] [] (λ _. refl) ∙ ap (has k) (sym (keys_of_entries at es (mapping line))))
+-- a new pair behind the pairs so far
+pub spread_more : (taken keys : List (List ℕ)) (key : List ℕ) (p : Pair) (ps all new left whole : List Pair) → new ≡ all ++ p ∷ [] → left ≡ p ∷ ps → key ≡ p.key → true ≡ not (has key taken) → keys ≡ with_key taken key
+    → all ++ new_pairs taken left ≡ whole → new ++ new_pairs keys ps ≡ whole
+spread_more taken keys key p ps all new left whole pushed at is fresh grown h =
+    (λ j. pushed j ++ new_pairs (grown j) ps)
+    ∙ (by (has key taken) fresh
+    ∙ (ap (λ k. all ++ cond (has k taken) (new_pairs taken ps) (p ∷ new_pairs (taken ++ k ∷ []) ps)) is ∙ (ap (λ qs. all ++ new_pairs taken qs) (sym at) ∙ h)))
+  where
+    by : (t : Bool) → true ≡ not t → (all ++ p ∷ []) ++ new_pairs (cond t taken (taken ++ key ∷ [])) ps ≡ all ++ cond t (new_pairs taken ps) (p ∷ new_pairs (taken ++ key ∷ []) ps)
+    by true e = absurd (false≢true (sym e))
+    by false e = append_assoc all (p ∷ []) (new_pairs (taken ++ key ∷ []) ps)
 
 -- ---- rows
 
-pub with_pairs_append : (ps qs : List Pair) (before : Said) → with_pairs before (ps ++ qs) ≡ with_pairs (with_pairs before ps) qs
+with_pairs_append : (ps qs : List Pair) (before : Said) → with_pairs before (ps ++ qs) ≡ with_pairs (with_pairs before ps) qs
 with_pairs_append [] qs before = refl
 with_pairs_append (p ∷ ps) qs before = with_pairs_append ps qs (with_pair before p.line p.key p.value)
 
-pub with_items_push : (xs : List Said) (x : Said) (before : Said) → with_items before (xs ++ x ∷ []) ≡ with_item (with_items before xs) x
+with_items_push : (xs : List Said) (x : Said) (before : Said) → with_items before (xs ++ x ∷ []) ≡ with_item (with_items before xs) x
 with_items_push [] x before = refl
 with_items_push (y ∷ xs) x before = with_items_push xs x (with_item before y)
 
-item_count_push : (b x : Said) → item_count (with_item b x) ≡ item_count b + 1
-item_count_push b x = refl
-
--- ---- the definition, row by row
-
-bind_ok : (r : Result Said MergeFault) → r ≡ (r >>= λ m. Ok m)
-bind_ok (Ok x) = refl
-bind_ok (Err e) = refl
-
-item_step : (r s : Result Said MergeFault) (f : Said → Result Said MergeFault) → ((r >>= λ b. s >>= λ v. Ok (with_item b v)) >>= f) ≡ (r >>= λ b. s >>= λ v. f (with_item b v))
-item_step (Ok b) (Ok v) f = refl
-item_step (Ok b) (Err e) f = refl
-item_step (Err e) s f = refl
-
-pair_step : (r : Result Said MergeFault) (g f : Said → Result Said MergeFault) → ((r >>= g) >>= f) ≡ (r >>= λ b. g b >>= f)
-pair_step (Ok b) g f = refl
-pair_step (Err e) g f = refl
-
--- what is left of the items
-items_are : (at : ℕ → Said) (ns : List ℕ) (whole b : Said) → merged_rows whole (with_nodes at b ns) ≡ (merged_rows whole b >>= λ m. items_left at m (item_count b) ns)
-unfolding merged
-items_are at [] whole b = bind_ok (merged_rows whole b)
-items_are at (n ∷ ns) whole b =
-    items_are at ns whole (with_item b (at n))
-    ∙ item_step (merged_rows whole b) (below (item_place (item_count b)) (at n) (merged_rows (at n) (at n))) (λ m. items_left at m (item_count b + 1) ns)
-
-entries_are : (at : ℕ → Said) (es : List (List ℕ × Child)) (whole b : Said) → merged_rows whole (with_entries at b es) ≡ (merged_rows whole b >>= λ m. pairs_left whole at m es)
-unfolding merged
-entries_are at [] whole b = bind_ok (merged_rows whole b)
-entries_are at (e ∷ es) whole b =
-    entries_are at es whole (with_pair b e.1.line (valid_text e.0) (at e.1.node))
-    ∙ pair_step (merged_rows whole b) (λ m. with_merged whole m e.1.line (valid_text e.0) (at e.1.node) (merged_rows (at e.1.node) (at e.1.node))) (λ m. pairs_left whole at m es)
-
-pub merged_nodes : (at : ℕ → Said) (line : ℕ) (ns : List ℕ) → merged (with_nodes at (sequence line) ns) ≡ items_left at (sequence line) 0 ns
-unfolding merged
-merged_nodes at line ns = items_are at ns (with_nodes at (sequence line) ns) (sequence line)
-
-pub merged_entries : (at : ℕ → Said) (line : ℕ) (es : List (List ℕ × Child)) → merged (with_entries at (mapping line) es) ≡ pairs_left (with_entries at (mapping line) es) at (mapping line) es
-unfolding merged
-merged_entries at line es = entries_are at es (with_entries at (mapping line) es) (mapping line)
-
-pub merged_null : (line : ℕ) → merged (null line) ≡ Ok (null line)
-unfolding merged
-merged_null line = refl
-
-pub merged_text : (line : ℕ) (bytes : List ℕ) → merged (text line bytes) ≡ Ok (text line bytes)
-unfolding merged
-merged_text line bytes = refl
-
 -- ---- what is put
 
--- the pairs that are put in place of a merge key
-pub put_merged : (at : ℕ → Said) (first line : ℕ) (es : List (List ℕ × Child)) (ps : List Pair) (key : List ℕ) (v : Said) → is_merge_key key ≡ true
-    → with_pairs (mapping first) (ps ++ new_pairs (taken_of [] es) (sources v)) ≡ put_value (with_entries at (mapping first) es) (with_pairs (mapping first) ps) line key v
-put_merged at first line es ps key v e =
-    with_pairs_append ps (new_pairs (taken_of [] es) (sources v)) (mapping first)
-    ∙ ap (with_pairs (with_pairs (mapping first) ps)) (new_pairs_taken at first es (sources v))
-    ∙ sym (ap (λ t. cond t (with_pairs (with_pairs (mapping first) ps) (new_pairs (keys_of (with_entries at (mapping first) es)) (sources v))) (with_pair (with_pairs (mapping first) ps) line key v)) e)
+pub put_is : (keys : List (List ℕ)) (line : ℕ) (key : List ℕ) (v : Said) (merges : Bool) → is_merge_key key ≡ merges → cond merges (new_pairs keys (sources v)) ((record { line = line; key = key; value = v }) ∷ []) ≡ pairs_put keys line key v
+put_is keys line key v merges e = sym (ap (λ t. cond t (new_pairs keys (sources v)) ((record { line = line; key = key; value = v }) ∷ [])) e)
 
--- another pair is put as it is
-pub put_pair : (at : ℕ → Said) (first line : ℕ) (es : List (List ℕ × Child)) (ps : List Pair) (key : List ℕ) (v : Said) → is_merge_key key ≡ false
-    → with_pairs (mapping first) (ps ++ (record { line = line; key = key; value = v }) ∷ []) ≡ put_value (with_entries at (mapping first) es) (with_pairs (mapping first) ps) line key v
-put_pair at first line es ps key v e =
-    with_pairs_append ps ((record { line = line; key = key; value = v }) ∷ []) (mapping first)
-    ∙ sym (ap (λ t. cond t (with_pairs (with_pairs (mapping first) ps) (new_pairs (keys_of (with_entries at (mapping first) es)) (sources v))) (with_pair (with_pairs (mapping first) ps) line key v)) e)
+-- what is put stands behind the rows before
+put_behind : (all before : Said) (ps : List Pair) (line : ℕ) (key : List ℕ) (v : Said) → with_pairs before (ps ++ pairs_put (keys_of all) line key v) ≡ put_value all (with_pairs before ps) line key v
+put_behind all before ps line key v = with_pairs_append ps (pairs_put (keys_of all) line key v) before ∙ by (is_merge_key key)
+  where
+    by : (t : Bool) → with_pairs (with_pairs before ps) (cond t (new_pairs (keys_of all) (sources v)) ((record { line = line; key = key; value = v }) ∷ []))
+        ≡ cond t (with_pairs (with_pairs before ps) (new_pairs (keys_of all) (sources v))) (with_pair (with_pairs before ps) line key v)
+    by true = refl
+    by false = refl
 
 -- ---- answers
 
 -- an error that is this fault is that of a definition that gives it
-pub fault_fails : {A : Type 0} (e : MergeError) (f : MergeFault) (d : Result A MergeFault) → IsFault e f → d ≡ Err f → Fails e d
+fault_fails : {A : Type 0} (e : MergeError) (f : MergeFault) (d : Result A MergeFault) → IsFault e f → d ≡ Err f → Fails e d
 fault_fails (errors.Fault g) f d h r = r ∙ ap Err (sym h)
 fault_fails errors.NoMemory f d h r = tt
 
-pub below_fails : {A : Type 0} (e b : MergeError) (place : List ℕ) (value : Said) (d : Result A MergeFault) → IsBelow (fault_below place (is_mapping value)) e b → Fails e d → Fails b (below place value d)
-below_fails (errors.Fault g) b place value d h r = fault_fails b (fault_below place (is_mapping value) g) (below place value d) h (ap (below place value) r)
-below_fails {A} errors.NoMemory b place value d h r = rw h tt
+-- an error below a node that holds this
+pub below_fails : (nodes : List Node) (n : ℕ) (e b : MergeError) (place : List ℕ) (keyed : Bool) (value : Said) → keyed ≡ is_mapping_at nodes n → HoldsSaid nodes value n
+    → IsBelow (fault_below place keyed) e b → Fails e (merged value) → Fails b (below place value (merged value))
+below_fails nodes n (errors.Fault g) b place keyed value k held h r =
+    fault_fails b (fault_below place keyed g) (below place value (merged value)) h (ap (below place value) r ∙ ap (λ t. Err (fault_below place t g)) (sym (k ∙ is_mapping_held nodes value n held)))
+below_fails nodes n errors.NoMemory b place keyed value k held h r = rw h tt
 
 -- an error of the first step is that of all steps
-pub first_fails : {A B : Type 0} (e : MergeError) (d : Result A MergeFault) (next : A → Result B MergeFault) → Fails e d → Fails e (d >>= next)
+first_fails : {A B : Type 0} (e : MergeError) (d : Result A MergeFault) (next : A → Result B MergeFault) → Fails e d → Fails e (d >>= next)
 first_fails (errors.Fault g) d next h = ap (λ x. x >>= next) h
 first_fails errors.NoMemory d next h = tt
 
@@ -176,23 +101,82 @@ pub if_ok_more : {A E : Type 0} (r : Result A E) (P Q : A → Type 0) → IfOk r
 if_ok_more (Ok x) P Q h f = f x h
 if_ok_more (Err e) P Q h f = h
 
-pub gives_same : {A B : Type 0} (view : A → B) (r : Result A MergeError) (d x : Result B MergeFault) → Gives view r d → x ≡ d → Gives view r x
-gives_same view (Ok y) d x h q = q ∙ h
-gives_same view (Err (errors.Fault f)) d x h q = q ∙ h
-gives_same view (Err errors.NoMemory) d x h q = tt
+-- ---- an entry
+
+entry_is : (all before : Said) (line : ℕ) (key : List ℕ) (value : Said) (read : Result Said MergeFault) (wrong : Bool) → (is_merge_key key && not (may_merge value)) ≡ wrong
+    → with_merged all before line key value read ≡ cond wrong (Err (record { line = line; path = key })) (below key value read >>= λ v. Ok (put_value all before line key v))
+entry_is all before line key value read wrong e =
+    let fault : MergeFault = record { line = line; path = key } in
+    ap (λ t. cond t (Err fault) (below key value read >>= λ v. Ok (put_value all before line key v))) e
+
+pub entry_wrong : (all before : Said) (line : ℕ) (key : List ℕ) (value : Said) (read : Result Said MergeFault) (e : MergeError) → (is_merge_key key && not (may_merge value)) ≡ true
+    → IsFault e (record { line = line; path = key }) → Fails e (with_merged all before line key value read)
+entry_wrong all before line key value read e wrong h = fault_fails e (record { line = line; path = key }) (with_merged all before line key value read) h (entry_is all before line key value read true wrong)
+
+pub entry_stops : (all before : Said) (line : ℕ) (key : List ℕ) (value : Said) (read : Result Said MergeFault) (e : MergeError) → (is_merge_key key && not (may_merge value)) ≡ false
+    → Fails e (below key value read) → Fails e (with_merged all before line key value read)
+entry_stops all before line key value read e right h =
+    subst (λ (r : Result Said MergeFault). Fails e r) (sym (entry_is all before line key value read false right)) (first_fails e (below key value read) (λ v. Ok (put_value all before line key v)) h)
+
+pub entry_put : (all before : Said) (line : ℕ) (key : List ℕ) (value : Said) (read : Result Said MergeFault) (keys : List (List ℕ)) (ps new : List Pair) (v : Said)
+    → (is_merge_key key && not (may_merge value)) ≡ false → keys_of all ≡ keys → below key value read ≡ Ok v → new ≡ ps ++ pairs_put keys line key v
+    → with_merged all (with_pairs before ps) line key value read ≡ Ok (with_pairs before new)
+entry_put all before line key value read keys ps new v right same is put =
+    entry_is all (with_pairs before ps) line key value read false right
+    ∙ (ap (λ r. r >>= λ x. Ok (put_value all (with_pairs before ps) line key x)) is
+    ∙ ap Ok (sym (ap (with_pairs before) (put ∙ ap (λ ks. ps ++ pairs_put ks line key v) (sym same)) ∙ put_behind all before ps line key v)))
+
+-- ---- what is left
+
+-- a first step that fails fails the whole
+follow_fails : (e : MergeError) (first whole : Result Said MergeFault) (rest : Said → Type 0) → Fails e first → LeadsTo first rest whole → Fails e whole
+follow_fails (errors.Fault f) first whole rest h l = subst (λ (r : Result Said MergeFault). LeadsTo r rest whole) h l
+follow_fails errors.NoMemory first whole rest h l = tt
+
+-- what is left from an item on
+from_item : (most : ℕ) (nodes : List Node) (before : Said) (ns : List ℕ) (i k m : ℕ) (whole : Result Said MergeFault) → i < length ns → m ≡ k
+    → ItemsMergeTo most nodes before k (drop i ns) whole → ItemsMergeTo most nodes before m (get_or ns i 0 ∷ drop (i + 1) ns) whole
+from_item most nodes before ns i k m whole lt same h =
+    subst (λ (c : ℕ). ItemsMergeTo most nodes before c (get_or ns i 0 ∷ drop (i + 1) ns) whole) (sym same) (subst (λ (xs : List ℕ). ItemsMergeTo most nodes before k xs whole) (drop_more ns i 0 lt) h)
+
+pub items_end : (most : ℕ) (nodes : List Node) (before : Said) (ns : List ℕ) (i k : ℕ) (whole : Result Said MergeFault) → length ns ≤ i → ItemsMergeTo most nodes before k (drop i ns) whole → whole ≡ Ok before
+items_end most nodes before ns i k whole le h = subst (λ (xs : List ℕ). ItemsMergeTo most nodes before k xs whole) (drop_all i ns le) h
 
 -- an item more, at a place of the numbers
-pub items_go_on : (at : ℕ → Said) (line : ℕ) (ns : List ℕ) (i k m : ℕ) (items new : List Said) (x : Said) (count : ℕ) (full : Result Said MergeFault)
-    → i < length ns → m ≡ k → new ≡ items ++ x ∷ [] → count ≡ k + 1
-    → items_left at (with_items (sequence line) items) k (drop i ns) ≡ full
-    → below (item_place m) (at (get_or ns i 0)) (merged (at (get_or ns i 0))) ≡ Ok x
-    → items_left at (with_items (sequence line) new) count (drop (i + 1) ns) ≡ full
-items_go_on at line ns i k m items new x count full lt same pushed counted h e =
+pub items_go_on : (most : ℕ) (nodes : List Node) (line : ℕ) (ns : List ℕ) (i k count : ℕ) (items new : List Said) (x : Said) (whole : Result Said MergeFault)
+    → i < length ns → new ≡ items ++ x ∷ [] → count ≡ k + 1 → ((v : Said) → HoldsPlain most nodes (get_or ns i 0) v → merged v ≡ Ok x)
+    → ItemsMergeTo most nodes (with_items (sequence line) items) k (drop i ns) whole → ItemsMergeTo most nodes (with_items (sequence line) new) count (drop (i + 1) ns) whole
+items_go_on most nodes line ns i k count items new x whole lt pushed counted one h =
     let before = with_items (sequence line) items in
-    let dropped : drop i ns ≡ get_or ns i 0 ∷ drop (i + 1) ns = rw (add-one, drop-cons ns i 0) refl in
-    (λ j. items_left at (with_items (sequence line) (pushed j)) (counted j) (drop (i + 1) ns))
-    ∙ (ap (λ b. items_left at b (k + 1) (drop (i + 1) ns)) (with_items_push items x (sequence line))
-    ∙ (sym (ap (λ r. r >>= λ v. items_left at (with_item before v) (k + 1) (drop (i + 1) ns)) (ap (λ n. below (item_place n) (at (get_or ns i 0)) (merged (at (get_or ns i 0)))) (sym same) ∙ e))
-    ∙ (sym (ap (items_left at before k) dropped) ∙ h)))
+    let s = from_item most nodes before ns i k k whole lt refl h in
+    let grown : with_item before x ≡ with_items (sequence line) new = sym (ap (with_items (sequence line)) pushed ∙ with_items_push items x (sequence line)) in
+    subst (λ (c : ℕ). ItemsMergeTo most nodes (with_items (sequence line) new) c (drop (i + 1) ns) whole) (sym counted)
+    (subst (λ (b : Said). ItemsMergeTo most nodes b (k + 1) (drop (i + 1) ns) whole) grown
+    (subst (λ (r : Result Said MergeFault). LeadsTo (below (item_place k) s.0 r) (λ v. ItemsMergeTo most nodes (with_item before v) (k + 1) (drop (i + 1) ns) whole) whole) (one s.0 s.1) s.2))
 
-pub ruleset merging = (merged_null, merged_text)
+-- an item that can't be merged
+pub items_stop : (most : ℕ) (nodes : List Node) (before : Said) (ns : List ℕ) (i k m : ℕ) (keyed : Bool) (e b : MergeError) (whole : Result Said MergeFault)
+    → i < length ns → m ≡ k → keyed ≡ is_mapping_at nodes (get_or ns i 0) → IsBelow (fault_below (item_place m) keyed) e b
+    → ((v : Said) → HoldsPlain most nodes (get_or ns i 0) v → Fails e (merged v)) → ItemsMergeTo most nodes before k (drop i ns) whole → Fails b whole
+items_stop most nodes before ns i k m keyed e b whole lt same kind is one h =
+    let s = from_item most nodes before ns i k m whole lt same h in
+    follow_fails b (below (item_place m) s.0 (merged s.0)) whole (λ v. ItemsMergeTo most nodes (with_item before v) (m + 1) (drop (i + 1) ns) whole)
+    (below_fails nodes (get_or ns i 0) e b (item_place m) keyed s.0 kind s.1.held is (one s.0 s.1)) s.2
+
+-- an entry more
+pub entries_go_on : (most : ℕ) (nodes : List Node) (all before new : Said) (left es : List (List ℕ × Child)) (e : List ℕ × Child) (key : List ℕ) (whole : Result Said MergeFault)
+    → left ≡ e ∷ es → key ≡ valid_text e.0 → ((v : Said) → HoldsPlain most nodes e.1.node v → with_merged all before e.1.line key v (merged v) ≡ Ok new)
+    → EntriesMergeTo most nodes all before left whole → EntriesMergeTo most nodes all new es whole
+entries_go_on most nodes all before new left es e key whole at is one h =
+    let s = subst (λ (xs : List (List ℕ × Child)). EntriesMergeTo most nodes all before xs whole) at h in
+    subst (λ (r : Result Said MergeFault). LeadsTo r (λ b. EntriesMergeTo most nodes all b es whole) whole)
+    (ap (λ (k : List ℕ). with_merged all before e.1.line k s.0 (merged s.0)) (sym is) ∙ one s.0 s.1) s.2
+
+-- an entry that can't be merged
+pub entries_stop : (most : ℕ) (nodes : List Node) (all before : Said) (left es : List (List ℕ × Child)) (e : List ℕ × Child) (key : List ℕ) (error : MergeError) (whole : Result Said MergeFault)
+    → left ≡ e ∷ es → key ≡ valid_text e.0 → ((v : Said) → HoldsPlain most nodes e.1.node v → Fails error (with_merged all before e.1.line key v (merged v)))
+    → EntriesMergeTo most nodes all before left whole → Fails error whole
+entries_stop most nodes all before left es e key error whole at is one h =
+    let s = subst (λ (xs : List (List ℕ × Child)). EntriesMergeTo most nodes all before xs whole) at h in
+    follow_fails error (with_merged all before e.1.line (valid_text e.0) s.0 (merged s.0)) whole (λ b. EntriesMergeTo most nodes all b es whole)
+    (subst (λ (k : List ℕ). Fails error (with_merged all before e.1.line k s.0 (merged s.0))) is (one s.0 s.1)) s.2

@@ -1,8 +1,8 @@
--- how a tree of the code stands for one, and what each step of merging gives
+-- what nodes hold of a plain tree, and what each step of merging gives
 pub mod Falls
 pub mod Height
+pub mod Held
 pub mod Inner
 pub mod Merging
 pub mod Rows
-pub mod SaidAt
 pub mod SaidCode

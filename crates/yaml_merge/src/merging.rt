@@ -1,18 +1,17 @@
 //! Merging, node by node.
 
-ghost use Rattle.std.specs.Prelude.{◌≡◌, ◌+◌, ◌++◌, ◌∷◌, ℕ, List, [], Bool, Option, Some, None, Result, Ok, Err, IfOk, IfSome, ◌<◌, ◌≤◌, if◌then◌else◌, codes};
+ghost use Rattle.std.specs.Prelude.{◌≡◌, ◌++◌, ℕ, [], not, ◌&&◌, Result, IfOk, ◌≤◌, if◌then◌else◌, codes, slice_get};
 ghost use Rattle.std.specs.List.{list_all};
 ghost use Rattle.std.specs.Option.{option_copied};
 ghost use Rattle.yaml_tree.specs.Limits.{most_tree_levels};
 ghost use Rattle.yaml_tree.specs.Said.{Said, levels};
 ghost use Rattle.yaml_tree.specs.Said.Said.{sequence, mapping};
-ghost use Rattle.yaml_tree.specs.Holds.{is_mapping};
-ghost use Rattle.yaml_tree.specs.Trees.{Holds, nodes_of, root_of, node_count};
-ghost use Rattle.yaml_merge.specs.inside.Rows.{with_items, with_pairs};
-ghost use Rattle.yaml_merge.specs.inside.SaidAt.{valid_text, node_at, value_said, said_at, with_entries, is_mapping_value, may_merge_value};
+ghost use Rattle.yaml_tree.specs.Trees.{Holds, nodes_of};
+ghost use Rattle.yaml_merge.specs.inside.Held.{HoldsPlain, valid_text, keys_in, is_mapping_value, is_mapping_at, may_merge_value};
+ghost use Rattle.yaml_merge.specs.inside.Rows.{with_pairs};
 ghost use Rattle.yaml_merge.specs.Plainness.{IsPlain};
-ghost use Rattle.yaml_merge.specs.Merge.{is_merge_key, may_merge, below, fault_below, put_value, item_place, with_merged, merged, new_pairs, keys_of};
-ghost use Rattle.yaml_merge.specs.inside.Merging.{IsFault, IsBelow, Fails, Gives, items_left, pairs_left};
+ghost use Rattle.yaml_merge.specs.Merge.{is_merge_key, may_merge, fault_below, item_place, with_merged, merged, new_pairs, keys_of};
+ghost use Rattle.yaml_merge.specs.inside.Merging.{IsFault, IsBelow, Gives, ItemsMergeTo, EntriesMergeTo, ValueMergesTo, pairs_put};
 ghost use Rattle.yaml_merge.specs.declared.fault.MergeFault.{MergeFault};
 
 use crate::fault::{MergeError, MergeFault};
@@ -24,7 +23,7 @@ use std::alloc::Global;
 use yaml_tree::{Child, Entries, Node, Scalar, Tree, Value};
 
 /// Bytes as a text; those that aren't UTF-8 count as the empty text. No tree that was read has any.
-pub(crate) fn valid_text(bytes: &[u8]) -> &str
+fn valid_text(bytes: &[u8]) -> &str
     ensures { result.now ≡ valid_text bytes.now }
 {
     match std::str::from_utf8(bytes) {
@@ -39,15 +38,11 @@ fn text_of(alloc: Global, scalar: &Scalar) -> Result<Text, NoMemory>
     Text::from_str(alloc, valid_text(scalar.as_slice()))
 }
 
-/// The node of a number, if it has one, as far as some levels.
-fn find(tree: &Tree, number: u32, depth: usize) -> Option<&Node>
-    ensures node { option_copied result ≡ node_at depth (nodes_of tree.now) number }
-    ensures deep { IfSome result (λ node. 0 < depth) }
+/// The node of a number, if it has one.
+fn find(tree: &Tree, number: u32) -> Option<&Node>
+    ensures { option_copied result ≡ slice_get (nodes_of tree.now) number }
 {
-    if depth == 0 || number as usize >= tree.len() {
-        return None;
-    }
-    Some(tree.node(number))
+    tree.nodes().get(number as usize)
 }
 
 fn is_mapping_value(value: &Value) -> bool
@@ -56,42 +51,38 @@ fn is_mapping_value(value: &Value) -> bool
     matches!(value, Value::Mapping(_))
 }
 
-#[tactic(auto, using(crate::proofs::MergingLaws::mapping_found, crate::proofs::MergingLaws::mapping_lost))]
-fn is_mapping(tree: &Tree, number: u32, depth: usize) -> bool
-    ensures { result ≡ is_mapping (said_at depth (nodes_of tree.now) number) }
+fn is_mapping(tree: &Tree, number: u32) -> bool
+    ensures { result ≡ is_mapping_at (nodes_of tree.now) number }
 {
-    match find(tree, number, depth) {
+    match find(tree, number) {
         Some(node) => is_mapping_value(&node.value),
         None => false,
     }
 }
 
 /// Whether all of these nodes are mappings.
-fn are_mappings(tree: &Tree, numbers: &[u32], depth: usize) -> bool
-    ensures { result ≡ list_all (λ n. is_mapping (said_at depth (nodes_of tree.now) n)) numbers.now }
+fn are_mappings(tree: &Tree, numbers: &[u32]) -> bool
+    ensures { result ≡ list_all (is_mapping_at (nodes_of tree.now)) numbers.now }
 {
-    numbers
-        .iter()
-        .all(|number| is_mapping(tree, *number, depth))
+    numbers.iter().all(|number| is_mapping(tree, *number))
 }
 
-fn may_merge_value(tree: &Tree, value: &Value, depth: usize) -> bool
-    ensures { result ≡ may_merge_value (said_at depth (nodes_of tree.now)) value.now }
+fn may_merge_value(tree: &Tree, value: &Value) -> bool
+    ensures { result ≡ may_merge_value (nodes_of tree.now) value.now }
 {
     match value {
         Value::Null | Value::Text(_) => false,
-        Value::Sequence(numbers) => are_mappings(tree, numbers.as_slice(), depth),
+        Value::Sequence(numbers) => are_mappings(tree, numbers.as_slice()),
         Value::Mapping(_) => true,
     }
 }
 
 /// Whether a node is a mapping or a sequence of mappings.
-#[tactic(auto, using(crate::proofs::MergingLaws::merge_found, crate::proofs::MergingLaws::merge_lost))]
-fn may_merge(tree: &Tree, number: u32, depth: usize) -> bool
-    ensures { result ≡ may_merge (said_at depth (nodes_of tree.now) number) }
+fn may_merge(tree: &Tree, number: u32) -> bool
+    ensures { (most : ℕ) (said : Said) → HoldsPlain most (nodes_of tree.now) number said → result ≡ may_merge said }
 {
-    match find(tree, number, depth) {
-        Some(node) => may_merge_value(tree, &node.value, depth - 1),
+    match find(tree, number) {
+        Some(node) => may_merge_value(tree, &node.value),
         None => false,
     }
 }
@@ -147,14 +138,19 @@ fn wrong_value(alloc: Global, line: usize, key: &str) -> MergeError
     }
 }
 
-/// The pairs that are new, behind the pairs so far.
-fn spread(pairs: Vec<Pair>, taken: Taken, more: Vec<Pair>) -> Result<Vec<Pair>, NoMemory>
-    ensures { IfOk result (λ all. all.items ≡ pairs.items ++ new_pairs taken more.items) }
+/// The pairs that are new to a mapping with these entries, behind the pairs so far.
+fn spread(
+    alloc: Global,
+    entries: &Entries,
+    pairs: Vec<Pair>,
+    more: Vec<Pair>,
+) -> Result<Vec<Pair>, NoMemory>
+    ensures { IfOk result (λ all. all.items ≡ pairs.items ++ new_pairs (keys_in entries.now) more.items) }
 {
     let mut all = pairs;
-    let mut taken = taken;
+    let mut taken = Taken::new(alloc, *entries.as_map().hasher());
     for pair in more {
-        if taken.take(pair.key.as_str())? {
+        if taken.take(entries, pair.key.as_str())? {
             all.push(pair)?;
         }
     }
@@ -170,12 +166,11 @@ fn put(
     key: &str,
     value: Plain,
 ) -> Result<Vec<Pair>, NoMemory>
-    ensures { (at : ℕ → Said) (first : ℕ) → IfOk result (λ all. with_pairs (mapping first) all.items
-        ≡ put_value (with_entries at (mapping first) entries.now) (with_pairs (mapping first) pairs.items) line key.now value) }
+    ensures { IfOk result (λ all. all.items ≡ pairs.items ++ pairs_put (keys_in entries.now) line key.now value) }
 {
     if is_merge_key(key) {
         let more = value.into_sources(alloc)?;
-        return spread(pairs, Taken::of(alloc, entries)?, more);
+        return spread(alloc, entries, pairs, more);
     }
     let mut pairs = pairs;
     pairs.push(Pair {
@@ -186,22 +181,30 @@ fn put(
     Ok(pairs)
 }
 
+/// Whether this is a merge key whose value is neither a mapping nor a sequence of mappings.
+fn is_wrong(tree: &Tree, key: &str, number: u32) -> bool
+    ensures { (most : ℕ) (value : Said) → HoldsPlain most (nodes_of tree.now) number value → result ≡ (is_merge_key key.now && not (may_merge value)) }
+{
+    is_merge_key(key) && !may_merge(tree, number)
+}
+
 /// A node of a tree, merged, as far as some levels.
 #[cycle(merge)]
-#[tactic(auto, using(crate::proofs::MergingLaws::merging))]
 fn merge_node(alloc: Global, tree: &Tree, number: u32, depth: usize) -> Result<Plain, MergeError>
-    ensures { Gives (λ p. p) result (merged (said_at depth (nodes_of tree.now) number)) }
+    ensures { (said : Said) → HoldsPlain depth (nodes_of tree.now) number said → Gives (λ p. p) result (merged said) }
 {
-    match find(tree, number, depth) {
+    if depth == 0 {
+        return Ok(Plain::null(0));
+    }
+    match find(tree, number) {
         Some(node) => merge_value(alloc, tree, node, depth - 1),
         None => Ok(Plain::null(0)),
     }
 }
 
 #[cycle(merge)]
-#[tactic(auto, using(crate::proofs::MergingLaws::merging))]
 fn merge_value(alloc: Global, tree: &Tree, node: &Node, depth: usize) -> Result<Plain, MergeError>
-    ensures { Gives (λ p. p) result (merged (value_said (said_at depth (nodes_of tree.now)) node.now.line node.now.value)) }
+    ensures { (whole : Result Said MergeFault) → ValueMergesTo depth (nodes_of tree.now) node.now.line node.now.value whole → Gives (λ p. p) result whole }
 {
     match &node.value {
         Value::Null => Ok(Plain::null(node.line)),
@@ -214,7 +217,6 @@ fn merge_value(alloc: Global, tree: &Tree, node: &Node, depth: usize) -> Result<
 }
 
 #[cycle(merge)]
-#[tactic(auto, using(crate::proofs::MergingLaws::merging))]
 fn merge_items(
     alloc: Global,
     tree: &Tree,
@@ -222,38 +224,23 @@ fn merge_items(
     numbers: &[u32],
     depth: usize,
 ) -> Result<Plain, MergeError>
-    ensures { Gives (λ p. p) result (items_left (said_at depth (nodes_of tree.now)) (sequence line) 0 numbers.now) }
+    ensures { (whole : Result Said MergeFault) → ItemsMergeTo depth (nodes_of tree.now) (sequence line) 0 numbers.now whole → Gives (λ p. p) result whole }
 {
     let mut items = Vec::new(alloc);
     for number in numbers {
-        let item = merge_item(alloc, tree, items.len(), *number, depth)?;
+        let item = match merge_node(alloc, tree, *number, depth) {
+            Ok(item) => item,
+            Err(error) => {
+                let keyed = is_mapping(tree, *number);
+                return Err(below_item(alloc, items.len(), keyed, error));
+            }
+        };
         items.push(item)?;
     }
     Ok(Plain::sequence(line, items))
 }
 
 #[cycle(merge)]
-#[tactic(auto, using(crate::proofs::MergingLaws::merging))]
-fn merge_item(
-    alloc: Global,
-    tree: &Tree,
-    index: usize,
-    number: u32,
-    depth: usize,
-) -> Result<Plain, MergeError>
-    ensures { Gives (λ p. p) result (below (item_place index) (said_at depth (nodes_of tree.now) number) (merged (said_at depth (nodes_of tree.now) number))) }
-{
-    match merge_node(alloc, tree, number, depth) {
-        Ok(item) => Ok(item),
-        Err(error) => {
-            let keyed = is_mapping(tree, number, depth);
-            Err(below_item(alloc, index, keyed, error))
-        }
-    }
-}
-
-#[cycle(merge)]
-#[tactic(auto, using(crate::proofs::MergingLaws::merging))]
 fn merge_entries(
     alloc: Global,
     tree: &Tree,
@@ -261,7 +248,8 @@ fn merge_entries(
     entries: &Entries,
     depth: usize,
 ) -> Result<Plain, MergeError>
-    ensures { Gives (λ p. p) result (pairs_left (with_entries (said_at depth (nodes_of tree.now)) (mapping line) entries.now) (said_at depth (nodes_of tree.now)) (mapping line) entries.now) }
+    ensures { (all : Said) (whole : Result Said MergeFault) → keys_of all ≡ keys_in entries.now → EntriesMergeTo depth (nodes_of tree.now) all (mapping line) entries.now whole
+        → Gives (λ p. p) result whole }
 {
     let mut pairs = Vec::new(alloc);
     for (key, child) in entries.as_map() {
@@ -272,7 +260,6 @@ fn merge_entries(
 }
 
 #[cycle(merge)]
-#[tactic(auto, using(crate::proofs::MergingLaws::merging))]
 fn merge_entry(
     alloc: Global,
     tree: &Tree,
@@ -282,33 +269,16 @@ fn merge_entry(
     child: Child,
     depth: usize,
 ) -> Result<Vec<Pair>, MergeError>
-    ensures { (first : ℕ) → Gives (λ v. with_pairs (mapping first) v.items) result
-        (with_merged (with_entries (said_at depth (nodes_of tree.now)) (mapping first) entries.now) (with_pairs (mapping first) pairs.items) child.line key.now
-        (said_at depth (nodes_of tree.now) child.node) (merged (said_at depth (nodes_of tree.now) child.node))) }
+    ensures { (all value : Said) (first : ℕ) → keys_of all ≡ keys_in entries.now → HoldsPlain depth (nodes_of tree.now) child.node value
+        → Gives (λ v. with_pairs (mapping first) v.items) result (with_merged all (with_pairs (mapping first) pairs.items) child.line key.now value (merged value)) }
 {
-    if is_merge_key(key) && !may_merge(tree, child.node, depth) {
+    if is_wrong(tree, key, child.node) {
         return Err(wrong_value(alloc, child.line, key));
     }
-    let value = merge_child(alloc, tree, key, child.node, depth)?;
-    Ok(put(alloc, entries, pairs, child.line, key, value)?)
-}
-
-/// The value of a key.
-#[cycle(merge)]
-#[tactic(auto, using(crate::proofs::MergingLaws::merging))]
-fn merge_child(
-    alloc: Global,
-    tree: &Tree,
-    key: &str,
-    number: u32,
-    depth: usize,
-) -> Result<Plain, MergeError>
-    ensures { Gives (λ p. p) result (below key.now (said_at depth (nodes_of tree.now) number) (merged (said_at depth (nodes_of tree.now) number))) }
-{
-    match merge_node(alloc, tree, number, depth) {
-        Ok(value) => Ok(value),
+    match merge_node(alloc, tree, child.node, depth) {
+        Ok(value) => Ok(put(alloc, entries, pairs, child.line, key, value)?),
         Err(error) => {
-            let keyed = is_mapping(tree, number, depth);
+            let keyed = is_mapping(tree, child.node);
             Err(below(alloc, key, keyed, error))
         }
     }

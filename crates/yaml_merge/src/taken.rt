@@ -1,10 +1,10 @@
-//! The keys that pairs have which are merged no more.
+//! The keys of pairs that a mapping took from others.
 
-ghost use Rattle.std.specs.Prelude.{◌≡◌, [], not, IfOk};
+ghost use Rattle.std.specs.Prelude.{◌≡◌, ◌++◌, [], not, IfOk};
 ghost use Rattle.yaml_merge.specs.Merge.{has};
-ghost use Rattle.yaml_merge.specs.inside.Merging.{with_key, taken_of};
+ghost use Rattle.yaml_merge.specs.inside.Held.{keys_in};
+ghost use Rattle.yaml_merge.specs.inside.Merging.{with_key};
 
-use crate::merging::valid_text;
 use indexmap::IndexSet;
 use sim_base::NoMemory;
 use std::alloc::Global;
@@ -27,7 +27,7 @@ impl Model for Taken {
 }
 
 impl Taken {
-    fn new(alloc: Global, hashers: TextHashers) -> Taken
+    pub fn new(alloc: Global, hashers: TextHashers) -> Taken
         ensures { result ≡ [] }
     {
         Taken {
@@ -36,24 +36,17 @@ impl Taken {
         }
     }
 
-    /// Takes a key, and tells whether it is new.
-    pub fn take(&mut self, key: &str) -> Result<bool, NoMemory>
-        ensures new { IfOk result (λ new. new ≡ not (has key.now self.old)) }
-        ensures keys { IfOk result (λ new. self.new ≡ with_key self.old key.now) }
+    /// Takes a key that neither the mapping has itself nor was taken, and tells whether it did.
+    #[tactic(auto, using(crate::proofs::MergingLaws::has_either, crate::proofs::MergingLaws::with_key_behind))]
+    pub fn take(&mut self, own: &Entries, key: &str) -> Result<bool, NoMemory>
+        ensures new { IfOk result (λ new. new ≡ not (has key.now (keys_in own.now ++ self.old))) }
+        ensures keys { IfOk result (λ new. keys_in own.now ++ self.new ≡ with_key (keys_in own.now ++ self.old) key.now) }
     {
         let key = Scalar::from_slice(self.alloc, key.as_bytes())?;
+        if own.contains(&key) {
+            return Ok(false);
+        }
         let (_, new) = self.keys.insert_full(key)?;
         Ok(new)
-    }
-
-    /// The keys of a mapping.
-    pub fn of(alloc: Global, entries: &Entries) -> Result<Taken, NoMemory>
-        ensures { IfOk result (λ taken. taken ≡ taken_of [] entries.now) }
-    {
-        let mut taken = Taken::new(alloc, *entries.as_map().hasher());
-        for (key, _) in entries.as_map() {
-            taken.take(valid_text(key.as_slice()))?;
-        }
-        Ok(taken)
     }
 }

@@ -1,7 +1,7 @@
 -- A tree as a list of codes, each behind its parts.
 use Rattle.std.specs.Prelude.{◌≡◌, ℕ, List, [], ◌∷◌, ◌++◌}
 use Rattle.std.specs.Coded.{Coded, code_by, coded×, coded_ℕ, coded_list}
-use Rattle.std.proofs.Common.{zero, suc, refl, sym, ap, ◌∙◌, append_assoc}
+use Rattle.std.proofs.Common.{zero, suc, refl, sym, ap, ◌∙◌, append_assoc, append-nil}
 use Rattle.yaml_tree.specs.Said.{Said}
 use Rattle.yaml_tree.specs.Said.Said.{null, text, unknown, sequence, mapping, with_item, with_pair}
 
@@ -49,10 +49,6 @@ with_codes_codes_of (with_pair before line key value) rest stack =
     ap (λ ms. with_codes ms stack) (append_assoc (codes_of before) (codes_of value ++ (6, (line, key)) ∷ []) rest ∙ ap (λ ms. codes_of before ++ ms) (append_assoc (codes_of value) ((6, (line, key)) ∷ []) rest))
     ∙ with_codes_codes_of before (codes_of value ++ ((6, (line, key)) ∷ rest)) stack
     ∙ with_codes_codes_of value ((6, (line, key)) ∷ rest) (before ∷ stack)
-
-append-nil : (ms : Codes) → ms ++ [] ≡ ms
-append-nil [] = refl
-append-nil (m ∷ ms) = ap (λ t. m ∷ t) (append-nil ms)
 
 pub top_codes_of : (tree : Said) → top (with_codes (codes_of tree) []) ≡ tree
 top_codes_of tree = ap (λ ms. top (with_codes ms [])) (sym (append-nil (codes_of tree))) ∙ ap top (with_codes_codes_of tree [] [])

@@ -1,5 +1,5 @@
 use Rattle.std.proofs.Common.{sym, ◌∙◌}
-use Rattle.yaml_merge.proofs.SaidAtLaws.{valid_text_utf8, valid_text_broken}
+use Rattle.yaml_merge.proofs.HeldLaws.{valid_text_utf8, valid_text_broken}
 use Rattle.yaml_merge.proofs.merging.valid_text.Goals as goal
 
 pub returns-in-Ok : goal.returns-in-Ok
