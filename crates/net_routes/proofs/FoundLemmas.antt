@@ -15,10 +15,13 @@ use Rattle.net_routes.specs.inside.Found.{IsRowOrLack, IsFound, IsToSearch, AreS
 use Rattle.net_routes.specs.inside.RouteRows.{IsRouteRow, NamesLack}
 use Rattle.net_routes.specs.Needed.{IsAt, IsNeeded}
 use Rattle.net_routes.specs.inside.Net.{IsNet}
-use Rattle.net_routes.specs.Routes.{IsRefusal, route_at}
-use Rattle.net_routes.specs.Table.{IsTable}
+use Rattle.net_routes.specs.Routes.{IsRefusal}
+use Rattle.net_routes.specs.Table.{IsRouteIfAny, IsTable}
+use Rattle.net_routes.specs.inside.RouteMaps.{route_at, map_of}
 use Rattle.net_routes.specs.Walk.{IsRoute, hops}
-use Rattle.net_routes.proofs.RouteLemmas.{HasRoutesFrom, HasRoutesBelow, routes_from, routes_whole, routes_sound, refused}
+use Rattle.net_routes.proofs.PlaceLemmas.{at_contains, place_found}
+use Rattle.net_routes.proofs.RouteLemmas.{HasRoutesFrom, HasRoutesBelow, route_placed, routes_from, routes_whole, routes_sound, refused}
+use Rattle.net_routes.proofs.RouteMapLemmas.{routes_kept, kept_between}
 
 -- all searches were made
 abbrev pub AllFound : Net → List ℕ → List ℕ → Bool → List Search → Type 0
@@ -208,12 +211,16 @@ module _ (g : Graph) (net : Net) (nodes stops ids : List ℕ) (shortest : Bool) 
   pub sound_found : (a b : ℕ) (c : Cost) → route_at stops rows a b ≡ Some c → IsRoute g shortest a b c
   sound_found = routes_sound g shortest nodes stops rows (length rows) (omega (arith, as_many_rows)) all_below
 
-  -- at each pair of places
-  pub table_found : IsStrictlyIncreasing stops → ((id : ℕ) → Contains stops id ↔ Contains nodes id) → IsTable g shortest nodes (record { stops = stops; rows = rows })
+  -- for each two nodes of hosts
+  pub table_found : IsStrictlyIncreasing stops → ((id : ℕ) → Contains stops id ↔ Contains nodes id) → IsTable g shortest nodes (map_of stops rows)
   table_found up all = record {
-    rising = up;
-    stops = all;
-    height = as_many_rows;
-    width = λ i a at. (all_below i a (omega (arith, at.within, as_many_rows)) at).size;
-    each = λ i j a b at there. (all_below i a (omega (arith, at.within, as_many_rows)) at).each j b there;
+    each = λ a b from to.
+        let p = at_contains stops a ((all a).1 from) in
+        let q = at_contains stops b ((all b).1 to) in
+        let found = (all_below p.0 a (omega (arith, p.1.within, as_many_rows)) p.1).each q.0 b q.1 in
+        let is = routes_kept stops rows a b ∙ route_placed stops rows a b p.0 q.0 (place_found stops p.0 a up p.1) (place_found stops q.0 b up q.1) in
+        subst (λ (o : Option Cost). IsRouteIfAny g shortest a b o) (sym is) found;
+    others = λ a b some.
+        let there = kept_between stops rows a b some in
+        ((all a).0 there.0, (all b).0 there.1);
   }

@@ -2,7 +2,7 @@
 use Rattle.std.proofs.Common.{◌≡◌, ℕ, ◌+◌, ◌<◌, ◌≤◌, List, length, min, Option, Some, None, refl, sym, ap, ◌∙◌, subst, inl, inr, ⊎_elim, arith}
 use Rattle.std.specs.Prelude.{◌⊎◌, option_map, slice_index}
 use Rattle.std.proofs.lemmas.Bool.{cases_lt}
-use Rattle.net_routes.specs.declared.table.Routes.{Routes}
+use Rattle.net_routes.specs.RouteMap.{RouteMap}
 use Rattle.net_routes.specs.Routes.{route_in}
 use Rattle.net_routes.specs.Least.{latency_of, IsPair, IsLatency, IsLeastIf, IsFromTo, IsFromFirst, lesser, IsLookahead}
 use Rattle.net_routes.proofs.ListLemmas.{some_same}
@@ -13,7 +13,7 @@ pub record AreBoth (A B All : ℕ → ℕ → Type 0) : Type 0 where
   pub first : (p q : ℕ) → A p q → All p q
   pub second : (p q : ℕ) → B p q → All p q
 
-pub least_both : (A B All : ℕ → ℕ → Type 0) (nodes : List ℕ) (r : Routes) (a b : Option ℕ) → AreBoth A B All → IsLeastIf A nodes r a → IsLeastIf B nodes r b → IsLeastIf All nodes r (lesser a b)
+pub least_both : (A B All : ℕ → ℕ → Type 0) (nodes : List ℕ) (r : RouteMap) (a b : Option ℕ) → AreBoth A B All → IsLeastIf A nodes r a → IsLeastIf B nodes r b → IsLeastIf All nodes r (lesser a b)
 least_both A B All nodes r None None both h k = λ p q s. ⊎_elim (λ (t : A p q). h p q t) (λ (t : B p q). k p q t) (both.cases p q s)
 least_both A B All nodes r None (Some y) both h k = record {
   from = k.from;
@@ -55,7 +55,7 @@ least_both A B All nodes r (Some x) (Some y) both h k =
 
 -- ONE HOST AND THE OTHERS
 
-pub pair_least : (nodes : List ℕ) (r : Routes) (host other : ℕ) (o : Option ℕ) → IsLatency nodes r host other o → IsLeastIf (IsPair host other) nodes r o
+pub pair_least : (nodes : List ℕ) (r : RouteMap) (host other : ℕ) (o : Option ℕ) → IsLatency nodes r host other o → IsLeastIf (IsPair host other) nodes r o
 pair_least nodes r host other None e = λ p q s. s.others (s.from ∙ e ∙ sym s.to)
 pair_least nodes r host other (Some t) h = record {
   from = host;
@@ -69,10 +69,10 @@ pair_least nodes r host other (Some t) h = record {
       omega (arith, some_same t s (sym h.1 ∙ there));
 }
 
-pub from_none : (nodes : List ℕ) (r : Routes) (host : ℕ) → IsLeastIf (IsFromTo host 0) nodes r None
+pub from_none : (nodes : List ℕ) (r : RouteMap) (host : ℕ) → IsLeastIf (IsFromTo host 0) nodes r None
 from_none nodes r host = λ p q s. omega (arith, s.to)
 
-pub from_more : (nodes : List ℕ) (r : Routes) (host i : ℕ) (a b : Option ℕ) → IsLeastIf (IsFromTo host i) nodes r a → IsLatency nodes r host i b → IsLeastIf (IsFromTo host (i + 1)) nodes r (lesser a b)
+pub from_more : (nodes : List ℕ) (r : RouteMap) (host i : ℕ) (a b : Option ℕ) → IsLeastIf (IsFromTo host i) nodes r a → IsLatency nodes r host i b → IsLeastIf (IsFromTo host (i + 1)) nodes r (lesser a b)
 from_more nodes r host i a b h k =
     let both : AreBoth (IsFromTo host i) (IsPair host i) (IsFromTo host (i + 1)) = record {
       cases = λ p q s. ⊎_elim
@@ -84,10 +84,10 @@ from_more nodes r host i a b h k =
     } in
     least_both (IsFromTo host i) (IsPair host i) (IsFromTo host (i + 1)) nodes r a b both h (pair_least nodes r host i b k)
 
-pub first_none : (nodes : List ℕ) (r : Routes) (hosts : ℕ) → IsLeastIf (IsFromFirst 0 hosts) nodes r None
+pub first_none : (nodes : List ℕ) (r : RouteMap) (hosts : ℕ) → IsLeastIf (IsFromFirst 0 hosts) nodes r None
 first_none nodes r hosts = λ p q s. omega (arith, s.from)
 
-pub first_more : (nodes : List ℕ) (r : Routes) (hosts i : ℕ) (a b : Option ℕ) → i < hosts → IsLeastIf (IsFromFirst i hosts) nodes r a → IsLeastIf (IsFromTo i hosts) nodes r b → IsLeastIf (IsFromFirst (i + 1) hosts) nodes r (lesser a b)
+pub first_more : (nodes : List ℕ) (r : RouteMap) (hosts i : ℕ) (a b : Option ℕ) → i < hosts → IsLeastIf (IsFromFirst i hosts) nodes r a → IsLeastIf (IsFromTo i hosts) nodes r b → IsLeastIf (IsFromFirst (i + 1) hosts) nodes r (lesser a b)
 first_more nodes r hosts i a b lt h k =
     let both : AreBoth (IsFromFirst i hosts) (IsFromTo i hosts) (IsFromFirst (i + 1) hosts) = record {
       cases = λ p q s. ⊎_elim
@@ -101,7 +101,7 @@ first_more nodes r hosts i a b lt h k =
 
 -- ALL PAIRS
 
-pub lookahead_least : (nodes : List ℕ) (r : Routes) (o : Option ℕ) → IsLeastIf (IsFromFirst (length nodes) (length nodes)) nodes r o → IsLookahead nodes r o
+pub lookahead_least : (nodes : List ℕ) (r : RouteMap) (o : Option ℕ) → IsLeastIf (IsFromFirst (length nodes) (length nodes)) nodes r o → IsLookahead nodes r o
 lookahead_least nodes r None none =
     ⊎_elim
     (λ (lt : length nodes < 2). lt)

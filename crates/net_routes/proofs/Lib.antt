@@ -10,6 +10,7 @@ pub mod ArcLemmas
 pub mod NetLemmas
 pub mod RouteRowLemmas
 pub mod RouteLemmas
+pub mod RouteMapLemmas
 pub mod RouteLaws
 pub mod TableLemmas
 pub mod LeastLemmas

@@ -3,7 +3,7 @@ use Rattle.std.proofs.Common.{◌≡◌, ℕ, ◌<◌, ◌≤◌, Bool, List, Op
 use Rattle.std.specs.Prelude.{◌⊎◌, IsSomeAnd}
 use Rattle.gml_graph.specs.declared.graph.Graph.{Graph}
 use Rattle.net_routes.specs.declared.cost.Cost.{Cost}
-use Rattle.net_routes.specs.declared.table.Routes.{Routes}
+use Rattle.net_routes.specs.RouteMap.{RouteMap}
 use Rattle.net_routes.specs.Cost.{IsAsGood}
 use Rattle.net_routes.specs.Walk.{IsRoute}
 use Rattle.net_routes.specs.Needed.{IsNeeded}
@@ -31,7 +31,7 @@ same_some P (Some c) (Some d) one h k = ap (λ (x : Cost). Some x) (one c d h k)
 same_some P (Some c) None one h k = absurd k
 same_some P None p one h k = absurd h
 
-pub same_routes : (g : Graph) (shortest : Bool) (nodes : List ℕ) (r s : Routes) → AreRoutes g shortest nodes r → AreRoutes g shortest nodes s → (a b : ℕ) → IsNeeded nodes a b → route_in r a b ≡ route_in s a b
+pub same_routes : (g : Graph) (shortest : Bool) (nodes : List ℕ) (r s : RouteMap) → AreRoutes g shortest nodes r → AreRoutes g shortest nodes s → (a b : ℕ) → IsNeeded nodes a b → route_in r a b ≡ route_in s a b
 same_routes g shortest nodes r s h k a b need = same_some (IsRoute g shortest a b) (route_in r a b) (route_in s a b) (one_route g shortest a b) (h a b need) (k a b need)
 
 -- refusals
@@ -39,7 +39,7 @@ no_some : (P : Cost → Type 0) (o : Option Cost) → ((c : Cost) → P c → �
 no_some P (Some c) none h = none c h
 no_some P None none h = absurd h
 
-pub no_lack : (g : Graph) (shortest : Bool) (nodes : List ℕ) (r : Routes) (a b : ℕ) → AreRoutes g shortest nodes r → LacksRoute g shortest nodes a b → ⊥
+pub no_lack : (g : Graph) (shortest : Bool) (nodes : List ℕ) (r : RouteMap) (a b : ℕ) → AreRoutes g shortest nodes r → LacksRoute g shortest nodes a b → ⊥
 no_lack g shortest nodes r a b h lack = no_some (IsRoute g shortest a b) (route_in r a b) (λ c route. lack.none c route.goes) (h a b lack.needed)
 
 order_antisym : (a b p q : ℕ) → (a < p) ⊎ ((a ≡ p) × (b ≤ q)) → (p < a) ⊎ ((p ≡ a) × (q ≤ b)) → (a ≡ p) × (b ≡ q)

@@ -14,7 +14,8 @@ use Rattle.net_routes.specs.inside.Path.{IsBest}
 use Rattle.net_routes.specs.declared.error.RouteError.{RouteError}
 use Rattle.net_routes.specs.declared.error.RouteError.TheVariants as errors
 use Rattle.net_routes.specs.inside.RouteRows.{IsRouteRow, IsFirstLack, NamesLack}
-use Rattle.net_routes.specs.Routes.{route_at, IsLeastLack, IsRefusal}
+use Rattle.net_routes.specs.Routes.{IsLeastLack, IsRefusal}
+use Rattle.net_routes.specs.inside.RouteMaps.{route_at}
 use Rattle.net_routes.specs.Table.{IsRouteIfAny}
 use Rattle.net_routes.proofs.ListLemmas.{some_same}
 use Rattle.net_routes.proofs.PlaceLemmas.{place_at, at_rises, at_is, at_contains, contains_at, place_found}
@@ -85,9 +86,10 @@ needed_to nodes a b n = contains_at nodes n.second b n.to
 abbrev then_place : List ℕ → List (List (Option Cost)) → ℕ → ℕ → Option Cost
 then_place stops rows b i = option_and_then (λ j. get_or (get_or rows i []) j None) (place_of stops b)
 
-route_found : (stops : List ℕ) (rows : List (List (Option Cost))) (a b i j : ℕ) (c : Cost) → place_of stops a ≡ Some i → place_of stops b ≡ Some j → get_or (get_or rows i []) j None ≡ Some c → route_at stops rows a b ≡ Some c
-route_found stops rows a b i j c p q e =
-    ap (λ (o : Option ℕ). option_and_then (then_place stops rows b) o) p ∙ ap (λ (o : Option ℕ). option_and_then (λ j. get_or (get_or rows i []) j None) o) q ∙ e
+-- what rows keep for two nodes stands at their places
+pub route_placed : (stops : List ℕ) (rows : List (List (Option Cost))) (a b i j : ℕ) → place_of stops a ≡ Some i → place_of stops b ≡ Some j → route_at stops rows a b ≡ get_or (get_or rows i []) j None
+route_placed stops rows a b i j p q =
+    ap (λ (o : Option ℕ). option_and_then (then_place stops rows b) o) p ∙ ap (λ (o : Option ℕ). option_and_then (λ j. get_or (get_or rows i []) j None) o) q
 
 some_and : (P : Cost → Type 0) (o : Option Cost) (c : Cost) → o ≡ Some c → P c → IsSomeAnd o P
 some_and P o c e h = let Q : Option Cost → Type 0 = λ q. IsSomeAnd q P in subst Q (sym e) h
@@ -98,7 +100,7 @@ routes_whole g shortest nodes stops rows count up same all below a b need =
     let p = at_contains stops a ((same a).1 (needed_from nodes a b need)) in
     let q = at_contains stops b ((same b).1 (needed_to nodes a b need)) in
     let w = (below p.0 a (omega (arith, p.1.within, all)) p.1).whole q.0 b q.1 need in
-    (w.0, route_found stops rows a b p.0 q.0 w.0 (place_found stops p.0 a up p.1) (place_found stops q.0 b up q.1) w.1, w.2)
+    (w.0, route_placed stops rows a b p.0 q.0 (place_found stops p.0 a up p.1) (place_found stops q.0 b up q.1) ∙ w.1, w.2)
 
 sound_at : (g : Graph) (shortest : Bool) (nodes stops : List ℕ) (rows : List (List (Option Cost))) (count a b : ℕ) (c : Cost) (p q : Option ℕ) → length stops ≤ count → HasRoutesBelow count g shortest nodes stops rows → place_of stops a ≡ p → place_of stops b ≡ q
     → option_and_then (λ i. option_and_then (λ j. get_or (get_or rows i []) j None) q) p ≡ Some c → IsRoute g shortest a b c

@@ -1,18 +1,16 @@
 -- the least latency, node by node
-use Rattle.std.proofs.Common.{◌≡◌, ℕ, ◌+◌, ◌<◌, ◌≤◌, List, [], length, Option, Some, None, refl, sym, ◌∙◌, subst, inl, inr, ⊎_elim, arith}
-use Rattle.std.specs.Prelude.{IsSome, option_map, option_and_then, slice_index, slice_index_or}
+use Rattle.std.proofs.Common.{◌≡◌, ℕ, ◌+◌, ◌<◌, ◌≤◌, List, length, Option, Some, None, refl, sym, ◌∙◌, subst, inl, inr, ⊎_elim, arith}
+use Rattle.std.specs.Prelude.{option_map, slice_index}
 use Rattle.std.proofs.lemmas.Bool.{cases_lt}
-use Rattle.net_routes.specs.declared.cost.Cost.{Cost}
-use Rattle.net_routes.specs.declared.table.Routes.{Routes}
+use Rattle.net_routes.specs.RouteMap.{RouteMap}
 use Rattle.net_routes.specs.Needed.{IsAt, IsNeeded}
-use Rattle.net_routes.specs.inside.Places.{place_of}
-use Rattle.net_routes.specs.Routes.{route_in, HasRoutes}
+use Rattle.net_routes.specs.Routes.{route_in, AreBetween, HasRoutes}
 use Rattle.net_routes.specs.Least.{latency_of, IsLeastIf, IsNeededLatency, IsNeededAt, IsNeededPair, IsNeededTo, IsNeededFirst, lesser, IsLookahead}
 use Rattle.net_routes.proofs.ListLemmas.{some_same}
-use Rattle.net_routes.proofs.PlaceLemmas.{place_at}
+use Rattle.net_routes.proofs.PlaceLemmas.{at_contains}
 use Rattle.net_routes.proofs.LeastLemmas.{AreBoth, least_both}
 
-pub needed_least : (nodes stops : List ℕ) (r : Routes) (i j : ℕ) (o : Option ℕ) → IsNeededLatency nodes r (slice_index stops i) (slice_index stops j) o → IsLeastIf (IsNeededPair nodes stops i j) stops r o
+pub needed_least : (nodes stops : List ℕ) (r : RouteMap) (i j : ℕ) (o : Option ℕ) → IsNeededLatency nodes r (slice_index stops i) (slice_index stops j) o → IsLeastIf (IsNeededPair nodes stops i j) stops r o
 needed_least nodes stops r i j None none = λ p q s.
     let P : ℕ → Type 0 = λ x. IsNeededAt nodes stops x q in
     let Q : ℕ → Type 0 = λ x. IsNeededAt nodes stops i x in
@@ -29,10 +27,10 @@ needed_least nodes stops r i j (Some t) h = record {
       omega (arith, some_same t s (sym h.1 ∙ there));
 }
 
-pub to_none : (nodes stops : List ℕ) (r : Routes) (i : ℕ) → IsLeastIf (IsNeededTo nodes stops i 0) stops r None
+pub to_none : (nodes stops : List ℕ) (r : RouteMap) (i : ℕ) → IsLeastIf (IsNeededTo nodes stops i 0) stops r None
 to_none nodes stops r i = λ p q s. omega (arith, s.to)
 
-pub to_more : (nodes stops : List ℕ) (r : Routes) (i j : ℕ) (a b : Option ℕ) → IsLeastIf (IsNeededTo nodes stops i j) stops r a → IsNeededLatency nodes r (slice_index stops i) (slice_index stops j) b
+pub to_more : (nodes stops : List ℕ) (r : RouteMap) (i j : ℕ) (a b : Option ℕ) → IsLeastIf (IsNeededTo nodes stops i j) stops r a → IsNeededLatency nodes r (slice_index stops i) (slice_index stops j) b
     → IsLeastIf (IsNeededTo nodes stops i (j + 1)) stops r (lesser a b)
 to_more nodes stops r i j a b h k =
     let both : AreBoth (IsNeededTo nodes stops i j) (IsNeededPair nodes stops i j) (IsNeededTo nodes stops i (j + 1)) = record {
@@ -45,10 +43,10 @@ to_more nodes stops r i j a b h k =
     } in
     least_both (IsNeededTo nodes stops i j) (IsNeededPair nodes stops i j) (IsNeededTo nodes stops i (j + 1)) stops r a b both h (needed_least nodes stops r i j b k)
 
-pub stops_none : (nodes stops : List ℕ) (r : Routes) (all : ℕ) → IsLeastIf (IsNeededFirst nodes stops 0 all) stops r None
+pub stops_none : (nodes stops : List ℕ) (r : RouteMap) (all : ℕ) → IsLeastIf (IsNeededFirst nodes stops 0 all) stops r None
 stops_none nodes stops r all = λ p q s. omega (arith, s.from)
 
-pub stops_more : (nodes stops : List ℕ) (r : Routes) (all i : ℕ) (a b : Option ℕ) → IsLeastIf (IsNeededFirst nodes stops i all) stops r a → IsLeastIf (IsNeededTo nodes stops i all) stops r b
+pub stops_more : (nodes stops : List ℕ) (r : RouteMap) (all i : ℕ) (a b : Option ℕ) → IsLeastIf (IsNeededFirst nodes stops i all) stops r a → IsLeastIf (IsNeededTo nodes stops i all) stops r b
     → IsLeastIf (IsNeededFirst nodes stops (i + 1) all) stops r (lesser a b)
 stops_more nodes stops r all i a b h k =
     let both : AreBoth (IsNeededFirst nodes stops i all) (IsNeededTo nodes stops i all) (IsNeededFirst nodes stops (i + 1) all) = record {
@@ -70,21 +68,12 @@ pub record AreAt (stops : List ℕ) (a b : ℕ) : Type 0 where
   pub from : IsAt stops first a
   pub to : IsAt stops second b
 
-both_at : (stops : List ℕ) (rows : List (List (Option Cost))) (a b : ℕ) (p q : Option ℕ) → place_of stops a ≡ p → place_of stops b ≡ q
-    → IsSome (option_and_then (λ i. option_and_then (λ j. slice_index_or (slice_index_or rows i []) j None) q) p) → AreAt stops a b
-both_at stops rows a b None q e f h = absurd (let never : ⊥ = cc in never)
-both_at stops rows a b (Some i) None e f h = absurd (let never : ⊥ = cc in never)
-both_at stops rows a b (Some i) (Some j) e f h = record {
-  first = i;
-  second = j;
-  from = place_at stops a i e;
-  to = place_at stops b j f;
-}
-
-stops_of_route : (nodes stops : List ℕ) (r : Routes) (a b : ℕ) → stops ≡ r.stops → HasRoutes nodes r → IsNeeded nodes a b → AreAt stops a b
-stops_of_route nodes stops r a b same has need =
-    let P : List ℕ → Type 0 = λ xs. AreAt xs a b in
-    subst P (sym same) (both_at r.stops r.rows a b (place_of r.stops a) (place_of r.stops b) refl refl (has a b need))
+stops_of_route : (nodes stops : List ℕ) (r : RouteMap) (a b : ℕ) → AreBetween stops r → HasRoutes nodes r → IsNeeded nodes a b → AreAt stops a b
+stops_of_route nodes stops r a b between has need =
+    let there = between a b (has a b need) in
+    let from = at_contains stops a there.0 in
+    let to = at_contains stops b there.1 in
+    record { first = from.0; second = to.0; from = from.1; to = to.1 }
 
 needed_at : (nodes stops : List ℕ) (a b : ℕ) (at : AreAt stops a b) → IsNeeded nodes a b → IsNeededAt nodes stops at.first at.second
 needed_at nodes stops a b at need =
@@ -102,22 +91,22 @@ two_need nodes ge = record {
   to = record { within = omega (arith, ge); is = refl };
 }
 
-pub stops_least : (nodes stops : List ℕ) (r : Routes) (o : Option ℕ) → stops ≡ r.stops → HasRoutes nodes r → IsLeastIf (IsNeededFirst nodes stops (length stops) (length stops)) stops r o → IsLookahead nodes r o
-stops_least nodes stops r None same has none =
+pub stops_least : (nodes stops : List ℕ) (r : RouteMap) (o : Option ℕ) → AreBetween stops r → HasRoutes nodes r → IsLeastIf (IsNeededFirst nodes stops (length stops) (length stops)) stops r o → IsLookahead nodes r o
+stops_least nodes stops r None between has none =
     ⊎_elim
     (λ (lt : length nodes < 2). lt)
     (λ (ge : 2 ≤ length nodes).
     let need = two_need nodes ge in
-    let at = stops_of_route nodes stops r (slice_index nodes 0) (slice_index nodes 1) same has need in
+    let at = stops_of_route nodes stops r (slice_index nodes 0) (slice_index nodes 1) between has need in
     absurd (none at.first at.second (record { from = at.from.within; to = at.to.within; needed = needed_at nodes stops (slice_index nodes 0) (slice_index nodes 1) at need })))
     (cases_lt (length nodes) 2)
-stops_least nodes stops r (Some t) same has h = record {
+stops_least nodes stops r (Some t) between has h = record {
   from = slice_index stops h.from;
   to = slice_index stops h.to;
   needed = h.among.needed;
   is = h.is;
   each = λ a b s need e.
-      let at = stops_of_route nodes stops r a b same has need in
+      let at = stops_of_route nodes stops r a b between has need in
       let P : ℕ → Type 0 = λ x. option_map (λ c. c.latency) (route_in r x b) ≡ Some s in
       let Q : ℕ → Type 0 = λ x. option_map (λ c. c.latency) (route_in r (slice_index stops at.first) x) ≡ Some s in
       let there : latency_of stops r at.first at.second ≡ Some s = subst Q (sym at.to.is) (subst P (sym at.from.is) e) in

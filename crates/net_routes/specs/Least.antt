@@ -1,15 +1,15 @@
 -- The least latency of the routes between hosts.
 use Rattle.std.specs.Prelude.{◌≡◌, ◌≢◌, ℕ, ◌<◌, ◌≤◌, List, length, Option, Some, None, option_map, slice_index, min}
-use Rattle.net_routes.specs.declared.table.Routes.{Routes}
+use Rattle.net_routes.specs.RouteMap.{RouteMap}
 use Rattle.net_routes.specs.Needed.{IsNeeded}
 use Rattle.net_routes.specs.Routes.{route_in}
 
 -- the latency that is kept for the nodes of two hosts
-abbrev pub latency_of : List ℕ → Routes → ℕ → ℕ → Option ℕ
+abbrev pub latency_of : List ℕ → RouteMap → ℕ → ℕ → Option ℕ
 latency_of nodes r p q = option_map (λ c. c.latency) (route_in r (slice_index nodes p) (slice_index nodes q))
 
 -- the latency of one of these pairs of hosts, and no other has less
-pub record IsLeastOf (Among : ℕ → ℕ → Type 0) (nodes : List ℕ) (r : Routes) (least : ℕ) : Type 0 where
+pub record IsLeastOf (Among : ℕ → ℕ → Type 0) (nodes : List ℕ) (r : RouteMap) (least : ℕ) : Type 0 where
   pub from : ℕ
   pub to : ℕ
   pub among : Among from to
@@ -17,7 +17,7 @@ pub record IsLeastOf (Among : ℕ → ℕ → Type 0) (nodes : List ℕ) (r : Ro
   pub each : (p q t : ℕ) → Among p q → latency_of nodes r p q ≡ Some t → least ≤ t
 
 -- it, or nothing where there is no pair
-abbrev pub IsLeastIf : (Among : ℕ → ℕ → Type 0) → List ℕ → Routes → Option ℕ → Type 0
+abbrev pub IsLeastIf : (Among : ℕ → ℕ → Type 0) → List ℕ → RouteMap → Option ℕ → Type 0
 IsLeastIf Among nodes r None = (p q : ℕ) → Among p q → ⊥
 IsLeastIf Among nodes r (Some least) = IsLeastOf Among nodes r least
 
@@ -28,7 +28,7 @@ pub record IsPair (host other p q : ℕ) : Type 0 where
   pub others : p ≢ q
 
 -- the latency between two hosts, or nothing where they are one
-abbrev pub IsLatency : List ℕ → Routes → ℕ → ℕ → Option ℕ → Type 0
+abbrev pub IsLatency : List ℕ → RouteMap → ℕ → ℕ → Option ℕ → Type 0
 IsLatency nodes r host other None = host ≡ other
 IsLatency nodes r host other (Some t) = (host ≢ other) × (latency_of nodes r host other ≡ Some t)
 
@@ -45,7 +45,7 @@ pub record IsFromFirst (count hosts p q : ℕ) : Type 0 where
   pub others : p ≢ q
 
 -- the latency from one node to another one, or nothing where no hosts need it
-abbrev pub IsNeededLatency : List ℕ → Routes → ℕ → ℕ → Option ℕ → Type 0
+abbrev pub IsNeededLatency : List ℕ → RouteMap → ℕ → ℕ → Option ℕ → Type 0
 IsNeededLatency nodes r a b None = IsNeeded nodes a b → ⊥
 IsNeededLatency nodes r a b (Some t) = IsNeeded nodes a b × (option_map (λ c. c.latency) (route_in r a b) ≡ Some t)
 
@@ -78,7 +78,7 @@ lesser (Some x) None = Some x
 lesser (Some x) (Some y) = Some (min x y)
 
 -- the least latency of all routes that hosts need, where there is one
-pub record IsLeastLatency (nodes : List ℕ) (r : Routes) (t : ℕ) : Type 0 where
+pub record IsLeastLatency (nodes : List ℕ) (r : RouteMap) (t : ℕ) : Type 0 where
   pub from : ℕ
   pub to : ℕ
   pub needed : IsNeeded nodes from to
@@ -86,6 +86,6 @@ pub record IsLeastLatency (nodes : List ℕ) (r : Routes) (t : ℕ) : Type 0 whe
   pub each : (a b s : ℕ) → IsNeeded nodes a b → option_map (λ c. c.latency) (route_in r a b) ≡ Some s → t ≤ s
 
 -- None where no two hosts are
-abbrev pub IsLookahead : List ℕ → Routes → Option ℕ → Type 0
+abbrev pub IsLookahead : List ℕ → RouteMap → Option ℕ → Type 0
 IsLookahead nodes r None = length nodes < 2
 IsLookahead nodes r (Some t) = IsLeastLatency nodes r t

@@ -1,6 +1,7 @@
 pub mod Cost
 pub mod Walk
 pub mod Needed
+pub mod RouteMap
 pub mod Routes
 pub mod Table
 pub mod Least

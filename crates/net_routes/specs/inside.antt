@@ -6,4 +6,5 @@ pub mod Numbers
 pub mod Path
 pub mod Places
 pub mod RouteRows
+pub mod RouteMaps
 pub mod Search

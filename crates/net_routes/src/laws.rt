@@ -7,7 +7,7 @@ ghost use Rattle.std.specs.Prelude.{◌≡◌, ℕ, Bool, List};
 ghost use Rattle.gml_graph.specs.declared.graph.Graph.{Graph};
 ghost use Rattle.net_routes.specs.declared.cost.Cost.{Cost};
 ghost use Rattle.net_routes.specs.declared.error.RouteError.TheVariants as errors;
-ghost use Rattle.net_routes.specs.declared.table.Routes.{Routes};
+ghost use Rattle.net_routes.specs.RouteMap.{RouteMap};
 ghost use Rattle.net_routes.specs.Walk.{IsRoute};
 ghost use Rattle.net_routes.specs.Needed.{IsNeeded};
 ghost use Rattle.net_routes.specs.Routes.{route_in, AreRoutes, LacksRoute, IsRefusal};
@@ -20,18 +20,18 @@ pub fn one_route()
 
 /// All routes of a graph for the same hosts keep the same for each needed pair.
 pub fn same_routes()
-    ensures { (g : Graph) (shortest : Bool) (nodes : List ℕ) (r s : Routes) → AreRoutes g shortest nodes r → AreRoutes g shortest nodes s → (a b : ℕ) → IsNeeded nodes a b → route_in r a b ≡ route_in s a b }
+    ensures { (g : Graph) (shortest : Bool) (nodes : List ℕ) (r s : RouteMap) → AreRoutes g shortest nodes r → AreRoutes g shortest nodes s → (a b : ℕ) → IsNeeded nodes a b → route_in r a b ≡ route_in s a b }
 {}
 
 /// A graph and the nodes of hosts have one table of routes.
 pub fn one_table()
-    ensures { (g : Graph) (shortest : Bool) (nodes : List ℕ) (r s : Routes) → IsTable g shortest nodes r → IsTable g shortest nodes s → r ≡ s }
+    ensures { (g : Graph) (shortest : Bool) (nodes : List ℕ) (r s : RouteMap) → IsTable g shortest nodes r → IsTable g shortest nodes s → r ≡ s }
 {}
 
 /// Where hosts have their routes no pair lacks one, so none is refused.
 pub fn no_refusal()
-    ensures lack { (g : Graph) (shortest : Bool) (nodes : List ℕ) (r : Routes) (a b : ℕ) → AreRoutes g shortest nodes r → LacksRoute g shortest nodes a b → ⊥ }
-    ensures refusal { (g : Graph) (shortest : Bool) (nodes : List ℕ) (r : Routes) (a b : ℕ) → AreRoutes g shortest nodes r → IsRefusal g shortest nodes (errors.NoRoute a b) → ⊥ }
+    ensures lack { (g : Graph) (shortest : Bool) (nodes : List ℕ) (r : RouteMap) (a b : ℕ) → AreRoutes g shortest nodes r → LacksRoute g shortest nodes a b → ⊥ }
+    ensures refusal { (g : Graph) (shortest : Bool) (nodes : List ℕ) (r : RouteMap) (a b : ℕ) → AreRoutes g shortest nodes r → IsRefusal g shortest nodes (errors.NoRoute a b) → ⊥ }
 {}
 
 /// One pair at most is refused.

@@ -1,31 +1,67 @@
 //! The routes between the nodes of hosts.
 
 ghost use Rattle.std.specs.Prelude.{◌≡◌, ◌<◌, Some, IsSome, option_map, length, All, Contains, true};
-ghost use Rattle.net_routes.specs.Routes.{route_in, HasRoutes};
+ghost use Rattle.net_routes.specs.Routes.{route_in, AreBetween, HasRoutes};
 ghost use Rattle.net_routes.specs.Least.{lesser, IsLatency, IsLeastIf, IsFromTo, IsNeededLatency, IsNeededTo, IsLookahead};
+ghost use Rattle.net_routes.specs.inside.RouteMaps.{route_at};
 
+use crate::cost::Cost;
 use crate::node_ids::NodeIds;
 use crate::route_row::{hosts_on, is_needed};
 use crate::route_rows::RouteRows;
 use sim_base::Time;
+use std::marker::Model;
 
 /// The routes between the nodes of hosts: of each the latency, and what arrives of 10^9 packets
-/// that are sent.
+/// that are sent. Contracts see a finite map from pairs of nodes.
 #[derive(Drop)]
 pub struct Routes {
     pub(crate) stops: NodeIds,
     pub(crate) rows: RouteRows,
 }
 
+impl Model for Routes {
+    ghost use Rattle.net_routes.specs.RouteMap.{RouteMap, route_map_code};
+
+    ghost Value = { RouteMap };
+
+    ghost coded = { route_map_code };
+
+    ghost use Rattle.net_routes.specs.inside.RouteMaps.{map_of};
+
+    ghost view = { λ r. map_of r.stops r.rows };
+}
+
+/// The cost that rows keep for a pair of nodes.
+fn cost_in(stops: &NodeIds, rows: &RouteRows, from: u32, to: u32) -> Option<Cost>
+    ensures { result ≡ route_at stops.now rows.now from to }
+{
+    let row = stops.find(from)?;
+    rows.get(row, stops.find(to)?)
+}
+
 impl Routes {
+    /// The nodes between which there are routes.
+    fn nodes(&self) -> &[u32]
+        ensures { AreBetween result.now self.now }
+    {
+        self.stops.as_slice()
+    }
+
+    /// The cost of the route from one node to another, if it is kept.
+    fn cost(&self, from: u32, to: u32) -> Option<Cost>
+        ensures { result ≡ route_in self.now from to }
+    {
+        cost_in(&self.stops, &self.rows, from, to)
+    }
+
     /// The route from one node to another, if it is kept: its latency and its reliability in units
     /// of 10^-9. Each that hosts need is kept, and each that is kept is a route.
     pub fn find(&self, from: u32, to: u32) -> Option<(Time, u32)>
         ensures { result ≡ option_map (λ c. (record { nanos = c.latency }, c.reliability))
             (route_in self.now from to) }
     {
-        let row = self.stops.find(from)?;
-        let cost = self.rows.get(row, self.stops.find(to)?)?;
+        let cost = self.cost(from, to)?;
         Some((
             Time {
                 nanos: cost.latency,
@@ -120,7 +156,7 @@ impl Routes {
 
     /// The least latency of all routes that hosts on these nodes need, node by node.
     fn least_of_stops(&self, nodes: &[u32], stops: &[u32]) -> Option<Time>
-        requires same { stops.now ≡ self.now.stops }
+        requires between { AreBetween stops.now self.now }
         requires stops { All (Contains nodes.now) stops.now }
         requires routes { HasRoutes nodes.now self.now }
         ensures { IsLookahead nodes.now self.now (option_map (λ t. t.nanos) result) }
@@ -142,7 +178,7 @@ impl Routes {
         requires { HasRoutes nodes.now self.now }
         ensures { IsLookahead nodes.now self.now (option_map (λ t. t.nanos) result) }
     {
-        let stops = self.stops.as_slice();
+        let stops = self.nodes();
         if have_hosts(nodes, stops) {
             return self.least_of_stops(nodes, stops);
         }

@@ -9,7 +9,7 @@ use Rattle.host_state.specs.Fits.{IsLatency, IsLookaheadOf, IsShort}
 use Rattle.host_state.specs.World.{AreRows}
 use Rattle.host_link.specs.Sending.{route_from, told}
 use Rattle.net_routes.specs.declared.cost.Cost.{Cost}
-use Rattle.net_routes.specs.declared.table.Routes.{Routes}
+use Rattle.net_routes.specs.RouteMap.{RouteMap}
 use Rattle.net_routes.specs.Least.{IsLookahead}
 use Rattle.net_routes.specs.Needed.{IsAt, IsNeeded}
 use Rattle.net_routes.specs.Routes.{route_in}
@@ -86,7 +86,7 @@ rows_fit run within =
 -- ---- rounds
 
 -- what is known of a route from a host to another one
-record IsRouteOf (nodes : List ℕ) (routes : Routes) (i j : ℕ) (route : Time × ℕ) : Type 0 where
+record IsRouteOf (nodes : List ℕ) (routes : RouteMap) (i j : ℕ) (route : Time × ℕ) : Type 0 where
   from : ℕ
   to : ℕ
   cost : Cost
@@ -95,7 +95,7 @@ record IsRouteOf (nodes : List ℕ) (routes : Routes) (i j : ℕ) (route : Time 
   cost_is : route_in routes from to ≡ Some cost
   route_is : told cost ≡ route
 
-route_costs : (nodes : List ℕ) (routes : Routes) (i j from to : ℕ) (route : Time × ℕ) (o : Option Cost) → slice_get nodes i ≡ Some from → slice_get nodes j ≡ Some to
+route_costs : (nodes : List ℕ) (routes : RouteMap) (i j from to : ℕ) (route : Time × ℕ) (o : Option Cost) → slice_get nodes i ≡ Some from → slice_get nodes j ≡ Some to
     → route_in routes from to ≡ o → option_map told o ≡ Some route → IsRouteOf nodes routes i j route
 route_costs nodes routes i j from to route None from_is to_is kept is = absurd (cc)
 route_costs nodes routes i j from to route (Some cost) from_is to_is kept is =
@@ -120,7 +120,7 @@ is_at : (xs : List ℕ) (i x : ℕ) → slice_get xs i ≡ Some x → IsAt xs i 
 is_at xs i x at = record { within = slice_within xs i x at; is = get_or_from_slice_get xs i x 0 at }
 
 -- with two hosts there is a lookahead, and no route between them takes less
-latency_is : (nodes : List ℕ) (routes : Routes) (lookahead : Option Time) (i j : ℕ) (latency : Time) (reliability : ℕ) → IsLookahead nodes routes (nanos_of lookahead) → i ≢ j
+latency_is : (nodes : List ℕ) (routes : RouteMap) (lookahead : Option Time) (i j : ℕ) (latency : Time) (reliability : ℕ) → IsLookahead nodes routes (nanos_of lookahead) → i ≢ j
     → IsRouteOf nodes routes i j (latency, reliability) → IsLatency (nanos_of (cut_lookahead lookahead)) latency.nanos
 latency_is nodes routes None i j latency reliability few others route =
     let one = slice_within nodes i route.from route.from_is in
@@ -141,7 +141,7 @@ some_latency : (P : ℕ → Type 0) (o : Option Cost) (t : ℕ) → option_map (
 some_latency P None t is each = absurd (cc)
 some_latency P (Some c) t is each = subst P (let e : Some c.latency ≡ Some t = is in cc) (each c refl)
 
-is_ahead : (nodes : List ℕ) (routes : Routes) (lookahead : Option Time) → IsLookahead nodes routes (nanos_of lookahead) → TakeTime nodes routes → IsAhead (cut_lookahead lookahead)
+is_ahead : (nodes : List ℕ) (routes : RouteMap) (lookahead : Option Time) → IsLookahead nodes routes (nanos_of lookahead) → TakeTime nodes routes → IsAhead (cut_lookahead lookahead)
 is_ahead nodes routes None few later = tt
 is_ahead nodes routes (Some time) least later =
     let some : 0 < time.nanos = some_latency (λ (t : ℕ). 0 < t) (route_in routes least.from least.to) time.nanos least.is (λ c is. later least.from least.to c least.needed is) in

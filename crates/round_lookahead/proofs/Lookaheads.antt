@@ -4,7 +4,7 @@ use Rattle.std.specs.Prelude.{option_and_then}
 use Rattle.std.proofs.lemmas.Option.{get_or_from_slice_get}
 use Rattle.sim_base.specs.declared.time.Time.{Time}
 use Rattle.net_routes.specs.declared.cost.Cost.{Cost}
-use Rattle.net_routes.specs.declared.table.Routes.{Routes}
+use Rattle.net_routes.specs.RouteMap.{RouteMap}
 use Rattle.net_routes.specs.Least.{IsLookahead}
 use Rattle.net_routes.specs.Needed.{IsAt, IsNeeded}
 use Rattle.net_routes.specs.Routes.{route_in}
@@ -15,7 +15,7 @@ use Rattle.world_order.proofs.Homes.{below_get}
 use Rattle.round_lookahead.specs.WorldStands.{nanos_of}
 
 -- what is known of a route from a host to another one
-record IsRouteOf (nodes : List ℕ) (routes : Routes) (i j : ℕ) (route : Time × ℕ) : Type 0 where
+record IsRouteOf (nodes : List ℕ) (routes : RouteMap) (i j : ℕ) (route : Time × ℕ) : Type 0 where
   from : ℕ
   to : ℕ
   cost : Cost
@@ -24,7 +24,7 @@ record IsRouteOf (nodes : List ℕ) (routes : Routes) (i j : ℕ) (route : Time 
   cost_is : route_in routes from to ≡ Some cost
   route_is : told cost ≡ route
 
-route_costs : (nodes : List ℕ) (routes : Routes) (i j from to : ℕ) (route : Time × ℕ) (o : Option Cost) → slice_get nodes i ≡ Some from → slice_get nodes j ≡ Some to
+route_costs : (nodes : List ℕ) (routes : RouteMap) (i j from to : ℕ) (route : Time × ℕ) (o : Option Cost) → slice_get nodes i ≡ Some from → slice_get nodes j ≡ Some to
     → route_in routes from to ≡ o → option_map told o ≡ Some route → IsRouteOf nodes routes i j route
 route_costs nodes routes i j from to route None from_is to_is kept is = absurd (cc)
 route_costs nodes routes i j from to route (Some cost) from_is to_is kept is =
@@ -49,7 +49,7 @@ is_at : (xs : List ℕ) (i x : ℕ) → slice_get xs i ≡ Some x → IsAt xs i 
 is_at xs i x at = record { within = below_get xs i x at; is = get_or_from_slice_get xs i x 0 at }
 
 -- with two hosts there is one, and no route between them takes less
-latency_is : (nodes : List ℕ) (routes : Routes) (lookahead : Option Time) (i j : ℕ) (latency : Time) (reliability : ℕ) → IsLookahead nodes routes (nanos_of lookahead) → i ≢ j
+latency_is : (nodes : List ℕ) (routes : RouteMap) (lookahead : Option Time) (i j : ℕ) (latency : Time) (reliability : ℕ) → IsLookahead nodes routes (nanos_of lookahead) → i ≢ j
     → IsRouteOf nodes routes i j (latency, reliability) → IsLatency (nanos_of lookahead) latency.nanos
 latency_is nodes routes None i j latency reliability few others route =
     let one = below_get nodes i route.from route.from_is in

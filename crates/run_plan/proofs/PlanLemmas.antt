@@ -6,7 +6,7 @@ use Rattle.sim_base.specs.declared.time.Time.{Time}
 use Rattle.gml_graph.specs.declared.graph.Graph.{Graph}
 use Rattle.elf_load.specs.ProgramImage.{ProgramImage}
 use Rattle.net_routes.specs.Least.{IsLookahead}
-use Rattle.net_routes.specs.declared.table.Routes.{Routes}
+use Rattle.net_routes.specs.RouteMap.{RouteMap}
 use Rattle.out_text.specs.Hosts.{hosts_text}
 use Rattle.shd_config.specs.declared.config.Config.{Config}
 use Rattle.run_plan.specs.HostRows.{host_rows}
@@ -21,14 +21,14 @@ use Rattle.run_plan.proofs.StepLemmas.{goes_on, stops_first, stops_next}
 
 -- ---- the parts behind one another
 
-abbrev pub made : Config → List HostRow → Routes → List ProgramImage → Option Time → Plan
+abbrev pub made : Config → List HostRow → RouteMap → List ProgramImage → Option Time → Plan
 made config rows routes found lookahead =
     record { settings = settings_of config; rows = rows; routes = routes; lookahead = lookahead; images = found; hosts_text = hosts_text (map line_of_host rows) }
 
-abbrev pub with_images : Config → List HostRow → Routes → List ProgramImage → Reading Plan
+abbrev pub with_images : Config → List HostRow → RouteMap → List ProgramImage → Reading Plan
 with_images config rows routes found = some_that (λ t. IsLookahead (nodes_of rows) routes (nanos_of t)) >>= (λ lookahead. gives (Ok (made config rows routes found lookahead)))
 
-abbrev pub with_routes : Held → Config → List HostRow → Routes → Reading Plan
+abbrev pub with_routes : Held → Config → List HostRow → RouteMap → Reading Plan
 with_routes held config rows routes = images held (programs_of config.hosts) >>= (λ found. with_images config rows routes found)
 
 abbrev pub with_rows : Held → Graph → Config → List HostRow → Reading Plan
@@ -47,7 +47,7 @@ module _ (held : Held) (name : List ℕ) (graph : Graph) (config : Config) where
     pub routes_stop : (stop : ReadStop) → Stops (routed graph config.use_shortest_path (nodes_of rows)) stop → Stops (run_of held name graph config) stop
     routes_stop stop k = behind_rows stop (stops_first (routed graph config.use_shortest_path (nodes_of rows)) (λ routes. with_routes held config rows routes) stop k)
 
-    module _ (routes : Routes) (k : (routed graph config.use_shortest_path (nodes_of rows)).answers (Ok routes)) where
+    module _ (routes : RouteMap) (k : (routed graph config.use_shortest_path (nodes_of rows)).answers (Ok routes)) where
       pub images_stop : (stop : ReadStop) → Stops (images held (programs_of config.hosts)) stop → Stops (run_of held name graph config) stop
       images_stop stop m =
           behind_rows stop (stops_next (routed graph config.use_shortest_path (nodes_of rows)) (λ routes. with_routes held config rows routes) routes stop k

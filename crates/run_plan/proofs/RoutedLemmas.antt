@@ -5,7 +5,7 @@ use Rattle.gml_graph.specs.declared.graph.Graph.{Graph}
 use Rattle.gml_graph.specs.Edges.{AreEdges}
 use Rattle.net_routes.specs.declared.cost.Cost.{Cost}
 use Rattle.net_routes.specs.declared.hop.Hop.{Hop}
-use Rattle.net_routes.specs.declared.table.Routes.{Routes}
+use Rattle.net_routes.specs.RouteMap.{RouteMap}
 use Rattle.net_routes.specs.Cost.{nothing}
 use Rattle.net_routes.specs.Routes.{AreRoutes, route_in}
 use Rattle.net_routes.specs.Walk.{IsRoute, Leads, AreHops, hops, then_hop, cost_of}
@@ -29,6 +29,6 @@ route_later g shortest a b c edges route =
 some_is : (P : Cost → Type 0) (o : Option Cost) (c : Cost) → o ≡ Some c → IsSomeAnd o P → P c
 some_is P o c e h = let Q : Option Cost → Type 0 = λ q. IsSomeAnd q P in subst Q e h
 
-pub routes_later : (g : Graph) (shortest : Bool) (nodes : List ℕ) (r : Routes) → AreEdges g.edges → AreRoutes g shortest nodes r → TakeTime nodes r
+pub routes_later : (g : Graph) (shortest : Bool) (nodes : List ℕ) (r : RouteMap) → AreEdges g.edges → AreRoutes g shortest nodes r → TakeTime nodes r
 routes_later g shortest nodes r edges routes a b c needed is =
     route_later g shortest a b c edges (some_is (IsRoute g shortest a b) (route_in r a b) c is (routes a b needed))

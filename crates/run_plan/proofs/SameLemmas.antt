@@ -10,7 +10,7 @@ use Rattle.command_line.specs.declared.asked.Subject.TheVariants as subject
 use Rattle.gml_graph.specs.declared.graph.Graph.{Graph}
 use Rattle.net_routes.specs.Least.{IsLookahead}
 use Rattle.net_routes.specs.Needed.{IsNeeded}
-use Rattle.net_routes.specs.declared.table.Routes.{Routes}
+use Rattle.net_routes.specs.RouteMap.{RouteMap}
 use Rattle.net_routes.proofs.RouteLaws.{no_lack, one_least_lack}
 use Rattle.net_routes.proofs.TableLemmas.{one_table}
 use Rattle.run_outside.specs.Files.{Held}
@@ -162,7 +162,7 @@ one_rows name graph hosts =
 -- ---- routes
 
 module _ (g : Graph) (shortest : Bool) (nodes : List ℕ) where
-  no_route_fault : (r : Routes) (f : Fault) → (routed g shortest nodes).answers (Ok r) → IsRouteFault g shortest nodes f → ⊥
+  no_route_fault : (r : RouteMap) (f : Fault) → (routed g shortest nodes).answers (Ok r) → IsRouteFault g shortest nodes f → ⊥
   no_route_fault r (fault.NoRoute a b) h k = no_lack g shortest nodes r a b h.0 k.lacks
   no_route_fault r _ h k = k
 
@@ -179,7 +179,7 @@ module _ (g : Graph) (shortest : Bool) (nodes : List ℕ) where
 
 -- ---- the lookahead
 
-module _ (nodes : List ℕ) (routes : Routes) where
+module _ (nodes : List ℕ) (routes : RouteMap) where
   no_pair : (a b : ℕ) → length nodes < 2 → IsNeeded nodes a b → ⊥
   no_pair a b few needed = let one : needed.first ≡ needed.second = (let p = needed.from.within in let q = needed.to.within in omega (arith, p, q, few)) in needed.others one
 

@@ -5,7 +5,7 @@ use Rattle.gml_graph.specs.declared.graph.Graph.{Graph}
 use Rattle.net_routes.specs.Routes.{AreRoutes, IsLeastLack}
 use Rattle.net_routes.specs.Table.{IsTable}
 use Rattle.net_routes.specs.Least.{IsLookahead}
-use Rattle.net_routes.specs.declared.table.Routes.{Routes}
+use Rattle.net_routes.specs.RouteMap.{RouteMap}
 use Rattle.out_text.specs.Hosts.{hosts_text}
 use Rattle.out_text.specs.declared.hosts.HostLine.{HostLine}
 use Rattle.shd_config.specs.declared.config.Config.{Config}
@@ -30,11 +30,11 @@ IsRouteFault g shortest nodes (fault.NoRoute from to) = IsLeastLack g shortest n
 IsRouteFault g shortest nodes _ = ⊥
 
 -- the table of routes between the nodes of hosts, with those that hosts need; or the least pair that lacks one
-abbrev pub AreRoutesOrFault : Graph → Bool → List ℕ → Result Routes Fault → Type 0
+abbrev pub AreRoutesOrFault : Graph → Bool → List ℕ → Result RouteMap Fault → Type 0
 AreRoutesOrFault g shortest nodes (Ok routes) = AreRoutes g shortest nodes routes × IsTable g shortest nodes routes
 AreRoutesOrFault g shortest nodes (Err f) = IsRouteFault g shortest nodes f
 
-abbrev pub routed : Graph → Bool → List ℕ → Reading Routes
+abbrev pub routed : Graph → Bool → List ℕ → Reading RouteMap
 routed g shortest nodes = record { answers = AreRoutesOrFault g shortest nodes; reaches = no_file }
 
 abbrev pub nanos_of : Option Time → Option ℕ

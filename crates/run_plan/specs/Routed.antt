@@ -1,7 +1,7 @@
 -- The routes of a plan.
 use Rattle.std.specs.Prelude.{◌≡◌, ℕ, ◌<◌, List, Some}
 use Rattle.net_routes.specs.declared.cost.Cost.{Cost}
-use Rattle.net_routes.specs.declared.table.Routes.{Routes}
+use Rattle.net_routes.specs.RouteMap.{RouteMap}
 use Rattle.net_routes.specs.Least.{IsLookahead}
 use Rattle.net_routes.specs.Needed.{IsNeeded}
 use Rattle.net_routes.specs.Routes.{HasRoutes, route_in}
@@ -11,7 +11,7 @@ use Rattle.run_plan.specs.declared.planned.Planned.{Planned}
 use Rattle.run_plan.specs.declared.planned.Planned.TheVariants.{Shows, Runs, Lists}
 
 -- each route that hosts need takes a nanosecond at least
-abbrev pub TakeTime : List ℕ → Routes → Type 0
+abbrev pub TakeTime : List ℕ → RouteMap → Type 0
 TakeTime nodes routes = (a b : ℕ) (c : Cost) → IsNeeded nodes a b → route_in routes a b ≡ Some c → 0 < c.latency
 
 -- each pair of nodes that hosts need has a route, which takes time, and the lookahead is the least latency of these

@@ -6,8 +6,10 @@ use Rattle.std.specs.List.Sorted.{IsStrictlyIncreasing}
 use Rattle.net_routes.specs.declared.hop.Hop.{Hop}
 use Rattle.net_routes.specs.Walk.{hops}
 use Rattle.net_routes.specs.inside.Net.{IsNet}
-use Rattle.net_routes.specs.Routes.{route_at}
+use Rattle.net_routes.specs.Routes.{route_in}
+use Rattle.net_routes.specs.inside.RouteMaps.{map_of}
 use Rattle.net_routes.proofs.RouteLemmas.{some_route, some_there, stops_of}
+use Rattle.net_routes.proofs.RouteMapLemmas.{routes_kept}
 use Rattle.net_routes.proofs.FoundLemmas.{AreRowsFound, refused_in, whole_found, sound_found, table_found}
 use Rattle.net_routes.proofs.finding.routes.Goals as goal
 
@@ -46,15 +48,20 @@ stops_are g c = stops_of c.from-stops.result c.from-stops.result c.in_ok-from_sl
 pub returns-clause-ok : goal.returns-clause-ok
 returns-clause-ok g c a b need =
     let w = whole_found _ _ _ _ _ _ _ (rows_are g c) c.as_slice-ids.ensures.rising (stops_are g c) a b need in
-    some_route c.args.graph.now c.args.shortest a b (route_at c.from-stops.result c.in_ok-rows.rows a b) w
+    let stops = c.from-stops.result in
+    let rows = c.in_ok-rows.rows in
+    some_route c.args.graph.now c.args.shortest a b (route_in (map_of stops rows) a b) (w.0, routes_kept stops rows a b ∙ w.1, w.2)
 
 pub returns-clause-whole : goal.returns-clause-whole
 returns-clause-whole g c a b need =
     let w = whole_found _ _ _ _ _ _ _ (rows_are g c) c.as_slice-ids.ensures.rising (stops_are g c) a b need in
-    some_there (route_at c.from-stops.result c.in_ok-rows.rows a b) w.0 w.1
+    let stops = c.from-stops.result in
+    let rows = c.in_ok-rows.rows in
+    some_there (route_in (map_of stops rows) a b) w.0 (routes_kept stops rows a b ∙ w.1)
 
 pub returns-clause-sound : goal.returns-clause-sound
-returns-clause-sound g c = sound_found _ _ _ _ _ _ _ (rows_are g c)
+returns-clause-sound g c a b cost is =
+    sound_found _ _ _ _ _ _ _ (rows_are g c) a b cost (sym (routes_kept c.from-stops.result c.in_ok-rows.rows a b) ∙ is)
 
 pub returns-clause-table : goal.returns-clause-table
 returns-clause-table g c = table_found _ _ _ _ _ _ _ (rows_are g c) c.as_slice-ids.ensures.rising (stops_are g c)

@@ -22,7 +22,7 @@ returns-in-Some c =
     let all : c.loop-from.from ≡ length stops = omega arith in
     let H : ℕ → Type 0 = λ n. IsLeastIf (IsNeededFirst nodes stops n (length stops)) stops routes c.loop-from.least in
     let P : Option ℕ → Type 0 = λ o. IsLookahead nodes routes o in
-    subst P c.in-Some.is (stops_least nodes stops routes c.loop-from.least c.requires.same c.requires.routes (subst H all c.loop-from.invariant))
+    subst P c.in-Some.is (stops_least nodes stops routes c.loop-from.least c.requires.between c.requires.routes (subst H all c.loop-from.invariant))
 
 pub returns-in-None : goal.returns-in-None
 returns-in-None c =
@@ -32,4 +32,4 @@ returns-in-None c =
     let all : c.loop-from.from ≡ length stops = omega arith in
     let H : ℕ → Type 0 = λ n. IsLeastIf (IsNeededFirst nodes stops n (length stops)) stops routes c.loop-from.least in
     let P : Option ℕ → Type 0 = λ o. IsLookahead nodes routes o in
-    subst P c.in-None.is (stops_least nodes stops routes c.loop-from.least c.requires.same c.requires.routes (subst H all c.loop-from.invariant))
+    subst P c.in-None.is (stops_least nodes stops routes c.loop-from.least c.requires.between c.requires.routes (subst H all c.loop-from.invariant))
