@@ -15,7 +15,7 @@ use Rattle.host_link.specs.Logs.{lines_of}
 use Rattle.host_link.specs.Sending.{stays_here}
 use Rattle.host_state.specs.World.{World, opening_world}
 use Rattle.host_link.specs.declared.line.Line.{Line}
-use Rattle.host_link.specs.declared.net.Net.{Net}
+use Rattle.host_link.specs.Net.{Net}
 use Rattle.host_rows.specs.declared.row.Row.{Row}
 use Rattle.world_order.specs.World.{Logged}
 use Rattle.run_streams.specs.Past.{stays, TellsStays}

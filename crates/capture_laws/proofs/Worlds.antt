@@ -13,7 +13,7 @@ use Rattle.net_iface.specs.Lane.{AllFit}
 use Rattle.run_streams.specs.Run.{IsReached}
 use Rattle.run_streams.specs.Run.IsReached.{begins, turns}
 use Rattle.host_link.specs.declared.line.Line.{Line}
-use Rattle.host_link.specs.declared.net.Net.{Net}
+use Rattle.host_link.specs.Net.{Net}
 use Rattle.host_rows.specs.declared.row.ProcessRow.{ProcessRow}
 use Rattle.host_rows.specs.declared.row.Row.{Row}
 use Rattle.host_state.specs.Fire.{fire}

@@ -5,7 +5,7 @@ use Rattle.sim_base.specs.declared.address.Ip.{Ip}
 use Rattle.run_files.specs.Captures.{is_at, is_sent, passes, is_on_eth0, is_on_lo}
 use Rattle.host_link.specs.Sending.{stays_here}
 use Rattle.host_link.specs.declared.line.Line.{Line}
-use Rattle.host_link.specs.declared.net.Net.{Net}
+use Rattle.host_link.specs.Net.{Net}
 use Rattle.host_rows.specs.declared.row.Row.{Row}
 use Rattle.world_order.specs.World.{Logged}
 use Rattle.run_streams.specs.Past.{stays, WasLogged}

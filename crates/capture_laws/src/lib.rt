@@ -6,7 +6,7 @@ ghost use Rattle.sim_base.specs.Packet.{max_packet};
 ghost use Rattle.sim_base.specs.Units.{latest_time};
 ghost use Rattle.sim_base.specs.declared.address.Ip.{Ip};
 ghost use Rattle.host_link.specs.declared.line.Line.{Line};
-ghost use Rattle.host_link.specs.declared.net.Net.{Net};
+ghost use Rattle.host_link.specs.Net.{Net};
 ghost use Rattle.host_rows.specs.declared.row.Row.{Row};
 ghost use Rattle.run_files.specs.Captures.{eth0_of, lo_of};
 ghost use Rattle.host_state.specs.HostRecord.{HostRecord};

@@ -19,7 +19,7 @@ use Rattle.net_iface.specs.Lane.{pushed, released}
 use Rattle.host_wants.specs.declared.outlet.Want.{Want}
 use Rattle.host_wants.specs.declared.outlet.Want.TheVariants as wanted
 use Rattle.host_wants.specs.Wanted.{Wanted, draws_word}
-use Rattle.host_link.specs.declared.net.Net.{Net}
+use Rattle.host_link.specs.Net.{Net}
 use Rattle.host_link.specs.Wants.{does_want, does_all}
 use Rattle.host_link.specs.Lanes.{with_up}
 use Rattle.host_link.specs.Link.{LinkState, numbers, makes, later, not_before_next, event_of, logs}

@@ -6,7 +6,7 @@ use Rattle.sim_base.specs.declared.time.Time.{Time}
 use Rattle.file_calls.specs.declared.task.Why.{Why}
 use Rattle.host_calls.specs.Calls.{answers}
 use Rattle.host_calls.specs.Parts.{PartsRecord}
-use Rattle.host_link.specs.declared.net.Net.{Net}
+use Rattle.host_link.specs.Net.{Net}
 use Rattle.guest_process.specs.declared.process.Process.{Process}
 use Rattle.guest_process.specs.declared.process.Process.TheVariants as process
 use Rattle.guest_process.specs.declared.process.Running.{Running}

@@ -6,7 +6,7 @@ ghost use Rattle.sim_base.specs.Limits.{most_processes};
 ghost use Rattle.sim_base.specs.declared.event.Event.{Event};
 ghost use Rattle.host_calls.specs.Calls.{answers};
 ghost use Rattle.file_calls.specs.declared.task.Why.{Why};
-ghost use Rattle.host_link.specs.declared.net.Net.{Net};
+ghost use Rattle.host_link.specs.Net.{Net};
 ghost use Rattle.host_rows.specs.declared.row.Row.{Row};
 ghost use Rattle.host_state.specs.Fire.{has_acted, fire};
 ghost use Rattle.host_state.specs.HostRecord.{HostRecord};

@@ -4,7 +4,7 @@ use Rattle.sim_base.specs.declared.event.Event.{Event}
 use Rattle.sim_base.specs.declared.event.What.{What}
 use Rattle.sim_base.specs.declared.event.What.TheVariants as what
 use Rattle.sim_base.specs.Addresses.{host_at}
-use Rattle.host_link.specs.declared.net.Net.{Net}
+use Rattle.host_link.specs.Net.{Net}
 
 -- an event fires at the host that has the address of its packet, and another one at its source
 abbrev pub home_of : Net → ℕ → What → ℕ

@@ -3,6 +3,7 @@ pub mod Home
 pub mod Lanes
 pub mod Link
 pub mod Logs
+pub mod Net
 pub mod Outbox
 pub mod Parcels
 pub mod Sending

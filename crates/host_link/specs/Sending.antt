@@ -17,7 +17,7 @@ use Rattle.net_iface.specs.Lane.{Release}
 use Rattle.net_iface.specs.declared.lane.Pushed.{Pushed}
 use Rattle.net_iface.specs.declared.lane.Pushed.TheVariants.{Leaves, Waits, Dropped}
 use Rattle.host_wants.specs.Wanted.{Wanted, draws_word}
-use Rattle.host_link.specs.declared.net.Net.{Net}
+use Rattle.host_link.specs.Net.{Net}
 use Rattle.host_link.specs.Link.{LinkState, makes, later, logs}
 use Rattle.host_link.specs.Lanes.{pushes_up, releases_up}
 

@@ -5,7 +5,7 @@ use Rattle.sim_base.specs.declared.event.What.TheVariants as what
 use Rattle.host_wants.specs.declared.outlet.Want.{Want}
 use Rattle.host_wants.specs.declared.outlet.Want.TheVariants.{Send, Alarm}
 use Rattle.host_wants.specs.Wanted.{without_wants}
-use Rattle.host_link.specs.declared.net.Net.{Net}
+use Rattle.host_link.specs.Net.{Net}
 use Rattle.host_link.specs.Link.{makes}
 use Rattle.host_link.specs.Sending.{Wire, sends}
 

@@ -1,9 +1,10 @@
 //! What all hosts know of the network.
 
-ghost use Rattle.std.specs.Prelude.{◌≡◌, unwrap_or};
+ghost use Rattle.std.specs.Prelude.{◌≡◌, nat_le, option_map, unwrap_or};
 ghost use Rattle.sim_base.specs.Addresses.{host_at};
 ghost use Rattle.host_link.specs.Home.{home};
 ghost use Rattle.host_link.specs.Sending.{route_from, route_to, is_bootstrapping};
+ghost use Rattle.world_order.specs.Window.{window_end};
 
 use elf_load::Image;
 use file_calls::Known;
@@ -11,6 +12,7 @@ use net_routes::Routes;
 use sim_base::{Event, Ip, Time, What};
 use std::alloc::Global;
 use std::marker::Model;
+use world_order::Window;
 
 /// The nodes of hosts, which contracts see as a list of numbers.
 #[derive(Drop)]
@@ -82,6 +84,8 @@ impl From<Vec<Image>> for Images {
 
 /// What is lent to all hosts: the routes between nodes, the hosts' addresses and nodes, the times of
 /// the experiment, the budget of instructions between two calls, and the images of programs.
+///
+/// Contracts see these as a record of plain values.
 #[derive(Drop)]
 pub struct Net {
     pub routes: Routes,
@@ -95,6 +99,16 @@ pub struct Net {
     /// How many instructions a process may run from one call to the next.
     pub budget: u64,
     pub images: Images,
+}
+
+impl Model for Net {
+    ghost use Rattle.host_link.specs.Net.{Net as NetRecord, net_code};
+
+    ghost Value = { NetRecord };
+
+    ghost coded = { net_code };
+
+    ghost view = { λ n. record { routes = n.routes; nodes = n.nodes; known = n.known; bootstrap_end = n.bootstrap_end; stop = n.stop; budget = n.budget; images = n.images } };
 }
 
 impl Net {
@@ -126,6 +140,21 @@ impl Net {
         ensures { result ≡ is_bootstrapping self.now now }
     {
         now.nanos < self.bootstrap_end.nanos
+    }
+
+    /// Whether the experiment is over at a time.
+    pub fn is_over(&self, now: Time) -> bool
+        ensures { result ≡ nat_le self.now.stop.nanos now.nanos }
+    {
+        now.nanos >= self.stop.nanos
+    }
+
+    /// The window of the round whose least event is due at `least`.
+    pub fn window(&self, least: Time, lookahead: Option<Time>) -> Window
+        ensures from { result.from ≡ least }
+        ensures end { result.end.nanos ≡ window_end (option_map (λ t. t.nanos) lookahead) self.now.stop.nanos least.nanos }
+    {
+        Window::of(least, lookahead, self.stop)
     }
 
     /// The host that has an address, or else this one.

@@ -20,7 +20,7 @@ use Rattle.host_sockets.specs.Sockets.{SocketsRecord}
 use Rattle.host_sockets.specs.StandsFor.{Stand}
 use Rattle.host_wants.specs.Wanted.{Wanted}
 use Rattle.host_state.specs.declared.host.Body.{Body}
-use Rattle.host_link.specs.declared.net.Net.{Net}
+use Rattle.host_link.specs.Net.{Net}
 use Rattle.host_state.specs.HostRecord.{HostRecord}
 use Rattle.host_link.specs.Link.{LinkState, logs}
 use Rattle.host_link.specs.Lanes.{pushes_down, releases_down, Releases}

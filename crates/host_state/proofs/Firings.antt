@@ -12,7 +12,7 @@ use Rattle.host_calls.specs.Calls.{answers}
 use Rattle.host_calls.specs.Parts.{PartsRecord, PartsStand}
 use Rattle.host_calls.specs.Starting.{task_starts}
 use Rattle.host_state.specs.declared.host.Body.{Body}
-use Rattle.host_link.specs.declared.net.Net.{Net}
+use Rattle.host_link.specs.Net.{Net}
 use Rattle.guest_process.specs.declared.process.Process.{Process}
 use Rattle.guest_process.specs.declared.process.Running.{Running}
 use Rattle.host_rows.specs.declared.row.Row.{Row}

@@ -26,7 +26,7 @@ use Rattle.host_wants.specs.declared.outlet.Want.{Want}
 use Rattle.host_wants.specs.declared.outlet.Want.TheVariants as wanted
 use Rattle.host_wants.specs.Wanted.{Wanted, draws_word, without_wants}
 use Rattle.world_order.specs.Premises.{AreNumbered, IsFar}
-use Rattle.host_link.specs.declared.net.Net.{Net}
+use Rattle.host_link.specs.Net.{Net}
 use Rattle.host_state.specs.Fits.{FitsWhat, IsEventOf, IsLatency, IsLookaheadOf, IsShort}
 use Rattle.host_link.specs.Home.{home, home_of}
 use Rattle.host_link.specs.Wants.{does_want, does_all, does_wants}

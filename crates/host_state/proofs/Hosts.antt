@@ -7,7 +7,7 @@ use Rattle.host_calls.specs.Starting.{no_parts}
 use Rattle.host_link.specs.declared.outbox.Made.{Made}
 use Rattle.host_state.specs.declared.host.Host.{Host}
 use Rattle.host_link.specs.declared.line.Line.{Line}
-use Rattle.host_link.specs.declared.net.Net.{Net}
+use Rattle.host_link.specs.Net.{Net}
 use Rattle.host_link.specs.declared.outbox.Outbox.{Outbox}
 use Rattle.host_state.specs.Fire.{fire, wrote}
 use Rattle.host_state.specs.HostRecord.{HostRecord}

@@ -8,7 +8,7 @@ use Rattle.sim_base.specs.declared.event.What.{What}
 use Rattle.sim_base.specs.declared.event.What.TheVariants as what
 use Rattle.sim_base.specs.declared.time.Time.{Time}
 use Rattle.net_iface.specs.Lane.{AllFit}
-use Rattle.host_link.specs.declared.net.Net.{Net}
+use Rattle.host_link.specs.Net.{Net}
 use Rattle.host_rows.specs.declared.row.ProcessRow.{ProcessRow}
 use Rattle.host_rows.specs.declared.row.Row.{Row}
 use Rattle.host_state.specs.Fits.{FitsWhat, FitsNet, IsEventOf, OpensFit}

@@ -13,7 +13,7 @@ use Rattle.sim_base.specs.Addresses.{host_at, is_same_ip}
 use Rattle.world_order.specs.Model.{Fired}
 use Rattle.world_order.specs.Premises.{AreNumbered, IsFar, IsFit, Simulation}
 use Rattle.host_link.specs.declared.line.Line.{Line}
-use Rattle.host_link.specs.declared.net.Net.{Net}
+use Rattle.host_link.specs.Net.{Net}
 use Rattle.host_state.specs.Fire.{at_time, has_acted, fire}
 use Rattle.host_state.specs.Fits.{model, fires_before_stop, IsEventOf, IsHostOf, IsLookaheadOf, IsShort, FiringsFit}
 use Rattle.host_link.specs.Home.{home, home_of}

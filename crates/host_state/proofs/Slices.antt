@@ -23,7 +23,7 @@ use Rattle.host_calls.specs.Calls.{call, PartsCalled}
 use Rattle.host_calls.specs.Events.{ended}
 use Rattle.host_calls.specs.Parts.{PartsRecord, PartsStand}
 use Rattle.host_state.specs.declared.host.Body.{Body}
-use Rattle.host_link.specs.declared.net.Net.{Net}
+use Rattle.host_link.specs.Net.{Net}
 use Rattle.host_sockets.specs.declared.sockets.Sockets.{Sockets}
 use Rattle.host_sockets.specs.StandsFor.{Stand}
 use Rattle.guest_process.specs.declared.process.Process.{Process}

@@ -7,7 +7,7 @@ use Rattle.rv32_machine.specs.Table.{state}
 use Rattle.rv32_machine.specs.Turn.{turn}
 use Rattle.rv32_machine.proofs.TurnLaws.{turn_is}
 use Rattle.file_calls.specs.declared.task.Task.{Task}
-use Rattle.host_link.specs.declared.net.Net.{Net}
+use Rattle.host_link.specs.Net.{Net}
 use Rattle.host_state.specs.Step.{Step}
 use Rattle.host_state.specs.Step as step
 use Rattle.host_state.specs.HostRecord.{HostRecord}

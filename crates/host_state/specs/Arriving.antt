@@ -11,7 +11,7 @@ use Rattle.net_iface.specs.declared.lane.Pushed.{Pushed}
 use Rattle.net_iface.specs.declared.lane.Pushed.TheVariants.{Leaves, Waits, Dropped}
 use Rattle.host_calls.specs.Events.{arrives}
 use Rattle.host_calls.specs.Parts.{PartsRecord}
-use Rattle.host_link.specs.declared.net.Net.{Net}
+use Rattle.host_link.specs.Net.{Net}
 use Rattle.host_state.specs.HostRecord.{HostRecord}
 use Rattle.host_link.specs.Link.{LinkState, logs}
 use Rattle.host_link.specs.Lanes.{pushes_down, releases_down}

@@ -14,7 +14,7 @@ use Rattle.host_calls.specs.Calls.{answers}
 use Rattle.host_calls.specs.Events.{alarmed}
 use Rattle.host_calls.specs.Starting.{task_starts}
 use Rattle.host_link.specs.declared.line.Line.{Line}
-use Rattle.host_link.specs.declared.net.Net.{Net}
+use Rattle.host_link.specs.Net.{Net}
 use Rattle.guest_process.specs.declared.process.Process.{Process}
 use Rattle.guest_process.specs.declared.process.Process.TheVariants as process
 use Rattle.guest_process.specs.declared.process.Running.{Running}

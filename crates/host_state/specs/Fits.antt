@@ -10,7 +10,7 @@ use Rattle.sim_base.specs.Packet.{packet_size}
 use Rattle.sim_base.specs.Units.{max_u64}
 use Rattle.net_iface.specs.Lane.{AllFit}
 use Rattle.host_link.specs.declared.line.Line.{Line}
-use Rattle.host_link.specs.declared.net.Net.{Net}
+use Rattle.host_link.specs.Net.{Net}
 use Rattle.host_rows.specs.declared.row.Row.{Row}
 use Rattle.host_link.specs.Home.{home}
 use Rattle.host_state.specs.HostRecord.{HostRecord}

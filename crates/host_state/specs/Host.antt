@@ -2,7 +2,7 @@
 use Rattle.std.specs.Prelude.{ℕ, slice_set}
 use Rattle.host_calls.specs.Parts.{PartsRecord}
 use Rattle.host_wants.specs.Wanted.{Wanted}
-use Rattle.host_link.specs.declared.net.Net.{Net}
+use Rattle.host_link.specs.Net.{Net}
 use Rattle.guest_process.specs.declared.process.Process.{Process}
 use Rattle.host_state.specs.HostRecord.{HostRecord}
 use Rattle.host_link.specs.Link.{LinkState}

@@ -5,7 +5,7 @@ use Rattle.sim_base.specs.declared.event.Event.{Event}
 use Rattle.world_order.specs.Model.{Fired}
 use Rattle.host_state.specs.declared.host.Host.{Host}
 use Rattle.host_link.specs.declared.line.Line.{Line}
-use Rattle.host_link.specs.declared.net.Net.{Net}
+use Rattle.host_link.specs.Net.{Net}
 use Rattle.host_link.specs.declared.outbox.Outbox.{Outbox}
 use Rattle.host_rows.specs.declared.row.Row.{Row}
 use Rattle.host_state.specs.Fire.{fire, wrote}

@@ -16,7 +16,7 @@ use Rattle.file_calls.specs.declared.task.Task.{Task}
 use Rattle.host_calls.specs.Calls.{call}
 use Rattle.host_calls.specs.Events.{ended}
 use Rattle.host_calls.specs.Parts.{PartsRecord}
-use Rattle.host_link.specs.declared.net.Net.{Net}
+use Rattle.host_link.specs.Net.{Net}
 use Rattle.guest_process.specs.declared.process.Process.TheVariants as process
 use Rattle.guest_process.specs.Registers.{a0, a1, a2, a3, a4, a5, a7}
 use Rattle.host_state.specs.Step.{Step}

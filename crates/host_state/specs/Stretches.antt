@@ -5,7 +5,7 @@ use Rattle.rv32_machine.specs.declared.cpu.Cpu.{Cpu}
 use Rattle.rv32_machine.specs.Table.{state}
 use Rattle.rv32_machine.specs.Turn.{turn}
 use Rattle.file_calls.specs.declared.task.Task.{Task}
-use Rattle.host_link.specs.declared.net.Net.{Net}
+use Rattle.host_link.specs.Net.{Net}
 use Rattle.host_state.specs.Step as step
 use Rattle.host_state.specs.HostRecord.{HostRecord}
 use Rattle.host_state.specs.Slice.{pause, runs_to_call, rests, has_ended, goes_later}

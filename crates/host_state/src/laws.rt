@@ -5,7 +5,7 @@ ghost use Rattle.sim_base.specs.Units.{latest_time};
 ghost use Rattle.sim_base.specs.declared.event.Event.{Event};
 ghost use Rattle.rv32_machine.specs.declared.cpu.Cpu.{Cpu};
 ghost use Rattle.host_state.specs.declared.host.Host.{Host};
-ghost use Rattle.host_link.specs.declared.net.Net.{Net};
+ghost use Rattle.host_link.specs.Net.{Net};
 ghost use Rattle.host_rows.specs.declared.row.Row.{Row};
 ghost use Rattle.host_state.specs.Step as step;
 ghost use Rattle.host_state.specs.Fits.{FiringsFit, FitsNet, IsEventOf, IsLookaheadOf, IsShort, OpensFit};

@@ -2,7 +2,7 @@
 use Rattle.std.specs.Prelude.{ℕ, ◌+◌, ◌^◌, List, [], ◌∷◌, ◌++◌, map, Option, Some, None, codes, min, if◌then◌else◌}
 use Rattle.sim_base.specs.declared.time.Time.{Time}
 use Rattle.file_calls.specs.declared.known.Known.{Known}
-use Rattle.host_link.specs.declared.net.Net.{Net}
+use Rattle.host_link.specs.Net.{Net}
 use Rattle.host_rows.specs.declared.row.ProcessRow.{ProcessRow}
 use Rattle.host_rows.specs.declared.row.Row.{Row}
 use Rattle.run_plan.specs.Plan.{nodes_of}

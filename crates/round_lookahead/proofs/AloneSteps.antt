@@ -11,7 +11,7 @@ use Rattle.list_weights.specs.Weights.{weigh, numbers_below}
 use Rattle.steal_workers.specs.Gathers.{joined}
 use Rattle.file_calls.specs.declared.task.Output.{Output}
 use Rattle.host_link.specs.declared.line.Logged.{Logged}
-use Rattle.host_link.specs.declared.net.Net.{Net}
+use Rattle.host_link.specs.Net.{Net}
 use Rattle.host_link.specs.declared.outbox.Outbox.{Outbox}
 use Rattle.host_state.specs.HostRecord.{HostRecord}
 use Rattle.world_order.proofs.Homes.{some_is, get_set_same, get_set_other, below_get}

@@ -3,7 +3,7 @@ use Rattle.std.proofs.Common.{◌≡◌, ℕ, zero, suc, List, [], ◌∷◌, �
 use Rattle.sim_base.specs.declared.event.Event.{Event}
 use Rattle.file_calls.specs.declared.task.Output.{Output}
 use Rattle.host_link.specs.declared.line.Line.{Line}
-use Rattle.host_link.specs.declared.net.Net.{Net}
+use Rattle.host_link.specs.Net.{Net}
 use Rattle.host_state.specs.Extends.{IsLater, AreLater, Extends}
 use Rattle.host_state.specs.Fire.{fire, wrote}
 use Rattle.host_state.specs.Fits.{model, fires_before_stop}

@@ -13,7 +13,7 @@ use Rattle.sim_base.specs.declared.time.Time.{Time}
 use Rattle.event_order.specs.Events.{IsLeastDue}
 use Rattle.file_calls.specs.declared.task.Output.{Output}
 use Rattle.host_state.specs.declared.host.Host.{Host}
-use Rattle.host_link.specs.declared.net.Net.{Net}
+use Rattle.host_link.specs.Net.{Net}
 use Rattle.host_state.specs.Fits.{IsEventOf}
 use Rattle.host_state.specs.HostRecord.{HostRecord}
 use Rattle.host_state.specs.HostStands.{Stands}

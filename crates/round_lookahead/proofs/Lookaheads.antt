@@ -8,7 +8,7 @@ use Rattle.net_routes.specs.RouteMap.{RouteMap}
 use Rattle.net_routes.specs.Least.{IsLookahead}
 use Rattle.net_routes.specs.Needed.{IsAt, IsNeeded}
 use Rattle.net_routes.specs.Routes.{route_in}
-use Rattle.host_link.specs.declared.net.Net.{Net}
+use Rattle.host_link.specs.Net.{Net}
 use Rattle.host_state.specs.Fits.{IsLatency, IsLookaheadOf}
 use Rattle.host_link.specs.Sending.{route_from, told}
 use Rattle.world_order.proofs.Homes.{below_get}

@@ -12,7 +12,7 @@ use Rattle.sim_base.specs.declared.host.HostId.{HostId}
 use Rattle.file_calls.specs.declared.task.Output.{Output}
 use Rattle.host_state.specs.declared.host.Host.{Host}
 use Rattle.host_link.specs.declared.line.Line.{Line}
-use Rattle.host_link.specs.declared.net.Net.{Net}
+use Rattle.host_link.specs.Net.{Net}
 use Rattle.host_link.specs.Home.{home}
 use Rattle.host_link.specs.Parcels.{parcel_event}
 use Rattle.host_state.specs.Running.{kept_line}

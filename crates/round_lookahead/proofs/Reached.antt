@@ -4,7 +4,7 @@ use Rattle.std.specs.Prelude.{flat_map}
 use Rattle.std.specs.List.{Any}
 use Rattle.std.proofs.lemmas.List.Sorted.{IsPermutation-sym, All-permutation}
 use Rattle.sim_base.specs.declared.event.Event.{Event}
-use Rattle.host_link.specs.declared.net.Net.{Net}
+use Rattle.host_link.specs.Net.{Net}
 use Rattle.host_state.specs.Extends.{Extends}
 use Rattle.host_state.specs.Fits.{model}
 use Rattle.host_state.specs.World.{IsResult}

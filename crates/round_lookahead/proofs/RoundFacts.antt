@@ -16,7 +16,7 @@ use Rattle.steal_workers.specs.SeatViews.{SeatView, AreSameSeats}
 use Rattle.steal_workers.specs.inside.TookBack.{numbers_of}
 use Rattle.steal_workers.specs.WholeDeals.{common_deal, IsWholeDeal, IsNewDeal}
 use Rattle.steal_workers.proofs.SameSeats.{same_seats_whole, same_deal}
-use Rattle.host_link.specs.declared.net.Net.{Net}
+use Rattle.host_link.specs.Net.{Net}
 use Rattle.host_state.specs.HostRecord.{HostRecord}
 use Rattle.round_lookahead.specs.declared.workers.bench.Bench.{Bench}
 use Rattle.round_lookahead.specs.declared.workers.task.Task.{Task}

@@ -12,7 +12,7 @@ use Rattle.host_inbox.specs.Drains.{all_entries}
 use Rattle.host_inbox.specs.Kept.{back_weight}
 use Rattle.steal_workers.specs.Gathers.{joined, AreOwnMarked}
 use Rattle.steal_workers.specs.SeatViews.{SeatView, IsSameSeat, AreSameSeats, HasMark}
-use Rattle.host_link.specs.declared.net.Net.{Net}
+use Rattle.host_link.specs.Net.{Net}
 use Rattle.host_state.specs.HostRecord.{HostRecord}
 use Rattle.round_lookahead.specs.declared.workers.bench.Bench.{Bench}
 use Rattle.round_lookahead.specs.declared.workers.task.Task.{Task}

@@ -20,7 +20,7 @@ use Rattle.file_calls.specs.declared.task.Why.{Why}
 use Rattle.host_calls.specs.Calls.{call}
 use Rattle.host_calls.specs.Events.{ended}
 use Rattle.host_calls.specs.Starting.{task_starts}
-use Rattle.host_link.specs.declared.net.Net.{Net}
+use Rattle.host_link.specs.Net.{Net}
 use Rattle.guest_process.specs.declared.process.Running.{Running}
 use Rattle.host_state.specs.Arriving.{is_handed_over, are_handed_over, goes_in, comes_to_router, comes_in, down_comes}
 use Rattle.host_state.specs.Fire.{begins, starts, ready, running_in, is_not_started, kept_by, runs_on, goes_if, goes, is_shut, shutdown_signal, shuts_if, shuts, rings, acts, wakes_if, would_answer, wakes_in, wakes, wakes_from, wakes_all, at_time, has_acted}

@@ -3,7 +3,7 @@ use Rattle.std.proofs.Common.{◌≡◌, ℕ, suc, ◌+◌, ◌<◌, inl, inr, �
 use Rattle.std.proofs.lemmas.List.Sorted.{IsPermutation-refl, IsPermutation-append}
 use Rattle.sim_base.specs.declared.event.Event.{Event}
 use Rattle.steal_workers.specs.Gathers.{joined}
-use Rattle.host_link.specs.declared.net.Net.{Net}
+use Rattle.host_link.specs.Net.{Net}
 use Rattle.host_state.specs.Fits.{model}
 use Rattle.host_link.specs.Home.{home}
 use Rattle.host_state.specs.HostRecord.{HostRecord}

@@ -6,7 +6,7 @@ use Rattle.std.proofs.lemmas.List.Sorted.{IsPermutation-sym}
 use Rattle.sim_base.specs.declared.event.Parcel.{Parcel}
 use Rattle.file_calls.specs.declared.task.Output.{Output}
 use Rattle.host_link.specs.declared.line.Line.{Line}
-use Rattle.host_link.specs.declared.net.Net.{Net}
+use Rattle.host_link.specs.Net.{Net}
 use Rattle.host_link.specs.Home.{home}
 use Rattle.host_link.specs.Parcels.{parcel_event}
 use Rattle.host_state.specs.Running.{kept_line}

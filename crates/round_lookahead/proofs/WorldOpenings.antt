@@ -6,7 +6,7 @@ use Rattle.sim_base.specs.declared.event.Event.{Event}
 use Rattle.sim_base.specs.declared.host.HostId.{HostId}
 use Rattle.sim_base.specs.declared.key.Key.{Key}
 use Rattle.host_state.specs.declared.host.Host.{Host}
-use Rattle.host_link.specs.declared.net.Net.{Net}
+use Rattle.host_link.specs.Net.{Net}
 use Rattle.host_rows.specs.declared.row.Row.{Row}
 use Rattle.host_state.specs.Opening.{opening}
 use Rattle.host_state.specs.Fits.{model, IsEventOf, IsHostOf, FitsNet, OpensFit}

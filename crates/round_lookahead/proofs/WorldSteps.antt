@@ -11,7 +11,7 @@ use Rattle.sim_base.specs.declared.key.Key.{Key}
 use Rattle.list_weights.specs.Weights.{weigh}
 use Rattle.list_weights.proofs.Weights.{weigh_append}
 use Rattle.host_link.specs.declared.line.Line.{Line}
-use Rattle.host_link.specs.declared.net.Net.{Net}
+use Rattle.host_link.specs.Net.{Net}
 use Rattle.host_state.specs.Fits.{model, IsEventOf, IsHostOf}
 use Rattle.host_link.specs.Home.{home, home_of}
 use Rattle.host_state.specs.HostRecord.{HostRecord}

@@ -7,7 +7,7 @@ use Rattle.list_weights.specs.Weights.{numbers_below}
 use Rattle.file_calls.specs.declared.task.Output.{Output}
 use Rattle.run_files.specs.declared.piece.Piece.{Piece}
 use Rattle.host_link.specs.declared.line.Line.{Line}
-use Rattle.host_link.specs.declared.net.Net.{Net}
+use Rattle.host_link.specs.Net.{Net}
 use Rattle.run_files.specs.Files.{put_of}
 use Rattle.host_state.specs.Gains.{Gains, names_in}
 use Rattle.run_files.specs.Grown.{all_grown, with_bytes}

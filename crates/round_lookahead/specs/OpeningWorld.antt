@@ -1,6 +1,6 @@
 -- Where a run begins.
 use Rattle.std.specs.Prelude.{◌≡◌, ℕ, List, [], ◌∷◌, length, Some, slice_get}
-use Rattle.host_link.specs.declared.net.Net.{Net}
+use Rattle.host_link.specs.Net.{Net}
 use Rattle.host_rows.specs.declared.row.Row.{Row}
 use Rattle.host_state.specs.Fits.{FitsNet}
 use Rattle.host_state.specs.HostStands.{Begins}

@@ -1,7 +1,7 @@
 -- How far a run has come by its rounds, and what is left of it.
 use Rattle.std.specs.Prelude.{ℕ, ◌-◌, ◌≤◌, min, List, [], ◌∷◌, flat_map}
 use Rattle.sim_base.specs.declared.event.Event.{Event}
-use Rattle.host_link.specs.declared.net.Net.{Net}
+use Rattle.host_link.specs.Net.{Net}
 use Rattle.host_state.specs.Fits.{model}
 use Rattle.world_order.specs.World as order
 use Rattle.round_lookahead.specs.declared.world.world_state.World.{World}

@@ -5,7 +5,7 @@ use Rattle.sim_base.specs.declared.event.Parcel.{Parcel}
 use Rattle.list_weights.specs.Weights.{weigh, numbers_below}
 use Rattle.list_weights.specs.Places.{EachAt}
 use Rattle.steal_workers.specs.Gathers.{joined}
-use Rattle.host_link.specs.declared.net.Net.{Net}
+use Rattle.host_link.specs.Net.{Net}
 use Rattle.host_state.specs.HostRecord.{HostRecord}
 use Rattle.round_lookahead.specs.declared.workers.task.Task.{Task}
 use Rattle.round_lookahead.specs.declared.workers.worked.Worked.{Worked}

@@ -1,7 +1,7 @@
 -- A round in which each host is run in its place is a round of workers whose work is put back.
 use Rattle.std.specs.Prelude.{◌≡◌, ℕ, List, length, Vec}
 use Rattle.std.specs.declared.alloc.Global.{Global}
-use Rattle.host_link.specs.declared.net.Net.{Net}
+use Rattle.host_link.specs.Net.{Net}
 use Rattle.host_state.specs.HostRecord.{HostRecord}
 use Rattle.round_lookahead.specs.declared.workers.task.Task.{Task}
 use Rattle.round_lookahead.specs.declared.workers.worked.Worked.{Worked}

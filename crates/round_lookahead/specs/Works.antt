@@ -4,7 +4,7 @@ use Rattle.sim_base.specs.declared.event.Event.{Event}
 use Rattle.sim_base.specs.declared.event.Parcel.{Parcel}
 use Rattle.host_inbox.specs.declared.entry.Entry.{Entry}
 use Rattle.host_link.specs.declared.line.Line.{Line}
-use Rattle.host_link.specs.declared.net.Net.{Net}
+use Rattle.host_link.specs.Net.{Net}
 use Rattle.host_link.specs.declared.outbox.Outbox.{Outbox}
 use Rattle.host_state.specs.Fits.{model, IsEventOf}
 use Rattle.host_state.specs.HostRecord.{HostRecord}

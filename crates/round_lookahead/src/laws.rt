@@ -3,7 +3,7 @@
 ghost use Rattle.std.specs.Prelude.{◌≡◌, ◌<◌, ◌≤◌, ℕ, List, Option, All, Any, flat_map};
 ghost use Rattle.host_state.specs.Extends.{Extends};
 ghost use Rattle.host_state.specs.World.{IsResult};
-ghost use Rattle.host_link.specs.declared.net.Net.{Net};
+ghost use Rattle.host_link.specs.Net.{Net};
 ghost use Rattle.host_rows.specs.declared.row.Row.{Row};
 ghost use Rattle.round_lookahead.specs.Gains.{HasRound};
 ghost use Rattle.round_lookahead.specs.OpeningWorld.{AreHostRows, opening_world};

@@ -6,7 +6,7 @@ use Rattle.host_state.specs.Fits.{model}
 use Rattle.host_state.specs.HostRecord.{HostRecord}
 use Rattle.host_state.specs.World.{World, IsResult}
 use Rattle.host_link.specs.declared.line.Line.{Line}
-use Rattle.host_link.specs.declared.net.Net.{Net}
+use Rattle.host_link.specs.Net.{Net}
 use Rattle.world_order.specs.Premises.{Simulation}
 use Rattle.world_order.specs.Round.{Going, Closed, opened}
 use Rattle.world_order.specs.Rounds.{after_round, IsSameWorld}

@@ -2,7 +2,7 @@
 use Rattle.std.specs.Prelude.{Result, OnOk}
 use Rattle.std.proofs.Common.{◌≡◌, ℕ, zero, suc, ◌+◌, ◌<◌, ◌≤◌, Ok, Err, length, drop, get_or, arith, List, [], ◌∷◌, ◌++◌, Option, Some, None, option_map, option_and_then, refl, sym, ap, subst, ◌∙◌}
 use Rattle.host_link.specs.declared.line.Line.{Line}
-use Rattle.host_link.specs.declared.net.Net.{Net}
+use Rattle.host_link.specs.Net.{Net}
 use Rattle.host_state.specs.Fits.{model}
 use Rattle.host_state.specs.HostRecord.{HostRecord}
 use Rattle.world_order.specs.Round as order

@@ -10,7 +10,7 @@ use Rattle.sim_base.specs.declared.event.What.TheVariants as what
 use Rattle.sim_base.specs.declared.key.Key.{Key}
 use Rattle.host_link.specs.declared.line.Line.{Line}
 use Rattle.host_link.specs.declared.line.Logged.{Logged as HostLogged}
-use Rattle.host_link.specs.declared.net.Net.{Net}
+use Rattle.host_link.specs.Net.{Net}
 use Rattle.host_state.specs.Fits.{model}
 use Rattle.host_link.specs.Home.{home, home_of}
 use Rattle.host_link.specs.Outbox.{own_events, parcels_of, posted, logged}

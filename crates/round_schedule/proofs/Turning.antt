@@ -7,7 +7,7 @@ use Rattle.sim_base.specs.declared.event.Parcel.{Parcel}
 use Rattle.file_calls.specs.declared.task.Output.{Output}
 use Rattle.host_link.specs.declared.line.Line.{Line}
 use Rattle.host_link.specs.declared.line.Logged.{Logged as HostLogged}
-use Rattle.host_link.specs.declared.net.Net.{Net}
+use Rattle.host_link.specs.Net.{Net}
 use Rattle.host_state.specs.Fire.{fire, wrote}
 use Rattle.host_state.specs.Fits.{model, fires_before_stop, IsEventOf, IsHostOf}
 use Rattle.host_link.specs.Home.{home}

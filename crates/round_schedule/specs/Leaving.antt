@@ -1,7 +1,7 @@
 -- What a closed round of hosts leaves.
 use Rattle.std.specs.Prelude.{◌≡◌, ℕ, ◌++◌, map}
 use Rattle.host_link.specs.declared.line.Line.{Line}
-use Rattle.host_link.specs.declared.net.Net.{Net}
+use Rattle.host_link.specs.Net.{Net}
 use Rattle.host_state.specs.HostRecord.{HostRecord}
 use Rattle.world_order.specs.Settled.{AreDueFrom}
 use Rattle.world_order.specs.World.{World}

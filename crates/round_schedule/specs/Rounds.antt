@@ -2,7 +2,7 @@
 use Rattle.std.specs.Prelude.{◌≡◌, ℕ, List, Some}
 use Rattle.host_state.specs.Fits.{model}
 use Rattle.host_state.specs.World.{World}
-use Rattle.host_link.specs.declared.net.Net.{Net}
+use Rattle.host_link.specs.Net.{Net}
 use Rattle.world_order.specs.Round.{Closed}
 use Rattle.world_order.specs.Rounds.{after_round}
 use Rattle.world_order.specs.Schedule.{after_all}

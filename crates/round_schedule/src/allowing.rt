@@ -3,7 +3,7 @@
 ghost use Rattle.std.specs.Prelude.{◌≡◌, is_some, option_copied};
 ghost use Rattle.host_state.specs.HostRecord.{HostRecord};
 ghost use Rattle.host_link.specs.declared.line.Line.{Line};
-ghost use Rattle.host_link.specs.declared.net.Net.{Net};
+ghost use Rattle.host_link.specs.Net.{Net};
 ghost use Rattle.host_state.specs.Fits.{model};
 ghost use Rattle.world_order.specs.Steps.{is_allowed, is_empty};
 ghost use Rattle.world_order.specs.World.{World};

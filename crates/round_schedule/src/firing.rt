@@ -1,7 +1,7 @@
 //! The host in a worker's hand fires an event.
 
 ghost use Rattle.std.specs.Prelude.{◌≡◌, ◌++◌, OnOk, IfOk, IsPermutation};
-ghost use Rattle.host_link.specs.declared.net.Net.{Net};
+ghost use Rattle.host_link.specs.Net.{Net};
 ghost use Rattle.world_order.specs.EventOrder.{AreApart};
 ghost use Rattle.round_schedule.specs.Reaching.{May, Does};
 ghost use Rattle.round_schedule.specs.inside.Kinds.{fires};

@@ -3,7 +3,7 @@
 ghost use Rattle.std.specs.Prelude.{◌≡◌, ℕ, List, ◌++◌, Some};
 ghost use Rattle.sim_base.specs.declared.event.Event.{Event};
 ghost use Rattle.host_link.specs.declared.line.Line.{Line};
-ghost use Rattle.host_link.specs.declared.net.Net.{Net};
+ghost use Rattle.host_link.specs.Net.{Net};
 ghost use Rattle.host_state.specs.Fits.{model};
 ghost use Rattle.host_state.specs.HostRecord.{HostRecord};
 ghost use Rattle.world_order.specs.Round as order;

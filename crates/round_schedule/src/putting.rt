@@ -1,7 +1,7 @@
 //! A worker puts a packet somewhere.
 
 ghost use Rattle.std.specs.Prelude.{◌≡◌, ◌<◌, ◌∷◌, ◌++◌, [], OnOk, Some, length, slice_set};
-ghost use Rattle.host_link.specs.declared.net.Net.{Net};
+ghost use Rattle.host_link.specs.Net.{Net};
 ghost use Rattle.round_schedule.specs.inside.Kinds.{puts};
 ghost use Rattle.round_schedule.specs.inside.Putting.{Spills, HasPlaced};
 ghost use Rattle.round_schedule.specs.Reaching.{May, Does};

@@ -4,7 +4,7 @@ ghost use Rattle.std.specs.Prelude.{◌≡◌, ◌≤◌, IfOk, None, replicate}
 ghost use Rattle.sim_base.specs.Limits.{most_workers};
 ghost use Rattle.host_state.specs.HostRecord.{HostRecord};
 ghost use Rattle.host_link.specs.declared.line.Line.{Line};
-ghost use Rattle.host_link.specs.declared.net.Net.{Net};
+ghost use Rattle.host_link.specs.Net.{Net};
 ghost use Rattle.world_order.specs.World.{World};
 ghost use Rattle.round_schedule.specs.Opening.{MayOpen};
 ghost use Rattle.round_schedule.specs.Reaching.{round_on};

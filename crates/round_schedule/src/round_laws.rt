@@ -5,7 +5,7 @@ ghost use Rattle.host_state.specs.Fits.{model};
 ghost use Rattle.host_state.specs.HostRecord.{HostRecord};
 ghost use Rattle.host_state.specs.World.{World, IsResult};
 ghost use Rattle.host_link.specs.declared.line.Line.{Line};
-ghost use Rattle.host_link.specs.declared.net.Net.{Net};
+ghost use Rattle.host_link.specs.Net.{Net};
 ghost use Rattle.world_order.specs.Round.{Closed, opened, world_of};
 ghost use Rattle.world_order.specs.Rounds.{IsSameWorld, after_round};
 ghost use Rattle.world_order.specs.Schedule.{after_all};

@@ -1,7 +1,7 @@
 //! A worker takes a host, and gives it back.
 
 ghost use Rattle.std.specs.Prelude.{◌≡◌};
-ghost use Rattle.host_link.specs.declared.net.Net.{Net};
+ghost use Rattle.host_link.specs.Net.{Net};
 ghost use Rattle.world_order.specs.Steps as order;
 ghost use Rattle.round_schedule.specs.Reaching.{May, Does};
 ghost use Rattle.round_schedule.specs.inside.Kinds.{takes, gives};

@@ -12,7 +12,7 @@ use Rattle.host_link.specs.Beginning.{begins_all, begins_process, begins_shutdow
 use Rattle.host_state.specs.Opening.{host_begins, opening}
 use Rattle.host_state.specs.World.{World, opening_world}
 use Rattle.host_link.specs.declared.line.Line.{Line}
-use Rattle.host_link.specs.declared.net.Net.{Net}
+use Rattle.host_link.specs.Net.{Net}
 use Rattle.host_rows.specs.declared.row.ProcessRow.{ProcessRow}
 use Rattle.host_rows.specs.declared.row.Row.{Row}
 use Rattle.run_fits.proofs.Bytes.{all_flat_map, all_set, got, all_append}

@@ -2,7 +2,7 @@
 use Rattle.std.specs.List.{AllByRecursion}
 use Rattle.elf_load.specs.ProgramImage.{ProgramImage}
 use Rattle.host_link.specs.declared.line.Line.{Line}
-use Rattle.host_link.specs.declared.net.Net.{Net}
+use Rattle.host_link.specs.Net.{Net}
 use Rattle.host_rows.specs.declared.row.ProcessRow.{ProcessRow}
 use Rattle.host_rows.specs.declared.row.Row.{Row}
 use Rattle.std.specs.Prelude.{List}

@@ -14,7 +14,7 @@ ghost use Rattle.host_calls.specs.Calls.{call};
 ghost use Rattle.host_calls.specs.Events.{arrives, alarmed, ended};
 ghost use Rattle.host_calls.specs.Parts.{PartsRecord};
 ghost use Rattle.host_calls.specs.Starting.{task_starts};
-ghost use Rattle.host_link.specs.declared.net.Net.{Net};
+ghost use Rattle.host_link.specs.Net.{Net};
 ghost use Rattle.host_rows.specs.declared.row.Row.{Row};
 ghost use Rattle.run_files.specs.LinesFit.{AllFit};
 ghost use Rattle.host_link.specs.Logs.{lines_of};

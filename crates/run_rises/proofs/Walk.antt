@@ -28,7 +28,7 @@ use Rattle.host_calls.specs.Calls.{call}
 use Rattle.host_calls.specs.Events.{arrives, alarmed, ended}
 use Rattle.host_calls.specs.Parts.{PartsRecord, place}
 use Rattle.host_calls.specs.Starting.{task_starts}
-use Rattle.host_link.specs.declared.net.Net.{Net}
+use Rattle.host_link.specs.Net.{Net}
 use Rattle.guest_process.specs.declared.process.Running.{Running}
 use Rattle.host_state.specs.Step.{Step}
 use Rattle.host_state.specs.Step as step

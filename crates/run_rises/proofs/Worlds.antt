@@ -15,7 +15,7 @@ use Rattle.call_rises.specs.Moves.{TasksRise}
 use Rattle.call_rises.specs.Names.{named_in, names}
 use Rattle.call_rises.proofs.Views.{some_same}
 use Rattle.host_link.specs.declared.line.Line.{Line}
-use Rattle.host_link.specs.declared.net.Net.{Net}
+use Rattle.host_link.specs.Net.{Net}
 use Rattle.host_rows.specs.declared.row.Row.{Row}
 use Rattle.host_state.specs.Fire.{fire}
 use Rattle.host_state.specs.Fits.{model}

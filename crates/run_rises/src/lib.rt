@@ -25,7 +25,7 @@ ghost use Rattle.host_calls.specs.Parts.{PartsRecord, Scene};
 ghost use Rattle.host_calls.specs.Ready as ready;
 ghost use Rattle.host_calls.specs.Ready.{object_rises};
 ghost use Rattle.host_calls.specs.Starting.{task_starts};
-ghost use Rattle.host_link.specs.declared.net.Net.{Net};
+ghost use Rattle.host_link.specs.Net.{Net};
 ghost use Rattle.host_rows.specs.declared.row.Row.{Row};
 ghost use Rattle.host_state.specs.HostRecord.{HostRecord};
 ghost use Rattle.host_state.specs.World.{World, opening_world};

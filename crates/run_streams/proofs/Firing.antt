@@ -6,7 +6,7 @@ use Rattle.sim_base.specs.declared.address.Addr.{Addr}
 use Rattle.sim_base.specs.declared.event.Event.{Event}
 use Rattle.sim_base.specs.declared.packet.Packet.{Packet}
 use Rattle.sock_tcp.specs.connection.Tcb.{Tcb}
-use Rattle.host_link.specs.declared.net.Net.{Net}
+use Rattle.host_link.specs.Net.{Net}
 use Rattle.host_state.specs.Fire.{has_acted, keeps_outputs, fire}
 use Rattle.host_state.specs.Fits.{fires_before_stop}
 use Rattle.host_state.specs.HostRecord.{HostRecord}

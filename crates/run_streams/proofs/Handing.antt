@@ -6,7 +6,7 @@ use Rattle.sim_base.specs.declared.address.Addr.{Addr}
 use Rattle.sim_base.specs.declared.packet.Packet.{Packet}
 use Rattle.sock_tcp.specs.connection.Tcb.{Tcb}
 use Rattle.host_calls.specs.Events.{arrives}
-use Rattle.host_link.specs.declared.net.Net.{Net}
+use Rattle.host_link.specs.Net.{Net}
 use Rattle.host_state.specs.Arriving.{is_handed_over, are_handed_over}
 use Rattle.host_state.specs.Host.{with_link, with_parts}
 use Rattle.host_state.specs.HostRecord.{HostRecord}

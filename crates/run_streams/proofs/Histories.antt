@@ -12,7 +12,7 @@ use Rattle.host_sockets.specs.Connecting.{connect_asked}
 use Rattle.host_sockets.specs.Sockets.{SocketsRecord}
 use Rattle.host_sockets.specs.TcpSocket.{TcpSocket, listens_to}
 use Rattle.host_wants.specs.Wanted.{Wanted}
-use Rattle.host_link.specs.declared.net.Net.{Net}
+use Rattle.host_link.specs.Net.{Net}
 use Rattle.host_rows.specs.declared.row.Row.{Row}
 use Rattle.host_state.specs.HostRecord.{HostRecord}
 use Rattle.host_state.specs.World.{World, IsResult, opening_world}

@@ -24,7 +24,7 @@ use Rattle.host_wants.specs.declared.outlet.Want.{Want}
 use Rattle.host_wants.specs.declared.outlet.Want.TheVariants as wanted
 use Rattle.host_wants.specs.Wanted.{Wanted, draws_word, without_wants}
 use Rattle.host_link.specs.declared.line.Line.{Line}
-use Rattle.host_link.specs.declared.net.Net.{Net}
+use Rattle.host_link.specs.Net.{Net}
 use Rattle.run_files.specs.Captures.{is_own, is_loopback}
 use Rattle.host_link.specs.Wants.{does_want, does_all, does_wants}
 use Rattle.host_link.specs.Lanes.{with_up, with_down}

@@ -14,7 +14,7 @@ use Rattle.net_iface.specs.declared.lane.Waiting.{Waiting}
 use Rattle.tcp_laws.proofs.Tests.{by_test}
 use Rattle.tcp_streams.proofs.Members.{Contains_here}
 use Rattle.host_link.specs.declared.line.Line.{Line}
-use Rattle.host_link.specs.declared.net.Net.{Net}
+use Rattle.host_link.specs.Net.{Net}
 use Rattle.host_rows.specs.declared.row.Row.{Row}
 use Rattle.run_files.specs.Captures.{is_own, is_loopback}
 use Rattle.host_state.specs.Fire.{fire, has_acted}

@@ -14,7 +14,7 @@ use Rattle.host_wants.specs.declared.outlet.Want.TheVariants as wanted
 use Rattle.host_wants.specs.Wanted.{Wanted}
 use Rattle.host_sockets.specs.Sockets.{SocketsRecord}
 use Rattle.host_calls.specs.Parts.{PartsRecord}
-use Rattle.host_link.specs.declared.net.Net.{Net}
+use Rattle.host_link.specs.Net.{Net}
 use Rattle.host_state.specs.Host.{with_link, with_parts, wire_of, with_wire, settles}
 use Rattle.host_link.specs.Wants.{does_wants}
 use Rattle.host_state.specs.HostRecord.{HostRecord}

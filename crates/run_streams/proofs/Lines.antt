@@ -18,7 +18,7 @@ use Rattle.out_text.specs.declared.streams.Stream.{Stream}
 use Rattle.host_sockets.specs.declared.streams.HostStream.{HostStream}
 use Rattle.host_sockets.specs.Streams.{streams_of}
 use Rattle.stream_pairs.specs.Directions.{Kept, is_within, is_between, is_long, unused, kept_at, other_end, direction, directions}
-use Rattle.host_link.specs.declared.net.Net.{Net}
+use Rattle.host_link.specs.Net.{Net}
 use Rattle.host_rows.specs.declared.row.Row.{Row}
 use Rattle.host_state.specs.HostRecord.{HostRecord}
 use Rattle.host_state.specs.World.{World, opening_world}

@@ -21,7 +21,7 @@ use Rattle.tcp_laws.proofs.Tests.{by_test}
 use Rattle.host_wants.specs.declared.outlet.Want.{Want}
 use Rattle.host_wants.specs.declared.outlet.Want.TheVariants as wanted
 use Rattle.host_wants.specs.Wanted.{Wanted, draws_word, without_wants}
-use Rattle.host_link.specs.declared.net.Net.{Net}
+use Rattle.host_link.specs.Net.{Net}
 use Rattle.host_link.specs.Wants.{does_want, does_all, does_wants}
 use Rattle.host_link.specs.Lanes.{with_up, with_down}
 use Rattle.host_link.specs.Link.{LinkState, event_of, not_before_next, numbers, makes, later, logs}

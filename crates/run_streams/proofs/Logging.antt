@@ -5,7 +5,7 @@ use Rattle.std.proofs.lemmas.List.Sorted.{Contains-permutation, IsPermutation-sy
 use Rattle.sim_base.specs.declared.event.Event.{Event}
 use Rattle.tcp_streams.proofs.Members.{Contains_here, Contains_there}
 use Rattle.host_link.specs.declared.line.Line.{Line}
-use Rattle.host_link.specs.declared.net.Net.{Net}
+use Rattle.host_link.specs.Net.{Net}
 use Rattle.host_rows.specs.declared.row.Row.{Row}
 use Rattle.host_state.specs.Fire.{fire}
 use Rattle.host_state.specs.Fits.{model}

@@ -31,7 +31,7 @@ use Rattle.file_calls.specs.declared.task.Why.{Why}
 use Rattle.host_calls.specs.Calls.{call}
 use Rattle.host_calls.specs.Events.{alarmed, ended}
 use Rattle.host_calls.specs.Starting.{task_starts}
-use Rattle.host_link.specs.declared.net.Net.{Net}
+use Rattle.host_link.specs.Net.{Net}
 use Rattle.guest_process.specs.declared.process.Process.{Process}
 use Rattle.guest_process.specs.declared.process.Running.{Running}
 use Rattle.host_state.specs.Step.{Step}

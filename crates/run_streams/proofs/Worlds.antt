@@ -21,7 +21,7 @@ use Rattle.tcp_streams.proofs.Promise.{streams}
 use Rattle.host_wants.specs.Wanted.{nothing_wanted}
 use Rattle.host_sockets.specs.Sockets.{no_sockets}
 use Rattle.host_link.specs.declared.line.Line.{Line}
-use Rattle.host_link.specs.declared.net.Net.{Net}
+use Rattle.host_link.specs.Net.{Net}
 use Rattle.host_rows.specs.declared.row.ProcessRow.{ProcessRow}
 use Rattle.host_rows.specs.declared.row.Row.{Row}
 use Rattle.host_state.specs.Fire.{fire}

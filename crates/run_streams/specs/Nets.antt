@@ -7,7 +7,7 @@ use Rattle.sim_base.specs.declared.packet.Packet.{Packet}
 use Rattle.sock_tcp.specs.connection.Tcb.{Tcb}
 use Rattle.net_iface.specs.declared.lane.Waiting.{Waiting}
 use Rattle.net_iface.specs.Lane.{LaneState}
-use Rattle.host_link.specs.declared.net.Net as declared
+use Rattle.host_link.specs.Net as of_hosts
 use Rattle.host_state.specs.Fits.{model}
 use Rattle.host_state.specs.HostRecord.{HostRecord}
 use Rattle.host_link.specs.Link.{LinkState}
@@ -52,5 +52,5 @@ abbrev pub world_net : World → Net
 world_net w = net_with (world_records w) (flat_map host_packets w.hosts ++ packets_carried w.events)
 
 -- the net of the host with a number, and of the packets that come to it
-abbrev pub host_net : declared.Net → ℕ → HostRecord → List Event → Net
+abbrev pub host_net : of_hosts.Net → ℕ → HostRecord → List Event → Net
 host_net net i h events = net_with (host_records h) (host_packets h ++ packets_carried (events_at (model net) i events))

@@ -2,7 +2,7 @@
 use Rattle.std.specs.Prelude.{◌≡◌, ℕ, false, true, List, map, Some, slice_get}
 use Rattle.sim_base.specs.Addresses.{loopback, is_same_ip}
 use Rattle.sim_base.specs.declared.time.Time.{Time}
-use Rattle.host_link.specs.declared.net.Net.{Net}
+use Rattle.host_link.specs.Net.{Net}
 use Rattle.host_rows.specs.declared.row.Row.{Row}
 use Rattle.host_state.specs.Fits.{model}
 use Rattle.host_state.specs.HostRecord.{HostRecord}

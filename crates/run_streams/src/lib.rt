@@ -17,7 +17,7 @@ ghost use Rattle.host_sockets.specs.Accepting.{accepts_at};
 ghost use Rattle.host_sockets.specs.Connecting.{connect_asked};
 ghost use Rattle.host_sockets.specs.TcpSocket.{TcpSocket, listens_to};
 ghost use Rattle.host_link.specs.declared.line.Line.{Line};
-ghost use Rattle.host_link.specs.declared.net.Net.{Net};
+ghost use Rattle.host_link.specs.Net.{Net};
 ghost use Rattle.host_rows.specs.declared.row.Row.{Row};
 ghost use Rattle.run_files.specs.Captures.{is_loopback};
 ghost use Rattle.host_state.specs.Fire.{fire};

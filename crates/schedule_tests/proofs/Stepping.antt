@@ -1,7 +1,7 @@
 -- Steps one by one, and the same steps at once.
 use Rattle.std.proofs.Common.{◌≡◌, true, false, List, [], ◌∷◌, Option, Some, None, is_some, refl, sym, ap, subst, ◌∙◌}
 use Rattle.host_link.specs.declared.line.Line.{Line}
-use Rattle.host_link.specs.declared.net.Net.{Net}
+use Rattle.host_link.specs.Net.{Net}
 use Rattle.host_state.specs.Fits.{model}
 use Rattle.host_state.specs.HostRecord.{HostRecord}
 use Rattle.round_schedule.specs.Reaching.{State, Goes, IsReached, MayGo}

@@ -14,7 +14,6 @@ use round_schedule::Round;
 use run_plan::Run;
 use sim_base::{NoMemory, Time};
 use std::alloc::Global;
-use world_order::Window;
 
 /// The hosts of rows, as each begins.
 fn open_hosts(alloc: Global, rows: Vec<Row>, net: &Net) -> Result<Vec<Host>, NoMemory>
@@ -40,7 +39,7 @@ pub fn begin(alloc: Global, run: Run) -> Result<(Round, Net), NoMemory>
         lookahead,
         ..
     } = open(alloc, run)?;
-    let window = Window::of(Time { nanos: 0 }, lookahead, net.stop);
+    let window = net.window(Time { nanos: 0 }, lookahead);
     let hosts = open_hosts(alloc, rows, &net)?;
     let round = Round::open(hosts, &net, window, 2)?;
     Ok((round, net))

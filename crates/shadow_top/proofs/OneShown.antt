@@ -7,7 +7,7 @@ use Rattle.run_outside.specs.Sink.{Content, add, begun}
 use Rattle.run_outside.specs.declared.sink.Place.TheVariants as place
 use Rattle.sim_base.specs.declared.packet.Packet.{Packet}
 use Rattle.host_state.specs.World.{World, IsResult, opening_world}
-use Rattle.host_link.specs.declared.net.Net.{Net}
+use Rattle.host_link.specs.Net.{Net}
 use Rattle.net_run.specs.Pieces.{with_pieces}
 use Rattle.net_run.specs.Shown.{status_of}
 use Rattle.pcap_text.specs.Datagram.{datagram, datagram_bytes, longest}

@@ -16,7 +16,7 @@ use Rattle.run_files.specs.Listed.{HostNames, listed, names_of}
 use Rattle.host_link.specs.Logs.{lines_of}
 use Rattle.host_state.specs.World.{World, IsResult, opening_world}
 use Rattle.host_link.specs.declared.line.Line.{Line}
-use Rattle.host_link.specs.declared.net.Net.{Net}
+use Rattle.host_link.specs.Net.{Net}
 use Rattle.host_rows.specs.declared.row.Row.{Row}
 use Rattle.net_run.specs.Grown.{HaveOwnFiles, IsUnderway}
 use Rattle.net_run.specs.Heads.{all_heads}

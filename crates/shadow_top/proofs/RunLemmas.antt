@@ -3,7 +3,7 @@ use Rattle.std.proofs.Common.{◌≡◌, ℕ, ◌≤◌, Bool, List, [], ◌∷�
 use Rattle.run_outside.specs.Sink.{Content}
 use Rattle.run_outside.specs.declared.sink.WriteError.{WriteError}
 use Rattle.host_state.specs.World.{World, IsResult, opening_world}
-use Rattle.host_link.specs.declared.net.Net.{Net}
+use Rattle.host_link.specs.Net.{Net}
 use Rattle.host_rows.specs.declared.row.Row.{Row}
 use Rattle.net_run.specs.Grown.{HaveOwnFiles}
 use Rattle.run_files.specs.Listed.{HostNames, HasIds, listed, names_of}

@@ -6,7 +6,7 @@ use Rattle.host_inbox.specs.CarrierViews.{BoardsView, CarrierView}
 use Rattle.steal_workers.specs.SeatViews.{SeatView, IsSameSeat, HasMark}
 use Rattle.round_lookahead.specs.inside.Arrivals.{Boxed}
 use Rattle.round_lookahead.specs.declared.workers.task.Task.{Task}
-use Rattle.host_link.specs.declared.net.Net.{Net}
+use Rattle.host_link.specs.Net.{Net}
 use Rattle.host_state.specs.HostRecord.{HostRecord}
 use Rattle.round_lookahead.specs.declared.workers.bench.Bench.{Bench}
 use Rattle.round_lookahead.specs.declared.workers.worked.Worked.{Worked}

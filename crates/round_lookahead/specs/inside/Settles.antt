@@ -4,7 +4,7 @@ use Rattle.std.specs.declared.alloc.Global.{Global}
 use Rattle.sim_base.specs.declared.event.Parcel.{Parcel}
 use Rattle.list_weights.specs.Weights.{numbers_below}
 use Rattle.host_link.specs.declared.line.Line.{Line}
-use Rattle.host_link.specs.declared.net.Net.{Net}
+use Rattle.host_link.specs.Net.{Net}
 use Rattle.host_link.specs.Home.{home}
 use Rattle.host_link.specs.Parcels.{parcel_event}
 use Rattle.host_state.specs.Running.{kept_line}

@@ -20,7 +20,6 @@ use std::alloc::Global;
 use std::mem;
 use std::thread::Threads;
 use steal_workers::Gate;
-use world_order::Window;
 
 impl World {
     /// When the next event is due; none where there is no event.
@@ -37,7 +36,7 @@ impl World {
     {
         match self.next_due() {
             None => true,
-            Some(due) => due.nanos >= self.net.stop.nanos,
+            Some(due) => self.net.is_over(due),
         }
     }
 
@@ -58,7 +57,7 @@ impl World {
         ensures listing { self.new.listing ≡ self.old.listing }
         ensures turns { IfOk result (λ gained. (w : HostWorld) → WorldStands self.old w → (v : HostWorld) × HasGained self.old self.new workers w v gained) }
     {
-        let window = Window::of(least, self.lookahead, self.net.stop);
+        let window = self.net.window(least, self.lookahead);
         let most = most_threads(self.tasks.as_slice(), window.end, workers);
         let threads = self.load.threads(most);
         if threads < 2 {

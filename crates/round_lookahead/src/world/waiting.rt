@@ -2,7 +2,7 @@
 ghost use Rattle.std.specs.Prelude.{◌≡◌, ◌++◌, ◌∷◌, ◌<◌, [], All, OnOk, IsPermutation, length, map};
 ghost use Rattle.host_link.specs.Parcels.{parcel_event};
 ghost use Rattle.host_link.specs.Home.{home};
-ghost use Rattle.host_link.specs.declared.net.Net.{Net};
+ghost use Rattle.host_link.specs.Net.{Net};
 ghost use Rattle.round_lookahead.specs.inside.Backs.{row_arrivals, AreAtHome};
 ghost use Rattle.round_lookahead.specs.inside.Waits.{IsSameHosts, rows_of};
 

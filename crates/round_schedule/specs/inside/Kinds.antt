@@ -1,6 +1,6 @@
 -- The kinds of steps, on a round of hosts.
 use Rattle.std.specs.Prelude.{ℕ, Option, option_map}
-use Rattle.host_link.specs.declared.net.Net.{Net}
+use Rattle.host_link.specs.Net.{Net}
 use Rattle.host_state.specs.Fits.{model}
 use Rattle.world_order.specs.Round as order
 use Rattle.world_order.specs.Steps.{take_host, fire_host, put_packet, give_back, close_round, goes}

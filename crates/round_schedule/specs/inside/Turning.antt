@@ -3,7 +3,7 @@ use Rattle.std.specs.Prelude.{◌≡◌, ◌≤◌, ◌<◌, ℕ, List, ◌∷�
 use Rattle.sim_base.specs.Units.{latest_time}
 use Rattle.sim_base.specs.declared.event.Event.{Event}
 use Rattle.host_state.specs.declared.host.Host.{Host}
-use Rattle.host_link.specs.declared.net.Net.{Net}
+use Rattle.host_link.specs.Net.{Net}
 use Rattle.host_state.specs.Fire.{fire, wrote}
 use Rattle.host_state.specs.HostRecord.{HostRecord}
 use Rattle.host_state.specs.HostStands.{Stands, IsSameBody}

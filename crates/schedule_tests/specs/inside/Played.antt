@@ -1,7 +1,7 @@
 -- The first round of a run, and steps that are allowed in it.
 use Rattle.std.specs.Prelude.{◌≡◌, List, Some}
 use Rattle.host_link.specs.declared.line.Line.{Line}
-use Rattle.host_link.specs.declared.net.Net.{Net}
+use Rattle.host_link.specs.Net.{Net}
 use Rattle.host_state.specs.Fits.{model}
 use Rattle.host_state.specs.HostRecord.{HostRecord}
 use Rattle.host_state.specs.World.{opening_world}

@@ -1,4 +1,8 @@
-use Rattle.std.proofs.Common.{◌≡◌, ◌∙◌, sym, length, nat_lt, true, false, rules}
+use Rattle.std.proofs.Common.{◌≡◌, ◌∙◌, sym, ap, subst, length, nat_lt, true, false, rules}
+use Rattle.file_calls.specs.declared.known.Known.{Known}
+use Rattle.host_calls.specs.Calls.{call, PartsCalled}
+use Rattle.host_calls.specs.Parts.{PartsRecord, PartsStand}
+use Rattle.host_link.specs.Net.{Net}
 use Rattle.host_state.specs.Step.{step_with}
 use Rattle.host_state.proofs.Slices.{called, not_called}
 use Rattle.host_state.proofs.host.Body.call.Goals as goal
@@ -13,5 +17,7 @@ pub returns : goal.returns
 returns c =
     let there : nat_lt c.args.process (length c.args.self.now.parts.tasks.items) ≡ true =
     let r : c.has_task.result ≡ true = search rules in sym c.has_task.ensures.is ∙ r in
+    let known : c.net.inside.known ≡ c.args.net.now.known = ap (λ (n : Net). n.known) c.net.view_is in
+    let P : Known → Type 0 = λ k. (q : PartsRecord) → PartsStand c.args.self.now.parts q → PartsCalled (call k c.now-now.result c.args.process c.args.number c.args.arguments q) c.in_ok-answer.answer c.do_call.new.parts in
     called c.args.net.now c.args.process c.args.number c.args.arguments c.args.cpu.now c.args.self.now c.settle.new.self c.now-now.result c.in_ok-answer.answer c.do_call.new.parts
-    (step_with c.next_of.result c.next_of.new.cpu) there c.now-now.ensures.time c.in_ok-answer.ensures c.in_ok-settle.ensures c.next_of.ensures
+    (step_with c.next_of.result c.next_of.new.cpu) there c.now-now.ensures.time (subst P known c.in_ok-answer.ensures) c.in_ok-settle.ensures c.next_of.ensures

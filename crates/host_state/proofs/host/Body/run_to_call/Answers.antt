@@ -1,5 +1,7 @@
-use Rattle.std.proofs.Common.{◌≡◌, ◌∙◌, sym, refl, length, nat_lt, slice_get, slice_set, Some, true, false, ◌<◌, rules, tests}
+use Rattle.std.proofs.Common.{◌≡◌, ℕ, ◌∙◌, sym, refl, ap, subst, length, nat_lt, slice_get, slice_set, Some, None, true, false, ◌<◌, rules, tests}
 use Rattle.std.proofs.lemmas.Option.{slice_get_read}
+use Rattle.guest_process.specs.Turns.{SlotTurns}
+use Rattle.host_link.specs.Net.{Net}
 use Rattle.host_state.specs.Step.{step_with}
 use Rattle.host_state.proofs.Slices.{ran, not_ran, none_ran}
 use Rattle.host_state.proofs.host.Body.run_to_call.Goals as goal
@@ -17,8 +19,10 @@ returns-in_ok-next-in-Some c =
     let within : c.args.process < length c.args.self.now.parts.tasks.items = search (rules, tests) in
     let there : slice_get c.args.self.now.parts.tasks.items c.args.process ≡ Some c.index_mut.result.now =
     slice_get_read c.args.self.now.parts.tasks.items _ c.args.process c.index_mut.result.now refl within c.index_mut.ensures.value in
+    let budget : c.net.inside.budget ≡ c.args.net.now.budget = ap (λ (n : Net). n.budget) c.net.view_is in
+    let P : ℕ → Type 0 = λ b. SlotTurns b c.args.cpu.now c.index_mut.result.now c.turn_slot-turned.new.cpu c.turn_slot-turned.new.slot (Some c.in-Some.end) in
     ran c.args.net.now c.args.process c.args.cpu.now c.turn_slot-turned.new.cpu c.args.self.now _ c.end_turn.new.self c.in-Some.end (step_with c.in_ok-next-in-Some.next c.end_turn.new.cpu)
-    c.in_ok-next-in-Some.ensures refl refl refl refl refl c.index_mut.result.now c.turn_slot-turned.new.slot there refl c.in-Some.ensures
+    c.in_ok-next-in-Some.ensures refl refl refl refl refl c.index_mut.result.now c.turn_slot-turned.new.slot there refl (subst P budget c.in-Some.ensures)
 
 pub returns-in-None : goal.returns-in-None
 returns-in-None c =
@@ -27,5 +31,7 @@ returns-in-None c =
     let within : c.args.process < length c.args.self.now.parts.tasks.items = search (rules, tests) in
     let there : slice_get c.args.self.now.parts.tasks.items c.args.process ≡ Some c.index_mut.result.now =
     slice_get_read c.args.self.now.parts.tasks.items _ c.args.process c.index_mut.result.now refl within c.index_mut.ensures.value in
+    let budget : c.net.inside.budget ≡ c.args.net.now.budget = ap (λ (n : Net). n.budget) c.net.view_is in
+    let P : ℕ → Type 0 = λ b. SlotTurns b c.args.cpu.now c.index_mut.result.now c.turn_slot-turned.new.cpu c.turn_slot-turned.new.slot None in
     not_ran c.args.net.now c.args.process c.args.cpu.now c.turn_slot-turned.new.cpu c.args.self.now _
-    refl refl refl refl refl c.index_mut.result.now c.turn_slot-turned.new.slot there refl c.in-None.ensures
+    refl refl refl refl refl c.index_mut.result.now c.turn_slot-turned.new.slot there refl (subst P budget c.in-None.ensures)

@@ -3,7 +3,7 @@ use Rattle.std.specs.Vec.Iter.{into_iter_items}
 use Rattle.host_link.specs.Parcels.{parcel_event}
 use Rattle.round_lookahead.specs.inside.Backs.{row_arrivals, AreAtHome}
 use Rattle.host_link.specs.Home.{home}
-use Rattle.host_link.specs.declared.net.Net.{Net}
+use Rattle.host_link.specs.Net.{Net}
 use Rattle.round_lookahead.proofs.world.delivery.deliver.Given as goal
 
 -- what is left completes the whole

@@ -1,5 +1,5 @@
 use Rattle.std.proofs.Common.{◌≡◌, ℕ, ◌<◌, ◌∷◌, Some, List, length, slice_get, slice_set, refl, sym, ap, subst, ◌∙◌, arith}
-use Rattle.host_link.specs.declared.net.Net.{Net}
+use Rattle.host_link.specs.Net.{Net}
 use Rattle.sim_base.specs.declared.event.Parcel.{Parcel}
 use Rattle.world_order.specs.declared.step.Spot.{Spot}
 use Rattle.world_order.specs.declared.step.Spot.TheVariants.{Place, Spill}

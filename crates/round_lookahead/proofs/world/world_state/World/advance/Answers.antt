@@ -9,7 +9,7 @@ use Rattle.round_lookahead.proofs.world.world_state.World.advance.Goals as goal
 
 pub run_beside-requires-clause-until : goal.run_beside-requires-clause-until
 run_beside-requires-clause-until g c κs lives =
-    subst (λ (n : ℕ). n ≤ c.args.self.now.net.stop.nanos) (sym c.of-window.ensures.end) (window_upto (nanos_of c.args.self.now.lookahead) c.args.self.now.net.stop.nanos c.args.least.nanos)
+    subst (λ (n : ℕ). n ≤ c.args.self.now.net.stop.nanos) (sym c.window-window.ensures.end) (window_upto (nanos_of c.args.self.now.lookahead) c.args.self.now.net.stop.nanos c.args.least.nanos)
 
 pub run_beside-requires-clause-few : goal.run_beside-requires-clause-few
 run_beside-requires-clause-few g c κs lives =
@@ -28,13 +28,13 @@ run_beside-requires-clause-tasks g c κs lives =
 pub settle-requires : goal.settle-requires
 settle-requires g c =
     settles c.args.self.now c.requires.stands.0 c.requires.stands.1 c.args.least c.requires.least c.args.workers c.in_ok-works.field-0.works.items c.in_ok-works.field-0.rows.items
-    c.in_ok-works.ensures.works c.replace-tasks.result c.replace-tasks.ensures.value c.of-window.result.end.nanos c.of-window.ensures.end c.in_ok-works.ensures.round
+    c.in_ok-works.ensures.works c.replace-tasks.result c.replace-tasks.ensures.value c.window-window.result.end.nanos c.window-window.ensures.end c.in_ok-works.ensures.round
     c.len-count.result (let e = c.len-count.ensures in omega (arith, c.args.self.now.tasks.ok.0))
 
 pub returns-clause-turns : goal.returns-clause-turns
 returns-clause-turns g c = λ w stands.
     goes_on c.args.self.now w stands c.args.least c.requires.least c.args.workers c.in_ok-works.field-0.works.items c.in_ok-works.field-0.rows.items
-    c.in_ok-works.ensures.works c.replace-tasks.result c.replace-tasks.ensures.value c.of-window.result.end.nanos c.of-window.ensures.end c.in_ok-works.ensures.round
+    c.in_ok-works.ensures.works c.replace-tasks.result c.replace-tasks.ensures.value c.window-window.result.end.nanos c.window-window.ensures.end c.in_ok-works.ensures.round
     c.len-count.result (let e = c.len-count.ensures in omega (arith, c.args.self.now.tasks.ok.0)) c.in_ok-tasks.field-0 c.in_ok-tasks.ensures
     c.count_round-2.new.self c.count_round-2.ensures c.note-2.new.self
 
@@ -43,5 +43,5 @@ round_in_place-requires-clause-tasks g c = all_tasks c.args.self.now c.requires.
 
 pub returns-then-threads-lt2-clause-turns : goal.returns-then-threads-lt2-clause-turns
 returns-then-threads-lt2-clause-turns g c = λ w stands.
-    goes_on_here c.args.self.now w stands c.args.least c.requires.least c.args.workers c.round_in_place.new.tasks c.of-window.result.end.nanos c.of-window.ensures.end
+    goes_on_here c.args.self.now w stands c.args.least c.requires.least c.args.workers c.round_in_place.new.tasks c.window-window.result.end.nanos c.window-window.ensures.end
     c.in_ok-ran.ran c.in_ok-ran.ensures c.count_round.new.self c.count_round.ensures c.note.new.self
