@@ -7,3 +7,4 @@ pub mod Closing
 pub mod Calls
 pub mod Events
 pub mod Starting
+pub mod inside

@@ -3,60 +3,19 @@
 ghost use Rattle.std.specs.Prelude.{◌≡◌};
 ghost use Rattle.host_sockets.specs.Sockets.{SocketsRecord};
 ghost use Rattle.host_sockets.specs.StandsFor.{Stand, Becomes};
-ghost use Rattle.host_calls.specs.Parts.{Answers, scene};
 ghost use Rattle.host_calls.specs.Sockets as spec;
+ghost use Rattle.host_calls.specs.inside.Stage.{Acts};
 
+use crate::stage::Stage;
 use call_parts::{
     SocketNumber, address_bytes, inet_address, open_socket, socket_asked, tcp_number,
 };
-use file_calls::{O_NONBLOCK, Shared, Task, has, open};
+use file_calls::{O_NONBLOCK, has, open};
 use guest_mem::Mem;
 use host_files::{File, Object};
 use host_sockets::Sockets;
 use host_wants::{CallError, Refusal};
 use sim_base::{Addr, Book, Errno};
-
-/// `socket(2)`.
-pub(crate) fn socket(
-    family: u32,
-    kind: u32,
-    protocol: u32,
-    task: &mut Task,
-    shared: &mut Shared,
-    sockets: &mut Sockets,
-) -> Result<u32, CallError>
-    ensures { (t : SocketsRecord) → Stand sockets.old t → Answers (spec.socket family kind protocol (scene (task.old, shared.old) t)) (task.old, shared.old) t (task.new, shared.new) sockets.new result }
-{
-    let new = socket_asked(family, kind, protocol, task)?;
-    let nonblocking = has(O_NONBLOCK, kind);
-    if new.stream {
-        let place = sockets.new_tcp()?;
-        let object = Object::Tcp(place);
-        open(
-            new.fd,
-            File {
-                nonblocking,
-                object,
-            },
-            task,
-            shared,
-        )?;
-        Ok(new.fd)
-    } else {
-        let place = sockets.new_udp()?;
-        let object = Object::Udp(place);
-        open(
-            new.fd,
-            File {
-                nonblocking,
-                object,
-            },
-            task,
-            shared,
-        )?;
-        Ok(new.fd)
-    }
-}
 
 fn is_bound(number: SocketNumber, sockets: &Sockets) -> bool
     ensures { (t : SocketsRecord) → Stand sockets.now t → result ≡ spec.is_bound number t }
@@ -97,36 +56,51 @@ fn bind_at(
     }
 }
 
-/// `bind(2)`.
-pub(crate) fn bind(
-    hosts: &Book,
-    fd: u32,
-    at: u32,
-    size: u32,
-    task: &Task,
-    shared: &Shared,
-    sockets: &mut Sockets,
-) -> Result<u32, CallError>
-    ensures { (t : SocketsRecord) → Stand sockets.old t → Answers (spec.bind hosts.now fd at size (scene (task.now, shared.now) t)) (task.now, shared.now) t (task.now, shared.now) sockets.new result }
-{
-    let socket = open_socket(fd, task, shared)?;
-    let to = bind_asked(socket.number, at, size, &task.memory, sockets)?;
-    bind_at(hosts, socket.number, to, sockets)?;
-    Ok(0)
-}
+impl Stage<'_> {
+    /// `socket(2)`.
+    pub(crate) fn socket(&mut self, family: u32, kind: u32, protocol: u32) -> Result<u32, CallError>
+        ensures { Acts (spec.socket family kind protocol) self.old self.new result }
+    {
+        let new = socket_asked(family, kind, protocol, self.task)?;
+        let nonblocking = has(O_NONBLOCK, kind);
+        if new.stream {
+            let place = self.sockets.new_tcp()?;
+            let object = Object::Tcp(place);
+            let file = File {
+                nonblocking,
+                object,
+            };
+            open(new.fd, file, self.task, self.shared)?;
+            Ok(new.fd)
+        } else {
+            let place = self.sockets.new_udp()?;
+            let object = Object::Udp(place);
+            let file = File {
+                nonblocking,
+                object,
+            };
+            open(new.fd, file, self.task, self.shared)?;
+            Ok(new.fd)
+        }
+    }
 
-/// `listen(2)`.
-pub(crate) fn listen(
-    fd: u32,
-    backlog: u32,
-    task: &Task,
-    shared: &Shared,
-    sockets: &mut Sockets,
-) -> Result<u32, CallError>
-    ensures { (t : SocketsRecord) → Stand sockets.old t → Answers (spec.listen fd backlog (scene (task.now, shared.now) t)) (task.now, shared.now) t (task.now, shared.now) sockets.new result }
-{
-    let socket = open_socket(fd, task, shared)?;
-    let place = tcp_number(socket.number)?;
-    sockets.listen_tcp(place, backlog.cast_signed())?;
-    Ok(0)
+    /// `bind(2)`.
+    pub(crate) fn bind(&mut self, fd: u32, at: u32, size: u32) -> Result<u32, CallError>
+        ensures { Acts (spec.bind self.old.known.now.book fd at size) self.old self.new result }
+    {
+        let socket = open_socket(fd, self.task, self.shared)?;
+        let to = bind_asked(socket.number, at, size, &self.task.memory, self.sockets)?;
+        bind_at(&self.known.book, socket.number, to, self.sockets)?;
+        Ok(0)
+    }
+
+    /// `listen(2)`.
+    pub(crate) fn listen(&mut self, fd: u32, backlog: u32) -> Result<u32, CallError>
+        ensures { Acts (spec.listen fd backlog) self.old self.new result }
+    {
+        let socket = open_socket(fd, self.task, self.shared)?;
+        let place = tcp_number(socket.number)?;
+        self.sockets.listen_tcp(place, backlog.cast_signed())?;
+        Ok(0)
+    }
 }

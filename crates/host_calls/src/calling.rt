@@ -7,17 +7,13 @@ ghost use Rattle.host_sockets.specs.StandsFor.{Stand};
 ghost use Rattle.host_calls.specs.Calls as spec;
 ghost use Rattle.host_calls.specs.Parts.{Answers, PartsRecord, PartsStand, scene, Scene, local_of};
 ghost use Rattle.host_calls.specs.Parts.{place as place_at, Leaves};
+ghost use Rattle.host_calls.specs.inside.Stage.{Stays, Acts, Called, local_on, scene_on};
 ghost use Rattle.file_calls.specs.Scene.{Does};
 
-use crate::acting::act;
 use crate::all::Parts;
-use crate::asking::asked;
-use crate::binding::{bind, listen, socket};
-use crate::closing::{close, close_task};
-use crate::epoll::epoll_pwait;
-use crate::naming::{getpeername, getsockname, shutdown};
-use crate::options::getsockopt;
+use crate::closing::close_task;
 use crate::parts::{Answer, Reaction};
+use crate::stage::Stage;
 use call_parts::{Call, NetworkCall, PlainCall, WaitingCall, setsockopt};
 use file_calls::{
     Known, Shared, Task, Why, brk, clock_gettime, epoll_create, epoll_ctl, eventfd2, fcntl, getpid,
@@ -63,121 +59,155 @@ fn plain_row(
     }
 }
 
-/// The row of a call on sockets.
-fn network_row(
-    known: &Known,
-    now: Time,
-    call: NetworkCall,
-    args: [u32; 6],
-    task: &mut Task,
-    shared: &mut Shared,
-    sockets: &mut Sockets,
-) -> Result<Reaction, CallError>
-    ensures { (t : SocketsRecord) → Stand sockets.old t → Answers (spec.network_row known.now now call args (scene (task.old, shared.old) t)) (task.old, shared.old) t (task.new, shared.new) sockets.new result }
-{
-    let hosts = &known.book;
-    let [a, b, c, d, e, _f] = args;
-    match call {
-        NetworkCall::Socket => {
-            let value = socket(a, b, c, task, shared, sockets)?;
-            Ok(Reaction::Value(value))
-        }
-        NetworkCall::Bind => {
-            let value = bind(hosts, a, b, c, task, shared, sockets)?;
-            Ok(Reaction::Value(value))
-        }
-        NetworkCall::Listen => {
-            let value = listen(a, b, task, shared, sockets)?;
-            Ok(Reaction::Value(value))
-        }
-        NetworkCall::Getsockname => {
-            let value = getsockname(a, b, c, task, shared, sockets)?;
-            Ok(Reaction::Value(value))
-        }
-        NetworkCall::Getpeername => {
-            let value = getpeername(a, b, c, task, shared, sockets)?;
-            Ok(Reaction::Value(value))
-        }
-        NetworkCall::Getsockopt => {
-            let value = getsockopt(now, a, b, c, d, e, task, shared, sockets)?;
-            Ok(Reaction::Value(value))
-        }
-        NetworkCall::Shutdown => {
-            let value = shutdown(now, a, b, task, shared, sockets)?;
-            Ok(Reaction::Value(value))
+impl Stage<'_> {
+    /// The row of a call on sockets.
+    fn network_row(&mut self, call: NetworkCall, args: [u32; 6]) -> Result<Reaction, CallError>
+        ensures { Acts (spec.network_row self.old.known.now self.old.time call args) self.old self.new result }
+    {
+        let [a, b, c, d, e, _f] = args;
+        match call {
+            NetworkCall::Socket => {
+                let value = self.socket(a, b, c)?;
+                Ok(Reaction::Value(value))
+            }
+            NetworkCall::Bind => {
+                let value = self.bind(a, b, c)?;
+                Ok(Reaction::Value(value))
+            }
+            NetworkCall::Listen => {
+                let value = self.listen(a, b)?;
+                Ok(Reaction::Value(value))
+            }
+            NetworkCall::Getsockname => {
+                let value = self.getsockname(a, b, c)?;
+                Ok(Reaction::Value(value))
+            }
+            NetworkCall::Getpeername => {
+                let value = self.getpeername(a, b, c)?;
+                Ok(Reaction::Value(value))
+            }
+            NetworkCall::Getsockopt => {
+                let value = self.getsockopt(a, b, c, d, e)?;
+                Ok(Reaction::Value(value))
+            }
+            NetworkCall::Shutdown => {
+                let value = self.shutdown(a, b)?;
+                Ok(Reaction::Value(value))
+            }
         }
     }
-}
 
-/// The row of a call that is asked what it would do, and then does that.
-fn asked_row(
-    known: &Known,
-    now: Time,
-    process: u32,
-    call: WaitingCall,
-    args: [u32; 6],
-    task: &mut Task,
-    shared: &mut Shared,
-    sockets: &mut Sockets,
-) -> Result<Reaction, CallError>
-    requires { now.nanos ≤ latest_time }
-    ensures { (t : SocketsRecord) → Stand sockets.old t → Answers (spec.waiting_row known.now now process call args (scene (task.old, shared.old) t)) (task.old, shared.old) t (task.new, shared.new) sockets.new result }
-{
-    let plan = asked(known, now, call, args, task, shared, sockets)?;
-    act(known, now, process, plan, task, shared, sockets)
-}
-
-/// The row of a call that may wait. A wait for an epoll is asked and done at once, since either would look at each of
-/// its entries.
-fn waiting_row(
-    known: &Known,
-    now: Time,
-    process: u32,
-    call: WaitingCall,
-    args: [u32; 6],
-    task: &mut Task,
-    shared: &mut Shared,
-    sockets: &mut Sockets,
-) -> Result<Reaction, CallError>
-    requires { now.nanos ≤ latest_time }
-    ensures { (t : SocketsRecord) → Stand sockets.old t → Answers (spec.waiting_row known.now now process call args (scene (task.old, shared.old) t)) (task.old, shared.old) t (task.new, shared.new) sockets.new result }
-{
-    if let WaitingCall::EpollWait = call {
-        let [a, b, c, d, _e, _f] = args;
-        let value = epoll_pwait(now, a, b, c, d, task, shared, sockets)?;
-        return Ok(Reaction::Value(value));
+    /// The row of a call that is asked what it would do, and then does that.
+    fn asked_row(&mut self, call: WaitingCall, args: [u32; 6]) -> Result<Reaction, CallError>
+        requires { self.old.time.nanos ≤ latest_time }
+        ensures { Acts (spec.waiting_row self.old.known.now self.old.time self.old.process call args) self.old self.new result }
+    {
+        let plan = self.view().asked(call, args)?;
+        self.act(plan)
     }
-    asked_row(known, now, process, call, args, task, shared, sockets)
-}
 
-/// The row of a call.
-fn row(
-    known: &Known,
-    now: Time,
-    process: u32,
-    call: Call,
-    args: [u32; 6],
-    task: &mut Task,
-    shared: &mut Shared,
-    sockets: &mut Sockets,
-) -> Result<Reaction, CallError>
-    requires { now.nanos ≤ latest_time }
-    ensures { (t : SocketsRecord) → Stand sockets.old t → Answers (spec.row known.now now process call args (scene (task.old, shared.old) t)) (task.old, shared.old) t (task.new, shared.new) sockets.new result }
-{
-    match call {
-        Call::Plain(call) => {
-            let value = plain_row(now, process, call, args, task, shared)?;
-            Ok(Reaction::Value(value))
+    /// The row of a call that may wait. A wait for an epoll is asked and done at once, since either would look at each of
+    /// its entries.
+    fn waiting_row(&mut self, call: WaitingCall, args: [u32; 6]) -> Result<Reaction, CallError>
+        requires { self.old.time.nanos ≤ latest_time }
+        ensures { Acts (spec.waiting_row self.old.known.now self.old.time self.old.process call args) self.old self.new result }
+    {
+        if let WaitingCall::EpollWait = call {
+            let [a, b, c, d, _e, _f] = args;
+            let value = self.epoll_pwait(a, b, c, d)?;
+            return Ok(Reaction::Value(value));
         }
-        Call::Network(call) => network_row(known, now, call, args, task, shared, sockets),
-        Call::Waiting(call) => {
-            waiting_row(known, now, process, call, args, task, shared, sockets)
+        self.asked_row(call, args)
+    }
+
+    /// The row of a call.
+    fn row(&mut self, call: Call, args: [u32; 6]) -> Result<Reaction, CallError>
+        requires { self.old.time.nanos ≤ latest_time }
+        ensures { Acts (spec.row self.old.known.now self.old.time self.old.process call args) self.old self.new result }
+    {
+        match call {
+            Call::Plain(call) => {
+                let value = plain_row(self.time, self.process, call, args, self.task, self.shared)?;
+                Ok(Reaction::Value(value))
+            }
+            Call::Network(call) => self.network_row(call, args),
+            Call::Waiting(call) => self.waiting_row(call, args),
+            Call::Close => {
+                let value = self.close(args[0])?;
+                Ok(Reaction::Value(value))
+            }
+            Call::Exit => Err(CallError::Refused(Refusal::End(exited(args[0])))),
         }
-        Call::Close => {
-            let value = close(now, args[0], task, shared, sockets)?;
-            Ok(Reaction::Value(value))
+    }
+
+    fn row_of(&mut self, call: Option<Call>, args: [u32; 6]) -> Result<Reaction, CallError>
+        requires { self.old.time.nanos ≤ latest_time }
+        ensures { Acts (spec.row_of self.old.known.now self.old.time self.old.process call args) self.old self.new result }
+    {
+        match call {
+            Some(call) => self.row(call, args),
+            None => Err(CallError::Refused(Refusal::Errno(Errno::Enosys))),
         }
-        Call::Exit => Err(CallError::Refused(Refusal::End(exited(args[0])))),
+    }
+
+    /// What a guest sees of what its call's row says.
+    fn answer_call(
+        &mut self,
+        number: u32,
+        args: [u32; 6],
+        reaction: Result<Reaction, CallError>,
+    ) -> Result<Answer, NoMemory>
+        ensures stays { Stays self.old self.new }
+        ensures answered { IfOk result (λ a. (row : Result (Reaction × Scene) Refusal) (before : Scene)
+            → Answers row (local_of before) before.sockets (local_on self.old) self.old.sockets.now reaction
+            → Called (spec.answered self.old.time self.old.process number args row before) a self.new) }
+    {
+        match reaction {
+            Ok(Reaction::Value(value)) => {
+                self.task.kept = None;
+                Ok(Answer::Value(value))
+            }
+            Ok(Reaction::Waits) => {
+                block(
+                    self.process,
+                    why_of(number, args, None),
+                    self.task,
+                    self.shared,
+                )
+            }
+            Err(CallError::Refused(Refusal::Errno(errno))) => {
+                self.task.kept = None;
+                Ok(Answer::Value(negative(errno)))
+            }
+            Err(CallError::Refused(Refusal::Kept(errno))) => {
+                self.task.kept = None;
+                Ok(Answer::Value(negative(errno)))
+            }
+            Err(CallError::Refused(Refusal::Wait(deadline))) => {
+                block(
+                    self.process,
+                    why_of(number, args, deadline),
+                    self.task,
+                    self.shared,
+                )
+            }
+            Err(CallError::Refused(Refusal::End(state))) => {
+                end_task(self.time, self.task, self.shared, self.sockets)?;
+                Ok(Answer::End(state))
+            }
+            Err(CallError::NoMemory) => Err(NoMemory),
+        }
+    }
+
+    /// A call of the process.
+    fn make_call(&mut self, number: u32, args: [u32; 6]) -> Result<Answer, NoMemory>
+        requires { self.old.time.nanos ≤ latest_time }
+        ensures stays { Stays self.old self.new }
+        ensures called { IfOk result (λ a. (t : SocketsRecord) → Stand self.old.sockets.now t
+            → Called (spec.call_scene self.old.known.now self.old.time self.old.process number args (scene_on self.old t)) a self.new) }
+    {
+        let reaction = self.row_of(Call::of(number), args);
+        self.answer_call(number, args, reaction)
     }
 }
 
@@ -185,25 +215,6 @@ fn exited(status: u32) -> State
     ensures { result ≡ spec.exited status }
 {
     State::Exited((status % 256) as u8)
-}
-
-fn row_of(
-    known: &Known,
-    now: Time,
-    process: u32,
-    call: Option<Call>,
-    args: [u32; 6],
-    task: &mut Task,
-    shared: &mut Shared,
-    sockets: &mut Sockets,
-) -> Result<Reaction, CallError>
-    requires { now.nanos ≤ latest_time }
-    ensures { (t : SocketsRecord) → Stand sockets.old t → Answers (spec.row_of known.now now process call args (scene (task.old, shared.old) t)) (task.old, shared.old) t (task.new, shared.new) sockets.new result }
-{
-    match call {
-        Some(call) => row(known, now, process, call, args, task, shared, sockets),
-        None => Err(CallError::Refused(Refusal::Errno(Errno::Enosys))),
-    }
 }
 
 /// The object that is a process's deadline.
@@ -251,46 +262,6 @@ pub(crate) fn end_task(
     close_task(now, task, shared, sockets)
 }
 
-/// What a guest sees of what its call's row says.
-fn answer_call(
-    now: Time,
-    process: u32,
-    number: u32,
-    args: [u32; 6],
-    reaction: Result<Reaction, CallError>,
-    task: &mut Task,
-    shared: &mut Shared,
-    sockets: &mut Sockets,
-) -> Result<Answer, NoMemory>
-    ensures { IfOk result (λ a. (row : Result (Reaction × Scene) Refusal) (before : Scene)
-        → Answers row (local_of before) before.sockets (task.old, shared.old) sockets.old reaction
-        → spec.SceneCalled (spec.answered now process number args row before) a task.new shared.new sockets.new) }
-{
-    match reaction {
-        Ok(Reaction::Value(value)) => {
-            task.kept = None;
-            Ok(Answer::Value(value))
-        }
-        Ok(Reaction::Waits) => block(process, why_of(number, args, None), task, shared),
-        Err(CallError::Refused(Refusal::Errno(errno))) => {
-            task.kept = None;
-            Ok(Answer::Value(negative(errno)))
-        }
-        Err(CallError::Refused(Refusal::Kept(errno))) => {
-            task.kept = None;
-            Ok(Answer::Value(negative(errno)))
-        }
-        Err(CallError::Refused(Refusal::Wait(deadline))) => {
-            block(process, why_of(number, args, deadline), task, shared)
-        }
-        Err(CallError::Refused(Refusal::End(state))) => {
-            end_task(now, task, shared, sockets)?;
-            Ok(Answer::End(state))
-        }
-        Err(CallError::NoMemory) => Err(NoMemory),
-    }
-}
-
 fn why_of(number: u32, args: [u32; 6], deadline: Option<Time>) -> Why
     ensures { result ≡ spec.why_of number args deadline }
 {
@@ -299,33 +270,6 @@ fn why_of(number: u32, args: [u32; 6], deadline: Option<Time>) -> Why
         args,
         deadline,
     }
-}
-
-/// A call of a process.
-fn call_task(
-    known: &Known,
-    now: Time,
-    process: u32,
-    number: u32,
-    args: [u32; 6],
-    task: &mut Task,
-    shared: &mut Shared,
-    sockets: &mut Sockets,
-) -> Result<Answer, NoMemory>
-    requires { now.nanos ≤ latest_time }
-    ensures { IfOk result (λ a. (t : SocketsRecord) → Stand sockets.old t → spec.SceneCalled (spec.call_scene known.now now process number args (scene (task.old, shared.old) t)) a task.new shared.new sockets.new) }
-{
-    let reaction = row_of(
-        known,
-        now,
-        process,
-        Call::of(number),
-        args,
-        task,
-        shared,
-        sockets,
-    );
-    answer_call(now, process, number, args, reaction, task, shared, sockets)
 }
 
 fn call_place(
@@ -342,7 +286,17 @@ fn call_place(
     ensures { IfOk result (λ a. (t : SocketsRecord) → Stand sockets.old t → spec.PlaceCalled (spec.call_place known.now now process number args (place_at place.old shared.old t)) a place.new shared.new sockets.new) }
 {
     match place {
-        Some(task) => call_task(known, now, process, number, args, task, shared, sockets),
+        Some(task) => {
+            let mut stage = Stage {
+                known,
+                time: now,
+                process,
+                task,
+                shared,
+                sockets,
+            };
+            stage.make_call(number, args)
+        }
         None => Ok(Answer::Value(negative(Errno::Enosys))),
     }
 }

@@ -5,8 +5,10 @@ ghost use Rattle.host_sockets.specs.Sockets.{SocketsRecord};
 ghost use Rattle.host_sockets.specs.StandsFor.{Stand};
 ghost use Rattle.host_files.specs.Epolls.{forgotten};
 ghost use Rattle.host_calls.specs.Closing as spec;
-ghost use Rattle.host_calls.specs.Parts.{Answers, Leaves, scene};
+ghost use Rattle.host_calls.specs.Parts.{Leaves, scene};
+ghost use Rattle.host_calls.specs.inside.Stage.{Acts};
 
+use crate::stage::Stage;
 use file_calls::{Descriptor, Shared, Task, look_up};
 use host_fds::{End, Table};
 use host_files::{Epolls, Object};
@@ -99,19 +101,15 @@ fn close_file(
     Ok(())
 }
 
-/// `close(2)`.
-pub(crate) fn close(
-    now: Time,
-    fd: u32,
-    task: &mut Task,
-    shared: &mut Shared,
-    sockets: &mut Sockets,
-) -> Result<u32, CallError>
-    ensures { (t : SocketsRecord) → Stand sockets.old t → Answers (spec.close now fd (scene (task.old, shared.old) t)) (task.old, shared.old) t (task.new, shared.new) sockets.new result }
-{
-    let d = look_up(fd, task, &shared.files)?;
-    close_file(now, fd, d, task, shared, sockets)?;
-    Ok(0)
+impl Stage<'_> {
+    /// `close(2)`.
+    pub(crate) fn close(&mut self, fd: u32) -> Result<u32, CallError>
+        ensures { Acts (spec.close self.old.time fd) self.old self.new result }
+    {
+        let d = look_up(fd, self.task, &self.shared.files)?;
+        close_file(self.time, fd, d, self.task, self.shared, self.sockets)?;
+        Ok(0)
+    }
 }
 
 fn close_one(

@@ -1,19 +1,16 @@
 //! connect.
 
 ghost use Rattle.std.specs.Prelude.{◌≡◌};
-ghost use Rattle.host_sockets.specs.Sockets.{SocketsRecord};
-ghost use Rattle.host_sockets.specs.StandsFor.{Stand};
-ghost use Rattle.file_calls.specs.declared.task.Shared.{Shared};
-ghost use Rattle.host_calls.specs.Parts.{Answers, scene};
-ghost use Rattle.file_calls.specs.Scene as guest;
 ghost use Rattle.host_calls.specs.Sockets as spec;
+ghost use Rattle.host_calls.specs.inside.Stage.{Acts, Sees};
 
 use crate::parts::Reaction;
+use crate::stage::{Stage, View};
 use call_parts::{OpenSocket, SocketNumber, address, open_socket};
-use file_calls::{Shared, Task, kept_answers, negative};
-use host_sockets::{Reply, Sockets};
+use file_calls::{kept_answers, negative};
+use host_sockets::Reply;
 use host_wants::{CallError, Refusal};
-use sim_base::{Book, Errno, Time};
+use sim_base::Errno;
 
 /// What a connect answers that has sent its SYN, or met a kept error.
 fn connecting(nonblocking: bool, reply: Reply<()>) -> Reaction
@@ -31,95 +28,12 @@ fn connecting(nonblocking: bool, reply: Reply<()>) -> Reaction
     }
 }
 
-fn connect_tcp(
-    hosts: &Book,
-    now: Time,
-    nonblocking: bool,
-    place: usize,
-    at: u32,
-    size: u32,
-    task: &Task,
-    shared: &mut Shared,
-    sockets: &mut Sockets,
-) -> Result<Reaction, CallError>
-    ensures { (t : SocketsRecord) → Stand sockets.old t → Answers (spec.connect_tcp hosts.now now nonblocking place at size (scene (task.now, shared.old) t)) (task.now, shared.old) t (task.now, shared.new) sockets.new result }
-{
-    let to = address(&task.memory, at, size)?;
-    let reply = sockets.connect_tcp(hosts, &mut shared.outlet, now, place, to)?;
-    Ok(connecting(nonblocking, reply))
-}
-
-fn connect_udp(
-    hosts: &Book,
-    place: usize,
-    at: u32,
-    size: u32,
-    task: &Task,
-    shared: &Shared,
-    sockets: &mut Sockets,
-) -> Result<Reaction, CallError>
-    ensures { (t : SocketsRecord) → Stand sockets.old t → Answers (spec.connect_udp hosts.now place at size (scene (task.now, shared.now) t)) (task.now, shared.now) t (task.now, shared.now) sockets.new result }
-{
-    let to = address(&task.memory, at, size)?;
-    sockets.connect_udp(hosts, place, to)?;
-    Ok(Reaction::Value(0))
-}
-
 fn connected(reply: Reply<()>) -> Reaction
     ensures { result ≡ spec.connected reply }
 {
     match reply {
         Reply::Done(()) => Reaction::Value(0),
         Reply::Failed(errno) => Reaction::Value(negative(errno)),
-    }
-}
-
-/// A connect that waited is called again.
-fn connect_again(
-    now: Time,
-    place: usize,
-    task: &Task,
-    shared: &mut Shared,
-    sockets: &mut Sockets,
-) -> Result<Reaction, CallError>
-    ensures { (t : SocketsRecord) → Stand sockets.old t → Answers (spec.connect_again now place (scene (task.now, shared.old) t)) (task.now, shared.old) t (task.now, shared.new) sockets.new result }
-{
-    let reply = sockets.connect_answer(&mut shared.outlet, now, place)?;
-    Ok(connected(reply))
-}
-
-fn connect_call(
-    hosts: &Book,
-    now: Time,
-    nonblocking: bool,
-    number: SocketNumber,
-    at: u32,
-    size: u32,
-    task: &Task,
-    shared: &mut Shared,
-    sockets: &mut Sockets,
-) -> Result<Reaction, CallError>
-    ensures { (t : SocketsRecord) → Stand sockets.old t → Answers (spec.connect_call hosts.now now nonblocking number at size (scene (task.now, shared.old) t)) (task.now, shared.old) t (task.now, shared.new) sockets.new result }
-{
-    match number {
-        SocketNumber::Udp(place) => connect_udp(hosts, place, at, size, task, shared, sockets),
-        SocketNumber::Tcp(place) => {
-            if task.kept.is_some() {
-                connect_again(now, place, task, shared, sockets)
-            } else {
-                connect_tcp(
-                    hosts,
-                    now,
-                    nonblocking,
-                    place,
-                    at,
-                    size,
-                    task,
-                    shared,
-                    sockets,
-                )
-            }
-        }
     }
 }
 
@@ -131,58 +45,76 @@ pub struct ConnectPlan {
     pub size: u32,
 }
 
-/// `connect(2)`.
-pub(crate) fn connect(
-    hosts: &Book,
-    now: Time,
-    connecting: ConnectPlan,
-    task: &Task,
-    shared: &mut Shared,
-    sockets: &mut Sockets,
-) -> Result<Reaction, CallError>
-    ensures { (t : SocketsRecord) → Stand sockets.old t → Answers (spec.connects hosts.now now connecting (scene (task.now, shared.old) t)) (task.now, shared.old) t (task.now, shared.new) sockets.new result }
-{
-    connect_call(
-        hosts,
-        now,
-        connecting.socket.nonblocking,
-        connecting.socket.number,
-        connecting.at,
-        connecting.size,
-        task,
-        shared,
-        sockets,
-    )
-}
+impl Stage<'_> {
+    fn connect_tcp(&mut self, place: usize, plan: ConnectPlan) -> Result<Reaction, CallError>
+        ensures { Acts (spec.connect_tcp self.old.known.now.book self.old.time plan.socket.nonblocking place plan.at plan.size) self.old self.new result }
+    {
+        let hosts = &self.known.book;
+        let to = address(&self.task.memory, plan.at, plan.size)?;
+        let reply = self
+            .sockets
+            .connect_tcp(hosts, &mut self.shared.outlet, self.time, place, to)?;
+        Ok(connecting(plan.socket.nonblocking, reply))
+    }
 
-/// One that has sent its SYN waits while its connection is sought.
-fn connect_ready(number: SocketNumber, task: &Task, sockets: &Sockets) -> Result<(), Refusal>
-    ensures { (t : SocketsRecord) (shared : Shared) → Stand sockets.now t → result ≡ spec.connect_ready number (scene (task.now, shared) t) }
-{
-    match number {
-        SocketNumber::Udp(_) => Ok(()),
-        SocketNumber::Tcp(place) => {
-            if task.kept.is_some() {
-                kept_answers(sockets.connect_waited(place))
-            } else {
-                Ok(())
+    fn connect_udp(&mut self, place: usize, plan: ConnectPlan) -> Result<Reaction, CallError>
+        ensures { Acts (spec.connect_udp self.old.known.now.book place plan.at plan.size) self.old self.new result }
+    {
+        let to = address(&self.task.memory, plan.at, plan.size)?;
+        self.sockets.connect_udp(&self.known.book, place, to)?;
+        Ok(Reaction::Value(0))
+    }
+
+    /// A connect that waited is called again.
+    fn connect_again(&mut self, place: usize) -> Result<Reaction, CallError>
+        ensures { Acts (spec.connect_again self.old.time place) self.old self.new result }
+    {
+        let reply = self
+            .sockets
+            .connect_answer(&mut self.shared.outlet, self.time, place)?;
+        Ok(connected(reply))
+    }
+
+    /// `connect(2)`.
+    pub(crate) fn connect(&mut self, plan: ConnectPlan) -> Result<Reaction, CallError>
+        ensures { Acts (spec.connects self.old.known.now.book self.old.time plan) self.old self.new result }
+    {
+        match plan.socket.number {
+            SocketNumber::Udp(place) => self.connect_udp(place, plan),
+            SocketNumber::Tcp(place) => {
+                if self.task.kept.is_some() {
+                    self.connect_again(place)
+                } else {
+                    self.connect_tcp(place, plan)
+                }
             }
         }
     }
 }
 
-/// What a connect waits for that has sent its SYN.
-pub(crate) fn connect_plan(
-    fd: u32,
-    at: u32,
-    size: u32,
-    task: &Task,
-    shared: &Shared,
-    sockets: &Sockets,
-) -> Result<ConnectPlan, Refusal>
-    ensures { (t : SocketsRecord) → Stand sockets.now t → result ≡ spec.connect_plan fd at size (scene (task.now, shared.now) t) }
-{
-    let socket = open_socket(fd, task, shared)?;
-    connect_ready(socket.number, task, sockets)?;
-    Ok(ConnectPlan { socket, at, size })
+impl View<'_> {
+    /// One that has sent its SYN waits while its connection is sought.
+    fn connect_ready(&self, number: SocketNumber) -> Result<(), Refusal>
+        ensures { Sees (spec.connect_ready number) self.now result }
+    {
+        match number {
+            SocketNumber::Udp(_) => Ok(()),
+            SocketNumber::Tcp(place) => {
+                if self.task.kept.is_some() {
+                    kept_answers(self.sockets.connect_waited(place))
+                } else {
+                    Ok(())
+                }
+            }
+        }
+    }
+
+    /// What a connect waits for that has sent its SYN.
+    pub(crate) fn connect_plan(&self, fd: u32, at: u32, size: u32) -> Result<ConnectPlan, Refusal>
+        ensures { Sees (spec.connect_plan fd at size) self.now result }
+    {
+        let socket = open_socket(fd, self.task, self.shared)?;
+        self.connect_ready(socket.number)?;
+        Ok(ConnectPlan { socket, at, size })
+    }
 }

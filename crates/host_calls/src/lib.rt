@@ -20,6 +20,7 @@ mod polling;
 mod ready;
 mod receiving;
 mod sending;
+mod stage;
 mod starting;
 mod waiting;
 

@@ -5,11 +5,12 @@ ghost use Rattle.sim_base.specs.Units.{latest_time};
 ghost use Rattle.host_sockets.specs.Sockets.{SocketsRecord};
 ghost use Rattle.host_sockets.specs.StandsFor.{Stand};
 ghost use Rattle.host_files.specs.Epolls.{epoll_at};
-ghost use Rattle.host_calls.specs.Parts.{scene};
 ghost use Rattle.host_calls.specs.Ready as spec;
+ghost use Rattle.host_calls.specs.inside.Stage.{Sees};
 
+use crate::stage::View;
 use call_parts::{eventfd_ready, eventfd_rises, pipe_ready, pipe_rises, timer_ready, timer_rises};
-use file_calls::{Shared, Task, look_up};
+use file_calls::look_up;
 use host_fds::{End, Rises, Seen, Watch};
 use host_files::{Files, Object};
 use host_sockets::Sockets;
@@ -99,87 +100,79 @@ fn object_due(
     watch.is_due(seen).then_some(seen)
 }
 
-/// What is seen of an entry's descriptor, where the entry is due.
-pub(crate) fn seen_due(
-    now: Time,
-    watch: &Watch,
-    task: &Task,
-    shared: &Shared,
-    sockets: &Sockets,
-) -> Option<Seen>
-    requires { now.nanos ≤ latest_time }
-    ensures { (t : SocketsRecord) → Stand sockets.now t → result ≡ spec.seen_due now (scene (task.now, shared.now) t) watch.now }
-{
-    match look_up(watch.fd, task, &shared.files) {
-        Ok(d) => object_due(now, watch, d.file.object, &shared.files, sockets),
-        Err(_) => None,
-    }
-}
-
-fn is_due(now: Time, watch: &Watch, task: &Task, shared: &Shared, sockets: &Sockets) -> bool
-    requires { now.nanos ≤ latest_time }
-    ensures { (t : SocketsRecord) → Stand sockets.now t → result ≡ spec.is_due now (scene (task.now, shared.now) t) watch.now }
-{
-    seen_due(now, watch, task, shared, sockets).is_some()
-}
-
-/// Whether a wait would tell of some entry. It takes no memory.
-pub(crate) fn some_due(
-    now: Time,
-    entries: &[Watch],
-    task: &Task,
-    shared: &Shared,
-    sockets: &Sockets,
-) -> bool
-    requires { now.nanos ≤ latest_time }
-    ensures { (t : SocketsRecord) → Stand sockets.now t → result ≡ spec.some_due now (scene (task.now, shared.now) t) entries.now }
-{
-    for place in 0..entries.len() {
-        if is_due(now, &entries[place], task, shared, sockets) {
-            return true;
+impl View<'_> {
+    /// What is seen of an entry's descriptor, where the entry is due.
+    pub(crate) fn seen_due(&self, watch: &Watch) -> Option<Seen>
+        requires { self.now.time.nanos ≤ latest_time }
+        ensures { Sees (λ s. spec.seen_due self.now.time s watch.now) self.now result }
+    {
+        let files = &self.shared.files;
+        match look_up(watch.fd, self.task, files) {
+            Ok(d) => object_due(self.time, watch, d.file.object, files, self.sockets),
+            Err(_) => None,
         }
     }
-    false
-}
 
-fn epoll_ready(now: Time, place: usize, task: &Task, shared: &Shared, sockets: &Sockets) -> u16
-    requires { now.nanos ≤ latest_time }
-    ensures { (t : SocketsRecord) → Stand sockets.now t → result ≡ spec.epoll_ready now (scene (task.now, shared.now) t) (epoll_at place task.now.epolls) }
-{
-    match task.epolls.get(place) {
-        Some(epoll) => {
-            if some_due(now, epoll.entries(), task, shared, sockets) {
-                POLLIN
-            } else {
-                0
+    fn is_due(&self, watch: &Watch) -> bool
+        requires { self.now.time.nanos ≤ latest_time }
+        ensures { Sees (λ s. spec.is_due self.now.time s watch.now) self.now result }
+    {
+        self.seen_due(watch).is_some()
+    }
+
+    /// Whether a wait would tell of some entry. It takes no memory.
+    pub(crate) fn some_due(&self, entries: &[Watch]) -> bool
+        requires { self.now.time.nanos ≤ latest_time }
+        ensures { Sees (λ s. spec.some_due self.now.time s entries.now) self.now result }
+    {
+        for place in 0..entries.len() {
+            if self.is_due(&entries[place]) {
+                return true;
             }
         }
-        None => 0,
+        false
     }
-}
 
-/// What an object is ready for, by the bits of `poll(2)`.
-pub(crate) fn readiness(
-    now: Time,
-    object: Object,
-    task: &Task,
-    shared: &Shared,
-    sockets: &Sockets,
-) -> u16
-    requires { now.nanos ≤ latest_time }
-    ensures { (t : SocketsRecord) → Stand sockets.now t → result ≡ spec.readiness now object (scene (task.now, shared.now) t) }
-{
-    match object {
-        Object::Epoll(place) => epoll_ready(now, place, task, shared, sockets),
-        Object::Input => object_ready(now, object, &shared.files, sockets),
-        Object::Output => object_ready(now, object, &shared.files, sockets),
-        Object::Errors => object_ready(now, object, &shared.files, sockets),
-        Object::Hosts(_) => object_ready(now, object, &shared.files, sockets),
-        Object::ReadEnd(_) => object_ready(now, object, &shared.files, sockets),
-        Object::WriteEnd(_) => object_ready(now, object, &shared.files, sockets),
-        Object::Timer(_) => object_ready(now, object, &shared.files, sockets),
-        Object::Eventfd(_) => object_ready(now, object, &shared.files, sockets),
-        Object::Udp(_) => object_ready(now, object, &shared.files, sockets),
-        Object::Tcp(_) => object_ready(now, object, &shared.files, sockets),
+    fn epoll_ready(&self, place: usize) -> u16
+        requires { self.now.time.nanos ≤ latest_time }
+        ensures { Sees (λ s. spec.epoll_ready self.now.time s (epoll_at place s.task.epolls)) self.now result }
+    {
+        match self.task.epolls.get(place) {
+            Some(epoll) => {
+                if self.some_due(epoll.entries()) {
+                    POLLIN
+                } else {
+                    0
+                }
+            }
+            None => 0,
+        }
+    }
+
+    fn other_ready(&self, object: Object) -> u16
+        requires { self.now.time.nanos ≤ latest_time }
+        ensures { Sees (λ s. spec.object_ready self.now.time object s.shared.files s.sockets) self.now result }
+    {
+        object_ready(self.time, object, &self.shared.files, self.sockets)
+    }
+
+    /// What an object is ready for, by the bits of `poll(2)`.
+    pub(crate) fn readiness(&self, object: Object) -> u16
+        requires { self.now.time.nanos ≤ latest_time }
+        ensures { Sees (spec.readiness self.now.time object) self.now result }
+    {
+        match object {
+            Object::Epoll(place) => self.epoll_ready(place),
+            Object::Input => self.other_ready(object),
+            Object::Output => self.other_ready(object),
+            Object::Errors => self.other_ready(object),
+            Object::Hosts(_) => self.other_ready(object),
+            Object::ReadEnd(_) => self.other_ready(object),
+            Object::WriteEnd(_) => self.other_ready(object),
+            Object::Timer(_) => self.other_ready(object),
+            Object::Eventfd(_) => self.other_ready(object),
+            Object::Udp(_) => self.other_ready(object),
+            Object::Tcp(_) => self.other_ready(object),
+        }
     }
 }

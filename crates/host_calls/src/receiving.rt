@@ -6,16 +6,17 @@ ghost use Rattle.host_sockets.specs.Names.{tcp_peer};
 ghost use Rattle.host_sockets.specs.Sockets.{SocketsRecord};
 ghost use Rattle.host_sockets.specs.StandsFor.{Stand};
 ghost use Rattle.guest_args.specs.Span.{most};
-ghost use Rattle.host_calls.specs.Parts.{Answers, scene};
 ghost use Rattle.host_calls.specs.Sockets as spec;
+ghost use Rattle.host_calls.specs.inside.Stage.{Acts, Sees};
 
+use crate::stage::{Stage, View};
 use call_parts::{OpenSocket, Room, SocketNumber, is_quick, open_socket, recv_place, refuse_flags};
-use file_calls::{Shared, Task, kept_answers, negative, or_again};
+use file_calls::{kept_answers, negative, or_again};
 use guest_args::{AddressPlace, answer, counted, fill};
 use guest_mem::Mem;
 use host_sockets::{Reply, Sockets};
 use host_wants::{CallError, Refusal};
-use sim_base::{Bytes, Time};
+use sim_base::Bytes;
 
 /// What is received, and where it goes: at most so many bytes to an address, and the sender's
 /// address to its own place.
@@ -36,58 +37,35 @@ fn recv_ready(number: SocketNumber, sockets: &Sockets) -> Result<(), Refusal>
     }
 }
 
-/// What refuses a receive, and whether it waits.
-pub(crate) fn recv_plan(
-    socket: OpenSocket,
-    flags: u32,
-    room: Room,
-    memory: &Mem,
-    sockets: &Sockets,
-) -> Result<RecvPlan, Refusal>
-    ensures { (t : SocketsRecord) → Stand sockets.now t → result ≡ spec.recv_plan socket flags room memory.now t }
-{
-    refuse_flags(flags)?;
-    let from = recv_place(room, memory)?;
-    let quick = is_quick(socket.nonblocking, flags);
-    or_again(quick, recv_ready(socket.number, sockets))?;
-    Ok(RecvPlan {
-        number: socket.number,
-        at: room.at,
-        n: room.n,
-        from,
-    })
-}
+impl View<'_> {
+    /// What refuses a receive, and whether it waits.
+    pub(crate) fn recv_plan(
+        &self,
+        socket: OpenSocket,
+        flags: u32,
+        room: Room,
+    ) -> Result<RecvPlan, Refusal>
+        ensures { Sees (λ s. spec.recv_plan socket flags room s.task.memory s.sockets) self.now result }
+    {
+        refuse_flags(flags)?;
+        let from = recv_place(room, &self.task.memory)?;
+        let quick = is_quick(socket.nonblocking, flags);
+        or_again(quick, recv_ready(socket.number, self.sockets))?;
+        Ok(RecvPlan {
+            number: socket.number,
+            at: room.at,
+            n: room.n,
+            from,
+        })
+    }
 
-/// What refuses a `recvfrom(2)`, and whether it waits.
-pub(crate) fn recvfrom_plan(
-    fd: u32,
-    flags: u32,
-    room: Room,
-    task: &Task,
-    shared: &Shared,
-    sockets: &Sockets,
-) -> Result<RecvPlan, Refusal>
-    ensures { (t : SocketsRecord) → Stand sockets.now t → result ≡ spec.recvfrom_plan fd flags room (scene (task.now, shared.now) t) }
-{
-    let socket = open_socket(fd, task, shared)?;
-    recv_plan(socket, flags, room, &task.memory, sockets)
-}
-
-fn recv_udp(
-    place: usize,
-    at: u32,
-    n: u32,
-    from: Option<AddressPlace>,
-    task: &mut Task,
-    shared: &Shared,
-    sockets: &mut Sockets,
-) -> Result<u32, CallError>
-    ensures { (t : SocketsRecord) → Stand sockets.old t → Answers (spec.recv_udp place at n from (scene (task.old, shared.now) t)) (task.old, shared.now) t (task.new, shared.now) sockets.new result }
-{
-    let datagram = sockets.recv_udp(place, counted(n))?;
-    fill(&mut task.memory, at, datagram.bytes.as_slice());
-    answer(&mut task.memory, from, datagram.from);
-    Ok(datagram.bytes.len() as u32)
+    /// What refuses a `recvfrom(2)`, and whether it waits.
+    pub(crate) fn recvfrom_plan(&self, fd: u32, flags: u32, room: Room) -> Result<RecvPlan, Refusal>
+        ensures { Sees (spec.recvfrom_plan fd flags room) self.now result }
+    {
+        let socket = open_socket(fd, self.task, self.shared)?;
+        self.recv_plan(socket, flags, room)
+    }
 }
 
 /// Writes the address of a TCP socket's peer where it is wanted.
@@ -122,41 +100,34 @@ fn received(
     }
 }
 
-fn recv_tcp(
-    now: Time,
-    place: usize,
-    at: u32,
-    n: u32,
-    from: Option<AddressPlace>,
-    task: &mut Task,
-    shared: &mut Shared,
-    sockets: &mut Sockets,
-) -> Result<u32, CallError>
-    ensures { (t : SocketsRecord) → Stand sockets.old t → Answers (spec.recv_tcp now place at n from (scene (task.old, shared.old) t)) (task.old, shared.old) t (task.new, shared.new) sockets.new result }
-{
-    let reply = sockets.recv_tcp(&mut shared.outlet, now, place, counted(n))?;
-    let count = received(place, at, from, reply, &mut task.memory, sockets);
-    Ok(count)
-}
+impl Stage<'_> {
+    fn recv_udp(&mut self, place: usize, plan: RecvPlan) -> Result<u32, CallError>
+        ensures { Acts (spec.recv_udp place plan.at plan.n plan.from) self.old self.new result }
+    {
+        let datagram = self.sockets.recv_udp(place, counted(plan.n))?;
+        fill(&mut self.task.memory, plan.at, datagram.bytes.as_slice());
+        answer(&mut self.task.memory, plan.from, datagram.from);
+        Ok(datagram.bytes.len() as u32)
+    }
 
-/// Receives on a socket (`recv(2)`).
-pub(crate) fn recv(
-    now: Time,
-    receiving: RecvPlan,
-    task: &mut Task,
-    shared: &mut Shared,
-    sockets: &mut Sockets,
-) -> Result<u32, CallError>
-    ensures { (t : SocketsRecord) → Stand sockets.old t → Answers (spec.receives now receiving (scene (task.old, shared.old) t)) (task.old, shared.old) t (task.new, shared.new) sockets.new result }
-{
-    let RecvPlan {
-        number,
-        at,
-        n,
-        from,
-    } = receiving;
-    match number {
-        SocketNumber::Udp(place) => recv_udp(place, at, n, from, task, shared, sockets),
-        SocketNumber::Tcp(place) => recv_tcp(now, place, at, n, from, task, shared, sockets),
+    fn recv_tcp(&mut self, place: usize, plan: RecvPlan) -> Result<u32, CallError>
+        ensures { Acts (spec.recv_tcp self.old.time place plan.at plan.n plan.from) self.old self.new result }
+    {
+        let RecvPlan { at, n, from, .. } = plan;
+        let reply = self
+            .sockets
+            .recv_tcp(&mut self.shared.outlet, self.time, place, counted(n))?;
+        let count = received(place, at, from, reply, &mut self.task.memory, self.sockets);
+        Ok(count)
+    }
+
+    /// Receives on a socket (`recv(2)`).
+    pub(crate) fn recv(&mut self, plan: RecvPlan) -> Result<u32, CallError>
+        ensures { Acts (spec.receives self.old.time plan) self.old self.new result }
+    {
+        match plan.number {
+            SocketNumber::Udp(place) => self.recv_udp(place, plan),
+            SocketNumber::Tcp(place) => self.recv_tcp(place, plan),
+        }
     }
 }

@@ -5,12 +5,13 @@ ghost use Rattle.sim_base.specs.Units.{latest_time};
 ghost use Rattle.host_sockets.specs.Sockets.{SocketsRecord};
 ghost use Rattle.host_sockets.specs.StandsFor.{Stand};
 ghost use Rattle.host_calls.specs.Calls as spec;
-ghost use Rattle.host_calls.specs.Parts.{PartsRecord, PartsStand, scene};
+ghost use Rattle.host_calls.specs.Parts.{PartsRecord, PartsStand};
 ghost use Rattle.host_calls.specs.Parts.{place as place_at};
+ghost use Rattle.host_calls.specs.inside.Stage.{Sees};
 
 use crate::all::Parts;
-use crate::asking::asked;
 use crate::plan::Plan;
+use crate::stage::View;
 use call_parts::Call;
 use file_calls::{Known, Shared, Task, Why};
 use host_sockets::Sockets;
@@ -29,27 +30,19 @@ fn is_wait(asked: Result<Plan, Refusal>) -> bool
     }
 }
 
-fn waits(
-    known: &Known,
-    now: Time,
-    call: Option<Call>,
-    args: [u32; 6],
-    task: &Task,
-    shared: &Shared,
-    sockets: &Sockets,
-) -> bool
-    requires { now.nanos ≤ latest_time }
-    ensures { (t : SocketsRecord) → Stand sockets.now t → result ≡ spec.waits known.now now call args (scene (task.now, shared.now) t) }
-{
-    match call {
-        Some(Call::Waiting(call)) => {
-            is_wait(asked(known, now, call, args, task, shared, sockets))
+impl View<'_> {
+    fn waits(&self, call: Option<Call>, args: [u32; 6]) -> bool
+        requires { self.now.time.nanos ≤ latest_time }
+        ensures { Sees (spec.waits self.now.known.now self.now.time call args) self.now result }
+    {
+        match call {
+            Some(Call::Waiting(call)) => is_wait(self.asked(call, args)),
+            Some(Call::Plain(_)) => false,
+            Some(Call::Network(_)) => false,
+            Some(Call::Close) => false,
+            Some(Call::Exit) => false,
+            None => false,
         }
-        Some(Call::Plain(_)) => false,
-        Some(Call::Network(_)) => false,
-        Some(Call::Close) => false,
-        Some(Call::Exit) => false,
-        None => false,
     }
 }
 
@@ -66,8 +59,14 @@ fn answers_place(
 {
     match place {
         Some(task) => {
-            let call = Call::of(why.number);
-            !waits(known, now, call, why.args, task, shared, sockets)
+            let view = View {
+                known,
+                time: now,
+                task,
+                shared,
+                sockets,
+            };
+            !view.waits(Call::of(why.number), why.args)
         }
         None => true,
     }

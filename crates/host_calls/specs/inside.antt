@@ -1,0 +1,2 @@
+-- what a call acts on, and what one sees that is asked what it would do
+pub mod Stage
