@@ -1,15 +1,18 @@
 -- A round in which each host is run in its place is a round of all workers.
 use Rattle.std.proofs.Common.{◌≡◌, ◌≢◌, ℕ, zero, suc, ◌<◌, ◌^◌, ◌⊎◌, inl, inr, ⊎_elim, List, [], ◌∷◌, ◌++◌, Some, None, map, flat_map, length, replicate, slice_get, slice_set, get_or, refl, sym, ap, subst, ◌∙◌, append-nil, append_assoc, Vec, arith, IsPermutation, All, length-set}
-use Rattle.std.specs.Prelude.{Contains}
+use Rattle.std.specs.Prelude.{Contains, Box}
 use Rattle.std.specs.declared.alloc.Global.{Global}
 use Rattle.std.proofs.lemmas.List.{length_push}
 use Rattle.std.proofs.lemmas.List.Elements.{Contains-get_or}
 use Rattle.std.proofs.lemmas.List.Sorted.{IsPermutation-refl}
+use Rattle.sim_base.specs.declared.event.Event.{Event}
 use Rattle.sim_base.specs.declared.event.Parcel.{Parcel}
 use Rattle.sim_base.specs.declared.host.HostId.{HostId}
+use Rattle.event_order.specs.Events.{IsLeastDue}
 use Rattle.list_weights.specs.Weights.{weigh, numbers_below}
 use Rattle.steal_workers.specs.Gathers.{joined}
 use Rattle.file_calls.specs.declared.task.Output.{Output}
+use Rattle.host_state.specs.declared.host.Host.{Host}
 use Rattle.host_link.specs.declared.line.Logged.{Logged}
 use Rattle.host_link.specs.Net.{Net}
 use Rattle.host_link.specs.declared.outbox.Outbox.{Outbox}
@@ -19,14 +22,17 @@ use Rattle.round_lookahead.specs.declared.workers.task.Task.{Task}
 use Rattle.round_lookahead.specs.declared.workers.worked.Done.{Done}
 use Rattle.round_lookahead.specs.declared.workers.worked.Worked.{Worked}
 use Rattle.round_lookahead.specs.declared.world.in_place.Alone.{Alone}
-use Rattle.round_lookahead.specs.Alone.{HasRunFirst, IsPlaced, HasKept, HasPassed, AreRunInPlace}
+use Rattle.round_lookahead.specs.Alone.{HasRunFirst, IsPlaced, HasKept, HasPassed, AreRunInPlace, held_by}
 use Rattle.round_lookahead.specs.inside.Arrivals.{Boxed}
 use Rattle.round_lookahead.specs.inside.Backs.{lists_of, lines_done}
+use Rattle.round_lookahead.specs.inside.Dues.{lesser_due}
 use Rattle.round_lookahead.specs.inside.Idles.{IsIdle}
 use Rattle.round_lookahead.specs.Rounds.{AreWorks, AreRows, IsRound, all_parcels}
 use Rattle.round_lookahead.specs.Tasks.{IsTask, AreTasksOf}
 use Rattle.round_lookahead.specs.Works.{HostJob, IsDone, AreDone, HasRun, done_of, numbers, parcels_made}
-use Rattle.round_lookahead.proofs.IdleSteps.{idle_run}
+use Rattle.round_lookahead.proofs.BackSteps.{flat_append}
+use Rattle.round_lookahead.proofs.DueSteps.{least_more}
+use Rattle.round_lookahead.proofs.IdleSteps.{idle_run, least_of}
 use Rattle.round_lookahead.proofs.WorkSteps.{done_more, made_more}
 
 -- ---- lists
@@ -49,6 +55,9 @@ map_more f (y ∷ xs) x = ap (λ (l : List _). f y ∷ l) (map_more f xs x)
 lines_more : (ds : List Done) (d : Done) → lines_done (ds ++ d ∷ []) ≡ lines_done ds ++ d.lines.items
 lines_more [] d = append-nil d.lines.items
 lines_more (e ∷ ds) d = ap (λ (l : List Logged). e.lines.items ++ l) (lines_more ds d) ∙ sym (append_assoc e.lines.items (lines_done ds) d.lines.items)
+
+held_more : (ds : List Done) (d : Done) → held_by (ds ++ d ∷ []) ≡ held_by ds ++ d.host.value.queue
+held_more ds d = flat_append (λ (e : Done). e.host.value.queue) ds (d ∷ []) ∙ ap (λ (l : List Event). held_by ds ++ l) (append-nil d.host.value.queue)
 
 -- a vector of the logic
 abbrev pub holding : {X Y : Type 0} → Vec X Global → (ys : List Y) → length ys < 2 ^ 63 → Vec Y Global
@@ -73,8 +82,9 @@ one_more net end tasks rec count ds old new t d parcels dealt is run spill w =
 
 -- ---- in their places
 
-pub none_placed : (net : Net) (end : ℕ) (tasks : List Task) (a : Alone) → a.outputs.items ≡ [] → a.lines.items ≡ [] → a.took.items ≡ [] → a.spill.items ≡ [] → AreRunInPlace net end tasks 0 tasks a
-none_placed net end tasks a outputs lines took spill = record {
+pub none_placed : (net : Net) (end : ℕ) (tasks : List Task) (a : Alone) → a.outputs.items ≡ [] → a.lines.items ≡ [] → a.took.items ≡ [] → a.spill.items ≡ [] → a.due ≡ None
+    → AreRunInPlace net end tasks 0 tasks a
+none_placed net end tasks a outputs lines took spill due = record {
   ds = [];
   many = refl;
   all = refl;
@@ -84,6 +94,7 @@ none_placed net end tasks a outputs lines took spill = record {
   outputs = outputs;
   lines = lines;
   took = took;
+  due = subst (IsLeastDue []) (sym due) refl;
 }
 
 module _ (net : Net) (end : ℕ) (old now : List Task) (i : ℕ) (a : Alone) (t : Task) (are : AreTasksOf net old) (here : slice_get now i ≡ Some t) (r : AreRunInPlace net end old i now a) where
@@ -100,8 +111,8 @@ module _ (net : Net) (end : ℕ) (old now : List Task) (i : ℕ) (a : Alone) (t 
   -- one host more was run in its place
   placed_more : (b : Alone) (t' : Task) (d : Done) (ps : List Parcel) → d.id ≡ t.id → t'.id ≡ d.id → t'.host ≡ d.host → t'.parcels.items ≡ []
       → ((h : HostRecord) → IsTask net t.id.index t h → HasRun net end t h d ps) → b.outputs.items ≡ a.outputs.items ++ d.outputs ∷ [] → b.lines.items ≡ a.lines.items ++ d.lines.items
-      → b.took.items ≡ a.took.items ++ d.id ∷ [] → b.spill.items ≡ a.spill.items ++ ps → AreRunInPlace net end old (suc i) (slice_set now i t') b
-  placed_more b t' d ps id same host emptied ran outputs lines took spill =
+      → b.took.items ≡ a.took.items ++ d.id ∷ [] → b.spill.items ≡ a.spill.items ++ ps → b.due ≡ lesser_due a.due t'.due → AreRunInPlace net end old (suc i) (slice_set now i t') b
+  placed_more b t' d ps id same host emptied ran outputs lines took spill due =
       record {
         ds = r.ds ++ d ∷ [];
         many = (let long = length_push r.ds d in let many = r.many in omega arith);
@@ -125,19 +136,21 @@ module _ (net : Net) (end : ℕ) (old now : List Task) (i : ℕ) (a : Alone) (t 
         outputs = outputs ∙ ap (λ (l : List (Vec Output Global)). l ++ d.outputs ∷ []) r.outputs ∙ sym (map_more (λ (x : Done). x.outputs) r.ds d);
         lines = lines ∙ ap (λ (l : List Logged). l ++ d.lines.items) r.lines ∙ sym (lines_more r.ds d);
         took = took ∙ ap (λ (l : List HostId). l ++ d.id ∷ []) r.took ∙ sym (map_more (λ (x : Done). x.id) r.ds d);
+        due = least_more (held_by r.ds) d.host.value.queue (held_by (r.ds ++ d ∷ [])) a.due t'.due b.due (held_more r.ds d) due r.due
+            (subst (λ (x : Box Host Global). IsLeastDue x.value.queue t'.due) host (least_of t'.host.value.queue t'.due t'.told));
       }
 
   pub kept_more : (b : Alone) (t' : Task) (out : Outbox) → t'.id ≡ t.id → t'.parcels.items ≡ [] → ((h : HostRecord) → IsTask net t.id.index t h → HasRun net end t h (done_of t' out) out.parcels.items)
-      → HasKept t'.id out a b → AreRunInPlace net end old (suc i) (slice_set now i t') b
+      → HasKept t'.id t'.due out a b → AreRunInPlace net end old (suc i) (slice_set now i t') b
   kept_more b t' out id emptied ran kept =
-      placed_more b t' (done_of t' out) out.parcels.items id refl refl emptied ran kept.outputs kept.lines kept.took kept.spill
+      placed_more b t' (done_of t' out) out.parcels.items id refl refl emptied ran kept.outputs kept.lines kept.took kept.spill kept.due
 
   -- it had nothing to do, and stays as it is
-  pub passed_more : (b : Alone) → IsIdle end t → HasPassed t.id a b → AreRunInPlace net end old (suc i) (slice_set now i t) b
+  pub passed_more : (b : Alone) → IsIdle end t → HasPassed t.id t.due a b → AreRunInPlace net end old (suc i) (slice_set now i t) b
   passed_more b idle passed =
       let d : Done = record { id = t.id; host = t.host; lines = holding passed.none [] (omega arith); outputs = passed.none } in
       placed_more b t d [] refl refl refl idle.none (λ h is. idle_run net end t h d is idle refl refl refl passed.empty)
-      passed.outputs (passed.lines ∙ sym (append-nil a.lines.items)) passed.took (passed.spill ∙ sym (append-nil a.spill.items))
+      passed.outputs (passed.lines ∙ sym (append-nil a.lines.items)) passed.took (passed.spill ∙ sym (append-nil a.spill.items)) passed.due
 
 -- ---- idle workers
 

@@ -13,6 +13,7 @@ pub mod RoundOrders
 pub mod RoundJobs
 pub mod DueSteps
 pub mod IdleSteps
+pub mod WaitSteps
 pub mod BackSteps
 pub mod DeliverySteps
 pub mod MergeSteps

@@ -1,5 +1,5 @@
 -- Hosts that were run in their places, and the packets that then wait for them.
-use Rattle.std.proofs.Common.{◌≡◌, ◌≢◌, ⊎_elim, length-set, get_or-set_same, get_or-set_other, ℕ, zero, suc, ◌-◌, ◌<◌, ◌≤◌, ◌^◌, List, [], ◌∷◌, ◌++◌, Some, All, map, length, replicate, slice_get, slice_set, get_or, refl, sym, ap, subst, ◌∙◌, append-nil, Vec, arith, IsPermutation}
+use Rattle.std.proofs.Common.{◌≡◌, ◌≢◌, ⊎_elim, length-set, get_or-set_same, get_or-set_other, ℕ, zero, suc, ◌-◌, ◌<◌, ◌≤◌, ◌^◌, List, [], ◌∷◌, ◌++◌, Option, Some, All, map, flat_map, length, replicate, slice_get, slice_set, get_or, refl, sym, ap, subst, ◌∙◌, append-nil, Vec, arith, IsPermutation}
 use Rattle.std.specs.Prelude.{Box}
 use Rattle.std.specs.declared.alloc.Global.{Global}
 use Rattle.std.proofs.lemmas.Bool.{cases_eq}
@@ -9,6 +9,8 @@ use Rattle.std.proofs.lemmas.List.Elements.{All-append, All-cons, All-nil}
 use Rattle.sim_base.specs.declared.event.Event.{Event}
 use Rattle.sim_base.specs.declared.event.Parcel.{Parcel}
 use Rattle.sim_base.specs.declared.host.HostId.{HostId}
+use Rattle.sim_base.specs.declared.time.Time.{Time}
+use Rattle.event_order.specs.Events.{IsLeastDue}
 use Rattle.file_calls.specs.declared.task.Output.{Output}
 use Rattle.host_state.specs.declared.host.Host.{Host}
 use Rattle.host_link.specs.declared.line.Line.{Line}
@@ -29,12 +31,15 @@ use Rattle.round_lookahead.specs.declared.world.settling.Settled.{Settled}
 use Rattle.round_lookahead.specs.Alone.{AreRunInPlace}
 use Rattle.round_lookahead.specs.inside.Arrivals.{Boxed, arrivals}
 use Rattle.round_lookahead.specs.inside.Backs.{all_done, all_spilled, ids_of, lines_done, lists_of, took_by, row_arrivals, AreAtHome}
+use Rattle.round_lookahead.specs.inside.Dues.{first_due, lesser_due}
 use Rattle.round_lookahead.specs.RoundsInPlace.{IsRoundInPlace}
 use Rattle.round_lookahead.specs.inside.Settles.{IsBack, HasSettled}
 use Rattle.round_lookahead.specs.inside.Waits.{IsSameHosts, rows_of}
+use Rattle.round_lookahead.specs.Tasks.{waiting}
 use Rattle.round_lookahead.proofs.AloneSteps.{AreIdle, alone_round, holding, idle_spills}
 use Rattle.round_lookahead.proofs.DeliverySteps.{row-more}
 use Rattle.round_lookahead.proofs.SettleSteps.{get_or_is}
+use Rattle.round_lookahead.proofs.WaitSteps.{due_with, held_waits, waits_with}
 
 -- ---- the same hosts
 
@@ -270,3 +275,20 @@ whole_round net end workers old opened opened_is now a ran few again again_is fi
     (subst (λ (l : List Task). IsPermutation (row_arrivals (rows_of final)) (map parcel_event a.spill.items ++ row_arrivals (rows_of l))) again_now moved))
     (λ n to at. subst (λ (l : List Task). AreAtHome n (rows_of l)) (sym last) (theirs n to (subst (λ (l : List Task). AreAtHome n (rows_of l)) (sym again_now) at)))
     outputs sorted took workers (omega arith)
+
+-- when the first event is due after it
+pub whole_due : (net : Net) (end : ℕ) (old : Vec Task Global) (opened : List Task) → opened ≡ old.items → (now : List Task) (a : Alone) → AreRunInPlace net end opened (length opened) now a
+    → (again : List Task) → again ≡ (with_items old now).items → (final : List Task) → IsSameHosts again final
+    → IsPermutation (row_arrivals (rows_of final)) (map parcel_event a.spill.items ++ row_arrivals (rows_of again))
+    → (packets due : Option Time) → IsLeastDue (map parcel_event a.spill.items) packets → due ≡ lesser_due packets a.due → due ≡ first_due (flat_map waiting (with_items (with_items old now) final).items)
+whole_due net end old opened opened_is now a ran again again_is final same moved packets due arrive is =
+    let many : length now ≡ old.len = ran.all ∙ ap length opened_is ∙ sym old.ok.0 in
+    let again_now : again ≡ now = again_is ∙ with_items_is old now many in
+    let same_now : IsSameHosts now final = subst (λ (l : List Task). IsSameHosts l final) again_now same in
+    let last : (with_items (with_items old now) final).items ≡ final = with_items_is (with_items old now) final (same_length now final same_now ∙ many) in
+    let moved_now : IsPermutation (row_arrivals (rows_of final)) (map parcel_event a.spill.items ++ row_arrivals (rows_of now)) =
+    subst (λ (l : List Task). IsPermutation (row_arrivals (rows_of final)) (map parcel_event a.spill.items ++ row_arrivals (rows_of l))) again_now moved in
+    let held : IsLeastDue (flat_map waiting now) a.due =
+    subst (λ (l : List Event). IsLeastDue l a.due) (sym (held_waits now ran.ds (ran.many ∙ sym ran.all) (λ k d at. (let p = ran.places k d at in (p.task, p.at, p.host, p.emptied))))) ran.due in
+    subst (λ (l : List Task). due ≡ first_due (flat_map waiting l)) (sym last)
+    (due_with now final (map parcel_event a.spill.items) a.due packets due held arrive is (waits_with now final (map parcel_event a.spill.items) same_now moved_now))

@@ -1,9 +1,9 @@
 -- What the world stands for after a round, what it gained, and who took which host.
-use Rattle.std.proofs.Common.{◌≡◌, ℕ, suc, ◌<◌, ⊎_elim, List, [], ◌∷◌, ◌++◌, Some, All, map, flat_map, length, get_or, slice_get, refl, sym, ap, subst, ◌∙◌, arith, IsPermutation, Vec, append_assoc}
+use Rattle.std.proofs.Common.{◌≡◌, ℕ, suc, ◌<◌, ⊎_elim, List, [], ◌∷◌, ◌++◌, Option, Some, All, map, flat_map, length, get_or, slice_get, refl, sym, ap, subst, ◌∙◌, arith, IsPermutation, Vec}
 use Rattle.std.specs.Prelude.{Box}
 use Rattle.std.specs.declared.alloc.Global.{Global}
 use Rattle.std.proofs.lemmas.List.{length-map}
-use Rattle.std.proofs.lemmas.List.Sorted.{IsPermutation-refl, IsPermutation-sym, IsPermutation-trans, IsPermutation-append_right}
+use Rattle.std.proofs.lemmas.List.Sorted.{IsPermutation-sym, IsPermutation-trans, IsPermutation-append_right}
 use Rattle.sim_base.specs.declared.event.Event.{Event}
 use Rattle.sim_base.specs.declared.event.Parcel.{Parcel}
 use Rattle.sim_base.specs.declared.host.HostId.{HostId}
@@ -29,7 +29,6 @@ use Rattle.world_order.specs.WholeTurns.{Turn, turn_of}
 use Rattle.world_order.proofs.Fires.{get-map}
 use Rattle.world_order.proofs.Homes.{some_is, get_below, below_get}
 use Rattle.world_order.proofs.Members.{IsIn, IsIn_left, IsIn_either, IsIn_permutation, Each, Each_from_All, All_from_Each}
-use Rattle.world_order.proofs.Parts.{second_first}
 use Rattle.round_lookahead.specs.declared.workers.task.Task.{Task}
 use Rattle.round_lookahead.specs.declared.workers.worked.Done.{Done}
 use Rattle.round_lookahead.specs.declared.workers.worked.Worked.{Worked}
@@ -44,6 +43,7 @@ use Rattle.round_lookahead.specs.Counts.{counts_of}
 use Rattle.round_lookahead.specs.Gains.{IsGained, IsTaken, HasTurns, HasGained, turns_from}
 use Rattle.round_lookahead.specs.RoundsInPlace.{IsRoundInPlace}
 use Rattle.round_lookahead.specs.Rounds.{IsRound, AreWorks, all_parcels}
+use Rattle.round_lookahead.specs.inside.Dues.{first_due}
 use Rattle.round_lookahead.specs.inside.Settles.{done_numbers, CanSettle, IsBack, HasSettled}
 use Rattle.round_lookahead.specs.Tasks.{waiting, AreTasks}
 use Rattle.round_lookahead.specs.Works.{HostJob, AreDone}
@@ -54,25 +54,10 @@ use Rattle.round_lookahead.proofs.DueSteps.{any_in, in_any}
 use Rattle.round_lookahead.proofs.RoundJobs as round_jobs
 use Rattle.round_lookahead.proofs.RunSteps.{IsRunBy, AreRun, job_done, done_job, run_lines}
 use Rattle.round_lookahead.proofs.SettleSteps.{done_of, get_or_is}
+use Rattle.round_lookahead.proofs.WaitSteps.{arrived_in, arrived_rows, held_in, waiting_parts}
 use Rattle.round_lookahead.proofs.WholeRounds.{packets_in, lines_in}
 use Rattle.round_lookahead.proofs.WorldSteps.{settled_between, rec, rec_is, rec_tasks, of_map, in_part, map_both}
 use Rattle.round_lookahead.proofs.WorldRounds as rounds
-
--- ---- lists
-
--- each of two parts
-split_parts : {X : Type 0} (f g : X → List Event) (xs : List X) → IsPermutation (flat_map (λ x. f x ++ g x) xs) (flat_map f xs ++ flat_map g xs)
-split_parts f g [] = IsPermutation-refl []
-split_parts f g (x ∷ xs) =
-    IsPermutation-trans ((f x ++ g x) ++ flat_map (λ y. f y ++ g y) xs) ((f x ++ g x) ++ (flat_map f xs ++ flat_map g xs)) ((f x ++ flat_map f xs) ++ (g x ++ flat_map g xs))
-    (IsPermutation-append_right (f x ++ g x) (flat_map (λ y. f y ++ g y) xs) (flat_map f xs ++ flat_map g xs) (split_parts f g xs))
-    (subst (λ (l : List Event). IsPermutation l ((f x ++ flat_map f xs) ++ (g x ++ flat_map g xs))) (sym (append_assoc (f x) (g x) (flat_map f xs ++ flat_map g xs)))
-    (subst (IsPermutation (f x ++ (g x ++ (flat_map f xs ++ flat_map g xs)))) (sym (append_assoc (f x) (flat_map f xs) (g x ++ flat_map g xs)))
-    (IsPermutation-append_right (f x) (g x ++ (flat_map f xs ++ flat_map g xs)) (flat_map f xs ++ (g x ++ flat_map g xs)) (second_first (g x) (flat_map f xs) (flat_map g xs)))))
-
-rows_of : (ts : List Task) → row_arrivals (map (λ (t : Task). t.parcels) ts) ≡ flat_map (λ (t : Task). arrivals t.parcels.items) ts
-rows_of [] = refl
-rows_of (t ∷ ts) = ap (λ (l : List Event). arrivals t.parcels.items ++ l) (rows_of ts)
 
 -- ---- who took which host
 
@@ -108,7 +93,8 @@ module _ (c : World) (w : HostWorld) (stands : WorldStands c w) (least : Time) (
     (works : List Worked) (rows : List (Vec Boxed Global)) (many : length works ≡ workers)
     (round : IsRound c.net (window_end (nanos_of c.lookahead) c.net.stop.nanos least.nanos) c.tasks.items (rec c w stands) works rows)
     (s : Settled) (so : HasSettled (length c.tasks.items) works rows s)
-    (n : Counts) (counted : (log : List Line) → c.counts ≡ counts_of log → n ≡ counts_of (log ++ kept_lines s.gained.lines.items)) (load : Load) where
+    (n : Counts) (counted : (log : List Line) → c.counts ≡ counts_of log → n ≡ counts_of (log ++ kept_lines s.gained.lines.items)) (load : Load)
+    (soon : Option Time) (told : soon ≡ first_due (flat_map waiting s.tasks.items)) where
   abbrev next : HostWorld
   next = rounds.next c w stands least due workers works rows many round
 
@@ -125,7 +111,7 @@ module _ (c : World) (w : HostWorld) (stands : WorldStands c w) (least : Time) (
   ts = s.tasks.items
 
   abbrev new : World
-  new = record c { tasks = s.tasks; counts = n; load = load }
+  new = record c { tasks = s.tasks; due = soon; told = told; counts = n; load = load }
 
   are_run : AreRun c.net end c.tasks.items (rec c w stands) jobs ds
   are_run = rounds.are_run c w stands least due workers works rows many round
@@ -208,13 +194,13 @@ module _ (c : World) (w : HostWorld) (stands : WorldStands c w) (least : Time) (
 
   events_are : IsPermutation (flat_map waiting ts) next.events
   events_are =
-      let queues : List Event = flat_map (λ (t : Task). t.host.value.queue) ts in
-      let arrived : List Event = flat_map (λ (t : Task). arrivals t.parcels.items) ts in
+      let queues : List Event = held_in ts in
+      let arrived : List Event = arrived_in ts in
       let laid : List Event = map parcel_event (all_spilled works) ++ row_arrivals rows in
       let packets : IsPermutation arrived (packets_in jobs) =
-      IsPermutation-trans arrived laid (packets_in jobs) (subst (λ (l : List Event). IsPermutation l laid) (rows_of ts) so.packets) (rounds.laid_packets c w stands least due workers works rows many round) in
+      IsPermutation-trans arrived laid (packets_in jobs) (subst (λ (l : List Event). IsPermutation l laid) (arrived_rows ts) so.packets) (rounds.laid_packets c w stands least due workers works rows many round) in
       IsPermutation-trans (flat_map waiting ts) (queues ++ arrived) next.events
-      (split_parts (λ (t : Task). t.host.value.queue) (λ (t : Task). arrivals t.parcels.items) ts)
+      (waiting_parts ts)
       (IsPermutation-trans (queues ++ arrived) (queues ++ packets_in jobs) next.events
       (IsPermutation-append_right queues arrived (packets_in jobs) packets)
       (rounds.next_events c w stands least due workers works rows many round ts (so.tasks_count ∙ stands.count)
@@ -299,16 +285,18 @@ module _ (c : World) (w : HostWorld) (stands : WorldStands c w) (least : Time) (
   settles = subst (λ (n : ℕ). CanSettle n works rows) (sym count_is) (rounds.can_settle c w stands least due workers works rows many the_round)
 
   pub goes_on : (s : Settled) → HasSettled count works rows s → (n : Counts) → ((log : List Line) → c.counts ≡ counts_of log → n ≡ counts_of (log ++ kept_lines s.gained.lines.items))
-      → (load : Load) → (v : HostWorld) × HasGained c (record c { tasks = s.tasks; counts = n; load = load }) workers w v s.gained
-  goes_on s so n counted load = (
+      → (load : Load) (soon : Option Time) (told : soon ≡ first_due (flat_map waiting s.tasks.items))
+      → (v : HostWorld) × HasGained c (record c { tasks = s.tasks; due = soon; told = told; counts = n; load = load }) workers w v s.gained
+  goes_on s so n counted load soon told = (
     rounds.next c w stands least due workers works rows many the_round,
-    has_round c w stands least due workers works rows many the_round s (subst (λ (k : ℕ). HasSettled k works rows s) count_is so) n counted load,
+    has_round c w stands least due workers works rows many the_round s (subst (λ (k : ℕ). HasSettled k works rows s) count_is so) n counted load soon told,
   )
 
 -- a round in which each host is run in its place
-pub goes_on_here : (c : World) (w : HostWorld) → WorldStands c w → (least : Time) → IsLeastDue (flat_map waiting c.tasks.items) (Some least) → (workers : ℕ) (new : Vec Task Global)
-    (until : ℕ) → until ≡ window_end (nanos_of c.lookahead) c.net.stop.nanos least.nanos → (p : Gained) → IsRoundInPlace c.net until workers c.tasks.items new p
+pub goes_on_here : (c : World) (w : HostWorld) → WorldStands c w → (least : Time) → IsLeastDue (flat_map waiting c.tasks.items) (Some least) → (workers : ℕ) (ts : Vec Task Global) → ts ≡ c.tasks → (new : Vec Task Global)
+    (until : ℕ) → until ≡ window_end (nanos_of c.lookahead) c.net.stop.nanos least.nanos → (p : Gained) → IsRoundInPlace c.net until workers ts.items new p
     → (n : Counts) → ((log : List Line) → c.counts ≡ counts_of log → n ≡ counts_of (log ++ kept_lines p.lines.items))
-    → (load : Load) → (v : HostWorld) × HasGained c (record c { tasks = new; counts = n; load = load }) workers w v p
-goes_on_here c w stands least due workers new until until_is p h n counted load =
-    goes_on c w stands least due workers h.works h.rows h.many c.tasks refl until until_is h.round (length c.tasks.items) refl (record { tasks = new; gained = p }) h.settled n counted load
+    → (load : Load) (soon : Option Time) (told : soon ≡ first_due (flat_map waiting new.items)) → (v : HostWorld) × HasGained c (record c { tasks = new; due = soon; told = told; counts = n; load = load }) workers w v p
+goes_on_here c w stands least due workers ts ts_are new until until_is p h n counted load soon told =
+    goes_on c w stands least due workers h.works h.rows h.many ts ts_are until until_is h.round (length ts.items) (ap (λ (v : Vec Task Global). length v.items) ts_are) (record { tasks = new; gained = p }) h.settled
+    n counted load soon told

@@ -1,15 +1,16 @@
 //! When the next event of the world is due.
-ghost use Rattle.std.specs.Prelude.{◌≡◌, flat_map};
+ghost use Rattle.std.specs.Prelude.{◌≡◌, flat_map, map};
 ghost use Rattle.event_order.specs.Events.{IsLeastDue};
+ghost use Rattle.host_link.specs.Parcels.{parcel_event};
 ghost use Rattle.round_lookahead.specs.inside.Arrivals.{arrivals};
-ghost use Rattle.round_lookahead.specs.inside.Dues.{lesser_due};
+ghost use Rattle.round_lookahead.specs.inside.Dues.{first_due, lesser_due};
 ghost use Rattle.round_lookahead.specs.Tasks.{waiting};
 
 use crate::workers::task::Task;
 use sim_base::{Parcel, Time};
 
 /// The earlier of two times, either of which may be missing.
-fn earlier(a: Option<Time>, b: Option<Time>) -> Option<Time>
+pub(crate) fn earlier(a: Option<Time>, b: Option<Time>) -> Option<Time>
     ensures { result ≡ lesser_due a b }
 {
     match (a, b) {
@@ -30,6 +31,17 @@ fn first_arrival(parcels: &[Box<Parcel>]) -> Option<Time>
     least
 }
 
+/// The same of packets that are in no inbox.
+pub(crate) fn first_spilled(parcels: &[Parcel]) -> Option<Time>
+    ensures { IsLeastDue (map parcel_event parcels.now) result }
+{
+    let mut least = None;
+    for parcel in parcels {
+        least = earlier(least, Some(parcel.key.due));
+    }
+    least
+}
+
 impl Task {
     /// When the first event that the host holds or that waits for it is due.
     fn next_due(&self) -> Option<Time>
@@ -41,7 +53,7 @@ impl Task {
 
 /// When the first event of all hosts is due; none where there is no event.
 pub(crate) fn least_due(tasks: &[Task]) -> Option<Time>
-    ensures { IsLeastDue (flat_map waiting tasks.now) result }
+    ensures { result ≡ first_due (flat_map waiting tasks.now) }
 {
     let mut least = None;
     for task in tasks {

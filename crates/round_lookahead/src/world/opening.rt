@@ -7,6 +7,7 @@ ghost use Rattle.round_lookahead.specs.WorldStands.{HasRounds, WorldStands, nano
 
 use crate::workers::task::Task;
 use crate::world::counts::Counts;
+use crate::world::due::least_due;
 use crate::world::load::Load;
 use crate::world::world_state::World;
 use host_link::Net;
@@ -58,11 +59,13 @@ impl World {
         let load = Load::new(alloc, rows.len())?;
         let listing = Listing::new(alloc, rows.as_slice())?;
         let tasks = open_hosts(alloc, rows, &net)?;
+        let due = least_due(tasks.as_slice());
         Ok(World {
             net,
             lookahead,
             listing,
             tasks,
+            due,
             counts: Counts::new(),
             load,
         })

@@ -12,7 +12,7 @@ use crate::world::due::least_due;
 use crate::world::gained::Gained;
 use crate::world::pieces::Pieces;
 use crate::world::settling::{Settled, settle};
-use crate::world::settling_in_place::round_in_place;
+use crate::world::settling_in_place::{RanInPlace, round_in_place};
 use crate::world::world_state::World;
 use run_files::round_pieces;
 use sim_base::{NoMemory, Time};
@@ -26,7 +26,7 @@ impl World {
     pub(crate) fn next_due(&self) -> Option<Time>
         ensures { IsLeastDue (flat_map waiting self.now.tasks.items) result }
     {
-        least_due(self.tasks.as_slice())
+        self.due
     }
 
     /// Whether no event is due before the net's stop.
@@ -60,19 +60,25 @@ impl World {
         let window = self.net.window(least, self.lookahead);
         let most = most_threads(self.tasks.as_slice(), window.end, workers);
         let threads = self.load.threads(most);
-        if threads < 2 {
-            let ran = round_in_place(alloc, &self.net, window.end, &mut self.tasks, workers, gate)?;
-            self.counts.count_round(&ran);
-            self.load.note(self.tasks.as_slice(), workers, most);
-            return Ok(ran);
-        }
         let count = self.tasks.len();
-        let tasks = mem::replace(&mut self.tasks, Vec::new(alloc));
+        let mut tasks = mem::replace(&mut self.tasks, Vec::new(alloc));
+        self.due = None;
+        if threads < 2 {
+            let RanInPlace { gained, due } = round_in_place(
+                alloc, &self.net, window.end, &mut tasks, workers, gate,
+            )?;
+            self.tasks = tasks;
+            self.due = due;
+            self.counts.count_round(&gained);
+            self.load.note(self.tasks.as_slice(), workers, most);
+            return Ok(gained);
+        }
         let RoundLeft { works, rows } = run_beside(
             rt, alloc, &self.net, window.end, tasks, workers, threads, gate,
         )?;
         let Settled { tasks, gained } = settle(alloc, count, works, rows)?;
         self.tasks = tasks;
+        self.due = least_due(self.tasks.as_slice());
         self.counts.count_round(&gained);
         self.load.note(self.tasks.as_slice(), workers, most);
         Ok(gained)

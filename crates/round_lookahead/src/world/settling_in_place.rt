@@ -1,12 +1,14 @@
 //! A round in which each host is run in its place, whole.
-ghost use Rattle.std.specs.Prelude.{◌≡◌, ◌-◌, ◌≤◌, ◌<◌, ◌∷◌, [], IfOk, length, replicate};
+ghost use Rattle.std.specs.Prelude.{◌≡◌, ◌-◌, ◌≤◌, ◌<◌, ◌∷◌, [], IfOk, flat_map, length, replicate};
 ghost use Rattle.sim_base.specs.Units.{latest_time};
 ghost use Rattle.host_inbox.specs.Sizes.{most_inboxes};
 ghost use Rattle.round_lookahead.specs.inside.Backs.{lists_of};
+ghost use Rattle.round_lookahead.specs.inside.Dues.{first_due};
 ghost use Rattle.round_lookahead.specs.RoundsInPlace.{IsRoundInPlace};
-ghost use Rattle.round_lookahead.specs.Tasks.{AreTasksOf};
+ghost use Rattle.round_lookahead.specs.Tasks.{AreTasksOf, waiting};
 
 use crate::workers::task::Task;
+use crate::world::due::{earlier, first_spilled};
 use crate::world::gained::Gained;
 use crate::world::in_place::{Alone, run_in_place};
 use crate::world::merging::merge;
@@ -15,6 +17,13 @@ use host_link::Net;
 use sim_base::{HostId, NoMemory, Time};
 use std::alloc::Global;
 use steal_workers::Gate;
+
+/// What a round gained in which each host was run in its place, and when the first event is due after it.
+#[derive(Drop)]
+pub(crate) struct RanInPlace {
+    pub(crate) gained: Gained,
+    pub(crate) due: Option<Time>,
+}
 
 /// The hosts that the first of so many workers took; the others took none.
 fn took_first(alloc: Global, first: Vec<HostId>, workers: u32) -> Result<Vec<Vec<HostId>>, NoMemory>
@@ -38,26 +47,32 @@ pub(crate) fn round_in_place<G: Gate>(
     tasks: &mut Vec<Task>,
     workers: u32,
     gate: &G,
-) -> Result<Gained, NoMemory>
+) -> Result<RanInPlace, NoMemory>
     requires stop { net.now.stop.nanos ≤ latest_time }
     requires until { end.nanos ≤ net.now.stop.nanos }
     requires workers { 0 < workers }
     requires few { length tasks.old.items ≤ most_inboxes }
     requires tasks { AreTasksOf net.now tasks.old.items }
-    ensures { IfOk result (λ gained. IsRoundInPlace net.now end.nanos workers tasks.old.items tasks.new gained) }
+    ensures round { IfOk result (λ ran. IsRoundInPlace net.now end.nanos workers tasks.old.items tasks.new ran.gained) }
+    ensures due { IfOk result (λ ran. ran.due ≡ first_due (flat_map waiting tasks.new.items)) }
 {
     let Alone {
         outputs,
         mut lines,
         took,
         spill,
+        due: held,
     } = run_in_place(alloc, net, end, tasks.as_mut_slice(), gate)?;
     merge(&mut lines)?;
+    let due = earlier(first_spilled(spill.as_slice()), held);
     wait_all(alloc, tasks.as_mut_slice(), spill)?;
     let took = took_first(alloc, took, workers)?;
-    Ok(Gained {
-        outputs,
-        lines,
-        took,
+    Ok(RanInPlace {
+        gained: Gained {
+            outputs,
+            lines,
+            took,
+        },
+        due,
     })
 }

@@ -14,7 +14,7 @@ loop-task-init g c =
     record {
       few = omega arith;
       to = λ k d below. absurd (omega (arith, below, ap (λ (l : List Parcel). length l) alone.spill));
-      run = none_placed c.args.net.now c.args.end.nanos c.args.tasks.now c.in_ok-alone.alone alone.outputs alone.lines alone.took alone.spill;
+      run = none_placed c.args.net.now c.args.end.nanos c.args.tasks.now c.in_ok-alone.alone alone.outputs alone.lines alone.took alone.spill alone.due;
     }
 
 pub run_here-requires-clause-task : goal.run_here-requires-clause-task

@@ -36,12 +36,22 @@ returns-clause-turns g c = λ w stands.
     goes_on c.args.self.now w stands c.args.least c.requires.least c.args.workers c.in_ok-works.field-0.works.items c.in_ok-works.field-0.rows.items
     c.in_ok-works.ensures.works c.replace-tasks.result c.replace-tasks.ensures.value c.window-window.result.end.nanos c.window-window.ensures.end c.in_ok-works.ensures.round
     c.len-count.result (let e = c.len-count.ensures in omega (arith, c.args.self.now.tasks.ok.0)) c.in_ok-tasks.field-0 c.in_ok-tasks.ensures
-    c.count_round-2.new.self c.count_round-2.ensures c.note-2.new.self
+    c.count_round-2.new.self c.count_round-2.ensures c.note-2.new.self _ _
+
+pub round_in_place-requires-clause-few : goal.round_in_place-requires-clause-few
+round_in_place-requires-clause-few g c =
+    let s = c.requires.stands.1 in
+    let count = s.count in
+    let book = s.between.count in
+    let few = s.rounds.few in
+    let same : length c.replace-tasks.result.items ≡ length c.args.self.now.tasks.items = ap (λ (v : Vec Task Global). length v.items) c.replace-tasks.ensures.value in
+    omega arith
 
 pub round_in_place-requires-clause-tasks : goal.round_in_place-requires-clause-tasks
-round_in_place-requires-clause-tasks g c = all_tasks c.args.self.now c.requires.stands.0 c.requires.stands.1
+round_in_place-requires-clause-tasks g c =
+    subst (λ (v : Vec Task Global). AreTasksOf c.args.self.now.net v.items) (sym c.replace-tasks.ensures.value) (all_tasks c.args.self.now c.requires.stands.0 c.requires.stands.1)
 
 pub returns-then-threads-lt2-clause-turns : goal.returns-then-threads-lt2-clause-turns
 returns-then-threads-lt2-clause-turns g c = λ w stands.
-    goes_on_here c.args.self.now w stands c.args.least c.requires.least c.args.workers c.round_in_place.new.tasks c.window-window.result.end.nanos c.window-window.ensures.end
-    c.in_ok-ran.ran c.in_ok-ran.ensures c.count_round.new.self c.count_round.ensures c.note.new.self
+    goes_on_here c.args.self.now w stands c.args.least c.requires.least c.args.workers c.replace-tasks.result c.replace-tasks.ensures.value c.round_in_place.new.tasks c.window-window.result.end.nanos c.window-window.ensures.end
+    c.in_ok-gained.field-0.gained c.in_ok-gained.ensures.round c.count_round.new.self c.count_round.ensures c.note.new.self _ _
