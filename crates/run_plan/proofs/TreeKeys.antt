@@ -6,7 +6,7 @@ use Rattle.yaml_tree.specs.Said.{Said, has_key}
 use Rattle.yaml_tree.specs.Said.Said.{null, text, unknown, sequence, mapping, with_item, with_pair}
 use Rattle.yaml_merge.specs.Merge.{keys_of}
 use Rattle.yaml_merge.specs.Plainness.{are_items, are_pairs, IsPlain}
-use Rattle.yaml_merge.specs.inside.Rows.{with_pairs}
+use Rattle.yaml_merge.specs.Rows.{with_pairs}
 use Rattle.yaml_merge.specs.declared.plain.Pair.{Pair}
 use Rattle.run_plan.proofs.NameCounts.{one_if, one_if_le, is_one, copies, copies_append}
 

@@ -6,7 +6,7 @@ use Rattle.yaml_tree.specs.Said.Said.{sequence, mapping, with_item, with_pair}
 use Rattle.yaml_merge.specs.declared.plain.Inner.{Inner}
 use Rattle.yaml_merge.specs.declared.plain.Inner.TheVariants.{Null, Text, Sequence, Mapping}
 use Rattle.yaml_merge.specs.declared.plain.Pair.{Pair}
-use Rattle.yaml_merge.specs.inside.Rows.{with_items, with_pairs}
+use Rattle.yaml_merge.specs.Rows.{with_items, with_pairs}
 use Rattle.std.specs.List.{flat_map}
 use Rattle.yaml_merge.specs.Sources.{pairs_of, sources}
 use Rattle.yaml_merge.specs.inside.Inner.{said_of, pairs_held, sources_held, null_inside, text_inside, items_inside, pairs_inside}

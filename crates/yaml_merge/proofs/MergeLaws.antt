@@ -4,7 +4,7 @@ use Rattle.std.proofs.Common.{◌≡◌, ℕ, Bool, true, false, not, ◌&&◌, 
 use Rattle.sim_base.specs.Refusals.{◌>>=◌}
 use Rattle.yaml_tree.specs.Said.{Said}
 use Rattle.yaml_tree.specs.Said.Said.{null, text, unknown, sequence, mapping, with_item, with_pair}
-use Rattle.yaml_merge.specs.inside.Rows.{with_pairs}
+use Rattle.yaml_merge.specs.Rows.{with_pairs}
 use Rattle.yaml_merge.specs.Sources.{pairs_of, sources}
 use Rattle.yaml_merge.specs.Merge.{is_merge_key, may_merge, has, has_merge_key, keys_of, new_pairs, below, item_count, item_place, merged_rows, merged}
 use Rattle.yaml_merge.specs.declared.plain.Pair.{Pair}

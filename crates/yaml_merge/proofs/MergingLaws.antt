@@ -13,7 +13,7 @@ use Rattle.yaml_tree.specs.Entries.{has_key}
 use Rattle.yaml_tree.specs.declared.entries.Child.{Child}
 use Rattle.yaml_tree.specs.declared.node.Node.{Node}
 use Rattle.yaml_merge.specs.inside.Held.{HoldsPlain, valid_text, keys_in, is_mapping_at}
-use Rattle.yaml_merge.specs.inside.Rows.{with_items, with_pairs}
+use Rattle.yaml_merge.specs.Rows.{with_items, with_pairs}
 use Rattle.yaml_merge.specs.Sources.{sources}
 use Rattle.yaml_merge.specs.Merge.{may_merge, has, keys_of, new_pairs, is_merge_key, put_value, fault_below, below, item_place, with_merged, merged}
 use Rattle.yaml_merge.specs.inside.Merging.{IsFault, IsBelow, Fails, LeadsTo, ItemsMergeTo, EntriesMergeTo, pairs_put, with_key}

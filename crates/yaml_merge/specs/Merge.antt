@@ -9,7 +9,7 @@ use Rattle.std.specs.List.{list_any}
 use Rattle.yaml_tree.specs.Said.{Said}
 use Rattle.yaml_tree.specs.Said.Said.{null, text, unknown, sequence, mapping, with_item, with_pair}
 use Rattle.yaml_tree.specs.Holds.{is_mapping}
-use Rattle.yaml_merge.specs.inside.Rows.{with_pairs}
+use Rattle.yaml_merge.specs.Rows.{with_pairs}
 use Rattle.yaml_merge.specs.Sources.{sources}
 use Rattle.yaml_merge.specs.declared.plain.Pair.{Pair}
 use Rattle.yaml_merge.specs.declared.fault.MergeFault.{MergeFault}

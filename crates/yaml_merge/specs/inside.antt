@@ -4,5 +4,4 @@ pub mod Height
 pub mod Held
 pub mod Inner
 pub mod Merging
-pub mod Rows
 pub mod SaidCode

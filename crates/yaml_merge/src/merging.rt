@@ -8,7 +8,7 @@ ghost use Rattle.yaml_tree.specs.Said.{Said, levels};
 ghost use Rattle.yaml_tree.specs.Said.Said.{sequence, mapping};
 ghost use Rattle.yaml_tree.specs.Trees.{Holds, nodes_of};
 ghost use Rattle.yaml_merge.specs.inside.Held.{HoldsPlain, valid_text, keys_in, is_mapping_value, is_mapping_at, may_merge_value};
-ghost use Rattle.yaml_merge.specs.inside.Rows.{with_pairs};
+ghost use Rattle.yaml_merge.specs.Rows.{with_pairs};
 ghost use Rattle.yaml_merge.specs.Plainness.{IsPlain};
 ghost use Rattle.yaml_merge.specs.Merge.{is_merge_key, may_merge, fault_below, item_place, with_merged, merged, new_pairs, keys_of};
 ghost use Rattle.yaml_merge.specs.inside.Merging.{IsFault, IsBelow, Gives, ItemsMergeTo, EntriesMergeTo, ValueMergesTo, pairs_put};

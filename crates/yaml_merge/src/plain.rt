@@ -3,7 +3,7 @@
 ghost use Rattle.std.specs.Prelude.{◌≡◌, Option, IfOk};
 ghost use Rattle.std.specs.Option.{option_map};
 ghost use Rattle.yaml_tree.specs.Said.Said.{null, text, sequence, mapping};
-ghost use Rattle.yaml_merge.specs.inside.Rows.{with_items, with_pairs};
+ghost use Rattle.yaml_merge.specs.Rows.{with_items, with_pairs};
 ghost use Rattle.std.specs.List.{flat_map};
 ghost use Rattle.yaml_merge.specs.Sources.{pairs_of, sources};
 ghost use Rattle.yaml_merge.specs.inside.Inner.{pairs_held, sources_held, null_inside, text_inside, items_inside, pairs_inside};

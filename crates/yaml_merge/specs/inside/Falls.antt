@@ -9,7 +9,7 @@ use Rattle.yaml_merge.specs.declared.plain.Inner.TheVariants.{Null, Text, Sequen
 use Rattle.yaml_merge.specs.declared.plain.Pair.{Pair}
 use Rattle.yaml_merge.specs.declared.plain.Plain.TheDeep.{deep-Inner, deep-Pair}
 use Rattle.yaml_merge.specs.inside.Inner.{said_of}
-use Rattle.yaml_merge.specs.inside.Rows.{with_items, with_pairs}
+use Rattle.yaml_merge.specs.Rows.{with_items, with_pairs}
 use Rattle.yaml_merge.specs.inside.Height.{height}
 
 items_high : (xs : List Said) (before : Said) → height before ≤ height (with_items before xs)

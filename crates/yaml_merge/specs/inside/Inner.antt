@@ -3,7 +3,7 @@ use Rattle.std.specs.Prelude.{ℕ, Bool, true, false, List, [], Option, Some, No
 use Rattle.std.specs.List.{flat_map}
 use Rattle.yaml_tree.specs.Said.{Said}
 use Rattle.yaml_tree.specs.Said.Said.{null, text, sequence, mapping}
-use Rattle.yaml_merge.specs.inside.Rows.{with_items, with_pairs}
+use Rattle.yaml_merge.specs.Rows.{with_items, with_pairs}
 use Rattle.yaml_merge.specs.Sources.{pairs_of}
 use Rattle.yaml_merge.specs.declared.plain.Inner.{Inner}
 use Rattle.yaml_merge.specs.declared.plain.Inner.TheVariants.{Null, Text, Sequence, Mapping}

@@ -5,7 +5,7 @@ use Rattle.yaml_tree.specs.Trees.{nodes_of}
 use Rattle.yaml_tree.specs.declared.node.Value.{Value}
 use Rattle.yaml_merge.specs.Merge.{below, merged}
 use Rattle.yaml_merge.specs.inside.Held.{valid_text, keys_in}
-use Rattle.yaml_merge.specs.inside.Rows.{with_items, with_pairs}
+use Rattle.yaml_merge.specs.Rows.{with_items, with_pairs}
 use Rattle.yaml_merge.specs.inside.Merging.{ItemsMergeTo, ValueMergesTo}
 use Rattle.yaml_merge.proofs.HeldLaws.{found}
 use Rattle.yaml_merge.proofs.MergingLaws.{below_fails, entry_wrong, entry_stops, entry_put, items_end, items_go_on, items_stop, entries_go_on, entries_stop}

@@ -2,7 +2,7 @@ use Rattle.std.proofs.Common.{◌≡◌, ◌+◌, ◌*◌, Result, drop, vec_len
 use Rattle.yaml_tree.specs.Said.{Said}
 use Rattle.yaml_tree.specs.Said.Said.{sequence, mapping}
 use Rattle.yaml_merge.specs.inside.Held.{keys_in}
-use Rattle.yaml_merge.specs.inside.Rows.{with_items, with_pairs}
+use Rattle.yaml_merge.specs.Rows.{with_items, with_pairs}
 use Rattle.yaml_merge.specs.inside.Merging.{ItemsMergeTo, EntriesMergeTo}
 use Rattle.yaml_merge.specs.Merge.{keys_of}
 use Rattle.yaml_merge.specs.declared.fault.MergeFault.{MergeFault}
