@@ -1,12 +1,12 @@
 -- Costs under numbers, and rows of numbers.
-use Rattle.std.proofs.Common.{◌≡◌, ℕ, zero, suc, ◌<◌, true, false, cond, List, [], ◌∷◌, ◌++◌, length, get_or, slice_get, map, Option, Some, None, refl, sym, ap, ◌∙◌, ⊎_elim, arith}
+use Rattle.std.proofs.Common.{◌≡◌, ℕ, zero, suc, ◌<◌, true, false, cond, List, [], ◌∷◌, ◌++◌, length, get_or, slice_get, map, Option, Some, None, refl, sym, ap, ◌∙◌, subst, ⊎_elim, arith}
 use Rattle.std.specs.Option.{option_eq}
-use Rattle.std.specs.Prelude.{All}
+use Rattle.std.specs.Prelude.{All, Contains}
 use Rattle.std.proofs.lemmas.Bool.{and_parts, cases_Bool, cond-true, cond-false, eqb-true}
-use Rattle.std.proofs.lemmas.List.{map-append}
-use Rattle.std.proofs.lemmas.List.Elements.{All-nil, All-cons}
+use Rattle.std.proofs.lemmas.List.{append_assoc, map-append}
+use Rattle.std.proofs.lemmas.List.Elements.{All-nil, All-cons, All-push, Contains-get_or}
 use Rattle.net_routes.specs.declared.cost.Cost.{Cost}
-use Rattle.net_routes.specs.inside.Numbers.{same_cost, AreNumbers, KeepNumbers}
+use Rattle.net_routes.specs.inside.Numbers.{same_cost, AreNumbers, KeepNumbers, GetsNumberIf, GetNumbers}
 use Rattle.net_routes.proofs.ListLemmas.{some_same}
 
 -- PLACES OF A LIST
@@ -61,6 +61,22 @@ numbers_more costs number more c n size is are q m e =
     ap (λ (k : ℕ). slice_get (costs ++ c ∷ []) k) (sym (size ∙ its)) ∙ get_end costs c ∙ ap (λ (x : Option Cost). Some x) (same_is c q same))
     (λ (other : option_eq same_cost c q ≡ false). get_front costs (c ∷ []) m q (are q m (sym (is q ∙ cond-false _ (Some n) (number q) other) ∙ e)))
     (cases_Bool (option_eq same_cost c q))
+
+-- NUMBERS FOR THE COSTS OF A ROW
+
+-- the cost at a place of the row gets the next number, or none
+pub added_next : (row old before new : List (Option Cost)) (place : ℕ) (c : Option Cost) → place < length row → c ≡ get_or row place None → GetNumbers row old before → GetsNumberIf c before new → GetNumbers row old new
+added_next row old before new place c lt is h next =
+    let P : Option Cost → Type 0 = λ o. Contains row o in
+    let of_row : Contains row c = subst P (sym is) (Contains-get_or row place None lt) in
+    ⊎_elim
+    (λ (same : new ≡ before). record { more = h.more; behind = same ∙ h.behind; of_row = h.of_row })
+    (λ (one : new ≡ before ++ c ∷ []). record {
+      more = h.more ++ c ∷ [];
+      behind = one ∙ ap (λ (l : List (Option Cost)). l ++ c ∷ []) h.behind ∙ append_assoc old h.more (c ∷ []);
+      of_row = All-push (Contains row) h.more c h.of_row of_row;
+    })
+    next
 
 -- ROWS OF NUMBERS
 

@@ -1,7 +1,7 @@
 //! Costs under numbers.
 
 ghost use Rattle.std.specs.Prelude.{◌≡◌, ◌≤◌, ◌^◌, [], IfOk, IfSome, IfNone, Some, None, length, map, slice_get, slice_index_or};
-ghost use Rattle.net_routes.specs.inside.Numbers.{KeepNumbers};
+ghost use Rattle.net_routes.specs.inside.Numbers.{KeepNumbers, GetsNumberIf, GetNumbers};
 
 use crate::cost::Cost;
 use crate::kept::Kept;
@@ -60,6 +60,7 @@ impl NumberedCosts {
         ensures number { IfOk result (λ o. IfSome o (λ n. slice_get self.new n ≡ Some cost)) }
         ensures full { IfOk result (λ o. IfNone o (2 ^ 16 ≤ length self.new)) }
         ensures kept { KeepNumbers self.old self.new }
+        ensures added { GetsNumberIf cost self.old self.new }
     {
         if let Some(number) = self.numbers.get(&cost).copied() {
             return Ok(Some(number));
@@ -84,6 +85,7 @@ impl NumberedCosts {
             (λ o. IfSome o (λ numbers. map (slice_get self.new) numbers.items ≡ map Some row.now)) }
         ensures full { IfOk result (λ o. IfNone o (2 ^ 16 ≤ length self.new)) }
         ensures kept { KeepNumbers self.old self.new }
+        ensures added { GetNumbers row.now self.old self.new }
     {
         let mut numbers = Vec::with_capacity(alloc, row.len())?;
         for place in 0..row.len() {

@@ -3,7 +3,7 @@
 ghost use Rattle.std.specs.Prelude.{◌≡◌, [], ◌∷◌, ◌++◌, length, IfOk, OnOk};
 ghost use Rattle.net_routes.specs.inside.RouteRows.{cost_at};
 ghost use Rattle.net_routes.specs.inside.KeptRows.{row_in, HasCosts};
-ghost use Rattle.net_routes.specs.inside.Numbers.{KeepNumbers};
+ghost use Rattle.net_routes.specs.inside.Numbers.{KeepNumbers, GetNumbers};
 
 use crate::cost::Cost;
 use crate::kept_row::KeptRow;
@@ -38,6 +38,7 @@ fn keep_row(alloc: Global, costs: &mut NumberedCosts, row: RouteRow) -> Result<K
     ensures row { IfOk result (λ kept. row_in costs.new kept ≡ row) }
     ensures costs { IfOk result (HasCosts costs.new) }
     ensures kept { KeepNumbers costs.old costs.new }
+    ensures added { GetNumbers row costs.old costs.new }
 {
     match costs.numbers_of(alloc, &row)? {
         Some(numbers) => Ok(KeptRow::Numbers(numbers)),

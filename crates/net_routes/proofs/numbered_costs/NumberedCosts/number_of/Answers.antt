@@ -1,4 +1,4 @@
-use Rattle.std.proofs.Common.{◌≡◌, ℕ, List, [], ◌∷◌, ◌++◌, length, Option, Some, slice_get, sym, ap, ◌∙◌, subst, arith}
+use Rattle.std.proofs.Common.{◌≡◌, ℕ, List, [], ◌∷◌, ◌++◌, length, Option, Some, slice_get, refl, inr, sym, ap, ◌∙◌, subst, arith}
 use Rattle.std.specs.HashMap.{get}
 use Rattle.std.specs.Option.{option_eq}
 use Rattle.net_routes.specs.declared.cost.Cost.{Cost}
@@ -36,3 +36,9 @@ returns-in_ok-insert-in-Ok-clause-number c =
 
 pub returns-in_ok-insert-in-Ok-clause-kept : goal.returns-in_ok-insert-in-Ok-clause-kept
 returns-in_ok-insert-in-Ok-clause-kept c = rw (c.in_ok-push-in-Ok.ensures.items, ← c.self.view_is) (keep_more _ _)
+
+pub returns-in_err-insert-in-Ok-clause-added : goal.returns-in_err-insert-in-Ok-clause-added
+returns-in_err-insert-in-Ok-clause-added c = inr (rw (c.in_ok-push-in-Ok.ensures.items, c.from.ensures, ← c.self.view_is) refl)
+
+pub returns-in_ok-insert-in-Ok-clause-added : goal.returns-in_ok-insert-in-Ok-clause-added
+returns-in_ok-insert-in-Ok-clause-added c = inr (rw (c.in_ok-push-in-Ok.ensures.items, c.from.ensures, ← c.self.view_is) refl)
