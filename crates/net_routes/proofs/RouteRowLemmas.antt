@@ -79,6 +79,9 @@ host_counted (y ∷ xs) (suc i) x a =
     let rest = host_counted xs i x (record { within = omega (arith, a.within); is = a.is }) in
     omega (arith, counts_cons y x xs, rest)
 
+pub contained_counted : (xs : List ℕ) (x : ℕ) → Contains xs x → 1 ≤ hosts_on xs x
+contained_counted xs x h = let a = at_contains xs x h in host_counted xs a.0 x a.1
+
 hosts_counted : (xs : List ℕ) (i j x : ℕ) → i ≢ j → IsAt xs i x → IsAt xs j x → 2 ≤ hosts_on xs x
 hosts_counted [] i j x other a b = absurd (omega (arith, a.within))
 hosts_counted (y ∷ xs) zero zero x other a b = absurd (other refl)

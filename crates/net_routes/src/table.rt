@@ -1,6 +1,6 @@
 //! The routes between the nodes of hosts.
 
-ghost use Rattle.std.specs.Prelude.{◌≡◌, ◌<◌, Some, IsSome, option_map, length, All, Contains, true};
+ghost use Rattle.std.specs.Prelude.{◌≡◌, ◌<◌, ◌↔◌, Some, IsSome, IsTrue, option_map, length, All, Contains};
 ghost use Rattle.net_routes.specs.Routes.{route_in, AreBetween, HasRoutes};
 ghost use Rattle.net_routes.specs.Least.{lesser, IsLatency, IsLeastIf, IsFromTo, IsNeededLatency, IsNeededTo, IsLookahead};
 ghost use Rattle.net_routes.specs.inside.RouteMaps.{route_at};
@@ -188,7 +188,7 @@ impl Routes {
 
 /// Whether there is a host on each of these nodes.
 fn have_hosts(nodes: &[u32], stops: &[u32]) -> bool
-    ensures { result ≡ true → All (Contains nodes.now) stops.now }
+    ensures { IsTrue result ↔ All (Contains nodes.now) stops.now }
 {
     for stop in stops {
         if hosts_on(nodes, *stop) == 0 {
