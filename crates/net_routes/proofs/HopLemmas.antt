@@ -1,13 +1,14 @@
 -- the hops of a graph
 use Rattle.std.proofs.Common.{◌≡◌, ℕ, ◌+◌, ◌*◌, ◌<◌, ◌≤◌, Bool, true, false, List, [], ◌∷◌, ◌++◌, length, get_or, take, sym, ap, ◌∙◌, subst, ⊎_elim, arith, length-append}
 use Rattle.std.specs.Prelude.{Contains, All, flat_map}
-use Rattle.std.proofs.lemmas.List.{flat_map_more, take_more, length_push}
+use Rattle.std.proofs.lemmas.List.{append_assoc, flat_map_more, take_more, length_push}
 use Rattle.std.proofs.lemmas.List.Elements.{All-head, All-tail, All-more, All-weaker, Contains-push, Contains-append_left, Contains-append_cases}
 use Rattle.gml_graph.specs.declared.graph.Edge.{Edge}
 use Rattle.gml_graph.specs.Edges.{IsEdge, AreEdges}
 use Rattle.net_routes.specs.declared.hop.Hop.{Hop}
 use Rattle.net_routes.specs.Cost.{IsHopCost}
 use Rattle.net_routes.specs.Walk.{along, against, ways, AreHops}
+use Rattle.net_routes.specs.inside.Net.{ends_of}
 use Rattle.net_routes.proofs.ListLemmas.{contains_cases}
 
 -- one edge more
@@ -84,3 +85,10 @@ ends_more ss old new i d lt pushed all =
 pub ends_size : (old new : List ℕ) (s : Hop) (i : ℕ) → new ≡ (old ++ s.from ∷ []) ++ s.to ∷ [] → length old ≡ 2 * i → length new ≡ 2 * (i + 1)
 ends_size old new s i pushed size =
     omega (arith, ap (λ (xs : List ℕ). length xs) pushed, length_push (old ++ s.from ∷ []) s.to, length_push old s.from, size)
+
+pub ends_next : (ss : List Hop) (old new : List ℕ) (i : ℕ) (d : Hop) → i < length ss → new ≡ (old ++ (get_or ss i d).from ∷ []) ++ (get_or ss i d).to ∷ []
+    → old ≡ ends_of (take i ss) → new ≡ ends_of (take (i + 1) ss)
+ends_next ss old new i d lt pushed before =
+    let s = get_or ss i d in
+    pushed ∙ append_assoc old (s.from ∷ []) (s.to ∷ []) ∙ ap (λ (xs : List ℕ). xs ++ s.from ∷ s.to ∷ []) before
+    ∙ flat_map_more (λ (h : Hop). h.from ∷ h.to ∷ []) [] (take i ss) s ∙ ap ends_of (sym (take_more ss i d lt))

@@ -6,7 +6,7 @@ ghost use Rattle.net_routes.specs.inside.Found.{most_places};
 ghost use Rattle.net_routes.specs.declared.hop.Hop.{Hop};
 ghost use Rattle.net_routes.specs.Walk.{AreHops, Goes};
 ghost use Rattle.net_routes.specs.inside.Path.{AreArcs, HasWay, IsBest};
-ghost use Rattle.net_routes.specs.inside.Net.{IsNet, AddsArc, cost_to};
+ghost use Rattle.net_routes.specs.inside.Net.{ends_of, IsNet, AddsArc, cost_to};
 
 use crate::arc::{Arc, Arcs};
 use crate::arcs::cheapest_arcs;
@@ -29,6 +29,7 @@ fn ends_of(alloc: Global, hops: &[Hop]) -> Result<Vec<u32>, NoMemory>
     ensures size { IfOk result (λ ends. length ends.items ≡ 2 * length hops.now) }
     ensures ends { IfOk result (λ ends. All
         (λ s. Contains ends.items s.from × Contains ends.items s.to) hops.now) }
+    ensures all { IfOk result (λ ends. ends.items ≡ ends_of hops.now) }
 {
     let mut ends = Vec::new(alloc);
     for hop in hops {

@@ -1,5 +1,5 @@
 -- The places of nodes, and the arcs that stand for hops.
-use Rattle.std.specs.Prelude.{◌≡◌, ℕ, ◌++◌, List, [], ◌∷◌, length, Contains, Option, None, option_and_then, slice_set}
+use Rattle.std.specs.Prelude.{◌≡◌, ℕ, ◌++◌, List, [], ◌∷◌, length, Contains, Option, None, option_and_then, slice_set, flat_map}
 use Rattle.std.specs.List.{slice_index_or}
 use Rattle.net_routes.specs.declared.cost.Cost.{Cost}
 use Rattle.net_routes.specs.declared.hop.Hop.{Hop}
@@ -7,6 +7,10 @@ use Rattle.net_routes.specs.declared.arc.Arc.{Arc}
 use Rattle.net_routes.specs.Needed.{IsAt}
 use Rattle.net_routes.specs.inside.Places.{place_of}
 use Rattle.net_routes.specs.inside.Path.{Leaves}
+
+-- the nodes that hops join, those of each hop in turn
+abbrev pub ends_of : List Hop → List ℕ
+ends_of hops = flat_map (λ s. s.from ∷ s.to ∷ []) hops
 
 -- The arc leaves the place of the node that the hop leaves, and so on.
 pub record IsArcOf (ids : List ℕ) (place : ℕ) (x : Arc) (s : Hop) : Type 0 where

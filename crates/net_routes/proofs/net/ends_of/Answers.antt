@@ -2,7 +2,8 @@ use Rattle.std.proofs.Common.{◌≡◌, ℕ, ◌<◌, List, [], ◌∷◌, ◌+
 use Rattle.std.specs.Prelude.{All}
 use Rattle.std.proofs.lemmas.List.{take_all}
 use Rattle.net_routes.specs.declared.hop.Hop.{Hop}
-use Rattle.net_routes.proofs.HopLemmas.{HasEnds, ends_more, ends_size}
+use Rattle.net_routes.specs.inside.Net.{ends_of}
+use Rattle.net_routes.proofs.HopLemmas.{HasEnds, ends_more, ends_size, ends_next}
 use Rattle.net_routes.proofs.net.ends_of.Goals as goal
 
 pub loop-hop-preserved : goal.loop-hop-preserved
@@ -17,6 +18,7 @@ loop-hop-preserved c =
     record {
       size = ends_size old c.push-in-loop-hop.new.self.items s i pushed c.loop-hop.invariant.size;
       ends = ends_more hops old c.push-in-loop-hop.new.self.items i d lt pushed c.loop-hop.invariant.ends;
+      all = ends_next hops old c.push-in-loop-hop.new.self.items i d lt pushed c.loop-hop.invariant.all;
     }
 
 pub returns-clause-ends : goal.returns-clause-ends
@@ -25,3 +27,9 @@ returns-clause-ends c =
     let whole : take c.loop-hop.hop-index hops ≡ hops = take_all c.loop-hop.hop-index hops (omega arith) in
     let P : List Hop → Type 0 = λ ss. All (HasEnds c.loop-hop.ends.items) ss in
     subst P whole c.loop-hop.invariant.ends
+
+pub returns-clause-all : goal.returns-clause-all
+returns-clause-all c =
+    let hops = c.args.hops.now in
+    let whole : take c.loop-hop.hop-index hops ≡ hops = take_all c.loop-hop.hop-index hops (omega arith) in
+    c.loop-hop.invariant.all ∙ ap ends_of whole
