@@ -4,4 +4,5 @@ pub mod Ends
 pub mod Given
 pub mod Indexing
 pub mod Lookup
+pub mod Made
 pub mod Told

@@ -30,14 +30,16 @@ fn asks(load: &Load) -> bool
 }
 
 impl Sockets {
-    ghost use Rattle.std.specs.Prelude.{◌≡◌, ◌<◌, length, position, IfOk, IfSome, OnOk};
+    ghost use Rattle.std.specs.Prelude.{◌≡◌, ◌<◌, true, Some, length, position, slice_get, IfOk, IfSome, OnOk};
+    ghost use Rattle.host_sockets.specs.declared.tcp_sock.TcpSock.{TcpSock};
     ghost use Rattle.host_sockets.specs.TcpSocket.{TcpSocket};
     ghost use Rattle.host_sockets.specs.Sockets.{SocketsRecord};
     ghost use Rattle.host_sockets.specs.inside.Lookup.{is_sought};
+    ghost use Rattle.host_sockets.specs.inside.Made.{makes_record, MakesRoom};
     ghost use Rattle.host_sockets.specs.TcpActs.{acts_at};
     ghost use Rattle.host_sockets.specs.Arriving.{asked_listener, hearer, record_takes, listener_hears, heard_at, segment_arrives, arrives};
     ghost use Rattle.host_sockets.specs.Alarms.{alarm_comes};
-    ghost use Rattle.host_sockets.specs.StandsFor.{Stand, Leaves, Delivers};
+    ghost use Rattle.host_sockets.specs.StandsFor.{SocketStands, Stand, Leaves, Delivers};
 
     /// The number of the first TCP socket that is looked for.
     pub(crate) fn place_of(&self, sought: Sought) -> Option<usize>
@@ -90,7 +92,10 @@ impl Sockets {
     }
 
     /// Whether the listener of the socket with a number makes a connection of a segment.
-    fn makes_record(&self, k: usize, packet: &Packet) -> bool {
+    fn makes_record(&self, k: usize, packet: &Packet) -> bool
+        ensures is { (c : TcpSock) (s : TcpSocket) → slice_get self.now.tcp.items k ≡ Some c → SocketStands c s → result ≡ makes_record packet.now s.listen }
+        ensures within { result ≡ true → k < length self.now.tcp.items }
+    {
         match self.tcp.get(k) {
             Some(sock) => sock.makes_record(packet),
             None => false,
@@ -125,7 +130,9 @@ impl Sockets {
 
     /// Room is taken for what a connection carries that the socket with a number makes of a segment.
     fn make_room_for(&mut self, k: usize, packet: &Packet) -> Result<(), NoMemory>
-        ensures { OnOk result ((t : SocketsRecord) → Stand self.old t → Stand self.new t) }
+        ensures stands { OnOk result ((t : SocketsRecord) → Stand self.old t → Stand self.new t) }
+        ensures room { OnOk result ((c : TcpSock) (s : TcpSocket) → slice_get self.old.tcp.items k ≡ Some c → SocketStands c s
+            → makes_record packet.now s.listen ≡ true → MakesRoom self.old self.new) }
     {
         if self.makes_record(k, packet) {
             self.make_room()?;

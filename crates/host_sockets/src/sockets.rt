@@ -33,6 +33,7 @@ impl Sockets {
     ghost use Rattle.host_sockets.specs.TcpSocket.{TcpSocket};
     ghost use Rattle.host_sockets.specs.Sockets.{SocketsRecord, no_sockets, put_tcp_at, tcp_place, put_tcp, new_tcp};
     ghost use Rattle.host_sockets.specs.StandsFor.{SocketStands, Stand};
+    ghost use Rattle.host_sockets.specs.inside.Made.{MakesRoom};
 
     /// The sockets of a host with this address, which has none yet.
     pub fn new(alloc: Global, own: Ip) -> Sockets
@@ -77,7 +78,8 @@ impl Sockets {
 
     /// A connection is made. Room is taken for what it carries, so that none is wanted when it is let go.
     pub(crate) fn make_room(&mut self) -> Result<(), NoMemory>
-        ensures { OnOk result ((t : SocketsRecord) → Stand self.old t → Stand self.new t) }
+        ensures stands { OnOk result ((t : SocketsRecord) → Stand self.old t → Stand self.new t) }
+        ensures room { OnOk result (MakesRoom self.old self.new) }
     {
         self.made = self.made.saturating_add(1);
         self.gone

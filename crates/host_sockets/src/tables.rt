@@ -1,6 +1,6 @@
 //! The tables of an index of TCP sockets.
 
-ghost use Rattle.std.specs.Prelude.{◌≡◌, ◌≢◌, ℕ, ◌==◌, true, false, Some, slice_get};
+ghost use Rattle.std.specs.Prelude.{◌≡◌, ◌≢◌, ◌<◌, ℕ, ◌==◌, true, false, Some, length, slice_get, IfSome};
 ghost use Rattle.std.specs.List.{list_any};
 ghost use Rattle.std.specs.HashMap.{get};
 ghost use Rattle.host_sockets.specs.declared.slots.Sought.TheVariants.{Record};
@@ -70,7 +70,10 @@ impl TcpSock {
 }
 
 /// The ends of the live connection of the socket at a place, if it has one.
-pub(crate) fn ends_at(socks: &[TcpSock], place: usize) -> Option<Ends> {
+pub(crate) fn ends_at(socks: &[TcpSock], place: usize) -> Option<Ends>
+    ensures ends { (c : TcpSock) (s : TcpSocket) → slice_get socks.now place ≡ Some c → SocketStands c s → result ≡ live_ends s }
+    ensures within { IfSome result (λ _. place < length socks.now) }
+{
     if place >= socks.len() {
         return None;
     }

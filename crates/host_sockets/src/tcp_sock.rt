@@ -45,6 +45,7 @@ impl TcpSock {
     ghost use Rattle.std.specs.Prelude.{◌≡◌};
     ghost use Rattle.host_sockets.specs.TcpSocket.{TcpSocket, fresh, is_free, has_record, keeps_record, listens_to};
     ghost use Rattle.host_sockets.specs.StandsFor.{SocketStands};
+    ghost use Rattle.host_sockets.specs.inside.Made.{makes_record};
 
     /// A socket that is unbound and has nothing else, or the place of one.
     pub(crate) fn fresh(alloc: Global, held: bool) -> TcpSock
@@ -103,7 +104,9 @@ impl TcpSock {
     }
 
     /// Whether its listener makes a connection of a segment.
-    pub(crate) fn makes_record(&self, packet: &Packet) -> bool {
+    pub(crate) fn makes_record(&self, packet: &Packet) -> bool
+        ensures { (s : TcpSocket) → SocketStands self.now s → result ≡ makes_record packet.now s.listen }
+    {
         match &self.listener {
             Some(listener) => listener.makes_record(packet),
             None => false,
