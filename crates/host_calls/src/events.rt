@@ -15,13 +15,11 @@ use host_sockets::{FIRST_OBJECT, Sockets};
 use sim_base::{Act, NoMemory, ObjectId, Packet, Time};
 
 /// A packet arrives: it is handed to the sockets. Answers what the packet log tells of it.
-pub fn deliver(parts: &mut Parts, now: Time, packet: Packet) -> Result<Act, NoMemory>
+pub fn deliver(parts: &mut Parts, now: Time, packet: &Packet) -> Result<Act, NoMemory>
     requires { now.nanos ≤ latest_time }
-    ensures { IfOk result (λ act. (h : PartsRecord) → PartsStand parts.old h → spec.Delivered (spec.arrives now packet h) act parts.new) }
+    ensures { IfOk result (λ act. (h : PartsRecord) → PartsStand parts.old h → spec.Delivered (spec.arrives now packet.now h) act parts.new) }
 {
-    parts
-        .sockets
-        .deliver(&mut parts.shared.outlet, now, &packet)
+    parts.sockets.deliver(&mut parts.shared.outlet, now, packet)
 }
 
 /// The alarm of an object: of a process's deadline, a timer or a TCP socket. A stale serial does

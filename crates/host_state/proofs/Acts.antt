@@ -63,16 +63,14 @@ settled net c link outlet e =
 abbrev pub with_both : Body → Parts → LinkState → Body
 with_both c parts link = record c { parts = parts; link = link }
 
-pub handed : (net : Net) (packet copy : Packet) (c d : Body) (now : Time) (parts : Parts) (link : LinkState) (act : Act)
-    → now ≡ c.link.time → copy ≡ packet
-    → ((p : PartsRecord) → PartsStand c.parts p → Delivered (arrives now copy p) act parts)
+pub handed : (net : Net) (packet : Packet) (c d : Body) (now : Time) (parts : Parts) (link : LinkState) (act : Act) → now ≡ c.link.time
+    → ((p : PartsRecord) → PartsStand c.parts p → Delivered (arrives now packet p) act parts)
     → link ≡ logs act packet c.link
     → Does (settles net) (with_both c parts link) d → Does (is_handed_over net packet) c d
 unfolding is_handed_over
-handed net packet copy c d now parts link act now_is copy_is delivers_now logged does =
+handed net packet c d now parts link act now_is delivers_now logged does =
     let delivers : (p : PartsRecord) → PartsStand c.parts p → Delivered (arrives c.link.time packet p) act parts =
-    subst (λ (t : Time). (p : PartsRecord) → PartsStand c.parts p → Delivered (arrives t packet p) act parts) now_is
-    (subst (λ (q : Packet). (p : PartsRecord) → PartsStand c.parts p → Delivered (arrives now q p) act parts) copy_is delivers_now) in
+    subst (λ (t : Time). (p : PartsRecord) → PartsStand c.parts p → Delivered (arrives t packet p) act parts) now_is delivers_now in
     seen_all (λ (h : HostRecord). BodyStands d (is_handed_over net packet h)) c
     (λ t w s.
     let h : HostRecord = seen c t w in

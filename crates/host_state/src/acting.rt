@@ -37,7 +37,7 @@ impl Body {
         ensures { OnOk result (Does (arriving.is_handed_over net.now packet) self.old self.new) }
     {
         let now = self.link.now();
-        let act = deliver(&mut self.parts, now, packet.clone()?)?;
+        let act = deliver(&mut self.parts, now, &packet)?;
         self.link.log(act, packet)?;
         self.settle(net)?;
         Ok(())
