@@ -141,11 +141,12 @@ fn told_line(alloc: Global, hosts: &[HostListing], line: Logged) -> Result<LogLi
 fn lines_text(alloc: Global, hosts: &[HostListing], lines: Vec<Logged>) -> Result<Text, NoMemory>
     ensures { IfOk result (λ text. text ≡ flat_map log_line (map (spec.told_line (map said hosts.now)) (kept_lines lines.items))) }
 {
-    let mut text = Text::new(alloc);
+    let mut text = String::new(alloc);
     for line in lines {
-        out_text::log_line(alloc, &mut text, &told_line(alloc, hosts, line)?)?;
+        let line = told_line(alloc, hosts, line)?;
+        write!(text, "{line}\n")?;
     }
-    Ok(text)
+    Ok(Text::from(text))
 }
 
 /// The text of lines for the packet log, behind other pieces, where there are any.
