@@ -38,26 +38,16 @@ impl Model for UdpTable {
     ghost invariant = { λ t. (i : Index) → t.index ≡ Some i → Indexes i t.places.items };
 }
 
-/// An index, if there is one, after the socket at a place changed.
-fn changed(
-    index: Option<Index>,
-    place: usize,
-    was: Option<UdpEnds>,
-    is: Option<UdpEnds>,
-) -> Option<Index>
+/// The index, if there is one, follows a change of the socket at a place, or is given up.
+fn follow(index: &mut Option<Index>, place: usize, was: Option<UdpEnds>, is: Option<UdpEnds>)
     requires { place < 2 ^ 63 }
-    ensures { (old new : List (Option UdpEnds)) → Changes place was is old new → ((i : Index) → index ≡ Some i → Indexes i old)
-        → (i : Index) → result ≡ Some i → Indexes i new }
+    ensures { (old new : List (Option UdpEnds)) → Changes place was is old new → ((i : Index) → index.old ≡ Some i → Indexes i old)
+        → (i : Index) → index.new ≡ Some i → Indexes i new }
 {
-    match index {
-        Some(mut index) => {
-            if index.change(place, was, is) {
-                Some(index)
-            } else {
-                None
-            }
+    if let Some(kept) = index {
+        if !kept.change(place, was, is) {
+            *index = None;
         }
-        None => None,
     }
 }
 
@@ -128,7 +118,7 @@ impl UdpTable {
     {
         let place = self.places.len();
         self.places.push(Some(ends))?;
-        self.index = changed(self.index.take(), place, None, Some(ends));
+        follow(&mut self.index, place, None, Some(ends));
         Ok(())
     }
 
@@ -141,7 +131,7 @@ impl UdpTable {
         }
         let was = self.places[place];
         self.places[place] = is;
-        self.index = changed(self.index.take(), place, was, is);
+        follow(&mut self.index, place, was, is);
     }
 
     /// The least number that no socket has.

@@ -1,4 +1,4 @@
-use Rattle.std.proofs.Common.{List, Option, Some, sym, subst, ◌∙◌, arith}
+use Rattle.std.proofs.Common.{List, Option, Some, sym, subst, arith}
 use Rattle.udp_table.specs.declared.ends.UdpEnds.{UdpEnds}
 use Rattle.udp_table.specs.inside.Indexing.{Indexes}
 use Rattle.udp_table.proofs.Places.{changes_push}
@@ -9,6 +9,6 @@ invariant_of-self c = λ i e. subst (λ (places : List (Option UdpEnds)). Indexe
 
 pub invariant_of-self-2 : goal.invariant_of-self-2
 invariant_of-self-2 c =
-    c.changed.ensures c.self.inside.places.items c.push.new.self.items
+    c.follow.ensures c.self.inside.places.items c.push.new.self.items
     (changes_push c.self.inside.places.items c.push.new.self.items c.len-place.result (Some c.args.ends) (omega (arith, c.self.inside.places.ok.0)) c.in_ok-push.ensures.items)
-    (λ i e. c.self.invariant i (sym c.take.ensures.value ∙ e))
+    c.self.invariant
