@@ -1,5 +1,5 @@
 -- lists of events, least key first
-use Rattle.std.specs.Prelude.{◌≡◌, ◌≤◌, Bool, List, [], ◌∷◌, All, Option, Some, None, map, if◌then◌else◌}
+use Rattle.std.specs.Prelude.{◌≡◌, ◌≤◌, Bool, false, List, [], ◌∷◌, All, Option, Some, None, map, if◌then◌else◌}
 use Rattle.std.specs.List.{Any, list_any}
 use Rattle.std.specs.Ordering.{is_eq, is_lt}
 use Rattle.std.specs.declared.cmp.Ordering.TheVariants.{Less}
@@ -38,3 +38,13 @@ event_of e = record { key = e.0; what = e.1 }
 -- the events that a map keeps by their keys
 abbrev pub events_of : List (Key × What) → List Event
 events_of entries = map event_of entries
+
+-- the first event, where one stands by itself, and behind it those of a map
+abbrev pub held : Option Event → List (Key × What) → List Event
+held None entries = events_of entries
+held (Some event) entries = event ∷ events_of entries
+
+-- the event doesn't come before the first of these, if there is one
+abbrev pub ComesLater : Event → List Event → Type 0
+ComesLater event [] = Unit {0}
+ComesLater event (first ∷ events) = is_lt (key_order event.key first.key) ≡ false
