@@ -1,6 +1,6 @@
 //! The nodes that are whole so far.
 
-ghost use Rattle.std.specs.Prelude.{◌≡◌, ◌^◌, ◌≤◌, ◌++◌, ◌∷◌, [], length, IfSome, IfNone, IfOk, OnOk, IsTrue};
+ghost use Rattle.std.specs.Prelude.{◌≡◌, ◌^◌, ◌<◌, ◌≤◌, ◌++◌, ◌∷◌, ◌↔◌, [], length, IfSome, IfNone, IfOk, OnOk, IsTrue};
 
 use crate::gone::Gone;
 use crate::known::MOST_NODES;
@@ -75,7 +75,7 @@ impl MadeNodes {
 
 /// Whether a node more may be kept.
 fn has_room(kept: &Nodes, gone: &Gone) -> bool
-    ensures { IsTrue result → gone.now ≡ [] }
+    ensures { IsTrue result ↔ (gone.now ≡ []) × (length kept.now < MOST_NODES) }
 {
     gone.is_empty() && kept.len() < MOST_NODES as usize
 }
