@@ -1,12 +1,13 @@
 -- When the first of some events is due, and a host with nothing to do.
-use Rattle.std.proofs.Common.{◌≡◌, ℕ, ◌≤◌, Bool, true, false, ◌||◌, nat_lt, rules, Option, List, [], ◌∷◌, ◌++◌, Some, None, All, inl, inr, refl, sym, ap, subst, ◌∙◌, arith, append-nil, IsPermutation}
-use Rattle.std.specs.Prelude.{◌↔◌, ◌==◌, Box, vec_len}
+use Rattle.std.proofs.Common.{◌≡◌, ℕ, ◌≤◌, Bool, true, false, ◌||◌, nat_lt, length, take, get_or, ◌+◌, ◌<◌, ⊎_elim, rules, Option, List, [], ◌∷◌, ◌++◌, Some, None, All, inl, inr, refl, sym, ap, subst, ◌∙◌, arith, append-nil, IsPermutation}
+use Rattle.std.specs.Prelude.{◌↔◌, ◌==◌, Box, vec_len, count_by}
 use Rattle.std.specs.declared.alloc.Global.{Global}
 use Rattle.std.specs.List.{Any}
-use Rattle.std.proofs.lemmas.Bool.{eqb-true}
+use Rattle.std.proofs.lemmas.Bool.{eqb-true, or_parts, or_from}
 use Rattle.std.proofs.lemmas.List.{nil_from_length}
 use Rattle.std.proofs.lemmas.List.Elements.{All-nil}
 use Rattle.std.proofs.lemmas.List.Sorted.{IsPermutation-refl}
+use Rattle.std.proofs.lemmas.List.Sums.{count_by_more_yes, count_by_more_no}
 use Rattle.sim_base.specs.declared.event.Event.{Event}
 use Rattle.sim_base.specs.declared.host.HostId.{HostId}
 use Rattle.sim_base.specs.declared.time.Time.{Time}
@@ -20,12 +21,12 @@ use Rattle.host_state.specs.HostStands.{Stands}
 use Rattle.host_state.specs.Running.{Owns}
 use Rattle.world_order.specs.Steps.{has_due}
 use Rattle.world_order.specs.WholeTurns.{unfired, rests}
-use Rattle.world_order.proofs.Members.{Each, Each_from_All, All_from_Each}
+use Rattle.world_order.proofs.Members.{IsIn, Each, Each_from_All, All_from_Each}
 use Rattle.round_lookahead.specs.declared.workers.task.Task.{Task}
 use Rattle.round_lookahead.specs.declared.workers.worked.Done.{Done}
 use Rattle.round_lookahead.specs.inside.Arrivals.{Boxed, arrivals}
 use Rattle.round_lookahead.specs.inside.Dues.{first_due}
-use Rattle.round_lookahead.specs.inside.Idles.{IsIdle}
+use Rattle.round_lookahead.specs.inside.Idles.{IsIdle, is_busy}
 use Rattle.round_lookahead.specs.Tasks.{IsTask, waiting}
 use Rattle.round_lookahead.specs.Works.{HasRun}
 use Rattle.round_lookahead.proofs.DueSteps.{any_in, IsDue, IsFrom, least_both, least-one}
@@ -127,3 +128,44 @@ idle_run net end t h d is idle id host lines outputs =
       };
       made = refl;
     }
+
+-- ---- how many have something to do
+
+all_late : (end : ℕ) (es : List Event) → has_due end es ≡ false → Each (IsLate end) es
+all_late end [] none = λ x h. absurd h
+all_late end (e ∷ es) none =
+    let parts = or_parts (nat_lt e.key.due.nanos end) (has_due end es) none in
+    λ x h. ⊎_elim
+    (λ (same : x ≡ e). subst (IsLate end) (sym same) (late_from end e.key.due.nanos parts.0))
+    (λ (rest : IsIn x es). all_late end es parts.1 x rest)
+    h
+
+no_parcels : (t : Task) → nat_lt 0 (length t.parcels.items) ≡ false → t.parcels.items ≡ []
+no_parcels t none = nil_from_length t.parcels.items (let zero : length t.parcels.items ≤ 0 = late_from (length t.parcels.items) 0 none in omega arith)
+
+idle_tested : (end : ℕ) (t : Task) → is_busy end t ≡ false → IsIdle end t
+idle_tested end t idle =
+    let parts = or_parts (nat_lt 0 (length t.parcels.items)) (has_due end t.host.value.queue) idle in
+    record { none = no_parcels t parts.0; later = All_from_Each (IsLate end) t.host.value.queue (all_late end t.host.value.queue parts.1) }
+
+tested_idle : (end : ℕ) (t : Task) → IsIdle end t → is_busy end t ≡ false
+tested_idle end t idle =
+    or_from (nat_lt 0 (length t.parcels.items)) (has_due end t.host.value.queue)
+    (ap (λ (bs : List Boxed). nat_lt 0 (length bs)) idle.none)
+    (none_due end t.host.value.queue (Each_from_All (IsLate end) t.host.value.queue idle.later))
+
+false_both : (a b : Bool) → (a ≡ false → b ≡ false) → (b ≡ false → a ≡ false) → a ≡ b
+false_both false b there back = sym (there refl)
+false_both true false there back = back refl
+false_both true true there back = refl
+
+busy_by : (end : ℕ) (t : Task) (b : Bool) → (b ≡ false) ↔ IsIdle end t → b ≡ is_busy end t
+busy_by end t b is = false_both b (is_busy end t) (λ h. tested_idle end t (is.0 h)) (λ h. is.1 (idle_tested end t h))
+
+pub one_busy_more : (end : ℕ) (ts : List Task) (i : ℕ) (t : Task) (b : Bool) → i < length ts → t ≡ get_or ts i t → (b ≡ false) ↔ IsIdle end t → b ≡ true
+    → count_by (is_busy end) (take (i + 1) ts) ≡ count_by (is_busy end) (take i ts) + 1
+one_busy_more end ts i t b below at is busy = count_by_more_yes (is_busy end) ts i t below (ap (is_busy end) (sym at) ∙ sym (busy_by end t b is) ∙ busy)
+
+pub no_busy_more : (end : ℕ) (ts : List Task) (i : ℕ) (t : Task) (b : Bool) → i < length ts → t ≡ get_or ts i t → (b ≡ false) ↔ IsIdle end t → b ≡ false
+    → count_by (is_busy end) (take (i + 1) ts) ≡ count_by (is_busy end) (take i ts)
+no_busy_more end ts i t b below at is idle = count_by_more_no (is_busy end) ts i t below (ap (is_busy end) (sym at) ∙ sym (busy_by end t b is) ∙ idle)

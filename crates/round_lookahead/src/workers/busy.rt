@@ -1,6 +1,6 @@
 //! How many threads could run a round.
-ghost use Rattle.std.specs.Prelude.{◌≡◌, ◌≤◌, ◌<◌, ◌↔◌, false};
-ghost use Rattle.round_lookahead.specs.inside.Idles.{IsIdle};
+ghost use Rattle.std.specs.Prelude.{◌≡◌, ◌≤◌, ◌<◌, ◌↔◌, false, count_by};
+ghost use Rattle.round_lookahead.specs.inside.Idles.{IsIdle, is_busy, most_threads};
 
 use crate::workers::task::Task;
 use sim_base::Time;
@@ -21,7 +21,9 @@ impl Task {
 }
 
 /// How many tasks have something to do before the end.
-fn busy_count(tasks: &[Task], end: Time) -> usize {
+fn busy_count(tasks: &[Task], end: Time) -> usize
+    ensures { result ≡ count_by (is_busy end.nanos) tasks.now }
+{
     let mut busy = 0;
     for task in tasks {
         if task.is_busy(end) {
@@ -34,7 +36,8 @@ fn busy_count(tasks: &[Task], end: Time) -> usize {
 /// How many threads could run a round of so many workers: no more than there are hosts with something to do, and one at least.
 pub(crate) fn most_threads(tasks: &[Task], end: Time, workers: u32) -> u32
     requires { 0 < workers }
-    ensures { (0 < result) × (result ≤ workers) }
+    ensures count { result ≡ most_threads end.nanos tasks.now workers }
+    ensures within { (0 < result) × (result ≤ workers) }
 {
     if workers < 2 {
         return 1;
