@@ -99,7 +99,8 @@ impl Model for PiecesLeft {
 impl PiecesLeft {
     /// Takes the first piece, if any is left.
     pub fn next(&mut self) -> Option<Piece>
-        ensures { MatchOption result (self.old ≡ []) (λ piece. self.old ≡ piece ∷ self.new) }
+        ensures { MatchOption result ((self.old ≡ []) × (self.new ≡ []))
+            (λ piece. self.old ≡ piece ∷ self.new) }
     {
         match self.bare.next() {
             Some(bare) => Some(with_next(bare, &mut self.texts)),
