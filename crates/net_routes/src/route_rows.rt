@@ -1,8 +1,8 @@
 //! The costs of the routes from all nodes of hosts.
 
-ghost use Rattle.std.specs.Prelude.{◌≡◌, [], ◌∷◌, ◌++◌, length, IfOk, OnOk};
+ghost use Rattle.std.specs.Prelude.{◌≡◌, ◌≤◌, ◌^◌, ◌⊎◌, [], ◌∷◌, ◌++◌, length, IfOk, OnOk};
 ghost use Rattle.net_routes.specs.inside.RouteRows.{cost_at};
-ghost use Rattle.net_routes.specs.inside.KeptRows.{row_in, HasCosts};
+ghost use Rattle.net_routes.specs.inside.KeptRows.{row_in, HasCosts, HasNumbers};
 ghost use Rattle.net_routes.specs.inside.Numbers.{KeepNumbers, GetNumbers};
 
 use crate::cost::Cost;
@@ -39,6 +39,7 @@ fn keep_row(alloc: Global, costs: &mut NumberedCosts, row: RouteRow) -> Result<K
     ensures costs { IfOk result (HasCosts costs.new) }
     ensures kept { KeepNumbers costs.old costs.new }
     ensures added { GetNumbers row costs.old costs.new }
+    ensures numbered { IfOk result (λ kept. HasNumbers kept ⊎ (2 ^ 16 ≤ length costs.new)) }
 {
     match costs.numbers_of(alloc, &row)? {
         Some(numbers) => Ok(KeptRow::Numbers(numbers)),

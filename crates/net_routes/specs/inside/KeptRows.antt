@@ -13,3 +13,8 @@ row_in costs (Costs row) = row
 abbrev pub HasCosts : List (Option Cost) → KeptRow → Type 0
 HasCosts costs (Numbers numbers) = All (λ n. n < length costs) numbers.items
 HasCosts costs (Costs row) = Unit {0}
+
+-- it is kept by numbers
+abbrev pub HasNumbers : KeptRow → Type 0
+HasNumbers (Numbers numbers) = Unit {0}
+HasNumbers (Costs row) = ⊥
