@@ -1,5 +1,5 @@
 -- What a later world gained, and that its hosts keep their names.
-use Rattle.std.proofs.Common.{◌≡◌, suc, List, [], ◌∷◌, ◌++◌, length, map, slice_get, Some, ℕ, Vec, Global, refl, sym, ap, ◌∙◌, arith}
+use Rattle.std.proofs.Common.{◌≡◌, suc, List, [], ◌∷◌, ◌++◌, length, map, slice_get, Some, ℕ, refl, sym, ap, ◌∙◌, arith}
 use Rattle.file_calls.specs.declared.task.Output.{Output}
 use Rattle.host_state.specs.Extends.{AreLater, Extends}
 use Rattle.host_state.specs.Gains.{AreGained, Gains, names_in}
@@ -22,9 +22,9 @@ rows-kept (h ∷ hs) (k ∷ ks) later = let first = later.0.row in let rest = ro
 abbrev written_by : List HostRecord → List (List Output)
 written_by hs = map (λ (h : HostRecord). h.written) hs
 
-gained_at : (hs ks : List HostRecord) (outputs : List (Vec Output Global)) → AreLater hs ks → length outputs ≡ length hs
-    → ((i : ℕ) (before after : HostRecord) (gained : Vec Output Global) → slice_get hs i ≡ Some before → slice_get ks i ≡ Some after → slice_get outputs i ≡ Some gained → after.written ≡ before.written ++ gained.items)
-    → AreGained (written_by hs) (map (λ (v : Vec Output Global). v.items) outputs) (written_by ks)
+gained_at : (hs ks : List HostRecord) (outputs : List (List Output)) → AreLater hs ks → length outputs ≡ length hs
+    → ((i : ℕ) (before after : HostRecord) (gained : List Output) → slice_get hs i ≡ Some before → slice_get ks i ≡ Some after → slice_get outputs i ≡ Some gained → after.written ≡ before.written ++ gained)
+    → AreGained (written_by hs) outputs (written_by ks)
 gained_at [] [] [] later count each = tt
 gained_at [] [] (o ∷ outputs) later count each = absurd (omega arith)
 gained_at [] (k ∷ ks) outputs later count each = absurd later
@@ -34,9 +34,9 @@ gained_at (h ∷ hs) (k ∷ ks) (o ∷ outputs) later count each =
     (each 0 h k o refl refl refl, gained_at hs ks outputs later.1 (omega arith) (λ i b a g x y z. each (suc i) b a g x y z))
 
 -- a round gained these outputs, each host's by its place, and these lines
-pub gains_round : (w v : World) (outputs : List (Vec Output Global)) (lines : List Line) → Extends w v → length outputs ≡ length w.hosts
-    → ((i : ℕ) (before after : HostRecord) (gained : Vec Output Global) → slice_get w.hosts i ≡ Some before → slice_get v.hosts i ≡ Some after → slice_get outputs i ≡ Some gained
-    → after.written ≡ before.written ++ gained.items) → lines_of v.log ≡ lines_of w.log ++ lines → Gains w v (map (λ (o : Vec Output Global). o.items) outputs) lines
+pub gains_round : (w v : World) (outputs : List (List Output)) (lines : List Line) → Extends w v → length outputs ≡ length w.hosts
+    → ((i : ℕ) (before after : HostRecord) (gained : List Output) → slice_get w.hosts i ≡ Some before → slice_get v.hosts i ≡ Some after → slice_get outputs i ≡ Some gained
+    → after.written ≡ before.written ++ gained) → lines_of v.log ≡ lines_of w.log ++ lines → Gains w v outputs lines
 gains_round w v outputs lines later count each log = record { rows = rows-kept w.hosts v.hosts later.hosts; written = gained_at w.hosts v.hosts outputs later.hosts count each; log = log }
 
 -- ---- names

@@ -16,6 +16,7 @@ use Rattle.host_state.specs.declared.host.Host.{Host}
 use Rattle.host_link.specs.declared.line.Logged.{Logged}
 use Rattle.host_link.specs.Net.{Net}
 use Rattle.host_link.specs.declared.outbox.Outbox.{Outbox}
+use Rattle.run_files.specs.Written.{written_in}
 use Rattle.host_state.specs.HostRecord.{HostRecord}
 use Rattle.world_order.proofs.Homes.{some_is, get_set_same, get_set_other, below_get}
 use Rattle.round_lookahead.specs.declared.workers.task.Task.{Task}
@@ -29,6 +30,7 @@ use Rattle.round_lookahead.specs.inside.Dues.{lesser_due}
 use Rattle.round_lookahead.specs.inside.Idles.{IsIdle}
 use Rattle.round_lookahead.specs.Rounds.{AreWorks, AreRows, IsRound, all_parcels}
 use Rattle.round_lookahead.specs.Tasks.{IsTask, AreTasksOf}
+use Rattle.round_lookahead.specs.Took.{host_of, hosts_below}
 use Rattle.round_lookahead.specs.Works.{HostJob, IsDone, AreDone, HasRun, done_of, numbers, parcels_made}
 use Rattle.round_lookahead.proofs.BackSteps.{flat_append}
 use Rattle.round_lookahead.proofs.DueSteps.{least_more}
@@ -65,6 +67,9 @@ holding v ys few = record { ptr = v.ptr; len = length ys; cap = length ys; alloc
 
 -- ---- one host more
 
+host_is : (h : HostId) (number : ℕ) → h.index ≡ number → h ≡ host_of number
+host_is h number same = ap host_of same
+
 none_run : (net : Net) (end : ℕ) (tasks : List Task) (rec : ℕ → HostRecord) (spill : List Parcel) → spill ≡ [] → HasRunFirst net end tasks rec 0 [] spill
 none_run net end tasks rec spill none = record { jobs = []; done = tt; in_order = refl; spilled = none }
 
@@ -82,9 +87,9 @@ one_more net end tasks rec count ds old new t d parcels dealt is run spill w =
 
 -- ---- in their places
 
-pub none_placed : (net : Net) (end : ℕ) (tasks : List Task) (a : Alone) → a.outputs.items ≡ [] → a.lines.items ≡ [] → a.took.items ≡ [] → a.spill.items ≡ [] → a.due ≡ None
+pub none_placed : (net : Net) (end : ℕ) (tasks : List Task) (a : Alone) → written_in a.outputs ≡ [] → a.lines.items ≡ [] → a.spill.items ≡ [] → a.due ≡ None
     → AreRunInPlace net end tasks 0 tasks a
-none_placed net end tasks a outputs lines took spill due = record {
+none_placed net end tasks a outputs lines spill due = record {
   ds = [];
   many = refl;
   all = refl;
@@ -93,7 +98,7 @@ none_placed net end tasks a outputs lines took spill due = record {
   run = λ rec are. none_run net end tasks rec a.spill.items spill;
   outputs = outputs;
   lines = lines;
-  took = took;
+  ids = refl;
   due = subst (IsLeastDue []) (sym due) refl;
 }
 
@@ -110,9 +115,9 @@ module _ (net : Net) (end : ℕ) (old now : List Task) (i : ℕ) (a : Alone) (t 
 
   -- one host more was run in its place
   placed_more : (b : Alone) (t' : Task) (d : Done) (ps : List Parcel) → d.id ≡ t.id → t'.id ≡ d.id → t'.host ≡ d.host → t'.parcels.items ≡ []
-      → ((h : HostRecord) → IsTask net t.id.index t h → HasRun net end t h d ps) → b.outputs.items ≡ a.outputs.items ++ d.outputs ∷ [] → b.lines.items ≡ a.lines.items ++ d.lines.items
-      → b.took.items ≡ a.took.items ++ d.id ∷ [] → b.spill.items ≡ a.spill.items ++ ps → b.due ≡ lesser_due a.due t'.due → AreRunInPlace net end old (suc i) (slice_set now i t') b
-  placed_more b t' d ps id same host emptied ran outputs lines took spill due =
+      → ((h : HostRecord) → IsTask net t.id.index t h → HasRun net end t h d ps) → written_in b.outputs ≡ written_in a.outputs ++ d.outputs.items ∷ [] → b.lines.items ≡ a.lines.items ++ d.lines.items
+      → b.spill.items ≡ a.spill.items ++ ps → b.due ≡ lesser_due a.due t'.due → AreRunInPlace net end old (suc i) (slice_set now i t') b
+  placed_more b t' d ps id same host emptied ran outputs lines spill due =
       record {
         ds = r.ds ++ d ∷ [];
         many = (let long = length_push r.ds d in let many = r.many in omega arith);
@@ -133,24 +138,25 @@ module _ (net : Net) (end : ℕ) (old now : List Task) (i : ℕ) (a : Alone) (t 
         run = λ rec tasks. one_more net end old rec i r.ds a.spill.items b.spill.items t d ps before numbered
             (ran (rec t.id.index) (subst (λ (n : ℕ). IsTask net n t (rec n)) (sym numbered) (tasks i t before)))
             spill (r.run rec tasks);
-        outputs = outputs ∙ ap (λ (l : List (Vec Output Global)). l ++ d.outputs ∷ []) r.outputs ∙ sym (map_more (λ (x : Done). x.outputs) r.ds d);
+        outputs = outputs ∙ ap (λ (l : List (List Output)). l ++ d.outputs.items ∷ []) r.outputs ∙ sym (map_more (λ (x : Done). x.outputs.items) r.ds d);
         lines = lines ∙ ap (λ (l : List Logged). l ++ d.lines.items) r.lines ∙ sym (lines_more r.ds d);
-        took = took ∙ ap (λ (l : List HostId). l ++ d.id ∷ []) r.took ∙ sym (map_more (λ (x : Done). x.id) r.ds d);
+        ids = map_more (λ (x : Done). x.id) r.ds d ∙ ap (λ (l : List HostId). l ++ d.id ∷ []) r.ids
+            ∙ ap (λ (h : HostId). hosts_below i ++ h ∷ []) (host_is d.id i (ap (λ (x : HostId). x.index) id ∙ numbered)) ∙ sym (map_more host_of (numbers_below i) i);
         due = least_more (held_by r.ds) d.host.value.queue (held_by (r.ds ++ d ∷ [])) a.due t'.due b.due (held_more r.ds d) due r.due
             (subst (λ (x : Box Host Global). IsLeastDue x.value.queue t'.due) host (least_of t'.host.value.queue t'.due t'.told));
       }
 
   pub kept_more : (b : Alone) (t' : Task) (out : Outbox) → t'.id ≡ t.id → t'.parcels.items ≡ [] → ((h : HostRecord) → IsTask net t.id.index t h → HasRun net end t h (done_of t' out) out.parcels.items)
-      → HasKept t'.id t'.due out a b → AreRunInPlace net end old (suc i) (slice_set now i t') b
+      → HasKept t'.due out a b → AreRunInPlace net end old (suc i) (slice_set now i t') b
   kept_more b t' out id emptied ran kept =
-      placed_more b t' (done_of t' out) out.parcels.items id refl refl emptied ran kept.outputs kept.lines kept.took kept.spill kept.due
+      placed_more b t' (done_of t' out) out.parcels.items id refl refl emptied ran kept.outputs kept.lines kept.spill kept.due
 
   -- it had nothing to do, and stays as it is
-  pub passed_more : (b : Alone) → IsIdle end t → HasPassed t.id t.due a b → AreRunInPlace net end old (suc i) (slice_set now i t) b
+  pub passed_more : (b : Alone) → IsIdle end t → HasPassed t.due a b → AreRunInPlace net end old (suc i) (slice_set now i t) b
   passed_more b idle passed =
-      let d : Done = record { id = t.id; host = t.host; lines = holding passed.none [] (omega arith); outputs = passed.none } in
-      placed_more b t d [] refl refl refl idle.none (λ h is. idle_run net end t h d is idle refl refl refl passed.empty)
-      passed.outputs (passed.lines ∙ sym (append-nil a.lines.items)) passed.took (passed.spill ∙ sym (append-nil a.spill.items)) passed.due
+      let d : Done = record { id = t.id; host = t.host; lines = holding a.spill [] (omega arith); outputs = holding a.spill [] (omega arith) } in
+      placed_more b t d [] refl refl refl idle.none (λ h is. idle_run net end t h d is idle refl refl refl refl)
+      passed.outputs (passed.lines ∙ sym (append-nil a.lines.items)) (passed.spill ∙ sym (append-nil a.spill.items)) passed.due
 
 -- ---- idle workers
 

@@ -12,6 +12,8 @@ use Rattle.sim_base.specs.declared.host.HostId.{HostId}
 use Rattle.sim_base.specs.declared.time.Time.{Time}
 use Rattle.event_order.specs.Events.{IsLeastDue}
 use Rattle.file_calls.specs.declared.task.Output.{Output}
+use Rattle.run_files.specs.Written.{written_in}
+use Rattle.run_files.specs.declared.written.Written.{Written}
 use Rattle.host_state.specs.declared.host.Host.{Host}
 use Rattle.host_link.specs.declared.line.Line.{Line}
 use Rattle.host_link.specs.Net.{Net}
@@ -36,6 +38,7 @@ use Rattle.round_lookahead.specs.RoundsInPlace.{IsRoundInPlace}
 use Rattle.round_lookahead.specs.inside.Settles.{IsBack, HasSettled}
 use Rattle.round_lookahead.specs.inside.Waits.{IsSameHosts, rows_of}
 use Rattle.round_lookahead.specs.Tasks.{waiting}
+use Rattle.round_lookahead.specs.Took.{hosts_below, took_in}
 use Rattle.round_lookahead.proofs.AloneSteps.{AreIdle, alone_round, holding, idle_spills}
 use Rattle.round_lookahead.proofs.DeliverySteps.{row-more}
 use Rattle.round_lookahead.proofs.SettleSteps.{get_or_is}
@@ -142,21 +145,6 @@ took_idle : (n : ℕ) (w : Worked) → w.done.items ≡ [] → took_by (replicat
 took_idle zero w done = refl
 took_idle (suc n) w done = ap (λ (l : List Done). ids_of l ∷ took_by (replicate n w)) done ∙ ap (λ (l : List (List HostId)). [] ∷ l) (took_idle n w done)
 
-replicate_more : {X : Type 0} (n : ℕ) (x : X) → replicate n x ++ x ∷ [] ≡ replicate (suc n) x
-replicate_more zero x = refl
-replicate_more (suc n) x = ap (λ (l : List _). x ∷ l) (replicate_more n x)
-
-lists_more : {X : Type 0} (vs : List (Vec X Global)) (v : Vec X Global) → lists_of (vs ++ v ∷ []) ≡ lists_of vs ++ v.items ∷ []
-lists_more [] v = refl
-lists_more (w ∷ vs) v = ap (λ (l : List (List _)). w.items ∷ l) (lists_more vs v)
-
--- one empty list more
-pub one_list_more : (first : List HostId) (old new : List (Vec HostId Global)) (v : Vec HostId Global) (n m : ℕ) → m ≡ suc n → new ≡ old ++ v ∷ [] → v.items ≡ []
-    → lists_of old ≡ first ∷ replicate n [] → lists_of new ≡ first ∷ replicate m []
-one_list_more first old new v n m next more empty are =
-    ap lists_of more ∙ lists_more old v ∙ ap (λ (l : List (List HostId)). l ++ v.items ∷ []) are ∙ ap (λ (l : List HostId). first ∷ (replicate n [] ++ l ∷ [])) empty
-    ∙ ap (λ (l : List (List HostId)). first ∷ l) (replicate_more n []) ∙ ap (λ (k : ℕ). first ∷ replicate k []) (sym next)
-
 -- ---- the round
 
 module _ (net : Net) (end : ℕ) (old now : List Task) (a : Alone) (r : AreRunInPlace net end old (length old) now a) (few : length old ≤ 65536) (others : ℕ)
@@ -164,21 +152,21 @@ module _ (net : Net) (end : ℕ) (old now : List Task) (a : Alone) (r : AreRunIn
     (moved : IsPermutation (row_arrivals (rows_of new.items)) (map parcel_event a.spill.items ++ row_arrivals (rows_of now)))
     (theirs : (n : Net) → All (λ (q : Parcel). home n (parcel_event q) ≡ q.to.index) a.spill.items → AreAtHome n (rows_of now) → AreAtHome n (rows_of new.items))
     (outputs_are : p.outputs ≡ a.outputs) (sorted : (all : List (order.Logged Line)) → a.lines.items ≡ map kept_line all → p.lines.items ≡ map kept_line (in_order all))
-    (took_are : lists_of p.took.items ≡ a.took.items ∷ replicate others []) where
+    (took_are : took_in p.took ≡ hosts_below (length old) ∷ replicate others []) where
   done_few : length r.ds < 2 ^ 63
   done_few = let many = r.many in omega arith
 
   abbrev first : Worked
-  first = record { done = holding a.took r.ds done_few; spill = a.spill }
+  first = record { done = holding a.spill r.ds done_few; spill = a.spill }
 
   abbrev idle : Worked
-  idle = record { done = holding a.took [] (omega arith); spill = holding a.took [] (omega arith) }
+  idle = record { done = holding a.spill [] (omega arith); spill = holding a.spill [] (omega arith) }
 
   abbrev works : List Worked
   works = first ∷ replicate others idle
 
   abbrev rows : List (Vec Boxed Global)
-  rows = replicate (length old) (holding a.took [] (omega arith))
+  rows = replicate (length old) (holding a.spill [] (omega arith))
 
   idle_are : AreIdle (replicate others idle)
   idle_are = idle_replicate others idle refl refl
@@ -190,9 +178,9 @@ module _ (net : Net) (end : ℕ) (old now : List Task) (a : Alone) (r : AreRunIn
   spilled_are = ap (λ (l : List Parcel). a.spill.items ++ l) (idle_spills (replicate others idle) idle_are) ∙ append-nil a.spill.items
 
   rows-empty : lists_of rows ≡ replicate (length old) []
-  rows-empty = lists_replicate (length old) (holding a.took [] (omega arith))
+  rows-empty = lists_replicate (length old) (holding a.spill [] (omega arith))
 
-  no_rows : (n : ℕ) → row_arrivals (replicate n (holding a.took [] (omega arith))) ≡ []
+  no_rows : (n : ℕ) → row_arrivals (replicate n (holding a.spill [] (omega arith))) ≡ []
   no_rows zero = refl
   no_rows (suc n) = no_rows n
 
@@ -227,8 +215,8 @@ module _ (net : Net) (end : ℕ) (old now : List Task) (a : Alone) (r : AreRunIn
         at = ap (slice_get new.items) placed.number ∙ found.1;
         id = id ∙ placed.id;
         host = host ∙ placed.host;
-        outputs = ap (slice_get p.outputs.items) placed.number ∙ ap (λ (v : Vec (Vec Output Global) Global). slice_get v.items k) outputs_are
-            ∙ ap (λ (l : List (Vec Output Global)). slice_get l k) r.outputs ∙ get-map (λ (x : Done). x.outputs) r.ds k d at;
+        outputs = ap (slice_get (written_in p.outputs)) placed.number ∙ ap (λ (v : Written). slice_get (written_in v) k) outputs_are
+            ∙ ap (λ (l : List (List Output)). slice_get l k) r.outputs ∙ get-map (λ (x : Done). x.outputs.items) r.ds k d at;
       }
 
   backs : All (IsBack settled) (all_done works)
@@ -238,13 +226,13 @@ module _ (net : Net) (end : ℕ) (old now : List Task) (a : Alone) (r : AreRunIn
   has_settled : HasSettled (length old) works rows settled
   has_settled = record {
     tasks_count = count;
-    outputs_count = ap (λ (v : Vec (Vec Output Global) Global). length v.items) outputs_are ∙ ap length r.outputs ∙ length-map r.ds (λ (d : Done). d.outputs) ∙ r.many;
+    outputs_count = ap (λ (v : Written). length (written_in v)) outputs_are ∙ ap length r.outputs ∙ length-map r.ds (λ (d : Done). d.outputs.items) ∙ r.many;
     hosts = backs;
     home = λ n to at. theirs n (subst (All (λ (q : Parcel). home n (parcel_event q) ≡ q.to.index)) spilled_are to) (none_away n now emptied);
     packets = subst (λ (l : List Parcel). IsPermutation (row_arrivals (rows_of new.items)) (map parcel_event l ++ row_arrivals rows)) (sym spilled_are)
         (subst (λ (l : List Event). IsPermutation (row_arrivals (rows_of new.items)) (map parcel_event a.spill.items ++ l)) (none_wait now emptied ∙ sym (no_rows (length old))) moved);
     lines = λ all is. sorted all (r.lines ∙ sym (ap lines_done done_are) ∙ is);
-    took = took_are ∙ ap (λ (l : List HostId). l ∷ replicate others []) r.took ∙ ap (λ (l : List (List HostId)). ids_of r.ds ∷ l) (sym (took_idle others idle refl));
+    took = took_are ∙ ap (λ (l : List HostId). l ∷ replicate others []) (sym r.ids) ∙ ap (λ (l : List (List HostId)). ids_of r.ds ∷ l) (sym (took_idle others idle refl));
   }
 
   pub in_place_is : (workers : ℕ) → workers ≡ suc others → IsRoundInPlace net end workers old new p
@@ -262,7 +250,7 @@ pub whole_round : (net : Net) (end workers : ℕ) (old : Vec Task Global) (opene
     → IsPermutation (row_arrivals (rows_of final)) (map parcel_event a.spill.items ++ row_arrivals (rows_of again))
     → ((n : Net) → All (λ (q : Parcel). home n (parcel_event q) ≡ q.to.index) a.spill.items → AreAtHome n (rows_of again) → AreAtHome n (rows_of final))
     → (p : Gained) → p.outputs ≡ a.outputs → ((all : List (order.Logged Line)) → a.lines.items ≡ map kept_line all → p.lines.items ≡ map kept_line (in_order all))
-    → 0 < workers → lists_of p.took.items ≡ a.took.items ∷ replicate (workers - 1) [] → IsRoundInPlace net end workers old.items (with_items (with_items old now) final) p
+    → 0 < workers → took_in p.took ≡ hosts_below (length old.items) ∷ replicate (workers - 1) [] → IsRoundInPlace net end workers old.items (with_items (with_items old now) final) p
 whole_round net end workers old opened opened_is now a ran few again again_is final same moved theirs p outputs sorted some took =
     let r : AreRunInPlace net end old.items (length old.items) now a = subst (λ (l : List Task). AreRunInPlace net end l (length l) now a) opened_is ran in
     let many : length now ≡ old.len = r.all ∙ sym old.ok.0 in

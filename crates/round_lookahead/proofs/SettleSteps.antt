@@ -9,6 +9,7 @@ use Rattle.host_link.specs.declared.line.Line.{Line}
 use Rattle.host_link.specs.Net.{Net}
 use Rattle.host_link.specs.Home.{home}
 use Rattle.host_link.specs.Parcels.{parcel_event}
+use Rattle.run_files.specs.Written.{written_in}
 use Rattle.host_state.specs.Running.{kept_line}
 use Rattle.list_weights.specs.Weights.{weigh, numbers_below}
 use Rattle.list_weights.proofs.Permutations.{weigh_permutation}
@@ -25,9 +26,10 @@ use Rattle.round_lookahead.specs.declared.world.backs.Back.{Back}
 use Rattle.round_lookahead.specs.declared.world.retasking.Retasked.{Retasked}
 use Rattle.round_lookahead.specs.declared.world.settling.Settled.{Settled}
 use Rattle.round_lookahead.specs.inside.Arrivals.{Boxed}
-use Rattle.round_lookahead.specs.inside.Backs.{back_of, with_done, all_done, all_spilled, lines_done, took_by, lists_of, row_arrivals, AreAtHome}
+use Rattle.round_lookahead.specs.inside.Backs.{back_of, with_done, all_done, all_spilled, lines_done, took_by, row_arrivals, AreAtHome}
 use Rattle.round_lookahead.specs.inside.Retasks.{AreRetasked}
 use Rattle.round_lookahead.specs.inside.Settles.{done_numbers, CanSettle, IsBack, HasSettled}
+use Rattle.round_lookahead.specs.Took.{took_in}
 use Rattle.round_lookahead.proofs.BackSteps.{IdsApart, in_slot, length_with_done}
 use Rattle.round_lookahead.proofs.RoundJobs.{below_number, number_below, there_once, once_below}
 
@@ -119,8 +121,8 @@ module _ (count : ℕ) (works : List Worked) (rows : List (Vec Boxed Global)) (c
           ap (λ (v : Vec Task Global). length v.items) tasks_are ∙ sym (length-map r.tasks.items (λ (t : Task). t.host)) ∙ ap length retasked.hosts
           ∙ length-map backs (λ (b : Back). b.host) ∙ length_backs
 
-      outputs_is : s.gained.outputs.items ≡ map (λ (b : Back). b.outputs) backs
-      outputs_is = ap (λ (v : Vec (Vec Output Global) Global). v.items) outputs_are ∙ retasked.outputs
+      outputs_is : written_in s.gained.outputs ≡ map (λ (b : Back). b.outputs.items) backs
+      outputs_is = ap written_in outputs_are ∙ retasked.outputs
 
       tasks_is : {Y : Type 0} (f : Task → Y) (g : Back → Y) → map f r.tasks.items ≡ map g backs → (k : ℕ) (t : Task) (b : Back) → slice_get s.tasks.items k ≡ Some t → slice_get backs k ≡ Some b → f t ≡ g b
       tasks_is f g same k t b at there =
@@ -138,17 +140,17 @@ module _ (count : ℕ) (works : List Worked) (rows : List (Vec Boxed Global)) (c
             at = found.1;
             id = tasks_is (λ (t : Task). t.id) (λ (x : Back). x.id) retasked.ids k found.0 (back_of d) found.1 (back_of_is d h);
             host = tasks_is (λ (t : Task). t.host) (λ (x : Back). x.host) retasked.hosts k found.0 (back_of d) found.1 (back_of_is d h);
-            outputs = ap (λ (l : List (Vec Output Global)). slice_get l k) outputs_is ∙ get-map (λ (x : Back). x.outputs) backs k (back_of d) (back_of_is d h);
+            outputs = ap (λ (l : List (List Output)). slice_get l k) outputs_is ∙ get-map (λ (x : Back). x.outputs.items) backs k (back_of d) (back_of_is d h);
           }
 
       pub has_settled : (spill : List Parcel) → spill ≡ all_spilled works → IsPermutation (row_arrivals new) (map parcel_event spill ++ row_arrivals rows)
           → ((net : Net) → All (λ (p : Parcel). home net (parcel_event p) ≡ p.to.index) spill → AreAtHome net rows → AreAtHome net new)
-          → ((all : List (order.Logged Line)) → lines_done ds ≡ map kept_line all → s.gained.lines.items ≡ map kept_line (in_order all)) → lists_of s.gained.took.items ≡ took_by works → HasSettled count works rows s
+          → ((all : List (order.Logged Line)) → lines_done ds ≡ map kept_line all → s.gained.lines.items ≡ map kept_line (in_order all)) → took_in s.gained.took ≡ took_by works → HasSettled count works rows s
       has_settled spill is moved theirs lines took =
           let parcels : map (λ (t : Task). t.parcels) s.tasks.items ≡ new = ap (λ (v : Vec Task Global). map (λ (t : Task). t.parcels) v.items) tasks_are ∙ retasked.parcels in
           record {
             tasks_count = length_tasks;
-            outputs_count = ap length outputs_is ∙ length-map backs (λ (b : Back). b.outputs) ∙ length_backs;
+            outputs_count = ap length outputs_is ∙ length-map backs (λ (b : Back). b.outputs.items) ∙ length_backs;
             hosts = All_from_Each (IsBack s) ds is_back;
             home = λ net to at. subst (AreAtHome net) (sym parcels) (theirs net (subst (All (λ (p : Parcel). home net (parcel_event p) ≡ p.to.index)) (sym is) to) at);
             packets = subst (λ (l : List (Vec Boxed Global)). IsPermutation (row_arrivals l) (map parcel_event (all_spilled works) ++ row_arrivals rows)) (sym parcels)

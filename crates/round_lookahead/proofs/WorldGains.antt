@@ -12,6 +12,7 @@ use Rattle.list_weights.specs.Weights.{numbers_below}
 use Rattle.event_order.specs.Events.{IsLeastDue}
 use Rattle.steal_workers.specs.Gathers.{joined}
 use Rattle.file_calls.specs.declared.task.Output.{Output}
+use Rattle.run_files.specs.Written.{written_in}
 use Rattle.host_state.specs.declared.host.Host.{Host}
 use Rattle.host_link.specs.declared.line.Line.{Line}
 use Rattle.host_link.specs.declared.line.Logged.{Logged}
@@ -38,7 +39,7 @@ use Rattle.round_lookahead.specs.declared.world.load.Load.{Load}
 use Rattle.round_lookahead.specs.declared.world.settling.Settled.{Settled}
 use Rattle.round_lookahead.specs.declared.world.world_state.World.{World}
 use Rattle.round_lookahead.specs.inside.Arrivals.{Boxed, arrivals}
-use Rattle.round_lookahead.specs.inside.Backs.{all_done, all_spilled, took_by, lists_of, ids_of, row_arrivals, AreAtHome}
+use Rattle.round_lookahead.specs.inside.Backs.{all_done, all_spilled, took_by, ids_of, row_arrivals, AreAtHome}
 use Rattle.round_lookahead.specs.Counts.{counts_of}
 use Rattle.round_lookahead.specs.Gains.{IsGained, IsTaken, HasTurns, HasGained, turns_from}
 use Rattle.round_lookahead.specs.RoundsInPlace.{IsRoundInPlace}
@@ -46,6 +47,7 @@ use Rattle.round_lookahead.specs.Rounds.{IsRound, AreWorks, all_parcels}
 use Rattle.round_lookahead.specs.inside.Dues.{first_due}
 use Rattle.round_lookahead.specs.inside.Settles.{done_numbers, CanSettle, IsBack, HasSettled}
 use Rattle.round_lookahead.specs.Tasks.{waiting, AreTasks}
+use Rattle.round_lookahead.specs.Took.{took_in}
 use Rattle.round_lookahead.specs.Works.{HostJob, AreDone}
 use Rattle.round_lookahead.specs.WorldStands.{HostWorld, nanos_of, StandsAt, WorldStands}
 use Rattle.round_lookahead.proofs.Extending.{result_extends}
@@ -69,20 +71,14 @@ turns_ids worker (j ∷ js) [] net end tasks records a = absurd a
 turns_ids worker (j ∷ js) (d ∷ ds) net end tasks records a =
     λ i. record { worker = sym a.0.by_worker i; number = a.0.run.id i } ∷ turns_ids worker js ds net end tasks records a.1 i
 
-heads_of : {X : Type 0} (x y : X) (xs ys : List X) → x ∷ xs ≡ y ∷ ys → (x ≡ y) × (xs ≡ ys)
-heads_of x y xs ys e = (cc, cc)
-
-turns_of : (net : Net) (end : ℕ) (tasks : List Task) (records : ℕ → HostRecord) (worker : ℕ) (jobs : List (List HostJob)) (works : List Worked) (took : List (Vec HostId Global))
-    → AreWorks net end tasks records worker jobs works → lists_of took ≡ took_by works → turns_from worker took ≡ map turn_of (joined jobs)
-turns_of net end tasks records worker [] [] [] a is = refl
-turns_of net end tasks records worker [] [] (t ∷ ts) a is = absurd (cc)
-turns_of net end tasks records worker [] (w ∷ ws) took a is = absurd a
-turns_of net end tasks records worker (js ∷ jss) [] took a is = absurd a
-turns_of net end tasks records worker (js ∷ jss) (w ∷ ws) [] a is = absurd (cc)
-turns_of net end tasks records worker (js ∷ jss) (w ∷ ws) (t ∷ ts) a is =
-    let h = heads_of t.items (ids_of w.done.items) (lists_of ts) (took_by ws) is in
-    let here = ap (map (λ (x : HostId). let u : Turn = record { worker = worker; number = x.index } in u)) h.0 ∙ turns_ids worker js w.done.items net end tasks records a.0 in
-    let rest = turns_of net end tasks records (suc worker) jss ws ts a.1 h.1 in
+turns_by : (net : Net) (end : ℕ) (tasks : List Task) (records : ℕ → HostRecord) (worker : ℕ) (jobs : List (List HostJob)) (works : List Worked)
+    → AreWorks net end tasks records worker jobs works → turns_from worker (took_by works) ≡ map turn_of (joined jobs)
+turns_by net end tasks records worker [] [] a = refl
+turns_by net end tasks records worker [] (w ∷ ws) a = absurd a
+turns_by net end tasks records worker (js ∷ jss) [] a = absurd a
+turns_by net end tasks records worker (js ∷ jss) (w ∷ ws) a =
+    let here = turns_ids worker js w.done.items net end tasks records a.0 in
+    let rest = turns_by net end tasks records (suc worker) jss ws a.1 in
     (λ i. here i ++ rest i) ∙ sym (map_both turn_of js (joined jss))
 
 turn_numbers : (js : List HostJob) → map (λ (t : Turn). t.number) (map turn_of js) ≡ round_jobs.numbers js
@@ -221,9 +217,9 @@ module _ (c : World) (w : HostWorld) (stands : WorldStands c w) (least : Time) (
         let a = at_number k (omega arith) in
         let now : a.job.ran.host ≡ after = some_is a.job.ran.host after (sym (next_host k a) ∙ there) in
         let was : before ≡ rec c w stands a.job.number = rec_is c w stands k before at ∙ ap (rec c w stands) (sym a.same) in
-        let outs : a.done.outputs ≡ got = some_is a.done.outputs got (sym a.back.outputs ∙ ap (slice_get s.gained.outputs.items) a.number ∙ here) in
+        let outs : a.done.outputs.items ≡ got = some_is a.done.outputs.items got (sym a.back.outputs ∙ ap (slice_get (written_in s.gained.outputs)) a.number ∙ here) in
         ap (λ (x : HostRecord). x.written) (sym now) ∙ a.run.run.written
-        ∙ ap (λ (x : HostRecord). x.written ++ a.done.outputs.items) (sym was) ∙ ap (λ (v : Vec Output Global). before.written ++ v.items) outs;
+        ∙ ap (λ (x : HostRecord). x.written ++ a.done.outputs.items) (sym was) ∙ ap (λ (l : List Output). before.written ++ l) outs;
   }
 
   pub stands_new : WorldStands new next
@@ -237,14 +233,14 @@ module _ (c : World) (w : HostWorld) (stands : WorldStands c w) (least : Time) (
     between = settled_between c.net (nanos_of c.lookahead) stands.rounds next (rounds.next_settled c w stands least due workers works rows many round);
   }
 
-  turns_are : turns_from 0 s.gained.took.items ≡ map turn_of jobs
-  turns_are = turns_of c.net end c.tasks.items (rec c w stands) 0 round.jobs works s.gained.took.items round.done so.took
+  turns_are : turns_from 0 (took_in s.gained.took) ≡ map turn_of jobs
+  turns_are = ap (turns_from 0) so.took ∙ turns_by c.net end c.tasks.items (rec c w stands) 0 round.jobs works round.done
 
-  pub taken : IsTaken c.net end workers w next s.gained.took.items
+  pub taken : IsTaken c.net end workers w next (took_in s.gained.took)
   taken =
       let t = rounds.steps_taken c w stands least due workers works rows many round in
       record {
-        workers_are = sym (length-map s.gained.took.items (λ (v : Vec HostId Global). v.items)) ∙ ap length so.took ∙ length-map works (λ (x : Worked). ids_of x.done.items) ∙ many;
+        workers_are = ap length so.took ∙ length-map works (λ (x : Worked). ids_of x.done.items) ∙ many;
         once = subst (λ (ns : List ℕ). IsPermutation ns (numbers_below (length w.hosts))) (sym (ap (map (λ (u : Turn). u.number)) turns_are ∙ turn_numbers jobs))
             (rounds.once c w stands least due workers works rows many round);
         jobs = t.0;
@@ -254,7 +250,7 @@ module _ (c : World) (w : HostWorld) (stands : WorldStands c w) (least : Time) (
         same = t.4;
       }
 
-  has_turns : HasTurns c new workers w next s.gained.took.items
+  has_turns : HasTurns c new workers w next (took_in s.gained.took)
   has_turns =
       let some = any_in (λ (e : Event). e.key.due ≡ least) (flat_map waiting c.tasks.items) due.0 in
       record {

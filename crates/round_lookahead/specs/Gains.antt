@@ -1,6 +1,5 @@
 -- What a round of the world gains, and who took which host.
-use Rattle.std.specs.Prelude.{◌≡◌, ℕ, suc, List, [], ◌∷◌, ◌++◌, map, flat_map, length, Any, IsPermutation, Some, slice_get, Vec}
-use Rattle.std.specs.declared.alloc.Global.{Global}
+use Rattle.std.specs.Prelude.{◌≡◌, ℕ, suc, List, [], ◌∷◌, ◌++◌, map, flat_map, length, Any, IsPermutation, Some, slice_get}
 use Rattle.sim_base.specs.declared.event.Event.{Event}
 use Rattle.sim_base.specs.declared.host.HostId.{HostId}
 use Rattle.list_weights.specs.Weights.{numbers_below}
@@ -12,6 +11,7 @@ use Rattle.run_files.specs.Files.{put_of}
 use Rattle.host_state.specs.Gains.{Gains, names_in}
 use Rattle.run_files.specs.Grown.{all_grown, with_bytes}
 use Rattle.run_files.specs.LinesFit.{AllFit}
+use Rattle.run_files.specs.Written.{written_in}
 use Rattle.host_state.specs.Fits.{model}
 use Rattle.host_state.specs.HostRecord.{HostRecord}
 use Rattle.host_state.specs.Running.{kept_line}
@@ -26,15 +26,16 @@ use Rattle.world_order.specs.declared.step.Step.TheVariants.{Close}
 use Rattle.round_lookahead.specs.declared.world.gained.Gained.{Gained}
 use Rattle.round_lookahead.specs.declared.world.pieces.Pieces.{Pieces}
 use Rattle.round_lookahead.specs.declared.world.world_state.World.{World}
+use Rattle.round_lookahead.specs.Took.{took_in}
 use Rattle.round_lookahead.specs.Works.{HostJob}
 use Rattle.round_lookahead.specs.WorldStands.{HostWorld, WorldStands, nanos_of}
 
 -- these outputs, each host's by its number, and these lines are what processes wrote and the log gained
 pub record IsGained (w v : HostWorld) (g : Gained) : Type 0 where
   pub lines : map kept_line v.log ≡ map kept_line w.log ++ g.lines.items
-  pub count : length g.outputs.items ≡ length w.hosts
-  pub outputs : (k : ℕ) (before after : HostRecord) (gained : Vec Output Global) → slice_get w.hosts k ≡ Some before → slice_get v.hosts k ≡ Some after
-      → slice_get g.outputs.items k ≡ Some gained → after.written ≡ before.written ++ gained.items
+  pub count : length (written_in g.outputs) ≡ length w.hosts
+  pub outputs : (k : ℕ) (before after : HostRecord) (gained : List Output) → slice_get w.hosts k ≡ Some before → slice_get v.hosts k ≡ Some after
+      → slice_get (written_in g.outputs) k ≡ Some gained → after.written ≡ before.written ++ gained
 
 -- the places and bytes that outputs and log gained: what each process wrote, and the text of the lines, which are of packets whose numbers fit
 -- their types
@@ -46,13 +47,13 @@ pub record ArePieces (w v : HostWorld) (files : List Piece) : Type 0 where
   pub fit : AllFit lines
 
 -- the turns of workers, from that number on, each of which took these hosts
-abbrev pub turns_from : ℕ → List (Vec HostId Global) → List Turn
+abbrev pub turns_from : ℕ → List (List HostId) → List Turn
 turns_from worker [] = []
-turns_from worker (hosts ∷ more) = map (λ (h : HostId). record { worker = worker; number = h.index }) hosts.items ++ turns_from (suc worker) more
+turns_from worker (hosts ∷ more) = map (λ (h : HostId). record { worker = worker; number = h.index }) hosts ++ turns_from (suc worker) more
 
 -- each host was taken once; and its steps (for each worker in turn and each of its hosts Take, the Fires, the Puts to the spill, Back; at last
 -- Close) are allowed, each in its turn, and end in the world
-pub record IsTaken (net : Net) (end workers : ℕ) (w v : HostWorld) (took : List (Vec HostId Global)) : Type 0 where
+pub record IsTaken (net : Net) (end workers : ℕ) (w v : HostWorld) (took : List (List HostId)) : Type 0 where
   pub workers_are : length took ≡ workers
   pub once : IsPermutation (map (λ (t : Turn). t.number) (turns_from 0 took)) (numbers_below (length w.hosts))
   pub jobs : List HostJob
@@ -62,7 +63,7 @@ pub record IsTaken (net : Net) (end workers : ℕ) (w v : HostWorld) (took : Lis
   pub same : IsSameWorld v (after_round w closed)
 
 -- a round on a world whose least event is due at that time: the world after all turns of the model that are due before the window's end, and who took which host
-pub record HasTurns (old new : World) (workers : ℕ) (w v : HostWorld) (took : List (Vec HostId Global)) : Type 0 where
+pub record HasTurns (old new : World) (workers : ℕ) (w v : HostWorld) (took : List (List HostId)) : Type 0 where
   pub least : ℕ
   pub from : AreDueFrom least w.events
   pub due : Any (λ (e : Event). e.key.due.nanos ≡ least) w.events
@@ -73,10 +74,10 @@ pub record HasTurns (old new : World) (workers : ℕ) (w v : HostWorld) (took : 
 
 -- a round, and what outputs and log gained
 pub record HasGained (old new : World) (workers : ℕ) (w v : HostWorld) (g : Gained) : Type 0 where
-  pub turns : HasTurns old new workers w v g.took.items
+  pub turns : HasTurns old new workers w v (took_in g.took)
   pub gained : IsGained w v g
 
 -- a round, and what was gained as places and bytes
 pub record HasRound (old new : World) (workers : ℕ) (w v : HostWorld) (p : Pieces) : Type 0 where
-  pub turns : HasTurns old new workers w v p.took.items
+  pub turns : HasTurns old new workers w v (took_in p.took)
   pub files : ArePieces w v p.files.items

@@ -4,6 +4,7 @@ pub mod Works
 pub mod Rounds
 pub mod Alone
 pub mod WorldStands
+pub mod Took
 pub mod Gains
 pub mod Counts
 pub mod RoundsInPlace

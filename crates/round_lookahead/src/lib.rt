@@ -11,4 +11,5 @@ pub use workers::worked::{Done, Worked};
 pub use workers::working::work;
 pub use world::counts::Counts;
 pub use world::pieces::Pieces;
+pub use world::took::Took;
 pub use world::world_state::World;

@@ -16,5 +16,6 @@ pub(crate) mod settling;
 pub(crate) mod settling_in_place;
 pub(crate) mod showing;
 pub(crate) mod streams;
+pub(crate) mod took;
 pub(crate) mod waiting;
 pub(crate) mod world_state;

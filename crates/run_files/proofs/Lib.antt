@@ -1,4 +1,5 @@
 pub mod Paths
 pub mod Listings
+pub mod Writings
 pub mod Capturing
 pub mod LinesFit

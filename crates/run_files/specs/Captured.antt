@@ -3,7 +3,7 @@ use Rattle.std.specs.Prelude.{ℕ, ◌+◌, List, [], ◌∷◌, ◌++◌, Optio
 use Rattle.sim_base.specs.declared.address.Ip.{Ip}
 use Rattle.run_outside.specs.declared.sink.Place.TheVariants as place
 use Rattle.out_text.specs.Files.{capture_name}
-use Rattle.run_files.specs.Captures.{eth0_of, lo_of, is_on_eth0, is_on_lo, line_record, records_of}
+use Rattle.run_files.specs.Captures.{eth0_of, lo_of, is_on_eth0, is_on_lo, is_there, line_record, records_of}
 use Rattle.run_files.specs.Files.{Put}
 use Rattle.run_files.specs.Listed.{HostNames, by_host}
 use Rattle.run_files.specs.declared.capture.Captured.{Captured}
@@ -51,10 +51,6 @@ all_captures front hosts lines = by_host (host_captures front) hosts (captured_f
 -- nothing in front
 abbrev pub no_head : ℕ → List ℕ
 no_head size = []
-
-abbrev pub is_there : Option ℕ → Bool
-is_there None = false
-is_there (Some size) = true
 
 abbrev pub has_captures : HostNames → Bool
 has_captures host = is_there host.capture

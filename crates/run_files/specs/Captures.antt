@@ -1,5 +1,5 @@
 -- What a host captures of its packets: which lines of the packet log, and the bytes of each as the pcap format has them.
-use Rattle.std.specs.Prelude.{ℕ, ◌==◌, Bool, true, false, not, ◌&&◌, ◌||◌, List, [], nat_le, if◌then◌else◌, flat_map}
+use Rattle.std.specs.Prelude.{ℕ, ◌==◌, Bool, true, false, not, ◌&&◌, ◌||◌, List, [], Option, Some, None, nat_le, if◌then◌else◌, flat_map}
 use Rattle.std.specs.List.{filter}
 use Rattle.sim_base.specs.Addresses.{is_same_ip, loopback}
 use Rattle.sim_base.specs.Packet.{packet_size, max_packet}
@@ -10,6 +10,11 @@ use Rattle.sim_base.specs.declared.address.Ip.{Ip}
 use Rattle.sim_base.specs.declared.packet.Packet.{Packet}
 use Rattle.pcap_text.specs.Writing.{packet_record}
 use Rattle.host_link.specs.declared.line.Line.{Line}
+
+-- whether a host has a capture size
+abbrev pub is_there : Option ℕ → Bool
+is_there None = false
+is_there (Some size) = true
 
 -- ---- loopback
 

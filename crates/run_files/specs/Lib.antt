@@ -4,3 +4,4 @@ pub mod Files
 pub mod Grown
 pub mod LinesFit
 pub mod Listed
+pub mod Written

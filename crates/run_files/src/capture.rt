@@ -9,10 +9,10 @@ ghost use Rattle.run_files.specs.Captures as lines;
 ghost use Rattle.host_link.specs.declared.line.Line.{Line as LineRecord};
 ghost use Rattle.run_files.specs.Files.{put_of};
 ghost use Rattle.run_files.specs.Grown.{with_bytes};
-ghost use Rattle.run_files.specs.Listed.{said, by_host};
+ghost use Rattle.run_files.specs.Listed.{said, by_host, names_of};
 ghost use Rattle.host_link.specs.Logs.{kept_lines};
 
-use crate::listed::HostListing;
+use crate::listed::{HostListing, Listing};
 use crate::piece::{Piece, capture_piece};
 use host_link::{Line, Logged};
 use sim_base::{Act, Bytes, Ip, MAX_PACKET, NoMemory, Packet, Time};
@@ -200,7 +200,7 @@ fn push_all_captured(
 }
 
 /// Whether any host captures.
-fn any_captures(hosts: &[HostListing]) -> bool
+pub(crate) fn any_captures(hosts: &[HostListing]) -> bool
     ensures { result ≡ list_any (λ host. spec.has_captures (said host)) hosts.now }
 {
     hosts.iter().any(|host| host.capture.is_some())
@@ -210,14 +210,15 @@ fn any_captures(hosts: &[HostListing]) -> bool
 pub(crate) fn push_captures(
     alloc: Global,
     pieces: &mut Vec<Piece>,
-    hosts: &[HostListing],
+    listing: &Listing,
     lines: &[Logged],
 ) -> Result<(), NoMemory>
-    ensures { OnOk result (map put_of pieces.new.items ≡ map put_of pieces.old.items ++ with_bytes (spec.all_captures spec.no_head (map said hosts.now) (kept_lines lines.now))) }
+    ensures { OnOk result (map put_of pieces.new.items ≡ map put_of pieces.old.items ++ with_bytes (spec.all_captures spec.no_head (names_of listing.now) (kept_lines lines.now))) }
 {
-    if !any_captures(hosts) {
+    if !listing.captures {
         return Ok(());
     }
+    let hosts = listing.hosts.as_slice();
     let captured = capture_lines(alloc, hosts, lines)?;
     push_all_captured(alloc, pieces, hosts, captured)
 }

@@ -8,12 +8,14 @@ ghost use Rattle.run_files.specs.Files.{put_of};
 ghost use Rattle.run_files.specs.Grown as spec;
 ghost use Rattle.run_files.specs.LinesFit.{AllFit};
 ghost use Rattle.run_files.specs.Listed.{said, names_of};
+ghost use Rattle.run_files.specs.Written.{written_in};
 ghost use Rattle.host_link.specs.Logs.{kept_lines};
 
 use crate::capture::push_captures;
 use crate::fitting::lines_fit;
 use crate::listed::{HostListing, Listing, ProcessListing};
 use crate::piece::{Piece, file_piece, log_piece, numbers, written_to};
+use crate::written::Written;
 use base_texts::{Name, Text};
 use file_calls::Output;
 use host_link::{Line, Logged};
@@ -95,15 +97,19 @@ fn push_outputs(
 /// What the processes of all hosts wrote, each host's by its place.
 fn output_pieces(
     alloc: Global,
-    hosts: &[HostListing],
-    outputs: &[Vec<Output>],
+    listing: &Listing,
+    written: &Written,
 ) -> Result<Vec<Piece>, NoMemory>
-    requires { length outputs.now ≡ length hosts.now }
-    ensures { IfOk result (λ pieces. map put_of pieces.items ≡ spec.with_bytes (spec.hosts_grown (map said hosts.now) (map (λ v. v.items) outputs.now))) }
+    requires { length (written_in written.now) ≡ length (names_of listing.now) }
+    ensures { IfOk result (λ pieces. map put_of pieces.items ≡ spec.with_bytes (spec.hosts_grown (names_of listing.now) (written_in written.now))) }
 {
+    let hosts = listing.hosts.as_slice();
     let mut pieces = Vec::new(alloc);
-    for place in 0..hosts.len() {
-        push_outputs(alloc, &mut pieces, &hosts[place], outputs[place].as_slice())?;
+    let mut place = 0;
+    for host in written.hosts.as_slice() {
+        let at = place + host.silent;
+        push_outputs(alloc, &mut pieces, &hosts[at], host.outputs.as_slice())?;
+        place = at + 1;
     }
     Ok(pieces)
 }
@@ -171,19 +177,19 @@ fn push_lines(
 pub fn round_pieces(
     alloc: Global,
     listing: &Listing,
-    outputs: &[Vec<Output>],
+    written: &Written,
     lines: Vec<Logged>,
 ) -> Result<Vec<Piece>, NoMemory>
-    requires { length outputs.now ≡ length (names_of listing.now) }
-    ensures pieces { IfOk result (λ pieces. map put_of pieces.items ≡ spec.with_bytes (spec.all_grown (names_of listing.now) (map (λ v. v.items) outputs.now) (kept_lines lines.items))) }
+    requires { length (written_in written.now) ≡ length (names_of listing.now) }
+    ensures pieces { IfOk result (λ pieces. map put_of pieces.items ≡ spec.with_bytes (spec.all_grown (names_of listing.now) (written_in written.now) (kept_lines lines.items))) }
 
     // The numbers of the lines' packets fit their types.
     ensures fit { AllFit (kept_lines lines.items) }
 {
     lines_fit(&lines);
     let hosts = listing.hosts.as_slice();
-    let mut pieces = output_pieces(alloc, hosts, outputs)?;
-    push_captures(alloc, &mut pieces, hosts, &lines)?;
+    let mut pieces = output_pieces(alloc, listing, written)?;
+    push_captures(alloc, &mut pieces, listing, &lines)?;
     push_lines(alloc, &mut pieces, hosts, lines)?;
     Ok(pieces)
 }

@@ -5,9 +5,12 @@ mod capture;
 mod fitting;
 mod growing;
 mod listed;
+mod listing;
 mod piece;
+mod written;
 
 pub use capture::Captured;
 pub use growing::round_pieces;
 pub use listed::{HostListing, Listing, ProcessListing};
 pub use piece::{Piece, bytes_of, capture_piece, file_piece, log_piece, numbers};
+pub use written::{HostWritten, Written};

@@ -1,6 +1,7 @@
 -- Hosts that wait again.
 use Rattle.std.specs.Prelude.{◌≡◌, List, map, Vec}
 use Rattle.std.specs.declared.alloc.Global.{Global}
+use Rattle.run_files.specs.Written.{written_in}
 use Rattle.round_lookahead.specs.declared.workers.task.Task.{Task}
 use Rattle.round_lookahead.specs.declared.world.backs.Back.{Back}
 use Rattle.round_lookahead.specs.declared.world.retasking.Retasked.{Retasked}
@@ -11,4 +12,4 @@ pub record AreRetasked (backs : List Back) (rows : List (Vec Boxed Global)) (r :
   pub ids : map (λ (t : Task). t.id) r.tasks.items ≡ map (λ (b : Back). b.id) backs
   pub hosts : map (λ (t : Task). t.host) r.tasks.items ≡ map (λ (b : Back). b.host) backs
   pub parcels : map (λ (t : Task). t.parcels) r.tasks.items ≡ rows
-  pub outputs : r.outputs.items ≡ map (λ (b : Back). b.outputs) backs
+  pub outputs : written_in r.outputs ≡ map (λ (b : Back). b.outputs.items) backs

@@ -15,38 +15,74 @@ const MOVE_WORTH: u64 = 2_500;
 /// The mean of a round's numbers and those before it has so large a part of it: an eighth.
 const PART: u64 = 8;
 
-/// What each host had to do so far, by its number; and what a round had to do beside its busiest host, which is what other threads
-/// can take off the caller: the mean of the last rounds, where the latest count most. Both are numbers of instructions, about, and
-/// no clause speaks of them.
-#[derive(Drop)]
+/// What hosts had to do in a round: how many they are, what all of them had to do, and what the busiest had. Both are numbers of
+/// instructions, about, and no clause speaks of them.
+#[derive(Clone, Copy)]
+pub(crate) struct RoundLoad {
+    hosts: u64,
+    all: u64,
+    busiest: u64,
+}
+
+impl RoundLoad {
+    /// Of no host.
+    pub(crate) fn new() -> RoundLoad {
+        RoundLoad {
+            hosts: 0,
+            all: 0,
+            busiest: 0,
+        }
+    }
+
+    /// Of one host more, which had so much to do.
+    pub(crate) fn add(&mut self, work: u64) {
+        self.hosts = self.hosts.saturating_add(1);
+        self.all = self.all.saturating_add(work);
+        self.busiest = self.busiest.max(work);
+    }
+
+    /// Of all hosts, each of which had so much to do before the round.
+    pub(crate) fn since(tasks: &[Task], before: &[u64]) -> RoundLoad {
+        let mut load = RoundLoad::new();
+        for (task, before) in tasks.iter().zip(before.iter()) {
+            load.add(task.work.saturating_sub(*before));
+        }
+        load
+    }
+}
+
+/// What each host had to do so far.
+pub(crate) fn works_of(alloc: Global, tasks: &[Task]) -> Result<Vec<u64>, NoMemory> {
+    let mut works = Vec::with_capacity(alloc, tasks.len())?;
+    for task in tasks {
+        works.push(task.work)?;
+    }
+    Ok(works)
+}
+
+/// What a round had to do beside its busiest host, which is what other threads can take off the caller: the mean of the last rounds,
+/// where the latest count most. None where nothing is known of any.
+#[derive(Clone, Copy)]
 pub(crate) struct Load {
-    so_far: Vec<u64>,
     beside: Option<u64>,
 }
 
 impl Load {
-    /// Before the first round of so many hosts.
-    pub(crate) fn new(alloc: Global, hosts: usize) -> Result<Load, NoMemory> {
-        let mut so_far = Vec::with_capacity(alloc, hosts)?;
-        for _host in 0..hosts {
-            so_far.push(0)?;
-        }
-        Ok(Load {
-            so_far,
-            beside: None,
-        })
+    /// Before the first round.
+    pub(crate) fn new() -> Load {
+        Load { beside: None }
     }
 
-    /// In how many threads a round is run that so many could run: as many as it is worth by what the last rounds had to do, or all,
-    /// where nothing is known of any.
-    pub(crate) fn threads(&self, most: u32) -> u32
+    /// In how many threads a round of so many hosts is run that so many threads could run: as many as it is worth by what the last
+    /// rounds had to do, or all, where nothing is known of any.
+    pub(crate) fn threads(&self, most: u32, hosts: usize) -> u32
         requires { 0 < most }
         ensures { (0 < result) × (result ≤ most) }
     {
         let Some(beside) = self.beside else {
             return most;
         };
-        let moves = (self.so_far.len() as u64).saturating_mul(MOVE_WORTH);
+        let moves = (hosts as u64).saturating_mul(MOVE_WORTH);
         let worth = (beside.saturating_sub(moves) / THREAD_WORTH).max(1);
         if worth < u64::from(most) {
             worth as u32
@@ -55,30 +91,12 @@ impl Load {
         }
     }
 
-    /// What the hosts had to do since the last call, without the busiest of them.
-    fn take_beside(&mut self, tasks: &[Task]) -> u64 {
-        let mut all: u64 = 0;
-        let mut busiest: u64 = 0;
-        for (task, so_far) in tasks.iter().zip(self.so_far.iter_mut()) {
-            let now = task.work;
-            let work = now.saturating_sub(*so_far);
-            *so_far = now;
-            all = all.saturating_add(work);
-            busiest = busiest.max(work);
-        }
-        all.saturating_sub(busiest)
-    }
-
-    /// Notes what the hosts had to do in a round of so many workers, which so many threads could have run. One that a single thread
-    /// alone could have run leaves the mean as it is.
-    pub(crate) fn note(&mut self, tasks: &[Task], workers: u32, most: u32) {
-        if workers < 2 {
+    /// Notes what a round had to do. One that a single thread alone could have run leaves the mean as it is.
+    pub(crate) fn note(&mut self, round: RoundLoad) {
+        if round.hosts < 2 {
             return;
         }
-        let beside = self.take_beside(tasks);
-        if most < 2 {
-            return;
-        }
+        let beside = round.all.saturating_sub(round.busiest);
         let mean = match self.beside {
             Some(mean) => mean
                 .saturating_sub(mean / PART)

@@ -56,7 +56,6 @@ impl World {
         ensures stands { IfOk result (λ world. WorldStands world (opening_world rows.items)) }
         ensures ids { IfOk result (λ world. All HasIds (names_of world.listing)) }
     {
-        let load = Load::new(alloc, rows.len())?;
         let listing = Listing::new(alloc, rows.as_slice())?;
         let tasks = open_hosts(alloc, rows, &net)?;
         let due = least_due(tasks.as_slice());
@@ -67,7 +66,7 @@ impl World {
             tasks,
             due,
             counts: Counts::new(),
-            load,
+            load: Load::new(),
         })
     }
 }

@@ -4,7 +4,7 @@ ghost use Rattle.round_lookahead.specs.inside.Retasks as spec;
 
 use crate::workers::task::Task;
 use crate::world::backs::Back;
-use file_calls::Output;
+use run_files::Written;
 use sim_base::{NoMemory, Parcel};
 use std::alloc::Global;
 
@@ -12,7 +12,7 @@ use std::alloc::Global;
 #[derive(Drop)]
 pub(crate) struct Retasked {
     pub(crate) tasks: Vec<Task>,
-    pub(crate) outputs: Vec<Vec<Output>>,
+    pub(crate) outputs: Written,
 }
 
 /// Each host waits with the packets of its row.
@@ -26,7 +26,7 @@ pub(crate) fn retask(
 {
     let mut retasked = Retasked {
         tasks: Vec::with_capacity(alloc, backs.len())?,
-        outputs: Vec::with_capacity(alloc, backs.len())?,
+        outputs: Written::new(alloc),
     };
     let mut rows = rows.into_iter();
     for back in backs {

@@ -10,6 +10,7 @@ use crate::workers::busy::most_threads;
 use crate::workers::round::{RoundLeft, run_beside};
 use crate::world::due::least_due;
 use crate::world::gained::Gained;
+use crate::world::load::{RoundLoad, works_of};
 use crate::world::pieces::Pieces;
 use crate::world::settling::{Settled, settle};
 use crate::world::settling_in_place::{RanInPlace, round_in_place};
@@ -40,6 +41,20 @@ impl World {
         }
     }
 
+    /// In how many threads the round up to the end is run, by so many workers: in as many as it is worth, and no more than could run
+    /// it. Where one is enough by what the last rounds had to do, no host is looked at.
+    fn threads(&self, end: Time, workers: u32) -> u32
+        requires { 0 < workers }
+        ensures { (0 < result) × (result ≤ workers) }
+    {
+        let hosts = self.tasks.len();
+        if self.load.threads(workers, hosts) < 2 {
+            return 1;
+        }
+        let most = most_threads(self.tasks.as_slice(), end, workers);
+        self.load.threads(most, hosts)
+    }
+
     /// The round whose least event is due at `least`.
     pub(crate) fn advance<R: Threads + Sync, G: Gate + Sync>(
         &mut self,
@@ -58,21 +73,21 @@ impl World {
         ensures turns { IfOk result (λ gained. (w : HostWorld) → WorldStands self.old w → (v : HostWorld) × HasGained self.old self.new workers w v gained) }
     {
         let window = self.net.window(least, self.lookahead);
-        let most = most_threads(self.tasks.as_slice(), window.end, workers);
-        let threads = self.load.threads(most);
+        let threads = self.threads(window.end, workers);
         let count = self.tasks.len();
         let mut tasks = mem::replace(&mut self.tasks, Vec::new(alloc));
         self.due = None;
         if threads < 2 {
-            let RanInPlace { gained, due } = round_in_place(
+            let RanInPlace { gained, due, load } = round_in_place(
                 alloc, &self.net, window.end, &mut tasks, workers, gate,
             )?;
             self.tasks = tasks;
             self.due = due;
             self.counts.count_round(&gained);
-            self.load.note(self.tasks.as_slice(), workers, most);
+            self.load.note(load);
             return Ok(gained);
         }
+        let before = works_of(alloc, tasks.as_slice())?;
         let RoundLeft { works, rows } = run_beside(
             rt, alloc, &self.net, window.end, tasks, workers, threads, gate,
         )?;
@@ -80,7 +95,8 @@ impl World {
         self.tasks = tasks;
         self.due = least_due(self.tasks.as_slice());
         self.counts.count_round(&gained);
-        self.load.note(self.tasks.as_slice(), workers, most);
+        self.load
+            .note(RoundLoad::since(self.tasks.as_slice(), before.as_slice()));
         Ok(gained)
     }
 
@@ -112,7 +128,7 @@ impl World {
             lines,
             took,
         } = self.advance(rt, alloc, least, workers, gate)?;
-        let files = round_pieces(alloc, &self.listing, outputs.as_slice(), lines)?;
+        let files = round_pieces(alloc, &self.listing, &outputs, lines)?;
         Ok(Pieces { files, took })
     }
 }

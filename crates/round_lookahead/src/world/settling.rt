@@ -9,6 +9,7 @@ use crate::world::delivery::deliver;
 use crate::world::gained::Gained;
 use crate::world::merging::merge;
 use crate::world::retasking::{Retasked, retask};
+use crate::world::took::Took;
 use sim_base::{NoMemory, Parcel};
 use std::alloc::Global;
 
@@ -44,7 +45,7 @@ pub(crate) fn settle(
         gained: Gained {
             outputs,
             lines,
-            took,
+            took: Took::Each(took),
         },
     })
 }

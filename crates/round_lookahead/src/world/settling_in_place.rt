@@ -1,8 +1,7 @@
 //! A round in which each host is run in its place, whole.
-ghost use Rattle.std.specs.Prelude.{◌≡◌, ◌-◌, ◌≤◌, ◌<◌, ◌∷◌, [], IfOk, flat_map, length, replicate};
+ghost use Rattle.std.specs.Prelude.{◌≡◌, ◌≤◌, ◌<◌, IfOk, flat_map, length};
 ghost use Rattle.sim_base.specs.Units.{latest_time};
 ghost use Rattle.host_inbox.specs.Sizes.{most_inboxes};
-ghost use Rattle.round_lookahead.specs.inside.Backs.{lists_of};
 ghost use Rattle.round_lookahead.specs.inside.Dues.{first_due};
 ghost use Rattle.round_lookahead.specs.RoundsInPlace.{IsRoundInPlace};
 ghost use Rattle.round_lookahead.specs.Tasks.{AreTasksOf, waiting};
@@ -11,31 +10,22 @@ use crate::workers::task::Task;
 use crate::world::due::{earlier, first_spilled};
 use crate::world::gained::Gained;
 use crate::world::in_place::{Alone, run_in_place};
+use crate::world::load::RoundLoad;
 use crate::world::merging::merge;
+use crate::world::took::Took;
 use crate::world::waiting::wait_all;
 use host_link::Net;
-use sim_base::{HostId, NoMemory, Time};
+use sim_base::{NoMemory, Time};
 use std::alloc::Global;
 use steal_workers::Gate;
 
-/// What a round gained in which each host was run in its place, and when the first event is due after it.
+/// What a round gained in which each host was run in its place, when the first event is due after it, and what those hosts had to do
+/// that had anything to do.
 #[derive(Drop)]
 pub(crate) struct RanInPlace {
     pub(crate) gained: Gained,
     pub(crate) due: Option<Time>,
-}
-
-/// The hosts that the first of so many workers took; the others took none.
-fn took_first(alloc: Global, first: Vec<HostId>, workers: u32) -> Result<Vec<Vec<HostId>>, NoMemory>
-    requires { 0 < workers }
-    ensures { IfOk result (λ took. lists_of took.items ≡ first.items ∷ replicate (workers - 1) []) }
-{
-    let mut took = Vec::with_capacity(alloc, workers as usize)?;
-    took.push(first)?;
-    for _other in 1..workers {
-        took.push(Vec::new(alloc))?;
-    }
-    Ok(took)
+    pub(crate) load: RoundLoad,
 }
 
 /// Runs the hosts of all tasks up to `end`, each in its place, as the first of so many workers; the packets that they make then
@@ -56,23 +46,24 @@ pub(crate) fn round_in_place<G: Gate>(
     ensures round { IfOk result (λ ran. IsRoundInPlace net.now end.nanos workers tasks.old.items tasks.new ran.gained) }
     ensures due { IfOk result (λ ran. ran.due ≡ first_due (flat_map waiting tasks.new.items)) }
 {
+    let hosts = tasks.len();
     let Alone {
         outputs,
         mut lines,
-        took,
         spill,
         due: held,
+        load,
     } = run_in_place(alloc, net, end, tasks.as_mut_slice(), gate)?;
     merge(&mut lines)?;
     let due = earlier(first_spilled(spill.as_slice()), held);
     wait_all(alloc, tasks.as_mut_slice(), spill)?;
-    let took = took_first(alloc, took, workers)?;
     Ok(RanInPlace {
         gained: Gained {
             outputs,
             lines,
-            took,
+            took: Took::First { workers, hosts },
         },
         due,
+        load,
     })
 }

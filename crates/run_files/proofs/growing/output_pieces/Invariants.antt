@@ -1,13 +1,11 @@
-use Rattle.std.proofs.Common.{◌≡◌, List, ◌++◌, map, Vec, Global}
-use Rattle.file_calls.specs.declared.task.Output.{Output}
+use Rattle.std.proofs.Common.{◌≡◌, ◌+◌, ◌++◌, length, map}
 use Rattle.run_files.specs.Files.{put_of}
-use Rattle.run_files.specs.Grown.{host_grown, with_bytes}
-use Rattle.run_files.specs.Listed.{HostNames}
-use Rattle.run_files.proofs.Listings.{left_by_host}
+use Rattle.run_files.proofs.Writings.{left_of, puts_left}
 use Rattle.run_files.proofs.growing.output_pieces.Given as goal
 
--- what is left completes the whole
-abbrev pub invariant-loop-place : goal.invariant-loop-place
-invariant-loop-place l =
-    let left = left_by_host (λ (host : HostNames) (outputs : List Output). with_bytes (host_grown host outputs)) (λ (v : Vec Output Global). v.items) l.hosts l.outputs in
-    map put_of l.pieces.items ++ left l.place ≡ left 0
+-- what is left completes the whole, and there is a host for each of it
+abbrev pub invariant-loop-host : goal.invariant-loop-host
+invariant-loop-host l = record {
+  count : l.place + length (left_of l.hosts l.written l.host-index) ≡ length l.hosts;
+  puts : map put_of l.pieces.items ++ puts_left l.hosts l.written l.place l.host-index ≡ puts_left l.hosts l.written 0 0;
+}

@@ -1,10 +1,10 @@
-use Rattle.std.proofs.Common.{◌≡◌, [], ◌∷◌, ◌++◌, List, map, Vec, Global, length, sym, ap, ◌∙◌, append_assoc}
-use Rattle.std.proofs.lemmas.List.{length-map}
+use Rattle.std.proofs.Common.{◌≡◌, [], ◌∷◌, ◌++◌, List, map, sym, ap, ◌∙◌, append_assoc}
 use Rattle.file_calls.specs.declared.task.Output.{Output}
 use Rattle.run_files.specs.Captured.{all_captures, no_head}
 use Rattle.run_files.specs.Files.{Put, put_of}
 use Rattle.run_files.specs.Grown.{hosts_grown, log_grown, all_grown, with_bytes}
 use Rattle.run_files.specs.Listed.{HostNames, said, names_of}
+use Rattle.run_files.specs.Written.{written_in}
 use Rattle.host_link.specs.Logs.{kept_lines}
 use Rattle.run_files.specs.declared.listed.HostListing.{HostListing}
 use Rattle.host_link.specs.declared.line.Line.{Line}
@@ -21,18 +21,15 @@ parts names outputs lines =
     ∙ ap (λ (l : List Put). with_bytes (hosts_grown names outputs) ++ l) (sym (with_bytes_append captures (log_grown names lines ∷ [])))
     ∙ sym (with_bytes_append (hosts_grown names outputs) (captures ++ (log_grown names lines ∷ [])))
 
-pub output_pieces-requires : goal.output_pieces-requires
-output_pieces-requires c = c.requires ∙ length-map c.args.listing.now.hosts.items said ∙ sym (ap length c.as_slice-hosts.ensures.value)
-
 pub returns-clause-pieces : goal.returns-clause-pieces
 returns-clause-pieces c =
-    let hosts = c.as_slice-hosts.result.now in
-    let outputs = map (λ (v : Vec Output Global). v.items) c.args.outputs.now in
+    let names = names_of c.args.listing.now in
+    let outputs = written_in c.args.written.now in
     let lines = kept_lines c.args.lines.items in
     c.in_ok-push_lines.ensures
-    ∙ ap (λ (l : List Put). l ++ with_bytes (log_grown (map said hosts) lines ∷ []))
+    ∙ ap (λ (hs : List HostListing). map put_of c.push_captures.new.pieces.items ++ with_bytes (log_grown (map said hs) lines ∷ [])) c.as_slice-hosts.ensures.value
+    ∙ ap (λ (l : List Put). l ++ with_bytes (log_grown names lines ∷ []))
     (c.in_ok-push_captures.ensures
-    ∙ ap (λ (ls : List Logged). map put_of c.in_ok-pieces.pieces.items ++ with_bytes (all_captures no_head (map said hosts) (kept_lines ls))) c.deref-2.ensures.value
-    ∙ ap (λ (l : List Put). l ++ with_bytes (all_captures no_head (map said hosts) lines)) c.in_ok-pieces.ensures)
-    ∙ parts (map said hosts) outputs lines
-    ∙ ap (λ (hs : List HostListing). with_bytes (all_grown (map said hs) outputs lines)) c.as_slice-hosts.ensures.value
+    ∙ ap (λ (ls : List Logged). map put_of c.in_ok-pieces.pieces.items ++ with_bytes (all_captures no_head names (kept_lines ls))) c.deref-2.ensures.value
+    ∙ ap (λ (l : List Put). l ++ with_bytes (all_captures no_head names lines)) c.in_ok-pieces.ensures)
+    ∙ parts names outputs lines

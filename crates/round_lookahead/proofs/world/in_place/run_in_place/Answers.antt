@@ -10,11 +10,11 @@ use Rattle.round_lookahead.proofs.world.in_place.run_in_place.Goals.{then-is_bus
 
 pub loop-task-init : goal.loop-task-init
 loop-task-init g c =
-    let alone = c.in_ok-alone.ensures in
+    let alone = c.new-alone.ensures in
     record {
       few = omega arith;
       to = λ k d below. absurd (omega (arith, below, ap (λ (l : List Parcel). length l) alone.spill));
-      run = none_placed c.args.net.now c.args.end.nanos c.args.tasks.now c.in_ok-alone.alone alone.outputs alone.lines alone.took alone.spill alone.due;
+      run = none_placed c.args.net.now c.args.end.nanos c.args.tasks.now c.new-alone.result alone.outputs alone.lines alone.spill alone.due;
     }
 
 pub run_here-requires-clause-task : goal.run_here-requires-clause-task

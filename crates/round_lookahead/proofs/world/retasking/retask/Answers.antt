@@ -1,5 +1,6 @@
 use Rattle.std.proofs.Common.{◌≡◌, ◌++◌, ◌∷◌, [], List, length, map, sym, ap, ◌∙◌, arith, Vec, Global}
 use Rattle.std.specs.Vec.Iter.{into_iter_items}
+use Rattle.run_files.specs.Written.{written_in}
 use Rattle.round_lookahead.specs.declared.workers.task.Task.{Task}
 use Rattle.round_lookahead.specs.declared.world.backs.Back.{Back}
 use Rattle.round_lookahead.specs.inside.Arrivals.{Boxed}
@@ -18,17 +19,17 @@ loop-back-preserved c =
     let rows_are : rows ≡ row ∷ more = c.in-Some-next.ensures.items in
     let old : List Task = c.loop-back.retasked.tasks.items in
     let new : List Task = c.push.new.self.items in
-    let t : Task = c.new.result in
+    let t : Task = c.new-in-loop-back.result in
     let pushed : new ≡ old ++ t ∷ [] = c.in_ok-push.ensures.items in
     let i = c.loop-back.invariant in
     record {
       count = (let long = i.count in let a : length left ≡ length (b ∷ rest) = ap length left_is in let e : length rows ≡ length (row ∷ more) = ap length rows_are in omega arith);
-      ids = seen-more (λ (x : Task). x.id) (λ (x : Back). x.id) old new t left rest b (map (λ (x : Back). x.id) c.args.backs.items) pushed left_is c.new.ensures.id i.ids;
-      hosts = seen-more (λ (x : Task). x.host) (λ (x : Back). x.host) old new t left rest b (map (λ (x : Back). x.host) c.args.backs.items) pushed left_is c.new.ensures.host i.hosts;
+      ids = seen-more (λ (x : Task). x.id) (λ (x : Back). x.id) old new t left rest b (map (λ (x : Back). x.id) c.args.backs.items) pushed left_is c.new-in-loop-back.ensures.id i.ids;
+      hosts = seen-more (λ (x : Task). x.host) (λ (x : Back). x.host) old new t left rest b (map (λ (x : Back). x.host) c.args.backs.items) pushed left_is c.new-in-loop-back.ensures.host i.hosts;
       parcels = maps_more (λ (x : Task). x.parcels) old new t more c.args.rows.items pushed
-          (ap (λ (v : Vec Boxed Global). map (λ (x : Task). x.parcels) old ++ v ∷ more) c.new.ensures.parcels
+          (ap (λ (v : Vec Boxed Global). map (λ (x : Task). x.parcels) old ++ v ∷ more) c.new-in-loop-back.ensures.parcels
           ∙ ap (λ (l : List (Vec Boxed Global)). map (λ (x : Task). x.parcels) old ++ l) (sym rows_are) ∙ i.parcels);
-      outputs = completes c.loop-back.retasked.outputs.items c.push-in-loop-back.new.self.items (b.outputs ∷ []) (map (λ (x : Back). x.outputs) rest) (map (λ (x : Back). x.outputs) c.args.backs.items)
-          c.in_ok-push-2.ensures.items
-          (ap (λ (l : List Back). c.loop-back.retasked.outputs.items ++ map (λ (x : Back). x.outputs) l) (sym left_is) ∙ i.outputs);
+      outputs = completes (written_in c.loop-back.retasked.outputs) (written_in c.push-in-loop-back.new.self) (b.outputs.items ∷ []) (map (λ (x : Back). x.outputs.items) rest) (map (λ (x : Back). x.outputs.items) c.args.backs.items)
+          c.in_ok-push-2.ensures
+          (ap (λ (l : List Back). written_in c.loop-back.retasked.outputs ++ map (λ (x : Back). x.outputs.items) l) (sym left_is) ∙ i.outputs);
     }

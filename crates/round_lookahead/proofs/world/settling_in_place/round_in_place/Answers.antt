@@ -1,7 +1,8 @@
-use Rattle.std.proofs.Common.{◌≡◌, ◌<◌, ℕ, List, All, length, map, refl, subst, arith}
+use Rattle.std.proofs.Common.{◌≡◌, ◌<◌, ◌-◌, ℕ, List, [], ◌∷◌, All, length, map, replicate, refl, ap, subst, arith}
 use Rattle.sim_base.specs.declared.event.Parcel.{Parcel}
 use Rattle.event_order.specs.Events.{IsLeastDue}
 use Rattle.host_link.specs.Parcels.{parcel_event}
+use Rattle.round_lookahead.specs.Took.{hosts_below}
 use Rattle.round_lookahead.proofs.PlaceSteps.{whole_due, whole_round}
 use Rattle.round_lookahead.proofs.world.settling_in_place.round_in_place.Goals as goal
 
@@ -12,9 +13,11 @@ wait_all-requires g c =
 
 pub returns-clause-round : goal.returns-clause-round
 returns-clause-round g c =
+    let all : c.len-hosts.result ≡ length c.args.tasks.now.items = (let e = c.len-hosts.ensures in omega (arith, c.args.tasks.now.ok.0)) in
     whole_round c.args.net.now c.args.end.nanos c.args.workers c.args.tasks.now c.as_mut_slice.result.now c.as_mut_slice.ensures.value c.run_in_place.new.tasks c.in_ok-outputs.field-0
     c.in_ok-outputs.ensures.run c.requires.few c.as_mut_slice-2.result.now c.as_mut_slice-2.ensures.value c.wait_all.new.tasks c.in_ok-wait_all.ensures.hosts c.in_ok-wait_all.ensures.events
-    c.in_ok-wait_all.ensures.theirs _ refl c.in_ok-merge.ensures c.requires.workers c.in_ok-took.ensures
+    c.in_ok-wait_all.ensures.theirs _ refl c.in_ok-merge.ensures c.requires.workers
+    (ap (λ (n : ℕ). hosts_below n ∷ replicate (c.args.workers - 1) []) all)
 
 pub returns-clause-due : goal.returns-clause-due
 returns-clause-due g c =

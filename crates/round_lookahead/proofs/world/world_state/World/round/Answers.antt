@@ -1,5 +1,4 @@
-use Rattle.std.proofs.Common.{◌≡◌, ◌∙◌, List, Vec, Global, length, map, refl, sym, ap, subst}
-use Rattle.file_calls.specs.declared.task.Output.{Output}
+use Rattle.std.proofs.Common.{◌∙◌, length, refl, sym, ap}
 use Rattle.run_files.specs.Grown.{all_grown, with_bytes}
 use Rattle.run_files.specs.Listed.{names_of}
 use Rattle.host_link.specs.Logs.{kept_lines}
@@ -11,7 +10,7 @@ pub round_pieces-requires : goal.round_pieces-requires
 round_pieces-requires g c =
     let (w, stands) = c.requires.stands in
     let turns = c.in_ok-outputs.ensures.turns w stands in
-    ap length c.as_slice.ensures.value ∙ outputs_fit c.args.self.now c.advance.new.self c.args.workers w turns.0 c.in_ok-outputs.field-0 stands turns.1
+    outputs_fit c.args.self.now c.advance.new.self c.args.workers w turns.0 c.in_ok-outputs.field-0 stands turns.1
     ∙ ap (λ (l : Listing). length (names_of l)) (sym c.in_ok-outputs.ensures.listing)
 
 pub returns-clause-round : goal.returns-clause-round
@@ -21,7 +20,6 @@ returns-clause-round g c = λ w stands.
       turns.0,
       round_pieces c.args.self.now c.advance.new.self c.args.workers w turns.0 gained _ stands turns.1 refl
           (c.in_ok-files.ensures.pieces
-          ∙ ap (λ (os : List (Vec Output Global)). with_bytes (all_grown (names_of c.advance.new.self.listing) (map (λ (o : Vec Output Global). o.items) os) (kept_lines gained.lines.items))) c.as_slice.ensures.value
           ∙ ap (λ (l : Listing). with_bytes (all_grown (names_of l) (outputs_of gained) (kept_lines gained.lines.items))) c.in_ok-outputs.ensures.listing)
           c.in_ok-files.ensures.fit,
     ))

@@ -5,4 +5,4 @@ use Rattle.round_lookahead.proofs.world.world_state.World.start.Goals as goal
 
 pub returns-clause-stands : goal.returns-clause-stands
 returns-clause-stands c =
-    starts_so _ c.args.rows.items c.requires.rows c.requires.rounds c.in_ok-tasks.ensures (c.in_ok-listing.ensures.names ∙ ap (map listed) c.as_slice.ensures.value) c.new-3.ensures
+    starts_so _ c.args.rows.items c.requires.rows c.requires.rounds c.in_ok-tasks.ensures (c.in_ok-listing.ensures.names ∙ ap (map listed) c.as_slice.ensures.value) c.new-2.ensures
